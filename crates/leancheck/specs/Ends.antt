@@ -1,0 +1,58 @@
+-- How a run ends.
+use Rattle.std.specs.Prelude.{ℕ, ◌≡◌, ◌⊎◌, List, Some, None, if◌then◌else◌, nat_eq, Vec, Result, Ok, Err}
+use Rattle.std.specs.declared.alloc.Global.{Global}
+use Rattle.std.specs.declared.option.Option.{Option}
+use Rattle.std.specs.Io.KnownBytes.{Appends}
+use Rattle.lk_port.specs.Bytes.{AppendsSome}
+use Rattle.lk_rulebook.specs.Units.{Library}
+use Rattle.lk_verdict.specs.Told.{Verdict, AreVerdicts}
+use Rattle.lk_book.specs.File.{library_of}
+use Rattle.leancheck.specs.declared.status.Status.{Status}
+use Rattle.leancheck.specs.declared.status.Status.TheVariants.{AllYes, SomeNo, Usage, BadFile, ReadFault, WriteFault, NoMemory, SomeMemory}
+use Rattle.leancheck.specs.Held.{budget}
+use Rattle.leancheck.specs.Text.{bad_line, report_text, count}
+use Rattle.leancheck.specs.declared.report.Kind.TheVariants.{No, Memory}
+use Rattle.lk_book.specs.declared.library.Refusal.{Refusal}
+use Rattle.lk_book.specs.declared.library.Refusal.TheVariants as refusal
+
+-- a no before all, then want of memory
+abbrev pub status_of : List Verdict → Status
+status_of vs = if nat_eq (count No vs) 0 then (if nat_eq (count Memory vs) 0 then AllYes else SomeMemory) else SomeNo
+
+-- the status of a run that wrote verdicts
+abbrev pub IsChecked : Status → Type 0
+IsChecked AllYes = Unit {0}
+IsChecked SomeNo = Unit {0}
+IsChecked SomeMemory = Unit {0}
+IsChecked Usage = ⊥
+IsChecked BadFile = ⊥
+IsChecked ReadFault = ⊥
+IsChecked WriteFault = ⊥
+IsChecked NoMemory = ⊥
+
+-- the bytes spell a library, and the text has a verdict for each of its units, the plain one or memory, and their summary; a
+-- unit whose verdict is yes is good; the status belongs to the verdicts
+pub record IsReport (bytes : List ℕ) (status : Status) (text : List ℕ) : Type 0 where
+  pub library : Library
+  pub verdicts : List Verdict
+  pub spelled : library_of bytes ≡ Some library
+  pub are : AreVerdicts library budget 0 library verdicts
+  pub status_is : status ≡ status_of verdicts
+  pub text_is : text ≡ report_text library verdicts
+
+-- a report of the bytes was written
+pub record Reports (bytes : List ℕ) (status : Status) (old new : Option (List ℕ)) : Type 0 where
+  pub text : List ℕ
+  pub report : IsReport bytes status text
+  pub written : Appends old new text
+
+-- a front of the text that belongs to the bytes was written
+abbrev pub WritesFront : List ℕ → Option (List ℕ) → Option (List ℕ) → Type 0
+WritesFront bytes old new = ((library_of bytes ≡ None) × AppendsSome old new bad_line)
+    ⊎ ((status : Status) × (text : List ℕ) × IsReport bytes status text × AppendsSome old new text)
+
+-- what the bytes of a file give
+abbrev pub Gives : List ℕ → Result (Vec ℕ Global × Status) Refusal → Type 0
+Gives bytes (Ok (text, status)) = IsReport bytes status text.items
+Gives bytes (Err refusal.NoMemory) = Unit {0}
+Gives bytes (Err refusal.BadFile) = library_of bytes ≡ None

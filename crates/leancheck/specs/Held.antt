@@ -1,0 +1,29 @@
+-- What verdicts that are held stand for.
+use Rattle.std.specs.Prelude.{ℕ, ◌≡◌, ◌⊎◌, ◌^◌, Result, Ok, Err}
+use Rattle.lk_engine.specs.declared.stop.Stop.{Stop}
+use Rattle.lk_engine.specs.declared.stop.Stop.TheVariants.{Rule, Spent, NoMemory}
+use Rattle.lk_verdict.specs.Told.{Verdict, accepted, rejected, out_of_steps, out_of_memory}
+use Rattle.lk_engine.specs.Questions.{rule_no}
+use Rattle.leancheck.specs.declared.checking.Verdict.{Verdict as HeldVerdict}
+use Rattle.leancheck.specs.declared.checking.Verdict.TheVariants.{Yes, No, Steps, Memory}
+
+abbrev pub verdict : HeldVerdict → Verdict
+verdict Yes = accepted
+verdict (No r) = rejected (rule_no r)
+verdict Steps = out_of_steps
+verdict Memory = out_of_memory
+
+-- the plain verdict, or memory in its place
+abbrev pub IsPlain : Verdict → HeldVerdict → Type 0
+IsPlain plain v = (verdict v ≡ plain) ⊎ (verdict v ≡ out_of_memory)
+
+-- how many steps the questions of one theorem may take
+abbrev pub budget : ℕ
+budget = 2 ^ 100
+
+-- the verdict that the outcome of a theorem's questions gives
+abbrev pub result_verdict : Result (Unit {0}) Stop → HeldVerdict
+result_verdict (Ok u) = Yes
+result_verdict (Err (Rule r)) = No r
+result_verdict (Err Spent) = Steps
+result_verdict (Err NoMemory) = Memory

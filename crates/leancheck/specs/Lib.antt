@@ -1,0 +1,6 @@
+pub mod Ends
+pub mod Held
+pub mod Seen
+pub mod Text
+pub mod Words
+pub mod Rows

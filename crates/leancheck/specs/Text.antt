@@ -1,0 +1,123 @@
+-- What is written.
+use Rattle.std.specs.Prelude.{ℕ, ◌+◌, ◌-◌, ◌==◌, Bool, true, false, List, [], ◌∷◌, ◌++◌, length, map, take, decimal, codes, nat_eq, if◌then◌else◌}
+use Rattle.lk_tree.specs.Tree.{Name, Part, text, number}
+use Rattle.lk_tree.specs.RuleNo.{RuleNo, unknown_constant, level_count, undeclared_level, duplicate_level, duplicate_name, loose_variable, not_a_sort, not_a_function, argument_type, let_type, value_type, theorem_not_prop, bad_projection, prop_projection, wide_literal, no_builtin, builtin_shape, quot_shape, level_width, block_shape, parameter_differs, constructor_result, not_positive, field_universe, nested_form, recursor_differs}
+use Rattle.leancheck.specs.declared.report.Kind.{Kind}
+use Rattle.leancheck.specs.declared.report.Kind.TheVariants.{Yes, No, Memory}
+use Rattle.lk_rulebook.specs.Units.{Library, Members, members_of}
+use Rattle.lk_verdict.specs.Told.{Verdict, accepted, rejected, out_of_steps, out_of_memory}
+
+abbrev pub usage_line : List ℕ
+usage_line = codes "usage: leancheck check|make|trial [--workers W] [--steps N] [--memo M] [--units N] [--seed S]\n"
+
+abbrev pub bad_line : List ℕ
+bad_line = codes "bad file\n"
+
+abbrev pub part_text : Part → List ℕ
+part_text (text bytes) = bytes
+part_text (number n) = decimal n
+
+-- components as they are, joined by dots
+abbrev pub parts_text : Name → List ℕ
+parts_text [] = []
+parts_text (p ∷ []) = part_text p
+parts_text (p ∷ q ∷ ps) = part_text p ++ 46 ∷ parts_text (q ∷ ps)
+
+abbrev pub name_text : Name → List ℕ
+name_text [] = codes "[anonymous]"
+name_text (p ∷ ps) = parts_text (p ∷ ps)
+
+abbrev pub rule_word : RuleNo → List ℕ
+rule_word unknown_constant = codes "UnknownConstant"
+rule_word level_count = codes "LevelCount"
+rule_word undeclared_level = codes "UndeclaredLevel"
+rule_word duplicate_level = codes "DuplicateLevel"
+rule_word duplicate_name = codes "DuplicateName"
+rule_word loose_variable = codes "LooseVariable"
+rule_word not_a_sort = codes "NotASort"
+rule_word not_a_function = codes "NotAFunction"
+rule_word argument_type = codes "ArgumentType"
+rule_word let_type = codes "LetType"
+rule_word value_type = codes "ValueType"
+rule_word theorem_not_prop = codes "TheoremNotProp"
+rule_word bad_projection = codes "BadProjection"
+rule_word prop_projection = codes "PropProjection"
+rule_word wide_literal = codes "WideLiteral"
+rule_word no_builtin = codes "NoBuiltin"
+rule_word builtin_shape = codes "BuiltinShape"
+rule_word quot_shape = codes "QuotShape"
+rule_word level_width = codes "LevelWidth"
+rule_word block_shape = codes "BlockShape"
+rule_word parameter_differs = codes "ParameterDiffers"
+rule_word constructor_result = codes "ConstructorResult"
+rule_word not_positive = codes "NotPositive"
+rule_word field_universe = codes "FieldUniverse"
+rule_word nested_form = codes "NestedForm"
+rule_word recursor_differs = codes "RecursorDiffers"
+
+-- the line of a theorem, after a word
+abbrev pub head_text : List ℕ → ℕ → List ℕ → List ℕ
+head_text word n name = word ++ (codes " thm " ++ (decimal n ++ (32 ∷ (name ++ 10 ∷ []))))
+
+abbrev pub why_text : List ℕ → List ℕ
+why_text word = codes "  why " ++ (word ++ 10 ∷ [])
+
+-- the lines of theorem n with this name
+abbrev pub verdict_text : ℕ → List ℕ → Verdict → List ℕ
+verdict_text n name accepted = head_text (codes "yes") n name
+verdict_text n name (rejected r) = head_text (codes "no") n name ++ why_text (rule_word r)
+verdict_text n name out_of_steps = head_text (codes "no") n name ++ why_text (codes "steps")
+verdict_text n name out_of_memory = head_text (codes "no") n name ++ why_text (codes "memory")
+
+-- the lines of these theorems, of which the first is number n
+abbrev pub lines_text : ℕ → List (List ℕ) → List Verdict → List ℕ
+lines_text n [] vs = []
+lines_text n (name ∷ names) [] = []
+lines_text n (name ∷ names) (v ∷ vs) = verdict_text n name v ++ lines_text (n + 1) names vs
+
+-- whether a verdict is of this kind
+abbrev pub is_of : Kind → Verdict → Bool
+is_of Yes accepted = true
+is_of Yes (rejected r) = false
+is_of Yes out_of_steps = false
+is_of Yes out_of_memory = false
+is_of No accepted = false
+is_of No (rejected r) = true
+is_of No out_of_steps = true
+is_of No out_of_memory = false
+is_of Memory accepted = false
+is_of Memory (rejected r) = false
+is_of Memory out_of_steps = false
+is_of Memory out_of_memory = true
+
+-- how many are of this kind
+abbrev pub count : Kind → List Verdict → ℕ
+count k [] = 0
+count k (v ∷ vs) = if is_of k v then count k vs + 1 else count k vs
+
+-- a number behind a word
+unfoldable pub counted_text : List ℕ → ℕ → List ℕ
+counted_text word n = word ++ decimal n
+
+-- the last line
+abbrev pub summary_text : List Verdict → List ℕ
+summary_text vs = counted_text (codes "units ") (length vs) ++ (counted_text (codes " yes ") (count Yes vs) ++ (counted_text (codes " no ") (count No vs) ++ (counted_text (codes " memory ") (count Memory vs) ++ 10 ∷ [])))
+
+abbrev pub report_of_names : List (List ℕ) → List Verdict → List ℕ
+report_of_names names vs = lines_text 0 names vs ++ summary_text vs
+
+-- a unit goes by the name of its first member
+abbrev pub first_name : Members → Name
+first_name [] = []
+first_name (m ∷ ms) = m.0
+
+-- the whole text for these units and verdicts
+abbrev pub report_text : Library → List Verdict → List ℕ
+report_text us vs = report_of_names (map (λ u. name_text (first_name (members_of u))) us) vs
+
+-- the text of a name, from its bytes with a line feed behind each component
+abbrev pub dotted : ℕ → ℕ
+dotted b = if b == 10 then 46 else b
+
+abbrev pub key_text : List ℕ → List ℕ
+key_text key = if nat_eq (length key) 0 then codes "[anonymous]" else map dotted (take (length key - 1) key)

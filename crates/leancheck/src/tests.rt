@@ -1,0 +1,227 @@
+//! Rows: what a run does.
+
+use crate::run::run;
+use crate::status::Status;
+use lk_port::{FaultySink, FaultySource, MemSink, MemSource, OpenGate};
+use std::alloc::{AllocError, Global};
+use std::sync::Wait;
+use std::test::Fail;
+use std::thread::Threads;
+
+const IDENTITY: &[u8] =
+    b"2.0.0\n1 #NS 0 p\n2 #NS 0 id\n0 #ES 0\n1 #EV 0\n2 #EV 1\n3 #EP #BD 0 1 2\n4 #EP #BD 1 0 3\n5 #EL #BD 0 1 1\n6 #EL #BD 1 0 5\n#THM 2 4 6\n";
+
+const NO_VERSION: &[u8] =
+    b"1 #NS 0 p\n2 #NS 0 id\n0 #ES 0\n1 #EV 0\n2 #EV 1\n3 #EP #BD 0 1 2\n4 #EP #BD 1 0 3\n5 #EL #BD 0 1 1\n6 #EL #BD 1 0 5\n#THM 2 4 6";
+
+const TWICE: &[u8] =
+    b"2.0.0\n1 #NS 0 p\n2 #NS 0 id\n0 #ES 0\n1 #EV 0\n2 #EV 1\n3 #EP #BD 0 1 2\n4 #EP #BD 1 0 3\n5 #EL #BD 0 1 1\n6 #EL #BD 1 0 5\n#THM 2 4 6\n#THM 2 4 6\n";
+
+// The value is of another type.
+const OTHER: &[u8] =
+    b"1 #NS 0 p\n2 #NS 0 id\n0 #ES 0\n1 #EV 0\n2 #EV 1\n3 #EP #BD 0 1 2\n4 #EP #BD 1 0 3\n5 #EL #BD 1 0 1\n#THM 2 4 5\n";
+
+const USAGE: &[u8] =
+    b"usage: leancheck check|make|trial [--workers W] [--steps N] [--memo M] [--units N] [--seed S]\n";
+
+fn words_of(alloc: Global, line: &str) -> Result<Vec<String>, AllocError> {
+    let mut words = Vec::new(alloc);
+    for word in line.split(' ') {
+        words.push(String::from_str(alloc, word)?)?;
+    }
+    Ok(words)
+}
+
+// Whether a run on these words and bytes writes this, and ends so.
+fn is_row<R: Threads + Wait + Sync>(
+    rt: &R,
+    alloc: Global,
+    line: &str,
+    bytes: &[u8],
+    written: &[u8],
+    status: Status,
+) -> Result<bool, AllocError> {
+    let words = words_of(alloc, line)?;
+    let bytes = Vec::from_slice(alloc, bytes)?;
+    let mut source = MemSource { bytes, at: 0 };
+    let mut sink = MemSink::new(alloc, 4096)?;
+    let end = run(
+        rt,
+        alloc,
+        words.as_slice(),
+        &mut source,
+        &mut sink,
+        &OpenGate,
+    );
+    Ok(end == status && sink.bytes.as_slice() == written)
+}
+
+#[test]
+fn files(rt: HostRuntime) -> Result<(), Fail> {
+    let alloc = rt.alloc();
+    let check = "leancheck check";
+    assert!(rt;
+        is_row(
+            &rt,
+            alloc,
+            check,
+            IDENTITY,
+            b"yes thm 0 id\nunits 1 yes 1 no 0 memory 0\n",
+            Status::AllYes
+        )?
+    );
+    assert!(rt;
+        is_row(
+            &rt,
+            alloc,
+            check,
+            NO_VERSION,
+            b"yes thm 0 id\nunits 1 yes 1 no 0 memory 0\n",
+            Status::AllYes
+        )?
+    );
+    assert!(rt;
+        is_row(
+            &rt,
+            alloc,
+            check,
+            b"",
+            b"units 0 yes 0 no 0 memory 0\n",
+            Status::AllYes
+        )?
+    );
+    assert!(rt;
+        is_row(
+            &rt,
+            alloc,
+            check,
+            b"1 #NS 0 q\n0 #ES 0\n#THM 1 0 0\n",
+            b"no thm 0 q\n  why TheoremNotProp\nunits 1 yes 0 no 1 memory 0\n",
+            Status::SomeNo
+        )?
+    );
+    assert!(rt;
+        is_row(
+            &rt,
+            alloc,
+            check,
+            b"1 #NS 0 q\n0 #EV 0\n#THM 1 0 0\n",
+            b"no thm 0 q\n  why LooseVariable\nunits 1 yes 0 no 1 memory 0\n",
+            Status::SomeNo
+        )?
+    );
+    assert!(rt;
+        is_row(
+            &rt,
+            alloc,
+            check,
+            OTHER,
+            b"no thm 0 id\n  why ValueType\nunits 1 yes 0 no 1 memory 0\n",
+            Status::SomeNo
+        )?
+    );
+    assert!(rt;
+        is_row(
+            &rt,
+            alloc,
+            check,
+            TWICE,
+            b"yes thm 0 id\nno thm 1 id\n  why DuplicateName\nunits 2 yes 1 no 1 memory 0\n",
+            Status::SomeNo
+        )?
+    );
+    assert!(rt;
+        is_row(
+            &rt,
+            alloc,
+            check,
+            b"0 #ES 0\n0 #ES 0\n",
+            b"bad file\n",
+            Status::BadFile
+        )?
+    );
+    Ok(())
+}
+
+#[test]
+fn words(rt: HostRuntime) -> Result<(), Fail> {
+    let alloc = rt.alloc();
+    assert!(rt;
+        is_row(
+            &rt,
+            alloc,
+            "leancheck check --workers 0",
+            IDENTITY,
+            USAGE,
+            Status::Usage
+        )?
+    );
+    assert!(rt;
+        is_row(
+            &rt,
+            alloc,
+            "leancheck check x",
+            IDENTITY,
+            USAGE,
+            Status::Usage
+        )?
+    );
+    assert!(rt; is_row(&rt, alloc, "leancheck", IDENTITY, USAGE, Status::Usage)?);
+    Ok(())
+}
+
+#[test]
+fn a_read_fails(rt: HostRuntime) -> Result<(), Fail> {
+    let alloc = rt.alloc();
+    let words = words_of(alloc, "leancheck check")?;
+    let bytes = Vec::from_slice(alloc, IDENTITY)?;
+    let mut failing = Vec::new(alloc);
+    failing.push(2)?;
+    let mut source = FaultySource {
+        inner: MemSource { bytes, at: 0 },
+        greatest: 16,
+        failing,
+        call: 0,
+        faults: 0,
+    };
+    let mut sink = MemSink::new(alloc, 4096)?;
+    let end = run(
+        &rt,
+        alloc,
+        words.as_slice(),
+        &mut source,
+        &mut sink,
+        &OpenGate,
+    );
+    assert_eq!(rt; end, Status::ReadFault);
+    assert_eq!(rt; sink.bytes.len(), 0);
+    Ok(())
+}
+
+#[test]
+fn a_write_fails(rt: HostRuntime) -> Result<(), Fail> {
+    let alloc = rt.alloc();
+    let words = words_of(alloc, "leancheck check")?;
+    let bytes = Vec::from_slice(alloc, IDENTITY)?;
+    let mut source = MemSource { bytes, at: 0 };
+    let mut failing = Vec::new(alloc);
+    failing.push(1)?;
+    let mut sink = FaultySink {
+        inner: MemSink::new(alloc, 4096)?,
+        greatest: 4,
+        failing,
+        call: 0,
+        faults: 0,
+    };
+    let end = run(
+        &rt,
+        alloc,
+        words.as_slice(),
+        &mut source,
+        &mut sink,
+        &OpenGate,
+    );
+    assert_eq!(rt; end, Status::WriteFault);
+    assert!(rt; sink.inner.bytes.as_slice() == b"yes ".as_slice());
+    Ok(())
+}

@@ -1,0 +1,16 @@
+pub mod After
+pub mod Enough
+pub mod Fuel
+pub mod Halves
+pub mod More
+pub mod MoreBlocks
+pub mod Plain
+pub mod SettledTasks
+pub mod StageTasks
+pub mod TaskLaws
+pub mod Tasks
+pub mod Worked
+pub mod WorkedBlocks
+pub mod WorkedCosts
+pub mod WorkedMore
+pub mod WorkedNested

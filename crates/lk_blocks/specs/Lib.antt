@@ -1,0 +1,12 @@
+pub mod Block
+pub mod BlockSteps
+pub mod Compare
+pub mod Grows
+pub mod Nested
+pub mod NestedRelation
+pub mod NestedTask
+pub mod Restore
+pub mod Recursors
+pub mod Relation
+pub mod Task
+pub mod Whole

@@ -1,0 +1,69 @@
+-- Trees of the larger block read back: J ls b1 .. bq and its constructors for what stands for them.
+use Rattle.std.specs.Prelude.{ℕ, zero, suc, ◌+◌, ◌/◌, ◌%◌, nat_lt, List, [], ◌∷◌, ◌++◌, Option, Some, None, if◌then◌else◌}
+use Rattle.lk_tree.specs.Tree.{Name, Part, Level, Tree, const, app, lam, pi, let_in, proj}
+use Rattle.lk_tree.specs.Spine.{apply}
+use Rattle.lk_rulebook.specs.Place.{BlockType, Ctor}
+use Rattle.lk_rulebook.specs.Structures.{same_name}
+use Rattle.lk_blocks.specs.BlockSteps.{after_params}
+use Rattle.lk_blocks.specs.Recursors.{rec_name, Restoring}
+use Rattle.lk_blocks.specs.Nested.{Aux, aux_name, aux_ctor}
+
+-- what stands for a constant of the larger block: J or its constructor, at ls and b1 ..; or a recursor by its name alone
+pub data Original : Type 0 where
+  applied_to : Name → List Level → List Tree → Original
+  renamed_as : Name → Original
+
+abbrev pub ctors_stand : ℕ → Aux → List Ctor → List (Name × Original)
+ctors_stand i a [] = []
+ctors_stand i a (c ∷ cs) = (aux_ctor i c.name, applied_to c.name a.levels a.args) ∷ ctors_stand i a cs
+
+-- decimal digits, before others
+abbrev pub digits : ℕ → ℕ → List ℕ → List ℕ
+digits zero n rest = rest
+digits (suc fuel) n rest = if nat_lt n 10 then (48 + n) ∷ rest else digits fuel (n / 10) ((48 + n % 10) ∷ rest)
+
+-- T1.rec_1, T1.rec_2, ..
+abbrev pub rec_numbered : Name → ℕ → Name
+rec_numbered T i = T ++ (Part.text (114 ∷ 101 ∷ 99 ∷ 95 ∷ digits (suc i) i []) ∷ [])
+
+abbrev pub first_name : List BlockType → Name
+first_name [] = []
+first_name (t ∷ ts) = t.name
+
+abbrev pub all_stand : Name → ℕ → List Aux → List (Name × Original)
+all_stand T i [] = []
+all_stand T i (a ∷ as_) =
+    (aux_name i, applied_to a.name a.levels a.args) ∷ (rec_name (aux_name i), renamed_as (rec_numbered T (suc i))) ∷ (ctors_stand i a a.own.ctors ++ all_stand T (suc i) as_)
+
+abbrev pub stands_for : List (Name × Original) → Name → Option Original
+stands_for [] c = None
+stands_for (m ∷ ms) c = if same_name m.0 c then Some m.1 else stands_for ms c
+
+-- c ls applied to these: where they begin with P0 .., J ls b1 .. bq applied to the rest
+abbrev pub put_at : Name → List Level → List Tree → Name → List Level → List Tree → Option (List Tree) → Tree
+put_at c ls xs J ms bs (Some rest) = apply (apply (const J ms) bs) rest
+put_at c ls xs J ms bs None = apply (const c ls) xs
+
+abbrev pub put_back : List Tree → Name → List Level → List Tree → Option Original → Tree
+put_back ps c ls xs (Some (applied_to J ms bs)) = put_at c ls xs J ms bs (after_params ps xs)
+put_back ps c ls xs (Some (renamed_as R)) = apply (const R ls) xs
+put_back ps c ls xs None = apply (const c ls) xs
+
+-- the tree applied to these arguments, which are read back; P0 .. are these Locals
+abbrev pub restore : List (Name × Original) → List Tree → Tree → List Tree → Tree
+restore ms ps (app f a) xs = restore ms ps f (restore ms ps a [] ∷ xs)
+restore ms ps (const c ls) xs = put_back ps c ls xs (stands_for ms c)
+restore ms ps (lam A b) xs = apply (lam (restore ms ps A []) (restore ms ps b [])) xs
+restore ms ps (pi A B) xs = apply (pi (restore ms ps A []) (restore ms ps B [])) xs
+restore ms ps (let_in A v b) xs = apply (let_in (restore ms ps A []) (restore ms ps v []) (restore ms ps b [])) xs
+restore ms ps (proj S i e) xs = apply (proj S i (restore ms ps e [])) xs
+restore ms ps e xs = apply e xs
+
+abbrev pub name_back : Name → Option Original → Name
+name_back c None = c
+name_back c (Some (applied_to J ls bs)) = J
+name_back c (Some (renamed_as R)) = R
+
+-- the recursors of the larger block, read back
+abbrev pub restoring : List (Name × Original) → List Tree → Restoring
+restoring ms ps = record { named = λ c. name_back c (stands_for ms c); tree = λ e. restore ms ps e [] }

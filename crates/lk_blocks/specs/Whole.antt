@@ -1,0 +1,47 @@
+-- What is half there while a block is checked, and what a yes means where no occurrence is nested.
+use Rattle.std.specs.Prelude.{◌++◌, List, [], ◌∷◌}
+use Rattle.lk_tree.specs.Tree.{Level}
+use Rattle.lk_rulebook.specs.Place.{Place, Block, BlockType, Ctor}
+use Rattle.lk_rulebook.specs.Units.{Members}
+use Rattle.lk_rulebook.specs.Rules.{HasSort}
+use Rattle.lk_plain.specs.Sound.{IsStated, TypesStated, RulesStated}
+use Rattle.lk_blocks.specs.Block.{Shape, type_entries, all_ctor_entries}
+use Rattle.lk_blocks.specs.Relation.{IsBlock, CountsAgree}
+use Rattle.lk_blocks.specs.Recursors.{Rec, recursors}
+use Rattle.lk_blocks.specs.Compare.{rec_entries, AreRecs}
+
+-- what is half there from B3 on, and from B7 on
+abbrev pub partial_types : Block → Members
+partial_types b = type_entries b b.types
+
+abbrev pub partial_members : Block → List Rec → Members
+partial_members b stated = all_ctor_entries b b.types ++ rec_entries stated
+
+abbrev pub CtorsSorted : Place → List Ctor → Type 0
+CtorsSorted w [] = Unit {0}
+CtorsSorted w (c ∷ cs) = ((l : Level) × HasSort w c.type l) × CtorsSorted w cs
+
+abbrev pub TypesSorted : Place → List BlockType → Type 0
+TypesSorted w [] = Unit {0}
+TypesSorted w (t ∷ ts) = ((l : Level) × HasSort w t.type l) × TypesSorted w ts
+
+abbrev pub AllCtorsSorted : Place → List BlockType → Type 0
+AllCtorsSorted w [] = Unit {0}
+AllCtorsSorted w (t ∷ ts) = CtorsSorted w t.ctors × AllCtorsSorted w ts
+
+-- the block is derived: places gives the place for what is half there
+pub record BlockDerived (places : Members → Place) (b : Block) (stated : List Rec) (s : Shape) : Type 0 where
+  pub counts : CountsAgree b
+  pub types_sorted : TypesSorted (places []) b.types
+  pub ctors_sorted : AllCtorsSorted (places (partial_types b)) b.types
+  pub block : IsBlock (places []) (places (partial_types b)) b s
+  pub recs : AreRecs (places (partial_types b ++ partial_members b stated)) (recursors s) stated
+
+abbrev pub RecsStated : List Rec → Type 0
+RecsStated [] = Unit {0}
+RecsStated (r ∷ rs) = (IsStated r.type × RulesStated r.recursor.rules) × RecsStated rs
+
+-- the scans hold
+pub record BlockStated (b : Block) (stated : List Rec) : Type 0 where
+  pub types : TypesStated b.types
+  pub recs : RecsStated stated

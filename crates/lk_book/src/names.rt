@@ -1,0 +1,77 @@
+//! Names by number. Each row has a parent before itself and one component of text.
+ghost use Rattle.std.specs.Prelude.{◌≡◌, ◌<◌, ◌++◌, ◌∷◌, [], length, IfOk, OnErr};
+ghost use Rattle.lk_tree.specs.Tree.{text};
+ghost use Rattle.lk_book.specs.Names.{name_at, names_of, AreAfter, ExtendsNames, StandsName, IsPath, key_of};
+
+use lk_store::node::NoMemory;
+use std::alloc::Global;
+
+/// A name: a parent's number, and a component of text.
+#[derive(Drop)]
+pub struct NameRow {
+    pub parent: u64,
+    pub text: Vec<u8>,
+}
+
+/// Names by number; 0 is the anonymous name.
+#[derive(Drop)]
+pub struct Names {
+    pub rows: Vec<NameRow>,
+}
+
+impl Names {
+    pub fn new(alloc: Global) -> Self
+        ensures { result.rows.items ≡ [] }
+    {
+        Names {
+            rows: Vec::new(alloc),
+        }
+    }
+
+    /// Adds a name.
+    pub fn add(&mut self, parent: u64, component: Vec<u8>) -> Result<u64, NoMemory>
+        requires after { AreAfter 1 self.old.rows.items }
+        requires parent { parent < length (names_of self.old.rows.items) }
+        ensures after { AreAfter 1 self.new.rows.items }
+        ensures keeps { ExtendsNames (names_of self.old.rows.items) (names_of self.new.rows.items) }
+        ensures ok { IfOk result (λ n. StandsName (names_of self.new.rows.items) n (name_at (names_of self.old.rows.items) parent ++ text component.items ∷ [])) }
+    {
+        let number = self.rows.len() as u64 + 1;
+        self.rows.push(NameRow {
+            parent,
+            text: component,
+        })?;
+        Ok(number)
+    }
+
+    /// The rows from a name up to the first one without a parent.
+    fn path(&self, alloc: Global, number: u64) -> Result<Vec<u64>, NoMemory>
+        requires after { AreAfter 1 self.now.rows.items }
+        requires known { number < length (names_of self.now.rows.items) }
+        ensures { IfOk result (λ path. IsPath self.now.rows.items path.items number) }
+    {
+        let mut path = Vec::new(alloc);
+        let mut at = number;
+        while at > 0 {
+            let row = at - 1;
+            path.push(row)?;
+            at = self.rows[row as usize].parent;
+        }
+        Ok(path)
+    }
+
+    /// A name as bytes: a line feed behind each component.
+    pub fn key(&self, alloc: Global, number: u64) -> Result<Vec<u8>, NoMemory>
+        requires after { AreAfter 1 self.now.rows.items }
+        requires known { number < length (names_of self.now.rows.items) }
+        ensures { IfOk result (λ key. key.items ≡ key_of (name_at (names_of self.now.rows.items) number)) }
+    {
+        let mut path = self.path(alloc, number)?;
+        let mut key = Vec::new(alloc);
+        while let Some(row) = path.pop() {
+            key.extend_from_slice(&self.rows[row as usize].text)?;
+            key.push(b'\n')?;
+        }
+        Ok(key)
+    }
+}

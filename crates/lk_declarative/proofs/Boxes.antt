@@ -1,0 +1,82 @@
+-- Where a proposition has a constructor with a field that is no proof, guarded beta is not enough: two members are
+-- equal by irrelevance, so are their projections, and these are the fields.
+use Rattle.std.proofs.Common.{ℕ, ◌≡◌, ◌+◌, List, [], ◌∷◌, refl, subst, arith}
+use Rattle.std.specs.Prelude.{Some, slice_get, true, false}
+use Rattle.lk_tree.specs.Tree.{Name, name_discrete, part_discrete, Level, zero_level, Tree, sort, const, app, pi}
+use Rattle.lk_tree.specs.Bind.{open_at, bound}
+use Rattle.lk_tree.specs.Levels.{put_levels, put_in_level}
+use Rattle.lk_tree.specs.Spine.{apply}
+use Rattle.lk_tree.specs.WellFormed.{IsWellFormed}
+use Rattle.lk_tree.specs.Decide.{list_discrete, both_discrete}
+use native.Mathlib.Decide.{ℕ_discrete}
+use Rattle.lk_rulebook.specs.Place.{Place, Entry, Block, BlockType, Ctor, a_ctor}
+use Rattle.lk_declarative.specs.Falsehood.{truth, simple_proof, falsehood}
+use Rattle.lk_declarative.specs.Box.{HasBox, box_name, make_name, box_entry, make_entry, box_block, box_inductive, make_ctor, box_place}
+use Rattle.lk_declarative.specs.Guarded.{GuardedType, typed_sort, typed_local, typed_const, typed_app, typed_lam, typed_pi, typed_conv, GuardedEquals, same_sort, same_sym, same_trans, same_proj, same_proj_ctor, same_proof}
+
+unguarded : {A : Type 0} → false ≡ true → A
+unguarded e = absurd cc
+
+-- the fields of two proofs of one proposition
+fields_agree : {w : Place} (S c : Name) (ks : List Level) (g : Entry) (block : Block) (ind : BlockType) (ctor : Ctor) (i : ℕ) (xs ys : List Tree) (x y T : Tree) →
+    w.means c ≡ Some g → g.kind ≡ a_ctor block ind ctor → ind.name ≡ S →
+    slice_get xs (ctor.parameters + i) ≡ Some x → slice_get ys (ctor.parameters + i) ≡ Some y →
+    IsWellFormed (apply (const c ks) xs) → IsWellFormed (apply (const c ks) ys) → IsWellFormed x → IsWellFormed y →
+    GuardedType false w (apply (const c ks) xs) T → GuardedType false w (apply (const c ks) ys) T → GuardedType false w T (sort zero_level) → GuardedEquals false w x y
+fields_agree S c ks g block ind ctor i xs ys x y T m k n ex ey fx fy hx hy tx ty p =
+    same_trans (same_sym (same_proj_ctor S c ks g block ind ctor i xs x x unguarded m k n ex fx hx))
+    (same_trans (same_proj {T = x} unguarded (same_proof tx ty p)) (same_proj_ctor S c ks g block ind ctor i ys y y unguarded m k n ey fy hy))
+
+truth_prop : {w : Place} → GuardedType false w truth (sort zero_level)
+unfolding open_at bound
+truth_prop = typed_conv (typed_pi {k = 0} (omega arith) typed_sort (typed_pi {k = 1} (omega arith) (typed_local (tt, omega arith) typed_sort) (typed_local (tt, omega arith) typed_sort))) (same_sort (λ σ. refl)) typed_sort
+
+falsehood_prop : {w : Place} → GuardedType false w falsehood (sort zero_level)
+unfolding open_at bound
+falsehood_prop = typed_conv (typed_pi {k = 0} (omega arith) typed_sort (typed_local (tt, omega arith) typed_sort)) (same_sort (λ σ. refl)) typed_sort
+
+proof_type : {w : Place} → GuardedType false w simple_proof truth
+unfolding open_at bound
+proof_type = typed_lam {k = 0} (omega arith) (omega arith) typed_sort
+    (typed_lam {k = 1} (omega arith) (omega arith) (typed_local (tt, omega arith) typed_sort) (typed_local ((tt, omega arith), omega arith) (typed_local (tt, omega arith) typed_sort)))
+
+stated_type : {w : Place} (c : Name) (g : Entry) (T U : Tree) → w.means c ≡ Some g → g.levels ≡ [] → g.type ≡ T → IsWellFormed U → put_levels [] [] T ≡ U → GuardedType false w (const c []) U
+stated_type {w = w} c g T U m l t f e =
+    let s : put_levels g.levels [] g.type ≡ U = rw (l, t) e in
+    subst (λ (X : Tree). GuardedType false w (const c []) X) s (typed_const m (rw l refl) (rw s f))
+
+box_prop : {w : Place} (h : HasBox w) → GuardedType false w (const h.box []) (sort zero_level)
+unfolding put_levels put_in_level
+box_prop h = stated_type h.box h.box_entry (sort zero_level) (sort zero_level) h.box_given h.box_levels h.box_type tt refl
+
+made : {w : Place} (h : HasBox w) (a : Tree) → GuardedType false w a (sort zero_level) → GuardedType false w (app (const h.make []) a) (const h.box [])
+unfolding put_levels put_in_level open_at
+made h a t = typed_app {B = const h.box []}
+    (stated_type h.make h.make_entry (pi (sort zero_level) (const h.box [])) (pi (sort zero_level) (const h.box [])) h.make_given h.make_levels h.make_type (tt, tt) refl) t
+
+pub falsehood_in_a_box : {w : Place} → HasBox w → GuardedType false w simple_proof falsehood
+falsehood_in_a_box h = typed_conv proof_type
+    (fields_agree h.box h.make [] h.make_entry h.block h.inductive h.ctor 0 (truth ∷ []) (falsehood ∷ []) truth falsehood (const h.box []) h.make_given h.make_kind h.parent
+    (rw (h.no_parameters) refl) (rw (h.no_parameters) refl) (tt, (tt, (omega arith, omega arith))) (tt, (tt, omega arith)) (tt, (omega arith, omega arith)) (tt, omega arith)
+    (made h truth truth_prop) (made h falsehood falsehood_prop) (box_prop h)) falsehood_prop
+
+pub box_is_there : HasBox box_place
+unfolding name_discrete part_discrete list_discrete both_discrete ℕ_discrete
+box_is_there = record {
+  box = box_name;
+  make = make_name;
+  box_entry = box_entry;
+  make_entry = make_entry;
+  block = box_block;
+  inductive = box_inductive;
+  ctor = make_ctor;
+  box_given = refl;
+  box_levels = refl;
+  box_type = refl;
+  make_given = refl;
+  make_levels = refl;
+  make_type = refl;
+  make_kind = refl;
+  parent = refl;
+  no_parameters = refl;
+}

@@ -1,0 +1,9 @@
+pub mod Boxes
+pub mod Everything
+pub mod GuardedScopes
+pub mod IdealInclusion
+pub mod IdealParts
+pub mod Inclusion
+pub mod Operated
+pub mod Refused
+pub mod Scopes

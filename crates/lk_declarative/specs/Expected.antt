@@ -1,0 +1,71 @@
+-- What is expected of the ideal rules at a place whose units are lawful, and proved nowhere.
+use Rattle.std.specs.Prelude.{ℕ, zero, suc, ◌≡◌, ◌<◌, ◌⊎◌, ◌+◌, List, [], ◌∷◌, ◌++◌, length, map, Some, slice_get, true}
+use Rattle.lk_tree.specs.Tree.{Name, Level, zero_level, Tree, sort, const, app, lam, pi, proj, lit}
+use Rattle.lk_tree.specs.Bind.{opened}
+use Rattle.lk_tree.specs.Levels.{put_levels}
+use Rattle.lk_tree.specs.Spine.{apply}
+use Rattle.lk_tree.specs.WellFormed.{HasLocal}
+use Rattle.lk_rulebook.specs.Place.{Place, Entry, a_type, a_ctor, Block, BlockType, Ctor}
+use Rattle.lk_rulebook.specs.Structures.{IsStructure, IsIota, IsKRecursor, projections}
+use Rattle.lk_rulebook.specs.Names.{named, nat, nat_zero, nat_succ, op_name, string, quot_mk, quot_lift, quot_ind}
+use Rattle.lk_rulebook.specs.Shapes.{HasNat}
+use Rattle.lk_rulebook.specs.Literals.{by_def, IsOperation, IsResult, expansion, Expands}
+use Rattle.lk_rulebook.specs.Quotients.{IsQuot}
+use Rattle.lk_tree.specs.Operations.{Op, op_value}
+use Rattle.std.specs.Str.{chars}
+use Rattle.lk_rulebook.specs.Rules.{HasValue}
+use Rattle.lk_declarative.specs.Guarded.{IdealType, IdealEquals, GuardedExpands}
+
+-- each Local's type has a sort
+abbrev pub LawfulLocals : Place → Tree → Type 0
+LawfulLocals w e = (k : ℕ) (T : Tree) → HasLocal k T e → (l : Level) × IdealType w T (sort l)
+
+-- each of the first n of bs has the type of the next domain of r
+abbrev pub Fits : Place → List Tree → ℕ → Tree → Type 0
+Fits w bs zero r = Unit {0}
+Fits w [] (suc n) r = Unit {0}
+Fits w (b ∷ bs) (suc n) r = (A B : Tree) (l : Level) → IdealEquals w r (pi A B) → IdealType w (pi A B) (sort l) → IdealType w b A × Fits w bs n (opened B b)
+
+pub record Expected (w : Place) : Type 0 where
+  -- of the rules: types have sorts, a tree has one type, equal Pis have equal domains (Pi injectivity), and a body may be opened
+  -- with what has the domain for a type (substitution)
+  pub sorted : {e A : Tree} → IdealType w e A → (l : Level) × IdealType w A (sort l)
+  pub one_type : {e A B : Tree} → IdealType w e A → IdealType w e B → IdealEquals w A B
+  pub domains : {A B C D : Tree} {l m : Level} → IdealType w (pi A B) (sort l) → IdealType w (pi C D) (sort m) → IdealEquals w (pi A B) (pi C D) → IdealEquals w A C
+  pub bodies : {A b B a : Tree} → IdealType w (lam A b) (pi A B) → IdealType w a A → IdealType w (opened b a) (opened B a)
+  -- of what the units give: a value has the types of its name, what a recursor's rule gives those of the redex, and a field
+  -- those of the projection
+  pub values : (c : Name) (ls : List Level) (g : Entry) (v X : Tree) →
+      w.means c ≡ Some g → HasValue g v → length ls ≡ length g.levels → IdealType w (const c ls) X → IdealType w (put_levels g.levels ls v) X
+  pub results : (R c : Name) (ls ks : List Level) (front xs : List Tree) (result X : Tree) →
+      IsIota w R c ls front xs result → IdealType w (app (apply (const R ls) front) (apply (const c ks) xs)) X → IdealType w result X
+  pub fields : (S c : Name) (ks : List Level) (g : Entry) (block : Block) (ind : BlockType) (ctor : Ctor) (i : ℕ) (xs : List Tree) (x X : Tree) →
+      w.means c ≡ Some g → g.kind ≡ a_ctor block ind ctor → ind.name ≡ S → slice_get xs (ctor.parameters + i) ≡ Some x →
+      IdealType w (proj S i (apply (const c ks) xs)) X → IdealType w x X
+  -- a projection keeps its types where the structure is replaced by an equal one
+  pub replaced : (S : Name) (i : ℕ) (s m U X : Tree) → IdealType w (proj S i s) X → IdealType w s U → IdealEquals w s m → IdealType w m U → IdealType w (proj S i m) X
+  pub numbers : HasNat w → IdealType w (named nat_zero) (named nat) × IdealType w (named nat_succ) (pi (named nat) (named nat))
+  -- what a quotient's function gives has the types of the redex, and so has what an operation gives; an expansion is a String
+  pub lifted : (ls ks : List Level) {A r B f h A' r' a X : Tree} → IsQuot w quot_lift → IsQuot w quot_mk →
+      IdealType w (apply (const quot_lift ls) (A ∷ r ∷ B ∷ f ∷ h ∷ apply (const quot_mk ks) (A' ∷ r' ∷ a ∷ []) ∷ [])) X → IdealType w (app f a) X
+  pub induced : (ls ks : List Level) {A r B h A' r' a X : Tree} → IsQuot w quot_ind → IsQuot w quot_mk →
+      IdealType w (apply (const quot_ind ls) (A ∷ r ∷ B ∷ h ∷ apply (const quot_mk ks) (A' ∷ r' ∷ a ∷ []) ∷ [])) X → IdealType w (app h a) X
+  pub computed : (op : Op) (ns : List ℕ) (r X : Tree) (i : IsOperation w op) → by_def i.entry.kind ≡ true → HasNat w → IsResult w (op_value op ns) r → IdealType w (apply (named (op_name op)) (map lit ns)) X → IdealType w r X
+  pub texts : {s : List ℕ} → Expands w s → IdealType w (expansion (chars s)) (named string)
+  -- the type of a major premise of a recursor with k 1 is a proposition
+  pub proofs : (R J c : Name) (front bs rest : List Tree) (ks : List Level) (l : Level) → IsKRecursor w R J c front bs →
+      IdealType w (apply (const J ks) (bs ++ rest)) (sort l) → IdealType w (apply (const J ks) (bs ++ rest)) (sort zero_level)
+  -- what structure eta makes of m has the type of m
+  pub expanded : (J c : Name) (block : Block) (ind : BlockType) (ctor : Ctor) (ls : List Level) (bs : List Tree) (m : Tree) →
+      IsStructure w J c block ind ctor → length bs ≡ ctor.parameters → IdealType w m (apply (const J ls) bs) → GuardedExpands true w ctor (apply (const J ls) bs) →
+      IdealType w (apply (const c ls) (bs ++ projections J m 0 ctor.fields)) (apply (const J ls) bs)
+  -- a member of a structure-like type is a proof, or has all its projections
+  pub members : (J c : Name) (block : Block) (ind : BlockType) (ctor : Ctor) (ks : List Level) (ps xs : List Tree) (a B : Tree) →
+      IsStructure w J c block ind ctor → length ps ≡ ctor.parameters → length xs ≡ ctor.fields →
+      IdealType w a B → IdealType w (apply (const c ks) (ps ++ xs)) B →
+      IdealType w B (sort zero_level) ⊎ ((j : ℕ) → j < ctor.fields → (U : Tree) × IdealType w (proj J j a) U)
+  -- the constructor of a structure has a type that has a sort, and the parameters of the structure's type fit it
+  pub constructors : (S : Name) (g : Entry) (block : Block) (ind : BlockType) (c : Ctor) (ls : List Level) (bs : List Tree) (l : Level) →
+      w.means S ≡ Some g → g.kind ≡ a_type block ind → ind.ctors ≡ c ∷ [] → length ls ≡ length c.levels → length bs ≡ ind.parameters + ind.indices →
+      IdealType w (apply (const S ls) bs) (sort l) →
+      ((m : Level) × IdealType w (put_levels c.levels ls c.type) (sort m)) × Fits w bs ind.parameters (put_levels c.levels ls c.type)

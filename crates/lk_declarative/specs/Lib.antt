@@ -1,0 +1,5 @@
+pub mod Box
+pub mod Declared
+pub mod Expected
+pub mod Falsehood
+pub mod Guarded

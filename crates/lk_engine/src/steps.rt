@@ -1,0 +1,365 @@
+//! The steps of each question, one small function for each line of the table.
+
+ghost use Rattle.std.specs.Prelude.{◌≡◌, ◌<◌, ℕ, List, IfOk, length};
+ghost use Rattle.lk_tree.specs.Tree.{Tree, sort as tree_sort, lam, pi, local, imax_level};
+ghost use Rattle.lk_tree.specs.Bind.{opened, close, bound};
+ghost use Rattle.std.specs.Prelude.{Bool};
+ghost use Rattle.lk_rulebook.specs.Place.{Place};
+ghost use Rattle.lk_table.specs.Built.{core_row, infer_row, same_row, whnf_end};
+ghost use Rattle.lk_plain.specs.Erased.{a_tree, truth, gives, erased};
+ghost use Rattle.lk_store.specs.Store.{level_at, at, ExtendsLevels, Extends, StandsLevel, Stands};
+ghost use Rattle.lk_engine.specs.Questions.{value_at, IsKnownQuery, IsKnownAnswer};
+ghost use Rattle.lk_engine.specs.Sheets.{level_in, lam_rest, lam_sorted, pi_rest, pi_sorted, pi_end, map_sheet, sheet_steps, next_steps, query_steps, IsKnownSheet, IsKnownNext};
+
+use crate::question::{Answer, Next, Query, Rule, Sheet};
+use lk_store::binding::{closed, open_with};
+use lk_store::node::{LevelNode, NoMemory, Node};
+use lk_store::store::Terms;
+use std::alloc::Global;
+
+/// `Core` of a term.
+fn begin_core<T: Terms>(terms: &T, e: u64) -> Next<u64>
+    requires { e < length (T.trees terms.now) }
+    ensures known { IsKnownNext (length (T.trees terms.now)) result }
+    ensures steps { (w : Place) → next_steps w (at (T.trees terms.now)) result ≡ erased w a_tree (core_row (at (T.trees terms.now) e)) }
+{
+    match terms.view(e) {
+        Node::Var(_) | Node::Sort(_) | Node::Lam(_, _) | Node::Pi(_, _) | Node::Local(_, _) =>
+            Next::Done(Answer::Term(e)),
+    }
+}
+
+/// The sort above that of a level.
+fn next_sort<T: Terms>(terms: &mut T, level: u64) -> Result<Next<u64>, NoMemory>
+    requires { level < length (T.levels terms.old) }
+    ensures keeps { Extends (T.trees terms.old) (T.trees terms.new) }
+    ensures levels { ExtendsLevels (T.levels terms.old) (T.levels terms.new) }
+    ensures known { IfOk result (IsKnownNext (length (T.trees terms.new))) }
+    ensures steps { IfOk result (λ next. (w : Place) → next_steps w (at (T.trees terms.new)) next ≡ erased w a_tree (infer_row (tree_sort (level_at (T.levels terms.old) level)))) }
+{
+    let above = terms.make_level(LevelNode::Successor(level))?;
+    let e = terms.make(Node::Sort(above))?;
+    Ok(Next::Done(Answer::Term(e)))
+}
+
+/// `Infer` of a term.
+fn begin_infer<T: Terms>(terms: &mut T, e: u64) -> Result<Next<u64>, NoMemory>
+    requires { e < length (T.trees terms.old) }
+    ensures keeps { Extends (T.trees terms.old) (T.trees terms.new) }
+    ensures levels { ExtendsLevels (T.levels terms.old) (T.levels terms.new) }
+    ensures known { IfOk result (IsKnownNext (length (T.trees terms.new))) }
+    ensures steps { IfOk result (λ next. (w : Place) → next_steps w (at (T.trees terms.new)) next ≡ erased w a_tree (infer_row (at (T.trees terms.old) e))) }
+{
+    match terms.view(e) {
+        Node::Var(_) => Ok(Next::No(Rule::LooseVariable)),
+        Node::Sort(level) => next_sort(terms, level),
+        Node::Local(_, kind) => Ok(Next::Done(Answer::Term(kind))),
+        Node::Lam(domain, body) => Ok(Next::Ask(
+            Query::Infer(domain),
+            Sheet::LamDomain { domain, body },
+        )),
+        Node::Pi(domain, body) => Ok(Next::Ask(
+            Query::Infer(domain),
+            Sheet::PiDomain { domain, body },
+        )),
+    }
+}
+
+/// `Same` of two terms.
+#[tactic(auto, using(crate::proofs::Rows::same_answer_is))]
+fn begin_same<T: Terms>(terms: &T, a: u64, b: u64) -> Next<u64>
+    requires a_in { a < length (T.trees terms.now) }
+    requires b_in { b < length (T.trees terms.now) }
+    ensures known { IsKnownNext (length (T.trees terms.now)) result }
+    ensures steps { (w : Place) → next_steps w (at (T.trees terms.now)) result ≡ erased w truth (same_row (at (T.trees terms.now) a) (at (T.trees terms.now) b)) }
+{
+    Next::Done(Answer::Truth(terms.same(a, b)))
+}
+
+/// The end of `Whnf`, once its `Core` is there: no term has a name at its head.
+#[tactic(auto, unfolding(lk_tree::specs::Spine::head))]
+fn whnf_end<T: Terms>(terms: &T, e: u64) -> Next<u64>
+    requires { e < length (T.trees terms.now) }
+    ensures known { IsKnownNext (length (T.trees terms.now)) result }
+    ensures steps { (w : Place) → next_steps w (at (T.trees terms.now)) result ≡ erased w a_tree (whnf_end (at (T.trees terms.now) e)) }
+{
+    match terms.view(e) {
+        Node::Var(_) | Node::Sort(_) | Node::Lam(_, _) | Node::Pi(_, _) | Node::Local(_, _) =>
+            Next::Done(Answer::Term(e)),
+    }
+}
+
+/// The first step of a question.
+pub fn begin<T: Terms>(terms: &mut T, query: Query<u64>) -> Result<Next<u64>, NoMemory>
+    requires { IsKnownQuery (length (T.trees terms.old)) query }
+    ensures keeps { Extends (T.trees terms.old) (T.trees terms.new) }
+    ensures levels { ExtendsLevels (T.levels terms.old) (T.levels terms.new) }
+    ensures known { IfOk result (IsKnownNext (length (T.trees terms.new))) }
+    ensures steps { IfOk result (λ next. (w : Place) → next_steps w (at (T.trees terms.new)) next ≡ query_steps w (at (T.trees terms.old)) query) }
+{
+    match query {
+        Query::Core(e) => Ok(begin_core(terms, e)),
+        Query::Whnf(e) => Ok(Next::Ask(Query::Core(e), Sheet::WhnfCore)),
+        Query::Infer(e) => begin_infer(terms, e),
+        Query::Same(a, b) => Ok(begin_same(terms, a, b)),
+    }
+}
+
+/// The number of a Local that is fresh for a term under a binder.
+#[tactic(auto, unfolding(lk_tree::specs::Bind::bound))]
+fn fresh_number<T: Terms>(terms: &T, domain: u64, body: u64) -> Result<u64, NoMemory>
+    requires domain_in { domain < length (T.trees terms.now) }
+    requires body_in { body < length (T.trees terms.now) }
+    ensures lam { IfOk result (λ k. k ≡ bound (lam (at (T.trees terms.now) domain) (at (T.trees terms.now) body))) }
+    ensures pi { IfOk result (λ k. k ≡ bound (pi (at (T.trees terms.now) domain) (at (T.trees terms.now) body))) }
+{
+    let number = terms.local_bound(domain).max(terms.local_bound(body));
+    // No Local in memory has so great a number.
+    match u64::try_from(number) {
+        Ok(number) => Ok(number),
+        Err(_) => Err(NoMemory),
+    }
+}
+
+/// The body of a binder, opened with a Local.
+fn open_fresh<T: Terms>(
+    alloc: Global,
+    terms: &mut T,
+    domain: u64,
+    body: u64,
+    number: u64,
+) -> Result<u64, NoMemory>
+    requires domain_in { domain < length (T.trees terms.old) }
+    requires body_in { body < length (T.trees terms.old) }
+    ensures keeps { Extends (T.trees terms.old) (T.trees terms.new) }
+    ensures levels { T.levels terms.new ≡ T.levels terms.old }
+    ensures ok { IfOk result (λ e. Stands (T.trees terms.new) e (opened (at (T.trees terms.old) body) (local number (at (T.trees terms.old) domain)))) }
+{
+    let fresh = terms.make(Node::Local(number, domain))?;
+    open_with(alloc, terms, body, fresh)
+}
+
+/// Goes on with a lambda whose domain has a sort.
+fn lam_body<T: Terms>(
+    alloc: Global,
+    terms: &mut T,
+    domain: u64,
+    body: u64,
+) -> Result<Next<u64>, NoMemory>
+    requires domain_in { domain < length (T.trees terms.old) }
+    requires body_in { body < length (T.trees terms.old) }
+    ensures keeps { Extends (T.trees terms.old) (T.trees terms.new) }
+    ensures levels { T.levels terms.new ≡ T.levels terms.old }
+    ensures known { IfOk result (IsKnownNext (length (T.trees terms.new))) }
+    ensures steps { IfOk result (λ next. (w : Place) → next_steps w (at (T.trees terms.new)) next ≡ erased w a_tree (lam_rest (at (T.trees terms.old) domain) (at (T.trees terms.old) body))) }
+{
+    let number = fresh_number(terms, domain, body)?;
+    let e = open_fresh(alloc, terms, domain, body, number)?;
+    Ok(Next::Ask(Query::Infer(e), Sheet::LamBody { domain, number }))
+}
+
+/// Goes on with the sort of a lambda's domain.
+fn lam_domain_sort<T: Terms>(
+    alloc: Global,
+    terms: &mut T,
+    domain: u64,
+    body: u64,
+    e: u64,
+) -> Result<Next<u64>, NoMemory>
+    requires domain_in { domain < length (T.trees terms.old) }
+    requires body_in { body < length (T.trees terms.old) }
+    requires e_in { e < length (T.trees terms.old) }
+    ensures keeps { Extends (T.trees terms.old) (T.trees terms.new) }
+    ensures levels { T.levels terms.new ≡ T.levels terms.old }
+    ensures known { IfOk result (IsKnownNext (length (T.trees terms.new))) }
+    ensures steps { IfOk result (λ next. (w : Place) → next_steps w (at (T.trees terms.new)) next ≡ erased w a_tree (lam_sorted (at (T.trees terms.old) domain) (at (T.trees terms.old) body) (at (T.trees terms.old) e))) }
+{
+    match terms.view(e) {
+        Node::Sort(_) => lam_body(alloc, terms, domain, body),
+        Node::Var(_) | Node::Lam(_, _) | Node::Pi(_, _) | Node::Local(_, _) => Ok(Next::No(
+            Rule::NotASort,
+        )),
+    }
+}
+
+/// Goes on with the type of a lambda's body.
+fn lam_end<T: Terms>(
+    alloc: Global,
+    terms: &mut T,
+    domain: u64,
+    number: u64,
+    e: u64,
+) -> Result<Next<u64>, NoMemory>
+    requires domain_in { domain < length (T.trees terms.old) }
+    requires e_in { e < length (T.trees terms.old) }
+    ensures keeps { Extends (T.trees terms.old) (T.trees terms.new) }
+    ensures levels { T.levels terms.new ≡ T.levels terms.old }
+    ensures known { IfOk result (IsKnownNext (length (T.trees terms.new))) }
+    ensures steps { IfOk result (λ next. (w : Place) → next_steps w (at (T.trees terms.new)) next ≡ gives (a_tree (pi (at (T.trees terms.old) domain) (close number (at (T.trees terms.old) e))))) }
+{
+    let body = closed(alloc, terms, e, number)?;
+    let e = terms.make(Node::Pi(domain, body))?;
+    Ok(Next::Done(Answer::Term(e)))
+}
+
+/// Goes on with a Pi whose domain has a sort.
+fn pi_body<T: Terms>(
+    alloc: Global,
+    terms: &mut T,
+    domain: u64,
+    body: u64,
+    sort: u64,
+) -> Result<Next<u64>, NoMemory>
+    requires domain_in { domain < length (T.trees terms.old) }
+    requires body_in { body < length (T.trees terms.old) }
+    requires sort_in { sort < length (T.trees terms.old) }
+    ensures keeps { Extends (T.trees terms.old) (T.trees terms.new) }
+    ensures levels { T.levels terms.new ≡ T.levels terms.old }
+    ensures known { IfOk result (IsKnownNext (length (T.trees terms.new))) }
+    ensures steps { IfOk result (λ next. (w : Place) → next_steps w (at (T.trees terms.new)) next ≡ erased w a_tree (pi_rest (at (T.trees terms.old) domain) (at (T.trees terms.old) body) (level_in (at (T.trees terms.old) sort)))) }
+{
+    let number = fresh_number(terms, domain, body)?;
+    let e = open_fresh(alloc, terms, domain, body, number)?;
+    Ok(Next::Ask(Query::Infer(e), Sheet::PiBody { sort }))
+}
+
+/// Goes on with the sort of a Pi's domain.
+#[tactic(auto, using(crate::proofs::Rows::pi_sorted_is))]
+fn pi_domain_sort<T: Terms>(
+    alloc: Global,
+    terms: &mut T,
+    domain: u64,
+    body: u64,
+    e: u64,
+) -> Result<Next<u64>, NoMemory>
+    requires domain_in { domain < length (T.trees terms.old) }
+    requires body_in { body < length (T.trees terms.old) }
+    requires e_in { e < length (T.trees terms.old) }
+    ensures keeps { Extends (T.trees terms.old) (T.trees terms.new) }
+    ensures levels { T.levels terms.new ≡ T.levels terms.old }
+    ensures known { IfOk result (IsKnownNext (length (T.trees terms.new))) }
+    ensures steps { IfOk result (λ next. (w : Place) → next_steps w (at (T.trees terms.new)) next ≡ erased w a_tree (pi_sorted (at (T.trees terms.old) domain) (at (T.trees terms.old) body) (at (T.trees terms.old) e))) }
+{
+    match terms.view(e) {
+        Node::Sort(_) => pi_body(alloc, terms, domain, body, e),
+        Node::Var(_) | Node::Lam(_, _) | Node::Pi(_, _) | Node::Local(_, _) => Ok(Next::No(
+            Rule::NotASort,
+        )),
+    }
+}
+
+/// The level of a sort.
+pub fn level_of<T: Terms>(terms: &mut T, sort: u64) -> Result<u64, NoMemory>
+    requires { sort < length (T.trees terms.old) }
+    ensures trees { T.trees terms.new ≡ T.trees terms.old }
+    ensures levels { ExtendsLevels (T.levels terms.old) (T.levels terms.new) }
+    ensures ok { IfOk result (λ l. StandsLevel (T.levels terms.new) l (level_in (at (T.trees terms.old) sort))) }
+{
+    match terms.view(sort) {
+        Node::Sort(level) => Ok(level),
+        Node::Var(_) | Node::Lam(_, _) | Node::Pi(_, _) | Node::Local(_, _) => terms.make_level(
+            LevelNode::Zero,
+        ),
+    }
+}
+
+/// The sort of a Pi, from those of its domain and its body.
+fn pi_sort<T: Terms>(terms: &mut T, sort: u64, level: u64) -> Result<Next<u64>, NoMemory>
+    requires sort_in { sort < length (T.trees terms.old) }
+    requires level_in { level < length (T.levels terms.old) }
+    ensures keeps { Extends (T.trees terms.old) (T.trees terms.new) }
+    ensures levels { ExtendsLevels (T.levels terms.old) (T.levels terms.new) }
+    ensures known { IfOk result (IsKnownNext (length (T.trees terms.new))) }
+    ensures steps { IfOk result (λ next. (w : Place) → next_steps w (at (T.trees terms.new)) next ≡ gives (a_tree (tree_sort (imax_level (level_in (at (T.trees terms.old) sort)) (level_at (T.levels terms.old) level))))) }
+{
+    let domain = level_of(terms, sort)?;
+    let above = terms.make_level(LevelNode::Imax(domain, level))?;
+    let e = terms.make(Node::Sort(above))?;
+    Ok(Next::Done(Answer::Term(e)))
+}
+
+/// Goes on with the sort of a Pi's body.
+fn pi_body_sort<T: Terms>(terms: &mut T, sort: u64, e: u64) -> Result<Next<u64>, NoMemory>
+    requires sort_in { sort < length (T.trees terms.old) }
+    requires e_in { e < length (T.trees terms.old) }
+    ensures keeps { Extends (T.trees terms.old) (T.trees terms.new) }
+    ensures levels { ExtendsLevels (T.levels terms.old) (T.levels terms.new) }
+    ensures known { IfOk result (IsKnownNext (length (T.trees terms.new))) }
+    ensures steps { IfOk result (λ next. (w : Place) → next_steps w (at (T.trees terms.new)) next ≡ erased w a_tree (pi_end (level_in (at (T.trees terms.old) sort)) (at (T.trees terms.old) e))) }
+{
+    match terms.view(e) {
+        Node::Sort(level) => pi_sort(terms, sort, level),
+        Node::Var(_) | Node::Lam(_, _) | Node::Pi(_, _) | Node::Local(_, _) => Ok(Next::No(
+            Rule::NotASort,
+        )),
+    }
+}
+
+/// Goes on with an answer that is a term.
+fn resume_term<T: Terms>(
+    alloc: Global,
+    terms: &mut T,
+    sheet: Sheet<u64>,
+    e: u64,
+) -> Result<Next<u64>, NoMemory>
+    requires sheet_in { IsKnownSheet (length (T.trees terms.old)) sheet }
+    requires e_in { e < length (T.trees terms.old) }
+    ensures keeps { Extends (T.trees terms.old) (T.trees terms.new) }
+    ensures levels { ExtendsLevels (T.levels terms.old) (T.levels terms.new) }
+    ensures known { IfOk result (IsKnownNext (length (T.trees terms.new))) }
+    ensures steps { IfOk result (λ next. (w : Place) → next_steps w (at (T.trees terms.new)) next ≡ sheet_steps w (map_sheet (at (T.trees terms.old)) sheet) (a_tree (at (T.trees terms.old) e))) }
+{
+    match sheet {
+        Sheet::WhnfCore => Ok(whnf_end(terms, e)),
+        Sheet::LamDomain { domain, body } => Ok(Next::Ask(
+            Query::Whnf(e),
+            Sheet::LamDomainSort { domain, body },
+        )),
+        Sheet::LamDomainSort { domain, body } => lam_domain_sort(alloc, terms, domain, body, e),
+        Sheet::LamBody { domain, number } => lam_end(alloc, terms, domain, number, e),
+        Sheet::PiDomain { domain, body } => Ok(Next::Ask(
+            Query::Whnf(e),
+            Sheet::PiDomainSort { domain, body },
+        )),
+        Sheet::PiDomainSort { domain, body } => pi_domain_sort(alloc, terms, domain, body, e),
+        Sheet::PiBody { sort } => Ok(Next::Ask(Query::Whnf(e), Sheet::PiBodySort { sort })),
+        Sheet::PiBodySort { sort } => pi_body_sort(terms, sort, e),
+    }
+}
+
+/// No question of these waits for a truth value.
+fn resume_truth(sheet: Sheet<u64>) -> Next<u64>
+    ensures known { (n : ℕ) → IsKnownNext n result }
+    ensures steps { (w : Place) (t u : ℕ → Tree) (b : Bool) → next_steps w t result ≡ sheet_steps w (map_sheet u sheet) (truth b) }
+{
+    match sheet {
+        Sheet::WhnfCore => Next::No(Rule::LooseVariable),
+        Sheet::LamDomain { .. } => Next::No(Rule::LooseVariable),
+        Sheet::LamDomainSort { .. } => Next::No(Rule::LooseVariable),
+        Sheet::LamBody { .. } => Next::No(Rule::LooseVariable),
+        Sheet::PiDomain { .. } => Next::No(Rule::LooseVariable),
+        Sheet::PiDomainSort { .. } => Next::No(Rule::LooseVariable),
+        Sheet::PiBody { .. } => Next::No(Rule::LooseVariable),
+        Sheet::PiBodySort { .. } => Next::No(Rule::LooseVariable),
+    }
+}
+
+/// Goes on once the answer is there that a sheet waits for.
+pub fn resume<T: Terms>(
+    alloc: Global,
+    terms: &mut T,
+    sheet: Sheet<u64>,
+    answer: Answer<u64>,
+) -> Result<Next<u64>, NoMemory>
+    requires sheet_in { IsKnownSheet (length (T.trees terms.old)) sheet }
+    requires answer_in { IsKnownAnswer (length (T.trees terms.old)) answer }
+    ensures keeps { Extends (T.trees terms.old) (T.trees terms.new) }
+    ensures levels { ExtendsLevels (T.levels terms.old) (T.levels terms.new) }
+    ensures known { IfOk result (IsKnownNext (length (T.trees terms.new))) }
+    ensures steps { IfOk result (λ next. (w : Place) → next_steps w (at (T.trees terms.new)) next ≡ sheet_steps w (map_sheet (at (T.trees terms.old)) sheet) (value_at (at (T.trees terms.old)) answer)) }
+{
+    match answer {
+        Answer::Term(e) => resume_term(alloc, terms, sheet, e),
+        Answer::Truth(_) => Ok(resume_truth(sheet)),
+    }
+}

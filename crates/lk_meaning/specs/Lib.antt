@@ -1,0 +1,5 @@
+pub mod Booleans
+pub mod Falsehood
+pub mod Families
+pub mod Rigid
+pub mod TypeForms

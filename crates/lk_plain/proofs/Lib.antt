@@ -1,0 +1,10 @@
+pub mod Agreement
+pub mod Budgets
+pub mod Machines
+pub mod Outcomes
+pub mod Places
+pub mod Renamed
+pub mod Settled
+pub mod Soundness
+pub mod Parts
+pub mod Erasing

@@ -1,0 +1,111 @@
+-- A stage of a sound table is sound, and what it answers the table answers.
+use Rattle.std.proofs.Common.{ℕ, zero, suc, ◌≡◌, ◌-◌, Bool, true, false, Option, Some, None, refl, ap, if◌then◌else◌}
+use Rattle.lk_tree.specs.RuleNo.{RuleNo}
+use Rattle.lk_rulebook.specs.Place.{Place, Entry}
+use Rattle.lk_plain.specs.Query.{Query, AnswerTo}
+use Rattle.lk_plain.specs.Program.{Program, done, refuse, ask, look, Table, ◌>>=◌}
+use Rattle.lk_plain.specs.Answer.{Outcome, answered, refused, spent, after, and_then, looked_up, IfAnswered, outcome_of, answer_to_depth, plain_answer}
+use Rattle.lk_plain.proofs.Outcomes.{and_then_same}
+use Rattle.lk_plain.specs.Sound.{IsJustified, IsSound, IsSoundTable}
+use Rattle.lk_plain.specs.Parts.{restricted, without_names, nameless, IsNameless, IsPart, stops, ends, asks, looks, IsStageOf}
+
+-- each program is a part of itself
+pub part_itself : {A : Type 0} (p : Program A) → IsPart p p
+part_itself (done v) = ends
+part_itself (refuse r) = stops
+part_itself (ask q k) = asks (λ v. part_itself (k v))
+part_itself (look r c k) = looks (λ e. part_itself (k e))
+
+-- a row by hand that follows the table's program so far
+pub part_bind : {A B : Type 0} (p whole : Program A) (k l : A → Program B) → IsPart p whole → ((v : A) → IsPart (k v) (l v)) → IsPart (p >>= k) (whole >>= l)
+part_bind _ _ k l stops h = stops
+part_bind _ _ k l (ends {v = v}) h = h v
+part_bind _ _ k l (asks {k = f} {whole = g} i) h = asks (λ v. part_bind (f v) (g v) k l (i v) h)
+part_bind _ _ k l (looks {k = f} {whole = g} i) h = looks (λ e. part_bind (f e) (g e) k l (i e) h)
+
+pub part_without : {A : Type 0} (r : RuleNo) (p whole : Program A) → IsPart p whole → IsPart (without_names r p) whole
+part_without r _ _ stops = stops
+part_without r _ _ ends = ends
+part_without r _ _ (asks {k = k} {whole = l} h) = asks (λ v. part_without r (k v) (l v) (h v))
+part_without r _ _ (looks h) = stops
+
+pub part_restricted : (built : Query → Bool) (r : RuleNo) (stage table : Table) → IsStageOf stage table → IsStageOf (restricted built r stage) table
+part_restricted built r stage table h q = go (built q)
+  where
+    go : (b : Bool) → IsPart (if b then stage q else refuse r) (table q)
+    go true = h q
+    go false = stops
+
+pub part_nameless : (r : RuleNo) (stage table : Table) → IsStageOf stage table → IsStageOf (nameless r stage) table
+part_nameless r stage table h q = part_without r (stage q) (table q) (h q)
+
+-- a part of a sound program is sound
+pub sound_part : {A : Type 0} (w : Place) (p whole : Program A) (P : A → Type 0) → IsPart p whole → IsSound w whole P → IsSound w p P
+sound_part w _ _ P stops s = tt
+sound_part w _ _ P ends s = s
+sound_part w _ _ P (asks {k = k} {whole = l} h) s = (s.0, λ v m. sound_part w (k v) (l v) P (h v) (s.1 v m))
+sound_part w _ _ P (looks {k = k} {whole = l} h) s = λ e m. sound_part w (k e) (l e) P (h e) (s e m)
+
+pub sound_stage : (stage table : Table) → IsStageOf stage table → IsSoundTable table → IsSoundTable stage
+sound_stage stage table h s w ok q a = sound_part w (stage q) (table q) (IsJustified w q) (h q) (s w ok q a)
+
+pub sound_restricted : (built : Query → Bool) (r : RuleNo) (table : Table) → IsSoundTable table → IsSoundTable (restricted built r table)
+sound_restricted built r table s = sound_stage (restricted built r table) table (part_restricted built r table table (λ q. part_itself (table q))) s
+
+pub sound_nameless : (r : RuleNo) (table : Table) → IsSoundTable table → IsSoundTable (nameless r table)
+sound_nameless r table s = sound_stage (nameless r table) table (part_nameless r table table (λ q. part_itself (table q))) s
+
+-- what o answers o' answers too
+abbrev pub Gives : {A : Type 0} → Outcome A → Outcome A → Type 0
+Gives o o' = IfAnswered o (λ v c t. o' ≡ answered v c t)
+
+pub gives_after : {A : Type 0} (c : ℕ) (t : Option ℕ) (o o' : Outcome A) → Gives o o' → Gives (after c t o) (after c t o')
+gives_after c t (answered v d u) o' h = ap (after c t) h
+gives_after c t (refused r) o' h = tt
+gives_after c t spent o' h = tt
+
+pub gives_then : {A B : Type 0} (o o' : Outcome A) (k l : A → ℕ → Outcome B) → Gives o o' → ((v : A) (c : ℕ) → Gives (k v c) (l v c)) → Gives (and_then o k) (and_then o' l)
+gives_then (answered v c t) o' k l h g = rw h (gives_after c t (k v c) (l v c) (g v c))
+gives_then (refused r) o' k l h g = tt
+gives_then spent o' k l h g = tt
+
+pub gives_found : {A : Type 0} (r : RuleNo) (m : Option Entry) (n : ℕ) (f : Option RuleNo) (k l : Entry → Outcome A) → ((e : Entry) → Gives (k e) (l e)) → Gives (looked_up r m n f k) (looked_up r m n f l)
+gives_found r None n f k l g = tt
+gives_found r (Some e) n f k l g = gives_after 0 (Some n) (k e) (l e) (g e)
+
+pub run_gives : {A : Type 0} (w : Place) (f g : (q : Query) → ℕ → Outcome (AnswerTo q)) → ((q : Query) (b : ℕ) → Gives (f q b) (g q b)) →
+    (p whole : Program A) (b : ℕ) → IsPart p whole → Gives (outcome_of w f b p) (outcome_of w g b whole)
+run_gives w f g h _ _ b stops = tt
+run_gives w f g h _ _ b ends = refl
+run_gives w f g h _ _ b (asks {q = q} {k = k} {whole = l} i) =
+    gives_then (f q b) (g q b) (λ v c. outcome_of w f (b - c) (k v)) (λ v c. outcome_of w g (b - c) (l v)) (h q b) (λ v c. run_gives w f g h (k v) (l v) (b - c) (i v))
+run_gives w f g h _ _ b (looks {r = r} {c = c} {k = k} {whole = l} i) =
+    gives_found r (w.means c) (w.origin c) (w.flaw c) (λ e. outcome_of w f b (k e)) (λ e. outcome_of w g b (l e)) (λ e. run_gives w f g h (k e) (l e) b (i e))
+
+answer_gives : (stage table : Table) → IsStageOf stage table → (w : Place) (depth : ℕ) (q : Query) (b : ℕ) → Gives (answer_to_depth stage w depth q b) (answer_to_depth table w depth q b)
+unfolding answer_to_depth
+answer_gives stage table h w zero q b = tt
+answer_gives stage table h w (suc depth) q zero = tt
+answer_gives stage table h w (suc depth) q (suc b) =
+    gives_after 1 None (outcome_of w (answer_to_depth stage w depth) b (stage q)) (outcome_of w (answer_to_depth table w depth) b (table q))
+    (run_gives w (answer_to_depth stage w depth) (answer_to_depth table w depth) (λ x i. answer_gives stage table h w depth x i) (stage q) (table q) b (h q))
+
+pub ans_gives : (stage table : Table) → IsStageOf stage table → (w : Place) (q : Query) (b : ℕ) → Gives (plain_answer stage w q b) (plain_answer table w q b)
+ans_gives stage table h w q b = answer_gives stage table h w b q b
+
+-- such a program runs as before
+pub run_nameless : {A : Type 0} (w : Place) (f : (q : Query) → ℕ → Outcome (AnswerTo q)) (r : RuleNo) (p : Program A) (b : ℕ) → IsNameless p → outcome_of w f b (without_names r p) ≡ outcome_of w f b p
+run_nameless w f r (done v) b h = refl
+run_nameless w f r (refuse s) b h = refl
+run_nameless w f r (ask q k) b h = and_then_same (f q b) (λ v c. outcome_of w f (b - c) (without_names r (k v))) (λ v c. outcome_of w f (b - c) (k v)) (λ v c. run_nameless w f r (k v) (b - c) (h v))
+run_nameless w f r (look s c k) b h = absurd h
+
+-- where names stop is the same whether a program is cut at once or part by part
+pub run_without_then : {A B : Type 0} (w : Place) (f : (q : Query) → ℕ → Outcome (AnswerTo q)) (r : RuleNo) (p : Program A) (k : A → Program B) (b : ℕ) →
+    outcome_of w f b (without_names r (p >>= k)) ≡ outcome_of w f b (without_names r p >>= λ v. without_names r (k v))
+run_without_then w f r (done v) k b = refl
+run_without_then w f r (refuse s) k b = refl
+run_without_then w f r (ask q l) k b =
+    and_then_same (f q b) (λ v c. outcome_of w f (b - c) (without_names r (l v >>= k))) (λ v c. outcome_of w f (b - c) (without_names r (l v) >>= λ u. without_names r (k u)))
+    (λ v c. run_without_then w f r (l v) k (b - c))
+run_without_then w f r (look s c l) k b = refl

@@ -1,0 +1,81 @@
+-- Programs and answers in which the question's type is forgotten, as a loop over a stack has them.
+use Rattle.std.specs.Prelude.{ℕ, ◌-◌, Bool, Option, Some, None}
+use Rattle.lk_tree.specs.Tree.{Tree}
+use Rattle.lk_tree.specs.RuleNo.{RuleNo, loose_variable}
+use Rattle.lk_rulebook.specs.Place.{Place, Entry}
+use Rattle.lk_plain.specs.Query.{Query, AnswerTo, core, whnf, infer, same}
+use Rattle.lk_plain.specs.Program.{Program, Table, done, refuse, ask, look}
+use Rattle.lk_plain.specs.Answer.{Outcome, answered, refused, spent, refusal, plain_answer}
+
+-- the answer of any question
+pub data Value : Type 0 where
+  a_tree : Tree → Value
+  truth : Bool → Value
+
+abbrev pub value_of : (q : Query) → AnswerTo q → Value
+value_of (core e) v = a_tree v
+value_of (whnf e) v = a_tree v
+value_of (infer e) v = a_tree v
+value_of (same a b) v = truth v
+
+-- a program at a place, whose look-ups are made
+pub data Steps : Type 0 where
+  asks : Query → (Value → Steps) → Steps
+  gives : Value → Steps
+  refuses : RuleNo → Steps
+
+-- an answer of the other kind never comes
+abbrev pub with_tree : (Tree → Steps) → Value → Steps
+with_tree k (a_tree t) = k t
+with_tree k (truth b) = refuses loose_variable
+
+abbrev pub with_truth : (Bool → Steps) → Value → Steps
+with_truth k (truth b) = k b
+with_truth k (a_tree t) = refuses loose_variable
+
+abbrev pub with_answer : (q : Query) → (AnswerTo q → Steps) → Value → Steps
+with_answer (core e) k = with_tree k
+with_answer (whnf e) k = with_tree k
+with_answer (infer e) k = with_tree k
+with_answer (same a b) k = with_truth k
+
+abbrev pub looked : RuleNo → Option Entry → Option RuleNo → (Entry → Steps) → Steps
+looked r None flaw next = refuses (refusal r flaw)
+looked r (Some e) flaw next = next e
+
+abbrev pub erased : {A : Type 0} → Place → (A → Value) → Program A → Steps
+erased w f (done v) = gives (f v)
+erased w f (refuse r) = refuses r
+erased w f (ask q k) = asks q (with_answer q (λ v. erased w f (k v)))
+erased w f (look r c k) = looked r (w.means c) (w.flaw c) (λ e. erased w f (k e))
+
+-- an answer with what is left of the budget, a refusal, or the budget is used up
+pub data Out : Type 0 where
+  finished : Value → ℕ → Out
+  stopped : RuleNo → Out
+  used_up : Out
+
+abbrev pub go_on : Out → (Value → ℕ → Out) → Out
+go_on (finished v left) k = k v left
+go_on (stopped r) k = stopped r
+go_on used_up k = used_up
+
+-- the run of the steps, where `answer` answers what they ask
+abbrev pub run_steps : (Query → ℕ → Out) → Steps → ℕ → Out
+run_steps answer (asks q k) left = go_on (answer q left) (λ v rest. run_steps answer (k v) rest)
+run_steps answer (gives v) left = finished v left
+run_steps answer (refuses r) left = stopped r
+
+-- the outcome under a budget, by what is left of it
+abbrev pub left_of : {A : Type 0} → (A → Value) → ℕ → Outcome A → Out
+left_of f budget (answered v c t) = finished (f v) (budget - c)
+left_of f budget (refused r) = stopped r
+left_of f budget spent = used_up
+
+-- the plain answer of a question by a table, by what is left
+unfoldable pub out_of : Table → Place → Query → ℕ → Out
+out_of table w q budget = left_of (value_of q) budget (plain_answer table w q budget)
+
+-- what the question does, by its row of the table
+abbrev pub steps_of : Table → Place → Query → Steps
+steps_of table w q = erased w (value_of q) (table q)

@@ -1,0 +1,8 @@
+pub mod Answer
+pub mod Laws
+pub mod Machine
+pub mod Program
+pub mod Query
+pub mod Sound
+pub mod Parts
+pub mod Erased

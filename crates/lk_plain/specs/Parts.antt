@@ -1,0 +1,40 @@
+-- Stages of a table, built row by row: its programs, but that they may be refused earlier.
+use Rattle.std.specs.Prelude.{Bool, if◌then◌else◌}
+use Rattle.lk_tree.specs.Tree.{Name}
+use Rattle.lk_tree.specs.RuleNo.{RuleNo}
+use Rattle.lk_rulebook.specs.Place.{Entry}
+use Rattle.lk_plain.specs.Query.{Query, AnswerTo}
+use Rattle.lk_plain.specs.Program.{Program, done, refuse, ask, look, Table}
+
+-- the questions that are built do what they do in the table, and the others are refused by r
+abbrev pub restricted : (Query → Bool) → RuleNo → Table → Table
+restricted built r table q = if built q then table q else refuse r
+
+-- p, refused by r where it would look a name up
+abbrev pub without_names : {A : Type 0} → RuleNo → Program A → Program A
+without_names r (done v) = done v
+without_names r (refuse s) = refuse s
+without_names r (ask q k) = ask q (λ v. without_names r (k v))
+without_names r (look s c k) = refuse r
+
+-- no question looks a name up
+abbrev pub nameless : RuleNo → Table → Table
+nameless r table q = without_names r (table q)
+
+-- p does what its whole does, but that it may be refused earlier
+pub data IsPart {A : Type 0} : Program A → Program A → Type 0 where
+  stops : {r : RuleNo} {whole : Program A} → IsPart (refuse r) whole
+  ends : {v : A} → IsPart (done v) (done v)
+  asks : {q : Query} {k whole : AnswerTo q → Program A} → ((v : AnswerTo q) → IsPart (k v) (whole v)) → IsPart (ask q k) (ask q whole)
+  looks : {r : RuleNo} {c : Name} {k whole : Entry → Program A} → ((e : Entry) → IsPart (k e) (whole e)) → IsPart (look r c k) (look r c whole)
+
+-- so it is with each question
+abbrev pub IsStageOf : Table → Table → Type 0
+IsStageOf stage table = (q : Query) → IsPart (stage q) (table q)
+
+-- a program that looks no name up is not changed
+abbrev pub IsNameless : {A : Type 0} → Program A → Type 0
+IsNameless (done v) = Unit {0}
+IsNameless (refuse r) = Unit {0}
+IsNameless (ask q k) = (v : AnswerTo q) → IsNameless (k v)
+IsNameless (look r c k) = ⊥

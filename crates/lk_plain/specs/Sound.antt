@@ -1,0 +1,71 @@
+-- What an answer means in the rule book, and what it takes of a question's program to be sound.
+use Rattle.std.specs.Prelude.{◌⊎◌, List, [], ◌∷◌, ◌≡◌, Bool, true, false, Some}
+use Rattle.lk_tree.specs.Tree.{Name}
+use Rattle.lk_tree.specs.WellFormed.{IsWellFormed, LocalsWithin}
+use Rattle.lk_tree.specs.Spine.{IsHeadNormal}
+pub use Rattle.lk_tree.specs.WellFormed.{IsStated}
+use Rattle.lk_rulebook.specs.Place.{Place, Entry, Kind, RecRule, Ctor, BlockType, a_def, a_thm, an_axiom, an_opaque, a_quot, a_type, a_ctor, a_rec}
+use Rattle.lk_rulebook.specs.Rules.{HasType, Reduces, IsDefEq}
+use Rattle.lk_plain.specs.Query.{Query, AnswerTo, core, whnf, infer, same}
+use Rattle.lk_plain.specs.Program.{Program, done, refuse, ask, look, Table}
+
+-- questions are asked of closed, well scoped trees
+abbrev pub IsAskable : Query → Type 0
+IsAskable (core e) = IsWellFormed e
+IsAskable (whnf e) = IsWellFormed e
+IsAskable (infer e) = IsWellFormed e
+IsAskable (same a b) = IsWellFormed a × IsWellFormed b
+
+abbrev pub IfYes : Bool → Type 0 → Type 0
+IfYes true P = P
+IfYes false P = Unit {0}
+
+-- what the answer of a question says
+abbrev pub IsJustified : Place → (q : Query) → AnswerTo q → Type 0
+IsJustified w (core e) v = (Reduces w e v × LocalsWithin e v) × IsHeadNormal v
+IsJustified w (whnf e) v = Reduces w e v × LocalsWithin e v
+IsJustified w (infer e) v = HasType w e v × LocalsWithin e v
+IsJustified w (same a b) equal = IfYes equal (IsDefEq w a b)
+
+-- whatever true answers p gets, it asks only what may be asked, and what it is done with has the property
+abbrev pub IsSound : {A : Type 0} → Place → Program A → (A → Type 0) → Type 0
+IsSound w (done v) P = P v
+IsSound w (refuse r) P = Unit {0}
+IsSound w (ask q k) P = IsAskable q × ((v : AnswerTo q) → IsJustified w q v → IsSound w (k v) P)
+IsSound w (look r c k) P = (e : Entry) → w.means c ≡ Some e → IsSound w (k e) P
+
+-- what a name gives at w is closed and holds no Local
+abbrev pub RulesStated : List RecRule → Type 0
+RulesStated [] = Unit {0}
+RulesStated (r ∷ rs) = IsStated r.value × RulesStated rs
+
+abbrev pub CtorsStated : List Ctor → Type 0
+CtorsStated [] = Unit {0}
+CtorsStated (c ∷ cs) = IsStated c.type × CtorsStated cs
+
+-- the types of a block and their constructors
+abbrev pub TypesStated : List BlockType → Type 0
+TypesStated [] = Unit {0}
+TypesStated (t ∷ ts) = (IsStated t.type × CtorsStated t.ctors) × TypesStated ts
+
+-- a constructor is one of its type's
+abbrev pub IsListed : Ctor → List Ctor → Type 0
+IsListed c [] = ⊥
+IsListed c (d ∷ ds) = (d ≡ c) ⊎ IsListed c ds
+
+abbrev pub KindStated : Kind → Type 0
+KindStated (a_def h v) = IsStated v
+KindStated (a_thm v) = IsStated v
+KindStated (an_opaque v) = IsStated v
+KindStated (a_type b i) = (IsStated i.type × CtorsStated i.ctors) × TypesStated b.types
+KindStated (a_ctor b i c) = IsStated c.type × IsListed c i.ctors
+KindStated (a_rec r) = RulesStated r.rules
+KindStated an_axiom = Unit {0}
+KindStated a_quot = Unit {0}
+
+abbrev pub WellStated : Place → Type 0
+WellStated w = (c : Name) (e : Entry) → w.means c ≡ Some e → IsStated e.type × KindStated e.kind
+
+-- each question's program is sound wherever it may be asked, and what it is done with means what the rule book says
+abbrev pub IsSoundTable : Table → Type 0
+IsSoundTable table = (w : Place) → WellStated w → (q : Query) → IsAskable q → IsSound w (table q) (IsJustified w q)

@@ -1,0 +1,38 @@
+//! Programs that ask questions, and the plain answer of a question: what a table answers at a place, under a budget, without
+//! caches. The laws hold of every table.
+#![tactic(auto)]
+
+ghost use Rattle.std.specs.Prelude.{◌≡◌, ℕ, suc, Bool, None};
+ghost use Rattle.lk_plain.specs.Answer.{answered, after, outcome_of, plain_answer, IfAnswered};
+ghost use Rattle.lk_plain.specs.Laws.{IsSteady, IsBelow, Keeps};
+ghost use Rattle.lk_plain.specs.Parts.{restricted, nameless, IsStageOf};
+ghost use Rattle.lk_plain.specs.Program.{Table};
+ghost use Rattle.lk_plain.specs.Query.{Query};
+ghost use Rattle.lk_plain.specs.Sound.{IsSoundTable};
+ghost use Rattle.lk_rulebook.specs.Place.{Place};
+ghost use Rattle.lk_tree.specs.RuleNo.{RuleNo};
+
+/// With one more than b left a question is opened, and what it asks is answered with what is left.
+pub fn plain_answer_opens()
+    ensures { (table : Table) (w : Place) (q : Query) (b : ℕ) → plain_answer table w q (suc b) ≡ after 1 None (outcome_of w (plain_answer table w) b (table q)) }
+{}
+
+/// An answer comes exactly where the budget is at least its cost, and is the same under each such budget.
+pub fn plain_answer_is_steady()
+    ensures { (table : Table) (w : Place) (q : Query) (b : ℕ) → IfAnswered (plain_answer table w q b) (IsSteady (plain_answer table w q) b) }
+{}
+
+/// An answer rests on the names alone that units below n give.
+pub fn plain_answers_agree()
+    ensures { (table : Table) (n : ℕ) (w other : Place) (q : Query) (b : ℕ) → Keeps n w other → IfAnswered (plain_answer table w q b) (λ v c t. IsBelow t n → plain_answer table other q b ≡ answered v c t) }
+{}
+
+/// What a stage answers its table answers too, at the same cost, and a stage of a sound table is sound. A table is a stage of
+/// itself, and a stage is one still where it is restricted to some questions, or to programs that look no name up.
+pub fn stages_are_sound()
+    ensures sound { (stage table : Table) → IsStageOf stage table → IsSoundTable table → IsSoundTable stage }
+    ensures agree { (stage table : Table) (w : Place) (q : Query) (b : ℕ) → IsStageOf stage table → IfAnswered (plain_answer stage w q b) (λ v c t. plain_answer table w q b ≡ answered v c t) }
+    ensures itself { (table : Table) → IsStageOf table table }
+    ensures restricts { (built : Query → Bool) (r : RuleNo) (stage table : Table) → IsStageOf stage table → IsStageOf (restricted built r stage) table }
+    ensures names { (r : RuleNo) (stage table : Table) → IsStageOf stage table → IsStageOf (nameless r stage) table }
+{}

@@ -1,0 +1,6 @@
+pub mod HeadSteps
+pub mod NoNew
+pub mod Scans
+pub mod Scopes
+pub mod Sorts
+pub mod Texts

@@ -1,0 +1,93 @@
+-- What the rules relate is closed and well scoped.
+use Rattle.std.proofs.Common.{zero, suc, ℕ, ◌++◌, List, arith}
+use Rattle.lk_rulebook.specs.Names.{named, op_name}
+use Rattle.lk_rulebook.proofs.Texts.{read_fine, result_fine}
+use Rattle.lk_rulebook.specs.Structures.{projections}
+use Rattle.lk_tree.specs.Tree.{Name, Tree, var, app, lam, pi, const, local}
+use Rattle.lk_tree.specs.WellFormed.{IsWellFormed, AllWellFormed}
+use Rattle.lk_tree.proofs.Binding.{open_fine, fine_from_open, fine_more}
+use Rattle.lk_tree.proofs.Spines.{fine_apply, well_formed_of_apply, all_fine_append}
+use Rattle.lk_rulebook.specs.Place.{Place}
+use Rattle.lk_rulebook.specs.Rules.{HasType, t_sort, t_local, t_const, t_app, t_lam, t_pi, t_let, t_lit, t_str, t_proj, HasSort, has_sort, Reduces, r_refl, r_trans, r_head, r_beta, r_zeta, r_delta, r_proj, r_major, r_iota, r_k, r_struct, r_quot_lift, r_quot_ind, r_op, IsDefEq, e_refl, e_reduce, e_sort, e_const, e_app, e_lam, e_pi, e_proj, e_eta_left, e_eta_right, e_struct_left, e_struct_right, e_unit, e_proof, e_zero_left, e_zero_right, e_succ_left, e_succ_right, e_str_left, e_str_right, Numerals, no_more_numerals, numeral, FieldOf, here, past}
+
+projections_fine : (J : Name) (m : Tree) (j n : ℕ) → IsWellFormed m → AllWellFormed (projections J m j n)
+projections_fine J m j zero f = tt
+projections_fine J m j (suc n) f = (f, projections_fine J m (suc j) n f)
+
+mutual
+  pub well_formed_of_type : {w : Place} {e A : Tree} → HasType w e A → IsWellFormed e × IsWellFormed A
+  well_formed_of_type t_sort = (tt, tt)
+  well_formed_of_type (t_local f) = (f, f.0)
+  well_formed_of_type (t_const m n f) = (tt, f)
+  well_formed_of_type (t_app {a = a} {A = A} {B = B} f r x q) = (((well_formed_of_type f).0, (well_formed_of_type x).0), open_fine 0 a B (well_formed_of_reduct r).1.1 (well_formed_of_type x).0)
+  well_formed_of_type (t_lam {A = A} {b = b} {B = B} {k = k} i j a f) =
+      ((well_formed_of_sort a, fine_from_open 0 (local k A) b (well_formed_of_type f).0), (well_formed_of_sort a, fine_from_open 0 (local k A) B (well_formed_of_type f).1))
+  well_formed_of_type (t_pi {A = A} {B = B} {k = k} i a f) = ((well_formed_of_sort a, fine_from_open 0 (local k A) B (well_formed_of_sort f)), tt)
+  well_formed_of_type (t_let {v = v} {b = b} a x q f) = ((well_formed_of_sort a, (well_formed_of_type x).0, fine_from_open 0 v b (well_formed_of_type f).0), (well_formed_of_type f).1)
+  well_formed_of_type (t_lit h f) = (f, tt)
+  well_formed_of_type (t_str h) = (tt, tt)
+  well_formed_of_type (t_proj S ls bs i s U T A l g block ind c e d m k n o p q r f v) = ((well_formed_of_type e).0, well_formed_of_field v)
+
+  pub well_formed_of_sort : {w : Place} {A : Tree} {l : _} → HasSort w A l → IsWellFormed A
+  well_formed_of_sort (has_sort t r) = (well_formed_of_type t).0
+
+  pub well_formed_of_reduct : {w : Place} {a b : Tree} → Reduces w a b → IsWellFormed a × IsWellFormed b
+  well_formed_of_reduct (r_refl f) = (f, f)
+  well_formed_of_reduct (r_trans c d) = ((well_formed_of_reduct c).0, (well_formed_of_reduct d).1)
+  well_formed_of_reduct (r_head c f) = (((well_formed_of_reduct c).0, f), ((well_formed_of_reduct c).1, f))
+  well_formed_of_reduct (r_beta {b = b} {a = a} f) = (f, open_fine 0 a b f.0.1 f.1)
+  well_formed_of_reduct (r_zeta {v = v} {b = b} f) = (f, open_fine 0 v b f.2 f.1)
+  well_formed_of_reduct (r_delta m v n f) = (tt, f)
+  well_formed_of_reduct (r_proj S c ks g block ind ctor i xs s m x r rd a1 a2 a3 a4 fx) = ((well_formed_of_reduct r).0, fx)
+  well_formed_of_reduct (r_major R ls front i f r rd) = ((f, (well_formed_of_reduct r).0), (f, read_fine rd (well_formed_of_reduct r).1))
+  well_formed_of_reduct (r_iota R c ls ks front xs result i f g) = (f, g)
+  well_formed_of_reduct (r_k R J c ls ks front bs rest e U D k he hr hd q f) = ((f, (well_formed_of_type he).0), (f, (well_formed_of_type hd).0))
+  well_formed_of_reduct (r_struct R J c block ind ctor js ls front bs m U i rule o z f s n h r p) = (
+    (f, (well_formed_of_type h).0),
+    (
+      f,
+      fine_apply (const c ls) (bs ++ projections J m 0 ctor.fields) tt
+          (all_fine_append bs (projections J m 0 ctor.fields) (well_formed_of_apply (const J ls) bs (well_formed_of_reduct r).1).1 (projections_fine J m 0 ctor.fields (well_formed_of_type h).0)),
+    ),
+  )
+  well_formed_of_reduct (r_quot_lift ls ks i j f r) =
+      ((((((((tt, f.0), f.1.0), f.1.1.0), f.1.1.1.0), f.1.1.1.1.0), (well_formed_of_reduct r).0)), (f.1.1.1.0, (well_formed_of_reduct r).1.1))
+  well_formed_of_reduct (r_quot_ind ls ks i j f r) =
+      (((((((tt, f.0), f.1.0), f.1.1.0), f.1.1.1.0), (well_formed_of_reduct r).0)), (f.1.1.1.0, (well_formed_of_reduct r).1.1))
+  well_formed_of_reduct (r_op op es ns r i h s g) = (fine_apply (named (op_name op)) es tt (well_formed_of_numerals s), result_fine g)
+
+  pub well_formed_of_equal : {w : Place} {a b : Tree} → IsDefEq w a b → IsWellFormed a × IsWellFormed b
+  well_formed_of_equal (e_refl f) = (f, f)
+  well_formed_of_equal (e_reduce r s c) = ((well_formed_of_reduct r).0, (well_formed_of_reduct s).0)
+  well_formed_of_equal (e_sort h) = (tt, tt)
+  well_formed_of_equal (e_const h) = (tt, tt)
+  well_formed_of_equal (e_app u v c d) = (((well_formed_of_equal c).0, (well_formed_of_equal d).0), ((well_formed_of_equal c).1, (well_formed_of_equal d).1))
+  well_formed_of_equal (e_lam {A = A} {b = b} {b' = b'} {k = k} i j c d) =
+      (((well_formed_of_equal c).0, fine_from_open 0 (local k A) b (well_formed_of_equal d).0), ((well_formed_of_equal c).1, fine_from_open 0 (local k A) b' (well_formed_of_equal d).1))
+  well_formed_of_equal (e_pi {A = A} {B = b} {B' = b'} {k = k} i j c d) =
+      (((well_formed_of_equal c).0, fine_from_open 0 (local k A) b (well_formed_of_equal d).0), ((well_formed_of_equal c).1, fine_from_open 0 (local k A) b' (well_formed_of_equal d).1))
+  well_formed_of_equal (e_proj c) = well_formed_of_equal c
+  well_formed_of_equal (e_eta_left v h r c) = ((well_formed_of_type h).0, (well_formed_of_equal c).1)
+  well_formed_of_equal (e_eta_right v h r c) = ((well_formed_of_equal c).0, (well_formed_of_type h).0)
+  well_formed_of_equal (e_struct_left J c block ind ctor ks ps xs a A B v i m n ha hb q p) = ((well_formed_of_type ha).0, (well_formed_of_type hb).0)
+  well_formed_of_equal (e_struct_right J c block ind ctor ks ps xs a A B v i m n ha hb q p) = ((well_formed_of_type hb).0, (well_formed_of_type ha).0)
+  well_formed_of_equal (e_unit J block ind ctor ls bs a b A B u v i n ha r hb q) = ((well_formed_of_type ha).0, (well_formed_of_type hb).0)
+  well_formed_of_equal (e_proof u v a p b q) = ((well_formed_of_type a).0, (well_formed_of_type b).0)
+  well_formed_of_equal e_zero_left = (omega arith, tt)
+  well_formed_of_equal e_zero_right = (tt, omega arith)
+  well_formed_of_equal (e_succ_left f c) = (f, (tt, (well_formed_of_equal c).1))
+  well_formed_of_equal (e_succ_right f c) = ((tt, (well_formed_of_equal c).0), f)
+  well_formed_of_equal (e_str_left x c) = (tt, (well_formed_of_equal c).1)
+  well_formed_of_equal (e_str_right x c) = ((well_formed_of_equal c).0, tt)
+
+  pub well_formed_of_numerals : {w : Place} {es : List Tree} {ns : List ℕ} → Numerals w es ns → AllWellFormed es
+  well_formed_of_numerals no_more_numerals = tt
+  well_formed_of_numerals (numeral r i s) = ((well_formed_of_reduct r).0, well_formed_of_numerals s)
+
+  pub well_formed_of_field : {w : Place} {S : _} {s : Tree} {l : _} {j i : ℕ} {r A : Tree} → FieldOf w S s l j i r A → IsWellFormed A
+  well_formed_of_field (here c h) = (well_formed_of_reduct c).1.0
+  well_formed_of_field (past c h f) = well_formed_of_field f
+
+-- what an eta expansion is
+pub well_formed_of_long : {w : Place} {o T A B : Tree} → HasType w o T → Reduces w T (pi A B) → IsWellFormed (lam A (app o (var 0)))
+well_formed_of_long {o = o} h r = ((well_formed_of_reduct r).1.0, (fine_more 0 1 o (omega arith) (well_formed_of_type h).0, omega arith))

@@ -1,0 +1,14 @@
+pub mod Formers
+pub mod HeadSteps
+pub mod Literals
+pub mod Names
+pub mod Place
+pub mod Quotients
+pub mod Rules
+pub mod Scan
+pub mod Shapes
+pub mod Stated
+pub mod Structures
+pub mod Units
+pub mod Spelled
+pub mod Derived

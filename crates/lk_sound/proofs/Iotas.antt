@@ -1,0 +1,452 @@
+-- Iota and projections of constructors are sound.
+use Rattle.lk_rulebook.specs.Place.{Ctor, Block, BlockType}
+use Rattle.lk_tree.proofs.Lists.{AllWithin, AnyLocal}
+use Rattle.lk_table.specs.Iota.{has_one_ctor, builds_structure, expanded, expand_at, expand, as_built}
+use Rattle.lk_plain.specs.Sound.{IsListed}
+use Rattle.lk_table.specs.Steps.{sort_of}
+use Rattle.lk_sound.proofs.Pieces.{sound_sort_of, TypesTo, well_formed_of_to}
+use Rattle.lk_tree.specs.Level.{is_zero_level}
+use Rattle.lk_tree.proofs.Zero.{not_zero_level}
+use Rattle.lk_rulebook.specs.Structures.{projections, is_structure_like, IsMajor}
+use Rattle.lk_rulebook.specs.Rules.{r_struct, not_prop}
+use Rattle.std.specs.Prelude.{◌&&◌}
+use Rattle.std.proofs.Common.{Bool, List, None, Option, Some, [], arith, drop, false, if◌then◌else◌, inl, inr, length, nat_eq, nat_le, refl, suc, sym, take, take-append-drop, true, zero, ℕ, ◌++◌, ◌+◌, ◌∙◌, ◌∷◌, ◌≡◌, ◌⊎◌}
+use Rattle.std.specs.Prelude.{slice_get}
+use Rattle.std.proofs.lemmas.Bool.Decides.{nat_tests}
+use Rattle.lk_tree.specs.Tree.{Name, Level, Tree, var, sort, const, app, lam, pi, let_in, proj, lit, wide, str, local}
+use Rattle.lk_tree.specs.Levels.{put_levels}
+use Rattle.lk_tree.specs.Spine.{apply, head, args}
+use Rattle.lk_tree.specs.WellFormed.{IsWellFormed, AllWellFormed, LocalsWithin}
+use Rattle.lk_tree.proofs.Spines.{fine_apply, well_formed_of_apply}
+use Rattle.lk_tree.proofs.Within.{within_trans, apply_head_args, no_local, bound_put_levels, fine_put_levels}
+use Rattle.lk_tree.proofs.Lists.{fine_take, fine_drop, fine_at, any_take, any_drop, any_at, local_of_apply, local_of_arg, within_applied, split_at, length_before, length_taken}
+use Rattle.lk_rulebook.specs.Place.{Place, Entry, Kind, Recursor, RecRule, a_quot, a_ctor, a_rec}
+use Rattle.lk_rulebook.specs.Structures.{same_name, IsRuleOf, before_major}
+use Rattle.lk_rulebook.specs.Rules.{HasSort, Reduces, r_major, r_proj, r_iota, r_k}
+use Rattle.lk_rulebook.proofs.Scopes.{well_formed_of_type, well_formed_of_reduct}
+use Rattle.lk_plain.specs.Query.{core}
+use Rattle.lk_plain.specs.Program.{done}
+use Rattle.lk_table.specs.Steps.{with_levels}
+use Rattle.lk_table.specs.Iota.{Built, built_by, built_of, only_ctor, levels_at, k_from, k_step, fitting_rule, by_rule, iota_built, iota_of, iota_after_k, iota, core_constant, picked, core_field, core_proj}
+use Rattle.lk_plain.specs.Sound.{IsSound, IsJustified, WellStated, IsStated, KindStated, RulesStated}
+use Rattle.lk_plain.proofs.Soundness.{sound_bind}
+use Rattle.lk_sound.proofs.Pieces.{sound_with_levels, of_yes}
+pub use Rattle.lk_sound.proofs.Pieces.{same_name_right}
+use Rattle.lk_sound.proofs.Pieces.{Some_inj}
+use Rattle.lk_sound.proofs.Quots.{sound_core_quot}
+use Rattle.lk_sound.proofs.Readings.{sound_read, sound_read_text}
+use Rattle.lk_table.specs.Strings.{read, read_text}
+use Rattle.lk_rulebook.specs.Literals.{ReadsText, Reads}
+use Rattle.lk_rulebook.proofs.Texts.{text_fine, text_within, read_within}
+use Rattle.lk_sound.proofs.Goes.{sound_if, GoesTo, stays, goes_on, IsCore, core_stays, core_on, goes_applied}
+
+both : (a b : Bool) → (a && b) ≡ true → (a ≡ true) × (b ≡ true)
+both true true h = (refl, refl)
+both true false h = absurd cc
+both false b h = absurd cc
+
+pub the_ctor : (c : Ctor) (cs : List Ctor) → has_one_ctor cs ≡ true → IsListed c cs → cs ≡ c ∷ []
+the_ctor c (d ∷ []) h (inl e) = rw e refl
+the_ctor c (d ∷ []) h (inr e) = absurd e
+the_ctor c [] h e = absurd cc
+the_ctor c (d ∷ f ∷ cs) h e = absurd cc
+
+pub listed_of : (g : Entry) (b : Block) (i : BlockType) (c : Ctor) → g.kind ≡ a_ctor b i c → KindStated g.kind → IsListed c i.ctors
+listed_of g b i c e s = let t : KindStated (a_ctor b i c) = rw e at s in t.1
+
+-- m is the constructor b applied
+pub record IsBuilt (w : Place) (m : Tree) (b : Built) : Type 0 where
+  pub tree_is : m ≡ apply (const b.name b.levels) b.args
+  pub given : w.means b.name ≡ Some b.entry
+  pub kind : b.entry.kind ≡ a_ctor b.block b.ind b.ctor
+
+abbrev pub IfBuilt : Place → Tree → Option Built → Type 0
+IfBuilt w m None = Unit {0}
+IfBuilt w m (Some b) = IsBuilt w m b
+
+built_by_right : (w : Place) (m : Tree) (c : Name) (ks : List Level) (xs : List Tree) (g : Entry) → m ≡ apply (const c ks) xs → w.means c ≡ Some g → (k : Kind) → g.kind ≡ k → IfBuilt w m (built_by c ks xs g k)
+built_by_right w m c ks xs g t n (a_ctor b i k) e = record { tree_is = t; given = n; kind = e }
+built_by_right w m c ks xs g t n _ e = tt
+
+sound_built_at : (w : Place) (m h : Tree) (xs : List Tree) → m ≡ apply h xs → IsSound w (built_of h xs) (IfBuilt w m)
+sound_built_at w m (const c ks) xs t = λ g n. built_by_right w m c ks xs g t n g.kind refl
+sound_built_at w m _ xs t = tt
+
+pub sound_built_of : (w : Place) (m : Tree) → IsSound w (built_of (head m) (args m)) (IfBuilt w m)
+sound_built_of w m = sound_built_at w m (head m) (args m) (sym (apply_head_args m))
+
+-- Core of a projection
+sound_picked : (w : Place) (S : Name) (i : ℕ) (s v m : Tree) (b : Built) → IsWellFormed s → GoesTo w s v → ReadsText w v m → IsBuilt w m b → b.ind.name ≡ S →
+    (o : Option Tree) → slice_get b.args (b.ctor.parameters + i) ≡ o → IsSound w (picked (proj S i s) o) (IsJustified w (core (proj S i s)))
+sound_picked w S i s v m b f g rd j e None h = core_stays w (proj S i s) (f, tt)
+sound_picked w S i s v m b f g rd j e (Some x) h =
+    let t : m ≡ apply (const b.name b.levels) b.args = j.tree_is in
+    let fm : IsWellFormed (apply (const b.name b.levels) b.args) = rw t at (text_fine rd (well_formed_of_reduct g.0).1) in
+    let fx : IsWellFormed x = fine_at (b.ctor.parameters + i) b.args x (well_formed_of_apply (const b.name b.levels) b.args fm).1 h in
+    let all : GoesTo w (proj S i s) x = (
+      r_proj S b.name b.levels b.entry b.block b.ind b.ctor i b.args s v x g.0 (rw t at rd) j.given j.kind e h fx,
+      λ k T n. g.1 k T (text_within rd k T (rw t (local_of_arg k T (const b.name b.levels) b.args (any_at k T (b.ctor.parameters + i) b.args x h n)))),
+    ) in
+    (fx, λ u n. core_on w (proj S i s) x u all n)
+
+sound_core_field : (w : Place) (S : Name) (i : ℕ) (s v m : Tree) → IsWellFormed s → GoesTo w s v → ReadsText w v m → (o : Option Built) → IfBuilt w m o →
+    IsSound w (core_field (proj S i s) S i o) (IsJustified w (core (proj S i s)))
+sound_core_field w S i s v m f g rd None j = core_stays w (proj S i s) (f, tt)
+sound_core_field w S i s v m f g rd (Some b) j =
+    sound_if w (same_name b.ind.name S) _ (done (proj S i s)) (IsJustified w (core (proj S i s)))
+    (λ t. sound_picked w S i s v m b f g rd j (same_name_right b.ind.name S t) (slice_get b.args (b.ctor.parameters + i)) refl)
+    (λ t. core_stays w (proj S i s) (f, tt))
+
+pub sound_core_proj : (w : Place) (S : Name) (i : ℕ) (s : Tree) → IsWellFormed s → IsSound w (core_proj S i s) (IsJustified w (core (proj S i s)))
+sound_core_proj w S i s f = (
+  f,
+  λ v g. sound_bind w (read_text v) _ (λ m. ReadsText w v m) (IsJustified w (core (proj S i s))) (sound_read_text w v)
+      (λ m rd. sound_bind w (built_of (head m) (args m)) (λ b. core_field (proj S i s) S i b) (IfBuilt w m) (IsJustified w (core (proj S i s)))
+      (sound_built_of w m) (λ b j. sound_core_field w S i s v m f g rd b j)),
+)
+
+rule_stated : (rs : List RecRule) (rule : RecRule) → RulesStated rs → IsRuleOf rule rs → IsStated rule.value
+rule_stated [] rule s m = absurd m
+rule_stated (r ∷ rs) rule s (inl e) = rw (← e) s.0
+rule_stated (r ∷ rs) rule s (inr m) = rule_stated rs rule s.1 m
+
+-- a rule for c whose fields, after p parameters, make n arguments
+record IsFitting (rs : List RecRule) (c : Name) (p n : ℕ) (rule : RecRule) : Type 0 where
+  listed : IsRuleOf rule rs
+  for_ctor : rule.ctor ≡ c
+  fits : n ≡ p + rule.fields
+
+fitting_at : (r : RecRule) (rs : List RecRule) (c : Name) (p n : ℕ) (rule : RecRule) → (fitting_rule rs c p n ≡ Some rule → IsFitting rs c p n rule) →
+    (b : Bool) → (same_name r.ctor c && nat_eq n (p + r.fields)) ≡ b → (if b then Some r else fitting_rule rs c p n) ≡ Some rule → IsFitting (r ∷ rs) c p n rule
+fitting_at r rs c p n rule h true t e =
+    let i : r ≡ rule = Some_inj e in
+    let u : (same_name r.ctor c ≡ true) × (nat_eq n (p + r.fields) ≡ true) = both (same_name r.ctor c) (nat_eq n (p + r.fields)) t in
+    let v : nat_eq n (p + r.fields) ≡ true = u.1 in
+    let f : n ≡ p + r.fields = grind (arith, nat_tests) in
+    record { listed = inl i; for_ctor = rw (← i) (same_name_right r.ctor c u.0); fits = rw (← i) f }
+fitting_at r rs c p n rule h false t e = let f : IsFitting rs c p n rule = h e in record { listed = inr f.listed; for_ctor = f.for_ctor; fits = f.fits }
+
+fitting : (rs : List RecRule) (c : Name) (p n : ℕ) (rule : RecRule) → fitting_rule rs c p n ≡ Some rule → IsFitting rs c p n rule
+fitting [] c p n rule e = absurd cc
+fitting (r ∷ rs) c p n rule e = fitting_at r rs c p n rule (fitting rs c p n rule) (same_name r.ctor c && nat_eq n (p + r.fields)) refl e
+
+rules_of : (g : Entry) (r : Recursor) → g.kind ≡ a_rec r → KindStated g.kind → RulesStated r.rules
+rules_of g r e s = let t : KindStated (a_rec r) = rw e at s in t
+
+abbrev iota_result : Entry → List Level → Recursor → RecRule → List Tree → Built → Tree
+iota_result g ls r rule front b = apply (apply (put_levels g.levels ls rule.value) (take (r.parameters + r.motives + r.minors) front)) (drop b.ctor.parameters b.args)
+
+iota_step : (w : Place) → WellStated w → (R : Name) (ls : List Level) (g : Entry) → w.means R ≡ Some g → (r : Recursor) → g.kind ≡ a_rec r →
+    (front : List Tree) → length front ≡ before_major r → (m : Tree) (b : Built) → IsBuilt w m b →
+    (rule : RecRule) → IsFitting r.rules b.name b.ctor.parameters (length b.args) rule → length ls ≡ length g.levels →
+    IsWellFormed (app (apply (const R ls) front) m) → GoesTo w (app (apply (const R ls) front) m) (iota_result g ls r rule front b)
+iota_step w ok R ls g mg r kr front count m b j rule has levels f =
+    let t : m ≡ apply (const b.name b.levels) b.args = j.tree_is in
+    let s : IsStated rule.value = rule_stated r.rules rule (rules_of g r kr (ok R g mg).1) has.listed in
+    let v : Tree = put_levels g.levels ls rule.value in
+    let n : ℕ = r.parameters + r.motives + r.minors in
+    let fine : IsWellFormed (app (apply (const R ls) front) (apply (const b.name b.levels) b.args)) = rw t at f in
+    let ffront : AllWellFormed front = (well_formed_of_apply (const R ls) front fine.0).1 in
+    let fargs : AllWellFormed b.args = (well_formed_of_apply (const b.name b.levels) b.args fine.1).1 in
+    let fv : IsWellFormed v = fine_put_levels g.levels ls 0 rule.value s.0 in
+    let fresult : IsWellFormed (iota_result g ls r rule front b) =
+    fine_apply (apply v (take n front)) (drop b.ctor.parameters b.args) (fine_apply v (take n front) fv (fine_take n front ffront)) (fine_drop b.ctor.parameters b.args fargs) in
+    let c : Reduces w (app (apply (const R ls) front) (apply (const b.name b.levels) b.args)) (iota_result g ls r rule front b) =
+    r_iota R b.name ls b.levels front b.args (iota_result g ls r rule front b)
+    (record {
+      rec_entry = g;
+      recursor = r;
+      rule = rule;
+      ctor_entry = b.entry;
+      block = b.block;
+      ind = b.ind;
+      ctor = b.ctor;
+      rec_given = mg;
+      rec_kind = kr;
+      has_rule = has.listed;
+      rule_is = has.for_ctor;
+      ctor_given = j.given;
+      ctor_kind = j.kind;
+      levels = levels;
+      front_is = count;
+      args_are = has.fits;
+      result_is = refl;
+    }) fine fresult in
+    let l : LocalsWithin (app (apply (const R ls) front) (apply (const b.name b.levels) b.args)) (iota_result g ls r rule front b) =
+    within_applied (app (apply (const R ls) front) (apply (const b.name b.levels) b.args)) (apply v (take n front)) (drop b.ctor.parameters b.args)
+    (within_applied (app (apply (const R ls) front) (apply (const b.name b.levels) b.args)) v (take n front)
+    (no_local (app (apply (const R ls) front) (apply (const b.name b.levels) b.args)) v (bound_put_levels g.levels ls rule.value ∙ s.1))
+    (λ k T h. inl (local_of_arg k T (const R ls) front (any_take k T n front h))))
+    (λ k T h. inr (local_of_arg k T (const b.name b.levels) b.args (any_drop k T b.ctor.parameters b.args h))) in
+    rw t (c, l)
+
+sound_by_rule : (w : Place) → WellStated w → (R : Name) (ls : List Level) (g : Entry) → w.means R ≡ Some g → (r : Recursor) → g.kind ≡ a_rec r →
+    (front : List Tree) → length front ≡ before_major r → (rest : List Tree) (e m : Tree) → GoesTo w e (apply (app (apply (const R ls) front) m) rest) → IsCore e →
+    (b : Built) → IsBuilt w m b → (rule : Option RecRule) → fitting_rule r.rules b.name b.ctor.parameters (length b.args) ≡ rule →
+    IsSound w (by_rule e g ls r front rest b rule) (IsJustified w (core e))
+sound_by_rule w ok R ls g mg r kr front count rest e m ge fe b j None h = core_stays w e fe
+sound_by_rule w ok R ls g mg r kr front count rest e m ge fe b j (Some rule) h =
+    let has : IsFitting r.rules b.name b.ctor.parameters (length b.args) rule = fitting r.rules b.name b.ctor.parameters (length b.args) rule h in
+    let fa : IsWellFormed (app (apply (const R ls) front) m) × AllWellFormed rest = well_formed_of_apply (app (apply (const R ls) front) m) rest (well_formed_of_reduct ge.0).1 in
+    sound_bind w (with_levels g ls rule.value) _ (λ v. GoesTo w e (apply (apply (apply v (take (r.parameters + r.motives + r.minors) front)) (drop b.ctor.parameters b.args)) rest)) (IsJustified w (core e))
+    (sound_with_levels w g ls rule.value _
+    (λ levels. goes_on w e (apply (app (apply (const R ls) front) m) rest) _ ge
+    (goes_applied w (app (apply (const R ls) front) m) _ rest fa.1 (iota_step w ok R ls g mg r kr front count m b j rule has levels fa.0))))
+    (λ v gv. ((well_formed_of_reduct gv.0).1, λ u gu. core_on w e _ u gv gu))
+
+-- the major premise m in the place of m'
+abbrev at_major : (w : Place) (R : Name) (g : Entry) → w.means R ≡ Some g → (r : Recursor) → g.kind ≡ a_rec r → (front : List Tree) → length front ≡ before_major r → IsMajor w R front
+at_major w R g mg r kr front count = record { rec_entry = g; recursor = r; rec_given = mg; rec_kind = kr; front_is = count }
+
+major_goes : (w : Place) (R : Name) (ls : List Level) (front : List Tree) (m m' : Tree) (rest : List Tree) → IsMajor w R front → IsWellFormed (apply (const R ls) front) → AllWellFormed rest → (v : Tree) → GoesTo w m v → Reads w v m' →
+    GoesTo w (apply (app (apply (const R ls) front) m) rest) (apply (app (apply (const R ls) front) m') rest)
+major_goes w R ls front m m' rest i fh fr v g rd = goes_applied w (app (apply (const R ls) front) m) (app (apply (const R ls) front) m') rest fr
+    (r_major R ls front i fh g.0 rd, λ k T. elim [ inl x ↦ inl x | inr x ↦ inr (g.1 k T (read_within rd k T x)) ])
+
+-- K
+pub same_name_levels : (J : Name) (T : Tree) (ks : List Level) → (h : Tree) → head T ≡ h → levels_at J h ≡ Some ks → head T ≡ const J ks
+same_name_levels J T ks (const c ls) e h = e ∙ go (same_name J c) refl h
+  where
+    go : (b : Bool) → same_name J c ≡ b → (if b then Some ls else None) ≡ Some ks → const c ls ≡ const J ks
+    go true t i = let x : J ≡ c = same_name_right J c t in let y : ls ≡ ks = Some_inj i in rw (x, y) refl
+    go false t i = absurd cc
+same_name_levels J T ks (var i) e h = absurd cc
+same_name_levels J T ks (sort l) e h = absurd cc
+same_name_levels J T ks (app f a) e h = absurd cc
+same_name_levels J T ks (lam A b) e h = absurd cc
+same_name_levels J T ks (pi A b) e h = absurd cc
+same_name_levels J T ks (let_in A v b) e h = absurd cc
+same_name_levels J T ks (proj S i s) e h = absurd cc
+same_name_levels J T ks (lit n) e h = absurd cc
+same_name_levels J T ks wide e h = absurd cc
+same_name_levels J T ks (str s) e h = absurd cc
+same_name_levels J T ks (local k S) e h = absurd cc
+
+-- the one rule of r is for the constructor b
+record IsOnly (w : Place) (r : Recursor) (b : Built) : Type 0 where
+  rule : RecRule
+  one : r.rules ≡ rule ∷ []
+  named : rule.ctor ≡ b.name
+  given : w.means b.name ≡ Some b.entry
+  kind : b.entry.kind ≡ a_ctor b.block b.ind b.ctor
+
+abbrev IfOnly : Place → Recursor → Option Built → Type 0
+IfOnly w r None = Unit {0}
+IfOnly w r (Some b) = IsOnly w r b
+
+only_right : (w : Place) (r : Recursor) (rule : RecRule) (g : Entry) → r.rules ≡ rule ∷ [] → w.means rule.ctor ≡ Some g → (k : Kind) → g.kind ≡ k → IfOnly w r (built_by rule.ctor [] [] g k)
+only_right w r rule g o m (a_ctor b i c) e = record { rule = rule; one = o; named = refl; given = m; kind = e }
+only_right w r rule g o m _ e = tt
+
+sound_only : (w : Place) (r : Recursor) (rs : List RecRule) → r.rules ≡ rs → IsSound w (only_ctor rs) (IfOnly w r)
+sound_only w r [] e = tt
+sound_only w r (rule ∷ []) e = λ g m. only_right w r rule g e m g.kind refl
+sound_only w r (a ∷ b ∷ rs) e = tt
+
+-- what step 1 takes the major premise for
+abbrev IfTaken : Place → Tree → Tree → Option Tree → Type 0
+IfTaken w h major None = Unit {0}
+IfTaken w h major (Some d) = GoesTo w (app h major) (app h d)
+
+sound_k_from : (w : Place) (R : Name) (ls : List Level) (g : Entry) → w.means R ≡ Some g → (r : Recursor) → g.kind ≡ a_rec r → r.k ≡ true →
+    (front : List Tree) → length front ≡ before_major r → IsWellFormed (apply (const R ls) front) → (major T : Tree) → TypesTo w major T → LocalsWithin major T →
+    (b : Built) → IsOnly w r b → (o : Option (List Level)) → levels_at b.ind.name (head T) ≡ o → IsSound w (k_from b T o) (IfTaken w (apply (const R ls) front) major)
+sound_k_from w R ls g mg r kr kk front count fh major T hT wT b j None h = tt
+sound_k_from w R ls g mg r kr kk front count fh major T hT wT b j (Some ks) h =
+    let p : ℕ = b.ctor.parameters in
+    let e : head T ≡ const b.ind.name ks = same_name_levels b.ind.name T ks (head T) refl h in
+    let t : apply (const b.ind.name ks) (args T) ≡ T = rw e at (apply_head_args T) in
+    let fT : IsWellFormed T = well_formed_of_to hT in
+    let fargs : AllWellFormed (args T) = (well_formed_of_apply (const b.ind.name ks) (args T) (rw t fT)).1 in
+    let d : Tree = apply (const b.name ks) (take p (args T)) in
+    let fd : IsWellFormed d = fine_apply (const b.name ks) (take p (args T)) tt (fine_take p (args T) fargs) in
+    sound_if w (nat_le p (length (args T))) _ (done None) (IfTaken w (apply (const R ls) front) major)
+    (λ enough. (
+      fd,
+      λ D mD. (
+        (fT, (well_formed_of_type mD.0).1),
+        λ equal mE. sound_if w equal (done (Some d)) (done None) (IfTaken w (apply (const R ls) front) major)
+            (λ y.
+            let at : apply (const b.ind.name ks) (take p (args T) ++ drop p (args T)) ≡ T = rw take-append-drop t in
+            let some : length (take p (args T)) ≡ p = length_taken p (args T) (grind (arith, nat_tests, enough)) in (
+              r_k R b.ind.name b.name ls ks front (take p (args T)) (drop p (args T)) major hT.between D
+                  (record {
+                    rec_entry = g;
+                    recursor = r;
+                    rule = j.rule;
+                    ctor_entry = b.entry;
+                    block = b.block;
+                    ind = b.ind;
+                    ctor = b.ctor;
+                    rec_given = mg;
+                    rec_kind = kr;
+                    k_is = kk;
+                    one_rule = j.one;
+                    rule_is = j.named;
+                    ctor_given = j.given;
+                    ctor_kind = j.kind;
+                    parent = refl;
+                    front_is = count;
+                    parameters_are = some;
+                  }) hT.types (rw at hT.reduces) mD.0 (rw at (of_yes equal y mE)) fh,
+              λ k S. elim [
+                | inl x ↦ inl x
+                | inr x ↦ inr (wT k S (rw (← t) (local_of_arg k S (const b.ind.name ks) (args T) (any_take k S p (args T)
+                    (elim (local_of_apply k S (const b.name ks) (take p (args T)) x) [ inl z ↦ absurd z | inr z ↦ z ])))))
+              ],
+            ))
+            (λ y. tt),
+      ),
+    ))
+    (λ short. tt)
+
+-- step 3: m is taken for the constructor of its projections
+projections_within : (J : Name) (m : Tree) (j n : ℕ) → AllWithin m (projections J m j n)
+projections_within J m j zero k T h = absurd h
+projections_within J m j (suc n) k T (inl h) = h
+projections_within J m j (suc n) k T (inr h) = projections_within J m (suc j) n k T h
+
+any_append : (k : ℕ) (T : Tree) (xs ys : List Tree) → AnyLocal k T (xs ++ ys) → AnyLocal k T xs ⊎ AnyLocal k T ys
+any_append k T [] ys h = inr h
+any_append k T (x ∷ xs) ys (inl h) = inl (inl h)
+any_append k T (x ∷ xs) ys (inr h) = elim (any_append k T xs ys h) [ inl a ↦ inl (inr a) | inr b ↦ inr b ]
+
+-- under h, b is what m goes to, as a constructor applied
+record GoesToBuilt (w : Place) (h m : Tree) (b : Built) : Type 0 where
+  goes : GoesTo w (app h m) (app h (apply (const b.name b.levels) b.args))
+  is_built : IsBuilt w (apply (const b.name b.levels) b.args) b
+
+abbrev IfGoesToBuilt : Place → Tree → Tree → Option Built → Type 0
+IfGoesToBuilt w h m None = Unit {0}
+IfGoesToBuilt w h m (Some b) = GoesToBuilt w h m b
+
+expands : (w : Place) → WellStated w → (R : Name) (js : List Level) (front : List Tree) → (im : IsMajor w R front) → IsWellFormed (apply (const R js) front) → (r : Recursor) → im.recursor ≡ r → (m T : Tree) → TypesTo w m T → LocalsWithin m T → (k : Built) → IsOnly w r k → (ls : List Level) → apply (const k.ind.name ls) (args T) ≡ T →
+    builds_structure k ≡ true → nat_eq (length (args T)) k.ctor.parameters ≡ true → (l : Level) → HasSort w T l → is_zero_level l ≡ false →
+    GoesToBuilt w (apply (const R js) front) m (expanded k ls m (args T))
+expands w ok R js front im fh r er m T hT wT k j ls eT like yes_count l hl nz =
+    let t : (has_one_ctor k.ind.ctors ≡ true) × (is_structure_like k.block k.ind k.ctor ≡ true) = both (has_one_ctor k.ind.ctors) (is_structure_like k.block k.ind k.ctor) like in
+    let count : length (args T) ≡ k.ctor.parameters = grind (arith, nat_tests) in
+    let ps : List Tree = projections k.ind.name m 0 k.ctor.fields in
+    record {
+      goes = (
+        r_struct R k.ind.name k.name k.block k.ind k.ctor js ls front (args T) m hT.between im j.rule (rw er j.one) j.named fh
+            (record {
+              one_ctor = the_ctor k.ctor k.ind.ctors t.0 (listed_of k.entry k.block k.ind k.ctor j.kind (ok k.name k.entry j.given).1);
+              like = t.1;
+              entry = k.entry;
+              given = j.given;
+              kind = j.kind;
+              parent = refl;
+            }) count hT.types (rw eT hT.reduces) (not_prop {l = l} (rw eT hl) (not_zero_level l nz)),
+        λ k' T'. elim [
+          | inl x ↦ inl x
+          | inr x ↦ inr (within_applied m (const k.name ls) (args T ++ ps) (λ i S h. absurd h)
+              (λ i S h. elim (any_append i S (args T) ps h) [
+                | inl a ↦ wT i S (rw (← eT) (local_of_arg i S (const k.ind.name ls) (args T) a))
+                | inr b ↦ projections_within k.ind.name m 0 k.ctor.fields i S b
+              ]) k' T' x)
+        ],
+      );
+      is_built = record { tree_is = refl; given = j.given; kind = j.kind };
+    }
+
+sound_expand_at : (w : Place) → WellStated w → (R : Name) (js : List Level) (front : List Tree) → (im : IsMajor w R front) → IsWellFormed (apply (const R js) front) → (r : Recursor) → im.recursor ≡ r → (m T : Tree) → TypesTo w m T → LocalsWithin m T → (k : Built) → IsOnly w r k → builds_structure k ≡ true → (o : Option (List Level)) → levels_at k.ind.name (head T) ≡ o →
+    IsSound w (expand_at k m T o) (IfGoesToBuilt w (apply (const R js) front) m)
+sound_expand_at w ok R js front im fh r er m T hT wT k j like None h = tt
+sound_expand_at w ok R js front im fh r er m T hT wT k j like (Some ls) h =
+    let e : head T ≡ const k.ind.name ls = same_name_levels k.ind.name T ls (head T) refl h in
+    let eT : apply (const k.ind.name ls) (args T) ≡ T = rw e at (apply_head_args T) in
+    sound_if w (nat_eq (length (args T)) k.ctor.parameters) _ (done None) (IfGoesToBuilt w (apply (const R js) front) m)
+    (λ t. sound_bind w (sort_of T) _ (λ l. HasSort w T l) (IfGoesToBuilt w (apply (const R js) front) m) (sound_sort_of w T (well_formed_of_to hT))
+    (λ l hl. sound_if w (is_zero_level l) (done None) (done (Some (expanded k ls m (args T)))) (IfGoesToBuilt w (apply (const R js) front) m)
+    (λ z. tt) (λ z. expands w ok R js front im fh r er m T hT wT k j ls eT like t l hl z)))
+    (λ t. tt)
+
+sound_expand : (w : Place) → WellStated w → (R : Name) (js : List Level) (front : List Tree) → (im : IsMajor w R front) → IsWellFormed (apply (const R js) front) → (r : Recursor) → im.recursor ≡ r → (m : Tree) → IsWellFormed m → (k : Option Built) → IfOnly w r k → IsSound w (expand m k) (IfGoesToBuilt w (apply (const R js) front) m)
+sound_expand w ok R js front im fh r er m f None j = tt
+sound_expand w ok R js front im fh r er m f (Some k) j =
+    sound_if w (builds_structure k) _ (done None) (IfGoesToBuilt w (apply (const R js) front) m)
+    (λ like. (
+      f,
+      λ S mS. (
+        (well_formed_of_type mS.0).1,
+        λ T mT. sound_expand_at w ok R js front im fh r er m T (record { between = S; types = mS.0; reduces = mT.0 }) (within_trans m S T mS.1 mT.1) k j like (levels_at k.ind.name (head T)) refl,
+      ),
+    ))
+    (λ like. tt)
+
+sound_as_built : (w : Place) → WellStated w → (R : Name) (js : List Level) (front : List Tree) → (im : IsMajor w R front) → IsWellFormed (apply (const R js) front) → (r : Recursor) → im.recursor ≡ r → (m : Tree) → IsWellFormed m → (b : Option Built) → IfBuilt w m b → IsSound w (as_built r m b) (IfGoesToBuilt w (apply (const R js) front) m)
+sound_as_built w ok R js front im fh r er m f (Some b) j =
+    record { goes = rw (← j.tree_is) (stays w (app (apply (const R js) front) m) (fh, f)); is_built = record { tree_is = refl; given = j.given; kind = j.kind } }
+sound_as_built w ok R js front im fh r er m f None j =
+    sound_bind w (only_ctor r.rules) (λ k. expand m k) (IfOnly w r) (IfGoesToBuilt w (apply (const R js) front) m) (sound_only w r r.rules refl) (λ k i. sound_expand w ok R js front im fh r er m f k i)
+
+sound_with_built : (w : Place) → WellStated w → (R : Name) (ls : List Level) (g : Entry) → w.means R ≡ Some g → (r : Recursor) → g.kind ≡ a_rec r →
+    (front : List Tree) → length front ≡ before_major r → (rest : List Tree) (e m : Tree) → GoesTo w e (apply (app (apply (const R ls) front) m) rest) → IsCore e →
+    (b : Option Built) → IfGoesToBuilt w (apply (const R ls) front) m b → IsSound w (iota_built e g ls r front rest b) (IsJustified w (core e))
+sound_with_built w ok R ls g mg r kr front count rest e m ge fe None j = core_stays w e fe
+sound_with_built w ok R ls g mg r kr front count rest e m ge fe (Some b) j =
+    let m' : Tree = apply (const b.name b.levels) b.args in
+    let fa : IsWellFormed (app (apply (const R ls) front) m) × AllWellFormed rest = well_formed_of_apply (app (apply (const R ls) front) m) rest (well_formed_of_reduct ge.0).1 in
+    sound_by_rule w ok R ls g mg r kr front count rest e m'
+    (goes_on w e (apply (app (apply (const R ls) front) m) rest) (apply (app (apply (const R ls) front) m') rest) ge
+    (goes_applied w (app (apply (const R ls) front) m) (app (apply (const R ls) front) m') rest fa.1 j.goes))
+    fe b j.is_built (fitting_rule r.rules b.name b.ctor.parameters (length b.args)) refl
+
+sound_iota_of : (w : Place) → WellStated w → (R : Name) (ls : List Level) (g : Entry) → w.means R ≡ Some g → (r : Recursor) → g.kind ≡ a_rec r →
+    (front : List Tree) → length front ≡ before_major r → (rest : List Tree) (e m : Tree) → GoesTo w e (apply (app (apply (const R ls) front) m) rest) → IsCore e →
+    IsSound w (iota_of e g ls r front rest m) (IsJustified w (core e))
+sound_iota_of w ok R ls g mg r kr front count rest e m ge fe =
+    let fa : IsWellFormed (app (apply (const R ls) front) m) × AllWellFormed rest = well_formed_of_apply (app (apply (const R ls) front) m) rest (well_formed_of_reduct ge.0).1 in
+    sound_bind w (built_of (head m) (args m)) _ (IfBuilt w m) (IsJustified w (core e)) (sound_built_of w m)
+    (λ b j. sound_bind w (as_built r m b) (λ c. iota_built e g ls r front rest c) (IfGoesToBuilt w (apply (const R ls) front) m) (IsJustified w (core e)) (sound_as_built w ok R ls front (at_major w R g mg r kr front count) fa.0.0 r refl m fa.0.1 b j)
+    (λ c i. sound_with_built w ok R ls g mg r kr front count rest e m ge fe c i))
+
+sound_k_step : (w : Place) (R : Name) (ls : List Level) (g : Entry) → w.means R ≡ Some g → (r : Recursor) → g.kind ≡ a_rec r → r.k ≡ true →
+    (front : List Tree) → length front ≡ before_major r → IsWellFormed (apply (const R ls) front) → (major : Tree) → IsWellFormed major →
+    (b : Option Built) → IfOnly w r b → IsSound w (k_step r major b) (IfTaken w (apply (const R ls) front) major)
+sound_k_step w R ls g mg r kr kk front count fh major fm None j = tt
+sound_k_step w R ls g mg r kr kk front count fh major fm (Some b) j = (
+  fm,
+  λ S mS. (
+    (well_formed_of_type mS.0).1,
+    λ T mT.
+        sound_k_from w R ls g mg r kr kk front count fh major T (record { between = S; types = mS.0; reduces = mT.0 }) (within_trans major S T mS.1 mT.1) b j (levels_at b.ind.name (head T)) refl,
+  ),
+)
+
+sound_after_k : (w : Place) → WellStated w → (R : Name) (ls : List Level) (g : Entry) → w.means R ≡ Some g → (r : Recursor) → g.kind ≡ a_rec r →
+    (front : List Tree) → length front ≡ before_major r → (major : Tree) (rest : List Tree) (e : Tree) → apply (app (apply (const R ls) front) major) rest ≡ e → IsCore e →
+    (d : Option Tree) → IfTaken w (apply (const R ls) front) major d → IsSound w (iota_after_k e g ls r front major rest d) (IsJustified w (core e))
+sound_after_k w ok R ls g mg r kr front count major rest e eq fe (Some d) t =
+    let fa : IsWellFormed (app (apply (const R ls) front) major) × AllWellFormed rest = well_formed_of_apply (app (apply (const R ls) front) major) rest (rw eq fe.0) in
+    sound_iota_of w ok R ls g mg r kr front count rest e d (rw (← eq) (goes_applied w (app (apply (const R ls) front) major) (app (apply (const R ls) front) d) rest fa.1 t)) fe
+sound_after_k w ok R ls g mg r kr front count major rest e eq fe None t =
+    let fa : IsWellFormed (app (apply (const R ls) front) major) × AllWellFormed rest = well_formed_of_apply (app (apply (const R ls) front) major) rest (rw eq fe.0) in (
+      fa.0.1,
+      λ v gv. sound_bind w (read v) (λ m. iota_of e g ls r front rest m) (λ m. Reads w v m) (IsJustified w (core e)) (sound_read w v)
+          (λ m rd. sound_iota_of w ok R ls g mg r kr front count rest e m (rw (← eq) (major_goes w R ls front major m rest (at_major w R g mg r kr front count) fa.0.0 fa.1 v gv rd)) fe),
+    )
+
+sound_iota : (w : Place) → WellStated w → (R : Name) (ls : List Level) (g : Entry) → w.means R ≡ Some g → (r : Recursor) → g.kind ≡ a_rec r →
+    (xs : List Tree) (e : Tree) → apply (const R ls) xs ≡ e → IsCore e → (o : Option Tree) → slice_get xs (before_major r) ≡ o →
+    IsSound w (iota e g ls r (take (before_major r) xs) o (drop (suc (before_major r)) xs)) (IsJustified w (core e))
+sound_iota w ok R ls g mg r kr xs e eq fe None h = core_stays w e fe
+sound_iota w ok R ls g mg r kr xs e eq fe (Some major) h =
+    let front : List Tree = take (before_major r) xs in
+    let rest : List Tree = drop (suc (before_major r)) xs in
+    let at : apply (app (apply (const R ls) front) major) rest ≡ e = split_at (before_major r) (const R ls) major xs h ∙ eq in
+    let count : length front ≡ before_major r = length_before (before_major r) major xs h in
+    let fa : IsWellFormed (app (apply (const R ls) front) major) × AllWellFormed rest = well_formed_of_apply (app (apply (const R ls) front) major) rest (rw at fe.0) in
+    sound_if w r.k _ (iota_after_k e g ls r front major rest None) (IsJustified w (core e))
+    (λ kk. sound_bind w (only_ctor r.rules) _ (IfOnly w r) (IsJustified w (core e)) (sound_only w r r.rules refl)
+    (λ b j. sound_bind w (k_step r major b) (λ d. iota_after_k e g ls r front major rest d) (IfTaken w (apply (const R ls) front) major) (IsJustified w (core e))
+    (sound_k_step w R ls g mg r kr kk front count fa.0.0 major fa.0.1 b j)
+    (λ d t. sound_after_k w ok R ls g mg r kr front count major rest e at fe d t)))
+    (λ kk. sound_after_k w ok R ls g mg r kr front count major rest e at fe None tt)
+
+pub sound_core_constant : (w : Place) → WellStated w → (R : Name) (ls : List Level) (g : Entry) → w.means R ≡ Some g →
+    (e : Tree) (xs : List Tree) → apply (const R ls) xs ≡ e → IsCore e → AllWellFormed xs → (k : Kind) → g.kind ≡ k → IsSound w (core_constant e R ls xs g k) (IsJustified w (core e))
+sound_core_constant w ok R ls g m e xs eq f fx (a_rec r) ke = sound_iota w ok R ls g m r ke xs e eq f (slice_get xs (before_major r)) refl
+sound_core_constant w ok R ls g m e xs eq f fx a_quot ke = sound_core_quot w R ls g m ke e xs eq f fx
+sound_core_constant w ok R ls g m e xs eq f fx _ ke = core_stays w e f

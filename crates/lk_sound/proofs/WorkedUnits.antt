@@ -1,0 +1,65 @@
+-- Verdicts of whole blocks: with a recursor, with a field of functions, with nested occurrences.
+use Rattle.std.proofs.Common.{◌≡◌, [], ◌∷◌, refl}
+use Rattle.lk_tree.specs.Tree.{Tree, tree_discrete, level_discrete, name_discrete, part_discrete, var, app, pi}
+use Rattle.lk_tree.specs.Decide.{list_discrete, both_discrete}
+use Rattle.lk_tree.specs.Bind.{open_at, close_at, bound}
+use Rattle.lk_tree.specs.Levels.{put_levels, put_in_level, level_for}
+use Rattle.lk_tree.specs.LevelTest.{level_le}
+use Rattle.lk_tree.specs.Spine.{head, args}
+use Rattle.lk_tree.specs.RuleNo.{not_positive, recursor_differs, duplicate_name}
+use Rattle.lk_rulebook.specs.Names.{nat, nat_succ, named}
+use Rattle.lk_rulebook.specs.Units.{of_block, Library}
+use Rattle.lk_plain.specs.Answer.{answer_to_depth}
+use Rattle.lk_blocks.proofs.Worked.{nat_block}
+use Rattle.lk_blocks.proofs.WorkedBlocks.{u, s_type, nat_rec_with, n_unit, t_name, t_block, of_functions}
+use Rattle.lk_blocks.proofs.WorkedNested.{list_unit, tree_block, tree_recs}
+use Rattle.lk_verdict.specs.GoodUnit.{IsGoodUnit}
+use Rattle.lk_verdict.proofs.Spelled.{spelled_clear}
+use Rattle.lk_sound.proofs.WholeTable.{sound_steps}
+use Rattle.lk_sound.proofs.GoodUnits.{good_of_yes}
+use Rattle.lk_verdict.specs.Verdict.{says_yes, says_no, says_steps, whole, plain_verdict}
+use native.Mathlib.Decide.{ℕ_discrete}
+
+-- Nat with Nat.rec, whose minor for succ is this
+abbrev nats : Tree → Library
+nats minor = of_block nat_block (nat_rec_with minor ∷ []) ∷ []
+
+nat_yes : plain_verdict whole (nats s_type) 0 237 ≡ says_yes
+unfolding answer_to_depth open_at close_at bound head args put_levels put_in_level level_for level_le tree_discrete level_discrete name_discrete list_discrete both_discrete part_discrete ℕ_discrete
+nat_yes = refl
+
+nat_short : plain_verdict whole (nats s_type) 0 236 ≡ says_steps
+unfolding answer_to_depth open_at close_at bound head args put_levels put_in_level level_for level_le tree_discrete level_discrete name_discrete list_discrete both_discrete part_discrete ℕ_discrete
+nat_short = refl
+
+nat_no : plain_verdict whole (nats (pi (named nat) (app (var 2) (app (named nat_succ) (var 0))))) 0 1000 ≡ says_no recursor_differs
+unfolding answer_to_depth open_at close_at bound head args put_levels put_in_level level_for level_le tree_discrete level_discrete name_discrete list_discrete both_discrete part_discrete ℕ_discrete
+nat_no = refl
+
+-- its recursor stated twice
+rec_twice : plain_verdict whole (of_block nat_block (nat_rec_with s_type ∷ nat_rec_with s_type ∷ []) ∷ []) 0 1000 ≡ says_no duplicate_name
+unfolding name_discrete list_discrete both_discrete part_discrete ℕ_discrete
+rec_twice = refl
+
+-- an axiom N, then mk : (N -> T) -> T, and mk : ((T -> N) -> T) -> T
+functions_yes : plain_verdict whole (n_unit ∷ of_block of_functions [] ∷ []) 1 37 ≡ says_yes
+unfolding answer_to_depth open_at close_at bound head args put_levels put_in_level level_for level_le tree_discrete level_discrete name_discrete list_discrete both_discrete part_discrete ℕ_discrete
+functions_yes = refl
+
+functions_no : plain_verdict whole (n_unit ∷ of_block (t_block (pi (pi (pi (named t_name) (named u)) (named t_name)) (named t_name))) [] ∷ []) 1 1000 ≡ says_no not_positive
+unfolding answer_to_depth open_at close_at bound head args put_levels put_in_level level_for level_le tree_discrete level_discrete name_discrete list_discrete both_discrete part_discrete ℕ_discrete
+functions_no = refl
+
+-- List, then Tree with node : List Tree -> Tree and both recursors
+tree_yes : plain_verdict whole (list_unit ∷ of_block tree_block tree_recs ∷ []) 1 939 ≡ says_yes
+unfolding answer_to_depth open_at close_at bound head args put_levels put_in_level level_for level_le tree_discrete level_discrete name_discrete list_discrete both_discrete part_discrete ℕ_discrete
+tree_yes = refl
+
+tree_short : plain_verdict whole (list_unit ∷ of_block tree_block tree_recs ∷ []) 1 938 ≡ says_steps
+unfolding answer_to_depth open_at close_at bound head args put_levels put_in_level level_for level_le tree_discrete level_discrete name_discrete list_discrete both_discrete part_discrete ℕ_discrete
+tree_short = refl
+
+-- so it is good
+tree_good : IsGoodUnit (list_unit ∷ of_block tree_block tree_recs ∷ []) 1
+unfolding open_at close_at bound head args put_levels put_in_level level_for tree_discrete level_discrete name_discrete list_discrete both_discrete part_discrete ℕ_discrete
+tree_good = good_of_yes whole sound_steps (list_unit ∷ of_block tree_block tree_recs ∷ []) 1 939 (spelled_clear (list_unit ∷ of_block tree_block tree_recs ∷ []) refl) tree_yes

@@ -1,0 +1,71 @@
+//! Soundness: each answer of the question table has a derivation in the rule book, and each unit that is answered yes is good.
+#![tactic(auto)]
+
+ghost use Rattle.std.specs.Prelude.{◌≡◌, ℕ, [], List};
+ghost use Rattle.lk_blocks.specs.Block.{Shape};
+ghost use Rattle.lk_blocks.specs.NestedRelation.{IsClear, ClearTypes, NestedDerived};
+ghost use Rattle.lk_blocks.specs.NestedTask.{plain_whole};
+ghost use Rattle.lk_blocks.specs.Whole.{BlockStated, BlockDerived};
+ghost use Rattle.lk_plain.specs.Answer.{answered, outcome_of, plain_answer, IfAnswered};
+ghost use Rattle.lk_plain.specs.Program.{Table};
+ghost use Rattle.lk_plain.specs.Query.{Query};
+ghost use Rattle.lk_plain.specs.Sound.{IsAskable, IsJustified, WellStated, IsSoundTable};
+ghost use Rattle.lk_rulebook.specs.Derived.{DeclWellFormed, DeclDerived};
+ghost use Rattle.lk_rulebook.specs.Place.{Place, Block, Rec};
+ghost use Rattle.lk_rulebook.specs.Stated.{GivesNoLocal};
+ghost use Rattle.lk_rulebook.specs.Units.{Decl, Members, LibraryUnit, place_of, Library};
+ghost use Rattle.lk_table.specs.Built.{rows};
+ghost use Rattle.lk_table.specs.Declarations.{unit_steps};
+ghost use Rattle.lk_table.specs.Table.{steps};
+ghost use Rattle.lk_verdict.specs.Built.{stage};
+ghost use Rattle.lk_verdict.specs.GoodUnit.{IsGoodUnit, IsClearLibrary};
+ghost use Rattle.lk_verdict.specs.Verdict.{says_yes, Stage, whole, plain_verdict};
+
+/// The whole table is sound.
+pub fn whole_table_is_sound()
+    ensures { IsSoundTable steps }
+{}
+
+/// Each answer means what the rule book says.
+pub fn plain_answer_is_sound()
+    ensures each { (table : Table) (w : Place) (q : Query) (b : ℕ) → IsSoundTable table → WellStated w → IsAskable q → IfAnswered (plain_answer table w q b) (λ v c t. IsJustified w q v) }
+    ensures whole { (w : Place) (q : Query) (b : ℕ) → WellStated w → IsAskable q → IfAnswered (plain_answer steps w q b) (λ v c t. IsJustified w q v) }
+{}
+
+/// A declaration that is answered yes under any budget is derived in the rule book.
+pub fn yes_is_a_derivation()
+    ensures each { (table : Table) (w : Place) (d : Decl) (b : ℕ) → IsSoundTable table → WellStated w → DeclWellFormed d → IfAnswered (outcome_of w (plain_answer table w) b (unit_steps d)) (λ y c t. DeclDerived w d) }
+    ensures whole { (w : Place) (d : Decl) (b : ℕ) → WellStated w → DeclWellFormed d → IfAnswered (outcome_of w (plain_answer steps w) b (unit_steps d)) (λ y c t. DeclDerived w d) }
+{}
+
+/// A block that is answered yes under any budget, by a table that is sound, is derived, one with nested occurrences by a larger block, and its recursors too.
+pub fn yes_block_is_derived()
+    ensures each { (table : Table) (us : List LibraryUnit) (n : ℕ) (b : Block) (stated : List Rec) (budget : ℕ) → IsSoundTable table → WellStated (place_of us n []) → IsClear (place_of us n []) → BlockStated b stated → ClearTypes b.types →
+        IfAnswered (plain_whole table us n b stated budget) (λ v c t. NestedDerived (place_of us n) b stated v.0) }
+    ensures whole { (us : List LibraryUnit) (n : ℕ) (b : Block) (stated : List Rec) (budget : ℕ) → WellStated (place_of us n []) → IsClear (place_of us n []) → BlockStated b stated → ClearTypes b.types →
+        IfAnswered (plain_whole steps us n b stated budget) (λ v c t. NestedDerived (place_of us n) b stated v.0) }
+{}
+
+/// Where no occurrence is nested, the block and its recursors are derived with no larger block.
+pub fn nothing_nested()
+    ensures { (places : Members → Place) (b : Block) (stated : List Rec) (s : Shape) → BlockStated b stated → (g : NestedDerived places b stated s) → g.larger.auxs ≡ [] → BlockDerived places b stated s }
+{}
+
+/// What a library gives anywhere, without a flaw, is closed and holds no Local.
+pub fn places_are_well_stated()
+    ensures stated { (us : Library) (n : ℕ) → WellStated (place_of us n []) }
+    ensures no_local { (us : Library) (n : ℕ) → GivesNoLocal (place_of us n []) }
+{}
+
+/// A unit that is answered yes under any budget, by a stage whose table is sound, is good: its names are new, its scan holds,
+/// and it is derived from the units before it, as the file states them. The whole table is such.
+pub fn yes_unit_is_good()
+    ensures each { (stage : Stage) (us : Library) (n budget : ℕ) → IsSoundTable stage.table → IsClearLibrary us → plain_verdict stage us n budget ≡ says_yes → IsGoodUnit us n }
+    ensures whole { (us : Library) (n budget : ℕ) → IsClearLibrary us → plain_verdict whole us n budget ≡ says_yes → IsGoodUnit us n }
+{}
+
+/// The rows that are built are sound, and a unit to which they say yes is good.
+pub fn built_rows_are_sound()
+    ensures sound { IsSoundTable rows }
+    ensures good { (us : Library) (n budget : ℕ) → IsClearLibrary us → plain_verdict stage us n budget ≡ says_yes → IsGoodUnit us n }
+{}

@@ -1,0 +1,7 @@
+pub mod Consed
+pub mod Levels
+pub mod Opening
+pub mod Rewriting
+pub mod Store
+pub mod Table
+pub mod Waits

@@ -1,0 +1,5 @@
+pub mod Costs
+pub mod Stuck
+pub mod WorkedLiterals
+pub mod LineParts
+pub mod BuiltRows

@@ -1,0 +1,54 @@
+-- Pieces that several questions share.
+use Rattle.std.specs.Prelude.{Bool, true, false, nat_eq, List, length, Option, Some, None}
+use Rattle.lk_tree.specs.Tree.{Name, Level, Tree, tree_discrete, sort, pi}
+use Rattle.lk_tree.specs.RuleNo.{RuleNo, not_a_sort, level_count}
+use Rattle.lk_tree.specs.Levels.{put_levels}
+use Rattle.lk_rulebook.specs.Place.{Entry, Kind, a_def, a_thm, an_axiom, an_opaque, a_quot, a_type, a_ctor, a_rec}
+use Rattle.lk_plain.specs.Query.{whnf, infer}
+use Rattle.lk_plain.specs.Program.{Program, done, refuse, asked, ◌>>=◌}
+
+abbrev pub decided : {A : Type 0} → Dec A → Bool
+decided (yes a) = true
+decided (no f) = false
+
+abbrev pub is_same_tree : Tree → Tree → Bool
+is_same_tree a b = decided (tree_discrete a b)
+
+-- p where the test holds, else refused by r
+abbrev pub given : {A : Type 0} → Bool → RuleNo → Program A → Program A
+given true r p = p
+given false r p = refuse r
+
+abbrev pub as_sort : Tree → Program Level
+as_sort (sort l) = done l
+as_sort _ = refuse not_a_sort
+
+abbrev pub as_pi : RuleNo → Tree → Program (Tree × Tree)
+as_pi r (pi A B) = done (A, B)
+as_pi r _ = refuse r
+
+-- sort(e)
+abbrev pub sort_of : Tree → Program Level
+sort_of e = do
+  T ← asked (infer e)
+  S ← asked (whnf T)
+  as_sort S
+
+-- t{ls}, with these level parameters
+abbrev pub with_params : List Name → List Level → Tree → Program Tree
+with_params ps ls t = given (nat_eq (length ls) (length ps)) level_count (done (put_levels ps ls t))
+
+-- t{ls}, with the level parameters of the entry
+abbrev pub with_levels : Entry → List Level → Tree → Program Tree
+with_levels e ls t = with_params e.levels ls t
+
+-- the value of a def or thm
+abbrev pub value_of : Kind → Option Tree
+value_of (a_def h v) = Some v
+value_of (a_thm v) = Some v
+value_of an_axiom = None
+value_of (an_opaque v) = None
+value_of a_quot = None
+value_of (a_type b i) = None
+value_of (a_ctor b i c) = None
+value_of (a_rec r) = None

@@ -1,0 +1,18 @@
+//! The question table, row by row, and the questions of each declaration: what the checker asks, and in which order.
+#![tactic(auto)]
+
+ghost use Rattle.std.specs.Prelude.{◌≡◌, true};
+ghost use Rattle.lk_tree.specs.Tree.{Tree};
+ghost use Rattle.lk_plain.specs.Query.{same};
+ghost use Rattle.lk_plain.specs.Program.{done};
+ghost use Rattle.lk_plain.specs.Parts.{IsStageOf};
+ghost use Rattle.lk_table.specs.Steps.{is_same_tree};
+ghost use Rattle.lk_table.specs.Table.{steps};
+ghost use Rattle.lk_table.specs.Built.{whole_rows};
+
+/// The rows that are built are those of the table: they do what it does, but that they may be refused earlier. Where trees
+/// are equal the table calls them the same too.
+pub fn built_rows_are_part_of_the_table()
+    ensures part { IsStageOf whole_rows steps }
+    ensures same { (a b : Tree) → is_same_tree a b ≡ true → steps (same a b) ≡ done true }
+{}

@@ -1,0 +1,10 @@
+pub mod Binding
+pub mod Euclid
+pub mod LevelTests
+pub mod Lists
+pub mod Locals
+pub mod Operated
+pub mod Scans
+pub mod Spines
+pub mod Within
+pub mod Zero

@@ -1,0 +1,13 @@
+pub mod Bind
+pub mod Codes
+pub mod Decide
+pub mod WellFormed
+pub mod Level
+pub mod LevelTest
+pub mod Levels
+pub mod Loose
+pub mod Operations
+pub mod RuleNo
+pub mod Scan
+pub mod Spine
+pub mod Tree

@@ -1,0 +1,7 @@
+pub mod Clears
+pub mod Earlier
+pub mod Refusals
+pub mod Spelled
+pub mod Stays
+pub mod Verdicts
+pub mod Worked

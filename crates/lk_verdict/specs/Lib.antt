@@ -1,0 +1,5 @@
+pub mod Attacks
+pub mod GoodUnit
+pub mod Verdict
+pub mod Built
+pub mod Told

@@ -1,0 +1,56 @@
+-- The plain verdict of a unit by a stage: the scan, then the unit's questions under one budget.
+use Rattle.std.specs.Prelude.{ℕ, ◌≡◌, ◌<◌, ◌≤◌, [], Option, Some, None, slice_get}
+use Rattle.lk_tree.specs.RuleNo.{RuleNo}
+use Rattle.lk_rulebook.specs.Units.{LibraryUnit, of_decl, of_block, Library, place_of}
+use Rattle.lk_rulebook.specs.Scan.{scan_of}
+use Rattle.lk_plain.specs.Answer.{Outcome, answered, refused, spent, outcome_of, plain_answer}
+use Rattle.lk_plain.specs.Program.{Table}
+use Rattle.lk_plain.specs.Parts.{IsStageOf}
+use Rattle.lk_table.specs.Table.{steps}
+use Rattle.lk_table.specs.Declarations.{unit_steps}
+use Rattle.lk_blocks.specs.NestedTask.{plain_whole}
+
+pub data Verdict : Type 0 where
+  says_yes : Verdict
+  says_no : RuleNo → Verdict
+  says_steps : Verdict
+
+abbrev pub verdict_by : {A : Type 0} → Outcome A → Verdict
+verdict_by (answered v c t) = says_yes
+verdict_by (refused r) = says_no r
+verdict_by spent = says_steps
+
+-- what is built: the table by which questions are answered, and the rule by which a unit is refused that is not checked yet
+pub record Stage : Type 0 where
+  pub table : Table
+  pub unbuilt : LibraryUnit → Option RuleNo
+
+-- all is built
+abbrev pub whole : Stage
+whole = record { table = steps; unbuilt = λ u. None }
+
+-- what the questions of u as unit n say
+abbrev pub questions_of : Table → Library → ℕ → LibraryUnit → ℕ → Verdict
+questions_of table us n (of_decl d) budget = verdict_by (outcome_of (place_of us n []) (plain_answer table (place_of us n [])) budget (unit_steps d))
+questions_of table us n (of_block b rs) budget = verdict_by (plain_whole table us n b rs budget)
+
+-- the rule by which u is refused with no question: the scan's, else the stage's
+abbrev pub refused_at_once : Stage → Library → ℕ → LibraryUnit → Option RuleNo
+refused_at_once stage us n u = elim (scan_of us n u) [ Some r ↦ Some r | None ↦ stage.unbuilt u ]
+
+abbrev pub verdict_of : Stage → Library → ℕ → LibraryUnit → ℕ → Verdict
+verdict_of stage us n u budget = elim (refused_at_once stage us n u) [ Some r ↦ says_no r | None ↦ questions_of stage.table us n u budget ]
+
+-- the plain verdict of unit n (beyond the last unit it is never yes)
+abbrev pub plain_verdict : Stage → Library → ℕ → ℕ → Verdict
+plain_verdict stage us n budget = elim (slice_get us n) [ Some u ↦ verdict_of stage us n u budget | None ↦ says_steps ]
+
+-- yes comes exactly where the budget is at least c, and steps below
+pub record IsYesFrom (f : ℕ → Verdict) (c : ℕ) : Type 0 where
+  pub enough : (b : ℕ) → c ≤ b → f b ≡ says_yes
+  pub too_little : (b : ℕ) → b < c → f b ≡ says_steps
+
+-- what the one checks the other checks too, and answers by the rest of the same programs
+pub record IsWidened (stage wider : Stage) : Type 0 where
+  pub table : IsStageOf stage.table wider.table
+  pub units : (u : LibraryUnit) → stage.unbuilt u ≡ None → wider.unbuilt u ≡ None

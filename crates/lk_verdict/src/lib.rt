@@ -1,0 +1,59 @@
+//! The plain verdict of a unit, what it is for a unit to be good, and laws of both.
+#![tactic(auto)]
+
+ghost use Rattle.std.specs.Prelude.{◌≡◌, ℕ, [], List, Some, take, slice_get, ◌≤◌, ◌<◌, ◌⊎◌, true};
+ghost use Rattle.lk_blocks.specs.Block.{Shape};
+ghost use Rattle.lk_blocks.specs.Recursors.{Rec};
+ghost use Rattle.lk_blocks.specs.Whole.{BlockDerived};
+ghost use Rattle.lk_plain.specs.Answer.{answered};
+ghost use Rattle.lk_rulebook.specs.Derived.{DeclDerived};
+ghost use Rattle.lk_rulebook.specs.Place.{Block, BlockType, Rec};
+ghost use Rattle.lk_rulebook.specs.Scan.{IsScanned};
+ghost use Rattle.lk_rulebook.specs.Spelled.{library_spelled};
+ghost use Rattle.lk_rulebook.specs.Units.{Decl, place_of, of_block, Library};
+ghost use Rattle.lk_table.specs.Table.{steps};
+ghost use Rattle.lk_verdict.specs.Attacks.{shadowed, doubled, undeclared, of_local, hidden};
+ghost use Rattle.lk_verdict.specs.Built.{stage};
+ghost use Rattle.lk_verdict.specs.GoodUnit.{IsGoodUnit, IsClearLibrary};
+ghost use Rattle.lk_verdict.specs.Verdict.{says_yes, says_steps, Stage, plain_verdict, IsYesFrom, IsWidened};
+
+/// A yes comes exactly where the budget is at least its cost, and below it the verdict is steps. No verdict but steps changes
+/// with a greater budget.
+pub fn plain_verdict_is_steady()
+    ensures yes { (stage : Stage) (us : Library) (n budget : ℕ) → plain_verdict stage us n budget ≡ says_yes → (c : ℕ) × (c ≤ budget) × IsYesFrom (plain_verdict stage us n) c }
+    ensures settled { (stage : Stage) (us : Library) (n budget more : ℕ) → budget ≤ more → (plain_verdict stage us n budget ≡ says_steps) ⊎ (plain_verdict stage us n more ≡ plain_verdict stage us n budget) }
+{}
+
+/// A unit that is answered yes by a stage is answered yes by each wider one.
+pub fn stages_agree()
+    ensures { (stage wider : Stage) (us : Library) (n budget : ℕ) → IsWidened stage wider → plain_verdict stage us n budget ≡ says_yes → plain_verdict wider us n budget ≡ says_yes }
+{}
+
+/// The verdict of a unit, and whether it is good, rest on the units up to it alone.
+pub fn verdicts_rest_on_earlier_units()
+    ensures verdict { (stage : Stage) (us vs : Library) (n budget : ℕ) → take n us ≡ take n vs → slice_get us n ≡ slice_get vs n → plain_verdict stage us n budget ≡ plain_verdict stage vs n budget }
+    ensures good { (us vs : Library) (n : ℕ) → take n us ≡ take n vs → slice_get us n ≡ slice_get vs n → IsGoodUnit us n → IsGoodUnit vs n }
+{}
+
+/// What is derived of a unit stays derived at later places, where its own names are given too.
+pub fn good_units_stay()
+    ensures declarations { (us : Library) (n m : ℕ) (d : Decl) → n ≤ m → DeclDerived (place_of us n []) d → DeclDerived (place_of us m []) d }
+    ensures blocks { (us : Library) (n m : ℕ) (b : Block) (rs : List Rec) (s : Shape) → n < m → slice_get us n ≡ Some (of_block b rs) → IsScanned us n (of_block b rs) →
+        BlockDerived (place_of us n) b rs s → BlockDerived (λ h. place_of us m []) b rs s }
+{}
+
+/// That a library is clear is met by each library none of whose members and constants has a name that holds LF.
+pub fn spelled_library_is_clear()
+    ensures { (us : Library) → library_spelled us ≡ true → IsClearLibrary us }
+{}
+
+/// Units from which falsehood follows where they are not scanned are not good: one gives a name that an earlier unit gives, one
+/// gives a name twice, one has a level parameter that it does not declare, one holds a Local. Nor is one that has the name of
+/// an auxiliary type.
+pub fn known_attacks_are_refused()
+    ensures shadowed { IsGoodUnit shadowed 1 → ⊥ }
+    ensures doubled { (us : Library) (n : ℕ) → slice_get us n ≡ Some doubled → IsGoodUnit us n → ⊥ }
+    ensures undeclared { (us : Library) (n : ℕ) → slice_get us n ≡ Some undeclared → IsGoodUnit us n → ⊥ }
+    ensures local { (us : Library) (n : ℕ) → slice_get us n ≡ Some of_local → IsGoodUnit us n → ⊥ }
+    ensures hidden { (us : Library) (n : ℕ) (ts : List BlockType) (rs : List Rec) → slice_get us n ≡ Some (hidden ts rs) → IsGoodUnit us n → ⊥ }
+{}
