@@ -46,9 +46,9 @@ pub record Reports (bytes : List ℕ) (status : Status) (old new : Option (List 
   pub report : IsReport bytes status text
   pub written : Appends old new text
 
--- a front of the text that belongs to the bytes was written
-abbrev pub WritesFront : List ℕ → Option (List ℕ) → Option (List ℕ) → Type 0
-WritesFront bytes old new = ((library_of bytes ≡ None) × AppendsSome old new bad_line)
+-- a prefix of the text that belongs to the bytes was written
+abbrev pub WritesPrefix : List ℕ → Option (List ℕ) → Option (List ℕ) → Type 0
+WritesPrefix bytes old new = ((library_of bytes ≡ None) × AppendsSome old new bad_line)
     ⊎ ((status : Status) × (text : List ℕ) × IsReport bytes status text × AppendsSome old new text)
 
 -- what the bytes of a file give

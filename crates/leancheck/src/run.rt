@@ -6,7 +6,7 @@ ghost use Rattle.lk_port.specs.Bytes.{Rose, AppendsSome};
 ghost use Rattle.lk_book.specs.File.{library_of};
 ghost use Rattle.leancheck.specs.Words.{means_check};
 ghost use Rattle.leancheck.specs.Text.{usage_line, bad_line};
-ghost use Rattle.leancheck.specs.Ends.{Gives, IsChecked, Reports, WritesFront};
+ghost use Rattle.leancheck.specs.Ends.{Gives, IsChecked, Reports, WritesPrefix};
 
 use crate::checking::check_all;
 use crate::report::{report, status_of};
@@ -71,8 +71,8 @@ pub fn run<R: Threads + Wait + Sync, S: Source, K: Sink, G: Gate>(
     ensures verdicts { IsChecked result → IfSome (S.left source.old) (λ bytes. Reports bytes result (K.written sink.old) (K.written sink.new)) }
     ensures write { result ≡ Status.WriteFault → Rose (K.faults sink.old) (K.faults sink.new) }
     ensures no_write { result ≢ Status.WriteFault → K.faults sink.new ≡ K.faults sink.old }
-    ensures front { result ≡ Status.WriteFault → ((means_check (map (λ w. string_bytes w) words.now) ≡ false) × AppendsSome (K.written sink.old) (K.written sink.new) usage_line)
-        ⊎ ((means_check (map (λ w. string_bytes w) words.now) ≡ true) × IfSome (S.left source.old) (λ bytes. WritesFront bytes (K.written sink.old) (K.written sink.new))) }
+    ensures prefix { result ≡ Status.WriteFault → ((means_check (map (λ w. string_bytes w) words.now) ≡ false) × AppendsSome (K.written sink.old) (K.written sink.new) usage_line)
+        ⊎ ((means_check (map (λ w. string_bytes w) words.now) ≡ true) × IfSome (S.left source.old) (λ bytes. WritesPrefix bytes (K.written sink.old) (K.written sink.new))) }
     ensures no_memory { result ≡ Status.NoMemory → K.written sink.new ≡ K.written sink.old }
 {
     if !is_check(words) {
