@@ -11,7 +11,7 @@ use Rattle.lk_rulebook.specs.Literals.{may_give, IsOperation, IsResult, a_number
 use Rattle.lk_rulebook.specs.Quotients.{IsQuot}
 use Rattle.lk_tree.specs.Operations.{Op, succ, Value}
 use Rattle.std.specs.Str.{chars}
-use Rattle.lk_rulebook.specs.Rules.{HasValue, of_def, of_thm, HasType, t_sort, t_local, t_const, t_app, t_lam, t_pi, t_let, t_lit, t_str, t_proj, HasSort, has_sort, IsProp, is_prop, Reduces, r_refl, r_trans, r_head, r_beta, r_zeta, r_delta, r_proj, r_major, r_iota, r_k, r_struct, r_quot_lift, r_quot_ind, r_op, IsDefEq, e_refl, e_reduce, e_sort, e_const, e_app, e_lam, e_pi, e_proj, e_eta_left, e_eta_right, e_struct_left, e_struct_right, e_unit, e_proof, e_zero_left, e_zero_right, e_succ_left, e_succ_right, e_str_left, e_str_right, Numerals, no_more_numerals, numeral, IsNotProp, not_prop, AllProject, no_more_fields, project, PastParameters, no_more, next, FieldOf, here, past}
+use Rattle.lk_rulebook.specs.Rules.{HasValue, of_def, of_thm, HasType, t_sort, t_local, t_const, t_app, t_lam, t_pi, t_let, t_lit, t_str, t_proj, HasSort, has_sort, IsProposition, is_prop, Reduces, r_refl, r_trans, r_head, r_beta, r_zeta, r_delta, r_proj, r_major, r_iota, r_k, r_struct, r_quot_lift, r_quot_ind, r_op, IsDefEq, e_refl, e_reduce, e_sort, e_const, e_app, e_lam, e_pi, e_proj, e_eta_left, e_eta_right, e_struct_left, e_struct_right, e_unit, e_proof, e_zero_left, e_zero_right, e_succ_left, e_succ_right, e_str_left, e_str_right, Numerals, no_more_numerals, numeral, IsNotProp, not_prop, AllProject, no_more_fields, project, PastParameters, no_more, next, FieldOf, here, past}
 use Rattle.lk_blocks.specs.Grows.{IsWithin}
 
 -- what is no recursor without rules is kept as it is
@@ -236,7 +236,7 @@ mutual
   pub more_sort : (w w' : Place) → IsWithin w w' → {A : Tree} {l : Level} → HasSort w A l → HasSort w' A l
   more_sort w w' i (has_sort t r) = has_sort (more_type w w' i t) (more_reduct w w' i r)
 
-  pub more_prop : (w w' : Place) → IsWithin w w' → {A : Tree} → IsProp w A → IsProp w' A
+  pub more_prop : (w w' : Place) → IsWithin w w' → {A : Tree} → IsProposition w A → IsProposition w' A
   more_prop w w' i (is_prop h z) = is_prop (more_sort w w' i h) z
 
   pub more_reduct : (w w' : Place) → IsWithin w w' → {a b : Tree} → Reduces w a b → Reduces w' a b

@@ -5,7 +5,7 @@ use Rattle.lk_tree.specs.Levels.{put_levels}
 use Rattle.lk_tree.specs.Bind.{opened, close}
 use Rattle.lk_tree.specs.WellFormed.{IsWellFormed, HasLocal}
 use Rattle.lk_rulebook.specs.Place.{Place, Entry, Block, BlockType, Ctor, a_type}
-use Rattle.lk_rulebook.specs.Structures.{is_one_of}
+use Rattle.lk_tree.specs.Mentions.{is_one_of}
 use Rattle.lk_rulebook.specs.Units.{Members}
 use Rattle.lk_blocks.specs.Block.{Shape}
 use Rattle.lk_blocks.specs.Relation.{IsAmong, IsBlock, CountsAgree}

@@ -3,7 +3,7 @@ use Rattle.std.specs.Prelude.{ℕ, zero, suc, ◌+◌, ◌/◌, ◌%◌, nat_lt,
 use Rattle.lk_tree.specs.Tree.{Name, Part, Level, Tree, const, app, lam, pi, let_in, proj}
 use Rattle.lk_tree.specs.Spine.{apply}
 use Rattle.lk_rulebook.specs.Place.{BlockType, Ctor}
-use Rattle.lk_rulebook.specs.Structures.{same_name}
+use Rattle.lk_tree.specs.Mentions.{same_name}
 use Rattle.lk_blocks.specs.BlockSteps.{after_params}
 use Rattle.lk_blocks.specs.Recursors.{rec_name, Restoring}
 use Rattle.lk_blocks.specs.Nested.{Aux, aux_name, aux_ctor}

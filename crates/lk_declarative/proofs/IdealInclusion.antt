@@ -14,7 +14,7 @@ use Rattle.lk_rulebook.specs.Names.{named, nat, nat_succ, op_name, quot_lift, qu
 use Rattle.lk_rulebook.specs.Shapes.{HasNat}
 use Rattle.lk_rulebook.specs.Literals.{IsNumeral, of_lit, of_zero, IsOperation, IsResult, ReadsText, as_it_is, as_text, Reads, by_text, as_zero, as_succ}
 use Rattle.lk_tree.proofs.Spines.{well_formed_of_apply}
-use Rattle.lk_rulebook.specs.Rules.{HasType, t_sort, t_local, t_const, t_app, t_lam, t_pi, t_let, t_lit, t_str, t_proj, HasSort, has_sort, IsProp, is_prop, Reduces, r_refl, r_trans, r_head, r_beta, r_zeta, r_delta, r_proj, r_major, r_iota, r_k, r_struct, r_quot_lift, r_quot_ind, r_op, IsDefEq, e_refl, e_reduce, e_sort, e_const, e_app, e_lam, e_pi, e_proj, e_eta_left, e_eta_right, e_struct_left, e_struct_right, e_unit, e_proof, e_zero_left, e_zero_right, e_succ_left, e_succ_right, e_str_left, e_str_right, Numerals, no_more_numerals, numeral, IsNotProp, not_prop, AllProject, no_more_fields, project, PastParameters, no_more, next, FieldOf, here, past}
+use Rattle.lk_rulebook.specs.Rules.{HasType, t_sort, t_local, t_const, t_app, t_lam, t_pi, t_let, t_lit, t_str, t_proj, HasSort, has_sort, IsProposition, is_prop, Reduces, r_refl, r_trans, r_head, r_beta, r_zeta, r_delta, r_proj, r_major, r_iota, r_k, r_struct, r_quot_lift, r_quot_ind, r_op, IsDefEq, e_refl, e_reduce, e_sort, e_const, e_app, e_lam, e_pi, e_proj, e_eta_left, e_eta_right, e_struct_left, e_struct_right, e_unit, e_proof, e_zero_left, e_zero_right, e_succ_left, e_succ_right, e_str_left, e_str_right, Numerals, no_more_numerals, numeral, IsNotProp, not_prop, AllProject, no_more_fields, project, PastParameters, no_more, next, FieldOf, here, past}
 use Rattle.lk_declarative.specs.Guarded.{IdealType, typed_sort, typed_local, typed_const, typed_app, typed_lam, typed_pi, typed_let, typed_lit, typed_str, typed_proj, typed_conv, IdealEquals, same_refl, same_sym, same_trans, same_sort, same_const, same_app, same_lam, same_pi, same_proj, same_beta, same_zeta, same_delta, same_iota, same_proj_ctor, same_lit_zero, same_lit_succ, same_quot_lift, same_quot_ind, same_op, same_str, same_eta, same_struct_eta, same_unit, same_struct_ext, same_proof, GuardedExpands, no_proposition_at, GuardedProjects, none_projects, next_projects, GuardedParameters, past_none, past_one, GuardedField, field_here, field_past}
 use Rattle.lk_declarative.specs.Expected.{LawfulLocals, Fits, Expected}
 use Rattle.lk_declarative.proofs.GuardedScopes.{well_formed_of_type}
@@ -215,7 +215,7 @@ mutual
       let ta : IdealType w A S = ideal_type h t g in
       typed_conv ta (kept h r (h.sorted ta).1).equal typed_sort
 
-  pub ideal_prop : {w : Place} → Expected w → {A : Tree} → IsProp w A → LawfulLocals w A → IdealType w A (sort zero_level)
+  pub ideal_prop : {w : Place} → Expected w → {A : Tree} → IsProposition w A → LawfulLocals w A → IdealType w A (sort zero_level)
   ideal_prop h (is_prop s z) g = typed_conv (ideal_sort h s g) (same_sort z) typed_sort
 
   pub kept : {w : Place} → Expected w → {a b A : Tree} → Reduces w a b → IdealType w a A → Kept w a b A

@@ -1,6 +1,9 @@
 -- The declarative rules: typing and conversion at a place, the least two relations that meet the rules. Conversion is an
 -- equivalence, a tree of a type has each type that is convertible to it, and beta asks nothing of the argument.
 -- These relations relate everything: see `collapse`. The judgement that answers are proved against is the directed one.
+-- They depart from the textbook's declarative rules in this: the type of a lambda is stated closed, and opened with the Local of
+-- its binder, whose number bounds the lambda and its type; structure eta reads what is structure-like at the constructor, and
+-- for structures without fields at the type; what a unit with a loose variable or a wide literal gives means nothing.
 use Rattle.std.specs.Prelude.{ℕ, suc, ◌≡◌, ◌<◌, ◌≤◌, ◌+◌, List, [], ◌∷◌, ◌++◌, length, map, Some, slice_get, true}
 use Rattle.lk_tree.specs.Tree.{Name, Level, zero_level, succ_level, imax_level, Tree, var, sort, const, app, lam, pi, let_in, proj, lit, str, local}
 use Rattle.lk_tree.specs.Level.{SameLevel}
@@ -119,14 +122,14 @@ mutual
     first_projects : {J : Name} {a x : Tree} {j : ℕ} {xs : List Tree} →
         Converts w (proj J j a) x → EachProjects w J a (suc j) xs → EachProjects w J a j (x ∷ xs)
 
-  -- r, the constructor's type, with the first n of bs put for its parameters
+  -- T is left of r after n Pis, the first n of bs put in
   pub data AfterParameters (w : Place) : List Tree → ℕ → Tree → Tree → Type 0 where
     after_none : {bs : List Tree} {r : Tree} → AfterParameters w bs 0 r r
     after_one : {b : Tree} {bs : List Tree} {n : ℕ} {r A B T : Tree} →
         Converts w r (pi A B) → AfterParameters w bs n (opened B b) T → AfterParameters w (b ∷ bs) (suc n) r T
 
   -- A is the domain of field number i of the structure s, where r begins with field number j; in Prop, which is where
-  -- l = 0, the domain is a proposition, and so is each earlier one that a later one rests on
+  -- l = 0, the domain is a proposition, and so is the domain of each earlier one whose variable the rest of the type mentions
   pub data FieldDomain (w : Place) : Name → Tree → Level → ℕ → ℕ → Tree → Tree → Type 0 where
     this_field : {S : Name} {s : Tree} {l : Level} {i : ℕ} {r A B : Tree} →
         Converts w r (pi A B) → (SameLevel l zero_level → IsDeclared w A (sort zero_level)) →

@@ -1,4 +1,5 @@
--- What is expected of the ideal rules at a place whose units are lawful, and proved nowhere.
+-- What is expected of the ideal rules at a place whose units are lawful, and whose operations and String are what their names
+-- say; not shown at any place.
 use Rattle.std.specs.Prelude.{ℕ, zero, suc, ◌≡◌, ◌<◌, ◌⊎◌, ◌+◌, List, [], ◌∷◌, ◌++◌, length, map, Some, slice_get, true}
 use Rattle.lk_tree.specs.Tree.{Name, Level, zero_level, Tree, sort, const, app, lam, pi, proj, lit}
 use Rattle.lk_tree.specs.Bind.{opened}

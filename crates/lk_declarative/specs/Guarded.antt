@@ -120,14 +120,14 @@ mutual
     next_projects : {J : Name} {a x : Tree} {j : ℕ} {xs : List Tree} →
         GuardedEquals p w (proj J j a) x → GuardedProjects p w J a (suc j) xs → GuardedProjects p w J a j (x ∷ xs)
 
-  -- r, the constructor's type, with the first n of bs put for its parameters
+  -- T is left of r after n Pis, the first n of bs put in
   pub data GuardedParameters (p : Bool) (w : Place) : List Tree → ℕ → Tree → Tree → Type 0 where
     past_none : {bs : List Tree} {r : Tree} → GuardedParameters p w bs 0 r r
     past_one : {b : Tree} {bs : List Tree} {n : ℕ} {r A B T : Tree} →
         GuardedEquals p w r (pi A B) → GuardedParameters p w bs n (opened B b) T → GuardedParameters p w (b ∷ bs) (suc n) r T
 
   -- A is the domain of field number i of the structure s, where r begins with field number j; in Prop, which is where
-  -- l = 0, the domain is a proposition, and so is each earlier one that a later one rests on
+  -- l = 0, the domain is a proposition, and so is the domain of each earlier one whose variable the rest of the type mentions
   pub data GuardedField (p : Bool) (w : Place) : Name → Tree → Level → ℕ → ℕ → Tree → Tree → Type 0 where
     field_here : {S : Name} {s : Tree} {l : Level} {i : ℕ} {r A B : Tree} →
         GuardedEquals p w r (pi A B) → (SameLevel l zero_level → GuardedType p w A (sort zero_level)) →
@@ -136,7 +136,7 @@ mutual
         GuardedEquals p w r (pi A B) → (SameLevel l zero_level → has_var 0 B ≡ true → GuardedType p w A (sort zero_level)) →
         GuardedField p w S s l (suc j) i (opened B (proj S j s)) C → GuardedField p w S s l j i r C
 
--- all the typing premises
+-- typing premises also at projections
 abbrev pub IdealType : Place → Tree → Tree → Type 0
 IdealType w e A = GuardedType true w e A
 

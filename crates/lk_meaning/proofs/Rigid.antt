@@ -15,7 +15,7 @@ use Rattle.lk_rulebook.specs.Quotients.{IsQuot}
 use Rattle.lk_rulebook.specs.Shapes.{HasNat, nat, nat_succ}
 use Rattle.lk_rulebook.specs.Formers.{IsFormer}
 use Rattle.lk_rulebook.proofs.Sorts.{former_stays, former_typed, sort_is_no_prop}
-use Rattle.lk_rulebook.specs.Rules.{HasValue, of_def, of_thm, HasType, t_sort, t_local, t_const, t_app, t_lam, t_pi, t_let, t_lit, t_str, t_proj, HasSort, has_sort, IsProp, is_prop, Reduces, r_refl, r_trans, r_head, r_beta, r_zeta, r_delta, r_proj, r_major, r_iota, r_k, r_struct, r_quot_lift, r_quot_ind, r_op, IsDefEq, e_refl, e_reduce, e_sort, e_const, e_app, e_lam, e_pi, e_proj, e_eta_left, e_eta_right, e_struct_left, e_struct_right, e_unit, e_proof, e_zero_left, e_zero_right, e_succ_left, e_succ_right, e_str_left, e_str_right}
+use Rattle.lk_rulebook.specs.Rules.{HasValue, of_def, of_thm, HasType, t_sort, t_local, t_const, t_app, t_lam, t_pi, t_let, t_lit, t_str, t_proj, HasSort, has_sort, IsProposition, is_prop, Reduces, r_refl, r_trans, r_head, r_beta, r_zeta, r_delta, r_proj, r_major, r_iota, r_k, r_struct, r_quot_lift, r_quot_ind, r_op, IsDefEq, e_refl, e_reduce, e_sort, e_const, e_app, e_lam, e_pi, e_proj, e_eta_left, e_eta_right, e_struct_left, e_struct_right, e_unit, e_proof, e_zero_left, e_zero_right, e_succ_left, e_succ_right, e_str_left, e_str_right}
 use Rattle.lk_meaning.specs.Rigid.{Heads, IsApplied, EndsInType, IsDataName, IsDataType, IsRigid}
 
 pub heads_applied : (c : Name) (h : Tree) (xs : List Tree) → Heads c (apply h xs) → Heads c h
@@ -505,7 +505,7 @@ heads_typed s (t_pi i a f) h = absurd h
 heads_typed s (t_let a x q f) h = absurd h
 heads_typed s (t_proj S ls bs i t U T A l g block ind c e d m k n o p q r f v) h = absurd h
 
-pub heads_no_prop : {w : Place} {c : Name} {e A : Tree} → IsRigid w c → HasType w e A → Heads c e → IsProp w A → ⊥
+pub heads_no_prop : {w : Place} {c : Name} {e A : Tree} → IsRigid w c → HasType w e A → Heads c e → IsProposition w A → ⊥
 heads_no_prop s t h (is_prop i z) = data_no_prop i (heads_typed s t h) z
 
 -- a data type that reduces to J applied is J applied

@@ -9,7 +9,7 @@ pub record IsSteady {A : Type 0} (g : ℕ → Outcome A) (budget : ℕ) (v : A) 
   pub enough : (b : ℕ) → c ≤ b → g b ≡ answered v c t
   pub too_little : (b : ℕ) → b < c → g b ≡ spent
 
--- the last unit looked at is below n
+-- the greatest number of a unit that was looked at is below n
 abbrev pub IsBelow : Option ℕ → ℕ → Type 0
 IsBelow None n = Unit {0}
 IsBelow (Some t) n = t < n

@@ -6,7 +6,8 @@ use Rattle.lk_plain.specs.Program.{Program, done, refuse, ask, look}
 use Rattle.lk_tree.specs.RuleNo.{RuleNo}
 use Rattle.lk_plain.specs.Answer.{Outcome, after, and_then, refusal, outcome_of, plain_answer}
 
--- above k paid t s: a question waits for the answer that k goes on with; it paid so much and last looked at t
+-- above k paid t s: a question waits for the answer that k goes on with; it paid so much, and t is the greatest number of a unit
+-- that it looked at
 pub data Stack : Query → Query → Type 0 where
   bottom : {q : Query} → Stack q q
   above : {q asker r : Query} → (AnswerTo q → Program (AnswerTo asker)) → ℕ → Option ℕ → Stack asker r → Stack q r
@@ -16,7 +17,7 @@ abbrev pub finish : (table : (q : Query) → Program (AnswerTo q)) → Place →
 finish table w o left bottom = o
 finish table w o left (above k paid t s) = finish table w (after paid t (and_then o (λ v c. outcome_of w (plain_answer table w) (left - c) (k v)))) (left + paid) s
 
--- the same, where the question on top goes on with p, paid so much and last looked at t
+-- the same, where the question on top goes on with p, paid so much, and t is the greatest number of a unit that it looked at
 abbrev pub goes_on_to : (table : (q : Query) → Program (AnswerTo q)) → Place → {q r : Query} → Program (AnswerTo q) → ℕ → Option ℕ → ℕ → Stack q r → Outcome (AnswerTo r)
 goes_on_to table w p paid t left s = finish table w (after paid t (outcome_of w (plain_answer table w) left p)) (left + paid) s
 

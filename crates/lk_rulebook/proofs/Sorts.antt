@@ -9,7 +9,7 @@ use Rattle.lk_tree.proofs.Binding.{open_fine}
 use Rattle.lk_rulebook.specs.Place.{Place}
 use Rattle.lk_rulebook.specs.Names.{named, op_name}
 use Rattle.lk_rulebook.specs.Formers.{IsFormer, SameFormer}
-use Rattle.lk_rulebook.specs.Rules.{HasType, t_sort, t_local, t_const, t_app, t_lam, t_pi, t_let, t_lit, t_str, t_proj, HasSort, has_sort, IsProp, is_prop, Reduces, r_refl, r_trans, r_head, r_beta, r_zeta, r_delta, r_proj, r_major, r_iota, r_k, r_struct, r_quot_lift, r_quot_ind, r_op, IsDefEq, e_refl, e_reduce, e_sort, e_const, e_app, e_lam, e_pi, e_proj, e_eta_left, e_eta_right, e_struct_left, e_struct_right, e_unit, e_proof, e_zero_left, e_zero_right, e_succ_left, e_succ_right, e_str_left, e_str_right}
+use Rattle.lk_rulebook.specs.Rules.{HasType, t_sort, t_local, t_const, t_app, t_lam, t_pi, t_let, t_lit, t_str, t_proj, HasSort, has_sort, IsProposition, is_prop, Reduces, r_refl, r_trans, r_head, r_beta, r_zeta, r_delta, r_proj, r_major, r_iota, r_k, r_struct, r_quot_lift, r_quot_ind, r_op, IsDefEq, e_refl, e_reduce, e_sort, e_const, e_app, e_lam, e_pi, e_proj, e_eta_left, e_eta_right, e_struct_left, e_struct_right, e_unit, e_proof, e_zero_left, e_zero_right, e_succ_left, e_succ_right, e_str_left, e_str_right}
 
 applied_former : (h : Tree) (xs : List Tree) → IsFormer (apply h xs) → IsFormer h
 applied_former h [] f = f
@@ -65,7 +65,7 @@ sort_of_sort (has_sort {S = S} t r) l e =
     let j : S ≡ sort _ = former_stays r f in
     cc
 
-pub sort_is_no_prop : {w : Place} {A : Tree} → IsProp w A → (l : Level) → A ≡ sort l → ⊥
+pub sort_is_no_prop : {w : Place} {A : Tree} → IsProposition w A → (l : Level) → A ≡ sort l → ⊥
 sort_is_no_prop (is_prop {l = m} h z) l e = succ_not_zero l m (sort_of_sort h l e) z
 
 pi_bound : (A B : Tree) → bound A ≤ bound (pi A B)

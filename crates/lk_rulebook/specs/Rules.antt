@@ -16,7 +16,7 @@ use Rattle.lk_rulebook.specs.Literals.{IsNumeral, IsOperation, IsResult, expansi
 use Rattle.lk_rulebook.specs.Quotients.{IsQuot}
 use Rattle.std.specs.Str.{chars}
 
--- c is a def or thm with this value
+-- the entry is of a def or thm with this value
 pub data HasValue (g : Entry) : Tree → Type 0 where
   of_def : {h : Hint} {v : Tree} → g.kind ≡ a_def h v → HasValue g v
   of_thm : {v : Tree} → g.kind ≡ a_thm v → HasValue g v
@@ -61,8 +61,8 @@ mutual
     has_sort : {A S : Tree} {l : Level} → HasType w A S → Reduces w S (sort l) → HasSort w A l
 
   -- A is a proposition
-  pub data IsProp (w : Place) : Tree → Type 0 where
-    is_prop : {A : Tree} {l : Level} → HasSort w A l → SameLevel l zero_level → IsProp w A
+  pub data IsProposition (w : Place) : Tree → Type 0 where
+    is_prop : {A : Tree} {l : Level} → HasSort w A l → SameLevel l zero_level → IsProposition w A
 
   -- a >> b at w
   pub data Reduces (w : Place) : Tree → Tree → Type 0 where
@@ -135,7 +135,7 @@ mutual
     e_unit : (J : Name) (block : Block) (ind : BlockType) (ctor : Ctor) (ls : List Level) (bs : List Tree) (a b A B : Tree) →
         IsHeadNormal a → IsHeadNormal b → IsUnitLike w J block ind ctor → length bs ≡ ind.parameters →
         HasType w a A → Reduces w A (apply (const J ls) bs) → HasType w b B → IsDefEq w A B → IsDefEq w a b
-    e_proof : {a b A B : Tree} → IsHeadNormal a → IsHeadNormal b → HasType w a A → IsProp w A → HasType w b B → IsDefEq w A B → IsDefEq w a b
+    e_proof : {a b A B : Tree} → IsHeadNormal a → IsHeadNormal b → HasType w a A → IsProposition w A → HasType w b B → IsDefEq w A B → IsDefEq w a b
     e_zero_left : IsDefEq w (lit 0) (named nat_zero)
     e_zero_right : IsDefEq w (named nat_zero) (lit 0)
     e_succ_left : {n : ℕ} {x : Tree} → IsWellFormed (lit (suc n)) → IsDefEq w (lit n) x → IsDefEq w (lit (suc n)) (app (named nat_succ) x)
@@ -159,18 +159,18 @@ mutual
     project : {J : Name} {a x : Tree} {j : ℕ} {xs : List Tree} →
         IsDefEq w (proj J j a) x → AllProject w J a (suc j) xs → AllProject w J a j (x ∷ xs)
 
-  -- r, the constructor's type, with the first n of bs put for its parameters
+  -- T is left of r after n Pis, the first n of bs put in
   pub data PastParameters (w : Place) : List Tree → ℕ → Tree → Tree → Type 0 where
     no_more : {bs : List Tree} {r : Tree} → PastParameters w bs 0 r r
     next : {b : Tree} {bs : List Tree} {n : ℕ} {r A B T : Tree} →
         Reduces w r (pi A B) → PastParameters w bs n (opened B b) T → PastParameters w (b ∷ bs) (suc n) r T
 
   -- A is the domain of field number i of the structure s, where r begins with field number j; in Prop, which is where
-  -- l = 0, the domain is a proposition, and so is each earlier one that a later one rests on
+  -- l = 0, the domain is a proposition, and so is the domain of each earlier one whose variable the rest of the type mentions
   pub data FieldOf (w : Place) : Name → Tree → Level → ℕ → ℕ → Tree → Tree → Type 0 where
     here : {S : Name} {s : Tree} {l : Level} {i : ℕ} {r A B : Tree} →
-        Reduces w r (pi A B) → (SameLevel l zero_level → IsProp w A) →
+        Reduces w r (pi A B) → (SameLevel l zero_level → IsProposition w A) →
         FieldOf w S s l i i r A
     past : {S : Name} {s : Tree} {l : Level} {j i : ℕ} {r A B C : Tree} →
-        Reduces w r (pi A B) → (SameLevel l zero_level → has_var 0 B ≡ true → IsProp w A) →
+        Reduces w r (pi A B) → (SameLevel l zero_level → has_var 0 B ≡ true → IsProposition w A) →
         FieldOf w S s l (suc j) i (opened B (proj S j s)) C → FieldOf w S s l j i r C

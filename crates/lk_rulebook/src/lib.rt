@@ -31,8 +31,8 @@ pub fn formers_stay_apart_behind_steps()
     ensures { (w : Place) (a b F G : Tree) → IsDefEq w a b → RunsTo a F → RunsTo b G → IsFormer F → IsFormer G → SameFormer w F G }
 {}
 
-/// Where no block is given, a tree that equals one that comes to a Sort or a Pi by such steps reduces to a Sort of equal level,
-/// or to a Pi of equal parts.
+/// Where no inductive type or constructor is given: if a == b and a comes to a Sort or a Pi by such steps, b reduces to a Sort
+/// of equal level, or to a Pi of equal parts.
 pub fn equal_trees_come_along()
     ensures { (w : Place) (a b F : Tree) → GivesNoBlock w → IsDefEq w a b → RunsTo a F → IsFormer F → (G : Tree) × Reduces w b G × IsFormer G × SameFormer w F G }
 {}
@@ -44,7 +44,7 @@ pub fn no_new_local()
 {}
 
 /// The scan of a unit gives no rule exactly where its names are new, its level parameters are distinct and declared, and its
-/// trees are closed.
+/// trees are closed and without Locals.
 pub fn scan_decides()
     ensures holds { (us : Library) (n : ℕ) (u : LibraryUnit) → scan_of us n u ≡ None → IsScanned us n u }
     ensures complete { (us : Library) (n : ℕ) (u : LibraryUnit) → IsScanned us n u → scan_of us n u ≡ None }

@@ -3,7 +3,7 @@ use Rattle.std.proofs.Common.{ℕ, zero, suc, ◌≡◌, ◌+◌, inl, inr, Bool
 use Rattle.lk_tree.specs.Tree.{tree_discrete, Name, name_discrete, Tree, var, sort, const, app, lam, pi, let_in, proj, lit, wide, str, local}
 use Rattle.lk_tree.specs.Spine.{apply}
 use Rattle.lk_rulebook.specs.Place.{Ctor}
-use Rattle.lk_rulebook.specs.Structures.{same_name}
+use Rattle.lk_tree.specs.Mentions.{same_name}
 use Rattle.lk_table.specs.Steps.{decided, is_same_tree}
 use Rattle.lk_blocks.specs.BlockSteps.{after_params}
 use Rattle.lk_blocks.specs.Recursors.{rec_name}

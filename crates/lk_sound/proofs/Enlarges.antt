@@ -7,7 +7,7 @@ use Rattle.lk_tree.specs.WellFormed.{IsWellFormed}
 use Rattle.lk_tree.specs.RuleNo.{unknown_constant, block_shape}
 use Rattle.lk_tree.proofs.Binding.{close_fine, close_bound}
 use Rattle.lk_rulebook.specs.Place.{Place, Kind, Block, BlockType, Ctor, a_type}
-use Rattle.lk_rulebook.specs.Structures.{is_one_of}
+use Rattle.lk_tree.specs.Mentions.{is_one_of}
 use Rattle.lk_plain.specs.Program.{Program, done, look, ◌>>=◌}
 use Rattle.lk_plain.specs.Sound.{IsSound, WellStated, IsStated, CtorsStated, TypesStated}
 use Rattle.lk_plain.proofs.Soundness.{sound_bind, sound_map}
@@ -259,7 +259,7 @@ sound_aux_types : (w : Place) (s : Setting) (T₁ : Name) → Ground w s → (n 
 sound_aux_types w s T₁ g zero i as_ all = tt
 sound_aux_types w s T₁ g (suc n) i as_ all = sound_next_aux w s T₁ g (aux_types n s) (sound_aux_types w s T₁ g n) i as_ all (aux_from as_ i) refl
 
--- B4 gives a block that stands for the stated one
+-- the walk of nested occurrences gives a block that stands for the stated one
 pub record Enlarging (w : Place) (s : Setting) (b : Block) (lg : Larger) : Type 0 where
   pub stands_for_it : IsEnlarged w s b lg
   pub own : TypesStated lg.own

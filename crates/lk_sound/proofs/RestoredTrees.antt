@@ -5,7 +5,7 @@ use Rattle.lk_tree.specs.Spine.{apply}
 use Rattle.lk_tree.specs.WellFormed.{IsWellFormedUnder, AllWellFormed}
 use Rattle.lk_tree.proofs.Binding.{fine_more}
 use Rattle.lk_rulebook.specs.Place.{Place, Ctor}
-use Rattle.lk_rulebook.specs.Structures.{same_name}
+use Rattle.lk_tree.specs.Mentions.{same_name}
 use Rattle.lk_table.specs.Steps.{is_same_tree}
 use Rattle.lk_blocks.specs.BlockSteps.{after_params}
 use Rattle.lk_blocks.specs.Nested.{Aux, Setting}
