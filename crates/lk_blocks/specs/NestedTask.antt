@@ -19,7 +19,7 @@ abbrev pub setting_of : Block → List Tree → Setting
 setting_of b ps = record { names = type_names b.types; levels = levels_of b; params = ps }
 
 abbrev pub restoring_of : Block → Setting → Larger → Restoring
-restoring_of b s lg = restoring (all_stand (first_name b.types) 0 lg.auxs) s.params
+restoring_of b s lg = restoring (all_stand (first_name b.types) 0 lg.auxs) s
 
 -- the recursors
 abbrev pub nested_recs : Block → List Rec → Setting → Larger → Shape → Task Shape
