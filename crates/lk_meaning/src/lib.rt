@@ -50,6 +50,8 @@ pub fn yes_is_not_no()
 /// rigid constant at its head, and no Sort or Pi, is a proof of `(P : Prop) -> P`. The stated type of a rigid constant, an axiom
 /// too, ends, as spelled, in a Sort or in a data type (IsDataName).
 pub fn nothing_rigid_proves_falsehood()
+    ensures families { (w : Place) (J : Name) → IsFamily w J → IsRigid w J }
+    ensures choices { (w : Place) (c : Name) → IsChoice w c → IsRigid w c }
     ensures rigid { (w : Place) (c : Name) (e A : Tree) → IsRigid w c → Heads c e → HasType w e A → IsDefEq w A falsehood → ⊥ }
     ensures formers { (w : Place) (e A : Tree) → IsFormer e → HasType w e A → IsDefEq w A falsehood → ⊥ }
 {}

@@ -2,9 +2,10 @@
 #![tactic(auto)]
 
 ghost use Rattle.std.specs.Prelude.{◌≡◌, ℕ, None};
-ghost use Rattle.lk_tree.specs.Tree.{Tree};
+ghost use Rattle.lk_tree.specs.Tree.{Tree, lam, pi};
 ghost use Rattle.lk_tree.specs.WellFormed.{IsWellFormed, LocalsWithin};
 ghost use Rattle.lk_rulebook.specs.Place.{Place};
+ghost use Rattle.lk_rulebook.specs.Binders.{IsLamType, IsPiType};
 ghost use Rattle.lk_rulebook.specs.Formers.{GivesNoBlock, IsFormer, SameFormer};
 ghost use Rattle.lk_rulebook.specs.HeadSteps.{RunsTo};
 ghost use Rattle.lk_rulebook.specs.Stated.{GivesNoLocal};
@@ -35,6 +36,12 @@ pub fn formers_stay_apart_behind_steps()
 /// of equal level, or to a Pi of equal parts.
 pub fn equal_trees_come_along()
     ensures { (w : Place) (a b F : Tree) → GivesNoBlock w → IsDefEq w a b → RunsTo a F → IsFormer F → (G : Tree) × Reduces w b G × IsFormer G × SameFormer w F G }
+{}
+
+/// The type of a lambda or a Pi comes from its parts under a Local that is new in the whole conclusion, in the type too.
+pub fn binders_are_fresh()
+    ensures lambdas { (w : Place) (A b X : Tree) → HasType w (lam A b) X → IsLamType w A b X }
+    ensures pis { (w : Place) (A B X : Tree) → HasType w (pi A B) X → IsPiType w A B X }
 {}
 
 /// The Locals of a type or a reduct are Locals of the tree.
