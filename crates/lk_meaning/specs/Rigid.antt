@@ -3,7 +3,7 @@ use Rattle.std.specs.Prelude.{ℕ, zero, suc, ◌≡◌, List, [], ◌∷◌, So
 use Rattle.lk_tree.specs.Tree.{Name, Level, Tree, sort, const, app, lam, pi, lit}
 use Rattle.lk_tree.specs.Level.{level_value}
 use Rattle.lk_rulebook.specs.Place.{Place, Entry, Block, BlockType, Ctor, Recursor, a_type, a_rec, a_quot}
-use Rattle.lk_rulebook.specs.Structures.{IsStructure}
+use Rattle.lk_rulebook.specs.Structures.{Structure}
 use Rattle.lk_rulebook.specs.Names.{nat_zero, nat_succ}
 use Rattle.lk_rulebook.specs.Rules.{HasValue, SameLevels, IsDefEq}
 
@@ -56,7 +56,7 @@ pub record IsRigid (w : Place) (c : Name) : Type 0 where
   pub no_recursor : (r : Recursor) → entry.kind ≡ a_rec r → ⊥
   pub no_quotient : entry.kind ≡ a_quot → ⊥
   pub type : IsDataType w entry.type
-  pub no_structure : (J : Name) (b : Block) (ind : BlockType) (ctor : Ctor) → IsStructure w J c b ind ctor → ⊥
+  pub no_structure : (S : Structure w) → S.ctor_name ≡ c → ⊥
 
 -- one constant at equal levels, applied to arguments that are equal pair by pair
 pub data SameSpine (w : Place) : Tree → Tree → Type 0 where

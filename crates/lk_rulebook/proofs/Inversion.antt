@@ -1,8 +1,8 @@
 -- The type of a lambda, and of a Pi, comes by their rules alone.
-use Rattle.std.proofs.Common.{ℕ, ◌≡◌, refl, sym}
-use Rattle.lk_tree.specs.Tree.{Level, imax_level, Tree, sort, lam, pi}
+use Rattle.std.proofs.Common.{refl}
+use Rattle.lk_tree.specs.Tree.{Tree, lam, pi}
 use Rattle.lk_rulebook.specs.Place.{Place}
-use Rattle.lk_rulebook.specs.Rules.{HasType, t_sort, t_local, t_const, t_app, t_lam, t_pi, t_let, t_lit, t_str, t_proj}
+use Rattle.lk_rulebook.specs.Rules.{HasType, t_lam, t_pi}
 use Rattle.lk_rulebook.specs.Binders.{IsLamType, IsPiType}
 
 pub lam_typed : {w : Place} {A b X : Tree} → HasType w (lam A b) X → IsLamType w A b X

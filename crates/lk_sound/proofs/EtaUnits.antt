@@ -23,7 +23,7 @@ empty_structure : (w : Place) (J : Name) (g : Entry) → w.means J ≡ Some g �
 empty_structure w J g m block t k (c ∷ []) e ls bs h a b A B na nb ha r hb q =
     let both : ((is_structure_like block t c && nat_eq c.fields 0) ≡ true) × (nat_eq (length bs) t.parameters ≡ true) = halves (is_structure_like block t c && nat_eq c.fields 0) (nat_eq (length bs) t.parameters) h in
     let more : (is_structure_like block t c ≡ true) × (nat_eq c.fields 0 ≡ true) = halves (is_structure_like block t c) (nat_eq c.fields 0) both.0 in
-    e_unit J block t c ls bs a b A B na nb (record { one_ctor = e; like = more.0; no_fields = equal_numbers c.fields 0 more.1; entry = g; given = m; kind = k }) (equal_numbers (length bs) t.parameters both.1) ha r hb q
+    e_unit (record { name = J; block = block; ind = t; ctor = c; one_ctor = e; like = more.0; no_fields = equal_numbers c.fields 0 more.1; entry = g; given = m; kind = k }) ls bs a b A B na nb (equal_numbers (length bs) t.parameters both.1) ha r hb q
 empty_structure w J g m block t k [] e ls bs h a b A B na nb ha r hb q = absurd cc
 empty_structure w J g m block t k (c ∷ d ∷ cs) e ls bs h a b A B na nb ha r hb q = absurd cc
 

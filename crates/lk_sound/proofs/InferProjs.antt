@@ -129,8 +129,7 @@ sound_struct w ok S i s T fs hT wT ls eT g mg block ind kg (c ∷ []) ec =
     (sound_past w s (args T) ind.parameters r fargs (λ k U m. wT k U (rw (← eT) (local_of_arg k U (const S ls) (args T) m))) kr)
     (λ u hu. sound_map w (field_type S s (is_zero_level l) 0 i u) (λ A. FieldOf w S s l 0 i u A × LocalsWithin s A) (IsJustified w (infer (proj S i s)))
     (λ A hA. (
-      t_proj S ls (args T) i s hT.between u A l g block ind c hT.types (rw eT hT.reduces) mg kg
-          (count_is (args T) ind c i t) ec er.1 (below_is (args T) ind c i t) (rw eT hl) (rw er.0 at hu.0) hA.0,
+      t_proj S ls (args T) i s hT.between u A l (record { entry = g; block = block; ind = ind; ctor = c; given = mg; kind = kg; args_are = count_is (args T) ind c i t; one_ctor = ec; levels_are = er.1 }) hT.types (rw eT hT.reduces) (below_is (args T) ind c i t) (rw eT hl) (rw er.0 at hu.0) hA.0,
       hA.1,
     ))
     (sound_field w S s fs l 0 i i u (omega arith) hu.1)))))

@@ -330,15 +330,17 @@ expands w ok R js front im fh r er m T hT wT k j ls eT like yes_count l hl nz =
     let ps : List Tree = projections k.ind.name m 0 k.ctor.fields in
     record {
       goes = (
-        r_struct R k.ind.name k.name k.block k.ind k.ctor js ls front (args T) m hT.between im j.rule (rw er j.one) j.named fh
-            (record {
-              one_ctor = the_ctor k.ctor k.ind.ctors t.0 (listed_of k.entry k.block k.ind k.ctor j.kind (ok k.name k.entry j.given).1);
-              like = t.1;
-              entry = k.entry;
-              given = j.given;
-              kind = j.kind;
-              parent = refl;
-            }) count hT.types (rw eT hT.reduces) (not_prop {l = l} (rw eT hl) (not_zero_level l nz)),
+        r_struct R (record {
+          ctor_name = k.name;
+          block = k.block;
+          ind = k.ind;
+          ctor = k.ctor;
+          one_ctor = the_ctor k.ctor k.ind.ctors t.0 (listed_of k.entry k.block k.ind k.ctor j.kind (ok k.name k.entry j.given).1);
+          like = t.1;
+          entry = k.entry;
+          given = j.given;
+          kind = j.kind;
+        }) js ls front (args T) m hT.between im j.rule (rw er j.one) j.named fh count hT.types (rw eT hT.reduces) (not_prop {l = l} (rw eT hl) (not_zero_level l nz)),
         λ k' T'. elim [
           | inl x ↦ inl x
           | inr x ↦ inr (within_applied m (const k.name ls) (args T ++ ps) (λ i S h. absurd h)

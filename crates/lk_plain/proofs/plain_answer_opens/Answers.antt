@@ -1,5 +1,3 @@
-use Rattle.std.proofs.Common.{refl}
-use Rattle.lk_plain.specs.Answer.{answer_to_depth}
 use Rattle.lk_plain.proofs.Budgets.{ans_suc, ans_zero}
 use Rattle.lk_plain.proofs.plain_answer_opens.Goals as goal
 
