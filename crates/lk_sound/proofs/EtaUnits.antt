@@ -17,20 +17,20 @@ use Rattle.lk_sound.proofs.Goes.{sound_if}
 use Rattle.lk_sound.proofs.Lines.{IfAnswers, SoundLine, sound_answers}
 
 -- two of a type J ls bs that has no fields are equal
-empty_structure : (w : Place) (J : Name) (g : Entry) → w.means J ≡ Some g → (block : Block) (t : BlockType) → g.kind ≡ a_type block t →
+unit_like_equal : (w : Place) (J : Name) (g : Entry) → w.means J ≡ Some g → (block : Block) (t : BlockType) → g.kind ≡ a_type block t →
     (cs : List Ctor) → t.ctors ≡ cs → (ls : List Level) (bs : List Tree) → is_unit_like block t cs bs ≡ true →
     (a b A B : Tree) → IsHeadNormal a → IsHeadNormal b → HasType w a A → Reduces w A (apply (const J ls) bs) → HasType w b B → IsDefEq w A B → IsDefEq w a b
-empty_structure w J g m block t k (c ∷ []) e ls bs h a b A B na nb ha r hb q =
+unit_like_equal w J g m block t k (c ∷ []) e ls bs h a b A B na nb ha r hb q =
     let both : ((is_structure_like block t c && nat_eq c.fields 0) ≡ true) × (nat_eq (length bs) t.parameters ≡ true) = halves (is_structure_like block t c && nat_eq c.fields 0) (nat_eq (length bs) t.parameters) h in
     let more : (is_structure_like block t c ≡ true) × (nat_eq c.fields 0 ≡ true) = halves (is_structure_like block t c) (nat_eq c.fields 0) both.0 in
     e_unit (record { name = J; block = block; ind = t; ctor = c; one_ctor = e; like = more.0; no_fields = equal_numbers c.fields 0 more.1; entry = g; given = m; kind = k }) ls bs a b A B na nb (equal_numbers (length bs) t.parameters both.1) ha r hb q
-empty_structure w J g m block t k [] e ls bs h a b A B na nb ha r hb q = absurd cc
-empty_structure w J g m block t k (c ∷ d ∷ cs) e ls bs h a b A B na nb ha r hb q = absurd cc
+unit_like_equal w J g m block t k [] e ls bs h a b A B na nb ha r hb q = absurd cc
+unit_like_equal w J g m block t k (c ∷ d ∷ cs) e ls bs h a b A B na nb ha r hb q = absurd cc
 
-empty_at : (w : Place) (J : Name) (g : Entry) → w.means J ≡ Some g → (k : Kind) → g.kind ≡ k → (ls : List Level) (bs : List Tree) → is_unit_like_at k bs ≡ true →
+unit_like_equal_at : (w : Place) (J : Name) (g : Entry) → w.means J ≡ Some g → (k : Kind) → g.kind ≡ k → (ls : List Level) (bs : List Tree) → is_unit_like_at k bs ≡ true →
     (a b A B : Tree) → IsHeadNormal a → IsHeadNormal b → HasType w a A → Reduces w A (apply (const J ls) bs) → HasType w b B → IsDefEq w A B → IsDefEq w a b
-empty_at w J g m (a_type block t) k ls bs h a b A B na nb ha r hb q = empty_structure w J g m block t k t.ctors refl ls bs h a b A B na nb ha r hb q
-empty_at w J g m _ k ls bs h a b A B na nb ha r hb q = absurd cc
+unit_like_equal_at w J g m (a_type block t) k ls bs h a b A B na nb ha r hb q = unit_like_equal w J g m block t k t.ctors refl ls bs h a b A B na nb ha r hb q
+unit_like_equal_at w J g m _ k ls bs h a b A B na nb ha r hb q = absurd cc
 
 sound_eta_unit : (w : Place) (a b A : Tree) → IsHeadNormal a → IsHeadNormal b → IsWellFormed b → HasType w a A → (h : Tree) (bs : List Tree) → Reduces w A (apply h bs) → SoundLine w (eta_unit a b A h bs) (IsDefEq w a b)
 sound_eta_unit w a b A na nb fb ha (const J ls) bs r = λ g m.
@@ -39,7 +39,7 @@ sound_eta_unit w a b A na nb fb ha (const J ls) bs r = λ g m.
       fb,
       λ B mB. sound_answers w (asked (same A B)) (IsDefEq w a b) (
         ((well_formed_of_type ha).1, (well_formed_of_type mB.0).1),
-        λ e q. if_yes_map e (λ c. empty_at w J g m g.kind refl ls bs t a b A B na nb ha r mB.0 c) q,
+        λ e q. if_yes_map e (λ c. unit_like_equal_at w J g m g.kind refl ls bs t a b A B na nb ha r mB.0 c) q,
       ),
     ))
     (λ t. tt)

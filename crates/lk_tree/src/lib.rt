@@ -1,13 +1,15 @@
 // Names, levels and trees as plain definitions, with what binding does to them.
 #![tactic(auto)]
 
-ghost use Rattle.std.specs.Prelude.{◌≡◌, ◌≤◌, ◌<◌, ◌^◌, ℕ, true, false, List, [], ◌∷◌, Some, None};
+ghost use Rattle.std.specs.Prelude.{◌≡◌, ◌≤◌, ◌<◌, ◌+◌, ◌^◌, ℕ, true, false, List, [], ◌∷◌, length, Some, None};
 ghost use Rattle.std.specs.Int.{IsGcd};
 ghost use Rattle.lk_tree.specs.Operations.{gcd, log2, number, op_value, IsLog};
 ghost use Rattle.lk_tree.specs.Tree.{Name, Level, zero_level, Tree};
 ghost use Rattle.lk_tree.specs.Level.{SameLevel, AtMost, is_zero_level};
 ghost use Rattle.lk_tree.specs.LevelTest.{level_le, level_test, width};
-ghost use Rattle.lk_tree.specs.Bind.{opened};
+ghost use Rattle.lk_tree.specs.Bind.{opened, open_at};
+ghost use Rattle.lk_tree.specs.Loose.{loose};
+ghost use Rattle.lk_tree.specs.Putting.{put_at};
 ghost use Rattle.lk_tree.specs.WellFormed.{IsWellFormed, IsWellFormedUnder, IsStated};
 ghost use Rattle.lk_tree.specs.Scan.{is_bound, is_narrow, NoneTwice, none_twice, TreeOver, tree_over};
 
@@ -38,6 +40,13 @@ pub fn zero_test_decides()
 #[tactic(auto, using(crate::proofs::Binding::open_fine))]
 pub fn opened_is_fine()
     ensures { (b v : Tree) → IsWellFormedUnder 1 b → IsWellFormed v → IsWellFormed (opened b v) }
+{}
+
+/// Several values are put as a tree is opened with each in turn, the first for the outermost variable: past the variables that
+/// are left for the others.
+pub fn putting_opens_in_turn()
+    ensures none { (d : ℕ) (b : Tree) → put_at [] d b ≡ b }
+    ensures more { (v : Tree) (vs : List Tree) (d : ℕ) (b : Tree) → loose v ≡ 0 → put_at (v ∷ vs) d b ≡ put_at vs d (open_at (d + length vs) v b) }
 {}
 
 /// The greatest common divisor and the binary logarithm, which are computed in a bounded number of rounds, are right for
