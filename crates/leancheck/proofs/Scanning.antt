@@ -8,7 +8,7 @@ use Rattle.lk_tree.specs.Scan.{is_bound, is_narrow, tree_over}
 use Rattle.lk_tree.specs.RuleNo.{RuleNo, duplicate_name, duplicate_level, loose_variable, undeclared_level, wide_literal}
 use Rattle.lk_tree.proofs.Scans.{and_true}
 use Rattle.lk_rulebook.specs.Place.{Entry, a_thm}
-use Rattle.lk_rulebook.specs.Structures.{is_one_of}
+use Rattle.lk_tree.specs.Mentions.{is_one_of}
 use Rattle.lk_rulebook.specs.Units.{Library, members_of, first_of_two, at_unit, first_giving, first_broken}
 use Rattle.lk_rulebook.specs.Scan.{is_none, are_new, own_scan, scan_of}
 use Rattle.lk_verdict.specs.GoodUnit.{IsClearLibrary}

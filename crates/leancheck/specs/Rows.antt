@@ -4,7 +4,7 @@ use Rattle.lk_tree.specs.Tree.{Name}
 use Rattle.lk_tree.specs.Loose.{loose}
 use Rattle.lk_tree.specs.RuleNo.{duplicate_name, loose_variable}
 use Rattle.lk_rulebook.specs.Place.{Place}
-use Rattle.lk_rulebook.specs.Structures.{is_one_of}
+use Rattle.lk_tree.specs.Mentions.{is_one_of}
 use Rattle.lk_rulebook.specs.Units.{place_of}
 use Rattle.lk_plain.specs.Answer.{Outcome, outcome_of, plain_answer}
 use Rattle.lk_table.specs.Declarations.{unit_steps}

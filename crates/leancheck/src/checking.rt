@@ -2,7 +2,7 @@
 
 ghost use Rattle.std.specs.Prelude.{◌≡◌, ◌<◌, ◌^◌, ℕ, List, length, map, take, All, IfOk, true};
 ghost use Rattle.lk_rulebook.specs.Place.{Place};
-ghost use Rattle.lk_rulebook.specs.Structures.{is_one_of};
+ghost use Rattle.lk_tree.specs.Mentions.{is_one_of};
 ghost use Rattle.lk_book.specs.Theorems.{Theorem, units_of, AllBuilt};
 ghost use Rattle.leancheck.specs.Rows.{names_of, questions_of, is_closed, row_verdict};
 ghost use Rattle.lk_verdict.specs.Told.{AreVerdicts};

@@ -6,7 +6,7 @@ use Rattle.lk_tree.specs.Bind.{opened}
 use Rattle.lk_tree.specs.Spine.{head, args}
 use Rattle.lk_tree.specs.RuleNo.{RuleNo, block_shape, unknown_constant, nested_form}
 use Rattle.lk_rulebook.specs.Place.{Place, Entry, Kind, Block, BlockType, Ctor, a_type}
-use Rattle.lk_rulebook.specs.Structures.{same_name, is_one_of}
+use Rattle.lk_tree.specs.Mentions.{same_name, is_one_of}
 use Rattle.lk_plain.specs.Query.{Query, AnswerTo}
 use Rattle.lk_plain.specs.Program.{Program, done, refuse, ask, look, ◌>>=◌}
 use Rattle.lk_plain.specs.Answer.{Outcome, answered, refused, spent, and_then, IfAnswered, outcome_of}
@@ -191,7 +191,7 @@ own_types_grow s (t ∷ ts) as_ l =
 abbrev pub enlarge_by : ℕ → Setting → List BlockType → Program Larger
 enlarge_by n s ts = own_types s ts [] >>= λ own. aux_types n s 0 own.1 >>= λ aux. done (record { own = own.0; aux = aux.0; auxs = aux.1 })
 
--- B4 under a budget does not depend on a number above 1,024
+-- what is asked of nested occurrences under a budget does not depend on a number above 1,024
 pub same_enlarge : (w : Place) (f : (q : Query) → ℕ → Outcome (AnswerTo q)) (most n : ℕ) (s : Setting) (ts : List BlockType) → 1025 ≤ n → Same w f most (enlarge s ts) (enlarge_by n s ts)
 same_enlarge w f most n s ts h =
     same_after w f most (own_types s ts []) (Grows []) _ _ (own_types_grow s ts [] (omega arith))

@@ -4,7 +4,7 @@ use Rattle.lk_tree.specs.Tree.{Name, Tree, pi, local}
 use Rattle.lk_tree.specs.Bind.{opened}
 use Rattle.lk_tree.specs.RuleNo.{RuleNo, field_universe, block_shape, not_positive}
 use Rattle.lk_rulebook.specs.Place.{Place, Block, BlockType, Ctor}
-use Rattle.lk_rulebook.specs.Structures.{mentions}
+use Rattle.lk_tree.specs.Mentions.{mentions}
 use Rattle.lk_plain.specs.Query.{Query, AnswerTo, whnf}
 use Rattle.lk_plain.specs.Program.{Table, Program, done, refuse, ask, look, asked, ◌>>=◌}
 use Rattle.lk_plain.specs.Answer.{Outcome, answered, refused, spent, after, and_then, IfAnswered, outcome_of, answer_to_depth, plain_answer}
@@ -117,7 +117,7 @@ same_shapes w f cost most m n lm ln F (t ∷ ts) (x ∷ xs) =
     same_bind w f most (ctors_steps m F t.name t.ctors) (ctors_steps n F t.name t.ctors) _ _ (same_ctors w f cost most m n lm ln F t.name t.ctors)
     (λ c. same_bind w f most (shapes_steps m F ts xs) (shapes_steps n F ts xs) _ _ (same_shapes w f cost most m n lm ln F ts xs) (λ ss left small. refl))
 
--- B5 and B6 under a budget do not depend on numbers above it
+-- the checks of constructors and of large elimination under a budget do not depend on fuel above it
 pub same_shape : (w : Place) (f : (q : Query) → ℕ → Outcome (AnswerTo q)) → Costs f → (most m n : ℕ) → most < m → most < n → (b : Block) (v : TypeParts) → Same w f most (shape_steps m b v) (shape_steps n b v)
 same_shape w f cost most m n lm ln b v =
     same_bind w f most (shapes_steps m (frame_of b v.params v.sort) b.types v.indices) (shapes_steps n (frame_of b v.params v.sort) b.types v.indices) _ _

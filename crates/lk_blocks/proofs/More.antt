@@ -4,14 +4,14 @@ use Rattle.lk_tree.specs.Tree.{Name, Level, Tree, const}
 use Rattle.lk_tree.specs.Levels.{put_levels}
 use Rattle.lk_tree.specs.WellFormed.{IsWellFormed}
 use Rattle.lk_rulebook.specs.Place.{Place, Entry, Block, BlockType, Ctor, Recursor, RecRule, a_quot, a_type, a_ctor, a_rec}
-use Rattle.lk_rulebook.specs.Structures.{IsRuleOf, IsStructure, IsUnitLike, IsMajor, IsIota, IsKRecursor}
+use Rattle.lk_rulebook.specs.Structures.{IsRuleOf, Structure, UnitLike, IsProjectable, IsMajor, IsIota, IsKRecursor}
 use Rattle.lk_rulebook.specs.Names.{nat, string, bool_name, op_name, quot_mk, quot_lift, quot_ind}
 use Rattle.lk_rulebook.specs.Shapes.{Given, AllGiven, HasNat, HasString}
 use Rattle.lk_rulebook.specs.Literals.{may_give, IsOperation, IsResult, a_number, a_truth, expansion_names, Expands, ReadsText, as_it_is, as_text, Reads, by_text, as_zero, as_succ}
 use Rattle.lk_rulebook.specs.Quotients.{IsQuot}
 use Rattle.lk_tree.specs.Operations.{Op, succ, Value}
 use Rattle.std.specs.Str.{chars}
-use Rattle.lk_rulebook.specs.Rules.{HasValue, of_def, of_thm, HasType, t_sort, t_local, t_const, t_app, t_lam, t_pi, t_let, t_lit, t_str, t_proj, HasSort, has_sort, IsProp, is_prop, Reduces, r_refl, r_trans, r_head, r_beta, r_zeta, r_delta, r_proj, r_major, r_iota, r_k, r_struct, r_quot_lift, r_quot_ind, r_op, IsDefEq, e_refl, e_reduce, e_sort, e_const, e_app, e_lam, e_pi, e_proj, e_eta_left, e_eta_right, e_struct_left, e_struct_right, e_unit, e_proof, e_zero_left, e_zero_right, e_succ_left, e_succ_right, e_str_left, e_str_right, Numerals, no_more_numerals, numeral, IsNotProp, not_prop, AllProject, no_more_fields, project, PastParameters, no_more, next, FieldOf, here, past}
+use Rattle.lk_rulebook.specs.Rules.{HasValue, of_def, of_thm, HasType, t_sort, t_local, t_const, t_app, t_lam, t_pi, t_let, t_lit, t_str, t_proj, HasSort, has_sort, IsProposition, is_prop, Reduces, r_refl, r_trans, r_head, r_beta, r_zeta, r_delta, r_proj, r_major, r_iota, r_k, r_struct, r_quot_lift, r_quot_ind, r_op, IsDefEq, e_refl, e_reduce, e_sort, e_const, e_app, e_lam, e_pi, e_proj, e_eta_left, e_eta_right, e_struct_left, e_struct_right, e_unit, e_proof, e_zero_left, e_zero_right, e_succ_left, e_succ_right, e_str_left, e_str_right, Numerals, no_more_numerals, numeral, IsNotProp, not_prop, AllProject, no_more_fields, project, PastParameters, no_more, next, FieldOf, here, past}
 use Rattle.lk_blocks.specs.Grows.{IsWithin}
 
 -- what is no recursor without rules is kept as it is
@@ -196,24 +196,44 @@ major_kept w w' i R front h rule one = record {
   front_is = h.front_is;
 }
 
-more_structure : (w w' : Place) → IsWithin w w' → (J c : Name) (block : Block) (ind : BlockType) (ctor : Ctor) → IsStructure w J c block ind ctor → IsStructure w' J c block ind ctor
-more_structure w w' i J c block ind ctor h = record {
+abbrev more_structure : (w w' : Place) → IsWithin w w' → Structure w → Structure w'
+more_structure w w' i h = record {
+  ctor_name = h.ctor_name;
+  entry = h.entry;
+  block = h.block;
+  ind = h.ind;
+  ctor = h.ctor;
+  given = ctor_kept w w' i h.ctor_name h.entry h.block h.ind h.ctor h.given h.kind;
+  kind = h.kind;
   one_ctor = h.one_ctor;
   like = h.like;
-  entry = h.entry;
-  given = ctor_kept w w' i c h.entry block ind ctor h.given h.kind;
-  kind = h.kind;
-  parent = h.parent;
 }
 
-more_unit : (w w' : Place) → IsWithin w w' → (J : Name) (block : Block) (ind : BlockType) (ctor : Ctor) → IsUnitLike w J block ind ctor → IsUnitLike w' J block ind ctor
-more_unit w w' i J block ind ctor h = record {
+abbrev more_unit : (w w' : Place) → IsWithin w w' → UnitLike w → UnitLike w'
+more_unit w w' i h = record {
+  name = h.name;
+  entry = h.entry;
+  block = h.block;
+  ind = h.ind;
+  ctor = h.ctor;
+  given = type_kept w w' i h.name h.entry h.block h.ind h.given h.kind;
+  kind = h.kind;
   one_ctor = h.one_ctor;
   like = h.like;
   no_fields = h.no_fields;
+}
+
+abbrev more_projectable : (w w' : Place) → IsWithin w w' → (S : Name) (ls : List Level) (bs : List Tree) → IsProjectable w S ls bs → IsProjectable w' S ls bs
+more_projectable w w' i S ls bs h = record {
   entry = h.entry;
-  given = type_kept w w' i J h.entry block ind h.given h.kind;
+  block = h.block;
+  ind = h.ind;
+  ctor = h.ctor;
+  given = type_kept w w' i S h.entry h.block h.ind h.given h.kind;
   kind = h.kind;
+  args_are = h.args_are;
+  one_ctor = h.one_ctor;
+  levels_are = h.levels_are;
 }
 
 mutual
@@ -230,13 +250,13 @@ mutual
   more_type w w' i (t_let a v q f) = t_let (more_sort w w' i a) (more_type w w' i v) (more_equal w w' i q) (more_type w w' i f)
   more_type w w' i (t_lit h n) = t_lit (more_nat w w' i h) n
   more_type w w' i (t_str h) = t_str (more_string w w' i h)
-  more_type w w' i (t_proj S ls bs n s U T A l g block ind c hs r m k nl one nb lt ht p f) =
-      t_proj S ls bs n s U T A l g block ind c (more_type w w' i hs) (more_reduct w w' i r) (type_kept w w' i S g block ind m k) k nl one nb lt (more_sort w w' i ht) (more_past w w' i p) (more_field w w' i f)
+  more_type w w' i (t_proj S ls bs n s U T A l pj hs r lt ht p f) =
+      t_proj S ls bs n s U T A l (more_projectable w w' i S ls bs pj) (more_type w w' i hs) (more_reduct w w' i r) lt (more_sort w w' i ht) (more_past w w' i p) (more_field w w' i f)
 
   pub more_sort : (w w' : Place) → IsWithin w w' → {A : Tree} {l : Level} → HasSort w A l → HasSort w' A l
   more_sort w w' i (has_sort t r) = has_sort (more_type w w' i t) (more_reduct w w' i r)
 
-  pub more_prop : (w w' : Place) → IsWithin w w' → {A : Tree} → IsProp w A → IsProp w' A
+  pub more_prop : (w w' : Place) → IsWithin w w' → {A : Tree} → IsProposition w A → IsProposition w' A
   more_prop w w' i (is_prop h z) = is_prop (more_sort w w' i h) z
 
   pub more_reduct : (w w' : Place) → IsWithin w w' → {a b : Tree} → Reduces w a b → Reduces w' a b
@@ -252,8 +272,8 @@ mutual
   more_reduct w w' i (r_iota R c ls ks front xs result h f g) = r_iota R c ls ks front xs result (more_iota w w' i R c ls front xs result h) f g
   more_reduct w w' i (r_k R J c ls ks front bs rest e T D k he p hd q f) =
       r_k R J c ls ks front bs rest e T D (more_k w w' i R J c front bs k) (more_type w w' i he) (more_reduct w w' i p) (more_type w w' i hd) (more_equal w w' i q) f
-  more_reduct w w' i (r_struct R J c block ind ctor js ls front bs m T h rule one named f s n t p o) =
-      r_struct R J c block ind ctor js ls front bs m T (major_kept w w' i R front h rule one) rule one named f (more_structure w w' i J c block ind ctor s) n (more_type w w' i t) (more_reduct w w' i p) (more_no_proof w w' i o)
+  more_reduct w w' i (r_struct R s js ls front bs m T h rule one named f n t p o) =
+      r_struct R (more_structure w w' i s) js ls front bs m T (major_kept w w' i R front h rule one) rule one named f n (more_type w w' i t) (more_reduct w w' i p) (more_no_proof w w' i o)
   more_reduct w w' i (r_quot_lift ls ks q m f p) = r_quot_lift ls ks (more_quot w w' i quot_lift q) (more_quot w w' i quot_mk m) f (more_reduct w w' i p)
   more_reduct w w' i (r_quot_ind ls ks q m f p) = r_quot_ind ls ks (more_quot w w' i quot_ind q) (more_quot w w' i quot_mk m) f (more_reduct w w' i p)
   more_reduct w w' i (r_op op es ns r o h s x) = r_op op es ns r (more_operation w w' i op o) (more_nat w w' i h) (more_numerals w w' i s) (more_result w w' i x)
@@ -269,12 +289,12 @@ mutual
   more_equal w w' i (e_proj p) = e_proj (more_equal w w' i p)
   more_equal w w' i (e_eta_left v t p q) = e_eta_left v (more_type w w' i t) (more_reduct w w' i p) (more_equal w w' i q)
   more_equal w w' i (e_eta_right v t p q) = e_eta_right v (more_type w w' i t) (more_reduct w w' i p) (more_equal w w' i q)
-  more_equal w w' i (e_struct_left J c block ind ctor ks ps xs a A B v s n m ha hb q p) =
-      e_struct_left J c block ind ctor ks ps xs a A B v (more_structure w w' i J c block ind ctor s) n m (more_type w w' i ha) (more_type w w' i hb) (more_equal w w' i q) (more_project w w' i p)
-  more_equal w w' i (e_struct_right J c block ind ctor ks ps xs a A B v s n m ha hb q p) =
-      e_struct_right J c block ind ctor ks ps xs a A B v (more_structure w w' i J c block ind ctor s) n m (more_type w w' i ha) (more_type w w' i hb) (more_equal w w' i q) (more_project w w' i p)
-  more_equal w w' i (e_unit J block ind ctor ls bs a b A B u v s n ha r hb q) =
-      e_unit J block ind ctor ls bs a b A B u v (more_unit w w' i J block ind ctor s) n (more_type w w' i ha) (more_reduct w w' i r) (more_type w w' i hb) (more_equal w w' i q)
+  more_equal w w' i (e_struct_left s ks ps xs a A B v n m ha hb q p) =
+      e_struct_left (more_structure w w' i s) ks ps xs a A B v n m (more_type w w' i ha) (more_type w w' i hb) (more_equal w w' i q) (more_project w w' i p)
+  more_equal w w' i (e_struct_right s ks ps xs a A B v n m ha hb q p) =
+      e_struct_right (more_structure w w' i s) ks ps xs a A B v n m (more_type w w' i ha) (more_type w w' i hb) (more_equal w w' i q) (more_project w w' i p)
+  more_equal w w' i (e_unit s ls bs a b A B u v n ha r hb q) =
+      e_unit (more_unit w w' i s) ls bs a b A B u v n (more_type w w' i ha) (more_reduct w w' i r) (more_type w w' i hb) (more_equal w w' i q)
   more_equal w w' i (e_proof u v a p b q) = e_proof u v (more_type w w' i a) (more_prop w w' i p) (more_type w w' i b) (more_equal w w' i q)
   more_equal w w' i e_zero_left = e_zero_left
   more_equal w w' i e_zero_right = e_zero_right

@@ -61,7 +61,7 @@ same_then places f most p q k l s t = record {
       and_then_same (run_task places f h left q) (λ v c. run_task places f v.1 (left - c) (k v.0)) (λ v c. run_task places f v.1 (left - c) (l v.0)) (λ v c. (t v.0).agrees v.1 (left - c) (omega arith)) in cc;
 }
 
--- B5 to B7 do not depend on numbers above the budget
+-- the checks from the constructors on do not depend on fuel above the budget
 same_nested_shape : (places : Members → Place) (f : Place → (q : Query) → ℕ → Outcome (AnswerTo q)) → ((w : Place) → Costs (f w)) →
     (most m n : ℕ) → most < m → most < n → (b : Block) (stated : List Rec) (ts : TypeParts) (lg : Larger) → SameTask places f most (nested_shape m b stated ts lg) (nested_shape n b stated ts lg)
 same_nested_shape places f cost most m n lm ln b stated ts lg =

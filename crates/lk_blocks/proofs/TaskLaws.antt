@@ -10,7 +10,7 @@ use Rattle.lk_plain.proofs.Agreement.{later_below}
 use Rattle.lk_plain.proofs.Renamed.{Renaming, Alike, SameContents, alike_then, alike_found}
 use Rattle.lk_blocks.specs.Task.{Task, done_with, stopped, asking, looking, half, run_task}
 
--- where the other places give all that units below n give at these, a check whose last unit looked at is below n ends the same
+-- where the other places give all that units below n give at these, a check that looked at units below n alone ends the same
 pub task_keeps : {A : Type 0} (n : ℕ) (places places' : Members → Place) → ((h : Members) → Keeps n (places h) (places' h)) →
     (f : Place → (q : Query) → ℕ → Outcome (AnswerTo q)) → ((h : Members) (q : Query) (b : ℕ) → IfAnswered (f (places h) q b) (λ v c t. IsBelow t n → f (places' h) q b ≡ answered v c t)) →
     (h : Members) (p : Task A) (b : ℕ) → IfAnswered (run_task places f h b p) (λ v c t. IsBelow t n → run_task places' f h b p ≡ answered v c t)
@@ -45,7 +45,7 @@ ReadsTask r places h (asking q k) Q = r.may_ask q × ((v : AnswerTo q) → r.may
 ReadsTask r places h (looking n c k) Q = r.may_read c × ((e : Entry) → (places h).means c ≡ Some e → ReadsTask r places h (k e) Q)
 ReadsTask r places h (half ms t) Q = ReadsTask r places (h ++ ms) t Q
 
--- places that give the same contents for each name that may be read give one outcome, but for the last unit looked at
+-- places that give the same contents for each name that may be read give one outcome, but for the units looked at
 pub task_alike : {A : Type 0} (r : Renaming) (places places' : Members → Place) → ((h : Members) → SameContents r (places h) (places' h)) →
     (f g : Place → (q : Query) → ℕ → Outcome (AnswerTo q)) → ((h : Members) (q : Query) (b : ℕ) → r.may_ask q → Alike (r.may_get q) (f (places h) q b) (g (places' h) q b)) →
     (h : Members) (p : Task A) (Q : A × Members → Type 0) (b : ℕ) → ReadsTask r places h p Q → Alike Q (run_task places f h b p) (run_task places' g h b p)

@@ -16,7 +16,7 @@ use Rattle.lk_blocks.specs.Block.{Shape, recursive}
 use Rattle.lk_blocks.specs.BlockSteps.{shape_steps}
 use Rattle.lk_blocks.specs.Recursors.{rec_name, motive_level, Rec, recursors_by}
 use Rattle.lk_blocks.specs.Nested.{Aux, Setting, Larger, larger_block, aux_name, aux_ctor, enlarge, bare_entries}
-use Rattle.lk_blocks.specs.Restore.{rec_numbered, all_stand, restoring}
+use Rattle.lk_blocks.specs.Restore.{rec_numbered, all_stand, restore, restoring}
 use Rattle.lk_blocks.specs.Whole.{partial_types, partial_members}
 use Rattle.lk_blocks.specs.NestedTask.{whole_task}
 use Rattle.lk_blocks.specs.Task.{run_task}
@@ -160,7 +160,7 @@ cons_minor = pi (n tree) (pi list_tree (pi (app (var 5) (var 1)) (pi (app (var 5
 abbrev pub over_front : (Tree → Tree → Tree) → Tree → Tree
 over_front bind e = bind (pi (n tree) (sort v)) (bind (pi list_tree (sort v)) (bind node_minor (bind nil_minor (bind cons_minor e))))
 
-nested_recs : recursors_by (restoring (all_stand tree 0 (aux ∷ [])) []) shape ≡ record {
+nested_recs : recursors_by (restoring (all_stand tree 0 (aux ∷ [])) setting) shape ≡ record {
   name = rec_name tree;
   levels = motive_level ∷ [];
   type = over_front pi (pi (n tree) (app (var 5) (var 0)));
@@ -198,8 +198,17 @@ nested_recs : recursors_by (restoring (all_stand tree 0 (aux ∷ [])) []) shape 
         ∷ [];
   };
 } ∷ []
-unfolding close_at bound name_discrete list_discrete both_discrete part_discrete ℕ_discrete
+unfolding close_at bound tree_discrete name_discrete list_discrete both_discrete part_discrete ℕ_discrete
 nested_recs = refl
+
+-- the auxiliary type is put back at the block's own levels alone
+own_levels : restore (all_stand tree 0 (aux ∷ [])) setting (n a0) [] ≡ app (n list) (n tree)
+unfolding tree_discrete name_discrete list_discrete both_discrete part_discrete ℕ_discrete
+own_levels = refl
+
+other_levels : restore (all_stand tree 0 (aux ∷ [])) setting (const a0 (zero_level ∷ [])) [] ≡ const a0 (zero_level ∷ [])
+unfolding tree_discrete level_discrete name_discrete list_discrete both_discrete part_discrete ℕ_discrete
+other_levels = refl
 
 -- Vec with the parameters (A : Type) (i : Type), in place of a number; Bad.mk : (i : Type) -> Vec Bad i -> Bad
 abbrev pub vec_type : BlockType
@@ -223,7 +232,7 @@ abbrev pub rec_at_u : Rec → Rec
 rec_at_u r = record r { levels = u ∷ []; type = put_levels (motive_level ∷ []) (param u ∷ []) r.type; recursor = record r.recursor { rules = map rule_at_u (r.recursor).rules } }
 
 abbrev pub tree_recs : List Rec
-tree_recs = map rec_at_u (recursors_by (restoring (all_stand tree 0 (aux ∷ [])) []) shape)
+tree_recs = map rec_at_u (recursors_by (restoring (all_stand tree 0 (aux ∷ [])) setting) shape)
 
 tree_yes : run_task (place_of (list_unit ∷ []) 1) (λ w. plain_answer steps w) [] 2000 (whole_task 2001 tree_block tree_recs)
     ≡ answered (shape, partial_types tree_block ++ (bare_entries larger.aux ++ partial_members tree_block tree_recs)) 939 (Some 1)

@@ -1,13 +1,13 @@
--- B1, B2, B5 and B6 as programs.
-use Rattle.std.specs.Prelude.{ℕ, zero, suc, Bool, true, false, ◌&&◌, ◌||◌, not, nat_eq, nat_le, List, [], ◌∷◌, ◌++◌, length, Option, Some, None, if◌then◌else◌}
+-- The checks of a block's counts, types, constructors and large elimination.
+use Rattle.std.specs.Prelude.{ℕ, zero, suc, Bool, true, false, ◌&&◌, ◌||◌, not, nat_eq, List, [], ◌∷◌, length, Option, Some, None, if◌then◌else◌}
 use Rattle.lk_tree.specs.Tree.{Name, Level, zero_level, succ_level, Tree, sort, const, pi, local}
 use Rattle.lk_tree.specs.Level.{is_zero_level}
-use Rattle.lk_tree.specs.LevelTest.{level_le, level_test, right_params, distinct}
+use Rattle.lk_tree.specs.LevelTest.{level_test, level_le_test}
 use Rattle.lk_tree.specs.Bind.{opened}
 use Rattle.lk_tree.specs.Spine.{head, args}
 use Rattle.lk_tree.specs.RuleNo.{block_shape, parameter_differs, constructor_result, not_positive, field_universe}
 use Rattle.lk_rulebook.specs.Place.{Block, BlockType, Ctor}
-use Rattle.lk_rulebook.specs.Structures.{mentions, same_name}
+use Rattle.lk_tree.specs.Mentions.{mentions, same_name}
 use Rattle.lk_plain.specs.Query.{whnf, same}
 use Rattle.lk_plain.specs.Program.{Program, done, refuse, asked, ◌>>=◌}
 use Rattle.lk_table.specs.Steps.{given, as_pi, sort_of, is_same_tree}
@@ -15,8 +15,8 @@ use Rattle.lk_table.specs.Levels.{tested}
 use Rattle.lk_table.specs.Declarations.{Yes, checked}
 use Rattle.lk_blocks.specs.Block.{levels_of, parameters_of, Frame, frame_of, FieldKind, plain, recursive, under, Field, CtorShape, TypeShape, Shape, domain}
 
--- B1: each line of the block states these level parameters and this number of parameters, each constructor's its parent and
--- its place in the parent's list
+-- each member of the block states these level parameters and this number of parameters, each constructor its parent and its
+-- place in the parent's list
 abbrev pub same_names : List Name → List Name → Bool
 same_names [] [] = true
 same_names (m ∷ ms) (n ∷ ns) = same_name m n && same_names ms ns
@@ -89,7 +89,7 @@ pub record TypeParts : Type 0 where
   pub sort : Level
   pub indices : List (List Tree)
 
--- B2
+-- the checks of the types
 abbrev pub types_steps : ℕ → List BlockType → Program TypeParts
 types_steps p [] = refuse block_shape
 types_steps p (t ∷ ts) = do
@@ -100,7 +100,7 @@ types_steps p (t ∷ ts) = do
   xs ← given equal block_shape (next_types ps.0 e.1 ts)
   done (record { params = ps.0; sort = e.1; indices = e.0 ∷ xs })
 
--- B3: each constructor's type has a sort
+-- each constructor's type has a sort
 abbrev pub ctor_sorts : List Ctor → Program (List Level)
 ctor_sorts [] = done []
 ctor_sorts (c ∷ cs) = do
@@ -139,7 +139,7 @@ abbrev pub as_member : Frame → Tree → List Tree → Option (Name × List Tre
 as_member F (const T ls) xs = if is_same_tree (const T ls) (const T F.levels) then plain_indices F T (after_params F.params xs) else None
 as_member F _ xs = None
 
--- The walk of A, Locals from number j on. It asks one question at each step, so a number above the budget is never used up.
+-- the walk of A, Locals from number j on; fuel: each step asks a question, so more than the budget is never used up
 abbrev pub last_kind : Option (Name × List Tree) → Program FieldKind
 last_kind (Some t) = done (recursive [] t.0 t.1)
 last_kind None = refuse not_positive
@@ -156,10 +156,6 @@ walk zero F j A = refuse not_positive
 walk (suc fuel) F j A = do
   A' ← asked (whnf A)
   if mentions F.names A' then walk_on (walk fuel F) F j A' else done plain
-
--- whether l is at most m; None is LevelWidth
-abbrev pub level_le_test : Level → Level → Option Bool
-level_le_test l m = if nat_le (distinct (right_params l ++ right_params m)) 20 then Some (level_le l m) else None
 
 abbrev pub fits : Level → Tree → Program Bool
 fits l A = do
@@ -183,7 +179,7 @@ abbrev pub own_indices : Name → Option (Name × List Tree) → Program (List T
 own_indices T (Some t) = given (same_name t.0 T) constructor_result (done t.1)
 own_indices T None = refuse constructor_result
 
--- B5 for one constructor of T
+-- the check of one constructor of T
 abbrev pub ctor_steps : ℕ → Frame → Name → Ctor → Program CtorShape
 ctor_steps fuel F T c = do
   r ← over F.params c.type
@@ -207,7 +203,7 @@ shapes_steps fuel F (t ∷ ts) (x ∷ xs) = do
   ss ← shapes_steps fuel F ts xs
   done (record { name = t.name; indices = x; ctors = cs } ∷ ss)
 
--- B6
+-- large elimination: whether the block may be eliminated into every universe
 abbrev pub is_among : Tree → List Tree → Bool
 is_among x [] = false
 is_among x (i ∷ is) = is_same_tree x i || is_among x is
@@ -233,7 +229,7 @@ large_steps l ts = do
   above ← tested (level_le_test (succ_level zero_level) l)
   if above then done true else one_type_steps ts
 
--- B5 and B6
+-- the constructors, then large elimination
 abbrev pub shape_steps : ℕ → Block → TypeParts → Program Shape
 shape_steps fuel b ts = do
   ss ← shapes_steps fuel (frame_of b ts.params ts.sort) b.types ts.indices

@@ -1,11 +1,11 @@
--- B7: the stated recursors against the recomputed ones, and the whole check of a block.
+-- The stated recursors against the recomputed ones.
 use Rattle.std.specs.Prelude.{◌≡◌, ◌⊎◌, Bool, true, false, ◌&&◌, nat_eq, List, [], ◌∷◌, length, map, Option, Some, None}
 use Rattle.lk_tree.specs.Tree.{Name, Level, param, Tree}
 use Rattle.lk_tree.specs.Levels.{put_levels}
 use Rattle.lk_tree.specs.RuleNo.{recursor_differs}
 use Rattle.lk_rulebook.specs.Place.{Place, RecRule, a_rec}
 use Rattle.lk_rulebook.specs.Units.{Members}
-use Rattle.lk_rulebook.specs.Structures.{same_name}
+use Rattle.lk_tree.specs.Mentions.{same_name}
 use Rattle.lk_rulebook.specs.Rules.{HasType, HasSort, IsDefEq}
 use Rattle.lk_plain.specs.Query.{infer, same}
 use Rattle.lk_plain.specs.Program.{Program, done, refuse, asked, ◌>>=◌}
@@ -63,7 +63,7 @@ compare_steps rs (s ∷ ss) = do
   y ← compare_found s (rec_named rs s.name)
   compare_steps rs ss
 
--- the stated recursors as they are half there: without rules
+-- the stated recursors as they are half there, without rules
 abbrev pub rec_entries : List Rec → Members
 rec_entries [] = []
 rec_entries (r ∷ rs) = (r.name, record { levels = r.levels; type = r.type; kind = a_rec (record r.recursor { rules = [] }) }) ∷ rec_entries rs

@@ -8,7 +8,7 @@ use Rattle.lk_tree.specs.Spine.{apply, head, args}
 use Rattle.lk_tree.specs.RuleNo.{unknown_constant, level_count, block_shape, nested_form}
 use Rattle.lk_rulebook.specs.Place.{Kind, Block, BlockType, Ctor, a_type}
 use Rattle.lk_rulebook.specs.Units.{Members}
-use Rattle.lk_rulebook.specs.Structures.{same_name, is_one_of}
+use Rattle.lk_tree.specs.Mentions.{same_name, is_one_of}
 use Rattle.lk_plain.specs.Program.{Program, done, refuse, look, ◌>>=◌}
 use Rattle.lk_table.specs.Steps.{given, is_same_tree}
 use Rattle.lk_table.specs.Levels.{tested}

@@ -5,7 +5,7 @@ use Rattle.lk_tree.specs.Levels.{put_levels}
 use Rattle.lk_tree.specs.Bind.{opened, close}
 use Rattle.lk_tree.specs.WellFormed.{IsWellFormed, HasLocal}
 use Rattle.lk_rulebook.specs.Place.{Place, Entry, Block, BlockType, Ctor, a_type}
-use Rattle.lk_rulebook.specs.Structures.{is_one_of}
+use Rattle.lk_tree.specs.Mentions.{is_one_of}
 use Rattle.lk_rulebook.specs.Units.{Members}
 use Rattle.lk_blocks.specs.Block.{Shape}
 use Rattle.lk_blocks.specs.Relation.{IsAmong, IsBlock, CountsAgree}
@@ -22,13 +22,13 @@ pub data Instance : List Tree → Tree → Tree → Type 0 where
   past_one : {x A B r : Tree} {xs : List Tree} → Instance xs (opened B x) r → Instance (x ∷ xs) (pi A B) r
 
 -- what stands in the larger block for e: past P0 .., whose stated domains stay, it gives e once it is read back
-pub data ReadsPast (qs : List Tree) (ms : List (Name × Original)) : List Tree → Tree → Tree → Type 0 where
-  read_rest : {e : Tree} (e' : Tree) → restore ms qs e' [] ≡ e → ReadsPast qs ms [] e e'
-  read_past : {P A B : Tree} {ps : List Tree} (e' : Tree) → ReadsPast qs ms ps (opened B P) e' → ReadsPast qs ms (P ∷ ps) (pi A B) (pi A (close (number P) e'))
+pub data ReadsPast (s : Setting) (ms : List (Name × Original)) : List Tree → Tree → Tree → Type 0 where
+  read_rest : {e : Tree} (e' : Tree) → restore ms s e' [] ≡ e → ReadsPast s ms [] e e'
+  read_past : {P A B : Tree} {ps : List Tree} (e' : Tree) → ReadsPast s ms ps (opened B P) e' → ReadsPast s ms (P ∷ ps) (pi A B) (pi A (close (number P) e'))
 
 pub data ReadsAs (s : Setting) (ms : List (Name × Original)) : Tree → Tree → Type 0 where
-  as_stated : {e : Tree} → restore ms s.params e [] ≡ e → ReadsAs s ms e e
-  past_params : {e e' : Tree} → ReadsPast s.params ms s.params e e' → ReadsAs s ms e e'
+  as_stated : {e : Tree} → restore ms s e [] ≡ e → ReadsAs s ms e e
+  past_params : {e e' : Tree} → ReadsPast s ms s.params e e' → ReadsAs s ms e e'
 
 -- the stated constructor c stands as d
 pub record IsOwnCtor (s : Setting) (ms : List (Name × Original)) (c d : Ctor) : Type 0 where
@@ -92,7 +92,7 @@ pub record IsAuxCtor (s : Setting) (ms : List (Name × Original)) (i : ℕ) (a :
   pub type : d.type ≡ pis s.params body
   pub at : Tree
   pub instance : Instance a.args (put_levels c.levels a.levels c.type) at
-  pub read : restore ms s.params body [] ≡ at
+  pub read : restore ms s body [] ≡ at
 
 pub data AuxCtors (s : Setting) (ms : List (Name × Original)) (i : ℕ) (a : Aux) : List Ctor → List Ctor → Type 0 where
   no_aux_ctor : AuxCtors s ms i a [] []

@@ -1,4 +1,5 @@
--- The whole check of a block: B1, B2, B3, B4, B5, B6, B7.
+-- The whole check of a block, in its order: counts, types, sorts of the constructors' types, nested occurrences, constructors,
+-- large elimination, recursors.
 use Rattle.std.specs.Prelude.{ℕ, suc, List, [], ◌++◌}
 use Rattle.lk_tree.specs.Tree.{Tree}
 use Rattle.lk_rulebook.specs.Place.{Block, type_names}
@@ -18,16 +19,16 @@ abbrev pub setting_of : Block → List Tree → Setting
 setting_of b ps = record { names = type_names b.types; levels = levels_of b; params = ps }
 
 abbrev pub restoring_of : Block → Setting → Larger → Restoring
-restoring_of b s lg = restoring (all_stand (first_name b.types) 0 lg.auxs) s.params
+restoring_of b s lg = restoring (all_stand (first_name b.types) 0 lg.auxs) s
 
--- B7
+-- the recursors
 abbrev pub nested_recs : Block → List Rec → Setting → Larger → Shape → Task Shape
 nested_recs b stated s lg shape = do
   h ← half_there (partial_members b stated)
   y ← here (compare_steps (recursors_by (restoring_of b s lg) shape) stated)
   done_with shape
 
--- B5, B6, B7
+-- constructors, large elimination, recursors
 abbrev pub nested_shape : ℕ → Block → List Rec → TypeParts → Larger → Task Shape
 nested_shape fuel b stated ts lg = do
   k ← half_there (bare_entries lg.aux)

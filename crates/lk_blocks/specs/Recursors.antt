@@ -6,7 +6,7 @@ use Rattle.lk_tree.specs.Bind.{close, bound}
 use Rattle.lk_tree.specs.Spine.{apply}
 use Rattle.lk_rulebook.specs.Place.{RecRule}
 pub use Rattle.lk_rulebook.specs.Place.{Rec}
-use Rattle.lk_rulebook.specs.Structures.{same_name}
+use Rattle.lk_tree.specs.Mentions.{same_name}
 use Rattle.lk_blocks.specs.Block.{FieldKind, plain, recursive, Field, CtorShape, TypeShape, Shape, domain}
 
 abbrev pub number : Tree → ℕ

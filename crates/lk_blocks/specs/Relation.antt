@@ -1,18 +1,14 @@
 -- The block relation: telescopes by reduction, positive fields, constructors, large elimination.
 use Rattle.std.specs.Prelude.{ℕ, suc, ◌≡◌, ◌≤◌, ◌+◌, ◌⊎◌, true, false, List, [], ◌∷◌, ◌++◌, length}
 use Rattle.lk_tree.specs.Tree.{Name, Level, zero_level, Tree, sort, const, pi, local}
-use Rattle.lk_tree.specs.Level.{SameLevel, level_value}
+use Rattle.lk_tree.specs.Level.{SameLevel, AtMost, level_value}
 use Rattle.lk_tree.specs.Bind.{opened, bound}
 use Rattle.lk_tree.specs.Spine.{apply}
 use Rattle.lk_tree.specs.WellFormed.{IsWellFormed}
 use Rattle.lk_rulebook.specs.Place.{Place, Block, BlockType, Ctor}
-use Rattle.lk_rulebook.specs.Structures.{mentions}
-use Rattle.lk_rulebook.specs.Rules.{HasSort, IsProp, Reduces, IsDefEq}
+use Rattle.lk_tree.specs.Mentions.{mentions}
+use Rattle.lk_rulebook.specs.Rules.{HasSort, IsProposition, Reduces, IsDefEq}
 use Rattle.lk_blocks.specs.Block.{levels_of, parameters_of, Frame, frame_of, FieldKind, plain, recursive, under, Field, CtorShape, TypeShape, Shape, domain}
-
--- l <= m under every assignment
-abbrev pub AtMost : Level → Level → Type 0
-AtMost l m = (σ : Name → ℕ) → level_value σ l ≤ level_value σ m
 
 -- r reduces to n Pis one after another, opened with Locals from number j on, and then what is left
 pub data Telescope (w : Place) : ℕ → ℕ → Tree → List Tree → Tree → Type 0 where
@@ -109,7 +105,7 @@ IsAmong x (i ∷ is) = (x ≡ i) ⊎ IsAmong x is
 -- each field is a proof or is among the indices
 abbrev pub AreSmall : Place → List Tree → List Field → Type 0
 AreSmall w is [] = Unit {0}
-AreSmall w is (f ∷ fs) = (IsProp w (domain f.variable) ⊎ IsAmong f.variable is) × AreSmall w is fs
+AreSmall w is (f ∷ fs) = (IsProposition w (domain f.variable) ⊎ IsAmong f.variable is) × AreSmall w is fs
 
 -- the block may be eliminated into every universe
 pub data MayBeLarge (w : Place) (l : Level) : List TypeShape → Type 0 where
@@ -122,7 +118,7 @@ abbrev pub AreNumbered : ℕ → List Tree → Type 0
 AreNumbered j [] = Unit {0}
 AreNumbered j (p ∷ ps) = ((A : Tree) × (p ≡ local j A) × IsWellFormed (local j A)) × AreNumbered (suc j) ps
 
--- each line of the block states the same level parameters and number of parameters, each constructor's its parent and its
+-- each member of the block states the same level parameters and number of parameters, each constructor its parent and its
 -- place in the parent's list
 pub record CtorAgrees (p : ℕ) (us : List Name) (T : Name) (i : ℕ) (c : Ctor) : Type 0 where
   pub levels : c.levels ≡ us

@@ -1,4 +1,5 @@
--- What is half there while a block is checked, and what a yes means where no occurrence is nested.
+-- What is half there while a block is checked (a name is half there where it is given while its own block is being checked), and
+-- what a yes means where no occurrence is nested.
 use Rattle.std.specs.Prelude.{◌++◌, List, [], ◌∷◌}
 use Rattle.lk_tree.specs.Tree.{Level}
 use Rattle.lk_rulebook.specs.Place.{Place, Block, BlockType, Ctor}
@@ -10,10 +11,11 @@ use Rattle.lk_blocks.specs.Relation.{IsBlock, CountsAgree}
 use Rattle.lk_blocks.specs.Recursors.{Rec, recursors}
 use Rattle.lk_blocks.specs.Compare.{rec_entries, AreRecs}
 
--- what is half there from B3 on, and from B7 on
+-- half there once the types are checked
 abbrev pub partial_types : Block → Members
 partial_types b = type_entries b b.types
 
+-- half there too once the constructors are checked, before the recursors
 abbrev pub partial_members : Block → List Rec → Members
 partial_members b stated = all_ctor_entries b b.types ++ rec_entries stated
 

@@ -16,7 +16,8 @@ ghost use Rattle.lk_rulebook.specs.Rules.{HasType, Reduces, IsDefEq};
 ghost use Rattle.lk_rulebook.specs.Units.{LibraryUnit, members_of, flaw_of, given_by, first_giving, place_of};
 ghost use Rattle.lk_tree.specs.Tree.{Name, Tree};
 
-/// What is derived at a place is derived at each place that gives all that it gives.
+/// What is derived at a place is derived at each place that gives all that it gives, save that a recursor without rules may get
+/// its rules.
 pub fn derivations_stay()
     ensures types { (w w' : Place) (e A : Tree) → IsWithin w w' → HasType w e A → HasType w' e A }
     ensures reducts { (w w' : Place) (a b : Tree) → IsWithin w w' → Reduces w a b → Reduces w' a b }

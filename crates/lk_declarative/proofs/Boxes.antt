@@ -11,7 +11,7 @@ use Rattle.lk_tree.specs.Decide.{list_discrete, both_discrete}
 use native.Mathlib.Decide.{ℕ_discrete}
 use Rattle.lk_rulebook.specs.Place.{Place, Entry, Block, BlockType, Ctor, a_ctor}
 use Rattle.lk_declarative.specs.Falsehood.{truth, simple_proof, falsehood}
-use Rattle.lk_declarative.specs.Box.{HasBox, box_name, make_name, box_entry, make_entry, box_block, box_inductive, make_ctor, box_place}
+use Rattle.lk_declarative.specs.Box.{HasBox, box_name, mk_name, box_entry, mk_entry, box_block, box_inductive, mk_ctor, box_place}
 use Rattle.lk_declarative.specs.Guarded.{GuardedType, typed_sort, typed_local, typed_const, typed_app, typed_lam, typed_pi, typed_conv, GuardedEquals, same_sort, same_sym, same_trans, same_proj, same_proj_ctor, same_proof}
 
 unguarded : {A : Type 0} → false ≡ true → A
@@ -49,14 +49,14 @@ box_prop : {w : Place} (h : HasBox w) → GuardedType false w (const h.box []) (
 unfolding put_levels put_in_level
 box_prop h = stated_type h.box h.box_entry (sort zero_level) (sort zero_level) h.box_given h.box_levels h.box_type tt refl
 
-made : {w : Place} (h : HasBox w) (a : Tree) → GuardedType false w a (sort zero_level) → GuardedType false w (app (const h.make []) a) (const h.box [])
+made : {w : Place} (h : HasBox w) (a : Tree) → GuardedType false w a (sort zero_level) → GuardedType false w (app (const h.mk []) a) (const h.box [])
 unfolding put_levels put_in_level open_at
 made h a t = typed_app {B = const h.box []}
-    (stated_type h.make h.make_entry (pi (sort zero_level) (const h.box [])) (pi (sort zero_level) (const h.box [])) h.make_given h.make_levels h.make_type (tt, tt) refl) t
+    (stated_type h.mk h.mk_entry (pi (sort zero_level) (const h.box [])) (pi (sort zero_level) (const h.box [])) h.mk_given h.mk_levels h.mk_type (tt, tt) refl) t
 
 pub falsehood_in_a_box : {w : Place} → HasBox w → GuardedType false w simple_proof falsehood
 falsehood_in_a_box h = typed_conv proof_type
-    (fields_agree h.box h.make [] h.make_entry h.block h.inductive h.ctor 0 (truth ∷ []) (falsehood ∷ []) truth falsehood (const h.box []) h.make_given h.make_kind h.parent
+    (fields_agree h.box h.mk [] h.mk_entry h.block h.inductive h.ctor 0 (truth ∷ []) (falsehood ∷ []) truth falsehood (const h.box []) h.mk_given h.mk_kind h.parent
     (rw (h.no_parameters) refl) (rw (h.no_parameters) refl) (tt, (tt, (omega arith, omega arith))) (tt, (tt, omega arith)) (tt, (omega arith, omega arith)) (tt, omega arith)
     (made h truth truth_prop) (made h falsehood falsehood_prop) (box_prop h)) falsehood_prop
 
@@ -64,19 +64,19 @@ pub box_is_there : HasBox box_place
 unfolding name_discrete part_discrete list_discrete both_discrete ℕ_discrete
 box_is_there = record {
   box = box_name;
-  make = make_name;
+  mk = mk_name;
   box_entry = box_entry;
-  make_entry = make_entry;
+  mk_entry = mk_entry;
   block = box_block;
   inductive = box_inductive;
-  ctor = make_ctor;
+  ctor = mk_ctor;
   box_given = refl;
   box_levels = refl;
   box_type = refl;
-  make_given = refl;
-  make_levels = refl;
-  make_type = refl;
-  make_kind = refl;
+  mk_given = refl;
+  mk_levels = refl;
+  mk_type = refl;
+  mk_kind = refl;
   parent = refl;
   no_parameters = refl;
 }

@@ -30,7 +30,7 @@ mutual
   well_formed_of_type (typed_let {v = v} {b = b} a x f) = (((well_formed_of_type a).0, (well_formed_of_type x).0, fine_from_open 0 v b (well_formed_of_type f).0), (well_formed_of_type f).1)
   well_formed_of_type (typed_lit h f) = (f, tt)
   well_formed_of_type (typed_str h) = (tt, tt)
-  well_formed_of_type (typed_proj S ls bs i s T A l g block ind c e m k n o p q r f v) = ((well_formed_of_type e).0, well_formed_of_field v)
+  well_formed_of_type (typed_proj S ls bs i s T A l pj e q r f v) = ((well_formed_of_type e).0, well_formed_of_field v)
   well_formed_of_type (typed_conv e c t) = ((well_formed_of_type e).0, (well_formed_of_equal c).1)
 
   pub well_formed_of_equal : {p : Bool} {w : Place} {a b : Tree} → GuardedEquals p w a b → IsWellFormed a × IsWellFormed b
@@ -63,13 +63,13 @@ mutual
   well_formed_of_equal (same_str x) = (tt, expansion_fine x)
   well_formed_of_equal (same_eta {o = o} {A = A} h) =
       ((well_formed_of_type h).0, ((well_formed_of_type h).1.0, (fine_more 0 1 o (omega arith) (well_formed_of_type h).0, omega arith)))
-  well_formed_of_equal (same_struct_eta J c block ind ctor ls bs m i n h p) = (
+  well_formed_of_equal (same_struct_eta i ls bs m n h p) = (
     (well_formed_of_type h).0,
-    fine_apply (const c ls) (bs ++ projections J m 0 ctor.fields) tt
-        (all_fine_append bs (projections J m 0 ctor.fields) (well_formed_of_apply (const J ls) bs (well_formed_of_type h).1).1 (projections_fine J m 0 ctor.fields (well_formed_of_type h).0)),
+    fine_apply (const i.ctor_name ls) (bs ++ projections i.ind.name m 0 i.ctor.fields) tt
+        (all_fine_append bs (projections i.ind.name m 0 i.ctor.fields) (well_formed_of_apply (const i.ind.name ls) bs (well_formed_of_type h).1).1 (projections_fine i.ind.name m 0 i.ctor.fields (well_formed_of_type h).0)),
   )
-  well_formed_of_equal (same_unit J block ind ctor ls bs a b i n ha hb) = ((well_formed_of_type ha).0, (well_formed_of_type hb).0)
-  well_formed_of_equal (same_struct_ext J c block ind ctor ks ps xs a T i m n ha hb p) = ((well_formed_of_type ha).0, (well_formed_of_type hb).0)
+  well_formed_of_equal (same_unit i ls bs a b n ha hb) = ((well_formed_of_type ha).0, (well_formed_of_type hb).0)
+  well_formed_of_equal (same_struct_ext i ks ps xs a T m n ha hb p) = ((well_formed_of_type ha).0, (well_formed_of_type hb).0)
   well_formed_of_equal (same_proof a b p) = ((well_formed_of_type a).0, (well_formed_of_type b).0)
   well_formed_of_equal (same_k R J c ls ks front bs rest e k he hd f) = ((f, (well_formed_of_type he).0), (f, (well_formed_of_type hd).0))
 

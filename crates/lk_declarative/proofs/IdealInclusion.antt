@@ -1,5 +1,5 @@
 -- The directed judgement derives what the ideal rules derive, where these are as expected.
-use Rattle.std.proofs.Common.{ℕ, suc, ◌≡◌, ◌<◌, ◌≤◌, ◌+◌, max, ◌⊎◌, inl, inr, List, [], ◌∷◌, ◌++◌, length, map, refl, subst, arith}
+use Rattle.std.proofs.Common.{ℕ, suc, ◌≡◌, ◌<◌, ◌≤◌, ◌+◌, max, inl, inr, List, [], ◌∷◌, ◌++◌, length, map, refl, arith}
 use Rattle.std.specs.Prelude.{Bool, true, false, ◌^◌}
 use Rattle.lk_tree.specs.Tree.{Name, Level, zero_level, Tree, var, sort, const, app, lam, pi, let_in, proj, lit, local}
 use Rattle.lk_tree.specs.Bind.{opened, open_at, bound, has_var}
@@ -9,12 +9,11 @@ use Rattle.lk_tree.specs.WellFormed.{IsWellFormed, AllWellFormed}
 use Rattle.lk_tree.proofs.Lists.{AnyLocal, local_of_apply, local_of_arg}
 use Rattle.lk_tree.specs.Operations.{Op, succ, log2, add, sub, mul, div, modulo, gcd, beq, ble, land, lor, xor, shift_left, shift_right, pow, op_value}
 use Rattle.lk_rulebook.specs.Place.{Place, Ctor}
-use Rattle.lk_rulebook.specs.Structures.{projections}
 use Rattle.lk_rulebook.specs.Names.{named, nat, nat_succ, op_name, quot_lift, quot_ind}
 use Rattle.lk_rulebook.specs.Shapes.{HasNat}
 use Rattle.lk_rulebook.specs.Literals.{IsNumeral, of_lit, of_zero, IsOperation, IsResult, ReadsText, as_it_is, as_text, Reads, by_text, as_zero, as_succ}
 use Rattle.lk_tree.proofs.Spines.{well_formed_of_apply}
-use Rattle.lk_rulebook.specs.Rules.{HasType, t_sort, t_local, t_const, t_app, t_lam, t_pi, t_let, t_lit, t_str, t_proj, HasSort, has_sort, IsProp, is_prop, Reduces, r_refl, r_trans, r_head, r_beta, r_zeta, r_delta, r_proj, r_major, r_iota, r_k, r_struct, r_quot_lift, r_quot_ind, r_op, IsDefEq, e_refl, e_reduce, e_sort, e_const, e_app, e_lam, e_pi, e_proj, e_eta_left, e_eta_right, e_struct_left, e_struct_right, e_unit, e_proof, e_zero_left, e_zero_right, e_succ_left, e_succ_right, e_str_left, e_str_right, Numerals, no_more_numerals, numeral, IsNotProp, not_prop, AllProject, no_more_fields, project, PastParameters, no_more, next, FieldOf, here, past}
+use Rattle.lk_rulebook.specs.Rules.{HasType, t_sort, t_local, t_const, t_app, t_lam, t_pi, t_let, t_lit, t_str, t_proj, HasSort, has_sort, IsProposition, is_prop, Reduces, r_refl, r_trans, r_head, r_beta, r_zeta, r_delta, r_proj, r_major, r_iota, r_k, r_struct, r_quot_lift, r_quot_ind, r_op, IsDefEq, e_refl, e_reduce, e_sort, e_const, e_app, e_lam, e_pi, e_proj, e_eta_left, e_eta_right, e_struct_left, e_struct_right, e_unit, e_proof, e_zero_left, e_zero_right, e_succ_left, e_succ_right, e_str_left, e_str_right, Numerals, no_more_numerals, numeral, IsNotProp, not_prop, AllProject, no_more_fields, project, PastParameters, no_more, next, FieldOf, here, past}
 use Rattle.lk_declarative.specs.Guarded.{IdealType, typed_sort, typed_local, typed_const, typed_app, typed_lam, typed_pi, typed_let, typed_lit, typed_str, typed_proj, typed_conv, IdealEquals, same_refl, same_sym, same_trans, same_sort, same_const, same_app, same_lam, same_pi, same_proj, same_beta, same_zeta, same_delta, same_iota, same_proj_ctor, same_lit_zero, same_lit_succ, same_quot_lift, same_quot_ind, same_op, same_str, same_eta, same_struct_eta, same_unit, same_struct_ext, same_proof, GuardedExpands, no_proposition_at, GuardedProjects, none_projects, next_projects, GuardedParameters, past_none, past_one, GuardedField, field_here, field_past}
 use Rattle.lk_declarative.specs.Expected.{LawfulLocals, Fits, Expected}
 use Rattle.lk_declarative.proofs.GuardedScopes.{well_formed_of_type}
@@ -200,22 +199,21 @@ mutual
       typed_let ta (typed_conv tx (equal h q (h.sorted tx).1 ta) ta) (ideal_type h f (lawful_open b v (λ n X m. g n X (inr (inr m))) (λ n X m. g n X (inr (inl m)))))
   ideal_type h (t_lit k f) g = typed_lit k f
   ideal_type h (t_str k) g = typed_str k
-  ideal_type {w = w} h (t_proj S ls bs i s U T A l e block ind c d r m k n o p q t f v) g =
+  ideal_type {w = w} h (t_proj S ls bs i s U T A l pj d r q t f v) g =
       let ts : IdealType w s U = ideal_type h d g in
       let ks : Kept w U (apply (const S ls) bs) _ = kept h r (h.sorted ts).1 in
       let tt₁ : IdealType w s (apply (const S ls) bs) = typed_conv ts ks.equal ks.typed in
       let tl : IdealType w (apply (const S ls) bs) (sort l) = ideal_sort h t (lawful ks.typed) in
-      let cs : _ = h.constructors S e block ind c ls bs l m k o p n tl in
+      let cs : _ = h.constructors S ls bs l pj tl in
       let ps : _ = ideal_parameters h f cs.0.1 cs.1 in
-      typed_proj S ls bs i s T A l e block ind c tt₁ m k n o p q tl ps.0
-      (ideal_field h c.fields T (λ j C lt x. typed_proj S ls bs j s T C l e block ind c tt₁ m k n o p lt tl ps.0 x) (λ j C x. x) ps.1.1 q v)
+      typed_proj S ls bs i s T A l pj tt₁ q tl ps.0 (ideal_field h pj.ctor.fields T (λ j C lt x. typed_proj S ls bs j s T C l pj tt₁ lt tl ps.0 x) (λ j C x. x) ps.1.1 q v)
 
   pub ideal_sort : {w : Place} → Expected w → {A : Tree} {l : Level} → HasSort w A l → LawfulLocals w A → IdealType w A (sort l)
   ideal_sort {w = w} h (has_sort {A = A} {S = S} t r) g =
       let ta : IdealType w A S = ideal_type h t g in
       typed_conv ta (kept h r (h.sorted ta).1).equal typed_sort
 
-  pub ideal_prop : {w : Place} → Expected w → {A : Tree} → IsProp w A → LawfulLocals w A → IdealType w A (sort zero_level)
+  pub ideal_prop : {w : Place} → Expected w → {A : Tree} → IsProposition w A → LawfulLocals w A → IdealType w A (sort zero_level)
   ideal_prop h (is_prop s z) g = typed_conv (ideal_sort h s g) (same_sort z) typed_sort
 
   pub kept : {w : Place} → Expected w → {a b A : Tree} → Reduces w a b → IdealType w a A → Kept w a b A
@@ -256,14 +254,14 @@ mutual
       let td : IdealType w (apply (const c ks) bs) D = ideal_type h hd (lawful_built J c ks bs rest (lawful n.typed)) in
       let tj : IdealType w (apply (const c ks) bs) (apply (const J ks) (bs ++ rest)) = typed_conv td (same_sym (equal h q n.typed (h.sorted td).1)) n.typed in
       at_argument h p t (typed_conv tj (h.one_type ti p.argument) (pi_of h p).domain_typed) (same_proof ti tj (h.proofs R J c front bs rest ks _ k n.typed))
-  kept {w = w} h {A = X} (r_struct R J c block ind ctor js ls front bs m U i rule o z f s n hm r np) t =
+  kept {w = w} h {A = X} (r_struct R s js ls front bs m U i rule o z f n hm r np) t =
       let p : AppParts w (apply (const R js) front) m X = parts t in
       let tm : IdealType w m U = ideal_type h hm (lawful p.argument) in
-      let q : Kept w U (apply (const J ls) bs) _ = kept h r (h.sorted tm).1 in
-      let ti : IdealType w m (apply (const J ls) bs) = typed_conv tm q.equal q.typed in
-      let x : GuardedExpands true w ctor (apply (const J ls) bs) = ideal_expands h np (lawful q.typed) in
-      at_argument h p t (typed_conv (h.expanded J c block ind ctor ls bs m s n ti x) (h.one_type ti p.argument) (pi_of h p).domain_typed)
-      (same_struct_eta J c block ind ctor ls bs m s n ti x)
+      let q : Kept w U (apply (const s.ind.name ls) bs) _ = kept h r (h.sorted tm).1 in
+      let ti : IdealType w m (apply (const s.ind.name ls) bs) = typed_conv tm q.equal q.typed in
+      let x : GuardedExpands true w s.ctor (apply (const s.ind.name ls) bs) = ideal_expands h np (lawful q.typed) in
+      at_argument h p t (typed_conv (h.expanded s ls bs m n ti x) (h.one_type ti p.argument) (pi_of h p).domain_typed)
+      (same_struct_eta s ls bs m n ti x)
   kept {w = w} h {A = X} (r_quot_lift ls ks {A = A} {r = r} {B = B} {f = f} {h = g} {e = e} i j ff d) t =
       let p : AppParts w (apply (const quot_lift ls) (A ∷ r ∷ B ∷ f ∷ g ∷ [])) e X = parts t in
       let q : _ = kept h d p.argument in
@@ -339,33 +337,31 @@ mutual
       let k : Kept w T (pi A B) _ = kept h r (h.sorted to).1 in
       let ti : IdealType w o (pi A B) = typed_conv to k.equal k.typed in
       same_trans (equal h c t (eta_typed ti (parts k.typed))) (same_sym (same_eta ti))
-  equal {w = w} h (e_struct_left J c block ind ctor ks ps xs a A B v i m n ha hb q p) t u =
+  equal {w = w} h (e_struct_left i ks ps xs a A B v m n ha hb q p) t u =
       let ta : IdealType w a A = ideal_type h ha (lawful t) in
-      let tb : IdealType w (apply (const c ks) (ps ++ xs)) B = ideal_type h hb (lawful u) in
+      let tb : IdealType w (apply (const i.ctor_name ks) (ps ++ xs)) B = ideal_type h hb (lawful u) in
       let sb : IdealType w B _ = (h.sorted tb).1 in
       let tc : IdealType w a B = typed_conv ta (equal h q (h.sorted ta).1 sb) sb in
-      elim (h.members J c block ind ctor ks ps xs a B i m n tc tb) [
+      elim (h.members i ks ps xs a B m n tc tb) [
         | inl z ↦ same_proof tc tb z
-        | inr f ↦ same_struct_ext J c block ind ctor ks ps xs a B i m n tc tb
-            (ideal_projects h p (λ j lt. f j (omega arith)) (all_typed_after w ps xs (typed_args (const c ks) (ps ++ xs) tb).1))
+        | inr f ↦ same_struct_ext i ks ps xs a B m n tc tb (ideal_projects h p (λ j lt. f j (omega arith)) (all_typed_after w ps xs (typed_args (const i.ctor_name ks) (ps ++ xs) tb).1))
       ]
-  equal {w = w} h (e_struct_right J c block ind ctor ks ps xs a A B v i m n ha hb q p) t u =
+  equal {w = w} h (e_struct_right i ks ps xs a A B v m n ha hb q p) t u =
       let ta : IdealType w a A = ideal_type h ha (lawful u) in
-      let tb : IdealType w (apply (const c ks) (ps ++ xs)) B = ideal_type h hb (lawful t) in
+      let tb : IdealType w (apply (const i.ctor_name ks) (ps ++ xs)) B = ideal_type h hb (lawful t) in
       let sb : IdealType w B _ = (h.sorted tb).1 in
       let tc : IdealType w a B = typed_conv ta (equal h q (h.sorted ta).1 sb) sb in
-      same_sym (elim (h.members J c block ind ctor ks ps xs a B i m n tc tb) [
+      same_sym (elim (h.members i ks ps xs a B m n tc tb) [
         | inl z ↦ same_proof tc tb z
-        | inr f ↦ same_struct_ext J c block ind ctor ks ps xs a B i m n tc tb
-            (ideal_projects h p (λ j lt. f j (omega arith)) (all_typed_after w ps xs (typed_args (const c ks) (ps ++ xs) tb).1))
+        | inr f ↦ same_struct_ext i ks ps xs a B m n tc tb (ideal_projects h p (λ j lt. f j (omega arith)) (all_typed_after w ps xs (typed_args (const i.ctor_name ks) (ps ++ xs) tb).1))
       ])
-  equal {w = w} h (e_unit J block ind ctor ls bs a b A B o v i n ha r hb q) t u =
+  equal {w = w} h (e_unit i ls bs a b A B o v n ha r hb q) t u =
       let ta : IdealType w a A = ideal_type h ha (lawful t) in
       let tb : IdealType w b B = ideal_type h hb (lawful u) in
       let sa : IdealType w A _ = (h.sorted ta).1 in
-      let k : Kept w A (apply (const J ls) bs) _ = kept h r sa in
+      let k : Kept w A (apply (const i.name ls) bs) _ = kept h r sa in
       let e : IdealEquals w A B = equal h q sa (h.sorted tb).1 in
-      same_unit J block ind ctor ls bs a b i n (typed_conv ta k.equal k.typed) (typed_conv tb (same_trans (same_sym e) k.equal) k.typed)
+      same_unit i ls bs a b n (typed_conv ta k.equal k.typed) (typed_conv tb (same_trans (same_sym e) k.equal) k.typed)
   equal {w = w} h (e_proof {a = a} {b = b} {A = A} {B = B} o v ha p hb q) t u =
       let ta : IdealType w a A = ideal_type h ha (lawful t) in
       let tp : IdealType w A (sort zero_level) = ideal_prop h p (lawful (h.sorted ta).1) in

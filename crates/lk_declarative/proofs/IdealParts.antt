@@ -80,7 +80,7 @@ parts (typed_pi {u = u} {v = v} {k = k} i a f) = record { domain_level = u; leve
 parts (typed_let {B = B} a x f) = record { type = B; body_typed = f; result = same_refl (well_formed_of_type f).1 }
 parts (typed_lit h f) = record { has_nat = h; result = same_refl tt }
 parts (typed_str h) = tt
-parts (typed_proj S ls bs i s T A l g block ind c e m k n o p q r f v) = record { type = _; typed = e }
+parts (typed_proj S ls bs i s T A l pj e q r f v) = record { type = _; typed = e }
 parts (typed_conv {e = e} t c s) = converted e c (parts t)
 
 -- opening keeps the Locals of the body
@@ -121,7 +121,7 @@ lawful (typed_let a x f) k X (inr (inl h)) = lawful x k X h
 lawful (typed_let {v = v} {b = b} a x f) k X (inr (inr h)) = lawful f k X (local_kept k X 0 v b h)
 lawful (typed_lit n f) k X h = absurd h
 lawful (typed_str n) k X h = absurd h
-lawful (typed_proj S ls bs i s T A l g block ind c e m kd n o p q r f v) k X h = lawful e k X h
+lawful (typed_proj S ls bs i s T A l pj e q r f v) k X h = lawful e k X h
 lawful (typed_conv t c s) k X h = lawful t k X h
 
 pub lawful_open : {w : Place} (b v : Tree) → LawfulLocals w b → LawfulLocals w v → LawfulLocals w (opened b v)

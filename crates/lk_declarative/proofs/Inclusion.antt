@@ -1,13 +1,12 @@
 -- Each rule of the directed judgement is a rule of the declarative one, or a short chain of its rules. That the
 -- declarative conversion relates everything is not used here.
-use Rattle.std.proofs.Common.{ℕ, ◌≡◌, suc, List, [], ◌∷◌, ◌++◌, length, map, refl}
-use Rattle.lk_tree.specs.Tree.{Name, Level, zero_level, Tree, sort, const, lit}
+use Rattle.std.proofs.Common.{ℕ, ◌≡◌, suc, List, [], ◌∷◌, map, refl}
+use Rattle.lk_tree.specs.Tree.{Name, Level, zero_level, Tree, sort, lit}
 use Rattle.lk_tree.specs.WellFormed.{IsWellFormed, AllWellFormed}
 use Rattle.lk_tree.specs.Spine.{apply}
 use Rattle.lk_tree.specs.Operations.{Op, succ, log2, add, sub, mul, div, modulo, gcd, beq, ble, land, lor, xor, shift_left, shift_right, pow, op_value}
 use Rattle.lk_rulebook.specs.Place.{Place, Ctor}
-use Rattle.lk_rulebook.specs.Structures.{projections}
-use Rattle.lk_rulebook.specs.Rules.{HasType, t_sort, t_local, t_const, t_app, t_lam, t_pi, t_let, t_lit, t_str, t_proj, HasSort, has_sort, IsProp, is_prop, Reduces, r_refl, r_trans, r_head, r_beta, r_zeta, r_delta, r_proj, r_major, r_iota, r_k, r_struct, r_quot_lift, r_quot_ind, r_op, IsDefEq, e_refl, e_reduce, e_sort, e_const, e_app, e_lam, e_pi, e_proj, e_eta_left, e_eta_right, e_struct_left, e_struct_right, e_unit, e_proof, e_zero_left, e_zero_right, e_succ_left, e_succ_right, e_str_left, e_str_right, Numerals, no_more_numerals, numeral, IsNotProp, not_prop, AllProject, no_more_fields, project, PastParameters, no_more, next, FieldOf, here, past}
+use Rattle.lk_rulebook.specs.Rules.{HasType, t_sort, t_local, t_const, t_app, t_lam, t_pi, t_let, t_lit, t_str, t_proj, HasSort, has_sort, IsProposition, is_prop, Reduces, r_refl, r_trans, r_head, r_beta, r_zeta, r_delta, r_proj, r_major, r_iota, r_k, r_struct, r_quot_lift, r_quot_ind, r_op, IsDefEq, e_refl, e_reduce, e_sort, e_const, e_app, e_lam, e_pi, e_proj, e_eta_left, e_eta_right, e_struct_left, e_struct_right, e_unit, e_proof, e_zero_left, e_zero_right, e_succ_left, e_succ_right, e_str_left, e_str_right, Numerals, no_more_numerals, numeral, IsNotProp, not_prop, AllProject, no_more_fields, project, PastParameters, no_more, next, FieldOf, here, past}
 use Rattle.lk_rulebook.specs.Names.{named, nat_succ, op_name}
 use Rattle.lk_rulebook.specs.Shapes.{HasNat}
 use Rattle.lk_rulebook.specs.Literals.{IsNumeral, of_lit, of_zero, IsOperation, IsResult, ReadsText, as_it_is, as_text, Reads, by_text, as_zero, as_succ}
@@ -68,13 +67,13 @@ mutual
   has_type (t_let a x q f) = type_let (sort_has_type a) (type_conv (has_type x) (equal_converts q)) (has_type f)
   has_type (t_lit h f) = type_lit h f
   has_type (t_str h) = type_str h
-  has_type (t_proj S ls bs i s U T A l g block ind c e d m k n o p q r f v) =
-      type_proj S ls bs i s T A l g block ind c (type_conv (has_type e) (converts d)) m k n o p q (sort_has_type r) (after_parameters f) (field_domain v)
+  has_type (t_proj S ls bs i s U T A l pj e d q r f v) =
+      type_proj S ls bs i s T A l pj (type_conv (has_type e) (converts d)) q (sort_has_type r) (after_parameters f) (field_domain v)
 
   pub sort_has_type : {w : Place} {A : Tree} {l : Level} → HasSort w A l → IsDeclared w A (sort l)
   sort_has_type (has_sort t r) = type_conv (has_type t) (converts r)
 
-  pub is_proposition : {w : Place} {A : Tree} → IsProp w A → IsDeclared w A (sort zero_level)
+  pub is_proposition : {w : Place} {A : Tree} → IsProposition w A → IsDeclared w A (sort zero_level)
   is_proposition (is_prop s z) = type_conv (sort_has_type s) (conv_sort z)
 
   pub converts : {w : Place} {a b : Tree} → Reduces w a b → Converts w a b
@@ -92,8 +91,8 @@ mutual
   converts (r_k R J c ls ks front bs rest e T D k he hr hd q f) =
       let r : _ = converts hr in
       conv_k R J c ls ks front bs rest e k (type_conv (has_type he) r) (type_conv (has_type hd) (conv_sym (equal_converts q))) f
-  converts (r_struct R J c block ind ctor js ls front bs m T i rule o z f s n h r p) =
-      conv_app (conv_refl f) (conv_struct_eta J c block ind ctor ls bs m s n (type_conv (has_type h) (converts r)) (may_expand p))
+  converts (r_struct R s js ls front bs m T i rule o z f n h r p) =
+      conv_app (conv_refl f) (conv_struct_eta s ls bs m n (type_conv (has_type h) (converts r)) (may_expand p))
   converts (r_quot_lift ls ks i j f r) =
       let q : _ = converts r in
       let m : _ = (well_formed_of_conversion q).1 in
@@ -123,12 +122,12 @@ mutual
   equal_converts (e_proj c) = conv_proj (equal_converts c)
   equal_converts (e_eta_left v h r c) = conv_trans (conv_eta (type_conv (has_type h) (converts r))) (equal_converts c)
   equal_converts (e_eta_right v h r c) = conv_trans (equal_converts c) (conv_sym (conv_eta (type_conv (has_type h) (converts r))))
-  equal_converts (e_struct_left J c block ind ctor ks ps xs a A B v i m n ha hb q p) =
-      conv_struct_ext J c block ind ctor ks ps xs a B i m n (type_conv (has_type ha) (equal_converts q)) (has_type hb) (each_projects p)
-  equal_converts (e_struct_right J c block ind ctor ks ps xs a A B v i m n ha hb q p) =
-      conv_sym (conv_struct_ext J c block ind ctor ks ps xs a B i m n (type_conv (has_type ha) (equal_converts q)) (has_type hb) (each_projects p))
-  equal_converts (e_unit J block ind ctor ls bs a b A B u v i n ha r hb q) =
-      conv_unit J block ind ctor ls bs a b i n (type_conv (has_type ha) (converts r)) (type_conv (has_type hb) (conv_trans (conv_sym (equal_converts q)) (converts r)))
+  equal_converts (e_struct_left i ks ps xs a A B v m n ha hb q p) =
+      conv_struct_ext i ks ps xs a B m n (type_conv (has_type ha) (equal_converts q)) (has_type hb) (each_projects p)
+  equal_converts (e_struct_right i ks ps xs a A B v m n ha hb q p) =
+      conv_sym (conv_struct_ext i ks ps xs a B m n (type_conv (has_type ha) (equal_converts q)) (has_type hb) (each_projects p))
+  equal_converts (e_unit i ls bs a b A B u v n ha r hb q) =
+      conv_unit i ls bs a b n (type_conv (has_type ha) (converts r)) (type_conv (has_type hb) (conv_trans (conv_sym (equal_converts q)) (converts r)))
   equal_converts (e_proof u v a p b q) = conv_proof (has_type a) (type_conv (has_type b) (conv_sym (equal_converts q))) (is_proposition p)
   equal_converts e_zero_left = conv_lit_zero
   equal_converts e_zero_right = conv_sym conv_lit_zero

@@ -56,7 +56,7 @@ variable_stays (r_proj S c ks g block ind ctor i xs s m x r rd a1 a2 a3 a4 fx) h
 variable_stays (r_major R ls front i f r rd) h = absurd h
 variable_stays (r_iota R c ls ks front xs result i f g) h = absurd h
 variable_stays (r_k R J c ls ks front bs rest e U D k he hr hd q f) h = absurd h
-variable_stays (r_struct R J c block ind ctor js ls front bs m U i rule o z f s n x r p) h = absurd h
+variable_stays (r_struct R s js ls front bs m U i rule o z f n x r p) h = absurd h
 variable_stays (r_quot_lift ls ks i j f r) h = absurd h
 variable_stays (r_quot_ind ls ks i j f r) h = absurd h
 variable_stays (r_op op es ns r i x s g) h = absurd (applied_variable (named (op_name op)) es h)
@@ -71,7 +71,7 @@ variable_typed (t_pi i a f) h = absurd h
 variable_typed (t_let a x q f) h = absurd h
 variable_typed (t_lit x f) h = absurd h
 variable_typed (t_str x) h = absurd h
-variable_typed (t_proj S ls bs i s U T A l g block ind c e d m k n o p q r f v) h = absurd h
+variable_typed (t_proj S ls bs i s U T A l pj e d q r f v) h = absurd h
 
 sort_is_no_pi : {w : Place} {T A B : Tree} → (l : Level) × (T ≡ sort l) → Reduces w T (pi A B) → ⊥
 sort_is_no_pi {T = T} s r =
@@ -96,10 +96,10 @@ pi_is_no_variable (e_pi i j c d) f g = absurd g
 pi_is_no_variable (e_proj c) f g = absurd f
 pi_is_no_variable (e_eta_left {o = o} v h r c) f g = sort_is_no_pi (former_typed h (a_former o f)) r
 pi_is_no_variable (e_eta_right v h r c) f g = sort_is_no_pi (variable_typed h g) r
-pi_is_no_variable (e_struct_left J c block ind ctor ks ps xs a A B v i m n ha hb q p) f g = absurd (applied_variable (const c ks) (ps ++ xs) g)
-pi_is_no_variable (e_struct_right J c block ind ctor ks ps xs a A B v i m n ha hb q p) f g =
-    absurd (applied_former (const c ks) (ps ++ xs) (a_former (apply (const c ks) (ps ++ xs)) f))
-pi_is_no_variable (e_unit J block ind ctor ls bs a b A B u v i n ha r hb q) f g = sort_is_no_constant J ls bs (former_typed ha (a_former a f)) r
+pi_is_no_variable (e_struct_left i ks ps xs a A B v m n ha hb q p) f g = absurd (applied_variable (const i.ctor_name ks) (ps ++ xs) g)
+pi_is_no_variable (e_struct_right i ks ps xs a A B v m n ha hb q p) f g =
+    absurd (applied_former (const i.ctor_name ks) (ps ++ xs) (a_former (apply (const i.ctor_name ks) (ps ++ xs)) f))
+pi_is_no_variable (e_unit i ls bs a b A B u v n ha r hb q) f g = sort_is_no_constant i.name ls bs (former_typed ha (a_former a f)) r
 pi_is_no_variable (e_proof {a = a} u v ha p hb q) f g = let s : _ = former_typed ha (a_former a f) in sort_is_no_prop p s.0 s.1
 pi_is_no_variable e_zero_left f g = absurd f
 pi_is_no_variable e_zero_right f g = absurd f
@@ -123,7 +123,7 @@ lam_typed (t_pi i a f) = tt
 lam_typed (t_let a x q f) = tt
 lam_typed (t_lit x f) = tt
 lam_typed (t_str x) = tt
-lam_typed (t_proj S ls bs i s U T A l g block ind c e d m k n o p q r f v) = tt
+lam_typed (t_proj S ls bs i s U T A l pj e d q r f v) = tt
 
 var_is_no_pi : (i k : ℕ) (T : Tree) → Opening 0 i (local k T) → IsPi (open_var 0 (local k T) i) → ⊥
 var_is_no_pi i k T (below l e) f = rw e at f

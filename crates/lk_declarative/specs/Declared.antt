@@ -1,6 +1,9 @@
 -- The declarative rules: typing and conversion at a place, the least two relations that meet the rules. Conversion is an
 -- equivalence, a tree of a type has each type that is convertible to it, and beta asks nothing of the argument.
 -- These relations relate everything: see `collapse`. The judgement that answers are proved against is the directed one.
+-- They depart from the textbook's declarative rules in this: the type of a lambda is stated closed, and opened with the Local of
+-- its binder, whose number bounds the lambda and its type; structure eta reads what is structure-like at the constructor, and
+-- for structures without fields at the type; what a unit with a loose variable or a wide literal gives means nothing.
 use Rattle.std.specs.Prelude.{ℕ, suc, ◌≡◌, ◌<◌, ◌≤◌, ◌+◌, List, [], ◌∷◌, ◌++◌, length, map, Some, slice_get, true}
 use Rattle.lk_tree.specs.Tree.{Name, Level, zero_level, succ_level, imax_level, Tree, var, sort, const, app, lam, pi, let_in, proj, lit, str, local}
 use Rattle.lk_tree.specs.Level.{SameLevel}
@@ -8,8 +11,8 @@ use Rattle.lk_tree.specs.Bind.{opened, bound, has_var}
 use Rattle.lk_tree.specs.Levels.{put_levels}
 use Rattle.lk_tree.specs.Spine.{apply}
 use Rattle.lk_tree.specs.WellFormed.{IsWellFormed, AllWellFormed}
-use Rattle.lk_rulebook.specs.Place.{Place, Entry, a_type, a_ctor, Block, BlockType, Ctor}
-use Rattle.lk_rulebook.specs.Structures.{IsStructure, IsUnitLike, IsIota, IsKRecursor, projections}
+use Rattle.lk_rulebook.specs.Place.{Place, Entry, a_ctor, Block, BlockType, Ctor}
+use Rattle.lk_rulebook.specs.Structures.{Structure, UnitLike, IsProjectable, IsIota, IsKRecursor, projections}
 use Rattle.lk_rulebook.specs.Names.{named, nat, nat_zero, nat_succ, op_name, string, quot_mk, quot_lift, quot_ind}
 use Rattle.lk_rulebook.specs.Shapes.{HasNat, HasString}
 use Rattle.lk_rulebook.specs.Literals.{by_def, IsOperation, IsResult, expansion, Expands}
@@ -40,11 +43,10 @@ mutual
         IsDeclared w A (sort l) → IsDeclared w v A → IsDeclared w (opened b v) B → IsDeclared w (let_in A v b) B
     type_lit : {n : ℕ} → HasNat w → IsWellFormed (lit n) → IsDeclared w (lit n) (named nat)
     type_str : {s : List ℕ} → HasString w → IsDeclared w (str s) (named string)
-    type_proj : (S : Name) (ls : List Level) (bs : List Tree) (i : ℕ) (s T A : Tree) (l : Level) (g : Entry) (block : Block) (ind : BlockType) (c : Ctor) →
-        IsDeclared w s (apply (const S ls) bs) → w.means S ≡ Some g → g.kind ≡ a_type block ind →
-        length bs ≡ ind.parameters + ind.indices → ind.ctors ≡ c ∷ [] → length ls ≡ length c.levels → i < c.fields →
+    type_proj : (S : Name) (ls : List Level) (bs : List Tree) (i : ℕ) (s T A : Tree) (l : Level) (p : IsProjectable w S ls bs) →
+        IsDeclared w s (apply (const S ls) bs) → i < p.ctor.fields →
         IsDeclared w (apply (const S ls) bs) (sort l) →
-        AfterParameters w bs ind.parameters (put_levels c.levels ls c.type) T →
+        AfterParameters w bs p.ind.parameters (put_levels p.ctor.levels ls p.ctor.type) T →
         FieldDomain w S s l 0 i T A →
         IsDeclared w (proj S i s) A
     type_conv : {e A B : Tree} → IsDeclared w e A → Converts w A B → IsDeclared w e B
@@ -90,17 +92,17 @@ mutual
         Converts w (apply (named (op_name op)) (map lit ns)) r
     conv_str : {s : List ℕ} → Expands w s → Converts w (str s) (expansion (chars s))
     conv_eta : {o A B : Tree} → IsDeclared w o (pi A B) → Converts w o (lam A (app o (var 0)))
-    conv_struct_eta : (J c : Name) (block : Block) (ind : BlockType) (ctor : Ctor) (ls : List Level) (bs : List Tree) (m : Tree) →
-        IsStructure w J c block ind ctor → length bs ≡ ctor.parameters →
-        IsDeclared w m (apply (const J ls) bs) → MayExpand w ctor (apply (const J ls) bs) →
-        Converts w m (apply (const c ls) (bs ++ projections J m 0 ctor.fields))
-    conv_unit : (J : Name) (block : Block) (ind : BlockType) (ctor : Ctor) (ls : List Level) (bs : List Tree) (a b : Tree) →
-        IsUnitLike w J block ind ctor → length bs ≡ ind.parameters →
-        IsDeclared w a (apply (const J ls) bs) → IsDeclared w b (apply (const J ls) bs) → Converts w a b
-    conv_struct_ext : (J c : Name) (block : Block) (ind : BlockType) (ctor : Ctor) (ks : List Level) (ps xs : List Tree) (a T : Tree) →
-        IsStructure w J c block ind ctor → length ps ≡ ctor.parameters → length xs ≡ ctor.fields →
-        IsDeclared w a T → IsDeclared w (apply (const c ks) (ps ++ xs)) T → EachProjects w J a 0 xs →
-        Converts w a (apply (const c ks) (ps ++ xs))
+    conv_struct_eta : (S : Structure w) (ls : List Level) (bs : List Tree) (m : Tree) →
+        length bs ≡ S.ctor.parameters →
+        IsDeclared w m (apply (const S.ind.name ls) bs) → MayExpand w S.ctor (apply (const S.ind.name ls) bs) →
+        Converts w m (apply (const S.ctor_name ls) (bs ++ projections S.ind.name m 0 S.ctor.fields))
+    conv_unit : (U : UnitLike w) (ls : List Level) (bs : List Tree) (a b : Tree) →
+        length bs ≡ U.ind.parameters →
+        IsDeclared w a (apply (const U.name ls) bs) → IsDeclared w b (apply (const U.name ls) bs) → Converts w a b
+    conv_struct_ext : (S : Structure w) (ks : List Level) (ps xs : List Tree) (a T : Tree) →
+        length ps ≡ S.ctor.parameters → length xs ≡ S.ctor.fields →
+        IsDeclared w a T → IsDeclared w (apply (const S.ctor_name ks) (ps ++ xs)) T → EachProjects w S.ind.name a 0 xs →
+        Converts w a (apply (const S.ctor_name ks) (ps ++ xs))
     conv_proof : {a b A : Tree} → IsDeclared w a A → IsDeclared w b A → IsDeclared w A (sort zero_level) → Converts w a b
     conv_k : (R J c : Name) (ls ks : List Level) (front bs rest : List Tree) (e : Tree) →
         IsKRecursor w R J c front bs →
@@ -119,14 +121,14 @@ mutual
     first_projects : {J : Name} {a x : Tree} {j : ℕ} {xs : List Tree} →
         Converts w (proj J j a) x → EachProjects w J a (suc j) xs → EachProjects w J a j (x ∷ xs)
 
-  -- r, the constructor's type, with the first n of bs put for its parameters
+  -- T is left of r after n Pis, the first n of bs put in
   pub data AfterParameters (w : Place) : List Tree → ℕ → Tree → Tree → Type 0 where
     after_none : {bs : List Tree} {r : Tree} → AfterParameters w bs 0 r r
     after_one : {b : Tree} {bs : List Tree} {n : ℕ} {r A B T : Tree} →
         Converts w r (pi A B) → AfterParameters w bs n (opened B b) T → AfterParameters w (b ∷ bs) (suc n) r T
 
   -- A is the domain of field number i of the structure s, where r begins with field number j; in Prop, which is where
-  -- l = 0, the domain is a proposition, and so is each earlier one that a later one rests on
+  -- l = 0, the domain is a proposition, and so is the domain of each earlier one whose variable the rest of the type mentions
   pub data FieldDomain (w : Place) : Name → Tree → Level → ℕ → ℕ → Tree → Tree → Type 0 where
     this_field : {S : Name} {s : Tree} {l : Level} {i : ℕ} {r A B : Tree} →
         Converts w r (pi A B) → (SameLevel l zero_level → IsDeclared w A (sort zero_level)) →

@@ -1,12 +1,13 @@
--- What is expected of the ideal rules at a place whose units are lawful, and proved nowhere.
+-- What is expected of the ideal rules at a place whose units are lawful, and whose operations and String are what their names
+-- say; not shown at any place.
 use Rattle.std.specs.Prelude.{ℕ, zero, suc, ◌≡◌, ◌<◌, ◌⊎◌, ◌+◌, List, [], ◌∷◌, ◌++◌, length, map, Some, slice_get, true}
 use Rattle.lk_tree.specs.Tree.{Name, Level, zero_level, Tree, sort, const, app, lam, pi, proj, lit}
 use Rattle.lk_tree.specs.Bind.{opened}
 use Rattle.lk_tree.specs.Levels.{put_levels}
 use Rattle.lk_tree.specs.Spine.{apply}
 use Rattle.lk_tree.specs.WellFormed.{HasLocal}
-use Rattle.lk_rulebook.specs.Place.{Place, Entry, a_type, a_ctor, Block, BlockType, Ctor}
-use Rattle.lk_rulebook.specs.Structures.{IsStructure, IsIota, IsKRecursor, projections}
+use Rattle.lk_rulebook.specs.Place.{Place, Entry, a_ctor, Block, BlockType, Ctor}
+use Rattle.lk_rulebook.specs.Structures.{Structure, IsProjectable, IsIota, IsKRecursor, projections}
 use Rattle.lk_rulebook.specs.Names.{named, nat, nat_zero, nat_succ, op_name, string, quot_mk, quot_lift, quot_ind}
 use Rattle.lk_rulebook.specs.Shapes.{HasNat}
 use Rattle.lk_rulebook.specs.Literals.{by_def, IsOperation, IsResult, expansion, Expands}
@@ -56,16 +57,15 @@ pub record Expected (w : Place) : Type 0 where
   pub proofs : (R J c : Name) (front bs rest : List Tree) (ks : List Level) (l : Level) → IsKRecursor w R J c front bs →
       IdealType w (apply (const J ks) (bs ++ rest)) (sort l) → IdealType w (apply (const J ks) (bs ++ rest)) (sort zero_level)
   -- what structure eta makes of m has the type of m
-  pub expanded : (J c : Name) (block : Block) (ind : BlockType) (ctor : Ctor) (ls : List Level) (bs : List Tree) (m : Tree) →
-      IsStructure w J c block ind ctor → length bs ≡ ctor.parameters → IdealType w m (apply (const J ls) bs) → GuardedExpands true w ctor (apply (const J ls) bs) →
-      IdealType w (apply (const c ls) (bs ++ projections J m 0 ctor.fields)) (apply (const J ls) bs)
+  pub expanded : (S : Structure w) (ls : List Level) (bs : List Tree) (m : Tree) →
+      length bs ≡ S.ctor.parameters → IdealType w m (apply (const S.ind.name ls) bs) → GuardedExpands true w S.ctor (apply (const S.ind.name ls) bs) →
+      IdealType w (apply (const S.ctor_name ls) (bs ++ projections S.ind.name m 0 S.ctor.fields)) (apply (const S.ind.name ls) bs)
   -- a member of a structure-like type is a proof, or has all its projections
-  pub members : (J c : Name) (block : Block) (ind : BlockType) (ctor : Ctor) (ks : List Level) (ps xs : List Tree) (a B : Tree) →
-      IsStructure w J c block ind ctor → length ps ≡ ctor.parameters → length xs ≡ ctor.fields →
-      IdealType w a B → IdealType w (apply (const c ks) (ps ++ xs)) B →
-      IdealType w B (sort zero_level) ⊎ ((j : ℕ) → j < ctor.fields → (U : Tree) × IdealType w (proj J j a) U)
+  pub members : (S : Structure w) (ks : List Level) (ps xs : List Tree) (a B : Tree) →
+      length ps ≡ S.ctor.parameters → length xs ≡ S.ctor.fields →
+      IdealType w a B → IdealType w (apply (const S.ctor_name ks) (ps ++ xs)) B →
+      IdealType w B (sort zero_level) ⊎ ((j : ℕ) → j < S.ctor.fields → (U : Tree) × IdealType w (proj S.ind.name j a) U)
   -- the constructor of a structure has a type that has a sort, and the parameters of the structure's type fit it
-  pub constructors : (S : Name) (g : Entry) (block : Block) (ind : BlockType) (c : Ctor) (ls : List Level) (bs : List Tree) (l : Level) →
-      w.means S ≡ Some g → g.kind ≡ a_type block ind → ind.ctors ≡ c ∷ [] → length ls ≡ length c.levels → length bs ≡ ind.parameters + ind.indices →
+  pub constructors : (S : Name) (ls : List Level) (bs : List Tree) (l : Level) (p : IsProjectable w S ls bs) →
       IdealType w (apply (const S ls) bs) (sort l) →
-      ((m : Level) × IdealType w (put_levels c.levels ls c.type) (sort m)) × Fits w bs ind.parameters (put_levels c.levels ls c.type)
+      ((m : Level) × IdealType w (put_levels p.ctor.levels ls p.ctor.type) (sort m)) × Fits w bs p.ind.parameters (put_levels p.ctor.levels ls p.ctor.type)

@@ -8,8 +8,8 @@ use Rattle.lk_tree.specs.Bind.{opened, bound, has_var}
 use Rattle.lk_tree.specs.Levels.{put_levels}
 use Rattle.lk_tree.specs.Spine.{apply}
 use Rattle.lk_tree.specs.WellFormed.{IsWellFormed, AllWellFormed}
-use Rattle.lk_rulebook.specs.Place.{Place, Entry, a_type, a_ctor, Block, BlockType, Ctor}
-use Rattle.lk_rulebook.specs.Structures.{IsStructure, IsUnitLike, IsIota, IsKRecursor, projections}
+use Rattle.lk_rulebook.specs.Place.{Place, Entry, a_ctor, Block, BlockType, Ctor}
+use Rattle.lk_rulebook.specs.Structures.{Structure, UnitLike, IsProjectable, IsIota, IsKRecursor, projections}
 use Rattle.lk_rulebook.specs.Names.{named, nat, nat_zero, nat_succ, op_name, string, quot_mk, quot_lift, quot_ind}
 use Rattle.lk_rulebook.specs.Shapes.{HasNat, HasString}
 use Rattle.lk_rulebook.specs.Literals.{by_def, IsOperation, IsResult, expansion, Expands}
@@ -40,11 +40,10 @@ mutual
         GuardedType p w A (sort l) → GuardedType p w v A → GuardedType p w (opened b v) B → GuardedType p w (let_in A v b) B
     typed_lit : {n : ℕ} → HasNat w → IsWellFormed (lit n) → GuardedType p w (lit n) (named nat)
     typed_str : {s : List ℕ} → HasString w → GuardedType p w (str s) (named string)
-    typed_proj : (S : Name) (ls : List Level) (bs : List Tree) (i : ℕ) (s T A : Tree) (l : Level) (g : Entry) (block : Block) (ind : BlockType) (c : Ctor) →
-        GuardedType p w s (apply (const S ls) bs) → w.means S ≡ Some g → g.kind ≡ a_type block ind →
-        length bs ≡ ind.parameters + ind.indices → ind.ctors ≡ c ∷ [] → length ls ≡ length c.levels → i < c.fields →
+    typed_proj : (S : Name) (ls : List Level) (bs : List Tree) (i : ℕ) (s T A : Tree) (l : Level) (q : IsProjectable w S ls bs) →
+        GuardedType p w s (apply (const S ls) bs) → i < q.ctor.fields →
         GuardedType p w (apply (const S ls) bs) (sort l) →
-        GuardedParameters p w bs ind.parameters (put_levels c.levels ls c.type) T →
+        GuardedParameters p w bs q.ind.parameters (put_levels q.ctor.levels ls q.ctor.type) T →
         GuardedField p w S s l 0 i T A →
         GuardedType p w (proj S i s) A
     typed_conv : {e A B : Tree} {l : Level} → GuardedType p w e A → GuardedEquals p w A B → GuardedType p w B (sort l) → GuardedType p w e B
@@ -91,17 +90,17 @@ mutual
         GuardedEquals p w (apply (named (op_name op)) (map lit ns)) r
     same_str : {s : List ℕ} → Expands w s → GuardedEquals p w (str s) (expansion (chars s))
     same_eta : {o A B : Tree} → GuardedType p w o (pi A B) → GuardedEquals p w o (lam A (app o (var 0)))
-    same_struct_eta : (J c : Name) (block : Block) (ind : BlockType) (ctor : Ctor) (ls : List Level) (bs : List Tree) (m : Tree) →
-        IsStructure w J c block ind ctor → length bs ≡ ctor.parameters →
-        GuardedType p w m (apply (const J ls) bs) → GuardedExpands p w ctor (apply (const J ls) bs) →
-        GuardedEquals p w m (apply (const c ls) (bs ++ projections J m 0 ctor.fields))
-    same_unit : (J : Name) (block : Block) (ind : BlockType) (ctor : Ctor) (ls : List Level) (bs : List Tree) (a b : Tree) →
-        IsUnitLike w J block ind ctor → length bs ≡ ind.parameters →
-        GuardedType p w a (apply (const J ls) bs) → GuardedType p w b (apply (const J ls) bs) → GuardedEquals p w a b
-    same_struct_ext : (J c : Name) (block : Block) (ind : BlockType) (ctor : Ctor) (ks : List Level) (ps xs : List Tree) (a T : Tree) →
-        IsStructure w J c block ind ctor → length ps ≡ ctor.parameters → length xs ≡ ctor.fields →
-        GuardedType p w a T → GuardedType p w (apply (const c ks) (ps ++ xs)) T → GuardedProjects p w J a 0 xs →
-        GuardedEquals p w a (apply (const c ks) (ps ++ xs))
+    same_struct_eta : (S : Structure w) (ls : List Level) (bs : List Tree) (m : Tree) →
+        length bs ≡ S.ctor.parameters →
+        GuardedType p w m (apply (const S.ind.name ls) bs) → GuardedExpands p w S.ctor (apply (const S.ind.name ls) bs) →
+        GuardedEquals p w m (apply (const S.ctor_name ls) (bs ++ projections S.ind.name m 0 S.ctor.fields))
+    same_unit : (U : UnitLike w) (ls : List Level) (bs : List Tree) (a b : Tree) →
+        length bs ≡ U.ind.parameters →
+        GuardedType p w a (apply (const U.name ls) bs) → GuardedType p w b (apply (const U.name ls) bs) → GuardedEquals p w a b
+    same_struct_ext : (S : Structure w) (ks : List Level) (ps xs : List Tree) (a T : Tree) →
+        length ps ≡ S.ctor.parameters → length xs ≡ S.ctor.fields →
+        GuardedType p w a T → GuardedType p w (apply (const S.ctor_name ks) (ps ++ xs)) T → GuardedProjects p w S.ind.name a 0 xs →
+        GuardedEquals p w a (apply (const S.ctor_name ks) (ps ++ xs))
     same_proof : {a b A : Tree} → GuardedType p w a A → GuardedType p w b A → GuardedType p w A (sort zero_level) → GuardedEquals p w a b
     same_k : (R J c : Name) (ls ks : List Level) (front bs rest : List Tree) (e : Tree) →
         IsKRecursor w R J c front bs →
@@ -120,14 +119,14 @@ mutual
     next_projects : {J : Name} {a x : Tree} {j : ℕ} {xs : List Tree} →
         GuardedEquals p w (proj J j a) x → GuardedProjects p w J a (suc j) xs → GuardedProjects p w J a j (x ∷ xs)
 
-  -- r, the constructor's type, with the first n of bs put for its parameters
+  -- T is left of r after n Pis, the first n of bs put in
   pub data GuardedParameters (p : Bool) (w : Place) : List Tree → ℕ → Tree → Tree → Type 0 where
     past_none : {bs : List Tree} {r : Tree} → GuardedParameters p w bs 0 r r
     past_one : {b : Tree} {bs : List Tree} {n : ℕ} {r A B T : Tree} →
         GuardedEquals p w r (pi A B) → GuardedParameters p w bs n (opened B b) T → GuardedParameters p w (b ∷ bs) (suc n) r T
 
   -- A is the domain of field number i of the structure s, where r begins with field number j; in Prop, which is where
-  -- l = 0, the domain is a proposition, and so is each earlier one that a later one rests on
+  -- l = 0, the domain is a proposition, and so is the domain of each earlier one whose variable the rest of the type mentions
   pub data GuardedField (p : Bool) (w : Place) : Name → Tree → Level → ℕ → ℕ → Tree → Tree → Type 0 where
     field_here : {S : Name} {s : Tree} {l : Level} {i : ℕ} {r A B : Tree} →
         GuardedEquals p w r (pi A B) → (SameLevel l zero_level → GuardedType p w A (sort zero_level)) →
@@ -136,7 +135,7 @@ mutual
         GuardedEquals p w r (pi A B) → (SameLevel l zero_level → has_var 0 B ≡ true → GuardedType p w A (sort zero_level)) →
         GuardedField p w S s l (suc j) i (opened B (proj S j s)) C → GuardedField p w S s l j i r C
 
--- all the typing premises
+-- typing premises also at projections
 abbrev pub IdealType : Place → Tree → Tree → Type 0
 IdealType w e A = GuardedType true w e A
 

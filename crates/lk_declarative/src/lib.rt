@@ -1,13 +1,13 @@
 // The declarative rules of typing and conversion, beside the directed ones: what the directed rules derive the
-// declarative ones derive too, and why the declarative ones alone say nothing; and the ideal rules, with all typing
-// premises, and what the same rests on there.
+// declarative ones derive too, and why the declarative ones alone say nothing; and the ideal rules, with typing premises
+// also at projections, and what the same rests on there.
 #![tactic(auto)]
 
 ghost use Rattle.std.specs.Prelude.{ℕ, List, false};
 ghost use Rattle.lk_tree.specs.Tree.{Name, Level, zero_level, Tree, sort};
 ghost use Rattle.lk_tree.specs.WellFormed.{IsWellFormed};
 ghost use Rattle.lk_rulebook.specs.Place.{Place, Ctor};
-ghost use Rattle.lk_rulebook.specs.Rules.{HasType, HasSort, IsProp, Reduces, IsDefEq, IsNotProp, AllProject, PastParameters, FieldOf};
+ghost use Rattle.lk_rulebook.specs.Rules.{HasType, HasSort, IsProposition, Reduces, IsDefEq, IsNotProp, AllProject, PastParameters, FieldOf};
 ghost use Rattle.lk_declarative.specs.Declared.{IsDeclared, Converts, MayExpand, EachProjects, AfterParameters, FieldDomain};
 ghost use Rattle.lk_declarative.specs.Falsehood.{truth, simple_proof, falsehood};
 ghost use Rattle.lk_declarative.specs.Guarded.{GuardedType, IdealType, IdealEquals};
@@ -27,7 +27,7 @@ pub fn declared_is_well_formed()
 pub fn derivations_are_declared()
     ensures types { (w : Place) (e A : Tree) → HasType w e A → IsDeclared w e A }
     ensures sorts { (w : Place) (A : Tree) (l : Level) → HasSort w A l → IsDeclared w A (sort l) }
-    ensures propositions { (w : Place) (A : Tree) → IsProp w A → IsDeclared w A (sort zero_level) }
+    ensures propositions { (w : Place) (A : Tree) → IsProposition w A → IsDeclared w A (sort zero_level) }
     ensures reducts { (w : Place) (a b : Tree) → Reduces w a b → Converts w a b }
     ensures equals { (w : Place) (a b : Tree) → IsDefEq w a b → Converts w a b }
     ensures no_propositions { (w : Place) (c : Ctor) (T : Tree) → IsNotProp w T → MayExpand w c T }

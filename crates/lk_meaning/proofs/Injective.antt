@@ -105,7 +105,7 @@ long_stays {w} {c} r ns (r_op op es nums t i n v y) o s h =
     let j : op ≡ succ = only_succ r op i e in
     absurd (ns (subst (IsOperation w) j i) (e ∙ ap op_name j))
 long_stays {c = c} r ns (r_k R K d ls ks front bs rest e U D i he hr hd q f) o s h = absurd (rigid_rec r R ls front i.rec_entry i.recursor i.rec_given i.rec_kind (long_heads c s h))
-long_stays {c = c} r ns (r_struct R K d block ind ctor js ls front bs m U i rule x z f t n y p q) o s h = absurd (rigid_rec r R js front i.rec_entry i.recursor i.rec_given i.rec_kind (long_heads c s h))
+long_stays {c = c} r ns (r_struct R t js ls front bs m U i rule x z f n y p q) o s h = absurd (rigid_rec r R js front i.rec_entry i.recursor i.rec_given i.rec_kind (long_heads c s h))
 
 same_levels : (ls : List Level) → SameLevels ls ls
 same_levels [] = none
@@ -179,9 +179,9 @@ injective {w} {c} z ns (e_lam {A = A} {A' = A'} {b = b} {b' = b'} {k = m} i j d 
     same_front n o p x x refl refl
 injective z ns (e_eta_left v i u e) o p s r h k = injective z ns e o p s r (longer (well_formed_of_type i).0 h) k
 injective z ns (e_eta_right v i u e) o p s r h k = injective z ns e o p s r h (longer (well_formed_of_type i).0 k)
-injective {c = c} z ns (e_struct_left J d block ind ctor ks ps xs a A B v i m n ha hb q t) o p s r h k = absurd (struct_head ks (ps ++ xs) z i (long_heads c r k))
-injective {c = c} z ns (e_struct_right J d block ind ctor ks ps xs a A B v i m n ha hb q t) o p s r h k = absurd (struct_head ks (ps ++ xs) z i (long_heads c s h))
-injective {c = c} z ns (e_unit J block ind ctor ls bs a b A B v l i n ha u hb q) o p s r h k = absurd (no_unit_like (data_at J ls bs (heads_typed z ha (long_heads c s h)) u) i)
+injective {c = c} z ns (e_struct_left i ks ps xs a A B v m n ha hb q t) o p s r h k = absurd (struct_head i ks (ps ++ xs) z (long_heads c r k))
+injective {c = c} z ns (e_struct_right i ks ps xs a A B v m n ha hb q t) o p s r h k = absurd (struct_head i ks (ps ++ xs) z (long_heads c s h))
+injective {c = c} z ns (e_unit i ls bs a b A B v l n ha u hb q) o p s r h k = absurd (no_unit_like i (data_at i.name ls bs (heads_typed z ha (long_heads c s h)) u))
 injective {c = c} z ns (e_proof v l ha x hb q) o p s r h k = absurd (heads_no_prop z ha (long_heads c s h) x)
 injective {c = c} z ns e_zero_left o p s r h k = absurd (lit_not c 0 o s h)
 injective {c = c} z ns e_zero_right o p s r h k = absurd (lit_not c 0 p r k)

@@ -7,7 +7,7 @@ use Rattle.lk_tree.specs.Spine.{apply}
 use Rattle.lk_tree.specs.Bind.{open_at, open_var}
 use Rattle.lk_tree.proofs.Binding.{Opening, below, at, above, opening}
 use Rattle.lk_rulebook.specs.Place.{Place, Entry, Block, BlockType, Ctor, Kind, Recursor, a_type, a_ctor, a_rec, a_def, a_thm, an_axiom, an_opaque, a_quot}
-use Rattle.lk_rulebook.specs.Structures.{IsStructure, IsUnitLike}
+use Rattle.lk_rulebook.specs.Structures.{Structure, UnitLike}
 use Rattle.lk_tree.specs.Operations.{Op, succ, log2, add, sub, mul, div, modulo, gcd, beq, ble, land, lor, xor, shift_left, shift_right, pow, Value, number, op_value}
 use Rattle.lk_rulebook.specs.Names.{named, op_name}
 use Rattle.lk_rulebook.specs.Literals.{by_def, may_give, IsOperation, IsResult, a_number, a_truth}
@@ -15,7 +15,7 @@ use Rattle.lk_rulebook.specs.Quotients.{IsQuot}
 use Rattle.lk_rulebook.specs.Shapes.{HasNat, nat, nat_succ}
 use Rattle.lk_rulebook.specs.Formers.{IsFormer}
 use Rattle.lk_rulebook.proofs.Sorts.{former_stays, former_typed, sort_is_no_prop}
-use Rattle.lk_rulebook.specs.Rules.{HasValue, of_def, of_thm, HasType, t_sort, t_local, t_const, t_app, t_lam, t_pi, t_let, t_lit, t_str, t_proj, HasSort, has_sort, IsProp, is_prop, Reduces, r_refl, r_trans, r_head, r_beta, r_zeta, r_delta, r_proj, r_major, r_iota, r_k, r_struct, r_quot_lift, r_quot_ind, r_op, IsDefEq, e_refl, e_reduce, e_sort, e_const, e_app, e_lam, e_pi, e_proj, e_eta_left, e_eta_right, e_struct_left, e_struct_right, e_unit, e_proof, e_zero_left, e_zero_right, e_succ_left, e_succ_right, e_str_left, e_str_right}
+use Rattle.lk_rulebook.specs.Rules.{HasValue, of_def, of_thm, HasType, t_sort, t_local, t_const, t_app, t_lam, t_pi, t_let, t_lit, t_str, t_proj, HasSort, has_sort, IsProposition, is_prop, Reduces, r_refl, r_trans, r_head, r_beta, r_zeta, r_delta, r_proj, r_major, r_iota, r_k, r_struct, r_quot_lift, r_quot_ind, r_op, IsDefEq, e_refl, e_reduce, e_sort, e_const, e_app, e_lam, e_pi, e_proj, e_eta_left, e_eta_right, e_struct_left, e_struct_right, e_unit, e_proof, e_zero_left, e_zero_right, e_succ_left, e_succ_right, e_str_left, e_str_right}
 use Rattle.lk_meaning.specs.Rigid.{Heads, IsApplied, EndsInType, IsDataName, IsDataType, IsRigid}
 
 pub heads_applied : (c : Name) (h : Tree) (xs : List Tree) → Heads c (apply h xs) → Heads c h
@@ -315,7 +315,7 @@ applied_stays s (r_quot_lift ls ks q m f e) h = absurd (no_quot s q h)
 applied_stays s (r_quot_ind ls ks q m f e) h = absurd (no_quot s q h)
 applied_stays s (r_op op es ns r o n v y) h = absurd (no_operation s op es o h)
 applied_stays s (r_k R K c ls ks front bs rest e U D i he hr hd q f) h = absurd (stuck s R ls front i.rec_entry i.recursor i.rec_given i.rec_kind h)
-applied_stays s (r_struct R K c block ind ctor js ls front bs m U i rule o z f t n x r p) h = absurd (stuck s R js front i.rec_entry i.recursor i.rec_given i.rec_kind h)
+applied_stays s (r_struct R t js ls front bs m U i rule o z f n x r p) h = absurd (stuck s R js front i.rec_entry i.recursor i.rec_given i.rec_kind h)
 
 data_stays : (w : Place) (T U : Tree) → IsDataType w T → Reduces w T U → T ≡ U
 data_stays w (pi A B) U h r = former_stays r tt
@@ -345,7 +345,7 @@ applied_type s (t_pi i a f) h = absurd h
 applied_type s (t_let a x q f) h = absurd h
 applied_type s (t_lit x f) h = absurd h
 applied_type s (t_str x) h = absurd h
-applied_type s (t_proj S ls bs i t U T A l g block ind c e d m k n o p q r f v) h = absurd h
+applied_type s (t_proj S ls bs i t U T A l pj e d q r f v) h = absurd h
 
 sort_ends : (l : Level) (S : Tree) → S ≡ sort l → EndsInType S → SameLevel l zero_level → ⊥
 sort_ends l S e h z = subst EndsInType e h (λ n. 0) (z (λ n. 0))
@@ -386,7 +386,7 @@ mutual
   typed_no_prop (t_let a x q f) d r z = absurd d
   typed_no_prop (t_lit x f) d r z = absurd d
   typed_no_prop (t_str x) d r z = absurd d
-  typed_no_prop (t_proj S ls bs i t U T A l g block ind c e y m k n o p q f x v) d r z = absurd d
+  typed_no_prop (t_proj S ls bs i t U T A l pj e y q f x v) d r z = absurd d
 
 -- what has a rigid head reduces to what has it
 pub rigid_value : {w : Place} {c d : Name} {g : Entry} {v : Tree} → IsRigid w c → c ≡ d → w.means d ≡ Some g → HasValue g v → ⊥
@@ -471,7 +471,7 @@ heads_stay s (r_quot_lift ls ks q m f e) h = absurd (rigid_quot s q h)
 heads_stay s (r_quot_ind ls ks q m f e) h = absurd (rigid_quot s q h)
 heads_stay s (r_op op es ns r o n v y) h = heads_op s op es ns r o y h
 heads_stay s (r_k R K c ls ks front bs rest e U D i he hr hd q f) h = h
-heads_stay s (r_struct R K c block ind ctor js ls front bs m U i rule o z f t n x r p) h = h
+heads_stay s (r_struct R t js ls front bs m U i rule o z f n x r p) h = h
 
 one_above : (l : Level) (T : Tree) → T ≡ sort l → SameLevel l (succ_level zero_level) → EndsInType T
 one_above l T e h = subst EndsInType (sym e) (λ σ z. absurd (let i : level_value σ l ≡ 1 = h σ in omega arith))
@@ -503,9 +503,9 @@ heads_typed s t_sort h = absurd h
 heads_typed s (t_local f) h = absurd h
 heads_typed s (t_pi i a f) h = absurd h
 heads_typed s (t_let a x q f) h = absurd h
-heads_typed s (t_proj S ls bs i t U T A l g block ind c e d m k n o p q r f v) h = absurd h
+heads_typed s (t_proj S ls bs i t U T A l pj e d q r f v) h = absurd h
 
-pub heads_no_prop : {w : Place} {c : Name} {e A : Tree} → IsRigid w c → HasType w e A → Heads c e → IsProp w A → ⊥
+pub heads_no_prop : {w : Place} {c : Name} {e A : Tree} → IsRigid w c → HasType w e A → Heads c e → IsProposition w A → ⊥
 heads_no_prop s t h (is_prop i z) = data_no_prop i (heads_typed s t h) z
 
 -- a data type that reduces to J applied is J applied
@@ -516,13 +516,13 @@ data_at {w} {A} J ls bs d r =
 own_type : (b c : Block) (t u : BlockType) → a_type b t ≡ a_type c u → t ≡ u
 own_type b c t u e = cc
 
-pub no_unit_like : {w : Place} {J : Name} {block : Block} {ind : BlockType} {ctor : Ctor} → IsDataName w J → IsUnitLike w J block ind ctor → ⊥
-no_unit_like {w} {block = block} {ind = ind} {ctor = ctor} s i =
-    let e : s.own ≡ ind = own_type s.block block s.own ind (sym s.kind ∙ (ap (λ x. x.kind) (one_entry w refl s.given i.given) ∙ i.kind)) in
-    s.no_unit ctor (ap (λ t. t.ctors) e ∙ i.one_ctor) i.no_fields
+pub no_unit_like : {w : Place} (U : UnitLike w) → IsDataName w U.name → ⊥
+no_unit_like {w} U s =
+    let e : s.own ≡ U.ind = own_type s.block U.block s.own U.ind (sym s.kind ∙ (ap (λ x. x.kind) (one_entry w refl s.given U.given) ∙ U.kind)) in
+    s.no_unit U.ctor (ap (λ t. t.ctors) e ∙ U.one_ctor) U.no_fields
 
-pub struct_head : {w : Place} {c x J : Name} (ks : List Level) (zs : List Tree) {block : Block} {ind : BlockType} {ctor : Ctor} → IsRigid w c → IsStructure w J x block ind ctor → Heads c (apply (const x ks) zs) → ⊥
-struct_head {w} {c} {x} {J} ks zs {block} {ind} {ctor} s i h = s.no_structure J block ind ctor (subst (λ z. IsStructure w J z block ind ctor) (sym (heads_applied c (const x ks) zs h)) i)
+pub struct_head : {w : Place} {c : Name} (S : Structure w) (ks : List Level) (zs : List Tree) → IsRigid w c → Heads c (apply (const S.ctor_name ks) zs) → ⊥
+struct_head {w} {c} S ks zs s h = s.no_structure S (sym (heads_applied c (const S.ctor_name ks) zs h))
 
 pub one_head : {w : Place} {c d : Name} {a b : Tree} → IsRigid w c → IsRigid w d → IsDefEq w a b → Heads c a → Heads d b → c ≡ d
 one_head {c = c} {d = d} s t (e_refl {a = a} x) h k = heads_one c d a h k
@@ -532,9 +532,9 @@ one_head s t (e_app u v e f) h k = one_head s t e h k
 one_head {c = c} {d = d} s t (e_lam {A = A} {b = b} {b' = b'} {k = n} i j e f) h k = one_head s t f (heads_open c 0 (local n A) b h) (heads_open d 0 (local n A) b' k)
 one_head s t (e_eta_left v i r e) h k = one_head s t e h k
 one_head s t (e_eta_right v i r e) h k = one_head s t e h k
-one_head s t (e_struct_left J c block ind ctor ks ps xs a A B v i m n ha hb q p) h k = absurd (struct_head ks (ps ++ xs) t i k)
-one_head s t (e_struct_right J x block ind ctor ks ps xs a A B v i m n ha hb q p) h k = absurd (struct_head ks (ps ++ xs) s i h)
-one_head s t (e_unit J block ind ctor ls bs a b A B u v i n ha r hb q) h k = absurd (no_unit_like (data_at J ls bs (heads_typed s ha h) r) i)
+one_head s t (e_struct_left i ks ps xs a A B v m n ha hb q p) h k = absurd (struct_head i ks (ps ++ xs) t k)
+one_head s t (e_struct_right i ks ps xs a A B v m n ha hb q p) h k = absurd (struct_head i ks (ps ++ xs) s h)
+one_head s t (e_unit i ls bs a b A B u v n ha r hb q) h k = absurd (no_unit_like i (data_at i.name ls bs (heads_typed s ha h) r))
 one_head s t (e_proof u v ha p hb q) h k = absurd (heads_no_prop s ha h p)
 one_head s t e_zero_left h k = h ∙ sym k
 one_head s t e_zero_right h k = h ∙ sym k
@@ -582,9 +582,9 @@ former_first {d = d} t (e_refl {a = a} x) f k = former_no_heads d a f k
 former_first t (e_reduce p q e) f k = former_first t e (subst IsFormer (former_stays p f) f) (heads_stay t q k)
 former_first t (e_eta_left v i r e) f k = former_no_pi i r f
 former_first t (e_eta_right v i r e) f k = former_first t e f k
-former_first t (e_struct_left J c block ind ctor ks ps xs a A B v i m n ha hb q p) f k = struct_head ks (ps ++ xs) t i k
-former_first t (e_struct_right J c block ind ctor ks ps xs a A B v i m n ha hb q p) f k = absurd (applied_former (const c ks) (ps ++ xs) f)
-former_first t (e_unit J block ind ctor ls bs a b A B u v i n ha r hb q) f k = former_no_constant J ls bs ha r f
+former_first t (e_struct_left i ks ps xs a A B v m n ha hb q p) f k = struct_head i ks (ps ++ xs) t k
+former_first t (e_struct_right i ks ps xs a A B v m n ha hb q p) f k = absurd (applied_former (const i.ctor_name ks) (ps ++ xs) f)
+former_first t (e_unit i ls bs a b A B u v n ha r hb q) f k = former_no_constant i.name ls bs ha r f
 former_first t (e_proof {A = A} u v ha p hb q) f k = sort_is_no_prop p (former_typed ha f).0 (former_typed ha f).1
 former_first t (e_sort x) f k = absurd k
 former_first t (e_pi i j e g) f k = absurd k
@@ -604,9 +604,9 @@ former_second {c = c} s (e_refl {a = a} x) h f = former_no_heads c a f h
 former_second s (e_reduce p q e) h f = former_second s e (heads_stay s p h) (subst IsFormer (former_stays q f) f)
 former_second s (e_eta_left v i r e) h f = former_second s e h f
 former_second s (e_eta_right v i r e) h f = former_no_pi i r f
-former_second s (e_struct_left J c block ind ctor ks ps xs a A B v i m n ha hb q p) h f = absurd (applied_former (const c ks) (ps ++ xs) f)
-former_second s (e_struct_right J c block ind ctor ks ps xs a A B v i m n ha hb q p) h f = struct_head ks (ps ++ xs) s i h
-former_second s (e_unit J block ind ctor ls bs a b A B u v i n ha r hb q) h f = no_unit_like (data_at J ls bs (heads_typed s ha h) r) i
+former_second s (e_struct_left i ks ps xs a A B v m n ha hb q p) h f = absurd (applied_former (const i.ctor_name ks) (ps ++ xs) f)
+former_second s (e_struct_right i ks ps xs a A B v m n ha hb q p) h f = struct_head i ks (ps ++ xs) s h
+former_second s (e_unit i ls bs a b A B u v n ha r hb q) h f = no_unit_like i (data_at i.name ls bs (heads_typed s ha h) r)
 former_second s (e_proof u v ha p hb q) h f = heads_no_prop s ha h p
 former_second s (e_sort x) h f = absurd h
 former_second s (e_pi i j e g) h f = absurd h

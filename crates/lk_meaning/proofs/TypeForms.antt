@@ -58,7 +58,7 @@ forward_family s (r_proj S c ks g block ind ctor i ys t m x p q a1 a2 a3 a4 fx) 
 forward_family s (r_major R ls front i x p q) xs r h = at_rest s (r_major R ls front i x p q) (neutral_applied (const R ls) front tt) xs r h
 forward_family s (r_iota R c ls ks front ys result i x g) xs r h = at_rest s (r_iota R c ls ks front ys result i x g) (neutral_applied (const R ls) front tt) xs r h
 forward_family s (r_k R K c ls ks front bs rest e U D k he hr hd q x) xs r h = at_rest s (r_k R K c ls ks front bs rest e U D k he hr hd q x) (neutral_applied (const R ls) front tt) xs r h
-forward_family s (r_struct R K c block ind ctor js ls front bs m U i rule o z x t n hm p q) xs r h = at_rest s (r_struct R K c block ind ctor js ls front bs m U i rule o z x t n hm p q) (neutral_applied (const R js) front tt) xs r h
+forward_family s (r_struct R t js ls front bs m U i rule o z x n hm p q) xs r h = at_rest s (r_struct R t js ls front bs m U i rule o z x n hm p q) (neutral_applied (const R js) front tt) xs r h
 forward_family s (r_quot_lift ls ks i j ff p) xs r h = at_rest s (r_quot_lift ls ks i j ff p) tt xs r h
 forward_family s (r_quot_ind ls ks i j ff p) xs r h = at_rest s (r_quot_ind ls ks i j ff p) tt xs r h
 forward_family s (r_op op es ns x i n v g) xs r h = at_rest s (r_op op es ns x i n v g) (neutral_applied (named (op_name op)) es tt) xs r h
@@ -93,11 +93,11 @@ forms_apart (e_pi i j e d) r s f g = at_once (e_pi i j e d) tt tt r s f g
 forms_apart (e_proj e) r s f g = at_once (e_proj e) tt tt r s f g
 forms_apart (e_eta_left {o = o} v t h e) r s f g = at_once (e_eta_left v t h e) (normal_neutral o v) tt r s f g
 forms_apart (e_eta_right {o = o} v t h e) r s f g = at_once (e_eta_right v t h e) tt (normal_neutral o v) r s f g
-forms_apart (e_struct_left J c block ind ctor ks ps xs a A B v i m n ha hb q p) r s f g =
-    at_once (e_struct_left J c block ind ctor ks ps xs a A B v i m n ha hb q p) v (constant_normal c ks (ps ++ xs)) r s f g
-forms_apart (e_struct_right J c block ind ctor ks ps xs a A B v i m n ha hb q p) r s f g =
-    at_once (e_struct_right J c block ind ctor ks ps xs a A B v i m n ha hb q p) (constant_normal c ks (ps ++ xs)) v r s f g
-forms_apart (e_unit J block ind ctor ls bs a b A B u v i n ha p hb q) r s f g = at_once (e_unit J block ind ctor ls bs a b A B u v i n ha p hb q) u v r s f g
+forms_apart (e_struct_left i ks ps xs a A B v m n ha hb q p) r s f g =
+    at_once (e_struct_left i ks ps xs a A B v m n ha hb q p) v (constant_normal i.ctor_name ks (ps ++ xs)) r s f g
+forms_apart (e_struct_right i ks ps xs a A B v m n ha hb q p) r s f g =
+    at_once (e_struct_right i ks ps xs a A B v m n ha hb q p) (constant_normal i.ctor_name ks (ps ++ xs)) v r s f g
+forms_apart (e_unit i ls bs a b A B u v n ha p hb q) r s f g = at_once (e_unit i ls bs a b A B u v n ha p hb q) u v r s f g
 forms_apart (e_proof u v ha p hb q) r s f g = at_once (e_proof u v ha p hb q) u v r s f g
 forms_apart e_zero_left r s f g = at_once e_zero_left tt tt r s f g
 forms_apart e_zero_right r s f g = at_once e_zero_right tt tt r s f g

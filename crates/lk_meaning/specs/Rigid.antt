@@ -3,7 +3,7 @@ use Rattle.std.specs.Prelude.{ℕ, zero, suc, ◌≡◌, List, [], ◌∷◌, So
 use Rattle.lk_tree.specs.Tree.{Name, Level, Tree, sort, const, app, lam, pi, lit}
 use Rattle.lk_tree.specs.Level.{level_value}
 use Rattle.lk_rulebook.specs.Place.{Place, Entry, Block, BlockType, Ctor, Recursor, a_type, a_rec, a_quot}
-use Rattle.lk_rulebook.specs.Structures.{IsStructure}
+use Rattle.lk_rulebook.specs.Structures.{Structure}
 use Rattle.lk_rulebook.specs.Names.{nat_zero, nat_succ}
 use Rattle.lk_rulebook.specs.Rules.{HasValue, SameLevels, IsDefEq}
 
@@ -28,7 +28,8 @@ EndsInType (pi A B) = EndsInType B
 EndsInType (sort l) = (σ : Name → ℕ) → level_value σ l ≡ 0 → ⊥
 EndsInType _ = ⊥
 
--- J is a type above Prop that has not just one constructor without fields
+-- J is a data type: an inductive type whose stated type ends, as spelled, in a Sort above Prop, and which is not unit-like: a
+-- sole constructor has fields
 pub record IsDataName (w : Place) (J : Name) : Type 0 where
   pub entry : Entry
   pub block : Block
@@ -38,7 +39,7 @@ pub record IsDataName (w : Place) (J : Name) : Type 0 where
   pub above_prop : EndsInType entry.type
   pub no_unit : (x : Ctor) → own.ctors ≡ x ∷ [] → x.fields ≡ 0 → ⊥
 
--- Pis that end in a Sort, or in such a type applied
+-- Pis that end in a Sort, or in a data type applied
 abbrev pub IsDataType : Place → Tree → Type 0
 IsDataType w (pi A B) = IsDataType w B
 IsDataType w (sort l) = Unit {0}
@@ -46,7 +47,8 @@ IsDataType w (app f a) = (J : Name) × IsDataName w J × IsApplied J f
 IsDataType w (const d ls) = (J : Name) × IsDataName w J × J ≡ d
 IsDataType w _ = ⊥
 
--- c does not unfold, is no recursor and no constructor of a structure, and its type ends as a data type does
+-- c does not unfold, is no recursor and no constructor of a structure, and its stated type ends, as spelled, in a Sort or in a
+-- data type
 pub record IsRigid (w : Place) (c : Name) : Type 0 where
   pub entry : Entry
   pub given : w.means c ≡ Some entry
@@ -54,7 +56,7 @@ pub record IsRigid (w : Place) (c : Name) : Type 0 where
   pub no_recursor : (r : Recursor) → entry.kind ≡ a_rec r → ⊥
   pub no_quotient : entry.kind ≡ a_quot → ⊥
   pub type : IsDataType w entry.type
-  pub no_structure : (J : Name) (b : Block) (ind : BlockType) (ctor : Ctor) → IsStructure w J c b ind ctor → ⊥
+  pub no_structure : (S : Structure w) → S.ctor_name ≡ c → ⊥
 
 -- one constant at equal levels, applied to arguments that are equal pair by pair
 pub data SameSpine (w : Place) : Tree → Tree → Type 0 where

@@ -51,7 +51,7 @@ answer_keeps table n w w' keeps (suc depth) q (suc b) =
     (λ v c t z l. ap (after 1 None) (z l))
     (run_keeps n w w' keeps (answer_to_depth table w depth) (answer_to_depth table w' depth) (answer_keeps table n w w' keeps depth) (table q) b))
 
--- a place that gives all that w gives below n answers as w does where the last unit looked at is below n
+-- a place that gives all that w gives below n answers as w does where the units looked at are below n
 pub ans_keeps : (table : (q : Query) → Program (AnswerTo q)) (n : ℕ) (w w' : Place) → Keeps n w w' →
     (q : Query) (b : ℕ) → IfAnswered (plain_answer table w q b) (λ v c t. IsBelow t n → plain_answer table w' q b ≡ answered v c t)
 ans_keeps table n w w' keeps q b = answer_keeps table n w w' keeps b q b

@@ -99,7 +99,11 @@ answer_depth table w (suc m) (suc n) q (suc b) h l =
     ap (after 1 None) (run_same w (answer_to_depth table w m) (answer_to_depth table w n) b
     (λ q' b' l'. answer_depth table w m n q' b' (omega arith) (omega arith)) (table q) b (omega arith))
 
--- the equation of plain answers
+-- the equations of plain answers
+pub ans_zero : (table : (q : Query) → Program (AnswerTo q)) (w : Place) (q : Query) → plain_answer table w q 0 ≡ spent
+unfolding answer_to_depth
+ans_zero table w q = refl
+
 pub ans_suc : (table : (q : Query) → Program (AnswerTo q)) (w : Place) (q : Query) (b : ℕ) →
     plain_answer table w q (suc b) ≡ after 1 None (outcome_of w (plain_answer table w) b (table q))
 unfolding answer_to_depth

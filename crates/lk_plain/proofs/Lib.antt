@@ -1,6 +1,5 @@
 pub mod Agreement
 pub mod Budgets
-pub mod Machines
 pub mod Outcomes
 pub mod Places
 pub mod Renamed

@@ -1,4 +1,4 @@
--- What is answered at the place after its last unit is answered at each place above that.
+-- What is answered at the place after all units that were looked at is answered at each place above that.
 use Rattle.std.proofs.Common.{ℕ, zero, suc, ◌≡◌, ◌<◌, ◌≤◌, List, [], ◌∷◌, take, Option, Some, None, refl, sym, ap, ◌∙◌, arith}
 use Rattle.std.specs.Prelude.{option_and_then}
 use Rattle.lk_tree.specs.Tree.{Name}
@@ -41,7 +41,7 @@ place_keeps us n m half l fresh = λ c e h below.
       ap (λ x. unit_or x m) at ∙ (ap (λ x. unit_or x m) there.1 ∙ sym (ap (λ x. unit_or x n) there.1)),
     )
 
--- a true entry at each place above its last unit
+-- a true entry at each place above the units that were looked at
 pub true_entry : (table : (q : Query) → Program (AnswerTo q)) (n : ℕ) (w w' : Place) → Keeps n w w' → (q : Query) (v : AnswerTo q) (c : ℕ) (t : Option ℕ) →
     plain_answer table w q c ≡ answered v c t → IsBelow t n → (b : ℕ) → (c ≤ b → plain_answer table w' q b ≡ answered v c t) × (b < c → plain_answer table w' q b ≡ spent)
 true_entry table n w w' k q v c t h l b =

@@ -1,11 +1,12 @@
--- Places that give the same contents for each name that may be read give one outcome, but for the last unit looked at.
+-- Places that give the same contents for each name that may be read give one outcome, but for the units looked at.
 use Rattle.std.proofs.Common.{ℕ, zero, suc, ◌≡◌, ◌+◌, ◌-◌, Option, Some, None, refl, ap}
 use Rattle.lk_tree.specs.Tree.{Name}
 use Rattle.lk_tree.specs.RuleNo.{RuleNo}
 use Rattle.lk_rulebook.specs.Place.{Place, Entry}
 use Rattle.lk_plain.specs.Query.{Query, AnswerTo}
 use Rattle.lk_plain.specs.Program.{Program, done, refuse, ask, look}
-use Rattle.lk_plain.specs.Answer.{Outcome, answered, refused, spent, after, and_then, looked_up, outcome_of, answer_to_depth}
+use Rattle.lk_plain.specs.Answer.{Outcome, answered, refused, spent, after, and_then, looked_up, outcome_of, answer_to_depth, plain_answer}
+use Rattle.lk_plain.specs.Laws.{GivesTheSame, SameOutcome}
 
 -- what may be asked, what answers then are, and which names may be read
 pub record Renaming : Type 1 where
@@ -19,7 +20,7 @@ Reads r w (refuse n) Q = Unit {0}
 Reads r w (ask q k) Q = r.may_ask q × ((v : AnswerTo q) → r.may_get q v → Reads r w (k v) Q)
 Reads r w (look n c k) Q = r.may_read c × ((e : Entry) → w.means c ≡ Some e → Reads r w (k e) Q)
 
--- one outcome but for the last unit, and its value is as Q says
+-- one outcome but for the units looked at, and its value is as Q says
 abbrev pub Alike : {A : Type 0} → (A → Type 0) → Outcome A → Outcome A → Type 0
 Alike Q (answered v c t) (answered u d s) = (v ≡ u) × (c ≡ d) × Q v
 Alike Q (refused m) (refused n) = m ≡ n
@@ -85,3 +86,30 @@ answer_alike table r w w' same h (suc depth) q zero m = tt
 answer_alike table r w w' same h (suc depth) q (suc b) m =
     alike_after (r.may_get q) 1 None None (outcome_of w (answer_to_depth table w depth) b (table q)) (outcome_of w' (answer_to_depth table w' depth) b (table q))
     (run_alike r w w' same (answer_to_depth table w depth) (answer_to_depth table w' depth) (answer_alike table r w w' same h depth) (table q) (r.may_get q) b (h q m))
+
+-- where all may be read
+all_may : Renaming
+all_may = record { may_ask = λ q. Unit {0}; may_get = λ q v. Unit {0}; may_read = λ c. Unit {0} }
+
+reads_all : {A : Type 0} (w : Place) (p : Program A) → Reads all_may w p (λ v. Unit {0})
+unfolding all_may
+reads_all w (done v) = tt
+reads_all w (refuse n) = tt
+reads_all w (ask q k) = (tt, λ v m. reads_all w (k v))
+reads_all w (look n c k) = (tt, λ e m. reads_all w (k e))
+
+same_alike : {A : Type 0} (o o' : Outcome A) → Alike (λ v. Unit {0}) o o' → SameOutcome o o'
+same_alike (answered v c t) (answered u d s) h = (h.0, h.1)
+same_alike (refused m) (refused n) h = h
+same_alike spent spent h = tt
+same_alike (answered v c t) (refused n) h = h
+same_alike (answered v c t) spent h = h
+same_alike (refused n) (answered v c t) h = h
+same_alike (refused n) spent h = h
+same_alike spent (answered v c t) h = h
+same_alike spent (refused n) h = h
+
+pub ans_same : (table : (q : Query) → Program (AnswerTo q)) (w w' : Place) (q : Query) (b : ℕ) → GivesTheSame w w' → SameOutcome (plain_answer table w q b) (plain_answer table w' q b)
+unfolding all_may
+ans_same table w w' q b h =
+    same_alike (plain_answer table w q b) (plain_answer table w' q b) (answer_alike table all_may w w' (λ c m. h c) (λ x m. reads_all w (table x)) b q b tt)

@@ -5,7 +5,7 @@ use Rattle.lk_rulebook.specs.Place.{Place, Entry}
 use Rattle.lk_plain.specs.Query.{Query, AnswerTo}
 use Rattle.lk_plain.specs.Program.{Program, done, refuse, ask, look, Table}
 
--- answered v c t: the value, its cost, and the last unit that was looked at
+-- answered v c t: the value, its cost, and the greatest number of a unit that was looked at
 pub data Outcome (A : Type 0) : Type 0 where
   answered : A → ℕ → Option ℕ → Outcome A
   refused : RuleNo → Outcome A
@@ -27,8 +27,8 @@ and_then (answered v c t) next = after c t (next v c)
 and_then (refused r) next = refused r
 and_then spent next = spent
 
--- why a look-up is refused: by r where nothing gives the name, else by the flaw, save that what a quotient rests on is refused
--- by one rule, whatever it lacks
+-- why a look-up is refused: the flaw's rule where the giving unit has a flaw, else r; a look-up for QuotShape says QuotShape in
+-- both cases
 abbrev pub refusal : RuleNo → Option RuleNo → RuleNo
 refusal r None = r
 refusal quot_shape (Some f) = quot_shape
@@ -56,7 +56,7 @@ answer_to_depth table w (suc depth) q (suc left) = after 1 None (outcome_of w (a
 abbrev pub plain_answer : Table → Place → (q : Query) → ℕ → Outcome (AnswerTo q)
 plain_answer table w q budget = answer_to_depth table w budget q budget
 
--- P of the answer, the cost and the last unit, where there is an answer
+-- P of the answer, its cost and the greatest number of a unit that was looked at, where there is an answer
 abbrev pub IfAnswered : {A : Type 0} → Outcome A → (A → ℕ → Option ℕ → Type 0) → Type 0
 IfAnswered (answered v c t) P = P v c t
 IfAnswered (refused r) P = Unit {0}

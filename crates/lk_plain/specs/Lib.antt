@@ -1,6 +1,5 @@
 pub mod Answer
 pub mod Laws
-pub mod Machine
 pub mod Program
 pub mod Query
 pub mod Sound

@@ -1,4 +1,4 @@
--- Stages of a table, built row by row: its programs, but that they may be refused earlier.
+-- Stages of a table, built row by row: its programs, except that they may be refused earlier.
 use Rattle.std.specs.Prelude.{Bool, if◌then◌else◌}
 use Rattle.lk_tree.specs.Tree.{Name}
 use Rattle.lk_tree.specs.RuleNo.{RuleNo}
@@ -21,7 +21,7 @@ without_names r (look s c k) = refuse r
 abbrev pub nameless : RuleNo → Table → Table
 nameless r table q = without_names r (table q)
 
--- p does what its whole does, but that it may be refused earlier
+-- p does what its whole does, except that it may be refused earlier
 pub data IsPart {A : Type 0} : Program A → Program A → Type 0 where
   stops : {r : RuleNo} {whole : Program A} → IsPart (refuse r) whole
   ends : {v : A} → IsPart (done v) (done v)

@@ -34,7 +34,7 @@ IsSound w (refuse r) P = Unit {0}
 IsSound w (ask q k) P = IsAskable q × ((v : AnswerTo q) → IsJustified w q v → IsSound w (k v) P)
 IsSound w (look r c k) P = (e : Entry) → w.means c ≡ Some e → IsSound w (k e) P
 
--- what a name gives at w is closed and holds no Local
+-- each rule's value is closed and holds no Local
 abbrev pub RulesStated : List RecRule → Type 0
 RulesStated [] = Unit {0}
 RulesStated (r ∷ rs) = IsStated r.value × RulesStated rs
@@ -63,6 +63,7 @@ KindStated (a_rec r) = RulesStated r.rules
 KindStated an_axiom = Unit {0}
 KindStated a_quot = Unit {0}
 
+-- what a name gives at w is closed and holds no Local
 abbrev pub WellStated : Place → Type 0
 WellStated w = (c : Name) (e : Entry) → w.means c ≡ Some e → IsStated e.type × KindStated e.kind
 

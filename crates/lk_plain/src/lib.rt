@@ -3,8 +3,8 @@
 #![tactic(auto)]
 
 ghost use Rattle.std.specs.Prelude.{◌≡◌, ℕ, suc, Bool, None};
-ghost use Rattle.lk_plain.specs.Answer.{answered, after, outcome_of, plain_answer, IfAnswered};
-ghost use Rattle.lk_plain.specs.Laws.{IsSteady, IsBelow, Keeps};
+ghost use Rattle.lk_plain.specs.Answer.{answered, spent, after, outcome_of, plain_answer, IfAnswered};
+ghost use Rattle.lk_plain.specs.Laws.{IsSteady, IsBelow, Keeps, GivesTheSame, SameOutcome, IsSettled};
 ghost use Rattle.lk_plain.specs.Parts.{restricted, nameless, IsStageOf};
 ghost use Rattle.lk_plain.specs.Program.{Table};
 ghost use Rattle.lk_plain.specs.Query.{Query};
@@ -12,14 +12,27 @@ ghost use Rattle.lk_plain.specs.Sound.{IsSoundTable};
 ghost use Rattle.lk_rulebook.specs.Place.{Place};
 ghost use Rattle.lk_tree.specs.RuleNo.{RuleNo};
 
-/// With one more than b left a question is opened, and what it asks is answered with what is left.
+/// With nothing left no question is answered. With one more than b left it is opened, and what it asks is answered with what is
+/// left.
 pub fn plain_answer_opens()
-    ensures { (table : Table) (w : Place) (q : Query) (b : ℕ) → plain_answer table w q (suc b) ≡ after 1 None (outcome_of w (plain_answer table w) b (table q)) }
+    ensures nothing_left { (table : Table) (w : Place) (q : Query) → plain_answer table w q 0 ≡ spent }
+    ensures opens { (table : Table) (w : Place) (q : Query) (b : ℕ) → plain_answer table w q (suc b) ≡ after 1 None (outcome_of w (plain_answer table w) b (table q)) }
 {}
 
 /// An answer comes exactly where the budget is at least its cost, and is the same under each such budget.
 pub fn plain_answer_is_steady()
     ensures { (table : Table) (w : Place) (q : Query) (b : ℕ) → IfAnswered (plain_answer table w q b) (IsSteady (plain_answer table w q) b) }
+{}
+
+/// What is said under a budget, an answer or a refusal, is said under each greater one too.
+pub fn plain_answer_is_settled()
+    ensures { (table : Table) (w : Place) (q : Query) → IsSettled (plain_answer table w q) }
+{}
+
+/// Under each budget the outcome, an answer or a refusal or spent, rests on the contents of names alone, whichever units give
+/// them.
+pub fn plain_answer_rests_on_contents()
+    ensures { (table : Table) (w other : Place) (q : Query) (b : ℕ) → GivesTheSame w other → SameOutcome (plain_answer table w q b) (plain_answer table other q b) }
 {}
 
 /// An answer rests on the names alone that units below n give.

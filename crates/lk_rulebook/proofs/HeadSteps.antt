@@ -92,7 +92,7 @@ forward (r_proj S c ks g block ind ctor i ys s m x p q a1 a2 a3 a4 fx) xs r f = 
 forward (r_major R ls front {e = e} i h p q) xs r f = absurd (constant_runs R ls front (e ∷ xs) r f)
 forward (r_iota R c ls ks front ys result i h g) xs r f = absurd (constant_runs R ls front (apply (const c ks) ys ∷ xs) r f)
 forward (r_k R J c ls ks front bs rest e U D k he hr hd q h) xs r f = absurd (constant_runs R ls front (e ∷ xs) r f)
-forward (r_struct R J c block ind ctor js ls front bs m U i rule o z h s n hm p q) xs r f = absurd (constant_runs R js front (m ∷ xs) r f)
+forward (r_struct R s js ls front bs m U i rule o z h n hm p q) xs r f = absurd (constant_runs R js front (m ∷ xs) r f)
 forward (r_quot_lift ls ks {A = A} {r = t} {B = B} {f = g} {h = h} {e = e} i j ff p) xs r f = absurd (constant_runs _ ls (A ∷ t ∷ B ∷ g ∷ h ∷ e ∷ []) xs r f)
 forward (r_quot_ind ls ks {A = A} {r = t} {B = B} {h = h} {e = e} i j ff p) xs r f = absurd (constant_runs _ ls (A ∷ t ∷ B ∷ h ∷ e ∷ []) xs r f)
 forward (r_op op es ns x i n s g) xs r f = absurd (constant_runs (op_name op) [] es xs r f)
@@ -141,9 +141,9 @@ apart_behind_steps (e_pi i j e h) r s f g = both_there (e_pi i j e h) tt tt r s 
 apart_behind_steps (e_proj e) r s f g = absurd (not_there r f tt (λ z. z))
 apart_behind_steps (e_eta_left v t h e) r s f g = absurd (not_there s g tt (λ z. z))
 apart_behind_steps (e_eta_right v t h e) r s f g = absurd (not_there r f tt (λ z. z))
-apart_behind_steps (e_struct_left J c block ind ctor ks ps xs a A B v i m n ha hb q p) r s f g = absurd (constant_runs c ks (ps ++ xs) [] s g)
-apart_behind_steps (e_struct_right J c block ind ctor ks ps xs a A B v i m n ha hb q p) r s f g = absurd (constant_runs c ks (ps ++ xs) [] r f)
-apart_behind_steps (e_unit J block ind ctor ls bs a b A B u v i n ha p hb q) r s f g = both_there (e_unit J block ind ctor ls bs a b A B u v i n ha p hb q) u v r s f g
+apart_behind_steps (e_struct_left i ks ps xs a A B v m n ha hb q p) r s f g = absurd (constant_runs i.ctor_name ks (ps ++ xs) [] s g)
+apart_behind_steps (e_struct_right i ks ps xs a A B v m n ha hb q p) r s f g = absurd (constant_runs i.ctor_name ks (ps ++ xs) [] r f)
+apart_behind_steps (e_unit i ls bs a b A B u v n ha p hb q) r s f g = both_there (e_unit i ls bs a b A B u v n ha p hb q) u v r s f g
 apart_behind_steps (e_proof u v ha p hb q) r s f g = both_there (e_proof u v ha p hb q) u v r s f g
 apart_behind_steps e_zero_left r s f g = absurd (not_there r f tt (λ z. z))
 apart_behind_steps e_zero_right r s f g = absurd (not_there r f tt (λ z. z))
@@ -179,9 +179,9 @@ comes_along n (e_lam i j e h) r f = absurd (not_there r f tt (λ z. z))
 comes_along n (e_proj e) r f = absurd (not_there r f tt (λ z. z))
 comes_along n (e_eta_left {o = o} v t h e) r f = absurd (no_pi t h (is_former (normal_neutral o v) r f))
 comes_along n (e_eta_right v t h e) r f = absurd (not_there r f tt (λ z. z))
-comes_along {w} n (e_struct_left J c block ind ctor ks ps xs a A B v i m l ha hb q p) r f = absurd (no_member w n c i.entry i.given i.kind tt)
-comes_along {w} n (e_struct_right J c block ind ctor ks ps xs a A B v i m l ha hb q p) r f = absurd (no_member w n c i.entry i.given i.kind tt)
-comes_along {w} n (e_unit J block ind ctor ls bs a b A B u v i l ha p hb q) r f = absurd (no_member w n J i.entry i.given i.kind tt)
+comes_along {w} n (e_struct_left i ks ps xs a A B v m l ha hb q p) r f = absurd (no_member w n i.ctor_name i.entry i.given i.kind tt)
+comes_along {w} n (e_struct_right i ks ps xs a A B v m l ha hb q p) r f = absurd (no_member w n i.ctor_name i.entry i.given i.kind tt)
+comes_along {w} n (e_unit i ls bs a b A B u v l ha p hb q) r f = absurd (no_member w n i.name i.entry i.given i.kind tt)
 comes_along n (e_proof u v ha p hb q) r f =
     let t : _ = former_typed ha (is_former u r f) in
     absurd (sort_is_no_prop p t.0 t.1)

@@ -1,4 +1,5 @@
 pub mod HeadSteps
+pub mod Inversion
 pub mod NoNew
 pub mod Scans
 pub mod Scopes

@@ -87,9 +87,9 @@ mutual
       within_trans (let_in A v b) (opened b v) B (within_open (let_in A v b) b v (λ k T m. inr (inr m)) (λ k T m. inr (inl m))) (type_within s f)
   type_within s (t_lit h f) = λ k T m. absurd m
   type_within s (t_str h) = λ k T m. absurd m
-  type_within st (t_proj S ls bs i s U T A l g block ind c e d m k n o p q r f v) =
+  type_within st (t_proj S ls bs i s U T A l pj e d q r f v) =
       field_within st s v (past_within st s f (λ j X h. type_within st e j X (reduct_within st d j X (local_of_arg j X (const S ls) bs h)))
-      (stated s c.type c.levels ls (st.ctors S g block ind c m k o)))
+      (stated s pj.ctor.type pj.ctor.levels ls (st.ctors S pj.entry pj.block pj.ind pj.ctor pj.given pj.kind pj.one_ctor)))
 
   pub reduct_within : {w : Place} → GivesNoLocal w → {a b : Tree} → Reduces w a b → LocalsWithin a b
   reduct_within s (r_refl {a = a} f) = within_refl a
@@ -113,12 +113,12 @@ mutual
   reduct_within s (r_k R J c ls ks front bs rest e U D k he hr hd q f) = in_argument (apply (const R ls) front) e (apply (const c ks) bs)
       (within_applied e (const c ks) bs (λ j T h. absurd h)
       (λ j T h. type_within s he j T (reduct_within s hr j T (local_of_arg j T (const J ks) (bs ++ rest) (any_first j T bs rest h)))))
-  reduct_within s (r_struct R J c block ind ctor js ls front bs m U i rule o z f t n h r p) =
-      in_argument (apply (const R js) front) m (apply (const c ls) (bs ++ projections J m 0 ctor.fields))
-      (within_applied m (const c ls) (bs ++ projections J m 0 ctor.fields) (λ j T x. absurd x)
-      (λ j T x. elim (any_append j T bs (projections J m 0 ctor.fields) x) [
-        | inl a ↦ type_within s h j T (reduct_within s r j T (local_of_arg j T (const J ls) bs a))
-        | inr b ↦ projections_within J m 0 ctor.fields j T b
+  reduct_within s (r_struct R t js ls front bs m U i rule o z f n h r p) =
+      in_argument (apply (const R js) front) m (apply (const t.ctor_name ls) (bs ++ projections t.ind.name m 0 t.ctor.fields))
+      (within_applied m (const t.ctor_name ls) (bs ++ projections t.ind.name m 0 t.ctor.fields) (λ j T x. absurd x)
+      (λ j T x. elim (any_append j T bs (projections t.ind.name m 0 t.ctor.fields) x) [
+        | inl a ↦ type_within s h j T (reduct_within s r j T (local_of_arg j T (const t.ind.name ls) bs a))
+        | inr b ↦ projections_within t.ind.name m 0 t.ctor.fields j T b
       ]))
   reduct_within s (r_quot_lift ls ks i j f r) = λ k T. elim [ inl x ↦ inl (inl (inr x)) | inr x ↦ inr (reduct_within s r k T (inr x)) ]
   reduct_within s (r_quot_ind ls ks i j f r) = λ k T. elim [ inl x ↦ inl (inr x) | inr x ↦ inr (reduct_within s r k T (inr x)) ]

@@ -26,7 +26,7 @@ mutual
   well_formed_of_type (t_let {v = v} {b = b} a x q f) = ((well_formed_of_sort a, (well_formed_of_type x).0, fine_from_open 0 v b (well_formed_of_type f).0), (well_formed_of_type f).1)
   well_formed_of_type (t_lit h f) = (f, tt)
   well_formed_of_type (t_str h) = (tt, tt)
-  well_formed_of_type (t_proj S ls bs i s U T A l g block ind c e d m k n o p q r f v) = ((well_formed_of_type e).0, well_formed_of_field v)
+  well_formed_of_type (t_proj S ls bs i s U T A l pj e d q r f v) = ((well_formed_of_type e).0, well_formed_of_field v)
 
   pub well_formed_of_sort : {w : Place} {A : Tree} {l : _} → HasSort w A l → IsWellFormed A
   well_formed_of_sort (has_sort t r) = (well_formed_of_type t).0
@@ -42,12 +42,12 @@ mutual
   well_formed_of_reduct (r_major R ls front i f r rd) = ((f, (well_formed_of_reduct r).0), (f, read_fine rd (well_formed_of_reduct r).1))
   well_formed_of_reduct (r_iota R c ls ks front xs result i f g) = (f, g)
   well_formed_of_reduct (r_k R J c ls ks front bs rest e U D k he hr hd q f) = ((f, (well_formed_of_type he).0), (f, (well_formed_of_type hd).0))
-  well_formed_of_reduct (r_struct R J c block ind ctor js ls front bs m U i rule o z f s n h r p) = (
+  well_formed_of_reduct (r_struct R s js ls front bs m U i rule o z f n h r p) = (
     (f, (well_formed_of_type h).0),
     (
       f,
-      fine_apply (const c ls) (bs ++ projections J m 0 ctor.fields) tt
-          (all_fine_append bs (projections J m 0 ctor.fields) (well_formed_of_apply (const J ls) bs (well_formed_of_reduct r).1).1 (projections_fine J m 0 ctor.fields (well_formed_of_type h).0)),
+      fine_apply (const s.ctor_name ls) (bs ++ projections s.ind.name m 0 s.ctor.fields) tt
+          (all_fine_append bs (projections s.ind.name m 0 s.ctor.fields) (well_formed_of_apply (const s.ind.name ls) bs (well_formed_of_reduct r).1).1 (projections_fine s.ind.name m 0 s.ctor.fields (well_formed_of_type h).0)),
     ),
   )
   well_formed_of_reduct (r_quot_lift ls ks i j f r) =
@@ -69,9 +69,9 @@ mutual
   well_formed_of_equal (e_proj c) = well_formed_of_equal c
   well_formed_of_equal (e_eta_left v h r c) = ((well_formed_of_type h).0, (well_formed_of_equal c).1)
   well_formed_of_equal (e_eta_right v h r c) = ((well_formed_of_equal c).0, (well_formed_of_type h).0)
-  well_formed_of_equal (e_struct_left J c block ind ctor ks ps xs a A B v i m n ha hb q p) = ((well_formed_of_type ha).0, (well_formed_of_type hb).0)
-  well_formed_of_equal (e_struct_right J c block ind ctor ks ps xs a A B v i m n ha hb q p) = ((well_formed_of_type hb).0, (well_formed_of_type ha).0)
-  well_formed_of_equal (e_unit J block ind ctor ls bs a b A B u v i n ha r hb q) = ((well_formed_of_type ha).0, (well_formed_of_type hb).0)
+  well_formed_of_equal (e_struct_left i ks ps xs a A B v m n ha hb q p) = ((well_formed_of_type ha).0, (well_formed_of_type hb).0)
+  well_formed_of_equal (e_struct_right i ks ps xs a A B v m n ha hb q p) = ((well_formed_of_type hb).0, (well_formed_of_type ha).0)
+  well_formed_of_equal (e_unit i ls bs a b A B u v n ha r hb q) = ((well_formed_of_type ha).0, (well_formed_of_type hb).0)
   well_formed_of_equal (e_proof u v a p b q) = ((well_formed_of_type a).0, (well_formed_of_type b).0)
   well_formed_of_equal e_zero_left = (omega arith, tt)
   well_formed_of_equal e_zero_right = (tt, omega arith)

@@ -9,7 +9,7 @@ use Rattle.lk_tree.proofs.Binding.{open_fine}
 use Rattle.lk_rulebook.specs.Place.{Place}
 use Rattle.lk_rulebook.specs.Names.{named, op_name}
 use Rattle.lk_rulebook.specs.Formers.{IsFormer, SameFormer}
-use Rattle.lk_rulebook.specs.Rules.{HasType, t_sort, t_local, t_const, t_app, t_lam, t_pi, t_let, t_lit, t_str, t_proj, HasSort, has_sort, IsProp, is_prop, Reduces, r_refl, r_trans, r_head, r_beta, r_zeta, r_delta, r_proj, r_major, r_iota, r_k, r_struct, r_quot_lift, r_quot_ind, r_op, IsDefEq, e_refl, e_reduce, e_sort, e_const, e_app, e_lam, e_pi, e_proj, e_eta_left, e_eta_right, e_struct_left, e_struct_right, e_unit, e_proof, e_zero_left, e_zero_right, e_succ_left, e_succ_right, e_str_left, e_str_right}
+use Rattle.lk_rulebook.specs.Rules.{HasType, t_sort, t_local, t_const, t_app, t_lam, t_pi, t_let, t_lit, t_str, t_proj, HasSort, has_sort, IsProposition, is_prop, Reduces, r_refl, r_trans, r_head, r_beta, r_zeta, r_delta, r_proj, r_major, r_iota, r_k, r_struct, r_quot_lift, r_quot_ind, r_op, IsDefEq, e_refl, e_reduce, e_sort, e_const, e_app, e_lam, e_pi, e_proj, e_eta_left, e_eta_right, e_struct_left, e_struct_right, e_unit, e_proof, e_zero_left, e_zero_right, e_succ_left, e_succ_right, e_str_left, e_str_right}
 
 applied_former : (h : Tree) (xs : List Tree) → IsFormer (apply h xs) → IsFormer h
 applied_former h [] f = f
@@ -26,7 +26,7 @@ former_stays (r_proj S c ks g block ind ctor i xs s m x r rd a1 a2 a3 a4 fx) h =
 former_stays (r_major R ls front i f r rd) h = absurd h
 former_stays (r_iota R c ls ks front xs result i f g) h = absurd h
 former_stays (r_k R J c ls ks front bs rest e U D k he hr hd q f) h = absurd h
-former_stays (r_struct R J c block ind ctor js ls front bs m U i rule o z f s n x r p) h = absurd h
+former_stays (r_struct R s js ls front bs m U i rule o z f n x r p) h = absurd h
 former_stays (r_quot_lift ls ks i j f r) h = absurd h
 former_stays (r_quot_ind ls ks i j f r) h = absurd h
 former_stays (r_op op es ns r i x s g) h = absurd (applied_former (named (op_name op)) es h)
@@ -41,7 +41,7 @@ former_typed (t_pi {u = u} {v = v} i a f) h = (imax_level u v, refl)
 former_typed (t_let a x q f) h = absurd h
 former_typed (t_lit x f) h = absurd h
 former_typed (t_str x) h = absurd h
-former_typed (t_proj S ls bs i s U T A l g block ind c e d m k n o p q r f v) h = absurd h
+former_typed (t_proj S ls bs i s U T A l pj e d q r f v) h = absurd h
 
 sort_typed : {w : Place} {e A : Tree} → HasType w e A → (l : Level) → e ≡ sort l → A ≡ sort (succ_level l)
 sort_typed (t_sort {l = m}) l e = cc
@@ -53,7 +53,7 @@ sort_typed (t_pi i a f) l e = absurd cc
 sort_typed (t_let a x q f) l e = absurd cc
 sort_typed (t_lit x f) l e = absurd cc
 sort_typed (t_str x) l e = absurd cc
-sort_typed (t_proj S ls bs i s U T A k g block ind c y d m z n o p q r f v) l e = absurd cc
+sort_typed (t_proj S ls bs i s U T A k pj y d q r f v) l e = absurd cc
 
 succ_not_zero : (l m : Level) → m ≡ succ_level l → SameLevel m zero_level → ⊥
 succ_not_zero l m e h = let i : SameLevel (succ_level l) zero_level = rw e at h in absurd (omega (arith, i (λ c. 0)))
@@ -65,7 +65,7 @@ sort_of_sort (has_sort {S = S} t r) l e =
     let j : S ≡ sort _ = former_stays r f in
     cc
 
-pub sort_is_no_prop : {w : Place} {A : Tree} → IsProp w A → (l : Level) → A ≡ sort l → ⊥
+pub sort_is_no_prop : {w : Place} {A : Tree} → IsProposition w A → (l : Level) → A ≡ sort l → ⊥
 sort_is_no_prop (is_prop {l = m} h z) l e = succ_not_zero l m (sort_of_sort h l e) z
 
 pi_bound : (A B : Tree) → bound A ≤ bound (pi A B)
@@ -107,9 +107,9 @@ same_former (e_pi {k = k} i j c d) f g = record { number = k; left = i; right = 
 same_former (e_proj c) f g = absurd f
 same_former (e_eta_left v h r c) f g = absurd (no_pi h r f)
 same_former (e_eta_right v h r c) f g = absurd (no_pi h r g)
-same_former (e_struct_left J c block ind ctor ks ps xs a A B v i m n ha hb q p) f g = absurd (applied_former (const c ks) (ps ++ xs) g)
-same_former (e_struct_right J c block ind ctor ks ps xs a A B v i m n ha hb q p) f g = absurd (applied_former (const c ks) (ps ++ xs) f)
-same_former (e_unit J block ind ctor ls bs a b A B u v i n ha r hb q) f g = absurd (no_constant J ls bs ha r f)
+same_former (e_struct_left i ks ps xs a A B v m n ha hb q p) f g = absurd (applied_former (const i.ctor_name ks) (ps ++ xs) g)
+same_former (e_struct_right i ks ps xs a A B v m n ha hb q p) f g = absurd (applied_former (const i.ctor_name ks) (ps ++ xs) f)
+same_former (e_unit i ls bs a b A B u v n ha r hb q) f g = absurd (no_constant i.name ls bs ha r f)
 same_former (e_proof {A = A} u v a p b q) f g = absurd (sort_is_no_prop p (former_typed a f).0 (former_typed a f).1)
 same_former e_zero_left f g = absurd f
 same_former e_zero_right f g = absurd f

@@ -6,12 +6,13 @@ use Rattle.lk_tree.specs.Bind.{opened, bound}
 use Rattle.lk_rulebook.specs.Place.{Place, Entry, Kind, a_type, a_ctor}
 use Rattle.lk_rulebook.specs.Rules.{IsDefEq}
 
--- no type of a block is given, and no constructor
+-- an inductive type or a constructor
 abbrev pub IsOfBlock : Kind → Type 0
 IsOfBlock (a_type b t) = Unit {0}
 IsOfBlock (a_ctor b t c) = Unit {0}
 IsOfBlock _ = ⊥
 
+-- no type of a block is given, and no constructor
 abbrev pub GivesNoBlock : Place → Type 0
 GivesNoBlock w = (c : Name) (g : Entry) → w.means c ≡ Some g → IsOfBlock g.kind → ⊥
 

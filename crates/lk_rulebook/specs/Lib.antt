@@ -1,3 +1,4 @@
+pub mod Binders
 pub mod Formers
 pub mod HeadSteps
 pub mod Literals

@@ -8,15 +8,15 @@ use Rattle.lk_tree.specs.Levels.{put_levels}
 use Rattle.lk_tree.specs.Spine.{apply, IsNeutral, IsHeadNormal}
 use Rattle.lk_tree.specs.WellFormed.{IsWellFormed, AllWellFormed}
 use Rattle.lk_tree.specs.Operations.{Op, op_value}
-use Rattle.lk_rulebook.specs.Place.{Place, Entry, a_type, a_ctor, a_def, a_thm, Hint, Block, BlockType, Ctor, RecRule}
-use Rattle.lk_rulebook.specs.Structures.{IsStructure, IsUnitLike, IsIota, IsKRecursor, IsMajor, projections}
+use Rattle.lk_rulebook.specs.Place.{Place, Entry, a_ctor, a_def, a_thm, Hint, Block, BlockType, Ctor, RecRule}
+use Rattle.lk_rulebook.specs.Structures.{Structure, UnitLike, IsProjectable, IsIota, IsKRecursor, IsMajor, projections}
 use Rattle.lk_rulebook.specs.Names.{named, nat, nat_zero, nat_succ, op_name, string, quot_mk, quot_lift, quot_ind}
 use Rattle.lk_rulebook.specs.Shapes.{HasNat, HasString}
 use Rattle.lk_rulebook.specs.Literals.{IsNumeral, IsOperation, IsResult, expansion, Expands, ReadsText, Reads}
 use Rattle.lk_rulebook.specs.Quotients.{IsQuot}
 use Rattle.std.specs.Str.{chars}
 
--- c is a def or thm with this value
+-- the entry is of a def or thm with this value
 pub data HasValue (g : Entry) : Tree → Type 0 where
   of_def : {h : Hint} {v : Tree} → g.kind ≡ a_def h v → HasValue g v
   of_thm : {v : Tree} → g.kind ≡ a_thm v → HasValue g v
@@ -48,11 +48,10 @@ mutual
         HasSort w A l → HasType w v V → IsDefEq w V A → HasType w (opened b v) B → HasType w (let_in A v b) B
     t_lit : {n : ℕ} → HasNat w → IsWellFormed (lit n) → HasType w (lit n) (named nat)
     t_str : {s : List ℕ} → HasString w → HasType w (str s) (named string)
-    t_proj : (S : Name) (ls : List Level) (bs : List Tree) (i : ℕ) (s T₀ T A : Tree) (l : Level) (g : Entry) (block : Block) (ind : BlockType) (c : Ctor) →
-        HasType w s T₀ → Reduces w T₀ (apply (const S ls) bs) → w.means S ≡ Some g → g.kind ≡ a_type block ind →
-        length bs ≡ ind.parameters + ind.indices → ind.ctors ≡ c ∷ [] → length ls ≡ length c.levels → i < c.fields →
+    t_proj : (S : Name) (ls : List Level) (bs : List Tree) (i : ℕ) (s T₀ T A : Tree) (l : Level) (p : IsProjectable w S ls bs) →
+        HasType w s T₀ → Reduces w T₀ (apply (const S ls) bs) → i < p.ctor.fields →
         HasSort w (apply (const S ls) bs) l →
-        PastParameters w bs ind.parameters (put_levels c.levels ls c.type) T →
+        PastParameters w bs p.ind.parameters (put_levels p.ctor.levels ls p.ctor.type) T →
         FieldOf w S s l 0 i T A →
         HasType w (proj S i s) A
 
@@ -61,8 +60,8 @@ mutual
     has_sort : {A S : Tree} {l : Level} → HasType w A S → Reduces w S (sort l) → HasSort w A l
 
   -- A is a proposition
-  pub data IsProp (w : Place) : Tree → Type 0 where
-    is_prop : {A : Tree} {l : Level} → HasSort w A l → SameLevel l zero_level → IsProp w A
+  pub data IsProposition (w : Place) : Tree → Type 0 where
+    is_prop : {A : Tree} {l : Level} → HasSort w A l → SameLevel l zero_level → IsProposition w A
 
   -- a >> b at w
   pub data Reduces (w : Place) : Tree → Tree → Type 0 where
@@ -89,11 +88,11 @@ mutual
         HasType w e T₀ → Reduces w T₀ (apply (const J ks) (bs ++ rest)) → HasType w (apply (const c ks) bs) D →
         IsDefEq w (apply (const J ks) (bs ++ rest)) D → IsWellFormed (apply (const R ls) front) →
         Reduces w (app (apply (const R ls) front) e) (app (apply (const R ls) front) (apply (const c ks) bs))
-    r_struct : (R J c : Name) (block : Block) (ind : BlockType) (ctor : Ctor) (js ls : List Level) (front bs : List Tree) (m T₀ : Tree) →
-        (i : IsMajor w R front) (rule : RecRule) → i.recursor.rules ≡ rule ∷ [] → rule.ctor ≡ c → IsWellFormed (apply (const R js) front) →
-        IsStructure w J c block ind ctor → length bs ≡ ctor.parameters →
-        HasType w m T₀ → Reduces w T₀ (apply (const J ls) bs) → IsNotProp w (apply (const J ls) bs) →
-        Reduces w (app (apply (const R js) front) m) (app (apply (const R js) front) (apply (const c ls) (bs ++ projections J m 0 ctor.fields)))
+    r_struct : (R : Name) (S : Structure w) (js ls : List Level) (front bs : List Tree) (m T₀ : Tree) →
+        (i : IsMajor w R front) (rule : RecRule) → i.recursor.rules ≡ rule ∷ [] → rule.ctor ≡ S.ctor_name → IsWellFormed (apply (const R js) front) →
+        length bs ≡ S.ctor.parameters →
+        HasType w m T₀ → Reduces w T₀ (apply (const S.ind.name ls) bs) → IsNotProp w (apply (const S.ind.name ls) bs) →
+        Reduces w (app (apply (const R js) front) m) (app (apply (const R js) front) (apply (const S.ctor_name ls) (bs ++ projections S.ind.name m 0 S.ctor.fields)))
     r_quot_lift : (ls ks : List Level) {A r B f h e A' r' a : Tree} →
         IsQuot w quot_lift → IsQuot w quot_mk → AllWellFormed (A ∷ r ∷ B ∷ f ∷ h ∷ []) →
         Reduces w e (apply (const quot_mk ks) (A' ∷ r' ∷ a ∷ [])) →
@@ -124,18 +123,18 @@ mutual
     e_proj : {S : Name} {i : ℕ} {s t : Tree} → IsDefEq w s t → IsDefEq w (proj S i s) (proj S i t)
     e_eta_left : {o T A B A' b : Tree} → IsNeutral o → HasType w o T → Reduces w T (pi A B) → IsDefEq w (lam A (app o (var 0))) (lam A' b) → IsDefEq w o (lam A' b)
     e_eta_right : {o T A B A' b : Tree} → IsNeutral o → HasType w o T → Reduces w T (pi A B) → IsDefEq w (lam A' b) (lam A (app o (var 0))) → IsDefEq w (lam A' b) o
-    e_struct_left : (J c : Name) (block : Block) (ind : BlockType) (ctor : Ctor) (ks : List Level) (ps xs : List Tree) (a A B : Tree) →
-        IsHeadNormal a → IsStructure w J c block ind ctor → length ps ≡ ctor.parameters → length xs ≡ ctor.fields →
-        HasType w a A → HasType w (apply (const c ks) (ps ++ xs)) B → IsDefEq w A B → AllProject w J a 0 xs →
-        IsDefEq w a (apply (const c ks) (ps ++ xs))
-    e_struct_right : (J c : Name) (block : Block) (ind : BlockType) (ctor : Ctor) (ks : List Level) (ps xs : List Tree) (a A B : Tree) →
-        IsHeadNormal a → IsStructure w J c block ind ctor → length ps ≡ ctor.parameters → length xs ≡ ctor.fields →
-        HasType w a A → HasType w (apply (const c ks) (ps ++ xs)) B → IsDefEq w A B → AllProject w J a 0 xs →
-        IsDefEq w (apply (const c ks) (ps ++ xs)) a
-    e_unit : (J : Name) (block : Block) (ind : BlockType) (ctor : Ctor) (ls : List Level) (bs : List Tree) (a b A B : Tree) →
-        IsHeadNormal a → IsHeadNormal b → IsUnitLike w J block ind ctor → length bs ≡ ind.parameters →
-        HasType w a A → Reduces w A (apply (const J ls) bs) → HasType w b B → IsDefEq w A B → IsDefEq w a b
-    e_proof : {a b A B : Tree} → IsHeadNormal a → IsHeadNormal b → HasType w a A → IsProp w A → HasType w b B → IsDefEq w A B → IsDefEq w a b
+    e_struct_left : (S : Structure w) (ks : List Level) (ps xs : List Tree) (a A B : Tree) →
+        IsHeadNormal a → length ps ≡ S.ctor.parameters → length xs ≡ S.ctor.fields →
+        HasType w a A → HasType w (apply (const S.ctor_name ks) (ps ++ xs)) B → IsDefEq w A B → AllProject w S.ind.name a 0 xs →
+        IsDefEq w a (apply (const S.ctor_name ks) (ps ++ xs))
+    e_struct_right : (S : Structure w) (ks : List Level) (ps xs : List Tree) (a A B : Tree) →
+        IsHeadNormal a → length ps ≡ S.ctor.parameters → length xs ≡ S.ctor.fields →
+        HasType w a A → HasType w (apply (const S.ctor_name ks) (ps ++ xs)) B → IsDefEq w A B → AllProject w S.ind.name a 0 xs →
+        IsDefEq w (apply (const S.ctor_name ks) (ps ++ xs)) a
+    e_unit : (U : UnitLike w) (ls : List Level) (bs : List Tree) (a b A B : Tree) →
+        IsHeadNormal a → IsHeadNormal b → length bs ≡ U.ind.parameters →
+        HasType w a A → Reduces w A (apply (const U.name ls) bs) → HasType w b B → IsDefEq w A B → IsDefEq w a b
+    e_proof : {a b A B : Tree} → IsHeadNormal a → IsHeadNormal b → HasType w a A → IsProposition w A → HasType w b B → IsDefEq w A B → IsDefEq w a b
     e_zero_left : IsDefEq w (lit 0) (named nat_zero)
     e_zero_right : IsDefEq w (named nat_zero) (lit 0)
     e_succ_left : {n : ℕ} {x : Tree} → IsWellFormed (lit (suc n)) → IsDefEq w (lit n) x → IsDefEq w (lit (suc n)) (app (named nat_succ) x)
@@ -159,18 +158,18 @@ mutual
     project : {J : Name} {a x : Tree} {j : ℕ} {xs : List Tree} →
         IsDefEq w (proj J j a) x → AllProject w J a (suc j) xs → AllProject w J a j (x ∷ xs)
 
-  -- r, the constructor's type, with the first n of bs put for its parameters
+  -- T is left of r after n Pis, the first n of bs put in
   pub data PastParameters (w : Place) : List Tree → ℕ → Tree → Tree → Type 0 where
     no_more : {bs : List Tree} {r : Tree} → PastParameters w bs 0 r r
     next : {b : Tree} {bs : List Tree} {n : ℕ} {r A B T : Tree} →
         Reduces w r (pi A B) → PastParameters w bs n (opened B b) T → PastParameters w (b ∷ bs) (suc n) r T
 
   -- A is the domain of field number i of the structure s, where r begins with field number j; in Prop, which is where
-  -- l = 0, the domain is a proposition, and so is each earlier one that a later one rests on
+  -- l = 0, the domain is a proposition, and so is the domain of each earlier one whose variable the rest of the type mentions
   pub data FieldOf (w : Place) : Name → Tree → Level → ℕ → ℕ → Tree → Tree → Type 0 where
     here : {S : Name} {s : Tree} {l : Level} {i : ℕ} {r A B : Tree} →
-        Reduces w r (pi A B) → (SameLevel l zero_level → IsProp w A) →
+        Reduces w r (pi A B) → (SameLevel l zero_level → IsProposition w A) →
         FieldOf w S s l i i r A
     past : {S : Name} {s : Tree} {l : Level} {j i : ℕ} {r A B C : Tree} →
-        Reduces w r (pi A B) → (SameLevel l zero_level → has_var 0 B ≡ true → IsProp w A) →
+        Reduces w r (pi A B) → (SameLevel l zero_level → has_var 0 B ≡ true → IsProposition w A) →
         FieldOf w S s l (suc j) i (opened B (proj S j s)) C → FieldOf w S s l j i r C

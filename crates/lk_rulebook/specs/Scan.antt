@@ -20,7 +20,7 @@ abbrev pub AreScanned : Trees → Type 0
 AreScanned [] = Unit {0}
 AreScanned (e ∷ es) = (IsStated e.1 × TreeOver e.0 e.1) × AreScanned es
 
--- u may be unit n of the library
+-- u, as unit n, passes the checks before its questions
 pub record IsScanned (us : Library) (n : ℕ) (u : LibraryUnit) : Type 0 where
   pub names : AreNew us n (members_of u)
   pub levels : AreDistinct (members_of u)
@@ -43,7 +43,7 @@ abbrev pub all_over : Trees → Bool
 all_over [] = true
 all_over (e ∷ es) = tree_over e.0 e.1 && all_over es
 
--- the rule that the unit's own lines break: 4, 6, 3, 15, in this order
+-- the rule that the unit's own lines break, the first in this order
 abbrev pub own_scan : LibraryUnit → Option RuleNo
 own_scan u = first_broken (
     (are_distinct (members_of u), duplicate_level)
@@ -52,6 +52,6 @@ own_scan u = first_broken (
     ∷ (all_narrow (trees_of u), wide_literal)
     ∷ [])
 
--- the rule that u breaks as unit n: 5 before these
+-- the rule that u breaks as unit n: that its names are new comes before these
 abbrev pub scan_of : Library → ℕ → LibraryUnit → Option RuleNo
 scan_of us n u = if are_new us n (members_of u) then own_scan u else Some duplicate_name

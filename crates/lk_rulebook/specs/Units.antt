@@ -27,7 +27,7 @@ pub data LibraryUnit : Type 0 where
 abbrev pub Library : Type 0
 Library = List LibraryUnit
 
--- names with their entries: the members of a unit, or what is half there
+-- names with their entries: the members of a unit, or what is half there (given while its own block is being checked)
 abbrev pub Members : Type 0
 Members = List (Name × Entry)
 
@@ -121,7 +121,7 @@ abbrev pub given_by : Members → Name → Option Entry
 given_by [] c = None
 given_by (m ∷ ms) c = elim (name_discrete m.0 c) [ yes e ↦ Some m.1 | no f ↦ given_by ms c ]
 
--- a if it is there, else b
+-- the first if it is there, else the second
 abbrev pub first_of_two : Option Found → Option Found → Option Found
 first_of_two (Some e) o = Some e
 first_of_two None o = o

@@ -2,9 +2,10 @@
 #![tactic(auto)]
 
 ghost use Rattle.std.specs.Prelude.{◌≡◌, ℕ, None};
-ghost use Rattle.lk_tree.specs.Tree.{Tree};
+ghost use Rattle.lk_tree.specs.Tree.{Tree, lam, pi};
 ghost use Rattle.lk_tree.specs.WellFormed.{IsWellFormed, LocalsWithin};
 ghost use Rattle.lk_rulebook.specs.Place.{Place};
+ghost use Rattle.lk_rulebook.specs.Binders.{IsLamType, IsPiType};
 ghost use Rattle.lk_rulebook.specs.Formers.{GivesNoBlock, IsFormer, SameFormer};
 ghost use Rattle.lk_rulebook.specs.HeadSteps.{RunsTo};
 ghost use Rattle.lk_rulebook.specs.Stated.{GivesNoLocal};
@@ -31,10 +32,16 @@ pub fn formers_stay_apart_behind_steps()
     ensures { (w : Place) (a b F G : Tree) → IsDefEq w a b → RunsTo a F → RunsTo b G → IsFormer F → IsFormer G → SameFormer w F G }
 {}
 
-/// Where no block is given, a tree that equals one that comes to a Sort or a Pi by such steps reduces to a Sort of equal level,
-/// or to a Pi of equal parts.
+/// Where no inductive type or constructor is given: if a == b and a comes to a Sort or a Pi by such steps, b reduces to a Sort
+/// of equal level, or to a Pi of equal parts.
 pub fn equal_trees_come_along()
     ensures { (w : Place) (a b F : Tree) → GivesNoBlock w → IsDefEq w a b → RunsTo a F → IsFormer F → (G : Tree) × Reduces w b G × IsFormer G × SameFormer w F G }
+{}
+
+/// The type of a lambda or a Pi comes from its parts under a Local that is new in the whole conclusion, in the type too.
+pub fn binders_are_fresh()
+    ensures lambdas { (w : Place) (A b X : Tree) → HasType w (lam A b) X → IsLamType w A b X }
+    ensures pis { (w : Place) (A B X : Tree) → HasType w (pi A B) X → IsPiType w A B X }
 {}
 
 /// The Locals of a type or a reduct are Locals of the tree.
@@ -44,7 +51,7 @@ pub fn no_new_local()
 {}
 
 /// The scan of a unit gives no rule exactly where its names are new, its level parameters are distinct and declared, and its
-/// trees are closed.
+/// trees are closed and without Locals.
 pub fn scan_decides()
     ensures holds { (us : Library) (n : ℕ) (u : LibraryUnit) → scan_of us n u ≡ None → IsScanned us n u }
     ensures complete { (us : Library) (n : ℕ) (u : LibraryUnit) → IsScanned us n u → scan_of us n u ≡ None }

@@ -2,7 +2,7 @@
 use Rattle.std.proofs.Common.{ℕ, ◌≡◌, ◌+◌, ◌⊎◌, inl, inr, false, List, [], ◌∷◌, ◌++◌, length, Some, refl}
 use Rattle.lk_tree.specs.Tree.{Name, Level, Tree, sort}
 use Rattle.lk_rulebook.specs.Place.{Place, Entry, Block, BlockType, a_type}
-use Rattle.lk_rulebook.specs.Structures.{same_name, is_one_of}
+use Rattle.lk_tree.specs.Mentions.{same_name, is_one_of}
 use Rattle.lk_plain.specs.Program.{done}
 use Rattle.lk_plain.specs.Sound.{IsSound, IsStated, CtorsStated, TypesStated}
 use Rattle.lk_plain.proofs.Soundness.{sound_bind}

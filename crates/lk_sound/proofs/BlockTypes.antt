@@ -1,4 +1,4 @@
--- B2 gives each type's telescope and sort.
+-- The checks of a block's types give each type's telescope and sort.
 use Rattle.std.proofs.Common.{ℕ, ◌≡◌, ◌+◌, inl, inr, List, [], ◌∷◌, length, refl, sym, subst, arith}
 use Rattle.lk_tree.specs.Tree.{Level, Tree, local}
 use Rattle.lk_tree.specs.LevelTest.{level_test}
@@ -23,7 +23,7 @@ use Rattle.lk_sound.proofs.Telescopes.{IsOpened, sound_telescope, sound_over, Is
 abbrev pub IsSorted : Place → Tree → Type 0
 IsSorted w e = (l : Level) × HasSort w e l
 
--- what B2 finds of a type
+-- what the checks find of a type
 pub record IsFound (w : Place) (F : Frame) (t : BlockType) (xs : List Tree) : Type 0 where
   pub sorted : IsSorted w t.type
   pub over : IsTypeOver w F t xs
@@ -60,7 +60,7 @@ sound_next_types w F (t ∷ ts) st ps =
     (λ x hx. sound_bind w (next_types F.params F.sort ts) (λ xs. done (x ∷ xs)) (AreFound w F ts) (AreFound w F (t ∷ ts)) (sound_next_types w F ts st.1 ps)
     (λ xs hxs. one_found hx hxs))
 
--- what B2 finds of a block with these parameters
+-- what the checks of the types find of a block with these parameters
 pub record IsTyped (w : Place) (b : Block) (v : TypeParts) : Type 0 where
   pub count : length v.params ≡ parameters_of b
   pub params : AllIn (parameters_of b) v.params

@@ -1,4 +1,4 @@
--- B3 and B7, and that what is half there is well stated.
+-- Sorts of constructors' types and the stated recursors, and that what is half there is well stated.
 use Rattle.std.proofs.Common.{ℕ, suc, ◌≡◌, inl, inr, Bool, true, false, ◌&&◌, nat_eq, List, [], ◌∷◌, ◌++◌, length, map, Option, Some, None, refl, arith}
 use Rattle.std.proofs.lemmas.Bool.Decides.{nat_tests}
 use Rattle.lk_tree.specs.Tree.{Name, param, Tree, const, local}
@@ -9,7 +9,7 @@ use Rattle.lk_tree.specs.RuleNo.{recursor_differs}
 use Rattle.lk_tree.proofs.Within.{fine_put_levels}
 use Rattle.lk_tree.proofs.Spines.{well_formed_of_apply, all_fine_split}
 use Rattle.lk_rulebook.specs.Place.{Place, Block, BlockType, Ctor, RecRule}
-use Rattle.lk_rulebook.specs.Structures.{same_name}
+use Rattle.lk_tree.specs.Mentions.{same_name}
 use Rattle.lk_rulebook.specs.Rules.{HasSort}
 use Rattle.lk_rulebook.proofs.Scopes.{well_formed_of_reduct}
 use Rattle.lk_table.specs.Steps.{sort_of}

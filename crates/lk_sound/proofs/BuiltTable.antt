@@ -1,13 +1,13 @@
 -- The rows that are built are sound.
-use Rattle.std.proofs.Common.{ℕ, ◌≡◌, Bool, true, false}
+use Rattle.std.proofs.Common.{ℕ, ◌≡◌}
 use Rattle.lk_tree.specs.Tree.{Tree, tree_discrete}
 use Rattle.lk_tree.specs.WellFormed.{IsWellFormed}
 use Rattle.lk_tree.specs.RuleNo.{builtin_shape}
 use Rattle.lk_rulebook.specs.Place.{Place}
 use Rattle.lk_rulebook.specs.Rules.{IsDefEq, e_refl}
 use Rattle.lk_rulebook.specs.Units.{Library}
-use Rattle.lk_plain.specs.Query.{Query, core, whnf, infer, same}
-use Rattle.lk_plain.specs.Sound.{IfYes, IsAskable, IsJustified, IsSound, WellStated, IsSoundTable}
+use Rattle.lk_plain.specs.Query.{core, whnf, infer, same}
+use Rattle.lk_plain.specs.Sound.{IfYes, IsSoundTable}
 use Rattle.lk_plain.specs.Parts.{nameless}
 use Rattle.lk_plain.proofs.Parts.{sound_restricted, sound_nameless}
 use Rattle.lk_table.specs.Steps.{decided}

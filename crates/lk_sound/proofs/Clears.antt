@@ -1,14 +1,14 @@
 -- Reading back leaves alone what has no marked name, and finds what stands for an auxiliary type.
-use Rattle.std.proofs.Common.{ℕ, zero, suc, ◌≡◌, ◌+◌, inl, inr, Bool, true, false, List, [], ◌∷◌, ◌++◌, Some, None, refl, ap, subst, ◌∙◌, if◌then◌else◌, arith}
-use Rattle.lk_tree.specs.Tree.{tree_discrete, Name, name_discrete, Tree, var, sort, const, app, lam, pi, let_in, proj, lit, wide, str, local}
+use Rattle.std.proofs.Common.{ℕ, zero, suc, ◌≡◌, ◌+◌, inl, inr, Bool, true, false, List, [], ◌∷◌, ◌++◌, map, Some, None, refl, ap, subst, ◌∙◌, if◌then◌else◌, arith}
+use Rattle.lk_tree.specs.Tree.{tree_discrete, Name, name_discrete, param, Tree, var, sort, const, app, lam, pi, let_in, proj, lit, wide, str, local}
 use Rattle.lk_tree.specs.Spine.{apply}
 use Rattle.lk_rulebook.specs.Place.{Ctor}
-use Rattle.lk_rulebook.specs.Structures.{same_name}
+use Rattle.lk_tree.specs.Mentions.{same_name}
 use Rattle.lk_table.specs.Steps.{decided, is_same_tree}
 use Rattle.lk_blocks.specs.BlockSteps.{after_params}
 use Rattle.lk_blocks.specs.Recursors.{rec_name}
-use Rattle.lk_blocks.specs.Nested.{Aux, aux_name, aux_ctor, aux_from}
-use Rattle.lk_blocks.specs.Restore.{Original, applied_to, renamed_as, ctors_stand, rec_numbered, all_stand, stands_for, put_back, restore}
+use Rattle.lk_blocks.specs.Nested.{Aux, Setting, aux_name, aux_ctor, aux_from}
+use Rattle.lk_blocks.specs.Restore.{Original, applied_to, renamed_as, ctors_stand, rec_numbered, all_stand, stands_for, after_own, put_back, restore}
 use Rattle.lk_blocks.specs.NestedRelation.{IsMarked, Clear}
 use Rattle.lk_sound.proofs.Positive.{name_of}
 
@@ -42,31 +42,31 @@ none_stands (m ∷ ms) c h n = go (none_stands ms c h.1 n) (same_name m.0 c) ref
     go i false e = i
 
 -- a tree without such names is read back as it is
-pub clear_back : (ms : List (Name × Original)) (ps : List Tree) (e : Tree) (xs : List Tree) → AllMarked ms → Clear e → restore ms ps e xs ≡ apply e xs
-clear_back ms ps (app f a) xs m h = clear_back ms ps f (restore ms ps a [] ∷ xs) m h.0 ∙ ap (λ b. apply (app f b) xs) (clear_back ms ps a [] m h.1)
-clear_back ms ps (const c ls) xs m h = ap (put_back ps c ls xs) (none_stands ms c m h)
-clear_back ms ps (lam A b) xs m h = ap (λ D. apply (lam D (restore ms ps b [])) xs) (clear_back ms ps A [] m h.0) ∙ ap (λ c. apply (lam A c) xs) (clear_back ms ps b [] m h.1)
-clear_back ms ps (pi A b) xs m h = ap (λ D. apply (pi D (restore ms ps b [])) xs) (clear_back ms ps A [] m h.0) ∙ ap (λ c. apply (pi A c) xs) (clear_back ms ps b [] m h.1)
-clear_back ms ps (let_in A v b) xs m h =
-    ap (λ D. apply (let_in D (restore ms ps v []) (restore ms ps b [])) xs) (clear_back ms ps A [] m h.0)
-    ∙ (ap (λ u. apply (let_in A u (restore ms ps b [])) xs) (clear_back ms ps v [] m h.1) ∙ ap (λ c. apply (let_in A v c) xs) (clear_back ms ps b [] m h.2))
-clear_back ms ps (proj S i e) xs m h = ap (λ c. apply (proj S i c) xs) (clear_back ms ps e [] m h)
-clear_back ms ps (var i) xs m h = refl
-clear_back ms ps (sort l) xs m h = refl
-clear_back ms ps (lit k) xs m h = refl
-clear_back ms ps wide xs m h = refl
-clear_back ms ps (str k) xs m h = refl
-clear_back ms ps (local k T) xs m h = refl
+pub clear_back : (ms : List (Name × Original)) (s : Setting) (e : Tree) (xs : List Tree) → AllMarked ms → Clear e → restore ms s e xs ≡ apply e xs
+clear_back ms s (app f a) xs m h = clear_back ms s f (restore ms s a [] ∷ xs) m h.0 ∙ ap (λ b. apply (app f b) xs) (clear_back ms s a [] m h.1)
+clear_back ms s (const c ls) xs m h = ap (put_back s c ls xs) (none_stands ms c m h)
+clear_back ms s (lam A b) xs m h = ap (λ D. apply (lam D (restore ms s b [])) xs) (clear_back ms s A [] m h.0) ∙ ap (λ c. apply (lam A c) xs) (clear_back ms s b [] m h.1)
+clear_back ms s (pi A b) xs m h = ap (λ D. apply (pi D (restore ms s b [])) xs) (clear_back ms s A [] m h.0) ∙ ap (λ c. apply (pi A c) xs) (clear_back ms s b [] m h.1)
+clear_back ms s (let_in A v b) xs m h =
+    ap (λ D. apply (let_in D (restore ms s v []) (restore ms s b [])) xs) (clear_back ms s A [] m h.0)
+    ∙ (ap (λ u. apply (let_in A u (restore ms s b [])) xs) (clear_back ms s v [] m h.1) ∙ ap (λ c. apply (let_in A v c) xs) (clear_back ms s b [] m h.2))
+clear_back ms s (proj S i e) xs m h = ap (λ c. apply (proj S i c) xs) (clear_back ms s e [] m h)
+clear_back ms s (var i) xs m h = refl
+clear_back ms s (sort l) xs m h = refl
+clear_back ms s (lit k) xs m h = refl
+clear_back ms s wide xs m h = refl
+clear_back ms s (str k) xs m h = refl
+clear_back ms s (local k T) xs m h = refl
 
 -- arguments read back
-pub backs : List (Name × Original) → List Tree → List Tree → List Tree
-backs ms ps [] = []
-backs ms ps (x ∷ xs) = restore ms ps x [] ∷ backs ms ps xs
+pub backs : List (Name × Original) → Setting → List Tree → List Tree
+backs ms s [] = []
+backs ms s (x ∷ xs) = restore ms s x [] ∷ backs ms s xs
 
-pub back_apply : (ms : List (Name × Original)) (ps : List Tree) (h : Tree) (ys xs : List Tree) → restore ms ps (apply h ys) xs ≡ restore ms ps h (backs ms ps ys ++ xs)
+pub back_apply : (ms : List (Name × Original)) (s : Setting) (h : Tree) (ys xs : List Tree) → restore ms s (apply h ys) xs ≡ restore ms s h (backs ms s ys ++ xs)
 unfolding backs
-back_apply ms ps h [] xs = refl
-back_apply ms ps h (y ∷ ys) xs = back_apply ms ps (app h y) ys xs
+back_apply ms s h [] xs = refl
+back_apply ms s h (y ∷ ys) xs = back_apply ms s (app h y) ys xs
 
 same_as_itself : (a : Tree) → is_same_tree a a ≡ true
 same_as_itself a = go (tree_discrete a a)
@@ -79,10 +79,14 @@ pub after_itself : (ps xs : List Tree) → after_params ps (ps ++ xs) ≡ Some x
 after_itself [] xs = refl
 after_itself (p ∷ ps) xs = ap (λ b. if b then after_params ps (ps ++ xs) else None) (same_as_itself p) ∙ after_itself ps xs
 
-pub clear_backs : (ms : List (Name × Original)) (ps : List Tree) (ys : List Tree) → AllMarked ms → AllClear ys → backs ms ps ys ≡ ys
+-- the block's own levels, and P0 .. first
+pub after_own_itself : (s : Setting) (c : Name) (xs : List Tree) → after_own s c (map param s.levels) (s.params ++ xs) ≡ Some xs
+after_own_itself s c xs = ap (λ b. if b then after_params s.params (s.params ++ xs) else None) (same_as_itself (const c (map param s.levels))) ∙ after_itself s.params xs
+
+pub clear_backs : (ms : List (Name × Original)) (s : Setting) (ys : List Tree) → AllMarked ms → AllClear ys → backs ms s ys ≡ ys
 unfolding backs
-clear_backs ms ps [] m h = refl
-clear_backs ms ps (y ∷ ys) m h = ap (λ z. z ∷ backs ms ps ys) (clear_back ms ps y [] m h.0) ∙ ap (λ zs. y ∷ zs) (clear_backs ms ps ys m h.1)
+clear_backs ms s [] m h = refl
+clear_backs ms s (y ∷ ys) m h = ap (λ z. z ∷ backs ms s ys) (clear_back ms s y [] m h.0) ∙ ap (λ zs. y ∷ zs) (clear_backs ms s ys m h.1)
 
 -- the same name
 pub same_itself : (c : Name) → same_name c c ≡ true

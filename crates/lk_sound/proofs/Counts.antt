@@ -1,10 +1,10 @@
--- B1: the lines of a block state the same counts.
+-- The members of a block state the same counts.
 use Rattle.std.proofs.Common.{ℕ, suc, ◌≡◌, true, ◌&&◌, nat_eq, List, [], ◌∷◌, refl, arith}
 use Rattle.std.proofs.lemmas.Bool.Decides.{nat_tests}
 use Rattle.lk_tree.specs.Tree.{Name}
 use Rattle.lk_tree.specs.RuleNo.{block_shape}
 use Rattle.lk_rulebook.specs.Place.{Place, Block, BlockType, Ctor}
-use Rattle.lk_rulebook.specs.Structures.{same_name}
+use Rattle.lk_tree.specs.Mentions.{same_name}
 use Rattle.lk_plain.specs.Program.{done}
 use Rattle.lk_plain.specs.Sound.{IsSound}
 use Rattle.lk_table.specs.Declarations.{checked}

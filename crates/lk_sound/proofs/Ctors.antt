@@ -1,4 +1,4 @@
--- B5 and B6: constructors and large elimination.
+-- The checks of constructors and of large elimination.
 use Rattle.std.proofs.Common.{ℕ, zero, suc, ◌≡◌, ◌+◌, inl, inr, Bool, true, false, ◌||◌, nat_le, List, [], ◌∷◌, ◌++◌, length, Option, Some, None, refl, if◌then◌else◌, arith}
 use Rattle.lk_tree.specs.Tree.{Name, Level, zero_level, succ_level, Tree, pi, local}
 use Rattle.lk_tree.specs.Level.{is_zero_level}
@@ -10,7 +10,7 @@ use Rattle.lk_tree.specs.RuleNo.{field_universe, block_shape, constructor_result
 use Rattle.lk_tree.proofs.LevelTests.{level_le_right}
 use Rattle.lk_tree.proofs.Zero.{zero_level_same}
 use Rattle.lk_rulebook.specs.Place.{Place, Block, BlockType, Ctor}
-use Rattle.lk_rulebook.specs.Structures.{same_name}
+use Rattle.lk_tree.specs.Mentions.{same_name}
 use Rattle.lk_rulebook.specs.Rules.{HasSort, is_prop, Reduces}
 use Rattle.lk_rulebook.proofs.Scopes.{well_formed_of_reduct}
 use Rattle.lk_plain.specs.Program.{done}
@@ -21,8 +21,10 @@ use Rattle.lk_plain.proofs.Soundness.{sound_bind, sound_map}
 use Rattle.lk_sound.proofs.Pieces.{sound_given, sound_sort_of, sound_pi, same_tree}
 use Rattle.lk_sound.proofs.Goes.{sound_if}
 use Rattle.lk_blocks.specs.Block.{Frame, frame_of, Field, CtorShape, TypeShape, domain}
-use Rattle.lk_blocks.specs.Relation.{AtMost, IsMember, IsPositive, FitsIn, in_prop, in_universe, AreFields, no_field, a_field, IsCtor, AreCtors, no_ctor, a_ctor_more, Over, AreTypes, no_type, a_type_more, IsAmong, AreSmall, MayBeLarge, not_prop, empty, small, IsBlock}
-use Rattle.lk_blocks.specs.BlockSteps.{over, as_member, walk, level_le_test, fits, fits_in, fields_steps, own_indices, ctor_steps, ctors_steps, shapes_steps, is_among, small_steps, one_ctor_steps, one_type_steps, large_steps, TypeParts, shape_steps}
+use Rattle.lk_tree.specs.Level.{AtMost}
+use Rattle.lk_blocks.specs.Relation.{IsMember, IsPositive, FitsIn, in_prop, in_universe, AreFields, no_field, a_field, IsCtor, AreCtors, no_ctor, a_ctor_more, Over, AreTypes, no_type, a_type_more, IsAmong, AreSmall, MayBeLarge, not_prop, empty, small, IsBlock}
+use Rattle.lk_tree.specs.LevelTest.{level_le_test}
+use Rattle.lk_blocks.specs.BlockSteps.{over, as_member, walk, fits, fits_in, fields_steps, own_indices, ctor_steps, ctors_steps, shapes_steps, is_among, small_steps, one_ctor_steps, one_type_steps, large_steps, TypeParts, shape_steps}
 use Rattle.lk_sound.proofs.Scoped.{In, AllIn, in_more, open_in, pi_left, next_local, goes_in, fine_domain}
 use Rattle.lk_sound.proofs.Telescopes.{pi_of, sound_over}
 use Rattle.lk_sound.proofs.BlockTypes.{AreOver, one_over, IsHeaded}

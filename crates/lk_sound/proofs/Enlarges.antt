@@ -7,7 +7,7 @@ use Rattle.lk_tree.specs.WellFormed.{IsWellFormed}
 use Rattle.lk_tree.specs.RuleNo.{unknown_constant, block_shape}
 use Rattle.lk_tree.proofs.Binding.{close_fine, close_bound}
 use Rattle.lk_rulebook.specs.Place.{Place, Kind, Block, BlockType, Ctor, a_type}
-use Rattle.lk_rulebook.specs.Structures.{is_one_of}
+use Rattle.lk_tree.specs.Mentions.{is_one_of}
 use Rattle.lk_plain.specs.Program.{Program, done, look, ◌>>=◌}
 use Rattle.lk_plain.specs.Sound.{IsSound, WellStated, IsStated, CtorsStated, TypesStated}
 use Rattle.lk_plain.proofs.Soundness.{sound_bind, sound_map}
@@ -50,7 +50,7 @@ kept_in j P A₀ A e i f b h = rw i ((f, close_fine 0 j e h.0), omega (arith, b,
 -- past P0 ..
 pub record NestsPast (w : Place) (s : Setting) (T₁ : Name) (j : ℕ) (ps : List Tree) (e : Tree) (as_ : List Aux) (v : Tree × List Aux) : Type 0 where
   pub extends : Extends as_ v.1
-  pub reads : (bs : List Aux) → Extends v.1 bs → ReadsPast s.params (all_stand T₁ 0 bs) ps e v.0
+  pub reads : (bs : List Aux) → Extends v.1 bs → ReadsPast s (all_stand T₁ 0 bs) ps e v.0
   pub within : In j v.0
   pub auxs : AllAux w s v.1
 
@@ -125,7 +125,7 @@ pub record NestsCtor (w : Place) (s : Setting) (T₁ : Name) (c : Ctor) (as_ : L
 sound_held : (w : Place) (s : Setting) (T₁ : Name) → Ground w s → (c : Ctor) (as_ : List Aux) → IsStated c.type → Clear c.type → AllAux w s as_ → (h : Bool) → IsSound w (held_ctor s c as_ h) (NestsCtor w s T₁ c as_)
 sound_held w s T₁ g c as_ st cl all false = record {
   extends = λ i a q. q;
-  reads = λ bs ext. record { name = refl; levels = refl; parent = refl; place = refl; parameters = refl; fields = refl; type = as_stated (clear_back (all_stand T₁ 0 bs) s.params c.type [] (all_marked T₁ 0 bs) cl) };
+  reads = λ bs ext. record { name = refl; levels = refl; parent = refl; place = refl; parameters = refl; fields = refl; type = as_stated (clear_back (all_stand T₁ 0 bs) s c.type [] (all_marked T₁ 0 bs) cl) };
   stated = st;
   auxs = all;
 }
@@ -259,7 +259,7 @@ sound_aux_types : (w : Place) (s : Setting) (T₁ : Name) → Ground w s → (n 
 sound_aux_types w s T₁ g zero i as_ all = tt
 sound_aux_types w s T₁ g (suc n) i as_ all = sound_next_aux w s T₁ g (aux_types n s) (sound_aux_types w s T₁ g n) i as_ all (aux_from as_ i) refl
 
--- B4 gives a block that stands for the stated one
+-- the walk of nested occurrences gives a block that stands for the stated one
 pub record Enlarging (w : Place) (s : Setting) (b : Block) (lg : Larger) : Type 0 where
   pub stands_for_it : IsEnlarged w s b lg
   pub own : TypesStated lg.own

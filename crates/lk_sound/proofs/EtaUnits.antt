@@ -1,4 +1,4 @@
--- Structures without fields: Same's line 10 is sound.
+-- Eta of unit-like types is sound.
 use Rattle.std.proofs.Common.{◌≡◌, true, ◌&&◌, nat_eq, List, [], ◌∷◌, length, Some, refl}
 use Rattle.lk_tree.specs.Tree.{Name, Level, Tree, const}
 use Rattle.lk_tree.specs.Spine.{apply, head, args, IsHeadNormal}
@@ -11,39 +11,39 @@ use Rattle.lk_rulebook.proofs.Scopes.{well_formed_of_type}
 use Rattle.lk_plain.specs.Query.{same}
 use Rattle.lk_plain.specs.Program.{asked}
 use Rattle.lk_table.specs.Pairs.{goes_on}
-use Rattle.lk_table.specs.Eta.{is_empty_structure, is_empty_at, eta_unit, by_emptiness}
+use Rattle.lk_table.specs.Eta.{is_unit_like, is_unit_like_at, eta_unit, by_unit_eta}
 use Rattle.lk_sound.proofs.Pieces.{halves, equal_numbers, if_yes_map}
 use Rattle.lk_sound.proofs.Goes.{sound_if}
 use Rattle.lk_sound.proofs.Lines.{IfAnswers, SoundLine, sound_answers}
 
 -- two of a type J ls bs that has no fields are equal
-empty_structure : (w : Place) (J : Name) (g : Entry) → w.means J ≡ Some g → (block : Block) (t : BlockType) → g.kind ≡ a_type block t →
-    (cs : List Ctor) → t.ctors ≡ cs → (ls : List Level) (bs : List Tree) → is_empty_structure block t cs bs ≡ true →
+unit_like_equal : (w : Place) (J : Name) (g : Entry) → w.means J ≡ Some g → (block : Block) (t : BlockType) → g.kind ≡ a_type block t →
+    (cs : List Ctor) → t.ctors ≡ cs → (ls : List Level) (bs : List Tree) → is_unit_like block t cs bs ≡ true →
     (a b A B : Tree) → IsHeadNormal a → IsHeadNormal b → HasType w a A → Reduces w A (apply (const J ls) bs) → HasType w b B → IsDefEq w A B → IsDefEq w a b
-empty_structure w J g m block t k (c ∷ []) e ls bs h a b A B na nb ha r hb q =
+unit_like_equal w J g m block t k (c ∷ []) e ls bs h a b A B na nb ha r hb q =
     let both : ((is_structure_like block t c && nat_eq c.fields 0) ≡ true) × (nat_eq (length bs) t.parameters ≡ true) = halves (is_structure_like block t c && nat_eq c.fields 0) (nat_eq (length bs) t.parameters) h in
     let more : (is_structure_like block t c ≡ true) × (nat_eq c.fields 0 ≡ true) = halves (is_structure_like block t c) (nat_eq c.fields 0) both.0 in
-    e_unit J block t c ls bs a b A B na nb (record { one_ctor = e; like = more.0; no_fields = equal_numbers c.fields 0 more.1; entry = g; given = m; kind = k }) (equal_numbers (length bs) t.parameters both.1) ha r hb q
-empty_structure w J g m block t k [] e ls bs h a b A B na nb ha r hb q = absurd cc
-empty_structure w J g m block t k (c ∷ d ∷ cs) e ls bs h a b A B na nb ha r hb q = absurd cc
+    e_unit (record { name = J; block = block; ind = t; ctor = c; one_ctor = e; like = more.0; no_fields = equal_numbers c.fields 0 more.1; entry = g; given = m; kind = k }) ls bs a b A B na nb (equal_numbers (length bs) t.parameters both.1) ha r hb q
+unit_like_equal w J g m block t k [] e ls bs h a b A B na nb ha r hb q = absurd cc
+unit_like_equal w J g m block t k (c ∷ d ∷ cs) e ls bs h a b A B na nb ha r hb q = absurd cc
 
-empty_at : (w : Place) (J : Name) (g : Entry) → w.means J ≡ Some g → (k : Kind) → g.kind ≡ k → (ls : List Level) (bs : List Tree) → is_empty_at k bs ≡ true →
+unit_like_equal_at : (w : Place) (J : Name) (g : Entry) → w.means J ≡ Some g → (k : Kind) → g.kind ≡ k → (ls : List Level) (bs : List Tree) → is_unit_like_at k bs ≡ true →
     (a b A B : Tree) → IsHeadNormal a → IsHeadNormal b → HasType w a A → Reduces w A (apply (const J ls) bs) → HasType w b B → IsDefEq w A B → IsDefEq w a b
-empty_at w J g m (a_type block t) k ls bs h a b A B na nb ha r hb q = empty_structure w J g m block t k t.ctors refl ls bs h a b A B na nb ha r hb q
-empty_at w J g m _ k ls bs h a b A B na nb ha r hb q = absurd cc
+unit_like_equal_at w J g m (a_type block t) k ls bs h a b A B na nb ha r hb q = unit_like_equal w J g m block t k t.ctors refl ls bs h a b A B na nb ha r hb q
+unit_like_equal_at w J g m _ k ls bs h a b A B na nb ha r hb q = absurd cc
 
 sound_eta_unit : (w : Place) (a b A : Tree) → IsHeadNormal a → IsHeadNormal b → IsWellFormed b → HasType w a A → (h : Tree) (bs : List Tree) → Reduces w A (apply h bs) → SoundLine w (eta_unit a b A h bs) (IsDefEq w a b)
 sound_eta_unit w a b A na nb fb ha (const J ls) bs r = λ g m.
-    sound_if w (is_empty_at g.kind bs) _ goes_on (λ o. IfAnswers o (IsDefEq w a b))
+    sound_if w (is_unit_like_at g.kind bs) _ goes_on (λ o. IfAnswers o (IsDefEq w a b))
     (λ t. (
       fb,
       λ B mB. sound_answers w (asked (same A B)) (IsDefEq w a b) (
         ((well_formed_of_type ha).1, (well_formed_of_type mB.0).1),
-        λ e q. if_yes_map e (λ c. empty_at w J g m g.kind refl ls bs t a b A B na nb ha r mB.0 c) q,
+        λ e q. if_yes_map e (λ c. unit_like_equal_at w J g m g.kind refl ls bs t a b A B na nb ha r mB.0 c) q,
       ),
     ))
     (λ t. tt)
 sound_eta_unit w a b A na nb fb ha _ bs r = tt
 
-pub sound_10 : (w : Place) (a b : Tree) → IsWellFormed a → IsWellFormed b → IsHeadNormal a → IsHeadNormal b → SoundLine w (by_emptiness a b) (IsDefEq w a b)
-sound_10 w a b fa fb na nb = (fa, λ A mA. ((well_formed_of_type mA.0).1, λ T mT. sound_eta_unit w a b A na nb fb mA.0 (head T) (args T) (rw (apply_head_args T) mT.0)))
+pub sound_by_unit_eta : (w : Place) (a b : Tree) → IsWellFormed a → IsWellFormed b → IsHeadNormal a → IsHeadNormal b → SoundLine w (by_unit_eta a b) (IsDefEq w a b)
+sound_by_unit_eta w a b fa fb na nb = (fa, λ A mA. ((well_formed_of_type mA.0).1, λ T mT. sound_eta_unit w a b A na nb fb mA.0 (head T) (args T) (rw (apply_head_args T) mT.0)))

@@ -7,11 +7,11 @@ use Rattle.lk_tree.specs.WellFormed.{IsWellFormed, AllWellFormed}
 use Rattle.lk_tree.proofs.Spines.{well_formed_of_apply}
 use Rattle.lk_tree.proofs.Lists.{fine_drop, length_taken}
 use Rattle.lk_rulebook.specs.Place.{Place}
-use Rattle.lk_rulebook.specs.Structures.{IsStructure, is_structure_like}
+use Rattle.lk_rulebook.specs.Structures.{Structure, is_structure_like}
 use Rattle.lk_rulebook.specs.Rules.{HasType, IsDefEq, e_struct_left, e_struct_right, AllProject, no_more_fields, project}
 use Rattle.lk_rulebook.proofs.Scopes.{well_formed_of_type}
 use Rattle.lk_plain.specs.Program.{done}
-use Rattle.lk_table.specs.Iota.{Built, built_of, has_one_ctor}
+use Rattle.lk_table.specs.Iota.{CtorApp, ctor_app_of, has_one_ctor}
 use Rattle.lk_table.specs.Pairs.{goes_on}
 use Rattle.lk_table.specs.Eta.{same_fields, eta_struct, by_structure_eta}
 use Rattle.lk_plain.specs.Sound.{IsSound, IfYes, WellStated}
@@ -19,7 +19,7 @@ use Rattle.lk_plain.proofs.Soundness.{sound_bind, sound_map}
 use Rattle.lk_sound.proofs.Pieces.{of_yes}
 use Rattle.lk_sound.proofs.Goes.{sound_if}
 use Rattle.lk_sound.proofs.Lines.{if_yes_map, IfAnswers, SoundLine, sound_answers_yes}
-use Rattle.lk_sound.proofs.Iotas.{IsBuilt, IfBuilt, sound_built_of, the_ctor, listed_of}
+use Rattle.lk_sound.proofs.Iotas.{IsCtorApp, IfCtorApp, sound_ctor_app_of, the_ctor, listed_of}
 
 sound_fields : (w : Place) (J : Name) (a : Tree) → IsWellFormed a → (j : ℕ) (xs : List Tree) → AllWellFormed xs → IsSound w (same_fields J a j xs) (λ e. IfYes e (AllProject w J a j xs))
 sound_fields w J a fa j [] f = no_more_fields
@@ -36,7 +36,7 @@ and_two true true h = (refl, refl)
 and_two true false h = absurd cc
 and_two false b h = absurd cc
 
-eta_ext : (w : Place) → WellStated w → (a b : Tree) → IsHeadNormal a → (k : Built) → IsBuilt w b k →
+eta_ext : (w : Place) → WellStated w → (a b : Tree) → IsHeadNormal a → (k : CtorApp) → IsCtorApp w b k →
     (nat_eq (length k.args) (k.ctor.parameters + k.ctor.fields) && (has_one_ctor k.ind.ctors && is_structure_like k.block k.ind k.ctor)) ≡ true →
     (A B : Tree) → HasType w a A → HasType w b B → IsDefEq w A B → AllProject w k.ind.name a 0 (drop k.ctor.parameters k.args) → IsDefEq w a b × IsDefEq w b a
 eta_ext w ok a b na k j y A B ha hb q all =
@@ -51,22 +51,25 @@ eta_ext w ok a b na k j y A B ha hb q all =
     let hk : HasType w (apply (const k.name k.levels) (take p k.args ++ drop p k.args)) B = rw u at hb in
     let m : length (take p k.args) ≡ p = length_taken p k.args (omega (arith, count)) in
     let n : length (drop p k.args) ≡ k.ctor.fields = length-drop p k.args ∙ omega (arith, count) in
-    let s : IsStructure w k.ind.name k.name k.block k.ind k.ctor =
+    let s : Structure w =
     record {
+      ctor_name = k.name;
+      block = k.block;
+      ind = k.ind;
+      ctor = k.ctor;
       one_ctor = the_ctor k.ctor k.ind.ctors more.0 (listed_of k.entry k.block k.ind k.ctor j.kind (ok k.name k.entry j.given).1);
       like = more.1;
       entry = k.entry;
       given = j.given;
       kind = j.kind;
-      parent = refl;
     } in
     let c : IsDefEq w a (apply (const k.name k.levels) (take p k.args ++ drop p k.args)) =
-    e_struct_left k.ind.name k.name k.block k.ind k.ctor k.levels (take p k.args) (drop p k.args) a A B na s m n ha hk q all in
+    e_struct_left s k.levels (take p k.args) (drop p k.args) a A B na m n ha hk q all in
     let d : IsDefEq w (apply (const k.name k.levels) (take p k.args ++ drop p k.args)) a =
-    e_struct_right k.ind.name k.name k.block k.ind k.ctor k.levels (take p k.args) (drop p k.args) a A B na s m n ha hk q all in
+    e_struct_right s k.levels (take p k.args) (drop p k.args) a A B na m n ha hk q all in
     (rw u c, rw u d)
 
-sound_eta_struct : (w : Place) → WellStated w → (a b : Tree) → IsWellFormed a → IsWellFormed b → IsHeadNormal a → (o : Option Built) → IfBuilt w b o → (C : Type 0) → (IsDefEq w a b × IsDefEq w b a → C) → SoundLine w (eta_struct a b o) C
+sound_eta_struct : (w : Place) → WellStated w → (a b : Tree) → IsWellFormed a → IsWellFormed b → IsHeadNormal a → (o : Option CtorApp) → IfCtorApp w b o → (C : Type 0) → (IsDefEq w a b × IsDefEq w b a → C) → SoundLine w (eta_struct a b o) C
 sound_eta_struct w ok a b fa fb na None j C h = tt
 sound_eta_struct w ok a b fa fb na (Some k) j C h =
     let test : Bool = nat_eq (length k.args) (k.ctor.parameters + k.ctor.fields) && (has_one_ctor k.ind.ctors && is_structure_like k.block k.ind k.ctor) in
@@ -92,7 +95,7 @@ sound_eta_struct w ok a b fa fb na (Some k) j C h =
     ))
     (λ y. tt)
 
-pub sound_9 : (w : Place) → WellStated w → (a b : Tree) → IsWellFormed a → IsWellFormed b → IsHeadNormal a → (C : Type 0) → (IsDefEq w a b × IsDefEq w b a → C) → SoundLine w (by_structure_eta a b) C
-sound_9 w ok a b fa fb na C h =
-    sound_bind w (built_of (head b) (args b)) (λ k. eta_struct a b k) (IfBuilt w b) (λ o. IfAnswers o C) (sound_built_of w b)
+pub sound_by_structure_eta : (w : Place) → WellStated w → (a b : Tree) → IsWellFormed a → IsWellFormed b → IsHeadNormal a → (C : Type 0) → (IsDefEq w a b × IsDefEq w b a → C) → SoundLine w (by_structure_eta a b) C
+sound_by_structure_eta w ok a b fa fb na C h =
+    sound_bind w (ctor_app_of (head b) (args b)) (λ k. eta_struct a b k) (IfCtorApp w b) (λ o. IfAnswers o C) (sound_ctor_app_of w b)
     (λ k j. sound_eta_struct w ok a b fa fb na k j C h)

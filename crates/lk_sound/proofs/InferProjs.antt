@@ -14,7 +14,7 @@ use Rattle.lk_tree.proofs.Zero.{zero_level_same, not_zero_level}
 use Rattle.lk_tree.proofs.Within.{within_refl, within_trans, within_open, apply_head_args, no_local, bound_put_levels, fine_put_levels}
 use Rattle.lk_tree.proofs.Lists.{AllWithin, local_of_arg}
 use Rattle.lk_rulebook.specs.Place.{Place, Entry, Kind, Block, BlockType, Ctor, a_type}
-use Rattle.lk_rulebook.specs.Rules.{Reduces, HasSort, IsProp, is_prop, t_proj, PastParameters, no_more, next, FieldOf, here, past}
+use Rattle.lk_rulebook.specs.Rules.{Reduces, HasSort, IsProposition, is_prop, t_proj, PastParameters, no_more, next, FieldOf, here, past}
 use Rattle.lk_rulebook.proofs.Scopes.{well_formed_of_type, well_formed_of_reduct}
 use Rattle.lk_plain.specs.Query.{infer}
 use Rattle.lk_plain.specs.Program.{done}
@@ -49,7 +49,7 @@ sound_past w s (b ∷ bs) (suc n) r f l k = (
 sound_past w s [] (suc n) r f l k = tt
 
 -- A is a proposition, where that was asked for and allowed
-sound_prop : (w : Place) (q : Bool) (A : Tree) → IsWellFormed A → IsSound w (is_prop_if q A) (λ ok. ok ≡ true → q ≡ true → IsProp w A)
+sound_prop : (w : Place) (q : Bool) (A : Tree) → IsWellFormed A → IsSound w (is_prop_if q A) (λ ok. ok ≡ true → q ≡ true → IsProposition w A)
 sound_prop w false A f = λ y n. absurd cc
 sound_prop w true A f =
     sound_bind w (sort_of A) (λ l. done (is_zero_level l)) (λ l. HasSort w A l) _ (sound_sort_of w A f)
@@ -66,7 +66,7 @@ true_or_not false = inr refl
 zero_then : (l : Level) → SameLevel l zero_level → is_zero_level l ≡ true
 zero_then l h = elim (true_or_not (is_zero_level l)) [ inl e ↦ e | inr e ↦ absurd (not_zero_level l e h) ]
 
-here_at : (w : Place) (S : Name) (s : Tree) (l : Level) (j i : ℕ) (r A B : Tree) → j + 0 ≡ i → Reduces w r (pi A B) → (SameLevel l zero_level → IsProp w A) → FieldOf w S s l j i r A
+here_at : (w : Place) (S : Name) (s : Tree) (l : Level) (j i : ℕ) (r A B : Tree) → j + 0 ≡ i → Reduces w r (pi A B) → (SameLevel l zero_level → IsProposition w A) → FieldOf w S s l j i r A
 here_at w S s l j i r A B e c h = let f : j ≡ i = omega (arith, e) in subst (λ x. FieldOf w S s l j x r A) f (here c h)
 
 sound_field : (w : Place) (S : Name) (s : Tree) → IsWellFormed s → (l : Level) (j i n : ℕ) (r : Tree) → j + n ≡ i → Kept s r →
@@ -129,8 +129,7 @@ sound_struct w ok S i s T fs hT wT ls eT g mg block ind kg (c ∷ []) ec =
     (sound_past w s (args T) ind.parameters r fargs (λ k U m. wT k U (rw (← eT) (local_of_arg k U (const S ls) (args T) m))) kr)
     (λ u hu. sound_map w (field_type S s (is_zero_level l) 0 i u) (λ A. FieldOf w S s l 0 i u A × LocalsWithin s A) (IsJustified w (infer (proj S i s)))
     (λ A hA. (
-      t_proj S ls (args T) i s hT.between u A l g block ind c hT.types (rw eT hT.reduces) mg kg
-          (count_is (args T) ind c i t) ec er.1 (below_is (args T) ind c i t) (rw eT hl) (rw er.0 at hu.0) hA.0,
+      t_proj S ls (args T) i s hT.between u A l (record { entry = g; block = block; ind = ind; ctor = c; given = mg; kind = kg; args_are = count_is (args T) ind c i t; one_ctor = ec; levels_are = er.1 }) hT.types (rw eT hT.reduces) (below_is (args T) ind c i t) (rw eT hl) (rw er.0 at hu.0) hA.0,
       hA.1,
     ))
     (sound_field w S s fs l 0 i i u (omega arith) hu.1)))))

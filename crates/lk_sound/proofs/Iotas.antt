@@ -1,7 +1,7 @@
 -- Iota and projections of constructors are sound.
 use Rattle.lk_rulebook.specs.Place.{Ctor, Block, BlockType}
 use Rattle.lk_tree.proofs.Lists.{AllWithin, AnyLocal}
-use Rattle.lk_table.specs.Iota.{has_one_ctor, builds_structure, expanded, expand_at, expand, as_built}
+use Rattle.lk_table.specs.Iota.{has_one_ctor, builds_structure, expanded, expand_at, to_ctor_when_structure, as_ctor_app}
 use Rattle.lk_plain.specs.Sound.{IsListed}
 use Rattle.lk_table.specs.Steps.{sort_of}
 use Rattle.lk_sound.proofs.Pieces.{sound_sort_of, TypesTo, well_formed_of_to}
@@ -21,21 +21,22 @@ use Rattle.lk_tree.proofs.Spines.{fine_apply, well_formed_of_apply}
 use Rattle.lk_tree.proofs.Within.{within_trans, apply_head_args, no_local, bound_put_levels, fine_put_levels}
 use Rattle.lk_tree.proofs.Lists.{fine_take, fine_drop, fine_at, any_take, any_drop, any_at, local_of_apply, local_of_arg, within_applied, split_at, length_before, length_taken}
 use Rattle.lk_rulebook.specs.Place.{Place, Entry, Kind, Recursor, RecRule, a_quot, a_ctor, a_rec}
-use Rattle.lk_rulebook.specs.Structures.{same_name, IsRuleOf, before_major}
+use Rattle.lk_tree.specs.Mentions.{same_name}
+use Rattle.lk_rulebook.specs.Structures.{IsRuleOf, before_major}
 use Rattle.lk_rulebook.specs.Rules.{HasSort, Reduces, r_major, r_proj, r_iota, r_k}
 use Rattle.lk_rulebook.proofs.Scopes.{well_formed_of_type, well_formed_of_reduct}
 use Rattle.lk_plain.specs.Query.{core}
 use Rattle.lk_plain.specs.Program.{done}
 use Rattle.lk_table.specs.Steps.{with_levels}
-use Rattle.lk_table.specs.Iota.{Built, built_by, built_of, only_ctor, levels_at, k_from, k_step, fitting_rule, by_rule, iota_built, iota_of, iota_after_k, iota, core_constant, picked, core_field, core_proj}
+use Rattle.lk_table.specs.Iota.{CtorApp, ctor_app_by, ctor_app_of, only_ctor, levels_at, k_from, to_ctor_when_k, fitting_rule, by_rule, iota_at_ctor, iota_of, iota_after_k, iota, core_constant, picked, core_field, core_proj}
 use Rattle.lk_plain.specs.Sound.{IsSound, IsJustified, WellStated, IsStated, KindStated, RulesStated}
 use Rattle.lk_plain.proofs.Soundness.{sound_bind}
 use Rattle.lk_sound.proofs.Pieces.{sound_with_levels, of_yes}
 pub use Rattle.lk_sound.proofs.Pieces.{same_name_right}
 use Rattle.lk_sound.proofs.Pieces.{Some_inj}
 use Rattle.lk_sound.proofs.Quots.{sound_core_quot}
-use Rattle.lk_sound.proofs.Readings.{sound_read, sound_read_text}
-use Rattle.lk_table.specs.Strings.{read, read_text}
+use Rattle.lk_sound.proofs.Readings.{sound_literal_to_ctor, sound_text_to_ctor}
+use Rattle.lk_table.specs.Strings.{literal_to_ctor, text_to_ctor}
 use Rattle.lk_rulebook.specs.Literals.{ReadsText, Reads}
 use Rattle.lk_rulebook.proofs.Texts.{text_fine, text_within, read_within}
 use Rattle.lk_sound.proofs.Goes.{sound_if, GoesTo, stays, goes_on, IsCore, core_stays, core_on, goes_applied}
@@ -55,28 +56,28 @@ pub listed_of : (g : Entry) (b : Block) (i : BlockType) (c : Ctor) → g.kind �
 listed_of g b i c e s = let t : KindStated (a_ctor b i c) = rw e at s in t.1
 
 -- m is the constructor b applied
-pub record IsBuilt (w : Place) (m : Tree) (b : Built) : Type 0 where
+pub record IsCtorApp (w : Place) (m : Tree) (b : CtorApp) : Type 0 where
   pub tree_is : m ≡ apply (const b.name b.levels) b.args
   pub given : w.means b.name ≡ Some b.entry
   pub kind : b.entry.kind ≡ a_ctor b.block b.ind b.ctor
 
-abbrev pub IfBuilt : Place → Tree → Option Built → Type 0
-IfBuilt w m None = Unit {0}
-IfBuilt w m (Some b) = IsBuilt w m b
+abbrev pub IfCtorApp : Place → Tree → Option CtorApp → Type 0
+IfCtorApp w m None = Unit {0}
+IfCtorApp w m (Some b) = IsCtorApp w m b
 
-built_by_right : (w : Place) (m : Tree) (c : Name) (ks : List Level) (xs : List Tree) (g : Entry) → m ≡ apply (const c ks) xs → w.means c ≡ Some g → (k : Kind) → g.kind ≡ k → IfBuilt w m (built_by c ks xs g k)
-built_by_right w m c ks xs g t n (a_ctor b i k) e = record { tree_is = t; given = n; kind = e }
-built_by_right w m c ks xs g t n _ e = tt
+ctor_app_by_right : (w : Place) (m : Tree) (c : Name) (ks : List Level) (xs : List Tree) (g : Entry) → m ≡ apply (const c ks) xs → w.means c ≡ Some g → (k : Kind) → g.kind ≡ k → IfCtorApp w m (ctor_app_by c ks xs g k)
+ctor_app_by_right w m c ks xs g t n (a_ctor b i k) e = record { tree_is = t; given = n; kind = e }
+ctor_app_by_right w m c ks xs g t n _ e = tt
 
-sound_built_at : (w : Place) (m h : Tree) (xs : List Tree) → m ≡ apply h xs → IsSound w (built_of h xs) (IfBuilt w m)
-sound_built_at w m (const c ks) xs t = λ g n. built_by_right w m c ks xs g t n g.kind refl
-sound_built_at w m _ xs t = tt
+sound_ctor_app_at : (w : Place) (m h : Tree) (xs : List Tree) → m ≡ apply h xs → IsSound w (ctor_app_of h xs) (IfCtorApp w m)
+sound_ctor_app_at w m (const c ks) xs t = λ g n. ctor_app_by_right w m c ks xs g t n g.kind refl
+sound_ctor_app_at w m _ xs t = tt
 
-pub sound_built_of : (w : Place) (m : Tree) → IsSound w (built_of (head m) (args m)) (IfBuilt w m)
-sound_built_of w m = sound_built_at w m (head m) (args m) (sym (apply_head_args m))
+pub sound_ctor_app_of : (w : Place) (m : Tree) → IsSound w (ctor_app_of (head m) (args m)) (IfCtorApp w m)
+sound_ctor_app_of w m = sound_ctor_app_at w m (head m) (args m) (sym (apply_head_args m))
 
 -- Core of a projection
-sound_picked : (w : Place) (S : Name) (i : ℕ) (s v m : Tree) (b : Built) → IsWellFormed s → GoesTo w s v → ReadsText w v m → IsBuilt w m b → b.ind.name ≡ S →
+sound_picked : (w : Place) (S : Name) (i : ℕ) (s v m : Tree) (b : CtorApp) → IsWellFormed s → GoesTo w s v → ReadsText w v m → IsCtorApp w m b → b.ind.name ≡ S →
     (o : Option Tree) → slice_get b.args (b.ctor.parameters + i) ≡ o → IsSound w (picked (proj S i s) o) (IsJustified w (core (proj S i s)))
 sound_picked w S i s v m b f g rd j e None h = core_stays w (proj S i s) (f, tt)
 sound_picked w S i s v m b f g rd j e (Some x) h =
@@ -89,7 +90,7 @@ sound_picked w S i s v m b f g rd j e (Some x) h =
     ) in
     (fx, λ u n. core_on w (proj S i s) x u all n)
 
-sound_core_field : (w : Place) (S : Name) (i : ℕ) (s v m : Tree) → IsWellFormed s → GoesTo w s v → ReadsText w v m → (o : Option Built) → IfBuilt w m o →
+sound_core_field : (w : Place) (S : Name) (i : ℕ) (s v m : Tree) → IsWellFormed s → GoesTo w s v → ReadsText w v m → (o : Option CtorApp) → IfCtorApp w m o →
     IsSound w (core_field (proj S i s) S i o) (IsJustified w (core (proj S i s)))
 sound_core_field w S i s v m f g rd None j = core_stays w (proj S i s) (f, tt)
 sound_core_field w S i s v m f g rd (Some b) j =
@@ -100,9 +101,9 @@ sound_core_field w S i s v m f g rd (Some b) j =
 pub sound_core_proj : (w : Place) (S : Name) (i : ℕ) (s : Tree) → IsWellFormed s → IsSound w (core_proj S i s) (IsJustified w (core (proj S i s)))
 sound_core_proj w S i s f = (
   f,
-  λ v g. sound_bind w (read_text v) _ (λ m. ReadsText w v m) (IsJustified w (core (proj S i s))) (sound_read_text w v)
-      (λ m rd. sound_bind w (built_of (head m) (args m)) (λ b. core_field (proj S i s) S i b) (IfBuilt w m) (IsJustified w (core (proj S i s)))
-      (sound_built_of w m) (λ b j. sound_core_field w S i s v m f g rd b j)),
+  λ v g. sound_bind w (text_to_ctor v) _ (λ m. ReadsText w v m) (IsJustified w (core (proj S i s))) (sound_text_to_ctor w v)
+      (λ m rd. sound_bind w (ctor_app_of (head m) (args m)) (λ b. core_field (proj S i s) S i b) (IfCtorApp w m) (IsJustified w (core (proj S i s)))
+      (sound_ctor_app_of w m) (λ b j. sound_core_field w S i s v m f g rd b j)),
 )
 
 rule_stated : (rs : List RecRule) (rule : RecRule) → RulesStated rs → IsRuleOf rule rs → IsStated rule.value
@@ -133,11 +134,11 @@ fitting (r ∷ rs) c p n rule e = fitting_at r rs c p n rule (fitting rs c p n r
 rules_of : (g : Entry) (r : Recursor) → g.kind ≡ a_rec r → KindStated g.kind → RulesStated r.rules
 rules_of g r e s = let t : KindStated (a_rec r) = rw e at s in t
 
-abbrev iota_result : Entry → List Level → Recursor → RecRule → List Tree → Built → Tree
+abbrev iota_result : Entry → List Level → Recursor → RecRule → List Tree → CtorApp → Tree
 iota_result g ls r rule front b = apply (apply (put_levels g.levels ls rule.value) (take (r.parameters + r.motives + r.minors) front)) (drop b.ctor.parameters b.args)
 
 iota_step : (w : Place) → WellStated w → (R : Name) (ls : List Level) (g : Entry) → w.means R ≡ Some g → (r : Recursor) → g.kind ≡ a_rec r →
-    (front : List Tree) → length front ≡ before_major r → (m : Tree) (b : Built) → IsBuilt w m b →
+    (front : List Tree) → length front ≡ before_major r → (m : Tree) (b : CtorApp) → IsCtorApp w m b →
     (rule : RecRule) → IsFitting r.rules b.name b.ctor.parameters (length b.args) rule → length ls ≡ length g.levels →
     IsWellFormed (app (apply (const R ls) front) m) → GoesTo w (app (apply (const R ls) front) m) (iota_result g ls r rule front b)
 iota_step w ok R ls g mg r kr front count m b j rule has levels f =
@@ -182,7 +183,7 @@ iota_step w ok R ls g mg r kr front count m b j rule has levels f =
 
 sound_by_rule : (w : Place) → WellStated w → (R : Name) (ls : List Level) (g : Entry) → w.means R ≡ Some g → (r : Recursor) → g.kind ≡ a_rec r →
     (front : List Tree) → length front ≡ before_major r → (rest : List Tree) (e m : Tree) → GoesTo w e (apply (app (apply (const R ls) front) m) rest) → IsCore e →
-    (b : Built) → IsBuilt w m b → (rule : Option RecRule) → fitting_rule r.rules b.name b.ctor.parameters (length b.args) ≡ rule →
+    (b : CtorApp) → IsCtorApp w m b → (rule : Option RecRule) → fitting_rule r.rules b.name b.ctor.parameters (length b.args) ≡ rule →
     IsSound w (by_rule e g ls r front rest b rule) (IsJustified w (core e))
 sound_by_rule w ok R ls g mg r kr front count rest e m ge fe b j None h = core_stays w e fe
 sound_by_rule w ok R ls g mg r kr front count rest e m ge fe b j (Some rule) h =
@@ -223,18 +224,18 @@ same_name_levels J T ks (str s) e h = absurd cc
 same_name_levels J T ks (local k S) e h = absurd cc
 
 -- the one rule of r is for the constructor b
-record IsOnly (w : Place) (r : Recursor) (b : Built) : Type 0 where
+record IsOnly (w : Place) (r : Recursor) (b : CtorApp) : Type 0 where
   rule : RecRule
   one : r.rules ≡ rule ∷ []
   named : rule.ctor ≡ b.name
   given : w.means b.name ≡ Some b.entry
   kind : b.entry.kind ≡ a_ctor b.block b.ind b.ctor
 
-abbrev IfOnly : Place → Recursor → Option Built → Type 0
+abbrev IfOnly : Place → Recursor → Option CtorApp → Type 0
 IfOnly w r None = Unit {0}
 IfOnly w r (Some b) = IsOnly w r b
 
-only_right : (w : Place) (r : Recursor) (rule : RecRule) (g : Entry) → r.rules ≡ rule ∷ [] → w.means rule.ctor ≡ Some g → (k : Kind) → g.kind ≡ k → IfOnly w r (built_by rule.ctor [] [] g k)
+only_right : (w : Place) (r : Recursor) (rule : RecRule) (g : Entry) → r.rules ≡ rule ∷ [] → w.means rule.ctor ≡ Some g → (k : Kind) → g.kind ≡ k → IfOnly w r (ctor_app_by rule.ctor [] [] g k)
 only_right w r rule g o m (a_ctor b i c) e = record { rule = rule; one = o; named = refl; given = m; kind = e }
 only_right w r rule g o m _ e = tt
 
@@ -243,14 +244,14 @@ sound_only w r [] e = tt
 sound_only w r (rule ∷ []) e = λ g m. only_right w r rule g e m g.kind refl
 sound_only w r (a ∷ b ∷ rs) e = tt
 
--- what step 1 takes the major premise for
+-- what K takes the major premise for
 abbrev IfTaken : Place → Tree → Tree → Option Tree → Type 0
 IfTaken w h major None = Unit {0}
 IfTaken w h major (Some d) = GoesTo w (app h major) (app h d)
 
 sound_k_from : (w : Place) (R : Name) (ls : List Level) (g : Entry) → w.means R ≡ Some g → (r : Recursor) → g.kind ≡ a_rec r → r.k ≡ true →
     (front : List Tree) → length front ≡ before_major r → IsWellFormed (apply (const R ls) front) → (major T : Tree) → TypesTo w major T → LocalsWithin major T →
-    (b : Built) → IsOnly w r b → (o : Option (List Level)) → levels_at b.ind.name (head T) ≡ o → IsSound w (k_from b T o) (IfTaken w (apply (const R ls) front) major)
+    (b : CtorApp) → IsOnly w r b → (o : Option (List Level)) → levels_at b.ind.name (head T) ≡ o → IsSound w (k_from b T o) (IfTaken w (apply (const R ls) front) major)
 sound_k_from w R ls g mg r kr kk front count fh major T hT wT b j None h = tt
 sound_k_from w R ls g mg r kr kk front count fh major T hT wT b j (Some ks) h =
     let p : ℕ = b.ctor.parameters in
@@ -300,7 +301,7 @@ sound_k_from w R ls g mg r kr kk front count fh major T hT wT b j (Some ks) h =
     ))
     (λ short. tt)
 
--- step 3: m is taken for the constructor of its projections
+-- m is taken for the constructor of its projections
 projections_within : (J : Name) (m : Tree) (j n : ℕ) → AllWithin m (projections J m j n)
 projections_within J m j zero k T h = absurd h
 projections_within J m j (suc n) k T (inl h) = h
@@ -312,32 +313,34 @@ any_append k T (x ∷ xs) ys (inl h) = inl (inl h)
 any_append k T (x ∷ xs) ys (inr h) = elim (any_append k T xs ys h) [ inl a ↦ inl (inr a) | inr b ↦ inr b ]
 
 -- under h, b is what m goes to, as a constructor applied
-record GoesToBuilt (w : Place) (h m : Tree) (b : Built) : Type 0 where
+record GoesToCtorApp (w : Place) (h m : Tree) (b : CtorApp) : Type 0 where
   goes : GoesTo w (app h m) (app h (apply (const b.name b.levels) b.args))
-  is_built : IsBuilt w (apply (const b.name b.levels) b.args) b
+  is_ctor_app : IsCtorApp w (apply (const b.name b.levels) b.args) b
 
-abbrev IfGoesToBuilt : Place → Tree → Tree → Option Built → Type 0
-IfGoesToBuilt w h m None = Unit {0}
-IfGoesToBuilt w h m (Some b) = GoesToBuilt w h m b
+abbrev IfGoesToCtorApp : Place → Tree → Tree → Option CtorApp → Type 0
+IfGoesToCtorApp w h m None = Unit {0}
+IfGoesToCtorApp w h m (Some b) = GoesToCtorApp w h m b
 
-expands : (w : Place) → WellStated w → (R : Name) (js : List Level) (front : List Tree) → (im : IsMajor w R front) → IsWellFormed (apply (const R js) front) → (r : Recursor) → im.recursor ≡ r → (m T : Tree) → TypesTo w m T → LocalsWithin m T → (k : Built) → IsOnly w r k → (ls : List Level) → apply (const k.ind.name ls) (args T) ≡ T →
+expands : (w : Place) → WellStated w → (R : Name) (js : List Level) (front : List Tree) → (im : IsMajor w R front) → IsWellFormed (apply (const R js) front) → (r : Recursor) → im.recursor ≡ r → (m T : Tree) → TypesTo w m T → LocalsWithin m T → (k : CtorApp) → IsOnly w r k → (ls : List Level) → apply (const k.ind.name ls) (args T) ≡ T →
     builds_structure k ≡ true → nat_eq (length (args T)) k.ctor.parameters ≡ true → (l : Level) → HasSort w T l → is_zero_level l ≡ false →
-    GoesToBuilt w (apply (const R js) front) m (expanded k ls m (args T))
+    GoesToCtorApp w (apply (const R js) front) m (expanded k ls m (args T))
 expands w ok R js front im fh r er m T hT wT k j ls eT like yes_count l hl nz =
     let t : (has_one_ctor k.ind.ctors ≡ true) × (is_structure_like k.block k.ind k.ctor ≡ true) = both (has_one_ctor k.ind.ctors) (is_structure_like k.block k.ind k.ctor) like in
     let count : length (args T) ≡ k.ctor.parameters = grind (arith, nat_tests) in
     let ps : List Tree = projections k.ind.name m 0 k.ctor.fields in
     record {
       goes = (
-        r_struct R k.ind.name k.name k.block k.ind k.ctor js ls front (args T) m hT.between im j.rule (rw er j.one) j.named fh
-            (record {
-              one_ctor = the_ctor k.ctor k.ind.ctors t.0 (listed_of k.entry k.block k.ind k.ctor j.kind (ok k.name k.entry j.given).1);
-              like = t.1;
-              entry = k.entry;
-              given = j.given;
-              kind = j.kind;
-              parent = refl;
-            }) count hT.types (rw eT hT.reduces) (not_prop {l = l} (rw eT hl) (not_zero_level l nz)),
+        r_struct R (record {
+          ctor_name = k.name;
+          block = k.block;
+          ind = k.ind;
+          ctor = k.ctor;
+          one_ctor = the_ctor k.ctor k.ind.ctors t.0 (listed_of k.entry k.block k.ind k.ctor j.kind (ok k.name k.entry j.given).1);
+          like = t.1;
+          entry = k.entry;
+          given = j.given;
+          kind = j.kind;
+        }) js ls front (args T) m hT.between im j.rule (rw er j.one) j.named fh count hT.types (rw eT hT.reduces) (not_prop {l = l} (rw eT hl) (not_zero_level l nz)),
         λ k' T'. elim [
           | inl x ↦ inl x
           | inr x ↦ inr (within_applied m (const k.name ls) (args T ++ ps) (λ i S h. absurd h)
@@ -347,25 +350,25 @@ expands w ok R js front im fh r er m T hT wT k j ls eT like yes_count l hl nz =
               ]) k' T' x)
         ],
       );
-      is_built = record { tree_is = refl; given = j.given; kind = j.kind };
+      is_ctor_app = record { tree_is = refl; given = j.given; kind = j.kind };
     }
 
-sound_expand_at : (w : Place) → WellStated w → (R : Name) (js : List Level) (front : List Tree) → (im : IsMajor w R front) → IsWellFormed (apply (const R js) front) → (r : Recursor) → im.recursor ≡ r → (m T : Tree) → TypesTo w m T → LocalsWithin m T → (k : Built) → IsOnly w r k → builds_structure k ≡ true → (o : Option (List Level)) → levels_at k.ind.name (head T) ≡ o →
-    IsSound w (expand_at k m T o) (IfGoesToBuilt w (apply (const R js) front) m)
+sound_expand_at : (w : Place) → WellStated w → (R : Name) (js : List Level) (front : List Tree) → (im : IsMajor w R front) → IsWellFormed (apply (const R js) front) → (r : Recursor) → im.recursor ≡ r → (m T : Tree) → TypesTo w m T → LocalsWithin m T → (k : CtorApp) → IsOnly w r k → builds_structure k ≡ true → (o : Option (List Level)) → levels_at k.ind.name (head T) ≡ o →
+    IsSound w (expand_at k m T o) (IfGoesToCtorApp w (apply (const R js) front) m)
 sound_expand_at w ok R js front im fh r er m T hT wT k j like None h = tt
 sound_expand_at w ok R js front im fh r er m T hT wT k j like (Some ls) h =
     let e : head T ≡ const k.ind.name ls = same_name_levels k.ind.name T ls (head T) refl h in
     let eT : apply (const k.ind.name ls) (args T) ≡ T = rw e at (apply_head_args T) in
-    sound_if w (nat_eq (length (args T)) k.ctor.parameters) _ (done None) (IfGoesToBuilt w (apply (const R js) front) m)
-    (λ t. sound_bind w (sort_of T) _ (λ l. HasSort w T l) (IfGoesToBuilt w (apply (const R js) front) m) (sound_sort_of w T (well_formed_of_to hT))
-    (λ l hl. sound_if w (is_zero_level l) (done None) (done (Some (expanded k ls m (args T)))) (IfGoesToBuilt w (apply (const R js) front) m)
+    sound_if w (nat_eq (length (args T)) k.ctor.parameters) _ (done None) (IfGoesToCtorApp w (apply (const R js) front) m)
+    (λ t. sound_bind w (sort_of T) _ (λ l. HasSort w T l) (IfGoesToCtorApp w (apply (const R js) front) m) (sound_sort_of w T (well_formed_of_to hT))
+    (λ l hl. sound_if w (is_zero_level l) (done None) (done (Some (expanded k ls m (args T)))) (IfGoesToCtorApp w (apply (const R js) front) m)
     (λ z. tt) (λ z. expands w ok R js front im fh r er m T hT wT k j ls eT like t l hl z)))
     (λ t. tt)
 
-sound_expand : (w : Place) → WellStated w → (R : Name) (js : List Level) (front : List Tree) → (im : IsMajor w R front) → IsWellFormed (apply (const R js) front) → (r : Recursor) → im.recursor ≡ r → (m : Tree) → IsWellFormed m → (k : Option Built) → IfOnly w r k → IsSound w (expand m k) (IfGoesToBuilt w (apply (const R js) front) m)
-sound_expand w ok R js front im fh r er m f None j = tt
-sound_expand w ok R js front im fh r er m f (Some k) j =
-    sound_if w (builds_structure k) _ (done None) (IfGoesToBuilt w (apply (const R js) front) m)
+sound_to_ctor_when_structure : (w : Place) → WellStated w → (R : Name) (js : List Level) (front : List Tree) → (im : IsMajor w R front) → IsWellFormed (apply (const R js) front) → (r : Recursor) → im.recursor ≡ r → (m : Tree) → IsWellFormed m → (k : Option CtorApp) → IfOnly w r k → IsSound w (to_ctor_when_structure m k) (IfGoesToCtorApp w (apply (const R js) front) m)
+sound_to_ctor_when_structure w ok R js front im fh r er m f None j = tt
+sound_to_ctor_when_structure w ok R js front im fh r er m f (Some k) j =
+    sound_if w (builds_structure k) _ (done None) (IfGoesToCtorApp w (apply (const R js) front) m)
     (λ like. (
       f,
       λ S mS. (
@@ -375,36 +378,36 @@ sound_expand w ok R js front im fh r er m f (Some k) j =
     ))
     (λ like. tt)
 
-sound_as_built : (w : Place) → WellStated w → (R : Name) (js : List Level) (front : List Tree) → (im : IsMajor w R front) → IsWellFormed (apply (const R js) front) → (r : Recursor) → im.recursor ≡ r → (m : Tree) → IsWellFormed m → (b : Option Built) → IfBuilt w m b → IsSound w (as_built r m b) (IfGoesToBuilt w (apply (const R js) front) m)
-sound_as_built w ok R js front im fh r er m f (Some b) j =
-    record { goes = rw (← j.tree_is) (stays w (app (apply (const R js) front) m) (fh, f)); is_built = record { tree_is = refl; given = j.given; kind = j.kind } }
-sound_as_built w ok R js front im fh r er m f None j =
-    sound_bind w (only_ctor r.rules) (λ k. expand m k) (IfOnly w r) (IfGoesToBuilt w (apply (const R js) front) m) (sound_only w r r.rules refl) (λ k i. sound_expand w ok R js front im fh r er m f k i)
+sound_as_ctor_app : (w : Place) → WellStated w → (R : Name) (js : List Level) (front : List Tree) → (im : IsMajor w R front) → IsWellFormed (apply (const R js) front) → (r : Recursor) → im.recursor ≡ r → (m : Tree) → IsWellFormed m → (b : Option CtorApp) → IfCtorApp w m b → IsSound w (as_ctor_app r m b) (IfGoesToCtorApp w (apply (const R js) front) m)
+sound_as_ctor_app w ok R js front im fh r er m f (Some b) j =
+    record { goes = rw (← j.tree_is) (stays w (app (apply (const R js) front) m) (fh, f)); is_ctor_app = record { tree_is = refl; given = j.given; kind = j.kind } }
+sound_as_ctor_app w ok R js front im fh r er m f None j =
+    sound_bind w (only_ctor r.rules) (λ k. to_ctor_when_structure m k) (IfOnly w r) (IfGoesToCtorApp w (apply (const R js) front) m) (sound_only w r r.rules refl) (λ k i. sound_to_ctor_when_structure w ok R js front im fh r er m f k i)
 
-sound_with_built : (w : Place) → WellStated w → (R : Name) (ls : List Level) (g : Entry) → w.means R ≡ Some g → (r : Recursor) → g.kind ≡ a_rec r →
+sound_with_ctor_app : (w : Place) → WellStated w → (R : Name) (ls : List Level) (g : Entry) → w.means R ≡ Some g → (r : Recursor) → g.kind ≡ a_rec r →
     (front : List Tree) → length front ≡ before_major r → (rest : List Tree) (e m : Tree) → GoesTo w e (apply (app (apply (const R ls) front) m) rest) → IsCore e →
-    (b : Option Built) → IfGoesToBuilt w (apply (const R ls) front) m b → IsSound w (iota_built e g ls r front rest b) (IsJustified w (core e))
-sound_with_built w ok R ls g mg r kr front count rest e m ge fe None j = core_stays w e fe
-sound_with_built w ok R ls g mg r kr front count rest e m ge fe (Some b) j =
+    (b : Option CtorApp) → IfGoesToCtorApp w (apply (const R ls) front) m b → IsSound w (iota_at_ctor e g ls r front rest b) (IsJustified w (core e))
+sound_with_ctor_app w ok R ls g mg r kr front count rest e m ge fe None j = core_stays w e fe
+sound_with_ctor_app w ok R ls g mg r kr front count rest e m ge fe (Some b) j =
     let m' : Tree = apply (const b.name b.levels) b.args in
     let fa : IsWellFormed (app (apply (const R ls) front) m) × AllWellFormed rest = well_formed_of_apply (app (apply (const R ls) front) m) rest (well_formed_of_reduct ge.0).1 in
     sound_by_rule w ok R ls g mg r kr front count rest e m'
     (goes_on w e (apply (app (apply (const R ls) front) m) rest) (apply (app (apply (const R ls) front) m') rest) ge
     (goes_applied w (app (apply (const R ls) front) m) (app (apply (const R ls) front) m') rest fa.1 j.goes))
-    fe b j.is_built (fitting_rule r.rules b.name b.ctor.parameters (length b.args)) refl
+    fe b j.is_ctor_app (fitting_rule r.rules b.name b.ctor.parameters (length b.args)) refl
 
 sound_iota_of : (w : Place) → WellStated w → (R : Name) (ls : List Level) (g : Entry) → w.means R ≡ Some g → (r : Recursor) → g.kind ≡ a_rec r →
     (front : List Tree) → length front ≡ before_major r → (rest : List Tree) (e m : Tree) → GoesTo w e (apply (app (apply (const R ls) front) m) rest) → IsCore e →
     IsSound w (iota_of e g ls r front rest m) (IsJustified w (core e))
 sound_iota_of w ok R ls g mg r kr front count rest e m ge fe =
     let fa : IsWellFormed (app (apply (const R ls) front) m) × AllWellFormed rest = well_formed_of_apply (app (apply (const R ls) front) m) rest (well_formed_of_reduct ge.0).1 in
-    sound_bind w (built_of (head m) (args m)) _ (IfBuilt w m) (IsJustified w (core e)) (sound_built_of w m)
-    (λ b j. sound_bind w (as_built r m b) (λ c. iota_built e g ls r front rest c) (IfGoesToBuilt w (apply (const R ls) front) m) (IsJustified w (core e)) (sound_as_built w ok R ls front (at_major w R g mg r kr front count) fa.0.0 r refl m fa.0.1 b j)
-    (λ c i. sound_with_built w ok R ls g mg r kr front count rest e m ge fe c i))
+    sound_bind w (ctor_app_of (head m) (args m)) _ (IfCtorApp w m) (IsJustified w (core e)) (sound_ctor_app_of w m)
+    (λ b j. sound_bind w (as_ctor_app r m b) (λ c. iota_at_ctor e g ls r front rest c) (IfGoesToCtorApp w (apply (const R ls) front) m) (IsJustified w (core e)) (sound_as_ctor_app w ok R ls front (at_major w R g mg r kr front count) fa.0.0 r refl m fa.0.1 b j)
+    (λ c i. sound_with_ctor_app w ok R ls g mg r kr front count rest e m ge fe c i))
 
 sound_k_step : (w : Place) (R : Name) (ls : List Level) (g : Entry) → w.means R ≡ Some g → (r : Recursor) → g.kind ≡ a_rec r → r.k ≡ true →
     (front : List Tree) → length front ≡ before_major r → IsWellFormed (apply (const R ls) front) → (major : Tree) → IsWellFormed major →
-    (b : Option Built) → IfOnly w r b → IsSound w (k_step r major b) (IfTaken w (apply (const R ls) front) major)
+    (b : Option CtorApp) → IfOnly w r b → IsSound w (to_ctor_when_k r major b) (IfTaken w (apply (const R ls) front) major)
 sound_k_step w R ls g mg r kr kk front count fh major fm None j = tt
 sound_k_step w R ls g mg r kr kk front count fh major fm (Some b) j = (
   fm,
@@ -424,7 +427,7 @@ sound_after_k w ok R ls g mg r kr front count major rest e eq fe (Some d) t =
 sound_after_k w ok R ls g mg r kr front count major rest e eq fe None t =
     let fa : IsWellFormed (app (apply (const R ls) front) major) × AllWellFormed rest = well_formed_of_apply (app (apply (const R ls) front) major) rest (rw eq fe.0) in (
       fa.0.1,
-      λ v gv. sound_bind w (read v) (λ m. iota_of e g ls r front rest m) (λ m. Reads w v m) (IsJustified w (core e)) (sound_read w v)
+      λ v gv. sound_bind w (literal_to_ctor v) (λ m. iota_of e g ls r front rest m) (λ m. Reads w v m) (IsJustified w (core e)) (sound_literal_to_ctor w v)
           (λ m rd. sound_iota_of w ok R ls g mg r kr front count rest e m (rw (← eq) (major_goes w R ls front major m rest (at_major w R g mg r kr front count) fa.0.0 fa.1 v gv rd)) fe),
     )
 
@@ -440,7 +443,7 @@ sound_iota w ok R ls g mg r kr xs e eq fe (Some major) h =
     let fa : IsWellFormed (app (apply (const R ls) front) major) × AllWellFormed rest = well_formed_of_apply (app (apply (const R ls) front) major) rest (rw at fe.0) in
     sound_if w r.k _ (iota_after_k e g ls r front major rest None) (IsJustified w (core e))
     (λ kk. sound_bind w (only_ctor r.rules) _ (IfOnly w r) (IsJustified w (core e)) (sound_only w r r.rules refl)
-    (λ b j. sound_bind w (k_step r major b) (λ d. iota_after_k e g ls r front major rest d) (IfTaken w (apply (const R ls) front) major) (IsJustified w (core e))
+    (λ b j. sound_bind w (to_ctor_when_k r major b) (λ d. iota_after_k e g ls r front major rest d) (IfTaken w (apply (const R ls) front) major) (IsJustified w (core e))
     (sound_k_step w R ls g mg r kr kk front count fa.0.0 major fa.0.1 b j)
     (λ d t. sound_after_k w ok R ls g mg r kr front count major rest e at fe d t)))
     (λ kk. sound_after_k w ok R ls g mg r kr front count major rest e at fe None tt)

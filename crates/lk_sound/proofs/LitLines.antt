@@ -7,7 +7,7 @@ use Rattle.lk_tree.proofs.Spines.{well_formed_of_apply}
 use Rattle.lk_tree.proofs.Within.{apply_head_args}
 use Rattle.lk_rulebook.specs.Place.{Place}
 use Rattle.lk_rulebook.specs.Names.{named, nat_zero, nat_succ}
-use Rattle.lk_rulebook.specs.Structures.{same_name}
+use Rattle.lk_tree.specs.Mentions.{same_name}
 use Rattle.lk_rulebook.specs.Rules.{r_refl, IsDefEq, e_reduce, e_zero_left, e_zero_right, e_succ_left, e_succ_right, e_str_left, e_str_right}
 use Rattle.lk_rulebook.proofs.Scopes.{well_formed_of_reduct}
 use Rattle.lk_rulebook.proofs.Texts.{expansion_fine}
@@ -93,8 +93,8 @@ sound_numbers w (lit n) b fa fb = sound_lit_first w n b fa fb (nat_ctor b) (nat_
 sound_numbers w a (lit n) fa fb = sound_lit_second w n a fb fa (nat_ctor a) (nat_ctor_right a)
 sound_numbers w _ _ fa fb = tt
 
-pub sound_5 : (w : Place) (a b : Tree) → IsWellFormed a → IsWellFormed b → SoundLine w (by_literals a b) (IsDefEq w a b)
-sound_5 w a b fa fb = sound_or_line w (step_first a b) _ (IsDefEq w a b) (sound_step_first w a b fa fb)
+pub sound_by_literals : (w : Place) (a b : Tree) → IsWellFormed a → IsWellFormed b → SoundLine w (by_literals a b) (IsDefEq w a b)
+sound_by_literals w a b fa fb = sound_or_line w (step_first a b) _ (IsDefEq w a b) (sound_step_first w a b fa fb)
     (sound_or_line w (step_second a b) (same_numbers a b) (IsDefEq w a b) (sound_step_second w a b fa fb) (sound_numbers w a b fa fb))
 
 -- a text on one side
@@ -122,5 +122,5 @@ sound_text_second w a (str s) fa fb =
     (λ t. tt)
 sound_text_second w a _ fa fb = tt
 
-pub sound_11 : (w : Place) (a b : Tree) → IsWellFormed a → IsWellFormed b → SoundLine w (by_string a b) (IsDefEq w a b)
-sound_11 w a b fa fb = sound_or_line w (text_first a b) (text_second a b) (IsDefEq w a b) (sound_text_first w a b fa fb) (sound_text_second w a b fa fb)
+pub sound_by_string : (w : Place) (a b : Tree) → IsWellFormed a → IsWellFormed b → SoundLine w (by_string a b) (IsDefEq w a b)
+sound_by_string w a b fa fb = sound_or_line w (text_first a b) (text_second a b) (IsDefEq w a b) (sound_text_first w a b fa fb) (sound_text_second w a b fa fb)

@@ -8,7 +8,7 @@ use Rattle.lk_tree.specs.Spine.{apply, args}
 use Rattle.lk_tree.specs.WellFormed.{AllWellFormed}
 use Rattle.lk_rulebook.specs.Place.{Place, Entry}
 use Rattle.lk_rulebook.specs.Names.{named, nat_zero, op_name}
-use Rattle.lk_rulebook.specs.Structures.{same_name}
+use Rattle.lk_tree.specs.Mentions.{same_name}
 use Rattle.lk_rulebook.specs.Shapes.{HasNat}
 use Rattle.lk_rulebook.specs.Literals.{IsNumeral, of_lit, of_zero, may_give, IsOperation, IsResult, a_number, a_truth}
 use Rattle.lk_rulebook.specs.Rules.{r_op, Numerals, no_more_numerals, numeral}

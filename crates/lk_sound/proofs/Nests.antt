@@ -10,19 +10,19 @@ use Rattle.lk_tree.proofs.Lists.{local_of_apply}
 use Rattle.lk_tree.proofs.Spines.{fine_apply}
 use Rattle.lk_tree.proofs.Within.{apply_head_args}
 use Rattle.lk_rulebook.specs.Place.{Place, Entry, Kind, Block, BlockType, a_type}
-use Rattle.lk_rulebook.specs.Structures.{is_one_of}
+use Rattle.lk_tree.specs.Mentions.{is_one_of}
 use Rattle.lk_plain.specs.Program.{Program, done, look, ◌>>=◌}
 use Rattle.lk_plain.specs.Sound.{IsSound, WellStated, KindStated, CtorsStated, TypesStated, IsStated}
 use Rattle.lk_plain.proofs.Soundness.{sound_bind}
 use Rattle.lk_sound.proofs.Pieces.{sound_given, same_tree}
 use Rattle.lk_sound.proofs.Goes.{sound_if}
 use Rattle.lk_blocks.specs.Relation.{IsAmong}
-use Rattle.lk_blocks.specs.BlockSteps.{after_params, mention_none}
+use Rattle.lk_blocks.specs.BlockSteps.{mention_none}
 use Rattle.lk_blocks.specs.Nested.{Aux, Setting, is_loose, has_only, may_nest, same_aux, aux_at, family_of, other_count, aux_applied, aux_name, met, replaced, at_kind, at_head, nest, aux_from}
-use Rattle.lk_blocks.specs.Restore.{Original, applied_to, all_stand, stands_for, put_at, put_back, restore}
+use Rattle.lk_blocks.specs.Restore.{Original, applied_to, all_stand, stands_for, put_at, after_own, put_back, restore}
 use Rattle.lk_blocks.specs.NestedRelation.{AreOverParams, Clear, ClearCtors, ClearTypes, IsClear}
 use Rattle.lk_sound.proofs.Positive.{and_both, not_true}
-use Rattle.lk_sound.proofs.Clears.{all_marked, clear_back, backs, back_apply, clear_backs, after_itself, aux_stands}
+use Rattle.lk_sound.proofs.Clears.{all_marked, clear_back, backs, back_apply, clear_backs, after_own_itself, aux_stands}
 use Rattle.lk_sound.proofs.Instances.{Only, HeldUnder, AllHeld, ParamsHeld, closed}
 use Rattle.lk_sound.proofs.Auxs.{AllAux, all_aux_append, IsHead, IsFamily, sound_family}
 
@@ -45,26 +45,26 @@ extends_trans as_ bs cs f g i a e = g i a (f i a e)
 -- what the walk makes of e, with the auxiliary types at its end: whatever is added later, it is read back as e
 pub record Nests (w : Place) (s : Setting) (T₁ : Name) (d : ℕ) (e : Tree) (as_ : List Aux) (v : Tree × List Aux) : Type 0 where
   pub extends : Extends as_ v.1
-  pub reads : (bs : List Aux) (xs : List Tree) → Extends v.1 bs → restore (all_stand T₁ 0 bs) s.params v.0 xs ≡ apply e xs
+  pub reads : (bs : List Aux) (xs : List Tree) → Extends v.1 bs → restore (all_stand T₁ 0 bs) s v.0 xs ≡ apply e xs
   pub fine : IsWellFormedUnder d v.0
   pub only : Only s.params v.0
   pub auxs : AllAux w s v.1
 
 -- an application of auxiliary type i
 applied_back : (s : Setting) (T₁ : Name) (bs : List Aux) (i : ℕ) (a : Aux) (xs : List Tree) → ParamsHeld s → aux_from bs i ≡ Some a →
-    restore (all_stand T₁ 0 bs) s.params (aux_applied s i) xs ≡ apply (apply (const a.name a.levels) a.args) xs
+    restore (all_stand T₁ 0 bs) s (aux_applied s i) xs ≡ apply (apply (const a.name a.levels) a.args) xs
 applied_back s T₁ bs i a xs ph e =
     let ms : List (Name × Original) = all_stand T₁ 0 bs in
     let ps : List Tree = s.params in
     let ls : List Level = map param s.levels in
-    let one : restore ms ps (aux_applied s i) xs ≡ put_back ps (aux_name i) ls (backs ms ps ps ++ xs) (stands_for ms (aux_name i)) = back_apply ms ps (const (aux_name i) ls) ps xs in
-    let same : backs ms ps ps ++ xs ≡ ps ++ xs = ap (λ ys. ys ++ xs) (clear_backs ms ps ps (all_marked T₁ 0 bs) ph.clear) in
-    let two : put_back ps (aux_name i) ls (backs ms ps ps ++ xs) (stands_for ms (aux_name i)) ≡ put_back ps (aux_name i) ls (ps ++ xs) (stands_for ms (aux_name i)) = ap (λ ys. put_back ps (aux_name i) ls ys (stands_for ms (aux_name i))) same in
+    let one : restore ms s (aux_applied s i) xs ≡ put_back s (aux_name i) ls (backs ms s ps ++ xs) (stands_for ms (aux_name i)) = back_apply ms s (const (aux_name i) ls) ps xs in
+    let same : backs ms s ps ++ xs ≡ ps ++ xs = ap (λ ys. ys ++ xs) (clear_backs ms s ps (all_marked T₁ 0 bs) ph.clear) in
+    let two : put_back s (aux_name i) ls (backs ms s ps ++ xs) (stands_for ms (aux_name i)) ≡ put_back s (aux_name i) ls (ps ++ xs) (stands_for ms (aux_name i)) = ap (λ ys. put_back s (aux_name i) ls ys (stands_for ms (aux_name i))) same in
     let number : 0 + i ≡ i = omega arith in
     let has_pis : stands_for ms (aux_name i) ≡ Some (applied_to a.name a.levels a.args) = ap (λ n. stands_for ms (aux_name n)) (sym number) ∙ aux_stands T₁ 0 i bs a e in
-    let three : put_back ps (aux_name i) ls (ps ++ xs) (stands_for ms (aux_name i)) ≡ put_at (aux_name i) ls (ps ++ xs) a.name a.levels a.args (after_params ps (ps ++ xs)) =
-    ap (put_back ps (aux_name i) ls (ps ++ xs)) has_pis in
-    one ∙ (two ∙ (three ∙ ap (put_at (aux_name i) ls (ps ++ xs) a.name a.levels a.args) (after_itself ps xs)))
+    let three : put_back s (aux_name i) ls (ps ++ xs) (stands_for ms (aux_name i)) ≡ put_at (aux_name i) ls (ps ++ xs) a.name a.levels a.args (after_own s (aux_name i) ls (ps ++ xs)) =
+    ap (put_back s (aux_name i) ls (ps ++ xs)) has_pis in
+    one ∙ (two ∙ (three ∙ ap (put_at (aux_name i) ls (ps ++ xs) a.name a.levels a.args) (after_own_itself s (aux_name i) xs)))
 
 applied_fine : (s : Setting) (i d : ℕ) → ParamsHeld s → IsWellFormedUnder d (aux_applied s i)
 applied_fine s i d h = fine_more 0 d (aux_applied s i) (omega arith) (fine_apply (const (aux_name i) (map param s.levels)) s.params tt h.fine)
@@ -108,7 +108,7 @@ sound_met : (w : Place) (s : Setting) (T₁ : Name) (d : ℕ) (e : Tree) (as_ : 
 sound_met w s T₁ d e as_ J ls bs b t ps ear h is all (Some i) f =
     let k : i ≡ f.0 = omega (arith, f.1) in record {
       extends = λ j a q. q;
-      reads = λ cs xs ext. ap (λ j. restore (all_stand T₁ 0 cs) s.params (aux_applied s j) xs) k
+      reads = λ cs xs ext. ap (λ j. restore (all_stand T₁ 0 cs) s (aux_applied s j) xs) k
           ∙ (applied_back s T₁ cs f.0 f.2 xs ps (ext f.0 f.2 f.3)
           ∙ (ap (λ x. apply x xs) (sym f.4) ∙ ap (λ x. apply x xs) (sym is)));
       fine = applied_fine s i d ps;
@@ -202,7 +202,7 @@ head_nests w s T₁ d e as_ xs next ok cl ps hx all h _ is = h
 same_nests : (w : Place) (s : Setting) (T₁ : Name) (d : ℕ) (e : Tree) (as_ : List Aux) → HeldUnder d s e → AllAux w s as_ → Nests w s T₁ d e as_ (e, as_)
 same_nests w s T₁ d e as_ h all = record {
   extends = λ i a q. q;
-  reads = λ bs xs ext. clear_back (all_stand T₁ 0 bs) s.params e xs (all_marked T₁ 0 bs) h.clear;
+  reads = λ bs xs ext. clear_back (all_stand T₁ 0 bs) s e xs (all_marked T₁ 0 bs) h.clear;
   fine = h.fine;
   only = h.only;
   auxs = all;
@@ -212,8 +212,8 @@ same_nests w s T₁ d e as_ h all = record {
 two_nests : (w : Place) (s : Setting) (T₁ : Name) (d n : ℕ) (e f a : Tree) (as_ : List Aux) (mk : Tree → Tree → Tree) →
     IsSound w (nest s f as_) (Nests w s T₁ d f as_) → ((bs : List Aux) → AllAux w s bs → IsSound w (nest s a bs) (Nests w s T₁ n a bs)) →
     ((g b : Tree) → IsWellFormedUnder d g → IsWellFormedUnder n b → IsWellFormedUnder d (mk g b)) → ((g b : Tree) → Only s.params g → Only s.params b → Only s.params (mk g b)) →
-    ((g b : Tree) (bs : List Aux) (xs : List Tree) → ((ys : List Tree) → restore (all_stand T₁ 0 bs) s.params g ys ≡ apply f ys) →
-    ((ys : List Tree) → restore (all_stand T₁ 0 bs) s.params b ys ≡ apply a ys) → restore (all_stand T₁ 0 bs) s.params (mk g b) xs ≡ apply e xs) →
+    ((g b : Tree) (bs : List Aux) (xs : List Tree) → ((ys : List Tree) → restore (all_stand T₁ 0 bs) s g ys ≡ apply f ys) →
+    ((ys : List Tree) → restore (all_stand T₁ 0 bs) s b ys ≡ apply a ys) → restore (all_stand T₁ 0 bs) s (mk g b) xs ≡ apply e xs) →
     IsSound w (nest s f as_ >>= λ g. nest s a g.1 >>= λ b. done (mk g.0 b.0, b.1)) (Nests w s T₁ d e as_)
 two_nests w s T₁ d n e f a as_ mk hf ha fine only comb =
     sound_bind w (nest s f as_) _ (Nests w s T₁ d f as_) (Nests w s T₁ d e as_) hf
@@ -245,16 +245,16 @@ nest_sound w s T₁ ok cl ps (app f a) d as_ h all =
     head_nests w s T₁ d (app f a) as_ (args (app f a)) (nest s f as_ >>= λ g. nest s a g.1 >>= λ b. done (app g.0 b.0, b.1)) ok cl ps (held_args d s (app f a) h) all
     (two_nests w s T₁ d d (app f a) f a as_ app (nest_sound w s T₁ ok cl ps f d as_ (held_fun d s f a h) all) (λ bs hb. nest_sound w s T₁ ok cl ps a d bs (held_arg d s f a h) hb)
     (λ g b i j. (i, j)) (λ g b i j. either_only s.params g b i j)
-    (λ g b bs xs hg hb. hg (restore (all_stand T₁ 0 bs) s.params b [] ∷ xs) ∙ ap (λ z. apply f (z ∷ xs)) (hb [])))
+    (λ g b bs xs hg hb. hg (restore (all_stand T₁ 0 bs) s b [] ∷ xs) ∙ ap (λ z. apply f (z ∷ xs)) (hb [])))
     (head (app f a)) (sym (apply_head_args (app f a)))
 nest_sound w s T₁ ok cl ps (lam A b) d as_ h all =
     two_nests w s T₁ d (suc d) (lam A b) A b as_ lam (nest_sound w s T₁ ok cl ps A d as_ (held_domain d s A b (as_pi_held d s A b h)) all) (λ bs hb. nest_sound w s T₁ ok cl ps b (suc d) bs (held_body d s A b (as_pi_held d s A b h)) hb)
     (λ g b i j. (i, j)) (λ g b i j. either_only s.params g b i j)
-    (λ D c bs xs hD hc. ap (λ z. apply (lam z (restore (all_stand T₁ 0 bs) s.params c [])) xs) (hD []) ∙ ap (λ z. apply (lam A z) xs) (hc []))
+    (λ D c bs xs hD hc. ap (λ z. apply (lam z (restore (all_stand T₁ 0 bs) s c [])) xs) (hD []) ∙ ap (λ z. apply (lam A z) xs) (hc []))
 nest_sound w s T₁ ok cl ps (pi A b) d as_ h all =
     two_nests w s T₁ d (suc d) (pi A b) A b as_ pi (nest_sound w s T₁ ok cl ps A d as_ (held_domain d s A b h) all) (λ bs hb. nest_sound w s T₁ ok cl ps b (suc d) bs (held_body d s A b h) hb)
     (λ g b i j. (i, j)) (λ g b i j. either_only s.params g b i j)
-    (λ D c bs xs hD hc. ap (λ z. apply (pi z (restore (all_stand T₁ 0 bs) s.params c [])) xs) (hD []) ∙ ap (λ z. apply (pi A z) xs) (hc []))
+    (λ D c bs xs hD hc. ap (λ z. apply (pi z (restore (all_stand T₁ 0 bs) s c [])) xs) (hD []) ∙ ap (λ z. apply (pi A z) xs) (hc []))
 nest_sound w s T₁ ok cl ps (let_in A v b) d as_ h all =
     let hA : HeldUnder d s A = record { fine = h.fine.0; only = λ k T m. h.only k T (inl m); clear = h.clear.0 } in
     let hv : HeldUnder d s v = record { fine = h.fine.1; only = λ k T m. h.only k T (inr (inl m)); clear = h.clear.1 } in
@@ -267,8 +267,8 @@ nest_sound w s T₁ ok cl ps (let_in A v b) d as_ h all =
       reads = λ bs xs ext.
           let ms : List (Name × Original) = all_stand T₁ 0 bs in
           let later : Extends u.1 bs = extends_trans u.1 c.1 bs hc.extends ext in
-          ap (λ z. apply (let_in z (restore ms s.params u.0 []) (restore ms s.params c.0 [])) xs) (hD.reads bs [] (extends_trans D.1 u.1 bs hu.extends later))
-          ∙ (ap (λ z. apply (let_in A z (restore ms s.params c.0 [])) xs) (hu.reads bs [] later) ∙ ap (λ z. apply (let_in A v z) xs) (hc.reads bs [] ext));
+          ap (λ z. apply (let_in z (restore ms s u.0 []) (restore ms s c.0 [])) xs) (hD.reads bs [] (extends_trans D.1 u.1 bs hu.extends later))
+          ∙ (ap (λ z. apply (let_in A z (restore ms s c.0 [])) xs) (hu.reads bs [] later) ∙ ap (λ z. apply (let_in A v z) xs) (hc.reads bs [] ext));
       fine = (hD.fine, hu.fine, hc.fine);
       only = λ k T m. elim m [ inl x ↦ hD.only k T x | inr y ↦ either_only s.params u.0 c.0 hu.only hc.only k T y ];
       auxs = hc.auxs;

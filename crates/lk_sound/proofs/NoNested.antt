@@ -52,27 +52,27 @@ closes d k A (str s) f h = refl
 closes d k A (local j T) f h = local_stays d k j T h (closing d k j T)
 
 -- where nothing stands for anything a tree is read back as it is
-back_none : (ps : List Tree) (e : Tree) (xs : List Tree) → restore [] ps e xs ≡ apply e xs
-back_none ps (app f a) xs = back_none ps f (restore [] ps a [] ∷ xs) ∙ ap (λ b. apply (app f b) xs) (back_none ps a [])
-back_none ps (const c ls) xs = refl
-back_none ps (lam A b) xs = ap (λ D. apply (lam D (restore [] ps b [])) xs) (back_none ps A []) ∙ ap (λ c. apply (lam A c) xs) (back_none ps b [])
-back_none ps (pi A b) xs = ap (λ D. apply (pi D (restore [] ps b [])) xs) (back_none ps A []) ∙ ap (λ c. apply (pi A c) xs) (back_none ps b [])
-back_none ps (let_in A v b) xs =
-    ap (λ D. apply (let_in D (restore [] ps v []) (restore [] ps b [])) xs) (back_none ps A [])
-    ∙ (ap (λ u. apply (let_in A u (restore [] ps b [])) xs) (back_none ps v []) ∙ ap (λ c. apply (let_in A v c) xs) (back_none ps b []))
-back_none ps (proj S i e) xs = ap (λ c. apply (proj S i c) xs) (back_none ps e [])
-back_none ps (var i) xs = refl
-back_none ps (sort l) xs = refl
-back_none ps (lit k) xs = refl
-back_none ps wide xs = refl
-back_none ps (str k) xs = refl
-back_none ps (local k T) xs = refl
+back_none : (s : Setting) (e : Tree) (xs : List Tree) → restore [] s e xs ≡ apply e xs
+back_none s (app f a) xs = back_none s f (restore [] s a [] ∷ xs) ∙ ap (λ b. apply (app f b) xs) (back_none s a [])
+back_none s (const c ls) xs = refl
+back_none s (lam A b) xs = ap (λ D. apply (lam D (restore [] s b [])) xs) (back_none s A []) ∙ ap (λ c. apply (lam A c) xs) (back_none s b [])
+back_none s (pi A b) xs = ap (λ D. apply (pi D (restore [] s b [])) xs) (back_none s A []) ∙ ap (λ c. apply (pi A c) xs) (back_none s b [])
+back_none s (let_in A v b) xs =
+    ap (λ D. apply (let_in D (restore [] s v []) (restore [] s b [])) xs) (back_none s A [])
+    ∙ (ap (λ u. apply (let_in A u (restore [] s b [])) xs) (back_none s v []) ∙ ap (λ c. apply (let_in A v c) xs) (back_none s b []))
+back_none s (proj S i e) xs = ap (λ c. apply (proj S i c) xs) (back_none s e [])
+back_none s (var i) xs = refl
+back_none s (sort l) xs = refl
+back_none s (lit k) xs = refl
+back_none s wide xs = refl
+back_none s (str k) xs = refl
+back_none s (local k T) xs = refl
 
 pi_bounds : (j : ℕ) (A B : Tree) → bound (pi A B) ≤ j → bound B ≤ j
 unfolding bound
 pi_bounds j A B h = omega arith
 
-past_same : (qs : List Tree) (j : ℕ) (ps : List Tree) (e e' : Tree) → AreNumbered j ps → IsWellFormed e → bound e ≤ j → ReadsPast qs [] ps e e' → e' ≡ e
+past_same : (qs : Setting) (j : ℕ) (ps : List Tree) (e e' : Tree) → AreNumbered j ps → IsWellFormed e → bound e ≤ j → ReadsPast qs [] ps e e' → e' ≡ e
 past_same qs j ps e e' n f b (read_rest x r) = sym (back_none qs x []) ∙ r
 past_same qs j ps e e' n f b (read_past {P = P} {A = A} {B = B} {ps = rest} x r) =
     let l : bound P ≤ suc j = rw n.0.1 (local_bound j n.0.0 n.0.2.1) in
@@ -84,7 +84,7 @@ past_same qs j ps e e' n f b (read_past {P = P} {A = A} {B = B} {ps = rest} x r)
 
 reads_same : (s : Setting) (e e' : Tree) → AreNumbered 0 s.params → IsStated e → ReadsAs s [] e e' → e' ≡ e
 reads_same s e e' n st (as_stated r) = refl
-reads_same s e e' n st (past_params r) = past_same s.params 0 s.params e e' n st.0 (omega (arith, st.1)) r
+reads_same s e e' n st (past_params r) = past_same s 0 s.params e e' n st.0 (omega (arith, st.1)) r
 
 ctor_same : (s : Setting) (c d : Ctor) → AreNumbered 0 s.params → IsStated c.type → IsOwnCtor s [] c d → d ≡ c
 ctor_same s c d n st h =
@@ -120,19 +120,19 @@ no_types w s ms i [] h = refl
 no_types w s ms i (t ∷ ts) (aux_more e x h) = absurd cc
 
 -- recursors read back where nothing stands for anything
-same_rule_values : (s : Shape) (qs : List Tree) (ms : List Tree) (cs : List CtorShape) → rules_of (restoring [] qs) s ms cs ≡ rules_of as_they_are s ms cs
+same_rule_values : (s : Shape) (qs : Setting) (ms : List Tree) (cs : List CtorShape) → rules_of (restoring [] qs) s ms cs ≡ rules_of as_they_are s ms cs
 same_rule_values s qs [] cs = refl
 same_rule_values s qs (m ∷ ms) [] = refl
 same_rule_values s qs (m ∷ ms) (c ∷ cs) =
     ap (λ e. record { ctor = c.name; fields = length c.fields; value = lams s.params e } ∷ rules_of (restoring [] qs) s ms cs) (back_none qs (rule_body s m c) [])
     ∙ ap (λ rs. record { ctor = c.name; fields = length c.fields; value = rule_value as_they_are s m c } ∷ rs) (same_rule_values s qs ms cs)
 
-same_rec : (s : Shape) (qs : List Tree) (ms : List Tree) (t : TypeShape) → rec_of (restoring [] qs) s ms t ≡ rec_of as_they_are s ms t
+same_rec : (s : Shape) (qs : Setting) (ms : List Tree) (t : TypeShape) → rec_of (restoring [] qs) s ms t ≡ rec_of as_they_are s ms t
 same_rec s qs ms t =
     ap (λ e. record (rec_of (restoring [] qs) s ms t) { type = pis s.params e }) (back_none qs (rec_body s t) [])
     ∙ ap (λ rs. record (rec_of as_they_are s ms t) { recursor = record (rec_of as_they_are s ms t).recursor { rules = rs } }) (same_rule_values s qs ms t.ctors)
 
-same_recs : (s : Shape) (qs : List Tree) (ms : List Tree) (ts : List TypeShape) → recs_from (restoring [] qs) s ms ts ≡ recs_from as_they_are s ms ts
+same_recs : (s : Shape) (qs : Setting) (ms : List Tree) (ts : List TypeShape) → recs_from (restoring [] qs) s ms ts ≡ recs_from as_they_are s ms ts
 same_recs s qs ms [] = refl
 same_recs s qs ms (t ∷ ts) = ap (λ r. r ∷ recs_from (restoring [] qs) s (past_minors t.ctors ms) ts) (same_rec s qs ms t) ∙ ap (λ rs. rec_of as_they_are s ms t ∷ rs) (same_recs s qs (past_minors t.ctors ms) ts)
 
@@ -158,11 +158,11 @@ nothing_nested places b stated s st g none =
     let middle : middle_half b lg ≡ partial_types b = ap (λ us. partial_types b ++ bare_entries us) no_aux_type ∙ append_none (partial_types b) in
     let block1 : IsBlock (places []) (places (partial_types b)) (larger_block lg) s = subst (λ h. IsBlock (places []) (places h) (larger_block lg) s) middle g.block in
     let recs1 : AreRecs (places (partial_types b ++ partial_members b stated)) (recursors_by (restoring_of b set lg) s) stated = subst (λ h. AreRecs (places (h ++ partial_members b stated)) (recursors_by (restoring_of b set lg) s) stated) middle g.recs in
-    let recs2 : AreRecs (places (partial_types b ++ partial_members b stated)) (recursors_by (restoring [] s.params) s) stated =
-    subst (λ as_. AreRecs (places (partial_types b ++ partial_members b stated)) (recursors_by (restoring (all_stand (first_name b.types) 0 as_) s.params) s) stated) none recs1 in record {
+    let recs2 : AreRecs (places (partial_types b ++ partial_members b stated)) (recursors_by (restoring [] set) s) stated =
+    subst (λ as_. AreRecs (places (partial_types b ++ partial_members b stated)) (recursors_by (restoring (all_stand (first_name b.types) 0 as_) set) s) stated) none recs1 in record {
       counts = g.counts;
       types_sorted = g.types_sorted;
       ctors_sorted = g.ctors_sorted;
       block = subst (λ x. IsBlock (places []) (places (partial_types b)) x s) same block1;
-      recs = subst (λ rs. AreRecs (places (partial_types b ++ partial_members b stated)) rs stated) (same_recs s s.params (minors s) s.types) recs2;
+      recs = subst (λ rs. AreRecs (places (partial_types b ++ partial_members b stated)) rs stated) (same_recs s set (minors s) s.types) recs2;
     }

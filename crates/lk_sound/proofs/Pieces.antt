@@ -6,7 +6,7 @@ use Rattle.lk_tree.specs.Tree.{Name, name_discrete, Level, Tree, tree_discrete, 
 use Rattle.lk_tree.specs.Level.{SameLevel}
 use Rattle.lk_tree.specs.LevelTest.{level_test}
 use Rattle.lk_tree.proofs.LevelTests.{level_test_right}
-use Rattle.lk_rulebook.specs.Structures.{same_name}
+use Rattle.lk_tree.specs.Mentions.{same_name}
 use Rattle.lk_table.specs.Levels.{tested}
 use Rattle.lk_tree.specs.RuleNo.{RuleNo}
 use Rattle.lk_tree.specs.Levels.{put_levels}

@@ -1,4 +1,4 @@
--- B5's walks give positive fields and constructors.
+-- The walks of a field give positive fields, and so constructors.
 use Rattle.std.proofs.Common.{ℕ, zero, suc, ◌≡◌, ◌≤◌, ◌⊎◌, inl, inr, Bool, true, false, ◌&&◌, ◌||◌, not, nat_eq, List, [], ◌∷◌, ◌++◌, length, Option, Some, None, refl, ap, ◌∙◌, if◌then◌else◌, arith}
 use Rattle.std.proofs.lemmas.Bool.Decides.{nat_tests}
 use Rattle.lk_tree.specs.Tree.{Name, name_discrete, Tree, const, pi, local}
@@ -7,7 +7,7 @@ use Rattle.lk_tree.specs.Spine.{apply, head, args}
 use Rattle.lk_tree.specs.RuleNo.{not_positive}
 use Rattle.lk_tree.proofs.Within.{apply_head_args}
 use Rattle.lk_rulebook.specs.Place.{Place}
-use Rattle.lk_rulebook.specs.Structures.{mentions, same_name}
+use Rattle.lk_tree.specs.Mentions.{mentions, same_name}
 use Rattle.lk_rulebook.specs.Rules.{Reduces}
 use Rattle.lk_plain.specs.Program.{Program, done, refuse}
 use Rattle.lk_table.specs.Steps.{is_same_tree}

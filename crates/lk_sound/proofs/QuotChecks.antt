@@ -4,7 +4,7 @@ use Rattle.lk_tree.specs.Tree.{Name, Tree}
 use Rattle.lk_tree.specs.RuleNo.{quot_shape}
 use Rattle.lk_rulebook.specs.Place.{Place, Entry, Kind, Ctor, a_type}
 use Rattle.lk_rulebook.specs.Names.{eq, eq_refl, quot, quot_mk}
-use Rattle.lk_rulebook.specs.Structures.{same_name}
+use Rattle.lk_tree.specs.Mentions.{same_name}
 use Rattle.lk_rulebook.specs.Quotients.{IsQuot, HasEq, eq_type, eq_refl_type, ctors_from, Quotient, the_type, the_mk, the_lift, the_ind, quot_name, quot_type, RestsOn, IsQuotient}
 use Rattle.lk_plain.specs.Program.{done}
 use Rattle.lk_table.specs.Quotients.{by_quot}

@@ -6,7 +6,7 @@ use Rattle.lk_tree.specs.WellFormed.{IsWellFormed, AllWellFormed}
 use Rattle.lk_tree.proofs.Within.{apply_head_args}
 use Rattle.lk_rulebook.specs.Place.{Place, Entry, Kind, a_quot}
 use Rattle.lk_rulebook.specs.Names.{quot_mk, quot_lift, quot_ind}
-use Rattle.lk_rulebook.specs.Structures.{same_name}
+use Rattle.lk_tree.specs.Mentions.{same_name}
 use Rattle.lk_rulebook.specs.Quotients.{IsQuot}
 use Rattle.lk_rulebook.specs.Rules.{r_quot_lift, r_quot_ind}
 use Rattle.lk_rulebook.proofs.Scopes.{well_formed_of_reduct}

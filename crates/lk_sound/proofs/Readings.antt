@@ -8,7 +8,7 @@ use Rattle.lk_rulebook.specs.Shapes.{AllGiven}
 use Rattle.lk_rulebook.specs.Literals.{expansion, expansion_names, Expands, ReadsText, as_it_is, as_text, Reads, by_text, as_zero, as_succ}
 use Rattle.lk_plain.specs.Program.{done}
 use Rattle.lk_table.specs.Shapes.{has_string_shape}
-use Rattle.lk_table.specs.Strings.{look_all, is_mk_alone, has_mk_alone, expansion_by, expansion_of, tree_or, read_text, read}
+use Rattle.lk_table.specs.Strings.{look_all, is_mk_alone, has_mk_alone, expansion_by, expansion_of, tree_or, text_to_ctor, literal_to_ctor}
 use Rattle.lk_plain.specs.Sound.{IfYes, IsSound}
 use Rattle.lk_plain.proofs.Soundness.{sound_bind, sound_map}
 use Rattle.lk_sound.proofs.Pieces.{of_yes, halves, same_name_right}
@@ -55,12 +55,12 @@ read_or : (w : Place) (s : List ℕ) (o : Option Tree) → IfExpands w s o → R
 read_or w s None h = as_it_is
 read_or w s (Some x) h = rw (h.1) (as_text h.0)
 
-pub sound_read_text : (w : Place) (m : Tree) → IsSound w (read_text m) (λ x. ReadsText w m x)
-sound_read_text w (str s) = sound_bind w (expansion_of s) (λ x. done (tree_or x (str s))) (IfExpands w s) (λ x. ReadsText w (str s) x) (sound_expansion_of w s) (read_or w s)
-sound_read_text w _ = as_it_is
+pub sound_text_to_ctor : (w : Place) (m : Tree) → IsSound w (text_to_ctor m) (λ x. ReadsText w m x)
+sound_text_to_ctor w (str s) = sound_bind w (expansion_of s) (λ x. done (tree_or x (str s))) (IfExpands w s) (λ x. ReadsText w (str s) x) (sound_expansion_of w s) (read_or w s)
+sound_text_to_ctor w _ = as_it_is
 
-pub sound_read : (w : Place) (m : Tree) → IsSound w (read m) (λ x. Reads w m x)
-sound_read w (lit zero) = λ g m. as_zero
-sound_read w (lit (suc k)) = λ g m. as_succ
-sound_read w (str s) = sound_map w (read_text (str s)) (λ x. ReadsText w (str s) x) (λ x. Reads w (str s) x) (λ x r. by_text r) (sound_read_text w (str s))
-sound_read w _ = by_text as_it_is
+pub sound_literal_to_ctor : (w : Place) (m : Tree) → IsSound w (literal_to_ctor m) (λ x. Reads w m x)
+sound_literal_to_ctor w (lit zero) = λ g m. as_zero
+sound_literal_to_ctor w (lit (suc k)) = λ g m. as_succ
+sound_literal_to_ctor w (str s) = sound_map w (text_to_ctor (str s)) (λ x. ReadsText w (str s) x) (λ x. Reads w (str s) x) (λ x r. by_text r) (sound_text_to_ctor w (str s))
+sound_literal_to_ctor w _ = by_text as_it_is

@@ -1,15 +1,15 @@
 -- What is read back is closed and well scoped.
-use Rattle.std.proofs.Common.{ℕ, suc, Bool, true, false, if◌then◌else◌, List, [], ◌∷◌, ◌++◌, Option, Some, None, arith}
-use Rattle.lk_tree.specs.Tree.{Name, Level, Tree, var, sort, const, app, lam, pi, let_in, proj, lit, wide, str, local}
+use Rattle.std.proofs.Common.{ℕ, suc, Bool, true, false, if◌then◌else◌, List, [], ◌∷◌, ◌++◌, map, Option, Some, None, arith}
+use Rattle.lk_tree.specs.Tree.{Name, Level, param, Tree, var, sort, const, app, lam, pi, let_in, proj, lit, wide, str, local}
 use Rattle.lk_tree.specs.Spine.{apply}
 use Rattle.lk_tree.specs.WellFormed.{IsWellFormedUnder, AllWellFormed}
 use Rattle.lk_tree.proofs.Binding.{fine_more}
 use Rattle.lk_rulebook.specs.Place.{Place, Ctor}
-use Rattle.lk_rulebook.specs.Structures.{same_name}
+use Rattle.lk_tree.specs.Mentions.{same_name}
 use Rattle.lk_table.specs.Steps.{is_same_tree}
 use Rattle.lk_blocks.specs.BlockSteps.{after_params}
 use Rattle.lk_blocks.specs.Nested.{Aux, Setting}
-use Rattle.lk_blocks.specs.Restore.{Original, applied_to, renamed_as, ctors_stand, all_stand, stands_for, put_at, put_back, restore, restoring}
+use Rattle.lk_blocks.specs.Restore.{Original, applied_to, renamed_as, ctors_stand, all_stand, stands_for, put_at, after_own, put_back, restore, restoring}
 use Rattle.lk_blocks.specs.NestedRelation.{AreOverParams}
 use Rattle.lk_sound.proofs.BuiltRecursors.{KeepsWellFormed}
 use Rattle.lk_sound.proofs.Auxs.{AllAux}
@@ -34,6 +34,13 @@ after_under d (p ∷ ps) (x ∷ xs) h = go (after_under d ps xs h.1) (is_same_tr
     go : IfUnder d (after_params ps xs) → (b : Bool) → IfUnder d (if b then after_params ps xs else None)
     go i true = i
     go i false = tt
+
+own_under : (d : ℕ) (s : Setting) (c : Name) (ls : List Level) (xs : List Tree) → AllUnder d xs → IfUnder d (after_own s c ls xs)
+own_under d s c ls xs h = go (is_same_tree (const c ls) (const c (map param s.levels)))
+  where
+    go : (b : Bool) → IfUnder d (if b then after_params s.params xs else None)
+    go true = after_under d s.params xs h
+    go false = tt
 
 fine_under : (d : ℕ) (xs : List Tree) → AllWellFormed xs → AllUnder d xs
 fine_under d [] h = tt
@@ -63,25 +70,25 @@ if_stands (m ∷ ms) c h = go (if_stands ms c h.1) (same_name m.0 c)
     go i true = h.0
     go i false = i
 
-put_fine : (d : ℕ) (ps : List Tree) (c : Name) (ls : List Level) (xs : List Tree) (o : Option Original) → IfStands o → AllUnder d xs → IsWellFormedUnder d (put_back ps c ls xs o)
-put_fine d ps c ls xs (Some (applied_to J ms bs)) h f = put_at_fine d c J ls ms xs bs (after_params ps xs) h f (after_under d ps xs f)
-put_fine d ps c ls xs (Some (renamed_as R)) h f = apply_under d (const R ls) xs tt f
-put_fine d ps c ls xs None h f = apply_under d (const c ls) xs tt f
+put_fine : (d : ℕ) (s : Setting) (c : Name) (ls : List Level) (xs : List Tree) (o : Option Original) → IfStands o → AllUnder d xs → IsWellFormedUnder d (put_back s c ls xs o)
+put_fine d s c ls xs (Some (applied_to J ms bs)) h f = put_at_fine d c J ls ms xs bs (after_own s c ls xs) h f (own_under d s c ls xs f)
+put_fine d s c ls xs (Some (renamed_as R)) h f = apply_under d (const R ls) xs tt f
+put_fine d s c ls xs None h f = apply_under d (const c ls) xs tt f
 
-back_fine : (ms : List (Name × Original)) (ps : List Tree) → AllStandWellFormed ms → (d : ℕ) (e : Tree) (xs : List Tree) → IsWellFormedUnder d e → AllUnder d xs → IsWellFormedUnder d (restore ms ps e xs)
-back_fine ms ps h d (app f a) xs fe fx = back_fine ms ps h d f (restore ms ps a [] ∷ xs) fe.0 (back_fine ms ps h d a [] fe.1 tt, fx)
-back_fine ms ps h d (const c ls) xs fe fx = put_fine d ps c ls xs (stands_for ms c) (if_stands ms c h) fx
-back_fine ms ps h d (lam A b) xs fe fx = apply_under d (lam (restore ms ps A []) (restore ms ps b [])) xs (back_fine ms ps h d A [] fe.0 tt, back_fine ms ps h (suc d) b [] fe.1 tt) fx
-back_fine ms ps h d (pi A b) xs fe fx = apply_under d (pi (restore ms ps A []) (restore ms ps b [])) xs (back_fine ms ps h d A [] fe.0 tt, back_fine ms ps h (suc d) b [] fe.1 tt) fx
-back_fine ms ps h d (let_in A v b) xs fe fx =
-    apply_under d (let_in (restore ms ps A []) (restore ms ps v []) (restore ms ps b [])) xs (back_fine ms ps h d A [] fe.0 tt, back_fine ms ps h d v [] fe.1 tt, back_fine ms ps h (suc d) b [] fe.2 tt) fx
-back_fine ms ps h d (proj S i e) xs fe fx = apply_under d (proj S i (restore ms ps e [])) xs (back_fine ms ps h d e [] fe tt) fx
-back_fine ms ps h d (var i) xs fe fx = apply_under d (var i) xs fe fx
-back_fine ms ps h d (sort l) xs fe fx = apply_under d (sort l) xs fe fx
-back_fine ms ps h d (lit k) xs fe fx = apply_under d (lit k) xs fe fx
-back_fine ms ps h d wide xs fe fx = apply_under d wide xs fe fx
-back_fine ms ps h d (str k) xs fe fx = apply_under d (str k) xs fe fx
-back_fine ms ps h d (local k T) xs fe fx = apply_under d (local k T) xs fe fx
+back_fine : (ms : List (Name × Original)) (s : Setting) → AllStandWellFormed ms → (d : ℕ) (e : Tree) (xs : List Tree) → IsWellFormedUnder d e → AllUnder d xs → IsWellFormedUnder d (restore ms s e xs)
+back_fine ms s h d (app f a) xs fe fx = back_fine ms s h d f (restore ms s a [] ∷ xs) fe.0 (back_fine ms s h d a [] fe.1 tt, fx)
+back_fine ms s h d (const c ls) xs fe fx = put_fine d s c ls xs (stands_for ms c) (if_stands ms c h) fx
+back_fine ms s h d (lam A b) xs fe fx = apply_under d (lam (restore ms s A []) (restore ms s b [])) xs (back_fine ms s h d A [] fe.0 tt, back_fine ms s h (suc d) b [] fe.1 tt) fx
+back_fine ms s h d (pi A b) xs fe fx = apply_under d (pi (restore ms s A []) (restore ms s b [])) xs (back_fine ms s h d A [] fe.0 tt, back_fine ms s h (suc d) b [] fe.1 tt) fx
+back_fine ms s h d (let_in A v b) xs fe fx =
+    apply_under d (let_in (restore ms s A []) (restore ms s v []) (restore ms s b [])) xs (back_fine ms s h d A [] fe.0 tt, back_fine ms s h d v [] fe.1 tt, back_fine ms s h (suc d) b [] fe.2 tt) fx
+back_fine ms s h d (proj S i e) xs fe fx = apply_under d (proj S i (restore ms s e [])) xs (back_fine ms s h d e [] fe tt) fx
+back_fine ms s h d (var i) xs fe fx = apply_under d (var i) xs fe fx
+back_fine ms s h d (sort l) xs fe fx = apply_under d (sort l) xs fe fx
+back_fine ms s h d (lit k) xs fe fx = apply_under d (lit k) xs fe fx
+back_fine ms s h d wide xs fe fx = apply_under d wide xs fe fx
+back_fine ms s h d (str k) xs fe fx = apply_under d (str k) xs fe fx
+back_fine ms s h d (local k T) xs fe fx = apply_under d (local k T) xs fe fx
 
 args_fine : (ps bs : List Tree) → AreOverParams ps bs → AllWellFormed bs
 args_fine ps [] h = tt
@@ -101,5 +108,5 @@ all_stand_fine w s T₁ i (a ∷ as_) h =
     let f : AllWellFormed a.args = args_fine s.params a.args h.0.from.args in
     (f, (tt, stand_append (ctors_stand i a a.own.ctors) (all_stand T₁ (suc i) as_) (ctors_fine i a a.own.ctors f) (all_stand_fine w s T₁ (suc i) as_ h.1)))
 
-pub reading_keeps : (w : Place) (s : Setting) (T₁ : Name) (ps : List Tree) (as_ : List Aux) → AllAux w s as_ → KeepsWellFormed (restoring (all_stand T₁ 0 as_) ps)
-reading_keeps w s T₁ ps as_ h e f = back_fine (all_stand T₁ 0 as_) ps (all_stand_fine w s T₁ 0 as_ h) 0 e [] f tt
+pub reading_keeps : (w : Place) (s : Setting) (T₁ : Name) (as_ : List Aux) → AllAux w s as_ → KeepsWellFormed (restoring (all_stand T₁ 0 as_) s)
+reading_keeps w s T₁ as_ h e f = back_fine (all_stand T₁ 0 as_) s (all_stand_fine w s T₁ 0 as_ h) 0 e [] f tt

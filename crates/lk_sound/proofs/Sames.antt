@@ -30,11 +30,11 @@ use Rattle.lk_sound.proofs.Infers.{bound_left, pi_bound_left}
 use Rattle.lk_sound.proofs.Goes.{sound_if, GoesTo, goes_applied, unfolds}
 use Rattle.lk_sound.proofs.Lines.{of_decided, sound_tested, if_yes_map, sound_levels_equal, sound_bodies, AllConvert, sound_all, applied_convert, IfAnswers, SoundLine, sound_or_else, sound_answers, sound_answers_yes, lists_same}
 use Rattle.lk_table.specs.Same.{by_proof_irrelevance, by_parts, eta_long, is_lam, eta_first, eta_second, by_function_eta, same_reduced, by_reduction, by_shape, same_steps}
-use Rattle.lk_table.specs.Eta.{by_structure_eta, by_emptiness}
+use Rattle.lk_table.specs.Eta.{by_structure_eta, by_unit_eta}
 use Rattle.lk_table.specs.LiteralLines.{by_literals, by_string}
-use Rattle.lk_sound.proofs.LitLines.{sound_5, sound_11}
-use Rattle.lk_sound.proofs.EtaUnits.{sound_10}
-use Rattle.lk_sound.proofs.Etas.{sound_9}
+use Rattle.lk_sound.proofs.LitLines.{sound_by_literals, sound_by_string}
+use Rattle.lk_sound.proofs.EtaUnits.{sound_by_unit_eta}
+use Rattle.lk_sound.proofs.Etas.{sound_by_structure_eta}
 use Rattle.lk_table.specs.Unfolding.{Unfolding, unfolding_by, unfolding_of, unfold_with, unfold_first, unfold_second, unfold_both, same_by_arguments, by_ranks, by_unfolding, is_less}
 use Rattle.lk_tree.specs.Level.{is_zero_level}
 use Rattle.lk_tree.proofs.Zero.{zero_level_same}
@@ -42,32 +42,32 @@ use Rattle.lk_rulebook.specs.Rules.{is_prop, e_eta_left, e_eta_right, e_proof}
 use Rattle.lk_sound.proofs.Pieces.{sound_sort_of}
 use Rattle.lk_table.specs.Steps.{sort_of}
 
-sound_7 : (w : Place) (a b : Tree) → IsWellFormed a → IsWellFormed b → IsHeadNormal a → IsHeadNormal b → SoundLine w (by_parts a b) (IsDefEq w a b)
+sound_by_parts : (w : Place) (a b : Tree) → IsWellFormed a → IsWellFormed b → IsHeadNormal a → IsHeadNormal b → SoundLine w (by_parts a b) (IsDefEq w a b)
 unfolding head
-sound_7 w (const c ls) (const d ms) f g na nb =
+sound_by_parts w (const c ls) (const d ms) f g na nb =
     sound_if w (decided (name_discrete c d)) (answers_yes (levels_equal ls ms)) goes_on (λ o. IfAnswers o (IsDefEq w (const c ls) (const d ms)))
     (λ t. let e : c ≡ d = of_decided (name_discrete c d) t in
     sound_answers_yes w (levels_equal ls ms) (IsDefEq w (const c ls) (const d ms))
     (sound_map w (levels_equal ls ms) (λ b. IfYes b (SameLevels ls ms)) (λ b. IfYes b (IsDefEq w (const c ls) (const d ms)))
     (λ b. if_yes_map b (λ s. rw e (e_const s))) (sound_levels_equal w ls ms)))
     (λ t. tt)
-sound_7 w (app f a) (app g b) ff fg na nb =
+sound_by_parts w (app f a) (app g b) ff fg na nb =
     sound_if w (nat_eq (length (args (app f a))) (length (args (app g b)))) (answers_yes (same_all (head (app f a) ∷ args (app f a)) (head (app g b) ∷ args (app g b)))) goes_on
     (λ o. IfAnswers o (IsDefEq w (app f a) (app g b)))
     (λ t. sound_answers_yes w (same_all (head (app f a) ∷ args (app f a)) (head (app g b) ∷ args (app g b))) (IsDefEq w (app f a) (app g b))
     (lists_same w (app f a) (app g b) (head (app f a)) (head (app g b)) (args (app f a)) (args (app g b)) (apply_head_args (app f a)) (apply_head_args (app g b)) ff fg (neutral_head (app f a) na) (neutral_head (app g b) nb)))
     (λ t. tt)
-sound_7 w (proj S i s) (proj T j t) f g na nb =
+sound_by_parts w (proj S i s) (proj T j t) f g na nb =
     sound_if w (decided (name_discrete S T) && nat_eq i j) (answers_yes (asked (same s t))) goes_on (λ o. IfAnswers o (IsDefEq w (proj S i s) (proj T j t)))
     (λ y. let both : (decided (name_discrete S T) ≡ true) × (nat_eq i j ≡ true) = halves (decided (name_discrete S T)) (nat_eq i j) y in
     let one : S ≡ T = of_decided (name_discrete S T) both.0 in
     let field : i ≡ j = equal_numbers i j both.1 in
     sound_answers_yes w (asked (same s t)) (IsDefEq w (proj S i s) (proj T j t)) ((f, g), λ e m. if_yes_map e (λ c. rw (one, field) (e_proj c)) m))
     (λ y. tt)
-sound_7 w _ _ f g na nb = tt
+sound_by_parts w _ _ f g na nb = tt
 
-sound_4 : (w : Place) (a b : Tree) → IsWellFormed a → IsWellFormed b → IsHeadNormal a → IsHeadNormal b → SoundLine w (by_proof_irrelevance a b) (IsDefEq w a b)
-sound_4 w a b fa fb na nb = (
+sound_by_proof_irrelevance : (w : Place) (a b : Tree) → IsWellFormed a → IsWellFormed b → IsHeadNormal a → IsHeadNormal b → SoundLine w (by_proof_irrelevance a b) (IsDefEq w a b)
+sound_by_proof_irrelevance w a b fa fb na nb = (
   fa,
   λ A mA. sound_bind w (sort_of A) _ (λ l. HasSort w A l) (λ o. IfAnswers o (IsDefEq w a b)) (sound_sort_of w A (well_formed_of_type mA.0).1)
       (λ l hA. sound_if w (is_zero_level l) _ goes_on (λ o. IfAnswers o (IsDefEq w a b))
@@ -100,8 +100,8 @@ sound_eta_second w o (lam A' b) T (pi A B) v l f h r =
 sound_eta_second w o (lam A' b) T _ v l f h r = tt
 sound_eta_second w o e T P v l f h r = absurd cc
 
-sound_8 : (w : Place) (a b : Tree) → IsWellFormed a → IsWellFormed b → IsHeadNormal a → IsHeadNormal b → SoundLine w (by_function_eta a b) (IsDefEq w a b)
-sound_8 w a b fa fb na nb =
+sound_by_function_eta : (w : Place) (a b : Tree) → IsWellFormed a → IsWellFormed b → IsHeadNormal a → IsHeadNormal b → SoundLine w (by_function_eta a b) (IsDefEq w a b)
+sound_by_function_eta w a b fa fb na nb =
     sound_if w (is_lam a) _ _ (λ o. IfAnswers o (IsDefEq w a b))
     (λ t. sound_if w (is_lam b) goes_on _ (λ o. IfAnswers o (IsDefEq w a b)) (λ u. tt)
     (λ u. (fb, λ T mT. ((well_formed_of_type mT.0).1, λ P mP. sound_eta_second w b a T P (no_lam b nb u) t fa mT.0 mP.0))))
@@ -201,8 +201,8 @@ sound_by_ranks w ok a b fa fb (Some u) (Some v) i j =
     (sound_answers_yes w (same_by_arguments a b u v) (IsDefEq w a b) (sound_same_unfolding w a b fa fb u v i j))
     (sound_both w ok a b fa fb u v i j))))
 
-sound_6 : (w : Place) → WellStated w → (a b : Tree) → IsWellFormed a → IsWellFormed b → SoundLine w (by_unfolding a b) (IsDefEq w a b)
-sound_6 w ok a b fa fb =
+sound_by_unfolding : (w : Place) → WellStated w → (a b : Tree) → IsWellFormed a → IsWellFormed b → SoundLine w (by_unfolding a b) (IsDefEq w a b)
+sound_by_unfolding w ok a b fa fb =
     sound_bind w (unfolding_of (head a)) _ (IfUnfolding w (head a)) (λ o. IfAnswers o (IsDefEq w a b)) (sound_unfolding_of w (head a))
     (λ u i. sound_bind w (unfolding_of (head b)) (λ v. by_ranks a b u v) (IfUnfolding w (head b)) (λ o. IfAnswers o (IsDefEq w a b)) (sound_unfolding_of w (head b))
     (λ v j. sound_by_ranks w ok a b fa fb u v i j))
@@ -210,18 +210,18 @@ sound_6 w ok a b fa fb =
 sound_reduced : (w : Place) → WellStated w → (a b : Tree) → IsWellFormed a → IsWellFormed b → IsHeadNormal a → IsHeadNormal b → IsSound w (same_reduced a b) (IsJustified w (same a b))
 sound_reduced w ok a b fa fb na nb =
     let C : Type 0 = IsDefEq w a b in
-    sound_or_else w (by_proof_irrelevance a b) _ C (sound_4 w a b fa fb na nb)
-    (sound_or_else w (by_literals a b) _ C (sound_5 w a b fa fb)
-    (sound_or_else w (by_unfolding a b) _ C (sound_6 w ok a b fa fb)
-    (sound_or_else w (by_parts a b) _ C (sound_7 w a b fa fb na nb)
-    (sound_or_else w (by_function_eta a b) _ C (sound_8 w a b fa fb na nb)
-    (sound_or_else w (by_structure_eta a b) _ C (sound_9 w ok a b fa fb na C (λ p. p.0))
-    (sound_or_else w (by_structure_eta b a) _ C (sound_9 w ok b a fb fa nb C (λ p. p.1))
-    (sound_or_else w (by_emptiness a b) _ C (sound_10 w a b fa fb na nb)
-    (sound_or_else w (by_string a b) (done false) C (sound_11 w a b fa fb) tt))))))))
+    sound_or_else w (by_proof_irrelevance a b) _ C (sound_by_proof_irrelevance w a b fa fb na nb)
+    (sound_or_else w (by_literals a b) _ C (sound_by_literals w a b fa fb)
+    (sound_or_else w (by_unfolding a b) _ C (sound_by_unfolding w ok a b fa fb)
+    (sound_or_else w (by_parts a b) _ C (sound_by_parts w a b fa fb na nb)
+    (sound_or_else w (by_function_eta a b) _ C (sound_by_function_eta w a b fa fb na nb)
+    (sound_or_else w (by_structure_eta a b) _ C (sound_by_structure_eta w ok a b fa fb na C (λ p. p.0))
+    (sound_or_else w (by_structure_eta b a) _ C (sound_by_structure_eta w ok b a fb fa nb C (λ p. p.1))
+    (sound_or_else w (by_unit_eta a b) _ C (sound_by_unit_eta w a b fa fb na nb)
+    (sound_or_else w (by_string a b) (done false) C (sound_by_string w a b fa fb) tt))))))))
 
-sound_3 : (w : Place) → WellStated w → (a b : Tree) → IsWellFormed a → IsWellFormed b → IsSound w (by_reduction a b) (IsJustified w (same a b))
-sound_3 w ok a b fa fb = (
+sound_by_reduction : (w : Place) → WellStated w → (a b : Tree) → IsWellFormed a → IsWellFormed b → IsSound w (by_reduction a b) (IsJustified w (same a b))
+sound_by_reduction w ok a b fa fb = (
   fa,
   λ a' ma. (
     fb,
@@ -243,23 +243,23 @@ same_str : (w : Place) (s t : List ℕ) → (b : Bool) → is_same_tree (str s) 
 same_str w s t true h = rw (← same_tree (str s) (str t) h) (e_refl tt)
 same_str w s t false h = tt
 
-sound_2 : (w : Place) → WellStated w → (a b : Tree) → IsWellFormed a → IsWellFormed b → IsSound w (by_shape a b) (IsJustified w (same a b))
-sound_2 w ok (sort l) (sort m) f g =
+sound_by_shape : (w : Place) → WellStated w → (a b : Tree) → IsWellFormed a → IsWellFormed b → IsSound w (by_shape a b) (IsJustified w (same a b))
+sound_by_shape w ok (sort l) (sort m) f g =
     sound_map w (tested (level_test l m)) (λ e. IfYes e (SameLevel l m)) (IsJustified w (same (sort l) (sort m))) (λ e. if_yes_map e (λ s. e_sort s)) (sound_tested w l m (level_test l m) refl)
-sound_2 w ok (lam A b) (lam A' b') f g =
+sound_by_shape w ok (lam A b) (lam A' b') f g =
     let k : ℕ = max (bound (lam A b)) (bound (lam A' b')) in
     let o : (bound (lam A b) ≤ k) × (bound (lam A' b') ≤ k) = bounds (bound (lam A b)) (bound (lam A' b')) in
     sound_bodies w k A b A' b' (IsDefEq w (lam A b) (lam A' b')) f.0 f.1 g.0 g.1 (bound_left A b k o.0) (λ c d. e_lam o.0 o.1 c d)
-sound_2 w ok (pi A b) (pi A' b') f g =
+sound_by_shape w ok (pi A b) (pi A' b') f g =
     let k : ℕ = max (bound (pi A b)) (bound (pi A' b')) in
     let o : (bound (pi A b) ≤ k) × (bound (pi A' b') ≤ k) = bounds (bound (pi A b)) (bound (pi A' b')) in
     sound_bodies w k A b A' b' (IsDefEq w (pi A b) (pi A' b')) f.0 f.1 g.0 g.1 (pi_bound_left A b k o.0) (λ c d. e_pi o.0 o.1 c d)
-sound_2 w ok (lit m) (lit n) f g = same_lit w m n f (nat_eq m n) refl
-sound_2 w ok (str s) (str t) f g = same_str w s t (is_same_tree (str s) (str t)) refl
-sound_2 w ok a b f g = sound_3 w ok a b f g
+sound_by_shape w ok (lit m) (lit n) f g = same_lit w m n f (nat_eq m n) refl
+sound_by_shape w ok (str s) (str t) f g = same_str w s t (is_same_tree (str s) (str t)) refl
+sound_by_shape w ok a b f g = sound_by_reduction w ok a b f g
 
 pub sound_same : (w : Place) → WellStated w → (a b : Tree) → IsWellFormed a → IsWellFormed b → IsSound w (same_steps a b) (IsJustified w (same a b))
 sound_same w ok a b fa fb =
     sound_if w (is_same_tree a b) (done true) (by_shape a b) (IsJustified w (same a b))
     (λ t. rw (← same_tree a b t) (e_refl fa))
-    (λ t. sound_2 w ok a b fa fb)
+    (λ t. sound_by_shape w ok a b fa fb)

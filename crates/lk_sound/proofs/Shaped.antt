@@ -6,7 +6,7 @@ use Rattle.lk_tree.specs.LevelTest.{level_test}
 use Rattle.lk_tree.specs.RuleNo.{builtin_shape}
 use Rattle.lk_rulebook.specs.Place.{Place, Entry, Kind, Block, BlockType, Ctor, a_type}
 use Rattle.lk_rulebook.specs.Names.{named, nat, nat_zero, nat_succ, string}
-use Rattle.lk_rulebook.specs.Structures.{same_name}
+use Rattle.lk_tree.specs.Mentions.{same_name}
 use Rattle.lk_rulebook.specs.Shapes.{HasNat, HasString}
 use Rattle.lk_plain.specs.Program.{done}
 use Rattle.lk_table.specs.Steps.{is_same_tree}

@@ -1,4 +1,4 @@
--- B2's walks give telescopes by conversion.
+-- The walks of a type give telescopes by conversion.
 use Rattle.std.proofs.Common.{ℕ, zero, suc, ◌≡◌, ◌+◌, ◌⊎◌, inl, inr, List, [], ◌∷◌, length, refl, ap, arith}
 use Rattle.lk_tree.specs.Tree.{Level, Tree, sort, pi, local}
 use Rattle.lk_tree.specs.Bind.{opened, bound}

@@ -97,7 +97,7 @@ sound_nested_shape places fuel b stated v lg st ok counts t sorted g e so =
     sound_then places last (here (compare_steps (recursors_by (restoring_of b s lg) shape) stated)) _ (λ y h. AreRecs (places last) (recursors_by (restoring_of b s lg) shape) stated) (λ x h. NestedDerived places b stated x)
     (sound_here places last (compare_steps (recursors_by (restoring_of b s lg) shape) stated) (λ y. AreRecs (places last) (recursors_by (restoring_of b s lg) shape) stated) (λ y h. AreRecs (places last) (recursors_by (restoring_of b s lg) shape) stated) (ok last last_ok) (λ y x. x)
     (sound_compare (places last) (recursors_by (restoring_of b s lg) shape) stated
-    (recursors_by_fine (restoring_of b s lg) shape (reading_keeps (places (partial_types b)) s (first_name b.types) s.params lg.auxs e.auxs) (shape_fine before (places middle) (larger_block lg) shape block.0.0)) st.recs))
+    (recursors_by_fine (restoring_of b s lg) shape (reading_keeps (places (partial_types b)) s (first_name b.types) lg.auxs e.auxs) (shape_fine before (places middle) (larger_block lg) shape block.0.0)) st.recs))
     (λ y h recs. record {
       counts = counts;
       types_sorted = types_sorted before (frame_of b v.params v.sort) b.types v.indices t.types;

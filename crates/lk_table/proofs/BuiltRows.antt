@@ -1,9 +1,9 @@
 -- The rows that are built lie within the table.
-use Rattle.std.proofs.Common.{◌≡◌, Bool, true, refl, ap, if◌then◌else◌}
+use Rattle.std.proofs.Common.{◌≡◌, true, ap, if◌then◌else◌}
 use Rattle.lk_tree.specs.Tree.{Tree}
 use Rattle.lk_tree.specs.RuleNo.{builtin_shape}
 use Rattle.lk_plain.specs.Query.{same}
-use Rattle.lk_plain.specs.Program.{Program, done}
+use Rattle.lk_plain.specs.Program.{done}
 use Rattle.lk_plain.specs.Parts.{nameless, IsStageOf}
 use Rattle.lk_plain.proofs.Parts.{part_itself, part_restricted, part_nameless}
 use Rattle.lk_table.specs.Steps.{is_same_tree}

@@ -88,7 +88,7 @@ entry = record { levels = []; type = W_; kind = a_def abbreviation W_ }
 abbrev unfolds_at : Level → Unfolding
 unfolds_at l = record { name = v; levels = l ∷ []; entry = entry; value = W_; rank = highest }
 
--- line 6 compares levels before it counts arguments
+-- unfolding compares levels before it counts arguments
 levels_first : same_by_arguments (app (const v (wide_of 21 ∷ [])) W_) (const v (zero_level ∷ [])) (unfolds_at (wide_of 21)) (unfolds_at zero_level) ≡ refuse level_width
 unfolding level_le name_discrete part_discrete list_discrete both_discrete ℕ_discrete
 levels_first = refl

@@ -29,7 +29,7 @@ is_built (same a b) = true
 abbrev pub whole_rows : Table
 whole_rows = restricted is_built builtin_shape (nameless builtin_shape steps)
 
--- trees are the same where they are equal; the lines that compare others come later, and until then the answer is no
+-- trees are the same where they are equal; the tests that compare others come later, and until then the answer is no
 abbrev pub rows : Table
 rows (core e) = whole_rows (core e)
 rows (whnf e) = whole_rows (whnf e)

@@ -1,10 +1,10 @@
--- Literals: Same's lines 5 and 11.
+-- Same by literals: numbers and texts.
 use Rattle.std.specs.Prelude.{ℕ, zero, suc, Bool, true, false, List, [], ◌∷◌, Option, Some, None, if◌then◌else◌}
 use Rattle.lk_tree.specs.Tree.{Tree, const, app, lit, str}
 use Rattle.lk_tree.specs.Spine.{head, args}
 use Rattle.lk_tree.specs.RuleNo.{unknown_constant}
 use Rattle.lk_rulebook.specs.Names.{nat_zero, nat_succ, string_mk}
-use Rattle.lk_rulebook.specs.Structures.{same_name}
+use Rattle.lk_tree.specs.Mentions.{same_name}
 use Rattle.lk_plain.specs.Query.{same}
 use Rattle.lk_plain.specs.Program.{Program, done, look, asked, ◌>>=◌}
 use Rattle.lk_table.specs.Literals.{literal_step}
@@ -65,7 +65,7 @@ step_second a b = do
   r ← step_of b (head b)
   same_second a r
 
--- line 5
+-- by the literal step, or a number beside Nat.zero or Nat.succ
 abbrev pub by_literals : Tree → Tree → Line
 by_literals a b = step_first a b or_line step_second a b or_line same_numbers a b
 
@@ -90,6 +90,6 @@ text_second a (str s) =
     else goes_on
 text_second a b = goes_on
 
--- line 11
+-- a text beside an application of String.mk
 abbrev pub by_string : Tree → Tree → Line
 by_string a b = text_first a b or_line text_second a b

@@ -7,7 +7,7 @@ use Rattle.lk_tree.specs.Spine.{args}
 use Rattle.lk_tree.specs.RuleNo.{no_builtin}
 use Rattle.lk_rulebook.specs.Place.{Entry, Kind}
 use Rattle.lk_rulebook.specs.Names.{named, nat_zero, bool_name, op_name}
-use Rattle.lk_rulebook.specs.Structures.{same_name}
+use Rattle.lk_tree.specs.Mentions.{same_name}
 use Rattle.lk_rulebook.specs.Literals.{may_give}
 use Rattle.lk_plain.specs.Query.{whnf}
 use Rattle.lk_plain.specs.Program.{Program, done, look, asked, ◌>>=◌}

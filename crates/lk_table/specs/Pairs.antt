@@ -20,7 +20,7 @@ same_all (a ∷ xs) (b ∷ ys) = do
 same_all [] (b ∷ ys) = done false
 same_all (a ∷ xs) [] = done false
 
--- a line of the table: it answers, or leaves the question to the lines below it
+-- one of the tests of Same: it answers, or leaves the question to those after it
 abbrev pub Line : Type 0
 Line = Program (Option Bool)
 
@@ -32,7 +32,7 @@ infixr 15 ◌or_else◌
 abbrev pub ◌or_else◌ : Line → Program Bool → Program Bool
 ◌or_else◌ line next = line >>= λ o. otherwise o next
 
--- the next line where this one gives no answer
+-- the next test where this one gives no answer
 abbrev pub unless : Option Bool → Line → Line
 unless (Some answer) next = done (Some answer)
 unless None next = next

@@ -5,7 +5,7 @@ use Rattle.lk_tree.specs.Spine.{apply, head, args}
 use Rattle.lk_tree.specs.RuleNo.{unknown_constant}
 use Rattle.lk_rulebook.specs.Place.{Kind, a_quot}
 use Rattle.lk_rulebook.specs.Names.{quot_mk, quot_lift, quot_ind}
-use Rattle.lk_rulebook.specs.Structures.{same_name}
+use Rattle.lk_tree.specs.Mentions.{same_name}
 use Rattle.lk_plain.specs.Query.{core, whnf}
 use Rattle.lk_plain.specs.Program.{Program, done, look, asked, ◌>>=◌}
 
@@ -13,7 +13,7 @@ abbrev pub by_quot : Kind → Bool
 by_quot a_quot = true
 by_quot _ = false
 
--- e is a redex whose major premise goes to h xs, and rest stands after it: where that is Quot.mk A r a, f takes a
+-- the major premise of e is h xs in weak head form: where that is Quot.mk A r a, Core of f a rest
 abbrev pub at_mk : Tree → Tree → List Tree → Tree → List Tree → Program Tree
 at_mk e f rest (const c ks) (A ∷ r ∷ a ∷ []) =
     if same_name c quot_mk

@@ -1,4 +1,4 @@
--- Same(a, b): the first line that answers counts.
+-- Same(a, b): each test is called after what it does, and the first that answers counts.
 use Rattle.std.specs.Prelude.{Bool, true, false, max, ◌∷◌, length, nat_eq, ◌&&◌, if◌then◌else◌}
 use Rattle.lk_tree.specs.Tree.{name_discrete, Tree, var, sort, const, app, lam, pi, proj, lit, str}
 use Rattle.lk_tree.specs.Bind.{bound}
@@ -11,10 +11,10 @@ use Rattle.lk_table.specs.Levels.{tested, levels_equal}
 use Rattle.lk_tree.specs.LevelTest.{level_test}
 use Rattle.lk_table.specs.Pairs.{same_bodies, same_all, Line, answers_yes, ◌or_else◌, goes_on}
 use Rattle.lk_table.specs.LiteralLines.{by_literals, by_string}
-use Rattle.lk_table.specs.Eta.{by_structure_eta, by_emptiness}
+use Rattle.lk_table.specs.Eta.{by_structure_eta, by_unit_eta}
 use Rattle.lk_table.specs.Unfolding.{by_unfolding}
 
--- line 4
+-- two proofs of equal propositions
 abbrev pub by_proof_irrelevance : Tree → Tree → Line
 by_proof_irrelevance a b = do
   A ← asked (infer a)
@@ -24,7 +24,7 @@ by_proof_irrelevance a b = do
     answers_yes (asked (same A B)))
       else goes_on
 
--- line 7
+-- constants, applications and projections, part by part
 abbrev pub by_parts : Tree → Tree → Line
 by_parts (const c ls) (const d ms) = if decided (name_discrete c d) then answers_yes (levels_equal ls ms) else goes_on
 by_parts (app f a) (app g b) =
@@ -51,7 +51,7 @@ abbrev pub eta_second : Tree → Tree → Tree → Line
 eta_second o e (pi A B) = answers_yes (asked (same e (eta_long A o)))
 eta_second o e _ = goes_on
 
--- line 8: exactly one of the two is a lambda
+-- exactly one of the two is a lambda
 abbrev pub by_function_eta : Tree → Tree → Line
 by_function_eta a b =
     if is_lam a
@@ -64,20 +64,20 @@ by_function_eta a b =
       P ← asked (whnf T)
       eta_first a b P) else goes_on)
 
--- lines 4 to 12
+-- trees whose heads take no step, in this order
 abbrev pub same_reduced : Tree → Tree → Program Bool
 same_reduced a b =
-    by_proof_irrelevance a b or_else by_literals a b or_else by_unfolding a b or_else by_parts a b or_else by_function_eta a b or_else by_structure_eta a b or_else by_structure_eta b a or_else by_emptiness a b or_else
+    by_proof_irrelevance a b or_else by_literals a b or_else by_unfolding a b or_else by_parts a b or_else by_function_eta a b or_else by_structure_eta a b or_else by_structure_eta b a or_else by_unit_eta a b or_else
     by_string a b or_else done false
 
--- line 3
+-- by their Core, where that is new
 abbrev pub by_reduction : Tree → Tree → Program Bool
 by_reduction a b = do
   a' ← asked (core a)
   b' ← asked (core b)
   if is_same_tree a' a && is_same_tree b' b then same_reduced a b else asked (same a' b')
 
--- line 2
+-- two Sorts, lambdas, Pis or literals, else by their Core
 abbrev pub by_shape : Tree → Tree → Program Bool
 by_shape (sort l) (sort m) = tested (level_test l m)
 by_shape (lam A b) (lam A' b') = same_bodies (max (bound (lam A b)) (bound (lam A' b'))) A b A' b'

@@ -5,7 +5,7 @@ use Rattle.lk_tree.specs.LevelTest.{level_test}
 use Rattle.lk_tree.specs.RuleNo.{no_builtin, builtin_shape}
 use Rattle.lk_rulebook.specs.Place.{Entry, Kind, Ctor, a_type}
 use Rattle.lk_rulebook.specs.Names.{named, nat, nat_zero, nat_succ, string}
-use Rattle.lk_rulebook.specs.Structures.{same_name}
+use Rattle.lk_tree.specs.Mentions.{same_name}
 use Rattle.lk_plain.specs.Program.{Program, done, refuse, look, ◌>>=◌}
 use Rattle.lk_table.specs.Steps.{given, is_same_tree}
 use Rattle.lk_table.specs.Levels.{tested}

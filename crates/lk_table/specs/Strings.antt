@@ -5,7 +5,7 @@ use Rattle.lk_tree.specs.Tree.{Name, Tree, app, lit, str}
 use Rattle.lk_tree.specs.RuleNo.{no_builtin}
 use Rattle.lk_rulebook.specs.Place.{Entry, Kind, Ctor, a_type}
 use Rattle.lk_rulebook.specs.Names.{named, nat_zero, nat_succ, string, string_mk}
-use Rattle.lk_rulebook.specs.Structures.{same_name}
+use Rattle.lk_tree.specs.Mentions.{same_name}
 use Rattle.lk_rulebook.specs.Literals.{expansion, expansion_names}
 use Rattle.lk_plain.specs.Program.{Program, done, look, ◌>>=◌}
 use Rattle.lk_table.specs.Shapes.{has_string_shape}
@@ -41,14 +41,14 @@ abbrev pub tree_or : Option Tree → Tree → Tree
 tree_or (Some x) m = x
 tree_or None m = m
 
-abbrev pub read_text : Tree → Program Tree
-read_text (str s) = do
+abbrev pub text_to_ctor : Tree → Program Tree
+text_to_ctor (str s) = do
   x ← expansion_of s
   done (tree_or x (str s))
-read_text m = done m
+text_to_ctor m = done m
 
 -- the same, and a number is zero or a successor
-abbrev pub read : Tree → Program Tree
-read (lit zero) = look no_builtin nat_zero λ g. done (named nat_zero)
-read (lit (suc n)) = look no_builtin nat_succ λ g. done (app (named nat_succ) (lit n))
-read m = read_text m
+abbrev pub literal_to_ctor : Tree → Program Tree
+literal_to_ctor (lit zero) = look no_builtin nat_zero λ g. done (named nat_zero)
+literal_to_ctor (lit (suc n)) = look no_builtin nat_succ λ g. done (app (named nat_succ) (lit n))
+literal_to_ctor m = text_to_ctor m

@@ -1,4 +1,4 @@
--- Ranks and unfolding, for Same's line 6.
+-- Same by unfolding, and the ranks by which it is chosen which side unfolds.
 use Rattle.std.specs.Prelude.{ℕ, Bool, true, false, nat_lt, nat_eq, ◌&&◌, List, length, Option, Some, None, if◌then◌else◌}
 use Rattle.lk_tree.specs.Tree.{Name, name_discrete, Level, Tree, const}
 use Rattle.lk_tree.specs.Spine.{apply, head, args}
@@ -10,7 +10,7 @@ use Rattle.lk_table.specs.Steps.{decided, with_levels}
 use Rattle.lk_table.specs.Levels.{levels_equal}
 use Rattle.lk_table.specs.Pairs.{same_all, Line, answers, answers_yes, ◌or_else◌, goes_on}
 
--- O and theorems, then R 0, R 1, .., then A
+-- opaque hints and theorems, then regular hints by their heights, then abbreviations
 pub data Rank : Type 0 where
   lowest : Rank
   height : ℕ → Rank
@@ -86,7 +86,7 @@ by_ranks a b (Some u) (Some v) =
     else (if is_less v.rank u.rank then answers (unfold_first a b u)
     else answers (answers_yes (same_by_arguments a b u v) or_else unfold_both a b u v))
 
--- line 6
+-- the side of the greater rank unfolds
 abbrev pub by_unfolding : Tree → Tree → Line
 by_unfolding a b = do
   u ← unfolding_of (head a)

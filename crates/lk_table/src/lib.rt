@@ -10,7 +10,7 @@ ghost use Rattle.lk_table.specs.Steps.{is_same_tree};
 ghost use Rattle.lk_table.specs.Table.{steps};
 ghost use Rattle.lk_table.specs.Built.{whole_rows};
 
-/// The rows that are built are those of the table: they do what it does, but that they may be refused earlier. Where trees
+/// The rows that are built are those of the table: they do what it does, except that they may be refused earlier. Where trees
 /// are equal the table calls them the same too.
 pub fn built_rows_are_part_of_the_table()
     ensures part { IsStageOf whole_rows steps }

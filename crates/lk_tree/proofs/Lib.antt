@@ -4,6 +4,7 @@ pub mod LevelTests
 pub mod Lists
 pub mod Locals
 pub mod Operated
+pub mod Puttings
 pub mod Scans
 pub mod Spines
 pub mod Within

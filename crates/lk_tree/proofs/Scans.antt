@@ -4,7 +4,8 @@ use Rattle.std.proofs.lemmas.Bool.Decides.{nat_tests}
 use Rattle.lk_tree.specs.Tree.{Name, name_discrete, Level, zero_level, succ_level, max_level, imax_level, param, Tree, var, sort, const, app, lam, pi, let_in, proj, lit, wide, str, local}
 use Rattle.lk_tree.specs.Bind.{bound}
 use Rattle.lk_tree.specs.WellFormed.{IsWellFormedUnder}
-use Rattle.lk_tree.specs.Scan.{is_bound, is_narrow, IsNameIn, is_name_in, NoneTwice, none_twice, LevelOver, LevelsOver, TreeOver, level_over, levels_over, tree_over}
+use Rattle.lk_tree.specs.Mentions.{is_one_of}
+use Rattle.lk_tree.specs.Scan.{is_bound, is_narrow, IsNameIn, NoneTwice, none_twice, LevelOver, LevelsOver, TreeOver, level_over, levels_over, tree_over}
 
 pub both_true : (a b : Bool) → (a && b) ≡ true → (a ≡ true) × (b ≡ true)
 both_true true true h = (refl, refl)
@@ -56,19 +57,19 @@ bound_closed n wide b r = absurd cc
 bound_closed n (str s) b r = (tt, refl)
 bound_closed n (local k T) b r = absurd cc
 
-name_right : (c : Name) (ps : List Name) → is_name_in c ps ≡ true → IsNameIn c ps
+name_right : (c : Name) (ps : List Name) → is_one_of ps c ≡ true → IsNameIn c ps
 name_right c [] h = absurd cc
 name_right c (p ∷ ps) h = go (name_right c ps) (name_discrete p c) h
   where
-    go : (is_name_in c ps ≡ true → IsNameIn c ps) → (d : Dec (p ≡ c)) → elim d as (λ y. Bool) [ yes e ↦ true | no f ↦ is_name_in c ps ] ≡ true → IsNameIn c (p ∷ ps)
+    go : (is_one_of ps c ≡ true → IsNameIn c ps) → (d : Dec (p ≡ c)) → elim d as (λ y. Bool) [ yes e ↦ true | no f ↦ is_one_of ps c ] ≡ true → IsNameIn c (p ∷ ps)
     go r (yes e) k = inl e
     go r (no f) k = inr (r k)
 
-not_there : (c : Name) (ps : List Name) → is_name_in c ps ≡ false → IsNameIn c ps → ⊥
+not_there : (c : Name) (ps : List Name) → is_one_of ps c ≡ false → IsNameIn c ps → ⊥
 not_there c [] h m = m
 not_there c (p ∷ ps) h m = go (not_there c ps) (name_discrete p c) h m
   where
-    go : (is_name_in c ps ≡ false → IsNameIn c ps → ⊥) → (d : Dec (p ≡ c)) → elim d as (λ y. Bool) [ yes e ↦ true | no f ↦ is_name_in c ps ] ≡ false → IsNameIn c (p ∷ ps) → ⊥
+    go : (is_one_of ps c ≡ false → IsNameIn c ps → ⊥) → (d : Dec (p ≡ c)) → elim d as (λ y. Bool) [ yes e ↦ true | no f ↦ is_one_of ps c ] ≡ false → IsNameIn c (p ∷ ps) → ⊥
     go r (yes e) k i = absurd cc
     go r (no f) k (inl e) = f e
     go r (no f) k (inr i) = r k i
@@ -76,8 +77,8 @@ not_there c (p ∷ ps) h m = go (not_there c ps) (name_discrete p c) h m
 pub distinct_right : (ps : List Name) → none_twice ps ≡ true → NoneTwice ps
 distinct_right [] h = tt
 distinct_right (p ∷ ps) h =
-    let x : (not (is_name_in p ps) ≡ true) × (none_twice ps ≡ true) = both_true (not (is_name_in p ps)) (none_twice ps) h in
-    (not_there p ps (not_true (is_name_in p ps) x.0), distinct_right ps x.1)
+    let x : (not (is_one_of ps p) ≡ true) × (none_twice ps ≡ true) = both_true (not (is_one_of ps p)) (none_twice ps) h in
+    (not_there p ps (not_true (is_one_of ps p) x.0), distinct_right ps x.1)
 
 level_right : (ps : List Name) (l : Level) → level_over ps l ≡ true → LevelOver ps l
 level_right ps zero_level h = tt
@@ -140,11 +141,11 @@ closed_passes n wide f b = absurd f
 closed_passes n (str s) f b = (refl, refl)
 closed_passes n (local k T) f b = absurd (omega arith)
 
-name_listed : (c : Name) (ps : List Name) → IsNameIn c ps → is_name_in c ps ≡ true
+name_listed : (c : Name) (ps : List Name) → IsNameIn c ps → is_one_of ps c ≡ true
 name_listed c [] h = absurd h
 name_listed c (p ∷ ps) h = go (name_listed c ps) (name_discrete p c) h
   where
-    go : (IsNameIn c ps → is_name_in c ps ≡ true) → (d : Dec (p ≡ c)) → IsNameIn c (p ∷ ps) → elim d as (λ y. Bool) [ yes e ↦ true | no f ↦ is_name_in c ps ] ≡ true
+    go : (IsNameIn c ps → is_one_of ps c ≡ true) → (d : Dec (p ≡ c)) → IsNameIn c (p ∷ ps) → elim d as (λ y. Bool) [ yes e ↦ true | no f ↦ is_one_of ps c ] ≡ true
     go r (yes e) k = refl
     go r (no f) (inl e) = absurd (f e)
     go r (no f) (inr i) = r i
@@ -155,7 +156,7 @@ is_false false h = refl
 
 pub distinct_passes : (ps : List Name) → NoneTwice ps → none_twice ps ≡ true
 distinct_passes [] h = refl
-distinct_passes (p ∷ ps) h = and_true (not (is_name_in p ps)) (none_twice ps) (is_false (is_name_in p ps) (λ t. h.0 (name_right p ps t))) (distinct_passes ps h.1)
+distinct_passes (p ∷ ps) h = and_true (not (is_one_of ps p)) (none_twice ps) (is_false (is_one_of ps p) (λ t. h.0 (name_right p ps t))) (distinct_passes ps h.1)
 
 level_passes : (ps : List Name) (l : Level) → LevelOver ps l → level_over ps l ≡ true
 level_passes ps zero_level h = refl

@@ -6,7 +6,9 @@ pub mod Level
 pub mod LevelTest
 pub mod Levels
 pub mod Loose
+pub mod Mentions
 pub mod Operations
+pub mod Putting
 pub mod RuleNo
 pub mod Scan
 pub mod Spine

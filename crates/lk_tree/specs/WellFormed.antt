@@ -3,8 +3,8 @@ use Rattle.std.specs.Prelude.{ℕ, suc, ◌≡◌, ◌<◌, ◌≤◌, ◌^◌, 
 use Rattle.lk_tree.specs.Tree.{Tree, var, sort, const, app, lam, pi, let_in, proj, lit, wide, str, local}
 use Rattle.lk_tree.specs.Bind.{bound}
 
--- under d binders: no variable is loose and no literal is wide (a literal above 2^128 - 1 is the wide one alone), in the tree or in the types of its Locals, and
--- the type inside Local(k, T) holds only Locals below k
+-- under d binders: no variable is loose and no literal is `wide` or above 2^128 - 1, in the tree or in the types of its Locals,
+-- and the type inside Local(k, T) holds only Locals below k
 abbrev pub IsWellFormedUnder : ℕ → Tree → Type 0
 IsWellFormedUnder d (var i) = i < d
 IsWellFormedUnder d (sort l) = Unit {0}

@@ -1,12 +1,16 @@
--- What the program checks today: the built rows of the table, and declarations alone.
+-- What the program checks today: the built rows of the table, and theorems alone. All else is refused until it is built.
 use Rattle.std.specs.Prelude.{Option, Some, None}
-use Rattle.lk_tree.specs.RuleNo.{RuleNo, block_shape}
-use Rattle.lk_rulebook.specs.Units.{LibraryUnit, of_decl, of_block}
+use Rattle.lk_tree.specs.RuleNo.{RuleNo, builtin_shape, block_shape}
+use Rattle.lk_rulebook.specs.Units.{Body, as_thm, LibraryUnit, of_decl, of_block}
 use Rattle.lk_table.specs.Built.{rows}
 use Rattle.lk_verdict.specs.Verdict.{Stage}
 
+abbrev pub unbuilt_body : Body → Option RuleNo
+unbuilt_body (as_thm value) = None
+unbuilt_body _ = Some builtin_shape
+
 abbrev pub unbuilt : LibraryUnit → Option RuleNo
-unbuilt (of_decl d) = None
+unbuilt (of_decl d) = unbuilt_body d.body
 unbuilt (of_block b rs) = Some block_shape
 
 abbrev pub stage : Stage

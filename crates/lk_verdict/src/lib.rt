@@ -35,7 +35,8 @@ pub fn verdicts_rest_on_earlier_units()
     ensures good { (us vs : Library) (n : ℕ) → take n us ≡ take n vs → slice_get us n ≡ slice_get vs n → IsGoodUnit us n → IsGoodUnit vs n }
 {}
 
-/// What is derived of a unit stays derived at later places, where its own names are given too.
+/// What is derived of a unit stays derived at later places, where its own names are given too: of declarations, and of blocks
+/// without nested occurrences.
 pub fn good_units_stay()
     ensures declarations { (us : Library) (n m : ℕ) (d : Decl) → n ≤ m → DeclDerived (place_of us n []) d → DeclDerived (place_of us m []) d }
     ensures blocks { (us : Library) (n m : ℕ) (b : Block) (rs : List Rec) (s : Shape) → n < m → slice_get us n ≡ Some (of_block b rs) → IsScanned us n (of_block b rs) →
