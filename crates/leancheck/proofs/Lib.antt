@@ -4,3 +4,6 @@ pub mod Checks
 pub mod Joined
 pub mod Keys
 pub mod Verdicts
+pub mod WordLaws
+pub mod Distinct
+pub mod Files

@@ -8,7 +8,7 @@ use Rattle.lk_table.specs.Declarations.{unit_steps}
 use Rattle.lk_table.specs.Built.{rows}
 use Rattle.lk_plain.specs.Erased.{Value, truth, finished, stopped, used_up, left_of, run_steps, out_of}
 use Rattle.lk_plain.proofs.Erasing.{run_erased}
-use Rattle.lk_book.specs.Theorems.{Theorem, decl_of}
+use Rattle.lk_units.specs.Theorems.{Theorem, decl_of}
 use Rattle.lk_table.specs.Declarations.{theorem_decl}
 use Rattle.lk_verdict.specs.Told.{accepted, rejected, out_of_steps}
 use Rattle.leancheck.specs.Rows.{verdict_of, questions_of}

@@ -8,23 +8,23 @@ use Rattle.lk_tree.specs.RuleNo.{value_type, duplicate_name, loose_variable, the
 use Rattle.lk_plain.specs.Answer.{answer_to_depth}
 use Rattle.lk_verdict.specs.Verdict.{says_yes, says_no, says_steps, plain_verdict}
 use Rattle.lk_verdict.specs.Built.{stage}
-use Rattle.lk_book.specs.Theorems.{Theorem, units_of}
+use Rattle.lk_units.specs.Theorems.{Theorem, units_of}
 use native.Mathlib.Decide.{ℕ_discrete}
 
 abbrev prop : Tree
 prop = sort zero_level
 
 abbrev id : Theorem
-id = record { name = []; type = pi prop (pi (var 0) (var 1)); proof = lam prop (lam (var 0) (var 0)) }
+id = record { name = []; levels = []; type = pi prop (pi (var 0) (var 1)); proof = lam prop (lam (var 0) (var 0)) }
 
 abbrev other : Theorem
-other = record { name = []; type = pi prop (pi (var 0) (var 1)); proof = lam prop (var 0) }
+other = record { name = []; levels = []; type = pi prop (pi (var 0) (var 1)); proof = lam prop (var 0) }
 
 abbrev unbound : Theorem
-unbound = record { name = []; type = var 0; proof = prop }
+unbound = record { name = []; levels = []; type = var 0; proof = prop }
 
 abbrev no_prop : Theorem
-no_prop = record { name = []; type = prop; proof = prop }
+no_prop = record { name = []; levels = []; type = prop; proof = prop }
 
 id_yes : plain_verdict stage (units_of (id ∷ [])) 0 25 ≡ says_yes
 unfolding answer_to_depth open_at close_at bound head args tree_discrete level_discrete name_discrete part_discrete list_discrete both_discrete ℕ_discrete

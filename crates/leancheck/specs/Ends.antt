@@ -1,5 +1,5 @@
 -- How a run ends.
-use Rattle.std.specs.Prelude.{ℕ, ◌≡◌, ◌⊎◌, List, Some, None, if◌then◌else◌, nat_eq, Vec, Result, Ok, Err}
+use Rattle.std.specs.Prelude.{ℕ, ◌≡◌, ◌⊎◌, List, if◌then◌else◌, nat_eq, Vec, Result, Ok, Err}
 use Rattle.std.specs.declared.alloc.Global.{Global}
 use Rattle.std.specs.declared.option.Option.{Option}
 use Rattle.std.specs.Io.KnownBytes.{Appends}
@@ -9,11 +9,10 @@ use Rattle.lk_verdict.specs.Told.{Verdict, AreVerdicts}
 use Rattle.lk_book.specs.File.{library_of}
 use Rattle.leancheck.specs.declared.status.Status.{Status}
 use Rattle.leancheck.specs.declared.status.Status.TheVariants.{AllYes, SomeNo, Usage, BadFile, ReadFault, WriteFault, NoMemory, SomeMemory}
-use Rattle.leancheck.specs.Held.{budget}
 use Rattle.leancheck.specs.Text.{bad_line, report_text, count}
 use Rattle.leancheck.specs.declared.report.Kind.TheVariants.{No, Memory}
-use Rattle.lk_book.specs.declared.library.Refusal.{Refusal}
-use Rattle.lk_book.specs.declared.library.Refusal.TheVariants as refusal
+use Rattle.lk_lines.specs.declared.line.Fault.{Fault}
+use Rattle.lk_store.specs.declared.node.NoMemory.{NoMemory as WantOfMemory}
 
 -- a no before all, then want of memory
 abbrev pub status_of : List Verdict → Status
@@ -30,29 +29,28 @@ IsChecked ReadFault = ⊥
 IsChecked WriteFault = ⊥
 IsChecked NoMemory = ⊥
 
--- the bytes spell a library, and the text has a verdict for each of its units, the plain one or memory, and their summary; a
--- unit whose verdict is yes is good; the status belongs to the verdicts
-pub record IsReport (bytes : List ℕ) (status : Status) (text : List ℕ) : Type 0 where
+-- the bytes spell a library, and the text has a verdict for each of its units, the plain one under these steps or memory, and
+-- their summary; a unit whose verdict is yes is good; the status belongs to the verdicts
+pub record IsReport (steps : ℕ) (bytes : List ℕ) (status : Status) (text : List ℕ) : Type 0 where
   pub library : Library
   pub verdicts : List Verdict
-  pub spelled : library_of bytes ≡ Some library
-  pub are : AreVerdicts library budget 0 library verdicts
+  pub spelled : library_of bytes ≡ Ok library
+  pub are : AreVerdicts library steps 0 library verdicts
   pub status_is : status ≡ status_of verdicts
   pub text_is : text ≡ report_text library verdicts
 
--- a report of the bytes was written
-pub record Reports (bytes : List ℕ) (status : Status) (old new : Option (List ℕ)) : Type 0 where
+-- a report of the bytes under these steps was written
+pub record Reports (steps : ℕ) (bytes : List ℕ) (status : Status) (old new : Option (List ℕ)) : Type 0 where
   pub text : List ℕ
-  pub report : IsReport bytes status text
+  pub report : IsReport steps bytes status text
   pub written : Appends old new text
 
--- a prefix of the text that belongs to the bytes was written
-abbrev pub WritesPrefix : List ℕ → Option (List ℕ) → Option (List ℕ) → Type 0
-WritesPrefix bytes old new = ((library_of bytes ≡ None) × AppendsSome old new bad_line)
-    ⊎ ((status : Status) × (text : List ℕ) × IsReport bytes status text × AppendsSome old new text)
+-- a prefix of the text that belongs to the bytes under these steps was written
+abbrev pub WritesPrefix : ℕ → List ℕ → Option (List ℕ) → Option (List ℕ) → Type 0
+WritesPrefix steps bytes old new = ((f : Fault) × (library_of bytes ≡ Err f) × AppendsSome old new (bad_line f))
+    ⊎ ((status : Status) × (text : List ℕ) × IsReport steps bytes status text × AppendsSome old new text)
 
--- what the bytes of a file give
-abbrev pub Gives : List ℕ → Result (Vec ℕ Global × Status) Refusal → Type 0
-Gives bytes (Ok (text, status)) = IsReport bytes status text.items
-Gives bytes (Err refusal.NoMemory) = Unit {0}
-Gives bytes (Err refusal.BadFile) = library_of bytes ≡ None
+-- the text that was made, and the status, belong to the bytes under these steps
+abbrev pub Gives : ℕ → List ℕ → Result (Vec ℕ Global × Status) WantOfMemory → Type 0
+Gives steps bytes (Ok (text, status)) = IsReport steps bytes status text.items
+Gives steps bytes (Err e) = Unit {0}

@@ -1,5 +1,5 @@
 -- What verdicts that are held stand for.
-use Rattle.std.specs.Prelude.{ℕ, ◌≡◌, ◌⊎◌, ◌^◌, Result, Ok, Err}
+use Rattle.std.specs.Prelude.{◌≡◌, ◌⊎◌, Result, Ok, Err}
 use Rattle.lk_engine.specs.declared.stop.Stop.{Stop}
 use Rattle.lk_engine.specs.declared.stop.Stop.TheVariants.{Rule, Spent, NoMemory}
 use Rattle.lk_verdict.specs.Told.{Verdict, accepted, rejected, out_of_steps, out_of_memory}
@@ -16,10 +16,6 @@ verdict Memory = out_of_memory
 -- the plain verdict, or memory in its place
 abbrev pub IsPlain : Verdict → HeldVerdict → Type 0
 IsPlain plain v = (verdict v ≡ plain) ⊎ (verdict v ≡ out_of_memory)
-
--- how many steps the questions of one theorem may take
-abbrev pub budget : ℕ
-budget = 2 ^ 100
 
 -- the verdict that the outcome of a theorem's questions gives
 abbrev pub result_verdict : Result (Unit {0}) Stop → HeldVerdict

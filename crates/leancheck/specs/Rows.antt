@@ -1,8 +1,9 @@
--- How a program finds the plain verdict of a theorem: is the name new, is each variable bound, and then the questions.
-use Rattle.std.specs.Prelude.{ℕ, List, [], ◌∷◌, Bool, ◌&&◌, nat_eq, take, map, if◌then◌else◌}
+-- How a program finds the plain verdict of a theorem: is the name new, are its level parameters different, is each variable bound, and then the questions.
+use Rattle.std.specs.Prelude.{ℕ, List, [], Bool, ◌&&◌, nat_eq, take, map, if◌then◌else◌}
 use Rattle.lk_tree.specs.Tree.{Name}
 use Rattle.lk_tree.specs.Loose.{loose}
-use Rattle.lk_tree.specs.RuleNo.{duplicate_name, loose_variable}
+use Rattle.lk_tree.specs.Scan.{none_twice}
+use Rattle.lk_tree.specs.RuleNo.{duplicate_name, duplicate_level, loose_variable}
 use Rattle.lk_rulebook.specs.Place.{Place}
 use Rattle.lk_tree.specs.Mentions.{is_one_of}
 use Rattle.lk_rulebook.specs.Units.{place_of}
@@ -11,7 +12,7 @@ use Rattle.lk_table.specs.Declarations.{unit_steps}
 use Rattle.lk_table.specs.Built.{rows}
 use Rattle.lk_verdict.specs.Verdict.{verdict_by}
 use Rattle.lk_verdict.specs.Told.{Verdict, rejected, told}
-use Rattle.lk_book.specs.Theorems.{Theorem, decl_of, units_of}
+use Rattle.lk_units.specs.Theorems.{Theorem, decl_of, units_of}
 
 -- the place of theorem n
 abbrev pub place_at : List Theorem → ℕ → Place
@@ -32,5 +33,8 @@ questions_of w budget t = verdict_of (outcome_of w (plain_answer rows w) budget 
 abbrev pub checked_of : Place → ℕ → Theorem → Verdict
 checked_of w budget t = if is_closed t then questions_of w budget t else rejected loose_variable
 
+abbrev pub declared_of : Place → ℕ → Theorem → Verdict
+declared_of w budget t = if none_twice t.levels then checked_of w budget t else rejected duplicate_level
+
 abbrev pub row_verdict : List Theorem → ℕ → ℕ → Theorem → Verdict
-row_verdict ts budget n t = if is_one_of (names_of (take n ts)) t.name then rejected duplicate_name else checked_of (place_at ts n) budget t
+row_verdict ts budget n t = if is_one_of (names_of (take n ts)) t.name then rejected duplicate_name else declared_of (place_at ts n) budget t

@@ -1,7 +1,11 @@
 -- What is written.
-use Rattle.std.specs.Prelude.{ℕ, ◌+◌, ◌-◌, ◌==◌, Bool, true, false, List, [], ◌∷◌, ◌++◌, length, map, take, decimal, codes, nat_eq, if◌then◌else◌}
+use Rattle.std.specs.Prelude.{ℕ, ◌+◌, ◌==◌, Bool, true, false, List, [], ◌∷◌, ◌++◌, length, map, decimal, codes, nat_eq, if◌then◌else◌}
 use Rattle.lk_tree.specs.Tree.{Name, Part, text, number}
+use Rattle.lk_lines.specs.declared.line.Fault.{Fault}
+use Rattle.lk_lines.specs.Words.{word_text}
 use Rattle.lk_tree.specs.RuleNo.{RuleNo, unknown_constant, level_count, undeclared_level, duplicate_level, duplicate_name, loose_variable, not_a_sort, not_a_function, argument_type, let_type, value_type, theorem_not_prop, bad_projection, prop_projection, wide_literal, no_builtin, builtin_shape, quot_shape, level_width, block_shape, parameter_differs, constructor_result, not_positive, field_universe, nested_form, recursor_differs}
+use Rattle.leancheck.specs.declared.report.KeyPlace.{KeyPlace}
+use Rattle.leancheck.specs.declared.report.KeyPlace.TheVariants.{InPart, AtMark, Behind}
 use Rattle.leancheck.specs.declared.report.Kind.{Kind}
 use Rattle.leancheck.specs.declared.report.Kind.TheVariants.{Yes, No, Memory}
 use Rattle.lk_rulebook.specs.Units.{Library, Members, members_of}
@@ -10,8 +14,9 @@ use Rattle.lk_verdict.specs.Told.{Verdict, accepted, rejected, out_of_steps, out
 abbrev pub usage_line : List ℕ
 usage_line = codes "usage: leancheck check|make|trial [--workers W] [--steps N] [--memo M] [--units N] [--seed S]\n"
 
-abbrev pub bad_line : List ℕ
-bad_line = codes "bad file\n"
+-- the line of a file's fault
+abbrev pub bad_line : Fault → List ℕ
+bad_line f = codes "bad line " ++ (decimal f.line ++ (32 ∷ (word_text f.word ++ 10 ∷ [])))
 
 abbrev pub part_text : Part → List ℕ
 part_text (text bytes) = bytes
@@ -115,9 +120,13 @@ first_name (m ∷ ms) = m.0
 abbrev pub report_text : Library → List Verdict → List ℕ
 report_text us vs = report_of_names (map (λ u. name_text (first_name (members_of u))) us) vs
 
--- the text of a name, from its bytes with a line feed behind each component
-abbrev pub dotted : ℕ → ℕ
-dotted b = if b == 10 then 46 else b
+-- where the bytes of a name stand: in a component, at the byte that tells a component's kind, or behind it
+abbrev pub shown_from : KeyPlace → List ℕ → List ℕ
+shown_from place [] = []
+shown_from InPart (b ∷ bs) = if b == 10 then shown_from AtMark bs else b ∷ shown_from InPart bs
+shown_from AtMark (b ∷ bs) = shown_from Behind bs
+shown_from Behind (b ∷ bs) = 46 ∷ (if b == 10 then shown_from AtMark bs else b ∷ shown_from InPart bs)
 
+-- the text of a name, from its bytes
 abbrev pub key_text : List ℕ → List ℕ
-key_text key = if nat_eq (length key) 0 then codes "[anonymous]" else map dotted (take (length key - 1) key)
+key_text key = if nat_eq (length key) 0 then codes "[anonymous]" else shown_from InPart key

@@ -1,17 +1,18 @@
 //! The text of a run.
 
-ghost use Rattle.std.specs.Prelude.{◌≡◌, ◌++◌, map, decimal, codes, OnOk, IfOk};
+ghost use Rattle.std.specs.Prelude.{◌≡◌, ◌++◌, ◌∷◌, ℕ, List, map, decimal, codes, OnOk, IfOk};
 ghost use Rattle.lk_engine.specs.Questions.{rule_no};
 ghost use Rattle.leancheck.specs.Held.{verdict};
-ghost use Rattle.leancheck.specs.Text.{dotted, key_text, rule_word, head_text, why_text, verdict_text, lines_text, is_of, count, counted_text, summary_text, report_of_names};
-ghost use Rattle.leancheck.specs.Ends.{status_of};
+ghost use Rattle.leancheck.specs.Text.{bad_line, shown_from, key_text, rule_word, head_text, why_text, verdict_text, lines_text, is_of, count, counted_text, summary_text, report_of_names};
+ghost use Rattle.leancheck.specs.Ends.{IsChecked, status_of};
 
 use crate::checking::Verdict;
 use crate::status::Status;
 use itoa::Buffer;
-use lk_book::library::Row;
 use lk_engine::question::Rule;
+use lk_lines::Fault;
 use lk_store::node::NoMemory;
+use lk_units::TheoremRow;
 use std::alloc::Global;
 
 /// What a verdict is counted as.
@@ -63,11 +64,15 @@ fn count(kind: Kind, verdicts: &[Verdict]) -> usize
     n
 }
 
-/// A byte of a name, which shows an end of a component as a dot.
-fn dotted(b: u8) -> u8
-    ensures { result ≡ dotted b }
-{
-    if b == b'\n' { b'.' } else { b }
+/// Where the bytes of a name stand.
+#[derive(Clone, Copy)]
+pub enum KeyPlace {
+    /// In a component.
+    InPart,
+    /// At the byte that tells a component's kind.
+    AtMark,
+    /// Behind that byte.
+    Behind,
 }
 
 /// Appends a number.
@@ -79,19 +84,45 @@ fn add_number(out: &mut Vec<u8>, n: usize) -> Result<(), NoMemory>
     Ok(())
 }
 
-/// Appends bytes, with dots for line feeds.
-fn add_dotted(out: &mut Vec<u8>, bytes: &[u8]) -> Result<(), NoMemory>
-    ensures { OnOk result (out.new.items ≡ out.old.items ++ map dotted bytes.now) }
+/// Appends what a byte shows that may stand in a component.
+fn add_part_byte(out: &mut Vec<u8>, b: u8) -> Result<KeyPlace, NoMemory>
+    ensures { IfOk result (λ next. (bs : List ℕ) → out.new.items ++ shown_from next bs ≡ out.old.items ++ shown_from KeyPlace.InPart (b ∷ bs)) }
 {
-    let mut rest = bytes;
+    if b == b'\n' {
+        return Ok(KeyPlace::AtMark);
+    }
+    out.push(b)?;
+    Ok(KeyPlace::InPart)
+}
+
+/// Appends what a byte of a name shows.
+fn add_key_byte(out: &mut Vec<u8>, place: KeyPlace, b: u8) -> Result<KeyPlace, NoMemory>
+    ensures { IfOk result (λ next. (bs : List ℕ) → out.new.items ++ shown_from next bs ≡ out.old.items ++ shown_from place (b ∷ bs)) }
+{
+    match place {
+        KeyPlace::InPart => add_part_byte(out, b),
+        KeyPlace::AtMark => Ok(KeyPlace::Behind),
+        KeyPlace::Behind => {
+            out.push(b'.')?;
+            add_part_byte(out, b)
+        }
+    }
+}
+
+/// Appends what the bytes of a name show.
+fn add_key(out: &mut Vec<u8>, key: &[u8]) -> Result<(), NoMemory>
+    ensures { OnOk result (out.new.items ≡ out.old.items ++ shown_from KeyPlace.InPart key.now) }
+{
+    let mut place = KeyPlace::InPart;
+    let mut rest = key;
     while let [b, more @ ..] = rest {
+        place = add_key_byte(out, place, *b)?;
         rest = more;
-        out.push(dotted(*b))?;
     }
     Ok(())
 }
 
-/// Appends a name, from its bytes with a line feed behind each component.
+/// Appends a name, from its bytes.
 fn add_name(out: &mut Vec<u8>, key: &[u8]) -> Result<(), NoMemory>
     ensures { OnOk result (out.new.items ≡ out.old.items ++ key_text key.now) }
 {
@@ -99,7 +130,7 @@ fn add_name(out: &mut Vec<u8>, key: &[u8]) -> Result<(), NoMemory>
         out.extend_from_slice(b"[anonymous]")?;
         return Ok(());
     }
-    add_dotted(out, &key[..key.len() - 1])
+    add_key(out, key)
 }
 
 /// Appends the line of a theorem, after a word.
@@ -131,6 +162,7 @@ fn word_of(rule: Rule) -> &'static [u8]
 {
     match rule {
         Rule::DuplicateName => b"DuplicateName",
+        Rule::DuplicateLevel => b"DuplicateLevel",
         Rule::LooseVariable => b"LooseVariable",
         Rule::NotASort => b"NotASort",
         Rule::ValueType => b"ValueType",
@@ -159,7 +191,7 @@ fn add_verdict(out: &mut Vec<u8>, unit: usize, key: &[u8], said: Verdict) -> Res
 }
 
 /// Appends the lines of the theorems.
-fn add_lines(out: &mut Vec<u8>, rows: &[Row], verdicts: &[Verdict]) -> Result<(), NoMemory>
+fn add_lines(out: &mut Vec<u8>, rows: &[TheoremRow], verdicts: &[Verdict]) -> Result<(), NoMemory>
     ensures { OnOk result (out.new.items ≡ out.old.items ++ lines_text 0 (map (λ r. key_text r.name.items) rows.now) (map verdict verdicts.now)) }
 {
     let mut left = rows;
@@ -199,7 +231,7 @@ fn add_summary(out: &mut Vec<u8>, verdicts: &[Verdict]) -> Result<(), NoMemory>
 }
 
 /// The lines of the theorems and the last line.
-pub fn report(alloc: Global, rows: &[Row], verdicts: &[Verdict]) -> Result<Vec<u8>, NoMemory>
+pub fn report(alloc: Global, rows: &[TheoremRow], verdicts: &[Verdict]) -> Result<Vec<u8>, NoMemory>
     ensures { IfOk result (λ v. v.items ≡ report_of_names (map (λ r. key_text r.name.items) rows.now) (map verdict verdicts.now)) }
 {
     let mut out = Vec::new(alloc);
@@ -208,9 +240,24 @@ pub fn report(alloc: Global, rows: &[Row], verdicts: &[Verdict]) -> Result<Vec<u
     Ok(out)
 }
 
+/// The line of a file's fault.
+pub fn fault_line(alloc: Global, fault: Fault) -> Result<Vec<u8>, NoMemory>
+    ensures { IfOk result (λ v. v.items ≡ bad_line fault) }
+{
+    let mut out = Vec::new(alloc);
+    let mut buffer = Buffer::new();
+    out.extend_from_slice(b"bad line ")?;
+    out.extend_from_slice(buffer.format(fault.line).as_bytes())?;
+    out.push(b' ')?;
+    out.extend_from_slice(fault.word.text().as_bytes())?;
+    out.push(b'\n')?;
+    Ok(out)
+}
+
 /// The status that belongs to verdicts.
 pub fn status_of(verdicts: &[Verdict]) -> Status
-    ensures { result ≡ status_of (map verdict verdicts.now) }
+    ensures is { result ≡ status_of (map verdict verdicts.now) }
+    ensures checked { IsChecked result }
 {
     if count(Kind::No, verdicts) > 0 {
         return Status::SomeNo;

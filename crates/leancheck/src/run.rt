@@ -1,58 +1,143 @@
 //! A whole run.
 
-ghost use Rattle.std.specs.Prelude.{◌≡◌, ◌≢◌, ◌⊎◌, ℕ, List, map, string_bytes, IfSome, None, true, false};
+ghost use Rattle.std.specs.Prelude.{◌≡◌, ◌≢◌, ◌⊎◌, ℕ, List, All, length, map, IfSome, IfOk, Ok, Err};
 ghost use Rattle.std.specs.Io.KnownBytes.{Appends};
 ghost use Rattle.lk_port.specs.Bytes.{Rose, AppendsSome};
-ghost use Rattle.lk_book.specs.File.{library_of};
-ghost use Rattle.leancheck.specs.Words.{means_check};
+ghost use Rattle.lk_lines.specs.declared.line.Fault.{Fault as LineFault};
+ghost use Rattle.lk_units.specs.Theorems.{Theorem};
+ghost use Rattle.lk_units.specs.Held.{seen, shown, IsKnownRow};
+ghost use Rattle.lk_book.specs.File.{theorems_of, library_of};
+ghost use Rattle.leancheck.specs.Words.{IsMeaningless, MeansCheck, texts_of};
+ghost use Rattle.leancheck.specs.declared.words.Options.{Options as CheckOptions};
 ghost use Rattle.leancheck.specs.Text.{usage_line, bad_line};
 ghost use Rattle.leancheck.specs.Ends.{Gives, IsChecked, Reports, WritesPrefix};
 
 use crate::checking::check_all;
-use crate::report::{report, status_of};
+use crate::report::{fault_line, report, status_of};
 use crate::status::Status;
-use crate::words::is_check;
-use lk_book::file::read_library;
-use lk_book::library::Refusal;
-use lk_port::{Gate, ReadError, Sink, Source, read_all, write_all};
+use crate::words::{LineError, Meaning, Options, line_means};
+use lk_book::{ReadError, read_library};
+use lk_lines::Fault;
+use lk_port::{Gate, Sink, Source, write_all};
 use lk_store::consed::BaseStore;
+use lk_store::node::NoMemory;
 use lk_store::store::Terms;
+use lk_units::TheoremRow;
 use std::alloc::Global;
 use std::sync::Wait;
 use std::thread::Threads;
 
-/// What is written for the bytes of a file, and the status, over a store.
-fn checked_in<T: Terms, G: Gate>(
+/// What is written for the theorems of a file, and the status.
+fn checked<T: Terms, G: Gate>(
     alloc: Global,
     store: &mut T,
-    bytes: &[u8],
+    steps: u128,
+    theorems: &[TheoremRow],
     gate: &G,
-) -> Result<(Vec<u8>, Status), Refusal>
-    ensures { Gives bytes.now result }
+) -> Result<(Vec<u8>, Status), NoMemory>
+    requires { All (IsKnownRow (length (T.trees store.old))) theorems.now }
+    ensures gives { (bytes : List ℕ) (all : List Theorem) → theorems_of bytes ≡ Ok all → map (seen (T.trees store.old)) theorems.now ≡ map shown all → Gives steps bytes result }
+    ensures status { IfOk result (λ r. IsChecked r.1) }
 {
-    let library = match read_library(alloc, store, bytes) {
-        Ok(library) => library,
-        Err(refusal) => return Err(refusal),
+    let Ok(verdicts) = check_all(alloc, store, steps, theorems, gate) else {
+        return Err(NoMemory);
     };
-    let Ok(verdicts) = check_all(alloc, store, &library.theorems, gate) else {
-        return Err(Refusal::NoMemory);
-    };
-    let Ok(text) = report(alloc, &library.theorems, &verdicts) else {
-        return Err(Refusal::NoMemory);
+    let Ok(text) = report(alloc, theorems, &verdicts) else {
+        return Err(NoMemory);
     };
     let status = status_of(&verdicts);
     Ok((text, status))
 }
 
-/// What is written for the bytes of a file, and the status.
-fn checked<G: Gate>(alloc: Global, bytes: &[u8], gate: &G) -> Result<(Vec<u8>, Status), Refusal>
-    ensures { Gives bytes.now result }
+/// Writes the usage line.
+fn tell_usage<K: Sink>(sink: &mut K) -> Status
+    ensures told { result ≡ Status.Usage → Appends (K.written sink.old) (K.written sink.new) usage_line × (K.faults sink.new ≡ K.faults sink.old) }
+    ensures failed { result ≢ Status.Usage → (result ≡ Status.WriteFault) × AppendsSome (K.written sink.old) (K.written sink.new) usage_line × Rose (K.faults sink.old) (K.faults sink.new) }
 {
-    let mut store = BaseStore::new(alloc);
-    checked_in(alloc, &mut store, bytes, gate)
+    match write_all(
+        sink,
+        b"usage: leancheck check|make|trial [--workers W] [--steps N] [--memo M] [--units N] [--seed S]\n",
+    ) {
+        Ok(()) => Status::Usage,
+        Err(_) => Status::WriteFault,
+    }
+}
+
+/// Writes the line of a file's fault.
+fn tell_fault<K: Sink>(alloc: Global, fault: Fault, sink: &mut K) -> Status
+    ensures told { result ≡ Status.BadFile → Appends (K.written sink.old) (K.written sink.new) (bad_line fault) × (K.faults sink.new ≡ K.faults sink.old) }
+    ensures failed { result ≡ Status.WriteFault → AppendsSome (K.written sink.old) (K.written sink.new) (bad_line fault) × Rose (K.faults sink.old) (K.faults sink.new) }
+    ensures no_memory { result ≡ Status.NoMemory → sink.new ≡ sink.old }
+    ensures only { (result ≡ Status.BadFile) ⊎ (result ≡ Status.WriteFault) ⊎ (result ≡ Status.NoMemory) }
+{
+    let Ok(line) = fault_line(alloc, fault) else {
+        return Status::NoMemory;
+    };
+    match write_all(sink, &line) {
+        Ok(()) => Status::BadFile,
+        Err(_) => Status::WriteFault,
+    }
+}
+
+/// Checks the theorems of a file, and writes a verdict for each.
+fn tell_verdicts<T: Terms, K: Sink, G: Gate>(
+    alloc: Global,
+    store: &mut T,
+    steps: u128,
+    theorems: &[TheoremRow],
+    sink: &mut K,
+    gate: &G,
+) -> Status
+    requires { All (IsKnownRow (length (T.trees store.old))) theorems.now }
+    ensures told { IsChecked result → ((bytes : List ℕ) (all : List Theorem) → theorems_of bytes ≡ Ok all → map (seen (T.trees store.old)) theorems.now ≡ map shown all → Reports steps bytes result (K.written sink.old) (K.written sink.new)) × (K.faults sink.new ≡ K.faults sink.old) }
+    ensures failed { result ≡ Status.WriteFault → ((bytes : List ℕ) (all : List Theorem) → theorems_of bytes ≡ Ok all → map (seen (T.trees store.old)) theorems.now ≡ map shown all → WritesPrefix steps bytes (K.written sink.old) (K.written sink.new)) × Rose (K.faults sink.old) (K.faults sink.new) }
+    ensures no_memory { result ≡ Status.NoMemory → sink.new ≡ sink.old }
+    ensures only { IsChecked result ⊎ (result ≡ Status.WriteFault) ⊎ (result ≡ Status.NoMemory) }
+{
+    match checked(alloc, store, steps, theorems, gate) {
+        Ok((text, status)) => match write_all(sink, &text) {
+            Ok(()) => status,
+            Err(_) => Status::WriteFault,
+        },
+        Err(_) => Status::NoMemory,
+    }
 }
 
 /// Reads an export from the source and writes a verdict for each of its theorems to the sink.
+fn check<S: Source, K: Sink, G: Gate>(
+    alloc: Global,
+    options: Options,
+    source: &mut S,
+    sink: &mut K,
+    gate: &G,
+) -> Status
+    ensures no_usage { result ≢ Status.Usage }
+    ensures read { result ≡ Status.ReadFault → Rose (S.faults source.old) (S.faults source.new) × (K.written sink.new ≡ K.written sink.old) }
+    ensures no_read { result ≢ Status.ReadFault → S.faults source.new ≡ S.faults source.old }
+    ensures bad { result ≡ Status.BadFile → ((f : LineFault) × IfSome (S.left source.old) (λ bytes. library_of bytes ≡ Err f) × Appends (K.written sink.old) (K.written sink.new) (bad_line f)) }
+    ensures verdicts { IsChecked result → IfSome (S.left source.old) (λ bytes. Reports options.steps bytes result (K.written sink.old) (K.written sink.new)) }
+    ensures write { result ≡ Status.WriteFault → Rose (K.faults sink.old) (K.faults sink.new) }
+    ensures no_write { result ≢ Status.WriteFault → K.faults sink.new ≡ K.faults sink.old }
+    ensures prefix { result ≡ Status.WriteFault → IfSome (S.left source.old) (λ bytes. WritesPrefix options.steps bytes (K.written sink.old) (K.written sink.new)) }
+    ensures no_memory { result ≡ Status.NoMemory → K.written sink.new ≡ K.written sink.old }
+{
+    let mut store = BaseStore::new(alloc);
+    match read_library(alloc, &mut store, source) {
+        Ok(assembler) => tell_verdicts(
+            alloc,
+            &mut store,
+            options.steps,
+            &assembler.theorems,
+            sink,
+            gate,
+        ),
+        Err(ReadError::ReadFault) => Status::ReadFault,
+        Err(ReadError::NoMemory) => Status::NoMemory,
+        Err(ReadError::Fault(fault)) => tell_fault(alloc, fault, sink),
+    }
+}
+
+/// Does what the words say: reads an export from the source and writes a verdict for each of its theorems to the sink.
 ///
 /// The words begin with the program's name. The gate is told of each theorem before its first question.
 pub fn run<R: Threads + Wait + Sync, S: Source, K: Sink, G: Gate>(
@@ -63,41 +148,23 @@ pub fn run<R: Threads + Wait + Sync, S: Source, K: Sink, G: Gate>(
     sink: &mut K,
     gate: &G,
 ) -> Status
-    ensures usage { result ≡ Status.Usage → (means_check (map (λ w. string_bytes w) words.now) ≡ false) × Appends (K.written sink.old) (K.written sink.new) usage_line × (source.new ≡ source.old) }
-    ensures usage_only { means_check (map (λ w. string_bytes w) words.now) ≡ false → (result ≡ Status.Usage) ⊎ (result ≡ Status.WriteFault) }
+    ensures usage { result ≡ Status.Usage → IsMeaningless (texts_of words.now) × Appends (K.written sink.old) (K.written sink.new) usage_line × (source.new ≡ source.old) }
+    ensures usage_only { IsMeaningless (texts_of words.now) → (result ≡ Status.Usage) ⊎ (result ≡ Status.WriteFault) ⊎ (result ≡ Status.NoMemory) }
     ensures read { result ≡ Status.ReadFault → Rose (S.faults source.old) (S.faults source.new) × (K.written sink.new ≡ K.written sink.old) }
     ensures no_read { result ≢ Status.ReadFault → S.faults source.new ≡ S.faults source.old }
-    ensures bad { result ≡ Status.BadFile → IfSome (S.left source.old) (λ bytes. library_of bytes ≡ None) × Appends (K.written sink.old) (K.written sink.new) bad_line }
-    ensures verdicts { IsChecked result → IfSome (S.left source.old) (λ bytes. Reports bytes result (K.written sink.old) (K.written sink.new)) }
+    ensures bad { result ≡ Status.BadFile → ((o : CheckOptions) × MeansCheck (texts_of words.now) o)
+        × ((f : LineFault) × IfSome (S.left source.old) (λ bytes. library_of bytes ≡ Err f) × Appends (K.written sink.old) (K.written sink.new) (bad_line f)) }
+    ensures verdicts { IsChecked result → ((o : CheckOptions) × MeansCheck (texts_of words.now) o
+        × IfSome (S.left source.old) (λ bytes. Reports o.steps bytes result (K.written sink.old) (K.written sink.new))) }
     ensures write { result ≡ Status.WriteFault → Rose (K.faults sink.old) (K.faults sink.new) }
     ensures no_write { result ≢ Status.WriteFault → K.faults sink.new ≡ K.faults sink.old }
-    ensures prefix { result ≡ Status.WriteFault → ((means_check (map (λ w. string_bytes w) words.now) ≡ false) × AppendsSome (K.written sink.old) (K.written sink.new) usage_line)
-        ⊎ ((means_check (map (λ w. string_bytes w) words.now) ≡ true) × IfSome (S.left source.old) (λ bytes. WritesPrefix bytes (K.written sink.old) (K.written sink.new))) }
+    ensures prefix { result ≡ Status.WriteFault → (IsMeaningless (texts_of words.now) × AppendsSome (K.written sink.old) (K.written sink.new) usage_line)
+        ⊎ ((o : CheckOptions) × MeansCheck (texts_of words.now) o × IfSome (S.left source.old) (λ bytes. WritesPrefix o.steps bytes (K.written sink.old) (K.written sink.new))) }
     ensures no_memory { result ≡ Status.NoMemory → K.written sink.new ≡ K.written sink.old }
 {
-    if !is_check(words) {
-        return match write_all(
-            sink,
-            b"usage: leancheck check|make|trial [--workers W] [--steps N] [--memo M] [--units N] [--seed S]\n",
-        ) {
-            Ok(()) => Status::Usage,
-            Err(_) => Status::WriteFault,
-        };
-    }
-    let bytes = match read_all(alloc, source) {
-        Ok(bytes) => bytes,
-        Err(ReadError::Fault) => return Status::ReadFault,
-        Err(ReadError::NoMemory) => return Status::NoMemory,
-    };
-    match checked(alloc, &bytes, gate) {
-        Ok((text, status)) => match write_all(sink, &text) {
-            Ok(()) => status,
-            Err(_) => Status::WriteFault,
-        },
-        Err(Refusal::BadFile) => match write_all(sink, b"bad file\n") {
-            Ok(()) => Status::BadFile,
-            Err(_) => Status::WriteFault,
-        },
-        Err(Refusal::NoMemory) => Status::NoMemory,
+    match line_means(alloc, words) {
+        Ok(Meaning::Check(options)) => check(alloc, options, source, sink, gate),
+        Err(LineError::Usage) => tell_usage(sink),
+        Err(LineError::NoMemory) => Status::NoMemory,
     }
 }

@@ -2,6 +2,7 @@
 
 use crate::run::run;
 use crate::status::Status;
+use crate::words::{LineError, Meaning, Options, line_means};
 use lk_port::{FaultySink, FaultySource, MemSink, MemSource, OpenGate};
 use std::alloc::{AllocError, Global};
 use std::sync::Wait;
@@ -135,38 +136,155 @@ fn files(rt: HostRuntime) -> Result<(), Fail> {
             &rt,
             alloc,
             check,
-            b"0 #ES 0\n0 #ES 0\n",
-            b"bad file\n",
-            Status::BadFile
+            b"1 #NS 0 q\n2 #NI 1 5\n0 #ES 0\n#THM 2 0 0 1 2 1\n",
+            b"no thm 0 q.5\n  why DuplicateLevel\nunits 1 yes 0 no 1 memory 0\n",
+            Status::SomeNo
         )?
     );
     Ok(())
 }
 
 #[test]
+fn files_with_a_fault(rt: HostRuntime) -> Result<(), Fail> {
+    let alloc = rt.alloc();
+    let rows: [(&[u8], &[u8]); 8] = [
+        (b"3.0.0\n", b"bad line 1 BadVersion\n"),
+        (b"0 #ES 0\n0 #ES 0\n", b"bad line 2 IndexTaken\n"),
+        (b"\n0 #ES 7\n", b"bad line 2 IndexUnknown\n"),
+        (b"0 #EM 0\n", b"bad line 1 UnknownTag\n"),
+        (b"0 #ES 0 0\n", b"bad line 1 ExtraField\n"),
+        (b"0 #ES\n", b"bad line 1 MissingField\n"),
+        (b"0 #ES 4294967296", b"bad line 1 NumberTooLarge\n"),
+        (b"1 #NS 0 \xff", b"bad line 1 BadUtf8\n"),
+    ];
+    for (bytes, written) in rows {
+        assert!(rt;
+            is_row(
+                &rt,
+                alloc,
+                "leancheck check",
+                bytes,
+                written,
+                Status::BadFile
+            )?
+        );
+    }
+    Ok(())
+}
+
+#[test]
 fn words(rt: HostRuntime) -> Result<(), Fail> {
+    let alloc = rt.alloc();
+    for line in [
+        "leancheck check --workers 0",
+        "leancheck check x",
+        "leancheck",
+    ] {
+        assert!(rt;
+            is_row(&rt, alloc, line, IDENTITY, USAGE, Status::Usage)?,
+            "{line}"
+        );
+    }
+    Ok(())
+}
+
+#[test]
+fn steps(rt: HostRuntime) -> Result<(), Fail> {
     let alloc = rt.alloc();
     assert!(rt;
         is_row(
             &rt,
             alloc,
-            "leancheck check --workers 0",
+            "leancheck check --steps 25",
             IDENTITY,
-            USAGE,
-            Status::Usage
+            b"yes thm 0 id\nunits 1 yes 1 no 0 memory 0\n",
+            Status::AllYes
         )?
     );
     assert!(rt;
         is_row(
             &rt,
             alloc,
-            "leancheck check x",
+            "leancheck check --steps 24",
             IDENTITY,
-            USAGE,
-            Status::Usage
+            b"no thm 0 id\n  why steps\nunits 1 yes 0 no 1 memory 0\n",
+            Status::SomeNo
         )?
     );
-    assert!(rt; is_row(&rt, alloc, "leancheck", IDENTITY, USAGE, Status::Usage)?);
+    Ok(())
+}
+
+fn meaning_of(alloc: Global, line: &str) -> Result<Result<Meaning, LineError>, AllocError> {
+    let words = words_of(alloc, line)?;
+    Ok(line_means(alloc, words.as_slice()))
+}
+
+#[test]
+fn words_without_a_meaning(rt: HostRuntime) -> Result<(), Fail> {
+    let alloc = rt.alloc();
+    for line in [
+        "leancheck help",
+        "leancheck --help",
+        "leancheck check --help",
+        "leancheck make --units 5 --seed 1",
+        "leancheck trial --units 5 --seed 1",
+        "leancheck check --workers 65",
+        "leancheck check --workers +2",
+        "leancheck check --workers -2",
+        "leancheck check --workers",
+        "leancheck check --workers 2 --workers 2",
+        "leancheck check --steps 0",
+        "leancheck check --steps 18446744073709551616",
+        "leancheck check --memo 0",
+        "leancheck check --memo 1048577",
+        "leancheck check --words 3",
+        "leancheck check -- 3",
+    ] {
+        assert_eq!(rt; meaning_of(alloc, line)?, Err(LineError::Usage), "{line}");
+    }
+    Ok(())
+}
+
+#[test]
+fn words_with_a_meaning(rt: HostRuntime) -> Result<(), Fail> {
+    let alloc = rt.alloc();
+    let defaults = Options {
+        workers: 1,
+        steps: 1 << 100,
+        memo: 65536,
+    };
+    for (line, options) in [
+        ("leancheck check", defaults),
+        ("leancheck check --", defaults),
+        (
+            "leancheck check --steps=5",
+            Options {
+                steps: 5,
+                ..defaults
+            },
+        ),
+        (
+            "leancheck check --steps 005",
+            Options {
+                steps: 5,
+                ..defaults
+            },
+        ),
+        (
+            "leancheck check --memo 1048576 --workers 64 --steps 18446744073709551615",
+            Options {
+                workers: 64,
+                steps: 18446744073709551615,
+                memo: 1048576,
+            },
+        ),
+    ] {
+        assert_eq!(rt;
+            meaning_of(alloc, line)?,
+            Ok(Meaning::Check(options)),
+            "{line}"
+        );
+    }
     Ok(())
 }
 

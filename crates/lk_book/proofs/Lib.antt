@@ -1,6 +1,7 @@
-pub mod Holding
+pub mod FirstLines
+pub mod Leading
+pub mod LongLines
+pub mod Remaining
+pub mod Steps
 pub mod Kept
-pub mod LineSteps
-pub mod NameLemmas
 pub mod Spelled
-pub mod Taking

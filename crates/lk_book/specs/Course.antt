@@ -1,56 +1,48 @@
--- What the lines of a file say, or its first fault.
-use Rattle.std.specs.Prelude.{ℕ, ◌+◌, ◌-◌, ◌^◌, Bool, true, false, List, [], ◌∷◌, ◌++◌, Result, Ok, Err, Some, None, length, nat_lt, if◌then◌else◌}
+-- What the lines of a file come to, one after another, and what one more line makes of it.
+use Rattle.std.specs.Prelude.{ℕ, ◌+◌, Bool, true, false, List, length, Result, Ok, Err, Some, None, if◌then◌else◌}
 use Rattle.std.specs.declared.option.Option.{Option}
 use Rattle.lk_lines.specs.declared.words.Word.{Word}
-use Rattle.lk_lines.specs.declared.words.Word.TheVariants.{InputTooLong, LineTooLong}
-use Rattle.lk_lines.specs.Table.{Line}
-use Rattle.lk_lines.specs.Bytes.{Says, Blank, Version, Spelled, said_of}
-use Rattle.lk_book.specs.declared.lines.Fault.{Fault}
+use Rattle.lk_lines.specs.declared.line.Fault.{Fault}
+use Rattle.lk_lines.specs.Limits.{limits}
+use Rattle.lk_lines.specs.Reading.{◌>>=◌}
+use Rattle.lk_lines.specs.Says.{Says, Blank, Version, OfItem, said_of}
+use Rattle.lk_units.specs.State.{State, begin, take_item}
 
--- a line's limits, with so many bytes before it, its line feed counted
-abbrev pub limits : ℕ → ℕ → ℕ → Option Word
-limits before len feed = if nat_lt (2 ^ 40) (before + len + feed) then Some InputTooLong else if nat_lt (2 ^ 24) len then Some LineTooLong else None
-
--- a line's number, and what it says
-pub record Item : Type 0 where
-  pub line : ℕ
-  pub said : Line
-
--- what was read so far: whether no line but blank ones, how many bytes, and the items
+-- first: whether the lines so far are blank; number: how many they are; before: how many bytes they have, line
+-- feeds counted; state: what their items state
 pub record Course : Type 0 where
   pub first : Bool
+  pub number : ℕ
   pub before : ℕ
-  pub items : List Item
+  pub state : State
 
-abbrev pub begin : Course
-begin = record { first = true; before = 0; items = [] }
+abbrev pub begin_course : Course
+begin_course = record { first = true; number = 0; before = 0; state = begin }
 
-abbrev pub kept : Course → ℕ → ℕ → Says → Course
-kept c number before Blank = record c { before = before }
-kept c number before Version = record c { first = false; before = before }
-kept c number before (Spelled line) = record { first = false; before = before; items = c.items ++ record { line = number; said = line } ∷ [] }
+abbrev pub feed_count : Bool → ℕ
+feed_count feed = if feed then 1 else 0
 
-abbrev pub after_said : Course → ℕ → ℕ → Result Says Word → Result Course Fault
-after_said c number before (Ok says) = Ok (kept c number before says)
-after_said c number before (Err w) = Err (record { line = number; word = w })
+-- behind a line of so many bytes, which a line feed may follow
+abbrev pub passed : Course → ℕ → Bool → Course
+passed c length feed = record c { number = c.number + 1; before = c.before + length + feed_count feed }
 
-abbrev pub unless : Option Word → Result Says Word → Result Says Word
+-- what a line says is taken; a blank line and the version change nothing that is stated
+abbrev pub taken : Course → Says → Result Course Word
+taken c Blank = Ok c
+taken c Version = Ok (record c { first = false })
+taken c (OfItem item) = take_item c.state item >>= λ s. Ok (record c { first = false; state = s })
+
+-- the fault of the limits, or else what is said
+abbrev pub unless : {A : Type 0} → Option Word → Result A Word → Result A Word
 unless (Some w) said = Err w
 unless None said = said
 
-unfoldable pub step : Course → ℕ → ℕ → List ℕ → Result Course Fault
-step c number feed line = after_said c number (c.before + length line + feed) (unless (limits c.before (length line) feed) (said_of c.first line))
+-- the fault is one of this line
+abbrev pub at_line : {A : Type 0} → ℕ → Result A Word → Result A Fault
+at_line number (Ok x) = Ok x
+at_line number (Err w) = Err (record { line = number; word = w })
 
--- the line feed of a line that others follow
-abbrev pub feed_of : List (List ℕ) → ℕ
-feed_of [] = 0
-feed_of (line ∷ more) = 1
-
-abbrev pub after_step : Result Course Fault → (Course → Result Course Fault) → Result Course Fault
-after_step (Ok c) next = next c
-after_step (Err f) next = Err f
-
--- the course over the lines that are left, of so many in all
-abbrev pub lines_from : ℕ → Course → List (List ℕ) → Result Course Fault
-lines_from total c [] = Ok c
-lines_from total c (line ∷ more) = after_step (step c (total - length more) (feed_of more) line) (λ d. lines_from total d more)
+-- What the next line makes of a course, or its first fault: the limits come first, then what the bytes say, then
+-- whether the item may stand there. The line feed that ends the line is none of its bytes.
+unfoldable pub step : Course → Bool → List ℕ → Result Course Fault
+step c feed line = at_line (c.number + 1) (unless (limits c.before (length line) feed) (said_of c.first line >>= taken (passed c (length line) feed)))

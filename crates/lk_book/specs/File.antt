@@ -1,37 +1,36 @@
--- The theorems that the bytes of a file spell.
-use Rattle.std.specs.Prelude.{ℕ, ◌-◌, ◌^◌, ◌==◌, ◌&&◌, List, [], length, Some, None, Result, Ok, Err, if◌then◌else◌, nat_lt, nat_eq, slice_index, take, map, option_map, option_and_then}
-use Rattle.std.specs.declared.option.Option.{Option}
+-- The theorems that the bytes of a file state, or the file's fault.
+use Rattle.std.specs.Prelude.{ℕ, ◌==◌, Bool, true, false, List, [], ◌∷◌, Result, Ok, Err}
 use Rattle.std.specs.List.{slice_split}
 use Rattle.lk_rulebook.specs.Units.{Library}
-use Rattle.lk_book.specs.Theorems.{Theorem, units_of}
-use Rattle.lk_book.specs.declared.lines.Fault.{Fault}
-use Rattle.lk_book.specs.Course.{Item, Course, begin as begin_course, lines_from}
-use Rattle.lk_book.specs.State.{begin, take_lines}
+use Rattle.lk_lines.specs.declared.line.Fault.{Fault}
+use Rattle.lk_units.specs.Theorems.{Theorem, units_of}
+use Rattle.lk_book.specs.Course.{Course, begin_course, step}
 
--- the bytes without a last line feed
-abbrev pub without_end : List ℕ → List ℕ
-without_end bytes = if nat_lt 0 (length bytes) && (slice_index bytes (length bytes - 1) == 10) then take (length bytes - 1) bytes else bytes
+-- The lines of bytes: what stands between line feeds, and behind the last one. So a line feed ends each but the
+-- last, which is empty where the bytes end with a line feed.
+unfoldable pub lines_of : List ℕ → List (List ℕ)
+lines_of bytes = slice_split (λ b. b == 10) bytes
 
--- lines end with a line feed, which the last one may lack
-abbrev pub lines_of : List ℕ → List (List ℕ)
-lines_of bytes = if nat_eq (length bytes) 0 then [] else slice_split (λ b. b == 10) (without_end bytes)
+abbrev pub has_more : {A : Type 0} → List A → Bool
+has_more [] = false
+has_more (x ∷ xs) = true
 
-abbrev pub items_in : Result Course Fault → Option (List Item)
-items_in (Ok c) = Some c.items
-items_in (Err f) = None
+-- the next step, or the fault of the one before
+abbrev pub after : {A B : Type 0} → Result A Fault → (A → Result B Fault) → Result B Fault
+after (Ok c) next = next c
+after (Err f) next = Err f
 
--- the lines that say something, each spelled by its bytes; every byte of the input counts towards its limit, a last line feed too
-unfoldable pub items_of : List ℕ → Option (List Item)
-items_of bytes = if nat_lt (2 ^ 40) (length bytes) then None else items_in (lines_from (length (lines_of bytes)) begin_course (lines_of bytes))
+-- the course over lines, of which each but the last has a line feed; the first faulty line's fault is theirs
+abbrev pub course_over : Course → List (List ℕ) → Result Course Fault
+course_over c [] = Ok c
+course_over c (line ∷ more) = after (step c (has_more more) line) (λ d. course_over d more)
 
--- what the lines together state
-unfoldable pub theorems_in : List Item → Option (List Theorem)
-theorems_in items = option_map (λ s. s.theorems) (take_lines begin (map (λ i. i.said) items))
+unfoldable pub course_of : List ℕ → Result Course Fault
+course_of bytes = course_over begin_course (lines_of bytes)
 
--- the theorems of the file; None where the bytes spell no list of lines that may stand so
-unfoldable pub theorems_of : List ℕ → Option (List Theorem)
-theorems_of bytes = option_and_then theorems_in (items_of bytes)
+abbrev pub theorems_of : List ℕ → Result (List Theorem) Fault
+theorems_of bytes = after (course_of bytes) (λ c. Ok c.state.theorems)
 
 -- the library that the file states: its theorems, as units
-abbrev pub library_of : List ℕ → Option Library
-library_of bytes = option_map units_of (theorems_of bytes)
+abbrev pub library_of : List ℕ → Result Library Fault
+library_of bytes = after (theorems_of bytes) (λ ts. Ok (units_of ts))

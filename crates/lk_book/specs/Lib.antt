@@ -1,8 +1,4 @@
-pub mod Theorems
 pub mod Course
-pub mod ToldLines
 pub mod File
-pub mod Held
-pub mod Names
-pub mod Numbers
-pub mod State
+pub mod Passing
+pub mod Reading

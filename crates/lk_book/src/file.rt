@@ -1,107 +1,165 @@
-//! A file as a whole.
-ghost use Rattle.std.specs.Prelude.{◌≡◌, ◌==◌, map, length, IfOk, OnOk, reverse};
-ghost use Rattle.std.specs.List.{slice_split};
-ghost use Rattle.lk_store.specs.Store.{Extends};
-ghost use Rattle.lk_lines.specs.Lines.{line_of};
-ghost use Rattle.lk_book.specs.State.{State, take_lines};
-ghost use Rattle.lk_book.specs.File.{without_end, lines_of, items_of, theorems_of};
-ghost use Rattle.lk_book.specs.Held.{IsKnown, Holds, Follows, Reads, GivesItems};
+//! A file as a whole, read from a source in pieces.
+ghost use Rattle.std.specs.Prelude.{◌≡◌, ◌≢◌, ◌+◌, ◌≤◌, ◌<◌, ◌^◌, ℕ, List, length, true, false, IfOk, IfErr, OnOk, Some, Ok, Err};
+ghost use Rattle.std.specs.declared.option.Option.{Option};
+ghost use Rattle.std.specs.Io.KnownBytes.{IsAtEnd};
+ghost use Rattle.lk_store.specs.Store.{ExtendsLevels, Extends};
+ghost use Rattle.lk_port.specs.Bytes.{Rose};
+ghost use Rattle.lk_token.specs.Lines.{HasNoLineFeed};
+ghost use Rattle.lk_units.specs.Held.{IsKnown};
+ghost use Rattle.lk_book.specs.Course.{Course, step};
+ghost use Rattle.lk_book.specs.File.{course_of};
+ghost use Rattle.lk_book.specs.Passing.{Stands, IsCounted};
+ghost use Rattle.lk_book.specs.Reading.{Remains, ConsumesSome, TellsFault, Ends, Reads};
 
-use crate::library::{Library, Refusal, new_library};
-use crate::lines::{FileError, MAX_INPUT, Numbered, read_lines};
+use crate::lines::take_piece;
+use crate::long::long_line;
+use crate::{MAX_LINE, PIECE, ReadError, Reader};
+use lk_lines::{Fault, LineError};
+use lk_port::Source;
 use lk_store::store::Terms;
-use std::alloc::{AllocError, Global};
+use lk_units::Assembler;
+use std::alloc::Global;
 
-/// The bytes without a last line feed.
-fn without_end(bytes: &[u8]) -> &[u8]
-    ensures { result.now ≡ without_end bytes.now }
-{
-    if !bytes.is_empty() && bytes[bytes.len() - 1] == b'\n' {
-        &bytes[..bytes.len() - 1]
-    } else {
-        bytes
-    }
-}
-
-/// The lines of a file.
-fn split_lines(alloc: Global, bytes: &[u8]) -> Result<Vec<&[u8]>, AllocError>
-    ensures { IfOk result (λ v. map (λ l. l.now) v.items ≡ slice_split (λ b. b == 10) bytes.now) }
-{
-    bytes.split(|b| *b == b'\n').collect(alloc)
-}
-
-/// The lines of a file, of which the last one may lack its line feed.
-fn lines(alloc: Global, bytes: &[u8]) -> Result<Vec<&[u8]>, AllocError>
-    ensures { IfOk result (λ v. map (λ l. l.now) v.items ≡ lines_of bytes.now) }
-{
-    if bytes.is_empty() {
-        return Ok(Vec::new(alloc));
-    }
-    split_lines(alloc, without_end(bytes))
-}
-
-/// The lines that say something.
-#[tactic(auto, unfolding(crate::specs::File::items_of))]
-fn read_items(alloc: Global, bytes: &[u8]) -> Result<Vec<Numbered>, Refusal>
-    ensures { GivesItems result (items_of bytes.now) }
-{
-    if bytes.len() as u128 > MAX_INPUT {
-        return Err(Refusal::BadFile);
-    }
-    let lines = match lines(alloc, bytes) {
-        Ok(lines) => lines,
-        Err(_) => return Err(Refusal::NoMemory),
-    };
-    match read_lines(alloc, &lines) {
-        Ok(items) => Ok(items),
-        Err(FileError::NoMemory) => Err(Refusal::NoMemory),
-        Err(FileError::Fault(_)) => Err(Refusal::BadFile),
-    }
-}
-
-/// Takes line by line; the last one stands first.
-fn take_reversed<T: Terms>(
+/// Reads a piece of the source and takes the lines that end in it. The first bytes of a line that goes on are held.
+/// It answers whether the source goes on.
+fn read_piece<T: Terms, S: Source>(
     alloc: Global,
     store: &mut T,
-    library: &mut Library,
-    mut items: Vec<Numbered>,
-) -> Result<(), Refusal>
-    requires { IsKnown library.old (length (T.trees store.old)) }
+    source: &mut S,
+    reader: &mut Reader,
+    held: &mut Vec<u8>,
+    piece: &mut [u8; PIECE],
+) -> Result<bool, ReadError>
+    requires known { IsKnown reader.old.assembler (length (T.levels store.old)) (length (T.trees store.old)) }
+    requires counted { IsCounted reader.old }
+    requires unfinished { HasNoLineFeed held.old.items }
+    requires short { length held.old.items ≤ 2 ^ 24 }
     ensures keeps { Extends (T.trees store.old) (T.trees store.new) }
-    ensures known { OnOk result (IsKnown library.new (length (T.trees store.new))) }
-    ensures follows { (s : State) → Holds library.old (T.trees store.old) s → Follows library.new (T.trees store.new) result (take_lines s (map (λ i. line_of i.said) (reverse items.items))) }
+    ensures levels { ExtendsLevels (T.levels store.old) (T.levels store.new) }
+    ensures known { OnOk result (IsKnown reader.new.assembler (length (T.levels store.new)) (length (T.trees store.new))) }
+    ensures counted { OnOk result (IsCounted reader.new) }
+    ensures unfinished { OnOk result (HasNoLineFeed held.new.items) }
+    ensures short { OnOk result (length held.new.items ≤ 2 ^ 24) }
+    ensures progress { IfOk result (λ more. more ≡ true → reader.old.before + length held.old.items < reader.new.before + length held.new.items) }
+
+    ensures remains { (old : Option (List ℕ)) → Remains reader.old (T.levels store.old) (T.trees store.old) held.old.items old (S.left source.old)
+        → OnOk result (Remains reader.new (T.levels store.new) (T.trees store.new) held.new.items old (S.left source.new)) }
+    ensures tells { (old : Option (List ℕ)) → Remains reader.old (T.levels store.old) (T.trees store.old) held.old.items old (S.left source.old)
+        → IfErr result (λ e. TellsFault e old) }
+
+    ensures front { ConsumesSome (S.left source.old) (S.left source.new) }
+    ensures end { IfOk result (λ more. more ≡ false → IsAtEnd (S.left source.new)) }
+    ensures fault { result ≡ Err ReadError.ReadFault → Rose (S.faults source.old) (S.faults source.new) }
+    ensures no_fault { result ≢ Err ReadError.ReadFault → S.faults source.new ≡ S.faults source.old }
 {
-    while let Some(item) = items.pop() {
-        match library.take(alloc, store, item.said) {
-            Ok(()) => {}
-            Err(refusal) => return Err(refusal),
+    let read = source.read(piece)?;
+    if read == 0 {
+        return Ok(false);
+    }
+    take_piece(alloc, store, reader, held, &piece[..read])?;
+    if held.len() > MAX_LINE {
+        let word = long_line(source, reader.before, held.len() as u64)?;
+        return Err(ReadError::Fault(Fault {
+            line: reader.number + 1,
+            word,
+        }));
+    }
+    Ok(true)
+}
+
+/// Reads the source to its end and takes all lines but the last, whose bytes are held.
+fn read_pieces<T: Terms, S: Source>(
+    alloc: Global,
+    store: &mut T,
+    source: &mut S,
+    reader: &mut Reader,
+    held: &mut Vec<u8>,
+) -> Result<(), ReadError>
+    requires known { IsKnown reader.old.assembler (length (T.levels store.old)) (length (T.trees store.old)) }
+    requires counted { IsCounted reader.old }
+    requires unfinished { HasNoLineFeed held.old.items }
+    requires short { length held.old.items ≤ 2 ^ 24 }
+    ensures keeps { Extends (T.trees store.old) (T.trees store.new) }
+    ensures levels { ExtendsLevels (T.levels store.old) (T.levels store.new) }
+    ensures known { OnOk result (IsKnown reader.new.assembler (length (T.levels store.new)) (length (T.trees store.new))) }
+    ensures counted { OnOk result (IsCounted reader.new) }
+    ensures unfinished { OnOk result (HasNoLineFeed held.new.items) }
+
+    ensures remains { (old : Option (List ℕ)) → Remains reader.old (T.levels store.old) (T.trees store.old) held.old.items old (S.left source.old)
+        → OnOk result (Remains reader.new (T.levels store.new) (T.trees store.new) held.new.items old (S.left source.new)) }
+    ensures tells { (old : Option (List ℕ)) → Remains reader.old (T.levels store.old) (T.trees store.old) held.old.items old (S.left source.old)
+        → IfErr result (λ e. TellsFault e old) }
+
+    ensures front { ConsumesSome (S.left source.old) (S.left source.new) }
+    ensures end { OnOk result (IsAtEnd (S.left source.new)) }
+    ensures fault { result ≡ Err ReadError.ReadFault → Rose (S.faults source.old) (S.faults source.new) }
+    ensures no_fault { result ≢ Err ReadError.ReadFault → S.faults source.new ≡ S.faults source.old }
+{
+    let mut piece = [0; PIECE];
+    loop {
+        let more = read_piece(alloc, store, source, reader, held, &mut piece)?;
+        if !more {
+            return Ok(());
         }
     }
-    Ok(())
 }
 
-/// Reads the theorems that the bytes of a file spell, into a store.
-#[tactic(auto, unfolding(crate::specs::File::theorems_of, crate::specs::File::theorems_in))]
-pub fn read_library<T: Terms>(
+/// Takes the last line, which no line feed ends.
+fn take_last<T: Terms>(
     alloc: Global,
     store: &mut T,
-    bytes: &[u8],
-) -> Result<Library, Refusal>
+    mut reader: Reader,
+    line: &[u8],
+) -> Result<Assembler, LineError>
+    requires known { IsKnown reader.assembler (length (T.levels store.old)) (length (T.trees store.old)) }
+    requires counted { IsCounted reader }
+    requires whole { HasNoLineFeed line.now }
     ensures keeps { Extends (T.trees store.old) (T.trees store.new) }
-    ensures known { IfOk result (λ library. IsKnown library (length (T.trees store.new))) }
-    ensures reads { Reads (T.trees store.new) (theorems_of bytes.now) result }
+    ensures levels { ExtendsLevels (T.levels store.old) (T.levels store.new) }
+    ensures known { IfOk result (λ a. IsKnown a (length (T.levels store.new)) (length (T.trees store.new))) }
+    ensures ends { (c : Course) → Stands reader (T.levels store.old) (T.trees store.old) c → Ends (T.levels store.new) (T.trees store.new) result (step c false line.now) }
 {
-    let mut items = match read_items(alloc, bytes) {
-        Ok(items) => items,
-        Err(refusal) => return Err(refusal),
-    };
-    items.reverse();
-    let mut library = match new_library(alloc) {
-        Ok(library) => library,
-        Err(_) => return Err(Refusal::NoMemory),
-    };
-    match take_reversed(alloc, store, &mut library, items) {
-        Ok(()) => Ok(library),
-        Err(refusal) => Err(refusal),
-    }
+    reader.take_line(alloc, store, false, line)?;
+    Ok(reader.assembler)
 }
+
+/// Reads the theorems that a file states, from a source and into a store; or tells the file's fault: its first faulty
+/// line, and that line's first fault.
+///
+/// Of the file no more is held at a time than a piece and the first bytes of a line. A failed read and want of memory
+/// end it at once. Behind any error the source has lost some bytes from its front.
+pub fn read_library<T: Terms, S: Source>(
+    alloc: Global,
+    store: &mut T,
+    source: &mut S,
+) -> Result<Assembler, ReadError>
+    ensures keeps { Extends (T.trees store.old) (T.trees store.new) }
+    ensures levels { ExtendsLevels (T.levels store.old) (T.levels store.new) }
+    ensures known { IfOk result (λ a. IsKnown a (length (T.levels store.new)) (length (T.trees store.new))) }
+
+    // Where the source tells its bytes, the answer is what they state.
+    ensures reads { (bytes : List ℕ) → S.left source.old ≡ Some bytes → Reads (T.levels store.new) (T.trees store.new) (course_of bytes) result }
+
+    ensures front { ConsumesSome (S.left source.old) (S.left source.new) }
+    ensures end { OnOk result (IsAtEnd (S.left source.new)) }
+    ensures fault { result ≡ Err ReadError.ReadFault → Rose (S.faults source.old) (S.faults source.new) }
+    ensures no_fault { result ≢ Err ReadError.ReadFault → S.faults source.new ≡ S.faults source.old }
+{
+    let assembler = match Assembler::new(alloc, store) {
+        Ok(assembler) => assembler,
+        Err(_) => return Err(ReadError::NoMemory),
+    };
+    let mut reader = Reader {
+        assembler,
+        first: true,
+        number: 0,
+        before: 0,
+    };
+    let mut held = Vec::new(alloc);
+    read_pieces(alloc, store, source, &mut reader, &mut held)?;
+    let assembler = take_last(alloc, store, reader, &held)?;
+    Ok(assembler)
+}
+
+#[cfg(test)]
+mod tests;

@@ -1,11 +1,23 @@
-//! The theorems of a file: its lines one by one, with what their numbers stand for.
+//! The theorems that a file states: its lines one by one, read from a source in pieces, with the file's first fault.
 #![tactic(auto)]
 
-pub mod file;
+mod error;
+mod file;
 mod laws;
-pub mod library;
-pub mod lines;
-pub mod names;
-pub mod numbers;
+mod lines;
+mod long;
+mod reader;
 
+pub use error::ReadError;
+pub use file::read_library;
 pub use laws::files_are_built;
+pub use reader::Reader;
+
+/// A file has at most this many bytes.
+const MAX_INPUT: u64 = 1 << 40;
+
+/// A line has at most this many bytes, its line feed not counted.
+const MAX_LINE: usize = 1 << 24;
+
+/// The source is read in pieces of this many bytes at most.
+const PIECE: usize = 1 << 16;

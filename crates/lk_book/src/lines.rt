@@ -1,135 +1,122 @@
-//! The lines of a file, or its first fault.
+//! The lines of a buffer.
+ghost use Rattle.std.specs.Prelude.{◌≡◌, ◌+◌, ◌∷◌, ◌++◌, ℕ, List, length, MatchOption, IfOk, IfErr, OnOk};
+ghost use Rattle.lk_store.specs.Store.{ExtendsLevels, Extends};
+ghost use Rattle.lk_token.specs.Lines.{HasNoLineFeed};
+ghost use Rattle.lk_units.specs.Held.{IsKnown};
+ghost use Rattle.lk_book.specs.Course.{Course};
+ghost use Rattle.lk_book.specs.Passing.{Stands, IsCounted, Passes, Stops};
 
-ghost use Rattle.std.specs.Prelude.{◌≡◌, ◌≤◌, ◌+◌, OnOk, IfNone, ◌^◌, ℕ, List, [], map, length, Ok, Err, true};
-ghost use Rattle.lk_book.specs.Course.{limits, feed_of, step, kept, begin, lines_from};
-ghost use Rattle.lk_book.specs.ToldLines.{GivesLines, GivesCourse, course_of};
-ghost use Rattle.lk_lines.specs.Said.{said as said_of_held};
-
-use lk_lines::{Line, LineError, Said, Word, read_line};
+use crate::Reader;
+use bstr::ByteSlice;
+use lk_lines::LineError;
+use lk_store::store::Terms;
 use std::alloc::Global;
 
-/// A file has at most this many bytes.
-pub const MAX_INPUT: u128 = 1 << 40;
-
-/// A line has at most this many.
-pub const MAX_LINE: usize = 1 << 24;
-
-#[derive(Clone, Copy, Debug, PartialEq, Eq)]
-pub struct Fault {
-    pub line: usize,
-    pub word: Word,
-}
-
-#[derive(Clone, Copy, Debug, PartialEq, Eq)]
-pub enum FileError {
-    NoMemory,
-    Fault(Fault),
-}
-
-#[derive(Debug, Drop)]
-pub struct Numbered {
-    pub line: usize,
-    pub said: Line,
-}
-
-fn limits(before: u128, len: usize, feed: u128) -> Option<Word>
-    requires before { before ≤ 2 ^ 40 }
-    requires feed { feed ≤ 1 }
-    ensures value { result ≡ limits before len feed }
-    ensures small { IfNone result (before + len + feed ≤ 2 ^ 40) }
+/// The first line of bytes, and what stands behind its line feed.
+#[tactic(auto, using(crate::proofs::FirstLines::cut_lem, crate::proofs::FirstLines::none_lem))]
+pub fn cut(bytes: &[u8]) -> Option<(&[u8], &[u8])>
+    ensures { MatchOption result (HasNoLineFeed bytes.now) (λ r. HasNoLineFeed r.0.now × (bytes.now ≡ r.0.now ++ 10 ∷ r.1.now)) }
 {
-    if before + (len as u128) + feed > MAX_INPUT {
-        return Some(Word::InputTooLong);
-    }
-    if len > MAX_LINE {
-        return Some(Word::LineTooLong);
-    }
-    None
+    let end = bytes.find_byte(b'\n')?;
+    Some((&bytes[..end], &bytes[end + 1..]))
 }
 
-fn feed_of(more: &[&[u8]]) -> u128
-    ensures value { result ≡ feed_of (map (λ l. l.now) more.now) }
-    ensures small { result ≤ 1 }
-{
-    match more {
-        [] => 0,
-        [_, ..] => 1,
-    }
-}
-
-/// What was read so far.
-#[derive(Drop)]
-struct Reader {
-    found: Vec<Numbered>,
-    first: bool,
-    before: u128,
-}
-
-fn keep(reader: &mut Reader, number: usize, before: u128, said: Said) -> Result<(), FileError>
-    ensures { GivesCourse result (course_of reader.new) (Ok (kept (course_of reader.old) number before (said_of_held said))) }
-{
-    reader.before = before;
-    match said {
-        Said::Blank => Ok(()),
-        Said::Version => {
-            reader.first = false;
-            Ok(())
-        }
-        Said::Spelled(said) => {
-            reader.first = false;
-            match reader.found.push(Numbered { line: number, said }) {
-                Ok(()) => Ok(()),
-                Err(_) => Err(FileError::NoMemory),
-            }
-        }
-    }
-}
-
-#[tactic(auto, unfolding(crate::specs::Course::step))]
-fn step(
+/// Takes each line of bytes that a line feed ends, and gives what is left behind the last of them.
+fn take_lines<'p, T: Terms>(
     alloc: Global,
+    store: &mut T,
     reader: &mut Reader,
-    number: usize,
-    feed: u128,
-    line: &[u8],
-) -> Result<(), FileError>
-    requires before { reader.old.before ≤ 2 ^ 40 }
-    requires feed { feed ≤ 1 }
-    ensures value { GivesCourse result (course_of reader.new) (step (course_of reader.old) number feed line.now) }
-    ensures before { OnOk result (reader.new.before ≤ 2 ^ 40) }
+    bytes: &'p [u8],
+) -> Result<&'p [u8], LineError>
+    requires known { IsKnown reader.old.assembler (length (T.levels store.old)) (length (T.trees store.old)) }
+    requires counted { IsCounted reader.old }
+    ensures keeps { Extends (T.trees store.old) (T.trees store.new) }
+    ensures levels { ExtendsLevels (T.levels store.old) (T.levels store.new) }
+    ensures known { OnOk result (IsKnown reader.new.assembler (length (T.levels store.new)) (length (T.trees store.new))) }
+    ensures counted { OnOk result (IsCounted reader.new) }
+    ensures unfinished { IfOk result (λ rest. HasNoLineFeed rest.now) }
+    ensures length { IfOk result (λ rest. reader.new.before + length rest.now ≡ reader.old.before + length bytes.now) }
+    ensures passes { (c : Course) → Stands reader.old (T.levels store.old) (T.trees store.old) c
+        → IfOk result (λ rest. Passes reader.new (T.levels store.new) (T.trees store.new) c bytes.now rest.now) }
+    ensures stops { (c : Course) → Stands reader.old (T.levels store.old) (T.trees store.old) c
+        → IfErr result (λ e. Stops e c bytes.now) }
 {
-    if let Some(word) = limits(reader.before, line.len(), feed) {
-        return Err(FileError::Fault(Fault { line: number, word }));
-    }
-    match read_line(alloc, reader.first, line) {
-        Err(LineError::NoMemory) => Err(FileError::NoMemory),
-        Err(LineError::Fault(word)) => Err(FileError::Fault(Fault { line: number, word })),
-        Ok(said) => {
-            let before = reader.before + (line.len() as u128) + feed;
-            keep(reader, number, before, said)
-        }
-    }
-}
-
-/// The lines that say something, or the first fault.
-pub fn read_lines(alloc: Global, lines: &[&[u8]]) -> Result<Vec<Numbered>, FileError>
-    ensures { GivesLines result (lines_from (length lines.now) begin (map (λ l. l.now) lines.now)) }
-{
-    let mut reader = Reader {
-        found: Vec::new(alloc),
-        first: true,
-        before: 0,
-    };
-    let mut rest = lines;
-    while let [line, more @ ..] = rest {
-        step(
-            alloc,
-            &mut reader,
-            lines.len() - more.len(),
-            feed_of(more),
-            line,
-        )?;
+    let mut rest = bytes;
+    while let Some((line, more)) = cut(rest) {
+        reader.take_line(alloc, store, true, line)?;
         rest = more;
     }
-    Ok(reader.found)
+    Ok(rest)
+}
+
+/// Keeps bytes of a line that is not ended.
+fn hold(held: &mut Vec<u8>, bytes: &[u8]) -> Result<(), LineError>
+    ensures ok { OnOk result (held.new.items ≡ held.old.items ++ bytes.now) }
+    ensures err { IfErr result (λ e. e ≡ LineError.NoMemory) }
+{
+    match held.extend_from_slice(bytes) {
+        Ok(()) => Ok(()),
+        Err(_) => Err(LineError::NoMemory),
+    }
+}
+
+/// Takes the line whose first bytes are held, which is ended by these bytes, and each line behind it that a line feed
+/// ends; what is left is held.
+fn take_held<T: Terms>(
+    alloc: Global,
+    store: &mut T,
+    reader: &mut Reader,
+    held: &mut Vec<u8>,
+    line: &[u8],
+    more: &[u8],
+) -> Result<(), LineError>
+    requires known { IsKnown reader.old.assembler (length (T.levels store.old)) (length (T.trees store.old)) }
+    requires counted { IsCounted reader.old }
+    requires held { HasNoLineFeed held.old.items }
+    requires line { HasNoLineFeed line.now }
+    ensures keeps { Extends (T.trees store.old) (T.trees store.new) }
+    ensures levels { ExtendsLevels (T.levels store.old) (T.levels store.new) }
+    ensures known { OnOk result (IsKnown reader.new.assembler (length (T.levels store.new)) (length (T.trees store.new))) }
+    ensures counted { OnOk result (IsCounted reader.new) }
+    ensures unfinished { OnOk result (HasNoLineFeed held.new.items) }
+    ensures length { OnOk result (reader.new.before + length held.new.items ≡ reader.old.before + length held.old.items + length line.now + 1 + length more.now) }
+    ensures passes { (c : Course) → Stands reader.old (T.levels store.old) (T.trees store.old) c
+        → OnOk result (Passes reader.new (T.levels store.new) (T.trees store.new) c (held.old.items ++ line.now ++ 10 ∷ more.now) held.new.items) }
+    ensures stops { (c : Course) → Stands reader.old (T.levels store.old) (T.trees store.old) c
+        → IfErr result (λ e. Stops e c (held.old.items ++ line.now ++ 10 ∷ more.now)) }
+{
+    hold(held, line)?;
+    reader.take_line(alloc, store, true, held)?;
+    held.clear();
+    let rest = take_lines(alloc, store, reader, more)?;
+    hold(held, rest)?;
+    Ok(())
+}
+
+/// Takes each line that ends in a piece of the input, of which the last bytes before it are held; what is left is held.
+pub fn take_piece<T: Terms>(
+    alloc: Global,
+    store: &mut T,
+    reader: &mut Reader,
+    held: &mut Vec<u8>,
+    piece: &[u8],
+) -> Result<(), LineError>
+    requires known { IsKnown reader.old.assembler (length (T.levels store.old)) (length (T.trees store.old)) }
+    requires counted { IsCounted reader.old }
+    requires held { HasNoLineFeed held.old.items }
+    ensures keeps { Extends (T.trees store.old) (T.trees store.new) }
+    ensures levels { ExtendsLevels (T.levels store.old) (T.levels store.new) }
+    ensures known { OnOk result (IsKnown reader.new.assembler (length (T.levels store.new)) (length (T.trees store.new))) }
+    ensures counted { OnOk result (IsCounted reader.new) }
+    ensures unfinished { OnOk result (HasNoLineFeed held.new.items) }
+    ensures length { OnOk result (reader.new.before + length held.new.items ≡ reader.old.before + length held.old.items + length piece.now) }
+    ensures passes { (c : Course) → Stands reader.old (T.levels store.old) (T.trees store.old) c
+        → OnOk result (Passes reader.new (T.levels store.new) (T.trees store.new) c (held.old.items ++ piece.now) held.new.items) }
+    ensures stops { (c : Course) → Stands reader.old (T.levels store.old) (T.trees store.old) c
+        → IfErr result (λ e. Stops e c (held.old.items ++ piece.now)) }
+{
+    match cut(piece) {
+        None => hold(held, piece),
+        Some((line, more)) => take_held(alloc, store, reader, held, line, more),
+    }
 }

@@ -1,7 +1,10 @@
-pub mod Again
-pub mod Cases
-pub mod LineAgain
-pub mod LineLaws
+pub mod Counting
+pub mod DueAgain
+pub mod DueCases
+pub mod DueStops
+pub mod ItemAgain
+pub mod ItemCases
+pub mod LineFeedLaws
 pub mod Numerals
-pub mod Stops
-pub mod Turns
+pub mod SaidLaws
+pub mod VersionLaws

@@ -1,8 +1,13 @@
-pub mod Bytes
+pub mod Items
+pub mod LineFeeds
+pub mod Limits
 pub mod Lines
 pub mod Reading
-pub mod Said
+pub mod Says
 pub mod Spelling
 pub mod Table
+pub mod Tags
 pub mod Told
 pub mod Values
+pub mod Views
+pub mod Words

@@ -1,0 +1,22 @@
+use Rattle.std.proofs.Common.{rules, ◌∙◌}
+use Rattle.lk_book.proofs.Remaining.{front_then}
+use Rattle.lk_book.proofs.file.read_pieces.Goals as goal
+
+pub returns-in_err-more-clause-front : goal.returns-in_err-more-clause-front
+returns-in_err-more-clause-front g c = front_then _ _ _ c.loop-more.invariant.front c.in_err-more.ensures.front
+
+pub returns-then-not-more-clause-front : goal.returns-then-not-more-clause-front
+returns-then-not-more-clause-front g c = front_then _ _ _ c.loop-more.invariant.front c.in_ok-more.ensures.front
+
+pub loop-more-preserved : goal.loop-more-preserved
+loop-more-preserved g c = record {
+  grown = search rules;
+  more_levels = search rules;
+  known = c.in_ok-more.ensures.known;
+  counted = c.in_ok-more.ensures.counted;
+  unfinished = c.in_ok-more.ensures.unfinished;
+  short = c.in_ok-more.ensures.short;
+  same_faults = c.in_ok-more.ensures.no_fault (λ e. absurd (cc)) ∙ c.loop-more.invariant.same_faults;
+  front = front_then _ _ _ c.loop-more.invariant.front c.in_ok-more.ensures.front;
+  remains = λ old m. c.in_ok-more.ensures.remains old (c.loop-more.invariant.remains old m);
+}

@@ -1,0 +1,28 @@
+use Rattle.std.proofs.Common.{◌≡◌, ℕ, ◌+◌, ◌-◌, ◌^◌, ◌≤◌, List, length}
+use Rattle.std.specs.declared.option.Option.{Option}
+use Rattle.lk_store.specs.Store.{ExtendsLevels, Extends}
+use Rattle.lk_token.specs.Lines.{HasNoLineFeed}
+use Rattle.lk_units.specs.Held.{IsKnown}
+use Rattle.lk_book.specs.Passing.{IsCounted}
+use Rattle.lk_book.specs.Reading.{ConsumesSome, Remains}
+use Rattle.lk_book.proofs.file.read_pieces.Given as goal
+
+abbrev pub invariant-loop-more : goal.invariant-loop-more
+invariant-loop-more g l =
+    let levels = g.T.Terms.levels in
+    let trees = g.T.Terms.trees in
+    let left = g.S.Source.left in
+    record {
+      grown : Extends (trees l.fn.store) (trees l.store);
+      more_levels : ExtendsLevels (levels l.fn.store) (levels l.store);
+      known : IsKnown l.reader.assembler (length (levels l.store)) (length (trees l.store));
+      counted : IsCounted l.reader;
+      unfinished : HasNoLineFeed l.held.items;
+      short : length l.held.items ≤ 2 ^ 24;
+      same_faults : g.S.Source.faults l.source ≡ g.S.Source.faults l.fn.source;
+      front : ConsumesSome (left l.fn.source) (left l.source);
+      remains : (old : Option (List ℕ)) → Remains l.fn.reader (levels l.fn.store) (trees l.fn.store) l.fn.held.items old (left l.fn.source) → Remains l.reader (levels l.store) (trees l.store) l.held.items old (left l.source);
+    }
+
+abbrev pub decreases-loop-more : goal.decreases-loop-more
+decreases-loop-more g l = 2 ^ 41 - (l.reader.before + length l.held.items)

@@ -1,0 +1,64 @@
+-- Reading a source.
+use Rattle.std.specs.Prelude.{◌≡◌, ◌+◌, ℕ, List, ◌∷◌, [], length, Result, Ok, Err, Some, None}
+use Rattle.std.specs.declared.option.Option.{Option}
+use Rattle.std.specs.Io.KnownBytes.{Consumes}
+use Rattle.lk_tree.specs.Tree.{Level, Tree}
+use Rattle.lk_token.specs.Lines.{HasNoLineFeed}
+use Rattle.lk_lines.specs.declared.words.Word.{Word}
+use Rattle.lk_lines.specs.declared.line.Fault.{Fault}
+use Rattle.lk_lines.specs.declared.line.LineError.{LineError}
+use Rattle.lk_lines.specs.declared.line.LineError.TheVariants as line_errors
+use Rattle.lk_lines.specs.Limits.{limits}
+use Rattle.lk_units.specs.Held.{Holds}
+use Rattle.lk_units.specs.declared.assembler.Assembler.{Assembler}
+use Rattle.lk_book.specs.Course.{Course, begin_course}
+use Rattle.lk_book.specs.File.{has_more, course_of}
+use Rattle.lk_book.specs.Passing.{Fails, Passes}
+use Rattle.lk_book.specs.declared.reader.Reader.{Reader}
+use Rattle.lk_book.specs.declared.error.ReadError.{ReadError}
+use Rattle.lk_book.specs.declared.error.ReadError.TheVariants as errors
+
+abbrev pub read_error : LineError → ReadError
+read_error line_errors.NoMemory = errors.NoMemory
+read_error (line_errors.Fault f) = errors.Fault f
+
+-- what the assembler holds is what the file states, or the file's fault is told; a failed read and want of memory
+-- tell nothing of the file
+abbrev pub Reads : List Level → List Tree → Result Course Fault → Result Assembler ReadError → Type 0
+Reads ls ts said (Ok a) = (c : Course) × (said ≡ Ok c) × Holds a ls ts c.state
+Reads ls ts said (Err errors.NoMemory) = Unit {0}
+Reads ls ts said (Err errors.ReadFault) = Unit {0}
+Reads ls ts said (Err (errors.Fault f)) = said ≡ Err f
+
+-- behind its last line the assembler holds what the line makes of the course, or the line's fault is told
+abbrev pub Ends : List Level → List Tree → Result Assembler LineError → Result Course Fault → Type 0
+Ends ls ts (Ok a) said = (c : Course) × (said ≡ Ok c) × Holds a ls ts c.state
+Ends ls ts (Err e) said = Fails e said
+
+-- some bytes were taken from the front
+abbrev pub ConsumesSome : Option (List ℕ) → Option (List ℕ) → Type 0
+ConsumesSome old new = (bytes : List ℕ) × Consumes old new bytes
+
+-- the fault that the first of these lines has by its length
+abbrev pub first_limits : ℕ → List (List ℕ) → Option Word
+first_limits before [] = None
+first_limits before (line ∷ more) = limits before (length line) (has_more more)
+
+-- bytes without a line feed were taken from the front, so that a line of so many bytes has so many now
+pub record Skips (old now : Option (List ℕ)) (length_old length_now : ℕ) : Type 0 where
+  pub bytes : List ℕ
+  pub consumed : Consumes old now bytes
+  pub unfinished : HasNoLineFeed bytes
+  pub counted : length_now ≡ length_old + length bytes
+
+-- The bytes that were taken from the front led the reader to what it stands for, but for the last ones of them.
+pub record Remains (r : Reader) (ls : List Level) (ts : List Tree) (held : List ℕ) (old now : Option (List ℕ)) : Type 0 where
+  pub bytes : List ℕ
+  pub consumed : Consumes old now bytes
+  pub passes : Passes r ls ts begin_course bytes held
+
+-- the fault of a file that a source had at first; a failed read and want of memory tell nothing of it
+abbrev pub TellsFault : ReadError → Option (List ℕ) → Type 0
+TellsFault errors.NoMemory old = Unit {0}
+TellsFault errors.ReadFault old = Unit {0}
+TellsFault (errors.Fault f) old = (bytes : List ℕ) → old ≡ Some bytes → course_of bytes ≡ Err f

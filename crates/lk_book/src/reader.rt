@@ -1,0 +1,117 @@
+//! Lines taken one after another.
+ghost use Rattle.std.specs.Prelude.{◌≡◌, ◌+◌, ◌≤◌, ◌<◌, ◌^◌, ℕ, List, length, true, OnOk, IfNone};
+ghost use Rattle.lk_store.specs.Store.{ExtendsLevels, Extends};
+ghost use Rattle.lk_token.specs.Lines.{HasNoLineFeed};
+ghost use Rattle.lk_lines.specs.Limits.{limits};
+ghost use Rattle.lk_lines.specs.Views.{says_of};
+ghost use Rattle.lk_units.specs.Held.{IsKnown};
+ghost use Rattle.lk_book.specs.Course.{Course, feed_count, taken, at_line, step};
+ghost use Rattle.lk_book.specs.Passing.{Stands, IsCounted, Goes, line_error};
+
+use lk_lines::{Fault, LineError, Said, limit_fault, read_line};
+use lk_store::store::Terms;
+use lk_units::{Assembler, TakeError};
+use std::alloc::Global;
+
+/// What the lines so far came to.
+#[derive(Drop)]
+pub struct Reader {
+    pub assembler: Assembler,
+    /// Whether they are all blank, so that the next one may be the version.
+    pub first: bool,
+    /// How many they are.
+    pub number: u64,
+    /// How many bytes they have, line feeds counted.
+    pub before: u64,
+}
+
+/// The error of an item in a line.
+fn at_line(number: u64, error: TakeError) -> LineError
+    ensures { result ≡ line_error number error }
+{
+    match error {
+        TakeError::NoMemory => LineError::NoMemory,
+        TakeError::Fault(word) => LineError::Fault(Fault { line: number, word }),
+    }
+}
+
+/// How many bytes end a line.
+fn feed_count(feed: bool) -> u64
+    ensures value { result ≡ feed_count feed }
+    ensures small { result ≤ 1 }
+{
+    if feed { 1 } else { 0 }
+}
+
+impl Reader {
+    /// Takes what line `number` says.
+    #[tactic(auto, using(crate::proofs::Steps::item_goes, crate::proofs::Steps::item_stops))]
+    fn take_said<T: Terms>(
+        &mut self,
+        alloc: Global,
+        store: &mut T,
+        number: u64,
+        said: Said<'_>,
+    ) -> Result<(), LineError>
+        requires { IsKnown self.old.assembler (length (T.levels store.old)) (length (T.trees store.old)) }
+        ensures keeps { Extends (T.trees store.old) (T.trees store.new) }
+        ensures levels { ExtendsLevels (T.levels store.old) (T.levels store.new) }
+        ensures known { OnOk result (IsKnown self.new.assembler (length (T.levels store.new)) (length (T.trees store.new))) }
+        ensures counts { (self.new.number ≡ self.old.number) × (self.new.before ≡ self.old.before) }
+        ensures follows { (c : Course) → Stands self.old (T.levels store.old) (T.trees store.old) c
+            → Goes self.new (T.levels store.new) (T.trees store.new) result (at_line number (taken c (says_of said.entry))) }
+    {
+        match said {
+            Said::Blank => Ok(()),
+            Said::Version => {
+                self.first = false;
+                Ok(())
+            }
+            Said::Entry { own, entry } => {
+                self.first = false;
+                match self.assembler.take_entry(alloc, store, own, entry) {
+                    Ok(()) => Ok(()),
+                    Err(error) => Err(at_line(number, error)),
+                }
+            }
+            Said::Declaration(declaration) => {
+                self.first = false;
+                match self.assembler.take_declaration(alloc, store, declaration) {
+                    Ok(()) => Ok(()),
+                    Err(error) => Err(at_line(number, error)),
+                }
+            }
+        }
+    }
+
+    /// Takes the next line; `feed` says that a line feed ends it.
+    #[tactic(auto, unfolding(crate::specs::Course::step))]
+    pub fn take_line<T: Terms>(
+        &mut self,
+        alloc: Global,
+        store: &mut T,
+        feed: bool,
+        line: &[u8],
+    ) -> Result<(), LineError>
+        requires known { IsKnown self.old.assembler (length (T.levels store.old)) (length (T.trees store.old)) }
+        requires counted { IsCounted self.old }
+        requires whole { HasNoLineFeed line.now }
+        ensures keeps { Extends (T.trees store.old) (T.trees store.new) }
+        ensures levels { ExtendsLevels (T.levels store.old) (T.levels store.new) }
+        ensures known { OnOk result (IsKnown self.new.assembler (length (T.levels store.new)) (length (T.trees store.new))) }
+        ensures counted { OnOk result (feed ≡ true → IsCounted self.new) }
+        ensures length { OnOk result (self.new.before ≡ self.old.before + length line.now + feed_count feed) }
+        ensures step { (c : Course) → Stands self.old (T.levels store.old) (T.trees store.old) c
+            → Goes self.new (T.levels store.new) (T.trees store.new) result (step c feed line.now) }
+    {
+        let number = self.number + 1;
+        let length = line.len() as u64;
+        if let Some(word) = limit_fault(self.before, length, feed) {
+            return Err(LineError::Fault(Fault { line: number, word }));
+        }
+        let line = read_line(alloc, number, self.first, line)?;
+        self.number = number;
+        self.before += length + feed_count(feed);
+        self.take_said(alloc, store, number, line.said)
+    }
+}

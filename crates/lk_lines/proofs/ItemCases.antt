@@ -1,0 +1,80 @@
+-- A line of fields: it spells an item that is read, or has a fault that is told.
+use Rattle.std.proofs.Common.{◌≡◌, ℕ, ◌^◌, true, false, List, [], ◌∷◌, Ok, Err, Some, None, refl, sym, ap, subst, inl, inr}
+use Rattle.std.specs.Prelude.{◌⊎◌}
+use Rattle.lk_lines.specs.declared.words.Word.{Word}
+use Rattle.lk_lines.specs.declared.words.Word.TheVariants.{UnknownTag, MissingField}
+use Rattle.lk_lines.specs.declared.tags.Tag.{Tag}
+use Rattle.lk_lines.specs.Values.{Value}
+use Rattle.lk_lines.specs.Table.{dues_of}
+use Rattle.lk_lines.specs.Tags.{tag_word, is_built, find_tag, known_tag, numbered_tags, plain_tags}
+use Rattle.lk_lines.specs.Reading.{number_at, read_dues}
+use Rattle.lk_lines.specs.Items.{Item, tag_at, numbered_at, plain_at, item_at, is_tag, SpellsTagged, SpellsItem, TagFault, ItemFault}
+use Rattle.lk_lines.proofs.Numerals.{number_of-cases, bool_cases}
+use Rattle.lk_lines.proofs.DueCases.{outcome, tag_cases}
+
+pub find_cases : (tags : List Tag) (word : List ℕ) → ((t : Tag) × (find_tag tags word ≡ Ok t) × (word ≡ tag_word t)) ⊎ (find_tag tags word ≡ Err UnknownTag)
+find_cases [] word = inr refl
+find_cases (t ∷ tags) word = elim (tag_cases word (tag_word t)) [
+  | inl (e, q) ↦ inl (t, rw e refl, q)
+  | inr (e, n) ↦ elim (find_cases tags word) [
+    | inl (u, is, q) ↦ inl (u, rw (e, is) refl, q)
+    | inr is ↦ inr (rw (e, is) refl)
+  ]
+]
+
+pub known_cases : (tags : List Tag) (word : List ℕ) → ((t : Tag) × (known_tag tags word ≡ Ok t) × (word ≡ tag_word t)) ⊎ (known_tag tags word ≡ Err UnknownTag)
+unfolding known_tag
+known_cases tags word = elim (find_cases tags word) [
+  | inl (t, e, q) ↦ elim (bool_cases (is_built t)) [
+    | inl b ↦ inl (t, rw (e, b) refl, q)
+    | inr b ↦ inr (rw (e, b) refl)
+  ]
+  | inr e ↦ inr (rw e refl)
+]
+
+abbrev Tagged : List Tag → List ℕ → List (List ℕ) → Type 0
+Tagged tags text fields =
+    ((t : Tag) × (values : List Value) × (more : List (List ℕ)) × (tag_at tags fields ≡ Ok (t, more)) × (read_dues (dues_of t) text more ≡ Ok values) × SpellsTagged tags t values text fields)
+    ⊎ (((w : Word) × (t : Tag) × (more : List (List ℕ)) × (tag_at tags fields ≡ Ok (t, more)) × (read_dues (dues_of t) text more ≡ Err w) × TagFault tags text fields w)
+    ⊎ ((w : Word) × (tag_at tags fields ≡ Err w) × TagFault tags text fields w))
+
+tagged : (tags : List Tag) (text : List ℕ) (fields : List (List ℕ)) → Tagged tags text fields
+unfolding tag_at
+tagged tags text [] = inr (inr (MissingField, refl, refl))
+tagged tags text (field ∷ fields) = elim (known_cases tags field) [
+  | inl (t, e, q) ↦
+      let known : known_tag tags (tag_word t) ≡ Ok t = subst (λ (w : List ℕ). known_tag tags w ≡ Ok t) q e in
+      elim (outcome (dues_of t) text fields) [
+        | inl (values, is, s) ↦ inl (t, values, fields, rw e refl, is, (known, fields, ap (λ x. x ∷ fields) q, s))
+        | inr (w, is, f) ↦ inr (inl (w, t, fields, rw e refl, is, inr (t, known, q, f)))
+      ]
+  | inr e ↦ inr (inr (UnknownTag, rw e refl, inl (refl, λ t known q. let is : known_tag tags field ≡ Ok t = subst (λ (w : List ℕ). known_tag tags w ≡ Ok t) (sym q) known in absurd cc)))
+]
+
+abbrev pub ItemOutcome : List ℕ → List (List ℕ) → Type 0
+ItemOutcome text fields = ((item : Item) × (item_at text fields ≡ Ok item) × SpellsItem item text fields) ⊎ ((w : Word) × (item_at text fields ≡ Err w) × ItemFault text fields w)
+
+plain_outcome : (text field : List ℕ) (fields : List (List ℕ)) → is_tag field ≡ true → ItemOutcome text (field ∷ fields)
+unfolding item_at plain_at
+plain_outcome text field fields b = elim (tagged plain_tags text (field ∷ fields)) [
+  | inl (t, values, more, e, is, s) ↦ inl (record { own = None; tag = t; values = values }, rw (b, e, is) refl, s)
+  | inr (inl (w, t, more, e, is, f)) ↦ inr (w, rw (b, e, is) refl, inl (b, f))
+  | inr (inr (w, e, f)) ↦ inr (w, rw (b, e) refl, inl (b, f))
+]
+
+numbered_outcome : (text field : List ℕ) (fields : List (List ℕ)) → is_tag field ≡ false → ItemOutcome text (field ∷ fields)
+unfolding item_at numbered_at number_at
+numbered_outcome text field fields b = elim (number_of-cases (2 ^ 32) field) [
+  | inl (n, p, h) ↦ elim (tagged numbered_tags text fields) [
+    | inl (t, values, more, e, is, s) ↦ inl (record { own = Some n; tag = t; values = values }, rw (b, p, e, is) refl, (fields, (field, refl, h), s))
+    | inr (inl (w, t, more, e, is, f)) ↦ inr (w, rw (b, p, e, is) refl, inr (b, inr (n, fields, (field, refl, h), f)))
+    | inr (inr (w, e, f)) ↦ inr (w, rw (b, p, e) refl, inr (b, inr (n, fields, (field, refl, h), f)))
+  ]
+  | inr (w, p, h) ↦ inr (w, rw (b, p) refl, inr (b, inl h))
+]
+
+pub item_outcome : (text field : List ℕ) (fields : List (List ℕ)) → ItemOutcome text (field ∷ fields)
+item_outcome text field fields = elim (bool_cases (is_tag field)) [
+  | inl b ↦ plain_outcome text field fields b
+  | inr b ↦ numbered_outcome text field fields b
+]

@@ -1,0 +1,92 @@
+-- What the bytes of a line say: nothing, the version, or an item; and how they say it.
+use Rattle.std.specs.Prelude.{◌≡◌, ◌≢◌, ◌⊎◌, ℕ, ◌==◌, ◌++◌, Bool, true, false, List, [], ◌∷◌, Result, Ok, Err, Some, None, if◌then◌else◌}
+use Rattle.std.specs.declared.option.Option.{Option}
+use Rattle.std.specs.List.{slice_split}
+use Rattle.std.specs.Str.Parse.{IsNumeral, digits_value}
+use Rattle.lk_num.specs.declared.numeral.Nat.{Nat}
+use Rattle.lk_num.specs.declared.numeral.Nat.TheVariants as nats
+use Rattle.lk_num.specs.Numeral.{nat_of}
+use Rattle.lk_token.specs.Fields.{fields_of, text_behind}
+use Rattle.lk_lines.specs.declared.words.Word.{Word}
+use Rattle.lk_lines.specs.declared.words.Word.TheVariants.{BadVersion}
+use Rattle.lk_lines.specs.Reading.{◌>>=◌}
+use Rattle.lk_lines.specs.Items.{Item, item_at, SpellsItem, ItemFault}
+
+pub data Says : Type 0 where
+  Blank : Says
+  Version : Says
+  OfItem : Item → Says
+
+-- the first of three numbers, where all three are there
+abbrev pub first_of_three : Option Nat → Option Nat → Option Nat → Option Nat
+first_of_three None b c = None
+first_of_three (Some a) None c = None
+first_of_three (Some a) (Some b) None = None
+first_of_three (Some a) (Some b) (Some c) = Some a
+
+abbrev pub parts_number : List (List ℕ) → Option Nat
+parts_number [] = None
+parts_number (a ∷ []) = None
+parts_number (a ∷ b ∷ []) = None
+parts_number (a ∷ b ∷ c ∷ []) = first_of_three (nat_of a) (nat_of b) (nat_of c)
+parts_number (a ∷ b ∷ c ∷ d ∷ more) = None
+
+-- the first number of a version, where the only field is three numbers joined by dots
+abbrev pub version_of : List (List ℕ) → Option Nat
+version_of [] = None
+version_of (field ∷ []) = parts_number (slice_split (λ b. b == 46) field)
+version_of (field ∷ more ∷ fields) = None
+
+abbrev pub is_two : Nat → Bool
+is_two (nats.Fits n) = n == 2
+is_two nats.Wide = false
+
+abbrev pub as_item : Result Item Word → Result Says Word
+as_item read = read >>= λ item. Ok (OfItem item)
+
+abbrev pub item_said : List ℕ → List (List ℕ) → Result Says Word
+item_said text fields = as_item (item_at text fields)
+
+abbrev pub first_said : Option Nat → List ℕ → List (List ℕ) → Result Says Word
+first_said (Some n) text fields = if is_two n then Ok Version else Err BadVersion
+first_said None text fields = item_said text fields
+
+unfoldable pub said_at : Bool → List ℕ → List (List ℕ) → Result Says Word
+said_at first text [] = Ok Blank
+said_at first text (field ∷ fields) =
+    if first then first_said (version_of (field ∷ fields)) text (field ∷ fields)
+    else item_said text (field ∷ fields)
+
+-- what the bytes of a line say, where only blank lines stand before it or others do
+unfoldable pub said_of : Bool → List ℕ → Result Says Word
+said_of first bytes = said_at first (text_behind bytes) (fields_of bytes)
+
+-- the only field is three numbers joined by dots, the first of them this one
+abbrev pub IsVersion : List (List ℕ) → ℕ → Type 0
+IsVersion fields major =
+    (a : List ℕ) × (b : List ℕ) × (c : List ℕ) × (fields ≡ (a ++ 46 ∷ (b ++ 46 ∷ c)) ∷ [])
+    × IsNumeral 10 a × IsNumeral 10 b × IsNumeral 10 c × (digits_value 10 a ≡ major)
+
+-- the fields of a line, and the text behind the third of them, spell what it says; the first line
+-- that is
+-- not blank may be a version 2
+abbrev pub SpellsFields : Bool → List ℕ → List (List ℕ) → Says → Type 0
+SpellsFields first text fields Blank = fields ≡ []
+SpellsFields first text fields Version = (first ≡ true) × IsVersion fields 2
+SpellsFields first text fields (OfItem item) = SpellsItem item text fields
+
+-- the first fault of the fields of a line: it is another version, or it is neither blank nor a
+-- version and its
+-- fields have this fault first
+abbrev pub FieldsFault : Bool → List ℕ → List (List ℕ) → Word → Type 0
+FieldsFault first text fields w =
+    ((w ≡ BadVersion) × (first ≡ true) × (major : ℕ) × IsVersion fields major × (major ≢ 2))
+    ⊎ ((first ≡ true → (major : ℕ) → ¬ (IsVersion fields major)) × ItemFault text fields w)
+
+-- the bytes of a line spell what it says
+abbrev pub SpellsSaid : Bool → List ℕ → Says → Type 0
+SpellsSaid first bytes says = SpellsFields first (text_behind bytes) (fields_of bytes) says
+
+-- the first fault of the bytes of a line
+abbrev pub SaidFault : Bool → List ℕ → Word → Type 0
+SaidFault first bytes w = FieldsFault first (text_behind bytes) (fields_of bytes) w

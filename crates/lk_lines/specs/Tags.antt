@@ -1,0 +1,85 @@
+-- The tags of the format: their words, which of them have a number in front, and which are read
+-- yet.
+use Rattle.std.specs.Prelude.{◌≡◌, ℕ, Bool, true, false, List, [], ◌∷◌, Result, Ok, Err, codes, if◌then◌else◌}
+use Rattle.std.specs.Str.{bytes_eq}
+use Rattle.lk_lines.specs.declared.words.Word.{Word}
+use Rattle.lk_lines.specs.declared.words.Word.TheVariants.{UnknownTag}
+use Rattle.lk_lines.specs.declared.tags.EntryTag.TheVariants as entry
+use Rattle.lk_lines.specs.declared.tags.DeclarationTag.TheVariants as declaration
+use Rattle.lk_lines.specs.declared.tags.Tag.{Tag}
+use Rattle.lk_lines.specs.declared.tags.Tag.TheVariants.{Entry, Declaration}
+use Rattle.lk_lines.specs.Reading.{◌>>=◌}
+
+-- the word of a tag
+abbrev pub tag_word : Tag → List ℕ
+tag_word (Entry entry.NameText) = codes "#NS"
+tag_word (Entry entry.NameNumber) = codes "#NI"
+tag_word (Entry entry.Successor) = codes "#US"
+tag_word (Entry entry.Max) = codes "#UM"
+tag_word (Entry entry.Imax) = codes "#UIM"
+tag_word (Entry entry.Parameter) = codes "#UP"
+tag_word (Entry entry.Variable) = codes "#EV"
+tag_word (Entry entry.Sort) = codes "#ES"
+tag_word (Entry entry.Constant) = codes "#EC"
+tag_word (Entry entry.Apply) = codes "#EA"
+tag_word (Entry entry.Lambda) = codes "#EL"
+tag_word (Entry entry.Pi) = codes "#EP"
+tag_word (Entry entry.Let) = codes "#EZ"
+tag_word (Entry entry.Project) = codes "#EJ"
+tag_word (Entry entry.NatLiteral) = codes "#ELN"
+tag_word (Entry entry.TextLiteral) = codes "#ELS"
+tag_word (Entry entry.Rule) = codes "#RR"
+tag_word (Declaration declaration.Axiom) = codes "#AX"
+tag_word (Declaration declaration.Definition) = codes "#DEF"
+tag_word (Declaration declaration.Theorem) = codes "#THM"
+tag_word (Declaration declaration.Opaque) = codes "#OPAQ"
+tag_word (Declaration declaration.Quotient) = codes "#QUOT"
+tag_word (Declaration declaration.Inductive) = codes "#IND"
+tag_word (Declaration declaration.Constructor) = codes "#CTOR"
+tag_word (Declaration declaration.Recursor) = codes "#REC"
+
+-- Lines with these tags are read; any other tag is an unknown one until its line can be.
+abbrev pub is_built : Tag → Bool
+is_built (Entry entry.NameText) = true
+is_built (Entry entry.NameNumber) = true
+is_built (Entry entry.Successor) = true
+is_built (Entry entry.Sort) = true
+is_built (Entry entry.Variable) = true
+is_built (Entry entry.Lambda) = true
+is_built (Entry entry.Pi) = true
+is_built (Declaration declaration.Theorem) = true
+is_built t = false
+
+-- the tags of lines that define a number, which stands in front of the tag
+abbrev pub rare_tags : List Tag
+rare_tags = Entry entry.Successor ∷ Entry entry.Max ∷ Entry entry.Imax ∷ Entry entry.Parameter
+    ∷ Entry entry.Let ∷ Entry entry.Project
+    ∷ Entry entry.NatLiteral ∷ Entry entry.TextLiteral ∷ Entry entry.Rule ∷ []
+
+abbrev pub numbered_tags : List Tag
+numbered_tags = Entry entry.Apply ∷ Entry entry.Constant ∷ Entry entry.Lambda ∷ Entry entry.Pi
+    ∷ Entry entry.Variable ∷ Entry entry.NameText
+    ∷ Entry entry.Sort ∷ Entry entry.NameNumber ∷ rare_tags
+
+-- the tags of lines that begin with their tag
+abbrev pub plain_tags : List Tag
+plain_tags = Declaration declaration.Theorem ∷ Declaration declaration.Definition
+    ∷ Declaration declaration.Axiom ∷ Declaration declaration.Opaque
+    ∷ Declaration declaration.Quotient ∷ Declaration declaration.Inductive
+    ∷ Declaration declaration.Constructor ∷ Declaration declaration.Recursor ∷ []
+
+-- the tag among these with this word
+abbrev pub find_tag : List Tag → List ℕ → Result Tag Word
+find_tag [] word = Err UnknownTag
+find_tag (t ∷ tags) word = if bytes_eq word (tag_word t) then Ok t else find_tag tags word
+
+abbrev pub only_built : Tag → Result Tag Word
+only_built t = if is_built t then Ok t else Err UnknownTag
+
+-- the tag among these with this word, where lines with it are read
+unfoldable pub known_tag : List Tag → List ℕ → Result Tag Word
+known_tag tags word = find_tag tags word >>= λ t. only_built t
+
+-- t is one of these tags, and lines with it are read
+abbrev pub IsReadAmong : List Tag → Tag → Type 0
+IsReadAmong tags t = known_tag tags (tag_word t) ≡ Ok t

@@ -1,0 +1,128 @@
+-- A typed line, seen as what the table speaks of: its tag and its values.
+use Rattle.std.specs.Prelude.{ℕ, List, [], ◌∷◌, Some, None, Result}
+use Rattle.lk_lines.specs.declared.tags.EntryTag.{EntryTag}
+use Rattle.lk_lines.specs.declared.tags.EntryTag.TheVariants as entry
+use Rattle.lk_lines.specs.declared.tags.DeclarationTag.{DeclarationTag}
+use Rattle.lk_lines.specs.declared.tags.DeclarationTag.TheVariants as declaration
+use Rattle.lk_lines.specs.declared.tags.Tag.TheVariants as tag
+use Rattle.lk_lines.specs.declared.line.Entry.{Entry}
+use Rattle.lk_lines.specs.declared.line.Entry.TheVariants as entries
+use Rattle.lk_lines.specs.declared.line.Declaration.{Declaration}
+use Rattle.lk_lines.specs.declared.line.Declaration.TheVariants as declarations
+use Rattle.lk_lines.specs.declared.line.Said.{Said}
+use Rattle.lk_lines.specs.declared.line.Said.TheVariants as said
+use Rattle.lk_lines.specs.declared.steps.FieldError.{FieldError}
+use Rattle.lk_lines.specs.Reading.{read_dues}
+use Rattle.lk_lines.specs.Table.{dues_of}
+use Rattle.lk_lines.specs.Told.{Gives}
+use Rattle.lk_lines.specs.Says.{Says, Blank, Version, OfItem}
+use Rattle.lk_lines.specs.Values.{Value, Number, Literal, OfInfo, OfHint, Flag, Numbers, Bytes}
+
+-- what stands behind the tag
+abbrev pub entry_values : Entry → List Value
+entry_values (entries.NameText parent text) = Number parent ∷ Bytes text.now ∷ []
+entry_values (entries.NameNumber parent component) = Number parent ∷ Number component ∷ []
+entry_values (entries.Successor level) = Number level ∷ []
+entry_values (entries.Max left right) = Number left ∷ Number right ∷ []
+entry_values (entries.Imax left right) = Number left ∷ Number right ∷ []
+entry_values (entries.Parameter name) = Number name ∷ []
+entry_values (entries.Variable index) = Number index ∷ []
+entry_values (entries.Sort level) = Number level ∷ []
+entry_values (entries.Constant name levels) = Number name ∷ Numbers levels.items ∷ []
+entry_values (entries.Apply function argument) = Number function ∷ Number argument ∷ []
+entry_values (entries.Lambda info name binder_type body) =
+    OfInfo info ∷ Number name ∷ Number binder_type ∷ Number body ∷ []
+entry_values (entries.Pi info name binder_type body) =
+    OfInfo info ∷ Number name ∷ Number binder_type ∷ Number body ∷ []
+entry_values (entries.Let name binder_type value body) =
+    Number name ∷ Number binder_type ∷ Number value ∷ Number body ∷ []
+entry_values (entries.Project structure field subject) =
+    Number structure ∷ Number field ∷ Number subject ∷ []
+entry_values (entries.NatLiteral number) = Literal number ∷ []
+entry_values (entries.TextLiteral text) = Bytes text.items ∷ []
+entry_values (entries.Rule constructor field_count value) =
+    Number constructor ∷ Number field_count ∷ Number value ∷ []
+
+abbrev pub entry_tag : Entry → EntryTag
+entry_tag (entries.NameText parent text) = entry.NameText
+entry_tag (entries.NameNumber parent component) = entry.NameNumber
+entry_tag (entries.Successor level) = entry.Successor
+entry_tag (entries.Max left right) = entry.Max
+entry_tag (entries.Imax left right) = entry.Imax
+entry_tag (entries.Parameter name) = entry.Parameter
+entry_tag (entries.Variable index) = entry.Variable
+entry_tag (entries.Sort level) = entry.Sort
+entry_tag (entries.Constant name levels) = entry.Constant
+entry_tag (entries.Apply function argument) = entry.Apply
+entry_tag (entries.Lambda info name binder_type body) = entry.Lambda
+entry_tag (entries.Pi info name binder_type body) = entry.Pi
+entry_tag (entries.Let name binder_type value body) = entry.Let
+entry_tag (entries.Project structure field subject) = entry.Project
+entry_tag (entries.NatLiteral number) = entry.NatLiteral
+entry_tag (entries.TextLiteral text) = entry.TextLiteral
+entry_tag (entries.Rule constructor field_count value) = entry.Rule
+
+-- what stands behind the tag
+abbrev pub declaration_values : Declaration → List Value
+declaration_values (declarations.Axiom name declared_type parameters) =
+    Number name ∷ Number declared_type ∷ Numbers parameters.items ∷ []
+declaration_values (declarations.Definition name declared_type value hint parameters) =
+    Number name ∷ Number declared_type ∷ Number value ∷ OfHint hint ∷ Numbers parameters.items ∷ []
+declaration_values (declarations.Theorem name declared_type value parameters) =
+    Number name ∷ Number declared_type ∷ Number value ∷ Numbers parameters.items ∷ []
+declaration_values (declarations.Opaque name declared_type value parameters) =
+    Number name ∷ Number declared_type ∷ Number value ∷ Numbers parameters.items ∷ []
+declaration_values (declarations.Quotient name declared_type parameters) =
+    Number name ∷ Number declared_type ∷ Numbers parameters.items ∷ []
+declaration_values (declarations.Inductive name declared_type recursive nested parameter_count
+    index_count types constructors parameters) = Number name ∷ Number declared_type
+    ∷ Number recursive ∷ Number nested ∷ Number parameter_count ∷ Number index_count
+    ∷ Numbers types.items ∷ Numbers constructors.items ∷ Numbers parameters.items ∷ []
+declaration_values (declarations.Constructor name declared_type parent place parameter_count
+    field_count parameters) = Number name ∷ Number declared_type ∷ Number parent ∷ Number place
+    ∷ Number parameter_count ∷ Number field_count ∷ Numbers parameters.items ∷ []
+declaration_values (declarations.Recursor name declared_type types parameter_count index_count
+    motive_count minor_count rules k parameters) = Number name ∷ Number declared_type
+    ∷ Numbers types.items ∷ Number parameter_count ∷ Number index_count ∷ Number motive_count
+    ∷ Number minor_count ∷ Numbers rules.items ∷ Flag k ∷ Numbers parameters.items ∷ []
+
+abbrev pub declaration_tag : Declaration → DeclarationTag
+declaration_tag (declarations.Axiom name declared_type parameters) = declaration.Axiom
+declaration_tag (declarations.Definition name declared_type value hint parameters) =
+    declaration.Definition
+declaration_tag (declarations.Theorem name declared_type value parameters) = declaration.Theorem
+declaration_tag (declarations.Opaque name declared_type value parameters) = declaration.Opaque
+declaration_tag (declarations.Quotient name declared_type parameters) = declaration.Quotient
+declaration_tag (declarations.Inductive name declared_type recursive nested parameter_count
+    index_count types constructors parameters) = declaration.Inductive
+declaration_tag (declarations.Constructor name declared_type parent place parameter_count
+    field_count parameters) = declaration.Constructor
+declaration_tag (declarations.Recursor name declared_type types parameter_count index_count
+    motive_count minor_count rules k parameters) = declaration.Recursor
+
+-- what a reader of entries with this tag answers, from the text behind the third field of a line
+-- and
+-- the fields that are left
+abbrev pub GivesEntry : EntryTag → List ℕ → List (List ℕ) → Result Entry FieldError → Type 0
+GivesEntry t text fields result =
+    Gives entry_values result (read_dues (dues_of (tag.Entry t)) text fields)
+
+-- the same of declarations
+abbrev pub GivesDeclaration : DeclarationTag → List ℕ → List (List ℕ)
+    → Result Declaration FieldError → Type 0
+GivesDeclaration t text fields result =
+    Gives declaration_values result (read_dues (dues_of (tag.Declaration t)) text fields)
+
+-- a line that was read, as what its bytes say
+abbrev pub says_of : Said → Says
+says_of said.Blank = Blank
+says_of said.Version = Version
+says_of (said.Entry own e) =
+    OfItem (record { own = Some own; tag = tag.Entry (entry_tag e); values = entry_values e })
+says_of (said.Declaration d) =
+    OfItem (record {
+      own = None;
+      tag = tag.Declaration (declaration_tag d);
+      values =
+          declaration_values d;
+    })

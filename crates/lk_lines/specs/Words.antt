@@ -1,0 +1,23 @@
+-- The words for faults of the bytes, as they are written.
+use Rattle.std.specs.Prelude.{ℕ, List, codes}
+use Rattle.lk_lines.specs.declared.words.Word.{Word}
+use Rattle.lk_lines.specs.declared.words.Word.TheVariants as word
+
+abbrev pub word_text : Word → List ℕ
+word_text word.BadVersion = codes "BadVersion"
+word_text word.BadNumber = codes "BadNumber"
+word_text word.UnknownTag = codes "UnknownTag"
+word_text word.MissingField = codes "MissingField"
+word_text word.ExtraField = codes "ExtraField"
+word_text word.IndexTaken = codes "IndexTaken"
+word_text word.IndexUnknown = codes "IndexUnknown"
+word_text word.BadHex = codes "BadHex"
+word_text word.LineTooLong = codes "LineTooLong"
+word_text word.InputTooLong = codes "InputTooLong"
+word_text word.TooManyItems = codes "TooManyItems"
+word_text word.BadUtf8 = codes "BadUtf8"
+word_text word.NumberTooLarge = codes "NumberTooLarge"
+word_text word.BadWord = codes "BadWord"
+word_text word.BadCount = codes "BadCount"
+word_text word.BlockOpen = codes "BlockOpen"
+word_text word.RepeatedMember = codes "RepeatedMember"

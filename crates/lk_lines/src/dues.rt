@@ -1,0 +1,36 @@
+/// The numberings of a file. Numbers of one mean nothing in another.
+#[derive(Clone, Copy, Debug, PartialEq, Eq)]
+pub enum Numbering {
+    Names,
+    Levels,
+    Expressions,
+    /// The rules of recursors.
+    Rules,
+}
+
+/// What a field is to be, or what all fields from it on are to be.
+#[derive(Clone, Copy, Debug, PartialEq, Eq)]
+pub enum Due {
+    /// The number of something defined before, at most 2^32 - 1.
+    Known(Numbering),
+    /// A number of at most 2^32 - 1 that counts something.
+    Number,
+    /// A number of at most 2^64 - 1.
+    Long,
+    /// A number of any size.
+    Literal,
+    /// The info of a binder: `#BD`, `#BI`, `#BS` or `#BC`.
+    Info,
+    /// A reducibility hint: `O`, `A`, or `R` and a number.
+    Hint,
+    /// `0` or `1`.
+    Flag,
+    /// A count, and as many numbers of things defined before.
+    Counted(Numbering),
+    /// Numbers of things defined before, to the end of the line.
+    Rest(Numbering),
+    /// The raw text behind the third field, which is to be UTF-8.
+    Text,
+    /// Pairs of hexadecimal digits to the end of the line, together UTF-8.
+    Hex,
+}

@@ -1,0 +1,241 @@
+//! Lines that define a number, one reader for each tag. `line` is what is left of the line behind
+//! the tag, and `raw` the whole line.
+ghost use Rattle.std.specs.Prelude.{◌≡◌, ℕ, List, IfOk};
+ghost use Rattle.lk_token.specs.Fields.{fields_of, text_behind};
+ghost use Rattle.lk_lines.specs.Views.{GivesEntry, entry_tag};
+
+use crate::steps::{FieldError, end, hex, info, literal, long, number, numbers_left, text};
+use crate::{Entry, EntryTag};
+use lk_token::text_behind;
+use std::alloc::Global;
+
+fn name_text<'b>(raw: &'b [u8], line: &[u8]) -> Result<Entry<'b>, FieldError>
+    ensures values { GivesEntry EntryTag.NameText (text_behind raw.now) (fields_of line.now) result }
+    ensures tag { IfOk result (λ e. entry_tag e ≡ EntryTag.NameText) }
+{
+    let (parent, _) = number(line)?;
+    let text = text(text_behind(raw))?;
+    Ok(Entry::NameText { parent, text })
+}
+
+fn name_number(line: &[u8]) -> Result<Entry<'static>, FieldError>
+    ensures values { (text : List ℕ) →
+        GivesEntry EntryTag.NameNumber text (fields_of line.now) result }
+    ensures tag { IfOk result (λ e. entry_tag e ≡ EntryTag.NameNumber) }
+{
+    let (parent, rest) = number(line)?;
+    let (component, rest) = long(rest)?;
+    end(rest)?;
+    Ok(Entry::NameNumber { parent, component })
+}
+
+fn successor(line: &[u8]) -> Result<Entry<'static>, FieldError>
+    ensures values { (text : List ℕ) →
+        GivesEntry EntryTag.Successor text (fields_of line.now) result }
+    ensures tag { IfOk result (λ e. entry_tag e ≡ EntryTag.Successor) }
+{
+    let (level, rest) = number(line)?;
+    end(rest)?;
+    Ok(Entry::Successor { level })
+}
+
+fn max(line: &[u8]) -> Result<Entry<'static>, FieldError>
+    ensures values { (text : List ℕ) → GivesEntry EntryTag.Max text (fields_of line.now) result }
+    ensures tag { IfOk result (λ e. entry_tag e ≡ EntryTag.Max) }
+{
+    let (left, rest) = number(line)?;
+    let (right, rest) = number(rest)?;
+    end(rest)?;
+    Ok(Entry::Max { left, right })
+}
+
+fn imax(line: &[u8]) -> Result<Entry<'static>, FieldError>
+    ensures values { (text : List ℕ) → GivesEntry EntryTag.Imax text (fields_of line.now) result }
+    ensures tag { IfOk result (λ e. entry_tag e ≡ EntryTag.Imax) }
+{
+    let (left, rest) = number(line)?;
+    let (right, rest) = number(rest)?;
+    end(rest)?;
+    Ok(Entry::Imax { left, right })
+}
+
+fn parameter(line: &[u8]) -> Result<Entry<'static>, FieldError>
+    ensures values { (text : List ℕ) →
+        GivesEntry EntryTag.Parameter text (fields_of line.now) result }
+    ensures tag { IfOk result (λ e. entry_tag e ≡ EntryTag.Parameter) }
+{
+    let (name, rest) = number(line)?;
+    end(rest)?;
+    Ok(Entry::Parameter { name })
+}
+
+fn variable(line: &[u8]) -> Result<Entry<'static>, FieldError>
+    ensures values { (text : List ℕ) →
+        GivesEntry EntryTag.Variable text (fields_of line.now) result }
+    ensures tag { IfOk result (λ e. entry_tag e ≡ EntryTag.Variable) }
+{
+    let (index, rest) = number(line)?;
+    end(rest)?;
+    Ok(Entry::Variable { index })
+}
+
+fn sort(line: &[u8]) -> Result<Entry<'static>, FieldError>
+    ensures values { (text : List ℕ) → GivesEntry EntryTag.Sort text (fields_of line.now) result }
+    ensures tag { IfOk result (λ e. entry_tag e ≡ EntryTag.Sort) }
+{
+    let (level, rest) = number(line)?;
+    end(rest)?;
+    Ok(Entry::Sort { level })
+}
+
+fn constant(alloc: Global, line: &[u8]) -> Result<Entry<'static>, FieldError>
+    ensures values { (text : List ℕ) →
+        GivesEntry EntryTag.Constant text (fields_of line.now) result }
+    ensures tag { IfOk result (λ e. entry_tag e ≡ EntryTag.Constant) }
+{
+    let (name, rest) = number(line)?;
+    let levels = numbers_left(alloc, rest)?;
+    Ok(Entry::Constant { name, levels })
+}
+
+fn apply(line: &[u8]) -> Result<Entry<'static>, FieldError>
+    ensures values { (text : List ℕ) → GivesEntry EntryTag.Apply text (fields_of line.now) result }
+    ensures tag { IfOk result (λ e. entry_tag e ≡ EntryTag.Apply) }
+{
+    let (function, rest) = number(line)?;
+    let (argument, rest) = number(rest)?;
+    end(rest)?;
+    Ok(Entry::Apply { function, argument })
+}
+
+fn lambda(line: &[u8]) -> Result<Entry<'static>, FieldError>
+    ensures values { (text : List ℕ) → GivesEntry EntryTag.Lambda text (fields_of line.now) result }
+    ensures tag { IfOk result (λ e. entry_tag e ≡ EntryTag.Lambda) }
+{
+    let (info, rest) = info(line)?;
+    let (name, rest) = number(rest)?;
+    let (binder_type, rest) = number(rest)?;
+    let (body, rest) = number(rest)?;
+    end(rest)?;
+    Ok(Entry::Lambda {
+        info,
+        name,
+        binder_type,
+        body,
+    })
+}
+
+fn pi(line: &[u8]) -> Result<Entry<'static>, FieldError>
+    ensures values { (text : List ℕ) → GivesEntry EntryTag.Pi text (fields_of line.now) result }
+    ensures tag { IfOk result (λ e. entry_tag e ≡ EntryTag.Pi) }
+{
+    let (info, rest) = info(line)?;
+    let (name, rest) = number(rest)?;
+    let (binder_type, rest) = number(rest)?;
+    let (body, rest) = number(rest)?;
+    end(rest)?;
+    Ok(Entry::Pi {
+        info,
+        name,
+        binder_type,
+        body,
+    })
+}
+
+fn let_in(line: &[u8]) -> Result<Entry<'static>, FieldError>
+    ensures values { (text : List ℕ) → GivesEntry EntryTag.Let text (fields_of line.now) result }
+    ensures tag { IfOk result (λ e. entry_tag e ≡ EntryTag.Let) }
+{
+    let (name, rest) = number(line)?;
+    let (binder_type, rest) = number(rest)?;
+    let (value, rest) = number(rest)?;
+    let (body, rest) = number(rest)?;
+    end(rest)?;
+    Ok(Entry::Let {
+        name,
+        binder_type,
+        value,
+        body,
+    })
+}
+
+fn project(line: &[u8]) -> Result<Entry<'static>, FieldError>
+    ensures values { (text : List ℕ) →
+        GivesEntry EntryTag.Project text (fields_of line.now) result }
+    ensures tag { IfOk result (λ e. entry_tag e ≡ EntryTag.Project) }
+{
+    let (structure, rest) = number(line)?;
+    let (field, rest) = number(rest)?;
+    let (subject, rest) = number(rest)?;
+    end(rest)?;
+    Ok(Entry::Project {
+        structure,
+        field,
+        subject,
+    })
+}
+
+fn nat_literal(line: &[u8]) -> Result<Entry<'static>, FieldError>
+    ensures values { (text : List ℕ) →
+        GivesEntry EntryTag.NatLiteral text (fields_of line.now) result }
+    ensures tag { IfOk result (λ e. entry_tag e ≡ EntryTag.NatLiteral) }
+{
+    let (number, rest) = literal(line)?;
+    end(rest)?;
+    Ok(Entry::NatLiteral { number })
+}
+
+fn text_literal(alloc: Global, line: &[u8]) -> Result<Entry<'static>, FieldError>
+    ensures values { (text : List ℕ) →
+        GivesEntry EntryTag.TextLiteral text (fields_of line.now) result }
+    ensures tag { IfOk result (λ e. entry_tag e ≡ EntryTag.TextLiteral) }
+{
+    let text = hex(alloc, line)?;
+    Ok(Entry::TextLiteral { text })
+}
+
+fn rule(line: &[u8]) -> Result<Entry<'static>, FieldError>
+    ensures values { (text : List ℕ) → GivesEntry EntryTag.Rule text (fields_of line.now) result }
+    ensures tag { IfOk result (λ e. entry_tag e ≡ EntryTag.Rule) }
+{
+    let (constructor, rest) = number(line)?;
+    let (field_count, rest) = number(rest)?;
+    let (value, rest) = number(rest)?;
+    end(rest)?;
+    Ok(Entry::Rule {
+        constructor,
+        field_count,
+        value,
+    })
+}
+
+/// What stands behind a tag.
+pub(crate) fn read_entry<'b>(
+    alloc: Global,
+    tag: EntryTag,
+    raw: &'b [u8],
+    line: &[u8],
+) -> Result<Entry<'b>, FieldError>
+    ensures values { GivesEntry tag (text_behind raw.now) (fields_of line.now) result }
+    ensures tag { IfOk result (λ e. entry_tag e ≡ tag) }
+{
+    match tag {
+        EntryTag::NameText => name_text(raw, line),
+        EntryTag::NameNumber => name_number(line),
+        EntryTag::Successor => successor(line),
+        EntryTag::Max => max(line),
+        EntryTag::Imax => imax(line),
+        EntryTag::Parameter => parameter(line),
+        EntryTag::Variable => variable(line),
+        EntryTag::Sort => sort(line),
+        EntryTag::Constant => constant(alloc, line),
+        EntryTag::Apply => apply(line),
+        EntryTag::Lambda => lambda(line),
+        EntryTag::Pi => pi(line),
+        EntryTag::Let => let_in(line),
+        EntryTag::Project => project(line),
+        EntryTag::NatLiteral => nat_literal(line),
+        EntryTag::TextLiteral => text_literal(alloc, line),
+        EntryTag::Rule => rule(line),
+    }
+}

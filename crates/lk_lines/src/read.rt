@@ -1,0 +1,116 @@
+ghost use Rattle.std.specs.Prelude.{◌≡◌, ◌∷◌, ℕ, List, IfOk};
+ghost use Rattle.lk_token.specs.Fields.{fields_of, text_behind};
+ghost use Rattle.lk_token.specs.Lines.{HasNoLineFeed};
+ghost use Rattle.lk_lines.specs.Told.{Gives};
+ghost use Rattle.lk_lines.specs.LineFeeds.{NamesHaveNoLineFeed};
+ghost use Rattle.lk_lines.specs.Lines.{Tells};
+ghost use Rattle.lk_lines.specs.Items.{is_tag, numbered_at, plain_at};
+ghost use Rattle.lk_lines.specs.Says.{as_item, item_said, said_at, said_of};
+ghost use Rattle.lk_lines.specs.Views.{says_of};
+
+use crate::declarations::read_declaration;
+use crate::entries::read_entry;
+use crate::steps::{FieldError, number};
+use crate::tags::{declaration_tag, entry_tag};
+use crate::version::{is_two, version_of};
+use crate::{Fault, Line, LineError, Said, Word};
+use lk_token::next_field;
+use std::alloc::Global;
+
+// A line that defines a number.
+#[tactic(auto, unfolding(crate::specs::Items::numbered_at))]
+fn numbered(alloc: Global, line: &[u8]) -> Result<Said<'_>, FieldError>
+    ensures { Gives says_of result
+        (as_item (numbered_at (text_behind line.now) (fields_of line.now))) }
+{
+    let (own, rest) = number(line)?;
+    let (tag, rest) = entry_tag(rest)?;
+    let entry = read_entry(alloc, tag, line, rest)?;
+    Ok(Said::Entry { own, entry })
+}
+
+// A line that begins with its tag.
+#[tactic(auto, unfolding(crate::specs::Items::plain_at))]
+fn plain(alloc: Global, line: &[u8]) -> Result<Said<'_>, FieldError>
+    ensures { (text : List ℕ) → Gives says_of result
+        (as_item (plain_at text (fields_of line.now))) }
+{
+    let (tag, rest) = declaration_tag(line)?;
+    let declaration = read_declaration(alloc, tag, rest)?;
+    Ok(Said::Declaration(declaration))
+}
+
+fn is_tag(field: &[u8]) -> bool
+    ensures { result ≡ is_tag field.now }
+{
+    match field {
+        [b'#', ..] => true,
+        _ => false,
+    }
+}
+
+// What a line says that is neither blank nor the version. `field` is its first field.
+#[tactic(auto, unfolding(crate::specs::Items::item_at))]
+fn item<'b>(alloc: Global, field: &[u8], line: &'b [u8]) -> Result<Said<'b>, FieldError>
+    ensures { (fields : List (List ℕ)) → fields_of line.now ≡ field.now ∷ fields →
+        Gives says_of result (item_said (text_behind line.now) (fields_of line.now)) }
+{
+    if is_tag(field) {
+        plain(alloc, line)
+    } else {
+        numbered(alloc, line)
+    }
+}
+
+// What a line says.
+#[tactic(auto, unfolding(crate::specs::Says::said_at))]
+fn said(alloc: Global, first: bool, line: &[u8]) -> Result<Said<'_>, FieldError>
+    ensures { Gives says_of result (said_at first (text_behind line.now) (fields_of line.now)) }
+{
+    let Some((field, _)) = next_field(line) else {
+        return Ok(Said::Blank);
+    };
+    if first {
+        match version_of(alloc, line) {
+            Err(_) => return Err(FieldError::NoMemory),
+            Ok(Some(n)) => {
+                if is_two(n) {
+                    return Ok(Said::Version);
+                }
+                return Err(FieldError::Fault(Word::BadVersion));
+            }
+            Ok(None) => {}
+        }
+    }
+    item(alloc, field, line)
+}
+
+/// What line `number` of a file says, or its first fault.
+///
+/// `bytes` are the line up to its line feed or the end of the file; `first` says that only blank
+/// lines stand before it, so that it may be the version. Fields are read from left to right: a due
+/// field may be missing, then of the wrong kind, then too large; a text is tested behind its last
+/// field; a field too many comes last. The length of the line is not looked at (`limit_fault`).
+///
+/// The text of a name is a slice of the line, and the fields are found as they are read: memory is
+/// taken for lists of numbers and for text literals alone.
+#[tactic(auto, unfolding(crate::specs::Says::said_of))]
+pub fn read_line(
+    alloc: Global,
+    number: u64,
+    first: bool,
+    bytes: &[u8],
+) -> Result<Line<'_>, LineError>
+    requires { HasNoLineFeed bytes.now }
+    ensures said { Tells number result (said_of first bytes.now) }
+    ensures names { IfOk result (λ line. NamesHaveNoLineFeed line.said) }
+{
+    match said(alloc, first, bytes) {
+        Ok(said) => Ok(Line { number, said }),
+        Err(FieldError::NoMemory) => Err(LineError::NoMemory),
+        Err(FieldError::Fault(word)) => Err(LineError::Fault(Fault { line: number, word })),
+    }
+}
+
+#[cfg(test)]
+mod tests;

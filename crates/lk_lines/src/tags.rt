@@ -1,0 +1,223 @@
+ghost use Rattle.std.specs.Prelude.{◌≡◌, Ok, Err};
+ghost use Rattle.lk_lines.specs.Told.{Gives};
+ghost use Rattle.lk_token.specs.Fields.{fields_of};
+ghost use Rattle.lk_lines.specs.Items.{tag_at};
+ghost use Rattle.lk_lines.specs.Tags.{is_built, find_tag, known_tag, numbered_tags, rare_tags, plain_tags};
+
+use crate::Word;
+use crate::steps::{FieldError, is};
+use lk_token::next_field;
+
+/// The tags of lines that define a number, which stands in front of the tag.
+#[derive(Clone, Copy, Debug, PartialEq, Eq)]
+pub enum EntryTag {
+    NameText,
+    NameNumber,
+    Successor,
+    Max,
+    Imax,
+    Parameter,
+    Variable,
+    Sort,
+    Constant,
+    Apply,
+    Lambda,
+    Pi,
+    Let,
+    Project,
+    NatLiteral,
+    TextLiteral,
+    Rule,
+}
+
+/// The tags of lines that declare something. They begin with their tag.
+#[derive(Clone, Copy, Debug, PartialEq, Eq)]
+pub enum DeclarationTag {
+    Axiom,
+    Definition,
+    Theorem,
+    Opaque,
+    Quotient,
+    Inductive,
+    Constructor,
+    Recursor,
+}
+
+/// The kinds of line, by the tag that names each.
+#[derive(Clone, Copy, Debug, PartialEq, Eq)]
+pub enum Tag {
+    Entry(EntryTag),
+    Declaration(DeclarationTag),
+}
+
+fn entry_is_built(tag: EntryTag) -> bool
+    ensures { result ≡ is_built (Tag.Entry tag) }
+{
+    match tag {
+        EntryTag::NameText => true,
+        EntryTag::NameNumber => true,
+        EntryTag::Successor => true,
+        EntryTag::Max => false,
+        EntryTag::Imax => false,
+        EntryTag::Parameter => false,
+        EntryTag::Variable => true,
+        EntryTag::Sort => true,
+        EntryTag::Constant => false,
+        EntryTag::Apply => false,
+        EntryTag::Lambda => true,
+        EntryTag::Pi => true,
+        EntryTag::Let => false,
+        EntryTag::Project => false,
+        EntryTag::NatLiteral => false,
+        EntryTag::TextLiteral => false,
+        EntryTag::Rule => false,
+    }
+}
+
+fn declaration_is_built(tag: DeclarationTag) -> bool
+    ensures { result ≡ is_built (Tag.Declaration tag) }
+{
+    match tag {
+        DeclarationTag::Axiom => false,
+        DeclarationTag::Definition => false,
+        DeclarationTag::Theorem => true,
+        DeclarationTag::Opaque => false,
+        DeclarationTag::Quotient => false,
+        DeclarationTag::Inductive => false,
+        DeclarationTag::Constructor => false,
+        DeclarationTag::Recursor => false,
+    }
+}
+
+/// Whether lines with this tag are read yet. A tag that is not built is an unknown one.
+pub fn is_built(tag: Tag) -> bool
+    ensures { result ≡ is_built tag }
+{
+    match tag {
+        Tag::Entry(entry) => entry_is_built(entry),
+        Tag::Declaration(declaration) => declaration_is_built(declaration),
+    }
+}
+
+// The tag of this word, of those with a number in front. The commonest ones come first.
+fn find_entry(word: &[u8]) -> Result<EntryTag, FieldError>
+    ensures { Gives (λ t. Tag.Entry t) result (find_tag numbered_tags word.now) }
+{
+    if is(word, b"#EA") {
+        Ok(EntryTag::Apply)
+    } else if is(word, b"#EC") {
+        Ok(EntryTag::Constant)
+    } else if is(word, b"#EL") {
+        Ok(EntryTag::Lambda)
+    } else if is(word, b"#EP") {
+        Ok(EntryTag::Pi)
+    } else if is(word, b"#EV") {
+        Ok(EntryTag::Variable)
+    } else if is(word, b"#NS") {
+        Ok(EntryTag::NameText)
+    } else if is(word, b"#ES") {
+        Ok(EntryTag::Sort)
+    } else if is(word, b"#NI") {
+        Ok(EntryTag::NameNumber)
+    } else {
+        find_rare_entry(word)
+    }
+}
+
+fn find_rare_entry(word: &[u8]) -> Result<EntryTag, FieldError>
+    ensures { Gives (λ t. Tag.Entry t) result (find_tag rare_tags word.now) }
+{
+    if is(word, b"#US") {
+        Ok(EntryTag::Successor)
+    } else if is(word, b"#UM") {
+        Ok(EntryTag::Max)
+    } else if is(word, b"#UIM") {
+        Ok(EntryTag::Imax)
+    } else if is(word, b"#UP") {
+        Ok(EntryTag::Parameter)
+    } else if is(word, b"#EZ") {
+        Ok(EntryTag::Let)
+    } else if is(word, b"#EJ") {
+        Ok(EntryTag::Project)
+    } else if is(word, b"#ELN") {
+        Ok(EntryTag::NatLiteral)
+    } else if is(word, b"#ELS") {
+        Ok(EntryTag::TextLiteral)
+    } else if is(word, b"#RR") {
+        Ok(EntryTag::Rule)
+    } else {
+        Err(FieldError::Fault(Word::UnknownTag))
+    }
+}
+
+fn find_declaration(word: &[u8]) -> Result<DeclarationTag, FieldError>
+    ensures { Gives (λ t. Tag.Declaration t) result (find_tag plain_tags word.now) }
+{
+    if is(word, b"#THM") {
+        Ok(DeclarationTag::Theorem)
+    } else if is(word, b"#DEF") {
+        Ok(DeclarationTag::Definition)
+    } else if is(word, b"#AX") {
+        Ok(DeclarationTag::Axiom)
+    } else if is(word, b"#OPAQ") {
+        Ok(DeclarationTag::Opaque)
+    } else if is(word, b"#QUOT") {
+        Ok(DeclarationTag::Quotient)
+    } else if is(word, b"#IND") {
+        Ok(DeclarationTag::Inductive)
+    } else if is(word, b"#CTOR") {
+        Ok(DeclarationTag::Constructor)
+    } else if is(word, b"#REC") {
+        Ok(DeclarationTag::Recursor)
+    } else {
+        Err(FieldError::Fault(Word::UnknownTag))
+    }
+}
+
+#[tactic(auto, unfolding(crate::specs::Tags::known_tag))]
+fn known_entry(word: &[u8]) -> Result<EntryTag, FieldError>
+    ensures { Gives (λ t. Tag.Entry t) result (known_tag numbered_tags word.now) }
+{
+    let tag = find_entry(word)?;
+    if entry_is_built(tag) {
+        Ok(tag)
+    } else {
+        Err(FieldError::Fault(Word::UnknownTag))
+    }
+}
+
+#[tactic(auto, unfolding(crate::specs::Tags::known_tag))]
+fn known_declaration(word: &[u8]) -> Result<DeclarationTag, FieldError>
+    ensures { Gives (λ t. Tag.Declaration t) result (known_tag plain_tags word.now) }
+{
+    let tag = find_declaration(word)?;
+    if declaration_is_built(tag) {
+        Ok(tag)
+    } else {
+        Err(FieldError::Fault(Word::UnknownTag))
+    }
+}
+
+/// The tag behind a line's number, and what is left of the line.
+#[tactic(auto, unfolding(crate::specs::Items::tag_at))]
+pub(crate) fn entry_tag(line: &[u8]) -> Result<(EntryTag, &[u8]), FieldError>
+    ensures { Gives (λ r. (Tag.Entry r.0, fields_of r.1.now)) result
+        (tag_at numbered_tags (fields_of line.now)) }
+{
+    match next_field(line) {
+        None => Err(FieldError::Fault(Word::MissingField)),
+        Some((field, rest)) => Ok((known_entry(field)?, rest)),
+    }
+}
+
+/// The tag that a line begins with, and what is left of the line.
+#[tactic(auto, unfolding(crate::specs::Items::tag_at))]
+pub(crate) fn declaration_tag(line: &[u8]) -> Result<(DeclarationTag, &[u8]), FieldError>
+    ensures { Gives (λ r. (Tag.Declaration r.0, fields_of r.1.now)) result
+        (tag_at plain_tags (fields_of line.now)) }
+{
+    match next_field(line) {
+        None => Err(FieldError::Fault(Word::MissingField)),
+        Some((field, rest)) => Ok((known_declaration(field)?, rest)),
+    }
+}

@@ -1,0 +1,9 @@
+pub mod Holding
+pub mod NameLemmas
+pub mod Counting
+pub mod Putting
+pub mod Keys
+pub mod Growing
+pub mod Lines
+pub mod Kept
+pub mod Items

@@ -1,0 +1,114 @@
+-- What the numbers of a file stand for behind its lines so far, and what an item adds, or its fault.
+use Rattle.std.specs.Prelude.{ℕ, ◌==◌, ◌+◌, ◌-◌, ◌^◌, List, [], ◌∷◌, ◌++◌, Result, Ok, Err, Some, None, if◌then◌else◌, is_some, nat_lt}
+use Rattle.std.specs.declared.option.Option.{Option}
+use Rattle.lk_tree.specs.Tree.{Name, Part, text, number, Level, zero_level, succ_level, Tree, var, sort, lam, pi}
+use Rattle.lk_lines.specs.declared.words.Word.{Word}
+use Rattle.lk_lines.specs.declared.words.Word.TheVariants.{UnknownTag, IndexTaken, IndexUnknown, TooManyItems}
+use Rattle.lk_lines.specs.declared.tags.EntryTag.{EntryTag}
+use Rattle.lk_lines.specs.declared.tags.EntryTag.TheVariants as entry
+use Rattle.lk_lines.specs.declared.tags.DeclarationTag.{DeclarationTag}
+use Rattle.lk_lines.specs.declared.tags.DeclarationTag.TheVariants as decl
+use Rattle.lk_lines.specs.declared.tags.Tag.{Tag}
+use Rattle.lk_lines.specs.declared.tags.Tag.TheVariants.{Entry, Declaration}
+use Rattle.lk_lines.specs.Reading.{◌>>=◌}
+use Rattle.lk_lines.specs.Items.{Item}
+use Rattle.lk_lines.specs.Values.{Value}
+use Rattle.lk_lines.specs.Values as value
+use Rattle.lk_units.specs.Names.{IsPlainName}
+use Rattle.lk_units.specs.Theorems.{Theorem}
+
+pub record State : Type 0 where
+  pub names : ℕ → Option Name
+  pub levels : ℕ → Option Level
+  pub trees : ℕ → Option Tree
+  pub theorems : List Theorem
+  pub count : ℕ
+
+-- name 0 is the anonymous name, and level 0 is zero
+abbrev pub begin : State
+begin = record { names = λ n. if n == 0 then Some [] else None; levels = λ n. if n == 0 then Some zero_level else None; trees = λ n. None; theorems = []; count = 0 }
+
+-- what a number that is referred to stands for
+abbrev pub known_of : {X : Type 0} → Option X → Result X Word
+known_of (Some x) = Ok x
+known_of None = Err IndexUnknown
+
+abbrev pub known : {X : Type 0} → (ℕ → Option X) → ℕ → Result X Word
+known mean n = known_of (mean n)
+
+abbrev pub all_known : {X : Type 0} → (ℕ → Option X) → List ℕ → Result (List X) Word
+all_known mean [] = Ok []
+all_known mean (n ∷ ns) = known mean n >>= λ x. (all_known mean ns >>= λ xs. Ok (x ∷ xs))
+
+-- what a line says, where its own number is not taken
+abbrev pub fresh : {X : Type 0} → (ℕ → Option X) → ℕ → Result X Word → Result X Word
+fresh mean own said = if is_some (mean own) then Err IndexTaken else said
+
+-- own stands for x from here on
+abbrev pub put : {X : Type 0} → (ℕ → Option X) → ℕ → X → (ℕ → Option X)
+put mean own x = λ q. if q == own then Some x else mean q
+
+abbrev pub with_name : State → ℕ → Result Name Word → Result State Word
+with_name s own said = fresh s.names own said >>= λ x. Ok (record s { names = put s.names own x })
+
+abbrev pub with_level : State → ℕ → Result Level Word → Result State Word
+with_level s own said = fresh s.levels own said >>= λ x. Ok (record s { levels = put s.levels own x })
+
+abbrev pub with_tree : State → ℕ → Result Tree Word → Result State Word
+with_tree s own said = fresh s.trees own said >>= λ x. Ok (record s { trees = put s.trees own x })
+
+abbrev pub with_theorem : State → Result Theorem Word → Result State Word
+with_theorem s said = said >>= λ x. Ok (record s { theorems = s.theorems ++ x ∷ [] })
+
+-- a name with one more component
+abbrev pub longer_name : State → ℕ → Part → Result Name Word
+longer_name s p part = known s.names p >>= λ x. Ok (x ++ part ∷ [])
+
+abbrev pub successor_level : State → ℕ → Result Level Word
+successor_level s l = known s.levels l >>= λ x. Ok (succ_level x)
+
+abbrev pub sort_tree : State → ℕ → Result Tree Word
+sort_tree s u = known s.levels u >>= λ l. Ok (sort l)
+
+-- a lambda or a Pi, whose binder's name is to stand for something
+abbrev pub binder_tree : State → (Tree → Tree → Tree) → ℕ → ℕ → ℕ → Result Tree Word
+binder_tree s f n a b = known s.names n >>= λ name. (known s.trees a >>= λ x. (known s.trees b >>= λ y. Ok (f x y)))
+
+abbrev pub theorem_of : State → ℕ → ℕ → ℕ → List ℕ → Result Theorem Word
+theorem_of s n a v ps = known s.names n >>= λ name. (known s.trees a >>= λ type. (known s.trees v >>= λ proof.
+    (all_known s.names ps >>= λ levels. Ok (record { name = name; levels = levels; type = type; proof = proof }))))
+
+-- what the values behind each tag add; a line of any other kind is no line yet
+unfoldable pub entry_added : State → ℕ → EntryTag → List Value → Result State Word
+entry_added s own entry.NameText (value.Number p ∷ value.Bytes bytes ∷ []) = with_name s own (longer_name s p (text bytes))
+entry_added s own entry.NameNumber (value.Number p ∷ value.Number n ∷ []) = with_name s own (longer_name s p (number n))
+entry_added s own entry.Successor (value.Number l ∷ []) = with_level s own (successor_level s l)
+entry_added s own entry.Variable (value.Number i ∷ []) = with_tree s own (Ok (var i))
+entry_added s own entry.Sort (value.Number u ∷ []) = with_tree s own (sort_tree s u)
+entry_added s own entry.Lambda (value.OfInfo i ∷ value.Number n ∷ value.Number a ∷ value.Number b ∷ []) = with_tree s own (binder_tree s (λ A e. lam A e) n a b)
+entry_added s own entry.Pi (value.OfInfo i ∷ value.Number n ∷ value.Number a ∷ value.Number b ∷ []) = with_tree s own (binder_tree s (λ A e. pi A e) n a b)
+entry_added s own t values = Err UnknownTag
+
+unfoldable pub declaration_added : State → DeclarationTag → List Value → Result State Word
+declaration_added s decl.Theorem (value.Number n ∷ value.Number a ∷ value.Number v ∷ value.Numbers ps ∷ []) = with_theorem s (theorem_of s n a v ps)
+declaration_added s t values = Err UnknownTag
+
+abbrev pub added : State → Option ℕ → Tag → List Value → Result State Word
+added s (Some own) (Entry t) values = entry_added s own t values
+added s None (Declaration t) values = declaration_added s t values
+added s own t values = Err UnknownTag
+
+-- items are counted, and there are fewer than 2^32
+abbrev pub counted : State → Result State Word
+counted s = if nat_lt s.count (2 ^ 32 - 1) then Ok (record s { count = s.count + 1 }) else Err TooManyItems
+
+unfoldable pub take_item : State → Item → Result State Word
+take_item s item = added s item.own item.tag item.values >>= λ t. counted t
+
+abbrev pub ArePlain : List Name → Type 0
+ArePlain [] = Unit {0}
+ArePlain (n ∷ ns) = IsPlainName n × ArePlain ns
+
+abbrev pub AllPlain : List Theorem → Type 0
+AllPlain [] = Unit {0}
+AllPlain (t ∷ ts) = (IsPlainName t.name × ArePlain t.levels) × AllPlain ts

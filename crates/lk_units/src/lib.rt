@@ -1,0 +1,15 @@
+//! The theorems that the lines of a file state: what its numbers stand for, item by item, and the faults of items among
+//! one another (a number that is taken, a number that stands for nothing, too many items).
+#![tactic(auto)]
+
+mod assembler;
+mod making;
+mod names;
+mod numbering;
+mod taking;
+#[cfg(test)]
+mod tests;
+
+pub use assembler::{Assembler, Binder, TakeError, TheoremRow};
+pub use names::{Component, NameRow, Names};
+pub use numbering::Numbering;

@@ -1,0 +1,41 @@
+//! One of the file's numberings: its numbers, and what each has in a store.
+ghost use Rattle.std.specs.Prelude.{◌≡◌, ◌==◌, ℕ, OnOk, OnErr, Some, None, if◌then◌else◌};
+ghost use Rattle.lk_units.specs.Numbering.{entry};
+
+use lk_store::node::NoMemory;
+use std::alloc::Global;
+use std::collections::HashMap;
+
+/// Numbers of the file, which may begin anywhere and leave gaps, and the place that each has.
+#[derive(Drop)]
+pub struct Numbering {
+    pub map: HashMap<u32, u64>,
+}
+
+impl Numbering {
+    pub fn new(alloc: Global) -> Self
+        ensures { (q : ℕ) → entry result q ≡ None }
+    {
+        Numbering {
+            map: HashMap::new(alloc),
+        }
+    }
+
+    /// The place of a number.
+    pub fn find(&self, number: u32) -> Option<u64>
+        ensures { result ≡ entry self.now number }
+    {
+        self.map.get(&number).copied()
+    }
+
+    /// Gives a number its place.
+    pub fn add(&mut self, number: u32, place: u64) -> Result<(), NoMemory>
+        ensures ok { OnOk result ((q : ℕ) → entry self.new q ≡ (if q == number then Some place else entry self.old q)) }
+        ensures err { OnErr result ((q : ℕ) → entry self.new q ≡ entry self.old q) }
+    {
+        match self.map.insert(number, place) {
+            Ok(_) => Ok(()),
+            Err(_) => Err(NoMemory),
+        }
+    }
+}

@@ -1,0 +1,207 @@
+//! Items of a file, and what each comes to by the format's tables.
+
+use crate::{Assembler, Component, Names, Numbering, TakeError};
+use lk_lines::{BinderInfo, Declaration, Entry, Word};
+use lk_store::consed::BaseStore;
+use std::alloc::Global;
+use std::test::Fail;
+
+#[test]
+fn names_have_their_keys(rt: HostRuntime) -> Result<(), Fail> {
+    let alloc = rt.alloc();
+    let mut names = Names::new(alloc);
+    let a = names.add(0, Component::Text(Vec::from_slice(alloc, b"a")?))?;
+    assert_eq!(rt; a, 1);
+    assert!(rt; names.key(alloc, 0)?.is_empty());
+    assert!(rt; names.key(alloc, 1)?.as_slice() == b"a\nt".as_slice());
+    Ok(())
+}
+
+#[test]
+fn numbers_have_their_places(rt: HostRuntime) -> Result<(), Fail> {
+    let mut numbers = Numbering::new(rt.alloc());
+    numbers.add(7, 3)?;
+    assert_eq!(rt; numbers.find(7), Some(3));
+    assert_eq!(rt; numbers.find(3), None);
+    Ok(())
+}
+
+// The identity theorem: `forall p : Prop, p -> p`, with one level parameter.
+fn identity(alloc: Global) -> Result<usize, TakeError> {
+    let mut store = BaseStore::new(alloc);
+    let mut file = Assembler::new(alloc, &mut store)?;
+    let id = Entry::NameText {
+        parent: 0,
+        text: b"id",
+    };
+    file.take_entry(alloc, &mut store, 1, id)?;
+    let numbered = Entry::NameNumber {
+        parent: 1,
+        component: 4,
+    };
+    file.take_entry(alloc, &mut store, 2, numbered)?;
+    file.take_entry(alloc, &mut store, 0, Entry::Sort { level: 0 })?;
+    file.take_entry(alloc, &mut store, 1, Entry::Variable { index: 0 })?;
+    file.take_entry(alloc, &mut store, 2, Entry::Variable { index: 1 })?;
+    let info = BinderInfo::Default;
+    file.take_entry(
+        alloc,
+        &mut store,
+        3,
+        Entry::Pi {
+            info,
+            name: 0,
+            binder_type: 1,
+            body: 2,
+        },
+    )?;
+    file.take_entry(
+        alloc,
+        &mut store,
+        4,
+        Entry::Pi {
+            info,
+            name: 1,
+            binder_type: 0,
+            body: 3,
+        },
+    )?;
+    file.take_entry(
+        alloc,
+        &mut store,
+        5,
+        Entry::Lambda {
+            info,
+            name: 0,
+            binder_type: 1,
+            body: 1,
+        },
+    )?;
+    file.take_entry(
+        alloc,
+        &mut store,
+        6,
+        Entry::Lambda {
+            info,
+            name: 1,
+            binder_type: 0,
+            body: 5,
+        },
+    )?;
+    let mut parameters = Vec::new(alloc);
+    if parameters.push(1).is_err() {
+        return Err(TakeError::NoMemory);
+    }
+    file.take_declaration(
+        alloc,
+        &mut store,
+        Declaration::Theorem {
+            name: 2,
+            declared_type: 4,
+            value: 6,
+            parameters,
+        },
+    )?;
+    Ok(file.theorems.len())
+}
+
+#[test]
+fn a_theorem_is_taken(rt: HostRuntime) -> Result<(), Fail> {
+    assert_eq!(rt; identity(rt.alloc()), Ok(1));
+    Ok(())
+}
+
+// What the second of two items comes to.
+fn second(alloc: Global, own: u32, entry: Entry<'_>) -> Result<(), TakeError> {
+    let mut store = BaseStore::new(alloc);
+    let mut file = Assembler::new(alloc, &mut store)?;
+    file.take_entry(alloc, &mut store, 7, Entry::Sort { level: 0 })?;
+    file.take_entry(alloc, &mut store, own, entry)
+}
+
+#[test]
+fn faults_of_an_item(rt: HostRuntime) -> Result<(), Fail> {
+    let alloc = rt.alloc();
+    let taken = Err(TakeError::Fault(Word::IndexTaken));
+    let unknown = Err(TakeError::Fault(Word::IndexUnknown));
+    let unbuilt = Err(TakeError::Fault(Word::UnknownTag));
+    let info = BinderInfo::Default;
+    assert_eq!(rt; second(alloc, 7, Entry::Variable { index: 0 }), taken);
+    assert_eq!(rt; second(alloc, 7, Entry::Sort { level: 1 }), taken);
+    assert_eq!(rt;
+        second(
+            alloc,
+            0,
+            Entry::NameText {
+                parent: 0,
+                text: b"a"
+            }
+        ),
+        taken
+    );
+    assert_eq!(rt; second(alloc, 0, Entry::Successor { level: 0 }), taken);
+    assert_eq!(rt; second(alloc, 8, Entry::Sort { level: 1 }), unknown);
+    assert_eq!(rt; second(alloc, 8, Entry::Successor { level: 1 }), unknown);
+    assert_eq!(rt;
+        second(
+            alloc,
+            8,
+            Entry::NameText {
+                parent: 1,
+                text: b"a"
+            }
+        ),
+        unknown
+    );
+    assert_eq!(rt;
+        second(
+            alloc,
+            8,
+            Entry::Pi {
+                info,
+                name: 1,
+                binder_type: 7,
+                body: 7
+            }
+        ),
+        unknown
+    );
+    assert_eq!(rt;
+        second(
+            alloc,
+            8,
+            Entry::Lambda {
+                info,
+                name: 0,
+                binder_type: 7,
+                body: 8
+            }
+        ),
+        unknown
+    );
+    assert_eq!(rt;
+        second(
+            alloc,
+            8,
+            Entry::Apply {
+                function: 7,
+                argument: 7
+            }
+        ),
+        unbuilt
+    );
+    assert_eq!(rt;
+        second(
+            alloc,
+            8,
+            Entry::Pi {
+                info,
+                name: 0,
+                binder_type: 7,
+                body: 7
+            }
+        ),
+        Ok(())
+    );
+    Ok(())
+}
