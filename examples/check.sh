@@ -1,0 +1,28 @@
+#!/bin/bash
+# Runs a program on each example and compares its output, byte for byte, and its status.
+#
+# usage: examples/check.sh PROGRAM [WORD..]
+#
+# Beside NAME.export lie NAME.expected and NAME.status; without the latter the status is 3. Each example that differs is
+# told, and last `N agree, M differ`; the status is 1 where one differs.
+[ $# -gt 0 ] || { sed -n '2,4p' "$0" >&2; exit 2; }
+here=$(CDPATH= cd -- "$(dirname -- "$0")" && pwd) || exit 2
+got=$(mktemp) || exit 2
+trap 'rm -f "$got"' EXIT
+agree=0 differ=0
+for file in "$here"/*.export "$here"/*/*.export; do
+    base=${file%.export}
+    want=3
+    [ ! -f "$base.status" ] || want=$(cat "$base.status")
+    "$@" check <"$file" >"$got"
+    status=$?
+    if [ "$status" -eq "$want" ] && cmp -s "$base.expected" "$got"; then
+        agree=$((agree + 1))
+    else
+        differ=$((differ + 1))
+        echo "${base#"$here"/}: status $status, expected $want"
+        diff "$base.expected" "$got" | head -n 6
+    fi
+done
+echo "$agree agree, $differ differ"
+[ "$differ" -eq 0 ]
