@@ -6,6 +6,7 @@ use Rattle.std.proofs.lemmas.Bool.Decides.{nat_tests}
 use Rattle.std.proofs.lemmas.Fmt.{decimal_by_steps, decimal_injective}
 use Rattle.std.proofs.lemmas.Slice.Eq.{bytes_eq-Decides}
 use Rattle.lk_tree.specs.Tree.{Name, Part, text, number}
+use Rattle.lk_tree.proofs.Scans.{both_true}
 use Rattle.lk_units.specs.Names.{is_plain, IsPlainName, part_key, key_of}
 use Rattle.leancheck.specs.declared.report.KeyPlace.TheVariants.{InPart, AtMark, Behind}
 use Rattle.leancheck.specs.Text.{part_text, parts_text, name_text, shown_from, key_text}
@@ -34,10 +35,6 @@ eq_sym x y = elim (eq_cases x y) [
   | inl (b, q) ↦ b ∙ sym (eq_true y x (sym q))
   | inr (b, n) ↦ b ∙ sym (eq_false y x (λ e. n (sym e)))
 ]
-
-both_true : (a b : Bool) → (a && b) ≡ true → (a ≡ true) × (b ≡ true)
-both_true true b h = (refl, h)
-both_true false b h = absurd (cc)
 
 plain_head : (b : ℕ) (bs : List ℕ) → is_plain (b ∷ bs) ≡ true → ((b ≡ 10 → ⊥) × (is_plain bs ≡ true))
 plain_head b bs h = let p = both_true (not (b == 10)) (is_plain bs) h in ((λ e. grind (arith, nat_tests, p.0, e)), p.1)

@@ -6,7 +6,7 @@ use Rattle.lk_tree.specs.Tree.{Name, name_discrete, Level, zero_level, succ_leve
 use Rattle.lk_tree.specs.Loose.{loose}
 use Rattle.lk_tree.specs.Scan.{is_bound, is_narrow, level_over, tree_over, none_twice}
 use Rattle.lk_tree.specs.RuleNo.{RuleNo, duplicate_name, duplicate_level, loose_variable, undeclared_level, wide_literal}
-use Rattle.lk_tree.proofs.Scans.{and_true}
+use Rattle.lk_tree.proofs.Scans.{both_true, and_true}
 use Rattle.lk_rulebook.specs.Place.{Entry, a_thm}
 use Rattle.lk_tree.specs.Mentions.{is_one_of}
 use Rattle.lk_rulebook.specs.Units.{Library, members_of, first_of_two, at_unit, first_giving, first_broken}
@@ -44,10 +44,6 @@ below i d h = grind (arith, nat_tests)
 
 above : (i d : ℕ) → nat_lt i d ≡ true → suc i ≤ d
 above i d h = grind (arith, nat_tests)
-
-both_true : (a b : Bool) → (a && b) ≡ true → (a ≡ true) × (b ≡ true)
-both_true true b h = (refl, h)
-both_true false b h = absurd (cc)
 
 bound_of_loose : (d : ℕ) (e : Tree) → IsBuilt e → loose e ≤ d → is_bound d e ≡ true
 bound_of_loose d (var i) b h = below i d h

@@ -150,6 +150,7 @@ pub fn run<R: Threads + Wait + Sync, S: Source, K: Sink, G: Gate>(
 ) -> Status
     ensures usage { result ≡ Status.Usage → IsMeaningless (texts_of words.now) × Appends (K.written sink.old) (K.written sink.new) usage_line × (source.new ≡ source.old) }
     ensures usage_only { IsMeaningless (texts_of words.now) → (result ≡ Status.Usage) ⊎ (result ≡ Status.WriteFault) ⊎ (result ≡ Status.NoMemory) }
+    ensures unread { IsMeaningless (texts_of words.now) → source.new ≡ source.old }
     ensures read { result ≡ Status.ReadFault → Rose (S.faults source.old) (S.faults source.new) × (K.written sink.new ≡ K.written sink.old) }
     ensures no_read { result ≢ Status.ReadFault → S.faults source.new ≡ S.faults source.old }
     ensures bad { result ≡ Status.BadFile → ((o : CheckOptions) × MeansCheck (texts_of words.now) o)

@@ -24,7 +24,7 @@ abbrev pub digits : ℕ → ℕ → List ℕ → List ℕ
 digits zero n rest = rest
 digits (suc fuel) n rest = if nat_lt n 10 then (48 + n) ∷ rest else digits fuel (n / 10) ((48 + n % 10) ∷ rest)
 
--- T1.rec_1, T1.rec_2, ..
+-- Tree.rec_1, Tree.rec_2, .. where the first family is Tree
 abbrev pub rec_numbered : Name → ℕ → Name
 rec_numbered T i = T ++ (Part.text (114 ∷ 101 ∷ 99 ∷ 95 ∷ digits (suc i) i []) ∷ [])
 

@@ -67,17 +67,15 @@ IsVersion fields major =
     (a : List ℕ) × (b : List ℕ) × (c : List ℕ) × (fields ≡ (a ++ 46 ∷ (b ++ 46 ∷ c)) ∷ [])
     × IsNumeral 10 a × IsNumeral 10 b × IsNumeral 10 c × (digits_value 10 a ≡ major)
 
--- the fields of a line, and the text behind the third of them, spell what it says; the first line
--- that is
--- not blank may be a version 2
+-- the fields of a line, and the text behind the third of them, spell what it says; the first line that is not blank may
+-- be a version 2
 abbrev pub SpellsFields : Bool → List ℕ → List (List ℕ) → Says → Type 0
 SpellsFields first text fields Blank = fields ≡ []
 SpellsFields first text fields Version = (first ≡ true) × IsVersion fields 2
 SpellsFields first text fields (OfItem item) = SpellsItem item text fields
 
--- the first fault of the fields of a line: it is another version, or it is neither blank nor a
--- version and its
--- fields have this fault first
+-- the first fault of the fields of a line: it is another version, or it is neither blank nor a version and its fields
+-- have this fault first
 abbrev pub FieldsFault : Bool → List ℕ → List (List ℕ) → Word → Type 0
 FieldsFault first text fields w =
     ((w ≡ BadVersion) × (first ≡ true) × (major : ℕ) × IsVersion fields major × (major ≢ 2))

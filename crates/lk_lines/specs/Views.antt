@@ -100,9 +100,8 @@ declaration_tag (declarations.Constructor name declared_type parent place parame
 declaration_tag (declarations.Recursor name declared_type types parameter_count index_count
     motive_count minor_count rules k parameters) = declaration.Recursor
 
--- what a reader of entries with this tag answers, from the text behind the third field of a line
--- and
--- the fields that are left
+-- what a reader of entries with this tag answers, from the text behind the third field of a line and the fields that
+-- are left
 abbrev pub GivesEntry : EntryTag → List ℕ → List (List ℕ) → Result Entry FieldError → Type 0
 GivesEntry t text fields result =
     Gives entry_values result (read_dues (dues_of (tag.Entry t)) text fields)

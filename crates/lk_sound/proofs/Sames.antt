@@ -13,6 +13,7 @@ use Rattle.lk_tree.specs.Bind.{bound}
 use Rattle.lk_tree.specs.Spine.{apply, head, args, IsNeutral, IsHeadNormal}
 use Rattle.lk_tree.specs.WellFormed.{IsWellFormed, AllWellFormed}
 use Rattle.lk_tree.proofs.Spines.{well_formed_of_apply, neutral_head}
+use Rattle.lk_tree.proofs.Scans.{both_true}
 use Rattle.lk_tree.proofs.Within.{apply_head_args}
 use Rattle.lk_rulebook.specs.Place.{Place}
 use Rattle.lk_rulebook.specs.Rules.{r_refl, e_refl, e_reduce, e_sort, e_const, e_lam, e_pi, e_proj, SameLevels}
@@ -154,11 +155,6 @@ sound_both w ok a b fa fb u v i j =
     sound_bind w (unfold_with u a) _ (λ x. GoesTo w a x) (λ e. IfYes e (IsDefEq w a b)) (sound_unfold_with w ok a fa u i)
     (λ x g. sound_bind w (unfold_with v b) (λ y. asked (same x y)) (λ y. GoesTo w b y) (λ e. IfYes e (IsDefEq w a b)) (sound_unfold_with w ok b fb v j)
     (λ y h. (((well_formed_of_reduct g.0).1, (well_formed_of_reduct h.0).1), λ e m. if_yes_map e (λ c. e_reduce g.0 h.0 c) m)))
-
-both_true : (a b : Bool) → (a && b) ≡ true → (a ≡ true) × (b ≡ true)
-both_true true true h = (refl, refl)
-both_true true false h = absurd cc
-both_true false b h = absurd cc
 
 neutral_const : (h : Tree) {c : Name} {ls : List Level} → h ≡ const c ls → IsNeutral h
 neutral_const h e = rw e tt

@@ -101,7 +101,7 @@ sound_type_end w p n r h =
           (λ l c. record { last = t.1; indices = g.telescope; locals = g.locals; ends = c }),
     ))
 
--- T1's own parameters are a telescope over their own types
+-- the parameters of the first family are a telescope over their own types
 pub over_own : (w : Place) (j n : ℕ) (r rest : Tree) (ps : List Tree) → Telescope w j n r ps rest → Over w ps r rest
 over_own w j n r rest ps no_pi = over_none
 over_own w j n r rest ps (a_pi {j = i} {n = m} {A = A} {B = B} {xs = xs} c b t) =

@@ -5,3 +5,4 @@ pub mod Rewriting
 pub mod Store
 pub mod Table
 pub mod Waits
+pub mod Packed

@@ -78,7 +78,8 @@ abbrev pub theorem_of : State → ℕ → ℕ → ℕ → List ℕ → Result Th
 theorem_of s n a v ps = known s.names n >>= λ name. (known s.trees a >>= λ type. (known s.trees v >>= λ proof.
     (all_known s.names ps >>= λ levels. Ok (record { name = name; levels = levels; type = type; proof = proof }))))
 
--- what the values behind each tag add; a line of any other kind is no line yet
+-- what the values behind each tag add; a line of any other kind is no line yet. A built tag with values of another shape
+-- is given by no line, and the same word stands for it.
 unfoldable pub entry_added : State → ℕ → EntryTag → List Value → Result State Word
 entry_added s own entry.NameText (value.Number p ∷ value.Bytes bytes ∷ []) = with_name s own (longer_name s p (text bytes))
 entry_added s own entry.NameNumber (value.Number p ∷ value.Number n ∷ []) = with_name s own (longer_name s p (number n))

@@ -6,10 +6,11 @@ use lk_store::node::NoMemory;
 use std::alloc::Global;
 use std::collections::HashMap;
 
-/// Numbers of the file, which may begin anywhere and leave gaps, and the place that each has.
+/// Numbers of the file, which may begin anywhere and leave gaps, and the place that each has. A place has 32 bits, as a
+/// file has no more items; a greater one is want of memory.
 #[derive(Drop)]
 pub struct Numbering {
-    pub map: HashMap<u32, u64>,
+    pub map: HashMap<u32, u32>,
 }
 
 impl Numbering {
@@ -25,7 +26,10 @@ impl Numbering {
     pub fn find(&self, number: u32) -> Option<u64>
         ensures { result ≡ entry self.now number }
     {
-        self.map.get(&number).copied()
+        match self.map.get(&number) {
+            Some(place) => Some(u64::from(*place)),
+            None => None,
+        }
     }
 
     /// Gives a number its place.
@@ -33,6 +37,9 @@ impl Numbering {
         ensures ok { OnOk result ((q : ℕ) → entry self.new q ≡ (if q == number then Some place else entry self.old q)) }
         ensures err { OnErr result ((q : ℕ) → entry self.new q ≡ entry self.old q) }
     {
+        let Ok(place) = u32::try_from(place) else {
+            return Err(NoMemory);
+        };
         match self.map.insert(number, place) {
             Ok(_) => Ok(()),
             Err(_) => Err(NoMemory),
