@@ -1,0 +1,160 @@
+//! Rows by number, each found by its key.
+
+use crate::memory::NoMemory;
+use crate::row::Row;
+use std::alloc::Global;
+use std::marker::Model;
+
+/// Rows by number, each found by its key. The numbers are kept in 32 bits.
+#[derive(Drop)]
+pub struct Table<R: Row + Drop> {
+    rows: Vec<R>,
+    /// One above the last row before it in its bucket, or 0.
+    links: Vec<u32>,
+    /// One above the last row of each bucket, or 0.
+    heads: Vec<u32>,
+}
+
+impl<R: Row + Drop> Model for Table<R> {
+    ghost use Rattle.std.specs.Prelude.{List};
+    ghost use Rattle.lk_rows.specs.Chains.{IsTable};
+
+    ghost Value = { List R };
+
+    ghost view = { λ t. t.rows.items };
+
+    ghost invariant = { λ t. IsTable R.key R.hash t.rows.items t.links.items t.heads.items };
+}
+
+ghost use Rattle.std.specs.Prelude.{◌≡◌, ◌≢◌, ◌<◌, ◌≤◌, ◌^◌, ◌-◌, ℕ, [], ◌∷◌, ◌++◌, length, slice_index_or, IfNone, IfSome, IfOk, OnOk, OnErr};
+ghost use Rattle.lk_rows.specs.Chains.{bucket, buckets_of, AreLinked, IsTable};
+
+/// The bucket of a hash among `n`.
+fn bucket_of(hash: u64, n: usize) -> usize
+    requires { 0 < n }
+    ensures value { result ≡ bucket hash n }
+    ensures within { result < n }
+{
+    (hash & (n as u64 - 1)) as usize
+}
+
+/// Links the rows anew.
+fn link_all<R: Row>(rows: &[R], links: &mut [u32], heads: &mut [u32])
+    requires one_each { length links.old ≡ length rows.now }
+    requires few { length rows.now < 2 ^ 32 }
+    requires some { 0 < length heads.old }
+    ensures { AreLinked (buckets_of R.key R.hash rows.now (length heads.new)) links.new heads.new (length rows.now) }
+{
+    for head in heads.iter_mut() {
+        *head = 0;
+    }
+    for (i, row) in rows.iter().enumerate() {
+        let b = bucket_of(row.own_hash(), heads.len());
+        links[i] = heads[b];
+        heads[b] = i as u32 + 1;
+    }
+}
+
+/// The row that has the key.
+fn find_linked<R: Row>(rows: &[R], links: &[u32], heads: &[u32], key: &R::Key) -> Option<u64>
+    requires { IsTable R.key R.hash rows.now links.now heads.now }
+    ensures absent { IfNone result ((k : ℕ) (d : R) → k < length rows.now → R.key (slice_index_or rows.now k d) ≢ key.now) }
+    ensures known { IfSome result (λ i. i < length rows.now) }
+    ensures present { IfSome result (λ i. (d : R) → R.key (slice_index_or rows.now i d) ≡ key.now) }
+{
+    if heads.is_empty() {
+        return None;
+    }
+    let b = bucket_of(R::hash_of(key), heads.len());
+    let mut at = heads[b];
+    while at != 0 {
+        let i = at - 1;
+        if rows[i as usize].has(key) {
+            return Some(u64::from(i));
+        }
+        at = links[i as usize];
+    }
+    None
+}
+
+/// Makes room for one more row.
+fn make_room<R: Row>(rows: &[R], links: &mut Vec<u32>, heads: &mut Vec<u32>) -> Result<(), NoMemory>
+    requires { IsTable R.key R.hash rows.now links.old.items heads.old.items }
+    ensures linked { IsTable R.key R.hash rows.now links.new.items heads.new.items }
+    ensures room { OnOk result (length rows.now < length heads.new.items) }
+{
+    if rows.len() == heads.len() {
+        let wanted = heads.len().saturating_mul(2).max(16);
+        heads.resize(wanted, 0)?;
+        link_all(rows, links, heads);
+    }
+    Ok(())
+}
+
+impl<R: Row + Drop> Table<R> {
+    /// An empty table. It takes no memory.
+    pub fn new(alloc: Global) -> Self
+        ensures { result ≡ [] }
+    {
+        Table {
+            rows: Vec::new(alloc),
+            links: Vec::new(alloc),
+            heads: Vec::new(alloc),
+        }
+    }
+
+    pub fn len(&self) -> u64
+        ensures len { result ≡ length self.now }
+        ensures few { result < 2 ^ 32 }
+    {
+        let _links = &self.links;
+        self.rows.len() as u64
+    }
+
+    pub fn get(&self, i: u64) -> &R
+        requires { i < length self.now }
+        ensures { (d : R) → result.now ≡ slice_index_or self.now i d }
+    {
+        &self.rows[i as usize]
+    }
+
+    /// The number of the row that has the key.
+    pub fn find(&self, key: &R::Key) -> Option<u64>
+        ensures few { IfSome result (λ i. i < 2 ^ 32) }
+        ensures absent { IfNone result ((k : ℕ) (d : R) → k < length self.now → R.key (slice_index_or self.now k d) ≢ key.now) }
+        ensures known { IfSome result (λ i. i < length self.now) }
+        ensures present { IfSome result (λ i. (d : R) → R.key (slice_index_or self.now i d) ≡ key.now) }
+    {
+        find_linked(&self.rows, &self.links, &self.heads, key)
+    }
+
+    /// Makes the table empty, and keeps its rooms.
+    pub fn clear(&mut self)
+        ensures { self.new ≡ [] }
+    {
+        self.rows.clear();
+        self.links.clear();
+        self.heads.clear();
+    }
+
+    /// Adds a row. A table holds fewer than 2^32.
+    pub fn push(&mut self, row: R) -> Result<(), NoMemory>
+        ensures ok { OnOk result (self.new ≡ self.old ++ row ∷ []) }
+        ensures err { OnErr result (self.new ≡ self.old) }
+    {
+        if self.rows.len() >= u32::MAX as usize {
+            return Err(NoMemory);
+        }
+        make_room(&self.rows, &mut self.links, &mut self.heads)?;
+        let b = bucket_of(row.own_hash(), self.heads.len());
+        let last = self.heads[b];
+        let i = self.rows.len() as u32;
+        self.links.push(last)?;
+        if self.rows.push(row).is_err() {
+            let _ = self.links.pop();
+            return Err(NoMemory);
+        }
+        self.heads[b] = i + 1;
+        Ok(())
+    }
+}

@@ -1,0 +1,134 @@
+//! The store of a library.
+
+use crate::making::{make_in, make_level_in, make_list_in, make_name_in, make_text_in};
+use crate::name::{Name, Text};
+use crate::node::{LevelNode, ListNode, Node};
+use crate::reading::{
+    len_in, level_in, level_params_in, list_in, list_params_in, local_in, loose_in, name_in,
+    narrow_in, params_in, same_in, text_in, view_in,
+};
+use crate::tables::Tables;
+use crate::terms::Terms;
+use lk_rows::memory::NoMemory;
+use std::alloc::Global;
+use std::marker::Model;
+
+/// The store of a library: each thing stands in it once.
+#[derive(Drop)]
+pub struct BaseStore {
+    alloc: Global,
+    /// What it lies over, which is empty.
+    pub(crate) nothing: Tables,
+    pub(crate) tables: Tables,
+}
+
+impl Model for BaseStore {
+    ghost use Rattle.lk_store.specs.declared.tables.Tables.{Tables};
+
+    ghost Value = { Tables };
+
+    ghost use Rattle.std.specs.Prelude.{◌≡◌};
+    ghost use Rattle.lk_store.specs.Store.{over, no_tables, IsStore};
+
+    ghost view = { λ s. s.tables };
+
+    ghost invariant = { λ s. IsStore s.tables × (s.nothing ≡ no_tables) };
+}
+
+impl BaseStore {
+    ghost use Rattle.std.specs.Prelude.{◌≡◌};
+    ghost use Rattle.lk_store.specs.Store.{no_tables};
+
+    /// An empty store. It takes no memory.
+    pub fn new(alloc: Global) -> Self
+        ensures { result ≡ no_tables }
+    {
+        BaseStore {
+            alloc,
+            nothing: Tables::new(alloc),
+            tables: Tables::new(alloc),
+        }
+    }
+}
+
+impl Terms for BaseStore {
+    ghost use Rattle.lk_store.specs.Store.{contents_of};
+
+    type Rest = ();
+
+    ghost rest = { λ s. tt };
+
+    ghost contents = { contents_of };
+
+    fn len(&self) -> u64 {
+        len_in(&self.nothing, &self.tables)
+    }
+
+    fn view(&self, e: u64) -> Node {
+        view_in(&self.nothing, &self.tables, e)
+    }
+
+    fn make(&mut self, node: Node) -> Result<u64, NoMemory> {
+        make_in(&self.nothing, &mut self.tables, node)
+    }
+
+    fn same(&self, a: u64, b: u64) -> bool {
+        same_in(&self.nothing, &self.tables, a, b)
+    }
+
+    fn loose_bound(&self, e: u64) -> u128 {
+        loose_in(&self.nothing, &self.tables, e)
+    }
+
+    fn local_bound(&self, e: u64) -> u128 {
+        local_in(&self.nothing, &self.tables, e)
+    }
+
+    fn has_params(&self, e: u64) -> bool {
+        params_in(&self.nothing, &self.tables, e)
+    }
+
+    fn is_narrow(&self, e: u64) -> bool {
+        narrow_in(&self.nothing, &self.tables, e)
+    }
+
+    fn level(&self, l: u64) -> LevelNode {
+        level_in(&self.nothing, &self.tables, l)
+    }
+
+    fn make_level(&mut self, node: LevelNode) -> Result<u64, NoMemory> {
+        make_level_in(&self.nothing, &mut self.tables, node)
+    }
+
+    fn level_has_params(&self, l: u64) -> bool {
+        level_params_in(&self.nothing, &self.tables, l)
+    }
+
+    fn levels(&self, ls: u64) -> ListNode {
+        list_in(&self.nothing, &self.tables, ls)
+    }
+
+    fn make_levels(&mut self, node: ListNode) -> Result<u64, NoMemory> {
+        make_list_in(&self.nothing, &mut self.tables, node)
+    }
+
+    fn levels_have_params(&self, ls: u64) -> bool {
+        list_params_in(&self.nothing, &self.tables, ls)
+    }
+
+    fn name(&self, n: u64) -> &Name {
+        name_in(&self.nothing, &self.tables, n)
+    }
+
+    fn make_name(&mut self, name: &Name) -> Result<u64, NoMemory> {
+        make_name_in(self.alloc, &self.nothing, &mut self.tables, name)
+    }
+
+    fn text(&self, s: u64) -> &Text {
+        text_in(&self.nothing, &self.tables, s)
+    }
+
+    fn make_text(&mut self, text: &Text) -> Result<u64, NoMemory> {
+        make_text_in(self.alloc, &self.nothing, &mut self.tables, text)
+    }
+}

@@ -1,0 +1,213 @@
+//! Rows in memory: nodes whose numbers take 32 bits, with what is kept beside them.
+
+ghost use Rattle.std.specs.Prelude.{◌≡◌, ◌↔◌, IsTrue};
+ghost use Rattle.lk_store.specs.Hashes.{hash_of_number};
+ghost use Rattle.lk_store.specs.Keys.{hash_of_level, hash_of_list, hash_of_tree};
+
+use crate::hashing::{hash_words, mix};
+use lk_rows::row::Row;
+
+/// The hash of a number.
+fn hash_number(n: u128) -> u64
+    ensures { result ≡ hash_of_number n }
+{
+    mix((n & 0xFFFF_FFFF_FFFF_FFFF) as u64, (n >> 64) as u64)
+}
+
+/// A number that takes more than 31 bits.
+#[derive(Clone, Copy, Debug, PartialEq, Eq)]
+pub struct Number {
+    pub value: u128,
+}
+
+impl Row for Number {
+    type Key = Number;
+
+    ghost key = { λ n. n };
+
+    ghost use Rattle.lk_store.specs.Hashes.{hash_of_number};
+
+    ghost hash = { λ n. hash_of_number n.value };
+
+    fn hash_of(wanted: &Number) -> u64 {
+        hash_number(wanted.value)
+    }
+
+    fn own_hash(&self) -> u64 {
+        hash_number(self.value)
+    }
+
+    fn has(&self, wanted: &Number) -> bool {
+        *self == *wanted
+    }
+}
+
+/// A level.
+#[derive(Clone, Copy, Debug, PartialEq, Eq)]
+pub enum LevelKey {
+    Zero,
+    Succ(u32),
+    Max(u32, u32),
+    IMax(u32, u32),
+    Param(u32),
+}
+
+fn hash_level(key: &LevelKey) -> u64
+    ensures { result ≡ hash_of_level key.now }
+{
+    match *key {
+        LevelKey::Zero => hash_words(0, 0, 0, 0),
+        LevelKey::Succ(a) => hash_words(1, a, 0, 0),
+        LevelKey::Max(a, b) => hash_words(2, a, b, 0),
+        LevelKey::IMax(a, b) => hash_words(3, a, b, 0),
+        LevelKey::Param(a) => hash_words(4, a, 0, 0),
+    }
+}
+
+/// A level, and what is kept of it.
+#[derive(Clone, Copy, Debug, PartialEq, Eq)]
+pub struct LevelRow {
+    pub key: LevelKey,
+    /// Whether a parameter stands in it.
+    pub params: bool,
+}
+
+impl Row for LevelRow {
+    type Key = LevelKey;
+
+    ghost key = { λ row. row.key };
+
+    ghost use Rattle.lk_store.specs.Keys.{hash_of_level};
+
+    ghost hash = { hash_of_level };
+
+    fn hash_of(wanted: &LevelKey) -> u64 {
+        hash_level(wanted)
+    }
+
+    fn own_hash(&self) -> u64 {
+        hash_level(&self.key)
+    }
+
+    fn has(&self, wanted: &LevelKey) -> bool {
+        self.key == *wanted
+    }
+}
+
+/// A list of levels.
+#[derive(Clone, Copy, Debug, PartialEq, Eq)]
+pub enum ListKey {
+    Empty,
+    Cons(u32, u32),
+}
+
+fn hash_list(key: &ListKey) -> u64
+    ensures { result ≡ hash_of_list key.now }
+{
+    match *key {
+        ListKey::Empty => hash_words(0, 0, 0, 0),
+        ListKey::Cons(a, b) => hash_words(1, a, b, 0),
+    }
+}
+
+/// A list of levels, and what is kept of it.
+#[derive(Clone, Copy, Debug, PartialEq, Eq)]
+pub struct ListRow {
+    pub key: ListKey,
+    /// Whether a parameter stands in it.
+    pub params: bool,
+}
+
+impl Row for ListRow {
+    type Key = ListKey;
+
+    ghost key = { λ row. row.key };
+
+    ghost use Rattle.lk_store.specs.Keys.{hash_of_list};
+
+    ghost hash = { hash_of_list };
+
+    fn hash_of(wanted: &ListKey) -> u64 {
+        hash_list(wanted)
+    }
+
+    fn own_hash(&self) -> u64 {
+        hash_list(&self.key)
+    }
+
+    fn has(&self, wanted: &ListKey) -> bool {
+        self.key == *wanted
+    }
+}
+
+/// A tree. The numbers of variables, fields, literals and Locals are codes.
+#[derive(Clone, Copy, Debug, PartialEq, Eq)]
+pub enum TreeKey {
+    Var(u32),
+    Sort(u32),
+    Const(u32, u32),
+    App(u32, u32),
+    Lam(u32, u32),
+    Pi(u32, u32),
+    Let(u32, u32, u32),
+    Proj(u32, u32, u32),
+    Lit(u32),
+    Wide,
+    Str(u32),
+    Local(u32, u32),
+}
+
+fn hash_tree(key: &TreeKey) -> u64
+    ensures { result ≡ hash_of_tree key.now }
+{
+    match *key {
+        TreeKey::Var(a) => hash_words(0, a, 0, 0),
+        TreeKey::Sort(a) => hash_words(1, a, 0, 0),
+        TreeKey::Const(a, b) => hash_words(2, a, b, 0),
+        TreeKey::App(a, b) => hash_words(3, a, b, 0),
+        TreeKey::Lam(a, b) => hash_words(4, a, b, 0),
+        TreeKey::Pi(a, b) => hash_words(5, a, b, 0),
+        TreeKey::Let(a, b, c) => hash_words(6, a, b, c),
+        TreeKey::Proj(a, b, c) => hash_words(7, a, b, c),
+        TreeKey::Lit(a) => hash_words(8, a, 0, 0),
+        TreeKey::Wide => hash_words(9, 0, 0, 0),
+        TreeKey::Str(a) => hash_words(10, a, 0, 0),
+        TreeKey::Local(a, b) => hash_words(11, a, b, 0),
+    }
+}
+
+/// A tree, and what is kept of it.
+#[derive(Clone, Copy, Debug, PartialEq, Eq)]
+pub struct TreeRow {
+    pub key: TreeKey,
+    /// The code of the least number above its loose variables.
+    pub loose: u32,
+    /// The code of the least number above its Locals.
+    pub local: u32,
+    /// Whether a parameter stands in it.
+    pub params: bool,
+    /// Whether each literal in it is at most 2^128 - 1.
+    pub narrow: bool,
+}
+
+impl Row for TreeRow {
+    type Key = TreeKey;
+
+    ghost key = { λ row. row.key };
+
+    ghost use Rattle.lk_store.specs.Keys.{hash_of_tree};
+
+    ghost hash = { hash_of_tree };
+
+    fn hash_of(wanted: &TreeKey) -> u64 {
+        hash_tree(wanted)
+    }
+
+    fn own_hash(&self) -> u64 {
+        hash_tree(&self.key)
+    }
+
+    fn has(&self, wanted: &TreeKey) -> bool {
+        self.key == *wanted
+    }
+}

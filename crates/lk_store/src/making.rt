@@ -1,0 +1,248 @@
+//! What is added to the tables of a store. A row is added only where none has its key, so that each thing stands once.
+
+ghost use Rattle.std.specs.Prelude.{◌≡◌, ◌<◌, ◌^◌, ◌+◌, IfOk, OnErr};
+ghost use Rattle.lk_store.specs.Measures.{level_has_params, list_has_params};
+ghost use Rattle.lk_store.specs.Names.{name_of};
+ghost use Rattle.lk_store.specs.Contents.{level_of, list_of, tree_of, IsLevelIn, IsListIn, IsIn, IsName, IsText, IsLevel, IsList, IsTree};
+ghost use Rattle.lk_store.specs.Keys.{IsCodeOf};
+ghost use Rattle.lk_store.specs.Nodes.{level_node, list_node, LevelFits, ListFits, NodeFits, IsKeyOf};
+ghost use Rattle.lk_store.specs.RowFor.{IsRowFor};
+ghost use Rattle.lk_store.specs.Store.{over, contents_of, IsStore, Recoded, Grown};
+
+use crate::key::{LevelKey, LevelRow, ListKey, ListRow, Number, TreeKey, TreeRow};
+use crate::name::{Name, Text};
+use crate::node::{LevelNode, ListNode, Node};
+use crate::reading::{level_params_in, list_params_in, marks_of};
+use crate::tables::Tables;
+use lk_rows::layers::{add, count, find};
+use lk_rows::memory::NoMemory;
+use std::alloc::Global;
+
+/// The code of a number, which is kept where it takes more than 31 bits.
+fn encode(base: &Tables, own: &mut Tables, n: u128) -> Result<u32, NoMemory>
+    requires { IsStore (over base.now own.old) }
+    ensures recoded { Recoded (over base.now own.old) (over base.now own.new) }
+    ensures ok { IfOk result (λ code. IsCodeOf (over base.now own.new).numbers code n) }
+    ensures same_trees { own.new.trees ≡ own.old.trees }
+{
+    if n < 0x8000_0000 {
+        return Ok(n as u32);
+    }
+    let number = Number { value: n };
+    match find(&base.numbers, &own.numbers, &number) {
+        Some(i) => Ok(i as u32 + 0x8000_0000),
+        None => {
+            if count(&base.numbers, &own.numbers) + 1 >= 0x8000_0000 {
+                return Err(NoMemory);
+            }
+            let i = add(&base.numbers, &mut own.numbers, number)?;
+            Ok(i as u32 + 0x8000_0000)
+        }
+    }
+}
+
+fn level_key(node: LevelNode) -> LevelKey
+    requires { LevelFits node }
+    ensures { level_node result ≡ node }
+{
+    match node {
+        LevelNode::Zero => LevelKey::Zero,
+        LevelNode::Succ(l) => LevelKey::Succ(l as u32),
+        LevelNode::Max(l, m) => LevelKey::Max(l as u32, m as u32),
+        LevelNode::IMax(l, m) => LevelKey::IMax(l as u32, m as u32),
+        LevelNode::Param(n) => LevelKey::Param(n as u32),
+    }
+}
+
+fn list_key(node: ListNode) -> ListKey
+    requires { ListFits node }
+    ensures { list_node result ≡ node }
+{
+    match node {
+        ListNode::Empty => ListKey::Empty,
+        ListNode::Cons(l, ls) => ListKey::Cons(l as u32, ls as u32),
+    }
+}
+
+/// Whether a parameter stands in the level of a node.
+fn params_of_level(base: &Tables, own: &Tables, node: LevelNode) -> bool
+    requires store { IsStore (over base.now own.now) }
+    requires known { IsLevelIn (contents_of (over base.now own.now)) node }
+    ensures { result ≡ level_has_params (level_of (contents_of (over base.now own.now)) node) }
+{
+    match node {
+        LevelNode::Zero => false,
+        LevelNode::Succ(l) => level_params_in(base, own, l),
+        LevelNode::Max(l, m) | LevelNode::IMax(l, m) => level_params_in(base, own, l)
+            || level_params_in(base, own, m),
+        LevelNode::Param(_) => true,
+    }
+}
+
+/// Whether a parameter stands in the list of a node.
+fn params_of_list(base: &Tables, own: &Tables, node: ListNode) -> bool
+    requires store { IsStore (over base.now own.now) }
+    requires known { IsListIn (contents_of (over base.now own.now)) node }
+    ensures { result ≡ list_has_params (list_of (contents_of (over base.now own.now)) node) }
+{
+    match node {
+        ListNode::Empty => false,
+        ListNode::Cons(l, ls) => level_params_in(base, own, l) || list_params_in(base, own, ls),
+    }
+}
+
+/// The number of a level.
+pub(crate) fn make_level_in(
+    base: &Tables,
+    own: &mut Tables,
+    node: LevelNode,
+) -> Result<u64, NoMemory>
+    requires store { IsStore (over base.now own.old) }
+    requires known { IsLevelIn (contents_of (over base.now own.old)) node }
+    ensures grown { Grown (over base.now own.old) (over base.now own.new) }
+    ensures ok { IfOk result (λ l. IsLevel (contents_of (over base.now own.new)) l (level_of (contents_of (over base.now own.old)) node)) }
+    ensures err { OnErr result (own.new ≡ own.old) }
+{
+    let key = level_key(node);
+    match find(&base.levels, &own.levels, &key) {
+        Some(l) => Ok(l),
+        None => {
+            let params = params_of_level(base, own, node);
+            let l = add(&base.levels, &mut own.levels, LevelRow { key, params })?;
+            Ok(l)
+        }
+    }
+}
+
+/// The number of a list of levels.
+pub(crate) fn make_list_in(base: &Tables, own: &mut Tables, node: ListNode) -> Result<u64, NoMemory>
+    requires store { IsStore (over base.now own.old) }
+    requires known { IsListIn (contents_of (over base.now own.old)) node }
+    ensures grown { Grown (over base.now own.old) (over base.now own.new) }
+    ensures ok { IfOk result (λ ls. IsList (contents_of (over base.now own.new)) ls (list_of (contents_of (over base.now own.old)) node)) }
+    ensures err { OnErr result (own.new ≡ own.old) }
+{
+    let key = list_key(node);
+    match find(&base.lists, &own.lists, &key) {
+        Some(ls) => Ok(ls),
+        None => {
+            let params = params_of_list(base, own, node);
+            let ls = add(&base.lists, &mut own.lists, ListRow { key, params })?;
+            Ok(ls)
+        }
+    }
+}
+
+/// The number of a name.
+pub(crate) fn make_name_in(
+    alloc: Global,
+    base: &Tables,
+    own: &mut Tables,
+    name: &Name,
+) -> Result<u64, NoMemory>
+    requires { IsStore (over base.now own.old) }
+    ensures grown { Grown (over base.now own.old) (over base.now own.new) }
+    ensures ok { IfOk result (λ n. IsName (contents_of (over base.now own.new)) n (name_of name.now)) }
+    ensures err { OnErr result (own.new ≡ own.old) }
+{
+    match find(&base.names, &own.names, name) {
+        Some(n) => Ok(n),
+        None => {
+            let n = add(&base.names, &mut own.names, name.copy(alloc)?)?;
+            Ok(n)
+        }
+    }
+}
+
+/// The number of a text.
+pub(crate) fn make_text_in(
+    alloc: Global,
+    base: &Tables,
+    own: &mut Tables,
+    text: &Text,
+) -> Result<u64, NoMemory>
+    requires { IsStore (over base.now own.old) }
+    ensures grown { Grown (over base.now own.old) (over base.now own.new) }
+    ensures ok { IfOk result (λ s. IsText (contents_of (over base.now own.new)) s text.now) }
+    ensures err { OnErr result (own.new ≡ own.old) }
+{
+    match find(&base.texts, &own.texts, text) {
+        Some(s) => Ok(s),
+        None => {
+            let s = add(&base.texts, &mut own.texts, text.copy(alloc)?)?;
+            Ok(s)
+        }
+    }
+}
+
+/// The key of a tree.
+fn tree_key(base: &Tables, own: &mut Tables, node: Node) -> Result<TreeKey, NoMemory>
+    requires store { IsStore (over base.now own.old) }
+    requires fits { NodeFits node }
+    ensures recoded { Recoded (over base.now own.old) (over base.now own.new) }
+    ensures ok { IfOk result (λ key. IsKeyOf (over base.now own.new).numbers key node) }
+{
+    match node {
+        Node::Var(i) => Ok(TreeKey::Var(encode(base, own, u128::from(i))?)),
+        Node::Proj(n, i, s) => Ok(TreeKey::Proj(
+            n as u32,
+            encode(base, own, u128::from(i))?,
+            s as u32,
+        )),
+        Node::Lit(n) => Ok(TreeKey::Lit(encode(base, own, n)?)),
+        Node::Local(k, t) => Ok(TreeKey::Local(encode(base, own, u128::from(k))?, t as u32)),
+        Node::Sort(l) => Ok(TreeKey::Sort(l as u32)),
+        Node::Const(n, ls) => Ok(TreeKey::Const(n as u32, ls as u32)),
+        Node::App(f, a) => Ok(TreeKey::App(f as u32, a as u32)),
+        Node::Lam(t, b) => Ok(TreeKey::Lam(t as u32, b as u32)),
+        Node::Pi(t, b) => Ok(TreeKey::Pi(t as u32, b as u32)),
+        Node::Let(t, v, b) => Ok(TreeKey::Let(t as u32, v as u32, b as u32)),
+        Node::Wide => Ok(TreeKey::Wide),
+        Node::Str(s) => Ok(TreeKey::Str(s as u32)),
+    }
+}
+
+/// A row for a tree that has none.
+fn tree_row_for(
+    base: &Tables,
+    own: &mut Tables,
+    key: TreeKey,
+    node: Node,
+) -> Result<TreeRow, NoMemory>
+    requires store { IsStore (over base.now own.old) }
+    requires known { IsIn (contents_of (over base.now own.old)) node }
+    requires key { IsKeyOf (over base.now own.old).numbers key node }
+    ensures recoded { Recoded (over base.now own.old) (over base.now own.new) }
+    ensures ok { IfOk result (λ row. IsRowFor (over base.now own.new) row key node) }
+    ensures same_trees { own.new.trees ≡ own.old.trees }
+{
+    let marks = marks_of(base, own, node);
+    let loose = encode(base, own, marks.loose)?;
+    let local = encode(base, own, marks.local)?;
+    Ok(TreeRow {
+        key,
+        loose,
+        local,
+        params: marks.params,
+        narrow: marks.narrow,
+    })
+}
+
+/// The number of a tree.
+pub(crate) fn make_in(base: &Tables, own: &mut Tables, node: Node) -> Result<u64, NoMemory>
+    requires store { IsStore (over base.now own.old) }
+    requires known { IsIn (contents_of (over base.now own.old)) node }
+    ensures grown { Grown (over base.now own.old) (over base.now own.new) }
+    ensures ok { IfOk result (λ e. IsTree (contents_of (over base.now own.new)) e (tree_of (contents_of (over base.now own.old)) node)) }
+    ensures err { OnErr result (contents_of (over base.now own.new) ≡ contents_of (over base.now own.old)) }
+{
+    let key = tree_key(base, own, node)?;
+    match find(&base.trees, &own.trees, &key) {
+        Some(e) => Ok(e),
+        None => {
+            let row = tree_row_for(base, own, key, node)?;
+            let e = add(&base.trees, &mut own.trees, row)?;
+            Ok(e)
+        }
+    }
+}

@@ -1,0 +1,145 @@
+//! A store over that of a library.
+
+ghost use Rattle.std.specs.Prelude.{◌≡◌};
+
+use crate::base_store::BaseStore;
+use crate::making::{make_in, make_level_in, make_list_in, make_name_in, make_text_in};
+use crate::name::{Name, Text};
+use crate::node::{LevelNode, ListNode, Node};
+use crate::reading::{
+    len_in, level_in, level_params_in, list_in, list_params_in, local_in, loose_in, name_in,
+    narrow_in, params_in, same_in, text_in, view_in,
+};
+use crate::tables::Tables;
+use crate::terms::Terms;
+use lk_rows::memory::NoMemory;
+use std::alloc::Global;
+use std::marker::Model;
+
+/// A store over that of a library, which is only read. What is made stands in it alone; what the library has keeps its number.
+#[derive(Drop)]
+pub struct Overlay<'a> {
+    alloc: Global,
+    base: &'a Tables,
+    own: Tables,
+}
+
+impl<'a> Model for Overlay<'a> {
+    ghost use Rattle.lk_store.specs.declared.tables.Tables.{Tables};
+
+    ghost Value = { Tables × Tables };
+
+    ghost use Rattle.lk_store.specs.Store.{over, IsStore};
+
+    ghost view = { λ s. (s.base.now, s.own) };
+
+    ghost invariant = { λ s. IsStore s.base.now × IsStore (over s.base.now s.own) };
+}
+
+impl<'a> Overlay<'a> {
+    ghost use Rattle.lk_store.specs.Store.{no_tables, over, contents_of};
+
+    /// A store that has what the library has. It takes no memory.
+    #[tactic(auto, using(crate::proofs::Overlaid::contents_over_nothing))]
+    pub fn new(alloc: Global, base: &'a BaseStore) -> Self
+        ensures value { result ≡ (base.now, no_tables) }
+        ensures contents { contents_of (over result.0 result.1) ≡ contents_of base.now }
+    {
+        Overlay {
+            alloc,
+            base: &base.tables,
+            own: Tables::new(alloc),
+        }
+    }
+
+    /// Leaves what the library has, and keeps the rooms.
+    #[tactic(auto, using(crate::proofs::Overlaid::contents_over_nothing))]
+    pub fn clear(&mut self)
+        ensures value { self.new ≡ (self.old.0, no_tables) }
+        ensures contents { contents_of (over self.new.0 self.new.1) ≡ contents_of self.old.0 }
+    {
+        self.own.clear();
+    }
+}
+
+impl<'a> Terms for Overlay<'a> {
+    ghost use Rattle.lk_store.specs.Store.{over, contents_of};
+
+    type Rest = ();
+
+    ghost rest = { λ s. tt };
+
+    ghost contents = { λ s. contents_of (over s.0 s.1) };
+
+    fn len(&self) -> u64 {
+        len_in(self.base, &self.own)
+    }
+
+    fn view(&self, e: u64) -> Node {
+        view_in(self.base, &self.own, e)
+    }
+
+    fn make(&mut self, node: Node) -> Result<u64, NoMemory> {
+        make_in(self.base, &mut self.own, node)
+    }
+
+    fn same(&self, a: u64, b: u64) -> bool {
+        same_in(self.base, &self.own, a, b)
+    }
+
+    fn loose_bound(&self, e: u64) -> u128 {
+        loose_in(self.base, &self.own, e)
+    }
+
+    fn local_bound(&self, e: u64) -> u128 {
+        local_in(self.base, &self.own, e)
+    }
+
+    fn has_params(&self, e: u64) -> bool {
+        params_in(self.base, &self.own, e)
+    }
+
+    fn is_narrow(&self, e: u64) -> bool {
+        narrow_in(self.base, &self.own, e)
+    }
+
+    fn level(&self, l: u64) -> LevelNode {
+        level_in(self.base, &self.own, l)
+    }
+
+    fn make_level(&mut self, node: LevelNode) -> Result<u64, NoMemory> {
+        make_level_in(self.base, &mut self.own, node)
+    }
+
+    fn level_has_params(&self, l: u64) -> bool {
+        level_params_in(self.base, &self.own, l)
+    }
+
+    fn levels(&self, ls: u64) -> ListNode {
+        list_in(self.base, &self.own, ls)
+    }
+
+    fn make_levels(&mut self, node: ListNode) -> Result<u64, NoMemory> {
+        make_list_in(self.base, &mut self.own, node)
+    }
+
+    fn levels_have_params(&self, ls: u64) -> bool {
+        list_params_in(self.base, &self.own, ls)
+    }
+
+    fn name(&self, n: u64) -> &Name {
+        name_in(self.base, &self.own, n)
+    }
+
+    fn make_name(&mut self, name: &Name) -> Result<u64, NoMemory> {
+        make_name_in(self.alloc, self.base, &mut self.own, name)
+    }
+
+    fn text(&self, s: u64) -> &Text {
+        text_in(self.base, &self.own, s)
+    }
+
+    fn make_text(&mut self, text: &Text) -> Result<u64, NoMemory> {
+        make_text_in(self.alloc, self.base, &mut self.own, text)
+    }
+}

@@ -1,0 +1,292 @@
+//! What the tables of a store say of its numbers. The rows of `base` have the first numbers, and `own` goes on after them.
+
+ghost use Rattle.std.specs.Prelude.{◌≡◌, ◌<◌, ◌^◌, ◌↔◌, length, IsTrue};
+ghost use Rattle.lk_tree.specs.Bind.{bound};
+ghost use Rattle.lk_tree.specs.Loose.{loose};
+ghost use Rattle.lk_tree.specs.Scan.{is_narrow};
+ghost use Rattle.lk_store.specs.Measures.{level_has_params, list_has_params, has_params, AreMarks};
+ghost use Rattle.lk_store.specs.Names.{name_of};
+ghost use Rattle.lk_store.specs.Contents.{name_at, text_at, level_at, list_at, tree_at, level_of, list_of, tree_of, IsLevelIn, IsListIn, IsIn};
+ghost use Rattle.lk_store.specs.Keys.{decoded, IsCode, IsMarkedTree};
+ghost use Rattle.lk_store.specs.Nodes.{level_node, list_node, node_of, AreCodes};
+ghost use Rattle.lk_store.specs.Store.{over, contents_of, IsStore};
+
+use crate::key::{LevelKey, LevelRow, ListKey, ListRow, TreeKey, TreeRow};
+use crate::marks::Marks;
+use crate::name::{Name, Text};
+use crate::node::{LevelNode, ListNode, Node};
+use crate::tables::Tables;
+use lk_rows::layers::{count, row_at};
+
+/// The number that a code stands for.
+pub(crate) fn decode(base: &Tables, own: &Tables, code: u32) -> u128
+    requires { IsCode (over base.now own.now).numbers code }
+    ensures { result ≡ decoded (over base.now own.now).numbers code }
+{
+    if code < 0x8000_0000 {
+        u128::from(code)
+    } else {
+        row_at(&base.numbers, &own.numbers, u64::from(code - 0x8000_0000)).value
+    }
+}
+
+/// The number that the code of a `u64` stands for.
+fn decode_short(base: &Tables, own: &Tables, code: u32) -> u64
+    requires code { IsCode (over base.now own.now).numbers code }
+    requires short { decoded (over base.now own.now).numbers code < 2 ^ 64 }
+    ensures { result ≡ decoded (over base.now own.now).numbers code }
+{
+    decode(base, own, code) as u64
+}
+
+fn level_of_key(key: LevelKey) -> LevelNode
+    ensures { result ≡ level_node key }
+{
+    match key {
+        LevelKey::Zero => LevelNode::Zero,
+        LevelKey::Succ(l) => LevelNode::Succ(u64::from(l)),
+        LevelKey::Max(l, m) => LevelNode::Max(u64::from(l), u64::from(m)),
+        LevelKey::IMax(l, m) => LevelNode::IMax(u64::from(l), u64::from(m)),
+        LevelKey::Param(n) => LevelNode::Param(u64::from(n)),
+    }
+}
+
+fn list_of_key(key: ListKey) -> ListNode
+    ensures { result ≡ list_node key }
+{
+    match key {
+        ListKey::Empty => ListNode::Empty,
+        ListKey::Cons(l, ls) => ListNode::Cons(u64::from(l), u64::from(ls)),
+    }
+}
+
+fn node_of_key(base: &Tables, own: &Tables, key: TreeKey) -> Node
+    requires { AreCodes (over base.now own.now).numbers key }
+    ensures { result ≡ node_of (over base.now own.now).numbers key }
+{
+    match key {
+        TreeKey::Var(i) => Node::Var(decode_short(base, own, i)),
+        TreeKey::Sort(l) => Node::Sort(u64::from(l)),
+        TreeKey::Const(n, ls) => Node::Const(u64::from(n), u64::from(ls)),
+        TreeKey::App(f, a) => Node::App(u64::from(f), u64::from(a)),
+        TreeKey::Lam(t, b) => Node::Lam(u64::from(t), u64::from(b)),
+        TreeKey::Pi(t, b) => Node::Pi(u64::from(t), u64::from(b)),
+        TreeKey::Let(t, v, b) => Node::Let(u64::from(t), u64::from(v), u64::from(b)),
+        TreeKey::Proj(n, i, s) => Node::Proj(
+            u64::from(n),
+            decode_short(base, own, i),
+            u64::from(s),
+        ),
+        TreeKey::Lit(n) => Node::Lit(decode(base, own, n)),
+        TreeKey::Wide => Node::Wide,
+        TreeKey::Str(s) => Node::Str(u64::from(s)),
+        TreeKey::Local(k, t) => Node::Local(decode_short(base, own, k), u64::from(t)),
+    }
+}
+
+/// The name of a number.
+pub(crate) fn name_in<'a>(base: &'a Tables, own: &'a Tables, n: u64) -> &'a Name
+    requires { n < length (contents_of (over base.now own.now)).names }
+    ensures { name_of result.now ≡ name_at (contents_of (over base.now own.now)) n }
+{
+    row_at(&base.names, &own.names, n)
+}
+
+/// The text of a number.
+pub(crate) fn text_in<'a>(base: &'a Tables, own: &'a Tables, s: u64) -> &'a Text
+    requires { s < length (contents_of (over base.now own.now)).texts }
+    ensures { result.now ≡ text_at (contents_of (over base.now own.now)) s }
+{
+    row_at(&base.texts, &own.texts, s)
+}
+
+/// The row of a level.
+fn level_row(base: &Tables, own: &Tables, l: u64) -> LevelRow
+    requires store { IsStore (over base.now own.now) }
+    requires known { l < length (contents_of (over base.now own.now)).levels }
+    ensures known { IsLevelIn (contents_of (over base.now own.now)) (level_node result.key) }
+    ensures level { level_of (contents_of (over base.now own.now)) (level_node result.key) ≡ level_at (contents_of (over base.now own.now)) l }
+    ensures params { result.params ≡ level_has_params (level_at (contents_of (over base.now own.now)) l) }
+{
+    *row_at(&base.levels, &own.levels, l)
+}
+
+/// The node of a level.
+pub(crate) fn level_in(base: &Tables, own: &Tables, l: u64) -> LevelNode
+    requires store { IsStore (over base.now own.now) }
+    requires known { l < length (contents_of (over base.now own.now)).levels }
+    ensures known { IsLevelIn (contents_of (over base.now own.now)) result }
+    ensures level { level_of (contents_of (over base.now own.now)) result ≡ level_at (contents_of (over base.now own.now)) l }
+{
+    level_of_key(level_row(base, own, l).key)
+}
+
+/// Whether a parameter stands in a level.
+pub(crate) fn level_params_in(base: &Tables, own: &Tables, l: u64) -> bool
+    requires store { IsStore (over base.now own.now) }
+    requires known { l < length (contents_of (over base.now own.now)).levels }
+    ensures { result ≡ level_has_params (level_at (contents_of (over base.now own.now)) l) }
+{
+    level_row(base, own, l).params
+}
+
+/// The row of a list of levels.
+fn list_row(base: &Tables, own: &Tables, ls: u64) -> ListRow
+    requires store { IsStore (over base.now own.now) }
+    requires known { ls < length (contents_of (over base.now own.now)).lists }
+    ensures known { IsListIn (contents_of (over base.now own.now)) (list_node result.key) }
+    ensures list { list_of (contents_of (over base.now own.now)) (list_node result.key) ≡ list_at (contents_of (over base.now own.now)) ls }
+    ensures params { result.params ≡ list_has_params (list_at (contents_of (over base.now own.now)) ls) }
+{
+    *row_at(&base.lists, &own.lists, ls)
+}
+
+/// The node of a list of levels.
+pub(crate) fn list_in(base: &Tables, own: &Tables, ls: u64) -> ListNode
+    requires store { IsStore (over base.now own.now) }
+    requires known { ls < length (contents_of (over base.now own.now)).lists }
+    ensures known { IsListIn (contents_of (over base.now own.now)) result }
+    ensures list { list_of (contents_of (over base.now own.now)) result ≡ list_at (contents_of (over base.now own.now)) ls }
+{
+    list_of_key(list_row(base, own, ls).key)
+}
+
+/// Whether a parameter stands in a list of levels.
+pub(crate) fn list_params_in(base: &Tables, own: &Tables, ls: u64) -> bool
+    requires store { IsStore (over base.now own.now) }
+    requires known { ls < length (contents_of (over base.now own.now)).lists }
+    ensures { result ≡ list_has_params (list_at (contents_of (over base.now own.now)) ls) }
+{
+    list_row(base, own, ls).params
+}
+
+/// How many trees there are.
+pub(crate) fn len_in(base: &Tables, own: &Tables) -> u64
+    requires { IsStore (over base.now own.now) }
+    ensures { result ≡ length (contents_of (over base.now own.now)).trees }
+{
+    count(&base.trees, &own.trees)
+}
+
+/// The row of a tree.
+fn tree_row(base: &Tables, own: &Tables, e: u64) -> TreeRow
+    requires store { IsStore (over base.now own.now) }
+    requires known { e < length (contents_of (over base.now own.now)).trees }
+    ensures codes { AreCodes (over base.now own.now).numbers result.key }
+    ensures known { IsIn (contents_of (over base.now own.now)) (node_of (over base.now own.now).numbers result.key) }
+    ensures tree { tree_of (contents_of (over base.now own.now)) (node_of (over base.now own.now).numbers result.key) ≡ tree_at (contents_of (over base.now own.now)) e }
+    ensures marks { IsMarkedTree (over base.now own.now).numbers (tree_at (contents_of (over base.now own.now)) e) result }
+{
+    *row_at(&base.trees, &own.trees, e)
+}
+
+/// The node of a tree.
+pub(crate) fn view_in(base: &Tables, own: &Tables, e: u64) -> Node
+    requires store { IsStore (over base.now own.now) }
+    requires known { e < length (contents_of (over base.now own.now)).trees }
+    ensures known { IsIn (contents_of (over base.now own.now)) result }
+    ensures tree { tree_of (contents_of (over base.now own.now)) result ≡ tree_at (contents_of (over base.now own.now)) e }
+{
+    node_of_key(base, own, tree_row(base, own, e).key)
+}
+
+/// Whether two numbers have one tree.
+pub(crate) fn same_in(base: &Tables, own: &Tables, a: u64, b: u64) -> bool
+    requires store { IsStore (over base.now own.now) }
+    requires a_in { a < length (contents_of (over base.now own.now)).trees }
+    requires b_in { b < length (contents_of (over base.now own.now)).trees }
+    ensures { IsTrue result ↔ (tree_at (contents_of (over base.now own.now)) a ≡ tree_at (contents_of (over base.now own.now)) b) }
+{
+    let _base = base;
+    let _own = own;
+    a == b
+}
+
+/// The least number above the loose variables of a tree.
+pub(crate) fn loose_in(base: &Tables, own: &Tables, e: u64) -> u128
+    requires store { IsStore (over base.now own.now) }
+    requires known { e < length (contents_of (over base.now own.now)).trees }
+    ensures { result ≡ loose (tree_at (contents_of (over base.now own.now)) e) }
+{
+    decode(base, own, tree_row(base, own, e).loose)
+}
+
+/// The least number above the Locals of a tree.
+pub(crate) fn local_in(base: &Tables, own: &Tables, e: u64) -> u128
+    requires store { IsStore (over base.now own.now) }
+    requires known { e < length (contents_of (over base.now own.now)).trees }
+    ensures { result ≡ bound (tree_at (contents_of (over base.now own.now)) e) }
+{
+    decode(base, own, tree_row(base, own, e).local)
+}
+
+/// Whether a parameter stands in a tree.
+pub(crate) fn params_in(base: &Tables, own: &Tables, e: u64) -> bool
+    requires store { IsStore (over base.now own.now) }
+    requires known { e < length (contents_of (over base.now own.now)).trees }
+    ensures { result ≡ has_params (tree_at (contents_of (over base.now own.now)) e) }
+{
+    tree_row(base, own, e).params
+}
+
+/// Whether each literal in a tree is at most 2^128 - 1.
+pub(crate) fn narrow_in(base: &Tables, own: &Tables, e: u64) -> bool
+    requires store { IsStore (over base.now own.now) }
+    requires known { e < length (contents_of (over base.now own.now)).trees }
+    ensures { result ≡ is_narrow (tree_at (contents_of (over base.now own.now)) e) }
+{
+    tree_row(base, own, e).narrow
+}
+
+/// What is kept of a tree.
+fn marks_in(base: &Tables, own: &Tables, e: u64) -> Marks
+    requires store { IsStore (over base.now own.now) }
+    requires known { e < length (contents_of (over base.now own.now)).trees }
+    ensures { AreMarks (tree_at (contents_of (over base.now own.now)) e) result }
+{
+    Marks {
+        loose: loose_in(base, own, e),
+        local: local_in(base, own, e),
+        params: params_in(base, own, e),
+        narrow: narrow_in(base, own, e),
+    }
+}
+
+/// What is to be kept of the tree of a node.
+#[tactic(auto, unfolding(lk_tree::specs::Bind::bound))]
+pub(crate) fn marks_of(base: &Tables, own: &Tables, node: Node) -> Marks
+    requires store { IsStore (over base.now own.now) }
+    requires known { IsIn (contents_of (over base.now own.now)) node }
+    ensures { AreMarks (tree_of (contents_of (over base.now own.now)) node) result }
+{
+    match node {
+        Node::Var(i) => Marks {
+            loose: u128::from(i) + 1,
+            local: 0,
+            params: false,
+            narrow: true,
+        },
+        Node::Sort(l) => Marks::closed(level_params_in(base, own, l)),
+        Node::Const(_, ls) => Marks::closed(list_params_in(base, own, ls)),
+        Node::App(f, a) => marks_in(base, own, f).and(marks_in(base, own, a)),
+        Node::Lam(t, b) | Node::Pi(t, b) => marks_in(base, own, t).and(marks_in(
+            base, own, b,
+        ).under_binder()),
+        Node::Let(t, v, b) => {
+            let inside = marks_in(base, own, v).and(marks_in(base, own, b).under_binder());
+            marks_in(base, own, t).and(inside)
+        }
+        Node::Proj(_, _, s) => marks_in(base, own, s),
+        Node::Lit(_) | Node::Str(_) => Marks::closed(false),
+        Node::Wide => Marks::wide(),
+        Node::Local(k, t) => {
+            let inside = marks_in(base, own, t);
+            Marks {
+                loose: 0,
+                local: inside.local.max(u128::from(k) + 1),
+                params: inside.params,
+                narrow: inside.narrow,
+            }
+        }
+    }
+}

@@ -1,0 +1,48 @@
+//! The tables of a store.
+
+use crate::key::{LevelRow, ListRow, Number, TreeRow};
+use crate::name::{Name, Text};
+use lk_rows::table::Table;
+use std::alloc::Global;
+
+/// The tables of a store.
+#[derive(Drop)]
+pub struct Tables {
+    pub(crate) numbers: Table<Number>,
+    pub(crate) names: Table<Name>,
+    pub(crate) texts: Table<Text>,
+    pub(crate) levels: Table<LevelRow>,
+    pub(crate) lists: Table<ListRow>,
+    pub(crate) trees: Table<TreeRow>,
+}
+
+impl Tables {
+    ghost use Rattle.lk_store.specs.Store.{no_tables};
+    ghost use Rattle.std.specs.Prelude.{◌≡◌};
+
+    /// Empty tables. They take no memory.
+    pub fn new(alloc: Global) -> Tables
+        ensures { result ≡ no_tables }
+    {
+        Tables {
+            numbers: Table::new(alloc),
+            names: Table::new(alloc),
+            texts: Table::new(alloc),
+            levels: Table::new(alloc),
+            lists: Table::new(alloc),
+            trees: Table::new(alloc),
+        }
+    }
+
+    /// Empties the tables, and keeps their rooms.
+    pub fn clear(&mut self)
+        ensures { self.new ≡ no_tables }
+    {
+        self.numbers.clear();
+        self.names.clear();
+        self.texts.clear();
+        self.levels.clear();
+        self.lists.clear();
+        self.trees.clear();
+    }
+}

@@ -1,0 +1,118 @@
+//! What a store of names, levels and trees promises.
+
+ghost use Rattle.std.specs.Prelude.{◌≡◌, ◌<◌, ◌↔◌, length, IfOk, OnErr, IsTrue};
+ghost use Rattle.lk_tree.specs.Bind.{bound};
+ghost use Rattle.lk_tree.specs.Loose.{loose};
+ghost use Rattle.lk_tree.specs.Scan.{is_narrow};
+ghost use Rattle.lk_store.specs.Measures.{level_has_params, list_has_params, has_params};
+ghost use Rattle.lk_store.specs.Names.{name_of};
+ghost use Rattle.lk_store.specs.Contents.{Contents, name_at, text_at, level_at, list_at, tree_at, level_of, list_of, tree_of, IsLevelIn, IsListIn, IsIn, Extends, IsName, IsText, IsLevel, IsList, IsTree};
+
+use crate::name::{Name, Text};
+use crate::node::{LevelNode, ListNode, Node};
+use lk_rows::memory::NoMemory;
+
+/// A store of names, texts, levels, lists of levels and trees. A number stands for one of them for good.
+pub trait Terms {
+    /// What it has beside them.
+    type Rest;
+
+    ghost rest: { Self → Self.Rest };
+
+    /// What each number stands for.
+    ghost contents: { Self → Contents };
+
+    /// How many trees there are.
+    fn len(&self) -> u64
+        ensures { result ≡ length (contents self.now).trees };
+
+    fn view(&self, e: u64) -> Node
+        requires { e < length (contents self.now).trees }
+        ensures known { IsIn (contents self.now) result }
+        ensures tree { tree_of (contents self.now) result ≡ tree_at (contents self.now) e };
+
+    fn make(&mut self, node: Node) -> Result<u64, NoMemory>
+        requires { IsIn (contents self.old) node }
+        ensures keeps { Extends (contents self.old) (contents self.new) }
+        ensures rest { rest self.new ≡ rest self.old }
+        ensures ok { IfOk result (λ e. IsTree (contents self.new) e (tree_of (contents self.old) node)) }
+        ensures err { OnErr result (contents self.new ≡ contents self.old) };
+
+    /// Whether two trees are equal.
+    fn same(&self, a: u64, b: u64) -> bool
+        requires a_in { a < length (contents self.now).trees }
+        requires b_in { b < length (contents self.now).trees }
+        ensures { IsTrue result ↔ (tree_at (contents self.now) a ≡ tree_at (contents self.now) b) };
+
+    /// The least number above every loose variable of a tree.
+    fn loose_bound(&self, e: u64) -> u128
+        requires { e < length (contents self.now).trees }
+        ensures { result ≡ loose (tree_at (contents self.now) e) };
+
+    /// The least number above every Local's number in a tree.
+    fn local_bound(&self, e: u64) -> u128
+        requires { e < length (contents self.now).trees }
+        ensures { result ≡ bound (tree_at (contents self.now) e) };
+
+    /// Whether a level of a tree has a parameter.
+    fn has_params(&self, e: u64) -> bool
+        requires { e < length (contents self.now).trees }
+        ensures { result ≡ has_params (tree_at (contents self.now) e) };
+
+    /// Whether each literal in a tree is at most 2^128 - 1.
+    fn is_narrow(&self, e: u64) -> bool
+        requires { e < length (contents self.now).trees }
+        ensures { result ≡ is_narrow (tree_at (contents self.now) e) };
+
+    fn level(&self, l: u64) -> LevelNode
+        requires { l < length (contents self.now).levels }
+        ensures known { IsLevelIn (contents self.now) result }
+        ensures level { level_of (contents self.now) result ≡ level_at (contents self.now) l };
+
+    fn make_level(&mut self, node: LevelNode) -> Result<u64, NoMemory>
+        requires { IsLevelIn (contents self.old) node }
+        ensures keeps { Extends (contents self.old) (contents self.new) }
+        ensures rest { rest self.new ≡ rest self.old }
+        ensures ok { IfOk result (λ l. IsLevel (contents self.new) l (level_of (contents self.old) node)) }
+        ensures err { OnErr result (contents self.new ≡ contents self.old) };
+
+    fn level_has_params(&self, l: u64) -> bool
+        requires { l < length (contents self.now).levels }
+        ensures { result ≡ level_has_params (level_at (contents self.now) l) };
+
+    fn levels(&self, ls: u64) -> ListNode
+        requires { ls < length (contents self.now).lists }
+        ensures known { IsListIn (contents self.now) result }
+        ensures list { list_of (contents self.now) result ≡ list_at (contents self.now) ls };
+
+    fn make_levels(&mut self, node: ListNode) -> Result<u64, NoMemory>
+        requires { IsListIn (contents self.old) node }
+        ensures keeps { Extends (contents self.old) (contents self.new) }
+        ensures rest { rest self.new ≡ rest self.old }
+        ensures ok { IfOk result (λ ls. IsList (contents self.new) ls (list_of (contents self.old) node)) }
+        ensures err { OnErr result (contents self.new ≡ contents self.old) };
+
+    fn levels_have_params(&self, ls: u64) -> bool
+        requires { ls < length (contents self.now).lists }
+        ensures { result ≡ list_has_params (list_at (contents self.now) ls) };
+
+    fn name(&self, n: u64) -> &Name
+        requires { n < length (contents self.now).names }
+        ensures { name_of result.now ≡ name_at (contents self.now) n };
+
+    fn make_name(&mut self, name: &Name) -> Result<u64, NoMemory>
+        ensures keeps { Extends (contents self.old) (contents self.new) }
+        ensures rest { rest self.new ≡ rest self.old }
+        ensures ok { IfOk result (λ n. IsName (contents self.new) n (name_of name.now)) }
+        ensures err { OnErr result (contents self.new ≡ contents self.old) };
+
+    fn text(&self, s: u64) -> &Text
+        requires { s < length (contents self.now).texts }
+        ensures { result.now ≡ text_at (contents self.now) s };
+
+    fn make_text(&mut self, text: &Text) -> Result<u64, NoMemory>
+        ensures keeps { Extends (contents self.old) (contents self.new) }
+        ensures rest { rest self.new ≡ rest self.old }
+        ensures ok { IfOk result (λ s. IsText (contents self.new) s text.now) }
+        ensures err { OnErr result (contents self.new ≡ contents self.old) };
+}

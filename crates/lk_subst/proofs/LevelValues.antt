@@ -1,0 +1,163 @@
+-- Facts on levels put in place of parameters.
+use Rattle.std.proofs.Common.{◌≡◌, ◌≢◌, ◌↔◌, ℕ, zero, suc, Bool, true, false, ◌+◌, ◌<◌, List, [], ◌∷◌, ◌++◌, map, length, get_or, refl, ap, sym, ◌∙◌, arith, below_more, append_assoc, IsTrue}
+use Rattle.std.specs.Prelude.{All, ◌||◌}
+use Rattle.std.proofs.lemmas.Grind.{common_steps}
+use Rattle.std.proofs.lemmas.List.{map-append}
+use Rattle.std.proofs.lemmas.List.Elements.{All-head, All-tail, All-weaker}
+use Rattle.lk_tree.specs.Tree.{Name, name_discrete, Level, zero_level, succ_level, max_level, imax_level, param}
+use Rattle.lk_tree.specs.Levels.{level_for, put_in_level}
+use Rattle.lk_store.specs.Measures.{level_has_params, list_has_params}
+use Rattle.lk_store.specs.Names.{name_of}
+use Rattle.lk_store.specs.declared.name.Part.{Part}
+use Rattle.lk_store.specs.Contents.{Contents, name_at, level_at, list_at, Extends, IsLevel}
+use Rattle.lk_store.proofs.Made.{name_of-injective}
+use Rattle.lk_subst.specs.declared.parts.Met.{Met}
+use Rattle.lk_subst.specs.Parts.{AreMet}
+use Rattle.lk_subst.specs.Parameters.{putting, ArePut}
+
+pub no_left : (a b : Bool) → (a || b) ≡ false → a ≡ false
+no_left true b h = h
+no_left false b h = refl
+
+pub no_right : (a b : Bool) → (a || b) ≡ false → b ≡ false
+no_right true b h = absurd cc
+no_right false b h = h
+
+-- no parameter stands in the level
+pub put_in_level-closed : (ps : List Name) (ls : List Level) (l : Level) → level_has_params l ≡ false → put_in_level ps ls l ≡ l
+unfolding put_in_level
+put_in_level-closed ps ls zero_level h = refl
+put_in_level-closed ps ls (succ_level l) h = ap succ_level (put_in_level-closed ps ls l h)
+put_in_level-closed ps ls (max_level l m) h =
+    let p = put_in_level-closed ps ls l (no_left (level_has_params l) (level_has_params m) h) in
+    let q = put_in_level-closed ps ls m (no_right (level_has_params l) (level_has_params m) h) in
+    cc
+put_in_level-closed ps ls (imax_level l m) h =
+    let p = put_in_level-closed ps ls l (no_left (level_has_params l) (level_has_params m) h) in
+    let q = put_in_level-closed ps ls m (no_right (level_has_params l) (level_has_params m) h) in
+    cc
+put_in_level-closed ps ls (param n) h = absurd cc
+
+-- and in none of a list
+pub put_in_levels-closed : (ps : List Name) (ls ms : List Level) → list_has_params ms ≡ false → map (put_in_level ps ls) ms ≡ ms
+put_in_levels-closed ps ls [] h = refl
+put_in_levels-closed ps ls (m ∷ ms) h =
+    let p = put_in_level-closed ps ls m (no_left (level_has_params m) (list_has_params ms) h) in
+    let q = put_in_levels-closed ps ls ms (no_right (level_has_params m) (list_has_params ms) h) in
+    cc
+
+-- Names that are not equal.
+pub names_differ : (r : Bool) (a b : List Part) (m n : Name) → (IsTrue r ↔ (a ≡ b)) → name_of a ≡ m → name_of b ≡ n → r ≡ false → m ≢ n
+names_differ r a b m n h p q not same =
+    let e : a ≡ b = name_of-injective a b (p ∙ same ∙ sym q) in
+    let here : IsTrue r = h.1 e in
+    let both : false ≡ true = rw not at here in
+    absurd cc
+
+pub names_agree : (r : Bool) (a b : List Part) (m n : Name) → (IsTrue r ↔ (a ≡ b)) → name_of a ≡ m → name_of b ≡ n → r ≡ true → m ≡ n
+names_agree r a b m n h p q is =
+    let t : IsTrue r = is in
+    sym p ∙ ap name_of (h.0 t) ∙ q
+
+level_for-same : (p n : Name) (ps : List Name) (l : Level) (ls : List Level) → p ≡ n → level_for (p ∷ ps) (l ∷ ls) n ≡ l
+unfolding level_for
+level_for-same p n ps l ls same = elim (name_discrete p n) as (λ w. elim w [ yes e ↦ l | no f ↦ level_for ps ls n ] ≡ l) [ yes e ↦ refl | no f ↦ absurd (f same) ]
+
+level_for-other : (p n : Name) (ps : List Name) (l : Level) (ls : List Level) → p ≢ n → level_for (p ∷ ps) (l ∷ ls) n ≡ level_for ps ls n
+unfolding level_for
+level_for-other p n ps l ls other = elim (name_discrete p n) as (λ w. elim w [ yes e ↦ l | no f ↦ level_for ps ls n ] ≡ level_for ps ls n) [ yes e ↦ absurd (other e) | no f ↦ refl ]
+
+-- the first parameter that is the name
+pub level_for-at : (c : Contents) (ps vs : List ℕ) (n : Name) (i : ℕ) → i < length ps → i < length vs
+    → ((k : ℕ) → k < i → name_at c (get_or ps k 0) ≢ n) → name_at c (get_or ps i 0) ≡ n
+    → level_for (map (name_at c) ps) (map (level_at c) vs) n ≡ level_at c (get_or vs i 0)
+level_for-at c [] vs n i l m before here = absurd (omega arith)
+level_for-at c (p ∷ ps) [] n i l m before here = absurd (omega arith)
+level_for-at c (p ∷ ps) (v ∷ vs) n zero l m before here = level_for-same (name_at c p) n (map (name_at c) ps) (level_at c v) (map (level_at c) vs) here
+level_for-at c (p ∷ ps) (v ∷ vs) n (suc i) l m before here =
+    level_for-other (name_at c p) n (map (name_at c) ps) (level_at c v) (map (level_at c) vs) (before 0 (omega arith))
+    ∙ level_for-at c ps vs n i (omega arith) (omega arith) (λ k b. before (suc k) (omega arith)) here
+
+-- no parameter that has a value is the name
+pub level_for-none : (c : Contents) (ps vs : List ℕ) (n : Name) → ((k : ℕ) → k < length ps → k < length vs → name_at c (get_or ps k 0) ≢ n)
+    → level_for (map (name_at c) ps) (map (level_at c) vs) n ≡ param n
+unfolding level_for
+level_for-none c [] vs n none = refl
+level_for-none c (p ∷ ps) [] n none = refl
+level_for-none c (p ∷ ps) (v ∷ vs) n none =
+    level_for-other (name_at c p) n (map (name_at c) ps) (level_at c v) (map (level_at c) vs) (none 0 (omega arith) (omega arith))
+    ∙ level_for-none c ps vs n (λ k a b. none (suc k) (omega arith) (omega arith))
+
+-- While the store grows.
+module _ (c d : Contents) (x : Extends c d) where
+  names-steady : (ps : List ℕ) → All (λ p. p < length c.names) ps → map (name_at d) ps ≡ map (name_at c) ps
+  names-steady [] h = refl
+  names-steady (p ∷ ps) h =
+      let P : ℕ → Type 0 = λ p. p < length c.names in
+      let first = x.names.same p (All-head P p ps h) in
+      let others = names-steady ps (All-tail P p ps h) in
+      cc
+
+  levels-steady : (vs : List ℕ) → All (λ v. v < length c.levels) vs → map (level_at d) vs ≡ map (level_at c) vs
+  levels-steady [] h = refl
+  levels-steady (v ∷ vs) h =
+      let P : ℕ → Type 0 = λ v. v < length c.levels in
+      let first = x.levels.same v (All-head P v vs h) in
+      let others = levels-steady vs (All-tail P v vs h) in
+      cc
+
+  pub putting-steady : (ps vs : List ℕ) → All (λ p. p < length c.names) ps → All (λ v. v < length c.levels) vs → putting d ps vs ≡ putting c ps vs
+  putting-steady ps vs h k = rw (names-steady ps h, levels-steady vs k) refl
+
+  pub names-known : (ps : List ℕ) → All (λ p. p < length c.names) ps → All (λ p. p < length d.names) ps
+  names-known ps h = let longer = x.names.longer in All-weaker (λ p. p < length c.names) (λ p. p < length d.names) (λ p l. omega arith) ps h
+
+  pub levels-known : (vs : List ℕ) → All (λ v. v < length c.levels) vs → All (λ v. v < length d.levels) vs
+  levels-known vs h = let longer = x.levels.longer in All-weaker (λ v. v < length c.levels) (λ v. v < length d.levels) (λ v l. omega arith) vs h
+
+  pub met-known : (met : List Met) → AreMet c met → AreMet d met
+  met-known met h = let longer = x.levels.longer in All-weaker (λ (m : Met). m.level < length c.levels) (λ (m : Met). m.level < length d.levels) (λ m l. omega arith) met h
+
+  -- one more is made
+  pub ArePut-push : (f : Level → Level) (met : List Met) (made : List ℕ) (r : ℕ) (part : Met) → AreMet c met → ArePut f c met made → length made < length met
+      → part ≡ get_or met (length made) part → IsLevel d r (f (level_at c part.level)) → ArePut f d met (made ++ r ∷ [])
+  ArePut-push f met made r part known was more part_is new =
+      let all = made ++ r ∷ [] in
+      let longer : length all ≡ length made + 1 = grind (arith, common_steps) in
+      let grown = x.levels.longer in
+      let part_of : (d' : Met) → get_or met (length made) d' ≡ part = λ d'. let e : get_or met (length made) d' ≡ get_or met (length made) part = grind (arith, common_steps) in e ∙ sym part_is in
+      let P : ℕ → Type 0 = λ k. (m : Met) → IsLevel d (get_or all k 0) (f (level_at d (get_or met k m).level)) in
+      record {
+        few = omega arith;
+        each = λ k m l. below_more P (length made)
+            (λ n ln m'.
+            let read : get_or all n 0 ≡ get_or made n 0 = grind (arith, common_steps) in
+            let old = was.each n m' ln in
+            let kept = old.known in
+            let few = was.few in
+            let in_met : (get_or met n m').level < length c.levels = known n m' (omega arith) in
+            let here : IsLevel d (get_or made n 0) (f (level_at d (get_or met n m').level)) =
+            record { known = omega arith; is = x.levels.same (get_or made n 0) kept ∙ old.is ∙ ap f (sym (x.levels.same (get_or met n m').level in_met)) } in
+            rw read here)
+            (λ m'.
+            let read : get_or all (length made) 0 ≡ r = grind (arith, common_steps) in
+            let in_met : (get_or met (length made) m').level < length c.levels = known (length made) m' more in
+            let at : get_or met (length made) m' ≡ part = part_of m' in
+            let here : IsLevel d r (f (level_at d (get_or met (length made) m').level)) =
+            record { known = new.known; is = new.is ∙ ap (λ (m : Met). f (level_at c m.level)) (sym at) ∙ ap f (sym (x.levels.same (get_or met (length made) m').level in_met)) } in
+            rw read here)
+            k (rw longer at l) m;
+      }
+
+-- one level more of the list is put
+pub put_more : (f : Level → Level) (c0 c c1 c2 : Contents) (found found' : List ℕ) (level at r made : ℕ) (whole : List Level)
+    → found ≡ found' ++ level ∷ [] → map f (map (level_at c0) found) ++ list_at c at ≡ whole → level_at c1 r ≡ f (level_at c0 level)
+    → list_at c1 at ≡ list_at c at → list_at c2 made ≡ level_at c1 r ∷ list_at c1 at → map f (map (level_at c0) found') ++ list_at c2 made ≡ whole
+put_more f c0 c c1 c2 found found' level at r made whole popped h one others is =
+    let front = map f (map (level_at c0) found') in
+    let split : map f (map (level_at c0) (found' ++ level ∷ [])) ≡ front ++ f (level_at c0 level) ∷ [] = rw (map-append, map-append) refl in
+    let before : (front ++ f (level_at c0 level) ∷ []) ++ list_at c at ≡ whole = rw (popped, split) at h in
+    let end : list_at c2 made ≡ f (level_at c0 level) ∷ list_at c at = is ∙ (rw (one, others) refl) in
+    rw end (sym (append_assoc front (f (level_at c0 level) ∷ []) (list_at c at)) ∙ before)
+
+pub ruleset levels_closed = (put_in_level-closed, put_in_levels-closed)

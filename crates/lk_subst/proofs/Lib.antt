@@ -1,0 +1,5 @@
+pub mod Steps
+pub mod Stacks
+pub mod Unchanged
+pub mod LevelCosts
+pub mod LevelValues

@@ -1,0 +1,5 @@
+pub mod Walks
+pub mod Numbers
+pub mod Levels
+pub mod Parts
+pub mod Parameters

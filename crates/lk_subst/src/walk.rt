@@ -1,0 +1,280 @@
+//! Walks that build a tree anew. A walk keeps a stack of its own, and builds each pair of a number and a depth once.
+
+ghost use Rattle.std.specs.Prelude.{◌≡◌, ◌<◌, ℕ, length, IfOk, MatchOption, IfSome, IfNone};
+ghost use Rattle.lk_tree.specs.Tree.{Tree};
+ghost use Rattle.lk_store.specs.Contents.{Contents, tree_at, tree_of, IsIn, Extends, IsTree};
+ghost use Rattle.lk_subst.specs.Walks.{Change, Descends, finished, work, work_after, wait_of, IsWaiting, IsTurn, own, joined, Leads, wait_work, turn_work, AreMade, hash_of_place, GoesOn, first_of, next_of, with_child, inside};
+
+use lk_store::hashing::mix;
+use lk_store::node::Node;
+use lk_store::terms::Terms;
+use lk_rows::memory::NoMemory;
+use lk_rows::row::Row;
+use lk_rows::table::Table;
+use std::alloc::Global;
+
+/// A number under some binders.
+#[derive(Clone, Copy, Debug, PartialEq, Eq)]
+pub struct Place {
+    pub e: u64,
+    pub depth: u64,
+}
+
+/// What was made at a place.
+#[derive(Clone, Copy, Debug, PartialEq, Eq)]
+pub struct Made {
+    pub place: Place,
+    pub made: u64,
+}
+
+impl Row for Made {
+    type Key = Place;
+
+    ghost key = { λ m. m.place };
+
+    ghost use Rattle.lk_subst.specs.Walks.{hash_of_place};
+
+    ghost hash = { hash_of_place };
+
+    fn hash_of(wanted: &Place) -> u64 {
+        mix(wanted.e, wanted.depth)
+    }
+
+    fn own_hash(&self) -> u64 {
+        mix(self.place.e, self.place.depth)
+    }
+
+    fn has(&self, wanted: &Place) -> bool {
+        self.place == *wanted
+    }
+}
+
+/// A child of a node.
+#[derive(Clone, Copy, Debug, PartialEq, Eq)]
+pub enum Child {
+    First,
+    Second,
+    Third,
+}
+
+/// A node that waits for a child. The children before that one are built, and stand in the node in place of those that it had.
+#[derive(Clone, Copy, Debug, PartialEq, Eq)]
+pub struct Waiting {
+    pub place: Place,
+    pub node: Node,
+    pub child: Child,
+}
+
+/// What a walk does next.
+#[derive(Clone, Copy, Debug, PartialEq, Eq)]
+pub enum Turn {
+    /// The node waits for what is made of `e`.
+    Down {
+        waiting: Waiting,
+        e: u64,
+        depth: u64,
+    },
+    /// It is made.
+    Up {
+        e: u64,
+    },
+}
+
+/// What a walk does at a node.
+pub trait Rewrite<T: Terms> {
+    /// What it makes of a tree under some binders. The numbers that it holds are read in the store.
+    ghost change: { Self → Contents → ℕ → Tree → Tree };
+
+    /// Its numbers are numbers of the store.
+    ghost is_known: { Self → Contents → Type 0 };
+
+    /// What is made of a tree at once, or `None`, where its children are to be walked.
+    fn step(&self, terms: &mut T, e: u64, depth: u64) -> Result<Option<u64>, NoMemory>
+        requires known { is_known self.now (T.contents terms.old) }
+        requires e_in { e < length (T.contents terms.old).trees }
+        ensures keeps { Extends (T.contents terms.old) (T.contents terms.new) }
+        ensures rest { T.rest terms.new ≡ T.rest terms.old }
+        ensures made { IfOk result (λ made. MatchOption made (Descends (change self.now (T.contents terms.old)) depth (tree_at (T.contents terms.old) e)) (λ r. IsTree (T.contents terms.new) r (change self.now (T.contents terms.old) depth (tree_at (T.contents terms.old) e)))) };
+
+    /// What is known stays known.
+    ghost more: { (s : Self) (c d : Contents) → Extends c d → is_known s c → is_known s d };
+
+    /// More contents change nothing.
+    ghost steady: { (s : Self) (c d : Contents) → Extends c d → is_known s c → change s d ≡ change s c };
+}
+
+/// The first child.
+fn first_child(node: Node) -> Option<u64>
+    ensures { result ≡ first_of node }
+{
+    match node {
+        Node::App(e, _)
+        | Node::Lam(e, _)
+        | Node::Pi(e, _)
+        | Node::Let(e, _, _)
+        | Node::Proj(_, _, e)
+        | Node::Local(_, e) => Some(e),
+        _ => None,
+    }
+}
+
+/// The child after one, its number, and whether it stands under a binder.
+fn next_child(node: Node, child: Child) -> Option<(Child, u64, bool)>
+    ensures { result ≡ next_of node child }
+{
+    match child {
+        Child::First => match node {
+            Node::App(_, e) | Node::Let(_, e, _) => Some((Child::Second, e, false)),
+            Node::Lam(_, e) | Node::Pi(_, e) => Some((Child::Second, e, true)),
+            _ => None,
+        },
+        Child::Second => match node {
+            Node::Let(_, _, e) => Some((Child::Third, e, true)),
+            _ => None,
+        },
+        Child::Third => None,
+    }
+}
+
+/// The node with another child.
+fn replaced(node: Node, child: Child, e: u64) -> Node
+    ensures { result ≡ with_child node child e }
+{
+    match child {
+        Child::First => match node {
+            Node::App(_, a) => Node::App(e, a),
+            Node::Lam(_, b) => Node::Lam(e, b),
+            Node::Pi(_, b) => Node::Pi(e, b),
+            Node::Let(_, v, b) => Node::Let(e, v, b),
+            Node::Proj(n, i, _) => Node::Proj(n, i, e),
+            Node::Local(k, _) => Node::Local(k, e),
+            other => other,
+        },
+        Child::Second => match node {
+            Node::App(f, _) => Node::App(f, e),
+            Node::Lam(t, _) => Node::Lam(t, e),
+            Node::Pi(t, _) => Node::Pi(t, e),
+            Node::Let(t, _, b) => Node::Let(t, e, b),
+            other => other,
+        },
+        Child::Third => match node {
+            Node::Let(t, v, _) => Node::Let(t, v, e),
+            other => other,
+        },
+    }
+}
+
+/// The depth of a child.
+fn depth_inside(depth: u64, under_binder: bool) -> Result<u64, NoMemory>
+    ensures { IfOk result (λ d. d ≡ inside depth under_binder) }
+{
+    if under_binder {
+        // No term in memory is so deep that this fails.
+        depth.checked_add(1).ok_or(NoMemory)
+    } else {
+        Ok(depth)
+    }
+}
+
+/// Begins the tree under a number.
+fn begin<T: Terms, R: Rewrite<T>>(
+    terms: &mut T,
+    rewrite: &R,
+    made: &Table<Made>,
+    e: u64,
+    depth: u64,
+) -> Result<Turn, NoMemory>
+    requires known { R.is_known rewrite.now (T.contents terms.old) }
+    requires made { AreMade (R.change rewrite.now (T.contents terms.old)) (T.contents terms.old) made.now }
+    requires e_in { e < length (T.contents terms.old).trees }
+    ensures keeps { Extends (T.contents terms.old) (T.contents terms.new) }
+    ensures rest { T.rest terms.new ≡ T.rest terms.old }
+    ensures goes_on { IfOk result (λ turn. GoesOn (R.change rewrite.now (T.contents terms.old)) (T.contents terms.new) turn (R.change rewrite.now (T.contents terms.old) depth (tree_at (T.contents terms.old) e)) (work (tree_at (T.contents terms.old) e))) }
+{
+    let place = Place { e, depth };
+    if let Some(r) = rewrite.step(terms, e, depth)? {
+        return Ok(Turn::Up { e: r });
+    }
+    if let Some(i) = made.find(&place) {
+        return Ok(Turn::Up {
+            e: made.get(i).made,
+        });
+    }
+    let node = terms.view(e);
+    match first_child(node) {
+        Some(first) => Ok(Turn::Down {
+            waiting: Waiting {
+                place,
+                node,
+                child: Child::First,
+            },
+            e: first,
+            depth,
+        }),
+        // A step makes something of each leaf.
+        None => Err(NoMemory),
+    }
+}
+
+/// Goes on once the child is built that the node waits for.
+fn resume<T: Terms>(
+    terms: &mut T,
+    made: &mut Table<Made>,
+    waiting: Waiting,
+    e: u64,
+) -> Result<Turn, NoMemory>
+    requires waiting_in { IsWaiting (T.contents terms.old) waiting }
+    requires e_in { e < length (T.contents terms.old).trees }
+    ensures keeps { Extends (T.contents terms.old) (T.contents terms.new) }
+    ensures rest { T.rest terms.new ≡ T.rest terms.old }
+    ensures made { (f : Change) → AreMade f (T.contents terms.old) made.old → joined f (wait_of (T.contents terms.old) waiting) (tree_at (T.contents terms.old) e) ≡ own f (wait_of (T.contents terms.old) waiting) → AreMade f (T.contents terms.new) made.new }
+    ensures goes_on { IfOk result (λ turn. (f : Change) (s : Tree) → own f (wait_of (T.contents terms.old) waiting) ≡ s → joined f (wait_of (T.contents terms.old) waiting) (tree_at (T.contents terms.old) e) ≡ s → GoesOn f (T.contents terms.new) turn s (wait_work (wait_of (T.contents terms.old) waiting))) }
+{
+    let place = waiting.place;
+    let node = replaced(waiting.node, waiting.child, e);
+    match next_child(node, waiting.child) {
+        Some((child, next, under_binder)) => {
+            let depth = depth_inside(place.depth, under_binder)?;
+            Ok(Turn::Down {
+                waiting: Waiting { place, node, child },
+                e: next,
+                depth,
+            })
+        }
+        None => {
+            let r = terms.make(node)?;
+            made.push(Made { place, made: r })?;
+            Ok(Turn::Up { e: r })
+        }
+    }
+}
+
+/// What the change makes of a tree.
+pub fn rewritten<T: Terms, R: Rewrite<T>>(
+    alloc: Global,
+    terms: &mut T,
+    rewrite: &R,
+    e: u64,
+) -> Result<u64, NoMemory>
+    requires known { R.is_known rewrite.now (T.contents terms.old) }
+    requires e_in { e < length (T.contents terms.old).trees }
+    ensures keeps { Extends (T.contents terms.old) (T.contents terms.new) }
+    ensures rest { T.rest terms.new ≡ T.rest terms.old }
+    ensures ok { IfOk result (λ r. IsTree (T.contents terms.new) r (R.change rewrite.now (T.contents terms.old) 0 (tree_at (T.contents terms.old) e))) }
+{
+    let mut made: Table<Made> = Table::new(alloc);
+    let mut stack: Vec<Waiting> = Vec::new(alloc);
+    let mut turn = begin(terms, rewrite, &made, e, 0)?;
+    'walk: loop {
+        match turn {
+            Turn::Down { waiting, e, depth } => {
+                stack.push(waiting)?;
+                turn = begin(terms, rewrite, &made, e, depth)?;
+            }
+            Turn::Up { e } => match stack.pop() {
+                None => return Ok(e),
+                Some(waiting) => turn = resume(terms, &mut made, waiting, e)?,
+            },
+        }
+    }
+}
