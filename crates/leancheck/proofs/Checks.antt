@@ -14,7 +14,7 @@ use Rattle.lk_units.specs.Theorems.{Theorem, unit_of, units_of, IsBuilt, AllBuil
 use Rattle.lk_verdict.specs.Told.{Verdict, IsVerdict, AreVerdicts}
 use Rattle.leancheck.specs.Rows.{names_of, row_verdict}
 use Rattle.leancheck.proofs.Scanning.{unit_there, verdict_plain, verdict_memory}
-use Rattle.lk_store.specs.Store.{at, Extends}
+use Rattle.lk_store.specs.Contents.{tree_at, Extends}
 use Rattle.lk_units.specs.Names.{IsPlainName, key_of}
 use Rattle.lk_units.specs.State.{ArePlain, AllPlain}
 use Rattle.lk_units.specs.declared.assembler.TheoremRow.{TheoremRow}

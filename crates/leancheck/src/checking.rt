@@ -6,7 +6,7 @@ ghost use Rattle.lk_tree.specs.Mentions.{is_one_of};
 ghost use Rattle.lk_units.specs.Theorems.{Theorem, units_of, AllBuilt};
 ghost use Rattle.leancheck.specs.Rows.{names_of, questions_of, is_closed, checked_of, row_verdict};
 ghost use Rattle.lk_verdict.specs.Told.{AreVerdicts};
-ghost use Rattle.lk_store.specs.Store.{at, ExtendsLevels, Extends};
+ghost use Rattle.lk_store.specs.Contents.{tree_at, Extends};
 ghost use Rattle.lk_units.specs.Names.{key_of};
 ghost use Rattle.lk_units.specs.State.{ArePlain, AllPlain};
 ghost use Rattle.lk_units.specs.Held.{seen, shown, IsKnownRow};
@@ -17,8 +17,8 @@ use lk_engine::question::Rule;
 use lk_engine::stop::Stop;
 use lk_engine::theorem::check_theorem;
 use lk_port::Gate;
-use lk_store::node::NoMemory;
-use lk_store::store::Terms;
+use lk_rows::memory::NoMemory;
+use lk_store::terms::Terms;
 use lk_units::TheoremRow;
 use std::alloc::Global;
 
@@ -49,10 +49,10 @@ fn verdict_of(outcome: Result<(), Stop>) -> Verdict
 
 /// The verdict of a theorem's questions, which may take so many steps.
 fn ask<T: Terms>(alloc: Global, store: &mut T, steps: u128, kind: u64, proof: u64) -> Verdict
-    requires kind_in { kind < length (T.trees store.old) }
-    requires proof_in { proof < length (T.trees store.old) }
-    ensures keeps { Extends (T.trees store.old) (T.trees store.new) }
-    ensures verdict { (w : Place) (t : Theorem) → t.type ≡ at (T.trees store.old) kind → t.proof ≡ at (T.trees store.old) proof → IsPlain (questions_of w steps t) result }
+    requires kind_in { kind < length (T.contents store.old).trees }
+    requires proof_in { proof < length (T.contents store.old).trees }
+    ensures keeps { Extends (T.contents store.old) (T.contents store.new) }
+    ensures verdict { (w : Place) (t : Theorem) → t.type ≡ tree_at (T.contents store.old) kind → t.proof ≡ tree_at (T.contents store.old) proof → IsPlain (questions_of w steps t) result }
 {
     let mut left = steps;
     let outcome = check_theorem(alloc, store, &mut left, kind, proof);
@@ -61,17 +61,17 @@ fn ask<T: Terms>(alloc: Global, store: &mut T, steps: u128, kind: u64, proof: u6
 
 /// Whether no variable of a theorem is loose.
 fn is_closed<T: Terms>(store: &T, row: &TheoremRow) -> bool
-    requires { IsKnownRow (length (T.trees store.now)) row.now }
-    ensures { (t : Theorem) → t.type ≡ at (T.trees store.now) row.now.kind → t.proof ≡ at (T.trees store.now) row.now.proof → result ≡ is_closed t }
+    requires { IsKnownRow (length (T.contents store.now).trees) row.now }
+    ensures { (t : Theorem) → t.type ≡ tree_at (T.contents store.now) row.now.kind → t.proof ≡ tree_at (T.contents store.now) row.now.proof → result ≡ is_closed t }
 {
     store.loose_bound(row.kind) == 0 && store.loose_bound(row.proof) == 0
 }
 
 /// The verdict of a theorem whose name is new and whose level parameters are different.
 fn judge_declared<T: Terms>(alloc: Global, store: &mut T, steps: u128, row: &TheoremRow) -> Verdict
-    requires { IsKnownRow (length (T.trees store.old)) row.now }
-    ensures keeps { Extends (T.trees store.old) (T.trees store.new) }
-    ensures verdict { (w : Place) (t : Theorem) → t.type ≡ at (T.trees store.old) row.now.kind → t.proof ≡ at (T.trees store.old) row.now.proof → IsPlain (checked_of w steps t) result }
+    requires { IsKnownRow (length (T.contents store.old).trees) row.now }
+    ensures keeps { Extends (T.contents store.old) (T.contents store.new) }
+    ensures verdict { (w : Place) (t : Theorem) → t.type ≡ tree_at (T.contents store.old) row.now.kind → t.proof ≡ tree_at (T.contents store.old) row.now.proof → IsPlain (checked_of w steps t) result }
 {
     if !is_closed(store, row) {
         return Verdict::No(Rule::LooseVariable);
@@ -87,9 +87,9 @@ fn judge<T: Terms>(
     duplicate: bool,
     row: &TheoremRow,
 ) -> Verdict
-    requires { IsKnownRow (length (T.trees store.old)) row.now }
-    ensures keeps { Extends (T.trees store.old) (T.trees store.new) }
-    ensures verdict { (ts : List Theorem) (n : ℕ) (t : Theorem) → t.type ≡ at (T.trees store.old) row.now.kind → t.proof ≡ at (T.trees store.old) row.now.proof
+    requires { IsKnownRow (length (T.contents store.old).trees) row.now }
+    ensures keeps { Extends (T.contents store.old) (T.contents store.new) }
+    ensures verdict { (ts : List Theorem) (n : ℕ) (t : Theorem) → t.type ≡ tree_at (T.contents store.old) row.now.kind → t.proof ≡ tree_at (T.contents store.old) row.now.proof
         → map (λ v. v.items) row.now.parameters.items ≡ map key_of t.levels → ArePlain t.levels
         → duplicate ≡ is_one_of (names_of (take n ts)) t.name → IsPlain (row_verdict ts steps n t) result }
 {
@@ -111,8 +111,8 @@ pub fn check_all<T: Terms, G: Gate>(
     rows: &[TheoremRow],
     gate: &G,
 ) -> Result<Vec<Verdict>, NoMemory>
-    requires { All (IsKnownRow (length (T.trees store.old))) rows.now }
-    ensures { IfOk result (λ v. (ts : List Theorem) → map (seen (T.trees store.old)) rows.now ≡ map shown ts → AllBuilt ts → AllPlain ts → AreVerdicts (units_of ts) steps 0 (units_of ts) (map verdict v.items)) }
+    requires { All (IsKnownRow (length (T.contents store.old).trees)) rows.now }
+    ensures { IfOk result (λ v. (ts : List Theorem) → map (seen (T.contents store.old)) rows.now ≡ map shown ts → AllBuilt ts → AllPlain ts → AreVerdicts (units_of ts) steps 0 (units_of ts) (map verdict v.items)) }
 {
     let mut names = Seen::new(alloc);
     let mut verdicts = Vec::new(alloc);

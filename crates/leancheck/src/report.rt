@@ -11,7 +11,7 @@ use crate::status::Status;
 use itoa::Buffer;
 use lk_engine::question::Rule;
 use lk_lines::Fault;
-use lk_store::node::NoMemory;
+use lk_rows::memory::NoMemory;
 use lk_units::TheoremRow;
 use std::alloc::Global;
 

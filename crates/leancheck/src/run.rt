@@ -20,8 +20,8 @@ use lk_book::{ReadError, read_library};
 use lk_lines::Fault;
 use lk_port::{Gate, Sink, Source, write_all};
 use lk_store::consed::BaseStore;
-use lk_store::node::NoMemory;
-use lk_store::store::Terms;
+use lk_rows::memory::NoMemory;
+use lk_store::terms::Terms;
 use lk_units::TheoremRow;
 use std::alloc::Global;
 use std::sync::Wait;
@@ -35,8 +35,8 @@ fn checked<T: Terms, G: Gate>(
     theorems: &[TheoremRow],
     gate: &G,
 ) -> Result<(Vec<u8>, Status), NoMemory>
-    requires { All (IsKnownRow (length (T.trees store.old))) theorems.now }
-    ensures gives { (bytes : List ℕ) (all : List Theorem) → theorems_of bytes ≡ Ok all → map (seen (T.trees store.old)) theorems.now ≡ map shown all → Gives steps bytes result }
+    requires { All (IsKnownRow (length (T.contents store.old).trees)) theorems.now }
+    ensures gives { (bytes : List ℕ) (all : List Theorem) → theorems_of bytes ≡ Ok all → map (seen (T.contents store.old)) theorems.now ≡ map shown all → Gives steps bytes result }
     ensures status { IfOk result (λ r. IsChecked r.1) }
 {
     let Ok(verdicts) = check_all(alloc, store, steps, theorems, gate) else {
@@ -88,9 +88,9 @@ fn tell_verdicts<T: Terms, K: Sink, G: Gate>(
     sink: &mut K,
     gate: &G,
 ) -> Status
-    requires { All (IsKnownRow (length (T.trees store.old))) theorems.now }
-    ensures told { IsChecked result → ((bytes : List ℕ) (all : List Theorem) → theorems_of bytes ≡ Ok all → map (seen (T.trees store.old)) theorems.now ≡ map shown all → Reports steps bytes result (K.written sink.old) (K.written sink.new)) × (K.faults sink.new ≡ K.faults sink.old) }
-    ensures failed { result ≡ Status.WriteFault → ((bytes : List ℕ) (all : List Theorem) → theorems_of bytes ≡ Ok all → map (seen (T.trees store.old)) theorems.now ≡ map shown all → WritesPrefix steps bytes (K.written sink.old) (K.written sink.new)) × Rose (K.faults sink.old) (K.faults sink.new) }
+    requires { All (IsKnownRow (length (T.contents store.old).trees)) theorems.now }
+    ensures told { IsChecked result → ((bytes : List ℕ) (all : List Theorem) → theorems_of bytes ≡ Ok all → map (seen (T.contents store.old)) theorems.now ≡ map shown all → Reports steps bytes result (K.written sink.old) (K.written sink.new)) × (K.faults sink.new ≡ K.faults sink.old) }
+    ensures failed { result ≡ Status.WriteFault → ((bytes : List ℕ) (all : List Theorem) → theorems_of bytes ≡ Ok all → map (seen (T.contents store.old)) theorems.now ≡ map shown all → WritesPrefix steps bytes (K.written sink.old) (K.written sink.new)) × Rose (K.faults sink.old) (K.faults sink.new) }
     ensures no_memory { result ≡ Status.NoMemory → sink.new ≡ sink.old }
     ensures only { IsChecked result ⊎ (result ≡ Status.WriteFault) ⊎ (result ≡ Status.NoMemory) }
 {

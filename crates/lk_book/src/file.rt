@@ -2,7 +2,7 @@
 ghost use Rattle.std.specs.Prelude.{◌≡◌, ◌≢◌, ◌+◌, ◌≤◌, ◌<◌, ◌^◌, ℕ, List, length, true, false, IfOk, IfErr, OnOk, Some, Ok, Err};
 ghost use Rattle.std.specs.declared.option.Option.{Option};
 ghost use Rattle.std.specs.Io.KnownBytes.{IsAtEnd};
-ghost use Rattle.lk_store.specs.Store.{ExtendsLevels, Extends};
+ghost use Rattle.lk_store.specs.Contents.{Extends};
 ghost use Rattle.lk_port.specs.Bytes.{Rose};
 ghost use Rattle.lk_token.specs.Lines.{HasNoLineFeed};
 ghost use Rattle.lk_units.specs.Held.{IsKnown};
@@ -16,7 +16,7 @@ use crate::long::long_line;
 use crate::{MAX_LINE, PIECE, ReadError, Reader};
 use lk_lines::{Fault, LineError};
 use lk_port::Source;
-use lk_store::store::Terms;
+use lk_store::terms::Terms;
 use lk_units::Assembler;
 use std::alloc::Global;
 
@@ -30,21 +30,21 @@ fn read_piece<T: Terms, S: Source>(
     held: &mut Vec<u8>,
     piece: &mut [u8; PIECE],
 ) -> Result<bool, ReadError>
-    requires known { IsKnown reader.old.assembler (length (T.levels store.old)) (length (T.trees store.old)) }
+    requires known { IsKnown reader.old.assembler (length (T.contents store.old).levels) (length (T.contents store.old).trees) }
     requires counted { IsCounted reader.old }
     requires unfinished { HasNoLineFeed held.old.items }
     requires short { length held.old.items ≤ 2 ^ 24 }
-    ensures keeps { Extends (T.trees store.old) (T.trees store.new) }
-    ensures levels { ExtendsLevels (T.levels store.old) (T.levels store.new) }
-    ensures known { OnOk result (IsKnown reader.new.assembler (length (T.levels store.new)) (length (T.trees store.new))) }
+    ensures keeps { Extends (T.contents store.old) (T.contents store.new) }
+    ensures rest { T.rest store.new ≡ T.rest store.old }
+    ensures known { OnOk result (IsKnown reader.new.assembler (length (T.contents store.new).levels) (length (T.contents store.new).trees)) }
     ensures counted { OnOk result (IsCounted reader.new) }
     ensures unfinished { OnOk result (HasNoLineFeed held.new.items) }
     ensures short { OnOk result (length held.new.items ≤ 2 ^ 24) }
     ensures progress { IfOk result (λ more. more ≡ true → reader.old.before + length held.old.items < reader.new.before + length held.new.items) }
 
-    ensures remains { (old : Option (List ℕ)) → Remains reader.old (T.levels store.old) (T.trees store.old) held.old.items old (S.left source.old)
-        → OnOk result (Remains reader.new (T.levels store.new) (T.trees store.new) held.new.items old (S.left source.new)) }
-    ensures tells { (old : Option (List ℕ)) → Remains reader.old (T.levels store.old) (T.trees store.old) held.old.items old (S.left source.old)
+    ensures remains { (old : Option (List ℕ)) → Remains reader.old (T.contents store.old) held.old.items old (S.left source.old)
+        → OnOk result (Remains reader.new (T.contents store.new) held.new.items old (S.left source.new)) }
+    ensures tells { (old : Option (List ℕ)) → Remains reader.old (T.contents store.old) held.old.items old (S.left source.old)
         → IfErr result (λ e. TellsFault e old) }
 
     ensures front { ConsumesSome (S.left source.old) (S.left source.new) }
@@ -75,19 +75,19 @@ fn read_pieces<T: Terms, S: Source>(
     reader: &mut Reader,
     held: &mut Vec<u8>,
 ) -> Result<(), ReadError>
-    requires known { IsKnown reader.old.assembler (length (T.levels store.old)) (length (T.trees store.old)) }
+    requires known { IsKnown reader.old.assembler (length (T.contents store.old).levels) (length (T.contents store.old).trees) }
     requires counted { IsCounted reader.old }
     requires unfinished { HasNoLineFeed held.old.items }
     requires short { length held.old.items ≤ 2 ^ 24 }
-    ensures keeps { Extends (T.trees store.old) (T.trees store.new) }
-    ensures levels { ExtendsLevels (T.levels store.old) (T.levels store.new) }
-    ensures known { OnOk result (IsKnown reader.new.assembler (length (T.levels store.new)) (length (T.trees store.new))) }
+    ensures keeps { Extends (T.contents store.old) (T.contents store.new) }
+    ensures rest { T.rest store.new ≡ T.rest store.old }
+    ensures known { OnOk result (IsKnown reader.new.assembler (length (T.contents store.new).levels) (length (T.contents store.new).trees)) }
     ensures counted { OnOk result (IsCounted reader.new) }
     ensures unfinished { OnOk result (HasNoLineFeed held.new.items) }
 
-    ensures remains { (old : Option (List ℕ)) → Remains reader.old (T.levels store.old) (T.trees store.old) held.old.items old (S.left source.old)
-        → OnOk result (Remains reader.new (T.levels store.new) (T.trees store.new) held.new.items old (S.left source.new)) }
-    ensures tells { (old : Option (List ℕ)) → Remains reader.old (T.levels store.old) (T.trees store.old) held.old.items old (S.left source.old)
+    ensures remains { (old : Option (List ℕ)) → Remains reader.old (T.contents store.old) held.old.items old (S.left source.old)
+        → OnOk result (Remains reader.new (T.contents store.new) held.new.items old (S.left source.new)) }
+    ensures tells { (old : Option (List ℕ)) → Remains reader.old (T.contents store.old) held.old.items old (S.left source.old)
         → IfErr result (λ e. TellsFault e old) }
 
     ensures front { ConsumesSome (S.left source.old) (S.left source.new) }
@@ -111,13 +111,13 @@ fn take_last<T: Terms>(
     mut reader: Reader,
     line: &[u8],
 ) -> Result<Assembler, LineError>
-    requires known { IsKnown reader.assembler (length (T.levels store.old)) (length (T.trees store.old)) }
+    requires known { IsKnown reader.assembler (length (T.contents store.old).levels) (length (T.contents store.old).trees) }
     requires counted { IsCounted reader }
     requires whole { HasNoLineFeed line.now }
-    ensures keeps { Extends (T.trees store.old) (T.trees store.new) }
-    ensures levels { ExtendsLevels (T.levels store.old) (T.levels store.new) }
-    ensures known { IfOk result (λ a. IsKnown a (length (T.levels store.new)) (length (T.trees store.new))) }
-    ensures ends { (c : Course) → Stands reader (T.levels store.old) (T.trees store.old) c → Ends (T.levels store.new) (T.trees store.new) result (step c false line.now) }
+    ensures keeps { Extends (T.contents store.old) (T.contents store.new) }
+    ensures rest { T.rest store.new ≡ T.rest store.old }
+    ensures known { IfOk result (λ a. IsKnown a (length (T.contents store.new).levels) (length (T.contents store.new).trees)) }
+    ensures ends { (c : Course) → Stands reader (T.contents store.old) c → Ends (T.contents store.new) result (step c false line.now) }
 {
     reader.take_line(alloc, store, false, line)?;
     Ok(reader.assembler)
@@ -133,12 +133,12 @@ pub fn read_library<T: Terms, S: Source>(
     store: &mut T,
     source: &mut S,
 ) -> Result<Assembler, ReadError>
-    ensures keeps { Extends (T.trees store.old) (T.trees store.new) }
-    ensures levels { ExtendsLevels (T.levels store.old) (T.levels store.new) }
-    ensures known { IfOk result (λ a. IsKnown a (length (T.levels store.new)) (length (T.trees store.new))) }
+    ensures keeps { Extends (T.contents store.old) (T.contents store.new) }
+    ensures rest { T.rest store.new ≡ T.rest store.old }
+    ensures known { IfOk result (λ a. IsKnown a (length (T.contents store.new).levels) (length (T.contents store.new).trees)) }
 
     // Where the source tells its bytes, the answer is what they state.
-    ensures reads { (bytes : List ℕ) → S.left source.old ≡ Some bytes → Reads (T.levels store.new) (T.trees store.new) (course_of bytes) result }
+    ensures reads { (bytes : List ℕ) → S.left source.old ≡ Some bytes → Reads (T.contents store.new) (course_of bytes) result }
 
     ensures front { ConsumesSome (S.left source.old) (S.left source.new) }
     ensures end { OnOk result (IsAtEnd (S.left source.new)) }

@@ -1,6 +1,6 @@
 //! The lines of a buffer.
 ghost use Rattle.std.specs.Prelude.{◌≡◌, ◌+◌, ◌∷◌, ◌++◌, ℕ, List, length, MatchOption, IfOk, IfErr, OnOk};
-ghost use Rattle.lk_store.specs.Store.{ExtendsLevels, Extends};
+ghost use Rattle.lk_store.specs.Contents.{Extends};
 ghost use Rattle.lk_token.specs.Lines.{HasNoLineFeed};
 ghost use Rattle.lk_units.specs.Held.{IsKnown};
 ghost use Rattle.lk_book.specs.Course.{Course};
@@ -9,7 +9,7 @@ ghost use Rattle.lk_book.specs.Passing.{Stands, IsCounted, Passes, Stops};
 use crate::Reader;
 use bstr::ByteSlice;
 use lk_lines::LineError;
-use lk_store::store::Terms;
+use lk_store::terms::Terms;
 use std::alloc::Global;
 
 /// The first line of bytes, and what stands behind its line feed.
@@ -28,17 +28,17 @@ fn take_lines<'p, T: Terms>(
     reader: &mut Reader,
     bytes: &'p [u8],
 ) -> Result<&'p [u8], LineError>
-    requires known { IsKnown reader.old.assembler (length (T.levels store.old)) (length (T.trees store.old)) }
+    requires known { IsKnown reader.old.assembler (length (T.contents store.old).levels) (length (T.contents store.old).trees) }
     requires counted { IsCounted reader.old }
-    ensures keeps { Extends (T.trees store.old) (T.trees store.new) }
-    ensures levels { ExtendsLevels (T.levels store.old) (T.levels store.new) }
-    ensures known { OnOk result (IsKnown reader.new.assembler (length (T.levels store.new)) (length (T.trees store.new))) }
+    ensures keeps { Extends (T.contents store.old) (T.contents store.new) }
+    ensures rest { T.rest store.new ≡ T.rest store.old }
+    ensures known { OnOk result (IsKnown reader.new.assembler (length (T.contents store.new).levels) (length (T.contents store.new).trees)) }
     ensures counted { OnOk result (IsCounted reader.new) }
     ensures unfinished { IfOk result (λ rest. HasNoLineFeed rest.now) }
     ensures length { IfOk result (λ rest. reader.new.before + length rest.now ≡ reader.old.before + length bytes.now) }
-    ensures passes { (c : Course) → Stands reader.old (T.levels store.old) (T.trees store.old) c
-        → IfOk result (λ rest. Passes reader.new (T.levels store.new) (T.trees store.new) c bytes.now rest.now) }
-    ensures stops { (c : Course) → Stands reader.old (T.levels store.old) (T.trees store.old) c
+    ensures passes { (c : Course) → Stands reader.old (T.contents store.old) c
+        → IfOk result (λ rest. Passes reader.new (T.contents store.new) c bytes.now rest.now) }
+    ensures stops { (c : Course) → Stands reader.old (T.contents store.old) c
         → IfErr result (λ e. Stops e c bytes.now) }
 {
     let mut rest = bytes;
@@ -70,19 +70,19 @@ fn take_held<T: Terms>(
     line: &[u8],
     more: &[u8],
 ) -> Result<(), LineError>
-    requires known { IsKnown reader.old.assembler (length (T.levels store.old)) (length (T.trees store.old)) }
+    requires known { IsKnown reader.old.assembler (length (T.contents store.old).levels) (length (T.contents store.old).trees) }
     requires counted { IsCounted reader.old }
     requires held { HasNoLineFeed held.old.items }
     requires line { HasNoLineFeed line.now }
-    ensures keeps { Extends (T.trees store.old) (T.trees store.new) }
-    ensures levels { ExtendsLevels (T.levels store.old) (T.levels store.new) }
-    ensures known { OnOk result (IsKnown reader.new.assembler (length (T.levels store.new)) (length (T.trees store.new))) }
+    ensures keeps { Extends (T.contents store.old) (T.contents store.new) }
+    ensures rest { T.rest store.new ≡ T.rest store.old }
+    ensures known { OnOk result (IsKnown reader.new.assembler (length (T.contents store.new).levels) (length (T.contents store.new).trees)) }
     ensures counted { OnOk result (IsCounted reader.new) }
     ensures unfinished { OnOk result (HasNoLineFeed held.new.items) }
     ensures length { OnOk result (reader.new.before + length held.new.items ≡ reader.old.before + length held.old.items + length line.now + 1 + length more.now) }
-    ensures passes { (c : Course) → Stands reader.old (T.levels store.old) (T.trees store.old) c
-        → OnOk result (Passes reader.new (T.levels store.new) (T.trees store.new) c (held.old.items ++ line.now ++ 10 ∷ more.now) held.new.items) }
-    ensures stops { (c : Course) → Stands reader.old (T.levels store.old) (T.trees store.old) c
+    ensures passes { (c : Course) → Stands reader.old (T.contents store.old) c
+        → OnOk result (Passes reader.new (T.contents store.new) c (held.old.items ++ line.now ++ 10 ∷ more.now) held.new.items) }
+    ensures stops { (c : Course) → Stands reader.old (T.contents store.old) c
         → IfErr result (λ e. Stops e c (held.old.items ++ line.now ++ 10 ∷ more.now)) }
 {
     hold(held, line)?;
@@ -101,18 +101,18 @@ pub fn take_piece<T: Terms>(
     held: &mut Vec<u8>,
     piece: &[u8],
 ) -> Result<(), LineError>
-    requires known { IsKnown reader.old.assembler (length (T.levels store.old)) (length (T.trees store.old)) }
+    requires known { IsKnown reader.old.assembler (length (T.contents store.old).levels) (length (T.contents store.old).trees) }
     requires counted { IsCounted reader.old }
     requires held { HasNoLineFeed held.old.items }
-    ensures keeps { Extends (T.trees store.old) (T.trees store.new) }
-    ensures levels { ExtendsLevels (T.levels store.old) (T.levels store.new) }
-    ensures known { OnOk result (IsKnown reader.new.assembler (length (T.levels store.new)) (length (T.trees store.new))) }
+    ensures keeps { Extends (T.contents store.old) (T.contents store.new) }
+    ensures rest { T.rest store.new ≡ T.rest store.old }
+    ensures known { OnOk result (IsKnown reader.new.assembler (length (T.contents store.new).levels) (length (T.contents store.new).trees)) }
     ensures counted { OnOk result (IsCounted reader.new) }
     ensures unfinished { OnOk result (HasNoLineFeed held.new.items) }
     ensures length { OnOk result (reader.new.before + length held.new.items ≡ reader.old.before + length held.old.items + length piece.now) }
-    ensures passes { (c : Course) → Stands reader.old (T.levels store.old) (T.trees store.old) c
-        → OnOk result (Passes reader.new (T.levels store.new) (T.trees store.new) c (held.old.items ++ piece.now) held.new.items) }
-    ensures stops { (c : Course) → Stands reader.old (T.levels store.old) (T.trees store.old) c
+    ensures passes { (c : Course) → Stands reader.old (T.contents store.old) c
+        → OnOk result (Passes reader.new (T.contents store.new) c (held.old.items ++ piece.now) held.new.items) }
+    ensures stops { (c : Course) → Stands reader.old (T.contents store.old) c
         → IfErr result (λ e. Stops e c (held.old.items ++ piece.now)) }
 {
     match cut(piece) {

@@ -1,6 +1,6 @@
 //! Lines taken one after another.
 ghost use Rattle.std.specs.Prelude.{◌≡◌, ◌+◌, ◌≤◌, ◌<◌, ◌^◌, ℕ, List, length, true, OnOk, IfNone};
-ghost use Rattle.lk_store.specs.Store.{ExtendsLevels, Extends};
+ghost use Rattle.lk_store.specs.Contents.{Extends};
 ghost use Rattle.lk_token.specs.Lines.{HasNoLineFeed};
 ghost use Rattle.lk_lines.specs.Limits.{limits};
 ghost use Rattle.lk_lines.specs.Views.{says_of};
@@ -9,7 +9,7 @@ ghost use Rattle.lk_book.specs.Course.{Course, feed_count, taken, at_line, step}
 ghost use Rattle.lk_book.specs.Passing.{Stands, IsCounted, Goes, line_error};
 
 use lk_lines::{Fault, LineError, Said, limit_fault, read_line};
-use lk_store::store::Terms;
+use lk_store::terms::Terms;
 use lk_units::{Assembler, TakeError};
 use std::alloc::Global;
 
@@ -53,13 +53,13 @@ impl Reader {
         number: u64,
         said: Said<'_>,
     ) -> Result<(), LineError>
-        requires { IsKnown self.old.assembler (length (T.levels store.old)) (length (T.trees store.old)) }
-        ensures keeps { Extends (T.trees store.old) (T.trees store.new) }
-        ensures levels { ExtendsLevels (T.levels store.old) (T.levels store.new) }
-        ensures known { OnOk result (IsKnown self.new.assembler (length (T.levels store.new)) (length (T.trees store.new))) }
+        requires { IsKnown self.old.assembler (length (T.contents store.old).levels) (length (T.contents store.old).trees) }
+        ensures keeps { Extends (T.contents store.old) (T.contents store.new) }
+        ensures rest { T.rest store.new ≡ T.rest store.old }
+        ensures known { OnOk result (IsKnown self.new.assembler (length (T.contents store.new).levels) (length (T.contents store.new).trees)) }
         ensures counts { (self.new.number ≡ self.old.number) × (self.new.before ≡ self.old.before) }
-        ensures follows { (c : Course) → Stands self.old (T.levels store.old) (T.trees store.old) c
-            → Goes self.new (T.levels store.new) (T.trees store.new) result (at_line number (taken c (says_of said.entry))) }
+        ensures follows { (c : Course) → Stands self.old (T.contents store.old) c
+            → Goes self.new (T.contents store.new) result (at_line number (taken c (says_of said.entry))) }
     {
         match said {
             Said::Blank => Ok(()),
@@ -93,16 +93,16 @@ impl Reader {
         feed: bool,
         line: &[u8],
     ) -> Result<(), LineError>
-        requires known { IsKnown self.old.assembler (length (T.levels store.old)) (length (T.trees store.old)) }
+        requires known { IsKnown self.old.assembler (length (T.contents store.old).levels) (length (T.contents store.old).trees) }
         requires counted { IsCounted self.old }
         requires whole { HasNoLineFeed line.now }
-        ensures keeps { Extends (T.trees store.old) (T.trees store.new) }
-        ensures levels { ExtendsLevels (T.levels store.old) (T.levels store.new) }
-        ensures known { OnOk result (IsKnown self.new.assembler (length (T.levels store.new)) (length (T.trees store.new))) }
+        ensures keeps { Extends (T.contents store.old) (T.contents store.new) }
+        ensures rest { T.rest store.new ≡ T.rest store.old }
+        ensures known { OnOk result (IsKnown self.new.assembler (length (T.contents store.new).levels) (length (T.contents store.new).trees)) }
         ensures counted { OnOk result (feed ≡ true → IsCounted self.new) }
         ensures length { OnOk result (self.new.before ≡ self.old.before + length line.now + feed_count feed) }
-        ensures step { (c : Course) → Stands self.old (T.levels store.old) (T.trees store.old) c
-            → Goes self.new (T.levels store.new) (T.trees store.new) result (step c feed line.now) }
+        ensures step { (c : Course) → Stands self.old (T.contents store.old) c
+            → Goes self.new (T.contents store.new) result (step c feed line.now) }
     {
         let number = self.number + 1;
         let length = line.len() as u64;

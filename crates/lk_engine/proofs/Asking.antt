@@ -13,7 +13,7 @@ use Rattle.lk_plain.specs.Erased.{Value, Steps, asks, with_tree, with_truth, Out
 use Rattle.lk_engine.specs.declared.stop.Stop.{Stop}
 use Rattle.lk_engine.specs.declared.stop.Stop.TheVariants.{Rule, Spent, NoMemory}
 use Rattle.lk_engine.specs.Outcomes.{IsStop, IsAccepted, GivesLevel, GivesSort, unit_steps_of}
-use Rattle.lk_store.specs.Store.{level_at}
+use Rattle.lk_store.specs.Contents.{level_at}
 use Rattle.lk_table.specs.Built.{rows}
 
 pub ask_goes : (w : Place) (q : plain.Query) (b left : ℕ) (v : Value) (k : Value → Steps) → out_of rows w q b ≡ finished v left → run_steps (out_of rows w) (asks q k) b ≡ run_steps (out_of rows w) (k v) left

@@ -6,7 +6,7 @@ use Rattle.std.proofs.lemmas.List.Elements.{All-weaker, All-head, All-tail, All-
 use Rattle.lk_tree.specs.Tree.{Tree}
 use Rattle.lk_tree.specs.RuleNo.{RuleNo}
 use Rattle.lk_rulebook.specs.Place.{Place}
-use Rattle.lk_store.specs.Store.{at, Extends}
+use Rattle.lk_store.specs.Contents.{tree_at, Extends}
 use Rattle.lk_plain.specs.Erased.{Out, finished, stopped, used_up, go_on, run_steps, out_of}
 use Rattle.lk_plain.proofs.Erasing.{out-zero, out-step}
 use Rattle.lk_engine.specs.declared.question.Query.{Query}

@@ -8,7 +8,7 @@ use Rattle.lk_plain.specs.Program.{Program, done, refuse, ◌>>=◌}
 use Rattle.lk_table.specs.Steps.{as_sort, sort_of}
 use Rattle.lk_table.specs.Declarations.{Yes}
 use Rattle.lk_rulebook.specs.Place.{Place}
-use Rattle.lk_store.specs.Store.{level_at, at}
+use Rattle.lk_store.specs.Contents.{level_at, tree_at}
 use Rattle.lk_plain.specs.Erased.{truth, Steps, asks, with_tree, with_truth, erased, Out, finished, stopped, used_up, go_on, run_steps, out_of}
 use Rattle.lk_engine.specs.declared.question.Answer.{Answer}
 use Rattle.lk_engine.specs.declared.question.Sheet.{Sheet}

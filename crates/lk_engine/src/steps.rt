@@ -7,21 +7,22 @@ ghost use Rattle.std.specs.Prelude.{Bool};
 ghost use Rattle.lk_rulebook.specs.Place.{Place};
 ghost use Rattle.lk_table.specs.Built.{core_row, infer_row, same_row, whnf_end};
 ghost use Rattle.lk_plain.specs.Erased.{a_tree, truth, gives, erased};
-ghost use Rattle.lk_store.specs.Store.{level_at, at, ExtendsLevels, Extends, StandsLevel, Stands};
+ghost use Rattle.lk_store.specs.Contents.{level_at, tree_at, Extends, IsLevel, IsTree};
 ghost use Rattle.lk_engine.specs.Questions.{value_at, IsKnownQuery, IsKnownAnswer};
 ghost use Rattle.lk_engine.specs.Sheets.{level_in, lam_rest, lam_sorted, pi_rest, pi_sorted, pi_end, map_sheet, sheet_steps, next_steps, query_steps, IsKnownSheet, IsKnownNext};
 
 use crate::question::{Answer, Next, Query, Rule, Sheet};
 use lk_store::binding::{closed, open_with};
-use lk_store::node::{LevelNode, NoMemory, Node};
-use lk_store::store::Terms;
+use lk_rows::memory::NoMemory;
+use lk_store::node::{LevelNode, Node};
+use lk_store::terms::Terms;
 use std::alloc::Global;
 
 /// `Core` of a term.
 fn begin_core<T: Terms>(terms: &T, e: u64) -> Next<u64>
-    requires { e < length (T.trees terms.now) }
-    ensures known { IsKnownNext (length (T.trees terms.now)) result }
-    ensures steps { (w : Place) → next_steps w (at (T.trees terms.now)) result ≡ erased w a_tree (core_row (at (T.trees terms.now) e)) }
+    requires { e < length (T.contents terms.now).trees }
+    ensures known { IsKnownNext (length (T.contents terms.now).trees) result }
+    ensures steps { (w : Place) → next_steps w (tree_at (T.contents terms.now)) result ≡ erased w a_tree (core_row (tree_at (T.contents terms.now) e)) }
 {
     match terms.view(e) {
         Node::Var(_) | Node::Sort(_) | Node::Lam(_, _) | Node::Pi(_, _) | Node::Local(_, _) =>
@@ -31,24 +32,24 @@ fn begin_core<T: Terms>(terms: &T, e: u64) -> Next<u64>
 
 /// The sort above that of a level.
 fn next_sort<T: Terms>(terms: &mut T, level: u64) -> Result<Next<u64>, NoMemory>
-    requires { level < length (T.levels terms.old) }
-    ensures keeps { Extends (T.trees terms.old) (T.trees terms.new) }
-    ensures levels { ExtendsLevels (T.levels terms.old) (T.levels terms.new) }
-    ensures known { IfOk result (IsKnownNext (length (T.trees terms.new))) }
-    ensures steps { IfOk result (λ next. (w : Place) → next_steps w (at (T.trees terms.new)) next ≡ erased w a_tree (infer_row (tree_sort (level_at (T.levels terms.old) level)))) }
+    requires { level < length (T.contents terms.old).levels }
+    ensures keeps { Extends (T.contents terms.old) (T.contents terms.new) }
+    ensures rest { T.rest terms.new ≡ T.rest terms.old }
+    ensures known { IfOk result (IsKnownNext (length (T.contents terms.new).trees)) }
+    ensures steps { IfOk result (λ next. (w : Place) → next_steps w (tree_at (T.contents terms.new)) next ≡ erased w a_tree (infer_row (tree_sort (level_at (T.contents terms.old) level)))) }
 {
-    let above = terms.make_level(LevelNode::Successor(level))?;
+    let above = terms.make_level(LevelNode::Succ(level))?;
     let e = terms.make(Node::Sort(above))?;
     Ok(Next::Done(Answer::Term(e)))
 }
 
 /// `Infer` of a term.
 fn begin_infer<T: Terms>(terms: &mut T, e: u64) -> Result<Next<u64>, NoMemory>
-    requires { e < length (T.trees terms.old) }
-    ensures keeps { Extends (T.trees terms.old) (T.trees terms.new) }
-    ensures levels { ExtendsLevels (T.levels terms.old) (T.levels terms.new) }
-    ensures known { IfOk result (IsKnownNext (length (T.trees terms.new))) }
-    ensures steps { IfOk result (λ next. (w : Place) → next_steps w (at (T.trees terms.new)) next ≡ erased w a_tree (infer_row (at (T.trees terms.old) e))) }
+    requires { e < length (T.contents terms.old).trees }
+    ensures keeps { Extends (T.contents terms.old) (T.contents terms.new) }
+    ensures rest { T.rest terms.new ≡ T.rest terms.old }
+    ensures known { IfOk result (IsKnownNext (length (T.contents terms.new).trees)) }
+    ensures steps { IfOk result (λ next. (w : Place) → next_steps w (tree_at (T.contents terms.new)) next ≡ erased w a_tree (infer_row (tree_at (T.contents terms.old) e))) }
 {
     match terms.view(e) {
         Node::Var(_) => Ok(Next::No(Rule::LooseVariable)),
@@ -68,10 +69,10 @@ fn begin_infer<T: Terms>(terms: &mut T, e: u64) -> Result<Next<u64>, NoMemory>
 /// `Same` of two terms.
 #[tactic(auto, using(crate::proofs::Rows::same_answer_is))]
 fn begin_same<T: Terms>(terms: &T, a: u64, b: u64) -> Next<u64>
-    requires a_in { a < length (T.trees terms.now) }
-    requires b_in { b < length (T.trees terms.now) }
-    ensures known { IsKnownNext (length (T.trees terms.now)) result }
-    ensures steps { (w : Place) → next_steps w (at (T.trees terms.now)) result ≡ erased w truth (same_row (at (T.trees terms.now) a) (at (T.trees terms.now) b)) }
+    requires a_in { a < length (T.contents terms.now).trees }
+    requires b_in { b < length (T.contents terms.now).trees }
+    ensures known { IsKnownNext (length (T.contents terms.now).trees) result }
+    ensures steps { (w : Place) → next_steps w (tree_at (T.contents terms.now)) result ≡ erased w truth (same_row (tree_at (T.contents terms.now) a) (tree_at (T.contents terms.now) b)) }
 {
     Next::Done(Answer::Truth(terms.same(a, b)))
 }
@@ -79,9 +80,9 @@ fn begin_same<T: Terms>(terms: &T, a: u64, b: u64) -> Next<u64>
 /// The end of `Whnf`, once its `Core` is there: no term has a name at its head.
 #[tactic(auto, unfolding(lk_tree::specs::Spine::head))]
 fn whnf_end<T: Terms>(terms: &T, e: u64) -> Next<u64>
-    requires { e < length (T.trees terms.now) }
-    ensures known { IsKnownNext (length (T.trees terms.now)) result }
-    ensures steps { (w : Place) → next_steps w (at (T.trees terms.now)) result ≡ erased w a_tree (whnf_end (at (T.trees terms.now) e)) }
+    requires { e < length (T.contents terms.now).trees }
+    ensures known { IsKnownNext (length (T.contents terms.now).trees) result }
+    ensures steps { (w : Place) → next_steps w (tree_at (T.contents terms.now)) result ≡ erased w a_tree (whnf_end (tree_at (T.contents terms.now) e)) }
 {
     match terms.view(e) {
         Node::Var(_) | Node::Sort(_) | Node::Lam(_, _) | Node::Pi(_, _) | Node::Local(_, _) =>
@@ -91,11 +92,11 @@ fn whnf_end<T: Terms>(terms: &T, e: u64) -> Next<u64>
 
 /// The first step of a question.
 pub fn begin<T: Terms>(terms: &mut T, query: Query<u64>) -> Result<Next<u64>, NoMemory>
-    requires { IsKnownQuery (length (T.trees terms.old)) query }
-    ensures keeps { Extends (T.trees terms.old) (T.trees terms.new) }
-    ensures levels { ExtendsLevels (T.levels terms.old) (T.levels terms.new) }
-    ensures known { IfOk result (IsKnownNext (length (T.trees terms.new))) }
-    ensures steps { IfOk result (λ next. (w : Place) → next_steps w (at (T.trees terms.new)) next ≡ query_steps w (at (T.trees terms.old)) query) }
+    requires { IsKnownQuery (length (T.contents terms.old).trees) query }
+    ensures keeps { Extends (T.contents terms.old) (T.contents terms.new) }
+    ensures rest { T.rest terms.new ≡ T.rest terms.old }
+    ensures known { IfOk result (IsKnownNext (length (T.contents terms.new).trees)) }
+    ensures steps { IfOk result (λ next. (w : Place) → next_steps w (tree_at (T.contents terms.new)) next ≡ query_steps w (tree_at (T.contents terms.old)) query) }
 {
     match query {
         Query::Core(e) => Ok(begin_core(terms, e)),
@@ -108,10 +109,10 @@ pub fn begin<T: Terms>(terms: &mut T, query: Query<u64>) -> Result<Next<u64>, No
 /// The number of a Local that is fresh for a term under a binder.
 #[tactic(auto, unfolding(lk_tree::specs::Bind::bound))]
 fn fresh_number<T: Terms>(terms: &T, domain: u64, body: u64) -> Result<u64, NoMemory>
-    requires domain_in { domain < length (T.trees terms.now) }
-    requires body_in { body < length (T.trees terms.now) }
-    ensures lam { IfOk result (λ k. k ≡ bound (lam (at (T.trees terms.now) domain) (at (T.trees terms.now) body))) }
-    ensures pi { IfOk result (λ k. k ≡ bound (pi (at (T.trees terms.now) domain) (at (T.trees terms.now) body))) }
+    requires domain_in { domain < length (T.contents terms.now).trees }
+    requires body_in { body < length (T.contents terms.now).trees }
+    ensures lam { IfOk result (λ k. k ≡ bound (lam (tree_at (T.contents terms.now) domain) (tree_at (T.contents terms.now) body))) }
+    ensures pi { IfOk result (λ k. k ≡ bound (pi (tree_at (T.contents terms.now) domain) (tree_at (T.contents terms.now) body))) }
 {
     let number = terms.local_bound(domain).max(terms.local_bound(body));
     // No Local in memory has so great a number.
@@ -129,11 +130,11 @@ fn open_fresh<T: Terms>(
     body: u64,
     number: u64,
 ) -> Result<u64, NoMemory>
-    requires domain_in { domain < length (T.trees terms.old) }
-    requires body_in { body < length (T.trees terms.old) }
-    ensures keeps { Extends (T.trees terms.old) (T.trees terms.new) }
-    ensures levels { T.levels terms.new ≡ T.levels terms.old }
-    ensures ok { IfOk result (λ e. Stands (T.trees terms.new) e (opened (at (T.trees terms.old) body) (local number (at (T.trees terms.old) domain)))) }
+    requires domain_in { domain < length (T.contents terms.old).trees }
+    requires body_in { body < length (T.contents terms.old).trees }
+    ensures keeps { Extends (T.contents terms.old) (T.contents terms.new) }
+    ensures rest { T.rest terms.new ≡ T.rest terms.old }
+    ensures ok { IfOk result (λ e. IsTree (T.contents terms.new) e (opened (tree_at (T.contents terms.old) body) (local number (tree_at (T.contents terms.old) domain)))) }
 {
     let fresh = terms.make(Node::Local(number, domain))?;
     open_with(alloc, terms, body, fresh)
@@ -146,12 +147,12 @@ fn lam_body<T: Terms>(
     domain: u64,
     body: u64,
 ) -> Result<Next<u64>, NoMemory>
-    requires domain_in { domain < length (T.trees terms.old) }
-    requires body_in { body < length (T.trees terms.old) }
-    ensures keeps { Extends (T.trees terms.old) (T.trees terms.new) }
-    ensures levels { T.levels terms.new ≡ T.levels terms.old }
-    ensures known { IfOk result (IsKnownNext (length (T.trees terms.new))) }
-    ensures steps { IfOk result (λ next. (w : Place) → next_steps w (at (T.trees terms.new)) next ≡ erased w a_tree (lam_rest (at (T.trees terms.old) domain) (at (T.trees terms.old) body))) }
+    requires domain_in { domain < length (T.contents terms.old).trees }
+    requires body_in { body < length (T.contents terms.old).trees }
+    ensures keeps { Extends (T.contents terms.old) (T.contents terms.new) }
+    ensures rest { T.rest terms.new ≡ T.rest terms.old }
+    ensures known { IfOk result (IsKnownNext (length (T.contents terms.new).trees)) }
+    ensures steps { IfOk result (λ next. (w : Place) → next_steps w (tree_at (T.contents terms.new)) next ≡ erased w a_tree (lam_rest (tree_at (T.contents terms.old) domain) (tree_at (T.contents terms.old) body))) }
 {
     let number = fresh_number(terms, domain, body)?;
     let e = open_fresh(alloc, terms, domain, body, number)?;
@@ -166,13 +167,13 @@ fn lam_domain_sort<T: Terms>(
     body: u64,
     e: u64,
 ) -> Result<Next<u64>, NoMemory>
-    requires domain_in { domain < length (T.trees terms.old) }
-    requires body_in { body < length (T.trees terms.old) }
-    requires e_in { e < length (T.trees terms.old) }
-    ensures keeps { Extends (T.trees terms.old) (T.trees terms.new) }
-    ensures levels { T.levels terms.new ≡ T.levels terms.old }
-    ensures known { IfOk result (IsKnownNext (length (T.trees terms.new))) }
-    ensures steps { IfOk result (λ next. (w : Place) → next_steps w (at (T.trees terms.new)) next ≡ erased w a_tree (lam_sorted (at (T.trees terms.old) domain) (at (T.trees terms.old) body) (at (T.trees terms.old) e))) }
+    requires domain_in { domain < length (T.contents terms.old).trees }
+    requires body_in { body < length (T.contents terms.old).trees }
+    requires e_in { e < length (T.contents terms.old).trees }
+    ensures keeps { Extends (T.contents terms.old) (T.contents terms.new) }
+    ensures rest { T.rest terms.new ≡ T.rest terms.old }
+    ensures known { IfOk result (IsKnownNext (length (T.contents terms.new).trees)) }
+    ensures steps { IfOk result (λ next. (w : Place) → next_steps w (tree_at (T.contents terms.new)) next ≡ erased w a_tree (lam_sorted (tree_at (T.contents terms.old) domain) (tree_at (T.contents terms.old) body) (tree_at (T.contents terms.old) e))) }
 {
     match terms.view(e) {
         Node::Sort(_) => lam_body(alloc, terms, domain, body),
@@ -190,12 +191,12 @@ fn lam_end<T: Terms>(
     number: u64,
     e: u64,
 ) -> Result<Next<u64>, NoMemory>
-    requires domain_in { domain < length (T.trees terms.old) }
-    requires e_in { e < length (T.trees terms.old) }
-    ensures keeps { Extends (T.trees terms.old) (T.trees terms.new) }
-    ensures levels { T.levels terms.new ≡ T.levels terms.old }
-    ensures known { IfOk result (IsKnownNext (length (T.trees terms.new))) }
-    ensures steps { IfOk result (λ next. (w : Place) → next_steps w (at (T.trees terms.new)) next ≡ gives (a_tree (pi (at (T.trees terms.old) domain) (close number (at (T.trees terms.old) e))))) }
+    requires domain_in { domain < length (T.contents terms.old).trees }
+    requires e_in { e < length (T.contents terms.old).trees }
+    ensures keeps { Extends (T.contents terms.old) (T.contents terms.new) }
+    ensures rest { T.rest terms.new ≡ T.rest terms.old }
+    ensures known { IfOk result (IsKnownNext (length (T.contents terms.new).trees)) }
+    ensures steps { IfOk result (λ next. (w : Place) → next_steps w (tree_at (T.contents terms.new)) next ≡ gives (a_tree (pi (tree_at (T.contents terms.old) domain) (close number (tree_at (T.contents terms.old) e))))) }
 {
     let body = closed(alloc, terms, e, number)?;
     let e = terms.make(Node::Pi(domain, body))?;
@@ -210,13 +211,13 @@ fn pi_body<T: Terms>(
     body: u64,
     sort: u64,
 ) -> Result<Next<u64>, NoMemory>
-    requires domain_in { domain < length (T.trees terms.old) }
-    requires body_in { body < length (T.trees terms.old) }
-    requires sort_in { sort < length (T.trees terms.old) }
-    ensures keeps { Extends (T.trees terms.old) (T.trees terms.new) }
-    ensures levels { T.levels terms.new ≡ T.levels terms.old }
-    ensures known { IfOk result (IsKnownNext (length (T.trees terms.new))) }
-    ensures steps { IfOk result (λ next. (w : Place) → next_steps w (at (T.trees terms.new)) next ≡ erased w a_tree (pi_rest (at (T.trees terms.old) domain) (at (T.trees terms.old) body) (level_in (at (T.trees terms.old) sort)))) }
+    requires domain_in { domain < length (T.contents terms.old).trees }
+    requires body_in { body < length (T.contents terms.old).trees }
+    requires sort_in { sort < length (T.contents terms.old).trees }
+    ensures keeps { Extends (T.contents terms.old) (T.contents terms.new) }
+    ensures rest { T.rest terms.new ≡ T.rest terms.old }
+    ensures known { IfOk result (IsKnownNext (length (T.contents terms.new).trees)) }
+    ensures steps { IfOk result (λ next. (w : Place) → next_steps w (tree_at (T.contents terms.new)) next ≡ erased w a_tree (pi_rest (tree_at (T.contents terms.old) domain) (tree_at (T.contents terms.old) body) (level_in (tree_at (T.contents terms.old) sort)))) }
 {
     let number = fresh_number(terms, domain, body)?;
     let e = open_fresh(alloc, terms, domain, body, number)?;
@@ -232,13 +233,13 @@ fn pi_domain_sort<T: Terms>(
     body: u64,
     e: u64,
 ) -> Result<Next<u64>, NoMemory>
-    requires domain_in { domain < length (T.trees terms.old) }
-    requires body_in { body < length (T.trees terms.old) }
-    requires e_in { e < length (T.trees terms.old) }
-    ensures keeps { Extends (T.trees terms.old) (T.trees terms.new) }
-    ensures levels { T.levels terms.new ≡ T.levels terms.old }
-    ensures known { IfOk result (IsKnownNext (length (T.trees terms.new))) }
-    ensures steps { IfOk result (λ next. (w : Place) → next_steps w (at (T.trees terms.new)) next ≡ erased w a_tree (pi_sorted (at (T.trees terms.old) domain) (at (T.trees terms.old) body) (at (T.trees terms.old) e))) }
+    requires domain_in { domain < length (T.contents terms.old).trees }
+    requires body_in { body < length (T.contents terms.old).trees }
+    requires e_in { e < length (T.contents terms.old).trees }
+    ensures keeps { Extends (T.contents terms.old) (T.contents terms.new) }
+    ensures rest { T.rest terms.new ≡ T.rest terms.old }
+    ensures known { IfOk result (IsKnownNext (length (T.contents terms.new).trees)) }
+    ensures steps { IfOk result (λ next. (w : Place) → next_steps w (tree_at (T.contents terms.new)) next ≡ erased w a_tree (pi_sorted (tree_at (T.contents terms.old) domain) (tree_at (T.contents terms.old) body) (tree_at (T.contents terms.old) e))) }
 {
     match terms.view(e) {
         Node::Sort(_) => pi_body(alloc, terms, domain, body, e),
@@ -250,10 +251,10 @@ fn pi_domain_sort<T: Terms>(
 
 /// The level of a sort.
 pub fn level_of<T: Terms>(terms: &mut T, sort: u64) -> Result<u64, NoMemory>
-    requires { sort < length (T.trees terms.old) }
-    ensures trees { T.trees terms.new ≡ T.trees terms.old }
-    ensures levels { ExtendsLevels (T.levels terms.old) (T.levels terms.new) }
-    ensures ok { IfOk result (λ l. StandsLevel (T.levels terms.new) l (level_in (at (T.trees terms.old) sort))) }
+    requires { sort < length (T.contents terms.old).trees }
+    ensures keeps { Extends (T.contents terms.old) (T.contents terms.new) }
+    ensures rest { T.rest terms.new ≡ T.rest terms.old }
+    ensures ok { IfOk result (λ l. IsLevel (T.contents terms.new) l (level_in (tree_at (T.contents terms.old) sort))) }
 {
     match terms.view(sort) {
         Node::Sort(level) => Ok(level),
@@ -265,27 +266,27 @@ pub fn level_of<T: Terms>(terms: &mut T, sort: u64) -> Result<u64, NoMemory>
 
 /// The sort of a Pi, from those of its domain and its body.
 fn pi_sort<T: Terms>(terms: &mut T, sort: u64, level: u64) -> Result<Next<u64>, NoMemory>
-    requires sort_in { sort < length (T.trees terms.old) }
-    requires level_in { level < length (T.levels terms.old) }
-    ensures keeps { Extends (T.trees terms.old) (T.trees terms.new) }
-    ensures levels { ExtendsLevels (T.levels terms.old) (T.levels terms.new) }
-    ensures known { IfOk result (IsKnownNext (length (T.trees terms.new))) }
-    ensures steps { IfOk result (λ next. (w : Place) → next_steps w (at (T.trees terms.new)) next ≡ gives (a_tree (tree_sort (imax_level (level_in (at (T.trees terms.old) sort)) (level_at (T.levels terms.old) level))))) }
+    requires sort_in { sort < length (T.contents terms.old).trees }
+    requires level_in { level < length (T.contents terms.old).levels }
+    ensures keeps { Extends (T.contents terms.old) (T.contents terms.new) }
+    ensures rest { T.rest terms.new ≡ T.rest terms.old }
+    ensures known { IfOk result (IsKnownNext (length (T.contents terms.new).trees)) }
+    ensures steps { IfOk result (λ next. (w : Place) → next_steps w (tree_at (T.contents terms.new)) next ≡ gives (a_tree (tree_sort (imax_level (level_in (tree_at (T.contents terms.old) sort)) (level_at (T.contents terms.old) level))))) }
 {
     let domain = level_of(terms, sort)?;
-    let above = terms.make_level(LevelNode::Imax(domain, level))?;
+    let above = terms.make_level(LevelNode::IMax(domain, level))?;
     let e = terms.make(Node::Sort(above))?;
     Ok(Next::Done(Answer::Term(e)))
 }
 
 /// Goes on with the sort of a Pi's body.
 fn pi_body_sort<T: Terms>(terms: &mut T, sort: u64, e: u64) -> Result<Next<u64>, NoMemory>
-    requires sort_in { sort < length (T.trees terms.old) }
-    requires e_in { e < length (T.trees terms.old) }
-    ensures keeps { Extends (T.trees terms.old) (T.trees terms.new) }
-    ensures levels { ExtendsLevels (T.levels terms.old) (T.levels terms.new) }
-    ensures known { IfOk result (IsKnownNext (length (T.trees terms.new))) }
-    ensures steps { IfOk result (λ next. (w : Place) → next_steps w (at (T.trees terms.new)) next ≡ erased w a_tree (pi_end (level_in (at (T.trees terms.old) sort)) (at (T.trees terms.old) e))) }
+    requires sort_in { sort < length (T.contents terms.old).trees }
+    requires e_in { e < length (T.contents terms.old).trees }
+    ensures keeps { Extends (T.contents terms.old) (T.contents terms.new) }
+    ensures rest { T.rest terms.new ≡ T.rest terms.old }
+    ensures known { IfOk result (IsKnownNext (length (T.contents terms.new).trees)) }
+    ensures steps { IfOk result (λ next. (w : Place) → next_steps w (tree_at (T.contents terms.new)) next ≡ erased w a_tree (pi_end (level_in (tree_at (T.contents terms.old) sort)) (tree_at (T.contents terms.old) e))) }
 {
     match terms.view(e) {
         Node::Sort(level) => pi_sort(terms, sort, level),
@@ -302,12 +303,12 @@ fn resume_term<T: Terms>(
     sheet: Sheet<u64>,
     e: u64,
 ) -> Result<Next<u64>, NoMemory>
-    requires sheet_in { IsKnownSheet (length (T.trees terms.old)) sheet }
-    requires e_in { e < length (T.trees terms.old) }
-    ensures keeps { Extends (T.trees terms.old) (T.trees terms.new) }
-    ensures levels { ExtendsLevels (T.levels terms.old) (T.levels terms.new) }
-    ensures known { IfOk result (IsKnownNext (length (T.trees terms.new))) }
-    ensures steps { IfOk result (λ next. (w : Place) → next_steps w (at (T.trees terms.new)) next ≡ sheet_steps w (map_sheet (at (T.trees terms.old)) sheet) (a_tree (at (T.trees terms.old) e))) }
+    requires sheet_in { IsKnownSheet (length (T.contents terms.old).trees) sheet }
+    requires e_in { e < length (T.contents terms.old).trees }
+    ensures keeps { Extends (T.contents terms.old) (T.contents terms.new) }
+    ensures rest { T.rest terms.new ≡ T.rest terms.old }
+    ensures known { IfOk result (IsKnownNext (length (T.contents terms.new).trees)) }
+    ensures steps { IfOk result (λ next. (w : Place) → next_steps w (tree_at (T.contents terms.new)) next ≡ sheet_steps w (map_sheet (tree_at (T.contents terms.old)) sheet) (a_tree (tree_at (T.contents terms.old) e))) }
 {
     match sheet {
         Sheet::WhnfCore => Ok(whnf_end(terms, e)),
@@ -351,12 +352,12 @@ pub fn resume<T: Terms>(
     sheet: Sheet<u64>,
     answer: Answer<u64>,
 ) -> Result<Next<u64>, NoMemory>
-    requires sheet_in { IsKnownSheet (length (T.trees terms.old)) sheet }
-    requires answer_in { IsKnownAnswer (length (T.trees terms.old)) answer }
-    ensures keeps { Extends (T.trees terms.old) (T.trees terms.new) }
-    ensures levels { ExtendsLevels (T.levels terms.old) (T.levels terms.new) }
-    ensures known { IfOk result (IsKnownNext (length (T.trees terms.new))) }
-    ensures steps { IfOk result (λ next. (w : Place) → next_steps w (at (T.trees terms.new)) next ≡ sheet_steps w (map_sheet (at (T.trees terms.old)) sheet) (value_at (at (T.trees terms.old)) answer)) }
+    requires sheet_in { IsKnownSheet (length (T.contents terms.old).trees) sheet }
+    requires answer_in { IsKnownAnswer (length (T.contents terms.old).trees) answer }
+    ensures keeps { Extends (T.contents terms.old) (T.contents terms.new) }
+    ensures rest { T.rest terms.new ≡ T.rest terms.old }
+    ensures known { IfOk result (IsKnownNext (length (T.contents terms.new).trees)) }
+    ensures steps { IfOk result (λ next. (w : Place) → next_steps w (tree_at (T.contents terms.new)) next ≡ sheet_steps w (map_sheet (tree_at (T.contents terms.old)) sheet) (value_at (tree_at (T.contents terms.old)) answer)) }
 {
     match answer {
         Answer::Term(e) => resume_term(alloc, terms, sheet, e),

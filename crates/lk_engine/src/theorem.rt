@@ -5,7 +5,7 @@ ghost use Rattle.lk_rulebook.specs.Place.{Place};
 ghost use Rattle.lk_table.specs.Declarations.{unit_steps, value_steps};
 ghost use Rattle.lk_plain.specs.Erased.{out_of, run_steps};
 ghost use Rattle.lk_table.specs.Declarations.{theorem_decl};
-ghost use Rattle.lk_store.specs.Store.{at, ExtendsLevels, Extends};
+ghost use Rattle.lk_store.specs.Contents.{tree_at, Extends};
 ghost use Rattle.lk_engine.specs.Questions.{query_of, IsKnownQuery};
 ghost use Rattle.lk_engine.specs.Outcomes.{GivesTree, GivesTruth, GivesSort, GivesLevel, IsAccepted, unit_steps_of};
 ghost use Rattle.lk_table.specs.Built.{rows};
@@ -15,7 +15,7 @@ use crate::levels::is_zero;
 use crate::question::{Answer, Query, Rule};
 use crate::stop::Stop;
 use lk_store::node::Node;
-use lk_store::store::Terms;
+use lk_store::terms::Terms;
 use std::alloc::Global;
 
 /// Asks a question that answers a term.
@@ -25,11 +25,11 @@ fn ask_term<T: Terms>(
     left: &mut u128,
     query: Query<u64>,
 ) -> Result<u64, Stop>
-    requires { IsKnownQuery (length (T.trees terms.old)) query }
-    ensures keeps { Extends (T.trees terms.old) (T.trees terms.new) }
-    ensures levels { ExtendsLevels (T.levels terms.old) (T.levels terms.new) }
-    ensures known { IfOk result (λ e. e < length (T.trees terms.new)) }
-    ensures outcome { (w : Place) → GivesTree w (query_of (at (T.trees terms.old)) query) left.old (T.trees terms.new) left.new result }
+    requires { IsKnownQuery (length (T.contents terms.old).trees) query }
+    ensures keeps { Extends (T.contents terms.old) (T.contents terms.new) }
+    ensures rest { T.rest terms.new ≡ T.rest terms.old }
+    ensures known { IfOk result (λ e. e < length (T.contents terms.new).trees) }
+    ensures outcome { (w : Place) → GivesTree w (query_of (tree_at (T.contents terms.old)) query) left.old (T.contents terms.new) left.new result }
 {
     match answer(alloc, terms, left, query) {
         Ok(Answer::Term(e)) => Ok(e),
@@ -45,10 +45,10 @@ fn ask_truth<T: Terms>(
     left: &mut u128,
     query: Query<u64>,
 ) -> Result<bool, Stop>
-    requires { IsKnownQuery (length (T.trees terms.old)) query }
-    ensures keeps { Extends (T.trees terms.old) (T.trees terms.new) }
-    ensures levels { ExtendsLevels (T.levels terms.old) (T.levels terms.new) }
-    ensures outcome { (w : Place) → GivesTruth w (query_of (at (T.trees terms.old)) query) left.old left.new result }
+    requires { IsKnownQuery (length (T.contents terms.old).trees) query }
+    ensures keeps { Extends (T.contents terms.old) (T.contents terms.new) }
+    ensures rest { T.rest terms.new ≡ T.rest terms.old }
+    ensures outcome { (w : Place) → GivesTruth w (query_of (tree_at (T.contents terms.old)) query) left.old left.new result }
 {
     match answer(alloc, terms, left, query) {
         Ok(Answer::Truth(truth)) => Ok(truth),
@@ -59,8 +59,8 @@ fn ask_truth<T: Terms>(
 
 /// The level of a weak head form, which is to be a sort.
 fn level_in<T: Terms>(terms: &T, form: u64) -> Result<u64, Stop>
-    requires { form < length (T.trees terms.now) }
-    ensures { GivesLevel (T.levels terms.now) (at (T.trees terms.now) form) result }
+    requires { form < length (T.contents terms.now).trees }
+    ensures { GivesLevel (T.contents terms.now) (tree_at (T.contents terms.now) form) result }
 {
     match terms.view(form) {
         Node::Sort(level) => Ok(level),
@@ -72,11 +72,11 @@ fn level_in<T: Terms>(terms: &T, form: u64) -> Result<u64, Stop>
 
 /// The level of a term's sort.
 fn sort_of<T: Terms>(alloc: Global, terms: &mut T, left: &mut u128, e: u64) -> Result<u64, Stop>
-    requires { e < length (T.trees terms.old) }
-    ensures keeps { Extends (T.trees terms.old) (T.trees terms.new) }
-    ensures levels { ExtendsLevels (T.levels terms.old) (T.levels terms.new) }
-    ensures known { IfOk result (λ l. l < length (T.levels terms.new)) }
-    ensures outcome { (w : Place) → GivesSort w (at (T.trees terms.old) e) left.old (T.levels terms.new) left.new result }
+    requires { e < length (T.contents terms.old).trees }
+    ensures keeps { Extends (T.contents terms.old) (T.contents terms.new) }
+    ensures rest { T.rest terms.new ≡ T.rest terms.old }
+    ensures known { IfOk result (λ l. l < length (T.contents terms.new).levels) }
+    ensures outcome { (w : Place) → GivesSort w (tree_at (T.contents terms.old) e) left.old (T.contents terms.new) left.new result }
 {
     let kind = match ask_term(alloc, terms, left, Query::Infer(e)) {
         Ok(kind) => kind,
@@ -97,11 +97,11 @@ fn check_proof<T: Terms>(
     kind: u64,
     proof: u64,
 ) -> Result<(), Stop>
-    requires kind_in { kind < length (T.trees terms.old) }
-    requires proof_in { proof < length (T.trees terms.old) }
-    ensures keeps { Extends (T.trees terms.old) (T.trees terms.new) }
-    ensures levels { ExtendsLevels (T.levels terms.old) (T.levels terms.new) }
-    ensures outcome { (w : Place) → IsAccepted (run_steps (out_of rows w) (unit_steps_of w (value_steps (at (T.trees terms.old) kind) (at (T.trees terms.old) proof))) left.old) left.new result }
+    requires kind_in { kind < length (T.contents terms.old).trees }
+    requires proof_in { proof < length (T.contents terms.old).trees }
+    ensures keeps { Extends (T.contents terms.old) (T.contents terms.new) }
+    ensures rest { T.rest terms.new ≡ T.rest terms.old }
+    ensures outcome { (w : Place) → IsAccepted (run_steps (out_of rows w) (unit_steps_of w (value_steps (tree_at (T.contents terms.old) kind) (tree_at (T.contents terms.old) proof))) left.old) left.new result }
 {
     let found = match ask_term(alloc, terms, left, Query::Infer(proof)) {
         Ok(found) => found,
@@ -126,11 +126,11 @@ pub fn check_theorem<T: Terms>(
     kind: u64,
     proof: u64,
 ) -> Result<(), Stop>
-    requires kind_in { kind < length (T.trees terms.old) }
-    requires proof_in { proof < length (T.trees terms.old) }
-    ensures keeps { Extends (T.trees terms.old) (T.trees terms.new) }
-    ensures levels { ExtendsLevels (T.levels terms.old) (T.levels terms.new) }
-    ensures outcome { (w : Place) → IsAccepted (run_steps (out_of rows w) (unit_steps_of w (unit_steps (theorem_decl (at (T.trees terms.old) kind) (at (T.trees terms.old) proof)))) left.old) left.new result }
+    requires kind_in { kind < length (T.contents terms.old).trees }
+    requires proof_in { proof < length (T.contents terms.old).trees }
+    ensures keeps { Extends (T.contents terms.old) (T.contents terms.new) }
+    ensures rest { T.rest terms.new ≡ T.rest terms.old }
+    ensures outcome { (w : Place) → IsAccepted (run_steps (out_of rows w) (unit_steps_of w (unit_steps (theorem_decl (tree_at (T.contents terms.old) kind) (tree_at (T.contents terms.old) proof)))) left.old) left.new result }
 {
     let level = match sort_of(alloc, terms, left, kind) {
         Ok(level) => level,

@@ -4,7 +4,7 @@ use Rattle.std.specs.Prelude.{option_map, IfSome, is_some, All, if◌then◌else
 use Rattle.std.proofs.lemmas.List.Elements.{All-weaker, All-head, All-tail}
 use Rattle.std.specs.declared.option.Option.{Option}
 use Rattle.lk_tree.specs.Tree.{Level, Tree}
-use Rattle.lk_store.specs.Store.{at, level_at, Extends, ExtendsLevels}
+use Rattle.lk_store.specs.Contents.{tree_at, level_at, Extends}
 use Rattle.lk_lines.specs.declared.words.Word.TheVariants.{IndexUnknown}
 use Rattle.lk_units.specs.declared.numbering.Numbering.{Numbering}
 use Rattle.lk_units.specs.declared.names.Names.{Names}

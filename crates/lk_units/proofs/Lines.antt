@@ -2,7 +2,7 @@
 use Rattle.std.proofs.Common.{◌≡◌, ℕ, ◌<◌, List, map, length, refl, sym, subst, Ok, Err}
 use Rattle.std.specs.Prelude.{Result, OnOk, IfOk}
 use Rattle.lk_tree.specs.Tree.{Name, Level, Tree}
-use Rattle.lk_store.specs.Store.{at}
+use Rattle.lk_store.specs.Contents.{tree_at}
 use Rattle.lk_lines.specs.declared.words.Word.{Word}
 use Rattle.lk_lines.specs.Reading.{◌>>=◌}
 use Rattle.lk_units.specs.declared.assembler.TheoremRow.{TheoremRow}

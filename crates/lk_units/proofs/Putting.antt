@@ -5,7 +5,7 @@ use Rattle.std.specs.declared.option.Option.{Option}
 use Rattle.std.proofs.lemmas.List.{map-append}
 use Rattle.std.specs.declared.alloc.Global.{Global}
 use Rattle.lk_tree.specs.Tree.{Name, Level, Tree}
-use Rattle.lk_store.specs.Store.{at, level_at}
+use Rattle.lk_store.specs.Contents.{tree_at, level_at}
 use Rattle.lk_lines.specs.declared.words.Word.{Word}
 use Rattle.lk_lines.specs.declared.words.Word.TheVariants.{IndexTaken}
 use Rattle.lk_units.specs.declared.numbering.Numbering.{Numbering}

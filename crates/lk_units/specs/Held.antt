@@ -3,7 +3,7 @@ use Rattle.std.specs.Prelude.{◌≡◌, ◌<◌, ℕ, List, length, map, IfSome
 use Rattle.std.specs.declared.option.Option.{Option}
 use Rattle.std.specs.declared.alloc.Global.{Global}
 use Rattle.lk_tree.specs.Tree.{Name, Level, Tree, lam, pi}
-use Rattle.lk_store.specs.Store.{at, level_at}
+use Rattle.lk_store.specs.Contents.{tree_at, level_at}
 use Rattle.lk_lines.specs.declared.words.Word.{Word}
 use Rattle.lk_units.specs.Theorems.{Theorem}
 use Rattle.lk_units.specs.Names.{name_at, names_of, AreAfter, key_of}

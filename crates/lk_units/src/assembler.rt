@@ -1,7 +1,7 @@
 //! The theorems of a file, gathered item by item.
 ghost use Rattle.std.specs.Prelude.{◌≡◌, ◌<◌, ℕ, List, length, IfOk, IfErr, OnOk, Ok};
 ghost use Rattle.lk_tree.specs.Tree.{Level, Tree};
-ghost use Rattle.lk_store.specs.Store.{at, level_at, ExtendsLevels, Extends};
+ghost use Rattle.lk_store.specs.Contents.{tree_at, level_at, Extends};
 ghost use Rattle.lk_lines.specs.LineFeeds.{NamesHaveNoLineFeed, EntryHasNoLineFeed};
 ghost use Rattle.lk_units.specs.State.{State, begin, counted};
 ghost use Rattle.lk_units.specs.Held.{IsKnown, Holds, Follows};
@@ -10,7 +10,7 @@ use crate::names::Names;
 use crate::numbering::Numbering;
 use lk_lines::Word;
 use lk_store::node::{LevelNode, NoMemory};
-use lk_store::store::Terms;
+use lk_store::terms::Terms;
 use std::alloc::Global;
 
 /// A file has at most this many items: names, levels, expressions, rules and declarations.
@@ -67,9 +67,9 @@ impl Assembler {
     /// An assembler that has the anonymous name and level zero alone.
     pub fn new<T: Terms>(alloc: Global, store: &mut T) -> Result<Self, TakeError>
         ensures keeps { T.trees store.new ≡ T.trees store.old }
-        ensures levels { ExtendsLevels (T.levels store.old) (T.levels store.new) }
-        ensures known { IfOk result (λ a. IsKnown a (length (T.levels store.new)) (length (T.trees store.new))) }
-        ensures holds { IfOk result (λ a. Holds a (T.levels store.new) (T.trees store.new) begin) }
+        ensures rest { T.rest store.new ≡ T.rest store.old }
+        ensures known { IfOk result (λ a. IsKnown a (length (T.contents store.new).levels) (length (T.contents store.new).trees)) }
+        ensures holds { IfOk result (λ a. Holds a (T.contents store.new) begin) }
         ensures err { IfErr result (λ e. e ≡ TakeError.NoMemory) }
     {
         let zero = store.make_level(LevelNode::Zero)?;

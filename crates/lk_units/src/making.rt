@@ -1,7 +1,7 @@
 //! What each kind of line makes.
 ghost use Rattle.std.specs.Prelude.{◌≡◌, ◌<◌, ◌++◌, ◌∷◌, [], ℕ, List, length, map, IfOk, Ok, OnOk};
 ghost use Rattle.lk_tree.specs.Tree.{Level, Tree, var};
-ghost use Rattle.lk_store.specs.Store.{at, level_at, node_tree, IsBelow, ExtendsLevels, Extends};
+ghost use Rattle.lk_store.specs.Contents.{tree_at, level_at, tree_of, IsIn, Extends};
 ghost use Rattle.lk_units.specs.Names.{part_of, name_at, names_of, AreAfter, ExtendsNames};
 ghost use Rattle.lk_units.specs.State.{State, all_known, longer_name, successor_level, sort_tree, binder_tree};
 ghost use Rattle.lk_units.specs.Held.{Below, IsKnown, Holds, Makes, GivesKeys, binder_of};
@@ -9,7 +9,7 @@ ghost use Rattle.lk_units.specs.Held.{Below, IsKnown, Holds, Makes, GivesKeys, b
 use crate::{Assembler, Binder, Component, TakeError};
 use lk_lines::Word;
 use lk_store::node::{LevelNode, Node};
-use lk_store::store::Terms;
+use lk_store::terms::Terms;
 use std::alloc::Global;
 
 // The node of a binder.
@@ -25,11 +25,11 @@ fn binder_node(binder: Binder, domain: u64, body: u64) -> Node
 
 // A term.
 fn make<T: Terms>(store: &mut T, node: Node) -> Result<u64, TakeError>
-    requires { IsBelow (length (T.levels store.old)) (length (T.trees store.old)) node }
-    ensures keeps { Extends (T.trees store.old) (T.trees store.new) }
-    ensures levels { T.levels store.new ≡ T.levels store.old }
-    ensures known { IfOk result (λ e. e < length (T.trees store.new)) }
-    ensures made { Makes (at (T.trees store.new)) result (Ok (node_tree (T.levels store.old) (T.trees store.old) node)) }
+    requires { IsBelow (length (T.contents store.old).levels) (length (T.contents store.old).trees) node }
+    ensures keeps { Extends (T.contents store.old) (T.contents store.new) }
+    ensures rest { T.rest store.new ≡ T.rest store.old }
+    ensures known { IfOk result (λ e. e < length (T.contents store.new).trees) }
+    ensures made { Makes (tree_at (T.contents store.new)) result (Ok (node_tree (T.contents store.old) node)) }
 {
     match store.make(node) {
         Ok(e) => Ok(e),
@@ -39,10 +39,10 @@ fn make<T: Terms>(store: &mut T, node: Node) -> Result<u64, TakeError>
 
 /// A variable.
 pub(crate) fn variable<T: Terms>(store: &mut T, index: u32) -> Result<u64, TakeError>
-    ensures keeps { Extends (T.trees store.old) (T.trees store.new) }
-    ensures levels { T.levels store.new ≡ T.levels store.old }
-    ensures known { IfOk result (λ e. e < length (T.trees store.new)) }
-    ensures made { Makes (at (T.trees store.new)) result (Ok (var index)) }
+    ensures keeps { Extends (T.contents store.old) (T.contents store.new) }
+    ensures rest { T.rest store.new ≡ T.rest store.old }
+    ensures known { IfOk result (λ e. e < length (T.contents store.new).trees) }
+    ensures made { Makes (tree_at (T.contents store.new)) result (Ok (var index)) }
 {
     make(store, Node::Var(u64::from(index)))
 }
@@ -51,11 +51,11 @@ impl Assembler {
     /// The sort of a level.
     #[tactic(auto, using(crate::proofs::Holding::found, crate::proofs::Holding::missing, crate::proofs::Holding::is_below))]
     pub(crate) fn sort<T: Terms>(&self, store: &mut T, level: u32) -> Result<u64, TakeError>
-        requires { IsKnown self.now (length (T.levels store.old)) (length (T.trees store.old)) }
-        ensures keeps { Extends (T.trees store.old) (T.trees store.new) }
-        ensures levels { T.levels store.new ≡ T.levels store.old }
-        ensures known { IfOk result (λ e. e < length (T.trees store.new)) }
-        ensures made { (s : State) → Holds self.now (T.levels store.old) (T.trees store.old) s → Makes (at (T.trees store.new)) result (sort_tree s level) }
+        requires { IsKnown self.now (length (T.contents store.old).levels) (length (T.contents store.old).trees) }
+        ensures keeps { Extends (T.contents store.old) (T.contents store.new) }
+        ensures rest { T.rest store.new ≡ T.rest store.old }
+        ensures known { IfOk result (λ e. e < length (T.contents store.new).trees) }
+        ensures made { (s : State) → Holds self.now (T.contents store.old) s → Makes (tree_at (T.contents store.new)) result (sort_tree s level) }
     {
         let Some(level) = self.by_level.find(level) else {
             return Err(TakeError::Fault(Word::IndexUnknown));
@@ -73,11 +73,11 @@ impl Assembler {
         domain: u32,
         body: u32,
     ) -> Result<u64, TakeError>
-        requires { IsKnown self.now (length (T.levels store.old)) (length (T.trees store.old)) }
-        ensures keeps { Extends (T.trees store.old) (T.trees store.new) }
-        ensures levels { T.levels store.new ≡ T.levels store.old }
-        ensures known { IfOk result (λ e. e < length (T.trees store.new)) }
-        ensures made { (s : State) → Holds self.now (T.levels store.old) (T.trees store.old) s → Makes (at (T.trees store.new)) result (binder_tree s (binder_of binder) name domain body) }
+        requires { IsKnown self.now (length (T.contents store.old).levels) (length (T.contents store.old).trees) }
+        ensures keeps { Extends (T.contents store.old) (T.contents store.new) }
+        ensures rest { T.rest store.new ≡ T.rest store.old }
+        ensures known { IfOk result (λ e. e < length (T.contents store.new).trees) }
+        ensures made { (s : State) → Holds self.now (T.contents store.old) s → Makes (tree_at (T.contents store.new)) result (binder_tree s (binder_of binder) name domain body) }
     {
         let Some(_) = self.by_name.find(name) else {
             return Err(TakeError::Fault(Word::IndexUnknown));
@@ -94,16 +94,16 @@ impl Assembler {
     /// The successor of a level.
     #[tactic(auto, using(crate::proofs::Holding::found, crate::proofs::Holding::missing, crate::proofs::Holding::is_below))]
     pub(crate) fn successor<T: Terms>(&self, store: &mut T, level: u32) -> Result<u64, TakeError>
-        requires { IsKnown self.now (length (T.levels store.old)) (length (T.trees store.old)) }
-        ensures trees { T.trees store.new ≡ T.trees store.old }
-        ensures levels { ExtendsLevels (T.levels store.old) (T.levels store.new) }
-        ensures known { IfOk result (λ l. l < length (T.levels store.new)) }
-        ensures made { (s : State) → Holds self.now (T.levels store.old) (T.trees store.old) s → Makes (level_at (T.levels store.new)) result (successor_level s level) }
+        requires { IsKnown self.now (length (T.contents store.old).levels) (length (T.contents store.old).trees) }
+        ensures keeps { Extends (T.contents store.old) (T.contents store.new) }
+        ensures rest { T.rest store.new ≡ T.rest store.old }
+        ensures known { IfOk result (λ l. l < length (T.contents store.new).levels) }
+        ensures made { (s : State) → Holds self.now (T.contents store.old) s → Makes (level_at (T.contents store.new)) result (successor_level s level) }
     {
         let Some(level) = self.by_level.find(level) else {
             return Err(TakeError::Fault(Word::IndexUnknown));
         };
-        match store.make_level(LevelNode::Successor(level)) {
+        match store.make_level(LevelNode::Succ(level)) {
             Ok(made) => Ok(made),
             Err(_) => Err(TakeError::NoMemory),
         }

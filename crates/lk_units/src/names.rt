@@ -3,7 +3,7 @@ ghost use Rattle.std.specs.Prelude.{◌≡◌, ◌<◌, ◌++◌, ◌∷◌, [],
 ghost use Rattle.lk_units.specs.Names.{part_of, part_key, name_at, names_of, AreAfter, ExtendsNames, StandsName, IsPath, key_of};
 
 use itoa::Buffer;
-use lk_store::node::NoMemory;
+use lk_rows::memory::NoMemory;
 use std::alloc::Global;
 
 /// A component of a name.

@@ -2,7 +2,7 @@
 ghost use Rattle.std.specs.Prelude.{◌≡◌, ◌==◌, ℕ, OnOk, OnErr, Some, None, if◌then◌else◌};
 ghost use Rattle.lk_units.specs.Numbering.{entry};
 
-use lk_store::node::NoMemory;
+use lk_rows::memory::NoMemory;
 use std::alloc::Global;
 use std::collections::HashMap;
 

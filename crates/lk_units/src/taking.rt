@@ -1,7 +1,7 @@
 //! Items taken one after another.
 ghost use Rattle.std.specs.Prelude.{◌≡◌, ◌<◌, ◌∷◌, [], ℕ, List, length, OnOk, IfOk, Ok, Some, None, Result, is_some, false};
 ghost use Rattle.lk_tree.specs.Tree.{Name, Level, Tree, var};
-ghost use Rattle.lk_store.specs.Store.{at, level_at, ExtendsLevels, Extends};
+ghost use Rattle.lk_store.specs.Contents.{tree_at, level_at, Extends};
 ghost use Rattle.lk_lines.specs.declared.words.Word.{Word as LineWord};
 ghost use Rattle.lk_lines.specs.declared.tags.Tag.TheVariants as tag;
 ghost use Rattle.lk_lines.specs.Views.{entry_tag, entry_values, declaration_tag, declaration_values};
@@ -14,7 +14,7 @@ ghost use Rattle.lk_units.specs.Held.{seen, shown, Below, IsKnown, IsKnownRow, H
 use crate::making::variable;
 use crate::{Assembler, Binder, Component, TakeError, TheoremRow};
 use lk_lines::{Declaration, Entry, Word};
-use lk_store::store::Terms;
+use lk_store::terms::Terms;
 use std::alloc::Global;
 
 impl Assembler {
@@ -121,11 +121,11 @@ impl Assembler {
         own: u32,
         level: u32,
     ) -> Result<(), TakeError>
-        requires { IsKnown self.old (length (T.levels store.old)) (length (T.trees store.old)) }
-        ensures trees { T.trees store.new ≡ T.trees store.old }
-        ensures levels { ExtendsLevels (T.levels store.old) (T.levels store.new) }
-        ensures known { OnOk result (IsKnown self.new (length (T.levels store.new)) (length (T.trees store.new))) }
-        ensures follows { (s : State) → Holds self.old (T.levels store.old) (T.trees store.old) s → Follows self.new (T.levels store.new) (T.trees store.new) result (with_level s own (successor_level s level)) }
+        requires { IsKnown self.old (length (T.contents store.old).levels) (length (T.contents store.old).trees) }
+        ensures keeps { Extends (T.contents store.old) (T.contents store.new) }
+        ensures rest { T.rest store.new ≡ T.rest store.old }
+        ensures known { OnOk result (IsKnown self.new (length (T.contents store.new).levels) (length (T.contents store.new).trees)) }
+        ensures follows { (s : State) → Holds self.old (T.contents store.old) s → Follows self.new (T.contents store.new) result (with_level s own (successor_level s level)) }
     {
         let made = self.successor(store, level);
         self.take_level(own, made)
@@ -139,11 +139,11 @@ impl Assembler {
         own: u32,
         index: u32,
     ) -> Result<(), TakeError>
-        requires { IsKnown self.old (length (T.levels store.old)) (length (T.trees store.old)) }
-        ensures keeps { Extends (T.trees store.old) (T.trees store.new) }
-        ensures levels { T.levels store.new ≡ T.levels store.old }
-        ensures known { OnOk result (IsKnown self.new (length (T.levels store.new)) (length (T.trees store.new))) }
-        ensures follows { (s : State) → Holds self.old (T.levels store.old) (T.trees store.old) s → Follows self.new (T.levels store.new) (T.trees store.new) result (with_tree s own (Ok (var index))) }
+        requires { IsKnown self.old (length (T.contents store.old).levels) (length (T.contents store.old).trees) }
+        ensures keeps { Extends (T.contents store.old) (T.contents store.new) }
+        ensures rest { T.rest store.new ≡ T.rest store.old }
+        ensures known { OnOk result (IsKnown self.new (length (T.contents store.new).levels) (length (T.contents store.new).trees)) }
+        ensures follows { (s : State) → Holds self.old (T.contents store.old) s → Follows self.new (T.contents store.new) result (with_tree s own (Ok (var index))) }
     {
         let made = variable(store, index);
         self.take_tree(own, made)
@@ -152,11 +152,11 @@ impl Assembler {
     // A line of a sort.
     #[tactic(auto, using(crate::proofs::Holding::grown_holds, crate::proofs::Holding::grown_known, crate::proofs::Growing::same_levels))]
     fn sort_line<T: Terms>(&mut self, store: &mut T, own: u32, level: u32) -> Result<(), TakeError>
-        requires { IsKnown self.old (length (T.levels store.old)) (length (T.trees store.old)) }
-        ensures keeps { Extends (T.trees store.old) (T.trees store.new) }
-        ensures levels { T.levels store.new ≡ T.levels store.old }
-        ensures known { OnOk result (IsKnown self.new (length (T.levels store.new)) (length (T.trees store.new))) }
-        ensures follows { (s : State) → Holds self.old (T.levels store.old) (T.trees store.old) s → Follows self.new (T.levels store.new) (T.trees store.new) result (with_tree s own (sort_tree s level)) }
+        requires { IsKnown self.old (length (T.contents store.old).levels) (length (T.contents store.old).trees) }
+        ensures keeps { Extends (T.contents store.old) (T.contents store.new) }
+        ensures rest { T.rest store.new ≡ T.rest store.old }
+        ensures known { OnOk result (IsKnown self.new (length (T.contents store.new).levels) (length (T.contents store.new).trees)) }
+        ensures follows { (s : State) → Holds self.old (T.contents store.old) s → Follows self.new (T.contents store.new) result (with_tree s own (sort_tree s level)) }
     {
         let made = self.sort(store, level);
         self.take_tree(own, made)
@@ -173,11 +173,11 @@ impl Assembler {
         domain: u32,
         body: u32,
     ) -> Result<(), TakeError>
-        requires { IsKnown self.old (length (T.levels store.old)) (length (T.trees store.old)) }
-        ensures keeps { Extends (T.trees store.old) (T.trees store.new) }
-        ensures levels { T.levels store.new ≡ T.levels store.old }
-        ensures known { OnOk result (IsKnown self.new (length (T.levels store.new)) (length (T.trees store.new))) }
-        ensures follows { (s : State) → Holds self.old (T.levels store.old) (T.trees store.old) s → Follows self.new (T.levels store.new) (T.trees store.new) result (with_tree s own (binder_tree s (binder_of binder) name domain body)) }
+        requires { IsKnown self.old (length (T.contents store.old).levels) (length (T.contents store.old).trees) }
+        ensures keeps { Extends (T.contents store.old) (T.contents store.new) }
+        ensures rest { T.rest store.new ≡ T.rest store.old }
+        ensures known { OnOk result (IsKnown self.new (length (T.contents store.new).levels) (length (T.contents store.new).trees)) }
+        ensures follows { (s : State) → Holds self.old (T.contents store.old) s → Follows self.new (T.contents store.new) result (with_tree s own (binder_tree s (binder_of binder) name domain body)) }
     {
         let made = self.binder(store, binder, name, domain, body);
         self.take_tree(own, made)
@@ -262,12 +262,12 @@ impl Assembler {
         own: u32,
         line: Entry<'_>,
     ) -> Result<(), TakeError>
-        requires { IsKnown self.old (length (T.levels store.old)) (length (T.trees store.old)) }
-        ensures keeps { Extends (T.trees store.old) (T.trees store.new) }
-        ensures levels { ExtendsLevels (T.levels store.old) (T.levels store.new) }
-        ensures known { OnOk result (IsKnown self.new (length (T.levels store.new)) (length (T.trees store.new))) }
-        ensures follows { (s : State) → Holds self.old (T.levels store.old) (T.trees store.old) s
-            → Follows self.new (T.levels store.new) (T.trees store.new) result (entry_added s own (entry_tag line.entry) (entry_values line.entry)) }
+        requires { IsKnown self.old (length (T.contents store.old).levels) (length (T.contents store.old).trees) }
+        ensures keeps { Extends (T.contents store.old) (T.contents store.new) }
+        ensures rest { T.rest store.new ≡ T.rest store.old }
+        ensures known { OnOk result (IsKnown self.new (length (T.contents store.new).levels) (length (T.contents store.new).trees)) }
+        ensures follows { (s : State) → Holds self.old (T.contents store.old) s
+            → Follows self.new (T.contents store.new) result (entry_added s own (entry_tag line.entry) (entry_values line.entry)) }
     {
         match line {
             Entry::NameText { parent, text } => match Vec::from_slice(alloc, text) {
@@ -340,12 +340,12 @@ impl Assembler {
         own: u32,
         line: Entry<'_>,
     ) -> Result<(), TakeError>
-        requires { IsKnown self.old (length (T.levels store.old)) (length (T.trees store.old)) }
-        ensures keeps { Extends (T.trees store.old) (T.trees store.new) }
-        ensures levels { ExtendsLevels (T.levels store.old) (T.levels store.new) }
-        ensures known { OnOk result (IsKnown self.new (length (T.levels store.new)) (length (T.trees store.new))) }
-        ensures follows { (s : State) → Holds self.old (T.levels store.old) (T.trees store.old) s
-            → Follows self.new (T.levels store.new) (T.trees store.new) result (take_item s (record { own = Some own; tag = tag.Entry (entry_tag line.entry); values = entry_values line.entry })) }
+        requires { IsKnown self.old (length (T.contents store.old).levels) (length (T.contents store.old).trees) }
+        ensures keeps { Extends (T.contents store.old) (T.contents store.new) }
+        ensures rest { T.rest store.new ≡ T.rest store.old }
+        ensures known { OnOk result (IsKnown self.new (length (T.contents store.new).levels) (length (T.contents store.new).trees)) }
+        ensures follows { (s : State) → Holds self.old (T.contents store.old) s
+            → Follows self.new (T.contents store.new) result (take_item s (record { own = Some own; tag = tag.Entry (entry_tag line.entry); values = entry_values line.entry })) }
     {
         match self.add_entry(alloc, store, own, line) {
             Ok(()) => self.counts(),
@@ -361,12 +361,12 @@ impl Assembler {
         store: &mut T,
         declaration: Declaration,
     ) -> Result<(), TakeError>
-        requires { IsKnown self.old (length (T.levels store.old)) (length (T.trees store.old)) }
-        ensures keeps { Extends (T.trees store.old) (T.trees store.new) }
-        ensures levels { ExtendsLevels (T.levels store.old) (T.levels store.new) }
-        ensures known { OnOk result (IsKnown self.new (length (T.levels store.new)) (length (T.trees store.new))) }
-        ensures follows { (s : State) → Holds self.old (T.levels store.old) (T.trees store.old) s
-            → Follows self.new (T.levels store.new) (T.trees store.new) result (take_item s (record { own = None; tag = tag.Declaration (declaration_tag declaration); values = declaration_values declaration })) }
+        requires { IsKnown self.old (length (T.contents store.old).levels) (length (T.contents store.old).trees) }
+        ensures keeps { Extends (T.contents store.old) (T.contents store.new) }
+        ensures rest { T.rest store.new ≡ T.rest store.old }
+        ensures known { OnOk result (IsKnown self.new (length (T.contents store.new).levels) (length (T.contents store.new).trees)) }
+        ensures follows { (s : State) → Holds self.old (T.contents store.old) s
+            → Follows self.new (T.contents store.new) result (take_item s (record { own = None; tag = tag.Declaration (declaration_tag declaration); values = declaration_values declaration })) }
     {
         let _store = store;
         match self.add_declaration(alloc, declaration) {

@@ -1,7 +1,7 @@
 use Rattle.std.proofs.Common.{◌≡◌, List, map, length}
 use Rattle.std.specs.Prelude.{All}
 use Rattle.lk_units.specs.Theorems.{Theorem, AllBuilt}
-use Rattle.lk_store.specs.Store.{Extends}
+use Rattle.lk_store.specs.Contents.{Extends}
 use Rattle.lk_units.specs.State.{AllPlain}
 use Rattle.lk_units.specs.Held.{seen, shown, IsKnownRow}
 use Rattle.leancheck.proofs.Checks.{Progress}

@@ -1,6 +1,6 @@
 use Rattle.std.proofs.Common.{◌≡◌, ℕ, ◌+◌, ◌-◌, ◌^◌, ◌≤◌, List, length}
 use Rattle.std.specs.declared.option.Option.{Option}
-use Rattle.lk_store.specs.Store.{ExtendsLevels, Extends}
+use Rattle.lk_store.specs.Contents.{Extends}
 use Rattle.lk_token.specs.Lines.{HasNoLineFeed}
 use Rattle.lk_units.specs.Held.{IsKnown}
 use Rattle.lk_book.specs.Passing.{IsCounted}

@@ -1,5 +1,5 @@
 use Rattle.std.proofs.Common.{◌≡◌, ◌+◌, length}
-use Rattle.lk_store.specs.Store.{ExtendsLevels, Extends}
+use Rattle.lk_store.specs.Contents.{Extends}
 use Rattle.lk_units.specs.Held.{IsKnown}
 use Rattle.lk_book.specs.Course.{Course}
 use Rattle.lk_book.specs.Passing.{Stands, IsCounted, Passes}

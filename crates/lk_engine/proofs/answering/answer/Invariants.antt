@@ -1,7 +1,7 @@
 use Rattle.lk_table.specs.Built.{rows}
 use Rattle.std.proofs.Common.{◌+◌, ◌*◌, vec_len}
 use Rattle.lk_plain.specs.Erased.{out_of}
-use Rattle.lk_store.specs.Store.{at, Extends, ExtendsLevels}
+use Rattle.lk_store.specs.Contents.{tree_at, Extends}
 use Rattle.lk_engine.specs.Questions.{query_of}
 use Rattle.lk_engine.proofs.Stacks.{IsWork}
 use Rattle.lk_engine.proofs.answering.answer.Given as goal

@@ -1,5 +1,5 @@
 use Rattle.std.proofs.Common.{ap, ◌∙◌}
-use Rattle.lk_store.specs.Store.{at}
+use Rattle.lk_store.specs.Contents.{tree_at}
 use Rattle.lk_tree.specs.RuleNo.{value_type}
 use Rattle.lk_plain.specs.Program.{done}
 use Rattle.lk_table.specs.Steps.{given}

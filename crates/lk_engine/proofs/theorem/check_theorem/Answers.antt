@@ -1,5 +1,5 @@
 use Rattle.std.proofs.Common.{sym, ◌∙◌, if◌then◌else◌}
-use Rattle.lk_store.specs.Store.{at, level_at}
+use Rattle.lk_store.specs.Contents.{tree_at, level_at}
 use Rattle.lk_tree.specs.Level.{is_zero_level}
 use Rattle.lk_tree.specs.RuleNo.{theorem_not_prop}
 use Rattle.lk_plain.specs.Program.{refuse}

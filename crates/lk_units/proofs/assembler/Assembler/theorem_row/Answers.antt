@@ -1,5 +1,5 @@
 use Rattle.std.proofs.Common.{rules}
-use Rattle.lk_store.specs.Store.{at}
+use Rattle.lk_store.specs.Contents.{tree_at}
 use Rattle.lk_units.specs.Names.{name_at, names_of}
 use Rattle.lk_units.proofs.Holding.{found}
 use Rattle.lk_units.proofs.Lines.{theorem_fails, theorem_made}
