@@ -2,7 +2,8 @@ pub mod Scanning
 pub mod Worked
 pub mod Checks
 pub mod Joined
-pub mod Keys
+pub mod Naming
+pub mod Taken
 pub mod Verdicts
 pub mod WordLaws
 pub mod Distinct

@@ -1,7 +1,8 @@
 pub mod Command
 pub mod Ends
 pub mod Held
-pub mod Seen
+pub mod Names
+pub mod Different
 pub mod Text
 pub mod Words
 pub mod Rows

@@ -4,8 +4,6 @@ use Rattle.lk_tree.specs.Tree.{Name, Part, text, number}
 use Rattle.lk_lines.specs.declared.line.Fault.{Fault}
 use Rattle.lk_lines.specs.Words.{word_text}
 use Rattle.lk_tree.specs.RuleNo.{RuleNo, unknown_constant, level_count, undeclared_level, duplicate_level, duplicate_name, loose_variable, not_a_sort, not_a_function, argument_type, let_type, value_type, theorem_not_prop, bad_projection, prop_projection, wide_literal, no_builtin, builtin_shape, quot_shape, level_width, block_shape, parameter_differs, constructor_result, not_positive, field_universe, nested_form, recursor_differs}
-use Rattle.leancheck.specs.declared.report.KeyPlace.{KeyPlace}
-use Rattle.leancheck.specs.declared.report.KeyPlace.TheVariants.{InPart, AtMark, Behind}
 use Rattle.leancheck.specs.declared.report.Kind.{Kind}
 use Rattle.leancheck.specs.declared.report.Kind.TheVariants.{Yes, No, Memory}
 use Rattle.lk_rulebook.specs.Units.{Library, Members, members_of}
@@ -22,15 +20,15 @@ abbrev pub part_text : Part → List ℕ
 part_text (text bytes) = bytes
 part_text (number n) = decimal n
 
--- components as they are, joined by dots
-abbrev pub parts_text : Name → List ℕ
-parts_text [] = []
-parts_text (p ∷ []) = part_text p
-parts_text (p ∷ q ∷ ps) = part_text p ++ 46 ∷ parts_text (q ∷ ps)
+-- components, with a dot before each
+abbrev pub dotted : Name → List ℕ
+dotted [] = []
+dotted (p ∷ ps) = 46 ∷ (part_text p ++ dotted ps)
 
+-- components as they are, joined by dots
 abbrev pub name_text : Name → List ℕ
 name_text [] = codes "[anonymous]"
-name_text (p ∷ ps) = parts_text (p ∷ ps)
+name_text (p ∷ ps) = part_text p ++ dotted ps
 
 abbrev pub rule_word : RuleNo → List ℕ
 rule_word unknown_constant = codes "UnknownConstant"
@@ -119,14 +117,3 @@ first_name (m ∷ ms) = m.0
 -- the whole text for these units and verdicts
 abbrev pub report_text : Library → List Verdict → List ℕ
 report_text us vs = report_of_names (map (λ u. name_text (first_name (members_of u))) us) vs
-
--- where the bytes of a name stand: in a component, at the byte that tells a component's kind, or behind it
-abbrev pub shown_from : KeyPlace → List ℕ → List ℕ
-shown_from place [] = []
-shown_from InPart (b ∷ bs) = if b == 10 then shown_from AtMark bs else b ∷ shown_from InPart bs
-shown_from AtMark (b ∷ bs) = shown_from Behind bs
-shown_from Behind (b ∷ bs) = 46 ∷ (if b == 10 then shown_from AtMark bs else b ∷ shown_from InPart bs)
-
--- the text of a name, from its bytes
-abbrev pub key_text : List ℕ → List ℕ
-key_text key = if nat_eq (length key) 0 then codes "[anonymous]" else shown_from InPart key

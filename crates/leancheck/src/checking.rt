@@ -1,28 +1,30 @@
-//! The verdicts of a library's theorems, in their order.
+//! The verdicts of a library's units, in their order.
 
 ghost use Rattle.std.specs.Prelude.{◌≡◌, ◌<◌, ◌^◌, ℕ, List, length, map, take, All, IfOk, true};
 ghost use Rattle.lk_rulebook.specs.Place.{Place};
 ghost use Rattle.lk_tree.specs.Mentions.{is_one_of};
-ghost use Rattle.lk_units.specs.Theorems.{Theorem, units_of, AllBuilt};
+ghost use Rattle.lk_units.specs.Theorems.{Theorem, unit_of, units_of, AllBuilt};
 ghost use Rattle.leancheck.specs.Rows.{names_of, questions_of, is_closed, checked_of, row_verdict};
 ghost use Rattle.lk_verdict.specs.Told.{AreVerdicts};
-ghost use Rattle.lk_store.specs.Contents.{tree_at, Extends};
-ghost use Rattle.lk_units.specs.Names.{key_of};
-ghost use Rattle.lk_units.specs.State.{ArePlain, AllPlain};
-ghost use Rattle.lk_units.specs.Held.{seen, shown, IsKnownRow};
+ghost use Rattle.lk_store.specs.Contents.{name_at, tree_at, Extends};
+ghost use Rattle.lk_store.specs.Store.{contents_of};
+ghost use Rattle.lk_env.specs.Units.{unit_at, library_at, IsStatedIn, IsUnitIn};
+ghost use Rattle.lk_units.specs.State.{AllPlain};
 ghost use Rattle.leancheck.specs.Held.{verdict, result_verdict, IsPlain};
 
-use crate::seen::{Seen, none_twice};
+use crate::different::none_twice;
 use lk_engine::question::Rule;
 use lk_engine::stop::Stop;
 use lk_engine::theorem::check_theorem;
+use lk_env::library::Library;
+use lk_env::unit::{Body, Declaration, Unit};
 use lk_port::Gate;
 use lk_rows::memory::NoMemory;
+use lk_store::overlay::Overlay;
 use lk_store::terms::Terms;
-use lk_units::TheoremRow;
 use std::alloc::Global;
 
-/// What is said of a theorem.
+/// What is said of a unit.
 #[derive(Clone, Copy, Debug, PartialEq, Eq)]
 pub enum Verdict {
     Yes,
@@ -51,7 +53,7 @@ fn verdict_of(outcome: Result<(), Stop>) -> Verdict
 fn ask<T: Terms>(alloc: Global, store: &mut T, steps: u128, kind: u64, proof: u64) -> Verdict
     requires kind_in { kind < length (T.contents store.old).trees }
     requires proof_in { proof < length (T.contents store.old).trees }
-    ensures keeps { Extends (T.contents store.old) (T.contents store.new) }
+    ensures rest { T.rest store.new ≡ T.rest store.old }
     ensures verdict { (w : Place) (t : Theorem) → t.type ≡ tree_at (T.contents store.old) kind → t.proof ≡ tree_at (T.contents store.old) proof → IsPlain (questions_of w steps t) result }
 {
     let mut left = steps;
@@ -60,71 +62,128 @@ fn ask<T: Terms>(alloc: Global, store: &mut T, steps: u128, kind: u64, proof: u6
 }
 
 /// Whether no variable of a theorem is loose.
-fn is_closed<T: Terms>(store: &T, row: &TheoremRow) -> bool
-    requires { IsKnownRow (length (T.contents store.now).trees) row.now }
-    ensures { (t : Theorem) → t.type ≡ tree_at (T.contents store.now) row.now.kind → t.proof ≡ tree_at (T.contents store.now) row.now.proof → result ≡ is_closed t }
+fn is_closed<T: Terms>(store: &T, kind: u64, proof: u64) -> bool
+    requires kind_in { kind < length (T.contents store.now).trees }
+    requires proof_in { proof < length (T.contents store.now).trees }
+    ensures { (t : Theorem) → t.type ≡ tree_at (T.contents store.now) kind → t.proof ≡ tree_at (T.contents store.now) proof → result ≡ is_closed t }
 {
-    store.loose_bound(row.kind) == 0 && store.loose_bound(row.proof) == 0
+    store.loose_bound(kind) == 0 && store.loose_bound(proof) == 0
 }
 
 /// The verdict of a theorem whose name is new and whose level parameters are different.
-fn judge_declared<T: Terms>(alloc: Global, store: &mut T, steps: u128, row: &TheoremRow) -> Verdict
-    requires { IsKnownRow (length (T.contents store.old).trees) row.now }
-    ensures keeps { Extends (T.contents store.old) (T.contents store.new) }
-    ensures verdict { (w : Place) (t : Theorem) → t.type ≡ tree_at (T.contents store.old) row.now.kind → t.proof ≡ tree_at (T.contents store.old) row.now.proof → IsPlain (checked_of w steps t) result }
-{
-    if !is_closed(store, row) {
-        return Verdict::No(Rule::LooseVariable);
-    }
-    ask(alloc, store, steps, row.kind, row.proof)
-}
-
-/// The verdict of a theorem, whose name an earlier one may have.
-fn judge<T: Terms>(
+fn judge_declared<T: Terms>(
     alloc: Global,
     store: &mut T,
     steps: u128,
-    duplicate: bool,
-    row: &TheoremRow,
+    kind: u64,
+    proof: u64,
 ) -> Verdict
-    requires { IsKnownRow (length (T.contents store.old).trees) row.now }
-    ensures keeps { Extends (T.contents store.old) (T.contents store.new) }
-    ensures verdict { (ts : List Theorem) (n : ℕ) (t : Theorem) → t.type ≡ tree_at (T.contents store.old) row.now.kind → t.proof ≡ tree_at (T.contents store.old) row.now.proof
-        → map (λ v. v.items) row.now.parameters.items ≡ map key_of t.levels → ArePlain t.levels
-        → duplicate ≡ is_one_of (names_of (take n ts)) t.name → IsPlain (row_verdict ts steps n t) result }
+    requires kind_in { kind < length (T.contents store.old).trees }
+    requires proof_in { proof < length (T.contents store.old).trees }
+    ensures rest { T.rest store.new ≡ T.rest store.old }
+    ensures verdict { (w : Place) (t : Theorem) → t.type ≡ tree_at (T.contents store.old) kind → t.proof ≡ tree_at (T.contents store.old) proof → IsPlain (checked_of w steps t) result }
 {
-    if duplicate {
+    if !is_closed(store, kind, proof) {
+        return Verdict::No(Rule::LooseVariable);
+    }
+    ask(alloc, store, steps, kind, proof)
+}
+
+/// Whether a unit before this one gives the name.
+#[tactic(auto, using(crate::proofs::Taken::taken_before, crate::proofs::Taken::taken_by_none))]
+fn is_taken(library: &Library, unit: u32, name: u64) -> bool
+    requires { name < length (contents_of library.now.0).names }
+    ensures { (ts : List Theorem) → library_at (contents_of library.now.0) library.now.1 ≡ units_of ts
+        → result ≡ is_one_of (names_of (take unit ts)) (name_at (contents_of library.now.0) name) }
+{
+    match library.place_of(name) {
+        Some(place) => place.unit < unit,
+        None => false,
+    }
+}
+
+/// The verdict of a theorem, over a store that has what its library has.
+fn judge_theorem<T: Terms>(
+    alloc: Global,
+    library: &Library,
+    store: &mut T,
+    steps: u128,
+    unit: u32,
+    declaration: &Declaration,
+    proof: u64,
+) -> Verdict
+    requires same { T.contents store.old ≡ contents_of library.now.0 }
+    requires stated { IsStatedIn (contents_of library.now.0) declaration.now.name declaration.now.levels.items declaration.now.kind }
+    requires proof_in { proof < length (contents_of library.now.0).trees }
+    ensures rest { T.rest store.new ≡ T.rest store.old }
+    ensures verdict { (ts : List Theorem) (t : Theorem) → library_at (contents_of library.now.0) library.now.1 ≡ units_of ts
+        → t.name ≡ name_at (contents_of library.now.0) declaration.now.name → t.levels ≡ map (name_at (contents_of library.now.0)) declaration.now.levels.items
+        → t.type ≡ tree_at (contents_of library.now.0) declaration.now.kind → t.proof ≡ tree_at (contents_of library.now.0) proof → IsPlain (row_verdict ts steps unit t) result }
+{
+    if is_taken(library, unit, declaration.name) {
         return Verdict::No(Rule::DuplicateName);
     }
-    match none_twice(alloc, &row.parameters) {
-        Ok(true) => judge_declared(alloc, store, steps, row),
+    match none_twice(alloc, library.base(), &declaration.levels) {
+        Ok(true) => judge_declared(alloc, store, steps, declaration.kind, proof),
         Ok(false) => Verdict::No(Rule::DuplicateLevel),
         Err(_) => Verdict::Memory,
     }
 }
 
-/// The verdicts of the theorems, in their order; the questions of each may take so many steps.
-pub fn check_all<T: Terms, G: Gate>(
+/// The verdict of a unit, over a store that has what its library has.
+fn judge<T: Terms>(
     alloc: Global,
+    library: &Library,
     store: &mut T,
     steps: u128,
-    rows: &[TheoremRow],
+    number: u32,
+    unit: &Unit,
+) -> Verdict
+    requires same { T.contents store.old ≡ contents_of library.now.0 }
+    requires known { IsUnitIn (contents_of library.now.0) unit.now }
+    ensures rest { T.rest store.new ≡ T.rest store.old }
+    ensures verdict { (ts : List Theorem) (t : Theorem) → library_at (contents_of library.now.0) library.now.1 ≡ units_of ts
+        → unit_at (contents_of library.now.0) unit.now ≡ unit_of t → IsPlain (row_verdict ts steps number t) result }
+{
+    match unit {
+        Unit::Declaration(declaration) => match declaration.body {
+            Body::Theorem { proof } => judge_theorem(
+                alloc,
+                library,
+                store,
+                steps,
+                number,
+                declaration,
+                proof,
+            ),
+            // No line of a file states one of these yet.
+            _ => Verdict::No(Rule::BuiltinShape),
+        },
+        Unit::Block(_) => Verdict::No(Rule::BuiltinShape),
+    }
+}
+
+/// The verdicts of the units, in their order; the questions of each may take so many steps.
+///
+/// Each unit works in the same store over that of the library, which is emptied before it.
+pub fn check_all<G: Gate>(
+    alloc: Global,
+    library: &Library,
+    steps: u128,
     gate: &G,
 ) -> Result<Vec<Verdict>, NoMemory>
-    requires { All (IsKnownRow (length (T.contents store.old).trees)) rows.now }
-    ensures { IfOk result (λ v. (ts : List Theorem) → map (seen (T.contents store.old)) rows.now ≡ map shown ts → AllBuilt ts → AllPlain ts → AreVerdicts (units_of ts) steps 0 (units_of ts) (map verdict v.items)) }
+    ensures { IfOk result (λ v. (ts : List Theorem) → library_at (contents_of library.now.0) library.now.1 ≡ units_of ts → AllBuilt ts → AllPlain ts → AreVerdicts (units_of ts) steps 0 (units_of ts) (map verdict v.items)) }
 {
-    let mut names = Seen::new(alloc);
+    let mut store = Overlay::new(alloc, library.base());
     let mut verdicts = Vec::new(alloc);
-    let mut rest = rows;
-    while let [row, more @ ..] = rest {
-        let Ok(unit) = u32::try_from(verdicts.len()) else {
+    let mut rest = library.units();
+    while let [unit, more @ ..] = rest {
+        let Ok(number) = u32::try_from(verdicts.len()) else {
             return Err(NoMemory);
         };
-        gate.before_unit(unit);
-        let duplicate = names.has(&row.name);
-        verdicts.push(judge(alloc, store, steps, duplicate, row))?;
-        names.add(Vec::from_slice(alloc, &row.name)?)?;
+        gate.before_unit(number);
+        store.clear();
+        verdicts.push(judge(alloc, library, &mut store, steps, number, unit))?;
         rest = more;
     }
     Ok(verdicts)

@@ -1,18 +1,25 @@
 //! The text of a run.
 
-ghost use Rattle.std.specs.Prelude.{◌≡◌, ◌++◌, ◌∷◌, ℕ, List, map, decimal, codes, OnOk, IfOk};
+ghost use Rattle.std.specs.Prelude.{◌≡◌, ◌++◌, ◌∷◌, [], ℕ, List, map, decimal, codes, OnOk, IfOk};
 ghost use Rattle.lk_engine.specs.Questions.{rule_no};
 ghost use Rattle.leancheck.specs.Held.{verdict};
-ghost use Rattle.leancheck.specs.Text.{bad_line, shown_from, key_text, rule_word, head_text, why_text, verdict_text, lines_text, is_of, count, counted_text, summary_text, report_of_names};
+ghost use Rattle.leancheck.specs.Text.{bad_line, part_text, dotted, name_text, rule_word, head_text, why_text, verdict_text, lines_text, is_of, count, counted_text, summary_text, report_of_names};
 ghost use Rattle.leancheck.specs.Ends.{IsChecked, status_of};
+ghost use Rattle.leancheck.specs.Names.{first_number, first_of_block, unit_text};
+ghost use Rattle.lk_store.specs.Names.{part_of, name_of};
+ghost use Rattle.lk_store.specs.Store.{contents_of};
+ghost use Rattle.lk_env.specs.Units.{IsUnitIn};
 
 use crate::checking::Verdict;
 use crate::status::Status;
 use itoa::Buffer;
 use lk_engine::question::Rule;
+use lk_env::library::Library;
+use lk_env::unit::{BlockType, Recursor, Unit};
 use lk_lines::Fault;
 use lk_rows::memory::NoMemory;
-use lk_units::TheoremRow;
+use lk_store::name::{Name, Part};
+use lk_store::terms::Terms;
 use std::alloc::Global;
 
 /// What a verdict is counted as.
@@ -50,7 +57,7 @@ fn is_of(kind: Kind, v: &Verdict) -> bool
 }
 
 /// How many are of this kind.
-fn count(kind: Kind, verdicts: &[Verdict]) -> usize
+fn count(kind: Kind, verdicts: &[Verdict]) -> u64
     ensures { result ≡ count kind (map verdict verdicts.now) }
 {
     let mut n = 0;
@@ -64,19 +71,8 @@ fn count(kind: Kind, verdicts: &[Verdict]) -> usize
     n
 }
 
-/// Where the bytes of a name stand.
-#[derive(Clone, Copy)]
-pub enum KeyPlace {
-    /// In a component.
-    InPart,
-    /// At the byte that tells a component's kind.
-    AtMark,
-    /// Behind that byte.
-    Behind,
-}
-
 /// Appends a number.
-fn add_number(out: &mut Vec<u8>, n: usize) -> Result<(), NoMemory>
+fn add_number(out: &mut Vec<u8>, n: u64) -> Result<(), NoMemory>
     ensures { OnOk result (out.new.items ≡ out.old.items ++ decimal n) }
 {
     let mut buffer = Buffer::new();
@@ -84,64 +80,54 @@ fn add_number(out: &mut Vec<u8>, n: usize) -> Result<(), NoMemory>
     Ok(())
 }
 
-/// Appends what a byte shows that may stand in a component.
-fn add_part_byte(out: &mut Vec<u8>, b: u8) -> Result<KeyPlace, NoMemory>
-    ensures { IfOk result (λ next. (bs : List ℕ) → out.new.items ++ shown_from next bs ≡ out.old.items ++ shown_from KeyPlace.InPart (b ∷ bs)) }
+/// Appends a component of a name.
+fn add_part(out: &mut Vec<u8>, part: &Part) -> Result<(), NoMemory>
+    ensures { OnOk result (out.new.items ≡ out.old.items ++ part_text (part_of part.now)) }
 {
-    if b == b'\n' {
-        return Ok(KeyPlace::AtMark);
-    }
-    out.push(b)?;
-    Ok(KeyPlace::InPart)
-}
-
-/// Appends what a byte of a name shows.
-fn add_key_byte(out: &mut Vec<u8>, place: KeyPlace, b: u8) -> Result<KeyPlace, NoMemory>
-    ensures { IfOk result (λ next. (bs : List ℕ) → out.new.items ++ shown_from next bs ≡ out.old.items ++ shown_from place (b ∷ bs)) }
-{
-    match place {
-        KeyPlace::InPart => add_part_byte(out, b),
-        KeyPlace::AtMark => Ok(KeyPlace::Behind),
-        KeyPlace::Behind => {
-            out.push(b'.')?;
-            add_part_byte(out, b)
+    match part {
+        Part::Text(text) => {
+            out.extend_from_slice(text.as_bytes())?;
+            Ok(())
         }
+        Part::Number(n) => add_number(out, *n),
     }
 }
 
-/// Appends what the bytes of a name show.
-fn add_key(out: &mut Vec<u8>, key: &[u8]) -> Result<(), NoMemory>
-    ensures { OnOk result (out.new.items ≡ out.old.items ++ shown_from KeyPlace.InPart key.now) }
+/// Appends components, with a dot before each.
+fn add_parts(out: &mut Vec<u8>, parts: &[Part]) -> Result<(), NoMemory>
+    ensures { OnOk result (out.new.items ≡ out.old.items ++ dotted (map part_of parts.now)) }
 {
-    let mut place = KeyPlace::InPart;
-    let mut rest = key;
-    while let [b, more @ ..] = rest {
-        place = add_key_byte(out, place, *b)?;
+    let mut rest = parts;
+    while let [part, more @ ..] = rest {
+        out.push(b'.')?;
+        add_part(out, part)?;
         rest = more;
     }
     Ok(())
 }
 
-/// Appends a name, from its bytes.
-fn add_name(out: &mut Vec<u8>, key: &[u8]) -> Result<(), NoMemory>
-    ensures { OnOk result (out.new.items ≡ out.old.items ++ key_text key.now) }
+/// Appends a name.
+fn add_name(out: &mut Vec<u8>, name: &Name) -> Result<(), NoMemory>
+    ensures { OnOk result (out.new.items ≡ out.old.items ++ name_text (name_of name.now)) }
 {
-    if key.len() == 0 {
+    let parts = name.parts();
+    let [first, more @ ..] = parts else {
         out.extend_from_slice(b"[anonymous]")?;
         return Ok(());
-    }
-    add_key(out, key)
+    };
+    add_part(out, first)?;
+    add_parts(out, more)
 }
 
 /// Appends the line of a theorem, after a word.
-fn add_head(out: &mut Vec<u8>, word: &[u8], unit: usize, key: &[u8]) -> Result<(), NoMemory>
-    ensures { OnOk result (out.new.items ≡ out.old.items ++ head_text word.now unit (key_text key.now)) }
+fn add_head(out: &mut Vec<u8>, word: &[u8], unit: u64, name: &Name) -> Result<(), NoMemory>
+    ensures { OnOk result (out.new.items ≡ out.old.items ++ head_text word.now unit (name_text (name_of name.now))) }
 {
     out.extend_from_slice(word)?;
     out.extend_from_slice(b" thm ")?;
     add_number(out, unit)?;
     out.push(b' ')?;
-    add_name(out, key)?;
+    add_name(out, name)?;
     out.push(b'\n')?;
     Ok(())
 }
@@ -167,51 +153,102 @@ fn word_of(rule: Rule) -> &'static [u8]
         Rule::NotASort => b"NotASort",
         Rule::ValueType => b"ValueType",
         Rule::TheoremNotProp => b"TheoremNotProp",
+        Rule::BuiltinShape => b"BuiltinShape",
     }
 }
 
 /// Appends the lines of a theorem that isn't accepted.
-fn add_no(out: &mut Vec<u8>, unit: usize, key: &[u8], why: &[u8]) -> Result<(), NoMemory>
-    ensures { OnOk result (out.new.items ≡ out.old.items ++ (head_text (codes "no") unit (key_text key.now) ++ why_text why.now)) }
+fn add_no(out: &mut Vec<u8>, unit: u64, name: &Name, why: &[u8]) -> Result<(), NoMemory>
+    ensures { OnOk result (out.new.items ≡ out.old.items ++ (head_text (codes "no") unit (name_text (name_of name.now)) ++ why_text why.now)) }
 {
-    add_head(out, b"no", unit, key)?;
+    add_head(out, b"no", unit, name)?;
     add_why(out, why)
 }
 
 /// Appends the lines of a theorem.
-fn add_verdict(out: &mut Vec<u8>, unit: usize, key: &[u8], said: Verdict) -> Result<(), NoMemory>
-    ensures { OnOk result (out.new.items ≡ out.old.items ++ verdict_text unit (key_text key.now) (verdict said)) }
+fn add_verdict(out: &mut Vec<u8>, unit: u64, name: &Name, said: Verdict) -> Result<(), NoMemory>
+    ensures { OnOk result (out.new.items ≡ out.old.items ++ verdict_text unit (name_text (name_of name.now)) (verdict said)) }
 {
     match said {
-        Verdict::Yes => add_head(out, b"yes", unit, key),
-        Verdict::No(rule) => add_no(out, unit, key, word_of(rule)),
-        Verdict::Steps => add_no(out, unit, key, b"steps"),
-        Verdict::Memory => add_no(out, unit, key, b"memory"),
+        Verdict::Yes => add_head(out, b"yes", unit, name),
+        Verdict::No(rule) => add_no(out, unit, name, word_of(rule)),
+        Verdict::Steps => add_no(out, unit, name, b"steps"),
+        Verdict::Memory => add_no(out, unit, name, b"memory"),
     }
 }
 
-/// Appends the lines of the theorems.
-fn add_lines(out: &mut Vec<u8>, rows: &[TheoremRow], verdicts: &[Verdict]) -> Result<(), NoMemory>
-    ensures { OnOk result (out.new.items ≡ out.old.items ++ lines_text 0 (map (λ r. key_text r.name.items) rows.now) (map verdict verdicts.now)) }
+/// The number of the name that a unit goes by, which is that of its first member.
+fn first_number(unit: &Unit) -> Option<u64>
+    ensures { result ≡ first_number unit.now }
 {
-    let mut left = rows;
+    match unit {
+        Unit::Declaration(declaration) => Some(declaration.name),
+        Unit::Block(block) => first_of_block(&block.types, &block.recursors),
+    }
+}
+
+/// The same of a block.
+fn first_of_block(types: &[BlockType], recursors: &[Recursor]) -> Option<u64>
+    ensures { result ≡ first_of_block types.now recursors.now }
+{
+    if let [first, ..] = types {
+        return Some(first.name);
+    }
+    match recursors {
+        [first, ..] => Some(first.name),
+        [] => None,
+    }
+}
+
+/// Appends the lines of a unit.
+#[tactic(auto, using(crate::proofs::Naming::named, crate::proofs::Naming::unnamed))]
+fn add_unit(
+    out: &mut Vec<u8>,
+    library: &Library,
+    nameless: &Name,
+    number: u64,
+    unit: &Unit,
+    said: Verdict,
+) -> Result<(), NoMemory>
+    requires known { IsUnitIn (contents_of library.now.0) unit.now }
+    requires nameless { nameless.now ≡ [] }
+    ensures { OnOk result (out.new.items ≡ out.old.items ++ verdict_text number (unit_text (contents_of library.now.0) unit.now) (verdict said)) }
+{
+    let name = match first_number(unit) {
+        Some(first) => library.base().name(first),
+        None => nameless,
+    };
+    add_verdict(out, number, name, said)
+}
+
+/// Appends the lines of the units.
+fn add_lines(
+    out: &mut Vec<u8>,
+    library: &Library,
+    nameless: &Name,
+    verdicts: &[Verdict],
+) -> Result<(), NoMemory>
+    requires { nameless.now ≡ [] }
+    ensures { OnOk result (out.new.items ≡ out.old.items ++ lines_text 0 (map (unit_text (contents_of library.now.0)) library.now.1) (map verdict verdicts.now)) }
+{
+    let mut left = library.units();
     let mut said = verdicts;
-    let mut unit = 0;
-    while let [row, more @ ..] = left {
+    let mut number = 0;
+    while let [unit, more @ ..] = left {
         let [v, others @ ..] = said else {
             return Ok(());
         };
-        add_verdict(out, unit, &row.name, *v)?;
+        add_unit(out, library, nameless, number, unit, *v)?;
         left = more;
         said = others;
-        unit += 1;
+        number += 1;
     }
     Ok(())
 }
 
 /// Appends a number behind a word.
 #[tactic(auto, unfolding(crate::specs::Text::counted_text))]
-fn add_counted(out: &mut Vec<u8>, word: &[u8], n: usize) -> Result<(), NoMemory>
+fn add_counted(out: &mut Vec<u8>, word: &[u8], n: u64) -> Result<(), NoMemory>
     ensures { OnOk result (out.new.items ≡ out.old.items ++ counted_text word.now n) }
 {
     out.extend_from_slice(word)?;
@@ -222,7 +259,7 @@ fn add_counted(out: &mut Vec<u8>, word: &[u8], n: usize) -> Result<(), NoMemory>
 fn add_summary(out: &mut Vec<u8>, verdicts: &[Verdict]) -> Result<(), NoMemory>
     ensures { OnOk result (out.new.items ≡ out.old.items ++ summary_text (map verdict verdicts.now)) }
 {
-    add_counted(out, b"units ", verdicts.len())?;
+    add_counted(out, b"units ", verdicts.len() as u64)?;
     add_counted(out, b" yes ", count(Kind::Yes, verdicts))?;
     add_counted(out, b" no ", count(Kind::No, verdicts))?;
     add_counted(out, b" memory ", count(Kind::Memory, verdicts))?;
@@ -230,12 +267,13 @@ fn add_summary(out: &mut Vec<u8>, verdicts: &[Verdict]) -> Result<(), NoMemory>
     Ok(())
 }
 
-/// The lines of the theorems and the last line.
-pub fn report(alloc: Global, rows: &[TheoremRow], verdicts: &[Verdict]) -> Result<Vec<u8>, NoMemory>
-    ensures { IfOk result (λ v. v.items ≡ report_of_names (map (λ r. key_text r.name.items) rows.now) (map verdict verdicts.now)) }
+/// The lines of the units and the last line.
+pub fn report(alloc: Global, library: &Library, verdicts: &[Verdict]) -> Result<Vec<u8>, NoMemory>
+    ensures { IfOk result (λ v. v.items ≡ report_of_names (map (unit_text (contents_of library.now.0)) library.now.1) (map verdict verdicts.now)) }
 {
+    let nameless = Name::anonymous(alloc);
     let mut out = Vec::new(alloc);
-    add_lines(&mut out, rows, verdicts)?;
+    add_lines(&mut out, library, &nameless, verdicts)?;
     add_summary(&mut out, verdicts)?;
     Ok(out)
 }

@@ -5,7 +5,9 @@ ghost use Rattle.std.specs.Io.KnownBytes.{Appends};
 ghost use Rattle.lk_port.specs.Bytes.{Rose, AppendsSome};
 ghost use Rattle.lk_lines.specs.declared.line.Fault.{Fault as LineFault};
 ghost use Rattle.lk_units.specs.Theorems.{Theorem};
-ghost use Rattle.lk_units.specs.Held.{seen, shown, IsKnownRow};
+ghost use Rattle.lk_units.specs.Theorems.{units_of};
+ghost use Rattle.lk_store.specs.Store.{contents_of};
+ghost use Rattle.lk_env.specs.Units.{library_at};
 ghost use Rattle.lk_book.specs.File.{theorems_of, library_of};
 ghost use Rattle.leancheck.specs.Words.{IsMeaningless, MeansCheck, texts_of};
 ghost use Rattle.leancheck.specs.declared.words.Options.{Options as CheckOptions};
@@ -17,32 +19,28 @@ use crate::report::{fault_line, report, status_of};
 use crate::status::Status;
 use crate::words::{LineError, Meaning, Options, line_means};
 use lk_book::{ReadError, read_library};
+use lk_env::library::Library;
 use lk_lines::Fault;
 use lk_port::{Gate, Sink, Source, write_all};
-use lk_store::consed::BaseStore;
 use lk_rows::memory::NoMemory;
-use lk_store::terms::Terms;
-use lk_units::TheoremRow;
 use std::alloc::Global;
 use std::sync::Wait;
 use std::thread::Threads;
 
-/// What is written for the theorems of a file, and the status.
-fn checked<T: Terms, G: Gate>(
+/// What is written for the units of a library, and the status.
+fn checked<G: Gate>(
     alloc: Global,
-    store: &mut T,
+    library: &Library,
     steps: u128,
-    theorems: &[TheoremRow],
     gate: &G,
 ) -> Result<(Vec<u8>, Status), NoMemory>
-    requires { All (IsKnownRow (length (T.contents store.old).trees)) theorems.now }
-    ensures gives { (bytes : List ℕ) (all : List Theorem) → theorems_of bytes ≡ Ok all → map (seen (T.contents store.old)) theorems.now ≡ map shown all → Gives steps bytes result }
+    ensures gives { (bytes : List ℕ) (all : List Theorem) → theorems_of bytes ≡ Ok all → library_at (contents_of library.now.0) library.now.1 ≡ units_of all → Gives steps bytes result }
     ensures status { IfOk result (λ r. IsChecked r.1) }
 {
-    let Ok(verdicts) = check_all(alloc, store, steps, theorems, gate) else {
+    let Ok(verdicts) = check_all(alloc, library, steps, gate) else {
         return Err(NoMemory);
     };
-    let Ok(text) = report(alloc, theorems, &verdicts) else {
+    let Ok(text) = report(alloc, library, &verdicts) else {
         return Err(NoMemory);
     };
     let status = status_of(&verdicts);
@@ -79,22 +77,20 @@ fn tell_fault<K: Sink>(alloc: Global, fault: Fault, sink: &mut K) -> Status
     }
 }
 
-/// Checks the theorems of a file, and writes a verdict for each.
-fn tell_verdicts<T: Terms, K: Sink, G: Gate>(
+/// Checks the units of a library, and writes a verdict for each.
+fn tell_verdicts<K: Sink, G: Gate>(
     alloc: Global,
-    store: &mut T,
+    library: &Library,
     steps: u128,
-    theorems: &[TheoremRow],
     sink: &mut K,
     gate: &G,
 ) -> Status
-    requires { All (IsKnownRow (length (T.contents store.old).trees)) theorems.now }
-    ensures told { IsChecked result → ((bytes : List ℕ) (all : List Theorem) → theorems_of bytes ≡ Ok all → map (seen (T.contents store.old)) theorems.now ≡ map shown all → Reports steps bytes result (K.written sink.old) (K.written sink.new)) × (K.faults sink.new ≡ K.faults sink.old) }
-    ensures failed { result ≡ Status.WriteFault → ((bytes : List ℕ) (all : List Theorem) → theorems_of bytes ≡ Ok all → map (seen (T.contents store.old)) theorems.now ≡ map shown all → WritesPrefix steps bytes (K.written sink.old) (K.written sink.new)) × Rose (K.faults sink.old) (K.faults sink.new) }
+    ensures told { IsChecked result → ((bytes : List ℕ) (all : List Theorem) → theorems_of bytes ≡ Ok all → library_at (contents_of library.now.0) library.now.1 ≡ units_of all → Reports steps bytes result (K.written sink.old) (K.written sink.new)) × (K.faults sink.new ≡ K.faults sink.old) }
+    ensures failed { result ≡ Status.WriteFault → ((bytes : List ℕ) (all : List Theorem) → theorems_of bytes ≡ Ok all → library_at (contents_of library.now.0) library.now.1 ≡ units_of all → WritesPrefix steps bytes (K.written sink.old) (K.written sink.new)) × Rose (K.faults sink.old) (K.faults sink.new) }
     ensures no_memory { result ≡ Status.NoMemory → sink.new ≡ sink.old }
     ensures only { IsChecked result ⊎ (result ≡ Status.WriteFault) ⊎ (result ≡ Status.NoMemory) }
 {
-    match checked(alloc, store, steps, theorems, gate) {
+    match checked(alloc, library, steps, gate) {
         Ok((text, status)) => match write_all(sink, &text) {
             Ok(()) => status,
             Err(_) => Status::WriteFault,
@@ -121,16 +117,8 @@ fn check<S: Source, K: Sink, G: Gate>(
     ensures prefix { result ≡ Status.WriteFault → IfSome (S.left source.old) (λ bytes. WritesPrefix options.steps bytes (K.written sink.old) (K.written sink.new)) }
     ensures no_memory { result ≡ Status.NoMemory → K.written sink.new ≡ K.written sink.old }
 {
-    let mut store = BaseStore::new(alloc);
-    match read_library(alloc, &mut store, source) {
-        Ok(assembler) => tell_verdicts(
-            alloc,
-            &mut store,
-            options.steps,
-            &assembler.theorems,
-            sink,
-            gate,
-        ),
+    match read_library(alloc, source) {
+        Ok(library) => tell_verdicts(alloc, &library, options.steps, sink, gate),
         Err(ReadError::ReadFault) => Status::ReadFault,
         Err(ReadError::NoMemory) => Status::NoMemory,
         Err(ReadError::Fault(fault)) => tell_fault(alloc, fault, sink),

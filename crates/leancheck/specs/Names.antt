@@ -1,0 +1,26 @@
+-- The name that a unit goes by.
+use Rattle.std.specs.Prelude.{ℕ, List, [], ◌∷◌, Some, None}
+use Rattle.std.specs.declared.option.Option.{Option}
+use Rattle.lk_tree.specs.Tree.{Name}
+use Rattle.lk_rulebook.specs.Units.{members_of}
+use Rattle.lk_store.specs.Contents.{Contents}
+use Rattle.lk_env.specs.declared.unit.BlockType.{BlockType}
+use Rattle.lk_env.specs.declared.unit.Recursor.{Recursor}
+use Rattle.lk_env.specs.declared.unit.Unit.{Unit as StoredUnit}
+use Rattle.lk_env.specs.declared.unit.Unit.TheVariants as unit
+use Rattle.lk_env.specs.Units.{unit_at}
+use Rattle.leancheck.specs.Text.{name_text, first_name}
+
+-- the number of the name of the first member
+abbrev pub first_of_block : List BlockType → List Recursor → Option ℕ
+first_of_block (t ∷ ts) rs = Some t.name
+first_of_block [] (r ∷ rs) = Some r.name
+first_of_block [] [] = None
+
+abbrev pub first_number : StoredUnit → Option ℕ
+first_number (unit.Declaration d) = Some d.name
+first_number (unit.Block b) = first_of_block b.types.items b.recursors.items
+
+-- the text of the name that the unit goes by
+abbrev pub unit_text : Contents → StoredUnit → List ℕ
+unit_text c u = name_text (first_name (members_of (unit_at c u)))
