@@ -71,7 +71,7 @@ pub struct Recursor {
     pub indices: u64,
     pub motives: u64,
     pub minors: u64,
-    /// Whether it is one of a structure in Prop whose rule may go without a constructor.
+    /// Whether its line claims that the subject need not be spelled as a constructor.
     pub k: bool,
     pub rules: Vec<RecursorRule>,
 }

@@ -103,6 +103,7 @@ impl<R: Row + Drop> Table<R> {
         }
     }
 
+    /// How many rows there are, which is below 2^32.
     pub fn len(&self) -> u64
         ensures len { result ≡ length self.now }
         ensures few { result < 2 ^ 32 }
@@ -111,6 +112,7 @@ impl<R: Row + Drop> Table<R> {
         self.rows.len() as u64
     }
 
+    /// The row of a number.
     pub fn get(&self, i: u64) -> &R
         requires { i < length self.now }
         ensures { (d : R) → result.now ≡ slice_index_or self.now i d }
@@ -137,7 +139,8 @@ impl<R: Row + Drop> Table<R> {
         self.heads.clear();
     }
 
-    /// Adds a row. A table holds fewer than 2^32.
+    /// Adds a row, whose number is the length before. A table holds fewer than 2^32; one more is want of memory, where all
+    /// is as before.
     pub fn push(&mut self, row: R) -> Result<(), NoMemory>
         ensures ok { OnOk result (self.new ≡ self.old ++ row ∷ []) }
         ensures err { OnErr result (self.new ≡ self.old) }

@@ -12,9 +12,13 @@ use crate::name::{Name, Text};
 use crate::node::{LevelNode, ListNode, Node};
 use lk_rows::memory::NoMemory;
 
-/// A store of names, texts, levels, lists of levels and trees. A number stands for one of them for good.
+/// A store of names, texts, levels, lists of levels and trees. A number stands for one of them for good: what is made
+/// later changes nothing that is there.
+///
+/// Of its calls only those that make something take memory. Where it is wanting they answer `NoMemory`, and all that
+/// numbers stand for is as before.
 pub trait Terms {
-    /// What it has beside them.
+    /// What it has beside them, which no call changes.
     type Rest;
 
     ghost rest: { Self → Self.Rest };
@@ -26,11 +30,13 @@ pub trait Terms {
     fn len(&self) -> u64
         ensures { result ≡ length (contents self.now).trees };
 
+    /// The node of a tree.
     fn view(&self, e: u64) -> Node
         requires { e < length (contents self.now).trees }
         ensures known { IsIn (contents self.now) result }
         ensures tree { tree_of (contents self.now) result ≡ tree_at (contents self.now) e };
 
+    /// A number of the tree that the node makes of its parts.
     fn make(&mut self, node: Node) -> Result<u64, NoMemory>
         requires { IsIn (contents self.old) node }
         ensures keeps { Extends (contents self.old) (contents self.new) }
@@ -64,11 +70,13 @@ pub trait Terms {
         requires { e < length (contents self.now).trees }
         ensures { result ≡ is_narrow (tree_at (contents self.now) e) };
 
+    /// The node of a level.
     fn level(&self, l: u64) -> LevelNode
         requires { l < length (contents self.now).levels }
         ensures known { IsLevelIn (contents self.now) result }
         ensures level { level_of (contents self.now) result ≡ level_at (contents self.now) l };
 
+    /// A number of the level that the node makes of its parts.
     fn make_level(&mut self, node: LevelNode) -> Result<u64, NoMemory>
         requires { IsLevelIn (contents self.old) node }
         ensures keeps { Extends (contents self.old) (contents self.new) }
@@ -76,15 +84,18 @@ pub trait Terms {
         ensures ok { IfOk result (λ l. IsLevel (contents self.new) l (level_of (contents self.old) node)) }
         ensures err { OnErr result (contents self.new ≡ contents self.old) };
 
+    /// Whether a level has a parameter.
     fn level_has_params(&self, l: u64) -> bool
         requires { l < length (contents self.now).levels }
         ensures { result ≡ level_has_params (level_at (contents self.now) l) };
 
+    /// The node of a list of levels.
     fn levels(&self, ls: u64) -> ListNode
         requires { ls < length (contents self.now).lists }
         ensures known { IsListIn (contents self.now) result }
         ensures list { list_of (contents self.now) result ≡ list_at (contents self.now) ls };
 
+    /// A number of the list of levels that the node makes of its parts.
     fn make_levels(&mut self, node: ListNode) -> Result<u64, NoMemory>
         requires { IsListIn (contents self.old) node }
         ensures keeps { Extends (contents self.old) (contents self.new) }
@@ -92,24 +103,29 @@ pub trait Terms {
         ensures ok { IfOk result (λ ls. IsList (contents self.new) ls (list_of (contents self.old) node)) }
         ensures err { OnErr result (contents self.new ≡ contents self.old) };
 
+    /// Whether a level of a list has a parameter.
     fn levels_have_params(&self, ls: u64) -> bool
         requires { ls < length (contents self.now).lists }
         ensures { result ≡ list_has_params (list_at (contents self.now) ls) };
 
+    /// The name of a number.
     fn name(&self, n: u64) -> &Name
         requires { n < length (contents self.now).names }
         ensures { name_of result.now ≡ name_at (contents self.now) n };
 
+    /// A number of the name.
     fn make_name(&mut self, name: &Name) -> Result<u64, NoMemory>
         ensures keeps { Extends (contents self.old) (contents self.new) }
         ensures rest { rest self.new ≡ rest self.old }
         ensures ok { IfOk result (λ n. IsName (contents self.new) n (name_of name.now)) }
         ensures err { OnErr result (contents self.new ≡ contents self.old) };
 
+    /// The text of a number.
     fn text(&self, s: u64) -> &Text
         requires { s < length (contents self.now).texts }
         ensures { result.now ≡ text_at (contents self.now) s };
 
+    /// A number of the text.
     fn make_text(&mut self, text: &Text) -> Result<u64, NoMemory>
         ensures keeps { Extends (contents self.old) (contents self.new) }
         ensures rest { rest self.new ≡ rest self.old }
