@@ -130,6 +130,14 @@ impl<R: Row + Drop> Table<R> {
         find_linked(&self.rows, &self.links, &self.heads, key)
     }
 
+    /// Gives back the room that no row takes.
+    pub fn shrink(&mut self)
+        ensures { self.new ≡ self.old }
+    {
+        self.rows.shrink_to_fit();
+        self.links.shrink_to_fit();
+    }
+
     /// Makes the table empty, and keeps its rooms.
     pub fn clear(&mut self)
         ensures { self.new ≡ [] }

@@ -36,8 +36,9 @@ impl Model for BaseStore {
 }
 
 impl BaseStore {
-    ghost use Rattle.std.specs.Prelude.{◌≡◌};
-    ghost use Rattle.lk_store.specs.Store.{no_tables};
+    ghost use Rattle.std.specs.Prelude.{◌≡◌, []};
+    ghost use Rattle.lk_store.specs.Store.{no_tables, contents_of};
+    ghost use Rattle.lk_store.specs.Values.{AreApart};
 
     /// An empty store. It takes no memory.
     pub fn new(alloc: Global) -> Self
@@ -48,6 +49,21 @@ impl BaseStore {
             nothing: Tables::new(alloc),
             tables: Tables::new(alloc),
         }
+    }
+
+    /// Gives back the room that nothing takes. From here on the store is lent to overlays: while one of them lives,
+    /// nothing can be added to it.
+    pub fn freeze(&mut self)
+        ensures { self.new ≡ self.old }
+    {
+        self.tables.shrink();
+    }
+
+    /// Each name stands under one number. It does nothing; the fact is its contract.
+    pub fn has_each_name_once(&self)
+        ensures { AreApart [] (contents_of self.now).names }
+    {
+        let _tables = &self.tables;
     }
 }
 

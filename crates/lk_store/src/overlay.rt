@@ -65,9 +65,10 @@ impl<'a> Overlay<'a> {
 impl<'a> Terms for Overlay<'a> {
     ghost use Rattle.lk_store.specs.Store.{over, contents_of};
 
-    type Rest = ();
+    /// The library's tables.
+    type Rest = Tables;
 
-    ghost rest = { λ s. tt };
+    ghost rest = { λ s. s.0 };
 
     ghost contents = { λ s. contents_of (over s.0 s.1) };
 

@@ -34,6 +34,18 @@ impl Tables {
         }
     }
 
+    /// Gives back the room that nothing takes.
+    pub fn shrink(&mut self)
+        ensures { self.new ≡ self.old }
+    {
+        self.numbers.shrink();
+        self.names.shrink();
+        self.texts.shrink();
+        self.levels.shrink();
+        self.lists.shrink();
+        self.trees.shrink();
+    }
+
     /// Empties the tables, and keeps their rooms.
     pub fn clear(&mut self)
         ensures { self.new ≡ no_tables }
