@@ -46,7 +46,7 @@ fn closing<T: Terms>(alloc: Global, terms: &mut T) -> Result<bool, NoMemory> {
 }
 
 /// `Var 1` with two values is the outer value.
-#[tactic(auto, using(std::proofs::lemmas::List::Elements::All-cons))]
+#[tactic(auto, using(crate::proofs::Two::two_below))]
 fn putting_two<T: Terms>(alloc: Global, terms: &mut T) -> Result<bool, NoMemory> {
     let outer = prop(terms)?;
     let inner = put(terms, Node::Lit(3))?;
@@ -57,6 +57,35 @@ fn putting_two<T: Terms>(alloc: Global, terms: &mut T) -> Result<bool, NoMemory>
     }
     let e = putting::put(alloc, terms, body, &[outer, inner])?;
     Ok(are_same(terms, e, outer))
+}
+
+/// A parameter's level, with 0 put for the parameter, is 0; so it is in a list, and in the sort of the type of a Local.
+#[tactic(auto, using(crate::proofs::Two::one_below))]
+fn putting_levels<T: Terms>(alloc: Global, terms: &mut T) -> Result<bool, NoMemory> {
+    let (name, parameter) = parameter(alloc, terms, b"u")?;
+    let zero = terms.make_level(LevelNode::Zero)?;
+    let level = put_in_level(alloc, terms, &[name], &[zero], parameter)?;
+    Ok(terms.level(level) == LevelNode::Zero)
+}
+
+#[tactic(auto, using(crate::proofs::Two::one_below))]
+fn putting_in_lists<T: Terms>(alloc: Global, terms: &mut T) -> Result<bool, NoMemory> {
+    let (name, parameter) = parameter(alloc, terms, b"u")?;
+    let zero = terms.make_level(LevelNode::Zero)?;
+    let empty = terms.make_levels(ListNode::Empty)?;
+    let list = terms.make_levels(ListNode::Cons(parameter, empty))?;
+    let made = put_levels(alloc, terms, &[name], &[zero], list)?;
+    Ok(!terms.levels_have_params(made))
+}
+
+#[tactic(auto, using(crate::proofs::Two::one_below))]
+fn putting_in_trees<T: Terms>(alloc: Global, terms: &mut T) -> Result<bool, NoMemory> {
+    let (name, parameter) = parameter(alloc, terms, b"u")?;
+    let zero = terms.make_level(LevelNode::Zero)?;
+    let sort = terms.make(Node::Sort(parameter))?;
+    let made = put_levels_in(alloc, terms, &[name], &[zero], sort)?;
+    let wanted = prop(terms)?;
+    Ok(are_same(terms, made, wanted))
 }
 
 /// A body under binders whose outermost variable stands inside them all.
@@ -131,6 +160,16 @@ fn values_are_put(rt: HostRuntime) -> Result<(), Fail> {
     let alloc = rt.alloc();
     let mut store = BaseStore::new(alloc);
     assert!(rt; putting_two(alloc, &mut store)?);
+    Ok(())
+}
+
+#[test]
+fn levels_are_put(rt: HostRuntime) -> Result<(), Fail> {
+    let alloc = rt.alloc();
+    let mut store = BaseStore::new(alloc);
+    assert!(rt; putting_levels(alloc, &mut store)?);
+    assert!(rt; putting_in_lists(alloc, &mut store)?);
+    assert!(rt; putting_in_trees(alloc, &mut store)?);
     Ok(())
 }
 
