@@ -1,5 +1,5 @@
 -- What waits for an answer goes on, or stops.
-use Rattle.std.proofs.Common.{◌≡◌, ℕ, Bool, true, false, List, Ok, Err, Result, ap, sym, ◌∙◌, if◌then◌else◌}
+use Rattle.std.proofs.Common.{◌≡◌, ℕ, Bool, true, false, Ok, Err, Result, ap, sym, ◌∙◌, if◌then◌else◌}
 use Rattle.lk_tree.specs.Tree.{Tree, Level}
 use Rattle.lk_tree.specs.RuleNo.{not_a_sort, value_type, theorem_not_prop}
 use Rattle.lk_tree.specs.Level.{is_zero_level}
@@ -13,7 +13,7 @@ use Rattle.lk_plain.specs.Erased.{Value, Steps, asks, with_tree, with_truth, Out
 use Rattle.lk_engine.specs.declared.stop.Stop.{Stop}
 use Rattle.lk_engine.specs.declared.stop.Stop.TheVariants.{Rule, Spent, NoMemory}
 use Rattle.lk_engine.specs.Outcomes.{IsStop, IsAccepted, GivesLevel, GivesSort, unit_steps_of}
-use Rattle.lk_store.specs.Contents.{level_at}
+use Rattle.lk_store.specs.Contents.{Contents, level_at}
 use Rattle.lk_table.specs.Built.{rows}
 
 pub ask_goes : (w : Place) (q : plain.Query) (b left : ℕ) (v : Value) (k : Value → Steps) → out_of rows w q b ≡ finished v left → run_steps (out_of rows w) (asks q k) b ≡ run_steps (out_of rows w) (k v) left
@@ -84,10 +84,10 @@ module _ (w : Place) where
       ∙ ap (λ t. run_steps (out_of rows w) (asks (plain.same V t) (with_truth (λ equal. unit_steps_of w (given equal value_type (done checked))))) c) (sym e))
       (h (λ equal. unit_steps_of w (given equal value_type (done checked))))
 
-  pub sort_by_level : (E T S : Tree) (b c d : ℕ) (ls : List Level) (r : Result ℕ Stop) → GoesWithTree w (plain.infer E) b T c → GoesWithTree w (plain.whnf T) c S d
-      → GivesLevel ls S r → GivesSort w E b ls d r
-  sort_by_level E T S b c d ls (Ok l) first second h = sort_goes E T S (level_at ls l) b c d first second h.1
-  sort_by_level E T S b c d ls (Err stop) first second h = λ k. rw h.0 (sort_refused E T S b c d first second h.1 k)
+  pub sort_by_level : (E T S : Tree) (b c d : ℕ) (s : Contents) (r : Result ℕ Stop) → GoesWithTree w (plain.infer E) b T c → GoesWithTree w (plain.whnf T) c S d
+      → GivesLevel s S r → GivesSort w E b s d r
+  sort_by_level E T S b c d s (Ok l) first second h = sort_goes E T S (level_at s l) b c d first second h.1
+  sort_by_level E T S b c d s (Err stop) first second h = λ k. rw h.0 (sort_refused E T S b c d first second h.1 k)
 
   -- the type has a sort that is 0, and then its proof is looked at
   pub theorem_goes : (type type' value value' : Tree) (l : Level) (b c left : ℕ) (r : Result (Unit {0}) Stop) → type' ≡ type → value' ≡ value → is_zero_level l ≡ true

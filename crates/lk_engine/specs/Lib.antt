@@ -1,3 +1,4 @@
 pub mod Outcomes
 pub mod Questions
 pub mod Sheets
+pub mod Zeros

@@ -1,7 +1,7 @@
 -- What questions and answers over numbers stand for.
 use Rattle.std.specs.Prelude.{ℕ, ◌<◌}
 use Rattle.lk_tree.specs.Tree.{Tree}
-use Rattle.lk_tree.specs.RuleNo.{RuleNo, duplicate_name, duplicate_level, loose_variable, not_a_sort, value_type, theorem_not_prop}
+use Rattle.lk_tree.specs.RuleNo.{RuleNo, duplicate_name, duplicate_level, loose_variable, not_a_sort, value_type, theorem_not_prop, builtin_shape}
 use Rattle.lk_plain.specs.Query as plain
 use Rattle.lk_plain.specs.Erased.{Value, a_tree, truth}
 use Rattle.lk_engine.specs.declared.question.Query.{Query}
@@ -9,7 +9,7 @@ use Rattle.lk_engine.specs.declared.question.Query.TheVariants.{Core, Whnf, Infe
 use Rattle.lk_engine.specs.declared.question.Answer.{Answer}
 use Rattle.lk_engine.specs.declared.question.Answer.TheVariants.{Term, Truth}
 use Rattle.lk_engine.specs.declared.question.Rule.{Rule}
-use Rattle.lk_engine.specs.declared.question.Rule.TheVariants.{DuplicateName, DuplicateLevel, LooseVariable, NotASort, ValueType, TheoremNotProp}
+use Rattle.lk_engine.specs.declared.question.Rule.TheVariants.{DuplicateName, DuplicateLevel, LooseVariable, NotASort, ValueType, TheoremNotProp, BuiltinShape}
 
 abbrev pub query_of : (ℕ → Tree) → Query ℕ → plain.Query
 query_of t (Core e) = plain.core (t e)
@@ -28,6 +28,7 @@ rule_no LooseVariable = loose_variable
 rule_no NotASort = not_a_sort
 rule_no ValueType = value_type
 rule_no TheoremNotProp = theorem_not_prop
+rule_no BuiltinShape = builtin_shape
 
 -- its numbers are below n
 abbrev pub IsKnownQuery : ℕ → Query ℕ → Type 0

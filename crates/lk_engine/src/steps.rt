@@ -1,9 +1,8 @@
 //! The steps of each question, one small function for each line of the table.
 
-ghost use Rattle.std.specs.Prelude.{◌≡◌, ◌<◌, ℕ, List, IfOk, length};
+ghost use Rattle.std.specs.Prelude.{◌≡◌, ◌<◌, ℕ, Bool, IfOk, length};
 ghost use Rattle.lk_tree.specs.Tree.{Tree, sort as tree_sort, lam, pi, local, imax_level};
-ghost use Rattle.lk_tree.specs.Bind.{opened, close, bound};
-ghost use Rattle.std.specs.Prelude.{Bool};
+ghost use Rattle.lk_tree.specs.Bind.{opened, close as closed, bound};
 ghost use Rattle.lk_rulebook.specs.Place.{Place};
 ghost use Rattle.lk_table.specs.Built.{core_row, infer_row, same_row, whnf_end};
 ghost use Rattle.lk_plain.specs.Erased.{a_tree, truth, gives, erased};
@@ -12,13 +11,15 @@ ghost use Rattle.lk_engine.specs.Questions.{value_at, IsKnownQuery, IsKnownAnswe
 ghost use Rattle.lk_engine.specs.Sheets.{level_in, lam_rest, lam_sorted, pi_rest, pi_sorted, pi_end, map_sheet, sheet_steps, next_steps, query_steps, IsKnownSheet, IsKnownNext};
 
 use crate::question::{Answer, Next, Query, Rule, Sheet};
-use lk_store::binding::{closed, open_with};
 use lk_rows::memory::NoMemory;
+use lk_spine::head;
 use lk_store::node::{LevelNode, Node};
 use lk_store::terms::Terms;
+use lk_subst::closing::close;
+use lk_subst::opening::open_with;
 use std::alloc::Global;
 
-/// `Core` of a term.
+/// `Core` of a term. Terms that may take a step are not built yet.
 fn begin_core<T: Terms>(terms: &T, e: u64) -> Next<u64>
     requires { e < length (T.contents terms.now).trees }
     ensures known { IsKnownNext (length (T.contents terms.now).trees) result }
@@ -27,6 +28,7 @@ fn begin_core<T: Terms>(terms: &T, e: u64) -> Next<u64>
     match terms.view(e) {
         Node::Var(_) | Node::Sort(_) | Node::Lam(_, _) | Node::Pi(_, _) | Node::Local(_, _) =>
             Next::Done(Answer::Term(e)),
+        _ => Next::No(Rule::BuiltinShape),
     }
 }
 
@@ -63,6 +65,8 @@ fn begin_infer<T: Terms>(terms: &mut T, e: u64) -> Result<Next<u64>, NoMemory>
             Query::Infer(domain),
             Sheet::PiDomain { domain, body },
         )),
+        // Those of the other kinds are not built yet.
+        _ => Ok(Next::No(Rule::BuiltinShape)),
     }
 }
 
@@ -77,16 +81,15 @@ fn begin_same<T: Terms>(terms: &T, a: u64, b: u64) -> Next<u64>
     Next::Done(Answer::Truth(terms.same(a, b)))
 }
 
-/// The end of `Whnf`, once its `Core` is there: no term has a name at its head.
-#[tactic(auto, unfolding(lk_tree::specs::Spine::head))]
+/// The end of `Whnf`, once its `Core` is there. Constants are not unfolded yet.
 fn whnf_end<T: Terms>(terms: &T, e: u64) -> Next<u64>
     requires { e < length (T.contents terms.now).trees }
     ensures known { IsKnownNext (length (T.contents terms.now).trees) result }
     ensures steps { (w : Place) → next_steps w (tree_at (T.contents terms.now)) result ≡ erased w a_tree (whnf_end (tree_at (T.contents terms.now) e)) }
 {
-    match terms.view(e) {
-        Node::Var(_) | Node::Sort(_) | Node::Lam(_, _) | Node::Pi(_, _) | Node::Local(_, _) =>
-            Next::Done(Answer::Term(e)),
+    match terms.view(head(terms, e)) {
+        Node::Const(_, _) => Next::No(Rule::BuiltinShape),
+        _ => Next::Done(Answer::Term(e)),
     }
 }
 
@@ -177,9 +180,7 @@ fn lam_domain_sort<T: Terms>(
 {
     match terms.view(e) {
         Node::Sort(_) => lam_body(alloc, terms, domain, body),
-        Node::Var(_) | Node::Lam(_, _) | Node::Pi(_, _) | Node::Local(_, _) => Ok(Next::No(
-            Rule::NotASort,
-        )),
+        _ => Ok(Next::No(Rule::NotASort)),
     }
 }
 
@@ -196,9 +197,9 @@ fn lam_end<T: Terms>(
     ensures keeps { Extends (T.contents terms.old) (T.contents terms.new) }
     ensures rest { T.rest terms.new ≡ T.rest terms.old }
     ensures known { IfOk result (IsKnownNext (length (T.contents terms.new).trees)) }
-    ensures steps { IfOk result (λ next. (w : Place) → next_steps w (tree_at (T.contents terms.new)) next ≡ gives (a_tree (pi (tree_at (T.contents terms.old) domain) (close number (tree_at (T.contents terms.old) e))))) }
+    ensures steps { IfOk result (λ next. (w : Place) → next_steps w (tree_at (T.contents terms.new)) next ≡ gives (a_tree (pi (tree_at (T.contents terms.old) domain) (closed number (tree_at (T.contents terms.old) e))))) }
 {
-    let body = closed(alloc, terms, e, number)?;
+    let body = close(alloc, terms, e, number)?;
     let e = terms.make(Node::Pi(domain, body))?;
     Ok(Next::Done(Answer::Term(e)))
 }
@@ -225,7 +226,6 @@ fn pi_body<T: Terms>(
 }
 
 /// Goes on with the sort of a Pi's domain.
-#[tactic(auto, using(crate::proofs::Rows::pi_sorted_is))]
 fn pi_domain_sort<T: Terms>(
     alloc: Global,
     terms: &mut T,
@@ -243,9 +243,7 @@ fn pi_domain_sort<T: Terms>(
 {
     match terms.view(e) {
         Node::Sort(_) => pi_body(alloc, terms, domain, body, e),
-        Node::Var(_) | Node::Lam(_, _) | Node::Pi(_, _) | Node::Local(_, _) => Ok(Next::No(
-            Rule::NotASort,
-        )),
+        _ => Ok(Next::No(Rule::NotASort)),
     }
 }
 
@@ -258,9 +256,7 @@ pub fn level_of<T: Terms>(terms: &mut T, sort: u64) -> Result<u64, NoMemory>
 {
     match terms.view(sort) {
         Node::Sort(level) => Ok(level),
-        Node::Var(_) | Node::Lam(_, _) | Node::Pi(_, _) | Node::Local(_, _) => terms.make_level(
-            LevelNode::Zero,
-        ),
+        _ => terms.make_level(LevelNode::Zero),
     }
 }
 
@@ -290,9 +286,7 @@ fn pi_body_sort<T: Terms>(terms: &mut T, sort: u64, e: u64) -> Result<Next<u64>,
 {
     match terms.view(e) {
         Node::Sort(level) => pi_sort(terms, sort, level),
-        Node::Var(_) | Node::Lam(_, _) | Node::Pi(_, _) | Node::Local(_, _) => Ok(Next::No(
-            Rule::NotASort,
-        )),
+        _ => Ok(Next::No(Rule::NotASort)),
     }
 }
 

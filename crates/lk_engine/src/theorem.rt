@@ -2,9 +2,8 @@
 
 ghost use Rattle.std.specs.Prelude.{◌≡◌, ◌<◌, length, IfOk};
 ghost use Rattle.lk_rulebook.specs.Place.{Place};
-ghost use Rattle.lk_table.specs.Declarations.{unit_steps, value_steps};
+ghost use Rattle.lk_table.specs.Declarations.{theorem_decl, unit_steps, value_steps};
 ghost use Rattle.lk_plain.specs.Erased.{out_of, run_steps};
-ghost use Rattle.lk_table.specs.Declarations.{theorem_decl};
 ghost use Rattle.lk_store.specs.Contents.{tree_at, Extends};
 ghost use Rattle.lk_engine.specs.Questions.{query_of, IsKnownQuery};
 ghost use Rattle.lk_engine.specs.Outcomes.{GivesTree, GivesTruth, GivesSort, GivesLevel, IsAccepted, unit_steps_of};
@@ -64,9 +63,7 @@ fn level_in<T: Terms>(terms: &T, form: u64) -> Result<u64, Stop>
 {
     match terms.view(form) {
         Node::Sort(level) => Ok(level),
-        Node::Var(_) | Node::Lam(_, _) | Node::Pi(_, _) | Node::Local(_, _) => Err(Stop::Rule(
-            Rule::NotASort,
-        )),
+        _ => Err(Stop::Rule(Rule::NotASort)),
     }
 }
 
@@ -136,7 +133,8 @@ pub fn check_theorem<T: Terms>(
         Ok(level) => level,
         Err(stop) => return Err(stop),
     };
-    if is_zero(terms, level) {
+    let zero = is_zero(alloc, terms, level)?;
+    if zero {
         check_proof(alloc, terms, left, kind, proof)
     } else {
         Err(Stop::Rule(Rule::TheoremNotProp))

@@ -12,28 +12,28 @@ use Rattle.lk_table.specs.Built.{rows}
 
 pub returns-in-Err-clause-outcome : goal.returns-in-Err-clause-outcome
 returns-in-Err-clause-outcome g c w =
-    let ts = g.T.Terms.trees c.args.terms.now in
-    value_stops w (at ts c.args.kind) (at ts c.args.proof) c.args.left.now c.in-Err.stop (c.in-Err.ensures.outcome w)
+    let before = g.T.Terms.contents c.args.terms.now in
+    value_stops w (tree_at before c.args.kind) (tree_at before c.args.proof) c.args.left.now c.in-Err.stop (c.in-Err.ensures.outcome w)
 
 pub returns-in-Err-ask_truth-clause-outcome : goal.returns-in-Err-ask_truth-clause-outcome
 returns-in-Err-ask_truth-clause-outcome g c w =
-    let ts = g.T.Terms.trees c.args.terms.now in
-    let us = g.T.Terms.trees c.ask_term.new.terms in
-    value_stops_later w (at ts c.args.kind) (at us c.args.kind) (at ts c.args.proof) (at us c.in-Ok.found) c.args.left.now c.ask_term.new.left c.in-Err-ask_truth.stop
-    (c.ask_term.ensures.keeps.same c.args.kind c.requires.kind_in) (c.in-Ok.ensures.outcome w) (c.in-Err-ask_truth.ensures.outcome w)
+    let before = g.T.Terms.contents c.args.terms.now in
+    let after = g.T.Terms.contents c.ask_term.new.terms in
+    value_stops_later w (tree_at before c.args.kind) (tree_at after c.args.kind) (tree_at before c.args.proof) (tree_at after c.in-Ok.found) c.args.left.now c.ask_term.new.left c.in-Err-ask_truth.stop
+    (c.ask_term.ensures.keeps.trees.same c.args.kind c.requires.kind_in) (c.in-Ok.ensures.outcome w) (c.in-Err-ask_truth.ensures.outcome w)
 
 pub returns-then-equal-clause-outcome : goal.returns-then-equal-clause-outcome
 returns-then-equal-clause-outcome g c w =
-    let ts = g.T.Terms.trees c.args.terms.now in
-    let us = g.T.Terms.trees c.ask_term.new.terms in
-    value_goes w (at ts c.args.kind) (at us c.args.kind) (at ts c.args.proof) (at us c.in-Ok.found) c.in-Ok-ask_truth.equal c.args.left.now c.ask_term.new.left c.ask_truth.new.left
-    (c.ask_term.ensures.keeps.same c.args.kind c.requires.kind_in) (c.in-Ok.ensures.outcome w) (c.in-Ok-ask_truth.ensures.outcome w)
+    let before = g.T.Terms.contents c.args.terms.now in
+    let after = g.T.Terms.contents c.ask_term.new.terms in
+    value_goes w (tree_at before c.args.kind) (tree_at after c.args.kind) (tree_at before c.args.proof) (tree_at after c.in-Ok.found) c.in-Ok-ask_truth.equal c.args.left.now c.ask_term.new.left c.ask_truth.new.left
+    (c.ask_term.ensures.keeps.trees.same c.args.kind c.requires.kind_in) (c.in-Ok.ensures.outcome w) (c.in-Ok-ask_truth.ensures.outcome w)
     ∙ ap (λ r. run_steps (out_of rows w) (unit_steps_of w (given r value_type (done checked))) c.ask_truth.new.left) c.if-equal.true
 
 pub returns-else-equal-clause-outcome : goal.returns-else-equal-clause-outcome
 returns-else-equal-clause-outcome g c w =
-    let ts = g.T.Terms.trees c.args.terms.now in
-    let us = g.T.Terms.trees c.ask_term.new.terms in
-    value_goes w (at ts c.args.kind) (at us c.args.kind) (at ts c.args.proof) (at us c.in-Ok.found) c.in-Ok-ask_truth.equal c.args.left.now c.ask_term.new.left c.ask_truth.new.left
-    (c.ask_term.ensures.keeps.same c.args.kind c.requires.kind_in) (c.in-Ok.ensures.outcome w) (c.in-Ok-ask_truth.ensures.outcome w)
+    let before = g.T.Terms.contents c.args.terms.now in
+    let after = g.T.Terms.contents c.ask_term.new.terms in
+    value_goes w (tree_at before c.args.kind) (tree_at after c.args.kind) (tree_at before c.args.proof) (tree_at after c.in-Ok.found) c.in-Ok-ask_truth.equal c.args.left.now c.ask_term.new.left c.ask_truth.new.left
+    (c.ask_term.ensures.keeps.trees.same c.args.kind c.requires.kind_in) (c.in-Ok.ensures.outcome w) (c.in-Ok-ask_truth.ensures.outcome w)
     ∙ ap (λ r. run_steps (out_of rows w) (unit_steps_of w (given r value_type (done checked))) c.ask_truth.new.left) c.if-equal.false

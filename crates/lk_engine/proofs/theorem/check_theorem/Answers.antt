@@ -9,20 +9,20 @@ use Rattle.lk_engine.proofs.theorem.check_theorem.Goals as goal
 
 pub returns-in-Err-clause-outcome : goal.returns-in-Err-clause-outcome
 returns-in-Err-clause-outcome g c w =
-    let ts = g.T.Terms.trees c.args.terms.now in
-    c.in-Err.ensures.outcome w (λ l. if is_zero_level l then value_steps (at ts c.args.kind) (at ts c.args.proof) else refuse theorem_not_prop)
+    let before = g.T.Terms.contents c.args.terms.now in
+    c.in-Err.ensures.outcome w (λ l. if is_zero_level l then value_steps (tree_at before c.args.kind) (tree_at before c.args.proof) else refuse theorem_not_prop)
 
-pub returns-then-is_zero-clause-outcome : goal.returns-then-is_zero-clause-outcome
-returns-then-is_zero-clause-outcome g c w =
-    let ts = g.T.Terms.trees c.args.terms.now in
-    let us = g.T.Terms.trees c.sort_of.new.terms in
-    theorem_goes w (at ts c.args.kind) (at us c.args.kind) (at ts c.args.proof) (at us c.args.proof) (level_at (g.T.Terms.levels c.sort_of.new.terms) c.in-Ok.level)
+pub returns-then-zero-clause-outcome : goal.returns-then-zero-clause-outcome
+returns-then-zero-clause-outcome g c w =
+    let before = g.T.Terms.contents c.args.terms.now in
+    let after = g.T.Terms.contents c.sort_of.new.terms in
+    theorem_goes w (tree_at before c.args.kind) (tree_at after c.args.kind) (tree_at before c.args.proof) (tree_at after c.args.proof) (level_at after c.in-Ok.level)
     c.args.left.now c.sort_of.new.left c.check_proof.new.left c.check_proof.result
-    (c.sort_of.ensures.keeps.same c.args.kind c.requires.kind_in) (c.sort_of.ensures.keeps.same c.args.proof c.requires.proof_in)
-    (sym c.is_zero.ensures ∙ c.if-is_zero.true) (c.in-Ok.ensures.outcome w) (c.check_proof.ensures.outcome w)
+    (c.sort_of.ensures.keeps.trees.same c.args.kind c.requires.kind_in) (c.sort_of.ensures.keeps.trees.same c.args.proof c.requires.proof_in)
+    (sym c.in_ok-zero.ensures ∙ c.if-zero.true) (c.in-Ok.ensures.outcome w) (c.check_proof.ensures.outcome w)
 
-pub returns-else-is_zero-clause-outcome : goal.returns-else-is_zero-clause-outcome
-returns-else-is_zero-clause-outcome g c w =
-    let ts = g.T.Terms.trees c.args.terms.now in
-    theorem_no_prop w (at ts c.args.kind) (at ts c.args.proof) (level_at (g.T.Terms.levels c.sort_of.new.terms) c.in-Ok.level)
-    c.args.left.now c.sort_of.new.left (sym c.is_zero.ensures ∙ c.if-is_zero.false) (c.in-Ok.ensures.outcome w)
+pub returns-else-zero-clause-outcome : goal.returns-else-zero-clause-outcome
+returns-else-zero-clause-outcome g c w =
+    let before = g.T.Terms.contents c.args.terms.now in
+    theorem_no_prop w (tree_at before c.args.kind) (tree_at before c.args.proof) (level_at (g.T.Terms.contents c.sort_of.new.terms) c.in-Ok.level)
+    c.args.left.now c.sort_of.new.left (sym c.in_ok-zero.ensures ∙ c.if-zero.false) (c.in-Ok.ensures.outcome w)
