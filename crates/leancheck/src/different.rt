@@ -49,7 +49,7 @@ pub fn none_twice(alloc: Global, base: &BaseStore, names: &[u64]) -> Result<bool
     requires { All (λ n. n < length (contents_of base.now).names) names.now }
     ensures { IfOk result (λ r. r ≡ none_twice (map (name_at (contents_of base.now)) names.now)) }
 {
-    base.has_each_name_once();
+    let _names = base.count_names();
     let mut seen = Seen::new(alloc);
     let mut rest = names;
     while let Some((name, more)) = rest.split_last() {

@@ -1,0 +1,5 @@
+pub mod Given
+pub mod Members
+pub mod Noted
+pub mod Before
+pub mod Closed

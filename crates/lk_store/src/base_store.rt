@@ -9,6 +9,7 @@ use crate::reading::{
 };
 use crate::tables::Tables;
 use crate::terms::Terms;
+use lk_rows::layers::{count, find};
 use lk_rows::memory::NoMemory;
 use std::alloc::Global;
 use std::marker::Model;
@@ -36,9 +37,11 @@ impl Model for BaseStore {
 }
 
 impl BaseStore {
-    ghost use Rattle.std.specs.Prelude.{◌≡◌, []};
-    ghost use Rattle.lk_store.specs.Store.{no_tables, contents_of};
+    ghost use Rattle.std.specs.Prelude.{◌≡◌, ◌≢◌, ◌<◌, ℕ, [], length, IfNone, IfSome};
+    ghost use Rattle.lk_store.specs.Names.{name_of};
     ghost use Rattle.lk_store.specs.Values.{AreApart};
+    ghost use Rattle.lk_store.specs.Contents.{name_at, IsName};
+    ghost use Rattle.lk_store.specs.Store.{no_tables, contents_of};
 
     /// An empty store. It takes no memory.
     pub fn new(alloc: Global) -> Self
@@ -59,11 +62,20 @@ impl BaseStore {
         self.tables.shrink();
     }
 
-    /// Each name stands under one number. It does nothing; the fact is its contract.
-    pub fn has_each_name_once(&self)
-        ensures { AreApart [] (contents_of self.now).names }
+    /// How many names there are. No two of them are equal.
+    pub fn count_names(&self) -> u64
+        ensures count { result ≡ length (contents_of self.now).names }
+        ensures apart { AreApart [] (contents_of self.now).names }
     {
-        let _tables = &self.tables;
+        count(&self.nothing.names, &self.tables.names)
+    }
+
+    /// The number of a name, where the store has it. It takes no memory.
+    pub fn find_name(&self, name: &Name) -> Option<u64>
+        ensures absent { IfNone result ((n : ℕ) → n < length (contents_of self.now).names → name_at (contents_of self.now) n ≢ name_of name.now) }
+        ensures present { IfSome result (λ n. IsName (contents_of self.now) n (name_of name.now)) }
+    {
+        find(&self.nothing.names, &self.tables.names, name)
     }
 }
 

@@ -1,0 +1,38 @@
+-- Where a library gives a name: the first unit that gives it, and which of its members.
+use Rattle.std.specs.Prelude.{ℕ, suc, List, [], ◌∷◌, Option, Some, None, option_map, option_and_then, slice_get, nat_lt, if◌then◌else◌}
+use Rattle.lk_tree.specs.Tree.{Name, name_discrete}
+use Rattle.lk_rulebook.specs.Place.{Entry}
+use Rattle.lk_rulebook.specs.Units.{Members, LibraryUnit, members_of, Library, Found, at_unit}
+
+-- the first member of the name, where the first of all has number i
+abbrev pub member_in : ℕ → Members → Name → Option ℕ
+member_in i [] c = None
+member_in i (m ∷ ms) c = elim (name_discrete m.0 c) [ yes e ↦ Some i | no f ↦ member_in (suc i) ms c ]
+
+-- the first if it is there, else the second
+abbrev pub first_place : Option (ℕ × ℕ) → Option (ℕ × ℕ) → Option (ℕ × ℕ)
+first_place (Some p) o = Some p
+first_place None o = o
+
+-- a member of unit i
+abbrev pub at_member : ℕ → Option ℕ → Option (ℕ × ℕ)
+at_member i None = None
+at_member i (Some j) = Some (i, j)
+
+-- the first unit that gives the name and the member that does, where the first of all units has number i
+abbrev pub place_in : ℕ → Library → Name → Option (ℕ × ℕ)
+place_in i [] c = None
+place_in i (u ∷ us) c = first_place (at_member i (member_in 0 (members_of u) c)) (place_in (suc i) us c)
+
+-- the entry of a unit's member
+abbrev pub entry_at : LibraryUnit → ℕ → Option Entry
+entry_at u j = option_map (λ m. m.1) (slice_get (members_of u) j)
+
+-- what stands at a place
+abbrev pub found_at : Library → ℕ × ℕ → Option Found
+found_at us p = option_and_then (λ u. at_unit p.0 u (entry_at u p.1)) (slice_get us p.0)
+
+-- the place, where its unit is one of the first n
+abbrev pub place_below : ℕ → Option (ℕ × ℕ) → Option (ℕ × ℕ)
+place_below n None = None
+place_below n (Some p) = if nat_lt p.0 n then Some p else None

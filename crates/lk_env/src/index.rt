@@ -1,0 +1,123 @@
+//! The index over the names of a library.
+
+ghost use Rattle.std.specs.Prelude.{◌≡◌, ◌++◌, ◌<◌, ℕ, map, length, All, None, IfOk, OnOk};
+ghost use Rattle.std.specs.List.{flat_map};
+ghost use Rattle.lk_store.specs.Store.{contents_of};
+ghost use Rattle.lk_env.specs.Units.{AreUnitsIn};
+ghost use Rattle.lk_env.specs.Index.{constructor_names, member_names, place_at, AreNoted, IsIndex};
+
+use crate::place::Place;
+use crate::unit::{Block, BlockType, Constructor, Recursor, Unit};
+use lk_rows::memory::NoMemory;
+use lk_store::base_store::BaseStore;
+use std::alloc::Global;
+
+fn push_types(names: &mut Vec<u64>, types: &[BlockType]) -> Result<(), NoMemory>
+    ensures { OnOk result (names.new.items ≡ names.old.items ++ map (λ t. t.name) types.now) }
+{
+    for t in types {
+        names.push(t.name)?;
+    }
+    Ok(())
+}
+
+fn push_constructors(names: &mut Vec<u64>, constructors: &[Constructor]) -> Result<(), NoMemory>
+    ensures { OnOk result (names.new.items ≡ names.old.items ++ map (λ k. k.name) constructors.now) }
+{
+    for k in constructors {
+        names.push(k.name)?;
+    }
+    Ok(())
+}
+
+fn push_constructors_of_all(names: &mut Vec<u64>, types: &[BlockType]) -> Result<(), NoMemory>
+    ensures { OnOk result (names.new.items ≡ names.old.items ++ flat_map constructor_names types.now) }
+{
+    for t in types {
+        push_constructors(names, &t.constructors)?;
+    }
+    Ok(())
+}
+
+fn push_recursors(names: &mut Vec<u64>, recursors: &[Recursor]) -> Result<(), NoMemory>
+    ensures { OnOk result (names.new.items ≡ names.old.items ++ map (λ r. r.name) recursors.now) }
+{
+    for r in recursors {
+        names.push(r.name)?;
+    }
+    Ok(())
+}
+
+fn names_of_block(alloc: Global, block: &Block) -> Result<Vec<u64>, NoMemory>
+    ensures { IfOk result (λ names. names.items ≡ member_names (Unit.Block block.now)) }
+{
+    let mut names = Vec::new(alloc);
+    push_types(&mut names, &block.types)?;
+    push_constructors_of_all(&mut names, &block.types)?;
+    push_recursors(&mut names, &block.recursors)?;
+    Ok(names)
+}
+
+/// The numbers of the names of a unit's members, in their order.
+pub fn names_of(alloc: Global, unit: &Unit) -> Result<Vec<u64>, NoMemory>
+    ensures { IfOk result (λ names. names.items ≡ member_names unit.now) }
+{
+    match unit {
+        Unit::Declaration(declaration) => Ok(Vec::from_array(alloc, [declaration.name])?),
+        Unit::Block(block) => names_of_block(alloc, block),
+    }
+}
+
+/// Notes the members of a unit by their names. A name that has a place keeps it.
+fn note_members(
+    cells: &mut Vec<Option<Place>>,
+    unit: u32,
+    names: &[u64],
+) -> Result<(), NoMemory>
+    requires { All (λ n. n < length cells.old.items) names.now }
+    ensures one_each { length cells.new.items ≡ length cells.old.items }
+    ensures ok { OnOk result (AreNoted unit names.now cells.old.items cells.new.items) }
+{
+    if names.len() > u32::MAX as usize {
+        return Err(NoMemory);
+    }
+    for (j, name) in names.iter().enumerate() {
+        let place = Place {
+            unit,
+            member: j as u32,
+        };
+        let first = cells[*name as usize].unwrap_or(place);
+        cells[*name as usize] = Some(first);
+    }
+    Ok(())
+}
+
+/// A cell for each of n names, without a place.
+fn empty_cells(alloc: Global, n: usize) -> Result<Vec<Option<Place>>, NoMemory>
+    ensures one_each { IfOk result (λ cells. length cells.items ≡ n) }
+    ensures empty { IfOk result (λ cells. (k : ℕ) → k < n → place_at cells.items k ≡ None) }
+{
+    let mut cells = Vec::new(alloc);
+    cells.resize(n, None)?;
+    Ok(cells)
+}
+
+/// The index over the names of the units. There are fewer than 2^32 of them.
+pub(crate) fn index_of(
+    alloc: Global,
+    base: &BaseStore,
+    units: &[Unit],
+) -> Result<Vec<Option<Place>>, NoMemory>
+    requires { AreUnitsIn (contents_of base.now) units.now }
+    ensures { IfOk result (λ cells. IsIndex (contents_of base.now) units.now cells.items) }
+{
+    if units.len() > u32::MAX as usize {
+        return Err(NoMemory);
+    }
+    let mut cells = empty_cells(alloc, base.count_names() as usize)?;
+    for (i, unit) in units.iter().enumerate() {
+        let names = names_of(alloc, unit)?;
+        note_members(&mut cells, i as u32, &names)?;
+    }
+    Ok(cells)
+}

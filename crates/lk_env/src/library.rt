@@ -1,0 +1,85 @@
+//! A library: a store, units whose names and trees are numbers of it, and an index over their names.
+
+use crate::index::index_of;
+use crate::place::Place;
+use crate::unit::Unit;
+use lk_rows::memory::NoMemory;
+use lk_store::base_store::BaseStore;
+use lk_store::name::Name;
+use std::alloc::Global;
+use std::marker::Model;
+
+/// A library, with an index over the names of its units.
+#[derive(Drop)]
+pub struct Library {
+    base: BaseStore,
+    units: Vec<Unit>,
+    /// For each name of the store the place at which it is given.
+    cells: Vec<Option<Place>>,
+}
+
+impl Model for Library {
+    ghost use Rattle.std.specs.Prelude.{List};
+    ghost use Rattle.lk_store.specs.declared.tables.Tables.{Tables};
+    ghost use Rattle.lk_env.specs.declared.unit.Unit.{Unit as StoredUnit};
+
+    ghost Value = { Tables × List StoredUnit };
+
+    ghost use Rattle.lk_store.specs.Store.{contents_of};
+    ghost use Rattle.lk_env.specs.Units.{AreUnitsIn};
+    ghost use Rattle.lk_env.specs.Index.{IsIndex};
+
+    ghost view = { λ l. (l.base, l.units.items) };
+
+    ghost invariant = { λ l. AreUnitsIn (contents_of l.base) l.units.items × IsIndex (contents_of l.base) l.units.items l.cells.items };
+}
+
+impl Library {
+    ghost use Rattle.std.specs.Prelude.{◌≡◌, ◌<◌, length, option_map, IfOk};
+    ghost use Rattle.lk_store.specs.Names.{name_of};
+    ghost use Rattle.lk_store.specs.Contents.{name_at};
+    ghost use Rattle.lk_store.specs.Store.{contents_of};
+    ghost use Rattle.lk_env.specs.Units.{library_at, AreUnitsIn};
+    ghost use Rattle.lk_env.specs.Places.{place_in};
+    ghost use Rattle.lk_env.specs.Index.{pair_of};
+
+    /// Makes the index. Units are fewer than 2^32; more are want of memory.
+    pub fn new(alloc: Global, base: BaseStore, units: Vec<Unit>) -> Result<Library, NoMemory>
+        requires { AreUnitsIn (contents_of base) units.items }
+        ensures { IfOk result (λ l. l ≡ (base, units.items)) }
+    {
+        let cells = index_of(alloc, &base, &units)?;
+        Ok(Library { base, units, cells })
+    }
+
+    pub fn units(&self) -> &[Unit]
+        ensures value { result.now ≡ self.now.1 }
+        ensures known { AreUnitsIn (contents_of self.now.0) result.now }
+    {
+        self.units.as_slice()
+    }
+
+    pub fn base(&self) -> &BaseStore
+        ensures { result.now ≡ self.now.0 }
+    {
+        &self.base
+    }
+
+    /// The first unit that gives the name, and which of its members. It takes no memory.
+    pub fn place_of(&self, name: u64) -> Option<Place>
+        requires { name < length (contents_of self.now.0).names }
+        ensures { option_map pair_of result ≡ place_in 0 (library_at (contents_of self.now.0) self.now.1) (name_at (contents_of self.now.0) name) }
+    {
+        self.cells[name as usize]
+    }
+
+    /// The same of a name that need not be in the store.
+    pub fn find(&self, name: &Name) -> Option<Place>
+        ensures { option_map pair_of result ≡ place_in 0 (library_at (contents_of self.now.0) self.now.1) (name_of name.now) }
+    {
+        match self.base.find_name(name) {
+            Some(n) => self.place_of(n),
+            None => None,
+        }
+    }
+}
