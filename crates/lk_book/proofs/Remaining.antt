@@ -4,7 +4,7 @@ use Rattle.std.specs.Prelude.{Result, true, false}
 use Rattle.std.specs.declared.option.Option.{Option}
 use Rattle.std.specs.Io.KnownBytes.{Consumes, IsAtEnd}
 use Rattle.lk_port.proofs.BytesLemmas.{Consumes-none, Consumes-append}
-use Rattle.lk_tree.specs.Tree.{Level, Tree}
+use Rattle.lk_store.specs.Contents.{Contents}
 use Rattle.lk_token.specs.Lines.{HasNoLineFeed}
 use Rattle.lk_lines.specs.Limits.{limits}
 use Rattle.lk_lines.specs.Says.{said_of}
@@ -30,9 +30,9 @@ use Rattle.lk_book.proofs.LongLines.{known_left, all_read}
 leads_more : (c d : Course) (bytes held piece : List ℕ) → Leads c bytes d held → Leads c (bytes ++ piece) d (held ++ piece)
 leads_more c d bytes held piece h rest = rw (append_assoc bytes piece rest, append_assoc held piece rest) (h (piece ++ rest))
 
-pub remains_more : (r r2 : Reader) (ls ms : List Level) (ts us : List Tree) (held held2 piece : List ℕ) (old now new : Option (List ℕ)) (m : Remains r ls ts held old now) → Consumes now new piece
-    → Passes r2 ms us m.passes.course (held ++ piece) held2 → Remains r2 ms us held2 old new
-remains_more r r2 ls ms ts us held held2 piece old now new m read p = record {
+pub remains_more : (r r2 : Reader) (store grown : Contents) (held held2 piece : List ℕ) (old now new : Option (List ℕ)) (m : Remains r store held old now) → Consumes now new piece
+    → Passes r2 grown m.passes.course (held ++ piece) held2 → Remains r2 grown held2 old new
+remains_more r r2 store grown held held2 piece old now new m read p = record {
   bytes = m.bytes ++ piece;
   consumed = Consumes-append old now new m.bytes piece m.consumed read;
   passes = record {
@@ -46,11 +46,11 @@ fault_after : (c d : Course) (bytes held rest : List ℕ) (f : Fault) → Leads 
 fault_after c d bytes held rest f h e = h rest ∙ e
 
 -- a line of these bytes has a fault
-pub tells_stop : (r : Reader) (ls : List Level) (ts : List Tree) (held piece : List ℕ) (old now new : Option (List ℕ)) (e : LineError) (m : Remains r ls ts held old now) → Consumes now new piece
+pub tells_stop : (r : Reader) (store : Contents) (held piece : List ℕ) (old now new : Option (List ℕ)) (e : LineError) (m : Remains r store held old now) → Consumes now new piece
     → Stops e m.passes.course (held ++ piece) → TellsFault (read_error e) old
 unfolding course_of
-tells_stop r ls ts held piece old now new errors.NoMemory m read s = tt
-tells_stop r ls ts held piece old now new (errors.Fault f) m read s = λ bytes is.
+tells_stop r store held piece old now new errors.NoMemory m read s = tt
+tells_stop r store held piece old now new (errors.Fault f) m read s = λ bytes is.
     let k = known_left old new (m.bytes ++ piece) bytes (Consumes-append old now new m.bytes piece m.consumed read) is in
     rw k.2 (fault_after begin_course m.passes.course (m.bytes ++ piece) (held ++ piece) k.0 f (leads_more begin_course m.passes.course m.bytes held piece m.passes.leads) (s k.0))
 
@@ -63,10 +63,10 @@ limits_stop c [] w e = absurd (cc)
 limits_stop c (line ∷ more) w e = limits_step c line more w e
 
 -- the line that is read is too long
-pub tells_long : (r : Reader) (ls : List Level) (ts : List Tree) (held : List ℕ) (old now : Option (List ℕ)) (w : Word) (m : Remains r ls ts held old now)
+pub tells_long : (r : Reader) (store : Contents) (held : List ℕ) (old now : Option (List ℕ)) (w : Word) (m : Remains r store held old now)
     → ((rest : List ℕ) → now ≡ Some rest → first_limits r.before (lines_of (held ++ rest)) ≡ Some w) → (bytes : List ℕ) → old ≡ Some bytes → course_of bytes ≡ Err (record { line = r.number + 1; word = w })
 unfolding course_of
-tells_long r ls ts held old now w m h bytes is =
+tells_long r store held old now w m h bytes is =
     let k = known_left old now m.bytes bytes m.consumed is in
     let P : ℕ → Type 0 = λ n. first_limits n (lines_of (held ++ k.0)) ≡ Some w in
     let stop = limits_stop m.passes.course (lines_of (held ++ k.0)) w (subst P m.passes.stands.before (h k.0 k.1)) in
@@ -79,27 +79,27 @@ front_more old now new piece h s = (piece ++ s.0, Consumes-append old now new pi
 pub front_then : (old now new : Option (List ℕ)) → ConsumesSome old now → ConsumesSome now new → ConsumesSome old new
 front_then old now new h s = front_more old now new h.0 h.1 s
 
-pub remains_begin : (a : Assembler) (ls : List Level) (ts : List Tree) (held : List ℕ) (old : Option (List ℕ)) → held ≡ [] → Holds a ls ts begin → Remains (record { assembler = a; first = true; number = 0; before = 0 }) ls ts held old old
-remains_begin a ls ts held old e h = record {
+pub remains_begin : (a : Assembler) (store : Contents) (held : List ℕ) (old : Option (List ℕ)) → held ≡ [] → Holds a store begin → Remains (record { assembler = a; first = true; number = 0; before = 0 }) store held old old
+remains_begin a store held old e h = record {
   bytes = [];
   consumed = Consumes-none old;
   passes = record { course = begin_course; stands = record { first = refl; number = refl; before = refl; holds = h }; leads = λ rest. rw e refl };
 }
 
-pub told_reads : (ls : List Level) (ts : List Tree) (e : ReadError) (old : Option (List ℕ)) (bytes : List ℕ) → TellsFault e old → old ≡ Some bytes → Reads ls ts (course_of bytes) (Err e)
-told_reads ls ts reads.NoMemory old bytes h is = tt
-told_reads ls ts reads.ReadFault old bytes h is = tt
-told_reads ls ts (reads.Fault f) old bytes h is = h bytes is
+pub told_reads : (store : Contents) (e : ReadError) (old : Option (List ℕ)) (bytes : List ℕ) → TellsFault e old → old ≡ Some bytes → Reads store (course_of bytes) (Err e)
+told_reads store reads.NoMemory old bytes h is = tt
+told_reads store reads.ReadFault old bytes h is = tt
+told_reads store (reads.Fault f) old bytes h is = h bytes is
 
 after_last : (said : Result Course Fault) → after said (λ d. Ok d) ≡ said
 after_last (Ok c) = refl
 after_last (Err f) = refl
 
 -- at the end of the source the last line is left
-pub last_over : (r : Reader) (ls : List Level) (ts : List Tree) (held : List ℕ) (old now : Option (List ℕ)) (bytes : List ℕ) (m : Remains r ls ts held old now) → IsAtEnd now → HasNoLineFeed held → old ≡ Some bytes
+pub last_over : (r : Reader) (store : Contents) (held : List ℕ) (old now : Option (List ℕ)) (bytes : List ℕ) (m : Remains r store held old now) → IsAtEnd now → HasNoLineFeed held → old ≡ Some bytes
     → course_of bytes ≡ step m.passes.course false held
 unfolding course_of
-last_over r ls ts held old now bytes m end none is =
+last_over r store held old now bytes m end none is =
     let all : bytes ≡ m.bytes = all_read old now now m.bytes [] bytes m.consumed (Consumes-none now) refl end is in
     let leads : course_over begin_course (lines_of (m.bytes ++ [])) ≡ course_over m.passes.course (lines_of (held ++ [])) = m.passes.leads [] in
     let P : List ℕ → Type 0 = λ xs. course_over begin_course (lines_of xs) ≡ course_over m.passes.course (lines_of (held ++ [])) in
@@ -107,9 +107,9 @@ last_over r ls ts held old now bytes m end none is =
     let whole : course_over begin_course (lines_of bytes) ≡ course_over m.passes.course (lines_of held) = subst Q (append-nil held) (subst P (append-nil m.bytes ∙ sym all) leads) in
     whole ∙ ap (λ lines. course_over m.passes.course lines) (lines_of-last held none) ∙ after_last (step m.passes.course false held)
 
-pub ends_reads : (ls : List Level) (ts : List Tree) (a : Assembler) (whole said : Result Course Fault) → whole ≡ said → Ends ls ts (Ok a) said → Reads ls ts whole (Ok a)
-ends_reads ls ts a whole said e h = (h.0, e ∙ h.1, h.2)
+pub ends_reads : (store : Contents) (a : Assembler) (whole said : Result Course Fault) → whole ≡ said → Ends store (Ok a) said → Reads store whole (Ok a)
+ends_reads store a whole said e h = (h.0, e ∙ h.1, h.2)
 
-pub ends_stops : (ls : List Level) (ts : List Tree) (x : LineError) (whole said : Result Course Fault) → whole ≡ said → Ends ls ts (Err x) said → Reads ls ts whole (Err (read_error x))
-ends_stops ls ts errors.NoMemory whole said e h = tt
-ends_stops ls ts (errors.Fault f) whole said e h = e ∙ h
+pub ends_stops : (store : Contents) (x : LineError) (whole said : Result Course Fault) → whole ≡ said → Ends store (Err x) said → Reads store whole (Err (read_error x))
+ends_stops store errors.NoMemory whole said e h = tt
+ends_stops store (errors.Fault f) whole said e h = e ∙ h

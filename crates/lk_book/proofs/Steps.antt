@@ -1,7 +1,7 @@
 -- What a line makes of a course.
 use Rattle.std.proofs.Common.{ℕ, List, Ok, Err, refl}
 use Rattle.std.specs.Prelude.{false}
-use Rattle.lk_tree.specs.Tree.{Level, Tree}
+use Rattle.lk_store.specs.Contents.{Contents}
 use Rattle.lk_lines.specs.Items.{Item}
 use Rattle.lk_lines.specs.Says.{OfItem}
 use Rattle.lk_units.specs.State.{take_item}
@@ -13,11 +13,11 @@ use Rattle.lk_book.specs.Course.{Course, taken, at_line}
 use Rattle.lk_book.specs.Passing.{Stands, Goes, line_error}
 use Rattle.lk_book.specs.declared.reader.Reader.{Reader}
 
-pub item_goes : (r : Reader) (a : Assembler) (ls ms : List Level) (ts us : List Tree) (c : Course) (number : ℕ) (item : Item) → Stands r ls ts c → Follows a ms us (Ok tt) (take_item c.state item)
-    → Goes (record r { assembler = a; first = false }) ms us (Ok tt) (at_line number (taken c (OfItem item)))
-item_goes r a ls ms ts us c number item h f = (record c { first = false; state = f.0 }, rw f.1 refl, record { first = refl; number = h.number; before = h.before; holds = f.2 })
+pub item_goes : (r : Reader) (a : Assembler) (store grown : Contents) (c : Course) (number : ℕ) (item : Item) → Stands r store c → Follows a grown (Ok tt) (take_item c.state item)
+    → Goes (record r { assembler = a; first = false }) grown (Ok tt) (at_line number (taken c (OfItem item)))
+item_goes r a store grown c number item h f = (record c { first = false; state = f.0 }, rw f.1 refl, record { first = refl; number = h.number; before = h.before; holds = f.2 })
 
-pub item_stops : (r : Reader) (a : Assembler) (ms : List Level) (us : List Tree) (c : Course) (number : ℕ) (item : Item) (e : TakeError) → Follows a ms us (Err e) (take_item c.state item)
-    → Goes r ms us (Err (line_error number e)) (at_line number (taken c (OfItem item)))
-item_stops r a ms us c number item take_errors.NoMemory f = tt
-item_stops r a ms us c number item (take_errors.Fault w) f = rw f refl
+pub item_stops : (r : Reader) (a : Assembler) (grown : Contents) (c : Course) (number : ℕ) (item : Item) (e : TakeError) → Follows a grown (Err e) (take_item c.state item)
+    → Goes r grown (Err (line_error number e)) (at_line number (taken c (OfItem item)))
+item_stops r a grown c number item take_errors.NoMemory f = tt
+item_stops r a grown c number item (take_errors.Fault w) f = rw f refl

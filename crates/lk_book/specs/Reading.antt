@@ -2,7 +2,7 @@
 use Rattle.std.specs.Prelude.{◌≡◌, ◌+◌, ℕ, List, ◌∷◌, [], length, Result, Ok, Err, Some, None}
 use Rattle.std.specs.declared.option.Option.{Option}
 use Rattle.std.specs.Io.KnownBytes.{Consumes}
-use Rattle.lk_tree.specs.Tree.{Level, Tree}
+use Rattle.lk_store.specs.Contents.{Contents}
 use Rattle.lk_token.specs.Lines.{HasNoLineFeed}
 use Rattle.lk_lines.specs.declared.words.Word.{Word}
 use Rattle.lk_lines.specs.declared.line.Fault.{Fault}
@@ -24,16 +24,16 @@ read_error (line_errors.Fault f) = errors.Fault f
 
 -- what the assembler holds is what the file states, or the file's fault is told; a failed read and want of memory
 -- tell nothing of the file
-abbrev pub Reads : List Level → List Tree → Result Course Fault → Result Assembler ReadError → Type 0
-Reads ls ts said (Ok a) = (c : Course) × (said ≡ Ok c) × Holds a ls ts c.state
-Reads ls ts said (Err errors.NoMemory) = Unit {0}
-Reads ls ts said (Err errors.ReadFault) = Unit {0}
-Reads ls ts said (Err (errors.Fault f)) = said ≡ Err f
+abbrev pub Reads : Contents → Result Course Fault → Result Assembler ReadError → Type 0
+Reads store said (Ok a) = (c : Course) × (said ≡ Ok c) × Holds a store c.state
+Reads store said (Err errors.NoMemory) = Unit {0}
+Reads store said (Err errors.ReadFault) = Unit {0}
+Reads store said (Err (errors.Fault f)) = said ≡ Err f
 
 -- behind its last line the assembler holds what the line makes of the course, or the line's fault is told
-abbrev pub Ends : List Level → List Tree → Result Assembler LineError → Result Course Fault → Type 0
-Ends ls ts (Ok a) said = (c : Course) × (said ≡ Ok c) × Holds a ls ts c.state
-Ends ls ts (Err e) said = Fails e said
+abbrev pub Ends : Contents → Result Assembler LineError → Result Course Fault → Type 0
+Ends store (Ok a) said = (c : Course) × (said ≡ Ok c) × Holds a store c.state
+Ends store (Err e) said = Fails e said
 
 -- some bytes were taken from the front
 abbrev pub ConsumesSome : Option (List ℕ) → Option (List ℕ) → Type 0
@@ -52,10 +52,10 @@ pub record Skips (old now : Option (List ℕ)) (length_old length_now : ℕ) : T
   pub counted : length_now ≡ length_old + length bytes
 
 -- The bytes that were taken from the front led the reader to what it stands for, but for the last ones of them.
-pub record Remains (r : Reader) (ls : List Level) (ts : List Tree) (held : List ℕ) (old now : Option (List ℕ)) : Type 0 where
+pub record Remains (r : Reader) (store : Contents) (held : List ℕ) (old now : Option (List ℕ)) : Type 0 where
   pub bytes : List ℕ
   pub consumed : Consumes old now bytes
-  pub passes : Passes r ls ts begin_course bytes held
+  pub passes : Passes r store begin_course bytes held
 
 -- the fault of a file that a source had at first; a failed read and want of memory tell nothing of it
 abbrev pub TellsFault : ReadError → Option (List ℕ) → Type 0

@@ -22,6 +22,7 @@ use std::alloc::Global;
 
 /// Reads a piece of the source and takes the lines that end in it. The first bytes of a line that goes on are held.
 /// It answers whether the source goes on.
+#[tactic(auto, using(lk_units::proofs::Holding::unchanged))]
 fn read_piece<T: Terms, S: Source>(
     alloc: Global,
     store: &mut T,
@@ -30,13 +31,13 @@ fn read_piece<T: Terms, S: Source>(
     held: &mut Vec<u8>,
     piece: &mut [u8; PIECE],
 ) -> Result<bool, ReadError>
-    requires known { IsKnown reader.old.assembler (length (T.contents store.old).levels) (length (T.contents store.old).trees) }
+    requires known { IsKnown reader.old.assembler (T.contents store.old) }
     requires counted { IsCounted reader.old }
     requires unfinished { HasNoLineFeed held.old.items }
     requires short { length held.old.items ≤ 2 ^ 24 }
     ensures keeps { Extends (T.contents store.old) (T.contents store.new) }
     ensures rest { T.rest store.new ≡ T.rest store.old }
-    ensures known { OnOk result (IsKnown reader.new.assembler (length (T.contents store.new).levels) (length (T.contents store.new).trees)) }
+    ensures known { OnOk result (IsKnown reader.new.assembler (T.contents store.new)) }
     ensures counted { OnOk result (IsCounted reader.new) }
     ensures unfinished { OnOk result (HasNoLineFeed held.new.items) }
     ensures short { OnOk result (length held.new.items ≤ 2 ^ 24) }
@@ -68,6 +69,7 @@ fn read_piece<T: Terms, S: Source>(
 }
 
 /// Reads the source to its end and takes all lines but the last, whose bytes are held.
+#[tactic(auto, using(lk_units::proofs::Holding::unchanged))]
 fn read_pieces<T: Terms, S: Source>(
     alloc: Global,
     store: &mut T,
@@ -75,13 +77,13 @@ fn read_pieces<T: Terms, S: Source>(
     reader: &mut Reader,
     held: &mut Vec<u8>,
 ) -> Result<(), ReadError>
-    requires known { IsKnown reader.old.assembler (length (T.contents store.old).levels) (length (T.contents store.old).trees) }
+    requires known { IsKnown reader.old.assembler (T.contents store.old) }
     requires counted { IsCounted reader.old }
     requires unfinished { HasNoLineFeed held.old.items }
     requires short { length held.old.items ≤ 2 ^ 24 }
     ensures keeps { Extends (T.contents store.old) (T.contents store.new) }
     ensures rest { T.rest store.new ≡ T.rest store.old }
-    ensures known { OnOk result (IsKnown reader.new.assembler (length (T.contents store.new).levels) (length (T.contents store.new).trees)) }
+    ensures known { OnOk result (IsKnown reader.new.assembler (T.contents store.new)) }
     ensures counted { OnOk result (IsCounted reader.new) }
     ensures unfinished { OnOk result (HasNoLineFeed held.new.items) }
 
@@ -111,12 +113,12 @@ fn take_last<T: Terms>(
     mut reader: Reader,
     line: &[u8],
 ) -> Result<Assembler, LineError>
-    requires known { IsKnown reader.assembler (length (T.contents store.old).levels) (length (T.contents store.old).trees) }
+    requires known { IsKnown reader.assembler (T.contents store.old) }
     requires counted { IsCounted reader }
     requires whole { HasNoLineFeed line.now }
     ensures keeps { Extends (T.contents store.old) (T.contents store.new) }
     ensures rest { T.rest store.new ≡ T.rest store.old }
-    ensures known { IfOk result (λ a. IsKnown a (length (T.contents store.new).levels) (length (T.contents store.new).trees)) }
+    ensures known { IfOk result (λ a. IsKnown a (T.contents store.new)) }
     ensures ends { (c : Course) → Stands reader (T.contents store.old) c → Ends (T.contents store.new) result (step c false line.now) }
 {
     reader.take_line(alloc, store, false, line)?;
@@ -135,7 +137,7 @@ pub fn read_library<T: Terms, S: Source>(
 ) -> Result<Assembler, ReadError>
     ensures keeps { Extends (T.contents store.old) (T.contents store.new) }
     ensures rest { T.rest store.new ≡ T.rest store.old }
-    ensures known { IfOk result (λ a. IsKnown a (length (T.contents store.new).levels) (length (T.contents store.new).trees)) }
+    ensures known { IfOk result (λ a. IsKnown a (T.contents store.new)) }
 
     // Where the source tells its bytes, the answer is what they state.
     ensures reads { (bytes : List ℕ) → S.left source.old ≡ Some bytes → Reads (T.contents store.new) (course_of bytes) result }

@@ -22,17 +22,18 @@ pub fn cut(bytes: &[u8]) -> Option<(&[u8], &[u8])>
 }
 
 /// Takes each line of bytes that a line feed ends, and gives what is left behind the last of them.
+#[tactic(auto, using(lk_units::proofs::Holding::unchanged))]
 fn take_lines<'p, T: Terms>(
     alloc: Global,
     store: &mut T,
     reader: &mut Reader,
     bytes: &'p [u8],
 ) -> Result<&'p [u8], LineError>
-    requires known { IsKnown reader.old.assembler (length (T.contents store.old).levels) (length (T.contents store.old).trees) }
+    requires known { IsKnown reader.old.assembler (T.contents store.old) }
     requires counted { IsCounted reader.old }
     ensures keeps { Extends (T.contents store.old) (T.contents store.new) }
     ensures rest { T.rest store.new ≡ T.rest store.old }
-    ensures known { OnOk result (IsKnown reader.new.assembler (length (T.contents store.new).levels) (length (T.contents store.new).trees)) }
+    ensures known { OnOk result (IsKnown reader.new.assembler (T.contents store.new)) }
     ensures counted { OnOk result (IsCounted reader.new) }
     ensures unfinished { IfOk result (λ rest. HasNoLineFeed rest.now) }
     ensures length { IfOk result (λ rest. reader.new.before + length rest.now ≡ reader.old.before + length bytes.now) }
@@ -62,6 +63,7 @@ fn hold(held: &mut Vec<u8>, bytes: &[u8]) -> Result<(), LineError>
 
 /// Takes the line whose first bytes are held, which is ended by these bytes, and each line behind it that a line feed
 /// ends; what is left is held.
+#[tactic(auto, using(lk_units::proofs::Holding::unchanged))]
 fn take_held<T: Terms>(
     alloc: Global,
     store: &mut T,
@@ -70,13 +72,13 @@ fn take_held<T: Terms>(
     line: &[u8],
     more: &[u8],
 ) -> Result<(), LineError>
-    requires known { IsKnown reader.old.assembler (length (T.contents store.old).levels) (length (T.contents store.old).trees) }
+    requires known { IsKnown reader.old.assembler (T.contents store.old) }
     requires counted { IsCounted reader.old }
     requires held { HasNoLineFeed held.old.items }
     requires line { HasNoLineFeed line.now }
     ensures keeps { Extends (T.contents store.old) (T.contents store.new) }
     ensures rest { T.rest store.new ≡ T.rest store.old }
-    ensures known { OnOk result (IsKnown reader.new.assembler (length (T.contents store.new).levels) (length (T.contents store.new).trees)) }
+    ensures known { OnOk result (IsKnown reader.new.assembler (T.contents store.new)) }
     ensures counted { OnOk result (IsCounted reader.new) }
     ensures unfinished { OnOk result (HasNoLineFeed held.new.items) }
     ensures length { OnOk result (reader.new.before + length held.new.items ≡ reader.old.before + length held.old.items + length line.now + 1 + length more.now) }
@@ -94,6 +96,7 @@ fn take_held<T: Terms>(
 }
 
 /// Takes each line that ends in a piece of the input, of which the last bytes before it are held; what is left is held.
+#[tactic(auto, using(lk_units::proofs::Holding::unchanged))]
 pub fn take_piece<T: Terms>(
     alloc: Global,
     store: &mut T,
@@ -101,12 +104,12 @@ pub fn take_piece<T: Terms>(
     held: &mut Vec<u8>,
     piece: &[u8],
 ) -> Result<(), LineError>
-    requires known { IsKnown reader.old.assembler (length (T.contents store.old).levels) (length (T.contents store.old).trees) }
+    requires known { IsKnown reader.old.assembler (T.contents store.old) }
     requires counted { IsCounted reader.old }
     requires held { HasNoLineFeed held.old.items }
     ensures keeps { Extends (T.contents store.old) (T.contents store.new) }
     ensures rest { T.rest store.new ≡ T.rest store.old }
-    ensures known { OnOk result (IsKnown reader.new.assembler (length (T.contents store.new).levels) (length (T.contents store.new).trees)) }
+    ensures known { OnOk result (IsKnown reader.new.assembler (T.contents store.new)) }
     ensures counted { OnOk result (IsCounted reader.new) }
     ensures unfinished { OnOk result (HasNoLineFeed held.new.items) }
     ensures length { OnOk result (reader.new.before + length held.new.items ≡ reader.old.before + length held.old.items + length piece.now) }

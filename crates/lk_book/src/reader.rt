@@ -45,7 +45,7 @@ fn feed_count(feed: bool) -> u64
 
 impl Reader {
     /// Takes what line `number` says.
-    #[tactic(auto, using(crate::proofs::Steps::item_goes, crate::proofs::Steps::item_stops))]
+    #[tactic(auto, using(crate::proofs::Steps::item_goes, crate::proofs::Steps::item_stops, lk_units::proofs::Holding::unchanged))]
     fn take_said<T: Terms>(
         &mut self,
         alloc: Global,
@@ -53,10 +53,10 @@ impl Reader {
         number: u64,
         said: Said<'_>,
     ) -> Result<(), LineError>
-        requires { IsKnown self.old.assembler (length (T.contents store.old).levels) (length (T.contents store.old).trees) }
+        requires { IsKnown self.old.assembler (T.contents store.old) }
         ensures keeps { Extends (T.contents store.old) (T.contents store.new) }
         ensures rest { T.rest store.new ≡ T.rest store.old }
-        ensures known { OnOk result (IsKnown self.new.assembler (length (T.contents store.new).levels) (length (T.contents store.new).trees)) }
+        ensures known { OnOk result (IsKnown self.new.assembler (T.contents store.new)) }
         ensures counts { (self.new.number ≡ self.old.number) × (self.new.before ≡ self.old.before) }
         ensures follows { (c : Course) → Stands self.old (T.contents store.old) c
             → Goes self.new (T.contents store.new) result (at_line number (taken c (says_of said.entry))) }
@@ -85,7 +85,7 @@ impl Reader {
     }
 
     /// Takes the next line; `feed` says that a line feed ends it.
-    #[tactic(auto, unfolding(crate::specs::Course::step))]
+    #[tactic(auto, using(lk_units::proofs::Holding::unchanged), unfolding(crate::specs::Course::step))]
     pub fn take_line<T: Terms>(
         &mut self,
         alloc: Global,
@@ -93,12 +93,12 @@ impl Reader {
         feed: bool,
         line: &[u8],
     ) -> Result<(), LineError>
-        requires known { IsKnown self.old.assembler (length (T.contents store.old).levels) (length (T.contents store.old).trees) }
+        requires known { IsKnown self.old.assembler (T.contents store.old) }
         requires counted { IsCounted self.old }
         requires whole { HasNoLineFeed line.now }
         ensures keeps { Extends (T.contents store.old) (T.contents store.new) }
         ensures rest { T.rest store.new ≡ T.rest store.old }
-        ensures known { OnOk result (IsKnown self.new.assembler (length (T.contents store.new).levels) (length (T.contents store.new).trees)) }
+        ensures known { OnOk result (IsKnown self.new.assembler (T.contents store.new)) }
         ensures counted { OnOk result (feed ≡ true → IsCounted self.new) }
         ensures length { OnOk result (self.new.before ≡ self.old.before + length line.now + feed_count feed) }
         ensures step { (c : Course) → Stands self.old (T.contents store.old) c

@@ -1,19 +1,19 @@
 -- What an assembler stands for, by what it has.
-use Rattle.std.proofs.Common.{◌≡◌, ℕ, ◌<◌, ◌≤◌, ◌==◌, Bool, true, false, List, map, length, [], ◌∷◌, Some, None, refl, sym, ◌∙◌, ap, arith}
-use Rattle.std.specs.Prelude.{option_map, IfSome, is_some, All, if◌then◌else◌, Ok, Err}
-use Rattle.std.proofs.lemmas.List.Elements.{All-weaker, All-head, All-tail}
+use Rattle.std.proofs.Common.{◌≡◌, ℕ, ◌<◌, ◌≤◌, ◌==◌, Bool, true, false, length, Some, None, refl, sym, ◌∙◌, ap, arith}
+use Rattle.std.specs.Prelude.{option_map, IfSome, is_some, if◌then◌else◌, Ok, Err}
 use Rattle.std.specs.declared.option.Option.{Option}
-use Rattle.lk_tree.specs.Tree.{Level, Tree}
-use Rattle.lk_store.specs.Contents.{tree_at, level_at, Extends}
+use Rattle.lk_store.specs.Contents.{Contents, name_at, level_at, tree_at, Extends}
+use Rattle.lk_store.proofs.Made.{Extends-self}
 use Rattle.lk_lines.specs.declared.words.Word.TheVariants.{IndexUnknown}
 use Rattle.lk_units.specs.declared.numbering.Numbering.{Numbering}
-use Rattle.lk_units.specs.declared.names.Names.{Names}
-use Rattle.lk_units.specs.declared.assembler.TheoremRow.{TheoremRow}
 use Rattle.lk_units.specs.declared.assembler.Assembler.{Assembler}
-use Rattle.lk_units.specs.Names.{name_at, names_of, AreAfter, ExtendsNames}
 use Rattle.lk_units.specs.Numbering.{entry}
 use Rattle.lk_units.specs.State.{State, known, known_of, put}
-use Rattle.lk_units.specs.Held.{Numbered, Below, seen, IsKnownRow, IsKnown, Holds}
+use Rattle.lk_units.specs.Held.{Numbered, Below, IsKnown, Holds}
+use Rattle.lk_units.proofs.UnitsGrowing.{units_steady, units_stay}
+
+-- a store that did not change extends itself
+pub ruleset unchanged = (Extends-self)
 
 mean_is : {X : Type 0} → (numbers : Numbering) (have : ℕ → X) (mean : ℕ → Option X) (n : ℕ) (e : Option ℕ) → Numbered numbers have mean → entry numbers n ≡ e → mean n ≡ option_map have e
 mean_is numbers have mean n e h q = sym (h.same n) ∙ ap (option_map have) q
@@ -45,60 +45,22 @@ grown_numbered numbers len have have2 mean same b h = record { same = λ n. grow
 grown_below : (numbers : Numbering) (len len2 : ℕ) → len ≤ len2 → Below numbers len → Below numbers len2
 grown_below numbers len len2 le h = record { below = λ n. below_lem (entry numbers n) len len2 le (h.below n) }
 
-seen_same : {ts us : List Tree} → Extends ts us → (r : TheoremRow) → IsKnownRow (length ts) r → seen us r ≡ seen ts r
-seen_same x r h = let p = x.same r.kind h.kind_known in let q = x.same r.proof h.proof_known in rw (p, q) refl
-
-pub seen_steady : {ts us : List Tree} → Extends ts us → (rows : List TheoremRow) → All (IsKnownRow (length ts)) rows → map (seen us) rows ≡ map (seen ts) rows
-seen_steady x [] h = refl
-seen_steady {ts} {us} x (r ∷ rows) h =
-    let first = seen_same x r (All-head (IsKnownRow (length ts)) r rows h) in
-    let others = seen_steady x rows (All-tail (IsKnownRow (length ts)) r rows h) in
-    cc
-
-row_more : (m n : ℕ) → m ≤ n → (r : TheoremRow) → IsKnownRow m r → IsKnownRow n r
-row_more m n le r h = let p = h.kind_known in let q = h.proof_known in record { kind_known = omega arith; proof_known = omega arith }
-
-pub rows_more : (m n : ℕ) → m ≤ n → (rows : List TheoremRow) → All (IsKnownRow m) rows → All (IsKnownRow n) rows
-rows_more m n le rows h = All-weaker (IsKnownRow m) (IsKnownRow n) (row_more m n le) rows h
-
 -- an assembler as the store grows
-pub grown_holds : {ks ls : List Level} {ts us : List Tree} → ExtendsLevels ks ls → Extends ts us → (a : Assembler) (s : State) → IsKnown a (length ks) (length ts) → Holds a ks ts s → Holds a ls us s
-grown_holds {ks} {ls} {ts} {us} y x a s k h = record {
-  names = h.names;
-  levels = grown_numbered a.by_level (length ks) (level_at ks) (level_at ls) s.levels y.same_level k.levels_below h.levels;
-  trees = grown_numbered a.by_tree (length ts) (at ts) (at us) s.trees x.same k.trees_below h.trees;
-  theorems = seen_steady x a.theorems.items k.rows_below ∙ h.theorems;
+pub grown_holds : (c d : Contents) → Extends c d → (a : Assembler) (s : State) → IsKnown a c → Holds a c s → Holds a d s
+grown_holds c d x a s k h = record {
+  names = grown_numbered a.by_name (length c.names) (name_at c) (name_at d) s.names x.names.same k.names_below h.names;
+  levels = grown_numbered a.by_level (length c.levels) (level_at c) (level_at d) s.levels x.levels.same k.levels_below h.levels;
+  trees = grown_numbered a.by_tree (length c.trees) (tree_at c) (tree_at d) s.trees x.trees.same k.trees_below h.trees;
+  units = units_steady c d x a.units.items k.units_in ∙ h.units;
   count = h.count;
 }
 
-pub grown_known : {ks ls : List Level} {ts us : List Tree} → ExtendsLevels ks ls → Extends ts us → (a : Assembler) → IsKnown a (length ks) (length ts) → IsKnown a (length ls) (length us)
-grown_known {ks} {ls} {ts} {us} y x a k = record {
-  after = k.after;
-  names_below = k.names_below;
-  levels_below = grown_below a.by_level (length ks) (length ls) y.more k.levels_below;
-  trees_below = grown_below a.by_tree (length ts) (length us) x.longer k.trees_below;
-  rows_below = rows_more (length ts) (length us) x.longer a.theorems.items k.rows_below;
-}
-
--- an assembler as its names grow
-pub named_holds : (a : Assembler) (names : Names) (ls : List Level) (ts : List Tree) (s : State) → ExtendsNames (names_of a.names.rows.items) (names_of names.rows.items)
-    → Below a.by_name (length (names_of a.names.rows.items)) → Holds a ls ts s → Holds (record a { names = names }) ls ts s
-named_holds a names ls ts s x k h = record {
-  names = grown_numbered a.by_name (length (names_of a.names.rows.items)) (name_at (names_of a.names.rows.items)) (name_at (names_of names.rows.items)) s.names x.same_name k h.names;
-  levels = h.levels;
-  trees = h.trees;
-  theorems = h.theorems;
-  count = h.count;
-}
-
-pub named_known : (a : Assembler) (names : Names) (levels len : ℕ) → ExtendsNames (names_of a.names.rows.items) (names_of names.rows.items) → AreAfter 1 names.rows.items
-    → IsKnown a levels len → IsKnown (record a { names = names }) levels len
-named_known a names levels len x after k = record {
-  after = after;
-  names_below = grown_below a.by_name (length (names_of a.names.rows.items)) (length (names_of names.rows.items)) x.more_names k.names_below;
-  levels_below = k.levels_below;
-  trees_below = k.trees_below;
-  rows_below = k.rows_below;
+pub grown_known : (c d : Contents) → Extends c d → (a : Assembler) → IsKnown a c → IsKnown a d
+grown_known c d x a k = record {
+  names_below = grown_below a.by_name (length c.names) (length d.names) x.names.longer k.names_below;
+  levels_below = grown_below a.by_level (length c.levels) (length d.levels) x.levels.longer k.levels_below;
+  trees_below = grown_below a.by_tree (length c.trees) (length d.trees) x.trees.longer k.trees_below;
+  units_in = units_stay c d x a.units.items k.units_in;
 }
 
 -- one more number

@@ -1,9 +1,8 @@
 pub mod Holding
-pub mod NameLemmas
-pub mod Counting
+pub mod UnitsGrowing
 pub mod Putting
-pub mod Keys
-pub mod Growing
+pub mod Counting
 pub mod Lines
+pub mod Several
 pub mod Kept
 pub mod Items

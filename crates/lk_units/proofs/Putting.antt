@@ -1,113 +1,104 @@
--- A number that is fresh gets its place.
-use Rattle.std.proofs.Common.{◌≡◌, ℕ, ◌<◌, ◌==◌, Bool, true, false, List, [], ◌∷◌, ◌++◌, map, length, Some, refl, sym, ◌∙◌, ap, Vec}
+-- The number of a line gets what the line made.
+use Rattle.std.proofs.Common.{◌≡◌, ℕ, ◌<◌, ◌==◌, Bool, true, false, length, refl, sym}
 use Rattle.std.specs.Prelude.{is_some, if◌then◌else◌, Ok, Err, Result, OnOk, IfOk}
 use Rattle.std.specs.declared.option.Option.{Option}
-use Rattle.std.proofs.lemmas.List.{map-append}
-use Rattle.std.specs.declared.alloc.Global.{Global}
+use Rattle.lk_store.specs.Contents.{Contents, name_at, level_at, tree_at, Extends}
 use Rattle.lk_tree.specs.Tree.{Name, Level, Tree}
-use Rattle.lk_store.specs.Contents.{tree_at, level_at}
 use Rattle.lk_lines.specs.declared.words.Word.{Word}
 use Rattle.lk_lines.specs.declared.words.Word.TheVariants.{IndexTaken}
+use Rattle.lk_lines.specs.Reading.{◌>>=◌}
 use Rattle.lk_units.specs.declared.numbering.Numbering.{Numbering}
-use Rattle.lk_units.specs.declared.assembler.TheoremRow.{TheoremRow}
 use Rattle.lk_units.specs.declared.assembler.Assembler.{Assembler}
 use Rattle.lk_units.specs.declared.assembler.TakeError.{TakeError}
-use Rattle.lk_units.specs.Names.{name_at, names_of}
+use Rattle.lk_units.specs.declared.assembler.TakeError.TheVariants as errors
 use Rattle.lk_units.specs.Numbering.{entry}
-use Rattle.lk_units.specs.Theorems.{Theorem}
-use Rattle.lk_units.specs.State.{State, fresh, put, with_name, with_level, with_tree, with_theorem}
-use Rattle.lk_units.specs.Held.{Numbered, seen, shown, IsKnown, Holds}
-use Rattle.lk_units.proofs.Holding.{is_taken, put_numbered, put_below}
+use Rattle.lk_units.specs.State.{State, fresh, put, with_name, with_level, with_tree}
+use Rattle.lk_units.specs.Held.{Numbered, Below, IsKnown, Holds, Fails, Makes, unless_taken, Puts, Follows}
+use Rattle.lk_units.proofs.Holding.{is_taken, put_numbered, put_below, grown_holds, grown_known}
+use Rattle.lk_units.proofs.Lines.{fails_then}
 
-fresh_lem : {X : Type 0} (b : Bool) (said : Result X Word) → b ≡ false → (if b then Err IndexTaken else said) ≡ said
-fresh_lem true said e = absurd (cc)
-fresh_lem false said e = refl
+fresh_lem : {X : Type 0} (b b' : Bool) (have : ℕ → X) (made : Result ℕ TakeError) (said : Result X Word) → b' ≡ b → Makes have made said
+    → Makes have (if b then Err (errors.Fault IndexTaken) else made) (if b' then Err IndexTaken else said)
+fresh_lem true b' have made said e h = rw e refl
+fresh_lem false b' have made said e h = rw e h
 
-taken_lem : {X : Type 0} (b : Bool) (said : Result X Word) → b ≡ true → (if b then Err IndexTaken else said) ≡ Err IndexTaken
-taken_lem true said e = refl
-taken_lem false said e = absurd (cc)
+-- what was made stands for what the line says, and it is told that a number is taken
+makes_fresh : {X : Type 0} (numbers : Numbering) (have : ℕ → X) (mean : ℕ → Option X) (own : ℕ) (made : Result ℕ TakeError) (said : Result X Word) → Numbered numbers have mean → Makes have made said
+    → Makes have (unless_taken numbers own made) (fresh mean own said)
+makes_fresh numbers have mean own made said n h = fresh_lem (is_some (entry numbers own)) (is_some (mean own)) have made said (is_taken numbers have mean own n) h
 
-free : {X : Type 0} (numbers : Numbering) (have : ℕ → X) (mean : ℕ → Option X) (own : ℕ) (said : Result X Word) → Numbered numbers have mean → is_some (entry numbers own) ≡ false → fresh mean own said ≡ said
-free numbers have mean own said h e = fresh_lem (is_some (mean own)) said (is_taken numbers have mean own h ∙ e)
+-- behind the line the numbering stands for what the line says
+abbrev IsPut : {X : Type 0} → Numbering → (ℕ → X) → (ℕ → Option X) → ℕ → Result (Unit {0}) TakeError → Result X Word → Type 0
+IsPut {X} new have mean own (Ok u) said = (x : X) × (said ≡ Ok x) × Numbered new have (put mean own x)
+IsPut new have mean own (Err e) said = Fails e said
 
-full : {X : Type 0} (numbers : Numbering) (have : ℕ → X) (mean : ℕ → Option X) (own : ℕ) (said : Result X Word) → Numbered numbers have mean → is_some (entry numbers own) ≡ true → fresh mean own said ≡ Err IndexTaken
-full numbers have mean own said h e = taken_lem (is_some (mean own)) said (is_taken numbers have mean own h ∙ e)
+put_lem : {X : Type 0} (old new : Numbering) (have : ℕ → X) (mean : ℕ → Option X) (own : ℕ) (made : Result ℕ TakeError) (said : Result X Word) (r : Result (Unit {0}) TakeError)
+    → Numbered old have mean → Puts old new own made r → Makes have (unless_taken old own made) (fresh mean own said) → IsPut new have mean own r (fresh mean own said)
+put_lem old new have mean own made said (Ok u) n p h = (have p.0, rw p.1 at h, put_numbered old new have mean own p.0 n p.2)
+put_lem old new have mean own made said (Err errors.NoMemory) n p h = tt
+put_lem old new have mean own made said (Err (errors.Fault w)) n p h = rw p at h
 
-pub tree_put : (a : Assembler) (new : Numbering) (ls : List Level) (ts : List Tree) (s : State) (own e : ℕ) (said : Result Tree Word) → Holds a ls ts s → said ≡ Ok (at ts e) → is_some (entry a.by_tree own) ≡ false
-    → ((q : ℕ) → entry new q ≡ (if q == own then Some e else entry a.by_tree q))
-    → (s' : State) × (with_tree s own said ≡ Ok s') × Holds (record a { by_tree = new }) ls ts s'
-tree_put a new ls ts s own e said h made none step =
-    let f = free a.by_tree (at ts) s.trees own said h.trees none in
-    (record s { trees = put s.trees own (at ts e) }, rw (f, made) refl, record { names = h.names; levels = h.levels; trees = put_numbered a.by_tree new (at ts) s.trees own e h.trees step; theorems = h.theorems; count = h.count })
+is_put : {X : Type 0} (old new : Numbering) (have : ℕ → X) (mean : ℕ → Option X) (own : ℕ) (made : Result ℕ TakeError) (said : Result X Word) (r : Result (Unit {0}) TakeError)
+    → Numbered old have mean → Puts old new own made r → Makes have made said → IsPut new have mean own r (fresh mean own said)
+is_put old new have mean own made said r n p h = put_lem old new have mean own made said r n p (makes_fresh old have mean own made said n h)
 
-pub tree_taken : (a : Assembler) (ls : List Level) (ts : List Tree) (s : State) (own : ℕ) (said : Result Tree Word) → Holds a ls ts s → is_some (entry a.by_tree own) ≡ true → with_tree s own said ≡ Err IndexTaken
-tree_taken a ls ts s own said h some = rw (full a.by_tree (at ts) s.trees own said h.trees some) refl
+taken_lem : (b : Bool) (made : Result ℕ TakeError) (i len : ℕ) → (if b then Err (errors.Fault IndexTaken) else made) ≡ Ok i → IfOk made (λ j. j < len) → i < len
+taken_lem true made i len e h = absurd (cc)
+taken_lem false made i len e h = rw e at h
 
-pub tree_fails : (a : Assembler) (ls : List Level) (ts : List Tree) (s : State) (own : ℕ) (said : Result Tree Word) (w : Word) → Holds a ls ts s → is_some (entry a.by_tree own) ≡ false → said ≡ Err w → with_tree s own said ≡ Err w
-tree_fails a ls ts s own said w h none is = rw (free a.by_tree (at ts) s.trees own said h.trees none, is) refl
+-- and what it has is below the same length
+still_below : (old new : Numbering) (len own : ℕ) (made : Result ℕ TakeError) (r : Result (Unit {0}) TakeError) → Below old len → IfOk made (λ i. i < len) → Puts old new own made r → OnOk r (Below new len)
+still_below old new len own made (Ok u) b h p = put_below old new len own p.0 b (taken_lem (is_some (entry old own)) made p.0 len p.1 h) p.2
+still_below old new len own made (Err e) b h p = tt
 
-pub tree_known : (a : Assembler) (new : Numbering) (levels len own e : ℕ) → IsKnown a levels len → e < len → ((q : ℕ) → entry new q ≡ (if q == own then Some e else entry a.by_tree q)) → IsKnown (record a { by_tree = new }) levels len
-tree_known a new levels len own e k lt step = record { after = k.after; names_below = k.names_below; levels_below = k.levels_below; trees_below = put_below a.by_tree new len own e k.trees_below lt step; rows_below = k.rows_below }
+put_follows : {X : Type 0} (new : Numbering) (have : ℕ → X) (mean : ℕ → Option X) (own : ℕ) (r : Result (Unit {0}) TakeError) (said : Result X Word) (state : X → State) (b : Assembler) (c : Contents) → IsPut new have mean own r said
+    → ((x : X) → Numbered new have (put mean own x) → Holds b c (state x)) → Follows b c r (said >>= λ x. Ok (state x))
+put_follows new have mean own (Ok u) said state b c p h = (state p.0, rw p.1 refl, h p.0 p.2)
+put_follows new have mean own (Err e) said state b c p h = fails_then e said (λ x. Ok (state x)) p
 
-pub level_put : (a : Assembler) (new : Numbering) (ls : List Level) (ts : List Tree) (s : State) (own l : ℕ) (said : Result Level Word) → Holds a ls ts s → said ≡ Ok (level_at ls l) → is_some (entry a.by_level own) ≡ false
-    → ((q : ℕ) → entry new q ≡ (if q == own then Some l else entry a.by_level q))
-    → (s' : State) × (with_level s own said ≡ Ok s') × Holds (record a { by_level = new }) ls ts s'
-level_put a new ls ts s own l said h made none step =
-    let f = free a.by_level (level_at ls) s.levels own said h.levels none in
-    (record s { levels = put s.levels own (level_at ls l) }, rw (f, made) refl, record { names = h.names; levels = put_numbered a.by_level new (level_at ls) s.levels own l h.levels step; trees = h.trees; theorems = h.theorems; count = h.count })
+pub name_follows : (a : Assembler) (new : Numbering) (c d : Contents) (s : State) (own : ℕ) (made : Result ℕ TakeError) (said : Result Name Word) (r : Result (Unit {0}) TakeError) → IsKnown a c → Extends c d → Holds a c s
+    → Makes (name_at d) made said → Puts a.by_name new own made r → Follows (record a { by_name = new }) d r (with_name s own said)
+name_follows a new c d s own made said r k x h m p =
+    let g = grown_holds c d x a s k h in
+    put_follows new (name_at d) s.names own r (fresh s.names own said) (λ y. record s { names = put s.names own y }) (record a { by_name = new }) d
+        (is_put a.by_name new (name_at d) s.names own made said r g.names p m) (λ y n. record { names = n; levels = g.levels; trees = g.trees; units = g.units; count = g.count })
 
-pub level_taken : (a : Assembler) (ls : List Level) (ts : List Tree) (s : State) (own : ℕ) (said : Result Level Word) → Holds a ls ts s → is_some (entry a.by_level own) ≡ true → with_level s own said ≡ Err IndexTaken
-level_taken a ls ts s own said h some = rw (full a.by_level (level_at ls) s.levels own said h.levels some) refl
+pub level_follows : (a : Assembler) (new : Numbering) (c d : Contents) (s : State) (own : ℕ) (made : Result ℕ TakeError) (said : Result Level Word) (r : Result (Unit {0}) TakeError) → IsKnown a c → Extends c d → Holds a c s
+    → Makes (level_at d) made said → Puts a.by_level new own made r → Follows (record a { by_level = new }) d r (with_level s own said)
+level_follows a new c d s own made said r k x h m p =
+    let g = grown_holds c d x a s k h in
+    put_follows new (level_at d) s.levels own r (fresh s.levels own said) (λ y. record s { levels = put s.levels own y }) (record a { by_level = new }) d
+        (is_put a.by_level new (level_at d) s.levels own made said r g.levels p m) (λ y n. record { names = g.names; levels = n; trees = g.trees; units = g.units; count = g.count })
 
-pub level_fails : (a : Assembler) (ls : List Level) (ts : List Tree) (s : State) (own : ℕ) (said : Result Level Word) (w : Word) → Holds a ls ts s → is_some (entry a.by_level own) ≡ false → said ≡ Err w → with_level s own said ≡ Err w
-level_fails a ls ts s own said w h none is = rw (free a.by_level (level_at ls) s.levels own said h.levels none, is) refl
+pub tree_follows : (a : Assembler) (new : Numbering) (c d : Contents) (s : State) (own : ℕ) (made : Result ℕ TakeError) (said : Result Tree Word) (r : Result (Unit {0}) TakeError) → IsKnown a c → Extends c d → Holds a c s
+    → Makes (tree_at d) made said → Puts a.by_tree new own made r → Follows (record a { by_tree = new }) d r (with_tree s own said)
+tree_follows a new c d s own made said r k x h m p =
+    let g = grown_holds c d x a s k h in
+    put_follows new (tree_at d) s.trees own r (fresh s.trees own said) (λ y. record s { trees = put s.trees own y }) (record a { by_tree = new }) d
+        (is_put a.by_tree new (tree_at d) s.trees own made said r g.trees p m) (λ y n. record { names = g.names; levels = g.levels; trees = n; units = g.units; count = g.count })
 
-pub level_known : (a : Assembler) (new : Numbering) (levels len own l : ℕ) → IsKnown a levels len → l < levels → ((q : ℕ) → entry new q ≡ (if q == own then Some l else entry a.by_level q)) → IsKnown (record a { by_level = new }) levels len
-level_known a new levels len own l k lt step = record { after = k.after; names_below = k.names_below; levels_below = put_below a.by_level new levels own l k.levels_below lt step; trees_below = k.trees_below; rows_below = k.rows_below }
+-- what the numbers have is still known
+known_lem : (r : Result (Unit {0}) TakeError) (P Q : Type 0) → (P → Q) → OnOk r P → OnOk r Q
+known_lem (Ok u) P Q f h = f h
+known_lem (Err e) P Q f h = tt
 
-pub name_put : (a : Assembler) (new : Numbering) (ls : List Level) (ts : List Tree) (s : State) (own n : ℕ) (said : Result Name Word) → Holds a ls ts s → said ≡ Ok (name_at (names_of a.names.rows.items) n) → is_some (entry a.by_name own) ≡ false
-    → ((q : ℕ) → entry new q ≡ (if q == own then Some n else entry a.by_name q))
-    → (s' : State) × (with_name s own said ≡ Ok s') × Holds (record a { by_name = new }) ls ts s'
-name_put a new ls ts s own n said h made none step =
-    let have = name_at (names_of a.names.rows.items) in
-    let f = free a.by_name have s.names own said h.names none in
-    (record s { names = put s.names own (have n) }, rw (f, made) refl, record { names = put_numbered a.by_name new have s.names own n h.names step; levels = h.levels; trees = h.trees; theorems = h.theorems; count = h.count })
+pub name_known : (a : Assembler) (new : Numbering) (c d : Contents) (own : ℕ) (made : Result ℕ TakeError) (r : Result (Unit {0}) TakeError) → IsKnown a c → Extends c d → IfOk made (λ i. i < length d.names)
+    → Puts a.by_name new own made r → OnOk r (IsKnown (record a { by_name = new }) d)
+name_known a new c d own made r k x m p =
+    let g = grown_known c d x a k in
+    known_lem r (Below new (length d.names)) (IsKnown (record a { by_name = new }) d) (λ b. record { names_below = b; levels_below = g.levels_below; trees_below = g.trees_below; units_in = g.units_in })
+        (still_below a.by_name new (length d.names) own made r g.names_below m p)
 
-pub name_taken : (a : Assembler) (ls : List Level) (ts : List Tree) (s : State) (own : ℕ) (said : Result Name Word) → Holds a ls ts s → is_some (entry a.by_name own) ≡ true → with_name s own said ≡ Err IndexTaken
-name_taken a ls ts s own said h some = rw (full a.by_name (name_at (names_of a.names.rows.items)) s.names own said h.names some) refl
+pub level_known : (a : Assembler) (new : Numbering) (c d : Contents) (own : ℕ) (made : Result ℕ TakeError) (r : Result (Unit {0}) TakeError) → IsKnown a c → Extends c d → IfOk made (λ i. i < length d.levels)
+    → Puts a.by_level new own made r → OnOk r (IsKnown (record a { by_level = new }) d)
+level_known a new c d own made r k x m p =
+    let g = grown_known c d x a k in
+    known_lem r (Below new (length d.levels)) (IsKnown (record a { by_level = new }) d) (λ b. record { names_below = g.names_below; levels_below = b; trees_below = g.trees_below; units_in = g.units_in })
+        (still_below a.by_level new (length d.levels) own made r g.levels_below m p)
 
-pub name_fails : (a : Assembler) (ls : List Level) (ts : List Tree) (s : State) (own : ℕ) (said : Result Name Word) (w : Word) → Holds a ls ts s → is_some (entry a.by_name own) ≡ false → said ≡ Err w → with_name s own said ≡ Err w
-name_fails a ls ts s own said w h none is = rw (free a.by_name (name_at (names_of a.names.rows.items)) s.names own said h.names none, is) refl
-
-pub name_known : (a : Assembler) (new : Numbering) (levels len own n : ℕ) → IsKnown a levels len → n < length (names_of a.names.rows.items) → ((q : ℕ) → entry new q ≡ (if q == own then Some n else entry a.by_name q)) → IsKnown (record a { by_name = new }) levels len
-name_known a new levels len own n k lt step = record { after = k.after; names_below = put_below a.by_name new (length (names_of a.names.rows.items)) own n k.names_below lt step; levels_below = k.levels_below; trees_below = k.trees_below; rows_below = k.rows_below }
-
-pub theorem_pushed : (a : Assembler) (rows : Vec TheoremRow Global) (ls : List Level) (ts : List Tree) (s : State) (t : Theorem) (row : TheoremRow) (said : Result Theorem Word) → Holds a ls ts s → said ≡ Ok t → seen ts row ≡ shown t → rows.items ≡ a.theorems.items ++ row ∷ []
-    → (s' : State) × (with_theorem s said ≡ Ok s') × Holds (record a { theorems = rows }) ls ts s'
-theorem_pushed a rows ls ts s t row said h made is e = (
-  record s { theorems = s.theorems ++ t ∷ [] },
-  rw made refl,
-  record {
-    names = h.names;
-    levels = h.levels;
-    trees = h.trees;
-    theorems = ap (map (seen ts)) e ∙ map-append (seen ts) a.theorems.items (row ∷ []) ∙ ap (λ xs. xs ++ seen ts row ∷ []) h.theorems ∙ ap (λ x. map shown s.theorems ++ x ∷ []) is ∙ sym (map-append shown s.theorems (t ∷ []));
-    count = h.count;
-  },
-)
-
--- what is put was made
-pub tree_made : (r : Result (Unit {0}) TakeError) (a b : Assembler) (made : Result ℕ TakeError) (e : ℕ) → made ≡ Ok e → OnOk r ((levels len : ℕ) → IsKnown a levels len → e < len → IsKnown b levels len)
-    → OnOk r ((levels len : ℕ) → IsKnown a levels len → IfOk made (λ i. i < len) → IsKnown b levels len)
-tree_made (Ok u) a b made e is f = λ levels len k i. f levels len k (rw is at i)
-tree_made (Err x) a b made e is f = tt
-
-pub level_made : (r : Result (Unit {0}) TakeError) (a b : Assembler) (made : Result ℕ TakeError) (l : ℕ) → made ≡ Ok l → OnOk r ((levels len : ℕ) → IsKnown a levels len → l < levels → IsKnown b levels len)
-    → OnOk r ((levels len : ℕ) → IsKnown a levels len → IfOk made (λ i. i < levels) → IsKnown b levels len)
-level_made (Ok u) a b made l is f = λ levels len k i. f levels len k (rw is at i)
-level_made (Err x) a b made l is f = tt
-
-pub name_made : (r : Result (Unit {0}) TakeError) (a b : Assembler) (made : Result ℕ TakeError) (n : ℕ) → made ≡ Ok n → OnOk r ((levels len : ℕ) → IsKnown a levels len → n < length (names_of a.names.rows.items) → IsKnown b levels len)
-    → OnOk r ((levels len : ℕ) → IsKnown a levels len → IfOk made (λ i. i < length (names_of a.names.rows.items)) → IsKnown b levels len)
-name_made (Ok u) a b made n is f = λ levels len k i. f levels len k (rw is at i)
-name_made (Err x) a b made n is f = tt
+pub tree_known : (a : Assembler) (new : Numbering) (c d : Contents) (own : ℕ) (made : Result ℕ TakeError) (r : Result (Unit {0}) TakeError) → IsKnown a c → Extends c d → IfOk made (λ i. i < length d.trees)
+    → Puts a.by_tree new own made r → OnOk r (IsKnown (record a { by_tree = new }) d)
+tree_known a new c d own made r k x m p =
+    let g = grown_known c d x a k in
+    known_lem r (Below new (length d.trees)) (IsKnown (record a { by_tree = new }) d) (λ b. record { names_below = g.names_below; levels_below = g.levels_below; trees_below = b; units_in = g.units_in })
+        (still_below a.by_tree new (length d.trees) own made r g.trees_below m p)

@@ -1,16 +1,17 @@
 -- What an assembler holds, by what its numbers have in a store.
-use Rattle.std.specs.Prelude.{◌≡◌, ◌<◌, ℕ, List, length, map, IfSome, All, Result, Ok, Err, option_map, Vec}
+use Rattle.std.specs.Prelude.{◌≡◌, ◌<◌, ◌==◌, ℕ, List, length, map, IfSome, Result, Ok, Err, Some, None, option_map, is_some, Vec, if◌then◌else◌}
 use Rattle.std.specs.declared.option.Option.{Option}
 use Rattle.std.specs.declared.alloc.Global.{Global}
-use Rattle.lk_tree.specs.Tree.{Name, Level, Tree, lam, pi}
-use Rattle.lk_store.specs.Contents.{tree_at, level_at}
+use Rattle.lk_tree.specs.Tree.{Tree, lam, pi}
+use Rattle.lk_store.specs.Contents.{Contents, name_at, level_at, tree_at}
+use Rattle.lk_env.specs.Units.{unit_at, library_at, AreUnitsIn}
+use Rattle.lk_env.specs.declared.unit.Unit.{Unit as StoredUnit}
 use Rattle.lk_lines.specs.declared.words.Word.{Word}
-use Rattle.lk_units.specs.Theorems.{Theorem}
-use Rattle.lk_units.specs.Names.{name_at, names_of, AreAfter, key_of}
+use Rattle.lk_lines.specs.declared.words.Word.TheVariants.{IndexTaken}
+use Rattle.lk_units.specs.Theorems.{Theorem, unit_of, units_of}
 use Rattle.lk_units.specs.Numbering.{entry}
 use Rattle.lk_units.specs.State.{State}
 use Rattle.lk_units.specs.declared.numbering.Numbering.{Numbering}
-use Rattle.lk_units.specs.declared.assembler.TheoremRow.{TheoremRow}
 use Rattle.lk_units.specs.declared.assembler.Assembler.{Assembler}
 use Rattle.lk_units.specs.declared.assembler.Binder.{Binder}
 use Rattle.lk_units.specs.declared.assembler.Binder.TheVariants.{Lambda, Pi}
@@ -25,37 +26,19 @@ pub record Numbered {X : Type 0} (numbers : Numbering) (have : ℕ → X) (mean 
 pub record Below (numbers : Numbering) (len : ℕ) : Type 0 where
   pub below : (n : ℕ) → IfSome (entry numbers n) (λ i. i < len)
 
--- a theorem as it is held, and as it is meant
-pub record Seen : Type 0 where
-  pub key : List ℕ
-  pub levels : List (List ℕ)
-  pub type : Tree
-  pub proof : Tree
-
-abbrev pub seen : List Tree → TheoremRow → Seen
-seen ts row = record { key = row.name.items; levels = map (λ v. v.items) row.parameters.items; type = at ts row.kind; proof = at ts row.proof }
-
-abbrev pub shown : Theorem → Seen
-shown t = record { key = key_of t.name; levels = map key_of t.levels; type = t.type; proof = t.proof }
-
-pub record IsKnownRow (n : ℕ) (row : TheoremRow) : Type 0 where
-  pub kind_known : row.kind < n
-  pub proof_known : row.proof < n
-
--- the numbers that an assembler has are below the lengths of what they stand for
-pub record IsKnown (a : Assembler) (levels len : ℕ) : Type 0 where
-  pub after : AreAfter 1 a.names.rows.items
-  pub names_below : Below a.by_name (length (names_of a.names.rows.items))
-  pub levels_below : Below a.by_level levels
-  pub trees_below : Below a.by_tree len
-  pub rows_below : All (IsKnownRow len) a.theorems.items
+-- the numbers that an assembler has are numbers of the store
+pub record IsKnown (a : Assembler) (c : Contents) : Type 0 where
+  pub names_below : Below a.by_name (length c.names)
+  pub levels_below : Below a.by_level (length c.levels)
+  pub trees_below : Below a.by_tree (length c.trees)
+  pub units_in : AreUnitsIn c a.units.items
 
 -- the assembler stands for the state
-pub record Holds (a : Assembler) (ls : List Level) (ts : List Tree) (s : State) : Type 0 where
-  pub names : Numbered a.by_name (name_at (names_of a.names.rows.items)) s.names
-  pub levels : Numbered a.by_level (level_at ls) s.levels
-  pub trees : Numbered a.by_tree (at ts) s.trees
-  pub theorems : map (seen ts) a.theorems.items ≡ map shown s.theorems
+pub record Holds (a : Assembler) (c : Contents) (s : State) : Type 0 where
+  pub names : Numbered a.by_name (name_at c) s.names
+  pub levels : Numbered a.by_level (level_at c) s.levels
+  pub trees : Numbered a.by_tree (tree_at c) s.trees
+  pub units : library_at c a.units.items ≡ units_of s.theorems
   pub count : a.count ≡ s.count
 
 abbrev pub binder_of : Binder → Tree → Tree → Tree
@@ -71,17 +54,27 @@ abbrev pub Makes : {X : Type 0} → (ℕ → X) → Result ℕ TakeError → Res
 Makes have (Ok i) said = said ≡ Ok (have i)
 Makes have (Err e) said = Fails e said
 
--- the names as bytes are those of all these numbers
-abbrev pub GivesKeys : Result (Vec (Vec ℕ Global) Global) TakeError → Result (List Name) Word → Type 0
-GivesKeys (Ok v) said = (ns : List Name) × (said ≡ Ok ns) × (map (λ x. x.items) v.items ≡ map key_of ns)
-GivesKeys (Err e) said = Fails e said
+-- each of the numbers that were found stands for what is said of it
+abbrev pub MakesAll : {X : Type 0} → (ℕ → X) → Result (Vec ℕ Global) TakeError → Result (List X) Word → Type 0
+MakesAll have (Ok v) said = said ≡ Ok (map have v.items)
+MakesAll have (Err e) said = Fails e said
 
--- the theorem that is held is the one that the line says
-abbrev pub MakesRow : List Tree → Result TheoremRow TakeError → Result Theorem Word → Type 0
-MakesRow ts (Ok row) said = (t : Theorem) × (said ≡ Ok t) × (seen ts row ≡ shown t)
-MakesRow ts (Err e) said = Fails e said
+-- the unit that was made is the theorem that the line says
+abbrev pub MakesUnit : Contents → Result StoredUnit TakeError → Result Theorem Word → Type 0
+MakesUnit c (Ok u) said = (t : Theorem) × (said ≡ Ok t) × (unit_at c u ≡ unit_of t)
+MakesUnit c (Err e) said = Fails e said
+
+-- what a line made, where its own number has no place yet
+abbrev pub unless_taken : Numbering → ℕ → Result ℕ TakeError → Result ℕ TakeError
+unless_taken numbers own made = if is_some (entry numbers own) then Err (errors.Fault IndexTaken) else made
+
+-- the number of a line has what the line made, or its fault is told
+abbrev pub Puts : Numbering → Numbering → ℕ → Result ℕ TakeError → Result (Unit {0}) TakeError → Type 0
+Puts old new own made (Ok u) = (i : ℕ) × (unless_taken old own made ≡ Ok i) × ((q : ℕ) → entry new q ≡ (if q == own then Some i else entry old q))
+Puts old new own made (Err errors.NoMemory) = Unit {0}
+Puts old new own made (Err (errors.Fault w)) = unless_taken old own made ≡ Err (errors.Fault w)
 
 -- behind the item the assembler holds what the item makes of the state, or the item's fault is told
-abbrev pub Follows : Assembler → List Level → List Tree → Result (Unit {0}) TakeError → Result State Word → Type 0
-Follows a ls ts (Ok u) said = (s : State) × (said ≡ Ok s) × Holds a ls ts s
-Follows a ls ts (Err e) said = Fails e said
+abbrev pub Follows : Assembler → Contents → Result (Unit {0}) TakeError → Result State Word → Type 0
+Follows a c (Ok u) said = (s : State) × (said ≡ Ok s) × Holds a c s
+Follows a c (Err e) said = Fails e said

@@ -4,12 +4,10 @@
 
 mod assembler;
 mod making;
-mod names;
 mod numbering;
 mod taking;
 #[cfg(test)]
 mod tests;
 
-pub use assembler::{Assembler, Binder, TakeError, TheoremRow};
-pub use names::{Component, NameRow, Names};
+pub use assembler::{Assembler, Binder, TakeError};
 pub use numbering::Numbering;

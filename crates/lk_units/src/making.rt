@@ -1,21 +1,25 @@
 //! What each kind of line makes.
-ghost use Rattle.std.specs.Prelude.{◌≡◌, ◌<◌, ◌++◌, ◌∷◌, [], ℕ, List, length, map, IfOk, Ok, OnOk};
-ghost use Rattle.lk_tree.specs.Tree.{Level, Tree, var};
-ghost use Rattle.lk_store.specs.Contents.{tree_at, level_at, tree_of, IsIn, Extends};
-ghost use Rattle.lk_units.specs.Names.{part_of, name_at, names_of, AreAfter, ExtendsNames};
-ghost use Rattle.lk_units.specs.State.{State, all_known, longer_name, successor_level, sort_tree, binder_tree};
-ghost use Rattle.lk_units.specs.Held.{Below, IsKnown, Holds, Makes, GivesKeys, binder_of};
+ghost use Rattle.std.specs.Prelude.{◌≡◌, ◌<◌, ◌++◌, ◌∷◌, [], ℕ, length, All, IfOk, Ok, OnOk};
+ghost use Rattle.lk_tree.specs.Tree.{var};
+ghost use Rattle.lk_store.specs.Names.{part_of};
+ghost use Rattle.lk_store.specs.Contents.{Contents, name_at, level_at, tree_at, tree_of, IsIn, Extends};
+ghost use Rattle.lk_env.specs.Units.{IsUnitIn};
+ghost use Rattle.lk_units.specs.State.{State, all_known, longer_name, successor_level, sort_tree, binder_tree, theorem_of};
+ghost use Rattle.lk_units.specs.Held.{IsKnown, Holds, Makes, MakesAll, MakesUnit, binder_of};
 
-use crate::{Assembler, Binder, Component, TakeError};
+use crate::{Assembler, Binder, TakeError};
+use lk_env::unit::{Body, Declaration, Unit};
 use lk_lines::Word;
+use lk_rows::memory::NoMemory;
+use lk_store::name::{Name, Part};
 use lk_store::node::{LevelNode, Node};
 use lk_store::terms::Terms;
 use std::alloc::Global;
 
 // The node of a binder.
 fn binder_node(binder: Binder, domain: u64, body: u64) -> Node
-    ensures tree { (ls : List Level) (ts : List Tree) → node_tree ls ts result ≡ binder_of binder (at ts domain) (at ts body) }
-    ensures below { (m n : ℕ) → domain < n → body < n → IsBelow m n result }
+    ensures tree { (c : Contents) → tree_of c result ≡ binder_of binder (tree_at c domain) (tree_at c body) }
+    ensures parts { (c : Contents) → domain < length c.trees → body < length c.trees → IsIn c result }
 {
     match binder {
         Binder::Lambda => Node::Lam(domain, body),
@@ -25,11 +29,11 @@ fn binder_node(binder: Binder, domain: u64, body: u64) -> Node
 
 // A term.
 fn make<T: Terms>(store: &mut T, node: Node) -> Result<u64, TakeError>
-    requires { IsBelow (length (T.contents store.old).levels) (length (T.contents store.old).trees) node }
+    requires { IsIn (T.contents store.old) node }
     ensures keeps { Extends (T.contents store.old) (T.contents store.new) }
     ensures rest { T.rest store.new ≡ T.rest store.old }
     ensures known { IfOk result (λ e. e < length (T.contents store.new).trees) }
-    ensures made { Makes (tree_at (T.contents store.new)) result (Ok (node_tree (T.contents store.old) node)) }
+    ensures made { Makes (tree_at (T.contents store.new)) result (Ok (tree_of (T.contents store.old) node)) }
 {
     match store.make(node) {
         Ok(e) => Ok(e),
@@ -47,11 +51,20 @@ pub(crate) fn variable<T: Terms>(store: &mut T, index: u32) -> Result<u64, TakeE
     make(store, Node::Var(u64::from(index)))
 }
 
+/// A name with one more component.
+fn longer(alloc: Global, parent: &Name, part: Part) -> Result<Name, NoMemory>
+    ensures { IfOk result (λ name. name ≡ parent.now ++ part ∷ []) }
+{
+    let mut name = parent.copy(alloc)?;
+    name.push(part)?;
+    Ok(name)
+}
+
 impl Assembler {
     /// The sort of a level.
-    #[tactic(auto, using(crate::proofs::Holding::found, crate::proofs::Holding::missing, crate::proofs::Holding::is_below))]
+    #[tactic(auto, using(crate::proofs::Holding::found, crate::proofs::Holding::missing, crate::proofs::Holding::is_below, crate::proofs::Holding::unchanged))]
     pub(crate) fn sort<T: Terms>(&self, store: &mut T, level: u32) -> Result<u64, TakeError>
-        requires { IsKnown self.now (length (T.contents store.old).levels) (length (T.contents store.old).trees) }
+        requires { IsKnown self.now (T.contents store.old) }
         ensures keeps { Extends (T.contents store.old) (T.contents store.new) }
         ensures rest { T.rest store.new ≡ T.rest store.old }
         ensures known { IfOk result (λ e. e < length (T.contents store.new).trees) }
@@ -64,7 +77,7 @@ impl Assembler {
     }
 
     /// A lambda or a Pi.
-    #[tactic(auto, using(crate::proofs::Holding::found, crate::proofs::Holding::missing, crate::proofs::Holding::is_below))]
+    #[tactic(auto, using(crate::proofs::Holding::found, crate::proofs::Holding::missing, crate::proofs::Holding::is_below, crate::proofs::Holding::unchanged))]
     pub(crate) fn binder<T: Terms>(
         &self,
         store: &mut T,
@@ -73,7 +86,7 @@ impl Assembler {
         domain: u32,
         body: u32,
     ) -> Result<u64, TakeError>
-        requires { IsKnown self.now (length (T.contents store.old).levels) (length (T.contents store.old).trees) }
+        requires { IsKnown self.now (T.contents store.old) }
         ensures keeps { Extends (T.contents store.old) (T.contents store.new) }
         ensures rest { T.rest store.new ≡ T.rest store.old }
         ensures known { IfOk result (λ e. e < length (T.contents store.new).trees) }
@@ -92,9 +105,9 @@ impl Assembler {
     }
 
     /// The successor of a level.
-    #[tactic(auto, using(crate::proofs::Holding::found, crate::proofs::Holding::missing, crate::proofs::Holding::is_below))]
+    #[tactic(auto, using(crate::proofs::Holding::found, crate::proofs::Holding::missing, crate::proofs::Holding::is_below, crate::proofs::Holding::unchanged))]
     pub(crate) fn successor<T: Terms>(&self, store: &mut T, level: u32) -> Result<u64, TakeError>
-        requires { IsKnown self.now (length (T.contents store.old).levels) (length (T.contents store.old).trees) }
+        requires { IsKnown self.now (T.contents store.old) }
         ensures keeps { Extends (T.contents store.old) (T.contents store.new) }
         ensures rest { T.rest store.new ≡ T.rest store.old }
         ensures known { IfOk result (λ l. l < length (T.contents store.new).levels) }
@@ -110,45 +123,82 @@ impl Assembler {
     }
 
     /// A name with one more component.
-    #[tactic(auto, using(crate::proofs::Holding::found, crate::proofs::Holding::missing, crate::proofs::Holding::is_below))]
-    pub(crate) fn name(&mut self, parent: u32, component: Component) -> Result<u64, TakeError>
-        requires { AreAfter 1 self.old.names.rows.items × Below self.old.by_name (length (names_of self.old.names.rows.items)) }
-        ensures after { AreAfter 1 self.new.names.rows.items }
-        ensures keeps { ExtendsNames (names_of self.old.names.rows.items) (names_of self.new.names.rows.items) }
-        ensures others { self.new ≡ record self.old { names = self.new.names } }
-        ensures known { IfOk result (λ n. n < length (names_of self.new.names.rows.items)) }
-        ensures made { (s : State) (ls : List Level) (ts : List Tree) → Holds self.old ls ts s → Makes (name_at (names_of self.new.names.rows.items)) result (longer_name s parent (part_of component)) }
+    #[tactic(auto, using(crate::proofs::Holding::found, crate::proofs::Holding::missing, crate::proofs::Holding::is_below, crate::proofs::Holding::unchanged))]
+    pub(crate) fn name<T: Terms>(
+        &self,
+        alloc: Global,
+        store: &mut T,
+        parent: u32,
+        part: Part,
+    ) -> Result<u64, TakeError>
+        requires { IsKnown self.now (T.contents store.old) }
+        ensures keeps { Extends (T.contents store.old) (T.contents store.new) }
+        ensures rest { T.rest store.new ≡ T.rest store.old }
+        ensures known { IfOk result (λ n. n < length (T.contents store.new).names) }
+        ensures made { (s : State) → Holds self.now (T.contents store.old) s → Makes (name_at (T.contents store.new)) result (longer_name s parent (part_of part)) }
     {
         let Some(parent) = self.by_name.find(parent) else {
             return Err(TakeError::Fault(Word::IndexUnknown));
         };
-        match self.names.add(parent, component) {
+        let Ok(name) = longer(alloc, store.name(parent), part) else {
+            return Err(TakeError::NoMemory);
+        };
+        match store.make_name(&name) {
             Ok(n) => Ok(n),
             Err(_) => Err(TakeError::NoMemory),
         }
     }
 
-    /// Names as bytes.
-    #[tactic(auto, using(crate::proofs::Holding::found, crate::proofs::Holding::missing, crate::proofs::Holding::is_below))]
-    pub(crate) fn keys(&self, alloc: Global, numbers: &[u32]) -> Result<Vec<Vec<u8>>, TakeError>
-        requires { AreAfter 1 self.now.names.rows.items × Below self.now.by_name (length (names_of self.now.names.rows.items)) }
-        ensures { (s : State) (ls : List Level) (ts : List Tree) → Holds self.now ls ts s → GivesKeys result (all_known s.names numbers.now) }
+    /// The names under several numbers.
+    fn names(&self, alloc: Global, numbers: &[u32]) -> Result<Vec<u64>, TakeError>
+        ensures known { (c : Contents) → IsKnown self.now c → IfOk result (λ v. All (λ n. n < length c.names) v.items) }
+        ensures made { (c : Contents) (s : State) → Holds self.now c s → MakesAll (name_at c) result (all_known s.names numbers.now) }
     {
-        let mut keys = Vec::new(alloc);
+        let mut names = Vec::new(alloc);
         let mut rest = numbers;
         while let [number, more @ ..] = rest {
             let Some(name) = self.by_name.find(*number) else {
                 return Err(TakeError::Fault(Word::IndexUnknown));
             };
-            let Ok(key) = self.names.key(alloc, name) else {
-                return Err(TakeError::NoMemory);
-            };
-            match keys.push(key) {
+            match names.push(name) {
                 Ok(()) => {}
                 Err(_) => return Err(TakeError::NoMemory),
             }
             rest = more;
         }
-        Ok(keys)
+        Ok(names)
+    }
+
+    /// A theorem.
+    #[tactic(auto, using(crate::proofs::Holding::found, crate::proofs::Holding::missing, crate::proofs::Holding::is_below))]
+    pub(crate) fn theorem(
+        &self,
+        alloc: Global,
+        name: u32,
+        kind: u32,
+        proof: u32,
+        parameters: &[u32],
+    ) -> Result<Unit, TakeError>
+        ensures known { (c : Contents) → IsKnown self.now c → IfOk result (λ unit. IsUnitIn c unit) }
+        ensures made { (c : Contents) (s : State) → Holds self.now c s → MakesUnit c result (theorem_of s name kind proof parameters.now) }
+    {
+        let Some(name) = self.by_name.find(name) else {
+            return Err(TakeError::Fault(Word::IndexUnknown));
+        };
+        let Some(kind) = self.by_tree.find(kind) else {
+            return Err(TakeError::Fault(Word::IndexUnknown));
+        };
+        let Some(proof) = self.by_tree.find(proof) else {
+            return Err(TakeError::Fault(Word::IndexUnknown));
+        };
+        match self.names(alloc, parameters) {
+            Ok(levels) => Ok(Unit::Declaration(Declaration {
+                name,
+                levels,
+                kind,
+                body: Body::Theorem { proof },
+            })),
+            Err(error) => Err(error),
+        }
     }
 }

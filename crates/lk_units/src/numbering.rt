@@ -1,7 +1,10 @@
 //! One of the file's numberings: its numbers, and what each has in a store.
 ghost use Rattle.std.specs.Prelude.{◌≡◌, ◌==◌, ℕ, OnOk, OnErr, Some, None, if◌then◌else◌};
 ghost use Rattle.lk_units.specs.Numbering.{entry};
+ghost use Rattle.lk_units.specs.Held.{Puts};
 
+use crate::TakeError;
+use lk_lines::Word;
 use lk_rows::memory::NoMemory;
 use std::alloc::Global;
 use std::collections::HashMap;
@@ -43,6 +46,26 @@ impl Numbering {
         match self.map.insert(number, place) {
             Ok(_) => Ok(()),
             Err(_) => Err(NoMemory),
+        }
+    }
+
+    /// Gives the number of a line what the line made. A number that is taken comes before any fault of the making.
+    pub(crate) fn put_new(
+        &mut self,
+        own: u32,
+        made: Result<u64, TakeError>,
+    ) -> Result<(), TakeError>
+        ensures { Puts self.old self.new own made result }
+    {
+        if self.find(own).is_some() {
+            return Err(TakeError::Fault(Word::IndexTaken));
+        }
+        match made {
+            Ok(place) => match self.add(own, place) {
+                Ok(()) => Ok(()),
+                Err(_) => Err(TakeError::NoMemory),
+            },
+            Err(error) => Err(error),
         }
     }
 }

@@ -1,21 +1,13 @@
 //! Items of a file, and what each comes to by the format's tables.
 
-use crate::{Assembler, Component, Names, Numbering, TakeError};
+use crate::{Assembler, Numbering, TakeError};
+use lk_env::unit::Unit;
 use lk_lines::{BinderInfo, Declaration, Entry, Word};
-use lk_store::consed::BaseStore;
+use lk_store::base_store::BaseStore;
+use lk_store::name::Part;
+use lk_store::terms::Terms;
 use std::alloc::Global;
 use std::test::Fail;
-
-#[test]
-fn names_have_their_keys(rt: HostRuntime) -> Result<(), Fail> {
-    let alloc = rt.alloc();
-    let mut names = Names::new(alloc);
-    let a = names.add(0, Component::Text(Vec::from_slice(alloc, b"a")?))?;
-    assert_eq!(rt; a, 1);
-    assert!(rt; names.key(alloc, 0)?.is_empty());
-    assert!(rt; names.key(alloc, 1)?.as_slice() == b"a\nt".as_slice());
-    Ok(())
-}
 
 #[test]
 fn numbers_have_their_places(rt: HostRuntime) -> Result<(), Fail> {
@@ -27,26 +19,25 @@ fn numbers_have_their_places(rt: HostRuntime) -> Result<(), Fail> {
 }
 
 // The identity theorem: `forall p : Prop, p -> p`, with one level parameter.
-fn identity(alloc: Global) -> Result<usize, TakeError> {
-    let mut store = BaseStore::new(alloc);
-    let mut file = Assembler::new(alloc, &mut store)?;
+fn identity(alloc: Global, store: &mut BaseStore) -> Result<Assembler, TakeError> {
+    let mut file = Assembler::new(alloc, store)?;
     let id = Entry::NameText {
         parent: 0,
         text: b"id",
     };
-    file.take_entry(alloc, &mut store, 1, id)?;
+    file.take_entry(alloc, store, 1, id)?;
     let numbered = Entry::NameNumber {
         parent: 1,
         component: 4,
     };
-    file.take_entry(alloc, &mut store, 2, numbered)?;
-    file.take_entry(alloc, &mut store, 0, Entry::Sort { level: 0 })?;
-    file.take_entry(alloc, &mut store, 1, Entry::Variable { index: 0 })?;
-    file.take_entry(alloc, &mut store, 2, Entry::Variable { index: 1 })?;
+    file.take_entry(alloc, store, 2, numbered)?;
+    file.take_entry(alloc, store, 0, Entry::Sort { level: 0 })?;
+    file.take_entry(alloc, store, 1, Entry::Variable { index: 0 })?;
+    file.take_entry(alloc, store, 2, Entry::Variable { index: 1 })?;
     let info = BinderInfo::Default;
     file.take_entry(
         alloc,
-        &mut store,
+        store,
         3,
         Entry::Pi {
             info,
@@ -57,7 +48,7 @@ fn identity(alloc: Global) -> Result<usize, TakeError> {
     )?;
     file.take_entry(
         alloc,
-        &mut store,
+        store,
         4,
         Entry::Pi {
             info,
@@ -68,7 +59,7 @@ fn identity(alloc: Global) -> Result<usize, TakeError> {
     )?;
     file.take_entry(
         alloc,
-        &mut store,
+        store,
         5,
         Entry::Lambda {
             info,
@@ -79,7 +70,7 @@ fn identity(alloc: Global) -> Result<usize, TakeError> {
     )?;
     file.take_entry(
         alloc,
-        &mut store,
+        store,
         6,
         Entry::Lambda {
             info,
@@ -94,7 +85,7 @@ fn identity(alloc: Global) -> Result<usize, TakeError> {
     }
     file.take_declaration(
         alloc,
-        &mut store,
+        store,
         Declaration::Theorem {
             name: 2,
             declared_type: 4,
@@ -102,12 +93,28 @@ fn identity(alloc: Global) -> Result<usize, TakeError> {
             parameters,
         },
     )?;
-    Ok(file.theorems.len())
+    Ok(file)
+}
+
+// Whether the name of a unit is `id` and the number 4.
+fn is_named(store: &BaseStore, unit: &Unit) -> bool {
+    let Unit::Declaration(declaration) = unit else {
+        return false;
+    };
+    if let [Part::Text(text), Part::Number(4)] = store.name(declaration.name).parts() {
+        text.as_bytes() == b"id".as_slice()
+    } else {
+        false
+    }
 }
 
 #[test]
 fn a_theorem_is_taken(rt: HostRuntime) -> Result<(), Fail> {
-    assert_eq!(rt; identity(rt.alloc()), Ok(1));
+    let alloc = rt.alloc();
+    let mut store = BaseStore::new(alloc);
+    let file = identity(alloc, &mut store)?;
+    assert_eq!(rt; file.units.len(), 1);
+    assert!(rt; is_named(&store, &file.units[0]));
     Ok(())
 }
 

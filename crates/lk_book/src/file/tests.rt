@@ -4,7 +4,7 @@ ghost use Rattle.std.specs.Prelude.{◌≤◌};
 use super::*;
 use lk_lines::Word;
 use lk_port::{FaultySource, MemSource};
-use lk_store::consed::Consed;
+use lk_store::base_store::BaseStore;
 use std::test::Fail;
 
 const IDENTITY: &str = "2.0.0
@@ -42,9 +42,9 @@ fn count_of(
         call: 0,
         faults: 0,
     };
-    let mut store = Consed::new(alloc);
+    let mut store = BaseStore::new(alloc);
     let assembler = read_library(alloc, &mut store, &mut source)?;
-    Ok(assembler.theorems.len())
+    Ok(assembler.units.len())
 }
 
 #[test]

@@ -1,4 +1,5 @@
 use Rattle.std.proofs.Common.{rules, ◌∙◌}
+use Rattle.lk_store.proofs.Extending.{Extends-trans}
 use Rattle.lk_book.proofs.Remaining.{front_then}
 use Rattle.lk_book.proofs.file.read_pieces.Goals as goal
 
@@ -10,8 +11,8 @@ returns-then-not-more-clause-front g c = front_then _ _ _ c.loop-more.invariant.
 
 pub loop-more-preserved : goal.loop-more-preserved
 loop-more-preserved g c = record {
-  grown = search rules;
-  more_levels = search rules;
+  grown = Extends-trans _ _ _ c.loop-more.invariant.grown c.in_ok-more.ensures.keeps;
+  rest = c.in_ok-more.ensures.rest ∙ c.loop-more.invariant.rest;
   known = c.in_ok-more.ensures.known;
   counted = c.in_ok-more.ensures.counted;
   unfinished = c.in_ok-more.ensures.unfinished;

@@ -9,19 +9,18 @@ use Rattle.lk_book.proofs.file.read_pieces.Given as goal
 
 abbrev pub invariant-loop-more : goal.invariant-loop-more
 invariant-loop-more g l =
-    let levels = g.T.Terms.levels in
-    let trees = g.T.Terms.trees in
+    let contents = g.T.Terms.contents in
     let left = g.S.Source.left in
     record {
-      grown : Extends (trees l.fn.store) (trees l.store);
-      more_levels : ExtendsLevels (levels l.fn.store) (levels l.store);
-      known : IsKnown l.reader.assembler (length (levels l.store)) (length (trees l.store));
+      grown : Extends (contents l.fn.store) (contents l.store);
+      rest : g.T.Terms.rest l.store ≡ g.T.Terms.rest l.fn.store;
+      known : IsKnown l.reader.assembler (contents l.store);
       counted : IsCounted l.reader;
       unfinished : HasNoLineFeed l.held.items;
       short : length l.held.items ≤ 2 ^ 24;
       same_faults : g.S.Source.faults l.source ≡ g.S.Source.faults l.fn.source;
       front : ConsumesSome (left l.fn.source) (left l.source);
-      remains : (old : Option (List ℕ)) → Remains l.fn.reader (levels l.fn.store) (trees l.fn.store) l.fn.held.items old (left l.fn.source) → Remains l.reader (levels l.store) (trees l.store) l.held.items old (left l.source);
+      remains : (old : Option (List ℕ)) → Remains l.fn.reader (contents l.fn.store) l.fn.held.items old (left l.fn.source) → Remains l.reader (contents l.store) l.held.items old (left l.source);
     }
 
 abbrev pub decreases-loop-more : goal.decreases-loop-more

@@ -1,20 +1,21 @@
-use Rattle.std.proofs.Common.{rules, arith, refl, ap, ◌∷◌, length}
+use Rattle.std.proofs.Common.{arith, refl, ap, ◌∷◌, length, ◌∙◌}
 use Rattle.std.proofs.lemmas.Result.{err_from_is_err_and}
 use Rattle.std.proofs.lemmas.List.{length-append}
+use Rattle.lk_store.proofs.Extending.{Extends-trans}
 use Rattle.lk_book.proofs.Leading.{passes_line, passes_stops}
 use Rattle.lk_book.proofs.lines.take_lines.Goals as goal
 
 pub returns-in_err-take_line-clause-stops : goal.returns-in_err-take_line-clause-stops
 returns-in_err-take_line-clause-stops g c = λ d h.
     let p = err_from_is_err_and c.from_residual.result c.from_residual.ensures.1 in
-    rw (p.1, p.2) (passes_stops _ _ _ d _ _ c.in-Some.line.now c.in-Some.more.now _ (c.loop-line.invariant.passes d h) c.in-Some.ensures.1 c.in-Some.ensures.0 (c.in_err-take_line.ensures.step (c.loop-line.invariant.passes d h).course (c.loop-line.invariant.passes d h).stands))
+    rw (p.1, p.2) (passes_stops _ _ d _ _ c.in-Some.line.now c.in-Some.more.now _ (c.loop-line.invariant.passes d h) c.in-Some.ensures.1 c.in-Some.ensures.0 (c.in_err-take_line.ensures.step (c.loop-line.invariant.passes d h).course (c.loop-line.invariant.passes d h).stands))
 
 pub loop-line-preserved : goal.loop-line-preserved
 loop-line-preserved g c = record {
-  grown = search rules;
-  more_levels = search rules;
+  grown = Extends-trans _ _ _ c.loop-line.invariant.grown c.in_ok-take_line.ensures.keeps;
+  rest = c.in_ok-take_line.ensures.rest ∙ c.loop-line.invariant.rest;
   known = c.in_ok-take_line.ensures.known;
   counted = c.in_ok-take_line.ensures.counted refl;
   counts = omega (arith, c.in_ok-take_line.ensures.length, ap length c.in-Some.ensures.1, length-append c.in-Some.line.now (10 ∷ c.in-Some.more.now));
-  passes = λ d h. passes_line _ _ _ _ _ _ d _ _ c.in-Some.line.now c.in-Some.more.now (c.loop-line.invariant.passes d h) c.in-Some.ensures.1 c.in-Some.ensures.0 (c.in_ok-take_line.ensures.step (c.loop-line.invariant.passes d h).course (c.loop-line.invariant.passes d h).stands);
+  passes = λ d h. passes_line _ _ _ _ d _ _ c.in-Some.line.now c.in-Some.more.now (c.loop-line.invariant.passes d h) c.in-Some.ensures.1 c.in-Some.ensures.0 (c.in_ok-take_line.ensures.step (c.loop-line.invariant.passes d h).course (c.loop-line.invariant.passes d h).stands);
 }

@@ -7,15 +7,14 @@ use Rattle.lk_book.proofs.lines.take_lines.Given as goal
 
 abbrev pub invariant-loop-line : goal.invariant-loop-line
 invariant-loop-line g l =
-    let levels = g.T.Terms.levels in
-    let trees = g.T.Terms.trees in
+    let contents = g.T.Terms.contents in
     record {
-      grown : Extends (trees l.fn.store) (trees l.store);
-      more_levels : ExtendsLevels (levels l.fn.store) (levels l.store);
-      known : IsKnown l.reader.assembler (length (levels l.store)) (length (trees l.store));
+      grown : Extends (contents l.fn.store) (contents l.store);
+      rest : g.T.Terms.rest l.store ≡ g.T.Terms.rest l.fn.store;
+      known : IsKnown l.reader.assembler (contents l.store);
       counted : IsCounted l.reader;
       counts : l.reader.before + length l.rest ≡ l.fn.reader.before + length l.bytes;
-      passes : (c : Course) → Stands l.fn.reader (levels l.fn.store) (trees l.fn.store) c → Passes l.reader (levels l.store) (trees l.store) c l.bytes l.rest;
+      passes : (c : Course) → Stands l.fn.reader (contents l.fn.store) c → Passes l.reader (contents l.store) c l.bytes l.rest;
     }
 
 abbrev pub decreases-loop-line : goal.decreases-loop-line

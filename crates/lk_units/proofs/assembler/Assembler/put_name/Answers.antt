@@ -1,5 +1,0 @@
-use Rattle.lk_units.proofs.Putting.{name_put}
-use Rattle.lk_units.proofs.assembler.Assembler.put_name.Goals as goal
-
-pub returns-in-Ok-clause-follows : goal.returns-in-Ok-clause-follows
-returns-in-Ok-clause-follows c ls ts s said h none made = name_put c.args.self.now c.add.new.self ls ts s c.args.own c.args.n said h made none c.in-Ok.ensures.ok
