@@ -40,6 +40,28 @@ impl Assembler {
         self.by_name.put_new(own, made)
     }
 
+    // A line of a name whose last component is a text.
+    #[tactic(auto, using(crate::proofs::Holding::unchanged))]
+    fn text_line<T: Terms>(
+        &mut self,
+        alloc: Global,
+        store: &mut T,
+        own: u32,
+        parent: u32,
+        bytes: &[u8],
+    ) -> Result<(), TakeError>
+        requires { IsKnown self.old (T.contents store.old) }
+        ensures keeps { Extends (T.contents store.old) (T.contents store.new) }
+        ensures rest { T.rest store.new ≡ T.rest store.old }
+        ensures known { OnOk result (IsKnown self.new (T.contents store.new)) }
+        ensures follows { (s : State) → Holds self.old (T.contents store.old) s → Follows self.new (T.contents store.new) result (with_name s own (longer_name s parent (part_of (Part.Text bytes.now)))) }
+    {
+        let Ok(text) = Vec::from_slice(alloc, bytes) else {
+            return Err(TakeError::NoMemory);
+        };
+        self.name_line(alloc, store, own, parent, Part::Text(Text::new(text)))
+    }
+
     // A line of a level.
     #[tactic(auto, using(crate::proofs::Putting::level_known, crate::proofs::Putting::level_follows))]
     fn successor_line<T: Terms>(
@@ -121,9 +143,10 @@ impl Assembler {
         ensures follows { (c : Contents) (s : State) (t : Theorem) (said : Result Theorem LineWord) → Holds self.old c s → said ≡ Ok t → unit_at c unit ≡ unit_of t → Follows self.new c result (with_theorem s said) }
     {
         match self.units.push(unit) {
-            Ok(_) => Ok(()),
-            Err(_) => Err(TakeError::NoMemory),
+            Ok(_) => {}
+            Err(_) => return Err(TakeError::NoMemory),
         }
+        Ok(())
     }
 
     // A line of a theorem.
@@ -162,10 +185,7 @@ impl Assembler {
             → Follows self.new (T.contents store.new) result (entry_added s own (entry_tag line.entry) (entry_values line.entry)) }
     {
         match line {
-            Entry::NameText { parent, text } => match Vec::from_slice(alloc, text) {
-                Ok(text) => self.name_line(alloc, store, own, parent, Part::Text(Text::new(text))),
-                Err(_) => Err(TakeError::NoMemory),
-            },
+            Entry::NameText { parent, text } => self.text_line(alloc, store, own, parent, text),
             Entry::NameNumber { parent, component } => {
                 self.name_line(alloc, store, own, parent, Part::Number(component))
             }
