@@ -5,3 +5,4 @@ pub mod Remaining
 pub mod Steps
 pub mod Kept
 pub mod Spelled
+pub mod Libraries

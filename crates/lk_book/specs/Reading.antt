@@ -3,6 +3,11 @@ use Rattle.std.specs.Prelude.{◌≡◌, ◌+◌, ℕ, List, ◌∷◌, [], leng
 use Rattle.std.specs.declared.option.Option.{Option}
 use Rattle.std.specs.Io.KnownBytes.{Consumes}
 use Rattle.lk_store.specs.Contents.{Contents}
+use Rattle.lk_store.specs.Store.{contents_of}
+use Rattle.lk_store.specs.declared.tables.Tables.{Tables}
+use Rattle.lk_env.specs.declared.unit.Unit.{Unit as StoredUnit}
+use Rattle.lk_env.specs.Units.{library_at}
+use Rattle.lk_units.specs.Theorems.{Theorem, units_of}
 use Rattle.lk_token.specs.Lines.{HasNoLineFeed}
 use Rattle.lk_lines.specs.declared.words.Word.{Word}
 use Rattle.lk_lines.specs.declared.line.Fault.{Fault}
@@ -29,6 +34,13 @@ Reads store said (Ok a) = (c : Course) × (said ≡ Ok c) × Holds a store c.sta
 Reads store said (Err errors.NoMemory) = Unit {0}
 Reads store said (Err errors.ReadFault) = Unit {0}
 Reads store said (Err (errors.Fault f)) = said ≡ Err f
+
+-- the library is the one that the file states, or the file's fault is told
+abbrev pub ReadsLibrary : Result (List Theorem) Fault → Result (Tables × List StoredUnit) ReadError → Type 0
+ReadsLibrary said (Ok l) = (ts : List Theorem) × (said ≡ Ok ts) × (library_at (contents_of l.0) l.1 ≡ units_of ts)
+ReadsLibrary said (Err errors.NoMemory) = Unit {0}
+ReadsLibrary said (Err errors.ReadFault) = Unit {0}
+ReadsLibrary said (Err (errors.Fault f)) = said ≡ Err f
 
 -- behind its last line the assembler holds what the line makes of the course, or the line's fault is told
 abbrev pub Ends : Contents → Result Assembler LineError → Result Course Fault → Type 0

@@ -7,15 +7,17 @@ ghost use Rattle.lk_port.specs.Bytes.{Rose};
 ghost use Rattle.lk_token.specs.Lines.{HasNoLineFeed};
 ghost use Rattle.lk_units.specs.Held.{IsKnown};
 ghost use Rattle.lk_book.specs.Course.{Course, step};
-ghost use Rattle.lk_book.specs.File.{course_of};
+ghost use Rattle.lk_book.specs.File.{course_of, theorems_of};
 ghost use Rattle.lk_book.specs.Passing.{Stands, IsCounted};
-ghost use Rattle.lk_book.specs.Reading.{Remains, ConsumesSome, TellsFault, Ends, Reads};
+ghost use Rattle.lk_book.specs.Reading.{Remains, ConsumesSome, TellsFault, Ends, Reads, ReadsLibrary};
 
 use crate::lines::take_piece;
 use crate::long::long_line;
 use crate::{MAX_LINE, PIECE, ReadError, Reader};
 use lk_lines::{Fault, LineError};
+use lk_env::library::Library;
 use lk_port::Source;
+use lk_store::base_store::BaseStore;
 use lk_store::terms::Terms;
 use lk_units::Assembler;
 use std::alloc::Global;
@@ -125,12 +127,8 @@ fn take_last<T: Terms>(
     Ok(reader.assembler)
 }
 
-/// Reads the theorems that a file states, from a source and into a store; or tells the file's fault: its first faulty
-/// line, and that line's first fault.
-///
-/// Of the file no more is held at a time than a piece and the first bytes of a line. A failed read and want of memory
-/// end it at once. Behind any error the source has lost some bytes from its front.
-pub fn read_library<T: Terms, S: Source>(
+/// Reads the units that a file states, from a source and into a store; or tells the file's fault.
+fn read_units<T: Terms, S: Source>(
     alloc: Global,
     store: &mut T,
     source: &mut S,
@@ -161,6 +159,29 @@ pub fn read_library<T: Terms, S: Source>(
     read_pieces(alloc, store, source, &mut reader, &mut held)?;
     let assembler = take_last(alloc, store, reader, &held)?;
     Ok(assembler)
+}
+
+/// Reads the library that a file states, from a source: a library whole, or the file's fault, which is that of its first
+/// faulty line, and of that line's faults the first.
+///
+/// Of the file no more is held at a time than a piece and the first bytes of a line. A failed read and want of memory
+/// end it at once. Behind any error the source has lost some bytes from its front.
+pub fn read_library<S: Source>(alloc: Global, source: &mut S) -> Result<Library, ReadError>
+    // Where the source tells its bytes, the answer is what they state.
+    ensures reads { (bytes : List ℕ) → S.left source.old ≡ Some bytes → ReadsLibrary (theorems_of bytes) result }
+
+    ensures front { ConsumesSome (S.left source.old) (S.left source.new) }
+    ensures end { OnOk result (IsAtEnd (S.left source.new)) }
+    ensures fault { result ≡ Err ReadError.ReadFault → Rose (S.faults source.old) (S.faults source.new) }
+    ensures no_fault { result ≢ Err ReadError.ReadFault → S.faults source.new ≡ S.faults source.old }
+{
+    let mut store = BaseStore::new(alloc);
+    let assembler = read_units(alloc, &mut store, source)?;
+    store.freeze();
+    match Library::new(alloc, store, assembler.units) {
+        Ok(library) => Ok(library),
+        Err(_) => Err(ReadError::NoMemory),
+    }
 }
 
 #[cfg(test)]

@@ -3,7 +3,7 @@ use Rattle.std.specs.Prelude.{false}
 use Rattle.std.proofs.lemmas.Result.{err_from_is_err_and}
 use Rattle.lk_book.specs.Course.{step}
 use Rattle.lk_book.proofs.Remaining.{remains_begin, told_reads, last_over, ends_reads, ends_stops}
-use Rattle.lk_book.proofs.file.read_library.Goals as goal
+use Rattle.lk_book.proofs.file.read_units.Goals as goal
 
 pub returns-in_err-read_pieces-clause-reads : goal.returns-in_err-read_pieces-clause-reads
 returns-in_err-read_pieces-clause-reads g c = λ bytes is.

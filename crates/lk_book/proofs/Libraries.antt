@@ -1,0 +1,23 @@
+-- A library that was read.
+use Rattle.std.proofs.Common.{◌≡◌, ℕ, List, Ok, Err, Result, ap, subst, sym, ◌∙◌}
+use Rattle.lk_store.specs.Contents.{Contents}
+use Rattle.lk_store.specs.Store.{contents_of}
+use Rattle.lk_store.specs.declared.tables.Tables.{Tables}
+use Rattle.lk_env.specs.declared.unit.Unit.{Unit as StoredUnit}
+use Rattle.lk_env.specs.Units.{library_at}
+use Rattle.lk_lines.specs.declared.line.Fault.{Fault}
+use Rattle.lk_units.specs.declared.assembler.Assembler.{Assembler}
+use Rattle.lk_book.specs.Course.{Course}
+use Rattle.lk_book.specs.File.{after, course_of, theorems_of}
+use Rattle.lk_book.specs.Reading.{Reads, ReadsLibrary}
+use Rattle.lk_book.specs.declared.error.ReadError.{ReadError}
+use Rattle.lk_book.specs.declared.error.ReadError.TheVariants as errors
+
+pub library_read : (bytes : List ℕ) (base : Tables) (a : Assembler) → Reads (contents_of base) (course_of bytes) (Ok a) → ReadsLibrary (theorems_of bytes) (Ok (base, a.units.items))
+library_read bytes base a r = (r.0.state.theorems, ap (λ x. after x (λ c. Ok c.state.theorems)) r.1, r.2.units)
+
+-- where no units were read there is no library
+pub library_not_read : (bytes : List ℕ) (c : Contents) (e : ReadError) → Reads c (course_of bytes) (Err e) → ReadsLibrary (theorems_of bytes) (Err e)
+library_not_read bytes c errors.NoMemory h = tt
+library_not_read bytes c errors.ReadFault h = tt
+library_not_read bytes c (errors.Fault f) h = ap (λ x. after x (λ c. Ok c.state.theorems)) h
