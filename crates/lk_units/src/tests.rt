@@ -3,8 +3,9 @@
 use crate::{Assembler, Numbering, TakeError};
 use lk_env::unit::Unit;
 use lk_lines::{BinderInfo, Declaration, Entry, Word};
+use lk_rows::memory::NoMemory;
 use lk_store::base_store::BaseStore;
-use lk_store::name::Part;
+use lk_store::name::{Name, Part, Text};
 use lk_store::terms::Terms;
 use std::alloc::Global;
 use std::test::Fail;
@@ -96,15 +97,18 @@ fn identity(alloc: Global, store: &mut BaseStore) -> Result<Assembler, TakeError
     Ok(file)
 }
 
-// Whether the name of a unit is `id` and the number 4.
-fn is_named(store: &BaseStore, unit: &Unit) -> bool {
-    let Unit::Declaration(declaration) = unit else {
-        return false;
-    };
-    if let [Part::Text(text), Part::Number(4)] = store.name(declaration.name).parts() {
-        text.as_bytes() == b"id".as_slice()
-    } else {
-        false
+// The number of the name that has the text `id` and the number 4.
+fn number_of_name(alloc: Global, store: &mut BaseStore) -> Result<u64, NoMemory> {
+    let mut name = Name::anonymous(alloc);
+    name.push(Part::Text(Text::new(Vec::from_slice(alloc, b"id")?)))?;
+    name.push(Part::Number(4))?;
+    store.make_name(&name)
+}
+
+fn has_name(unit: &Unit, name: u64) -> bool {
+    match unit {
+        Unit::Declaration(declaration) => declaration.name == name,
+        Unit::Block(_) => false,
     }
 }
 
@@ -113,8 +117,11 @@ fn a_theorem_is_taken(rt: HostRuntime) -> Result<(), Fail> {
     let alloc = rt.alloc();
     let mut store = BaseStore::new(alloc);
     let file = identity(alloc, &mut store)?;
+    let name = number_of_name(alloc, &mut store)?;
     assert_eq!(rt; file.units.len(), 1);
-    assert!(rt; is_named(&store, &file.units[0]));
+    for unit in &file.units {
+        assert!(rt; has_name(unit, name));
+    }
     Ok(())
 }
 

@@ -1,6 +1,7 @@
 use Rattle.std.proofs.Common.{◌∙◌, ap, sym}
 use Rattle.std.specs.Prelude.{false}
 use Rattle.std.proofs.lemmas.Result.{err_from_is_err_and}
+use Rattle.lk_store.proofs.Extending.{Extends-trans}
 use Rattle.lk_book.specs.Course.{step}
 use Rattle.lk_book.proofs.Remaining.{remains_begin, told_reads, last_over, ends_reads, ends_stops}
 use Rattle.lk_book.proofs.file.read_units.Goals as goal
@@ -25,3 +26,6 @@ returns-clause-reads g c = λ bytes is.
     let m = c.in_ok-read_pieces.ensures.remains (g.S.Source.left c.args.source.now) first in
     let last = last_over _ _ c.read_pieces.new.held.items _ _ bytes m c.in_ok-read_pieces.ensures.end c.in_ok-read_pieces.ensures.unfinished is in
     ends_reads _ c.in_ok-assembler.assembler _ _ (last ∙ ap (λ l. step m.passes.course false l) (sym c.deref.ensures.value)) (c.in_ok-assembler.ensures.ends m.passes.course m.passes.stands)
+
+pub returns-clause-keeps : goal.returns-clause-keeps
+returns-clause-keeps g c = Extends-trans _ _ _ c.in-Ok.ensures.keeps (Extends-trans _ _ _ c.read_pieces.ensures.keeps c.take_last.ensures.keeps)
