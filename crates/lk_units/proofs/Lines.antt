@@ -1,6 +1,6 @@
 -- What whole lines add.
 use Rattle.std.proofs.Common.{◌≡◌, ℕ, List, [], ◌∷◌, ◌++◌, map, refl, sym, ◌∙◌, ap, Ok, Err, Vec}
-use Rattle.std.specs.Prelude.{Result, OnOk, IfOk}
+use Rattle.std.specs.Prelude.{Result, OnOk}
 use Rattle.std.specs.declared.alloc.Global.{Global}
 use Rattle.std.proofs.lemmas.List.{map-append}
 use Rattle.lk_tree.specs.Tree.{Name, Tree}
@@ -16,7 +16,7 @@ use Rattle.lk_units.specs.declared.assembler.TakeError.{TakeError}
 use Rattle.lk_units.specs.declared.assembler.TakeError.TheVariants as errors
 use Rattle.lk_units.specs.Theorems.{Theorem, unit_of, units_of}
 use Rattle.lk_units.specs.State.{State, known, all_known, theorem_of, with_theorem, counted}
-use Rattle.lk_units.specs.Held.{IsKnown, Holds, Fails, MakesUnit, Follows}
+use Rattle.lk_units.specs.Held.{IsKnown, Holds, Fails, Follows}
 
 -- what follows a fault is that fault
 pub fails_then : {X Y : Type 0} (e : TakeError) (said : Result X Word) (next : X → Result Y Word) → Fails e said → Fails e (said >>= next)

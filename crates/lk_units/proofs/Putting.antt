@@ -1,5 +1,5 @@
 -- The number of a line gets what the line made.
-use Rattle.std.proofs.Common.{◌≡◌, ℕ, ◌<◌, ◌==◌, Bool, true, false, length, refl, sym}
+use Rattle.std.proofs.Common.{◌≡◌, ℕ, ◌<◌, Bool, true, false, length, refl}
 use Rattle.std.specs.Prelude.{is_some, if◌then◌else◌, Ok, Err, Result, OnOk, IfOk}
 use Rattle.std.specs.declared.option.Option.{Option}
 use Rattle.lk_store.specs.Contents.{Contents, name_at, level_at, tree_at, Extends}
@@ -61,21 +61,21 @@ pub name_follows : (a : Assembler) (new : Numbering) (c d : Contents) (s : State
 name_follows a new c d s own made said r k x h m p =
     let g = grown_holds c d x a s k h in
     put_follows new (name_at d) s.names own r (fresh s.names own said) (λ y. record s { names = put s.names own y }) (record a { by_name = new }) d
-        (is_put a.by_name new (name_at d) s.names own made said r g.names p m) (λ y n. record { names = n; levels = g.levels; trees = g.trees; units = g.units; count = g.count })
+    (is_put a.by_name new (name_at d) s.names own made said r g.names p m) (λ y n. record { names = n; levels = g.levels; trees = g.trees; units = g.units; count = g.count })
 
 pub level_follows : (a : Assembler) (new : Numbering) (c d : Contents) (s : State) (own : ℕ) (made : Result ℕ TakeError) (said : Result Level Word) (r : Result (Unit {0}) TakeError) → IsKnown a c → Extends c d → Holds a c s
     → Makes (level_at d) made said → Puts a.by_level new own made r → Follows (record a { by_level = new }) d r (with_level s own said)
 level_follows a new c d s own made said r k x h m p =
     let g = grown_holds c d x a s k h in
     put_follows new (level_at d) s.levels own r (fresh s.levels own said) (λ y. record s { levels = put s.levels own y }) (record a { by_level = new }) d
-        (is_put a.by_level new (level_at d) s.levels own made said r g.levels p m) (λ y n. record { names = g.names; levels = n; trees = g.trees; units = g.units; count = g.count })
+    (is_put a.by_level new (level_at d) s.levels own made said r g.levels p m) (λ y n. record { names = g.names; levels = n; trees = g.trees; units = g.units; count = g.count })
 
 pub tree_follows : (a : Assembler) (new : Numbering) (c d : Contents) (s : State) (own : ℕ) (made : Result ℕ TakeError) (said : Result Tree Word) (r : Result (Unit {0}) TakeError) → IsKnown a c → Extends c d → Holds a c s
     → Makes (tree_at d) made said → Puts a.by_tree new own made r → Follows (record a { by_tree = new }) d r (with_tree s own said)
 tree_follows a new c d s own made said r k x h m p =
     let g = grown_holds c d x a s k h in
     put_follows new (tree_at d) s.trees own r (fresh s.trees own said) (λ y. record s { trees = put s.trees own y }) (record a { by_tree = new }) d
-        (is_put a.by_tree new (tree_at d) s.trees own made said r g.trees p m) (λ y n. record { names = g.names; levels = g.levels; trees = n; units = g.units; count = g.count })
+    (is_put a.by_tree new (tree_at d) s.trees own made said r g.trees p m) (λ y n. record { names = g.names; levels = g.levels; trees = n; units = g.units; count = g.count })
 
 -- what the numbers have is still known
 known_lem : (r : Result (Unit {0}) TakeError) (P Q : Type 0) → (P → Q) → OnOk r P → OnOk r Q
@@ -87,18 +87,18 @@ pub name_known : (a : Assembler) (new : Numbering) (c d : Contents) (own : ℕ) 
 name_known a new c d own made r k x m p =
     let g = grown_known c d x a k in
     known_lem r (Below new (length d.names)) (IsKnown (record a { by_name = new }) d) (λ b. record { names_below = b; levels_below = g.levels_below; trees_below = g.trees_below; units_in = g.units_in })
-        (still_below a.by_name new (length d.names) own made r g.names_below m p)
+    (still_below a.by_name new (length d.names) own made r g.names_below m p)
 
 pub level_known : (a : Assembler) (new : Numbering) (c d : Contents) (own : ℕ) (made : Result ℕ TakeError) (r : Result (Unit {0}) TakeError) → IsKnown a c → Extends c d → IfOk made (λ i. i < length d.levels)
     → Puts a.by_level new own made r → OnOk r (IsKnown (record a { by_level = new }) d)
 level_known a new c d own made r k x m p =
     let g = grown_known c d x a k in
     known_lem r (Below new (length d.levels)) (IsKnown (record a { by_level = new }) d) (λ b. record { names_below = g.names_below; levels_below = b; trees_below = g.trees_below; units_in = g.units_in })
-        (still_below a.by_level new (length d.levels) own made r g.levels_below m p)
+    (still_below a.by_level new (length d.levels) own made r g.levels_below m p)
 
 pub tree_known : (a : Assembler) (new : Numbering) (c d : Contents) (own : ℕ) (made : Result ℕ TakeError) (r : Result (Unit {0}) TakeError) → IsKnown a c → Extends c d → IfOk made (λ i. i < length d.trees)
     → Puts a.by_tree new own made r → OnOk r (IsKnown (record a { by_tree = new }) d)
 tree_known a new c d own made r k x m p =
     let g = grown_known c d x a k in
     known_lem r (Below new (length d.trees)) (IsKnown (record a { by_tree = new }) d) (λ b. record { names_below = g.names_below; levels_below = g.levels_below; trees_below = b; units_in = g.units_in })
-        (still_below a.by_tree new (length d.trees) own made r g.trees_below m p)
+    (still_below a.by_tree new (length d.trees) own made r g.trees_below m p)

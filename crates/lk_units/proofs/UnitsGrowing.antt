@@ -1,10 +1,10 @@
 -- Units as the store grows.
-use Rattle.std.proofs.Common.{◌≡◌, ℕ, ◌<◌, ◌≤◌, List, [], ◌∷◌, map, length, refl, ap, arith}
+use Rattle.std.proofs.Common.{◌≡◌, ℕ, ◌<◌, List, [], ◌∷◌, map, length, refl, ap, arith}
 use Rattle.std.specs.Prelude.{All}
 use Rattle.std.proofs.lemmas.List.Elements.{All-weaker, All-head, All-tail}
 use Rattle.lk_rulebook.specs.Units.{as_def, as_thm, as_opaque, of_decl}
 use Rattle.lk_store.specs.Contents.{Contents, name_at, tree_at, Extends}
-use Rattle.lk_env.specs.Units.{hint_of, body_at, declaration_at, constructor_at, type_at, rule_at, recursor_at, block_at, unit_at, library_at, IsBodyIn, IsStatedIn, IsConstructorIn, IsTypeIn, IsRuleIn, IsRecursorIn, IsUnitIn, AreUnitsIn}
+use Rattle.lk_env.specs.Units.{hint_of, body_at, declaration_at, constructor_at, type_at, rule_at, recursor_at, unit_at, library_at, IsBodyIn, IsStatedIn, IsConstructorIn, IsTypeIn, IsRuleIn, IsRecursorIn, IsUnitIn, AreUnitsIn}
 use Rattle.lk_env.specs.declared.unit.Body.{Body}
 use Rattle.lk_env.specs.declared.unit.Body.TheVariants.{Axiom, Definition, Theorem, Opaque, Quotient}
 use Rattle.lk_env.specs.declared.unit.Declaration.{Declaration}
@@ -12,7 +12,6 @@ use Rattle.lk_env.specs.declared.unit.Constructor.{Constructor}
 use Rattle.lk_env.specs.declared.unit.BlockType.{BlockType}
 use Rattle.lk_env.specs.declared.unit.RecursorRule.{RecursorRule}
 use Rattle.lk_env.specs.declared.unit.Recursor.{Recursor}
-use Rattle.lk_env.specs.declared.unit.Block.{Block}
 use Rattle.lk_env.specs.declared.unit.Unit.{Unit as StoredUnit}
 use Rattle.lk_env.specs.declared.unit.Unit.TheVariants as unit
 

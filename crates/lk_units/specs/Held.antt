@@ -1,5 +1,5 @@
 -- What an assembler holds, by what its numbers have in a store.
-use Rattle.std.specs.Prelude.{◌≡◌, ◌<◌, ◌==◌, ℕ, List, length, map, IfSome, Result, Ok, Err, Some, None, option_map, is_some, Vec, if◌then◌else◌}
+use Rattle.std.specs.Prelude.{◌≡◌, ◌<◌, ◌==◌, ℕ, List, length, map, IfSome, Result, Ok, Err, Some, option_map, is_some, Vec, if◌then◌else◌}
 use Rattle.std.specs.declared.option.Option.{Option}
 use Rattle.std.specs.declared.alloc.Global.{Global}
 use Rattle.lk_tree.specs.Tree.{Tree, lam, pi}

@@ -100,12 +100,7 @@ impl Assembler {
 
     // A line of a sort.
     #[tactic(auto, using(crate::proofs::Putting::tree_known, crate::proofs::Putting::tree_follows))]
-    fn sort_line<T: Terms>(
-        &mut self,
-        store: &mut T,
-        own: u32,
-        level: u32,
-    ) -> Result<(), TakeError>
+    fn sort_line<T: Terms>(&mut self, store: &mut T, own: u32, level: u32) -> Result<(), TakeError>
         requires { IsKnown self.old (T.contents store.old) }
         ensures keeps { Extends (T.contents store.old) (T.contents store.new) }
         ensures rest { T.rest store.new ≡ T.rest store.old }

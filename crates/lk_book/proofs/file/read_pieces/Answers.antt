@@ -1,4 +1,4 @@
-use Rattle.std.proofs.Common.{rules, ◌∙◌}
+use Rattle.std.proofs.Common.{◌∙◌}
 use Rattle.lk_store.proofs.Extending.{Extends-trans}
 use Rattle.lk_book.proofs.Remaining.{front_then}
 use Rattle.lk_book.proofs.file.read_pieces.Goals as goal

@@ -1,8 +1,8 @@
 use Rattle.std.proofs.Common.{rules, ◌<◌, length, slice_index}
-use Rattle.std.proofs.lemmas.List.Elements.{All-nil, All-push, All-same}
+use Rattle.std.proofs.lemmas.List.Elements.{All-push}
 use Rattle.lk_store.specs.Contents.{name_at}
 use Rattle.lk_units.proofs.Holding.{found, missing, is_below}
-use Rattle.lk_units.proofs.Several.{found_begin, found_step, found_fail, found_done, rest_cut, rest_empty}
+use Rattle.lk_units.proofs.Several.{found_step, found_fail, found_done, rest_cut, rest_empty}
 use Rattle.lk_units.proofs.assembler.Assembler.names.Goals as goal
 
 pub returns-in_default-find-clause-made : goal.returns-in_default-find-clause-made
