@@ -1,5 +1,6 @@
 -- A library that was read.
 use Rattle.std.proofs.Common.{◌≡◌, ℕ, List, Ok, Err, Result, ap, subst, sym, ◌∙◌}
+use Rattle.std.specs.Prelude.{IfOk, IfErr}
 use Rattle.lk_store.specs.Contents.{Contents}
 use Rattle.lk_store.specs.Store.{contents_of}
 use Rattle.lk_store.specs.declared.tables.Tables.{Tables}
@@ -21,3 +22,9 @@ pub library_not_read : (bytes : List ℕ) (c : Contents) (e : ReadError) → Rea
 library_not_read bytes c errors.NoMemory h = tt
 library_not_read bytes c errors.ReadFault h = tt
 library_not_read bytes c (errors.Fault f) h = ap (λ x. after x (λ c. Ok c.state.theorems)) h
+
+-- a library of the units, or want of memory
+pub library_or_not : (bytes : List ℕ) (base : Tables) (a : Assembler) (r : Result (Tables × List StoredUnit) ReadError) → IfOk r (λ l. l ≡ (base, a.units.items)) → IfErr r (λ e. e ≡ errors.NoMemory)
+    → Reads (contents_of base) (course_of bytes) (Ok a) → ReadsLibrary (theorems_of bytes) r
+library_or_not bytes base a (Ok l) h k reads = subst (λ x. ReadsLibrary (theorems_of bytes) (Ok x)) (sym h) (library_read bytes base a reads)
+library_or_not bytes base a (Err e) h k reads = rw k tt

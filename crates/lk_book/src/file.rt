@@ -3,6 +3,7 @@ ghost use Rattle.std.specs.Prelude.{◌≡◌, ◌≢◌, ◌+◌, ◌≤◌, �
 ghost use Rattle.std.specs.declared.option.Option.{Option};
 ghost use Rattle.std.specs.Io.KnownBytes.{IsAtEnd};
 ghost use Rattle.lk_store.specs.Contents.{Extends};
+ghost use Rattle.lk_store.specs.Store.{contents_of};
 ghost use Rattle.lk_port.specs.Bytes.{Rose};
 ghost use Rattle.lk_token.specs.Lines.{HasNoLineFeed};
 ghost use Rattle.lk_units.specs.Held.{IsKnown};
@@ -161,6 +162,23 @@ fn read_units<T: Terms, S: Source>(
     Ok(assembler)
 }
 
+/// The library of the units that were read.
+fn library_of(
+    alloc: Global,
+    mut store: BaseStore,
+    assembler: Assembler,
+) -> Result<Library, ReadError>
+    requires { IsKnown assembler (contents_of store) }
+    ensures ok { IfOk result (λ l. l ≡ (store, assembler.units.items)) }
+    ensures err { IfErr result (λ e. e ≡ ReadError.NoMemory) }
+{
+    store.freeze();
+    match Library::new(alloc, store, assembler.units) {
+        Ok(library) => Ok(library),
+        Err(_) => Err(ReadError::NoMemory),
+    }
+}
+
 /// Reads the library that a file states, from a source: a library whole, or the file's fault, which is that of its first
 /// faulty line, and of that line's faults the first.
 ///
@@ -176,11 +194,9 @@ pub fn read_library<S: Source>(alloc: Global, source: &mut S) -> Result<Library,
     ensures no_fault { result ≢ Err ReadError.ReadFault → S.faults source.new ≡ S.faults source.old }
 {
     let mut store = BaseStore::new(alloc);
-    let assembler = read_units(alloc, &mut store, source)?;
-    store.freeze();
-    match Library::new(alloc, store, assembler.units) {
-        Ok(library) => Ok(library),
-        Err(_) => Err(ReadError::NoMemory),
+    match read_units(alloc, &mut store, source) {
+        Ok(assembler) => library_of(alloc, store, assembler),
+        Err(error) => Err(error),
     }
 }
 
