@@ -15,7 +15,11 @@ use Rattle.lk_env.specs.Units.{unit_at, library_at, declaration_at, IsUnitIn}
 use Rattle.lk_units.specs.Theorems.{Theorem, unit_of, units_of, IsBuilt, AllBuilt}
 use Rattle.lk_units.specs.State.{AllPlain}
 use Rattle.lk_book.proofs.Spelled.{spelled}
-use Rattle.leancheck.specs.Rows.{row_verdict}
+use Rattle.lk_tree.specs.Mentions.{is_one_of}
+use Rattle.lk_tree.specs.Scan.{none_twice}
+use Rattle.leancheck.specs.Rows.{names_of, place_at, checked_of, row_verdict}
+use Rattle.leancheck.specs.declared.checking.Verdict.TheVariants.{No}
+use Rattle.lk_engine.specs.declared.question.Rule.TheVariants.{DuplicateLevel}
 use Rattle.leancheck.specs.declared.checking.Verdict.{Verdict as HeldVerdict}
 use Rattle.leancheck.specs.Held.{verdict, IsPlain}
 use Rattle.leancheck.proofs.Scanning.{unit_there, verdict_plain, verdict_memory}
@@ -46,7 +50,6 @@ verdict_is : (steps : ℕ) (all : List Theorem) → IsClearLibrary (units_of all
     → IsPlain (row_verdict all steps n t) v → IsVerdict (units_of all) steps n (verdict v)
 verdict_is steps all c n t v there built (inl e) = verdict_plain all c steps n t (verdict v) there built e
 verdict_is steps all c n t v there built (inr e) = verdict_memory (units_of all) steps n (verdict v) e
-
 
 are_length : (steps : ℕ) (all : List Theorem) (n : ℕ) (ts : List Theorem) (vs : List Verdict) → AreDone steps all n ts vs → length ts ≡ length vs
 are_length steps all n [] [] a = refl
@@ -134,9 +137,18 @@ pub progress_done : (steps : ℕ) (all : List Theorem) (c : Contents) (vs : List
 progress_done steps all c vs [] h p = are_units steps all all 0 (map verdict vs) (end_lem steps all c (map verdict vs) p.done p.left p.split p.units p.are)
 progress_done steps all c vs (u ∷ rest) h p = absurd (omega arith)
 
--- the parts of a declaration that is a theorem
-pub record IsTheorem (c : Contents) (d : Declaration) (proof : ℕ) (t : Theorem) : Type 0 where
-  pub name : t.name ≡ name_at c d.name
-  pub levels : t.levels ≡ map (name_at c) d.levels.items
-  pub type : t.type ≡ tree_at c d.kind
-  pub proof_is : t.proof ≡ tree_at c proof
+-- a theorem whose name is new, by the numbers of its name and its level parameters
+module _ (all : List Theorem) (steps n : ℕ) (t : Theorem) (c : Contents) (name : ℕ) (levels : List ℕ) where
+  new_is : {taken : Bool} → t.name ≡ name_at c name → taken ≡ false → taken ≡ is_one_of (names_of (take n all)) (name_at c name) → is_one_of (names_of (take n all)) t.name ≡ false
+  new_is named new is = ap (is_one_of (names_of (take n all))) named ∙ sym is ∙ new
+
+  different_is : {r s : Bool} → t.levels ≡ map (name_at c) levels → r ≡ s → r ≡ none_twice (map (name_at c) levels) → none_twice t.levels ≡ s
+  different_is listed test is = ap none_twice listed ∙ sym is ∙ test
+
+  pub judged_new : (taken r : Bool) (v : HeldVerdict) → t.name ≡ name_at c name → t.levels ≡ map (name_at c) levels → taken ≡ false → taken ≡ is_one_of (names_of (take n all)) (name_at c name)
+      → r ≡ true → r ≡ none_twice (map (name_at c) levels) → IsPlain (checked_of (place_at all n) steps t) v → IsPlain (row_verdict all steps n t) v
+  judged_new taken r v named listed new is test is_r h = rw (new_is named new is, different_is listed test is_r) h
+
+  pub judged_twice : (taken r : Bool) → t.name ≡ name_at c name → t.levels ≡ map (name_at c) levels → taken ≡ false → taken ≡ is_one_of (names_of (take n all)) (name_at c name)
+      → r ≡ false → r ≡ none_twice (map (name_at c) levels) → IsPlain (row_verdict all steps n t) (No DuplicateLevel)
+  judged_twice taken r named listed new is test is_r = rw (new_is named new is, different_is listed test is_r) (inl refl)

@@ -45,6 +45,9 @@ module _ (c : Contents) (apart : AreApart [] c.names) where
   one_of_numbers [] q all h = refl
   one_of_numbers (k ∷ ks) q all h = one_lem k q ks (name_discrete (name_at c k) (name_at c q)) all.0 h (one_of_numbers ks q all.1 h)
 
+eq_sym : (a b : ℕ) → nat_eq a b ≡ nat_eq b a
+eq_sym a b = grind (arith, nat_tests)
+
 -- the numbers of the rest are still to be looked at; the names of those behind them are all different, and are what was seen
 pub record Looked (c : Contents) (seen : Seen) (rest ks : List ℕ) : Type 0 where
   pub done : List ℕ
@@ -80,7 +83,7 @@ looked_twice c seen rest more ks k apart known cut l h =
     ap (λ x. none_twice (map (name_at c) x)) whole ∙ ap none_twice (map-append (name_at c) more (k ∷ l.done)) ∙ not_twice (map (name_at c) more) (name_at c k) (map (name_at c) l.done) twice
 
 pub looked_more : (c : Contents) (seen new : Seen) (rest more ks : List ℕ) (k : ℕ) → AreApart [] c.names → All (λ n. n < length c.names) ks → rest ≡ more ++ k ∷ [] → Looked c seen rest ks → has_number seen k ≡ false
-    → ((q : ℕ) → has_number new q ≡ (if q == k then true else has_number seen q)) → Looked c new more ks
+    → ((q : ℕ) → has_number new q ≡ (if k == q then true else has_number seen q)) → Looked c new more ks
 looked_more c seen new rest more ks k apart known cut l h added =
     let whole = whole_is rest more l.done ks k cut l.split in
     let below = below_pair (length c.names) more k l.done (subst (AreBelow (length c.names)) whole (below_of_all (length c.names) ks known)) in
@@ -89,7 +92,7 @@ looked_more c seen new rest more ks k apart known cut l h added =
       done = k ∷ l.done;
       split = whole;
       different = rw (fresh, l.different) refl;
-      named = λ q. added q ∙ ap (λ x. if q == k then true else x) (l.named q) ∙ or_if (q == k) (any_number q l.done);
+      named = λ q. added q ∙ ap (λ x. if k == q then true else x) (l.named q) ∙ ap (λ x. if x then true else any_number q l.done) (eq_sym k q) ∙ or_if (nat_eq q k) (any_number q l.done);
     }
   where
     or_if : (b c : Bool) → (if b then true else c) ≡ (b || c)

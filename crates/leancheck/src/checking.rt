@@ -90,7 +90,6 @@ fn judge_declared<T: Terms>(
 }
 
 /// Whether a unit before this one gives the name.
-#[tactic(auto, using(crate::proofs::Taken::taken_before, crate::proofs::Taken::taken_by_none))]
 fn is_taken(library: &Library, unit: u32, name: u64) -> bool
     requires { name < length (contents_of library.now.0).names }
     ensures { (ts : List Theorem) → library_at (contents_of library.now.0) library.now.1 ≡ units_of ts

@@ -34,7 +34,7 @@ impl Seen {
     }
 
     pub fn add(&mut self, number: u64) -> Result<(), NoMemory>
-        ensures { OnOk result ((q : ℕ) → has_number self.new q ≡ (if q == number then true else has_number self.old q)) }
+        ensures { OnOk result ((q : ℕ) → has_number self.new q ≡ (if number == q then true else has_number self.old q)) }
     {
         match self.numbers.insert(number) {
             Ok(_) => {}

@@ -234,8 +234,8 @@ fn add_lines(
     let mut left = library.units();
     let mut said = verdicts;
     let mut number = 0;
-    while let [unit, more @ ..] = left {
-        let [v, others @ ..] = said else {
+    while let Some((unit, more)) = left.split_first() {
+        let Some((v, others)) = said.split_first() else {
             return Ok(());
         };
         add_unit(out, library, nameless, number, unit, *v)?;
