@@ -1,8 +1,8 @@
 -- Where the first units give a name.
-use Rattle.std.proofs.Common.{◌≡◌, ℕ, zero, suc, ◌+◌, ◌≤◌, List, [], ◌∷◌, take, cond, nat_lt, true, false, Option, Some, None, refl, ap, sym, ◌∙◌, arith}
+use Rattle.std.proofs.Common.{◌≡◌, ℕ, zero, suc, ◌+◌, ◌≤◌, [], ◌∷◌, take, nat_lt, Option, Some, None, refl, ap, sym, ◌∙◌, arith}
 use Rattle.std.proofs.lemmas.Bool.{cond-true, cond-false, lt-ltb, le-ltb}
 use Rattle.lk_tree.specs.Tree.{Name}
-use Rattle.lk_rulebook.specs.Units.{LibraryUnit, Library, members_of}
+use Rattle.lk_rulebook.specs.Units.{Library, members_of}
 use Rattle.lk_env.specs.Places.{member_in, first_place, at_member, place_in, place_below}
 
 -- no place is before the first unit

@@ -1,5 +1,5 @@
 -- What stands at a place is what the rule book finds.
-use Rattle.std.proofs.Common.{◌≡◌, ℕ, zero, suc, ◌+◌, List, [], ◌∷◌, Option, Some, None, refl, ap, sym, ◌∙◌, arith}
+use Rattle.std.proofs.Common.{◌≡◌, ℕ, zero, suc, ◌+◌, [], ◌∷◌, Option, Some, None, refl, ap, sym, ◌∙◌, arith}
 use Rattle.std.specs.Prelude.{option_map, option_and_then, slice_get}
 use Rattle.lk_tree.specs.Tree.{Name, name_discrete}
 use Rattle.lk_rulebook.specs.Place.{Entry}
@@ -27,6 +27,7 @@ given_at c i (m ∷ ms) f h = go (name_discrete m.0 c) (given_at c (suc i) ms f 
   where
     here : f i ≡ Some m
     here = let same : i ≡ i + zero = omega arith in ap f same ∙ h zero
+
     go : (d : Dec (m.0 ≡ c)) → AreTogether (λ j. option_map (λ (m : Name × Entry). m.1) (f j)) (member_in (suc i) ms c) (given_by ms c)
         → AreTogether (λ j. option_map (λ (m : Name × Entry). m.1) (f j)) (elim d as (λ y. Option ℕ) [ yes e ↦ Some i | no n ↦ member_in (suc i) ms c ]) (elim d as (λ y. Option Entry) [ yes e ↦ Some m.1 | no n ↦ given_by ms c ])
     go (yes e) r = ap (option_map (λ (m : Name × Entry). m.1)) here
@@ -48,6 +49,7 @@ found_from c i (u ∷ us) f h =
   where
     here : f i ≡ Some u
     here = let same : i ≡ i + zero = omega arith in ap f same ∙ h zero
+
     go : (o : Option ℕ) (g : Option Entry) → AreTogether (entry_at u) o g → AreTogether (found_by f) (place_in (suc i) us c) (first_giving (suc i) us c)
         → AreTogether (found_by f) (first_place (at_member i o) (place_in (suc i) us c)) (first_of_two (at_unit i u g) (first_giving (suc i) us c))
     go None None t r = r
@@ -67,6 +69,7 @@ unit_found us p x h = by_unit (slice_get us p.0) h
     by_entry : (u : LibraryUnit) (o : Option Entry) → at_unit p.0 u o ≡ Some x → x.unit ≡ p.0
     by_entry u None e = absurd cc
     by_entry u (Some y) e = let f : Found = record { unit = p.0; flaw = flaw_of u; entry = y } in let same : f ≡ x = cc in sym (ap (λ (z : Found). z.unit) same)
+
     by_unit : (o : Option LibraryUnit) → option_and_then (λ u. at_unit p.0 u (entry_at u p.1)) o ≡ Some x → x.unit ≡ p.0
     by_unit None e = absurd cc
     by_unit (Some u) e = by_entry u (entry_at u p.1) e

@@ -2,4 +2,4 @@ pub mod Given
 pub mod Members
 pub mod Noted
 pub mod Before
-pub mod Closed
+pub mod Bounds

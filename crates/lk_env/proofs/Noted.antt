@@ -1,5 +1,5 @@
 -- An index that is made step by step: what it has so far, and what the rest of the units will give.
-use Rattle.std.proofs.Common.{◌≡◌, ◌≢◌, ℕ, suc, ◌+◌, ◌<◌, ◌⊎◌, inl, inr, true, false, List, [], ◌∷◌, length, get_or, drop, Option, Some, None, refl, ap, sym, ◌∙◌, arith, add-one, eq-eqb, get_or-set_same, get_or-set_other, nat_eq}
+use Rattle.std.proofs.Common.{◌≡◌, ◌≢◌, ℕ, suc, ◌+◌, ◌<◌, ◌⊎◌, inl, inr, true, false, List, [], ◌∷◌, length, get_or, drop, Option, Some, None, refl, ap, sym, ◌∙◌, add-one, eq-eqb, get_or-set_same, get_or-set_other, nat_eq}
 use Rattle.std.specs.Prelude.{All, option_map, unwrap_or, slice_set}
 use Rattle.std.specs.List.{position_from}
 use Rattle.std.proofs.lemmas.Bool.{ne_eqb, cases_eq}
@@ -11,7 +11,7 @@ use Rattle.lk_store.specs.Values.{AreApart}
 use Rattle.lk_store.specs.Contents.{Contents, name_at}
 use Rattle.lk_env.specs.declared.place.Place.{Place}
 use Rattle.lk_env.specs.declared.unit.Unit.{Unit as StoredUnit}
-use Rattle.lk_env.specs.Units.{unit_at, library_at, IsUnitIn, AreUnitsIn}
+use Rattle.lk_env.specs.Units.{library_at, IsUnitIn, AreUnitsIn}
 use Rattle.lk_env.specs.Places.{first_place, at_member, place_in}
 use Rattle.lk_env.specs.Index.{member_names, pair_of, place_at, AreNoted, IsIndex}
 use Rattle.lk_env.proofs.Members.{members_known, place_of_number}

@@ -1,5 +1,5 @@
 -- Where a library gives a name: the first unit that gives it, and which of its members.
-use Rattle.std.specs.Prelude.{ℕ, suc, List, [], ◌∷◌, Option, Some, None, option_map, option_and_then, slice_get, nat_lt, if◌then◌else◌}
+use Rattle.std.specs.Prelude.{ℕ, suc, [], ◌∷◌, Option, Some, None, option_map, option_and_then, slice_get, nat_lt, if◌then◌else◌}
 use Rattle.lk_tree.specs.Tree.{Name, name_discrete}
 use Rattle.lk_rulebook.specs.Place.{Entry}
 use Rattle.lk_rulebook.specs.Units.{Members, LibraryUnit, members_of, Library, Found, at_unit}

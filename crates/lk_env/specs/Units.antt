@@ -4,6 +4,8 @@ use Rattle.lk_rulebook.specs.Place.{Ctor, BlockType as PlainType, Block as Plain
 use Rattle.lk_rulebook.specs.Place.{Hint as PlainHint}
 use Rattle.lk_rulebook.specs.Units.{Body as PlainBody, as_axiom, as_def, as_thm, as_opaque, as_quot, Decl, LibraryUnit, of_decl, of_block, Library}
 use Rattle.lk_store.specs.Contents.{Contents, name_at, tree_at}
+use Rattle.lk_store.specs.Store.{contents_of}
+use Rattle.lk_store.specs.declared.tables.Tables.{Tables}
 use Rattle.lk_env.specs.declared.unit.Hint.{Hint}
 use Rattle.lk_env.specs.declared.unit.Hint.TheVariants as hint
 use Rattle.lk_env.specs.declared.unit.Body.{Body}
@@ -34,14 +36,23 @@ declaration_at c d = record { name = name_at c d.name; levels = map (name_at c) 
 
 abbrev pub constructor_at : Contents → Constructor → Ctor
 constructor_at c k = record {
-  name = name_at c k.name; levels = map (name_at c) k.levels.items; type = tree_at c k.kind;
-  parent = name_at c k.parent; place = k.place; parameters = k.parameters; fields = k.fields;
+  name = name_at c k.name;
+  levels = map (name_at c) k.levels.items;
+  type = tree_at c k.kind;
+  parent = name_at c k.parent;
+  place = k.place;
+  parameters = k.parameters;
+  fields = k.fields;
 }
 
 abbrev pub type_at : Contents → BlockType → PlainType
 type_at c t = record {
-  name = name_at c t.name; levels = map (name_at c) t.levels.items; type = tree_at c t.kind;
-  parameters = t.parameters; indices = t.indices; ctors = map (constructor_at c) t.constructors.items;
+  name = name_at c t.name;
+  levels = map (name_at c) t.levels.items;
+  type = tree_at c t.kind;
+  parameters = t.parameters;
+  indices = t.indices;
+  ctors = map (constructor_at c) t.constructors.items;
 }
 
 abbrev pub rule_at : Contents → RecursorRule → RecRule
@@ -49,7 +60,9 @@ rule_at c r = record { ctor = name_at c r.constructor; fields = r.fields; value 
 
 abbrev pub recursor_at : Contents → Recursor → Rec
 recursor_at c r = record {
-  name = name_at c r.name; levels = map (name_at c) r.levels.items; type = tree_at c r.kind;
+  name = name_at c r.name;
+  levels = map (name_at c) r.levels.items;
+  type = tree_at c r.kind;
   recursor = record { parameters = r.parameters; indices = r.indices; motives = r.motives; minors = r.minors; k = r.k; rules = map (rule_at c) r.rules.items };
 }
 
@@ -63,6 +76,10 @@ unit_at c (unit.Block b) = of_block (block_at c b) (map (recursor_at c) b.recurs
 -- the library that units stand for
 abbrev pub library_at : Contents → List StoredUnit → Library
 library_at c us = map (unit_at c) us
+
+-- the library of a store's tables and units
+abbrev pub library_of : Tables × List StoredUnit → Library
+library_of l = library_at (contents_of l.0) l.1
 
 -- the names and trees of these parts are numbers of the store
 abbrev pub IsBodyIn : Contents → Body → Type 0

@@ -69,11 +69,7 @@ pub fn names_of(alloc: Global, unit: &Unit) -> Result<Vec<u64>, NoMemory>
 }
 
 /// Notes the members of a unit by their names. A name that has a place keeps it.
-fn note_members(
-    cells: &mut Vec<Option<Place>>,
-    unit: u32,
-    names: &[u64],
-) -> Result<(), NoMemory>
+fn note_members(cells: &mut Vec<Option<Place>>, unit: u32, names: &[u64]) -> Result<(), NoMemory>
     requires { All (λ n. n < length cells.old.items) names.now }
     ensures one_each { length cells.new.items ≡ length cells.old.items }
     ensures ok { OnOk result (AreNoted unit names.now cells.old.items cells.new.items) }

@@ -31,17 +31,31 @@ impl Model for Library {
 
     ghost view = { λ l. (l.base, l.units.items) };
 
-    ghost invariant = { λ l. AreUnitsIn (contents_of l.base) l.units.items × IsIndex (contents_of l.base) l.units.items l.cells.items };
+    ghost invariant = { λ l. AreUnitsIn (contents_of l.base) l.units.items
+        × IsIndex (contents_of l.base) l.units.items l.cells.items };
+}
+
+ghost use Rattle.std.specs.Prelude.{◌≡◌, option_map};
+ghost use Rattle.lk_env.specs.Places.{place_below};
+ghost use Rattle.lk_env.specs.Index.{pair_of};
+
+/// The place, where its unit is one of the first ones.
+fn place_among(place: Option<Place>, units: u32) -> Option<Place>
+    ensures { option_map pair_of result ≡ place_below units (option_map pair_of place) }
+{
+    match place {
+        Some(p) if p.unit < units => place,
+        _ => None,
+    }
 }
 
 impl Library {
-    ghost use Rattle.std.specs.Prelude.{◌≡◌, ◌<◌, length, option_map, IfOk};
+    ghost use Rattle.std.specs.Prelude.{◌<◌, length, take, IfOk};
     ghost use Rattle.lk_store.specs.Names.{name_of};
     ghost use Rattle.lk_store.specs.Contents.{name_at};
     ghost use Rattle.lk_store.specs.Store.{contents_of};
-    ghost use Rattle.lk_env.specs.Units.{library_at, AreUnitsIn};
+    ghost use Rattle.lk_env.specs.Units.{library_of, AreUnitsIn};
     ghost use Rattle.lk_env.specs.Places.{place_in};
-    ghost use Rattle.lk_env.specs.Index.{pair_of};
 
     /// Makes the index. Units are fewer than 2^32; more are want of memory.
     pub fn new(alloc: Global, base: BaseStore, units: Vec<Unit>) -> Result<Library, NoMemory>
@@ -68,14 +82,23 @@ impl Library {
     /// The first unit that gives the name, and which of its members. It takes no memory.
     pub fn place_of(&self, name: u64) -> Option<Place>
         requires { name < length (contents_of self.now.0).names }
-        ensures { option_map pair_of result ≡ place_in 0 (library_at (contents_of self.now.0) self.now.1) (name_at (contents_of self.now.0) name) }
+        ensures { option_map pair_of result ≡ place_in 0 (library_of self.now) (name_at (contents_of self.now.0) name) }
     {
         self.cells[name as usize]
     }
 
-    /// The same of a name that need not be in the store.
+    /// The first of so many units that gives the name, and which of its members. It takes no memory.
+    pub fn place_before(&self, units: u32, name: u64) -> Option<Place>
+        requires { name < length (contents_of self.now.0).names }
+        ensures { option_map pair_of result
+            ≡ place_in 0 (take units (library_of self.now)) (name_at (contents_of self.now.0) name) }
+    {
+        place_among(self.place_of(name), units)
+    }
+
+    /// What place_of says, of a name that need not be in the store.
     pub fn find(&self, name: &Name) -> Option<Place>
-        ensures { option_map pair_of result ≡ place_in 0 (library_at (contents_of self.now.0) self.now.1) (name_of name.now) }
+        ensures { option_map pair_of result ≡ place_in 0 (library_of self.now) (name_of name.now) }
     {
         match self.base.find_name(name) {
             Some(n) => self.place_of(n),

@@ -1,7 +1,6 @@
 //! A library of three theorems, the last two of one name.
 
-ghost use Rattle.std.specs.Prelude.{◌<◌, length, OnOk};
-ghost use Rattle.lk_store.specs.Store.{contents_of};
+ghost use Rattle.std.specs.Prelude.{◌<◌, length, IfOk, OnOk};
 ghost use Rattle.lk_env.specs.Units.{AreUnitsIn};
 
 use crate::library::Library;
@@ -21,19 +20,19 @@ fn name(alloc: Global, text: &[u8]) -> Result<Name, NoMemory> {
     Ok(name)
 }
 
-fn push_theorem(
+fn push_theorem<T: Terms>(
     alloc: Global,
-    base: &BaseStore,
+    store: &T,
     units: &mut Vec<Unit>,
     name: u64,
     tree: u64,
 ) -> Result<(), NoMemory>
-    requires known { AreUnitsIn (contents_of base.now) units.old.items }
-    requires name_in { name < length (contents_of base.now).names }
-    requires tree_in { tree < length (contents_of base.now).trees }
-    ensures { OnOk result (AreUnitsIn (contents_of base.now) units.new.items) }
+    requires known { AreUnitsIn (T.contents store.now) units.old.items }
+    requires name_in { name < length (T.contents store.now).names }
+    requires tree_in { tree < length (T.contents store.now).trees }
+    ensures { OnOk result (AreUnitsIn (T.contents store.now) units.new.items) }
 {
-    let _base = base;
+    let _store = store;
     units.push(Unit::Declaration(Declaration {
         name,
         levels: Vec::new(alloc),
@@ -43,37 +42,71 @@ fn push_theorem(
     Ok(())
 }
 
+fn push_all<T: Terms>(
+    alloc: Global,
+    store: &T,
+    a: u64,
+    b: u64,
+    tree: u64,
+) -> Result<Vec<Unit>, NoMemory>
+    requires a_in { a < length (T.contents store.now).names }
+    requires b_in { b < length (T.contents store.now).names }
+    requires tree_in { tree < length (T.contents store.now).trees }
+    ensures { IfOk result (λ units. AreUnitsIn (T.contents store.now) units.items) }
+{
+    let mut units = Vec::new(alloc);
+    push_theorem(alloc, store, &mut units, a, tree)?;
+    push_theorem(alloc, store, &mut units, b, tree)?;
+    push_theorem(alloc, store, &mut units, b, tree)?;
+    Ok(units)
+}
+
+fn theorems<T: Terms>(alloc: Global, store: &mut T) -> Result<Vec<Unit>, NoMemory>
+    ensures { IfOk result (λ units. AreUnitsIn (T.contents store.new) units.items) }
+{
+    let tree = store.make(Node::Lit(0))?;
+    let a = store.make_name(&name(alloc, b"a")?)?;
+    let b = store.make_name(&name(alloc, b"b")?)?;
+    push_all(alloc, store, a, b, tree)
+}
+
 fn library(alloc: Global) -> Result<Library, NoMemory> {
     let mut base = BaseStore::new(alloc);
-    let tree = base.make(Node::Lit(0))?;
-    let a = base.make_name(&name(alloc, b"a")?)?;
-    let b = base.make_name(&name(alloc, b"b")?)?;
-    let mut units = Vec::new(alloc);
-    push_theorem(alloc, &base, &mut units, a, tree)?;
-    push_theorem(alloc, &base, &mut units, b, tree)?;
-    push_theorem(alloc, &base, &mut units, b, tree)?;
+    let units = theorems(alloc, &mut base)?;
     Library::new(alloc, base, units)
+}
+
+// Where the library gives a name.
+fn found(alloc: Global, text: &[u8]) -> Result<Option<Place>, NoMemory> {
+    let library = library(alloc)?;
+    let name = name(alloc, text)?;
+    Ok(library.find(&name))
+}
+
+fn is_at(place: Option<Place>, unit: u32) -> bool {
+    match place {
+        Some(p) => p.unit == unit && p.member == 0,
+        None => false,
+    }
 }
 
 #[test]
 fn the_first_unit_gives_a_name(rt: HostRuntime) -> Result<(), Fail> {
     let alloc = rt.alloc();
-    let library = library(alloc)?;
-    let b = name(alloc, b"b")?;
-    let place = match library.base().find_name(&b) {
-        Some(n) => library.place_of(n),
-        None => None,
-    };
-    assert_eq!(rt; place, Some(Place { unit: 1, member: 0 }));
-    assert_eq!(rt; library.find(&name(alloc, b"a")?), Some(Place { unit: 0, member: 0 }));
+    assert!(rt; is_at(found(alloc, b"a")?, 0));
+    assert!(rt; is_at(found(alloc, b"b")?, 1));
     Ok(())
 }
 
 #[test]
 fn an_absent_name_is_not_found(rt: HostRuntime) -> Result<(), Fail> {
-    let alloc = rt.alloc();
-    let library = library(alloc)?;
-    assert_eq!(rt; library.find(&name(alloc, b"c")?), None);
+    assert!(rt; found(rt.alloc(), b"c")?.is_none());
+    Ok(())
+}
+
+#[test]
+fn a_library_has_its_units(rt: HostRuntime) -> Result<(), Fail> {
+    let library = library(rt.alloc())?;
     assert_eq!(rt; library.units().len(), 3);
     Ok(())
 }
