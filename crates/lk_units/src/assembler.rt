@@ -1,5 +1,5 @@
 //! The theorems of a file, gathered item by item.
-ghost use Rattle.std.specs.Prelude.{◌≡◌, ◌<◌, ℕ, length, IfOk, IfErr, OnOk, Ok};
+ghost use Rattle.std.specs.Prelude.{◌≡◌, IfOk, IfErr};
 ghost use Rattle.lk_store.specs.Contents.{Contents, Extends};
 ghost use Rattle.lk_units.specs.State.{State, begin, counted};
 ghost use Rattle.lk_units.specs.Held.{IsKnown, Holds, Follows};

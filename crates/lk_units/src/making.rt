@@ -1,5 +1,5 @@
 //! What each kind of line makes.
-ghost use Rattle.std.specs.Prelude.{◌≡◌, ◌<◌, ◌++◌, ◌∷◌, [], ℕ, length, All, IfOk, Ok, OnOk};
+ghost use Rattle.std.specs.Prelude.{◌≡◌, ◌<◌, ◌++◌, ◌∷◌, [], length, All, IfOk, Ok};
 ghost use Rattle.lk_tree.specs.Tree.{var};
 ghost use Rattle.lk_store.specs.Names.{part_of};
 ghost use Rattle.lk_store.specs.Contents.{Contents, name_at, level_at, tree_at, tree_of, IsIn, Extends};
