@@ -4,10 +4,10 @@ ghost use Rattle.std.specs.Prelude.{◌≡◌, ◌<◌, ◌↔◌, [], length, I
 ghost use Rattle.lk_store.specs.Contents.{tree_at, tree_of, IsIn, Extends, IsTree};
 ghost use Rattle.lk_list.specs.Listing.{listed, inside, number_of, AreListed};
 
+use lk_rows::memory::NoMemory;
 use lk_store::name::{Name, Text};
 use lk_store::node::{LevelNode, ListNode, Node};
 use lk_store::terms::Terms;
-use lk_rows::memory::NoMemory;
 use std::alloc::Global;
 use std::marker::Model;
 

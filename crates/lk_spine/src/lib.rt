@@ -7,9 +7,9 @@ ghost use Rattle.lk_store.specs.Contents.{tree_at, Extends, IsTree};
 ghost use Rattle.lk_spine.specs.Telescope.{domains, under_pis};
 ghost use Rattle.lk_spine.specs.Reading.{AreTrees};
 
+use lk_rows::memory::NoMemory;
 use lk_store::node::Node;
 use lk_store::terms::Terms;
-use lk_rows::memory::NoMemory;
 use std::alloc::Global;
 
 /// What stands at the head of applications. It takes no memory.

@@ -1,14 +1,14 @@
 -- A store that grows.
-use Rattle.std.proofs.Common.{true, ◌≡◌, ◌≢◌, ℕ, ◌+◌, ◌<◌, ◌≤◌, ◌^◌, List, [], ◌∷◌, ◌++◌, length, get_or, map, refl, ap, sym, ◌∙◌, subst, arith, append_assoc, below_more, false}
+use Rattle.std.proofs.Common.{true, ◌≡◌, ◌≢◌, ℕ, ◌+◌, ◌<◌, ◌≤◌, ◌^◌, List, [], ◌∷◌, ◌++◌, length, get_or, refl, sym, ◌∙◌, arith, below_more, false}
 use Rattle.std.proofs.lemmas.Grind.{common_steps}
 use Rattle.std.proofs.lemmas.List.{map-append}
 use Rattle.lk_tree.specs.Tree.{Name, Level, zero_level, Tree, wide}
 use Rattle.lk_store.specs.Measures.{level_has_params, list_has_params}
 use Rattle.lk_store.specs.Names.{name_of}
-use Rattle.lk_store.specs.Values.{Keeps, AreApart, values_of, IsColumn}
-use Rattle.lk_store.specs.Contents.{Contents, Extends}
-use Rattle.lk_store.specs.Keys.{decoded, IsCode, AreNumbers, key_level, IsLevelBelow, key_list, IsListBelow, Parts, key_tree, IsTreeBelow, IsMarkedTree}
-use Rattle.lk_store.specs.Store.{over, names_of, levels_by, levels_of, lists_by, lists_of, parts_of, trees_by, trees_of, contents_of, IsStore}
+use Rattle.lk_store.specs.Values.{Keeps, values_of, IsColumn}
+use Rattle.lk_store.specs.Contents.{Extends}
+use Rattle.lk_store.specs.Keys.{key_level, IsLevelBelow, key_list, IsListBelow, Parts, key_tree, IsTreeBelow, IsMarkedTree}
+use Rattle.lk_store.specs.Store.{names_of, levels_by, levels_of, lists_by, lists_of, parts_of, trees_by, trees_of, contents_of, IsStore}
 use Rattle.lk_store.specs.declared.name.Part.{Part}
 use Rattle.lk_store.specs.declared.key.Number.{Number}
 use Rattle.lk_store.specs.declared.key.LevelKey.{LevelKey}

@@ -2,14 +2,13 @@
 use Rattle.std.proofs.Common.{true, ◌≡◌, ◌≢◌, ℕ, ◌+◌, ◌<◌, ◌≤◌, ◌^◌, List, [], ◌∷◌, ◌++◌, length, get_or, map, refl, ap, sym, ◌∙◌, subst, arith, append_assoc, false}
 use Rattle.std.proofs.lemmas.Grind.{common_steps}
 use Rattle.std.proofs.lemmas.List.{get_or-map}
-use Rattle.lk_tree.specs.Tree.{Name, Level, zero_level, Tree, wide}
-use Rattle.lk_store.specs.Measures.{level_has_params, list_has_params, AreMarks}
+use Rattle.lk_tree.specs.Tree.{zero_level, Tree, wide}
+use Rattle.lk_store.specs.Measures.{level_has_params, list_has_params}
 use Rattle.lk_store.specs.Names.{part_of, name_of}
-use Rattle.lk_store.specs.Values.{Keeps}
 use Rattle.lk_store.specs.Contents.{Contents, Extends, level_of, list_of, tree_of, IsLevelIn, IsListIn, IsIn, IsName, IsText, IsLevel, IsList, IsTree}
-use Rattle.lk_store.specs.Keys.{decoded, IsCode, IsCodeOf, IsMarkedTree, key_tree}
-use Rattle.lk_store.specs.Nodes.{level_node, list_node, node_of, IsKeyOf, AreCodes}
-use Rattle.lk_store.specs.Store.{over, names_of, levels_of, lists_of, parts_of, trees_of, contents_of, IsStore, Recoded, Grown}
+use Rattle.lk_store.specs.Keys.{IsCodeOf}
+use Rattle.lk_store.specs.Nodes.{level_node, list_node, IsKeyOf}
+use Rattle.lk_store.specs.Store.{over, names_of, contents_of, IsStore, Recoded, Grown}
 use Rattle.lk_store.specs.RowFor.{IsRowFor}
 use Rattle.lk_store.specs.declared.name.Part.{Part}
 use Rattle.lk_store.specs.declared.name.Part.TheVariants.{Text, Number as PartNumber}
@@ -25,8 +24,8 @@ use Rattle.lk_store.specs.declared.node.ListNode.{ListNode}
 use Rattle.lk_store.specs.declared.node.Node.{Node}
 use Rattle.lk_store.specs.declared.tables.Tables.{Tables}
 use Rattle.lk_store.proofs.Columns.{Keeps-self, Keeps-push}
-use Rattle.lk_store.proofs.Keyed.{no_number, decoded-small, decoded-large, decoded-keeps, code-keeps}
-use Rattle.lk_store.proofs.Growing.{push_number, push_name, push_text, push_level, push_list, push_tree, length-levels_of, length-lists_of, length-trees_of, level_is, list_is, tree_is, Keeps-is}
+use Rattle.lk_store.proofs.Keyed.{no_number, decoded-small, decoded-large}
+use Rattle.lk_store.proofs.Growing.{push_number, push_name, push_text, push_level, push_list, push_tree, length-levels_of, length-lists_of, length-trees_of, level_is, list_is, tree_is}
 use Rattle.lk_store.proofs.Read.{level_of_key, list_of_key, tree_of_key, level_below_of, list_below_of, below_of}
 
 part_of-injective : (p q : Part) → part_of p ≡ part_of q → p ≡ q

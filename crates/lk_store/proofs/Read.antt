@@ -1,15 +1,12 @@
 -- What the rows of a store say.
-use Rattle.std.proofs.Common.{◌≡◌, ℕ, ◌+◌, ◌<◌, ◌≤◌, ◌^◌, List, [], ◌∷◌, ◌++◌, length, get_or, map, refl, ap, sym, ◌∙◌, subst, arith, nat_eq}
+use Rattle.std.proofs.Common.{◌≡◌, ℕ, ◌<◌, ◌^◌, [], length, get_or, refl, ap, sym, ◌∙◌, arith, nat_eq}
 use Rattle.std.specs.Prelude.{IsTrue}
 use Rattle.std.proofs.lemmas.Bool.Decides.{nat_tests}
 use Rattle.std.proofs.lemmas.Grind.{common_steps}
-use Rattle.lk_tree.specs.Tree.{Level, zero_level, Tree, wide}
-use Rattle.lk_tree.specs.Bind.{bound}
-use Rattle.lk_tree.specs.Loose.{loose}
-use Rattle.lk_tree.specs.Scan.{is_narrow}
-use Rattle.lk_store.specs.Measures.{level_has_params, list_has_params, has_params}
+use Rattle.lk_tree.specs.Tree.{zero_level, wide}
+use Rattle.lk_store.specs.Measures.{level_has_params, list_has_params}
 use Rattle.lk_store.specs.Contents.{level_of, list_of, tree_of, IsLevelIn, IsListIn, IsIn}
-use Rattle.lk_store.specs.Keys.{decoded, IsCode, key_level, IsLevelBelow, key_list, IsListBelow, key_tree, IsTreeBelow, IsMarkedTree}
+use Rattle.lk_store.specs.Keys.{key_level, IsLevelBelow, key_list, IsListBelow, key_tree, IsTreeBelow, IsMarkedTree}
 use Rattle.lk_store.specs.Nodes.{level_node, list_node, node_of, AreCodes, LevelFits, ListFits, NodeFits}
 use Rattle.lk_store.specs.Store.{names_of, levels_of, lists_of, parts_of, trees_of, contents_of, IsStore}
 use Rattle.lk_store.specs.declared.key.LevelKey.{LevelKey}

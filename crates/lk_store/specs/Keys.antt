@@ -1,21 +1,17 @@
 -- What the rows of a store's tables stand for.
-use Rattle.std.specs.Prelude.{◌≡◌, ℕ, ◌<◌, ◌≤◌, ◌+◌, ◌-◌, ◌^◌, nat_lt, if◌then◌else◌, List, [], ◌∷◌, ◌++◌, length, slice_index_or, map}
+use Rattle.std.specs.Prelude.{◌≡◌, ℕ, ◌<◌, ◌≤◌, ◌+◌, ◌-◌, ◌^◌, nat_lt, if◌then◌else◌, List, [], ◌∷◌, length, slice_index_or}
 use Rattle.lk_tree.specs.Tree.{Name, Level, zero_level, succ_level, max_level, imax_level, param, Tree, var, sort, const, app, lam, pi, let_in, proj, lit, wide, str, local}
 use Rattle.lk_tree.specs.Bind.{bound}
 use Rattle.lk_tree.specs.Loose.{loose}
 use Rattle.lk_tree.specs.Scan.{is_narrow}
-use Rattle.lk_store.specs.Measures.{level_has_params, list_has_params, has_params}
-use Rattle.lk_store.specs.Names.{name_of}
-use Rattle.lk_store.specs.Values.{AreApart, values_of, IsColumn}
-use Rattle.lk_store.specs.Contents.{Contents}
+use Rattle.lk_store.specs.Measures.{has_params}
+use Rattle.lk_store.specs.Values.{AreApart}
 use Rattle.lk_store.specs.Hashes.{hash_of_words}
 use Rattle.lk_store.specs.declared.key.Number.{Number}
 use Rattle.lk_store.specs.declared.key.LevelKey.{LevelKey}
 use Rattle.lk_store.specs.declared.key.LevelKey.TheVariants.{Zero, Succ, Max, IMax, Param}
-use Rattle.lk_store.specs.declared.key.LevelRow.{LevelRow}
 use Rattle.lk_store.specs.declared.key.ListKey.{ListKey}
 use Rattle.lk_store.specs.declared.key.ListKey.TheVariants.{Empty, Cons}
-use Rattle.lk_store.specs.declared.key.ListRow.{ListRow}
 use Rattle.lk_store.specs.declared.key.TreeKey.{TreeKey}
 use Rattle.lk_store.specs.declared.key.TreeKey.TheVariants.{Var, Sort, Const, App, Lam, Pi, Let, Proj, Lit, Wide, Str, Local}
 use Rattle.lk_store.specs.declared.key.TreeRow.{TreeRow}

@@ -5,9 +5,9 @@ ghost use Rattle.lk_tree.specs.Bind.{close as closed};
 ghost use Rattle.lk_store.specs.Contents.{tree_at, Extends, IsTree};
 
 use crate::walk::{Rewrite, rewritten};
+use lk_rows::memory::NoMemory;
 use lk_store::node::Node;
 use lk_store::terms::Terms;
-use lk_rows::memory::NoMemory;
 use std::alloc::Global;
 
 /// Puts the outermost variable in place of the Locals of a number.

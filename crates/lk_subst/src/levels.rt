@@ -5,11 +5,11 @@ ghost use Rattle.lk_tree.specs.Tree.{sort, const};
 ghost use Rattle.lk_tree.specs.Levels.{put_levels as tree_put};
 ghost use Rattle.lk_store.specs.Contents.{name_at, level_at, list_at, tree_at, Extends, IsTree};
 
-use crate::walk::{Rewrite, rewritten};
 use crate::parameters::{put_in_level, put_levels};
+use crate::walk::{Rewrite, rewritten};
+use lk_rows::memory::NoMemory;
 use lk_store::node::Node;
 use lk_store::terms::Terms;
-use lk_rows::memory::NoMemory;
 use std::alloc::Global;
 
 /// Puts levels in place of parameters; of a repeated parameter the first place counts.

@@ -8,10 +8,10 @@ ghost use Rattle.lk_subst.specs.Parts.{AreMet};
 ghost use Rattle.lk_subst.specs.Parameters.{putting, ArePut};
 
 use crate::parts::{Met, level_parts};
-use lk_store::node::{LevelNode, ListNode};
-use lk_store::terms::Terms;
 use lk_rows::memory::NoMemory;
 use lk_rows::table::Table;
+use lk_store::node::{LevelNode, ListNode};
+use lk_store::terms::Terms;
 use std::alloc::Global;
 
 /// The value for a name. Of a repeated parameter the first counts.

@@ -4,12 +4,12 @@ ghost use Rattle.std.specs.Prelude.{◌≡◌, ◌<◌, ◌+◌, length, All, If
 ghost use Rattle.lk_store.specs.Contents.{level_at};
 ghost use Rattle.lk_subst.specs.Parts.{AreMet, AreVisits, visits_cost, cost};
 
-use lk_store::hashing::mix;
-use lk_store::node::LevelNode;
-use lk_store::terms::Terms;
 use lk_rows::memory::NoMemory;
 use lk_rows::row::Row;
 use lk_rows::table::Table;
+use lk_store::hashing::mix;
+use lk_store::node::LevelNode;
+use lk_store::terms::Terms;
 use std::alloc::Global;
 
 /// A level that was met.

@@ -5,9 +5,9 @@ ghost use Rattle.lk_store.specs.Contents.{tree_at, Extends, IsTree};
 ghost use Rattle.lk_tree.specs.Putting.{put as put_values};
 
 use crate::walk::{Rewrite, rewritten};
+use lk_rows::memory::NoMemory;
 use lk_store::node::Node;
 use lk_store::terms::Terms;
-use lk_rows::memory::NoMemory;
 use std::alloc::Global;
 
 /// Puts values in place of the outermost variables, the first in place of the outermost one.

@@ -5,12 +5,12 @@ ghost use Rattle.lk_tree.specs.Tree.{Tree};
 ghost use Rattle.lk_store.specs.Contents.{Contents, tree_at, tree_of, IsIn, Extends, IsTree};
 ghost use Rattle.lk_subst.specs.Walks.{Change, Descends, finished, work, work_after, wait_of, IsWaiting, IsTurn, own, joined, Leads, wait_work, turn_work, AreMade, hash_of_place, GoesOn, first_of, next_of, with_child, inside};
 
-use lk_store::hashing::mix;
-use lk_store::node::Node;
-use lk_store::terms::Terms;
 use lk_rows::memory::NoMemory;
 use lk_rows::row::Row;
 use lk_rows::table::Table;
+use lk_store::hashing::mix;
+use lk_store::node::Node;
+use lk_store::terms::Terms;
 use std::alloc::Global;
 
 /// A number under some binders.

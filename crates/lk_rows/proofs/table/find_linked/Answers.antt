@@ -1,7 +1,7 @@
-use Rattle.std.proofs.Common.{rules, ◌≡◌, ◌<◌, ◌≤◌, ◌+◌, ◌-◌, ℕ, length, get_or, refl, ◌∙◌, ap, sym, arith, subst}
-use Rattle.std.specs.Prelude.{slice_index, IsTrue, Bool, true, false}
+use Rattle.std.proofs.Common.{rules, ◌≡◌, ◌<◌, ◌-◌, length, get_or, ◌∙◌, ap, sym, arith}
+use Rattle.std.specs.Prelude.{IsTrue, Bool, true, false}
 use Rattle.std.proofs.lemmas.List.{get_or_default}
-use Rattle.lk_rows.specs.Chains.{bucket, buckets_of}
+use Rattle.lk_rows.specs.Chains.{bucket}
 use Rattle.lk_rows.proofs.Linking.{unseen_at_head, unseen_at_link}
 use Rattle.lk_rows.proofs.table.find_linked.Goals as goal
 

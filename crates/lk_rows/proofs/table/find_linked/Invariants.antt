@@ -1,6 +1,6 @@
 use Rattle.std.proofs.Common.{◌≡◌, ℕ, ◌+◌, ◌<◌, ◌≤◌, length, get_or}
 use Rattle.std.specs.Prelude.{slice_index}
-use Rattle.lk_rows.specs.Chains.{bucket, buckets_of, IsLast}
+use Rattle.lk_rows.specs.Chains.{bucket, buckets_of}
 use Rattle.lk_rows.proofs.table.find_linked.Given as goal
 
 abbrev pub invariant-loop-at : goal.invariant-loop-at

@@ -1,4 +1,4 @@
-use Rattle.std.proofs.Common.{◌≡◌, ◌<◌, ◌≤◌, ◌+◌, ◌^◌, ◌++◌, ◌∷◌, [], length, get_or, set, refl, ◌∙◌, ap, sym, arith, rules, ℕ}
+use Rattle.std.proofs.Common.{◌≡◌, ◌<◌, ◌++◌, ◌∷◌, [], length, get_or, ◌∙◌, ap, arith, rules, ℕ}
 use Rattle.std.proofs.lemmas.List.{get_or_default}
 use Rattle.lk_rows.specs.Chains.{bucket}
 use Rattle.lk_rows.proofs.Linking.{IsTable-push}
