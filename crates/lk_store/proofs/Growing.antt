@@ -1,16 +1,14 @@
 -- A store that grows.
 use Rattle.std.proofs.Common.{true, ◌≡◌, ◌≢◌, ℕ, ◌+◌, ◌<◌, ◌≤◌, ◌^◌, List, [], ◌∷◌, ◌++◌, length, get_or, refl, sym, ◌∙◌, arith, below_more, false}
 use Rattle.std.proofs.lemmas.Grind.{common_steps}
-use Rattle.std.proofs.lemmas.List.{map-append}
 use Rattle.lk_tree.specs.Tree.{Name, Level, zero_level, Tree, wide}
 use Rattle.lk_store.specs.Measures.{level_has_params, list_has_params}
-use Rattle.lk_store.specs.Names.{name_of}
-use Rattle.lk_store.specs.Values.{Keeps, values_of, IsColumn}
+use Rattle.lk_store.specs.Values.{Keeps, AreApart, values_of, IsColumn}
 use Rattle.lk_store.specs.Contents.{Extends}
-use Rattle.lk_store.specs.Keys.{key_level, IsLevelBelow, key_list, IsListBelow, Parts, key_tree, IsTreeBelow, IsMarkedTree}
-use Rattle.lk_store.specs.Store.{names_of, levels_by, levels_of, lists_by, lists_of, parts_of, trees_by, trees_of, contents_of, IsStore}
-use Rattle.lk_store.specs.declared.name.Part.{Part}
+use Rattle.lk_store.specs.Keys.{key_name, IsNameBelow, key_level, IsLevelBelow, key_list, IsListBelow, Parts, key_tree, IsTreeBelow, IsMarkedTree}
+use Rattle.lk_store.specs.Store.{names_by, names_of, levels_by, levels_of, lists_by, lists_of, parts_of, trees_by, trees_of, contents_of, IsStore}
 use Rattle.lk_store.specs.declared.key.Number.{Number}
+use Rattle.lk_store.specs.declared.key.NameKey.{NameKey}
 use Rattle.lk_store.specs.declared.key.LevelKey.{LevelKey}
 use Rattle.lk_store.specs.declared.key.ListKey.{ListKey}
 use Rattle.lk_store.specs.declared.key.TreeKey.{TreeKey}
@@ -19,7 +17,7 @@ use Rattle.lk_store.specs.declared.key.ListRow.{ListRow}
 use Rattle.lk_store.specs.declared.key.TreeRow.{TreeRow}
 use Rattle.lk_store.specs.declared.tables.Tables.{Tables}
 use Rattle.lk_store.proofs.Columns.{Keeps-self, Keeps-push, AreApart-push, IsColumn-push, values_of-agree, values_keep, value_at, new_value, length-values_of}
-use Rattle.lk_store.proofs.Keyed.{no_number, key_level-keeps, key_level-names, level_below-more, key_level-injective, key_list-keeps, key_list-levels, list_below-more, key_list-injective, PartsKeep, key_tree-keeps, key_tree-parts, tree_below-parts, tree_below-more, marked-parts, PartsApart, key_tree-injective}
+use Rattle.lk_store.proofs.Keyed.{no_number, key_name-keeps, key_name-texts, name_below-more, key_name-injective, key_level-keeps, key_level-names, level_below-more, key_level-injective, key_list-keeps, key_list-levels, list_below-more, key_list-injective, PartsKeep, key_tree-keeps, key_tree-parts, tree_below-parts, tree_below-more, marked-parts, PartsApart, key_tree-injective}
 
 pub Keeps-is : {X : Type 0} (none : X) (xs ys : List X) → ys ≡ xs → Keeps none xs ys
 Keeps-is none xs ys e = rw e (Keeps-self none xs)
@@ -39,6 +37,9 @@ column-agree none f g P Q M N agree more marks ks s =
       },
     )
 
+abbrev pub Names : List (List ℕ) → List NameKey → Type 0
+Names texts keys = IsColumn [] (names_by texts) (λ n k. IsNameBelow (length texts) n k) (λ v k. Unit {0}) keys
+
 abbrev pub Levels : List Name → List LevelRow → Type 0
 Levels names rows = IsColumn zero_level (levels_by names) (λ n row. IsLevelBelow (length names) n row.key) (λ l row. row.params ≡ level_has_params l) rows
 
@@ -47,6 +48,10 @@ Lists levels rows = IsColumn [] (lists_by levels) (λ n row. IsListBelow (length
 
 abbrev pub Trees : Parts → List TreeRow → Type 0
 Trees parts rows = IsColumn wide (trees_by parts) (λ n row. IsTreeBelow parts n row.key) (λ t row. IsMarkedTree parts.numbers t row) rows
+
+names_carry : (ts us : List (List ℕ)) (keys : List NameKey) → Keeps [] ts us → Names ts keys → (values_of (names_by us) keys ≡ values_of (names_by ts) keys) × Names us keys
+names_carry ts us keys x s = column-agree [] (names_by ts) (names_by us) _ _ _ _
+    (λ vs k h. key_name-texts ts us vs k x h) (λ n k h. name_below-more (length ts) (length us) n n k x.longer (omega arith) h) (λ v k h. h) keys s
 
 levels_carry : (ns ms : List Name) (rows : List LevelRow) → Keeps [] ns ms → Levels ns rows → (values_of (levels_by ms) rows ≡ values_of (levels_by ns) rows) × Levels ms rows
 levels_carry ns ms rows x s = column-agree zero_level (levels_by ns) (levels_by ms) _ _ _ _
@@ -59,6 +64,9 @@ lists_carry ls ms rows x s = column-agree [] (lists_by ls) (lists_by ms) _ _ _ _
 trees_carry : (p q : Parts) (rows : List TreeRow) → PartsKeep p q → Trees p rows → (values_of (trees_by q) rows ≡ values_of (trees_by p) rows) × Trees q rows
 trees_carry p q rows x s = column-agree wide (trees_by p) (trees_by q) _ _ _ _
     (λ vs k h. key_tree-parts p q vs k.key x h) (λ n k h. tree_below-parts p q n k.key x h) (λ v k h. marked-parts p.numbers q.numbers v k x.numbers h) rows s
+
+names_steady : (ts : List (List ℕ)) (vs us : List Name) (k : NameKey) → Keeps [] vs us → IsNameBelow (length ts) (length vs) k → names_by ts us k ≡ names_by ts vs k
+names_steady ts vs us k x h = key_name-keeps ts vs us k x h
 
 levels_steady : (ns : List Name) (vs us : List Level) (k : LevelRow) → Keeps zero_level vs us → IsLevelBelow (length ns) (length vs) k.key → levels_by ns us k ≡ levels_by ns vs k
 levels_steady ns vs us k x h = key_level-keeps ns vs us k.key x h
@@ -79,6 +87,9 @@ module _ (r : Tables) (s : IsStore r) where
   pub store_trees : Trees (parts_of r) r.trees
   store_trees = s.trees
 
+  pub length-names_of : length (names_of r) ≡ length r.names
+  length-names_of = length-values_of (names_by r.texts) r.names
+
   pub length-levels_of : length (levels_of r) ≡ length r.levels
   length-levels_of = length-values_of (levels_by (names_of r)) r.levels
 
@@ -89,6 +100,9 @@ module _ (r : Tables) (s : IsStore r) where
   length-trees_of = length-values_of (trees_by (parts_of r)) r.trees
 
   -- the value of a number is that of its row
+  pub name_is : (i : ℕ) (d : NameKey) → i < length r.names → get_or (names_of r) i [] ≡ key_name r.texts (names_of r) (get_or r.names i d)
+  name_is i d l = value_at [] (names_by r.texts) (λ n k. IsNameBelow (length r.texts) n k) (λ v k. Unit {0}) (names_steady r.texts) r.names s.names.known i d l
+
   pub level_is : (i : ℕ) (d : LevelRow) → i < length r.levels → get_or (levels_of r) i zero_level ≡ key_level (names_of r) (levels_of r) (get_or r.levels i d).key
   level_is i d l = value_at zero_level (levels_by (names_of r)) (λ n row. IsLevelBelow (length (names_of r)) n row.key) (λ l row. row.params ≡ level_has_params l) (levels_steady (names_of r)) r.levels s.levels.known i d l
 
@@ -99,11 +113,18 @@ module _ (r : Tables) (s : IsStore r) where
   tree_is i d l = value_at wide (trees_by (parts_of r)) (λ n row. IsTreeBelow (parts_of r) n row.key) (λ t row. IsMarkedTree r.numbers t row) (trees_steady (parts_of r)) r.trees s.trees.known i d l
 
   -- a key that no row has stands for something new
+  pub name_fresh : (k : NameKey) → IsNameBelow (length r.texts) (length (names_of r)) k → ((i : ℕ) (d : NameKey) → i < length r.names → get_or r.names i d ≢ k)
+      → (i : ℕ) → i < length r.names → get_or (names_of r) i [] ≢ key_name r.texts (names_of r) k
+  name_fresh k h new i l e =
+      new i k l (key_name-injective r.texts (names_of r) s.texts_apart s.names.apart (get_or r.names i k) k
+      (name_below-more (length r.texts) (length r.texts) i (length (names_of r)) (get_or r.names i k) (omega arith) (rw length-names_of (omega arith)) (s.names.known i k l)) h
+      (sym (name_is i k l) ∙ e))
+
   pub level_fresh : (k : LevelKey) → IsLevelBelow (length (names_of r)) (length (levels_of r)) k → ((i : ℕ) (d : LevelRow) → i < length r.levels → (get_or r.levels i d).key ≢ k)
       → (i : ℕ) → i < length r.levels → get_or (levels_of r) i zero_level ≢ key_level (names_of r) (levels_of r) k
   level_fresh k h new i l e =
       let d : LevelRow = record { key = k; params = false } in
-      new i d l (key_level-injective (names_of r) (levels_of r) s.names_apart s.levels.apart (get_or r.levels i d).key k
+      new i d l (key_level-injective (names_of r) (levels_of r) s.names.apart s.levels.apart (get_or r.levels i d).key k
       (level_below-more (length (names_of r)) (length (names_of r)) i (length (levels_of r)) (get_or r.levels i d).key (omega arith) (rw length-levels_of (omega arith)) (s.levels.known i d l)) h
       (sym (level_is i d l) ∙ e))
 
@@ -116,7 +137,7 @@ module _ (r : Tables) (s : IsStore r) where
       (sym (list_is i d l) ∙ e))
 
   apart : PartsApart (parts_of r)
-  apart = record { numbers = s.numbers; names = s.names_apart; texts = s.texts_apart; levels = s.levels.apart; lists = s.lists.apart }
+  apart = record { numbers = s.numbers; names = s.names.apart; texts = s.texts_apart; levels = s.levels.apart; lists = s.lists.apart }
 
   pub tree_fresh : (k : TreeKey) → IsTreeBelow (parts_of r) (length (trees_of r)) k → ((i : ℕ) (d : TreeRow) → i < length r.trees → (get_or r.trees i d).key ≢ k)
       → (i : ℕ) → i < length r.trees → get_or (trees_of r) i wide ≢ key_tree (parts_of r) (trees_of r) k
@@ -149,10 +170,9 @@ module _ (r : Tables) (s : IsStore r) where
                 i (rw longer at l);
             apart = AreApart-push no_number r.numbers n s.numbers.apart (λ i l. new i no_number l);
           };
-          names_few = s.names_few;
-          names_apart = s.names_apart;
           texts_few = s.texts_few;
           texts_apart = s.texts_apart;
+          names = s.names;
           levels = s.levels;
           lists = s.lists;
           trees = trees.1;
@@ -160,38 +180,49 @@ module _ (r : Tables) (s : IsStore r) where
         trees.0,
       )
 
-  pub push_name : (n : List Part) → length r.names + 1 < 2 ^ 32 → ((i : ℕ) → i < length r.names → get_or (names_of r) i [] ≢ name_of n)
-      → let t : Tables = record r { names = r.names ++ n ∷ [] } in IsStore t × Extends (contents_of r) (contents_of t)
-  push_name n few new =
-      let t : Tables = record r { names = r.names ++ n ∷ [] } in
-      let longer : length (r.names ++ n ∷ []) ≡ length r.names + 1 = grind (arith, common_steps) in
-      let more : names_of t ≡ names_of r ++ name_of n ∷ [] = rw map-append refl in
-      let names : Keeps [] (names_of r) (names_of t) = rw more (Keeps-push [] (names_of r) (name_of n)) in
+  -- where names or texts were added, and each kept its own, the levels, lists and trees are carried along
+  carried : (t : Tables) → Keeps [] (names_of r) (names_of t) → Keeps [] r.texts t.texts → t.numbers ≡ r.numbers → t.levels ≡ r.levels → t.lists ≡ r.lists → t.trees ≡ r.trees
+      → length t.texts < 2 ^ 32 → AreApart [] t.texts → Names t.texts t.names → IsStore t × Extends (contents_of r) (contents_of t)
+  carried t names texts same_numbers same_level_rows same_list_rows same_tree_rows few texts_apart column =
       let levels = levels_carry (names_of r) (names_of t) r.levels names s.levels in
-      let same_levels = Keeps-is zero_level (levels_of r) (levels_of t) levels.0 in
+      let levels_same : levels_of t ≡ levels_of r = rw same_level_rows levels.0 in
+      let same_levels = Keeps-is zero_level (levels_of r) (levels_of t) levels_same in
       let lists = lists_carry (levels_of r) (levels_of t) r.lists same_levels s.lists in
-      let same_lists = Keeps-is [] (lists_of r) (lists_of t) lists.0 in
+      let lists_same : lists_of t ≡ lists_of r = rw same_list_rows lists.0 in
+      let same_lists = Keeps-is [] (lists_of r) (lists_of t) lists_same in
       let keep : PartsKeep (parts_of r) (parts_of t) = record {
-        numbers = Keeps-self no_number r.numbers;
+        numbers = Keeps-is no_number r.numbers t.numbers same_numbers;
         names = names;
-        texts = Keeps-self [] r.texts;
+        texts = texts;
         levels = same_levels;
         lists = same_lists;
       } in
       let trees = trees_carry (parts_of r) (parts_of t) r.trees keep s.trees in
-      let count : length (names_of r) ≡ length r.names = grind (arith, common_steps) in (
+      let trees_same : trees_of t ≡ trees_of r = rw same_tree_rows trees.0 in (
         record {
-          numbers = s.numbers;
-          names_few = rw longer few;
-          names_apart = rw more (AreApart-push [] (names_of r) (name_of n) s.names_apart (λ i l. new i (rw count at l)));
-          texts_few = s.texts_few;
-          texts_apart = s.texts_apart;
-          levels = levels.1;
-          lists = lists.1;
-          trees = trees.1;
+          numbers = rw same_numbers s.numbers;
+          texts_few = few;
+          texts_apart = texts_apart;
+          names = column;
+          levels = rw same_level_rows levels.1;
+          lists = rw same_list_rows lists.1;
+          trees = rw same_tree_rows trees.1;
         },
-        record { names = names; texts = Keeps-self [] r.texts; levels = same_levels; lists = same_lists; trees = Keeps-is wide (trees_of r) (trees_of t) trees.0 },
+        record { names = names; texts = texts; levels = same_levels; lists = same_lists; trees = Keeps-is wide (trees_of r) (trees_of t) trees_same },
       )
+
+  pub push_name : (k : NameKey) → length r.names + 1 < 2 ^ 32 → IsNameBelow (length r.texts) (length (names_of r)) k → ((i : ℕ) (d : NameKey) → i < length r.names → get_or r.names i d ≢ k)
+      → let t : Tables = record r { names = r.names ++ k ∷ [] } in
+      IsStore t × Extends (contents_of r) (contents_of t) × (get_or (names_of t) (length r.names) [] ≡ key_name r.texts (names_of r) k)
+  push_name k few below new =
+      let t : Tables = record r { names = r.names ++ k ∷ [] } in
+      let f = names_by r.texts in
+      let K : ℕ → NameKey → Type 0 = λ n k. IsNameBelow (length r.texts) n k in
+      let M : Name → NameKey → Type 0 = λ v k. Unit {0} in
+      let column = IsColumn-push [] f K M (names_steady r.texts) r.names k s.names few (rw length-names_of at below) tt (name_fresh k below new) in
+      let names = values_keep [] f K M (names_steady r.texts) r.names k in
+      let all = carried t names (Keeps-self [] r.texts) refl refl refl refl s.texts_few s.texts_apart column in
+      (all.0, all.1, new_value [] f K M (names_steady r.texts) r.names k)
 
   pub push_text : (x : List ℕ) → length r.texts + 1 < 2 ^ 32 → ((i : ℕ) (d : List ℕ) → i < length r.texts → get_or r.texts i d ≢ x)
       → let t : Tables = record r { texts = r.texts ++ x ∷ [] } in IsStore t × Extends (contents_of r) (contents_of t)
@@ -199,26 +230,8 @@ module _ (r : Tables) (s : IsStore r) where
       let t : Tables = record r { texts = r.texts ++ x ∷ [] } in
       let longer : length (r.texts ++ x ∷ []) ≡ length r.texts + 1 = grind (arith, common_steps) in
       let texts : Keeps [] r.texts (r.texts ++ x ∷ []) = Keeps-push [] r.texts x in
-      let keep : PartsKeep (parts_of r) (parts_of t) = record {
-        numbers = Keeps-self no_number r.numbers;
-        names = Keeps-self [] (names_of r);
-        texts = texts;
-        levels = Keeps-self zero_level (levels_of r);
-        lists = Keeps-self [] (lists_of r);
-      } in
-      let trees = trees_carry (parts_of r) (parts_of t) r.trees keep s.trees in (
-        record {
-          numbers = s.numbers;
-          names_few = s.names_few;
-          names_apart = s.names_apart;
-          texts_few = rw longer few;
-          texts_apart = AreApart-push [] r.texts x s.texts_apart (λ i l. new i [] l);
-          levels = s.levels;
-          lists = s.lists;
-          trees = trees.1;
-        },
-        record { names = Keeps-self [] (names_of r); texts = texts; levels = Keeps-self zero_level (levels_of r); lists = Keeps-self [] (lists_of r); trees = Keeps-is wide (trees_of r) (trees_of t) trees.0 },
-      )
+      let names = names_carry r.texts (r.texts ++ x ∷ []) r.names texts s.names in
+      carried t (Keeps-is [] (names_of r) (names_of t) names.0) texts refl refl refl refl (rw longer few) (AreApart-push [] r.texts x s.texts_apart (λ i l. new i [] l)) names.1
 
   pub push_level : (row : LevelRow) → length r.levels + 1 < 2 ^ 32 → IsLevelBelow (length (names_of r)) (length (levels_of r)) row.key → row.params ≡ level_has_params (key_level (names_of r) (levels_of r) row.key)
       → ((i : ℕ) (d : LevelRow) → i < length r.levels → (get_or r.levels i d).key ≢ row.key)
@@ -243,10 +256,9 @@ module _ (r : Tables) (s : IsStore r) where
       let trees = trees_carry (parts_of r) (parts_of t) r.trees keep s.trees in (
         record {
           numbers = s.numbers;
-          names_few = s.names_few;
-          names_apart = s.names_apart;
           texts_few = s.texts_few;
           texts_apart = s.texts_apart;
+          names = s.names;
           levels = column;
           lists = lists.1;
           trees = trees.1;
@@ -276,10 +288,9 @@ module _ (r : Tables) (s : IsStore r) where
       let trees = trees_carry (parts_of r) (parts_of t) r.trees keep s.trees in (
         record {
           numbers = s.numbers;
-          names_few = s.names_few;
-          names_apart = s.names_apart;
           texts_few = s.texts_few;
           texts_apart = s.texts_apart;
+          names = s.names;
           levels = s.levels;
           lists = column;
           trees = trees.1;
@@ -300,10 +311,9 @@ module _ (r : Tables) (s : IsStore r) where
       let trees = values_keep wide f K M (trees_steady (parts_of r)) r.trees row in (
         record {
           numbers = s.numbers;
-          names_few = s.names_few;
-          names_apart = s.names_apart;
           texts_few = s.texts_few;
           texts_apart = s.texts_apart;
+          names = s.names;
           levels = s.levels;
           lists = s.lists;
           trees = column;

@@ -1,10 +1,12 @@
 -- Facts on what keys stand for.
-use Rattle.std.proofs.Common.{◌≡◌, ℕ, Bool, true, false, ◌+◌, ◌-◌, ◌<◌, ◌≤◌, ◌^◌, List, [], ◌∷◌, length, get_or, refl, ap, ◌∙◌, arith, nat_lt}
+use Rattle.std.proofs.Common.{◌≡◌, ℕ, Bool, true, false, ◌+◌, ◌-◌, ◌<◌, ◌≤◌, ◌^◌, List, [], ◌∷◌, ◌++◌, length, get_or, refl, ap, sym, ◌∙◌, arith, nat_lt}
 use Rattle.std.proofs.lemmas.Bool.Decides.{nat_tests}
-use Rattle.lk_tree.specs.Tree.{Name, Level, zero_level, succ_level, param, Tree, var, sort, proj, lit, wide, str, local}
+use Rattle.lk_tree.specs.Tree.{Name, Part, text, number, Level, zero_level, succ_level, param, Tree, var, sort, proj, lit, wide, str, local}
 use Rattle.lk_store.specs.Values.{Keeps, AreApart}
-use Rattle.lk_store.specs.Keys.{decoded, IsCode, IsShortCode, AreNumbers, key_level, IsLevelBelow, key_list, IsListBelow, Parts, key_tree, IsTreeBelow, IsMarkedTree}
+use Rattle.lk_store.specs.Keys.{decoded, IsCode, IsShortCode, AreNumbers, key_name, IsNameBelow, key_level, IsLevelBelow, key_list, IsListBelow, Parts, key_tree, IsTreeBelow, IsMarkedTree}
 use Rattle.lk_store.specs.declared.key.Number.{Number}
+use Rattle.lk_store.specs.declared.key.NameKey.{NameKey}
+use Rattle.lk_store.specs.declared.key.NameKey.TheVariants as name
 use Rattle.lk_store.specs.declared.key.LevelKey.{LevelKey}
 use Rattle.lk_store.specs.declared.key.LevelKey.TheVariants.{Zero, Succ, Max, IMax, Param}
 use Rattle.lk_store.specs.declared.key.ListKey.{ListKey}
@@ -66,6 +68,59 @@ decoded-injective ns s a b ha hb h =
     let g : (get_or ns (a - 2 ^ 31) no_number).value ≡ (get_or ns (b - 2 ^ 31) no_number).value = rw (ea, eb) at h in
     let same = s.apart.apart (a - 2 ^ 31) (b - 2 ^ 31) i j (number-eta (get_or ns (a - 2 ^ 31) no_number) (get_or ns (b - 2 ^ 31) no_number) g) in
     grind (arith, nat_tests)))
+
+-- Names.
+pub key_name-keeps : (texts : List (List ℕ)) (vs us : List Name) (k : NameKey) → Keeps [] vs us → IsNameBelow (length texts) (length vs) k → key_name texts us k ≡ key_name texts vs k
+key_name-keeps texts vs us name.Anonymous x h = refl
+key_name-keeps texts vs us (name.Text n s) x h = ap (λ m. m ++ text (get_or texts s []) ∷ []) (x.same n h.0)
+key_name-keeps texts vs us (name.Number n i) x h = ap (λ m. m ++ number i ∷ []) (x.same n h)
+
+pub key_name-texts : (ts us : List (List ℕ)) (vs : List Name) (k : NameKey) → Keeps [] ts us → IsNameBelow (length ts) (length vs) k → key_name us vs k ≡ key_name ts vs k
+key_name-texts ts us vs name.Anonymous x h = refl
+key_name-texts ts us vs (name.Text n s) x h = ap (λ t. get_or vs n [] ++ text t ∷ []) (x.same s h.1)
+key_name-texts ts us vs (name.Number n i) x h = refl
+
+pub name_below-more : (a b n m : ℕ) (k : NameKey) → a ≤ b → n ≤ m → IsNameBelow a n k → IsNameBelow b m k
+name_below-more a b n m name.Anonymous p q h = tt
+name_below-more a b n m (name.Text c s) p q h = (omega arith, omega arith)
+name_below-more a b n m (name.Number c i) p q h = omega arith
+
+-- the last component of a name, and what stands before it
+no_component : (xs : Name) (p : Part) → [] ≡ xs ++ p ∷ [] → ⊥
+no_component [] p h = cc
+no_component (x ∷ xs) p h = cc
+
+last_component : (xs ys : Name) (p q : Part) → xs ++ p ∷ [] ≡ ys ++ q ∷ [] → (xs ≡ ys) × (p ≡ q)
+last_component [] [] p q h = (refl, (cc))
+last_component [] (y ∷ ys) p q h = let t : [] ≡ ys ++ q ∷ [] = cc in absurd (no_component ys q t)
+last_component (x ∷ xs) [] p q h = let t : [] ≡ xs ++ p ∷ [] = cc in absurd (no_component xs p t)
+last_component (x ∷ xs) (y ∷ ys) p q h =
+    let t : xs ++ p ∷ [] ≡ ys ++ q ∷ [] = cc in
+    let e : x ≡ y = cc in
+    let r = last_component xs ys p q t in
+    let f = r.0 in (cc, r.1)
+
+pub key_name-injective : (ts : List (List ℕ)) (ns : List Name) → AreApart [] ts → AreApart [] ns → (j k : NameKey) → IsNameBelow (length ts) (length ns) j → IsNameBelow (length ts) (length ns) k
+    → key_name ts ns j ≡ key_name ts ns k → j ≡ k
+key_name-injective ts ns ta na name.Anonymous name.Anonymous hj hk e = refl
+key_name-injective ts ns ta na name.Anonymous (name.Text b t) hj hk e = absurd (no_component (get_or ns b []) (text (get_or ts t [])) e)
+key_name-injective ts ns ta na name.Anonymous (name.Number b i) hj hk e = absurd (no_component (get_or ns b []) (number i) e)
+key_name-injective ts ns ta na (name.Text a s) name.Anonymous hj hk e = absurd (no_component (get_or ns a []) (text (get_or ts s [])) (sym e))
+key_name-injective ts ns ta na (name.Number a i) name.Anonymous hj hk e = absurd (no_component (get_or ns a []) (number i) (sym e))
+key_name-injective ts ns ta na (name.Text a s) (name.Text b t) hj hk e =
+    let r = last_component (get_or ns a []) (get_or ns b []) (text (get_or ts s [])) (text (get_or ts t [])) e in
+    let last = r.1 in
+    let same : get_or ts s [] ≡ get_or ts t [] = cc in
+    let p = na.apart a b hj.0 hk.0 r.0 in let q = ta.apart s t hj.1 hk.1 same in cc
+key_name-injective ts ns ta na (name.Number a i) (name.Number b j) hj hk e =
+    let r = last_component (get_or ns a []) (get_or ns b []) (number i) (number j) e in
+    let last = r.1 in
+    let same : i ≡ j = cc in
+    let p = na.apart a b hj hk r.0 in cc
+key_name-injective ts ns ta na (name.Text a s) (name.Number b i) hj hk e =
+    let last = (last_component (get_or ns a []) (get_or ns b []) (text (get_or ts s [])) (number i) e).1 in absurd (cc)
+key_name-injective ts ns ta na (name.Number a i) (name.Text b t) hj hk e =
+    let last = (last_component (get_or ns a []) (get_or ns b []) (number i) (text (get_or ts t [])) e).1 in absurd (cc)
 
 -- Levels.
 pub key_level-keeps : (names : List Name) (vs us : List Level) (k : LevelKey) → Keeps zero_level vs us → IsLevelBelow (length names) (length vs) k → key_level names us k ≡ key_level names vs k

@@ -1,47 +1,32 @@
 -- What is added to a store.
-use Rattle.std.proofs.Common.{true, ◌≡◌, ◌≢◌, ℕ, ◌+◌, ◌<◌, ◌≤◌, ◌^◌, List, [], ◌∷◌, ◌++◌, length, get_or, map, refl, ap, sym, ◌∙◌, subst, arith, append_assoc, false}
+use Rattle.std.proofs.Common.{true, ◌≡◌, ◌≢◌, ℕ, ◌+◌, ◌<◌, ◌≤◌, ◌^◌, List, [], ◌∷◌, ◌++◌, length, get_or, refl, ap, sym, ◌∙◌, subst, arith, append_assoc, false}
+use Rattle.std.specs.Prelude.{IfNone, IfSome, Some, None}
+use Rattle.std.specs.declared.option.Option.{Option}
 use Rattle.std.proofs.lemmas.Grind.{common_steps}
-use Rattle.std.proofs.lemmas.List.{get_or-map}
 use Rattle.lk_tree.specs.Tree.{zero_level, Tree, wide}
 use Rattle.lk_store.specs.Measures.{level_has_params, list_has_params}
-use Rattle.lk_store.specs.Names.{part_of, name_of}
-use Rattle.lk_store.specs.Contents.{Contents, Extends, level_of, list_of, tree_of, IsLevelIn, IsListIn, IsIn, IsName, IsText, IsLevel, IsList, IsTree}
+use Rattle.lk_store.specs.Contents.{Contents, Extends, name_at, name_of, level_of, list_of, tree_of, IsNameIn, IsLevelIn, IsListIn, IsIn, IsName, IsText, IsLevel, IsList, IsTree}
 use Rattle.lk_store.specs.Keys.{IsCodeOf}
-use Rattle.lk_store.specs.Nodes.{level_node, list_node, IsKeyOf}
+use Rattle.lk_store.specs.Nodes.{name_node, level_node, list_node, IsKeyOf}
 use Rattle.lk_store.specs.Store.{over, names_of, contents_of, IsStore, Recoded, Grown}
 use Rattle.lk_store.specs.RowFor.{IsRowFor}
-use Rattle.lk_store.specs.declared.name.Part.{Part}
-use Rattle.lk_store.specs.declared.name.Part.TheVariants.{Text, Number as PartNumber}
 use Rattle.lk_store.specs.declared.key.Number.{Number}
+use Rattle.lk_store.specs.declared.key.NameKey.{NameKey}
 use Rattle.lk_store.specs.declared.key.LevelKey.{LevelKey}
 use Rattle.lk_store.specs.declared.key.ListKey.{ListKey}
 use Rattle.lk_store.specs.declared.key.TreeKey.{TreeKey}
 use Rattle.lk_store.specs.declared.key.LevelRow.{LevelRow}
 use Rattle.lk_store.specs.declared.key.ListRow.{ListRow}
 use Rattle.lk_store.specs.declared.key.TreeRow.{TreeRow}
+use Rattle.lk_store.specs.declared.node.NameNode.{NameNode}
 use Rattle.lk_store.specs.declared.node.LevelNode.{LevelNode}
 use Rattle.lk_store.specs.declared.node.ListNode.{ListNode}
 use Rattle.lk_store.specs.declared.node.Node.{Node}
 use Rattle.lk_store.specs.declared.tables.Tables.{Tables}
 use Rattle.lk_store.proofs.Columns.{Keeps-self, Keeps-push}
 use Rattle.lk_store.proofs.Keyed.{no_number, decoded-small, decoded-large}
-use Rattle.lk_store.proofs.Growing.{push_number, push_name, push_text, push_level, push_list, push_tree, length-levels_of, length-lists_of, length-trees_of, level_is, list_is, tree_is}
-use Rattle.lk_store.proofs.Read.{level_of_key, list_of_key, tree_of_key, level_below_of, list_below_of, below_of}
-
-part_of-injective : (p q : Part) → part_of p ≡ part_of q → p ≡ q
-part_of-injective (Text a) (Text b) h = let e : a ≡ b = cc in cc
-part_of-injective (PartNumber a) (PartNumber b) h = let e : a ≡ b = cc in cc
-part_of-injective p q h = cc
-
-pub name_of-injective : (m n : List Part) → name_of m ≡ name_of n → m ≡ n
-name_of-injective [] [] h = refl
-name_of-injective (p ∷ m) (q ∷ n) h =
-    let first : part_of p ≡ part_of q = cc in
-    let others : name_of m ≡ name_of n = cc in
-    let same = part_of-injective p q first in
-    let rest = name_of-injective m n others in
-    cc
-name_of-injective m n h = cc
+use Rattle.lk_store.proofs.Growing.{name_fresh, push_number, push_name, push_text, push_level, push_list, push_tree, length-names_of, length-levels_of, length-lists_of, length-trees_of, name_is, level_is, list_is, tree_is}
+use Rattle.lk_store.proofs.Read.{name_of_key, level_of_key, list_of_key, tree_of_key, name_below_of, level_below_of, list_below_of, below_of}
 
 pub Extends-self : (c : Contents) → Extends c c
 Extends-self c = record { names = Keeps-self [] c.names; texts = Keeps-self [] c.texts; levels = Keeps-self zero_level c.levels; lists = Keeps-self [] c.lists; trees = Keeps-self wide c.trees }
@@ -76,13 +61,29 @@ module _ (r : Tables) (s : IsStore r) where
       let d : TreeRow = record { key = k; loose = 0; local = 0; params = false; narrow = true } in
       rw (← is.is, tree_of_key r k) (record { known = rw (length-trees_of r s) l; is = rw (← there d) (tree_is r s i d l) })
 
-  pub found_name : (i : ℕ) (n : List Part) → i < length r.names → ((d : List Part) → get_or r.names i d ≡ n) → IsName (contents_of r) i (name_of n)
-  found_name i n l there =
-      let count : length (names_of r) ≡ length r.names = grind (arith, common_steps) in
-      record { known = omega arith; is = get_or-map name_of r.names i [] [] l ∙ ap name_of (there []) }
+  pub found_name : (i : ℕ) (k : NameKey) (node : NameNode) → i < length r.names → ((d : NameKey) → get_or r.names i d ≡ k) → name_node k ≡ node → IsName (contents_of r) i (name_of (contents_of r) node)
+  found_name i k node l there is =
+      rw (← is, name_of_key r k) (record { known = rw (length-names_of r s) l; is = rw (← there k) (name_is r s i k l) })
+
+  -- a name whose key no row has
+  pub absent_name : (k : NameKey) (node : NameNode) → name_node k ≡ node → IsNameIn (contents_of r) node → ((i : ℕ) (d : NameKey) → i < length r.names → get_or r.names i d ≢ k)
+      → (i : ℕ) → i < length (names_of r) → name_at (contents_of r) i ≢ name_of (contents_of r) node
+  absent_name k node is known new i l e =
+      name_fresh r s k (name_below_of r k (rw (← is) at known)) new i (rw (length-names_of r s) at l) (e ∙ ap (name_of (contents_of r)) (sym is) ∙ name_of_key r k)
 
   pub found_text : (i : ℕ) (x : List ℕ) → i < length r.texts → ((d : List ℕ) → get_or r.texts i d ≡ x) → IsText (contents_of r) i x
   found_text i x l there = record { known = l; is = there [] }
+
+-- What a search among the rows gives.
+pub name_absent : (r : Tables) (s : IsStore r) (k : NameKey) (node : NameNode) → name_node k ≡ node → IsNameIn (contents_of r) node → (o : Option ℕ)
+    → IfNone o ((i : ℕ) (d : NameKey) → i < length r.names → get_or r.names i d ≢ k) → IfNone o ((i : ℕ) → i < length (contents_of r).names → name_at (contents_of r) i ≢ name_of (contents_of r) node)
+name_absent r s k node is known None h = absent_name r s k node is known h
+name_absent r s k node is known (Some i) h = tt
+
+pub name_present : (r : Tables) (s : IsStore r) (k : NameKey) (node : NameNode) → name_node k ≡ node → (o : Option ℕ)
+    → IfSome o (λ i. i < length r.names) → IfSome o (λ i. (d : NameKey) → get_or r.names i d ≡ k) → IfSome o (λ n. IsName (contents_of r) n (name_of (contents_of r) node))
+name_present r s k node is None h there = tt
+name_present r s k node is (Some i) h there = found_name r s i k node h there is
 
 -- Where it is added.
 module _ (b o : Tables) (s : IsStore (over b o)) where
@@ -164,24 +165,20 @@ module _ (b o : Tables) (s : IsStore (over b o)) where
       record { there = omega arith; is = decoded-large t.numbers (length r.numbers) ∙ ap (λ (m : Number). m.value) read } in
       rw (pushed, ← append_assoc) (recoded, code)
 
-  name_at_end : (n : List Part) → get_or (map name_of ((over b o).names ++ n ∷ [])) (length (over b o).names) [] ≡ name_of n
-  name_at_end n =
-      let all = (over b o).names ++ n ∷ [] in
-      let at = length (over b o).names in
-      let within : at < length all = grind (arith, common_steps) in
-      let read : get_or all at [] ≡ n = grind (arith, common_steps) in
-      get_or-map name_of all at [] [] within ∙ ap name_of read
-
-  pub add_name : (n : List Part) (rows : List (List Part)) (i : ℕ) → rows ≡ o.names ++ n ∷ [] → i ≡ length (b.names ++ o.names) → i + 1 < 2 ^ 32
-      → ((k : ℕ) (d : List Part) → k < length (b.names ++ o.names) → get_or (b.names ++ o.names) k d ≢ n)
-      → let t : Tables = record o { names = rows } in Grown (over b o) (over b t) × IsName (contents_of (over b t)) i (name_of n)
-  add_name n rows i pushed is_i few new =
+  pub add_name : (k : NameKey) (keys : List NameKey) (l : ℕ) (node : NameNode) → keys ≡ o.names ++ k ∷ [] → l ≡ length (b.names ++ o.names) → l + 1 < 2 ^ 32
+      → name_node k ≡ node → IsNameIn (contents_of (over b o)) node
+      → ((i : ℕ) (d : NameKey) → i < length (b.names ++ o.names) → get_or (b.names ++ o.names) i d ≢ k)
+      → let t : Tables = record o { names = keys } in Grown (over b o) (over b t) × IsName (contents_of (over b t)) l (name_of (contents_of (over b o)) node)
+  add_name k keys l node pushed is_l few is known new =
       let r = over b o in
-      let small : length r.names + 1 < 2 ^ 32 = rw is_i at few in
-      let step = push_name r s n small (λ k l h. new k [] l (name_of-injective (get_or r.names k []) n (sym (get_or-map name_of r.names k [] [] l) ∙ h))) in
-      let t : Tables = record r { names = r.names ++ n ∷ [] } in
-      let stands : IsName (contents_of t) (length r.names) (name_of n) = record { known = grind (arith, common_steps); is = name_at_end n } in
-      rw (pushed, is_i, ← append_assoc) ((record { store = step.0; keeps = step.1 }), stands)
+      let below = name_below_of r k (rw (← is) at known) in
+      let small : length r.names + 1 < 2 ^ 32 = rw is_l at few in
+      let step = push_name r s k small below new in
+      let longer : length (r.names ++ k ∷ []) ≡ length r.names + 1 = grind (arith, common_steps) in
+      let t : Tables = record r { names = r.names ++ k ∷ [] } in
+      let stands : IsName (contents_of t) (length r.names) (name_of (contents_of r) node) =
+      record { known = rw (length-names_of t step.0, longer) (omega arith); is = step.2 ∙ sym (name_of_key r k) ∙ ap (name_of (contents_of r)) is } in
+      rw (pushed, is_l, ← append_assoc) ((record { store = step.0; keeps = step.1 }), stands)
 
 -- Codes.
 pub small_code : (r : Tables) (s : IsStore r) (n : ℕ) → n < 2 ^ 31 → IsCodeOf r.numbers n n

@@ -2,13 +2,14 @@
 use Rattle.std.proofs.Common.{◌≡◌, ℕ, ◌<◌, ◌^◌, [], length, get_or, refl, ap, sym, ◌∙◌, arith, nat_eq}
 use Rattle.std.specs.Prelude.{IsTrue}
 use Rattle.std.proofs.lemmas.Bool.Decides.{nat_tests}
-use Rattle.std.proofs.lemmas.Grind.{common_steps}
 use Rattle.lk_tree.specs.Tree.{zero_level, wide}
 use Rattle.lk_store.specs.Measures.{level_has_params, list_has_params}
-use Rattle.lk_store.specs.Contents.{level_of, list_of, tree_of, IsLevelIn, IsListIn, IsIn}
-use Rattle.lk_store.specs.Keys.{key_level, IsLevelBelow, key_list, IsListBelow, key_tree, IsTreeBelow, IsMarkedTree}
-use Rattle.lk_store.specs.Nodes.{level_node, list_node, node_of, AreCodes, LevelFits, ListFits, NodeFits}
+use Rattle.lk_store.specs.Contents.{name_of, level_of, list_of, tree_of, IsNameIn, IsLevelIn, IsListIn, IsIn}
+use Rattle.lk_store.specs.Keys.{key_name, IsNameBelow, key_level, IsLevelBelow, key_list, IsListBelow, key_tree, IsTreeBelow, IsMarkedTree}
+use Rattle.lk_store.specs.Nodes.{name_node, level_node, list_node, node_of, AreCodes, NameFits, LevelFits, ListFits, NodeFits}
 use Rattle.lk_store.specs.Store.{names_of, levels_of, lists_of, parts_of, trees_of, contents_of, IsStore}
+use Rattle.lk_store.specs.declared.key.NameKey.{NameKey}
+use Rattle.lk_store.specs.declared.key.NameKey.TheVariants as name
 use Rattle.lk_store.specs.declared.key.LevelKey.{LevelKey}
 use Rattle.lk_store.specs.declared.key.LevelKey.TheVariants.{Zero, Succ, Max, IMax, Param}
 use Rattle.lk_store.specs.declared.key.ListKey.{ListKey}
@@ -18,6 +19,8 @@ use Rattle.lk_store.specs.declared.key.TreeKey.TheVariants.{Var, Sort, Const, Ap
 use Rattle.lk_store.specs.declared.key.LevelRow.{LevelRow}
 use Rattle.lk_store.specs.declared.key.ListRow.{ListRow}
 use Rattle.lk_store.specs.declared.key.TreeRow.{TreeRow}
+use Rattle.lk_store.specs.declared.node.NameNode.{NameNode}
+use Rattle.lk_store.specs.declared.node.NameNode.TheVariants as n
 use Rattle.lk_store.specs.declared.node.LevelNode.{LevelNode}
 use Rattle.lk_store.specs.declared.node.LevelNode.TheVariants as l
 use Rattle.lk_store.specs.declared.node.ListNode.{ListNode}
@@ -25,11 +28,26 @@ use Rattle.lk_store.specs.declared.node.ListNode.TheVariants as q
 use Rattle.lk_store.specs.declared.node.Node.{Node}
 use Rattle.lk_store.specs.declared.node.Node.TheVariants as t
 use Rattle.lk_store.specs.declared.tables.Tables.{Tables}
-use Rattle.lk_store.proofs.Growing.{length-levels_of, length-lists_of, length-trees_of, level_is, list_is, tree_is}
-use Rattle.lk_store.proofs.Keyed.{level_below-more, list_below-more, tree_below-more}
+use Rattle.lk_store.proofs.Growing.{length-names_of, length-levels_of, length-lists_of, length-trees_of, name_is, level_is, list_is, tree_is}
+use Rattle.lk_store.proofs.Keyed.{name_below-more, level_below-more, list_below-more, tree_below-more}
 
 module _ (r : Tables) where
   -- A key's node stands for what the key stands for.
+  pub name_of_key : (k : NameKey) → name_of (contents_of r) (name_node k) ≡ key_name r.texts (names_of r) k
+  name_of_key name.Anonymous = refl
+  name_of_key (name.Text a s) = refl
+  name_of_key (name.Number a i) = refl
+
+  pub name_in_of_key : (k : NameKey) → IsNameBelow (length r.texts) (length (names_of r)) k → IsNameIn (contents_of r) (name_node k)
+  name_in_of_key name.Anonymous h = h
+  name_in_of_key (name.Text a s) h = h
+  name_in_of_key (name.Number a i) h = h
+
+  pub name_below_of : (k : NameKey) → IsNameIn (contents_of r) (name_node k) → IsNameBelow (length r.texts) (length (names_of r)) k
+  name_below_of name.Anonymous h = h
+  name_below_of (name.Text a s) h = h
+  name_below_of (name.Number a i) h = h
+
   pub level_of_key : (k : LevelKey) → level_of (contents_of r) (level_node k) ≡ key_level (names_of r) (levels_of r) k
   level_of_key Zero = refl
   level_of_key (Succ i) = refl
@@ -121,7 +139,7 @@ module _ (r : Tables) where
 
   module _ (s : IsStore r) where
     names_few : length (names_of r) < 2 ^ 32
-    names_few = let h = s.names_few in let e : length (names_of r) ≡ length r.names = grind (arith, common_steps) in omega arith
+    names_few = rw (length-names_of r s) s.names.few
 
     levels_few : length (levels_of r) < 2 ^ 32
     levels_few = rw (length-levels_of r s) s.levels.few
@@ -132,7 +150,15 @@ module _ (r : Tables) where
     trees_few : length (trees_of r) < 2 ^ 32
     trees_few = rw (length-trees_of r s) s.trees.few
 
+    texts_few : length r.texts < 2 ^ 32
+    texts_few = s.texts_few
+
     -- The numbers of a store take 32 bits.
+    pub name_fits : (k : NameNode) → IsNameIn (contents_of r) k → NameFits k
+    name_fits n.Anonymous h = tt
+    name_fits (n.Text a x) h = let b = names_few in let c = texts_few in (omega arith, omega arith)
+    name_fits (n.Number a i) h = let b = names_few in omega arith
+
     pub level_fits : (n : LevelNode) → IsLevelIn (contents_of r) n → LevelFits n
     level_fits l.Zero h = tt
     level_fits (l.Succ i) h = let a = levels_few in omega arith
@@ -143,9 +169,6 @@ module _ (r : Tables) where
     pub list_fits : (n : ListNode) → IsListIn (contents_of r) n → ListFits n
     list_fits q.Empty h = tt
     list_fits (q.Cons i j) h = let a = levels_few in let b = lists_few in (omega arith, omega arith)
-
-    texts_few : length r.texts < 2 ^ 32
-    texts_few = s.texts_few
 
     pub node_fits : (n : Node) → IsIn (contents_of r) n → NodeFits n
     node_fits (t.Var i) h = tt
@@ -162,6 +185,21 @@ module _ (r : Tables) where
     node_fits (t.Local k T) h = let b = trees_few in omega arith
 
     -- What a number's row says.
+    pub name_known : (i : ℕ) (d : NameKey) → i < length (names_of r) → IsNameBelow (length r.texts) (length (names_of r)) (get_or r.names i d)
+    name_known i d h = let m = rw (length-names_of r s) at h in
+        name_below-more (length r.texts) (length r.texts) i (length (names_of r)) (get_or r.names i d) (omega arith) (omega arith) (s.names.known i d m)
+
+    pub name_reads : (i : ℕ) (d : NameKey) → i < length (names_of r) → name_of (contents_of r) (name_node (get_or r.names i d)) ≡ get_or (names_of r) i []
+    name_reads i d h = name_of_key (get_or r.names i d) ∙ sym (name_is r s i d (rw (length-names_of r s) at h))
+
+    -- equal numbers say that the names are equal
+    pub same_name_number : (a b : ℕ) → a < length (names_of r) → b < length (names_of r)
+        → (IsTrue (nat_eq a b) → get_or (names_of r) a [] ≡ get_or (names_of r) b []) × (get_or (names_of r) a [] ≡ get_or (names_of r) b [] → IsTrue (nat_eq a b))
+    same_name_number a b la lb = (
+      (λ h. let e : a ≡ b = grind (arith, nat_tests) in ap (λ i. get_or (names_of r) i []) e),
+      (λ h. let e = s.names.apart.apart a b la lb h in grind (arith, nat_tests)),
+    )
+
     pub level_known : (i : ℕ) (d : LevelRow) → i < length (levels_of r) → IsLevelBelow (length (names_of r)) (length (levels_of r)) (get_or r.levels i d).key
     level_known i d h = let m = rw (length-levels_of r s) at h in
         level_below-more (length (names_of r)) (length (names_of r)) i (length (levels_of r)) (get_or r.levels i d).key (omega arith) (omega arith) (s.levels.known i d m)

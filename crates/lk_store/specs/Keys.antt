@@ -1,13 +1,15 @@
 -- What the rows of a store's tables stand for.
-use Rattle.std.specs.Prelude.{◌≡◌, ℕ, ◌<◌, ◌≤◌, ◌+◌, ◌-◌, ◌^◌, nat_lt, if◌then◌else◌, List, [], ◌∷◌, length, slice_index_or}
-use Rattle.lk_tree.specs.Tree.{Name, Level, zero_level, succ_level, max_level, imax_level, param, Tree, var, sort, const, app, lam, pi, let_in, proj, lit, wide, str, local}
+use Rattle.std.specs.Prelude.{◌++◌, ◌≡◌, ℕ, ◌<◌, ◌≤◌, ◌+◌, ◌-◌, ◌^◌, nat_lt, if◌then◌else◌, List, [], ◌∷◌, length, slice_index_or}
+use Rattle.lk_tree.specs.Tree.{Name, text, number, Level, zero_level, succ_level, max_level, imax_level, param, Tree, var, sort, const, app, lam, pi, let_in, proj, lit, wide, str, local}
 use Rattle.lk_tree.specs.Bind.{bound}
 use Rattle.lk_tree.specs.Loose.{loose}
 use Rattle.lk_tree.specs.Scan.{is_narrow}
 use Rattle.lk_store.specs.Measures.{has_params}
 use Rattle.lk_store.specs.Values.{AreApart}
-use Rattle.lk_store.specs.Hashes.{hash_of_words}
+use Rattle.lk_store.specs.Hashes.{mixed, hash_of_words}
 use Rattle.lk_store.specs.declared.key.Number.{Number}
+use Rattle.lk_store.specs.declared.key.NameKey.{NameKey}
+use Rattle.lk_store.specs.declared.key.NameKey.TheVariants as n
 use Rattle.lk_store.specs.declared.key.LevelKey.{LevelKey}
 use Rattle.lk_store.specs.declared.key.LevelKey.TheVariants.{Zero, Succ, Max, IMax, Param}
 use Rattle.lk_store.specs.declared.key.ListKey.{ListKey}
@@ -34,6 +36,11 @@ pub record AreNumbers (ns : List Number) : Type 0 where
   pub large : (i : ℕ) (d : Number) → i < length ns → 2 ^ 31 ≤ (slice_index_or ns i d).value
   pub apart : AreApart (record { value = 0 }) ns
 
+abbrev pub hash_of_name : NameKey → ℕ
+hash_of_name n.Anonymous = hash_of_words 0 0 0 0
+hash_of_name (n.Text a b) = hash_of_words 1 a b 0
+hash_of_name (n.Number a i) = mixed (hash_of_words 2 a 0 0) i
+
 abbrev pub hash_of_level : LevelKey → ℕ
 hash_of_level Zero = hash_of_words 0 0 0 0
 hash_of_level (Succ l) = hash_of_words 1 l 0 0
@@ -58,6 +65,17 @@ hash_of_tree (Lit n) = hash_of_words 8 n 0 0
 hash_of_tree Wide = hash_of_words 9 0 0 0
 hash_of_tree (Str s) = hash_of_words 10 s 0 0
 hash_of_tree (Local k T) = hash_of_words 11 k T 0
+
+-- a name among earlier ones
+abbrev pub key_name : List (List ℕ) → List Name → NameKey → Name
+key_name texts names n.Anonymous = []
+key_name texts names (n.Text a s) = slice_index_or names a [] ++ text (slice_index_or texts s []) ∷ []
+key_name texts names (n.Number a i) = slice_index_or names a [] ++ number i ∷ []
+
+abbrev pub IsNameBelow : ℕ → ℕ → NameKey → Type 0
+IsNameBelow texts names n.Anonymous = Unit {0}
+IsNameBelow texts names (n.Text a s) = (a < names) × (s < texts)
+IsNameBelow texts names (n.Number a i) = a < names
 
 -- a level among earlier ones
 abbrev pub key_level : List Name → List Level → LevelKey → Level

@@ -1,15 +1,15 @@
 //! The store of a library.
 
-use crate::making::{make_in, make_level_in, make_list_in, make_name_in, make_text_in};
-use crate::name::{Name, Text};
-use crate::node::{LevelNode, ListNode, Node};
+use crate::making::{find_name_in, make_in, make_level_in, make_list_in, make_name_in, make_text_in};
+use crate::node::{LevelNode, ListNode, NameNode, Node};
 use crate::reading::{
     len_in, level_in, level_params_in, list_in, list_params_in, local_in, loose_in, name_in,
-    narrow_in, params_in, same_in, text_in, view_in,
+    narrow_in, params_in, same_in, same_name_in, text_in, view_in,
 };
 use crate::tables::Tables;
 use crate::terms::Terms;
-use lk_rows::layers::{count, find};
+use crate::text::Text;
+use lk_rows::layers::count;
 use lk_rows::memory::NoMemory;
 use std::alloc::Global;
 use std::marker::Model;
@@ -38,9 +38,8 @@ impl Model for BaseStore {
 
 impl BaseStore {
     ghost use Rattle.std.specs.Prelude.{◌≡◌, ◌≢◌, ◌<◌, ℕ, [], length, IfNone, IfSome};
-    ghost use Rattle.lk_store.specs.Names.{name_of};
     ghost use Rattle.lk_store.specs.Values.{AreApart};
-    ghost use Rattle.lk_store.specs.Contents.{name_at, IsName};
+    ghost use Rattle.lk_store.specs.Contents.{name_at, name_of, IsNameIn, IsName};
     ghost use Rattle.lk_store.specs.Store.{no_tables, contents_of};
 
     /// An empty store. It takes no memory.
@@ -70,12 +69,13 @@ impl BaseStore {
         count(&self.nothing.names, &self.tables.names)
     }
 
-    /// The number of a name, where the store has it. It takes no memory.
-    pub fn find_name(&self, name: &Name) -> Option<u64>
-        ensures absent { IfNone result ((n : ℕ) → n < length (contents_of self.now).names → name_at (contents_of self.now) n ≢ name_of name.now) }
-        ensures present { IfSome result (λ n. IsName (contents_of self.now) n (name_of name.now)) }
+    /// The number of the name that a node makes of its parts, where the store has it. It takes no memory.
+    pub fn find_name(&self, node: NameNode) -> Option<u64>
+        requires { IsNameIn (contents_of self.now) node }
+        ensures absent { IfNone result ((n : ℕ) → n < length (contents_of self.now).names → name_at (contents_of self.now) n ≢ name_of (contents_of self.now) node) }
+        ensures present { IfSome result (λ n. IsName (contents_of self.now) n (name_of (contents_of self.now) node)) }
     {
-        find(&self.nothing.names, &self.tables.names, name)
+        find_name_in(&self.nothing, &self.tables, node)
     }
 }
 
@@ -144,12 +144,16 @@ impl Terms for BaseStore {
         list_params_in(&self.nothing, &self.tables, ls)
     }
 
-    fn name(&self, n: u64) -> &Name {
+    fn name(&self, n: u64) -> NameNode {
         name_in(&self.nothing, &self.tables, n)
     }
 
-    fn make_name(&mut self, name: &Name) -> Result<u64, NoMemory> {
-        make_name_in(self.alloc, &self.nothing, &mut self.tables, name)
+    fn make_name(&mut self, node: NameNode) -> Result<u64, NoMemory> {
+        make_name_in(&self.nothing, &mut self.tables, node)
+    }
+
+    fn same_name(&self, a: u64, b: u64) -> bool {
+        same_name_in(&self.nothing, &self.tables, a, b)
     }
 
     fn text(&self, s: u64) -> &Text {

@@ -2,7 +2,7 @@
 
 ghost use Rattle.std.specs.Prelude.{◌≡◌, ◌↔◌, IsTrue};
 ghost use Rattle.lk_store.specs.Hashes.{hash_of_number};
-ghost use Rattle.lk_store.specs.Keys.{hash_of_level, hash_of_list, hash_of_tree};
+ghost use Rattle.lk_store.specs.Keys.{hash_of_name, hash_of_level, hash_of_list, hash_of_tree};
 
 use crate::hashing::{hash_words, mix};
 use lk_rows::row::Row;
@@ -38,6 +38,46 @@ impl Row for Number {
     }
 
     fn has(&self, wanted: &Number) -> bool {
+        *self == *wanted
+    }
+}
+
+/// A name: the anonymous one, or an earlier name with one more component.
+#[derive(Clone, Copy, Debug, PartialEq, Eq)]
+pub enum NameKey {
+    Anonymous,
+    Text(u32, u32),
+    Number(u32, u64),
+}
+
+fn hash_name(key: &NameKey) -> u64
+    ensures { result ≡ hash_of_name key.now }
+{
+    match *key {
+        NameKey::Anonymous => hash_words(0, 0, 0, 0),
+        NameKey::Text(a, b) => hash_words(1, a, b, 0),
+        NameKey::Number(a, n) => mix(hash_words(2, a, 0, 0), n),
+    }
+}
+
+impl Row for NameKey {
+    type Key = NameKey;
+
+    ghost key = { λ k. k };
+
+    ghost use Rattle.lk_store.specs.Keys.{hash_of_name};
+
+    ghost hash = { hash_of_name };
+
+    fn hash_of(wanted: &NameKey) -> u64 {
+        hash_name(wanted)
+    }
+
+    fn own_hash(&self) -> u64 {
+        hash_name(self)
+    }
+
+    fn has(&self, wanted: &NameKey) -> bool {
         *self == *wanted
     }
 }

@@ -1,19 +1,18 @@
 //! What is added to the tables of a store. A row is added only where none has its key, so that each thing stands once.
 
-ghost use Rattle.std.specs.Prelude.{◌≡◌, ◌<◌, ◌^◌, ◌+◌, IfOk, OnErr};
+ghost use Rattle.std.specs.Prelude.{◌≡◌, ◌≢◌, ◌<◌, ◌^◌, ◌+◌, ℕ, length, IfOk, OnErr, IfNone, IfSome};
 ghost use Rattle.lk_store.specs.Measures.{level_has_params, list_has_params};
-ghost use Rattle.lk_store.specs.Names.{name_of};
-ghost use Rattle.lk_store.specs.Contents.{level_of, list_of, tree_of, IsLevelIn, IsListIn, IsIn, IsName, IsText, IsLevel, IsList, IsTree};
+ghost use Rattle.lk_store.specs.Contents.{name_at, name_of, level_of, list_of, tree_of, IsNameIn, IsLevelIn, IsListIn, IsIn, IsName, IsText, IsLevel, IsList, IsTree};
 ghost use Rattle.lk_store.specs.Keys.{IsCodeOf};
-ghost use Rattle.lk_store.specs.Nodes.{level_node, list_node, LevelFits, ListFits, NodeFits, IsKeyOf};
+ghost use Rattle.lk_store.specs.Nodes.{name_node, level_node, list_node, NameFits, LevelFits, ListFits, NodeFits, IsKeyOf};
 ghost use Rattle.lk_store.specs.RowFor.{IsRowFor};
 ghost use Rattle.lk_store.specs.Store.{over, contents_of, IsStore, Recoded, Grown};
 
-use crate::key::{LevelKey, LevelRow, ListKey, ListRow, Number, TreeKey, TreeRow};
-use crate::name::{Name, Text};
-use crate::node::{LevelNode, ListNode, Node};
+use crate::key::{LevelKey, LevelRow, ListKey, ListRow, NameKey, Number, TreeKey, TreeRow};
+use crate::node::{LevelNode, ListNode, NameNode, Node};
 use crate::reading::{level_params_in, list_params_in, marks_of};
 use crate::tables::Tables;
+use crate::text::Text;
 use lk_rows::layers::{add, count, find};
 use lk_rows::memory::NoMemory;
 use std::alloc::Global;
@@ -38,6 +37,17 @@ fn encode(base: &Tables, own: &mut Tables, n: u128) -> Result<u32, NoMemory>
             let i = add(&base.numbers, &mut own.numbers, number)?;
             Ok(i as u32 + 0x8000_0000)
         }
+    }
+}
+
+fn name_key(node: NameNode) -> NameKey
+    requires { NameFits node }
+    ensures { name_node result ≡ node }
+{
+    match node {
+        NameNode::Anonymous => NameKey::Anonymous,
+        NameNode::Text(n, s) => NameKey::Text(n as u32, s as u32),
+        NameNode::Number(n, i) => NameKey::Number(n as u32, i),
     }
 }
 
@@ -135,23 +145,35 @@ pub(crate) fn make_list_in(base: &Tables, own: &mut Tables, node: ListNode) -> R
 
 /// The number of a name.
 pub(crate) fn make_name_in(
-    alloc: Global,
     base: &Tables,
     own: &mut Tables,
-    name: &Name,
+    node: NameNode,
 ) -> Result<u64, NoMemory>
-    requires { IsStore (over base.now own.old) }
+    requires store { IsStore (over base.now own.old) }
+    requires known { IsNameIn (contents_of (over base.now own.old)) node }
     ensures grown { Grown (over base.now own.old) (over base.now own.new) }
-    ensures ok { IfOk result (λ n. IsName (contents_of (over base.now own.new)) n (name_of name.now)) }
+    ensures ok { IfOk result (λ n. IsName (contents_of (over base.now own.new)) n (name_of (contents_of (over base.now own.old)) node)) }
     ensures err { OnErr result (own.new ≡ own.old) }
 {
-    match find(&base.names, &own.names, name) {
+    let key = name_key(node);
+    match find(&base.names, &own.names, &key) {
         Some(n) => Ok(n),
         None => {
-            let n = add(&base.names, &mut own.names, name.copy(alloc)?)?;
+            let n = add(&base.names, &mut own.names, key)?;
             Ok(n)
         }
     }
+}
+
+/// The number of a name, where it is there.
+pub(crate) fn find_name_in(base: &Tables, own: &Tables, node: NameNode) -> Option<u64>
+    requires store { IsStore (over base.now own.now) }
+    requires known { IsNameIn (contents_of (over base.now own.now)) node }
+    ensures absent { IfNone result ((n : ℕ) → n < length (contents_of (over base.now own.now)).names → name_at (contents_of (over base.now own.now)) n ≢ name_of (contents_of (over base.now own.now)) node) }
+    ensures present { IfSome result (λ n. IsName (contents_of (over base.now own.now)) n (name_of (contents_of (over base.now own.now)) node)) }
+{
+    let key = name_key(node);
+    find(&base.names, &own.names, &key)
 }
 
 /// The number of a text.

@@ -4,14 +4,14 @@ ghost use Rattle.std.specs.Prelude.{◌≡◌};
 
 use crate::base_store::BaseStore;
 use crate::making::{make_in, make_level_in, make_list_in, make_name_in, make_text_in};
-use crate::name::{Name, Text};
-use crate::node::{LevelNode, ListNode, Node};
+use crate::node::{LevelNode, ListNode, NameNode, Node};
 use crate::reading::{
     len_in, level_in, level_params_in, list_in, list_params_in, local_in, loose_in, name_in,
-    narrow_in, params_in, same_in, text_in, view_in,
+    narrow_in, params_in, same_in, same_name_in, text_in, view_in,
 };
 use crate::tables::Tables;
 use crate::terms::Terms;
+use crate::text::Text;
 use lk_rows::memory::NoMemory;
 use std::alloc::Global;
 use std::marker::Model;
@@ -128,12 +128,16 @@ impl<'a> Terms for Overlay<'a> {
         list_params_in(self.base, &self.own, ls)
     }
 
-    fn name(&self, n: u64) -> &Name {
+    fn name(&self, n: u64) -> NameNode {
         name_in(self.base, &self.own, n)
     }
 
-    fn make_name(&mut self, name: &Name) -> Result<u64, NoMemory> {
-        make_name_in(self.alloc, self.base, &mut self.own, name)
+    fn make_name(&mut self, node: NameNode) -> Result<u64, NoMemory> {
+        make_name_in(self.base, &mut self.own, node)
+    }
+
+    fn same_name(&self, a: u64, b: u64) -> bool {
+        same_name_in(self.base, &self.own, a, b)
     }
 
     fn text(&self, s: u64) -> &Text {

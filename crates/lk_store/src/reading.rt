@@ -5,17 +5,16 @@ ghost use Rattle.lk_tree.specs.Bind.{bound};
 ghost use Rattle.lk_tree.specs.Loose.{loose};
 ghost use Rattle.lk_tree.specs.Scan.{is_narrow};
 ghost use Rattle.lk_store.specs.Measures.{level_has_params, list_has_params, has_params, AreMarks};
-ghost use Rattle.lk_store.specs.Names.{name_of};
-ghost use Rattle.lk_store.specs.Contents.{name_at, text_at, level_at, list_at, tree_at, level_of, list_of, tree_of, IsLevelIn, IsListIn, IsIn};
+ghost use Rattle.lk_store.specs.Contents.{name_at, text_at, level_at, list_at, tree_at, name_of, level_of, list_of, tree_of, IsNameIn, IsLevelIn, IsListIn, IsIn};
 ghost use Rattle.lk_store.specs.Keys.{decoded, IsCode, IsMarkedTree};
-ghost use Rattle.lk_store.specs.Nodes.{level_node, list_node, node_of, AreCodes};
+ghost use Rattle.lk_store.specs.Nodes.{name_node, level_node, list_node, node_of, AreCodes};
 ghost use Rattle.lk_store.specs.Store.{over, contents_of, IsStore};
 
-use crate::key::{LevelKey, LevelRow, ListKey, ListRow, TreeKey, TreeRow};
+use crate::key::{LevelKey, LevelRow, ListKey, ListRow, NameKey, TreeKey, TreeRow};
 use crate::marks::Marks;
-use crate::name::{Name, Text};
-use crate::node::{LevelNode, ListNode, Node};
+use crate::node::{LevelNode, ListNode, NameNode, Node};
 use crate::tables::Tables;
+use crate::text::Text;
 use lk_rows::layers::{count, row_at};
 
 /// The number that a code stands for.
@@ -37,6 +36,16 @@ fn decode_short(base: &Tables, own: &Tables, code: u32) -> u64
     ensures { result ≡ decoded (over base.now own.now).numbers code }
 {
     decode(base, own, code) as u64
+}
+
+fn name_of_key(key: NameKey) -> NameNode
+    ensures { result ≡ name_node key }
+{
+    match key {
+        NameKey::Anonymous => NameNode::Anonymous,
+        NameKey::Text(n, s) => NameNode::Text(u64::from(n), u64::from(s)),
+        NameKey::Number(n, i) => NameNode::Number(u64::from(n), i),
+    }
 }
 
 fn level_of_key(key: LevelKey) -> LevelNode
@@ -84,12 +93,36 @@ fn node_of_key(base: &Tables, own: &Tables, key: TreeKey) -> Node
     }
 }
 
-/// The name of a number.
-pub(crate) fn name_in<'a>(base: &'a Tables, own: &'a Tables, n: u64) -> &'a Name
-    requires { n < length (contents_of (over base.now own.now)).names }
-    ensures { name_of result.now ≡ name_at (contents_of (over base.now own.now)) n }
+/// The row of a name.
+fn name_row(base: &Tables, own: &Tables, n: u64) -> NameKey
+    requires store { IsStore (over base.now own.now) }
+    requires known { n < length (contents_of (over base.now own.now)).names }
+    ensures known { IsNameIn (contents_of (over base.now own.now)) (name_node result) }
+    ensures name { name_of (contents_of (over base.now own.now)) (name_node result) ≡ name_at (contents_of (over base.now own.now)) n }
 {
-    row_at(&base.names, &own.names, n)
+    *row_at(&base.names, &own.names, n)
+}
+
+/// The node of a name.
+pub(crate) fn name_in(base: &Tables, own: &Tables, n: u64) -> NameNode
+    requires store { IsStore (over base.now own.now) }
+    requires known { n < length (contents_of (over base.now own.now)).names }
+    ensures known { IsNameIn (contents_of (over base.now own.now)) result }
+    ensures name { name_of (contents_of (over base.now own.now)) result ≡ name_at (contents_of (over base.now own.now)) n }
+{
+    name_of_key(name_row(base, own, n))
+}
+
+/// Whether two numbers have one name.
+pub(crate) fn same_name_in(base: &Tables, own: &Tables, a: u64, b: u64) -> bool
+    requires store { IsStore (over base.now own.now) }
+    requires a_in { a < length (contents_of (over base.now own.now)).names }
+    requires b_in { b < length (contents_of (over base.now own.now)).names }
+    ensures { IsTrue result ↔ (name_at (contents_of (over base.now own.now)) a ≡ name_at (contents_of (over base.now own.now)) b) }
+{
+    let _base = base;
+    let _own = own;
+    a == b
 }
 
 /// The text of a number.

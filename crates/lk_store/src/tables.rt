@@ -1,7 +1,7 @@
 //! The tables of a store.
 
-use crate::key::{LevelRow, ListRow, Number, TreeRow};
-use crate::name::{Name, Text};
+use crate::key::{LevelRow, ListRow, NameKey, Number, TreeRow};
+use crate::text::Text;
 use lk_rows::table::Table;
 use std::alloc::Global;
 
@@ -9,7 +9,7 @@ use std::alloc::Global;
 #[derive(Drop)]
 pub struct Tables {
     pub(crate) numbers: Table<Number>,
-    pub(crate) names: Table<Name>,
+    pub(crate) names: Table<NameKey>,
     pub(crate) texts: Table<Text>,
     pub(crate) levels: Table<LevelRow>,
     pub(crate) lists: Table<ListRow>,

@@ -5,11 +5,10 @@ ghost use Rattle.lk_tree.specs.Bind.{bound};
 ghost use Rattle.lk_tree.specs.Loose.{loose};
 ghost use Rattle.lk_tree.specs.Scan.{is_narrow};
 ghost use Rattle.lk_store.specs.Measures.{level_has_params, list_has_params, has_params};
-ghost use Rattle.lk_store.specs.Names.{name_of};
-ghost use Rattle.lk_store.specs.Contents.{Contents, name_at, text_at, level_at, list_at, tree_at, level_of, list_of, tree_of, IsLevelIn, IsListIn, IsIn, Extends, IsName, IsText, IsLevel, IsList, IsTree};
+ghost use Rattle.lk_store.specs.Contents.{Contents, name_at, text_at, level_at, list_at, tree_at, name_of, level_of, list_of, tree_of, IsNameIn, IsLevelIn, IsListIn, IsIn, Extends, IsName, IsText, IsLevel, IsList, IsTree};
 
-use crate::name::{Name, Text};
-use crate::node::{LevelNode, ListNode, Node};
+use crate::node::{LevelNode, ListNode, NameNode, Node};
+use crate::text::Text;
 use lk_rows::memory::NoMemory;
 
 /// A store of names, texts, levels, lists of levels and trees. A number stands for one of them for good: what is made
@@ -108,17 +107,25 @@ pub trait Terms {
         requires { ls < length (contents self.now).lists }
         ensures { result ≡ list_has_params (list_at (contents self.now) ls) };
 
-    /// The name of a number.
-    fn name(&self, n: u64) -> &Name
+    /// The node of a name.
+    fn name(&self, n: u64) -> NameNode
         requires { n < length (contents self.now).names }
-        ensures { name_of result.now ≡ name_at (contents self.now) n };
+        ensures known { IsNameIn (contents self.now) result }
+        ensures name { name_of (contents self.now) result ≡ name_at (contents self.now) n };
 
-    /// A number of the name.
-    fn make_name(&mut self, name: &Name) -> Result<u64, NoMemory>
+    /// A number of the name that the node makes of its parts.
+    fn make_name(&mut self, node: NameNode) -> Result<u64, NoMemory>
+        requires { IsNameIn (contents self.old) node }
         ensures keeps { Extends (contents self.old) (contents self.new) }
         ensures rest { rest self.new ≡ rest self.old }
-        ensures ok { IfOk result (λ n. IsName (contents self.new) n (name_of name.now)) }
+        ensures ok { IfOk result (λ n. IsName (contents self.new) n (name_of (contents self.old) node)) }
         ensures err { OnErr result (contents self.new ≡ contents self.old) };
+
+    /// Whether two names are equal.
+    fn same_name(&self, a: u64, b: u64) -> bool
+        requires a_in { a < length (contents self.now).names }
+        requires b_in { b < length (contents self.now).names }
+        ensures { IsTrue result ↔ (name_at (contents self.now) a ≡ name_at (contents self.now) b) };
 
     /// The text of a number.
     fn text(&self, s: u64) -> &Text

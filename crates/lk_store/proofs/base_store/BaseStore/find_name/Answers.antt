@@ -1,11 +1,7 @@
-use Rattle.lk_store.proofs.Found.{name_absent, name_present}
 use Rattle.lk_store.proofs.base_store.BaseStore.find_name.Goals as goal
 
-pub returns-clause-absent : goal.returns-clause-absent
-returns-clause-absent c = rw (← c.self.view_is) (name_absent c.self.inside.tables c.args.name.now c.find.result (rw c.self.invariant.1 at c.find.ensures.absent))
+pub find_name_in-requires-clause-known : goal.find_name_in-requires-clause-known
+find_name_in-requires-clause-known c = rw (c.self.invariant.1) (rw c.self.view_is c.requires)
 
-pub returns-clause-present : goal.returns-clause-present
-returns-clause-present c =
-    rw (← c.self.view_is)
-    (name_present c.self.inside.tables c.self.invariant.0 c.args.name.now c.find.result
-    (rw c.self.invariant.1 at c.find.ensures.known) (rw c.self.invariant.1 at c.find.ensures.present))
+pub returns-clause-absent : goal.returns-clause-absent
+returns-clause-absent c = rw (← c.self.view_is) (rw c.self.invariant.1 at c.find_name_in.ensures.absent)

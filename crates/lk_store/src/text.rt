@@ -1,0 +1,73 @@
+//! Texts in memory.
+
+ghost use Rattle.std.specs.Prelude.{◌≡◌, ◌↔◌, IfOk, IsTrue};
+
+use crate::hashing::hash_bytes;
+use lk_rows::memory::NoMemory;
+use lk_rows::row::Row;
+use std::alloc::Global;
+use std::marker::Model;
+
+/// A text, as bytes.
+#[derive(Drop)]
+pub struct Text {
+    bytes: Vec<u8>,
+}
+
+impl Model for Text {
+    ghost use Rattle.std.specs.Prelude.{ℕ, List};
+
+    ghost Value = { List ℕ };
+
+    ghost view = { λ t. t.bytes.items };
+}
+
+impl Text {
+    pub fn new(bytes: Vec<u8>) -> Text
+        ensures { result ≡ bytes.items }
+    {
+        Text { bytes }
+    }
+
+    pub fn as_bytes(&self) -> &[u8]
+        ensures { result.now ≡ self.now }
+    {
+        self.bytes.as_slice()
+    }
+
+    pub fn copy(&self, alloc: Global) -> Result<Text, NoMemory>
+        ensures { IfOk result (λ t. t ≡ self.now) }
+    {
+        Ok(Text {
+            bytes: Vec::from_slice(alloc, &self.bytes)?,
+        })
+    }
+
+    pub fn is(&self, other: &Text) -> bool
+        ensures { IsTrue result ↔ (self.now ≡ other.now) }
+    {
+        self.as_bytes() == other.as_bytes()
+    }
+}
+
+impl Row for Text {
+    type Key = Text;
+
+    ghost key = { λ t. t };
+
+    ghost use Rattle.lk_store.specs.Hashes.{hash_of_bytes};
+
+    ghost hash = { hash_of_bytes };
+
+    fn hash_of(wanted: &Text) -> u64 {
+        hash_bytes(wanted.as_bytes())
+    }
+
+    fn own_hash(&self) -> u64 {
+        hash_bytes(self.as_bytes())
+    }
+
+    fn has(&self, wanted: &Text) -> bool {
+        self.is(wanted)
+    }
+}
