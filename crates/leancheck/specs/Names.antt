@@ -1,15 +1,25 @@
--- The name that a unit goes by.
-use Rattle.std.specs.Prelude.{ℕ, List, [], ◌∷◌, Some, None}
+-- The components of a name in memory, and the name that a unit goes by.
+use Rattle.std.specs.Prelude.{ℕ, ◌<◌, length, List, [], ◌∷◌, Some, None}
 use Rattle.std.specs.declared.option.Option.{Option}
-use Rattle.lk_tree.specs.Tree.{Name}
+use Rattle.lk_tree.specs.Tree.{Part, text, number}
 use Rattle.lk_rulebook.specs.Units.{members_of}
-use Rattle.lk_store.specs.Contents.{Contents}
+use Rattle.lk_store.specs.Contents.{Contents, text_at}
 use Rattle.lk_env.specs.declared.unit.BlockType.{BlockType}
 use Rattle.lk_env.specs.declared.unit.Recursor.{Recursor}
 use Rattle.lk_env.specs.declared.unit.Unit.{Unit as StoredUnit}
 use Rattle.lk_env.specs.declared.unit.Unit.TheVariants as unit
 use Rattle.lk_env.specs.Units.{unit_at}
+use Rattle.leancheck.specs.declared.names.Component.{Component}
+use Rattle.leancheck.specs.declared.names.Component.TheVariants.{Text, Number}
 use Rattle.leancheck.specs.Text.{name_text, first_name}
+
+abbrev pub part_at : Contents → Component → Part
+part_at c (Text s) = text (text_at c s)
+part_at c (Number n) = number n
+
+abbrev pub IsPartIn : Contents → Component → Type 0
+IsPartIn c (Text s) = s < length c.texts
+IsPartIn c (Number n) = Unit {0}
 
 -- the number of the name of the first member
 abbrev pub first_of_block : List BlockType → List Recursor → Option ℕ

@@ -3,14 +3,14 @@
 ghost use Rattle.std.specs.Prelude.{◌≡◌, ◌++◌, ◌∷◌, [], ℕ, List, map, decimal, codes, OnOk, IfOk};
 ghost use Rattle.lk_engine.specs.Questions.{rule_no};
 ghost use Rattle.leancheck.specs.Held.{verdict};
-ghost use Rattle.leancheck.specs.Text.{bad_line, part_text, dotted, name_text, rule_word, head_text, why_text, verdict_text, lines_text, is_of, count, counted_text, summary_text, report_of_names};
+ghost use Rattle.leancheck.specs.Text.{bad_line, rule_word, head_text, why_text, verdict_text, lines_text, is_of, count, counted_text, summary_text, report_of_names};
 ghost use Rattle.leancheck.specs.Ends.{IsChecked, status_of};
 ghost use Rattle.leancheck.specs.Names.{first_number, first_of_block, unit_text};
-ghost use Rattle.lk_store.specs.Names.{part_of, name_of};
 ghost use Rattle.lk_store.specs.Store.{contents_of};
 ghost use Rattle.lk_env.specs.Units.{IsUnitIn};
 
 use crate::checking::Verdict;
+use crate::names::{add_name, add_number};
 use crate::status::Status;
 use itoa::Buffer;
 use lk_engine::question::Rule;
@@ -18,8 +18,6 @@ use lk_env::library::Library;
 use lk_env::unit::{BlockType, Recursor, Unit};
 use lk_lines::Fault;
 use lk_rows::memory::NoMemory;
-use lk_store::name::{Name, Part};
-use lk_store::terms::Terms;
 use std::alloc::Global;
 
 /// What a verdict is counted as.
@@ -71,63 +69,15 @@ fn count(kind: Kind, verdicts: &[Verdict]) -> u64
     n
 }
 
-/// Appends a number.
-fn add_number(out: &mut Vec<u8>, n: u64) -> Result<(), NoMemory>
-    ensures { OnOk result (out.new.items ≡ out.old.items ++ decimal n) }
-{
-    let mut buffer = Buffer::new();
-    out.extend_from_slice(buffer.format(n).as_bytes())?;
-    Ok(())
-}
-
-/// Appends a component of a name.
-fn add_part(out: &mut Vec<u8>, part: &Part) -> Result<(), NoMemory>
-    ensures { OnOk result (out.new.items ≡ out.old.items ++ part_text (part_of part.now)) }
-{
-    match part {
-        Part::Text(text) => {
-            out.extend_from_slice(text.as_bytes())?;
-            Ok(())
-        }
-        Part::Number(n) => add_number(out, *n),
-    }
-}
-
-/// Appends components, with a dot before each.
-fn add_parts(out: &mut Vec<u8>, parts: &[Part]) -> Result<(), NoMemory>
-    ensures { OnOk result (out.new.items ≡ out.old.items ++ dotted (map part_of parts.now)) }
-{
-    let mut rest = parts;
-    while let [part, more @ ..] = rest {
-        out.push(b'.')?;
-        add_part(out, part)?;
-        rest = more;
-    }
-    Ok(())
-}
-
-/// Appends a name.
-fn add_name(out: &mut Vec<u8>, name: &Name) -> Result<(), NoMemory>
-    ensures { OnOk result (out.new.items ≡ out.old.items ++ name_text (name_of name.now)) }
-{
-    let parts = name.parts();
-    let [first, more @ ..] = parts else {
-        out.extend_from_slice(b"[anonymous]")?;
-        return Ok(());
-    };
-    add_part(out, first)?;
-    add_parts(out, more)
-}
-
-/// Appends the line of a theorem, after a word.
-fn add_head(out: &mut Vec<u8>, word: &[u8], unit: u64, name: &Name) -> Result<(), NoMemory>
-    ensures { OnOk result (out.new.items ≡ out.old.items ++ head_text word.now unit (name_text (name_of name.now))) }
+/// Appends the line of a theorem, after a word; `name` is its name as it is written.
+fn add_head(out: &mut Vec<u8>, word: &[u8], unit: u64, name: &[u8]) -> Result<(), NoMemory>
+    ensures { OnOk result (out.new.items ≡ out.old.items ++ head_text word.now unit name.now) }
 {
     out.extend_from_slice(word)?;
     out.extend_from_slice(b" thm ")?;
     add_number(out, unit)?;
     out.push(b' ')?;
-    add_name(out, name)?;
+    out.extend_from_slice(name)?;
     out.push(b'\n')?;
     Ok(())
 }
@@ -158,16 +108,16 @@ fn word_of(rule: Rule) -> &'static [u8]
 }
 
 /// Appends the lines of a theorem that isn't accepted.
-fn add_no(out: &mut Vec<u8>, unit: u64, name: &Name, why: &[u8]) -> Result<(), NoMemory>
-    ensures { OnOk result (out.new.items ≡ out.old.items ++ (head_text (codes "no") unit (name_text (name_of name.now)) ++ why_text why.now)) }
+fn add_no(out: &mut Vec<u8>, unit: u64, name: &[u8], why: &[u8]) -> Result<(), NoMemory>
+    ensures { OnOk result (out.new.items ≡ out.old.items ++ (head_text (codes "no") unit (name.now) ++ why_text why.now)) }
 {
     add_head(out, b"no", unit, name)?;
     add_why(out, why)
 }
 
 /// Appends the lines of a theorem.
-fn add_verdict(out: &mut Vec<u8>, unit: u64, name: &Name, said: Verdict) -> Result<(), NoMemory>
-    ensures { OnOk result (out.new.items ≡ out.old.items ++ verdict_text unit (name_text (name_of name.now)) (verdict said)) }
+fn add_verdict(out: &mut Vec<u8>, unit: u64, name: &[u8], said: Verdict) -> Result<(), NoMemory>
+    ensures { OnOk result (out.new.items ≡ out.old.items ++ verdict_text unit (name.now) (verdict said)) }
 {
     match said {
         Verdict::Yes => add_head(out, b"yes", unit, name),
@@ -200,35 +150,27 @@ fn first_of_block(types: &[BlockType], recursors: &[Recursor]) -> Option<u64>
     }
 }
 
-/// Appends the lines of a unit.
+/// The name that a unit goes by, as it is written.
 #[tactic(auto, using(crate::proofs::Naming::named, crate::proofs::Naming::unnamed))]
-fn add_unit(
-    out: &mut Vec<u8>,
-    library: &Library,
-    nameless: &Name,
-    number: u64,
-    unit: &Unit,
-    said: Verdict,
-) -> Result<(), NoMemory>
-    requires known { IsUnitIn (contents_of library.now.0) unit.now }
-    requires nameless { nameless.now ≡ [] }
-    ensures { OnOk result (out.new.items ≡ out.old.items ++ verdict_text number (unit_text (contents_of library.now.0) unit.now) (verdict said)) }
+fn written_name(alloc: Global, library: &Library, unit: &Unit) -> Result<Vec<u8>, NoMemory>
+    requires { IsUnitIn (contents_of library.now.0) unit.now }
+    ensures { IfOk result (λ name. name.items ≡ unit_text (contents_of library.now.0) unit.now) }
 {
-    let name = match first_number(unit) {
-        Some(first) => library.base().name(first),
-        None => nameless,
-    };
-    add_verdict(out, number, name, said)
+    let mut name = Vec::new(alloc);
+    match first_number(unit) {
+        Some(first) => add_name(alloc, &mut name, library.base(), first)?,
+        None => name.extend_from_slice(b"[anonymous]")?,
+    }
+    Ok(name)
 }
 
 /// Appends the lines of the units.
 fn add_lines(
+    alloc: Global,
     out: &mut Vec<u8>,
     library: &Library,
-    nameless: &Name,
     verdicts: &[Verdict],
 ) -> Result<(), NoMemory>
-    requires { nameless.now ≡ [] }
     ensures { OnOk result (out.new.items ≡ out.old.items ++ lines_text 0 (map (unit_text (contents_of library.now.0)) library.now.1) (map verdict verdicts.now)) }
 {
     let mut left = library.units();
@@ -238,7 +180,8 @@ fn add_lines(
         let Some((v, others)) = said.split_first() else {
             return Ok(());
         };
-        add_unit(out, library, nameless, number, unit, *v)?;
+        let name = written_name(alloc, library, unit)?;
+        add_verdict(out, number, &name, *v)?;
         left = more;
         said = others;
         number += 1;
@@ -271,9 +214,8 @@ fn add_summary(out: &mut Vec<u8>, verdicts: &[Verdict]) -> Result<(), NoMemory>
 pub fn report(alloc: Global, library: &Library, verdicts: &[Verdict]) -> Result<Vec<u8>, NoMemory>
     ensures { IfOk result (λ v. v.items ≡ report_of_names (map (unit_text (contents_of library.now.0)) library.now.1) (map verdict verdicts.now)) }
 {
-    let nameless = Name::anonymous(alloc);
     let mut out = Vec::new(alloc);
-    add_lines(&mut out, library, &nameless, verdicts)?;
+    add_lines(alloc, &mut out, library, verdicts)?;
     add_summary(&mut out, verdicts)?;
     Ok(out)
 }

@@ -5,7 +5,7 @@ use crate::place::Place;
 use crate::unit::Unit;
 use lk_rows::memory::NoMemory;
 use lk_store::base_store::BaseStore;
-use lk_store::name::Name;
+use lk_store::node::NameNode;
 use std::alloc::Global;
 use std::marker::Model;
 
@@ -51,8 +51,7 @@ fn place_among(place: Option<Place>, units: u32) -> Option<Place>
 
 impl Library {
     ghost use Rattle.std.specs.Prelude.{◌<◌, length, take, IfOk};
-    ghost use Rattle.lk_store.specs.Names.{name_of};
-    ghost use Rattle.lk_store.specs.Contents.{name_at};
+    ghost use Rattle.lk_store.specs.Contents.{name_at, name_of, IsNameIn};
     ghost use Rattle.lk_store.specs.Store.{contents_of};
     ghost use Rattle.lk_env.specs.Units.{library_of, AreUnitsIn};
     ghost use Rattle.lk_env.specs.Places.{place_in};
@@ -96,11 +95,12 @@ impl Library {
         place_among(self.place_of(name), units)
     }
 
-    /// What place_of says, of a name that need not be in the store.
-    pub fn find(&self, name: &Name) -> Option<Place>
-        ensures { option_map pair_of result ≡ place_in 0 (library_of self.now) (name_of name.now) }
+    /// What `place_of` says, of the name that a node makes of its parts. It need not be in the store.
+    pub fn find(&self, node: NameNode) -> Option<Place>
+        requires { IsNameIn (contents_of self.now.0) node }
+        ensures { option_map pair_of result ≡ place_in 0 (library_of self.now) (name_of (contents_of self.now.0) node) }
     {
-        match self.base.find_name(name) {
+        match self.base.find_name(node) {
             Some(n) => self.place_of(n),
             None => None,
         }

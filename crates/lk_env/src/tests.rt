@@ -8,17 +8,10 @@ use crate::place::Place;
 use crate::unit::{Body, Declaration, Unit};
 use lk_rows::memory::NoMemory;
 use lk_store::base_store::BaseStore;
-use lk_store::name::{Name, Part, Text};
-use lk_store::node::Node;
+use lk_store::node::{NameNode, Node};
 use lk_store::terms::Terms;
 use std::alloc::Global;
 use std::test::Fail;
-
-fn name(alloc: Global, text: &[u8]) -> Result<Name, NoMemory> {
-    let mut name = Name::anonymous(alloc);
-    name.push(Part::Text(Text::new(Vec::from_slice(alloc, text)?)))?;
-    Ok(name)
-}
 
 fn push_theorem<T: Terms>(
     alloc: Global,
@@ -65,8 +58,9 @@ fn theorems<T: Terms>(alloc: Global, store: &mut T) -> Result<Vec<Unit>, NoMemor
     ensures { IfOk result (λ units. AreUnitsIn (T.contents store.new) units.items) }
 {
     let tree = store.make(Node::Lit(0))?;
-    let a = store.make_name(&name(alloc, b"a")?)?;
-    let b = store.make_name(&name(alloc, b"b")?)?;
+    let nothing = store.make_name(NameNode::Anonymous)?;
+    let a = store.make_name(NameNode::Number(nothing, 1))?;
+    let b = store.make_name(NameNode::Number(nothing, 2))?;
     push_all(alloc, store, a, b, tree)
 }
 
@@ -76,11 +70,13 @@ fn library(alloc: Global) -> Result<Library, NoMemory> {
     Library::new(alloc, base, units)
 }
 
-// Where the library gives a name.
-fn found(alloc: Global, text: &[u8]) -> Result<Option<Place>, NoMemory> {
+// Where the library gives the name of this number.
+fn found(alloc: Global, number: u64) -> Result<Option<Place>, NoMemory> {
     let library = library(alloc)?;
-    let name = name(alloc, text)?;
-    Ok(library.find(&name))
+    match library.base().find_name(NameNode::Anonymous) {
+        Some(nothing) => Ok(library.find(NameNode::Number(nothing, number))),
+        None => Ok(None),
+    }
 }
 
 fn is_at(place: Option<Place>, unit: u32) -> bool {
@@ -93,14 +89,14 @@ fn is_at(place: Option<Place>, unit: u32) -> bool {
 #[test]
 fn the_first_unit_gives_a_name(rt: HostRuntime) -> Result<(), Fail> {
     let alloc = rt.alloc();
-    assert!(rt; is_at(found(alloc, b"a")?, 0));
-    assert!(rt; is_at(found(alloc, b"b")?, 1));
+    assert!(rt; is_at(found(alloc, 1)?, 0));
+    assert!(rt; is_at(found(alloc, 2)?, 1));
     Ok(())
 }
 
 #[test]
 fn an_absent_name_is_not_found(rt: HostRuntime) -> Result<(), Fail> {
-    assert!(rt; found(rt.alloc(), b"c")?.is_none());
+    assert!(rt; found(rt.alloc(), 3)?.is_none());
     Ok(())
 }
 

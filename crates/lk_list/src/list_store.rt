@@ -5,9 +5,9 @@ ghost use Rattle.lk_store.specs.Contents.{tree_at, tree_of, IsIn, Extends, IsTre
 ghost use Rattle.lk_list.specs.Listing.{listed, inside, number_of, AreListed};
 
 use lk_rows::memory::NoMemory;
-use lk_store::name::{Name, Text};
-use lk_store::node::{LevelNode, ListNode, Node};
+use lk_store::node::{LevelNode, ListNode, NameNode, Node};
 use lk_store::terms::Terms;
+use lk_store::text::Text;
 use std::alloc::Global;
 use std::marker::Model;
 
@@ -172,19 +172,23 @@ impl<T: Terms + Drop> Terms for ListStore<T> {
         self.store.levels_have_params(ls)
     }
 
-    fn name(&self, n: u64) -> &Name {
+    fn name(&self, n: u64) -> NameNode {
         self.store.name(n)
     }
 
-    fn make_name(&mut self, name: &Name) -> Result<u64, NoMemory> {
-        self.store.make_name(name)
+    fn make_name(&mut self, node: NameNode) -> Result<u64, NoMemory> {
+        self.store.make_name(node)
+    }
+
+    fn same_name(&self, m: u64, n: u64) -> bool {
+        self.store.same_name(m, n)
     }
 
     fn text(&self, s: u64) -> &Text {
         self.store.text(s)
     }
 
-    fn make_text(&mut self, text: &Text) -> Result<u64, NoMemory> {
+    fn make_text(&mut self, text: Text) -> Result<u64, NoMemory> {
         self.store.make_text(text)
     }
 }

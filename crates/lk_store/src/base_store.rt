@@ -17,7 +17,6 @@ use std::marker::Model;
 /// The store of a library: each thing stands in it once.
 #[derive(Drop)]
 pub struct BaseStore {
-    alloc: Global,
     /// What it lies over, which is empty.
     pub(crate) nothing: Tables,
     pub(crate) tables: Tables,
@@ -47,7 +46,6 @@ impl BaseStore {
         ensures { result ≡ no_tables }
     {
         BaseStore {
-            alloc,
             nothing: Tables::new(alloc),
             tables: Tables::new(alloc),
         }
@@ -152,15 +150,15 @@ impl Terms for BaseStore {
         make_name_in(&self.nothing, &mut self.tables, node)
     }
 
-    fn same_name(&self, a: u64, b: u64) -> bool {
-        same_name_in(&self.nothing, &self.tables, a, b)
+    fn same_name(&self, m: u64, n: u64) -> bool {
+        same_name_in(&self.nothing, &self.tables, m, n)
     }
 
     fn text(&self, s: u64) -> &Text {
         text_in(&self.nothing, &self.tables, s)
     }
 
-    fn make_text(&mut self, text: &Text) -> Result<u64, NoMemory> {
-        make_text_in(self.alloc, &self.nothing, &mut self.tables, text)
+    fn make_text(&mut self, text: Text) -> Result<u64, NoMemory> {
+        make_text_in(&self.nothing, &mut self.tables, text)
     }
 }

@@ -15,7 +15,6 @@ use crate::tables::Tables;
 use crate::text::Text;
 use lk_rows::layers::{add, count, find};
 use lk_rows::memory::NoMemory;
-use std::alloc::Global;
 
 /// The code of a number, which is kept where it takes more than 31 bits.
 fn encode(base: &Tables, own: &mut Tables, n: u128) -> Result<u32, NoMemory>
@@ -177,21 +176,16 @@ pub(crate) fn find_name_in(base: &Tables, own: &Tables, node: NameNode) -> Optio
 }
 
 /// The number of a text.
-pub(crate) fn make_text_in(
-    alloc: Global,
-    base: &Tables,
-    own: &mut Tables,
-    text: &Text,
-) -> Result<u64, NoMemory>
+pub(crate) fn make_text_in(base: &Tables, own: &mut Tables, text: Text) -> Result<u64, NoMemory>
     requires { IsStore (over base.now own.old) }
     ensures grown { Grown (over base.now own.old) (over base.now own.new) }
-    ensures ok { IfOk result (λ s. IsText (contents_of (over base.now own.new)) s text.now) }
+    ensures ok { IfOk result (λ s. IsText (contents_of (over base.now own.new)) s text) }
     ensures err { OnErr result (own.new ≡ own.old) }
 {
-    match find(&base.texts, &own.texts, text) {
+    match find(&base.texts, &own.texts, &text) {
         Some(s) => Ok(s),
         None => {
-            let s = add(&base.texts, &mut own.texts, text.copy(alloc)?)?;
+            let s = add(&base.texts, &mut own.texts, text)?;
             Ok(s)
         }
     }

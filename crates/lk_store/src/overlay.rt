@@ -19,7 +19,6 @@ use std::marker::Model;
 /// A store over that of a library, which is only read. What is made stands in it alone; what the library has keeps its number.
 #[derive(Drop)]
 pub struct Overlay<'a> {
-    alloc: Global,
     base: &'a Tables,
     own: Tables,
 }
@@ -46,7 +45,6 @@ impl<'a> Overlay<'a> {
         ensures contents { contents_of (over result.0 result.1) ≡ contents_of base.now }
     {
         Overlay {
-            alloc,
             base: &base.tables,
             own: Tables::new(alloc),
         }
@@ -136,15 +134,15 @@ impl<'a> Terms for Overlay<'a> {
         make_name_in(self.base, &mut self.own, node)
     }
 
-    fn same_name(&self, a: u64, b: u64) -> bool {
-        same_name_in(self.base, &self.own, a, b)
+    fn same_name(&self, m: u64, n: u64) -> bool {
+        same_name_in(self.base, &self.own, m, n)
     }
 
     fn text(&self, s: u64) -> &Text {
         text_in(self.base, &self.own, s)
     }
 
-    fn make_text(&mut self, text: &Text) -> Result<u64, NoMemory> {
-        make_text_in(self.alloc, self.base, &mut self.own, text)
+    fn make_text(&mut self, text: Text) -> Result<u64, NoMemory> {
+        make_text_in(self.base, &mut self.own, text)
     }
 }

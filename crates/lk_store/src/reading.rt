@@ -114,15 +114,15 @@ pub(crate) fn name_in(base: &Tables, own: &Tables, n: u64) -> NameNode
 }
 
 /// Whether two numbers have one name.
-pub(crate) fn same_name_in(base: &Tables, own: &Tables, a: u64, b: u64) -> bool
+pub(crate) fn same_name_in(base: &Tables, own: &Tables, m: u64, n: u64) -> bool
     requires store { IsStore (over base.now own.now) }
-    requires a_in { a < length (contents_of (over base.now own.now)).names }
-    requires b_in { b < length (contents_of (over base.now own.now)).names }
-    ensures { IsTrue result ↔ (name_at (contents_of (over base.now own.now)) a ≡ name_at (contents_of (over base.now own.now)) b) }
+    requires m_in { m < length (contents_of (over base.now own.now)).names }
+    requires n_in { n < length (contents_of (over base.now own.now)).names }
+    ensures { IsTrue result ↔ (name_at (contents_of (over base.now own.now)) m ≡ name_at (contents_of (over base.now own.now)) n) }
 {
     let _base = base;
     let _own = own;
-    a == b
+    m == n
 }
 
 /// The text of a number.

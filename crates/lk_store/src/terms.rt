@@ -122,10 +122,10 @@ pub trait Terms {
         ensures err { OnErr result (contents self.new ≡ contents self.old) };
 
     /// Whether two names are equal.
-    fn same_name(&self, a: u64, b: u64) -> bool
-        requires a_in { a < length (contents self.now).names }
-        requires b_in { b < length (contents self.now).names }
-        ensures { IsTrue result ↔ (name_at (contents self.now) a ≡ name_at (contents self.now) b) };
+    fn same_name(&self, m: u64, n: u64) -> bool
+        requires m_in { m < length (contents self.now).names }
+        requires n_in { n < length (contents self.now).names }
+        ensures { IsTrue result ↔ (name_at (contents self.now) m ≡ name_at (contents self.now) n) };
 
     /// The text of a number.
     fn text(&self, s: u64) -> &Text
@@ -133,9 +133,9 @@ pub trait Terms {
         ensures { result.now ≡ text_at (contents self.now) s };
 
     /// A number of the text.
-    fn make_text(&mut self, text: &Text) -> Result<u64, NoMemory>
+    fn make_text(&mut self, text: Text) -> Result<u64, NoMemory>
         ensures keeps { Extends (contents self.old) (contents self.new) }
         ensures rest { rest self.new ≡ rest self.old }
-        ensures ok { IfOk result (λ s. IsText (contents self.new) s text.now) }
+        ensures ok { IfOk result (λ s. IsText (contents self.new) s text) }
         ensures err { OnErr result (contents self.new ≡ contents self.old) };
 }

@@ -1,11 +1,9 @@
 //! Texts in memory.
 
-ghost use Rattle.std.specs.Prelude.{◌≡◌, ◌↔◌, IfOk, IsTrue};
+ghost use Rattle.std.specs.Prelude.{◌≡◌, ◌↔◌, IsTrue};
 
 use crate::hashing::hash_bytes;
-use lk_rows::memory::NoMemory;
 use lk_rows::row::Row;
-use std::alloc::Global;
 use std::marker::Model;
 
 /// A text, as bytes.
@@ -33,14 +31,6 @@ impl Text {
         ensures { result.now ≡ self.now }
     {
         self.bytes.as_slice()
-    }
-
-    pub fn copy(&self, alloc: Global) -> Result<Text, NoMemory>
-        ensures { IfOk result (λ t. t ≡ self.now) }
-    {
-        Ok(Text {
-            bytes: Vec::from_slice(alloc, &self.bytes)?,
-        })
     }
 
     pub fn is(&self, other: &Text) -> bool

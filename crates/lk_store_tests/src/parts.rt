@@ -3,16 +3,20 @@
 ghost use Rattle.std.specs.Prelude.{◌<◌, length, IfOk};
 
 use lk_rows::memory::NoMemory;
-use lk_store::name::{Name, Part, Text};
-use lk_store::node::{LevelNode, ListNode, Node};
+use lk_store::node::{LevelNode, NameNode, Node};
 use lk_store::terms::Terms;
+use lk_store::text::Text;
 use std::alloc::Global;
 
-/// A name of one component.
-pub fn name_of(alloc: Global, text: &[u8]) -> Result<Name, NoMemory> {
-    let mut name = Name::anonymous(alloc);
-    name.push(Part::Text(Text::new(Vec::from_slice(alloc, text)?)))?;
-    Ok(name)
+/// The name of one component, a text.
+pub fn named<T: Terms>(alloc: Global, terms: &mut T, text: &[u8]) -> Result<u64, NoMemory>
+    ensures { IfOk result (λ n. n < length (T.contents terms.new).names) }
+{
+    let text = Text::new(Vec::from_slice(alloc, text)?);
+    let nothing = terms.make_name(NameNode::Anonymous)?;
+    let s = terms.make_text(text)?;
+    let n = terms.make_name(NameNode::Text(nothing, s))?;
+    Ok(n)
 }
 
 /// A tree whose children are there.
@@ -45,8 +49,7 @@ pub fn parameter<T: Terms>(
 ) -> Result<(u64, u64), NoMemory>
     ensures { IfOk result (λ r. (r.0 < length (T.contents terms.new).names) × (r.1 < length (T.contents terms.new).levels)) }
 {
-    let name = name_of(alloc, text)?;
-    let n = terms.make_name(&name)?;
+    let n = named(alloc, terms, text)?;
     let l = terms.make_level(LevelNode::Param(n))?;
     Ok((n, l))
 }

@@ -1,22 +1,26 @@
 //! What a store gives back of what was put into it: over a base, over an overlay and over a list.
 
-use crate::parts::{name_of, parameter, prop, put};
+use crate::parts::{parameter, prop, put};
 use lk_list::list_store::ListStore;
 use lk_rows::memory::NoMemory;
 use lk_store::base_store::BaseStore;
-use lk_store::name::Text;
-use lk_store::node::{LevelNode, ListNode, Node};
+use lk_store::node::{LevelNode, ListNode, NameNode, Node};
 use lk_store::overlay::Overlay;
 use lk_store::terms::Terms;
+use lk_store::text::Text;
 use std::alloc::Global;
 use std::test::Fail;
 
-fn names_and_texts<T: Terms>(alloc: Global, terms: &mut T) -> Result<bool, NoMemory> {
-    let name = name_of(alloc, b"q")?;
-    let n = terms.make_name(&name)?;
-    let text = Text::new(Vec::from_slice(alloc, b"s")?);
-    let s = terms.make_text(&text)?;
-    Ok(terms.name(n).is(&name) && terms.text(s).is(&text))
+fn names<T: Terms>(terms: &mut T) -> Result<bool, NoMemory> {
+    let nothing = terms.make_name(NameNode::Anonymous)?;
+    let n = terms.make_name(NameNode::Number(nothing, 7))?;
+    let whole = terms.name(n) == NameNode::Number(nothing, 7);
+    Ok(whole && terms.same_name(n, n) && !terms.same_name(n, nothing))
+}
+
+fn texts<T: Terms>(alloc: Global, terms: &mut T) -> Result<bool, NoMemory> {
+    let s = terms.make_text(Text::new(Vec::from_slice(alloc, b"s")?))?;
+    Ok(terms.text(s).as_bytes() == b"s".as_slice())
 }
 
 fn levels<T: Terms>(alloc: Global, terms: &mut T) -> Result<bool, NoMemory> {
@@ -75,7 +79,8 @@ fn twice<T: Terms>(terms: &mut T) -> Result<(bool, bool), NoMemory> {
 
 fn all<T: Terms>(alloc: Global, terms: &mut T) -> Result<bool, NoMemory> {
     Ok(
-        names_and_texts(alloc, terms)?
+        names(terms)?
+            && texts(alloc, terms)?
             && levels(alloc, terms)?
             && lists(terms)?
             && trees(terms)?

@@ -7,10 +7,7 @@ use Rattle.std.proofs.lemmas.List.Elements.{All-head, All-tail, All-weaker}
 use Rattle.lk_tree.specs.Tree.{Name, name_discrete, Level, zero_level, succ_level, max_level, imax_level, param}
 use Rattle.lk_tree.specs.Levels.{level_for, put_in_level}
 use Rattle.lk_store.specs.Measures.{level_has_params, list_has_params}
-use Rattle.lk_store.specs.Names.{name_of}
-use Rattle.lk_store.specs.declared.name.Part.{Part}
 use Rattle.lk_store.specs.Contents.{Contents, name_at, level_at, list_at, Extends, IsLevel}
-use Rattle.lk_store.proofs.Made.{name_of-injective}
 use Rattle.lk_subst.specs.declared.parts.Met.{Met}
 use Rattle.lk_subst.specs.Parts.{AreMet}
 use Rattle.lk_subst.specs.Parameters.{putting, ArePut}
@@ -47,17 +44,8 @@ put_in_levels-closed ps ls (m ∷ ms) h =
     cc
 
 -- Names that are not equal.
-pub names_differ : (r : Bool) (a b : List Part) (m n : Name) → (IsTrue r ↔ (a ≡ b)) → name_of a ≡ m → name_of b ≡ n → r ≡ false → m ≢ n
-names_differ r a b m n h p q not same =
-    let e : a ≡ b = name_of-injective a b (p ∙ same ∙ sym q) in
-    let here : IsTrue r = h.1 e in
-    let both : false ≡ true = rw not at here in
-    absurd cc
-
-pub names_agree : (r : Bool) (a b : List Part) (m n : Name) → (IsTrue r ↔ (a ≡ b)) → name_of a ≡ m → name_of b ≡ n → r ≡ true → m ≡ n
-names_agree r a b m n h p q is =
-    let t : IsTrue r = is in
-    sym p ∙ ap name_of (h.0 t) ∙ q
+pub names_differ : {m n : Name} (r : Bool) → (IsTrue r ↔ (m ≡ n)) → r ≡ false → m ≢ n
+names_differ r h not same = let t = h.1 same in cc
 
 level_for-same : (p n : Name) (ps : List Name) (l : Level) (ls : List Level) → p ≡ n → level_for (p ∷ ps) (l ∷ ls) n ≡ l
 unfolding level_for

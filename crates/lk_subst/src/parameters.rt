@@ -22,12 +22,11 @@ fn value_for<T: Terms>(terms: &T, params: &[u64], values: &[u64], name: u64) -> 
     ensures absent { IfNone result (level_for (map (name_at (T.contents terms.now)) params.now) (map (level_at (T.contents terms.now)) values.now) (name_at (T.contents terms.now) name) ≡ param (name_at (T.contents terms.now) name)) }
     ensures present { IfSome result (λ v. IsLevel (T.contents terms.now) v (level_for (map (name_at (T.contents terms.now)) params.now) (map (level_at (T.contents terms.now)) values.now) (name_at (T.contents terms.now) name))) }
 {
-    let wanted = terms.name(name);
     for i in 0..params.len() {
         if i >= values.len() {
             return None;
         }
-        if terms.name(params[i]).is(wanted) {
+        if terms.same_name(params[i], name) {
             return Some(values[i]);
         }
     }

@@ -8,8 +8,7 @@ use crate::numbering::Numbering;
 use lk_env::unit::Unit;
 use lk_lines::Word;
 use lk_rows::memory::NoMemory;
-use lk_store::name::Name;
-use lk_store::node::LevelNode;
+use lk_store::node::{LevelNode, NameNode};
 use lk_store::terms::Terms;
 use std::alloc::Global;
 
@@ -62,7 +61,7 @@ impl Assembler {
         ensures holds { IfOk result (λ a. Holds a (T.contents store.new) begin) }
         ensures err { IfErr result (λ e. e ≡ TakeError.NoMemory) }
     {
-        let anonymous = store.make_name(&Name::anonymous(alloc))?;
+        let anonymous = store.make_name(NameNode::Anonymous)?;
         let zero = store.make_level(LevelNode::Zero)?;
         let mut by_name = Numbering::new(alloc);
         by_name.add(0, anonymous)?;

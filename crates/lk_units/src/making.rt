@@ -1,8 +1,7 @@
 //! What each kind of line makes.
 ghost use Rattle.std.specs.Prelude.{◌≡◌, ◌<◌, ◌++◌, ◌∷◌, [], length, All, IfOk, Ok};
-ghost use Rattle.lk_tree.specs.Tree.{var};
-ghost use Rattle.lk_store.specs.Names.{part_of};
-ghost use Rattle.lk_store.specs.Contents.{Contents, name_at, level_at, tree_at, tree_of, IsIn, Extends};
+ghost use Rattle.lk_tree.specs.Tree.{text, number, var};
+ghost use Rattle.lk_store.specs.Contents.{Contents, name_at, level_at, tree_at, tree_of, IsIn, IsName, Extends};
 ghost use Rattle.lk_env.specs.Units.{IsUnitIn};
 ghost use Rattle.lk_units.specs.State.{State, all_known, longer_name, successor_level, sort_tree, binder_tree, theorem_of};
 ghost use Rattle.lk_units.specs.Held.{IsKnown, Holds, Makes, MakesAll, MakesUnit, binder_of};
@@ -11,9 +10,9 @@ use crate::{Assembler, Binder, TakeError};
 use lk_env::unit::{Body, Declaration, Unit};
 use lk_lines::Word;
 use lk_rows::memory::NoMemory;
-use lk_store::name::{Name, Part};
-use lk_store::node::{LevelNode, Node};
+use lk_store::node::{LevelNode, NameNode, Node};
 use lk_store::terms::Terms;
+use lk_store::text::Text;
 use std::alloc::Global;
 
 // The node of a binder.
@@ -51,13 +50,22 @@ pub(crate) fn variable<T: Terms>(store: &mut T, index: u32) -> Result<u64, TakeE
     make(store, Node::Var(u64::from(index)))
 }
 
-/// A name with one more component.
-fn longer(alloc: Global, parent: &Name, part: Part) -> Result<Name, NoMemory>
-    ensures { IfOk result (λ name. name ≡ parent.now ++ part ∷ []) }
+/// The name with one more component, a text.
+fn with_text<T: Terms>(
+    alloc: Global,
+    store: &mut T,
+    parent: u64,
+    bytes: &[u8],
+) -> Result<u64, NoMemory>
+    requires { parent < length (T.contents store.old).names }
+    ensures keeps { Extends (T.contents store.old) (T.contents store.new) }
+    ensures rest { T.rest store.new ≡ T.rest store.old }
+    ensures ok { IfOk result (λ n. IsName (T.contents store.new) n (name_at (T.contents store.old) parent ++ text bytes.now ∷ [])) }
 {
-    let mut name = parent.copy(alloc)?;
-    name.push(part)?;
-    Ok(name)
+    let bytes = Vec::from_slice(alloc, bytes)?;
+    let s = store.make_text(Text::new(bytes))?;
+    let n = store.make_name(NameNode::Text(parent, s))?;
+    Ok(n)
 }
 
 impl Assembler {
@@ -122,28 +130,48 @@ impl Assembler {
         }
     }
 
-    /// A name with one more component.
+    /// A name with one more component, a text.
     #[tactic(auto, using(crate::proofs::Holding::found, crate::proofs::Holding::missing, crate::proofs::Holding::is_below, crate::proofs::Holding::unchanged))]
-    pub(crate) fn name<T: Terms>(
+    pub(crate) fn text_name<T: Terms>(
         &self,
         alloc: Global,
         store: &mut T,
         parent: u32,
-        part: Part,
+        bytes: &[u8],
     ) -> Result<u64, TakeError>
         requires { IsKnown self.now (T.contents store.old) }
         ensures keeps { Extends (T.contents store.old) (T.contents store.new) }
         ensures rest { T.rest store.new ≡ T.rest store.old }
         ensures known { IfOk result (λ n. n < length (T.contents store.new).names) }
-        ensures made { (s : State) → Holds self.now (T.contents store.old) s → Makes (name_at (T.contents store.new)) result (longer_name s parent (part_of part)) }
+        ensures made { (s : State) → Holds self.now (T.contents store.old) s → Makes (name_at (T.contents store.new)) result (longer_name s parent (text bytes.now)) }
     {
         let Some(parent) = self.by_name.find(parent) else {
             return Err(TakeError::Fault(Word::IndexUnknown));
         };
-        let Ok(name) = longer(alloc, store.name(parent), part) else {
-            return Err(TakeError::NoMemory);
+        match with_text(alloc, store, parent, bytes) {
+            Ok(n) => Ok(n),
+            Err(_) => Err(TakeError::NoMemory),
+        }
+    }
+
+    /// A name with one more component, a number.
+    #[tactic(auto, using(crate::proofs::Holding::found, crate::proofs::Holding::missing, crate::proofs::Holding::is_below, crate::proofs::Holding::unchanged))]
+    pub(crate) fn number_name<T: Terms>(
+        &self,
+        store: &mut T,
+        parent: u32,
+        component: u64,
+    ) -> Result<u64, TakeError>
+        requires { IsKnown self.now (T.contents store.old) }
+        ensures keeps { Extends (T.contents store.old) (T.contents store.new) }
+        ensures rest { T.rest store.new ≡ T.rest store.old }
+        ensures known { IfOk result (λ n. n < length (T.contents store.new).names) }
+        ensures made { (s : State) → Holds self.now (T.contents store.old) s → Makes (name_at (T.contents store.new)) result (longer_name s parent (number component)) }
+    {
+        let Some(parent) = self.by_name.find(parent) else {
+            return Err(TakeError::Fault(Word::IndexUnknown));
         };
-        match store.make_name(&name) {
+        match store.make_name(NameNode::Number(parent, component)) {
             Ok(n) => Ok(n),
             Err(_) => Err(TakeError::NoMemory),
         }

@@ -1,7 +1,6 @@
 //! Items taken one after another.
 ghost use Rattle.std.specs.Prelude.{◌≡◌, OnOk, Ok, Some, None, Result};
-ghost use Rattle.lk_tree.specs.Tree.{var};
-ghost use Rattle.lk_store.specs.Names.{part_of};
+ghost use Rattle.lk_tree.specs.Tree.{text, number, var};
 ghost use Rattle.lk_store.specs.Contents.{Contents, Extends};
 ghost use Rattle.lk_env.specs.Units.{unit_at, IsUnitIn};
 ghost use Rattle.lk_lines.specs.declared.words.Word.{Word as LineWord};
@@ -15,33 +14,12 @@ use crate::making::variable;
 use crate::{Assembler, Binder, TakeError};
 use lk_env::unit::Unit;
 use lk_lines::{Declaration, Entry, Word};
-use lk_store::name::{Part, Text};
 use lk_store::terms::Terms;
 use std::alloc::Global;
 
 impl Assembler {
-    // A line of a name.
-    #[tactic(auto, using(crate::proofs::Putting::name_known, crate::proofs::Putting::name_follows))]
-    fn name_line<T: Terms>(
-        &mut self,
-        alloc: Global,
-        store: &mut T,
-        own: u32,
-        parent: u32,
-        part: Part,
-    ) -> Result<(), TakeError>
-        requires { IsKnown self.old (T.contents store.old) }
-        ensures keeps { Extends (T.contents store.old) (T.contents store.new) }
-        ensures rest { T.rest store.new ≡ T.rest store.old }
-        ensures known { OnOk result (IsKnown self.new (T.contents store.new)) }
-        ensures follows { (s : State) → Holds self.old (T.contents store.old) s → Follows self.new (T.contents store.new) result (with_name s own (longer_name s parent (part_of part))) }
-    {
-        let made = self.name(alloc, store, parent, part);
-        self.by_name.put_new(own, made)
-    }
-
     // A line of a name whose last component is a text.
-    #[tactic(auto, using(crate::proofs::Holding::unchanged))]
+    #[tactic(auto, using(crate::proofs::Putting::name_known, crate::proofs::Putting::name_follows))]
     fn text_line<T: Terms>(
         &mut self,
         alloc: Global,
@@ -54,12 +32,29 @@ impl Assembler {
         ensures keeps { Extends (T.contents store.old) (T.contents store.new) }
         ensures rest { T.rest store.new ≡ T.rest store.old }
         ensures known { OnOk result (IsKnown self.new (T.contents store.new)) }
-        ensures follows { (s : State) → Holds self.old (T.contents store.old) s → Follows self.new (T.contents store.new) result (with_name s own (longer_name s parent (part_of (Part.Text bytes.now)))) }
+        ensures follows { (s : State) → Holds self.old (T.contents store.old) s → Follows self.new (T.contents store.new) result (with_name s own (longer_name s parent (text bytes.now))) }
     {
-        let Ok(text) = Vec::from_slice(alloc, bytes) else {
-            return Err(TakeError::NoMemory);
-        };
-        self.name_line(alloc, store, own, parent, Part::Text(Text::new(text)))
+        let made = self.text_name(alloc, store, parent, bytes);
+        self.by_name.put_new(own, made)
+    }
+
+    // A line of a name whose last component is a number.
+    #[tactic(auto, using(crate::proofs::Putting::name_known, crate::proofs::Putting::name_follows))]
+    fn number_line<T: Terms>(
+        &mut self,
+        store: &mut T,
+        own: u32,
+        parent: u32,
+        component: u64,
+    ) -> Result<(), TakeError>
+        requires { IsKnown self.old (T.contents store.old) }
+        ensures keeps { Extends (T.contents store.old) (T.contents store.new) }
+        ensures rest { T.rest store.new ≡ T.rest store.old }
+        ensures known { OnOk result (IsKnown self.new (T.contents store.new)) }
+        ensures follows { (s : State) → Holds self.old (T.contents store.old) s → Follows self.new (T.contents store.new) result (with_name s own (longer_name s parent (number component))) }
+    {
+        let made = self.number_name(store, parent, component);
+        self.by_name.put_new(own, made)
     }
 
     // A line of a level.
@@ -182,7 +177,7 @@ impl Assembler {
         match line {
             Entry::NameText { parent, text } => self.text_line(alloc, store, own, parent, text),
             Entry::NameNumber { parent, component } => {
-                self.name_line(alloc, store, own, parent, Part::Number(component))
+                self.number_line(store, own, parent, component)
             }
             Entry::Successor { level } => self.successor_line(store, own, level),
             Entry::Variable { index } => self.variable_line(store, own, index),

@@ -5,8 +5,9 @@ use lk_env::unit::Unit;
 use lk_lines::{BinderInfo, Declaration, Entry, Word};
 use lk_rows::memory::NoMemory;
 use lk_store::base_store::BaseStore;
-use lk_store::name::{Name, Part, Text};
+use lk_store::node::NameNode;
 use lk_store::terms::Terms;
+use lk_store::text::Text;
 use std::alloc::Global;
 use std::test::Fail;
 
@@ -99,10 +100,10 @@ fn identity(alloc: Global, store: &mut BaseStore) -> Result<Assembler, TakeError
 
 // The number of the name that has the text `id` and the number 4.
 fn number_of_name(alloc: Global, store: &mut BaseStore) -> Result<u64, NoMemory> {
-    let mut name = Name::anonymous(alloc);
-    name.push(Part::Text(Text::new(Vec::from_slice(alloc, b"id")?)))?;
-    name.push(Part::Number(4))?;
-    store.make_name(&name)
+    let nothing = store.make_name(NameNode::Anonymous)?;
+    let text = store.make_text(Text::new(Vec::from_slice(alloc, b"id")?))?;
+    let parent = store.make_name(NameNode::Text(nothing, text))?;
+    store.make_name(NameNode::Number(parent, 4))
 }
 
 fn has_name(unit: &Unit, name: u64) -> bool {
