@@ -3,6 +3,7 @@ pub mod Worked
 pub mod Checks
 pub mod Joined
 pub mod Naming
+pub mod Components
 pub mod Taken
 pub mod Verdicts
 pub mod WordLaws

@@ -1,17 +1,18 @@
-use Rattle.std.proofs.Common.{◌≡◌, ◌<◌, ◌++◌, length, map}
-use Rattle.std.specs.Prelude.{All, reverse}
+use Rattle.std.proofs.Common.{◌≡◌, ◌<◌, ◌++◌, length}
+use Rattle.std.specs.Prelude.{All}
 use Rattle.lk_store.specs.Contents.{name_at}
-use Rattle.leancheck.specs.Names.{part_at, IsPartIn}
+use Rattle.leancheck.specs.Names.{IsPartIn}
+use Rattle.leancheck.proofs.Components.{behind}
 use Rattle.leancheck.proofs.names.components.Given as goal
 
--- the components that were met, of which the last one stands first, are those behind the name at which the walk is
+-- the components that were met are those behind the name at which the walk is
 abbrev pub invariant-up : goal.invariant-up
 invariant-up g l =
     let c = g.T.Terms.contents l.store in
     record {
       at_in : l.at < length c.names;
       known : All (IsPartIn c) l.parts.items;
-      name : name_at c l.at ++ reverse (map (part_at c) l.parts.items) ≡ name_at c l.name;
+      name : name_at c l.at ++ behind c l.parts.items ≡ name_at c l.name;
     }
 
 abbrev pub decreases-up : goal.decreases-up
