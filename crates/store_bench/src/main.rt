@@ -1,15 +1,19 @@
-//! Makes and opens terms, to see how fast that is: `bench WORK N`, where WORK is 0 to make N terms, 1 to make them twice, 2 to make them
-//! and then use N overlays, 3 to open a term N deep, and 4 to open N doublings.
+//! Makes and opens terms, to see how fast that is: `store_bench WORK N`.
+//!
+//! WORK is `make` (N terms, no two equal), `repeat` (the same, and then once more), `overlays` (the same, and then N
+//! overlays of them, in each of which a few terms are made), `binders` or `applications` (a term of N nested ones,
+//! opened and closed), or `doublings` (a variable applied to itself, that to itself, and so on, opened). The number of
+//! the last term is printed.
 #![tactic(auto)]
 
+use lk_rows::memory::NoMemory;
 use lk_store::base_store::BaseStore;
 use lk_store::node::{LevelNode, Node};
 use lk_store::overlay::Overlay;
 use lk_store::terms::Terms;
+use lk_subst::closing::close;
 use lk_subst::opening::open_with;
-use lk_rows::memory::NoMemory;
 use std::alloc::Global;
-use std::rt::Env;
 use std::{env, io};
 
 /// A node, where its children are there.
@@ -48,7 +52,7 @@ fn prop<T: Terms>(terms: &mut T) -> Result<u64, NoMemory> {
 }
 
 /// `count` applications, of which no two are equal. The last one's number.
-fn applications<T: Terms>(terms: &mut T, count: u64) -> Result<u64, NoMemory> {
+fn distinct<T: Terms>(terms: &mut T, count: u64) -> Result<u64, NoMemory> {
     let mut last = prop(terms)?;
     for i in 0..count {
         last = put(terms, Node::App(last, i / 2))?;
@@ -57,7 +61,7 @@ fn applications<T: Terms>(terms: &mut T, count: u64) -> Result<u64, NoMemory> {
 }
 
 /// A body under `depth` binders whose outermost variable stands inside them all.
-fn deep<T: Terms>(terms: &mut T, depth: u64) -> Result<u64, NoMemory> {
+fn binders<T: Terms>(terms: &mut T, depth: u64) -> Result<u64, NoMemory> {
     let sort = prop(terms)?;
     let mut body = put(terms, Node::Var(depth))?;
     for _ in 0..depth {
@@ -66,8 +70,18 @@ fn deep<T: Terms>(terms: &mut T, depth: u64) -> Result<u64, NoMemory> {
     Ok(body)
 }
 
+/// A variable applied so many times to a sort.
+fn applications<T: Terms>(terms: &mut T, count: u64) -> Result<u64, NoMemory> {
+    let sort = prop(terms)?;
+    let mut body = put(terms, Node::Var(0))?;
+    for _ in 0..count {
+        body = put(terms, Node::App(body, sort))?;
+    }
+    Ok(body)
+}
+
 /// A variable applied to itself, that to itself, and so on.
-fn doubled<T: Terms>(terms: &mut T, times: u64) -> Result<u64, NoMemory> {
+fn doublings<T: Terms>(terms: &mut T, times: u64) -> Result<u64, NoMemory> {
     let mut body = put(terms, Node::Var(0))?;
     for _ in 0..times {
         body = put(terms, Node::App(body, body))?;
@@ -87,6 +101,16 @@ fn opened<T: Terms>(alloc: Global, terms: &mut T, body: u64) -> Result<u64, NoMe
     }
 }
 
+/// The body opened with a Local and closed again.
+fn opened_and_closed<T: Terms>(alloc: Global, terms: &mut T, body: u64) -> Result<u64, NoMemory> {
+    let inside = opened(alloc, terms, body)?;
+    if inside < terms.len() {
+        close(alloc, terms, inside, 0)
+    } else {
+        Err(NoMemory)
+    }
+}
+
 /// `units` times an overlay in which a few terms are made.
 fn overlays(alloc: Global, base: &BaseStore, units: u64) -> Result<u64, NoMemory> {
     let mut overlay = Overlay::new(alloc, base);
@@ -100,83 +124,76 @@ fn overlays(alloc: Global, base: &BaseStore, units: u64) -> Result<u64, NoMemory
     Ok(sum)
 }
 
-/// What is measured.
-#[derive(Clone, Copy, Debug, PartialEq, Eq)]
-enum Work {
-    Make,
-    Repeat,
-    Over,
-    Deep,
-    Double,
-}
-
-fn make(alloc: Global, n: u64) -> Result<u64, NoMemory> {
-    let mut store = BaseStore::new(alloc);
-    applications(&mut store, n)
-}
-
 fn repeat(alloc: Global, n: u64) -> Result<u64, NoMemory> {
     let mut store = BaseStore::new(alloc);
-    applications(&mut store, n)?;
-    applications(&mut store, n)
+    distinct(&mut store, n)?;
+    distinct(&mut store, n)
 }
 
 fn over(alloc: Global, n: u64) -> Result<u64, NoMemory> {
     let mut store = BaseStore::new(alloc);
-    applications(&mut store, n)?;
+    distinct(&mut store, n)?;
     overlays(alloc, &store, n)
 }
 
-fn open_deep(alloc: Global, n: u64) -> Result<u64, NoMemory> {
+fn open_binders(alloc: Global, n: u64) -> Result<u64, NoMemory> {
     let mut store = BaseStore::new(alloc);
-    let body = deep(&mut store, n)?;
+    let body = binders(&mut store, n)?;
+    opened_and_closed(alloc, &mut store, body)
+}
+
+fn open_applications(alloc: Global, n: u64) -> Result<u64, NoMemory> {
+    let mut store = BaseStore::new(alloc);
+    let body = applications(&mut store, n)?;
+    opened_and_closed(alloc, &mut store, body)
+}
+
+fn open_doublings(alloc: Global, n: u64) -> Result<u64, NoMemory> {
+    let mut store = BaseStore::new(alloc);
+    let body = doublings(&mut store, n)?;
     opened(alloc, &mut store, body)
 }
 
-fn open_doubled(alloc: Global, n: u64) -> Result<u64, NoMemory> {
-    let mut store = BaseStore::new(alloc);
-    let body = doubled(&mut store, n)?;
-    opened(alloc, &mut store, body)
-}
-
-fn run(alloc: Global, work: Work, n: u64) -> Result<u64, NoMemory> {
-    match work {
-        Work::Make => make(alloc, n),
-        Work::Repeat => repeat(alloc, n),
-        Work::Over => over(alloc, n),
-        Work::Deep => open_deep(alloc, n),
-        Work::Double => open_doubled(alloc, n),
+/// Does the work of this name, or no work where there is none of the name.
+fn work(alloc: Global, name: &str, n: u64) -> Result<Option<u64>, NoMemory> {
+    if name == "make" {
+        let mut store = BaseStore::new(alloc);
+        return Ok(Some(distinct(&mut store, n)?));
     }
+    if name == "repeat" {
+        return Ok(Some(repeat(alloc, n)?));
+    }
+    if name == "overlays" {
+        return Ok(Some(over(alloc, n)?));
+    }
+    if name == "binders" {
+        return Ok(Some(open_binders(alloc, n)?));
+    }
+    if name == "applications" {
+        return Ok(Some(open_applications(alloc, n)?));
+    }
+    if name == "doublings" {
+        return Ok(Some(open_doublings(alloc, n)?));
+    }
+    Ok(None)
 }
 
-fn report(rt: &(impl Print + AllocGlobal), work: Work, n: u64) -> io::Result<()> {
-    match run(rt.alloc(), work, n) {
-        Ok(e) => println!(rt; "{e}"),
+fn report(rt: &(impl Print + AllocGlobal), name: &str, n: u64) -> io::Result<()> {
+    match work(rt.alloc(), name, n) {
+        Ok(Some(e)) => println!(rt; "{e}"),
+        Ok(None) => println!(rt; "no such work"),
         Err(_) => println!(rt; "no memory"),
     }
 }
 
-fn work_of(code: u64) -> Work {
-    match code {
-        0 => Work::Make,
-        1 => Work::Repeat,
-        2 => Work::Over,
-        3 => Work::Deep,
-        _ => Work::Double,
-    }
-}
-
-fn number(rt: &(impl Alloc<A = Global> + Env), place: usize) -> io::Result<u64> {
-    for (i, arg) in env::args(rt)?.enumerate() {
-        if i == place {
-            return Ok(arg.as_str().parse::<u64>().unwrap_or(0));
-        }
-    }
-    Ok(0)
-}
-
 fn main(rt: HostRuntime) -> io::Result<()> {
-    let code = number(&rt, 1)?;
-    let n = number(&rt, 2)?;
-    report(&rt, work_of(code), n)
+    let mut words = env::args(&rt)?;
+    let _program = words.next();
+    let Some(name) = words.next() else {
+        return Ok(());
+    };
+    let Some(count) = words.next() else {
+        return Ok(());
+    };
+    report(&rt, name.as_str(), count.as_str().parse::<u64>().unwrap_or(0))
 }
