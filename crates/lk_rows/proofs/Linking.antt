@@ -3,7 +3,7 @@ use Rattle.std.proofs.Common.{◌≡◌, ◌≢◌, ℕ, zero, suc, ◌+◌, ◌
 use Rattle.std.specs.Prelude.{slice_index, nat_le}
 use Rattle.std.proofs.lemmas.Grind.{common_steps}
 use Rattle.std.proofs.lemmas.Bool.Decides.{nat_tests}
-use Rattle.lk_rows.specs.Chains.{bucket, buckets_of, IsLast, AreLinked, IsTable}
+use Rattle.lk_rows.specs.Chains.{bucket, buckets_of, IsLast, AreLinked, IsChained, IsTable}
 
 -- the next row, which the head of its bucket leads to
 pub IsLast-own : (buckets : List ℕ) (b i : ℕ) → slice_index buckets i ≡ b → IsLast buckets b (i + 1) (i + 1)
@@ -69,16 +69,15 @@ module _ {R K : Type 0} (key : R → K) (hash : K → ℕ) where
   bucket_at (row ∷ rows) n (suc i) d l = bucket_at rows n i d (omega arith)
 
   -- one more row
-  pub IsTable-push : (rows : List R) (links heads : List ℕ) (row : R) (b : ℕ) → IsTable key hash rows links heads → b ≡ bucket (hash (key row)) (length heads) → b < length heads
-      → length rows < length heads → length rows + 1 < 2 ^ 32 → IsTable key hash (rows ++ row ∷ []) (links ++ get_or heads b 0 ∷ []) (set heads b (length rows + 1))
-  IsTable-push rows links heads row b t is_b in_heads roomy few =
+  IsChained-push : (rows : List R) (links heads : List ℕ) (row : R) (b : ℕ) → IsChained key hash rows links heads → b ≡ bucket (hash (key row)) (length heads) → b < length heads
+      → length rows < length heads → IsChained key hash (rows ++ row ∷ []) (links ++ get_or heads b 0 ∷ []) (set heads b (length rows + 1))
+  IsChained-push rows links heads row b t is_b in_heads roomy =
       let one = t.one_link_each in
       let bs = buckets_of key hash rows (length heads) in
       let bs' = buckets_of key hash (rows ++ row ∷ []) (length heads) in
       let longer : length (rows ++ row ∷ []) ≡ length rows + 1 = grind (arith, common_steps) in
       record {
         one_link_each = grind (arith, common_steps);
-        few = rw longer few;
         room = rw (longer, length-set) (omega arith);
         linked = rw (longer, length-set) (AreLinked-next bs bs' links (links ++ get_or heads b 0 ∷ []) heads (length rows) b in_heads
             (λ k l. let was = bucket_at rows (length heads) k row l in
@@ -93,18 +92,27 @@ module _ {R K : Type 0} (key : R → K) (hash : K → ℕ) where
             t.linked);
       }
 
+  pub IsTable-push : (rows : List R) (links heads : List ℕ) (row : R) (b : ℕ) → IsTable key hash rows links heads → b ≡ bucket (hash (key row)) (length heads) → b < length heads
+      → length rows < length heads → length rows + 1 < 2 ^ 32 → IsTable key hash (rows ++ row ∷ []) (links ++ get_or heads b 0 ∷ []) (set heads b (length rows + 1))
+  IsTable-push rows links heads row b t is_b in_heads roomy few =
+      let longer : length (rows ++ row ∷ []) ≡ length rows + 1 = grind (arith, common_steps) in
+      record {
+        few = rw longer few;
+        chained = λ some. IsChained-push rows links heads row b (t.chained (omega arith)) is_b in_heads roomy;
+      }
+
   -- a row with the key stands in the key's bucket
   pub mine_of_key : (rows : List R) (n k : ℕ) (d : R) (wanted : K) → k < length rows → key (get_or rows k d) ≡ wanted → slice_index (buckets_of key hash rows n) k ≡ bucket (hash wanted) n
   mine_of_key rows n k d wanted l h = bucket_at rows n k d l ∙ ap (λ w. bucket (hash w) n) h
 
   -- none has it from the head on
-  pub unseen_at_head : (rows : List R) (links heads : List ℕ) (wanted : K) (b : ℕ) → IsTable key hash rows links heads → b ≡ bucket (hash wanted) (length heads) → b < length heads
+  pub unseen_at_head : (rows : List R) (links heads : List ℕ) (wanted : K) (b : ℕ) → IsChained key hash rows links heads → b ≡ bucket (hash wanted) (length heads) → b < length heads
       → (k : ℕ) (d : R) → get_or heads b 0 ≤ k → k < length rows → key (get_or rows k d) ≡ wanted → ⊥
   unseen_at_head rows links heads wanted b t is_b l k d from till h =
       (t.linked.heads_lead b l).no_later k from till (mine_of_key rows (length heads) k d wanted till h ∙ sym is_b)
 
   -- nor from the next link on
-  pub unseen_at_link : (rows : List R) (links heads : List ℕ) (wanted : K) (i : ℕ) → IsTable key hash rows links heads → i < length rows
+  pub unseen_at_link : (rows : List R) (links heads : List ℕ) (wanted : K) (i : ℕ) → IsChained key hash rows links heads → i < length rows
       → slice_index (buckets_of key hash rows (length heads)) i ≡ bucket (hash wanted) (length heads)
       → ((d : R) → key (get_or rows i d) ≡ wanted → ⊥)
       → ((k : ℕ) (d : R) → i + 1 ≤ k → k < length rows → key (get_or rows k d) ≡ wanted → ⊥)

@@ -5,13 +5,16 @@ use crate::row::Row;
 use std::alloc::Global;
 use std::marker::Model;
 
+/// Up to so many rows are looked through one after another.
+const FEW: usize = 16;
+
 /// Rows by number, each found by its key. The numbers are kept in 32 bits.
 #[derive(Drop)]
 pub struct Table<R: Row + Drop> {
     rows: Vec<R>,
     /// One above the last row before it in its bucket, or 0.
     links: Vec<u32>,
-    /// One above the last row of each bucket, or 0.
+    /// One above the last row of each bucket, or 0. There are none while the rows are few.
     heads: Vec<u32>,
 }
 
@@ -26,7 +29,7 @@ impl<R: Row + Drop> Model for Table<R> {
     ghost invariant = { λ t. IsTable R.key R.hash t.rows.items t.links.items t.heads.items };
 }
 
-ghost use Rattle.std.specs.Prelude.{◌≡◌, ◌≢◌, ◌<◌, ◌≤◌, ◌^◌, ◌-◌, ℕ, [], ◌∷◌, ◌++◌, length, slice_index_or, IfNone, IfSome, IfOk, OnOk, OnErr};
+ghost use Rattle.std.specs.Prelude.{◌≡◌, ◌≢◌, ◌<◌, ◌≤◌, ◌^◌, ◌-◌, ◌⊎◌, ℕ, [], ◌∷◌, ◌++◌, length, slice_index_or, IfNone, IfSome, IfOk, OnOk, OnErr};
 ghost use Rattle.lk_rows.specs.Chains.{bucket, buckets_of, AreLinked, IsTable};
 
 /// The bucket of a hash among `n`.
@@ -55,6 +58,20 @@ fn link_all<R: Row>(rows: &[R], links: &mut [u32], heads: &mut [u32])
     }
 }
 
+/// The row that has the key, where the rows are looked through one after another.
+fn find_few<R: Row>(rows: &[R], key: &R::Key) -> Option<u64>
+    ensures absent { IfNone result ((k : ℕ) (d : R) → k < length rows.now → R.key (slice_index_or rows.now k d) ≢ key.now) }
+    ensures known { IfSome result (λ i. i < length rows.now) }
+    ensures present { IfSome result (λ i. (d : R) → R.key (slice_index_or rows.now i d) ≡ key.now) }
+{
+    for (i, row) in rows.iter().enumerate() {
+        if row.has(key) {
+            return Some(i as u64);
+        }
+    }
+    None
+}
+
 /// The row that has the key.
 fn find_linked<R: Row>(rows: &[R], links: &[u32], heads: &[u32], key: &R::Key) -> Option<u64>
     requires { IsTable R.key R.hash rows.now links.now heads.now }
@@ -63,7 +80,7 @@ fn find_linked<R: Row>(rows: &[R], links: &[u32], heads: &[u32], key: &R::Key) -
     ensures present { IfSome result (λ i. (d : R) → R.key (slice_index_or rows.now i d) ≡ key.now) }
 {
     if heads.is_empty() {
-        return None;
+        return find_few(rows, key);
     }
     let b = bucket_of(R::hash_of(key), heads.len());
     let mut at = heads[b];
@@ -77,15 +94,21 @@ fn find_linked<R: Row>(rows: &[R], links: &[u32], heads: &[u32], key: &R::Key) -
     None
 }
 
-/// Makes room for one more row.
+/// Makes room for one more row. Few rows need none; links and heads are made when there are more.
 fn make_room<R: Row>(rows: &[R], links: &mut Vec<u32>, heads: &mut Vec<u32>) -> Result<(), NoMemory>
     requires { IsTable R.key R.hash rows.now links.old.items heads.old.items }
     ensures linked { IsTable R.key R.hash rows.now links.new.items heads.new.items }
-    ensures room { OnOk result (length rows.now < length heads.new.items) }
+    ensures room { OnOk result ((length heads.new.items ≡ 0) ⊎ (length rows.now < length heads.new.items)) }
 {
-    if rows.len() == heads.len() {
-        let wanted = heads.len().saturating_mul(2).max(16);
-        heads.resize(wanted, 0)?;
+    if heads.is_empty() {
+        if rows.len() < FEW {
+            return Ok(());
+        }
+        links.resize(rows.len(), 0)?;
+        heads.resize(rows.len().saturating_mul(4), 0)?;
+        link_all(rows, links, heads);
+    } else if rows.len() == heads.len() {
+        heads.resize(heads.len().saturating_mul(2), 0)?;
         link_all(rows, links, heads);
     }
     Ok(())
@@ -157,6 +180,10 @@ impl<R: Row + Drop> Table<R> {
             return Err(NoMemory);
         }
         make_room(&self.rows, &mut self.links, &mut self.heads)?;
+        if self.heads.is_empty() {
+            self.rows.push(row)?;
+            return Ok(());
+        }
         let b = bucket_of(row.own_hash(), self.heads.len());
         let last = self.heads[b];
         let i = self.rows.len() as u32;

@@ -11,30 +11,32 @@ not_true false e h = search rules
 
 pub loop-at-init : goal.loop-at-init
 loop-at-init g c =
+    let chained = c.requires.chained (let w = c.bucket_of-b.ensures.within in omega arith) in
     let key = g.R.Row.key in
     let hash = g.R.Row.hash in
     let is_b : c.bucket_of-b.result ≡ bucket (hash c.args.key.now) (length c.args.heads.now) =
     c.bucket_of-b.ensures.value ∙ ap (λ h. bucket h (length c.args.heads.now)) c.hash_of.ensures in
-    let lead = c.requires.linked.heads_lead c.bucket_of-b.result c.bucket_of-b.ensures.within in
+    let lead = chained.linked.heads_lead c.bucket_of-b.result c.bucket_of-b.ensures.within in
     record {
       in_range = lead.within;
       mine = λ i e. lead.mine i (omega arith) ∙ is_b;
-      checked = unseen_at_head key hash c.args.rows.now c.args.links.now c.args.heads.now c.args.key.now c.bucket_of-b.result c.requires is_b c.bucket_of-b.ensures.within;
+      checked = unseen_at_head key hash c.args.rows.now c.args.links.now c.args.heads.now c.args.key.now c.bucket_of-b.result chained is_b c.bucket_of-b.ensures.within;
     }
 
 pub loop-at-preserved : goal.loop-at-preserved
 loop-at-preserved g c =
+    let chained = c.requires.chained (let w = c.bucket_of-b.ensures.within in omega arith) in
     let key = g.R.Row.key in
     let hash = g.R.Row.hash in
     let rows = c.args.rows.now in
     let i = c.loop-at.at - 1 in
     let in_range : i < length rows = let h = c.loop-at.invariant.in_range in let n = c.loop-at-test.true in omega arith in
     let mine = c.loop-at.invariant.mine i (let n = c.loop-at-test.true in omega arith) in
-    let lead = c.requires.linked.links_lead i in_range in
+    let lead = chained.linked.links_lead i in_range in
     record {
       in_range = let w = lead.within in omega arith;
       mine = λ j e. lead.mine j (omega arith) ∙ mine;
-      checked = unseen_at_link key hash rows c.args.links.now c.args.heads.now c.args.key.now i c.requires in_range mine
+      checked = unseen_at_link key hash rows c.args.links.now c.args.heads.now c.args.key.now i chained in_range mine
           (λ d h.
           let read : get_or rows i d ≡ c.index-rows-i.result = get_or_default rows i d c.index-rows-i.result in_range ∙ sym c.index-rows-i.is in
           not_true c.has.result c.if-has.false (c.has.ensures.1 (ap key (sym read) ∙ h)))
