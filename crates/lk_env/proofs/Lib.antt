@@ -3,3 +3,6 @@ pub mod Members
 pub mod Noted
 pub mod Before
 pub mod Bounds
+pub mod Trees
+pub mod Standing
+pub mod Answered

@@ -1,3 +1,6 @@
 pub mod Units
 pub mod Places
 pub mod Index
+pub mod Entries
+pub mod Scan
+pub mod Member

@@ -2,10 +2,14 @@
 #![tactic(auto)]
 
 pub mod closed;
+pub mod entry;
 pub mod index;
 pub mod laws;
 pub mod library;
+mod member;
+mod parameters;
 pub mod place;
+mod scan;
 #[cfg(test)]
 mod tests;
 pub mod unit;

@@ -1,7 +1,11 @@
 //! A library: a store, units whose names and trees are numbers of it, and an index over their names.
 
+use crate::entry::{Entry, Flaw, Refused, Site};
 use crate::index::index_of;
+use crate::member::member_entry;
+use crate::parameters::parameters_in;
 use crate::place::Place;
+use crate::scan::flaws_of;
 use crate::unit::Unit;
 use lk_rows::memory::NoMemory;
 use lk_store::base_store::BaseStore;
@@ -16,6 +20,8 @@ pub struct Library {
     units: Vec<Unit>,
     /// For each name of the store the place at which it is given.
     cells: Vec<Option<Place>>,
+    /// For each unit why look-ups of its members are refused, if they are.
+    flaws: Vec<Option<Flaw>>,
 }
 
 impl Model for Library {
@@ -28,16 +34,24 @@ impl Model for Library {
     ghost use Rattle.lk_store.specs.Store.{contents_of};
     ghost use Rattle.lk_env.specs.Units.{AreUnitsIn};
     ghost use Rattle.lk_env.specs.Index.{IsIndex};
+    ghost use Rattle.lk_env.specs.Scan.{AreFlaws};
 
     ghost view = { λ l. (l.base, l.units.items) };
 
     ghost invariant = { λ l. AreUnitsIn (contents_of l.base) l.units.items
-        × IsIndex (contents_of l.base) l.units.items l.cells.items };
+        × IsIndex (contents_of l.base) l.units.items l.cells.items
+        × AreFlaws (contents_of l.base) l.units.items l.flaws.items };
 }
 
-ghost use Rattle.std.specs.Prelude.{◌≡◌, option_map};
-ghost use Rattle.lk_env.specs.Places.{place_below};
+ghost use Rattle.std.specs.Prelude.{◌≡◌, ℕ, ◌<◌, length, map, option_map, All, IfOk, IfSome};
+ghost use Rattle.lk_tree.specs.Tree.{Name as PlainName};
+ghost use Rattle.lk_rulebook.specs.Units.{place_by};
+ghost use Rattle.lk_store.specs.Contents.{Contents, name_at, name_of, IsNameIn};
+ghost use Rattle.lk_env.specs.Units.{library_at, AreUnitsIn};
+ghost use Rattle.lk_env.specs.Places.{place_below, found_at};
 ghost use Rattle.lk_env.specs.Index.{pair_of};
+ghost use Rattle.lk_env.specs.Entries.{plain_entry, judged, IsEntryIn, IsAnswer};
+ghost use Rattle.lk_env.specs.Scan.{AreFlaws};
 
 /// The place, where its unit is one of the first ones.
 fn place_among(place: Option<Place>, units: u32) -> Option<Place>
@@ -49,11 +63,50 @@ fn place_among(place: Option<Place>, units: u32) -> Option<Place>
     }
 }
 
+/// The entry, where its unit has no flaw.
+fn flawless(flaw: Option<Flaw>, entry: Entry) -> Result<Entry, Refused>
+    ensures { result ≡ judged flaw entry }
+{
+    match flaw {
+        None => Ok(entry),
+        Some(Flaw::LooseVariable) => Err(Refused::LooseVariable),
+        Some(Flaw::WideLiteral) => Err(Refused::WideLiteral),
+    }
+}
+
+/// The entry of the member at a place.
+fn entry_in(units: &[Unit], flaws: &[Option<Flaw>], place: Place) -> Result<Entry, Refused>
+    requires { length flaws.now ≡ length units.now }
+    ensures known { (c : Contents) → AreUnitsIn c units.now → IfOk result (IsEntryIn c) }
+    ensures answer { (c : Contents) → AreFlaws c units.now flaws.now → (n : ℕ) (x : PlainName)
+        → IsAnswer c units.now (place_by n (λ y. found_at (library_at c units.now) (pair_of place))) x result }
+{
+    let i = place.unit as usize;
+    if i >= units.len() {
+        return Err(Refused::UnknownConstant);
+    }
+    match member_entry(place.unit, &units[i], place.member as usize) {
+        Some(entry) => flawless(flaws[i], entry),
+        None => Err(Refused::UnknownConstant),
+    }
+}
+
+fn parameters_of(units: &[Unit], entry: Entry) -> &[u64]
+    ensures value { (c : Contents)
+        → IfSome (plain_entry c units.now entry) (λ e. e.levels ≡ map (name_at c) result.now) }
+    ensures known { (c : Contents) → AreUnitsIn c units.now → All (λ n. n < length c.names) result.now }
+{
+    match units.get(entry.unit as usize) {
+        Some(unit) => parameters_in(unit, entry.kind),
+        None => &[],
+    }
+}
+
 impl Library {
-    ghost use Rattle.std.specs.Prelude.{◌<◌, length, take, IfOk};
-    ghost use Rattle.lk_store.specs.Contents.{name_at, name_of, IsNameIn};
+    ghost use Rattle.std.specs.Prelude.{[], take};
+    ghost use Rattle.lk_rulebook.specs.Units.{place_of as rule_book_place};
     ghost use Rattle.lk_store.specs.Store.{contents_of};
-    ghost use Rattle.lk_env.specs.Units.{library_of, AreUnitsIn};
+    ghost use Rattle.lk_env.specs.Units.{library_of};
     ghost use Rattle.lk_env.specs.Places.{place_in};
 
     /// Makes the index. Units are fewer than 2^32; more are want of memory.
@@ -62,7 +115,13 @@ impl Library {
         ensures { IfOk result (λ l. l ≡ (base, units.items)) }
     {
         let cells = index_of(alloc, &base, &units)?;
-        Ok(Library { base, units, cells })
+        let flaws = flaws_of(alloc, &base, &units)?;
+        Ok(Library {
+            base,
+            units,
+            cells,
+            flaws,
+        })
     }
 
     pub fn units(&self) -> &[Unit]
@@ -93,6 +152,29 @@ impl Library {
             ≡ place_in 0 (take units (library_of self.now)) (name_at (contents_of self.now.0) name) }
     {
         place_among(self.place_of(name), units)
+    }
+
+    /// What the name means at the site, with no names that are half there. It takes no memory, and of the library it
+    /// reads one unit.
+    pub fn at(&self, site: &Site, name: u64) -> Result<Entry, Refused>
+        requires { name < length (contents_of self.now.0).names }
+        ensures known { IfOk result (IsEntryIn (contents_of self.now.0)) }
+        ensures answer { IsAnswer (contents_of self.now.0) self.now.1
+            (rule_book_place (library_of self.now) site.now.unit []) (name_at (contents_of self.now.0) name) result }
+    {
+        match self.place_before(site.unit, name) {
+            Some(place) => entry_in(&self.units, &self.flaws, place),
+            None => Err(Refused::UnknownConstant),
+        }
+    }
+
+    /// The level parameters of an entry, by the numbers of their names. It takes no memory.
+    pub fn levels(&self, entry: Entry) -> &[u64]
+        ensures value { IfSome (plain_entry (contents_of self.now.0) self.now.1 entry)
+            (λ e. e.levels ≡ map (name_at (contents_of self.now.0)) result.now) }
+        ensures known { All (λ n. n < length (contents_of self.now.0).names) result.now }
+    {
+        parameters_of(&self.units, entry)
     }
 
     /// What `place_of` says, of the name that a node makes of its parts. It need not be in the store.

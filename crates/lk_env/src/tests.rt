@@ -1,8 +1,11 @@
-//! A library of three theorems, the last two of one name.
+//! A library of three theorems with one tree, the last two of one name.
 
 ghost use Rattle.std.specs.Prelude.{◌<◌, length, IfOk, OnOk};
+ghost use Rattle.lk_store.specs.Contents.{IsIn};
+ghost use Rattle.lk_store.specs.Store.{contents_of, no_tables};
 ghost use Rattle.lk_env.specs.Units.{AreUnitsIn};
 
+use crate::entry::{Entry, Kind, Refused, Site};
 use crate::library::Library;
 use crate::place::Place;
 use crate::unit::{Body, Declaration, Unit};
@@ -54,25 +57,28 @@ fn push_all<T: Terms>(
     Ok(units)
 }
 
-fn theorems<T: Terms>(alloc: Global, store: &mut T) -> Result<Vec<Unit>, NoMemory>
+fn theorems<T: Terms>(alloc: Global, store: &mut T, node: Node) -> Result<Vec<Unit>, NoMemory>
+    requires { IsIn (T.contents store.old) node }
     ensures { IfOk result (λ units. AreUnitsIn (T.contents store.new) units.items) }
 {
-    let tree = store.make(Node::Lit(0))?;
+    let tree = store.make(node)?;
     let nothing = store.make_name(NameNode::Anonymous)?;
     let a = store.make_name(NameNode::Number(nothing, 1))?;
     let b = store.make_name(NameNode::Number(nothing, 2))?;
     push_all(alloc, store, a, b, tree)
 }
 
-fn library(alloc: Global) -> Result<Library, NoMemory> {
+fn library(alloc: Global, node: Node) -> Result<Library, NoMemory>
+    requires { IsIn (contents_of no_tables) node }
+{
     let mut base = BaseStore::new(alloc);
-    let units = theorems(alloc, &mut base)?;
+    let units = theorems(alloc, &mut base, node)?;
     Library::new(alloc, base, units)
 }
 
-// Where the library gives the name of this number.
+// Where the library gives the name that is this number.
 fn found(alloc: Global, number: u64) -> Result<Option<Place>, NoMemory> {
-    let library = library(alloc)?;
+    let library = library(alloc, Node::Lit(0))?;
     match library.base().find_name(NameNode::Anonymous) {
         Some(nothing) => Ok(library.find(NameNode::Number(nothing, number))),
         None => Ok(None),
@@ -84,6 +90,61 @@ fn is_at(place: Option<Place>, unit: u32) -> bool {
         Some(p) => p.unit == unit && p.member == 0,
         None => false,
     }
+}
+
+// What a name means where the first so many units are seen.
+fn look_up(library: &Library, number: u64, unit: u32) -> Result<Entry, Refused> {
+    let Some(nothing) = library.base().find_name(NameNode::Anonymous) else {
+        return Err(Refused::UnknownConstant);
+    };
+    match library.base().find_name(NameNode::Number(nothing, number)) {
+        Some(n) => library.at(&Site { unit }, n),
+        None => Err(Refused::UnknownConstant),
+    }
+}
+
+fn answer(
+    alloc: Global,
+    node: Node,
+    number: u64,
+    unit: u32,
+) -> Result<Result<Entry, Refused>, NoMemory>
+    requires { IsIn (contents_of no_tables) node }
+{
+    let library = library(alloc, node)?;
+    Ok(look_up(&library, number, unit))
+}
+
+fn is_theorem(answer: Result<Entry, Refused>, unit: u32) -> bool {
+    answer
+        == Ok(Entry {
+            kind: Kind::Declared(Body::Theorem { proof: 0 }),
+            stated: 0,
+            unit,
+        })
+}
+
+#[test]
+fn a_unit_sees_those_before_it(rt: HostRuntime) -> Result<(), Fail> {
+    let alloc = rt.alloc();
+    assert!(rt; is_theorem(answer(alloc, Node::Lit(0), 1, 1)?, 0));
+    assert!(rt; is_theorem(answer(alloc, Node::Lit(0), 2, 3)?, 1));
+    Ok(())
+}
+
+#[test]
+fn a_unit_does_not_see_itself(rt: HostRuntime) -> Result<(), Fail> {
+    let answer = answer(rt.alloc(), Node::Lit(0), 1, 0)?;
+    assert!(rt; answer == Err(Refused::UnknownConstant));
+    Ok(())
+}
+
+#[test]
+fn a_flaw_is_refused(rt: HostRuntime) -> Result<(), Fail> {
+    let alloc = rt.alloc();
+    assert!(rt; answer(alloc, Node::Var(0), 1, 1)? == Err(Refused::LooseVariable));
+    assert!(rt; answer(alloc, Node::Wide, 1, 1)? == Err(Refused::WideLiteral));
+    Ok(())
 }
 
 #[test]
@@ -102,7 +163,7 @@ fn an_absent_name_is_not_found(rt: HostRuntime) -> Result<(), Fail> {
 
 #[test]
 fn a_library_has_its_units(rt: HostRuntime) -> Result<(), Fail> {
-    let library = library(rt.alloc())?;
+    let library = library(rt.alloc(), Node::Lit(0))?;
     assert_eq!(rt; library.units().len(), 3);
     Ok(())
 }

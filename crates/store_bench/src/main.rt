@@ -2,7 +2,7 @@
 //!
 //! WORK is `make` (N terms, no two equal), `repeat` (the same, and then once more), `overlays` (the same, and then N
 //! overlays of them, in each of which a few terms are made), `binders` or `applications` (a term of N nested ones,
-//! opened and closed), or `doublings` (a variable applied to itself, that to itself, and so on, opened). The number of
+//! opened and closed), or any other word (N doublings: a variable applied to itself, that to itself, and so on, opened). The number of
 //! the last term is printed.
 #![tactic(auto)]
 
@@ -124,6 +124,22 @@ fn overlays(alloc: Global, base: &BaseStore, units: u64) -> Result<u64, NoMemory
     Ok(sum)
 }
 
+/// What is done.
+#[derive(Clone, Copy, Debug, PartialEq, Eq)]
+enum Work {
+    Make,
+    Repeat,
+    Overlays,
+    Binders,
+    Applications,
+    Doublings,
+}
+
+fn make(alloc: Global, n: u64) -> Result<u64, NoMemory> {
+    let mut store = BaseStore::new(alloc);
+    distinct(&mut store, n)
+}
+
 fn repeat(alloc: Global, n: u64) -> Result<u64, NoMemory> {
     let mut store = BaseStore::new(alloc);
     distinct(&mut store, n)?;
@@ -154,34 +170,31 @@ fn open_doublings(alloc: Global, n: u64) -> Result<u64, NoMemory> {
     opened(alloc, &mut store, body)
 }
 
-/// Does the work of this name, or no work where there is none of the name.
-fn work(alloc: Global, name: &str, n: u64) -> Result<Option<u64>, NoMemory> {
-    if name == "make" {
-        let mut store = BaseStore::new(alloc);
-        return Ok(Some(distinct(&mut store, n)?));
+fn run(alloc: Global, work: Work, n: u64) -> Result<u64, NoMemory> {
+    match work {
+        Work::Make => make(alloc, n),
+        Work::Repeat => repeat(alloc, n),
+        Work::Overlays => over(alloc, n),
+        Work::Binders => open_binders(alloc, n),
+        Work::Applications => open_applications(alloc, n),
+        Work::Doublings => open_doublings(alloc, n),
     }
-    if name == "repeat" {
-        return Ok(Some(repeat(alloc, n)?));
-    }
-    if name == "overlays" {
-        return Ok(Some(over(alloc, n)?));
-    }
-    if name == "binders" {
-        return Ok(Some(open_binders(alloc, n)?));
-    }
-    if name == "applications" {
-        return Ok(Some(open_applications(alloc, n)?));
-    }
-    if name == "doublings" {
-        return Ok(Some(open_doublings(alloc, n)?));
-    }
-    Ok(None)
 }
 
-fn report(rt: &(impl Print + AllocGlobal), name: &str, n: u64) -> io::Result<()> {
-    match work(rt.alloc(), name, n) {
-        Ok(Some(e)) => println!(rt; "{e}"),
-        Ok(None) => println!(rt; "no such work"),
+fn work_of(name: &str) -> Work {
+    match name {
+        "make" => Work::Make,
+        "repeat" => Work::Repeat,
+        "overlays" => Work::Overlays,
+        "binders" => Work::Binders,
+        "applications" => Work::Applications,
+        _ => Work::Doublings,
+    }
+}
+
+fn report(rt: &(impl Print + AllocGlobal), work: Work, n: u64) -> io::Result<()> {
+    match run(rt.alloc(), work, n) {
+        Ok(e) => println!(rt; "{e}"),
         Err(_) => println!(rt; "no memory"),
     }
 }
@@ -195,5 +208,5 @@ fn main(rt: HostRuntime) -> io::Result<()> {
     let Some(count) = words.next() else {
         return Ok(());
     };
-    report(&rt, name.as_str(), count.as_str().parse::<u64>().unwrap_or(0))
+    report(&rt, work_of(name.as_str()), count.as_str().parse::<u64>().unwrap_or(0))
 }

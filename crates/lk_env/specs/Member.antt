@@ -1,0 +1,40 @@
+-- The entries of a unit's members, by number.
+use Rattle.std.specs.Prelude.{◌≡◌, ◌+◌, ℕ, List, length, take, Option, Some, None, IsSome, slice_get}
+use Rattle.std.specs.List.{flat_map}
+use Rattle.lk_store.specs.Contents.{Contents, tree_at}
+use Rattle.lk_env.specs.declared.entry.Entry.{Entry}
+use Rattle.lk_env.specs.declared.entry.Kind.TheVariants as kind
+use Rattle.lk_env.specs.declared.unit.Constructor.{Constructor}
+use Rattle.lk_env.specs.declared.unit.BlockType.{BlockType}
+use Rattle.lk_env.specs.declared.unit.Recursor.{Recursor}
+use Rattle.lk_env.specs.declared.unit.Unit.{Unit as StoredUnit}
+use Rattle.lk_env.specs.Units.{unit_at, IsUnitIn}
+use Rattle.lk_env.specs.Index.{constructor_names}
+use Rattle.lk_env.specs.Places.{entry_at}
+use Rattle.lk_env.specs.Entries.{entry_of, IsEntryIn}
+
+-- the entry is that of the constructor at this place among the constructors of all types
+pub record IsConstructorAt (types : List BlockType) (place : ℕ) (e : Entry) : Type 0 where
+  pub parent : ℕ
+  pub number : ℕ
+  pub type : BlockType
+  pub constructor : Constructor
+  pub kind_is : e.kind ≡ kind.Constructor parent number
+  pub type_is : slice_get types parent ≡ Some type
+  pub constructor_is : slice_get type.constructors.items number ≡ Some constructor
+  pub stated_is : e.stated ≡ constructor.kind
+  pub place_is : length (flat_map constructor_names (take parent types)) + number ≡ place
+
+abbrev pub recursor_entry_at : ℕ → ℕ → Recursor → Entry
+recursor_entry_at unit i r = record { kind = kind.Recursor i; stated = r.kind; unit = unit }
+
+-- the entry is that of member j
+pub record IsMember (c : Contents) (u : StoredUnit) (j : ℕ) (e : Entry) : Type 0 where
+  pub given : IsSome (entry_at (unit_at c u) j)
+  pub member : entry_at (unit_at c u) j ≡ entry_of c (unit_at c u) e.kind (tree_at c e.stated)
+  pub known : IsUnitIn c u → IsEntryIn c e
+
+-- the entry of member j, if there is one
+abbrev pub IsMemberIfAny : Contents → StoredUnit → ℕ → Option Entry → Type 0
+IsMemberIfAny c u j None = entry_at (unit_at c u) j ≡ None
+IsMemberIfAny c u j (Some e) = IsMember c u j e

@@ -1,0 +1,44 @@
+//! What a look-up answers.
+
+use crate::unit::Body;
+
+/// Which member of its unit it is: a declaration, with its body, or by number a type of a block, a constructor of a
+/// type of a block, or a recursor of a block.
+#[derive(Clone, Copy, Debug, PartialEq, Eq)]
+pub enum Kind {
+    Declared(Body),
+    Type(usize),
+    Constructor { parent: usize, number: usize },
+    Recursor(usize),
+}
+
+/// A member of a unit, by numbers: which it is, its type, and the number of its unit, which has its level parameters
+/// and all else that its line states.
+#[derive(Clone, Copy, Debug, PartialEq, Eq)]
+pub struct Entry {
+    pub kind: Kind,
+    pub stated: u64,
+    pub unit: u32,
+}
+
+/// Why look-ups of a unit's members are refused.
+#[derive(Clone, Copy, Debug, PartialEq, Eq)]
+pub enum Flaw {
+    LooseVariable,
+    WideLiteral,
+}
+
+/// Why a look-up is refused.
+#[derive(Clone, Copy, Debug, PartialEq, Eq)]
+pub enum Refused {
+    UnknownConstant,
+    LooseVariable,
+    WideLiteral,
+}
+
+/// From where names are looked up: the units below this one are seen. Names that are half there, while their own block
+/// is checked, are not seen yet.
+#[derive(Clone, Copy, Debug, PartialEq, Eq)]
+pub struct Site {
+    pub unit: u32,
+}

@@ -1,0 +1,97 @@
+//! The entry of a unit's member, by the number of the member.
+
+ghost use Rattle.std.specs.Prelude.{◌≡◌, ◌+◌, ◌<◌, length, option_map, slice_get, IfOk, IfErr, IfSome};
+ghost use Rattle.std.specs.List.{flat_map};
+ghost use Rattle.lk_store.specs.Contents.{Contents};
+ghost use Rattle.lk_env.specs.Index.{constructor_names};
+ghost use Rattle.lk_env.specs.Member.{recursor_entry_at, IsConstructorAt, IsMember, IsMemberIfAny};
+
+use crate::entry::{Entry, Kind};
+use crate::unit::{Block, BlockType, Declaration, Recursor, Unit};
+
+fn declaration_entry(unit: u32, declaration: &Declaration) -> Entry
+    ensures unit { result.unit ≡ unit }
+    ensures member { (c : Contents) → IsMember c (Unit.Declaration declaration.now) 0 result }
+{
+    Entry {
+        kind: Kind::Declared(declaration.body),
+        stated: declaration.kind,
+        unit,
+    }
+}
+
+/// The entry of the constructor at a place among the constructors of all types. Where there are not so many, how many
+/// places remain.
+fn constructor_entry(unit: u32, types: &[BlockType], place: usize) -> Result<Entry, usize>
+    ensures unit { IfOk result (λ e. e.unit ≡ unit) }
+    ensures found { IfOk result (IsConstructorAt types.now place) }
+    ensures past { IfErr result (λ rest. length (flat_map constructor_names types.now) + rest ≡ place) }
+{
+    let mut rest = place;
+    for (i, t) in types.iter().enumerate() {
+        let constructors = t.constructors.as_slice();
+        if rest < constructors.len() {
+            let kind = Kind::Constructor {
+                parent: i,
+                number: rest,
+            };
+            return Ok(Entry {
+                kind,
+                stated: constructors[rest].kind,
+                unit,
+            });
+        }
+        rest -= constructors.len();
+    }
+    Err(rest)
+}
+
+fn recursor_entry(unit: u32, recursors: &[Recursor], i: usize) -> Option<Entry>
+    ensures unit { IfSome result (λ e. e.unit ≡ unit) }
+    ensures entry { result ≡ option_map (recursor_entry_at unit i) (slice_get recursors.now i) }
+{
+    match recursors.get(i) {
+        Some(r) => Some(Entry {
+            kind: Kind::Recursor(i),
+            stated: r.kind,
+            unit,
+        }),
+        None => None,
+    }
+}
+
+/// The entry of a member of a block, if it has so many.
+fn block_entry(unit: u32, block: &Block, member: usize) -> Option<Entry>
+    ensures unit { IfSome result (λ e. e.unit ≡ unit) }
+    ensures member { (c : Contents) → IsMemberIfAny c (Unit.Block block.now) member result }
+{
+    let types = block.types.as_slice();
+    if member < types.len() {
+        return Some(Entry {
+            kind: Kind::Type(member),
+            stated: types[member].kind,
+            unit,
+        });
+    }
+    match constructor_entry(unit, types, member - types.len()) {
+        Ok(entry) => Some(entry),
+        Err(rest) => recursor_entry(unit, &block.recursors, rest),
+    }
+}
+
+/// The entry of a unit's member, if it has so many.
+pub(crate) fn member_entry(number: u32, unit: &Unit, member: usize) -> Option<Entry>
+    ensures unit { IfSome result (λ e. e.unit ≡ number) }
+    ensures member { (c : Contents) → IsMemberIfAny c unit.now member result }
+{
+    match unit {
+        Unit::Declaration(declaration) => {
+            if member == 0 {
+                Some(declaration_entry(number, declaration))
+            } else {
+                None
+            }
+        }
+        Unit::Block(block) => block_entry(number, block, member),
+    }
+}
