@@ -82,7 +82,11 @@ fn add_parts<T: Terms>(out: &mut Vec<u8>, store: &T, parts: &[Component]) -> Res
 }
 
 /// Appends the components of a name.
-fn add_components<T: Terms>(out: &mut Vec<u8>, store: &T, parts: &[Component]) -> Result<(), NoMemory>
+fn add_components<T: Terms>(
+    out: &mut Vec<u8>,
+    store: &T,
+    parts: &[Component],
+) -> Result<(), NoMemory>
     requires { All (IsPartIn (T.contents store.now)) parts.now }
     ensures { OnOk result (out.new.items ≡ out.old.items ++ name_text (map (part_at (T.contents store.now)) parts.now)) }
 {

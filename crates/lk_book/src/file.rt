@@ -15,8 +15,8 @@ ghost use Rattle.lk_book.specs.Reading.{Remains, ConsumesSome, TellsFault, Ends,
 use crate::lines::take_piece;
 use crate::long::long_line;
 use crate::{MAX_LINE, PIECE, ReadError, Reader};
-use lk_lines::{Fault, LineError};
 use lk_env::library::Library;
+use lk_lines::{Fault, LineError};
 use lk_port::Source;
 use lk_store::base_store::BaseStore;
 use lk_store::terms::Terms;

@@ -1,6 +1,8 @@
 //! The store of a library.
 
-use crate::making::{find_name_in, make_in, make_level_in, make_list_in, make_name_in, make_text_in};
+use crate::making::{
+    find_name_in, make_in, make_level_in, make_list_in, make_name_in, make_text_in,
+};
 use crate::node::{LevelNode, ListNode, NameNode, Node};
 use crate::reading::{
     len_in, level_in, level_params_in, list_in, list_params_in, local_in, loose_in, name_in,

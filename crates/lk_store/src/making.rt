@@ -143,11 +143,7 @@ pub(crate) fn make_list_in(base: &Tables, own: &mut Tables, node: ListNode) -> R
 }
 
 /// The number of a name.
-pub(crate) fn make_name_in(
-    base: &Tables,
-    own: &mut Tables,
-    node: NameNode,
-) -> Result<u64, NoMemory>
+pub(crate) fn make_name_in(base: &Tables, own: &mut Tables, node: NameNode) -> Result<u64, NoMemory>
     requires store { IsStore (over base.now own.old) }
     requires known { IsNameIn (contents_of (over base.now own.old)) node }
     ensures grown { Grown (over base.now own.old) (over base.now own.new) }

@@ -208,5 +208,9 @@ fn main(rt: HostRuntime) -> io::Result<()> {
     let Some(count) = words.next() else {
         return Ok(());
     };
-    report(&rt, work_of(name.as_str()), count.as_str().parse::<u64>().unwrap_or(0))
+    report(
+        &rt,
+        work_of(name.as_str()),
+        count.as_str().parse::<u64>().unwrap_or(0),
+    )
 }
