@@ -4,7 +4,6 @@ ghost use Rattle.std.specs.Prelude.{◌≤◌};
 use super::*;
 use lk_lines::Word;
 use lk_port::{FaultySource, MemSource};
-use lk_store::base_store::BaseStore;
 use std::test::Fail;
 
 const IDENTITY: &str = "2.0.0
@@ -42,9 +41,8 @@ fn count_of(
         call: 0,
         faults: 0,
     };
-    let mut store = BaseStore::new(alloc);
-    let assembler = read_library(alloc, &mut store, &mut source)?;
-    Ok(assembler.units.len())
+    let library = read_library(alloc, &mut source)?;
+    Ok(library.units().len())
 }
 
 #[test]
