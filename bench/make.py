@@ -3,6 +3,7 @@
 
 usage: make.py lines BYTES [SEED]       names, levels and expressions alone, at least so many bytes
        make.py theorems UNITS [SEED]    so many theorems, each of a name and three lines, all yes
+       make.py small UNITS              the same, each of them `P → P` for the same P
 
 Of `lines`: the tags are #NS #NI #US #ES #EV #EL #EP. Numbers rise with gaps, and some that were left out come later.
 Lines come in groups as of one declaration: names, now and then a level, some sorts and variables, then binders over
@@ -176,13 +177,29 @@ def theorems(units, seed):
     out.flush()
 
 
+def small(units, _seed):
+    """Each states `P → P`, where P is `(p : Prop) → p → p`."""
+    out = Lines()
+    for line in ('2.0.0', '1 #NS 0 p', '2 #NS 0 h', '3 #NS 0 Thm', '0 #ES 0', '1 #EV 0', '2 #EV 1', '3 #EP #BD 2 1 2',
+                 '4 #EP #BD 1 0 3'):
+        out.put(line)
+    for unit in range(units):
+        name, stated, proof = unit + 4, 5 + 2 * unit, 6 + 2 * unit
+        out.put(f'{name} #NS 3 t{unit}')
+        out.put(f'{stated} #EP #BD 2 4 4')
+        out.put(f'{proof} #EL #BD 2 4 1')
+        out.put(f'#THM {name} {stated} {proof}')
+    out.flush()
+
+
 def main():
     words = sys.argv[1:]
-    known = words[:1] in (['lines'], ['theorems'])
+    makers = {'lines': lines, 'theorems': theorems, 'small': small}
+    known = bool(words) and words[0] in makers
     if not known or len(words) not in (2, 3) or not all(word.isdecimal() for word in words[1:]):
         sys.exit(__doc__)
     seed = int(words[2]) if len(words) == 3 else 1
-    (lines if words[0] == 'lines' else theorems)(int(words[1]), seed)
+    makers[words[0]](int(words[1]), seed)
 
 
 if __name__ == '__main__':

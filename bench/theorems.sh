@@ -1,0 +1,20 @@
+#!/bin/sh
+# The whole program on many small theorems, beside another checker where one is named.
+#
+# usage: bench/theorems.sh [OTHER [UNITS [RUNS]]]
+#
+# OTHER is the program of another checker that reads and writes the same; UNITS is 300000, RUNS 5. The program of this
+# clone is built where it is not. Needs Python 3.
+set -e
+here=$(CDPATH= cd -- "$(dirname -- "$0")" && pwd)
+program=$here/../crates/leancheck/out/leancheck
+"$here/../leancheck" check </dev/null >/dev/null
+work=$(mktemp -d)
+trap 'rm -rf "$work"' EXIT
+trap 'exit 1' HUP INT TERM
+python3 "$here/make.py" small "${2:-300000}" >"$work/small.export"
+if [ -n "$1" ]; then
+    python3 "$here/measure.py" "$work/small.export" "${3:-5}" -- other "$1" check -- leancheck "$program" check
+else
+    python3 "$here/measure.py" "$work/small.export" "${3:-5}" -- leancheck "$program" check
+fi
