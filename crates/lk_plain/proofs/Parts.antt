@@ -7,7 +7,7 @@ use Rattle.lk_plain.specs.Program.{Program, done, refuse, ask, look, Table, ◌>
 use Rattle.lk_plain.specs.Answer.{Outcome, answered, refused, spent, after, and_then, looked_up, IfAnswered, outcome_of, answer_to_depth, plain_answer}
 use Rattle.lk_plain.proofs.Outcomes.{and_then_same}
 use Rattle.lk_plain.specs.Sound.{IsJustified, IsSound, IsSoundTable}
-use Rattle.lk_plain.specs.Parts.{restricted, without_names, nameless, IsNameless, IsPart, stops, ends, asks, looks, IsStageOf}
+use Rattle.lk_plain.specs.Parts.{restricted, IsPart, stops, ends, asks, looks, IsStageOf}
 
 -- each program is a part of itself
 pub part_itself : {A : Type 0} (p : Program A) → IsPart p p
@@ -23,21 +23,12 @@ part_bind _ _ k l (ends {v = v}) h = h v
 part_bind _ _ k l (asks {k = f} {whole = g} i) h = asks (λ v. part_bind (f v) (g v) k l (i v) h)
 part_bind _ _ k l (looks {k = f} {whole = g} i) h = looks (λ e. part_bind (f e) (g e) k l (i e) h)
 
-pub part_without : {A : Type 0} (r : RuleNo) (p whole : Program A) → IsPart p whole → IsPart (without_names r p) whole
-part_without r _ _ stops = stops
-part_without r _ _ ends = ends
-part_without r _ _ (asks {k = k} {whole = l} h) = asks (λ v. part_without r (k v) (l v) (h v))
-part_without r _ _ (looks h) = stops
-
 pub part_restricted : (built : Query → Bool) (r : RuleNo) (stage table : Table) → IsStageOf stage table → IsStageOf (restricted built r stage) table
 part_restricted built r stage table h q = go (built q)
   where
     go : (b : Bool) → IsPart (if b then stage q else refuse r) (table q)
     go true = h q
     go false = stops
-
-pub part_nameless : (r : RuleNo) (stage table : Table) → IsStageOf stage table → IsStageOf (nameless r stage) table
-part_nameless r stage table h q = part_without r (stage q) (table q) (h q)
 
 -- a part of a sound program is sound
 pub sound_part : {A : Type 0} (w : Place) (p whole : Program A) (P : A → Type 0) → IsPart p whole → IsSound w whole P → IsSound w p P
@@ -51,9 +42,6 @@ sound_stage stage table h s w ok q a = sound_part w (stage q) (table q) (IsJusti
 
 pub sound_restricted : (built : Query → Bool) (r : RuleNo) (table : Table) → IsSoundTable table → IsSoundTable (restricted built r table)
 sound_restricted built r table s = sound_stage (restricted built r table) table (part_restricted built r table table (λ q. part_itself (table q))) s
-
-pub sound_nameless : (r : RuleNo) (table : Table) → IsSoundTable table → IsSoundTable (nameless r table)
-sound_nameless r table s = sound_stage (nameless r table) table (part_nameless r table table (λ q. part_itself (table q))) s
 
 -- what o answers o' answers too
 abbrev pub Gives : {A : Type 0} → Outcome A → Outcome A → Type 0
@@ -92,20 +80,3 @@ answer_gives stage table h w (suc depth) q (suc b) =
 
 pub ans_gives : (stage table : Table) → IsStageOf stage table → (w : Place) (q : Query) (b : ℕ) → Gives (plain_answer stage w q b) (plain_answer table w q b)
 ans_gives stage table h w q b = answer_gives stage table h w b q b
-
--- such a program runs as before
-pub run_nameless : {A : Type 0} (w : Place) (f : (q : Query) → ℕ → Outcome (AnswerTo q)) (r : RuleNo) (p : Program A) (b : ℕ) → IsNameless p → outcome_of w f b (without_names r p) ≡ outcome_of w f b p
-run_nameless w f r (done v) b h = refl
-run_nameless w f r (refuse s) b h = refl
-run_nameless w f r (ask q k) b h = and_then_same (f q b) (λ v c. outcome_of w f (b - c) (without_names r (k v))) (λ v c. outcome_of w f (b - c) (k v)) (λ v c. run_nameless w f r (k v) (b - c) (h v))
-run_nameless w f r (look s c k) b h = absurd h
-
--- where names stop is the same whether a program is cut at once or part by part
-pub run_without_then : {A B : Type 0} (w : Place) (f : (q : Query) → ℕ → Outcome (AnswerTo q)) (r : RuleNo) (p : Program A) (k : A → Program B) (b : ℕ) →
-    outcome_of w f b (without_names r (p >>= k)) ≡ outcome_of w f b (without_names r p >>= λ v. without_names r (k v))
-run_without_then w f r (done v) k b = refl
-run_without_then w f r (refuse s) k b = refl
-run_without_then w f r (ask q l) k b =
-    and_then_same (f q b) (λ v c. outcome_of w f (b - c) (without_names r (l v >>= k))) (λ v c. outcome_of w f (b - c) (without_names r (l v) >>= λ u. without_names r (k u)))
-    (λ v c. run_without_then w f r (l v) k (b - c))
-run_without_then w f r (look s c l) k b = refl

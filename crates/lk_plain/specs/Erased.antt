@@ -1,11 +1,12 @@
--- Programs and answers in which the question's type is forgotten, as a loop over a stack has them.
+-- Programs and answers in which the question's type is forgotten, as a loop over a stack has them. Beside each answer stands
+-- the last unit that was looked at for it: the greatest number, where there is one.
 use Rattle.std.specs.Prelude.{ℕ, ◌-◌, Bool, Option, Some, None}
 use Rattle.lk_tree.specs.Tree.{Tree}
 use Rattle.lk_tree.specs.RuleNo.{RuleNo, loose_variable}
 use Rattle.lk_rulebook.specs.Place.{Place, Entry}
 use Rattle.lk_plain.specs.Query.{Query, AnswerTo, core, whnf, infer, same}
 use Rattle.lk_plain.specs.Program.{Program, Table, done, refuse, ask, look}
-use Rattle.lk_plain.specs.Answer.{Outcome, answered, refused, spent, refusal, plain_answer}
+use Rattle.lk_plain.specs.Answer.{Outcome, answered, refused, spent, later, refusal, plain_answer}
 
 -- the answer of any question
 pub data Value : Type 0 where
@@ -18,10 +19,10 @@ value_of (whnf e) v = a_tree v
 value_of (infer e) v = a_tree v
 value_of (same a b) v = truth v
 
--- a program at a place, whose look-ups are made
+-- a program at a place, whose look-ups are made: what it does next, and the last unit that was looked at before
 pub data Steps : Type 0 where
-  asks : Query → (Value → Steps) → Steps
-  gives : Value → Steps
+  asks : Option ℕ → Query → (Value → Steps) → Steps
+  gives : Option ℕ → Value → Steps
   refuses : RuleNo → Steps
 
 -- an answer of the other kind never comes
@@ -39,36 +40,44 @@ with_answer (whnf e) k = with_tree k
 with_answer (infer e) k = with_tree k
 with_answer (same a b) k = with_truth k
 
-abbrev pub looked : RuleNo → Option Entry → Option RuleNo → (Entry → Steps) → Steps
-looked r None flaw next = refuses (refusal r flaw)
-looked r (Some e) flaw next = next e
+-- a look-up at this unit, after those that end at t
+abbrev pub looked : RuleNo → Option ℕ → Option Entry → ℕ → Option RuleNo → (Option ℕ → Entry → Steps) → Steps
+looked r t None unit flaw next = refuses (refusal r flaw)
+looked r t (Some e) unit flaw next = next (later t (Some unit)) e
 
-abbrev pub erased : {A : Type 0} → Place → (A → Value) → Program A → Steps
-erased w f (done v) = gives (f v)
-erased w f (refuse r) = refuses r
-erased w f (ask q k) = asks q (with_answer q (λ v. erased w f (k v)))
-erased w f (look r c k) = looked r (w.means c) (w.flaw c) (λ e. erased w f (k e))
+-- the steps of a program, where t is the last unit that was looked at before
+abbrev pub erased : {A : Type 0} → Place → (A → Value) → Option ℕ → Program A → Steps
+erased w f t (done v) = gives t (f v)
+erased w f t (refuse r) = refuses r
+erased w f t (ask q k) = asks t q (with_answer q (λ v. erased w f None (k v)))
+erased w f t (look r c k) = looked r t (w.means c) (w.origin c) (w.flaw c) (λ u e. erased w f u (k e))
 
--- an answer with what is left of the budget, a refusal, or the budget is used up
+-- an answer with what is left of the budget and the last unit that was looked at, a refusal, or the budget is used up
 pub data Out : Type 0 where
-  finished : Value → ℕ → Out
+  finished : Value → ℕ → Option ℕ → Out
   stopped : RuleNo → Out
   used_up : Out
 
+-- the outcome after units were looked at of which t is the last
+abbrev pub seen : Option ℕ → Out → Out
+seen t (finished v left u) = finished v left (later t u)
+seen t (stopped r) = stopped r
+seen t used_up = used_up
+
 abbrev pub go_on : Out → (Value → ℕ → Out) → Out
-go_on (finished v left) k = k v left
+go_on (finished v left t) k = seen t (k v left)
 go_on (stopped r) k = stopped r
 go_on used_up k = used_up
 
 -- the run of the steps, where `answer` answers what they ask
 abbrev pub run_steps : (Query → ℕ → Out) → Steps → ℕ → Out
-run_steps answer (asks q k) left = go_on (answer q left) (λ v rest. run_steps answer (k v) rest)
-run_steps answer (gives v) left = finished v left
+run_steps answer (asks t q k) left = seen t (go_on (answer q left) (λ v rest. run_steps answer (k v) rest))
+run_steps answer (gives t v) left = finished v left t
 run_steps answer (refuses r) left = stopped r
 
 -- the outcome under a budget, by what is left of it
 abbrev pub left_of : {A : Type 0} → (A → Value) → ℕ → Outcome A → Out
-left_of f budget (answered v c t) = finished (f v) (budget - c)
+left_of f budget (answered v c t) = finished (f v) (budget - c) t
 left_of f budget (refused r) = stopped r
 left_of f budget spent = used_up
 
@@ -78,4 +87,4 @@ out_of table w q budget = left_of (value_of q) budget (plain_answer table w q bu
 
 -- what the question does, by its row of the table
 abbrev pub steps_of : Table → Place → Query → Steps
-steps_of table w q = erased w (value_of q) (table q)
+steps_of table w q = erased w (value_of q) None (table q)

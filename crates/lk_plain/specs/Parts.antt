@@ -10,17 +10,6 @@ use Rattle.lk_plain.specs.Program.{Program, done, refuse, ask, look, Table}
 abbrev pub restricted : (Query → Bool) → RuleNo → Table → Table
 restricted built r table q = if built q then table q else refuse r
 
--- p, refused by r where it would look a name up
-abbrev pub without_names : {A : Type 0} → RuleNo → Program A → Program A
-without_names r (done v) = done v
-without_names r (refuse s) = refuse s
-without_names r (ask q k) = ask q (λ v. without_names r (k v))
-without_names r (look s c k) = refuse r
-
--- no question looks a name up
-abbrev pub nameless : RuleNo → Table → Table
-nameless r table q = without_names r (table q)
-
 -- p does what its whole does, except that it may be refused earlier
 pub data IsPart {A : Type 0} : Program A → Program A → Type 0 where
   stops : {r : RuleNo} {whole : Program A} → IsPart (refuse r) whole
@@ -31,10 +20,3 @@ pub data IsPart {A : Type 0} : Program A → Program A → Type 0 where
 -- so it is with each question
 abbrev pub IsStageOf : Table → Table → Type 0
 IsStageOf stage table = (q : Query) → IsPart (stage q) (table q)
-
--- a program that looks no name up is not changed
-abbrev pub IsNameless : {A : Type 0} → Program A → Type 0
-IsNameless (done v) = Unit {0}
-IsNameless (refuse r) = Unit {0}
-IsNameless (ask q k) = (v : AnswerTo q) → IsNameless (k v)
-IsNameless (look r c k) = ⊥

@@ -5,7 +5,7 @@
 ghost use Rattle.std.specs.Prelude.{◌≡◌, ℕ, suc, Bool, None};
 ghost use Rattle.lk_plain.specs.Answer.{answered, spent, after, outcome_of, plain_answer, IfAnswered};
 ghost use Rattle.lk_plain.specs.Laws.{IsSteady, IsBelow, Keeps, GivesTheSame, SameOutcome, IsSettled};
-ghost use Rattle.lk_plain.specs.Parts.{restricted, nameless, IsStageOf};
+ghost use Rattle.lk_plain.specs.Parts.{restricted, IsStageOf};
 ghost use Rattle.lk_plain.specs.Program.{Table};
 ghost use Rattle.lk_plain.specs.Query.{Query};
 ghost use Rattle.lk_plain.specs.Sound.{IsSoundTable};
@@ -41,11 +41,10 @@ pub fn plain_answers_agree()
 {}
 
 /// What a stage answers its table answers too, at the same cost, and a stage of a sound table is sound. A table is a stage of
-/// itself, and a stage is one still where it is restricted to some questions, or to programs that look no name up.
+/// itself, and a stage is one still where it is restricted to some questions.
 pub fn stages_are_sound()
     ensures sound { (stage table : Table) → IsStageOf stage table → IsSoundTable table → IsSoundTable stage }
     ensures agree { (stage table : Table) (w : Place) (q : Query) (b : ℕ) → IsStageOf stage table → IfAnswered (plain_answer stage w q b) (λ v c t. plain_answer table w q b ≡ answered v c t) }
     ensures itself { (table : Table) → IsStageOf table table }
     ensures restricts { (built : Query → Bool) (r : RuleNo) (stage table : Table) → IsStageOf stage table → IsStageOf (restricted built r stage) table }
-    ensures names { (r : RuleNo) (stage table : Table) → IsStageOf stage table → IsStageOf (nameless r stage) table }
 {}

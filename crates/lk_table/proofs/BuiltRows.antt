@@ -1,18 +1,87 @@
 -- The rows that are built lie within the table.
-use Rattle.std.proofs.Common.{◌≡◌, true, ap, if◌then◌else◌}
-use Rattle.lk_tree.specs.Tree.{Tree}
+use Rattle.std.proofs.Common.{◌≡◌, Bool, true, false, List, ◌∷◌, ap, if◌then◌else◌}
+use Rattle.lk_tree.specs.Tree.{Tree, var, sort, const, app, lam, pi, let_in, proj, lit, wide, str, local}
+use Rattle.lk_tree.specs.Spine.{head, args}
 use Rattle.lk_tree.specs.RuleNo.{builtin_shape}
-use Rattle.lk_plain.specs.Query.{same}
-use Rattle.lk_plain.specs.Program.{done}
-use Rattle.lk_plain.specs.Parts.{nameless, IsStageOf}
-use Rattle.lk_plain.proofs.Parts.{part_itself, part_restricted, part_nameless}
-use Rattle.lk_table.specs.Steps.{is_same_tree}
+use Rattle.lk_rulebook.specs.Place.{Entry}
+use Rattle.lk_plain.specs.Query.{core, whnf, infer, same}
+use Rattle.lk_plain.specs.Program.{Program, done, refuse, ◌>>=◌}
+use Rattle.lk_plain.specs.Parts.{IsPart, stops, ends, asks, looks}
+use Rattle.lk_plain.proofs.Parts.{part_itself}
+use Rattle.lk_table.specs.Steps.{is_same_tree, with_levels, value_of}
+use Rattle.lk_table.specs.Iota.{core_constant}
+use Rattle.lk_table.specs.Literals.{literal_step}
+use Rattle.lk_table.specs.Core.{core_applied, unfolded, stepped, core_steps, whnf_headed, whnf_steps}
+use Rattle.lk_table.specs.Infer.{infer_steps}
 use Rattle.lk_table.specs.Same.{by_shape}
 use Rattle.lk_table.specs.Table.{steps}
-use Rattle.lk_table.specs.Built.{is_built, whole_rows}
+use Rattle.lk_table.specs.Built.{is_built_kind, where_built, built_applied, core_row, whnf_built, whnf_end, whnf_row, infer_row}
 
-pub part_of_table : IsStageOf whole_rows steps
-part_of_table = part_restricted is_built builtin_shape (nameless builtin_shape steps) steps (part_nameless builtin_shape steps steps (λ q. part_itself (steps q)))
+part_where : {A : Type 0} (k : Entry → Program A) (g : Entry) → IsPart (where_built k g) (k g)
+part_where k g = go (is_built_kind g.kind)
+  where
+    go : (b : Bool) → IsPart (if b then k g else refuse builtin_shape) (k g)
+    go true = part_itself (k g)
+    go false = stops
+
+part_applied : (e h : Tree) (xs : List Tree) → IsPart (built_applied e h xs) (core_applied e h xs)
+part_applied e (let_in A v b) xs = stops
+part_applied e (proj S i s) xs = stops
+part_applied e (const c ls) xs = looks (λ g. part_where (λ x. core_constant e c ls xs x x.kind) g)
+part_applied e (var i) xs = part_itself _
+part_applied e (sort l) xs = part_itself _
+part_applied e (app f a) xs = part_itself _
+part_applied e (lam A b) xs = part_itself _
+part_applied e (pi A b) xs = part_itself _
+part_applied e (lit n) xs = part_itself _
+part_applied e wide xs = part_itself _
+part_applied e (str s) xs = part_itself _
+part_applied e (local k T) xs = part_itself _
+
+pub core_part : (e : Tree) → IsPart (core_row e) (core_steps e)
+core_part (let_in A v b) = stops
+core_part (proj S i s) = stops
+core_part (app f a) = part_applied (app f a) (head f) (args (app f a))
+core_part (var i) = ends
+core_part (sort l) = ends
+core_part (const c ls) = ends
+core_part (lam A b) = ends
+core_part (pi A b) = ends
+core_part (lit n) = ends
+core_part wide = ends
+core_part (str s) = ends
+core_part (local k T) = ends
+
+part_headed : (c h : Tree) → IsPart (whnf_built c h) (whnf_headed c h)
+part_headed c (const f ls) = looks (λ g. part_where (λ x. literal_step c f ls x >>= λ r. stepped r (unfolded x (const f ls) c (value_of x.kind))) g)
+part_headed c (let_in A v b) = ends
+part_headed c (proj S i s) = ends
+part_headed c (app f a) = ends
+part_headed c (var i) = ends
+part_headed c (sort l) = ends
+part_headed c (lam A b) = ends
+part_headed c (pi A b) = ends
+part_headed c (lit n) = ends
+part_headed c wide = ends
+part_headed c (str s) = ends
+part_headed c (local k T) = ends
+
+pub whnf_part : (e : Tree) → IsPart (whnf_row e) (whnf_steps e)
+whnf_part e = asks (λ c. part_headed c (head c))
+
+pub infer_part : (e : Tree) → IsPart (infer_row e) (infer_steps e)
+infer_part (const c ls) = looks (λ g. part_where (λ x. with_levels x ls x.type) g)
+infer_part (let_in A v b) = stops
+infer_part (proj S i s) = stops
+infer_part (lit n) = stops
+infer_part wide = stops
+infer_part (str s) = stops
+infer_part (app f a) = part_itself (infer_steps (app f a))
+infer_part (var i) = part_itself (infer_steps (var i))
+infer_part (sort l) = part_itself (infer_steps (sort l))
+infer_part (lam A b) = part_itself (infer_steps (lam A b))
+infer_part (pi A b) = part_itself (infer_steps (pi A b))
+infer_part (local k T) = part_itself (infer_steps (local k T))
 
 pub same_too : (a b : Tree) → is_same_tree a b ≡ true → steps (same a b) ≡ done true
 same_too a b h = ap (λ x. if x then done true else by_shape a b) h

@@ -1,3 +1,4 @@
+pub mod BuiltSteps
 pub mod Costs
 pub mod Stuck
 pub mod WorkedLiterals

@@ -13,7 +13,7 @@ use Rattle.lk_plain.specs.Query.{core, infer}
 use Rattle.lk_plain.specs.Program.{done, refuse}
 use Rattle.lk_plain.specs.Answer.{answered, spent, answer_to_depth, plain_answer}
 use Rattle.lk_table.specs.Iota.{fitting_rule}
-use Rattle.lk_table.specs.Levels.{levels_equal}
+use Rattle.lk_table.specs.Levels.{complete_test, levels_equal}
 use Rattle.lk_table.specs.Unfolding.{Unfolding, same_by_arguments, highest}
 use Rattle.lk_table.specs.Table.{steps}
 use native.Mathlib.Decide.{ℕ_discrete}
@@ -75,11 +75,11 @@ abbrev wide_of : ℕ → Level
 wide_of zero = zero_level
 wide_of (suc n) = imax_level (wide_of n) (param (number n ∷ []))
 
-wide_refused : levels_equal (wide_of 21 ∷ []) (zero_level ∷ []) ≡ refuse level_width
+wide_refused : levels_equal complete_test (wide_of 21 ∷ []) (zero_level ∷ []) ≡ refuse level_width
 unfolding level_le name_discrete part_discrete list_discrete both_discrete ℕ_discrete
 wide_refused = refl
 
-lengths_first : levels_equal (wide_of 21 ∷ []) (zero_level ∷ zero_level ∷ []) ≡ done false
+lengths_first : levels_equal complete_test (wide_of 21 ∷ []) (zero_level ∷ zero_level ∷ []) ≡ done false
 lengths_first = refl
 
 abbrev entry : Entry

@@ -1,23 +1,47 @@
--- Levels compared.
-use Rattle.std.specs.Prelude.{Bool, true, false, nat_eq, List, [], ◌∷◌, length, Option, Some, None, if◌then◌else◌}
+-- Levels compared. The test of two levels is a parameter: what compares lists of levels is the same for each.
+use Rattle.std.specs.Prelude.{ℕ, Bool, true, false, ◌&&◌, nat_eq, List, [], ◌∷◌, length, Option, Some, None, if◌then◌else◌}
 use Rattle.lk_tree.specs.Tree.{Level}
+use Rattle.lk_tree.specs.Level.{SameLevel, level_value}
 use Rattle.lk_tree.specs.LevelTest.{level_test}
-use Rattle.lk_tree.specs.RuleNo.{level_width}
+use Rattle.lk_tree.specs.Scan.{level_over}
+use Rattle.lk_tree.specs.RuleNo.{level_width, builtin_shape}
+use Rattle.lk_rulebook.specs.Place.{Place}
 use Rattle.lk_plain.specs.Program.{Program, done, refuse, ◌>>=◌}
+use Rattle.lk_plain.specs.Sound.{IsSound, IfYes}
+
+-- whether two levels are equal
+abbrev pub LevelTest : Type 0
+LevelTest = Level → Level → Program Bool
+
+-- what a test of levels owes: where it says yes they are equal under every assignment
+abbrev pub IsLevelTest : LevelTest → Type 0
+IsLevelTest test = (w : Place) (l m : Level) → IsSound w (test l m) (λ equal. IfYes equal (SameLevel l m))
 
 abbrev pub tested : Option Bool → Program Bool
 tested (Some equal) = done equal
 tested None = refuse level_width
 
+-- the complete test
+abbrev pub complete_test : LevelTest
+complete_test l m = tested (level_test l m)
+
+-- the value of a level in which each parameter is 0
+abbrev pub least_value : Level → ℕ
+least_value l = level_value (λ n. 0) l
+
+-- levels that hold no parameter, by their values; the others are refused
+abbrev pub closed_test : LevelTest
+closed_test l m = if level_over [] l && level_over [] m then done (nat_eq (least_value l) (least_value m)) else refuse builtin_shape
+
 -- pair by pair, up to the first unequal one
-abbrev pub level_pairs_equal : List Level → List Level → Program Bool
-level_pairs_equal [] [] = done true
-level_pairs_equal (l ∷ ls) (m ∷ ms) = do
-  equal ← tested (level_test l m)
-  if equal then level_pairs_equal ls ms else done false
-level_pairs_equal [] (m ∷ ms) = done false
-level_pairs_equal (l ∷ ls) [] = done false
+abbrev pub level_pairs_equal : LevelTest → List Level → List Level → Program Bool
+level_pairs_equal test [] [] = done true
+level_pairs_equal test (l ∷ ls) (m ∷ ms) = do
+  equal ← test l m
+  if equal then level_pairs_equal test ls ms else done false
+level_pairs_equal test [] (m ∷ ms) = done false
+level_pairs_equal test (l ∷ ls) [] = done false
 
 -- lists of different lengths are unequal, and no level is compared
-abbrev pub levels_equal : List Level → List Level → Program Bool
-levels_equal ls ms = if nat_eq (length ls) (length ms) then level_pairs_equal ls ms else done false
+abbrev pub levels_equal : LevelTest → List Level → List Level → Program Bool
+levels_equal test ls ms = if nat_eq (length ls) (length ms) then level_pairs_equal test ls ms else done false

@@ -7,8 +7,7 @@ use Rattle.lk_tree.specs.Level.{is_zero_level}
 use Rattle.lk_plain.specs.Query.{core, whnf, infer, same}
 use Rattle.lk_plain.specs.Program.{Program, done, asked, ◌>>=◌}
 use Rattle.lk_table.specs.Steps.{is_same_tree, decided, sort_of}
-use Rattle.lk_table.specs.Levels.{tested, levels_equal}
-use Rattle.lk_tree.specs.LevelTest.{level_test}
+use Rattle.lk_table.specs.Levels.{complete_test, levels_equal}
 use Rattle.lk_table.specs.Pairs.{same_bodies, same_all, Line, answers_yes, ◌or_else◌, goes_on}
 use Rattle.lk_table.specs.LiteralLines.{by_literals, by_string}
 use Rattle.lk_table.specs.Eta.{by_structure_eta, by_unit_eta}
@@ -26,7 +25,7 @@ by_proof_irrelevance a b = do
 
 -- constants, applications and projections, part by part
 abbrev pub by_parts : Tree → Tree → Line
-by_parts (const c ls) (const d ms) = if decided (name_discrete c d) then answers_yes (levels_equal ls ms) else goes_on
+by_parts (const c ls) (const d ms) = if decided (name_discrete c d) then answers_yes (levels_equal complete_test ls ms) else goes_on
 by_parts (app f a) (app g b) =
     if nat_eq (length (args (app f a))) (length (args (app g b)))
     then answers_yes (same_all (head f ∷ args (app f a)) (head g ∷ args (app g b)))
@@ -79,7 +78,7 @@ by_reduction a b = do
 
 -- two Sorts, lambdas, Pis or literals, else by their Core
 abbrev pub by_shape : Tree → Tree → Program Bool
-by_shape (sort l) (sort m) = tested (level_test l m)
+by_shape (sort l) (sort m) = complete_test l m
 by_shape (lam A b) (lam A' b') = same_bodies (max (bound (lam A b)) (bound (lam A' b'))) A b A' b'
 by_shape (pi A b) (pi A' b') = same_bodies (max (bound (pi A b)) (bound (pi A' b'))) A b A' b'
 by_shape (lit m) (lit n) = done (nat_eq m n)

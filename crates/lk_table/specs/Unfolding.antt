@@ -7,7 +7,7 @@ use Rattle.lk_rulebook.specs.Place.{Entry, Kind, Hint, opaque_hint, abbreviation
 use Rattle.lk_plain.specs.Query.{same}
 use Rattle.lk_plain.specs.Program.{Program, done, look, asked, ◌>>=◌}
 use Rattle.lk_table.specs.Steps.{decided, with_levels}
-use Rattle.lk_table.specs.Levels.{levels_equal}
+use Rattle.lk_table.specs.Levels.{complete_test, levels_equal}
 use Rattle.lk_table.specs.Pairs.{same_all, Line, answers, answers_yes, ◌or_else◌, goes_on}
 
 -- opaque hints and theorems, then regular hints by their heights, then abbreviations
@@ -73,7 +73,7 @@ abbrev pub same_by_arguments : Tree → Tree → Unfolding → Unfolding → Pro
 same_by_arguments a b u v =
     if decided (name_discrete u.name v.name)
     then (do
-      one ← levels_equal u.levels v.levels
+      one ← levels_equal complete_test u.levels v.levels
       if one && nat_eq (length (args a)) (length (args b)) then same_all (args a) (args b) else done false)
     else done false
 

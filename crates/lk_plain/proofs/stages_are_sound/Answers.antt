@@ -1,4 +1,4 @@
-use Rattle.lk_plain.proofs.Parts.{sound_stage, ans_gives, part_itself, part_restricted, part_nameless}
+use Rattle.lk_plain.proofs.Parts.{sound_stage, ans_gives, part_itself, part_restricted}
 use Rattle.lk_plain.proofs.stages_are_sound.Goals as goal
 
 pub returns : goal.returns
@@ -7,5 +7,4 @@ returns c = record {
   agree = λ stage table w q b h. ans_gives stage table h w q b;
   itself = λ table q. part_itself (table q);
   restricts = λ built r stage table h. part_restricted built r stage table h;
-  names = λ r stage table h. part_nameless r stage table h;
 }
