@@ -1,14 +1,24 @@
 -- Stages of a table, built row by row: its programs, except that they may be refused earlier.
-use Rattle.std.specs.Prelude.{Bool, if◌then◌else◌}
+use Rattle.std.specs.Prelude.{Bool, true, false, if◌then◌else◌}
 use Rattle.lk_tree.specs.Tree.{Name}
-use Rattle.lk_tree.specs.RuleNo.{RuleNo}
-use Rattle.lk_rulebook.specs.Place.{Entry}
+use Rattle.lk_tree.specs.RuleNo.{RuleNo, builtin_shape}
+use Rattle.lk_rulebook.specs.Place.{Entry, Kind, an_axiom, a_thm}
 use Rattle.lk_plain.specs.Query.{Query, AnswerTo}
 use Rattle.lk_plain.specs.Program.{Program, done, refuse, ask, look, Table}
 
 -- the questions that are built do what they do in the table, and the others are refused by r
 abbrev pub restricted : (Query → Bool) → RuleNo → Table → Table
 restricted built r table q = if built q then table q else refuse r
+
+-- the kinds of constants that are built
+abbrev pub is_built_kind : Kind → Bool
+is_built_kind an_axiom = true
+is_built_kind (a_thm v) = true
+is_built_kind _ = false
+
+-- what goes on with an entry, where its kind is built
+abbrev pub where_built : {A : Type 0} → (Entry → Program A) → Entry → Program A
+where_built k g = if is_built_kind g.kind then k g else refuse builtin_shape
 
 -- p does what its whole does, except that it may be refused earlier
 pub data IsPart {A : Type 0} : Program A → Program A → Type 0 where

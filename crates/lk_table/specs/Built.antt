@@ -5,8 +5,8 @@ use Rattle.lk_tree.specs.Tree.{name_discrete, Tree, sort, const, app, lam, pi, l
 use Rattle.lk_tree.specs.Bind.{bound}
 use Rattle.lk_tree.specs.Spine.{head, args}
 use Rattle.lk_tree.specs.RuleNo.{unknown_constant, builtin_shape}
-use Rattle.lk_rulebook.specs.Place.{Entry, Kind, an_axiom, a_thm}
 use Rattle.lk_plain.specs.Query.{core, whnf, infer, same}
+pub use Rattle.lk_plain.specs.Parts.{is_built_kind, where_built}
 use Rattle.lk_plain.specs.Program.{Program, done, refuse, look, asked, Table, ◌>>=◌}
 use Rattle.lk_table.specs.Steps.{is_same_tree, decided, with_levels, value_of}
 use Rattle.lk_table.specs.Levels.{LevelTest, closed_test, levels_equal}
@@ -15,15 +15,6 @@ use Rattle.lk_table.specs.Iota.{core_constant}
 use Rattle.lk_table.specs.Core.{core_applied, unfolded, stepped}
 use Rattle.lk_table.specs.Literals.{literal_step}
 use Rattle.lk_table.specs.Infer.{infer_steps}
-
-abbrev pub is_built_kind : Kind → Bool
-is_built_kind an_axiom = true
-is_built_kind (a_thm v) = true
-is_built_kind _ = false
-
--- what goes on with an entry, where its kind is built
-abbrev pub where_built : {A : Type 0} → (Entry → Program A) → Entry → Program A
-where_built k g = if is_built_kind g.kind then k g else refuse builtin_shape
 
 -- e is h applied to these arguments, of which there is at least one
 abbrev pub built_applied : Tree → Tree → List Tree → Program Tree

@@ -1,0 +1,80 @@
+-- Sheets stand for the same as a store grows.
+use Rattle.std.proofs.Common.{◌≡◌, ℕ, ◌<◌, List, [], ◌∷◌, map, length, refl, ap, arith}
+use Rattle.std.specs.Prelude.{All}
+use Rattle.std.proofs.lemmas.List.Elements.{All-weaker, All-head, All-tail}
+use Rattle.lk_store.specs.Contents.{Contents, tree_at, Extends}
+use Rattle.lk_ask.specs.declared.sheet.TypeSheet.{TypeSheet}
+use Rattle.lk_ask.specs.declared.sheet.TypeSheet.TheVariants.{LamDomain, LamDomainSort, LamBody, PiDomain, PiDomainSort, PiBody, PiBodySort, Function, FunctionForm, Argument, ArgumentSame}
+use Rattle.lk_ask.specs.declared.sheet.Pair.{Pair}
+use Rattle.lk_ask.specs.declared.sheet.SameSheet.{SameSheet}
+use Rattle.lk_ask.specs.declared.sheet.SameSheet.TheVariants as same
+use Rattle.lk_ask.specs.declared.sheet.Sheet.{Sheet}
+use Rattle.lk_ask.specs.declared.sheet.Sheet.TheVariants as sheet
+use Rattle.lk_ask.specs.Sheets.{map_type, map_pair, map_same, map_sheet, IsKnownType, IsKnownPair, IsKnownSame, IsKnownSheet}
+
+module _ {c d : Contents} (x : Extends c d) where
+  type_steady : (s : TypeSheet ℕ) → IsKnownType (length c.trees) s → map_type (tree_at d) s ≡ map_type (tree_at c) s
+  type_steady (LamDomain a b) h = let p = x.trees.same a h.0 in let q = x.trees.same b h.1 in cc
+  type_steady (LamDomainSort a b) h = let p = x.trees.same a h.0 in let q = x.trees.same b h.1 in cc
+  type_steady (LamBody a k) h = ap (λ t. LamBody t k) (x.trees.same a h)
+  type_steady (PiDomain a b) h = let p = x.trees.same a h.0 in let q = x.trees.same b h.1 in cc
+  type_steady (PiDomainSort a b) h = let p = x.trees.same a h.0 in let q = x.trees.same b h.1 in cc
+  type_steady (PiBody s) h = ap (λ t. PiBody t) (x.trees.same s h)
+  type_steady (PiBodySort s) h = ap (λ t. PiBodySort t) (x.trees.same s h)
+  type_steady (Function a) h = ap (λ t. Function t) (x.trees.same a h)
+  type_steady (FunctionForm a) h = ap (λ t. FunctionForm t) (x.trees.same a h)
+  type_steady (Argument a b e) h = let p = x.trees.same a h.0 in let q = x.trees.same b h.1 in let r = x.trees.same e h.2 in cc
+  type_steady (ArgumentSame a b) h = let p = x.trees.same a h.0 in let q = x.trees.same b h.1 in cc
+
+  pair_steady : (p : Pair ℕ) → IsKnownPair (length c.trees) p → map_pair (tree_at d) p ≡ map_pair (tree_at c) p
+  pair_steady p h = let l = x.trees.same p.left h.left_in in let r = x.trees.same p.right h.right_in in rw (l, r) refl
+
+  pairs_steady : (ps : List (Pair ℕ)) → All (IsKnownPair (length c.trees)) ps → map (map_pair (tree_at d)) ps ≡ map (map_pair (tree_at c)) ps
+  pairs_steady [] h = refl
+  pairs_steady (p ∷ ps) h =
+      let first = pair_steady p (All-head (IsKnownPair (length c.trees)) p ps h) in
+      let others = pairs_steady ps (All-tail (IsKnownPair (length c.trees)) p ps h) in
+      cc
+
+  same_steady : (s : SameSheet ℕ) → IsKnownSame (length c.trees) s → map_same (tree_at d) s ≡ map_same (tree_at c) s
+  same_steady same.Passed h = refl
+  same_steady (same.Domains a l r k) h = let p = x.trees.same a h.0 in let q = x.trees.same l h.1 in let o = x.trees.same r h.2 in cc
+  same_steady (same.CoreLeft a b) h = let p = x.trees.same a h.0 in let q = x.trees.same b h.1 in cc
+  same_steady (same.CoreRight a b e) h = let p = x.trees.same a h.0 in let q = x.trees.same b h.1 in let r = x.trees.same e h.2 in cc
+  same_steady (same.Parts ps) h = ap (λ qs. same.Parts qs) (pairs_steady ps h)
+
+  pub sheet_steady : (s : Sheet ℕ) → IsKnownSheet (length c.trees) s → map_sheet (tree_at d) s ≡ map_sheet (tree_at c) s
+  sheet_steady (sheet.Core s) h = refl
+  sheet_steady (sheet.Type s) h = ap (λ t. sheet.Type t) (type_steady s h)
+  sheet_steady (sheet.Same s) h = ap (λ t. sheet.Same t) (same_steady s h)
+
+  grown : (e : ℕ) → e < length c.trees → e < length d.trees
+  grown e h = let l = x.trees.longer in omega arith
+
+  type_known : (s : TypeSheet ℕ) → IsKnownType (length c.trees) s → IsKnownType (length d.trees) s
+  type_known (LamDomain a b) h = (grown a h.0, grown b h.1)
+  type_known (LamDomainSort a b) h = (grown a h.0, grown b h.1)
+  type_known (LamBody a k) h = grown a h
+  type_known (PiDomain a b) h = (grown a h.0, grown b h.1)
+  type_known (PiDomainSort a b) h = (grown a h.0, grown b h.1)
+  type_known (PiBody s) h = grown s h
+  type_known (PiBodySort s) h = grown s h
+  type_known (Function a) h = grown a h
+  type_known (FunctionForm a) h = grown a h
+  type_known (Argument a b e) h = (grown a h.0, grown b h.1, grown e h.2)
+  type_known (ArgumentSame a b) h = (grown a h.0, grown b h.1)
+
+  pair_known : (p : Pair ℕ) → IsKnownPair (length c.trees) p → IsKnownPair (length d.trees) p
+  pair_known p h = record { left_in = grown p.left h.left_in; right_in = grown p.right h.right_in }
+
+  same_known : (s : SameSheet ℕ) → IsKnownSame (length c.trees) s → IsKnownSame (length d.trees) s
+  same_known same.Passed h = tt
+  same_known (same.Domains a l r k) h = (grown a h.0, grown l h.1, grown r h.2)
+  same_known (same.CoreLeft a b) h = (grown a h.0, grown b h.1)
+  same_known (same.CoreRight a b e) h = (grown a h.0, grown b h.1, grown e h.2)
+  same_known (same.Parts ps) h = All-weaker (IsKnownPair (length c.trees)) (IsKnownPair (length d.trees)) pair_known ps h
+
+  pub sheet_known : (s : Sheet ℕ) → IsKnownSheet (length c.trees) s → IsKnownSheet (length d.trees) s
+  sheet_known (sheet.Core s) h = tt
+  sheet_known (sheet.Type s) h = type_known s h
+  sheet_known (sheet.Same s) h = same_known s h

@@ -1,0 +1,4 @@
+pub mod Nexts
+pub mod Outcomes
+pub mod Questions
+pub mod Sheets

@@ -1,0 +1,11 @@
+//! Questions, answers and what waits for them, as plain values; whoever answers questions; and what a constant of a term
+//! means in a library.
+#![tactic(auto)]
+
+pub mod asks;
+pub mod next;
+pub mod query;
+pub mod row;
+pub mod rule;
+pub mod sheet;
+pub mod stop;

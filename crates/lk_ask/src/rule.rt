@@ -1,0 +1,32 @@
+//! Why something is refused.
+
+/// Why a unit or a question is refused.
+#[derive(Clone, Copy, Debug, PartialEq, Eq)]
+pub enum Rule {
+    UnknownConstant,
+    LevelCount,
+    UndeclaredLevel,
+    DuplicateLevel,
+    DuplicateName,
+    LooseVariable,
+    NotASort,
+    NotAFunction,
+    ArgumentType,
+    LetType,
+    ValueType,
+    TheoremNotProp,
+    BadProjection,
+    PropProjection,
+    WideLiteral,
+    NoBuiltin,
+    BuiltinShape,
+    QuotShape,
+    LevelWidth,
+    BlockShape,
+    ParameterDiffers,
+    ConstructorResult,
+    NotPositive,
+    FieldUniverse,
+    NestedForm,
+    RecursorDiffers,
+}

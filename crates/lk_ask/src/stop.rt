@@ -1,0 +1,38 @@
+//! Why a question has no answer.
+
+use crate::rule::Rule;
+use lk_meter::meter::Spent;
+use lk_rows::memory::NoMemory;
+
+/// Why a question has no answer.
+#[derive(Clone, Copy, Debug, PartialEq, Eq)]
+pub enum Stop {
+    /// It is refused.
+    Rule(Rule),
+    /// The budget is used up.
+    Spent,
+    /// Memory is wanting.
+    NoMemory,
+}
+
+impl From<NoMemory> for Stop {
+    ghost use Rattle.std.specs.Prelude.{◌≡◌};
+    ghost use Rattle.lk_ask.specs.declared.stop.Stop.TheVariants.{NoMemory};
+
+    ghost from_gives = { λ _ e. e ≡ NoMemory };
+
+    fn from(_e: NoMemory) -> Stop {
+        Stop::NoMemory
+    }
+}
+
+impl From<Spent> for Stop {
+    ghost use Rattle.std.specs.Prelude.{◌≡◌};
+    ghost use Rattle.lk_ask.specs.declared.stop.Stop.TheVariants.{Spent};
+
+    ghost from_gives = { λ _ e. e ≡ Spent };
+
+    fn from(_e: Spent) -> Stop {
+        Stop::Spent
+    }
+}

@@ -1,0 +1,76 @@
+-- What Infer goes on with, once the answer is there that it waits for.
+use Rattle.std.specs.Prelude.{ℕ, Bool, Option, None}
+use Rattle.lk_tree.specs.Tree.{Tree, Level, zero_level, imax_level, sort, lam, pi, local}
+use Rattle.lk_tree.specs.Bind.{opened, close, bound}
+use Rattle.lk_tree.specs.RuleNo.{not_a_function, argument_type}
+use Rattle.lk_rulebook.specs.Place.{Place}
+use Rattle.lk_plain.specs.Query.{whnf, infer, same}
+use Rattle.lk_plain.specs.Program.{Program, done, ask, asked, ◌>>=◌}
+use Rattle.lk_plain.specs.Erased.{Value, a_tree, Steps, gives, with_tree, with_truth, erased}
+use Rattle.lk_table.specs.Steps.{given, as_sort, as_pi, sort_of}
+use Rattle.lk_ask.specs.declared.next.Next.{Next}
+use Rattle.lk_ask.specs.declared.sheet.TypeSheet.{TypeSheet}
+use Rattle.lk_ask.specs.declared.sheet.TypeSheet.TheVariants.{LamDomain, LamDomainSort, LamBody, PiDomain, PiDomainSort, PiBody, PiBodySort, Function, FunctionForm, Argument, ArgumentSame}
+use Rattle.lk_ask.specs.Nexts.{next_steps}
+use Rattle.lk_ask.specs.Sheets.{map_type}
+
+-- the level of a sort
+abbrev pub level_in : Tree → Level
+level_in (sort l) = l
+level_in _ = zero_level
+
+-- a lambda, once its domain has a sort
+abbrev pub lam_rest : Tree → Tree → Program Tree
+lam_rest A b = do
+  let k = bound (lam A b)
+  B ← asked (infer (opened b (local k A)))
+  done (pi A (close k B))
+
+-- the same, where S is to be the sort
+abbrev pub lam_sorted : Tree → Tree → Tree → Program Tree
+lam_sorted A b S = as_sort S >>= λ l. lam_rest A b
+
+-- a Pi whose domain has this sort
+abbrev pub pi_rest : Tree → Tree → Level → Program Tree
+pi_rest A b u = do
+  let k = bound (pi A b)
+  v ← sort_of (opened b (local k A))
+  done (sort (imax_level u v))
+
+-- the same, where S is to be the sort
+abbrev pub pi_sorted : Tree → Tree → Tree → Program Tree
+pi_sorted A b S = as_sort S >>= λ u. pi_rest A b u
+
+-- the last of it
+abbrev pub pi_end : Level → Tree → Program Tree
+pi_end u S = as_sort S >>= λ v. done (sort (imax_level u v))
+
+-- an application to a, once its argument was compared
+abbrev pub applied_end : Tree → Tree → Bool → Program Tree
+applied_end B a equal = given equal argument_type (done (opened B a))
+
+-- the same, once the type of its argument is there
+abbrev pub applied_argument : Tree → Tree → Tree → Tree → Program Tree
+applied_argument A B a T = ask (same T A) (λ equal. applied_end B a equal)
+
+-- the same, where S is to be a Pi
+abbrev pub applied_rest : Tree → Tree → Program Tree
+applied_rest a S = as_pi not_a_function S >>= λ p. ask (infer a) (λ T. applied_argument p.0 p.1 a T)
+
+-- what a sheet waits for, and goes on with; last is the last unit that was looked at before
+abbrev pub type_rest : Place → Option ℕ → TypeSheet Tree → Value → Steps
+type_rest w last (LamDomain A b) = with_tree (λ T. erased w a_tree last (ask (whnf T) (λ S. lam_sorted A b S)))
+type_rest w last (LamDomainSort A b) = with_tree (λ S. erased w a_tree last (lam_sorted A b S))
+type_rest w last (LamBody A k) = with_tree (λ B. gives last (a_tree (pi A (close k B))))
+type_rest w last (PiDomain A b) = with_tree (λ T. erased w a_tree last (ask (whnf T) (λ S. pi_sorted A b S)))
+type_rest w last (PiDomainSort A b) = with_tree (λ S. erased w a_tree last (pi_sorted A b S))
+type_rest w last (PiBody s) = with_tree (λ T. erased w a_tree last (ask (whnf T) (λ S. pi_end (level_in s) S)))
+type_rest w last (PiBodySort s) = with_tree (λ S. erased w a_tree last (pi_end (level_in s) S))
+type_rest w last (Function a) = with_tree (λ F. erased w a_tree last (ask (whnf F) (λ S. applied_rest a S)))
+type_rest w last (FunctionForm a) = with_tree (λ S. erased w a_tree last (applied_rest a S))
+type_rest w last (Argument A B a) = with_tree (λ T. erased w a_tree last (applied_argument A B a T))
+type_rest w last (ArgumentSame B a) = with_truth (λ equal. erased w a_tree last (applied_end B a equal))
+
+-- what Infer does next; t is what numbers stand for
+abbrev pub type_next : Place → (ℕ → Tree) → Option ℕ → Next ℕ (TypeSheet ℕ) → Steps
+type_next w t last next = next_steps (λ s. type_rest w None (map_type t s)) t last next

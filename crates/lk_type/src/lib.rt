@@ -1,0 +1,8 @@
+//! The types of terms: what `Infer` asks, step by step, as the table says it.
+#![tactic(auto)]
+
+pub mod application;
+pub mod binders;
+pub mod constant;
+pub mod infer;
+pub mod sorts;
