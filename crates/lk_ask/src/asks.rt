@@ -26,11 +26,11 @@ pub trait Asks: Terms {
     /// The plain answer of a question under what is left, and exactly its cost is spent. A question is refused, or the
     /// budget used up, where that is so of the plain answer.
     fn ask(&mut self, query: Query<u64>) -> Result<Answer<u64>, Stop>
-        requires { IsKnownQuery (length (contents self.old).trees) query }
-        ensures keeps { Extends (contents self.old) (contents self.new) }
-        ensures rest { rest self.new ≡ rest self.old }
+        requires { IsKnownQuery (length (Self.contents self.old).trees) query }
+        ensures keeps { Extends (Self.contents self.old) (Self.contents self.new) }
+        ensures rest { Self.rest self.new ≡ Self.rest self.old }
         ensures table { table self.new ≡ table self.old }
         ensures place { place self.new ≡ place self.old }
-        ensures known { IfOk result (IsKnownAnswer (length (contents self.new).trees)) }
-        ensures outcome { IsOutcome (contents self.new) (out_of (table self.old) (place self.old) (query_of (tree_at (contents self.old)) query) (left self.old)) (left self.new) result };
+        ensures known { IfOk result (IsKnownAnswer (length (Self.contents self.new).trees)) }
+        ensures outcome { IsOutcome (Self.contents self.new) (out_of (table self.old) (place self.old) (query_of (tree_at (Self.contents self.old)) query) (left self.old)) (left self.new) result };
 }
