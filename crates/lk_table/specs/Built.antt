@@ -99,4 +99,4 @@ abbrev pub rows : Table
 rows = rows_by closed_test
 
 abbrev pub same_row : Tree → Tree → Program Bool
-same_row a b = same_row_by closed_test a b
+same_row a b = rows (same a b)
