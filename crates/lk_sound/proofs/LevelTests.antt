@@ -1,7 +1,7 @@
 -- Both tests of levels meet what a test of levels owes.
 use Rattle.std.proofs.Common.{ℕ, ◌≡◌, Bool, true, false, ◌&&◌, nat_eq, [], refl, sym, ◌∙◌}
 use Rattle.lk_tree.specs.Tree.{Name, Level, zero_level, succ_level, max_level, imax_level, param}
-use Rattle.lk_tree.specs.Level.{level_value}
+use Rattle.lk_tree.specs.Level.{level_value, SameLevel}
 use Rattle.lk_tree.specs.LevelTest.{level_test}
 use Rattle.lk_tree.specs.Scan.{level_over}
 use Rattle.lk_tree.proofs.Scans.{both_true}
@@ -9,7 +9,6 @@ use Rattle.lk_tree.specs.RuleNo.{builtin_shape}
 use Rattle.lk_plain.specs.Program.{done, refuse}
 use Rattle.lk_plain.specs.Sound.{IfYes}
 use Rattle.lk_table.specs.Levels.{IsLevelTest, complete_test, least_value, closed_test}
-use Rattle.lk_tree.specs.Level.{SameLevel}
 use Rattle.lk_sound.proofs.Pieces.{sound_tested, equal_numbers}
 use Rattle.lk_sound.proofs.Goes.{sound_if}
 

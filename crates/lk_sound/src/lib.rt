@@ -65,8 +65,8 @@ pub fn yes_unit_is_good()
     ensures whole { (us : Library) (n budget : ℕ) → IsClearLibrary us → plain_verdict whole us n budget ≡ says_yes → IsGoodUnit us n }
 {}
 
-/// Where a test of levels says yes, the two levels are equal under every assignment: so do the complete test and that of levels
-/// without parameters. The rows that are built are sound with each such test.
+/// Where a test of levels says yes, the two levels are equal under every assignment. So it is with the complete test, and with
+/// the test of levels without parameters. The rows that are built are sound with each such test.
 pub fn level_tests_are_sound()
     ensures complete { IsLevelTest complete_test }
     ensures closed { IsLevelTest closed_test }

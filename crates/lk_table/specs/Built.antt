@@ -1,6 +1,6 @@
 -- The part of the question table that the program answers today. Trees are variables, sorts, constants, applications, lambdas,
--- Pis and Locals; constants are axioms and theorems. What is not built yet is refused, and trees that only lines of Same that
--- are not built call the same are not the same.
+-- Pis and Locals; constants are axioms and theorems. What is not built yet is refused. Two trees that the table calls the same
+-- only by a line that is not built are not the same.
 use Rattle.std.specs.Prelude.{Bool, true, false, nat_eq, max, List, ◌∷◌, length, if◌then◌else◌}
 use Rattle.lk_tree.specs.Tree.{name_discrete, Tree, sort, const, app, lam, pi, let_in, proj, lit, wide, str}
 use Rattle.lk_tree.specs.Bind.{bound}

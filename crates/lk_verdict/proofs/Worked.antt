@@ -141,8 +141,8 @@ local_no : plain_verdict whole (of_local ∷ []) 0 100 ≡ says_no loose_variabl
 unfolding name_discrete part_discrete list_discrete both_discrete ℕ_discrete
 local_no = refl
 
--- what the program checks today: axiom p : Prop, axiom h : p, theorem k : p := (λ (x : p), x) h, theorem m : p → p := λ (x : p), k,
--- and a def and a block that are not checked yet
+-- what the program checks today: axiom p : Prop, axiom h : p, theorem k : p := (λ (x : p), x) h, and
+-- theorem m : p → p := λ (x : p), k; a def and a block are not checked yet
 abbrev built : Library
 built = an 112 [] prop as_axiom
     ∷ an 104 [] (n 112) as_axiom
