@@ -37,3 +37,5 @@ pub mod Statedness
 pub mod WorkedUnits
 pub mod BuiltTable
 pub mod GoodUnits
+pub mod LevelTests
+pub mod SameParts

@@ -1,5 +1,5 @@
 -- Soundness of what compares levels, pairs and lists, and of lines.
-use Rattle.std.proofs.Common.{ℕ, ◌≡◌, ◌≤◌, Bool, true, false, nat_eq, List, [], ◌∷◌, length, Option, Some, None, refl, if◌then◌else◌}
+use Rattle.std.proofs.Common.{ℕ, ◌≡◌, ◌≤◌, Bool, true, false, nat_eq, List, [], ◌∷◌, length, Option, Some, None, if◌then◌else◌}
 use Rattle.lk_tree.specs.Tree.{Level, Tree, app, local}
 use Rattle.lk_tree.specs.Level.{SameLevel}
 use Rattle.lk_tree.specs.Bind.{opened, bound}
@@ -10,8 +10,7 @@ use Rattle.lk_rulebook.specs.Place.{Place}
 use Rattle.lk_rulebook.specs.Rules.{IsDefEq, e_app, SameLevels, none, more}
 use Rattle.lk_plain.specs.Query.{same}
 use Rattle.lk_plain.specs.Program.{Program, done, asked}
-use Rattle.lk_table.specs.Levels.{tested, level_pairs_equal, levels_equal}
-use Rattle.lk_tree.specs.LevelTest.{level_test}
+use Rattle.lk_table.specs.Levels.{LevelTest, IsLevelTest, level_pairs_equal, levels_equal}
 use Rattle.lk_table.specs.Pairs.{same_bodies, same_all, Line, otherwise, answers, answers_yes, yes_alone, ◌or_else◌, unless, ◌or_line◌}
 use Rattle.lk_plain.specs.Sound.{IsSound, IfYes}
 use Rattle.lk_plain.proofs.Soundness.{sound_bind, sound_map}
@@ -20,22 +19,22 @@ pub use Rattle.lk_sound.proofs.Pieces.{of_decided, sound_tested, if_yes_map}
 use Rattle.lk_sound.proofs.Infers.{body_fine}
 use Rattle.lk_sound.proofs.Goes.{sound_if}
 
-sound_level_pairs : (w : Place) (ls ms : List Level) → IsSound w (level_pairs_equal ls ms) (λ b. IfYes b (SameLevels ls ms))
-sound_level_pairs w [] [] = none
-sound_level_pairs w (l ∷ ls) (m ∷ ms) =
-    sound_bind w (tested (level_test l m)) (λ equal. if equal then level_pairs_equal ls ms else done false) (λ b. IfYes b (SameLevel l m)) (λ b. IfYes b (SameLevels (l ∷ ls) (m ∷ ms)))
-    (sound_tested w l m (level_test l m) refl)
-    (λ equal h. sound_if w equal (level_pairs_equal ls ms) (done false) (λ b. IfYes b (SameLevels (l ∷ ls) (m ∷ ms)))
-    (λ t. sound_map w (level_pairs_equal ls ms) (λ b. IfYes b (SameLevels ls ms)) (λ b. IfYes b (SameLevels (l ∷ ls) (m ∷ ms)))
-    (λ b. if_yes_map b (more (of_yes equal t h))) (sound_level_pairs w ls ms))
+sound_level_pairs : (test : LevelTest) → IsLevelTest test → (w : Place) (ls ms : List Level) → IsSound w (level_pairs_equal test ls ms) (λ b. IfYes b (SameLevels ls ms))
+sound_level_pairs test ok w [] [] = none
+sound_level_pairs test ok w (l ∷ ls) (m ∷ ms) =
+    sound_bind w (test l m) (λ equal. if equal then level_pairs_equal test ls ms else done false) (λ b. IfYes b (SameLevel l m)) (λ b. IfYes b (SameLevels (l ∷ ls) (m ∷ ms)))
+    (ok w l m)
+    (λ equal h. sound_if w equal (level_pairs_equal test ls ms) (done false) (λ b. IfYes b (SameLevels (l ∷ ls) (m ∷ ms)))
+    (λ t. sound_map w (level_pairs_equal test ls ms) (λ b. IfYes b (SameLevels ls ms)) (λ b. IfYes b (SameLevels (l ∷ ls) (m ∷ ms)))
+    (λ b. if_yes_map b (more (of_yes equal t h))) (sound_level_pairs test ok w ls ms))
     (λ t. tt))
-sound_level_pairs w [] (m ∷ ms) = tt
-sound_level_pairs w (l ∷ ls) [] = tt
+sound_level_pairs test ok w [] (m ∷ ms) = tt
+sound_level_pairs test ok w (l ∷ ls) [] = tt
 
-pub sound_levels_equal : (w : Place) (ls ms : List Level) → IsSound w (levels_equal ls ms) (λ b. IfYes b (SameLevels ls ms))
-sound_levels_equal w ls ms =
-    sound_if w (nat_eq (length ls) (length ms)) (level_pairs_equal ls ms) (done false) (λ b. IfYes b (SameLevels ls ms))
-    (λ t. sound_level_pairs w ls ms) (λ t. tt)
+pub sound_levels_equal : (test : LevelTest) → IsLevelTest test → (w : Place) (ls ms : List Level) → IsSound w (levels_equal test ls ms) (λ b. IfYes b (SameLevels ls ms))
+sound_levels_equal test ok w ls ms =
+    sound_if w (nat_eq (length ls) (length ms)) (level_pairs_equal test ls ms) (done false) (λ b. IfYes b (SameLevels ls ms))
+    (λ t. sound_level_pairs test ok w ls ms) (λ t. tt)
 
 -- domains, then bodies
 pub sound_bodies : (w : Place) (k : ℕ) (A b A' b' : Tree) (Q : Type 0) → IsWellFormed A → IsWellFormedUnder 1 b → IsWellFormed A' → IsWellFormedUnder 1 b' → bound A ≤ k →

@@ -6,31 +6,29 @@ use Rattle.lk_rulebook.proofs.Scopes.{well_formed_of_type}
 use Rattle.lk_plain.specs.Sound.{WellStated}
 use Rattle.lk_table.specs.Steps.{value_of, with_levels}
 use Rattle.lk_sound.proofs.Pieces.{sound_with_levels}
-use Rattle.std.proofs.Common.{ℕ, ◌≡◌, ◌≤◌, max, Bool, true, false, ◌&&◌, nat_eq, length, List, ◌∷◌, Option, Some, None, refl, subst, arith}
+use Rattle.std.proofs.Common.{ℕ, ◌≡◌, Bool, true, false, ◌&&◌, nat_eq, length, List, ◌∷◌, Option, Some, None, refl}
 use Rattle.lk_tree.specs.Tree.{name_discrete, Level, Tree, sort, const, app, lam, pi, proj, lit, str}
-use Rattle.lk_tree.specs.Level.{SameLevel}
-use Rattle.lk_tree.specs.Bind.{bound}
 use Rattle.lk_tree.specs.Spine.{apply, head, args, IsNeutral, IsHeadNormal}
 use Rattle.lk_tree.specs.WellFormed.{IsWellFormed, AllWellFormed}
-use Rattle.lk_tree.proofs.Spines.{well_formed_of_apply, neutral_head}
+use Rattle.lk_tree.proofs.Spines.{well_formed_of_apply}
 use Rattle.lk_tree.proofs.Scans.{both_true}
 use Rattle.lk_tree.proofs.Within.{apply_head_args}
 use Rattle.lk_rulebook.specs.Place.{Place}
-use Rattle.lk_rulebook.specs.Rules.{r_refl, e_refl, e_reduce, e_sort, e_const, e_lam, e_pi, e_proj, SameLevels}
+use Rattle.lk_rulebook.specs.Rules.{r_refl, e_refl, e_reduce, e_const, e_proj, SameLevels}
 use Rattle.lk_rulebook.proofs.Scopes.{well_formed_of_reduct, well_formed_of_long}
 use Rattle.lk_plain.specs.Query.{same}
 use Rattle.lk_plain.specs.Program.{done, asked}
 use Rattle.lk_table.specs.Steps.{is_same_tree, decided}
-use Rattle.lk_table.specs.Levels.{tested, levels_equal}
-use Rattle.lk_tree.specs.LevelTest.{level_test}
+use Rattle.lk_table.specs.Levels.{complete_test, levels_equal}
 use Rattle.lk_table.specs.Pairs.{same_all, answers_yes, ◌or_else◌, goes_on}
 use Rattle.lk_plain.specs.Sound.{IsSound, IsJustified, IfYes}
 use Rattle.lk_plain.proofs.Soundness.{sound_bind, sound_map}
 use Rattle.lk_sound.proofs.Pieces.{of_yes, same_tree, halves, equal_numbers}
-use Rattle.lk_sound.proofs.Infers.{bound_left, pi_bound_left}
 use Rattle.lk_sound.proofs.Goes.{sound_if, GoesTo, goes_applied, unfolds}
-use Rattle.lk_sound.proofs.Lines.{of_decided, sound_tested, if_yes_map, sound_levels_equal, sound_bodies, AllConvert, sound_all, applied_convert, IfAnswers, SoundLine, sound_or_else, sound_answers, sound_answers_yes, lists_same}
-use Rattle.lk_table.specs.Same.{by_proof_irrelevance, by_parts, eta_long, is_lam, eta_first, eta_second, by_function_eta, same_reduced, by_reduction, by_shape, same_steps}
+use Rattle.lk_sound.proofs.Lines.{of_decided, if_yes_map, sound_levels_equal, AllConvert, sound_all, applied_convert, IfAnswers, SoundLine, sound_or_else, sound_answers, sound_answers_yes}
+use Rattle.lk_sound.proofs.LevelTests.{complete_is_a_test}
+use Rattle.lk_sound.proofs.SameParts.{sorts_same, constants_same, applications_same, lambdas_same, pis_same, cores_same}
+use Rattle.lk_table.specs.Same.{by_proof_irrelevance, by_parts, eta_long, is_lam, eta_first, eta_second, by_function_eta, same_reduced, by_shape, same_steps}
 use Rattle.lk_table.specs.Eta.{by_structure_eta, by_unit_eta}
 use Rattle.lk_table.specs.LiteralLines.{by_literals, by_string}
 use Rattle.lk_sound.proofs.LitLines.{sound_by_literals, sound_by_string}
@@ -44,19 +42,16 @@ use Rattle.lk_sound.proofs.Pieces.{sound_sort_of}
 use Rattle.lk_table.specs.Steps.{sort_of}
 
 sound_by_parts : (w : Place) (a b : Tree) → IsWellFormed a → IsWellFormed b → IsHeadNormal a → IsHeadNormal b → SoundLine w (by_parts a b) (IsDefEq w a b)
-unfolding head
 sound_by_parts w (const c ls) (const d ms) f g na nb =
-    sound_if w (decided (name_discrete c d)) (answers_yes (levels_equal ls ms)) goes_on (λ o. IfAnswers o (IsDefEq w (const c ls) (const d ms)))
-    (λ t. let e : c ≡ d = of_decided (name_discrete c d) t in
-    sound_answers_yes w (levels_equal ls ms) (IsDefEq w (const c ls) (const d ms))
-    (sound_map w (levels_equal ls ms) (λ b. IfYes b (SameLevels ls ms)) (λ b. IfYes b (IsDefEq w (const c ls) (const d ms)))
-    (λ b. if_yes_map b (λ s. rw e (e_const s))) (sound_levels_equal w ls ms)))
+    sound_if w (decided (name_discrete c d)) (answers_yes (levels_equal complete_test ls ms)) goes_on (λ o. IfAnswers o (IsDefEq w (const c ls) (const d ms)))
+    (λ t. sound_answers_yes w (levels_equal complete_test ls ms) (IsDefEq w (const c ls) (const d ms))
+    (constants_same complete_test complete_is_a_test w c d ls ms (of_decided (name_discrete c d) t)))
     (λ t. tt)
 sound_by_parts w (app f a) (app g b) ff fg na nb =
-    sound_if w (nat_eq (length (args (app f a))) (length (args (app g b)))) (answers_yes (same_all (head (app f a) ∷ args (app f a)) (head (app g b) ∷ args (app g b)))) goes_on
+    sound_if w (nat_eq (length (args (app f a))) (length (args (app g b)))) (answers_yes (same_all (head f ∷ args (app f a)) (head g ∷ args (app g b)))) goes_on
     (λ o. IfAnswers o (IsDefEq w (app f a) (app g b)))
-    (λ t. sound_answers_yes w (same_all (head (app f a) ∷ args (app f a)) (head (app g b) ∷ args (app g b))) (IsDefEq w (app f a) (app g b))
-    (lists_same w (app f a) (app g b) (head (app f a)) (head (app g b)) (args (app f a)) (args (app g b)) (apply_head_args (app f a)) (apply_head_args (app g b)) ff fg (neutral_head (app f a) na) (neutral_head (app g b) nb)))
+    (λ t. sound_answers_yes w (same_all (head f ∷ args (app f a)) (head g ∷ args (app g b))) (IsDefEq w (app f a) (app g b))
+    (applications_same w f a g b ff fg na nb))
     (λ t. tt)
 sound_by_parts w (proj S i s) (proj T j t) f g na nb =
     sound_if w (decided (name_discrete S T) && nat_eq i j) (answers_yes (asked (same s t))) goes_on (λ o. IfAnswers o (IsDefEq w (proj S i s) (proj T j t)))
@@ -166,7 +161,7 @@ sound_same_unfolding w a b fa fb u v i j =
     let rb : IsWellFormed (head b) × AllWellFormed (args b) = well_formed_of_apply (head b) (args b) (rw (apply_head_args b) fb) in
     sound_if w (decided (name_discrete u.name v.name)) _ (done false) (λ e. IfYes e (IsDefEq w a b))
     (λ t. let one : u.name ≡ v.name = of_decided (name_discrete u.name v.name) t in
-    sound_bind w (levels_equal u.levels v.levels) _ (λ e. IfYes e (SameLevels u.levels v.levels)) (λ e. IfYes e (IsDefEq w a b)) (sound_levels_equal w u.levels v.levels)
+    sound_bind w (levels_equal complete_test u.levels v.levels) _ (λ e. IfYes e (SameLevels u.levels v.levels)) (λ e. IfYes e (IsDefEq w a b)) (sound_levels_equal complete_test complete_is_a_test w u.levels v.levels)
     (λ eq s. sound_if w (eq && nat_eq (length (args a)) (length (args b))) (same_all (args a) (args b)) (done false) (λ e. IfYes e (IsDefEq w a b))
     (λ y. let equal : eq ≡ true = (both_true eq (nat_eq (length (args a)) (length (args b))) y).0 in
     sound_map w (same_all (args a) (args b)) (λ e. IfYes e (AllConvert w (args a) (args b))) (λ e. IfYes e (IsDefEq w a b))
@@ -216,21 +211,6 @@ sound_reduced w ok a b fa fb na nb =
     (sound_or_else w (by_unit_eta a b) _ C (sound_by_unit_eta w a b fa fb na nb)
     (sound_or_else w (by_string a b) (done false) C (sound_by_string w a b fa fb) tt))))))))
 
-sound_by_reduction : (w : Place) → WellStated w → (a b : Tree) → IsWellFormed a → IsWellFormed b → IsSound w (by_reduction a b) (IsJustified w (same a b))
-sound_by_reduction w ok a b fa fb = (
-  fa,
-  λ a' ma. (
-    fb,
-    λ b' mb. sound_if w (is_same_tree a' a && is_same_tree b' b) (same_reduced a b) (asked (same a' b')) (IsJustified w (same a b))
-        (λ t. let both : (is_same_tree a' a ≡ true) × (is_same_tree b' b ≡ true) = halves (is_same_tree a' a) (is_same_tree b' b) t in
-        sound_reduced w ok a b fa fb (subst IsHeadNormal (same_tree a' a both.0) ma.1) (subst IsHeadNormal (same_tree b' b both.1) mb.1))
-        (λ t. (((well_formed_of_reduct ma.0.0).1, (well_formed_of_reduct mb.0.0).1), λ e n. if_yes_map e (λ c. e_reduce ma.0.0 mb.0.0 c) n)),
-  ),
-)
-
-bounds : (x y : ℕ) → (x ≤ max x y) × (y ≤ max x y)
-bounds x y = (omega arith, omega arith)
-
 same_lit : (w : Place) (m n : ℕ) → IsWellFormed (lit m) → (b : Bool) → nat_eq m n ≡ b → IfYes b (IsDefEq w (lit m) (lit n))
 same_lit w m n f true h = let e : m ≡ n = equal_numbers m n h in rw (← e) (e_refl f)
 same_lit w m n f false h = tt
@@ -240,19 +220,12 @@ same_str w s t true h = rw (← same_tree (str s) (str t) h) (e_refl tt)
 same_str w s t false h = tt
 
 sound_by_shape : (w : Place) → WellStated w → (a b : Tree) → IsWellFormed a → IsWellFormed b → IsSound w (by_shape a b) (IsJustified w (same a b))
-sound_by_shape w ok (sort l) (sort m) f g =
-    sound_map w (tested (level_test l m)) (λ e. IfYes e (SameLevel l m)) (IsJustified w (same (sort l) (sort m))) (λ e. if_yes_map e (λ s. e_sort s)) (sound_tested w l m (level_test l m) refl)
-sound_by_shape w ok (lam A b) (lam A' b') f g =
-    let k : ℕ = max (bound (lam A b)) (bound (lam A' b')) in
-    let o : (bound (lam A b) ≤ k) × (bound (lam A' b') ≤ k) = bounds (bound (lam A b)) (bound (lam A' b')) in
-    sound_bodies w k A b A' b' (IsDefEq w (lam A b) (lam A' b')) f.0 f.1 g.0 g.1 (bound_left A b k o.0) (λ c d. e_lam o.0 o.1 c d)
-sound_by_shape w ok (pi A b) (pi A' b') f g =
-    let k : ℕ = max (bound (pi A b)) (bound (pi A' b')) in
-    let o : (bound (pi A b) ≤ k) × (bound (pi A' b') ≤ k) = bounds (bound (pi A b)) (bound (pi A' b')) in
-    sound_bodies w k A b A' b' (IsDefEq w (pi A b) (pi A' b')) f.0 f.1 g.0 g.1 (pi_bound_left A b k o.0) (λ c d. e_pi o.0 o.1 c d)
+sound_by_shape w ok (sort l) (sort m) f g = sorts_same complete_test complete_is_a_test w l m
+sound_by_shape w ok (lam A b) (lam A' b') f g = lambdas_same w A b A' b' f g
+sound_by_shape w ok (pi A B) (pi A' B') f g = pis_same w A B A' B' f g
 sound_by_shape w ok (lit m) (lit n) f g = same_lit w m n f (nat_eq m n) refl
 sound_by_shape w ok (str s) (str t) f g = same_str w s t (is_same_tree (str s) (str t)) refl
-sound_by_shape w ok a b f g = sound_by_reduction w ok a b f g
+sound_by_shape w ok a b f g = cores_same w a b (same_reduced a b) f g (λ na nb. sound_reduced w ok a b f g na nb)
 
 pub sound_same : (w : Place) → WellStated w → (a b : Tree) → IsWellFormed a → IsWellFormed b → IsSound w (same_steps a b) (IsJustified w (same a b))
 sound_same w ok a b fa fb =

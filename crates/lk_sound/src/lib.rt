@@ -14,8 +14,9 @@ ghost use Rattle.lk_rulebook.specs.Derived.{DeclWellFormed, DeclDerived};
 ghost use Rattle.lk_rulebook.specs.Place.{Place, Block, Rec};
 ghost use Rattle.lk_rulebook.specs.Stated.{GivesNoLocal};
 ghost use Rattle.lk_rulebook.specs.Units.{Decl, Members, LibraryUnit, place_of, Library};
-ghost use Rattle.lk_table.specs.Built.{rows};
+ghost use Rattle.lk_table.specs.Built.{rows_by, rows};
 ghost use Rattle.lk_table.specs.Declarations.{unit_steps};
+ghost use Rattle.lk_table.specs.Levels.{LevelTest, IsLevelTest, complete_test, closed_test};
 ghost use Rattle.lk_table.specs.Table.{steps};
 ghost use Rattle.lk_verdict.specs.Built.{stage};
 ghost use Rattle.lk_verdict.specs.GoodUnit.{IsGoodUnit, IsClearLibrary};
@@ -62,6 +63,14 @@ pub fn places_are_well_stated()
 pub fn yes_unit_is_good()
     ensures each { (stage : Stage) (us : Library) (n budget : ℕ) → IsSoundTable stage.table → IsClearLibrary us → plain_verdict stage us n budget ≡ says_yes → IsGoodUnit us n }
     ensures whole { (us : Library) (n budget : ℕ) → IsClearLibrary us → plain_verdict whole us n budget ≡ says_yes → IsGoodUnit us n }
+{}
+
+/// Where a test of levels says yes, the two levels are equal under every assignment. So it is with the complete test, and with
+/// the test of levels without parameters. The rows that are built are sound with each such test.
+pub fn level_tests_are_sound()
+    ensures complete { IsLevelTest complete_test }
+    ensures closed { IsLevelTest closed_test }
+    ensures rows { (test : LevelTest) → IsLevelTest test → IsSoundTable (rows_by test) }
 {}
 
 /// The rows that are built are sound, and a unit to which they say yes is good.

@@ -1,10 +1,10 @@
 -- The rows that are built lie within the table.
-use Rattle.std.proofs.Common.{◌≡◌, Bool, true, false, List, ◌∷◌, ap, if◌then◌else◌}
+use Rattle.std.proofs.Common.{◌≡◌, Bool, true, false, List, ap, if◌then◌else◌}
 use Rattle.lk_tree.specs.Tree.{Tree, var, sort, const, app, lam, pi, let_in, proj, lit, wide, str, local}
 use Rattle.lk_tree.specs.Spine.{head, args}
 use Rattle.lk_tree.specs.RuleNo.{builtin_shape}
 use Rattle.lk_rulebook.specs.Place.{Entry}
-use Rattle.lk_plain.specs.Query.{core, whnf, infer, same}
+use Rattle.lk_plain.specs.Query.{same}
 use Rattle.lk_plain.specs.Program.{Program, done, refuse, ◌>>=◌}
 use Rattle.lk_plain.specs.Parts.{IsPart, stops, ends, asks, looks}
 use Rattle.lk_plain.proofs.Parts.{part_itself}
@@ -15,7 +15,7 @@ use Rattle.lk_table.specs.Core.{core_applied, unfolded, stepped, core_steps, whn
 use Rattle.lk_table.specs.Infer.{infer_steps}
 use Rattle.lk_table.specs.Same.{by_shape}
 use Rattle.lk_table.specs.Table.{steps}
-use Rattle.lk_table.specs.Built.{is_built_kind, where_built, built_applied, core_row, whnf_built, whnf_end, whnf_row, infer_row}
+use Rattle.lk_table.specs.Built.{is_built_kind, where_built, built_applied, core_row, whnf_built, whnf_row, infer_row}
 
 part_where : {A : Type 0} (k : Entry → Program A) (g : Entry) → IsPart (where_built k g) (k g)
 part_where k g = go (is_built_kind g.kind)

@@ -1,14 +1,13 @@
 -- What Whnf does at a constant that is built.
-use Rattle.std.proofs.Common.{◌≡◌, Bool, true, false, ◌&&◌, nat_eq, List, [], ◌∷◌, length, Option, Some, None, refl, ap, ◌∙◌, if◌then◌else◌}
+use Rattle.std.proofs.Common.{◌≡◌, Bool, true, false, ◌&&◌, nat_eq, List, [], ◌∷◌, length, Option, Some, None, refl, ap, if◌then◌else◌}
 use Rattle.lk_tree.specs.Tree.{Name, Level, Tree, const}
 use Rattle.lk_tree.specs.Bind.{bound}
-use Rattle.lk_tree.specs.Operations.{Op, succ, log2, add, sub, mul, div, modulo, gcd, beq, ble, land, lor, xor, shift_left, shift_right, pow, arity}
-use Rattle.lk_tree.specs.Spine.{apply, args}
+use Rattle.lk_tree.specs.Operations.{Op, succ, arity}
+use Rattle.lk_tree.specs.Spine.{args}
 use Rattle.lk_rulebook.specs.Place.{Entry, Kind, an_axiom, a_thm}
 use Rattle.lk_rulebook.specs.Literals.{may_give}
-use Rattle.lk_plain.specs.Query.{whnf}
-use Rattle.lk_plain.specs.Program.{Program, done, asked, ◌>>=◌}
-use Rattle.lk_table.specs.Steps.{with_levels, value_of}
+use Rattle.lk_plain.specs.Program.{done, ◌>>=◌}
+use Rattle.lk_table.specs.Steps.{value_of}
 use Rattle.lk_table.specs.Core.{unfolded, stepped}
 use Rattle.lk_table.specs.Literals.{ops, op_named, op_step, numerals, computed, literal_step}
 use Rattle.lk_table.specs.Built.{is_built_kind}

@@ -4,3 +4,4 @@ pub mod Stuck
 pub mod WorkedLiterals
 pub mod LineParts
 pub mod BuiltRows
+pub mod WorkedConstants

@@ -1,6 +1,7 @@
 -- The part of the question table that the program answers today. Trees are variables, sorts, constants, applications, lambdas,
--- Pis and Locals; constants are axioms and theorems. What is not built yet is refused.
-use Rattle.std.specs.Prelude.{Bool, true, false, ◌&&◌, nat_eq, max, List, ◌∷◌, length, if◌then◌else◌}
+-- Pis and Locals; constants are axioms and theorems. What is not built yet is refused. Two trees that the table calls the same
+-- only by a line that is not built are not the same.
+use Rattle.std.specs.Prelude.{Bool, true, false, nat_eq, max, List, ◌∷◌, length, if◌then◌else◌}
 use Rattle.lk_tree.specs.Tree.{name_discrete, Tree, sort, const, app, lam, pi, let_in, proj, lit, wide, str}
 use Rattle.lk_tree.specs.Bind.{bound}
 use Rattle.lk_tree.specs.Spine.{head, args}
@@ -10,7 +11,7 @@ pub use Rattle.lk_plain.specs.Parts.{is_built_kind, where_built}
 use Rattle.lk_plain.specs.Program.{Program, done, refuse, look, asked, Table, ◌>>=◌}
 use Rattle.lk_table.specs.Steps.{is_same_tree, decided, with_levels, value_of}
 use Rattle.lk_table.specs.Levels.{LevelTest, closed_test, levels_equal}
-use Rattle.lk_table.specs.Pairs.{same_bodies, same_all}
+use Rattle.lk_table.specs.Pairs.{same_bodies, by_core, same_all}
 use Rattle.lk_table.specs.Iota.{core_constant}
 use Rattle.lk_table.specs.Core.{core_applied, unfolded, stepped}
 use Rattle.lk_table.specs.Literals.{literal_step}
@@ -65,10 +66,7 @@ same_parts test _ _ = done false
 
 -- by their Core, where that is new
 abbrev pub same_reduced : LevelTest → Tree → Tree → Program Bool
-same_reduced test a b = do
-  a' ← asked (core a)
-  b' ← asked (core b)
-  if is_same_tree a' a && is_same_tree b' b then same_parts test a b else asked (same a' b')
+same_reduced test a b = by_core a b (same_parts test a b)
 
 -- two sorts, lambdas or Pis, else by their Core
 abbrev pub same_shape : LevelTest → Tree → Tree → Program Bool
@@ -92,4 +90,4 @@ abbrev pub rows : Table
 rows = rows_by closed_test
 
 abbrev pub same_row : Tree → Tree → Program Bool
-same_row a b = same_row_by closed_test a b
+same_row a b = rows (same a b)

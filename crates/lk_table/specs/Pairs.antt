@@ -1,15 +1,23 @@
 -- Questions that ask Same of several pairs.
-use Rattle.std.specs.Prelude.{ℕ, Bool, true, false, List, [], ◌∷◌, Option, Some, None, if◌then◌else◌}
+use Rattle.std.specs.Prelude.{ℕ, Bool, true, false, ◌&&◌, List, [], ◌∷◌, Option, Some, None, if◌then◌else◌}
 use Rattle.lk_tree.specs.Tree.{Tree, local}
 use Rattle.lk_tree.specs.Bind.{opened}
-use Rattle.lk_plain.specs.Query.{same}
+use Rattle.lk_plain.specs.Query.{core, same}
 use Rattle.lk_plain.specs.Program.{Program, done, asked, ◌>>=◌}
+use Rattle.lk_table.specs.Steps.{is_same_tree}
 
 -- both binders' domains, then the bodies opened with one Local
 abbrev pub same_bodies : ℕ → Tree → Tree → Tree → Tree → Program Bool
 same_bodies k A b A' b' = do
   equal ← asked (same A A')
   if equal then asked (same (opened b (local k A)) (opened b' (local k A))) else done false
+
+-- by their Core where that is new, else by what comes next
+abbrev pub by_core : Tree → Tree → Program Bool → Program Bool
+by_core a b next = do
+  a' ← asked (core a)
+  b' ← asked (core b)
+  if is_same_tree a' a && is_same_tree b' b then next else asked (same a' b')
 
 -- pair by pair, up to the first no
 abbrev pub same_all : List Tree → List Tree → Program Bool

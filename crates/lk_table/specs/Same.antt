@@ -4,11 +4,11 @@ use Rattle.lk_tree.specs.Tree.{name_discrete, Tree, var, sort, const, app, lam, 
 use Rattle.lk_tree.specs.Bind.{bound}
 use Rattle.lk_tree.specs.Spine.{head, args}
 use Rattle.lk_tree.specs.Level.{is_zero_level}
-use Rattle.lk_plain.specs.Query.{core, whnf, infer, same}
+use Rattle.lk_plain.specs.Query.{whnf, infer, same}
 use Rattle.lk_plain.specs.Program.{Program, done, asked, ◌>>=◌}
 use Rattle.lk_table.specs.Steps.{is_same_tree, decided, sort_of}
 use Rattle.lk_table.specs.Levels.{complete_test, levels_equal}
-use Rattle.lk_table.specs.Pairs.{same_bodies, same_all, Line, answers_yes, ◌or_else◌, goes_on}
+use Rattle.lk_table.specs.Pairs.{same_bodies, by_core, same_all, Line, answers_yes, ◌or_else◌, goes_on}
 use Rattle.lk_table.specs.LiteralLines.{by_literals, by_string}
 use Rattle.lk_table.specs.Eta.{by_structure_eta, by_unit_eta}
 use Rattle.lk_table.specs.Unfolding.{by_unfolding}
@@ -71,10 +71,7 @@ same_reduced a b =
 
 -- by their Core, where that is new
 abbrev pub by_reduction : Tree → Tree → Program Bool
-by_reduction a b = do
-  a' ← asked (core a)
-  b' ← asked (core b)
-  if is_same_tree a' a && is_same_tree b' b then same_reduced a b else asked (same a' b')
+by_reduction a b = by_core a b (same_reduced a b)
 
 -- two Sorts, lambdas, Pis or literals, else by their Core
 abbrev pub by_shape : Tree → Tree → Program Bool

@@ -1,16 +1,17 @@
 -- Worked verdicts: costs, and the rules of the scan in their order.
 use Rattle.std.proofs.Common.{ℕ, ◌≡◌, List, [], ◌∷◌, ◌^◌, refl}
-use Rattle.lk_tree.specs.Tree.{Name, text, zero_level, succ_level, imax_level, param, Tree, tree_discrete, level_discrete, name_discrete, part_discrete, var, sort, const, lam, pi, lit, wide}
+use Rattle.lk_tree.specs.Tree.{Name, text, zero_level, succ_level, imax_level, param, Tree, tree_discrete, level_discrete, name_discrete, part_discrete, var, sort, const, app, lam, pi, lit, wide}
 use Rattle.lk_tree.specs.Decide.{list_discrete, both_discrete}
 use Rattle.lk_tree.specs.Bind.{open_at, close_at, bound}
 use Rattle.lk_tree.specs.Levels.{put_levels, put_in_level, level_for}
 use Rattle.lk_tree.specs.LevelTest.{level_le}
 use Rattle.lk_tree.specs.Spine.{head, args}
-use Rattle.lk_tree.specs.RuleNo.{unknown_constant, undeclared_level, duplicate_level, duplicate_name, loose_variable, value_type, wide_literal}
+use Rattle.lk_tree.specs.RuleNo.{unknown_constant, undeclared_level, duplicate_level, duplicate_name, loose_variable, value_type, wide_literal, builtin_shape, block_shape}
 use Rattle.lk_rulebook.specs.Place.{opaque_hint, abbreviation}
 use Rattle.lk_rulebook.specs.Units.{Body, as_axiom, as_def, as_thm, LibraryUnit, of_decl, of_block, Library}
 use Rattle.lk_plain.specs.Answer.{answer_to_depth}
 use Rattle.lk_verdict.specs.Verdict.{says_yes, says_no, says_steps, whole, plain_verdict}
+use Rattle.lk_verdict.specs.Built.{stage}
 use Rattle.lk_verdict.specs.Attacks.{prop, t_block, shadowed, doubled, undeclared, of_local}
 use native.Mathlib.Decide.{ℕ_discrete}
 
@@ -139,3 +140,50 @@ undeclared_no = refl
 local_no : plain_verdict whole (of_local ∷ []) 0 100 ≡ says_no loose_variable
 unfolding name_discrete part_discrete list_discrete both_discrete ℕ_discrete
 local_no = refl
+
+-- what the program checks today: axiom p : Prop, axiom h : p, theorem k : p := (λ (x : p), x) h, and
+-- theorem m : p → p := λ (x : p), k; a def and a block are not checked yet
+abbrev built : Library
+built = an 112 [] prop as_axiom
+    ∷ an 104 [] (n 112) as_axiom
+    ∷ an 107 [] (n 112) (as_thm (app (lam (n 112) (var 0)) (n 104)))
+    ∷ an 109 [] (pi (n 112) (n 112)) (as_thm (lam (n 112) (n 107)))
+    ∷ an 100 [] (n 112) (as_def abbreviation (n 104))
+    ∷ of_block t_block []
+    ∷ []
+
+axiom_built : plain_verdict stage built 0 3 ≡ says_yes
+unfolding answer_to_depth open_at close_at bound head args put_levels put_in_level level_for level_le tree_discrete level_discrete name_discrete part_discrete list_discrete both_discrete ℕ_discrete
+axiom_built = refl
+
+axiom_built_short : plain_verdict stage built 0 2 ≡ says_steps
+unfolding answer_to_depth open_at close_at bound head args put_levels put_in_level level_for level_le tree_discrete level_discrete name_discrete part_discrete list_discrete both_discrete ℕ_discrete
+axiom_built_short = refl
+
+axiom_of_axiom_built : plain_verdict stage built 1 3 ≡ says_yes
+unfolding answer_to_depth open_at close_at bound head args put_levels put_in_level level_for level_le tree_discrete level_discrete name_discrete part_discrete list_discrete both_discrete ℕ_discrete
+axiom_of_axiom_built = refl
+
+theorem_built : plain_verdict stage built 2 14 ≡ says_yes
+unfolding answer_to_depth open_at close_at bound head args put_levels put_in_level level_for level_le tree_discrete level_discrete name_discrete part_discrete list_discrete both_discrete ℕ_discrete
+theorem_built = refl
+
+theorem_built_short : plain_verdict stage built 2 13 ≡ says_steps
+unfolding answer_to_depth open_at close_at bound head args put_levels put_in_level level_for level_le tree_discrete level_discrete name_discrete part_discrete list_discrete both_discrete ℕ_discrete
+theorem_built_short = refl
+
+theorem_of_theorem_built : plain_verdict stage built 3 15 ≡ says_yes
+unfolding answer_to_depth open_at close_at bound head args put_levels put_in_level level_for level_le tree_discrete level_discrete name_discrete part_discrete list_discrete both_discrete ℕ_discrete
+theorem_of_theorem_built = refl
+
+theorem_of_theorem_built_short : plain_verdict stage built 3 14 ≡ says_steps
+unfolding answer_to_depth open_at close_at bound head args put_levels put_in_level level_for level_le tree_discrete level_discrete name_discrete part_discrete list_discrete both_discrete ℕ_discrete
+theorem_of_theorem_built_short = refl
+
+def_not_built : plain_verdict stage built 4 1000 ≡ says_no builtin_shape
+unfolding answer_to_depth open_at close_at bound head args put_levels put_in_level level_for level_le tree_discrete level_discrete name_discrete part_discrete list_discrete both_discrete ℕ_discrete
+def_not_built = refl
+
+block_not_built : plain_verdict stage built 5 1000 ≡ says_no block_shape
+unfolding answer_to_depth open_at close_at bound head args put_levels put_in_level level_for level_le tree_discrete level_discrete name_discrete part_discrete list_discrete both_discrete ℕ_discrete
+block_not_built = refl
