@@ -5,7 +5,7 @@
 pub mod asks;
 pub mod next;
 pub mod query;
-pub mod row;
 pub mod rule;
 pub mod sheet;
+pub mod stack;
 pub mod stop;

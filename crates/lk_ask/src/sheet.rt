@@ -1,6 +1,6 @@
 //! What a question keeps while another one is asked.
 
-use crate::row::Row;
+use crate::stack::Stack;
 
 /// What the weak head forms keep.
 #[derive(Clone, Copy, Debug, PartialEq, Eq)]
@@ -62,7 +62,7 @@ pub enum SameSheet<X: Drop> {
     /// After `Core` of the right one; `form` is that of the left one.
     CoreRight { left: X, right: X, form: X },
     /// After a pair. The others are still to be compared, the last one first.
-    Parts { others: Row<Pair<X>> },
+    Parts { others: Stack<Pair<X>> },
 }
 
 /// What a question keeps.
