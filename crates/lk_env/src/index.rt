@@ -10,6 +10,7 @@ use crate::place::Place;
 use crate::unit::{Block, BlockType, Constructor, Recursor, Unit};
 use lk_rows::memory::NoMemory;
 use lk_store::base_store::BaseStore;
+use lk_store::terms::Terms;
 use std::alloc::Global;
 
 fn push_types(names: &mut Vec<u64>, types: &[BlockType]) -> Result<(), NoMemory>
