@@ -6,6 +6,7 @@ ghost use Rattle.lk_store.specs.Store.{contents_of};
 
 use lk_rows::memory::NoMemory;
 use lk_store::base_store::BaseStore;
+use lk_store::terms::Terms;
 use std::alloc::Global;
 use std::collections::HashSet;
 

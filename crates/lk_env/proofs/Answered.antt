@@ -109,3 +109,8 @@ answered_at c us lib n x o (Ok e) h answer = record { given = rw h answer.given;
 answered_at c us lib n x o (Err refused.UnknownConstant) h answer = (rw h answer.0, rw h answer.1)
 answered_at c us lib n x o (Err refused.LooseVariable) h answer = rw h answer
 answered_at c us lib n x o (Err refused.WideLiteral) h answer = rw h answer
+
+-- what no unit gives means nothing
+pub nothing_answered : (c : Contents) (us : List StoredUnit) (lib : Library) (n : ℕ) (x : Name) → place_in 0 lib x ≡ None → IsAnswer c us (place_of lib n []) x (Err refused.UnknownConstant)
+nothing_answered c us lib n x absent =
+    rw (given_before lib n x None (sym (place_before_is x lib n ∙ ap (place_below n) absent))) (refl, refl)

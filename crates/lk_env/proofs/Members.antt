@@ -1,5 +1,5 @@
 -- The names of members, by their numbers.
-use Rattle.std.proofs.Common.{◌≡◌, ◌≢◌, ℕ, zero, suc, ◌+◌, ◌<◌, List, [], ◌∷◌, ◌++◌, length, map, take, get_or, append_assoc, cond, Option, Some, None, refl, ap, sym, ◌∙◌, arith, add-one, eq-eqb, nat_eq}
+use Rattle.std.proofs.Common.{◌≡◌, ◌≢◌, ℕ, zero, suc, ◌+◌, ◌<◌, ◌≤◌, List, [], ◌∷◌, ◌++◌, length, map, take, get_or, append_assoc, cond, Option, Some, None, refl, ap, sym, ◌∙◌, arith, add-one, eq-eqb, nat_eq}
 use Rattle.std.specs.Prelude.{All}
 use Rattle.std.specs.List.{flat_map, position_from}
 use Rattle.std.proofs.lemmas.Bool.{ne_eqb}
@@ -9,7 +9,7 @@ use Rattle.lk_tree.specs.Tree.{Name, name_discrete}
 use Rattle.lk_rulebook.specs.Place.{Entry, Block as PlainBlock, BlockType as PlainType}
 use Rattle.lk_rulebook.specs.Units.{Members, members_of, type_entries, ctor_entries, all_ctor_entries, rec_members}
 use Rattle.lk_store.specs.Values.{AreApart}
-use Rattle.lk_store.specs.Contents.{Contents, name_at}
+use Rattle.lk_store.specs.Contents.{Contents, name_at, Extends}
 use Rattle.lk_env.specs.declared.unit.Constructor.{Constructor}
 use Rattle.lk_env.specs.declared.unit.BlockType.{BlockType}
 use Rattle.lk_env.specs.declared.unit.Recursor.{Recursor}
@@ -142,3 +142,10 @@ module _ (c : Contents) where
         let here = members_known u (All-head (IsUnitIn c) u us h) in
         ap (λ o. first_place (at_member i o) (place_in (suc i) (library_at c us) x)) (absent_member 0 (member_names u) (members_of (unit_at c u)) here (member_names_are u))
         ∙ absent_place (suc i) us (All-tail (IsUnitIn c) u us h)
+
+-- A name that a store has beyond those of c is none of c's.
+pub beyond_names : (c d : Contents) → Extends c d → AreApart [] d.names → (k : ℕ) → length c.names ≤ k → k < length d.names → (n : ℕ) → n < length c.names → name_at c n ≢ name_at d k
+beyond_names c d over apart k beyond within n known e =
+    let longer : length c.names ≤ length d.names = over.names.longer in
+    let same : n ≡ k = apart.apart n k (omega arith) within (over.names.same n known ∙ e) in
+    absurd (omega arith)

@@ -13,7 +13,7 @@ use Rattle.lk_env.specs.declared.place.Place.{Place}
 use Rattle.lk_env.specs.declared.unit.Unit.{Unit as StoredUnit}
 use Rattle.lk_env.specs.Units.{library_at, IsUnitIn, AreUnitsIn}
 use Rattle.lk_env.specs.Places.{first_place, at_member, place_in}
-use Rattle.lk_env.specs.Index.{member_names, pair_of, place_at, AreNoted, IsIndex}
+use Rattle.lk_env.specs.Index.{member_names, pair_of, cell_at, AreNoted, IsIndex}
 use Rattle.lk_env.proofs.Members.{members_known, place_of_number}
 
 first_none : (o : Option (ℕ × ℕ)) → first_place o None ≡ o
@@ -28,15 +28,15 @@ first_assoc (Some p) b c = refl
 pub record AreNotedUpTo (unit : ℕ) (names : List ℕ) (j : ℕ) (old new : List (Option Place)) : Type 0 where
   pub one_each : length new ≡ length old
   pub right : (n : ℕ) → n < length old →
-      first_place (place_at new n) (at_member unit (position_from (λ m. nat_eq m n) j (drop j names))) ≡ first_place (place_at old n) (at_member unit (position_from (λ m. nat_eq m n) 0 names))
+      first_place (cell_at new n) (at_member unit (position_from (λ m. nat_eq m n) j (drop j names))) ≡ first_place (cell_at old n) (at_member unit (position_from (λ m. nat_eq m n) 0 names))
 
 pub none_noted : (unit : ℕ) (names : List ℕ) (cells : List (Option Place)) → AreNotedUpTo unit names 0 cells cells
 none_noted unit names cells = record { one_each = refl; right = λ n h. refl }
 
 pub all_noted : (unit : ℕ) (names : List ℕ) (old new : List (Option Place)) → AreNotedUpTo unit names (length names) old new → AreNoted unit names old new
 all_noted unit names old new s n h =
-    sym (first_none (place_at new n))
-    ∙ sym (ap (λ l. first_place (place_at new n) (at_member unit (position_from (λ m. nat_eq m n) (length names) l))) (drop-length names))
+    sym (first_none (cell_at new n))
+    ∙ sym (ap (λ l. first_place (cell_at new n) (at_member unit (position_from (λ m. nat_eq m n) (length names) l))) (drop-length names))
     ∙ s.right n h
 
 cell_kept : (o : Option Place) (p : Place) → Some (pair_of (unwrap_or o p)) ≡ first_place (option_map pair_of o) (Some (pair_of p))
@@ -53,26 +53,26 @@ module _ (unit j a : ℕ) (later : List ℕ) (cells : List (Option Place)) (with
   next = record { unit = unit; member = j }
 
   cell_here : (n : ℕ) → a ≡ n
-      → first_place (place_at (cells_after unit j a cells) n) (at_member unit (position_from (λ m. nat_eq m n) (j + 1) later)) ≡ first_place (place_at cells n) (at_member unit (position_from (λ m. nat_eq m n) j (a ∷ later)))
+      → first_place (cell_at (cells_after unit j a cells) n) (at_member unit (position_from (λ m. nat_eq m n) (j + 1) later)) ≡ first_place (cell_at cells n) (at_member unit (position_from (λ m. nat_eq m n) j (a ∷ later)))
   cell_here n e =
-      let set_here : place_at (cells_after unit j a cells) a ≡ Some (pair_of (unwrap_or (get_or cells a None) next)) = ap (option_map pair_of) (get_or-set_same cells a (Some (unwrap_or (get_or cells a None) next)) None within) in
+      let set_here : cell_at (cells_after unit j a cells) a ≡ Some (pair_of (unwrap_or (get_or cells a None) next)) = ap (option_map pair_of) (get_or-set_same cells a (Some (unwrap_or (get_or cells a None) next)) None within) in
       let same : nat_eq a a ≡ true = eq-eqb a a refl in
       rw (← e, set_here, same) (cell_kept (get_or cells a None) next)
 
   cell_elsewhere : (n : ℕ) → (a ≡ n → ⊥)
-      → first_place (place_at (cells_after unit j a cells) n) (at_member unit (position_from (λ m. nat_eq m n) (j + 1) later)) ≡ first_place (place_at cells n) (at_member unit (position_from (λ m. nat_eq m n) j (a ∷ later)))
+      → first_place (cell_at (cells_after unit j a cells) n) (at_member unit (position_from (λ m. nat_eq m n) (j + 1) later)) ≡ first_place (cell_at cells n) (at_member unit (position_from (λ m. nat_eq m n) j (a ∷ later)))
   cell_elsewhere n f =
       let other : n ≢ a = λ e. f (sym e) in
-      let stays : place_at (cells_after unit j a cells) n ≡ place_at cells n = ap (option_map pair_of) (get_or-set_other cells a n (Some (unwrap_or (get_or cells a None) next)) None other) in
+      let stays : cell_at (cells_after unit j a cells) n ≡ cell_at cells n = ap (option_map pair_of) (get_or-set_other cells a n (Some (unwrap_or (get_or cells a None) next)) None other) in
       let differs : nat_eq a n ≡ false = ne_eqb a n f in
       rw (stays, differs) refl
 
   pub cell_after : (n : ℕ)
-      → first_place (place_at (cells_after unit j a cells) n) (at_member unit (position_from (λ m. nat_eq m n) (j + 1) later)) ≡ first_place (place_at cells n) (at_member unit (position_from (λ m. nat_eq m n) j (a ∷ later)))
+      → first_place (cell_at (cells_after unit j a cells) n) (at_member unit (position_from (λ m. nat_eq m n) (j + 1) later)) ≡ first_place (cell_at cells n) (at_member unit (position_from (λ m. nat_eq m n) j (a ∷ later)))
   cell_after n = go (cases_eq a n)
     where
       go : (a ≡ n) ⊎ (a ≡ n → ⊥)
-          → first_place (place_at (cells_after unit j a cells) n) (at_member unit (position_from (λ m. nat_eq m n) (j + 1) later)) ≡ first_place (place_at cells n) (at_member unit (position_from (λ m. nat_eq m n) j (a ∷ later)))
+          → first_place (cell_at (cells_after unit j a cells) n) (at_member unit (position_from (λ m. nat_eq m n) (j + 1) later)) ≡ first_place (cell_at cells n) (at_member unit (position_from (λ m. nat_eq m n) j (a ∷ later)))
       go (inl e) = cell_here n e
       go (inr f) = cell_elsewhere n f
 
@@ -84,26 +84,26 @@ one_noted unit j names old cells l all s =
     record {
       one_each = length-set cells a (Some (unwrap_or (get_or cells a None) (record { unit = unit; member = j }))) ∙ s.one_each;
       right = λ n h.
-          ap (λ i. first_place (place_at (cells_after unit j a cells) n) (at_member unit (position_from (λ m. nat_eq m n) (j + 1) (drop i names)))) (add-one j)
+          ap (λ i. first_place (cell_at (cells_after unit j a cells) n) (at_member unit (position_from (λ m. nat_eq m n) (j + 1) (drop i names)))) (add-one j)
           ∙ cell_after unit j a (drop (suc j) names) cells within n
-          ∙ sym (ap (λ ns. first_place (place_at cells n) (at_member unit (position_from (λ m. nat_eq m n) j ns))) (drop-cons names j 0 l))
+          ∙ sym (ap (λ ns. first_place (cell_at cells n) (at_member unit (position_from (λ m. nat_eq m n) j ns))) (drop-cons names j 0 l))
           ∙ s.right n h;
     }
 
 -- The index over the first i units.
 pub record IsIndexUpTo (c : Contents) (us : List StoredUnit) (i : ℕ) (cells : List (Option Place)) : Type 0 where
   pub one_each : length cells ≡ length c.names
-  pub right : (n : ℕ) → n < length c.names → first_place (place_at cells n) (place_in i (library_at c (drop i us)) (name_at c n)) ≡ place_in 0 (library_at c us) (name_at c n)
+  pub right : (n : ℕ) → n < length c.names → first_place (cell_at cells n) (place_in i (library_at c (drop i us)) (name_at c n)) ≡ place_in 0 (library_at c us) (name_at c n)
 
-pub no_unit : (c : Contents) (us : List StoredUnit) (cells : List (Option Place)) → length cells ≡ length c.names → ((n : ℕ) → n < length c.names → place_at cells n ≡ None) → IsIndexUpTo c us 0 cells
+pub no_unit : (c : Contents) (us : List StoredUnit) (cells : List (Option Place)) → length cells ≡ length c.names → ((n : ℕ) → n < length c.names → cell_at cells n ≡ None) → IsIndexUpTo c us 0 cells
 no_unit c us cells one_each empty = record { one_each = one_each; right = λ n h. rw (empty n h) refl }
 
 pub every_unit : (c : Contents) (us : List StoredUnit) (cells : List (Option Place)) → IsIndexUpTo c us (length us) cells → IsIndex c us cells
 every_unit c us cells s = record {
   one_each = s.one_each;
   right = λ n h.
-      sym (first_none (place_at cells n))
-      ∙ sym (ap (λ vs. first_place (place_at cells n) (place_in (length us) (library_at c vs) (name_at c n))) (drop-length us))
+      sym (first_none (cell_at cells n))
+      ∙ sym (ap (λ vs. first_place (cell_at cells n) (place_in (length us) (library_at c vs) (name_at c n))) (drop-length us))
       ∙ s.right n h;
 }
 
@@ -121,11 +121,11 @@ next_unit c us i u names cells after apart known l is are same noted s =
       right = λ n h.
           let x : Name = name_at c n in
           let later : Option (ℕ × ℕ) = place_in (suc i) (library_at c (drop (suc i) us)) x in
-          ap (λ k. first_place (place_at after n) (place_in k (library_at c (drop k us)) x)) (add-one i)
+          ap (λ k. first_place (cell_at after n) (place_in k (library_at c (drop k us)) x)) (add-one i)
           ∙ ap (λ o. first_place o later) (noted n (rw s.one_each h))
-          ∙ first_assoc (place_at cells n) (at_member i (position_from (λ m. nat_eq m n) 0 names)) later
-          ∙ ap (λ ns. first_place (place_at cells n) (first_place (at_member i (position_from (λ m. nat_eq m n) 0 ns)) later)) are
-          ∙ ap (λ o. first_place (place_at cells n) (first_place (at_member i o) later)) (place_of_number c n u apart h u_in)
-          ∙ sym (ap (λ vs. first_place (place_at cells n) (place_in i (library_at c vs) x)) here)
+          ∙ first_assoc (cell_at cells n) (at_member i (position_from (λ m. nat_eq m n) 0 names)) later
+          ∙ ap (λ ns. first_place (cell_at cells n) (first_place (at_member i (position_from (λ m. nat_eq m n) 0 ns)) later)) are
+          ∙ ap (λ o. first_place (cell_at cells n) (first_place (at_member i o) later)) (place_of_number c n u apart h u_in)
+          ∙ sym (ap (λ vs. first_place (cell_at cells n) (place_in i (library_at c vs) x)) here)
           ∙ s.right n h;
     }

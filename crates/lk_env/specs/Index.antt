@@ -23,13 +23,13 @@ abbrev pub pair_of : Place → ℕ × ℕ
 pair_of p = (p.unit, p.member)
 
 -- what the cell of a number says
-abbrev pub place_at : List (Option Place) → ℕ → Option (ℕ × ℕ)
-place_at cells n = option_map pair_of (slice_index_or cells n None)
+abbrev pub cell_at : List (Option Place) → ℕ → Option (ℕ × ℕ)
+cell_at cells n = option_map pair_of (slice_index_or cells n None)
 
 -- each cell that was empty has the first member of its number, where a member has it
 abbrev pub AreNoted : ℕ → List ℕ → List (Option Place) → List (Option Place) → Type 0
-AreNoted unit names old new = (n : ℕ) → n < length old → place_at new n ≡ first_place (place_at old n) (at_member unit (position_from (λ m. nat_eq m n) 0 names))
+AreNoted unit names old new = (n : ℕ) → n < length old → cell_at new n ≡ first_place (cell_at old n) (at_member unit (position_from (λ m. nat_eq m n) 0 names))
 
 pub record IsIndex (c : Contents) (us : List StoredUnit) (cells : List (Option Place)) : Type 0 where
   pub one_each : length cells ≡ length c.names
-  pub right : (n : ℕ) → n < length c.names → place_at cells n ≡ place_in 0 (library_at c us) (name_at c n)
+  pub right : (n : ℕ) → n < length c.names → cell_at cells n ≡ place_in 0 (library_at c us) (name_at c n)

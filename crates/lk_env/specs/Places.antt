@@ -1,8 +1,11 @@
--- Where a library gives a name: the first unit that gives it, and which of its members.
-use Rattle.std.specs.Prelude.{ℕ, suc, [], ◌∷◌, Option, Some, None, option_map, option_and_then, slice_get, nat_lt, if◌then◌else◌}
+-- Where a library gives a name: the first unit that gives it, and which of its members. What names mean at a unit.
+use Rattle.std.specs.Prelude.{ℕ, suc, List, [], ◌∷◌, Option, Some, None, option_map, option_and_then, slice_get, nat_lt, if◌then◌else◌}
 use Rattle.lk_tree.specs.Tree.{Name, name_discrete}
-use Rattle.lk_rulebook.specs.Place.{Entry}
-use Rattle.lk_rulebook.specs.Units.{Members, LibraryUnit, members_of, Library, Found, at_unit}
+use Rattle.lk_rulebook.specs.Place.{Entry, Place}
+use Rattle.lk_rulebook.specs.Units.{Members, LibraryUnit, members_of, Library, Found, at_unit, place_of}
+use Rattle.lk_store.specs.declared.tables.Tables.{Tables}
+use Rattle.lk_env.specs.declared.unit.Unit.{Unit as StoredUnit}
+use Rattle.lk_env.specs.Units.{library_of}
 
 -- the first member of the name, where the first of all has number i
 abbrev pub member_in : ℕ → Members → Name → Option ℕ
@@ -36,3 +39,7 @@ found_at us p = option_and_then (λ u. at_unit p.0 u (entry_at u p.1)) (slice_ge
 abbrev pub place_below : ℕ → Option (ℕ × ℕ) → Option (ℕ × ℕ)
 place_below n None = None
 place_below n (Some p) = if nat_lt p.0 n then Some p else None
+
+-- the place of unit n in the library of a store's tables and units, with no names that are half there
+abbrev pub place_at : Tables × List StoredUnit → ℕ → Place
+place_at l n = place_of (library_of l) n []

@@ -4,12 +4,13 @@ ghost use Rattle.std.specs.Prelude.{◌≡◌, ◌++◌, ◌<◌, ℕ, map, leng
 ghost use Rattle.std.specs.List.{flat_map};
 ghost use Rattle.lk_store.specs.Store.{contents_of};
 ghost use Rattle.lk_env.specs.Units.{AreUnitsIn};
-ghost use Rattle.lk_env.specs.Index.{constructor_names, member_names, place_at, AreNoted, IsIndex};
+ghost use Rattle.lk_env.specs.Index.{constructor_names, member_names, cell_at, AreNoted, IsIndex};
 
 use crate::place::Place;
 use crate::unit::{Block, BlockType, Constructor, Recursor, Unit};
 use lk_rows::memory::NoMemory;
 use lk_store::base_store::BaseStore;
+use lk_store::terms::Terms;
 use std::alloc::Global;
 
 fn push_types(names: &mut Vec<u64>, types: &[BlockType]) -> Result<(), NoMemory>
@@ -91,7 +92,7 @@ fn note_members(cells: &mut Vec<Option<Place>>, unit: u32, names: &[u64]) -> Res
 /// A cell for each of n names, without a place.
 fn empty_cells(alloc: Global, n: usize) -> Result<Vec<Option<Place>>, NoMemory>
     ensures one_each { IfOk result (λ cells. length cells.items ≡ n) }
-    ensures empty { IfOk result (λ cells. (k : ℕ) → k < n → place_at cells.items k ≡ None) }
+    ensures empty { IfOk result (λ cells. (k : ℕ) → k < n → cell_at cells.items k ≡ None) }
 {
     let mut cells = Vec::new(alloc);
     cells.resize(n, None)?;

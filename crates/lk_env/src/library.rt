@@ -10,6 +10,7 @@ use crate::unit::Unit;
 use lk_rows::memory::NoMemory;
 use lk_store::base_store::BaseStore;
 use lk_store::node::NameNode;
+use lk_store::terms::Terms;
 use std::alloc::Global;
 use std::marker::Model;
 
@@ -103,11 +104,11 @@ fn parameters_of(units: &[Unit], entry: Entry) -> &[u64]
 }
 
 impl Library {
-    ghost use Rattle.std.specs.Prelude.{[], take};
-    ghost use Rattle.lk_rulebook.specs.Units.{place_of as rule_book_place};
+    ghost use Rattle.std.specs.Prelude.{take};
     ghost use Rattle.lk_store.specs.Store.{contents_of};
     ghost use Rattle.lk_env.specs.Units.{library_of};
-    ghost use Rattle.lk_env.specs.Places.{place_in};
+    ghost use Rattle.lk_env.specs.Places.{place_in, place_at};
+    ghost use Rattle.lk_store.specs.Contents.{Extends};
 
     /// Makes the index. Units are fewer than 2^32; more are want of memory.
     pub fn new(alloc: Global, base: BaseStore, units: Vec<Unit>) -> Result<Library, NoMemory>
@@ -124,6 +125,7 @@ impl Library {
         })
     }
 
+    /// The units, in their order.
     pub fn units(&self) -> &[Unit]
         ensures value { result.now ≡ self.now.1 }
         ensures known { AreUnitsIn (contents_of self.now.0) result.now }
@@ -131,6 +133,7 @@ impl Library {
         self.units.as_slice()
     }
 
+    /// The store that has the units' names and trees.
     pub fn base(&self) -> &BaseStore
         ensures { result.now ≡ self.now.0 }
     {
@@ -160,12 +163,29 @@ impl Library {
         requires { name < length (contents_of self.now.0).names }
         ensures known { IfOk result (IsEntryIn (contents_of self.now.0)) }
         ensures answer { IsAnswer (contents_of self.now.0) self.now.1
-            (rule_book_place (library_of self.now) site.now.unit []) (name_at (contents_of self.now.0) name) result }
+            (place_at self.now site.now.unit) (name_at (contents_of self.now.0) name) result }
     {
         match self.place_before(site.unit, name) {
             Some(place) => entry_in(&self.units, &self.flaws, place),
             None => Err(Refused::UnknownConstant),
         }
+    }
+
+    /// What the name means at the site, where the number is one of a store that has what the library has, under the same
+    /// numbers: an overlay over the library's store is such a store. Names that the library does not have mean nothing.
+    pub fn means<T: Terms>(&self, site: &Site, terms: &T, name: u64) -> Result<Entry, Refused>
+        requires over { Extends (contents_of self.now.0) (T.contents terms.now) }
+        requires name_in { name < length (T.contents terms.now).names }
+        ensures known { IfOk result (IsEntryIn (contents_of self.now.0)) }
+        ensures answer { IsAnswer (contents_of self.now.0) self.now.1
+            (place_at self.now site.now.unit) (name_at (T.contents terms.now) name) result }
+    {
+        if name < self.base.count_names() {
+            return self.at(site, name);
+        }
+        // The names of the store are apart, so that a number beyond the library's is a name that the library does not have.
+        let _names = terms.count_names();
+        Err(Refused::UnknownConstant)
     }
 
     /// The level parameters of an entry, by the numbers of their names. It takes no memory.

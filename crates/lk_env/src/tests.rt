@@ -1,7 +1,7 @@
 //! A library of three theorems with one tree, the last two of one name.
 
 ghost use Rattle.std.specs.Prelude.{◌<◌, length, IfOk, OnOk};
-ghost use Rattle.lk_store.specs.Contents.{IsIn};
+ghost use Rattle.lk_store.specs.Contents.{Extends, IsIn};
 ghost use Rattle.lk_store.specs.Store.{contents_of, no_tables};
 ghost use Rattle.lk_env.specs.Units.{AreUnitsIn};
 
@@ -12,6 +12,7 @@ use crate::unit::{Body, Declaration, Unit};
 use lk_rows::memory::NoMemory;
 use lk_store::base_store::BaseStore;
 use lk_store::node::{NameNode, Node};
+use lk_store::overlay::Overlay;
 use lk_store::terms::Terms;
 use std::alloc::Global;
 use std::test::Fail;
@@ -115,6 +116,23 @@ fn answer(
     Ok(look_up(&library, number, unit))
 }
 
+// The name that is this number, in a store.
+fn make_number<T: Terms>(terms: &mut T, number: u64) -> Result<u64, NoMemory>
+    ensures keeps { OnOk result (Extends (T.contents terms.old) (T.contents terms.new)) }
+    ensures known { IfOk result (λ n. n < length (T.contents terms.new).names) }
+{
+    let nothing = terms.make_name(NameNode::Anonymous)?;
+    terms.make_name(NameNode::Number(nothing, number))
+}
+
+// What a name means that is made in an overlay, where the first so many units are seen.
+fn meant(alloc: Global, number: u64, unit: u32) -> Result<Result<Entry, Refused>, NoMemory> {
+    let library = library(alloc, Node::Lit(0))?;
+    let mut terms = Overlay::new(alloc, library.base());
+    let name = make_number(&mut terms, number)?;
+    Ok(library.means(&Site { unit }, &terms, name))
+}
+
 fn is_theorem(answer: Result<Entry, Refused>, unit: u32) -> bool {
     answer
         == Ok(Entry {
@@ -165,5 +183,19 @@ fn an_absent_name_is_not_found(rt: HostRuntime) -> Result<(), Fail> {
 fn a_library_has_its_units(rt: HostRuntime) -> Result<(), Fail> {
     let library = library(rt.alloc(), Node::Lit(0))?;
     assert_eq!(rt; library.units().len(), 3);
+    Ok(())
+}
+
+#[test]
+fn an_overlay_has_the_names_of_its_library(rt: HostRuntime) -> Result<(), Fail> {
+    let alloc = rt.alloc();
+    assert!(rt; is_theorem(meant(alloc, 2, 3)?, 1));
+    assert!(rt; meant(alloc, 2, 1)? == Err(Refused::UnknownConstant));
+    Ok(())
+}
+
+#[test]
+fn a_name_of_the_overlay_alone_means_nothing(rt: HostRuntime) -> Result<(), Fail> {
+    assert!(rt; meant(rt.alloc(), 3, 3)? == Err(Refused::UnknownConstant));
     Ok(())
 }

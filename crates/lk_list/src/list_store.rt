@@ -172,6 +172,10 @@ impl<T: Terms + Drop> Terms for ListStore<T> {
         self.store.levels_have_params(ls)
     }
 
+    fn count_names(&self) -> u64 {
+        self.store.count_names()
+    }
+
     fn name(&self, n: u64) -> NameNode {
         self.store.name(n)
     }

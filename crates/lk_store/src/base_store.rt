@@ -5,13 +5,12 @@ use crate::making::{
 };
 use crate::node::{LevelNode, ListNode, NameNode, Node};
 use crate::reading::{
-    len_in, level_in, level_params_in, list_in, list_params_in, local_in, loose_in, name_in,
-    narrow_in, params_in, same_in, same_name_in, text_in, view_in,
+    count_names_in, len_in, level_in, level_params_in, list_in, list_params_in, local_in, loose_in,
+    name_in, narrow_in, params_in, same_in, same_name_in, text_in, view_in,
 };
 use crate::tables::Tables;
 use crate::terms::Terms;
 use crate::text::Text;
-use lk_rows::layers::count;
 use lk_rows::memory::NoMemory;
 use std::alloc::Global;
 use std::marker::Model;
@@ -38,8 +37,7 @@ impl Model for BaseStore {
 }
 
 impl BaseStore {
-    ghost use Rattle.std.specs.Prelude.{◌≡◌, ◌≢◌, ◌<◌, ℕ, [], length, IfNone, IfSome};
-    ghost use Rattle.lk_store.specs.Values.{AreApart};
+    ghost use Rattle.std.specs.Prelude.{◌≡◌, ◌≢◌, ◌<◌, ℕ, length, IfNone, IfSome};
     ghost use Rattle.lk_store.specs.Contents.{name_at, name_of, IsNameIn, IsName};
     ghost use Rattle.lk_store.specs.Store.{no_tables, contents_of};
 
@@ -53,20 +51,12 @@ impl BaseStore {
         }
     }
 
-    /// Gives back the room that nothing takes. From here on the store is lent to overlays: while one of them lives,
-    /// nothing can be added to it.
+    /// Gives back the memory that is set aside for more and not used; the store has what it had, and can still be added
+    /// to. It is for the end of the reading, before overlays borrow the store: while one of them lives, nothing is added.
     pub fn freeze(&mut self)
         ensures { self.new ≡ self.old }
     {
         self.tables.shrink();
-    }
-
-    /// How many names there are. No two of them are equal.
-    pub fn count_names(&self) -> u64
-        ensures count { result ≡ length (contents_of self.now).names }
-        ensures apart { AreApart [] (contents_of self.now).names }
-    {
-        count(&self.nothing.names, &self.tables.names)
     }
 
     /// The number of the name that a node makes of its parts, where the store has it. It takes no memory.
@@ -142,6 +132,10 @@ impl Terms for BaseStore {
 
     fn levels_have_params(&self, ls: u64) -> bool {
         list_params_in(&self.nothing, &self.tables, ls)
+    }
+
+    fn count_names(&self) -> u64 {
+        count_names_in(&self.nothing, &self.tables)
     }
 
     fn name(&self, n: u64) -> NameNode {

@@ -6,8 +6,8 @@ use crate::base_store::BaseStore;
 use crate::making::{make_in, make_level_in, make_list_in, make_name_in, make_text_in};
 use crate::node::{LevelNode, ListNode, NameNode, Node};
 use crate::reading::{
-    len_in, level_in, level_params_in, list_in, list_params_in, local_in, loose_in, name_in,
-    narrow_in, params_in, same_in, same_name_in, text_in, view_in,
+    count_names_in, len_in, level_in, level_params_in, list_in, list_params_in, local_in, loose_in,
+    name_in, narrow_in, params_in, same_in, same_name_in, text_in, view_in,
 };
 use crate::tables::Tables;
 use crate::terms::Terms;
@@ -50,7 +50,8 @@ impl<'a> Overlay<'a> {
         }
     }
 
-    /// Leaves what the library has, and keeps the rooms.
+    /// Forgets all that was made here: after it the store has what the library has and no more, so that a number that
+    /// was given since `new` or the last `clear` stands for nothing. The memory is kept for what is made next.
     #[tactic(auto, using(crate::proofs::Overlaid::contents_over_nothing))]
     pub fn clear(&mut self)
         ensures value { self.new ≡ (self.old.0, no_tables) }
@@ -124,6 +125,10 @@ impl<'a> Terms for Overlay<'a> {
 
     fn levels_have_params(&self, ls: u64) -> bool {
         list_params_in(self.base, &self.own, ls)
+    }
+
+    fn count_names(&self) -> u64 {
+        count_names_in(self.base, &self.own)
     }
 
     fn name(&self, n: u64) -> NameNode {

@@ -1,6 +1,6 @@
 //! What the tables of a store say of its numbers. The rows of `base` have the first numbers, and `own` goes on after them.
 
-ghost use Rattle.std.specs.Prelude.{◌≡◌, ◌<◌, ◌^◌, ◌↔◌, length, IsTrue};
+ghost use Rattle.std.specs.Prelude.{◌≡◌, ◌<◌, ◌^◌, ◌↔◌, [], length, IsTrue};
 ghost use Rattle.lk_tree.specs.Bind.{bound};
 ghost use Rattle.lk_tree.specs.Loose.{loose};
 ghost use Rattle.lk_tree.specs.Scan.{is_narrow};
@@ -9,6 +9,7 @@ ghost use Rattle.lk_store.specs.Contents.{name_at, text_at, level_at, list_at, t
 ghost use Rattle.lk_store.specs.Keys.{decoded, IsCode, IsMarkedTree};
 ghost use Rattle.lk_store.specs.Nodes.{name_node, level_node, list_node, node_of, AreCodes};
 ghost use Rattle.lk_store.specs.Store.{over, contents_of, IsStore};
+ghost use Rattle.lk_store.specs.Values.{AreApart};
 
 use crate::key::{LevelKey, LevelRow, ListKey, ListRow, NameKey, TreeKey, TreeRow};
 use crate::marks::Marks;
@@ -111,6 +112,15 @@ pub(crate) fn name_in(base: &Tables, own: &Tables, n: u64) -> NameNode
     ensures name { name_of (contents_of (over base.now own.now)) result ≡ name_at (contents_of (over base.now own.now)) n }
 {
     name_of_key(name_row(base, own, n))
+}
+
+/// How many names there are. No two of them are equal.
+pub(crate) fn count_names_in(base: &Tables, own: &Tables) -> u64
+    requires { IsStore (over base.now own.now) }
+    ensures count { result ≡ length (contents_of (over base.now own.now)).names }
+    ensures apart { AreApart [] (contents_of (over base.now own.now)).names }
+{
+    count(&base.names, &own.names)
 }
 
 /// Whether two numbers have one name.

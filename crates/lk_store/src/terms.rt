@@ -1,10 +1,11 @@
 //! What a store of names, levels and trees promises.
 
-ghost use Rattle.std.specs.Prelude.{◌≡◌, ◌<◌, ◌↔◌, length, IfOk, OnErr, IsTrue};
+ghost use Rattle.std.specs.Prelude.{◌≡◌, ◌<◌, ◌↔◌, [], length, IfOk, OnErr, IsTrue};
 ghost use Rattle.lk_tree.specs.Bind.{bound};
 ghost use Rattle.lk_tree.specs.Loose.{loose};
 ghost use Rattle.lk_tree.specs.Scan.{is_narrow};
 ghost use Rattle.lk_store.specs.Measures.{level_has_params, list_has_params, has_params};
+ghost use Rattle.lk_store.specs.Values.{AreApart};
 ghost use Rattle.lk_store.specs.Contents.{Contents, name_at, text_at, level_at, list_at, tree_at, name_of, level_of, list_of, tree_of, IsNameIn, IsLevelIn, IsListIn, IsIn, Extends, IsName, IsText, IsLevel, IsList, IsTree};
 
 use crate::node::{LevelNode, ListNode, NameNode, Node};
@@ -49,7 +50,7 @@ pub trait Terms {
         requires b_in { b < length (contents self.now).trees }
         ensures { IsTrue result ↔ (tree_at (contents self.now) a ≡ tree_at (contents self.now) b) };
 
-    /// The least number above every loose variable of a tree.
+    /// The least number above every loose variable of a tree. The type that a Local carries is not entered.
     fn loose_bound(&self, e: u64) -> u128
         requires { e < length (contents self.now).trees }
         ensures { result ≡ loose (tree_at (contents self.now) e) };
@@ -106,6 +107,11 @@ pub trait Terms {
     fn levels_have_params(&self, ls: u64) -> bool
         requires { ls < length (contents self.now).lists }
         ensures { result ≡ list_has_params (list_at (contents self.now) ls) };
+
+    /// How many names there are. No two of them are equal.
+    fn count_names(&self) -> u64
+        ensures count { result ≡ length (contents self.now).names }
+        ensures apart { AreApart [] (contents self.now).names };
 
     /// The node of a name.
     fn name(&self, n: u64) -> NameNode

@@ -21,18 +21,21 @@ impl Model for Text {
 }
 
 impl Text {
+    /// The text of these bytes. It takes them as they are, and asks for no memory.
     pub fn new(bytes: Vec<u8>) -> Text
         ensures { result ≡ bytes.items }
     {
         Text { bytes }
     }
 
+    /// The bytes of the text.
     pub fn as_bytes(&self) -> &[u8]
         ensures { result.now ≡ self.now }
     {
         self.bytes.as_slice()
     }
 
+    /// Whether two texts are equal, byte for byte.
     pub fn is(&self, other: &Text) -> bool
         ensures { IsTrue result ↔ (self.now ≡ other.now) }
     {
