@@ -44,9 +44,12 @@ is_built (Entry entry.NameText) = true
 is_built (Entry entry.NameNumber) = true
 is_built (Entry entry.Successor) = true
 is_built (Entry entry.Sort) = true
+is_built (Entry entry.Constant) = true
+is_built (Entry entry.Apply) = true
 is_built (Entry entry.Variable) = true
 is_built (Entry entry.Lambda) = true
 is_built (Entry entry.Pi) = true
+is_built (Declaration declaration.Axiom) = true
 is_built (Declaration declaration.Theorem) = true
 is_built t = false
 

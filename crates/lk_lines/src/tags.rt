@@ -62,8 +62,8 @@ fn entry_is_built(tag: EntryTag) -> bool
         EntryTag::Parameter => false,
         EntryTag::Variable => true,
         EntryTag::Sort => true,
-        EntryTag::Constant => false,
-        EntryTag::Apply => false,
+        EntryTag::Constant => true,
+        EntryTag::Apply => true,
         EntryTag::Lambda => true,
         EntryTag::Pi => true,
         EntryTag::Let => false,
@@ -78,7 +78,7 @@ fn declaration_is_built(tag: DeclarationTag) -> bool
     ensures { result ≡ is_built (Tag.Declaration tag) }
 {
     match tag {
-        DeclarationTag::Axiom => false,
+        DeclarationTag::Axiom => true,
         DeclarationTag::Definition => false,
         DeclarationTag::Theorem => true,
         DeclarationTag::Opaque => false,

@@ -1,8 +1,9 @@
--- What plain items make: names whose texts hold no line feed, trees of variables, sorts, lambdas and Pis.
+-- What plain items make: names whose texts hold no line feed, and what a file may state today.
 use Rattle.std.proofs.Common.{◌≡◌, ℕ, ◌<◌, ◌+◌, ◌==◌, Bool, true, false, List, [], ◌∷◌, ◌++◌, Some, None, nat_lt}
 use Rattle.std.specs.Prelude.{IfSome, IfOk, is_some, if◌then◌else◌, ◌^◌, ◌-◌, Result, Ok, Err}
 use Rattle.std.specs.declared.option.Option.{Option}
-use Rattle.lk_tree.specs.Tree.{Name, text, number, Level, zero_level, succ_level, Tree, var, sort, lam, pi}
+use Rattle.lk_tree.specs.Tree.{Name, text, number, Level, zero_level, succ_level, Tree, var, sort, const, app, lam, pi}
+use Rattle.lk_rulebook.specs.Units.{Body, as_axiom, as_thm, LibraryUnit, of_decl, Library}
 use Rattle.lk_lines.specs.declared.words.Word.{Word}
 use Rattle.lk_lines.specs.declared.words.Word.TheVariants.{IndexTaken, TooManyItems}
 use Rattle.lk_lines.specs.declared.tags.EntryTag.{EntryTag}
@@ -15,17 +16,16 @@ use Rattle.lk_lines.specs.Reading.{◌>>=◌}
 use Rattle.lk_lines.specs.Items.{Item}
 use Rattle.lk_lines.specs.Values.{Value}
 use Rattle.lk_lines.specs.Values as value
-use Rattle.lk_units.specs.Theorems.{Theorem, IsBuiltLevel, IsBuilt, AllBuilt}
-use Rattle.lk_units.specs.Names.{is_plain, IsPlainName}
-use Rattle.lk_units.specs.State.{State, begin, known, known_of, all_known, fresh, put, with_name, with_level, with_tree, with_theorem, longer_name, successor_level, sort_tree, binder_tree, theorem_of, entry_added, declaration_added, added, counted, take_item, ArePlain, AllPlain}
+use Rattle.lk_units.specs.Built.{IsBuiltLevel, AreBuiltLevels, IsBuilt, IsBuiltBody, IsBuiltUnit, AllBuilt}
+use Rattle.lk_units.specs.Names.{is_plain, IsPlainName, Each, ArePlain}
+use Rattle.lk_units.specs.State.{State, begin, known, known_of, all_known, fresh, put, with_name, with_level, with_tree, with_unit, longer_name, successor_level, sort_tree, constant_tree, application_tree, binder_tree, declaration_of, proof_of, theorem_of, axiom_of, entry_added, declaration_added, added, counted, take_item}
 use Rattle.lk_units.specs.Plain.{ArePlainValues, IsPlainItem}
 
 pub record Kept (s : State) : Type 0 where
   pub names : (n : ℕ) → IfSome (s.names n) IsPlainName
   pub levels : (n : ℕ) → IfSome (s.levels n) IsBuiltLevel
   pub trees : (n : ℕ) → IfSome (s.trees n) IsBuilt
-  pub built : AllBuilt s.theorems
-  pub plain : AllPlain s.theorems
+  pub built : AllBuilt s.units
 
 put_if : {X : Type 0} (P : X → Type 0) (b : Bool) (x : X) (o : Option X) → P x → IfSome o P → IfSome (if b then Some x else o) P
 put_if P true x o p h = p
@@ -48,21 +48,17 @@ if_fresh P true r h = tt
 if_fresh P false r h = h
 
 kept_name : (s : State) (own : ℕ) (said : Result Name Word) → Kept s → IfOk said IsPlainName → IfOk (with_name s own said) Kept
-kept_name s own said k h = if_then IsPlainName Kept (fresh s.names own said) (λ x. Ok (record s { names = put s.names own x })) (if_fresh IsPlainName (is_some (s.names own)) said h) (λ x p. record { names = λ q. put_if IsPlainName (q == own) x (s.names q) p (k.names q); levels = k.levels; trees = k.trees; built = k.built; plain = k.plain })
+kept_name s own said k h = if_then IsPlainName Kept (fresh s.names own said) (λ x. Ok (record s { names = put s.names own x })) (if_fresh IsPlainName (is_some (s.names own)) said h) (λ x p. record { names = λ q. put_if IsPlainName (q == own) x (s.names q) p (k.names q); levels = k.levels; trees = k.trees; built = k.built })
 
 kept_level : (s : State) (own : ℕ) (said : Result Level Word) → Kept s → IfOk said IsBuiltLevel → IfOk (with_level s own said) Kept
-kept_level s own said k h = if_then IsBuiltLevel Kept (fresh s.levels own said) (λ x. Ok (record s { levels = put s.levels own x })) (if_fresh IsBuiltLevel (is_some (s.levels own)) said h) (λ x p. record { names = k.names; levels = λ q. put_if IsBuiltLevel (q == own) x (s.levels q) p (k.levels q); trees = k.trees; built = k.built; plain = k.plain })
+kept_level s own said k h = if_then IsBuiltLevel Kept (fresh s.levels own said) (λ x. Ok (record s { levels = put s.levels own x })) (if_fresh IsBuiltLevel (is_some (s.levels own)) said h) (λ x p. record { names = k.names; levels = λ q. put_if IsBuiltLevel (q == own) x (s.levels q) p (k.levels q); trees = k.trees; built = k.built })
 
 kept_tree : (s : State) (own : ℕ) (said : Result Tree Word) → Kept s → IfOk said IsBuilt → IfOk (with_tree s own said) Kept
-kept_tree s own said k h = if_then IsBuilt Kept (fresh s.trees own said) (λ x. Ok (record s { trees = put s.trees own x })) (if_fresh IsBuilt (is_some (s.trees own)) said h) (λ x p. record { names = k.names; levels = k.levels; trees = λ q. put_if IsBuilt (q == own) x (s.trees q) p (k.trees q); built = k.built; plain = k.plain })
+kept_tree s own said k h = if_then IsBuilt Kept (fresh s.trees own said) (λ x. Ok (record s { trees = put s.trees own x })) (if_fresh IsBuilt (is_some (s.trees own)) said h) (λ x p. record { names = k.names; levels = k.levels; trees = λ q. put_if IsBuilt (q == own) x (s.trees q) p (k.trees q); built = k.built })
 
-built_push : (ts : List Theorem) (t : Theorem) → AllBuilt ts → IsBuilt t.type × IsBuilt t.proof → AllBuilt (ts ++ t ∷ [])
-built_push [] t h b = (b, tt)
-built_push (u ∷ ts) t h b = (h.0, built_push ts t h.1 b)
-
-plain_push : (ts : List Theorem) (t : Theorem) → AllPlain ts → IsPlainName t.name × ArePlain t.levels → AllPlain (ts ++ t ∷ [])
-plain_push [] t h b = (b, tt)
-plain_push (u ∷ ts) t h b = (h.0, plain_push ts t h.1 b)
+built_push : (us : Library) (u : LibraryUnit) → AllBuilt us → IsBuiltUnit u → AllBuilt (us ++ u ∷ [])
+built_push [] u h b = (b, tt)
+built_push (v ∷ us) u h b = (h.0, built_push us u h.1 b)
 
 text_push : (n : Name) (bytes : List ℕ) → is_plain bytes ≡ true → IsPlainName n → IsPlainName (n ++ text bytes ∷ [])
 text_push [] bytes p h = (p, tt)
@@ -74,9 +70,21 @@ number_push [] i p h = (p, tt)
 number_push (text b ∷ parts) i p h = (h.0, number_push parts i p h.1)
 number_push (number n ∷ parts) i p h = (h.0, number_push parts i p h.1)
 
-plain_levels : (s : State) (ps : List ℕ) → Kept s → IfOk (all_known s.names ps) ArePlain
-plain_levels s [] k = tt
-plain_levels s (p ∷ ps) k = if_then IsPlainName ArePlain (known s.names p) (λ x. (all_known s.names ps >>= λ xs. Ok (x ∷ xs))) (if_known IsPlainName s.names p (k.names p)) (λ x px. if_then ArePlain ArePlain (all_known s.names ps) (λ xs. Ok (x ∷ xs)) (plain_levels s ps k) (λ xs pxs. (px, pxs)))
+-- what several numbers stand for
+if_all_known : {X : Type 0} (P : X → Type 0) (mean : ℕ → Option X) (ns : List ℕ) → ((n : ℕ) → IfSome (mean n) P) → IfOk (all_known mean ns) (Each P)
+if_all_known P mean [] h = tt
+if_all_known P mean (n ∷ ns) h = if_then P (Each P) (known mean n) (λ x. (all_known mean ns >>= λ xs. Ok (x ∷ xs))) (if_known P mean n (h n))
+    (λ x px. if_then (Each P) (Each P) (all_known mean ns) (λ xs. Ok (x ∷ xs)) (if_all_known P mean ns h) (λ xs pxs. (px, pxs)))
+
+kept_constant : (s : State) (n : ℕ) (ls : List ℕ) → Kept s → IfOk (constant_tree s n ls) IsBuilt
+kept_constant s n ls k =
+    if_then IsPlainName IsBuilt (known s.names n) (λ name. (all_known s.levels ls >>= λ levels. Ok (const name levels))) (if_known IsPlainName s.names n (k.names n))
+    (λ name p. if_then AreBuiltLevels IsBuilt (all_known s.levels ls) (λ levels. Ok (const name levels)) (if_all_known IsBuiltLevel s.levels ls k.levels) (λ levels q. (p, q)))
+
+kept_application : (s : State) (f a : ℕ) → Kept s → IfOk (application_tree s f a) IsBuilt
+kept_application s f a k =
+    if_then IsBuilt IsBuilt (known s.trees f) (λ x. (known s.trees a >>= λ y. Ok (app x y))) (if_known IsBuilt s.trees f (k.trees f))
+    (λ x px. if_then IsBuilt IsBuilt (known s.trees a) (λ y. Ok (app x y)) (if_known IsBuilt s.trees a (k.trees a)) (λ y py. (px, py)))
 
 kept_binder : (f : Tree → Tree → Tree) → ((a b : Tree) → IsBuilt a → IsBuilt b → IsBuilt (f a b)) → (s : State) (n a b : ℕ) → Kept s → IfOk (binder_tree s f n a b) IsBuilt
 kept_binder f g s n a b k =
@@ -84,22 +92,21 @@ kept_binder f g s n a b k =
     (λ name p. if_then IsBuilt IsBuilt (known s.trees a) (λ x. (known s.trees b >>= λ y. Ok (f x y))) (if_known IsBuilt s.trees a (k.trees a))
     (λ x px. if_then IsBuilt IsBuilt (known s.trees b) (λ y. Ok (f x y)) (if_known IsBuilt s.trees b (k.trees b)) (λ y py. g x y px py)))
 
-abbrev IsKept : Theorem → Type 0
-IsKept t = (IsBuilt t.type × IsBuilt t.proof) × IsPlainName t.name × ArePlain t.levels
+abbrev stated : Name → Tree → Body → List Name → LibraryUnit
+stated n a b ps = of_decl (record { name = n; levels = ps; type = a; body = b })
 
-abbrev stated : Name → Tree → Tree → List Name → Theorem
-stated n a v ps = record { name = n; levels = ps; type = a; proof = v }
+kept_stated : (s : State) (n a : ℕ) (said : Result Body Word) (ps : List ℕ) → Kept s → IfOk said IsBuiltBody → IfOk (declaration_of s n a said ps) IsBuiltUnit
+kept_stated s n a said ps k h =
+    if_then IsPlainName IsBuiltUnit (known s.names n) (λ name. (known s.trees a >>= λ type. (said >>= λ body. (all_known s.names ps >>= λ levels. Ok (stated name type body levels))))) (if_known IsPlainName s.names n (k.names n))
+    (λ name pn. if_then IsBuilt IsBuiltUnit (known s.trees a) (λ type. (said >>= λ body. (all_known s.names ps >>= λ levels. Ok (stated name type body levels)))) (if_known IsBuilt s.trees a (k.trees a))
+    (λ type pt. if_then IsBuiltBody IsBuiltUnit said (λ body. (all_known s.names ps >>= λ levels. Ok (stated name type body levels))) h
+    (λ body pb. if_then ArePlain IsBuiltUnit (all_known s.names ps) (λ levels. Ok (stated name type body levels)) (if_all_known IsPlainName s.names ps k.names) (λ levels pl. ((pn, pl), (pt, pb))))))
 
-made_theorem : (s : State) (n a v : ℕ) (ps : List ℕ) → Kept s → IfOk (theorem_of s n a v ps) IsKept
-made_theorem s n a v ps k =
-    if_then IsPlainName IsKept (known s.names n) (λ name. (known s.trees a >>= λ type. (known s.trees v >>= λ proof. (all_known s.names ps >>= λ levels. Ok (stated name type proof levels))))) (if_known IsPlainName s.names n (k.names n))
-    (λ name pn. if_then IsBuilt IsKept (known s.trees a) (λ type. (known s.trees v >>= λ proof. (all_known s.names ps >>= λ levels. Ok (stated name type proof levels)))) (if_known IsBuilt s.trees a (k.trees a))
-    (λ type pt. if_then IsBuilt IsKept (known s.trees v) (λ proof. (all_known s.names ps >>= λ levels. Ok (stated name type proof levels))) (if_known IsBuilt s.trees v (k.trees v))
-    (λ proof pp. if_then ArePlain IsKept (all_known s.names ps) (λ levels. Ok (stated name type proof levels)) (plain_levels s ps k) (λ levels pl. ((pt, pp), pn, pl)))))
+kept_proof : (s : State) (v : ℕ) → Kept s → IfOk (proof_of s v) IsBuiltBody
+kept_proof s v k = if_then IsBuilt IsBuiltBody (known s.trees v) (λ proof. Ok (as_thm proof)) (if_known IsBuilt s.trees v (k.trees v)) (λ proof p. p)
 
-kept_theorem : (s : State) (n a v : ℕ) (ps : List ℕ) → Kept s → IfOk (with_theorem s (theorem_of s n a v ps)) Kept
-kept_theorem s n a v ps k = if_then IsKept Kept (theorem_of s n a v ps) (λ x. Ok (record s { theorems = s.theorems ++ x ∷ [] })) (made_theorem s n a v ps k)
-    (λ t h. record { names = k.names; levels = k.levels; trees = k.trees; built = built_push s.theorems t k.built h.0; plain = plain_push s.theorems t k.plain (h.1, h.2) })
+kept_unit : (s : State) (said : Result LibraryUnit Word) → Kept s → IfOk said IsBuiltUnit → IfOk (with_unit s said) Kept
+kept_unit s said k h = if_then IsBuiltUnit Kept said (λ x. Ok (record s { units = s.units ++ x ∷ [] })) h (λ u p. record { names = k.names; levels = k.levels; trees = k.trees; built = built_push s.units u k.built p })
 
 kept_entry : (s : State) (own : ℕ) (t : EntryTag) (values : List Value) → ArePlainValues (Entry t) values → Kept s → IfOk (entry_added s own t values) Kept
 unfolding entry_added
@@ -108,13 +115,16 @@ kept_entry s own entry.NameNumber (value.Number p ∷ value.Number n ∷ []) i k
 kept_entry s own entry.Successor (value.Number l ∷ []) i k = kept_level s own (successor_level s l) k (if_then IsBuiltLevel IsBuiltLevel (known s.levels l) (λ x. Ok (succ_level x)) (if_known IsBuiltLevel s.levels l (k.levels l)) (λ x px. px))
 kept_entry s own entry.Variable (value.Number x ∷ []) i k = kept_tree s own (Ok (var x)) k tt
 kept_entry s own entry.Sort (value.Number u ∷ []) i k = kept_tree s own (sort_tree s u) k (if_then IsBuiltLevel IsBuilt (known s.levels u) (λ x. Ok (sort x)) (if_known IsBuiltLevel s.levels u (k.levels u)) (λ x px. px))
+kept_entry s own entry.Constant (value.Number n ∷ value.Numbers ls ∷ []) i k = kept_tree s own (constant_tree s n ls) k (kept_constant s n ls k)
+kept_entry s own entry.Apply (value.Number f ∷ value.Number a ∷ []) i k = kept_tree s own (application_tree s f a) k (kept_application s f a k)
 kept_entry s own entry.Lambda (value.OfInfo o ∷ value.Number n ∷ value.Number a ∷ value.Number b ∷ []) i k = kept_tree s own (binder_tree s (λ A e. lam A e) n a b) k (kept_binder (λ A e. lam A e) (λ a b h j. (h, j)) s n a b k)
 kept_entry s own entry.Pi (value.OfInfo o ∷ value.Number n ∷ value.Number a ∷ value.Number b ∷ []) i k = kept_tree s own (binder_tree s (λ A e. pi A e) n a b) k (kept_binder (λ A e. pi A e) (λ a b h j. (h, j)) s n a b k)
 kept_entry s own t values i k = tt
 
 kept_declaration : (s : State) (t : DeclarationTag) (values : List Value) → Kept s → IfOk (declaration_added s t values) Kept
 unfolding declaration_added
-kept_declaration s decl.Theorem (value.Number n ∷ value.Number a ∷ value.Number v ∷ value.Numbers ps ∷ []) k = kept_theorem s n a v ps k
+kept_declaration s decl.Theorem (value.Number n ∷ value.Number a ∷ value.Number v ∷ value.Numbers ps ∷ []) k = kept_unit s (theorem_of s n a v ps) k (kept_stated s n a (proof_of s v) ps k (kept_proof s v k))
+kept_declaration s decl.Axiom (value.Number n ∷ value.Number a ∷ value.Numbers ps ∷ []) k = kept_unit s (axiom_of s n a ps) k (kept_stated s n a (Ok as_axiom) ps k tt)
 kept_declaration s t values k = tt
 
 kept_added : (s : State) (own : Option ℕ) (t : Tag) (values : List Value) → ArePlainValues t values → Kept s → IfOk (added s own t values) Kept
@@ -127,7 +137,7 @@ kept_counted : (s : State) → Kept s → IfOk (counted s) Kept
 kept_counted s k = go (nat_lt s.count (2 ^ 32 - 1))
   where
     go : (b : Bool) → IfOk (if b then Ok (record s { count = s.count + 1 }) else Err TooManyItems) Kept
-    go true = record { names = k.names; levels = k.levels; trees = k.trees; built = k.built; plain = k.plain }
+    go true = record { names = k.names; levels = k.levels; trees = k.trees; built = k.built }
     go false = tt
 
 pub kept_item : (s : State) (item : Item) → IsPlainItem item → Kept s → IfOk (take_item s item) Kept
@@ -135,4 +145,4 @@ unfolding take_item
 kept_item s item i k = if_then Kept Kept (added s item.own item.tag item.values) (λ t. counted t) (kept_added s item.own item.tag item.values i k) (λ t kt. kept_counted t kt)
 
 pub kept_begin : Kept begin
-kept_begin = record { names = λ q. put_if IsPlainName (q == 0) [] None tt tt; levels = λ q. put_if IsBuiltLevel (q == 0) zero_level None tt tt; trees = λ q. tt; built = tt; plain = tt }
+kept_begin = record { names = λ q. put_if IsPlainName (q == 0) [] None tt tt; levels = λ q. put_if IsBuiltLevel (q == 0) zero_level None tt tt; trees = λ q. tt; built = tt }

@@ -4,5 +4,6 @@ pub mod Putting
 pub mod Counting
 pub mod Lines
 pub mod Several
+pub mod Listing
 pub mod Kept
 pub mod Items

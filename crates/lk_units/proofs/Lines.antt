@@ -1,55 +1,55 @@
 -- What whole lines add.
-use Rattle.std.proofs.Common.{◌≡◌, ℕ, List, [], ◌∷◌, ◌++◌, map, refl, sym, ◌∙◌, ap, Ok, Err, Vec}
-use Rattle.std.specs.Prelude.{Result, OnOk}
+use Rattle.std.proofs.Common.{◌≡◌, ℕ, List, [], ◌∷◌, ◌++◌, refl, ◌∙◌, ap, Ok, Err, Vec}
+use Rattle.std.specs.Prelude.{Result, IfOk, OnOk}
 use Rattle.std.specs.declared.alloc.Global.{Global}
 use Rattle.std.proofs.lemmas.List.{map-append}
-use Rattle.lk_tree.specs.Tree.{Name, Tree}
-use Rattle.lk_store.specs.Contents.{Contents, name_at, tree_at}
+use Rattle.lk_tree.specs.Tree.{Name, Level, Tree, const}
+use Rattle.lk_rulebook.specs.Units.{Body, LibraryUnit, of_decl}
+use Rattle.lk_store.specs.Contents.{Contents}
 use Rattle.lk_env.specs.Units.{unit_at, library_at, IsUnitIn}
-use Rattle.lk_env.specs.declared.unit.Body.TheVariants as body
 use Rattle.lk_env.specs.declared.unit.Unit.{Unit as StoredUnit}
-use Rattle.lk_env.specs.declared.unit.Unit.TheVariants as unit
 use Rattle.lk_lines.specs.declared.words.Word.{Word}
 use Rattle.lk_lines.specs.Reading.{◌>>=◌}
 use Rattle.lk_units.specs.declared.assembler.Assembler.{Assembler}
 use Rattle.lk_units.specs.declared.assembler.TakeError.{TakeError}
 use Rattle.lk_units.specs.declared.assembler.TakeError.TheVariants as errors
-use Rattle.lk_units.specs.Theorems.{Theorem, unit_of, units_of}
-use Rattle.lk_units.specs.State.{State, known, all_known, theorem_of, with_theorem, counted}
-use Rattle.lk_units.specs.Held.{IsKnown, Holds, Fails, Follows}
+use Rattle.lk_units.specs.State.{State, known, all_known, constant_tree, declaration_of, with_unit, counted}
+use Rattle.lk_units.specs.Held.{IsKnown, Holds, Fails, Makes, Follows}
 
 -- what follows a fault is that fault
 pub fails_then : {X Y : Type 0} (e : TakeError) (said : Result X Word) (next : X → Result Y Word) → Fails e said → Fails e (said >>= next)
 fails_then errors.NoMemory said next h = tt
 fails_then (errors.Fault w) said next h = rw h refl
 
-pub theorem_fails : (e : TakeError) (s : State) (n a v : ℕ) (ps : List ℕ) (name : Name) (type proof : Tree) → known s.names n ≡ Ok name → known s.trees a ≡ Ok type → known s.trees v ≡ Ok proof
-    → Fails e (all_known s.names ps) → Fails e (theorem_of s n a v ps)
-theorem_fails errors.NoMemory s n a v ps name type proof e f g h = tt
-theorem_fails (errors.Fault w) s n a v ps name type proof e f g h = rw (e, f, g, h) refl
+-- a constant, of which the name and the levels stand for something
+pub constant_made : (s : State) (n : ℕ) (ls : List ℕ) (name : Name) (levels : List Level) → known s.names n ≡ Ok name → all_known s.levels ls ≡ Ok levels → constant_tree s n ls ≡ Ok (const name levels)
+constant_made s n ls name levels e f = rw (e, f) refl
 
-abbrev theorem_unit : ℕ → Vec ℕ Global → ℕ → ℕ → StoredUnit
-theorem_unit name levels kind proof = unit.Declaration (record { name = name; levels = levels; kind = kind; body = body.Theorem proof })
+pub constant_fails : (e : TakeError) (s : State) (n : ℕ) (ls : List ℕ) (name : Name) → known s.names n ≡ Ok name → Fails e (all_known s.levels ls) → Fails e (constant_tree s n ls)
+constant_fails errors.NoMemory s n ls name f h = tt
+constant_fails (errors.Fault w) s n ls name f h = rw (f, h) refl
 
-pub theorem_made : (s : State) (c : Contents) (n a v : ℕ) (ps : List ℕ) (name : ℕ) (levels : Vec ℕ Global) (kind proof : ℕ) → known s.names n ≡ Ok (name_at c name) → known s.trees a ≡ Ok (tree_at c kind) → known s.trees v ≡ Ok (tree_at c proof)
-    → all_known s.names ps ≡ Ok (map (name_at c) levels.items) → (t : Theorem) × (theorem_of s n a v ps ≡ Ok t) × (unit_at c (theorem_unit name levels kind proof) ≡ unit_of t)
-theorem_made s c n a v ps name levels kind proof e f g h = (
-  record { name = name_at c name; levels = map (name_at c) levels.items; type = tree_at c kind; proof = tree_at c proof },
-  rw (e, f, g, h) refl,
-  refl,
-)
+-- a declaration, of which all parts stand for something
+pub declaration_made : (s : State) (n a : ℕ) (said : Result Body Word) (ps : List ℕ) (name : Name) (type : Tree) (body : Body) (levels : List Name) → known s.names n ≡ Ok name → known s.trees a ≡ Ok type → said ≡ Ok body
+    → all_known s.names ps ≡ Ok levels → declaration_of s n a said ps ≡ Ok (of_decl (record { name = name; levels = levels; type = type; body = body }))
+declaration_made s n a said ps name type body levels e f g h = rw (e, f, g, h) refl
+
+pub declaration_fails : (e : TakeError) (s : State) (n a : ℕ) (said : Result Body Word) (ps : List ℕ) (name : Name) (type : Tree) (body : Body) → known s.names n ≡ Ok name → known s.trees a ≡ Ok type → said ≡ Ok body
+    → Fails e (all_known s.names ps) → Fails e (declaration_of s n a said ps)
+declaration_fails errors.NoMemory s n a said ps name type body f g h i = tt
+declaration_fails (errors.Fault w) s n a said ps name type body f g h i = rw (f, g, h, i) refl
 
 -- one more unit
-pub unit_pushed : (a : Assembler) (units : Vec StoredUnit Global) (c : Contents) (s : State) (t : Theorem) (u : StoredUnit) (said : Result Theorem Word) → Holds a c s → said ≡ Ok t → unit_at c u ≡ unit_of t → units.items ≡ a.units.items ++ u ∷ []
-    → (s' : State) × (with_theorem s said ≡ Ok s') × Holds (record a { units = units }) c s'
-unit_pushed a units c s t u said h made is e = (
-  record s { theorems = s.theorems ++ t ∷ [] },
-  rw made refl,
+pub unit_pushed : (a : Assembler) (units : Vec StoredUnit Global) (c : Contents) (s : State) (u : StoredUnit) (made : Result StoredUnit TakeError) (said : Result LibraryUnit Word) → Holds a c s → Makes (unit_at c) made said → made ≡ Ok u → units.items ≡ a.units.items ++ u ∷ []
+    → (s' : State) × (with_unit s said ≡ Ok s') × Holds (record a { units = units }) c s'
+unit_pushed a units c s u made said h m is e = (
+  record s { units = s.units ++ unit_at c u ∷ [] },
+  let known : said ≡ Ok (unit_at c u) = rw is at m in rw known refl,
   record {
     names = h.names;
     levels = h.levels;
     trees = h.trees;
-    units = ap (library_at c) e ∙ map-append (unit_at c) a.units.items (u ∷ []) ∙ ap (λ us. us ++ unit_at c u ∷ []) h.units ∙ ap (λ x. units_of s.theorems ++ x ∷ []) is ∙ sym (map-append unit_of s.theorems (t ∷ []));
+    units = ap (library_at c) e ∙ map-append (unit_at c) a.units.items (u ∷ []) ∙ ap (λ us. us ++ unit_at c u ∷ []) h.units;
     count = h.count;
   },
 )
@@ -58,7 +58,7 @@ unit_pushed a units c s t u said h made is e = (
 pub counted_follows : (r : Result (Unit {0}) TakeError) (a : Assembler) (c : Contents) (said : Result State Word) (s : State) → said ≡ Ok s → Follows a c r (counted s) → Follows a c r (said >>= λ t. counted t)
 counted_follows r a c said s e h = rw e h
 
-pub unit_known : (r : Result (Unit {0}) TakeError) (a b : Assembler) (u : StoredUnit) → ((c : Contents) → IsKnown a c → IsUnitIn c u) → OnOk r ((c : Contents) → IsKnown a c → IsUnitIn c u → IsKnown b c)
-    → OnOk r ((c : Contents) → IsKnown a c → IsKnown b c)
-unit_known (Ok x) a b u k f = λ c h. f c h (k c h)
-unit_known (Err e) a b u k f = tt
+pub unit_known : (r : Result (Unit {0}) TakeError) (a b : Assembler) (made : Result StoredUnit TakeError) → ((c : Contents) → IsKnown a c → IfOk made (λ u. IsUnitIn c u))
+    → OnOk r ((c : Contents) → IsKnown a c → IfOk made (λ u. IsUnitIn c u) → IsKnown b c) → OnOk r ((c : Contents) → IsKnown a c → IsKnown b c)
+unit_known (Ok x) a b made k f = λ c h. f c h (k c h)
+unit_known (Err e) a b made k f = tt

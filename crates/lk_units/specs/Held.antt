@@ -1,14 +1,11 @@
 -- What an assembler holds, by what its numbers have in a store.
-use Rattle.std.specs.Prelude.{◌≡◌, ◌<◌, ◌==◌, ℕ, List, length, map, IfSome, Result, Ok, Err, Some, option_map, is_some, Vec, if◌then◌else◌}
+use Rattle.std.specs.Prelude.{◌≡◌, ◌<◌, ◌==◌, ℕ, length, IfSome, Result, Ok, Err, Some, option_map, is_some, if◌then◌else◌}
 use Rattle.std.specs.declared.option.Option.{Option}
-use Rattle.std.specs.declared.alloc.Global.{Global}
 use Rattle.lk_tree.specs.Tree.{Tree, lam, pi}
 use Rattle.lk_store.specs.Contents.{Contents, name_at, level_at, tree_at}
-use Rattle.lk_env.specs.Units.{unit_at, library_at, AreUnitsIn}
-use Rattle.lk_env.specs.declared.unit.Unit.{Unit as StoredUnit}
+use Rattle.lk_env.specs.Units.{library_at, AreUnitsIn}
 use Rattle.lk_lines.specs.declared.words.Word.{Word}
 use Rattle.lk_lines.specs.declared.words.Word.TheVariants.{IndexTaken}
-use Rattle.lk_units.specs.Theorems.{Theorem, unit_of, units_of}
 use Rattle.lk_units.specs.Numbering.{entry}
 use Rattle.lk_units.specs.State.{State}
 use Rattle.lk_units.specs.declared.numbering.Numbering.{Numbering}
@@ -38,7 +35,7 @@ pub record Holds (a : Assembler) (c : Contents) (s : State) : Type 0 where
   pub names : Numbered a.by_name (name_at c) s.names
   pub levels : Numbered a.by_level (level_at c) s.levels
   pub trees : Numbered a.by_tree (tree_at c) s.trees
-  pub units : library_at c a.units.items ≡ units_of s.theorems
+  pub units : library_at c a.units.items ≡ s.units
   pub count : a.count ≡ s.count
 
 abbrev pub binder_of : Binder → Tree → Tree → Tree
@@ -49,20 +46,10 @@ abbrev pub Fails : {X : Type 0} → TakeError → Result X Word → Type 0
 Fails errors.NoMemory said = Unit {0}
 Fails (errors.Fault w) said = said ≡ Err w
 
--- the number that was made stands for what the line says
-abbrev pub Makes : {X : Type 0} → (ℕ → X) → Result ℕ TakeError → Result X Word → Type 0
+-- what was made stands for what the line says
+abbrev pub Makes : {A X : Type 0} → (A → X) → Result A TakeError → Result X Word → Type 0
 Makes have (Ok i) said = said ≡ Ok (have i)
 Makes have (Err e) said = Fails e said
-
--- each of the numbers that were found stands for what is said of it
-abbrev pub MakesAll : {X : Type 0} → (ℕ → X) → Result (Vec ℕ Global) TakeError → Result (List X) Word → Type 0
-MakesAll have (Ok v) said = said ≡ Ok (map have v.items)
-MakesAll have (Err e) said = Fails e said
-
--- the unit that was made is the theorem that the line says
-abbrev pub MakesUnit : Contents → Result StoredUnit TakeError → Result Theorem Word → Type 0
-MakesUnit c (Ok u) said = (t : Theorem) × (said ≡ Ok t) × (unit_at c u ≡ unit_of t)
-MakesUnit c (Err e) said = Fails e said
 
 -- what a line made, where its own number has no place yet
 abbrev pub unless_taken : Numbering → ℕ → Result ℕ TakeError → Result ℕ TakeError

@@ -1,6 +1,6 @@
 pub mod Names
 pub mod Numbering
-pub mod Theorems
+pub mod Built
 pub mod State
 pub mod Plain
 pub mod Held

@@ -12,3 +12,11 @@ abbrev pub IsPlainName : Name → Type 0
 IsPlainName [] = Unit {0}
 IsPlainName (text bytes ∷ parts) = (is_plain bytes ≡ true) × IsPlainName parts
 IsPlainName (number n ∷ parts) = (n < 2 ^ 64) × IsPlainName parts
+
+-- each has P
+abbrev pub Each : {X : Type 0} → (X → Type 0) → List X → Type 0
+Each P [] = Unit {0}
+Each P (x ∷ xs) = P x × Each P xs
+
+abbrev pub ArePlain : List Name → Type 0
+ArePlain ns = Each IsPlainName ns

@@ -1,7 +1,8 @@
 -- What the numbers of a file stand for behind its lines so far, and what an item adds, or its fault.
 use Rattle.std.specs.Prelude.{ℕ, ◌==◌, ◌+◌, ◌-◌, ◌^◌, List, [], ◌∷◌, ◌++◌, Result, Ok, Err, Some, None, if◌then◌else◌, is_some, nat_lt}
 use Rattle.std.specs.declared.option.Option.{Option}
-use Rattle.lk_tree.specs.Tree.{Name, Part, text, number, Level, zero_level, succ_level, Tree, var, sort, lam, pi}
+use Rattle.lk_tree.specs.Tree.{Name, Part, text, number, Level, zero_level, succ_level, Tree, var, sort, const, app, lam, pi}
+use Rattle.lk_rulebook.specs.Units.{Body, as_axiom, as_thm, LibraryUnit, of_decl, Library}
 use Rattle.lk_lines.specs.declared.words.Word.{Word}
 use Rattle.lk_lines.specs.declared.words.Word.TheVariants.{UnknownTag, IndexTaken, IndexUnknown, TooManyItems}
 use Rattle.lk_lines.specs.declared.tags.EntryTag.{EntryTag}
@@ -14,19 +15,17 @@ use Rattle.lk_lines.specs.Reading.{◌>>=◌}
 use Rattle.lk_lines.specs.Items.{Item}
 use Rattle.lk_lines.specs.Values.{Value}
 use Rattle.lk_lines.specs.Values as value
-use Rattle.lk_units.specs.Names.{IsPlainName}
-use Rattle.lk_units.specs.Theorems.{Theorem}
 
 pub record State : Type 0 where
   pub names : ℕ → Option Name
   pub levels : ℕ → Option Level
   pub trees : ℕ → Option Tree
-  pub theorems : List Theorem
+  pub units : Library
   pub count : ℕ
 
 -- name 0 is the anonymous name, and level 0 is zero
 abbrev pub begin : State
-begin = record { names = λ n. if n == 0 then Some [] else None; levels = λ n. if n == 0 then Some zero_level else None; trees = λ n. None; theorems = []; count = 0 }
+begin = record { names = λ n. if n == 0 then Some [] else None; levels = λ n. if n == 0 then Some zero_level else None; trees = λ n. None; units = []; count = 0 }
 
 -- what a number that is referred to stands for
 abbrev pub known_of : {X : Type 0} → Option X → Result X Word
@@ -57,8 +56,8 @@ with_level s own said = fresh s.levels own said >>= λ x. Ok (record s { levels 
 abbrev pub with_tree : State → ℕ → Result Tree Word → Result State Word
 with_tree s own said = fresh s.trees own said >>= λ x. Ok (record s { trees = put s.trees own x })
 
-abbrev pub with_theorem : State → Result Theorem Word → Result State Word
-with_theorem s said = said >>= λ x. Ok (record s { theorems = s.theorems ++ x ∷ [] })
+abbrev pub with_unit : State → Result LibraryUnit Word → Result State Word
+with_unit s said = said >>= λ x. Ok (record s { units = s.units ++ x ∷ [] })
 
 -- a name with one more component
 abbrev pub longer_name : State → ℕ → Part → Result Name Word
@@ -74,9 +73,27 @@ sort_tree s u = known s.levels u >>= λ l. Ok (sort l)
 abbrev pub binder_tree : State → (Tree → Tree → Tree) → ℕ → ℕ → ℕ → Result Tree Word
 binder_tree s f n a b = known s.names n >>= λ name. (known s.trees a >>= λ x. (known s.trees b >>= λ y. Ok (f x y)))
 
-abbrev pub theorem_of : State → ℕ → ℕ → ℕ → List ℕ → Result Theorem Word
-theorem_of s n a v ps = known s.names n >>= λ name. (known s.trees a >>= λ type. (known s.trees v >>= λ proof.
-    (all_known s.names ps >>= λ levels. Ok (record { name = name; levels = levels; type = type; proof = proof }))))
+-- a constant at levels, each of which is to stand for something
+abbrev pub constant_tree : State → ℕ → List ℕ → Result Tree Word
+constant_tree s n ls = known s.names n >>= λ name. (all_known s.levels ls >>= λ levels. Ok (const name levels))
+
+abbrev pub application_tree : State → ℕ → ℕ → Result Tree Word
+application_tree s f a = known s.trees f >>= λ x. (known s.trees a >>= λ y. Ok (app x y))
+
+-- a declaration with this body
+abbrev pub declaration_of : State → ℕ → ℕ → Result Body Word → List ℕ → Result LibraryUnit Word
+declaration_of s n a said ps = known s.names n >>= λ name. (known s.trees a >>= λ type. (said >>= λ body.
+    (all_known s.names ps >>= λ levels. Ok (of_decl (record { name = name; levels = levels; type = type; body = body })))))
+
+-- the body of a theorem with this proof
+abbrev pub proof_of : State → ℕ → Result Body Word
+proof_of s v = known s.trees v >>= λ proof. Ok (as_thm proof)
+
+abbrev pub theorem_of : State → ℕ → ℕ → ℕ → List ℕ → Result LibraryUnit Word
+theorem_of s n a v ps = declaration_of s n a (proof_of s v) ps
+
+abbrev pub axiom_of : State → ℕ → ℕ → List ℕ → Result LibraryUnit Word
+axiom_of s n a ps = declaration_of s n a (Ok as_axiom) ps
 
 -- what the values behind each tag add; a line of any other kind is no line yet. A built tag with values of another shape
 -- is given by no line, and the same word stands for it.
@@ -86,12 +103,15 @@ entry_added s own entry.NameNumber (value.Number p ∷ value.Number n ∷ []) = 
 entry_added s own entry.Successor (value.Number l ∷ []) = with_level s own (successor_level s l)
 entry_added s own entry.Variable (value.Number i ∷ []) = with_tree s own (Ok (var i))
 entry_added s own entry.Sort (value.Number u ∷ []) = with_tree s own (sort_tree s u)
+entry_added s own entry.Constant (value.Number n ∷ value.Numbers ls ∷ []) = with_tree s own (constant_tree s n ls)
+entry_added s own entry.Apply (value.Number f ∷ value.Number a ∷ []) = with_tree s own (application_tree s f a)
 entry_added s own entry.Lambda (value.OfInfo i ∷ value.Number n ∷ value.Number a ∷ value.Number b ∷ []) = with_tree s own (binder_tree s (λ A e. lam A e) n a b)
 entry_added s own entry.Pi (value.OfInfo i ∷ value.Number n ∷ value.Number a ∷ value.Number b ∷ []) = with_tree s own (binder_tree s (λ A e. pi A e) n a b)
 entry_added s own t values = Err UnknownTag
 
 unfoldable pub declaration_added : State → DeclarationTag → List Value → Result State Word
-declaration_added s decl.Theorem (value.Number n ∷ value.Number a ∷ value.Number v ∷ value.Numbers ps ∷ []) = with_theorem s (theorem_of s n a v ps)
+declaration_added s decl.Theorem (value.Number n ∷ value.Number a ∷ value.Number v ∷ value.Numbers ps ∷ []) = with_unit s (theorem_of s n a v ps)
+declaration_added s decl.Axiom (value.Number n ∷ value.Number a ∷ value.Numbers ps ∷ []) = with_unit s (axiom_of s n a ps)
 declaration_added s t values = Err UnknownTag
 
 abbrev pub added : State → Option ℕ → Tag → List Value → Result State Word
@@ -105,11 +125,3 @@ counted s = if nat_lt s.count (2 ^ 32 - 1) then Ok (record s { count = s.count +
 
 unfoldable pub take_item : State → Item → Result State Word
 take_item s item = added s item.own item.tag item.values >>= λ t. counted t
-
-abbrev pub ArePlain : List Name → Type 0
-ArePlain [] = Unit {0}
-ArePlain (n ∷ ns) = IsPlainName n × ArePlain ns
-
-abbrev pub AllPlain : List Theorem → Type 0
-AllPlain [] = Unit {0}
-AllPlain (t ∷ ts) = (IsPlainName t.name × ArePlain t.levels) × AllPlain ts

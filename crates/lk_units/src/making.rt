@@ -1,16 +1,18 @@
 //! What each kind of line makes.
-ghost use Rattle.std.specs.Prelude.{◌≡◌, ◌<◌, ◌++◌, ◌∷◌, [], length, All, IfOk, Ok};
-ghost use Rattle.lk_tree.specs.Tree.{text, number, var};
-ghost use Rattle.lk_store.specs.Contents.{Contents, name_at, level_at, tree_at, tree_of, IsIn, IsName, Extends};
-ghost use Rattle.lk_env.specs.Units.{IsUnitIn};
-ghost use Rattle.lk_units.specs.State.{State, all_known, longer_name, successor_level, sort_tree, binder_tree, theorem_of};
-ghost use Rattle.lk_units.specs.Held.{IsKnown, Holds, Makes, MakesAll, MakesUnit, binder_of};
+ghost use Rattle.std.specs.Prelude.{◌≡◌, ◌<◌, ◌++◌, ◌∷◌, [], length, map, All, IfOk, Ok, Result};
+ghost use Rattle.lk_tree.specs.Tree.{Level, text, number, var, const};
+ghost use Rattle.lk_rulebook.specs.Units.{Body as PlainBody};
+ghost use Rattle.lk_store.specs.Contents.{Contents, name_at, level_at, tree_at, tree_of, IsIn, IsName, IsList, Extends};
+ghost use Rattle.lk_env.specs.Units.{body_at, unit_at, IsBodyIn, IsUnitIn};
+ghost use Rattle.lk_lines.specs.declared.words.Word.{Word as LineWord};
+ghost use Rattle.lk_units.specs.State.{State, longer_name, successor_level, sort_tree, constant_tree, application_tree, binder_tree, declaration_of, proof_of, theorem_of, axiom_of};
+ghost use Rattle.lk_units.specs.Held.{IsKnown, Holds, Makes, binder_of};
 
 use crate::{Assembler, Binder, TakeError};
 use lk_env::unit::{Body, Declaration, Unit};
 use lk_lines::Word;
 use lk_rows::memory::NoMemory;
-use lk_store::node::{LevelNode, NameNode, Node};
+use lk_store::node::{LevelNode, ListNode, NameNode, Node};
 use lk_store::terms::Terms;
 use lk_store::text::Text;
 use std::alloc::Global;
@@ -68,6 +70,36 @@ fn with_text<T: Terms>(
     Ok(n)
 }
 
+/// The list of several levels, made from its end.
+fn make_list<T: Terms>(store: &mut T, mut levels: Vec<u64>) -> Result<u64, NoMemory>
+    requires { All (λ l. l < length (T.contents store.old).levels) levels.items }
+    ensures keeps { Extends (T.contents store.old) (T.contents store.new) }
+    ensures rest { T.rest store.new ≡ T.rest store.old }
+    ensures ok { IfOk result (λ ls. IsList (T.contents store.new) ls (map (level_at (T.contents store.old)) levels.items)) }
+{
+    let mut list = store.make_levels(ListNode::Empty)?;
+    'up: while let Some(level) = levels.pop() {
+        list = store.make_levels(ListNode::Cons(level, list))?;
+    }
+    Ok(list)
+}
+
+/// A constant at levels.
+#[tactic(auto, using(crate::proofs::Holding::name_kept))]
+fn make_constant<T: Terms>(store: &mut T, name: u64, levels: Vec<u64>) -> Result<u64, TakeError>
+    requires name_in { name < length (T.contents store.old).names }
+    requires levels_in { All (λ l. l < length (T.contents store.old).levels) levels.items }
+    ensures keeps { Extends (T.contents store.old) (T.contents store.new) }
+    ensures rest { T.rest store.new ≡ T.rest store.old }
+    ensures known { IfOk result (λ e. e < length (T.contents store.new).trees) }
+    ensures made { Makes (tree_at (T.contents store.new)) result (Ok (const (name_at (T.contents store.old) name) (map (level_at (T.contents store.old)) levels.items))) }
+{
+    match make_list(store, levels) {
+        Ok(list) => make(store, Node::Const(name, list)),
+        Err(_) => Err(TakeError::NoMemory),
+    }
+}
+
 impl Assembler {
     /// The sort of a level.
     #[tactic(auto, using(crate::proofs::Holding::found, crate::proofs::Holding::missing, crate::proofs::Holding::is_below, crate::proofs::Holding::unchanged))]
@@ -82,6 +114,53 @@ impl Assembler {
             return Err(TakeError::Fault(Word::IndexUnknown));
         };
         make(store, Node::Sort(level))
+    }
+
+    /// A constant at the levels under several numbers.
+    #[tactic(auto, using(crate::proofs::Holding::found, crate::proofs::Holding::missing, crate::proofs::Holding::is_below, crate::proofs::Holding::unchanged))]
+    pub(crate) fn constant<T: Terms>(
+        &self,
+        alloc: Global,
+        store: &mut T,
+        name: u32,
+        levels: &[u32],
+    ) -> Result<u64, TakeError>
+        requires { IsKnown self.now (T.contents store.old) }
+        ensures keeps { Extends (T.contents store.old) (T.contents store.new) }
+        ensures rest { T.rest store.new ≡ T.rest store.old }
+        ensures known { IfOk result (λ e. e < length (T.contents store.new).trees) }
+        ensures made { (s : State) → Holds self.now (T.contents store.old) s → Makes (tree_at (T.contents store.new)) result (constant_tree s name levels.now) }
+    {
+        let Some(name) = self.by_name.find(name) else {
+            return Err(TakeError::Fault(Word::IndexUnknown));
+        };
+        match self.by_level.find_all(alloc, levels) {
+            Ok(levels) => make_constant(store, name, levels),
+            Err(error) => Err(error),
+        }
+    }
+
+    /// An application.
+    #[tactic(auto, using(crate::proofs::Holding::found, crate::proofs::Holding::missing, crate::proofs::Holding::is_below, crate::proofs::Holding::unchanged))]
+    pub(crate) fn application<T: Terms>(
+        &self,
+        store: &mut T,
+        function: u32,
+        argument: u32,
+    ) -> Result<u64, TakeError>
+        requires { IsKnown self.now (T.contents store.old) }
+        ensures keeps { Extends (T.contents store.old) (T.contents store.new) }
+        ensures rest { T.rest store.new ≡ T.rest store.old }
+        ensures known { IfOk result (λ e. e < length (T.contents store.new).trees) }
+        ensures made { (s : State) → Holds self.now (T.contents store.old) s → Makes (tree_at (T.contents store.new)) result (application_tree s function argument) }
+    {
+        let Some(function) = self.by_tree.find(function) else {
+            return Err(TakeError::Fault(Word::IndexUnknown));
+        };
+        let Some(argument) = self.by_tree.find(argument) else {
+            return Err(TakeError::Fault(Word::IndexUnknown));
+        };
+        make(store, Node::App(function, argument))
     }
 
     /// A lambda or a Pi.
@@ -177,28 +256,54 @@ impl Assembler {
         }
     }
 
-    /// The names under several numbers.
-    fn names(&self, alloc: Global, numbers: &[u32]) -> Result<Vec<u64>, TakeError>
-        ensures known { (c : Contents) → IsKnown self.now c → IfOk result (λ v. All (λ n. n < length c.names) v.items) }
-        ensures made { (c : Contents) (s : State) → Holds self.now c s → MakesAll (name_at c) result (all_known s.names numbers.now) }
+    /// A declaration with this body. A fault of the body comes behind those of its name and type.
+    #[tactic(auto, using(crate::proofs::Holding::found, crate::proofs::Holding::missing, crate::proofs::Holding::is_below))]
+    fn declaration(
+        &self,
+        alloc: Global,
+        name: u32,
+        kind: u32,
+        body: Result<Body, TakeError>,
+        parameters: &[u32],
+    ) -> Result<Unit, TakeError>
+        ensures known { (c : Contents) → IsKnown self.now c → IfOk body (λ b. IsBodyIn c b) → IfOk result (λ unit. IsUnitIn c unit) }
+        ensures made { (c : Contents) (s : State) (said : Result PlainBody LineWord) → Holds self.now c s → Makes (body_at c) body said
+            → Makes (unit_at c) result (declaration_of s name kind said parameters.now) }
     {
-        let mut names = Vec::new(alloc);
-        let mut rest = numbers;
-        while let [number, more @ ..] = rest {
-            let Some(name) = self.by_name.find(*number) else {
-                return Err(TakeError::Fault(Word::IndexUnknown));
-            };
-            match names.push(name) {
-                Ok(()) => {}
-                Err(_) => return Err(TakeError::NoMemory),
-            }
-            rest = more;
+        let Some(name) = self.by_name.find(name) else {
+            return Err(TakeError::Fault(Word::IndexUnknown));
+        };
+        let Some(kind) = self.by_tree.find(kind) else {
+            return Err(TakeError::Fault(Word::IndexUnknown));
+        };
+        let body = match body {
+            Ok(body) => body,
+            Err(error) => return Err(error),
+        };
+        match self.by_name.find_all(alloc, parameters) {
+            Ok(levels) => Ok(Unit::Declaration(Declaration {
+                name,
+                levels,
+                kind,
+                body,
+            })),
+            Err(error) => Err(error),
         }
-        Ok(names)
+    }
+
+    /// The body of a theorem.
+    #[tactic(auto, using(crate::proofs::Holding::found, crate::proofs::Holding::missing, crate::proofs::Holding::is_below))]
+    fn proof(&self, proof: u32) -> Result<Body, TakeError>
+        ensures known { (c : Contents) → IsKnown self.now c → IfOk result (λ b. IsBodyIn c b) }
+        ensures made { (c : Contents) (s : State) → Holds self.now c s → Makes (body_at c) result (proof_of s proof) }
+    {
+        let Some(proof) = self.by_tree.find(proof) else {
+            return Err(TakeError::Fault(Word::IndexUnknown));
+        };
+        Ok(Body::Theorem { proof })
     }
 
     /// A theorem.
-    #[tactic(auto, using(crate::proofs::Holding::found, crate::proofs::Holding::missing, crate::proofs::Holding::is_below))]
     pub(crate) fn theorem(
         &self,
         alloc: Global,
@@ -208,25 +313,23 @@ impl Assembler {
         parameters: &[u32],
     ) -> Result<Unit, TakeError>
         ensures known { (c : Contents) → IsKnown self.now c → IfOk result (λ unit. IsUnitIn c unit) }
-        ensures made { (c : Contents) (s : State) → Holds self.now c s → MakesUnit c result (theorem_of s name kind proof parameters.now) }
+        ensures made { (c : Contents) (s : State) → Holds self.now c s → Makes (unit_at c) result (theorem_of s name kind proof parameters.now) }
     {
-        let Some(name) = self.by_name.find(name) else {
-            return Err(TakeError::Fault(Word::IndexUnknown));
-        };
-        let Some(kind) = self.by_tree.find(kind) else {
-            return Err(TakeError::Fault(Word::IndexUnknown));
-        };
-        let Some(proof) = self.by_tree.find(proof) else {
-            return Err(TakeError::Fault(Word::IndexUnknown));
-        };
-        match self.names(alloc, parameters) {
-            Ok(levels) => Ok(Unit::Declaration(Declaration {
-                name,
-                levels,
-                kind,
-                body: Body::Theorem { proof },
-            })),
-            Err(error) => Err(error),
-        }
+        let body = self.proof(proof);
+        self.declaration(alloc, name, kind, body, parameters)
+    }
+
+    /// An axiom.
+    pub(crate) fn axiom(
+        &self,
+        alloc: Global,
+        name: u32,
+        kind: u32,
+        parameters: &[u32],
+    ) -> Result<Unit, TakeError>
+        ensures known { (c : Contents) → IsKnown self.now c → IfOk result (λ unit. IsUnitIn c unit) }
+        ensures made { (c : Contents) (s : State) → Holds self.now c s → Makes (unit_at c) result (axiom_of s name kind parameters.now) }
+    {
+        self.declaration(alloc, name, kind, Ok(Body::Axiom), parameters)
     }
 }

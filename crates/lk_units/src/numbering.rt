@@ -1,7 +1,8 @@
 //! One of the file's numberings: its numbers, and what each has in a store.
-ghost use Rattle.std.specs.Prelude.{◌≡◌, ◌==◌, ℕ, OnOk, OnErr, Some, None, if◌then◌else◌};
+ghost use Rattle.std.specs.Prelude.{◌≡◌, ◌==◌, ◌<◌, ℕ, All, IfOk, OnOk, OnErr, Some, None, if◌then◌else◌};
 ghost use Rattle.lk_units.specs.Numbering.{entry};
-ghost use Rattle.lk_units.specs.Held.{Puts};
+ghost use Rattle.lk_units.specs.State.{all_known};
+ghost use Rattle.lk_units.specs.Held.{Below, Makes, Puts};
 
 use crate::TakeError;
 use lk_lines::Word;
@@ -33,6 +34,26 @@ impl Numbering {
             Some(place) => Some(u64::from(*place)),
             None => None,
         }
+    }
+
+    /// The places of several numbers.
+    pub(crate) fn find_all(&self, alloc: Global, numbers: &[u32]) -> Result<Vec<u64>, TakeError>
+        ensures known { (len : ℕ) → Below self.now len → IfOk result (λ v. All (λ i. i < len) v.items) }
+        ensures found { Makes (λ v. v.items) result (all_known (entry self.now) numbers.now) }
+    {
+        let mut places = Vec::new(alloc);
+        let mut rest = numbers;
+        while let Some((number, more)) = rest.split_first() {
+            let Some(place) = self.find(*number) else {
+                return Err(TakeError::Fault(Word::IndexUnknown));
+            };
+            match places.push(place) {
+                Ok(()) => {}
+                Err(_) => return Err(TakeError::NoMemory),
+            }
+            rest = more;
+        }
+        Ok(places)
     }
 
     /// Gives a number its place.

@@ -1,14 +1,14 @@
 //! Items taken one after another.
-ghost use Rattle.std.specs.Prelude.{◌≡◌, OnOk, Ok, Some, None, Result};
+ghost use Rattle.std.specs.Prelude.{◌≡◌, IfOk, OnOk, Ok, Some, None, Result};
 ghost use Rattle.lk_tree.specs.Tree.{text, number, var};
+ghost use Rattle.lk_rulebook.specs.Units.{LibraryUnit};
 ghost use Rattle.lk_store.specs.Contents.{Contents, Extends};
 ghost use Rattle.lk_env.specs.Units.{unit_at, IsUnitIn};
 ghost use Rattle.lk_lines.specs.declared.words.Word.{Word as LineWord};
 ghost use Rattle.lk_lines.specs.declared.tags.Tag.TheVariants as tag;
 ghost use Rattle.lk_lines.specs.Views.{entry_tag, entry_values, declaration_tag, declaration_values};
-ghost use Rattle.lk_units.specs.Theorems.{Theorem, unit_of};
-ghost use Rattle.lk_units.specs.State.{State, longer_name, successor_level, sort_tree, binder_tree, with_name, with_level, with_tree, with_theorem, theorem_of, entry_added, declaration_added, take_item};
-ghost use Rattle.lk_units.specs.Held.{IsKnown, Holds, Follows, binder_of};
+ghost use Rattle.lk_units.specs.State.{State, longer_name, successor_level, sort_tree, constant_tree, application_tree, binder_tree, with_name, with_level, with_tree, with_unit, theorem_of, axiom_of, entry_added, declaration_added, take_item};
+ghost use Rattle.lk_units.specs.Held.{IsKnown, Holds, Makes, Follows, binder_of};
 
 use crate::making::variable;
 use crate::{Assembler, Binder, TakeError};
@@ -106,6 +106,45 @@ impl Assembler {
         self.by_tree.put_new(own, made)
     }
 
+    // A line of a constant.
+    #[tactic(auto, using(crate::proofs::Putting::tree_known, crate::proofs::Putting::tree_follows))]
+    fn constant_line<T: Terms>(
+        &mut self,
+        alloc: Global,
+        store: &mut T,
+        own: u32,
+        name: u32,
+        levels: &[u32],
+    ) -> Result<(), TakeError>
+        requires { IsKnown self.old (T.contents store.old) }
+        ensures keeps { Extends (T.contents store.old) (T.contents store.new) }
+        ensures rest { T.rest store.new ≡ T.rest store.old }
+        ensures known { OnOk result (IsKnown self.new (T.contents store.new)) }
+        ensures follows { (s : State) → Holds self.old (T.contents store.old) s → Follows self.new (T.contents store.new) result (with_tree s own (constant_tree s name levels.now)) }
+    {
+        let made = self.constant(alloc, store, name, levels);
+        self.by_tree.put_new(own, made)
+    }
+
+    // A line of an application.
+    #[tactic(auto, using(crate::proofs::Putting::tree_known, crate::proofs::Putting::tree_follows))]
+    fn application_line<T: Terms>(
+        &mut self,
+        store: &mut T,
+        own: u32,
+        function: u32,
+        argument: u32,
+    ) -> Result<(), TakeError>
+        requires { IsKnown self.old (T.contents store.old) }
+        ensures keeps { Extends (T.contents store.old) (T.contents store.new) }
+        ensures rest { T.rest store.new ≡ T.rest store.old }
+        ensures known { OnOk result (IsKnown self.new (T.contents store.new)) }
+        ensures follows { (s : State) → Holds self.old (T.contents store.old) s → Follows self.new (T.contents store.new) result (with_tree s own (application_tree s function argument)) }
+    {
+        let made = self.application(store, function, argument);
+        self.by_tree.put_new(own, made)
+    }
+
     // A line of a lambda or a Pi.
     #[tactic(auto, using(crate::proofs::Putting::tree_known, crate::proofs::Putting::tree_follows))]
     fn binder_line<T: Terms>(
@@ -127,11 +166,16 @@ impl Assembler {
         self.by_tree.put_new(own, made)
     }
 
-    // Adds a unit.
-    fn push_unit(&mut self, unit: Unit) -> Result<(), TakeError>
-        ensures known { OnOk result ((c : Contents) → IsKnown self.old c → IsUnitIn c unit → IsKnown self.new c) }
-        ensures follows { (c : Contents) (s : State) (t : Theorem) (said : Result Theorem LineWord) → Holds self.old c s → said ≡ Ok t → unit_at c unit ≡ unit_of t → Follows self.new c result (with_theorem s said) }
+    // Adds the unit that a line made.
+    #[tactic(auto, using(crate::proofs::Lines::fails_then))]
+    fn push_unit(&mut self, made: Result<Unit, TakeError>) -> Result<(), TakeError>
+        ensures known { OnOk result ((c : Contents) → IsKnown self.old c → IfOk made (λ unit. IsUnitIn c unit) → IsKnown self.new c) }
+        ensures follows { (c : Contents) (s : State) (said : Result LibraryUnit LineWord) → Holds self.old c s → Makes (unit_at c) made said → Follows self.new c result (with_unit s said) }
     {
+        let unit = match made {
+            Ok(unit) => unit,
+            Err(error) => return Err(error),
+        };
         match self.units.push(unit) {
             Ok(_) => {}
             Err(_) => return Err(TakeError::NoMemory),
@@ -140,7 +184,6 @@ impl Assembler {
     }
 
     // A line of a theorem.
-    #[tactic(auto, using(crate::proofs::Lines::fails_then))]
     fn theorem_line(
         &mut self,
         alloc: Global,
@@ -150,12 +193,25 @@ impl Assembler {
         parameters: &[u32],
     ) -> Result<(), TakeError>
         ensures known { OnOk result ((c : Contents) → IsKnown self.old c → IsKnown self.new c) }
-        ensures follows { (c : Contents) (s : State) → Holds self.old c s → Follows self.new c result (with_theorem s (theorem_of s name kind proof parameters.now)) }
+        ensures follows { (c : Contents) (s : State) → Holds self.old c s → Follows self.new c result (with_unit s (theorem_of s name kind proof parameters.now)) }
     {
-        match self.theorem(alloc, name, kind, proof, parameters) {
-            Ok(unit) => self.push_unit(unit),
-            Err(error) => Err(error),
-        }
+        let made = self.theorem(alloc, name, kind, proof, parameters);
+        self.push_unit(made)
+    }
+
+    // A line of an axiom.
+    fn axiom_line(
+        &mut self,
+        alloc: Global,
+        name: u32,
+        kind: u32,
+        parameters: &[u32],
+    ) -> Result<(), TakeError>
+        ensures known { OnOk result ((c : Contents) → IsKnown self.old c → IsKnown self.new c) }
+        ensures follows { (c : Contents) (s : State) → Holds self.old c s → Follows self.new c result (with_unit s (axiom_of s name kind parameters.now)) }
+    {
+        let made = self.axiom(alloc, name, kind, parameters);
+        self.push_unit(made)
     }
 
     // What a line that defines a number adds.
@@ -182,6 +238,12 @@ impl Assembler {
             Entry::Successor { level } => self.successor_line(store, own, level),
             Entry::Variable { index } => self.variable_line(store, own, index),
             Entry::Sort { level } => self.sort_line(store, own, level),
+            Entry::Constant { name, levels } => {
+                self.constant_line(alloc, store, own, name, &levels)
+            }
+            Entry::Apply { function, argument } => {
+                self.application_line(store, own, function, argument)
+            }
             Entry::Lambda {
                 name,
                 binder_type,
@@ -197,8 +259,6 @@ impl Assembler {
             Entry::Max { .. }
             | Entry::Imax { .. }
             | Entry::Parameter { .. }
-            | Entry::Constant { .. }
-            | Entry::Apply { .. }
             | Entry::Let { .. }
             | Entry::Project { .. }
             | Entry::NatLiteral { .. }
@@ -221,8 +281,12 @@ impl Assembler {
                 value,
                 parameters,
             } => self.theorem_line(alloc, name, declared_type, value, &parameters),
-            Declaration::Axiom { .. }
-            | Declaration::Definition { .. }
+            Declaration::Axiom {
+                name,
+                declared_type,
+                parameters,
+            } => self.axiom_line(alloc, name, declared_type, &parameters),
+            Declaration::Definition { .. }
             | Declaration::Opaque { .. }
             | Declaration::Quotient { .. }
             | Declaration::Inductive { .. }

@@ -51,6 +51,13 @@ fn faults_of_lines(rt: HostRuntime) {
         ("2", Word::MissingField),
         ("1 #EP #BD 0 0", Word::MissingField),
         ("#THM 2 4", Word::MissingField),
+        ("0 #EA 0", Word::MissingField),
+        ("0 #EA 0 1 2", Word::ExtraField),
+        ("0 #EC 0 x", Word::BadNumber),
+        ("0 #EC 0 4294967296", Word::NumberTooLarge),
+        ("#AX 0", Word::MissingField),
+        ("#AX 0 0 x", Word::BadNumber),
+        ("#DEF 0 0 0 A", Word::UnknownTag),
         ("0 #ES 0 0", Word::ExtraField),
         ("0 #ES 0 x", Word::ExtraField),
         ("0 #ES 0\r", Word::BadNumber),
@@ -157,14 +164,54 @@ fn contents_of_lines(rt: HostRuntime) {
     }
 }
 
+#[test]
+fn constants_and_axioms(rt: HostRuntime) {
+    match told(&rt, false, b"5 #EC 3 2 1") {
+        Ok(
+            Said::Entry {
+                own,
+                entry: Entry::Constant { name, levels },
+            },
+        ) => {
+            assert_eq!(rt; (own, name), (5, 3));
+            assert_eq!(rt; levels.as_slice(), [2, 1].as_slice());
+        }
+        _ => panic!(rt; "no constant"),
+    }
+    match told(&rt, false, b"5 #EA 3 2") {
+        Ok(
+            Said::Entry {
+                own,
+                entry: Entry::Apply { function, argument },
+            },
+        ) => {
+            assert_eq!(rt; (own, function, argument), (5, 3, 2));
+        }
+        _ => panic!(rt; "no application"),
+    }
+    match told(&rt, false, b"#AX 2 4 8 9") {
+        Ok(
+            Said::Declaration(
+                Declaration::Axiom {
+                    name,
+                    declared_type,
+                    parameters,
+                },
+            ),
+        ) => {
+            assert_eq!(rt; (name, declared_type), (2, 4));
+            assert_eq!(rt; parameters.as_slice(), [8, 9].as_slice());
+        }
+        _ => panic!(rt; "no axiom"),
+    }
+}
+
 // The readers of tags that are not built yet.
 #[test]
 fn rows_of_other_tags(rt: HostRuntime) -> Result<(), Fail> {
     let alloc = rt.alloc();
     for (tag, text, want) in [
-        (EntryTag::Apply, "0", Word::MissingField),
-        (EntryTag::Constant, "0 x", Word::BadNumber),
-        (EntryTag::Constant, "0 4294967296", Word::NumberTooLarge),
+        (EntryTag::Let, "0", Word::MissingField),
         (EntryTag::TextLiteral, "6", Word::BadHex),
         (EntryTag::TextLiteral, "C3", Word::BadUtf8),
         (EntryTag::NatLiteral, "0x1", Word::BadNumber),
