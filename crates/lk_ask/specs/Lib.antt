@@ -1,3 +1,4 @@
+pub mod Constants
 pub mod Nexts
 pub mod Outcomes
 pub mod Questions

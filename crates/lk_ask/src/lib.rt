@@ -3,6 +3,7 @@
 #![tactic(auto)]
 
 pub mod asks;
+pub mod constants;
 pub mod next;
 pub mod query;
 pub mod rule;

@@ -1,2 +1,4 @@
-//! Not written yet.
+//! Whether two terms are the same: what `Same` asks, step by step, as the table says it.
 #![tactic(auto)]
+
+pub mod same;

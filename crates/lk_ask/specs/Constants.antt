@@ -1,0 +1,37 @@
+-- What a constant means at a place, and its trees at levels.
+use Rattle.std.specs.Prelude.{◌≡◌, ◌<◌, ℕ, Bool, true, false, nat_eq, List, length, map, All, Option, Some, None}
+use Rattle.lk_tree.specs.Tree.{Name, Level, Tree}
+use Rattle.lk_tree.specs.Levels.{put_levels}
+use Rattle.lk_tree.specs.RuleNo.{RuleNo, unknown_constant}
+use Rattle.lk_rulebook.specs.Place.{Place, Entry as PlainEntry}
+use Rattle.lk_plain.specs.Answer.{later, refusal}
+use Rattle.lk_store.specs.Contents.{Contents, level_at, IsTree}
+use Rattle.lk_store.specs.Store.{contents_of}
+use Rattle.lk_store.specs.declared.tables.Tables.{Tables}
+use Rattle.lk_env.specs.declared.entry.Entry.{Entry}
+use Rattle.lk_env.specs.declared.unit.Unit.{Unit as StoredUnit}
+use Rattle.lk_env.specs.Entries.{plain_entry}
+use Rattle.lk_ask.specs.declared.rule.Rule.{Rule}
+use Rattle.lk_ask.specs.Questions.{rule_no}
+
+-- the name means this entry, whose unit is looked at
+pub record IsFound (l : Tables × List StoredUnit) (w : Place) (x : Name) (before : Option ℕ) (e : Entry) (last : Option ℕ) : Type 0 where
+  pub entry : PlainEntry
+  pub is : plain_entry (contents_of l.0) l.1 e ≡ Some entry
+  pub means : w.means x ≡ Some entry
+  pub looked : last ≡ later before (Some (w.origin x))
+
+-- the name means nothing at the place, or what gives it has a flaw
+pub record IsRefused (w : Place) (x : Name) (r : Rule) : Type 0 where
+  pub means : w.means x ≡ None
+  pub rule : rule_no r ≡ refusal unknown_constant (w.flaw x)
+
+-- the number stands for the tree at these levels; there is none where the counts differ
+abbrev pub IsAtLevels : Contents → List Name → List Level → Tree → Option ℕ → Type 0
+IsAtLevels c ps ls t (Some r) = (nat_eq (length ls) (length ps) ≡ true) × IsTree c r (put_levels ps ls t)
+IsAtLevels c ps ls t None = nat_eq (length ls) (length ps) ≡ false
+
+-- the numbers of these levels
+pub record IsLevels (c : Contents) (numbers : List ℕ) (ls : List Level) : Type 0 where
+  pub known : All (λ l. l < length c.levels) numbers
+  pub are : map (level_at c) numbers ≡ ls

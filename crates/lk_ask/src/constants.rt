@@ -1,0 +1,103 @@
+//! What the constants of a term mean in a library.
+
+ghost use Rattle.std.specs.Prelude.{◌≡◌, ◌<◌, ℕ, length, map, IfOk, IfErr, Some};
+ghost use Rattle.lk_rulebook.specs.Place.{Entry as PlainEntry};
+ghost use Rattle.lk_plain.specs.Answer.{later};
+ghost use Rattle.lk_plain.specs.Parts.{is_built_kind};
+ghost use Rattle.lk_store.specs.Contents.{Contents, name_at, list_at, tree_at, Extends};
+ghost use Rattle.lk_store.specs.Store.{contents_of};
+ghost use Rattle.lk_env.specs.Entries.{plain_entry, IsEntryIn};
+ghost use Rattle.lk_env.specs.Places.{place_at};
+ghost use Rattle.lk_env.specs.declared.unit.Unit.{Unit as StoredUnit};
+ghost use Rattle.lk_ask.specs.Constants.{IsFound, IsRefused, IsAtLevels, IsLevels};
+
+use crate::rule::Rule;
+use lk_env::entry::{Entry, Kind, Refused, Site};
+use lk_env::library::Library;
+use lk_env::unit::Body;
+use lk_meter::meter::Meter;
+use lk_rows::memory::NoMemory;
+use lk_store::node::ListNode;
+use lk_store::terms::Terms;
+use lk_subst::levels::put_levels_in;
+use std::alloc::Global;
+
+/// Looks a constant up: what its name means at the site. That its unit was looked at is noted.
+pub fn look_up<T: Terms>(
+    library: &Library,
+    site: &Site,
+    terms: &T,
+    name: u64,
+    meter: &mut Meter,
+) -> Result<Entry, Rule>
+    requires over { Extends (contents_of library.now.0) (T.contents terms.now) }
+    requires name_in { name < length (T.contents terms.now).names }
+    ensures known { IfOk result (IsEntryIn (contents_of library.now.0)) }
+    ensures left { meter.new.left ≡ meter.old.left }
+    ensures found { IfOk result (λ e. IsFound library.now (place_at library.now site.now.unit) (name_at (T.contents terms.now) name) meter.old.last e meter.new.last) }
+    ensures refused { IfErr result (IsRefused (place_at library.now site.now.unit) (name_at (T.contents terms.now) name)) }
+{
+    match library.means(site, terms, name) {
+        Ok(entry) => {
+            meter.note(entry.unit);
+            Ok(entry)
+        }
+        Err(Refused::UnknownConstant) => Err(Rule::UnknownConstant),
+        Err(Refused::LooseVariable) => Err(Rule::LooseVariable),
+        Err(Refused::WideLiteral) => Err(Rule::WideLiteral),
+    }
+}
+
+/// Whether constants of this kind are built.
+pub fn is_built(kind: Kind) -> bool
+    ensures { (c : Contents) (us : List StoredUnit) (e : Entry) (g : PlainEntry) → e.kind ≡ kind → plain_entry c us e ≡ Some g → result ≡ is_built_kind g.kind }
+{
+    match kind {
+        Kind::Declared(body) => match body {
+            Body::Axiom | Body::Theorem { .. } => true,
+            Body::Definition { .. } | Body::Opaque { .. } | Body::Quotient => false,
+        },
+        Kind::Type(_) | Kind::Constructor { .. } | Kind::Recursor(_) => false,
+    }
+}
+
+/// The levels of a list, in order.
+fn levels_of<T: Terms>(alloc: Global, terms: &T, levels: u64) -> Result<Vec<u64>, NoMemory>
+    requires { levels < length (T.contents terms.now).lists }
+    ensures { IfOk result (λ found. IsLevels (T.contents terms.now) found.items (list_at (T.contents terms.now) levels)) }
+{
+    let mut found = Vec::new(alloc);
+    let mut rest = levels;
+    'list: while let ListNode::Cons(first, others) = terms.levels(rest) {
+        found.push(first)?;
+        rest = others;
+    }
+    Ok(found)
+}
+
+/// A tree of a constant's unit at the levels that the constant has. There is none where they are not as many as the
+/// unit has level parameters.
+pub fn at_levels<T: Terms>(
+    alloc: Global,
+    library: &Library,
+    terms: &mut T,
+    entry: Entry,
+    levels: u64,
+    e: u64,
+) -> Result<Option<u64>, NoMemory>
+    requires over { Extends (contents_of library.now.0) (T.contents terms.old) }
+    requires levels_in { levels < length (T.contents terms.old).lists }
+    requires e_in { e < length (T.contents terms.old).trees }
+    ensures keeps { Extends (T.contents terms.old) (T.contents terms.new) }
+    ensures rest { T.rest terms.new ≡ T.rest terms.old }
+    ensures ok { IfOk result (λ r. (g : PlainEntry) → plain_entry (contents_of library.now.0) library.now.1 entry ≡ Some g
+        → IsAtLevels (T.contents terms.new) g.levels (list_at (T.contents terms.old) levels) (tree_at (T.contents terms.old) e) r) }
+{
+    let params = library.levels(entry);
+    let values = levels_of(alloc, terms, levels)?;
+    if values.len() != params.len() {
+        return Ok(None);
+    }
+    let r = put_levels_in(alloc, terms, params, &values, e)?;
+    Ok(Some(r))
+}
