@@ -1,8 +1,7 @@
 //! What the constants of a term mean in a library.
 
-ghost use Rattle.std.specs.Prelude.{◌≡◌, ◌<◌, ℕ, length, map, IfOk, IfErr, Some};
+ghost use Rattle.std.specs.Prelude.{◌≡◌, ◌<◌, List, length, IfOk, IfErr, Some};
 ghost use Rattle.lk_rulebook.specs.Place.{Entry as PlainEntry};
-ghost use Rattle.lk_plain.specs.Answer.{later};
 ghost use Rattle.lk_plain.specs.Parts.{is_built_kind};
 ghost use Rattle.lk_store.specs.Contents.{Contents, name_at, list_at, tree_at, Extends};
 ghost use Rattle.lk_store.specs.Store.{contents_of};
