@@ -1,6 +1,5 @@
 //! The weak head forms of terms: what `Core` and `Whnf` ask, step by step, as the table says it.
 #![tactic(auto)]
 
-pub mod beta;
-pub mod core;
+pub mod core_form;
 pub mod whnf;

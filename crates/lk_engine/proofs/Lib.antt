@@ -1,4 +1,3 @@
-pub mod Asking
-pub mod Rows
+pub mod Frames
 pub mod Stacks
 pub mod ZeroWalks

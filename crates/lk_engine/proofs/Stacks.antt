@@ -1,145 +1,128 @@
 -- Facts on the stack of the loop.
-use Rattle.std.proofs.Common.{◌≡◌, ℕ, ◌-◌, ◌<◌, List, [], ◌∷◌, ◌++◌, map, length, refl, ap, sym, ◌∙◌, arith}
-use Rattle.std.specs.Prelude.{All, Some}
+use Rattle.std.proofs.Common.{◌≡◌, ℕ, ◌-◌, ◌<◌, List, [], ◌∷◌, ◌++◌, map, length, Option, Some, None, refl, ap, sym, ◌∙◌, arith}
+use Rattle.std.specs.Prelude.{All}
 use Rattle.std.proofs.lemmas.List.{map-append}
-use Rattle.std.proofs.lemmas.List.Elements.{All-weaker, All-head, All-tail, All-push, All-pop}
+use Rattle.std.proofs.lemmas.List.Elements.{All-push, All-pop}
 use Rattle.lk_tree.specs.Tree.{Tree}
 use Rattle.lk_tree.specs.RuleNo.{RuleNo}
 use Rattle.lk_rulebook.specs.Place.{Place}
-use Rattle.lk_store.specs.Contents.{Contents, tree_at, Extends}
-use Rattle.lk_plain.specs.Erased.{Out, finished, stopped, used_up, go_on, run_steps, out_of}
-use Rattle.lk_plain.proofs.Erasing.{out-zero, out-step}
-use Rattle.lk_engine.specs.declared.question.Query.{Query}
-use Rattle.lk_engine.specs.declared.question.Answer.{Answer}
-use Rattle.lk_engine.specs.declared.question.Sheet.{Sheet}
-use Rattle.lk_engine.specs.declared.question.Sheet.TheVariants.{WhnfCore, LamDomain, LamDomainSort, LamBody, PiDomain, PiDomainSort, PiBody, PiBodySort}
-use Rattle.lk_engine.specs.declared.question.Next.{Next}
-use Rattle.lk_engine.specs.declared.question.Next.TheVariants.{Ask, Done, No}
-use Rattle.lk_engine.specs.declared.question.Rule.{Rule}
-use Rattle.lk_engine.specs.Questions.{query_of, value_at, rule_no, IsKnownAnswer}
-use Rattle.lk_engine.specs.Sheets.{map_sheet, sheet_steps, query_steps, next_steps, IsKnownSheet, IsKnownNext}
-use Rattle.lk_engine.specs.Outcomes.{after_all}
-use Rattle.lk_engine.proofs.Rows.{query_steps_is}
+use Rattle.lk_plain.specs.Answer.{later}
+use Rattle.lk_plain.specs.Erased.{Value, Out, finished, stopped, used_up, seen, go_on, run_steps, out_of, steps_of}
+use Rattle.lk_plain.proofs.Erasing.{out-zero, out-step, seen_seen}
 use Rattle.lk_table.specs.Built.{rows}
+use Rattle.lk_store.specs.Contents.{Contents, tree_at, Extends}
+use Rattle.lk_ask.specs.declared.query.Query.{Query}
+use Rattle.lk_ask.specs.declared.query.Query.TheVariants.{Core, Whnf, Infer, Same}
+use Rattle.lk_ask.specs.declared.query.Answer.{Answer}
+use Rattle.lk_ask.specs.declared.rule.Rule.{Rule}
+use Rattle.lk_ask.specs.declared.next.Next.{Next}
+use Rattle.lk_ask.specs.declared.next.Next.TheVariants.{Ask, Done, No}
+use Rattle.lk_ask.specs.declared.sheet.Sheet.{Sheet}
+use Rattle.lk_ask.specs.Questions.{query_of, value_at, rule_no, IsKnownAnswer}
+use Rattle.lk_ask.specs.Nexts.{IsKnownNext}
+use Rattle.lk_ask.specs.Sheets.{map_sheet, IsKnownSheet}
+use Rattle.lk_engine.specs.declared.answering.Frame.{Frame}
+use Rattle.lk_engine.specs.Rests.{sheet_rest, next_of, query_steps, map_frame, IsKnownFrame, after_all}
+use Rattle.lk_engine.proofs.Frames.{sheet_from, stack_known, stack_steady}
 
-module _ {c d : Contents} (x : Extends c d) where
-  sheet-steady : (s : Sheet ℕ) → IsKnownSheet (length c.trees) s → map_sheet (tree_at d) s ≡ map_sheet (tree_at c) s
-  sheet-steady WhnfCore h = refl
-  sheet-steady (LamDomain a b) h = let p = x.trees.same a h.0 in let q = x.trees.same b h.1 in cc
-  sheet-steady (LamDomainSort a b) h = let p = x.trees.same a h.0 in let q = x.trees.same b h.1 in cc
-  sheet-steady (LamBody a k) h = ap (λ t. LamBody t k) (x.trees.same a h)
-  sheet-steady (PiDomain a b) h = let p = x.trees.same a h.0 in let q = x.trees.same b h.1 in cc
-  sheet-steady (PiDomainSort a b) h = let p = x.trees.same a h.0 in let q = x.trees.same b h.1 in cc
-  sheet-steady (PiBody s) h = ap (λ t. PiBody t) (x.trees.same s h)
-  sheet-steady (PiBodySort s) h = ap (λ t. PiBodySort t) (x.trees.same s h)
+-- a question's row is its row in the table
+query_steps_is : (w : Place) (t : ℕ → Tree) (q : Query ℕ) → query_steps w t None q ≡ steps_of rows w (query_of t q)
+query_steps_is w t (Core e) = refl
+query_steps_is w t (Whnf e) = refl
+query_steps_is w t (Infer e) = refl
+query_steps_is w t (Same a b) = refl
 
-  sheet-known : (s : Sheet ℕ) → IsKnownSheet (length c.trees) s → IsKnownSheet (length d.trees) s
-  sheet-known WhnfCore h = tt
-  sheet-known (LamDomain a b) h = let l = x.trees.longer in (omega arith, omega arith)
-  sheet-known (LamDomainSort a b) h = let l = x.trees.longer in (omega arith, omega arith)
-  sheet-known (LamBody a k) h = let l = x.trees.longer in omega arith
-  sheet-known (PiDomain a b) h = let l = x.trees.longer in (omega arith, omega arith)
-  sheet-known (PiDomainSort a b) h = let l = x.trees.longer in (omega arith, omega arith)
-  sheet-known (PiBody s) h = let l = x.trees.longer in omega arith
-  sheet-known (PiBodySort s) h = let l = x.trees.longer in omega arith
+module _ (w : Place) where
+  -- what waits for an answer, with this frame
+  waiting : Frame Tree → Out → Out
+  waiting s o = seen s.last (go_on o (λ v rest. run_steps (out_of rows w) (sheet_rest w None s.sheet v) rest))
 
-  stack-known : (ss : List (Sheet ℕ)) → All (IsKnownSheet (length c.trees)) ss → All (IsKnownSheet (length d.trees)) ss
-  stack-known ss h = All-weaker (IsKnownSheet (length c.trees)) (IsKnownSheet (length d.trees)) sheet-known ss h
+  -- one more frame on top
+  after_all-push : (ss : List (Frame Tree)) (s : Frame Tree) (o : Out) → after_all w (ss ++ s ∷ []) o ≡ after_all w ss (waiting s o)
+  after_all-push [] s o = refl
+  after_all-push (r ∷ ss) s o = ap (waiting r) (after_all-push ss s o)
 
-  stack-steady : (ss : List (Sheet ℕ)) → All (IsKnownSheet (length c.trees)) ss → map (map_sheet (tree_at d)) ss ≡ map (map_sheet (tree_at c)) ss
-  stack-steady [] h = refl
-  stack-steady (s ∷ ss) h =
-      let first = sheet-steady s (All-head (IsKnownSheet (length c.trees)) s ss h) in
-      let others = stack-steady ss (All-tail (IsKnownSheet (length c.trees)) s ss h) in
-      cc
+  after_all-spent : (ss : List (Frame Tree)) → after_all w ss used_up ≡ used_up
+  after_all-spent [] = refl
+  after_all-spent (s ∷ ss) = ap (waiting s) (after_all-spent ss)
 
--- one more sheet on top
-after_all-push : (w : Place) (ss : List (Sheet Tree)) (s : Sheet Tree) (o : Out) → after_all w (ss ++ s ∷ []) o ≡ after_all w ss (go_on o (λ v rest. run_steps (out_of rows w) (sheet_steps w s v) rest))
-after_all-push w [] s o = refl
-after_all-push w (r ∷ ss) s o = ap (λ p. go_on p (λ v rest. run_steps (out_of rows w) (sheet_steps w r v) rest)) (after_all-push w ss s o)
+  after_all-refused : (ss : List (Frame Tree)) (r : RuleNo) → after_all w ss (stopped r) ≡ stopped r
+  after_all-refused [] r = refl
+  after_all-refused (s ∷ ss) r = ap (waiting s) (after_all-refused ss r)
 
-after_all-spent : (w : Place) (ss : List (Sheet Tree)) → after_all w ss used_up ≡ used_up
-after_all-spent w [] = refl
-after_all-spent w (s ∷ ss) = ap (λ p. go_on p (λ v rest. run_steps (out_of rows w) (sheet_steps w s v) rest)) (after_all-spent w ss)
+  -- an answer goes to the frame on top
+  waiting_goes : (s : Frame Tree) (v : Value) (left : ℕ) (last last2 : Option ℕ) → last2 ≡ later s.last last → waiting s (finished v left last) ≡ run_steps (out_of rows w) (sheet_rest w last2 s.sheet v) left
+  waiting_goes s v left last last2 e =
+      seen_seen s.last last (run_steps (out_of rows w) (sheet_rest w None s.sheet v) left)
+      ∙ ap (λ t. seen t (run_steps (out_of rows w) (sheet_rest w None s.sheet v) left)) (sym e)
+      ∙ sym (sheet_from w last2 left s.sheet v)
 
-after_all-refused : (w : Place) (ss : List (Sheet Tree)) (r : RuleNo) → after_all w ss (stopped r) ≡ stopped r
-after_all-refused w [] r = refl
-after_all-refused w (s ∷ ss) r = ap (λ p. go_on p (λ v rest. run_steps (out_of rows w) (sheet_steps w s v) rest)) (after_all-refused w ss r)
+  -- where the work stands
+  pub record IsWork (target : Out) (c : Contents) (stack : List (Frame ℕ)) (next : Next ℕ (Sheet ℕ)) (left : ℕ) (last : Option ℕ) : Type 0 where
+    pub stacked : All (IsKnownFrame (length c.trees)) stack
+    pub known : IsKnownNext IsKnownSheet (length c.trees) next
+    pub means : after_all w (map (map_frame (tree_at c)) stack) (run_steps (out_of rows w) (next_of w (tree_at c) last next) left) ≡ target
 
--- where the work stands
-pub record IsWork (target : Place → Out) (c : Contents) (stack : List (Sheet ℕ)) (next : Next ℕ) (left : ℕ) : Type 0 where
-  pub stacked : All (IsKnownSheet (length c.trees)) stack
-  pub known : IsKnownNext (length c.trees) next
-  pub means : (w : Place) → after_all w (map (map_sheet (tree_at c)) stack) (run_steps (out_of rows w) (next_steps w (tree_at c) next) left) ≡ target w
+  -- a question is opened
+  opened : (t u : ℕ → Tree) (q : Query ℕ) (next : Next ℕ (Sheet ℕ)) (left left2 : ℕ) (last : Option ℕ) → 0 < left → left2 ≡ left - 1 → next_of w u last next ≡ query_steps w t None q
+      → run_steps (out_of rows w) (next_of w u last next) left2 ≡ out_of rows w (query_of t q) left
+  opened t u q next left left2 last l e p = ap (run_steps (out_of rows w) (next_of w u last next)) e ∙ ap (λ r. run_steps (out_of rows w) r (left - 1)) (p ∙ query_steps_is w t q) ∙ sym (out-step rows w (query_of t q) left l)
 
--- a question is opened
-opened : (w : Place) (t : ℕ → Tree) (u : ℕ → Tree) (q : Query ℕ) (next : Next ℕ) (left : ℕ) → 0 < left → next_steps w u next ≡ query_steps w t q
-    → run_steps (out_of rows w) (next_steps w u next) (left - 1) ≡ out_of rows w (query_of t q) left
-opened w t u q next left l p = ap (λ r. run_steps (out_of rows w) r (left - 1)) (p ∙ query_steps_is w t q) ∙ sym (out-step rows w (query_of t q) left l)
+  -- the first step
+  pub work_begins : {c d : Contents} {left left2 : ℕ} {last : Option ℕ} {next : Next ℕ (Sheet ℕ)} (q : Query ℕ) → 0 < left → left2 ≡ left - 1
+      → IsKnownNext IsKnownSheet (length d.trees) next → next_of w (tree_at d) last next ≡ query_steps w (tree_at c) None q → IsWork (out_of rows w (query_of (tree_at c) q) left) d [] next left2 last
+  work_begins {c} {d} {left} {left2} {last} {next} q l e k p =
+      record { stacked = λ i d h. absurd (omega arith); known = k; means = opened (tree_at c) (tree_at d) q next left left2 last l e p }
 
--- the first step
-pub work_begins : {c d : Contents} {left : ℕ} {next : Next ℕ} (q : Query ℕ) → Extends c d → 0 < left
-    → IsKnownNext (length d.trees) next → ((w : Place) → next_steps w (tree_at d) next ≡ query_steps w (tree_at c) q) → IsWork (λ w. out_of rows w (query_of (tree_at c) q) left) d [] next (left - 1)
-work_begins {c} {d} {left} {next} q x l k p =
-    record { stacked = λ i d h. absurd (omega arith); known = k; means = λ w. opened w (tree_at c) (tree_at d) q next left l (p w) }
+  -- a question is asked
+  pub work_asks : {target : Out} {c d : Contents} {stack stack' : List (Frame ℕ)} {asked : Query ℕ} {sheet : Sheet ℕ} {left left2 : ℕ} {last last2 : Option ℕ} {next next' : Next ℕ (Sheet ℕ)}
+      → IsWork target c stack next left last → next ≡ Ask asked sheet → stack' ≡ stack ++ record { sheet = sheet; last = last } ∷ [] → 0 < left → left2 ≡ left - 1 → Extends c d
+      → IsKnownNext IsKnownSheet (length d.trees) next' → next_of w (tree_at d) last2 next' ≡ query_steps w (tree_at c) None asked → IsWork target d stack' next' left2 last2
+  work_asks {target} {c} {d} {stack} {stack'} {asked} {sheet} {left} {left2} {last} {last2} {next} {next'} v is pushed l e x k p =
+      let frame : Frame ℕ = record { sheet = sheet; last = last } in
+      let known = rw is at v.known in
+      let all = All-push (IsKnownFrame (length c.trees)) stack frame v.stacked known.1 in
+      let steady = stack_steady x (stack ++ frame ∷ []) all in
+      let means = rw is at v.means in
+      let step = opened (tree_at c) (tree_at d) asked next' left left2 last2 l e p in
+      let up : after_all w (map (map_frame (tree_at c)) (stack ++ frame ∷ [])) (out_of rows w (query_of (tree_at c) asked) left) ≡ target = rw (map-append, after_all-push) means in
+      rw pushed (record { stacked = stack_known x (stack ++ frame ∷ []) all; known = k; means = rw (steady, step) up })
 
--- a question is asked
-pub work_asks : {target : Place → Out} {c d : Contents} {stack stack' : List (Sheet ℕ)} {asked : Query ℕ} {sheet : Sheet ℕ} {left : ℕ} {next next' : Next ℕ}
-    → IsWork target c stack next left → next ≡ Ask asked sheet → stack' ≡ stack ++ sheet ∷ [] → 0 < left → Extends c d
-    → IsKnownNext (length d.trees) next' → ((w : Place) → next_steps w (tree_at d) next' ≡ query_steps w (tree_at c) asked) → IsWork target d stack' next' (left - 1)
-work_asks {target} {c} {d} {stack} {stack'} {asked} {sheet} {left} {next} {next'} v is pushed l x k p =
-    let known = rw is at v.known in
-    let all = All-push (IsKnownSheet (length c.trees)) stack sheet v.stacked known.1 in
-    let steady = stack-steady x (stack ++ sheet ∷ []) all in
-    rw pushed (record {
-      stacked = stack-known x (stack ++ sheet ∷ []) all;
-      known = k;
-      means = λ w.
-          let means = rw is at (v.means w) in
-          let step = opened w (tree_at c) (tree_at d) asked next' left l (p w) in
-          let up : after_all w (map (map_sheet (tree_at c)) (stack ++ sheet ∷ [])) (out_of rows w (query_of (tree_at c) asked) left) ≡ target w = rw (map-append, after_all-push) means in
-          rw (steady, step) up;
-    })
+  -- an answer goes to the frame on top
+  pub work_resumes : {target : Out} {c d : Contents} {stack : List (Frame ℕ)} {answer : Answer ℕ} {left : ℕ} {last last2 last3 : Option ℕ} {next next' : Next ℕ (Sheet ℕ)} (stack' : List (Frame ℕ)) (frame : Frame ℕ)
+      → IsWork target c stack next left last → next ≡ Done answer → stack ≡ stack' ++ frame ∷ [] → last2 ≡ later frame.last last → Extends c d
+      → IsKnownNext IsKnownSheet (length d.trees) next' → next_of w (tree_at d) last3 next' ≡ sheet_rest w last2 (map_sheet (tree_at c) frame.sheet) (value_at (tree_at c) answer) → IsWork target d stack' next' left last3
+  work_resumes {target} {c} {d} {stack} {answer} {left} {last} {last2} {last3} {next} {next'} stack' frame v is popped e x k p =
+      let all = (All-pop (IsKnownFrame (length c.trees)) stack stack' (Some frame) popped v.stacked).0 in
+      let steady = stack_steady x stack' all in
+      let means = rw (is, popped, map-append, after_all-push) at v.means in
+      let goes = waiting_goes (map_frame (tree_at c) frame) (value_at (tree_at c) answer) left last last2 e in
+      record { stacked = stack_known x stack' all; known = k; means = rw (steady, p) (ap (after_all w (map (map_frame (tree_at c)) stack')) (sym goes) ∙ means) }
 
--- an answer goes to the top sheet
-pub work_resumes : {target : Place → Out} {c d : Contents} {stack : List (Sheet ℕ)} {answer : Answer ℕ} {left : ℕ} {next next' : Next ℕ} (stack' : List (Sheet ℕ)) (sheet : Sheet ℕ)
-    → IsWork target c stack next left → next ≡ Done answer → stack ≡ stack' ++ sheet ∷ [] → Extends c d
-    → IsKnownNext (length d.trees) next' → ((w : Place) → next_steps w (tree_at d) next' ≡ sheet_steps w (map_sheet (tree_at c) sheet) (value_at (tree_at c) answer)) → IsWork target d stack' next' left
-work_resumes {target} {c} {d} {stack} {answer} {left} {next} {next'} stack' sheet v is popped x k p =
-    let all = (All-pop (IsKnownSheet (length c.trees)) stack stack' (Some sheet) popped v.stacked).0 in
-    let steady = stack-steady x stack' all in
-    record {
-      stacked = stack-known x stack' all;
-      known = k;
-      means = λ w.
-          let means = rw (is, popped, map-append, after_all-push) at (v.means w) in
-          rw (steady, p w) means;
-    }
+  -- the frame on top is known
+  pub top_known : {target : Out} {c : Contents} {stack : List (Frame ℕ)} {left : ℕ} {last : Option ℕ} {next : Next ℕ (Sheet ℕ)} (stack' : List (Frame ℕ)) (frame : Frame ℕ)
+      → IsWork target c stack next left last → stack ≡ stack' ++ frame ∷ [] → IsKnownFrame (length c.trees) frame
+  top_known {target} {c} {stack} {left} {last} {next} stack' frame v popped = (All-pop (IsKnownFrame (length c.trees)) stack stack' (Some frame) popped v.stacked).1
 
--- the top sheet is known
-pub top_known : {target : Place → Out} {c : Contents} {stack : List (Sheet ℕ)} {left : ℕ} {next : Next ℕ} (stack' : List (Sheet ℕ)) (sheet : Sheet ℕ)
-    → IsWork target c stack next left → stack ≡ stack' ++ sheet ∷ [] → IsKnownSheet (length c.trees) sheet
-top_known {target} {c} {stack} {left} {next} stack' sheet v popped = (All-pop (IsKnownSheet (length c.trees)) stack stack' (Some sheet) popped v.stacked).1
+  -- nothing is left for a question
+  pub work_spent : {target : Out} {c : Contents} {stack : List (Frame ℕ)} {asked : Query ℕ} {sheet : Sheet ℕ} {left : ℕ} {last : Option ℕ} {next : Next ℕ (Sheet ℕ)}
+      → IsWork target c stack next left last → next ≡ Ask asked sheet → left ≡ 0 → target ≡ used_up
+  work_spent {target} {c} {stack} {asked} {sheet} {left} {last} {next} v is none =
+      let means = rw (is, none, out-zero) at v.means in
+      sym means ∙ after_all-spent (map (map_frame (tree_at c)) stack)
 
--- nothing is left for a question
-pub work_spent : {target : Place → Out} {c : Contents} {stack : List (Sheet ℕ)} {asked : Query ℕ} {sheet : Sheet ℕ} {left : ℕ} {next : Next ℕ}
-    → IsWork target c stack next left → next ≡ Ask asked sheet → left ≡ 0 → (w : Place) → target w ≡ used_up
-work_spent {target} {c} {stack} {asked} {sheet} {left} {next} v is none w =
-    let means = rw (is, none, out-zero) at (v.means w) in
-    sym means ∙ after_all-spent w (map (map_sheet (tree_at c)) stack)
+  pub work_refused : {target : Out} {c : Contents} {stack : List (Frame ℕ)} {rule : Rule} {left : ℕ} {last : Option ℕ} {next : Next ℕ (Sheet ℕ)}
+      → IsWork target c stack next left last → next ≡ No rule → target ≡ stopped (rule_no rule)
+  work_refused {target} {c} {stack} {rule} {left} {last} {next} v is =
+      let means = rw is at v.means in
+      sym means ∙ after_all-refused (map (map_frame (tree_at c)) stack) (rule_no rule)
 
-pub work_refused : {target : Place → Out} {c : Contents} {stack : List (Sheet ℕ)} {rule : Rule} {left : ℕ} {next : Next ℕ}
-    → IsWork target c stack next left → next ≡ No rule → (w : Place) → target w ≡ stopped (rule_no rule)
-work_refused {target} {c} {stack} {rule} {left} {next} v is w =
-    let means = rw is at (v.means w) in
-    sym means ∙ after_all-refused w (map (map_sheet (tree_at c)) stack) (rule_no rule)
+  pub work_finished : {target : Out} {c : Contents} {stack : List (Frame ℕ)} {answer : Answer ℕ} {left : ℕ} {last : Option ℕ} {next : Next ℕ (Sheet ℕ)}
+      → IsWork target c stack next left last → next ≡ Done answer → stack ≡ [] → target ≡ finished (value_at (tree_at c) answer) left last
+  work_finished {target} {c} {stack} {answer} {left} {last} {next} v is empty =
+      let means = rw (is, empty) at v.means in
+      sym means
 
-pub work_finished : {target : Place → Out} {c : Contents} {stack : List (Sheet ℕ)} {answer : Answer ℕ} {left : ℕ} {next : Next ℕ}
-    → IsWork target c stack next left → next ≡ Done answer → stack ≡ [] → (w : Place) → target w ≡ finished (value_at (tree_at c) answer) left
-work_finished {target} {c} {stack} {answer} {left} {next} v is empty w =
-    let means = rw (is, empty) at (v.means w) in
-    sym means
-
-pub work_known : {target : Place → Out} {c : Contents} {stack : List (Sheet ℕ)} {answer : Answer ℕ} {left : ℕ} {next : Next ℕ}
-    → IsWork target c stack next left → next ≡ Done answer → IsKnownAnswer (length c.trees) answer
-work_known {target} {c} {stack} {answer} {left} {next} v is = rw is at v.known
+  pub work_known : {target : Out} {c : Contents} {stack : List (Frame ℕ)} {answer : Answer ℕ} {left : ℕ} {last : Option ℕ} {next : Next ℕ (Sheet ℕ)}
+      → IsWork target c stack next left last → next ≡ Done answer → IsKnownAnswer (length c.trees) answer
+  work_known {target} {c} {stack} {answer} {left} {last} {next} v is = rw is at v.known

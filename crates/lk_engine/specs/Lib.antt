@@ -1,4 +1,3 @@
 pub mod Outcomes
-pub mod Questions
-pub mod Sheets
+pub mod Rests
 pub mod Zeros

@@ -1,51 +1,73 @@
 //! The loop that answers a question, by a stack of what waits for answers.
 
 ghost use Rattle.std.specs.Prelude.{◌≡◌, length, IfOk};
-ghost use Rattle.lk_rulebook.specs.Place.{Place};
 ghost use Rattle.lk_plain.specs.Erased.{out_of};
-ghost use Rattle.lk_store.specs.Contents.{tree_at, Extends};
-ghost use Rattle.lk_engine.specs.Questions.{query_of, IsKnownQuery, IsKnownAnswer};
-ghost use Rattle.lk_engine.specs.Outcomes.{IsOutcome};
 ghost use Rattle.lk_table.specs.Built.{rows};
+ghost use Rattle.lk_store.specs.Contents.{tree_at, Extends};
+ghost use Rattle.lk_store.specs.Store.{contents_of};
+ghost use Rattle.lk_env.specs.Places.{place_at};
+ghost use Rattle.lk_ask.specs.Questions.{query_of, IsKnownQuery, IsKnownAnswer};
+ghost use Rattle.lk_ask.specs.Outcomes.{IsExactly};
 
-use crate::question::{Answer, Next, Query, Sheet};
 use crate::steps::{begin, resume};
-use crate::stop::Stop;
+use lk_ask::next::Next;
+use lk_ask::query::{Answer, Query};
+use lk_ask::sheet::Sheet;
+use lk_ask::stop::Stop;
+use lk_env::entry::Site;
+use lk_env::library::Library;
+use lk_meter::meter::Meter;
 use lk_store::terms::Terms;
 use std::alloc::Global;
 
-/// The plain answer of a question with what is left of a budget, at whatever place; what is left afterwards is left.
+/// A question that waits: its sheet, and the last unit that was looked at for it so far.
+#[derive(Drop)]
+pub struct Frame<X: Drop> {
+    pub sheet: Sheet<X>,
+    pub last: Option<u32>,
+}
+
+/// The plain answer of a question at a site, with what is left of a budget. What is left afterwards is left, and the meter
+/// has the last unit that was looked at for this question.
 pub fn answer<T: Terms>(
     alloc: Global,
+    library: &Library,
+    site: &Site,
     terms: &mut T,
-    left: &mut u128,
+    meter: &mut Meter,
     query: Query<u64>,
 ) -> Result<Answer<u64>, Stop>
-    requires { IsKnownQuery (length (T.contents terms.old).trees) query }
+    requires over { Extends (contents_of library.now.0) (T.contents terms.old) }
+    requires query_in { IsKnownQuery (length (T.contents terms.old).trees) query }
     ensures keeps { Extends (T.contents terms.old) (T.contents terms.new) }
     ensures rest { T.rest terms.new ≡ T.rest terms.old }
     ensures known { IfOk result (IsKnownAnswer (length (T.contents terms.new).trees)) }
-    ensures outcome { (w : Place) → IsOutcome (T.contents terms.new) (out_of rows w (query_of (tree_at (T.contents terms.old)) query) left.old) left.new result }
+    ensures outcome { IsExactly (T.contents terms.new) (out_of rows (place_at library.now site.now.unit) (query_of (tree_at (T.contents terms.old)) query) meter.old.left) meter.new.left meter.new.last result }
 {
-    let mut stack: Vec<Sheet<u64>> = Vec::new(alloc);
-    if *left == 0 {
+    let mut stack: Vec<Frame<u64>> = Vec::new(alloc);
+    if meter.spend(1).is_err() {
         return Err(Stop::Spent);
     }
-    *left -= 1;
-    let mut next = begin(terms, query)?;
+    let _before = meter.take_last();
+    let mut next = begin(alloc, library, site, terms, meter, query)?;
     'work: loop {
         match next {
             Next::Ask(asked, sheet) => {
-                if *left == 0 {
+                if meter.spend(1).is_err() {
                     return Err(Stop::Spent);
                 }
-                *left -= 1;
-                stack.push(sheet).map_err(|_| Stop::NoMemory)?;
-                next = begin(terms, asked)?;
+                let last = meter.take_last();
+                stack
+                    .push(Frame { sheet, last })
+                    .map_err(|_| Stop::NoMemory)?;
+                next = begin(alloc, library, site, terms, meter, asked)?;
             }
             Next::Done(answer) => match stack.pop() {
                 None => return Ok(answer),
-                Some(sheet) => next = resume(alloc, terms, sheet, answer)?,
+                Some(frame) => {
+                    meter.note_before(frame.last);
+                    next = resume(alloc, library, site, terms, meter, frame.sheet, answer)?;
+                }
             },
             Next::No(rule) => return Err(Stop::Rule(rule)),
         }

@@ -26,7 +26,7 @@ later_none : (t : Option ℕ) → later t None ≡ t
 later_none None = refl
 later_none (Some m) = refl
 
-seen_seen : (s t : Option ℕ) (o : Out) → seen s (seen t o) ≡ seen (later s t) o
+pub seen_seen : (s t : Option ℕ) (o : Out) → seen s (seen t o) ≡ seen (later s t) o
 seen_seen s t (finished v left u) = ap (finished v left) (later_later s t u)
 seen_seen s t (stopped r) = refl
 seen_seen s t used_up = refl

@@ -1,5 +1,5 @@
 -- What Same goes on with, once the answer is there that it waits for.
-use Rattle.std.specs.Prelude.{ℕ, Bool, ◌&&◌, List, map, reverse, Option, None, if◌then◌else◌}
+use Rattle.std.specs.Prelude.{ℕ, Bool, false, ◌&&◌, List, map, reverse, Option, None, if◌then◌else◌}
 use Rattle.lk_tree.specs.Tree.{Tree, local}
 use Rattle.lk_tree.specs.Bind.{opened}
 use Rattle.lk_rulebook.specs.Place.{Place}

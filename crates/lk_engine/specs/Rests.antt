@@ -1,0 +1,46 @@
+-- What any question goes on with, and what stacked questions make of an outcome.
+use Rattle.std.specs.Prelude.{◌≡◌, ℕ, List, [], ◌∷◌, Option, None}
+use Rattle.lk_tree.specs.Tree.{Tree}
+use Rattle.lk_rulebook.specs.Place.{Place}
+use Rattle.lk_plain.specs.Erased.{Value, a_tree, truth, Steps, erased, Out, seen, go_on, run_steps, out_of}
+use Rattle.lk_table.specs.Built.{core_row, whnf_row, infer_row, same_row, rows}
+use Rattle.lk_ask.specs.declared.query.Query.{Query}
+use Rattle.lk_ask.specs.declared.query.Query.TheVariants.{Core, Whnf, Infer, Same}
+use Rattle.lk_ask.specs.declared.next.Next.{Next}
+use Rattle.lk_ask.specs.declared.sheet.Sheet.{Sheet}
+use Rattle.lk_ask.specs.declared.sheet.Sheet.TheVariants as sheet
+use Rattle.lk_ask.specs.Nexts.{next_steps}
+use Rattle.lk_ask.specs.Sheets.{map_sheet, IsKnownSheet}
+use Rattle.lk_core.specs.Forms.{core_rest}
+use Rattle.lk_type.specs.Types.{type_rest}
+use Rattle.lk_same.specs.Sames.{same_rest}
+use Rattle.lk_engine.specs.declared.answering.Frame.{Frame}
+
+-- what a sheet waits for, and goes on with; last is the last unit that was looked at before
+abbrev pub sheet_rest : Place → Option ℕ → Sheet Tree → Value → Steps
+sheet_rest w last (sheet.Core s) = core_rest w last s
+sheet_rest w last (sheet.Type s) = type_rest w last s
+sheet_rest w last (sheet.Same s) = same_rest w last s
+
+-- what a question does next; t is what numbers stand for
+abbrev pub next_of : Place → (ℕ → Tree) → Option ℕ → Next ℕ (Sheet ℕ) → Steps
+next_of w t last next = next_steps (λ s. sheet_rest w None (map_sheet t s)) t last next
+
+-- what a question does, by its row
+abbrev pub query_steps : Place → (ℕ → Tree) → Option ℕ → Query ℕ → Steps
+query_steps w t last (Core e) = erased w a_tree last (core_row (t e))
+query_steps w t last (Whnf e) = erased w a_tree last (whnf_row (t e))
+query_steps w t last (Infer e) = erased w a_tree last (infer_row (t e))
+query_steps w t last (Same a b) = erased w truth last (same_row (t a) (t b))
+
+abbrev pub map_frame : {X Y : Type 0} → (X → Y) → Frame X → Frame Y
+map_frame f s = record { sheet = map_sheet f s.sheet; last = s.last }
+
+-- its numbers are below n
+abbrev pub IsKnownFrame : ℕ → Frame ℕ → Type 0
+IsKnownFrame n s = IsKnownSheet n s.sheet
+
+-- what a stack of waiting questions makes of the outcome of the one that is at work; the first question stands first
+abbrev pub after_all : Place → List (Frame Tree) → Out → Out
+after_all w [] o = o
+after_all w (s ∷ ss) o = seen s.last (go_on (after_all w ss o) (λ v rest. run_steps (out_of rows w) (sheet_rest w None s.sheet v) rest))
