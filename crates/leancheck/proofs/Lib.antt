@@ -1,6 +1,7 @@
 pub mod Scanning
 pub mod Worked
 pub mod Checks
+pub mod Shown
 pub mod Joined
 pub mod Naming
 pub mod Components

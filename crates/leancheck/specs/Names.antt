@@ -2,7 +2,6 @@
 use Rattle.std.specs.Prelude.{ℕ, ◌<◌, length, List, [], ◌∷◌, Some, None}
 use Rattle.std.specs.declared.option.Option.{Option}
 use Rattle.lk_tree.specs.Tree.{Part, text, number}
-use Rattle.lk_rulebook.specs.Units.{members_of}
 use Rattle.lk_store.specs.Contents.{Contents, text_at}
 use Rattle.lk_env.specs.declared.unit.BlockType.{BlockType}
 use Rattle.lk_env.specs.declared.unit.Recursor.{Recursor}
@@ -11,7 +10,7 @@ use Rattle.lk_env.specs.declared.unit.Unit.TheVariants as unit
 use Rattle.lk_env.specs.Units.{unit_at}
 use Rattle.leancheck.specs.declared.names.Component.{Component}
 use Rattle.leancheck.specs.declared.names.Component.TheVariants.{Text, Number}
-use Rattle.leancheck.specs.Text.{name_text, first_name}
+use Rattle.leancheck.specs.Text.{name_word}
 
 abbrev pub part_at : Contents → Component → Part
 part_at c (Text s) = text (text_at c s)
@@ -33,4 +32,4 @@ first_number (unit.Block b) = first_of_block b.types.items b.recursors.items
 
 -- the text of the name that the unit goes by
 abbrev pub unit_text : Contents → StoredUnit → List ℕ
-unit_text c u = name_text (first_name (members_of (unit_at c u)))
+unit_text c u = name_word (unit_at c u)

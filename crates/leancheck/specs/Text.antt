@@ -1,12 +1,12 @@
 -- What is written.
-use Rattle.std.specs.Prelude.{ℕ, ◌+◌, ◌==◌, Bool, true, false, List, [], ◌∷◌, ◌++◌, length, map, decimal, codes, nat_eq, if◌then◌else◌}
+use Rattle.std.specs.Prelude.{ℕ, ◌+◌, ◌==◌, Bool, true, false, List, [], ◌∷◌, ◌++◌, length, decimal, codes, nat_eq, if◌then◌else◌}
 use Rattle.lk_tree.specs.Tree.{Name, Part, text, number}
 use Rattle.lk_lines.specs.declared.line.Fault.{Fault}
 use Rattle.lk_lines.specs.Words.{word_text}
 use Rattle.lk_tree.specs.RuleNo.{RuleNo, unknown_constant, level_count, undeclared_level, duplicate_level, duplicate_name, loose_variable, not_a_sort, not_a_function, argument_type, let_type, value_type, theorem_not_prop, bad_projection, prop_projection, wide_literal, no_builtin, builtin_shape, quot_shape, level_width, block_shape, parameter_differs, constructor_result, not_positive, field_universe, nested_form, recursor_differs}
 use Rattle.leancheck.specs.declared.report.Kind.{Kind}
 use Rattle.leancheck.specs.declared.report.Kind.TheVariants.{Yes, No, Memory}
-use Rattle.lk_rulebook.specs.Units.{Library, Members, members_of}
+use Rattle.lk_rulebook.specs.Units.{Body, as_axiom, as_def, as_thm, as_opaque, as_quot, LibraryUnit, of_decl, of_block, Library, Members, members_of}
 use Rattle.lk_verdict.specs.Told.{Verdict, accepted, rejected, out_of_steps, out_of_memory}
 
 abbrev pub usage_line : List ℕ
@@ -58,25 +58,49 @@ rule_word field_universe = codes "FieldUniverse"
 rule_word nested_form = codes "NestedForm"
 rule_word recursor_differs = codes "RecursorDiffers"
 
--- the line of a theorem, after a word
-abbrev pub head_text : List ℕ → ℕ → List ℕ → List ℕ
-head_text word n name = word ++ (codes " thm " ++ (decimal n ++ (32 ∷ (name ++ 10 ∷ []))))
+abbrev pub body_word : Body → List ℕ
+body_word as_axiom = codes "axiom"
+body_word (as_def h v) = codes "def"
+body_word (as_thm v) = codes "thm"
+body_word (as_opaque v) = codes "opaque"
+body_word as_quot = codes "quot"
+
+-- the word of what a unit is
+abbrev pub kind_word : LibraryUnit → List ℕ
+kind_word (of_decl d) = body_word d.body
+kind_word (of_block b rs) = codes "block"
+
+-- a unit goes by the name of its first member
+abbrev pub first_name : Members → Name
+first_name [] = []
+first_name (m ∷ ms) = m.0
+
+abbrev pub name_word : LibraryUnit → List ℕ
+name_word u = name_text (first_name (members_of u))
+
+-- unit n of this kind and name, to the end of the line
+unfoldable pub title_text : List ℕ → ℕ → List ℕ → List ℕ
+title_text kind n name = kind ++ (32 ∷ (decimal n ++ (32 ∷ (name ++ 10 ∷ []))))
+
+-- the line of a unit, after a word
+abbrev pub head_text : List ℕ → List ℕ → ℕ → List ℕ → List ℕ
+head_text word kind n name = word ++ (32 ∷ title_text kind n name)
 
 abbrev pub why_text : List ℕ → List ℕ
 why_text word = codes "  why " ++ (word ++ 10 ∷ [])
 
--- the lines of theorem n with this name
-abbrev pub verdict_text : ℕ → List ℕ → Verdict → List ℕ
-verdict_text n name accepted = head_text (codes "yes") n name
-verdict_text n name (rejected r) = head_text (codes "no") n name ++ why_text (rule_word r)
-verdict_text n name out_of_steps = head_text (codes "no") n name ++ why_text (codes "steps")
-verdict_text n name out_of_memory = head_text (codes "no") n name ++ why_text (codes "memory")
+-- the lines of unit n of this kind and name
+abbrev pub verdict_text : List ℕ → ℕ → List ℕ → Verdict → List ℕ
+verdict_text kind n name accepted = head_text (codes "yes") kind n name
+verdict_text kind n name (rejected r) = head_text (codes "no") kind n name ++ why_text (rule_word r)
+verdict_text kind n name out_of_steps = head_text (codes "no") kind n name ++ why_text (codes "steps")
+verdict_text kind n name out_of_memory = head_text (codes "no") kind n name ++ why_text (codes "memory")
 
--- the lines of these theorems, of which the first is number n
-abbrev pub lines_text : ℕ → List (List ℕ) → List Verdict → List ℕ
+-- the lines of these units, of which the first is number n
+abbrev pub lines_text : ℕ → Library → List Verdict → List ℕ
 lines_text n [] vs = []
-lines_text n (name ∷ names) [] = []
-lines_text n (name ∷ names) (v ∷ vs) = verdict_text n name v ++ lines_text (n + 1) names vs
+lines_text n (u ∷ us) [] = []
+lines_text n (u ∷ us) (v ∷ vs) = verdict_text (kind_word u) n (name_word u) v ++ lines_text (n + 1) us vs
 
 -- whether a verdict is of this kind
 abbrev pub is_of : Kind → Verdict → Bool
@@ -106,14 +130,6 @@ counted_text word n = word ++ decimal n
 abbrev pub summary_text : List Verdict → List ℕ
 summary_text vs = counted_text (codes "units ") (length vs) ++ (counted_text (codes " yes ") (count Yes vs) ++ (counted_text (codes " no ") (count No vs) ++ (counted_text (codes " memory ") (count Memory vs) ++ 10 ∷ [])))
 
-abbrev pub report_of_names : List (List ℕ) → List Verdict → List ℕ
-report_of_names names vs = lines_text 0 names vs ++ summary_text vs
-
--- a unit goes by the name of its first member
-abbrev pub first_name : Members → Name
-first_name [] = []
-first_name (m ∷ ms) = m.0
-
 -- the whole text for these units and verdicts
 abbrev pub report_text : Library → List Verdict → List ℕ
-report_text us vs = report_of_names (map (λ u. name_text (first_name (members_of u))) us) vs
+report_text us vs = lines_text 0 us vs ++ summary_text vs

@@ -3,11 +3,12 @@
 ghost use Rattle.std.specs.Prelude.{◌≡◌, ◌++◌, ◌∷◌, [], ℕ, List, map, decimal, codes, OnOk, IfOk};
 ghost use Rattle.lk_engine.specs.Questions.{rule_no};
 ghost use Rattle.leancheck.specs.Held.{verdict};
-ghost use Rattle.leancheck.specs.Text.{bad_line, rule_word, head_text, why_text, verdict_text, lines_text, is_of, count, counted_text, summary_text, report_of_names};
+ghost use Rattle.leancheck.specs.Text.{bad_line, rule_word, body_word, kind_word, title_text, head_text, why_text, verdict_text, lines_text, is_of, count, counted_text, summary_text, report_text};
 ghost use Rattle.leancheck.specs.Ends.{IsChecked, status_of};
 ghost use Rattle.leancheck.specs.Names.{first_number, first_of_block, unit_text};
 ghost use Rattle.lk_store.specs.Store.{contents_of};
-ghost use Rattle.lk_env.specs.Units.{IsUnitIn};
+ghost use Rattle.lk_store.specs.Contents.{Contents};
+ghost use Rattle.lk_env.specs.Units.{body_at, unit_at, library_at, IsUnitIn};
 
 use crate::checking::Verdict;
 use crate::names::{add_name, add_number};
@@ -15,7 +16,7 @@ use crate::status::Status;
 use itoa::Buffer;
 use lk_engine::question::Rule;
 use lk_env::library::Library;
-use lk_env::unit::{BlockType, Recursor, Unit};
+use lk_env::unit::{BlockType, Body, Recursor, Unit};
 use lk_lines::Fault;
 use lk_rows::memory::NoMemory;
 use std::alloc::Global;
@@ -69,17 +70,56 @@ fn count(kind: Kind, verdicts: &[Verdict]) -> u64
     n
 }
 
-/// Appends the line of a theorem, after a word; `name` is its name as it is written.
-fn add_head(out: &mut Vec<u8>, word: &[u8], unit: u64, name: &[u8]) -> Result<(), NoMemory>
-    ensures { OnOk result (out.new.items ≡ out.old.items ++ head_text word.now unit name.now) }
+/// The word of a declaration, by its body.
+fn body_word(body: Body) -> &'static [u8]
+    ensures { (c : Contents) → result.now ≡ body_word (body_at c body) }
 {
-    out.extend_from_slice(word)?;
-    out.extend_from_slice(b" thm ")?;
+    match body {
+        Body::Axiom => b"axiom",
+        Body::Definition { .. } => b"def",
+        Body::Theorem { .. } => b"thm",
+        Body::Opaque { .. } => b"opaque",
+        Body::Quotient => b"quot",
+    }
+}
+
+/// The word of what a unit is.
+fn kind_word(unit: &Unit) -> &'static [u8]
+    ensures { (c : Contents) → result.now ≡ kind_word (unit_at c unit.now) }
+{
+    match unit {
+        Unit::Declaration(declaration) => body_word(declaration.body),
+        Unit::Block(_) => b"block",
+    }
+}
+
+/// Appends the end of a unit's line, from the word of its kind; `name` is its name as it is written.
+#[tactic(auto, unfolding(crate::specs::Text::title_text))]
+fn add_title(out: &mut Vec<u8>, kind: &[u8], unit: u64, name: &[u8]) -> Result<(), NoMemory>
+    ensures { OnOk result (out.new.items ≡ out.old.items ++ title_text kind.now unit name.now) }
+{
+    out.extend_from_slice(kind)?;
+    out.push(b' ')?;
     add_number(out, unit)?;
     out.push(b' ')?;
     out.extend_from_slice(name)?;
     out.push(b'\n')?;
     Ok(())
+}
+
+/// Appends the line of a unit, after a word.
+fn add_head(
+    out: &mut Vec<u8>,
+    word: &[u8],
+    kind: &[u8],
+    unit: u64,
+    name: &[u8],
+) -> Result<(), NoMemory>
+    ensures { OnOk result (out.new.items ≡ out.old.items ++ head_text word.now kind.now unit name.now) }
+{
+    out.extend_from_slice(word)?;
+    out.push(b' ')?;
+    add_title(out, kind, unit, name)
 }
 
 /// Appends the line of a cause.
@@ -107,23 +147,35 @@ fn word_of(rule: Rule) -> &'static [u8]
     }
 }
 
-/// Appends the lines of a theorem that isn't accepted.
-fn add_no(out: &mut Vec<u8>, unit: u64, name: &[u8], why: &[u8]) -> Result<(), NoMemory>
-    ensures { OnOk result (out.new.items ≡ out.old.items ++ (head_text (codes "no") unit (name.now) ++ why_text why.now)) }
+/// Appends the lines of a unit that isn't accepted.
+fn add_no(
+    out: &mut Vec<u8>,
+    kind: &[u8],
+    unit: u64,
+    name: &[u8],
+    why: &[u8],
+) -> Result<(), NoMemory>
+    ensures { OnOk result (out.new.items ≡ out.old.items ++ (head_text (codes "no") kind.now unit name.now ++ why_text why.now)) }
 {
-    add_head(out, b"no", unit, name)?;
+    add_head(out, b"no", kind, unit, name)?;
     add_why(out, why)
 }
 
-/// Appends the lines of a theorem.
-fn add_verdict(out: &mut Vec<u8>, unit: u64, name: &[u8], said: Verdict) -> Result<(), NoMemory>
-    ensures { OnOk result (out.new.items ≡ out.old.items ++ verdict_text unit (name.now) (verdict said)) }
+/// Appends the lines of a unit.
+fn add_verdict(
+    out: &mut Vec<u8>,
+    kind: &[u8],
+    unit: u64,
+    name: &[u8],
+    said: Verdict,
+) -> Result<(), NoMemory>
+    ensures { OnOk result (out.new.items ≡ out.old.items ++ verdict_text kind.now unit name.now (verdict said)) }
 {
     match said {
-        Verdict::Yes => add_head(out, b"yes", unit, name),
-        Verdict::No(rule) => add_no(out, unit, name, word_of(rule)),
-        Verdict::Steps => add_no(out, unit, name, b"steps"),
-        Verdict::Memory => add_no(out, unit, name, b"memory"),
+        Verdict::Yes => add_head(out, b"yes", kind, unit, name),
+        Verdict::No(rule) => add_no(out, kind, unit, name, word_of(rule)),
+        Verdict::Steps => add_no(out, kind, unit, name, b"steps"),
+        Verdict::Memory => add_no(out, kind, unit, name, b"memory"),
     }
 }
 
@@ -171,7 +223,7 @@ fn add_lines(
     library: &Library,
     verdicts: &[Verdict],
 ) -> Result<(), NoMemory>
-    ensures { OnOk result (out.new.items ≡ out.old.items ++ lines_text 0 (map (unit_text (contents_of library.now.0)) library.now.1) (map verdict verdicts.now)) }
+    ensures { OnOk result (out.new.items ≡ out.old.items ++ lines_text 0 (library_at (contents_of library.now.0) library.now.1) (map verdict verdicts.now)) }
 {
     let mut left = library.units();
     let mut said = verdicts;
@@ -181,7 +233,7 @@ fn add_lines(
             return Ok(());
         };
         let name = written_name(alloc, library, unit)?;
-        add_verdict(out, number, &name, *v)?;
+        add_verdict(out, kind_word(unit), number, &name, *v)?;
         left = more;
         said = others;
         number += 1;
@@ -212,7 +264,7 @@ fn add_summary(out: &mut Vec<u8>, verdicts: &[Verdict]) -> Result<(), NoMemory>
 
 /// The lines of the units and the last line.
 pub fn report(alloc: Global, library: &Library, verdicts: &[Verdict]) -> Result<Vec<u8>, NoMemory>
-    ensures { IfOk result (λ v. v.items ≡ report_of_names (map (unit_text (contents_of library.now.0)) library.now.1) (map verdict verdicts.now)) }
+    ensures { IfOk result (λ v. v.items ≡ report_text (library_at (contents_of library.now.0) library.now.1) (map verdict verdicts.now)) }
 {
     let mut out = Vec::new(alloc);
     add_lines(alloc, &mut out, library, verdicts)?;

@@ -1,4 +1,4 @@
--- What a file states is built of variables, sorts, lambdas and Pis, and its names are plain.
+-- A file states what it may state today.
 use Rattle.std.proofs.Common.{◌≡◌, ◌≢◌, ℕ, ◌==◌, Bool, true, false, List, [], ◌∷◌, length, Ok, Err, Some, None, refl, cond, arith}
 use Rattle.std.specs.Prelude.{IfOk}
 use Rattle.std.specs.declared.option.Option.{Option}
@@ -12,12 +12,13 @@ use Rattle.lk_lines.specs.declared.line.Fault.{Fault}
 use Rattle.lk_lines.specs.Limits.{limits}
 use Rattle.lk_lines.specs.Reading.{◌>>=◌}
 use Rattle.lk_lines.specs.Says.{Says, Blank, Version, OfItem, said_of}
-use Rattle.lk_units.specs.Theorems.{Theorem, AllBuilt}
-use Rattle.lk_units.specs.State.{State, take_item, AllPlain}
+use Rattle.lk_rulebook.specs.Units.{Library}
+use Rattle.lk_units.specs.Built.{AllBuilt}
+use Rattle.lk_units.specs.State.{State, take_item}
 use Rattle.lk_units.proofs.Kept.{Kept, kept_item, kept_begin}
 use Rattle.lk_units.proofs.Items.{plain_item}
 use Rattle.lk_book.specs.Course.{Course, begin_course, passed, taken, unless, at_line, step}
-use Rattle.lk_book.specs.File.{lines_of, has_more, after, course_over, course_of, theorems_of}
+use Rattle.lk_book.specs.File.{lines_of, has_more, after, course_over, course_of, library_of}
 
 other_byte : (b : ℕ) → (b == 10) ≡ false → b ≢ 10
 other_byte b h = grind (arith, nat_tests, h)
@@ -82,10 +83,10 @@ kept_course : (bytes : List ℕ) → IfOk (course_of bytes) KeptCourse
 unfolding course_of
 kept_course bytes = kept_over begin_course (lines_of bytes) (are_cut bytes) kept_begin
 
-stated : (r : Result Course Fault) (ts : List Theorem) → IfOk r KeptCourse → after r (λ c. Ok c.state.theorems) ≡ Ok ts → AllBuilt ts × AllPlain ts
-stated (Ok c) ts k e = let is : c.state.theorems ≡ ts = cc in rw (← is) (k.built, k.plain)
-stated (Err f) ts k e = absurd (cc)
+stated : (r : Result Course Fault) (us : Library) → IfOk r KeptCourse → after r (λ c. Ok c.state.units) ≡ Ok us → AllBuilt us
+stated (Ok c) us k e = let is : c.state.units ≡ us = cc in rw (← is) k.built
+stated (Err f) us k e = absurd (cc)
 
 -- what a file states
-pub theorems_kept : (bytes : List ℕ) (ts : List Theorem) → theorems_of bytes ≡ Ok ts → AllBuilt ts × AllPlain ts
-theorems_kept bytes ts e = stated (course_of bytes) ts (kept_course bytes) e
+pub library_kept : (bytes : List ℕ) (us : Library) → library_of bytes ≡ Ok us → AllBuilt us
+library_kept bytes us e = stated (course_of bytes) us (kept_course bytes) e

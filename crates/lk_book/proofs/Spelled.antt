@@ -1,16 +1,14 @@
 -- No name of a library that is read holds a line feed.
-use Rattle.std.proofs.Common.{◌≡◌, ℕ, ◌==◌, nat_eq, true, ◌&&◌, List, [], ◌∷◌, Ok, Err, refl}
-use Rattle.std.specs.Prelude.{not, Result}
-use Rattle.lk_tree.specs.Tree.{Name, text, number, Tree, var, sort, lam, pi}
+use Rattle.std.proofs.Common.{◌≡◌, ℕ, ◌==◌, nat_eq, true, ◌&&◌, List, [], ◌∷◌, Ok, refl}
+use Rattle.std.specs.Prelude.{not}
+use Rattle.lk_tree.specs.Tree.{Name, text, number, Tree, var, sort, const, app, lam, pi}
 use Rattle.lk_tree.proofs.Scans.{both_true, and_true}
-use Rattle.lk_rulebook.specs.Units.{Library, members_of, trees_of}
+use Rattle.lk_rulebook.specs.Units.{Body, as_axiom, as_thm, LibraryUnit, of_decl, Library, members_of, body_trees, trees_of}
 use Rattle.lk_rulebook.specs.Spelled.{no_lf, is_spelled, tree_spelled, names_spelled, all_spelled, library_spelled}
-use Rattle.lk_units.specs.Theorems.{Theorem, unit_of, units_of, IsBuilt, AllBuilt}
 use Rattle.lk_units.specs.Names.{is_plain, IsPlainName}
-use Rattle.lk_units.specs.State.{AllPlain}
-use Rattle.lk_lines.specs.declared.line.Fault.{Fault}
-use Rattle.lk_book.specs.File.{after, theorems_of, library_of}
-use Rattle.lk_book.proofs.Kept.{theorems_kept}
+use Rattle.lk_units.specs.Built.{IsBuilt, IsBuiltBody, IsBuiltUnit, AllBuilt}
+use Rattle.lk_book.specs.File.{library_of}
+use Rattle.lk_book.proofs.Kept.{library_kept}
 
 no_feed : (b : ℕ) → not (b == 10) ≡ true → not (nat_eq b 10) ≡ true
 no_feed b h = h
@@ -29,25 +27,27 @@ name_spelled (number n ∷ parts) h = name_spelled parts h.1
 built_spelled : (e : Tree) → IsBuilt e → tree_spelled e ≡ true
 built_spelled (var i) b = refl
 built_spelled (sort l) b = refl
+built_spelled (const c ls) b = name_spelled c b.0
+built_spelled (app f a) b = and_true (tree_spelled f) (tree_spelled a) (built_spelled f b.0) (built_spelled a b.1)
 built_spelled (lam A e) b = and_true (tree_spelled A) (tree_spelled e) (built_spelled A b.0) (built_spelled e b.1)
 built_spelled (pi A e) b = and_true (tree_spelled A) (tree_spelled e) (built_spelled A b.0) (built_spelled e b.1)
 built_spelled _ b = absurd b
 
-pub spelled : (ts : List Theorem) → AllBuilt ts → AllPlain ts → library_spelled (units_of ts) ≡ true
-spelled [] b p = refl
-spelled (t ∷ ts) b p =
-    let name = and_true (is_spelled t.name) true (name_spelled t.name p.0.0) refl in
-    let proof = and_true (tree_spelled t.proof) true (built_spelled t.proof b.0.1) refl in
-    let trees = and_true (tree_spelled t.type) (tree_spelled t.proof && true) (built_spelled t.type b.0.0) proof in
-    let here = and_true (names_spelled (members_of (unit_of t))) (all_spelled (trees_of (unit_of t))) name trees in
-    and_true (names_spelled (members_of (unit_of t)) && all_spelled (trees_of (unit_of t))) (library_spelled (units_of ts)) here (spelled ts b.1 p.1)
+body_spelled : (ps : List Name) (v : Body) → IsBuiltBody v → all_spelled (body_trees ps v) ≡ true
+body_spelled ps as_axiom b = refl
+body_spelled ps (as_thm v) b = and_true (tree_spelled v) true (built_spelled v b) refl
+body_spelled ps _ b = absurd b
 
-from_theorems : (bytes : List ℕ) (r : Result (List Theorem) Fault) (us : Library) → theorems_of bytes ≡ r → after r (λ ts. Ok (units_of ts)) ≡ Ok us → library_spelled us ≡ true
-from_theorems bytes (Err f) us e h = absurd (cc)
-from_theorems bytes (Ok ts) us e h =
-    let k = theorems_kept bytes ts e in
-    let is : units_of ts ≡ us = cc in
-    rw (← is) (spelled ts k.0 k.1)
+unit_spelled : (u : LibraryUnit) → IsBuiltUnit u → (names_spelled (members_of u) && all_spelled (trees_of u)) ≡ true
+unit_spelled (of_decl d) b =
+    let name = and_true (is_spelled d.name) true (name_spelled d.name b.0.0) refl in
+    let trees = and_true (tree_spelled d.type) (all_spelled (body_trees d.levels d.body)) (built_spelled d.type b.1.0) (body_spelled d.levels d.body b.1.1) in
+    and_true (names_spelled (members_of (of_decl d))) (all_spelled (trees_of (of_decl d))) name trees
+unit_spelled _ b = absurd b
+
+pub spelled : (us : Library) → AllBuilt us → library_spelled us ≡ true
+spelled [] b = refl
+spelled (u ∷ us) b = and_true (names_spelled (members_of u) && all_spelled (trees_of u)) (library_spelled us) (unit_spelled u b.0) (spelled us b.1)
 
 pub read_spelled : (bytes : List ℕ) (us : Library) → library_of bytes ≡ Ok us → library_spelled us ≡ true
-read_spelled bytes us h = from_theorems bytes (theorems_of bytes) us refl h
+read_spelled bytes us h = spelled us (library_kept bytes us h)

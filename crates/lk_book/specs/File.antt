@@ -1,9 +1,8 @@
--- The theorems that the bytes of a file state, or the file's fault.
+-- The library that the bytes of a file state, or the file's fault.
 use Rattle.std.specs.Prelude.{ℕ, ◌==◌, Bool, true, false, List, [], ◌∷◌, Result, Ok, Err}
 use Rattle.std.specs.List.{slice_split}
 use Rattle.lk_rulebook.specs.Units.{Library}
 use Rattle.lk_lines.specs.declared.line.Fault.{Fault}
-use Rattle.lk_units.specs.Theorems.{Theorem, units_of}
 use Rattle.lk_book.specs.Course.{Course, begin_course, step}
 
 -- The lines of bytes: what stands between line feeds, and behind the last one. So a line feed ends each but the
@@ -28,9 +27,6 @@ course_over c (line ∷ more) = after (step c (has_more more) line) (λ d. cours
 unfoldable pub course_of : List ℕ → Result Course Fault
 course_of bytes = course_over begin_course (lines_of bytes)
 
-abbrev pub theorems_of : List ℕ → Result (List Theorem) Fault
-theorems_of bytes = after (course_of bytes) (λ c. Ok c.state.theorems)
-
--- the library that the file states: its theorems, as units
+-- the units that the items of the file state
 abbrev pub library_of : List ℕ → Result Library Fault
-library_of bytes = after (theorems_of bytes) (λ ts. Ok (units_of ts))
+library_of bytes = after (course_of bytes) (λ c. Ok c.state.units)

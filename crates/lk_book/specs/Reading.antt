@@ -7,7 +7,7 @@ use Rattle.lk_store.specs.Store.{contents_of}
 use Rattle.lk_store.specs.declared.tables.Tables.{Tables}
 use Rattle.lk_env.specs.declared.unit.Unit.{Unit as StoredUnit}
 use Rattle.lk_env.specs.Units.{library_at}
-use Rattle.lk_units.specs.Theorems.{Theorem, units_of}
+use Rattle.lk_rulebook.specs.Units.{Library}
 use Rattle.lk_token.specs.Lines.{HasNoLineFeed}
 use Rattle.lk_lines.specs.declared.words.Word.{Word}
 use Rattle.lk_lines.specs.declared.line.Fault.{Fault}
@@ -36,8 +36,8 @@ Reads store said (Err errors.ReadFault) = Unit {0}
 Reads store said (Err (errors.Fault f)) = said ≡ Err f
 
 -- the library is the one that the file states, or the file's fault is told
-abbrev pub ReadsLibrary : Result (List Theorem) Fault → Result (Tables × List StoredUnit) ReadError → Type 0
-ReadsLibrary said (Ok l) = (ts : List Theorem) × (said ≡ Ok ts) × (library_at (contents_of l.0) l.1 ≡ units_of ts)
+abbrev pub ReadsLibrary : Result Library Fault → Result (Tables × List StoredUnit) ReadError → Type 0
+ReadsLibrary said (Ok l) = said ≡ Ok (library_at (contents_of l.0) l.1)
 ReadsLibrary said (Err errors.NoMemory) = Unit {0}
 ReadsLibrary said (Err errors.ReadFault) = Unit {0}
 ReadsLibrary said (Err (errors.Fault f)) = said ≡ Err f

@@ -8,7 +8,7 @@ ghost use Rattle.lk_port.specs.Bytes.{Rose};
 ghost use Rattle.lk_token.specs.Lines.{HasNoLineFeed};
 ghost use Rattle.lk_units.specs.Held.{IsKnown};
 ghost use Rattle.lk_book.specs.Course.{Course, step};
-ghost use Rattle.lk_book.specs.File.{course_of, theorems_of};
+ghost use Rattle.lk_book.specs.File.{course_of, library_of};
 ghost use Rattle.lk_book.specs.Passing.{Stands, IsCounted};
 ghost use Rattle.lk_book.specs.Reading.{Remains, ConsumesSome, TellsFault, Ends, Reads, ReadsLibrary};
 
@@ -186,7 +186,7 @@ fn library_of(
 /// end it at once. Behind any error the source has lost some bytes from its front.
 pub fn read_library<S: Source>(alloc: Global, source: &mut S) -> Result<Library, ReadError>
     // Where the source tells its bytes, the answer is what they state.
-    ensures reads { (bytes : List ℕ) → S.left source.old ≡ Some bytes → ReadsLibrary (theorems_of bytes) result }
+    ensures reads { (bytes : List ℕ) → S.left source.old ≡ Some bytes → ReadsLibrary (library_of bytes) result }
 
     ensures front { ConsumesSome (S.left source.old) (S.left source.new) }
     ensures end { OnOk result (IsAtEnd (S.left source.new)) }

@@ -1,4 +1,4 @@
-//! The theorems that a file states: its lines one by one, read from a source in pieces, with the file's first fault.
+//! The library that a file states: its lines one by one, read from a source in pieces, with the file's first fault.
 #![tactic(auto)]
 
 mod error;

@@ -28,7 +28,7 @@ use Rattle.lk_engine.specs.Rests.{sheet_rest, map_frame, IsKnownFrame}
 
 module _ (w : Place) (last : Option ℕ) (b : ℕ) where
   -- it runs as from the beginning, with the last unit seen
-  IsFrom : (Option ℕ → Steps) → Type 0
+  abbrev IsFrom : (Option ℕ → Steps) → Type 0
   IsFrom s = run_steps (out_of rows w) (s last) b ≡ seen last (run_steps (out_of rows w) (s None) b)
 
   from_gives : (v : Value) → IsFrom (λ t. gives t v)

@@ -34,7 +34,7 @@ query_steps_is w t (Same a b) = refl
 
 module _ (w : Place) where
   -- what waits for an answer, with this frame
-  waiting : Frame Tree → Out → Out
+  abbrev waiting : Frame Tree → Out → Out
   waiting s o = seen s.last (go_on o (λ v rest. run_steps (out_of rows w) (sheet_rest w None s.sheet v) rest))
 
   -- one more frame on top
@@ -69,9 +69,9 @@ module _ (w : Place) where
   opened t u q next left left2 last l e p = ap (run_steps (out_of rows w) (next_of w u last next)) e ∙ ap (λ r. run_steps (out_of rows w) r (left - 1)) (p ∙ query_steps_is w t q) ∙ sym (out-step rows w (query_of t q) left l)
 
   -- the first step
-  pub work_begins : {c d : Contents} {left left2 : ℕ} {last : Option ℕ} {next : Next ℕ (Sheet ℕ)} (q : Query ℕ) → 0 < left → left2 ≡ left - 1
+  pub work_begins : {d : Contents} {left left2 : ℕ} {last : Option ℕ} {next : Next ℕ (Sheet ℕ)} (c : Contents) (q : Query ℕ) → 0 < left → left2 ≡ left - 1
       → IsKnownNext IsKnownSheet (length d.trees) next → next_of w (tree_at d) last next ≡ query_steps w (tree_at c) None q → IsWork (out_of rows w (query_of (tree_at c) q) left) d [] next left2 last
-  work_begins {c} {d} {left} {left2} {last} {next} q l e k p =
+  work_begins {d} {left} {left2} {last} {next} c q l e k p =
       record { stacked = λ i d h. absurd (omega arith); known = k; means = opened (tree_at c) (tree_at d) q next left left2 last l e p }
 
   -- a question is asked

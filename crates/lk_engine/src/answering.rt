@@ -45,16 +45,18 @@ pub fn answer<T: Terms>(
     ensures outcome { IsExactly (T.contents terms.new) (out_of rows (place_at library.now site.now.unit) (query_of (tree_at (T.contents terms.old)) query) meter.old.left) meter.new.left meter.new.last result }
 {
     let mut stack: Vec<Frame<u64>> = Vec::new(alloc);
-    if meter.spend(1).is_err() {
-        return Err(Stop::Spent);
+    match meter.spend(1) {
+        Ok(()) => {}
+        Err(_) => return Err(Stop::Spent),
     }
     let _before = meter.take_last();
     let mut next = begin(alloc, library, site, terms, meter, query)?;
     'work: loop {
         match next {
             Next::Ask(asked, sheet) => {
-                if meter.spend(1).is_err() {
-                    return Err(Stop::Spent);
+                match meter.spend(1) {
+                    Ok(()) => {}
+                    Err(_) => return Err(Stop::Spent),
                 }
                 let last = meter.take_last();
                 stack

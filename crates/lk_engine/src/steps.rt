@@ -82,14 +82,22 @@ pub fn begin<T: Terms>(
         ≡ query_steps (place_at library.now site.now.unit) (tree_at (T.contents terms.old)) meter.old.last query) }
 {
     match query {
-        Query::Core(e) => Ok(of_core(lk_core::core_form::begin(
-            alloc, library, site, terms, meter, e,
-        )?)),
-        Query::Whnf(e) => Ok(of_core(lk_core::whnf::begin(e))),
-        Query::Infer(e) => Ok(of_type(lk_type::infer::begin(
-            alloc, library, site, terms, meter, e,
-        )?)),
-        Query::Same(a, b) => Ok(of_same(lk_same::same::begin(alloc, terms, a, b)?)),
+        Query::Core(e) => {
+            let next = lk_core::core_form::begin(alloc, library, site, terms, meter, e)?;
+            Ok(of_core(next))
+        }
+        Query::Whnf(e) => {
+            let next = lk_core::whnf::begin(e);
+            Ok(of_core(next))
+        }
+        Query::Infer(e) => {
+            let next = lk_type::infer::begin(alloc, library, site, terms, meter, e)?;
+            Ok(of_type(next))
+        }
+        Query::Same(a, b) => {
+            let next = lk_same::same::begin(alloc, terms, a, b)?;
+            Ok(of_same(next))
+        }
     }
 }
 
@@ -114,10 +122,18 @@ pub fn resume<T: Terms>(
         ≡ sheet_rest (place_at library.now site.now.unit) meter.old.last (map_sheet (tree_at (T.contents terms.old)) sheet) (value_at (tree_at (T.contents terms.old)) answer)) }
 {
     match sheet {
-        Sheet::Core(sheet) => Ok(of_core(lk_core::whnf::resume(
-            alloc, library, site, terms, meter, sheet, answer,
-        )?)),
-        Sheet::Type(sheet) => Ok(of_type(lk_type::infer::resume(alloc, terms, sheet, answer)?)),
-        Sheet::Same(sheet) => Ok(of_same(lk_same::same::resume(alloc, terms, sheet, answer)?)),
+        Sheet::Core(kept) => {
+            let next =
+                lk_core::whnf::resume(alloc, library, site, terms, meter, kept, answer)?;
+            Ok(of_core(next))
+        }
+        Sheet::Type(kept) => {
+            let next = lk_type::infer::resume(alloc, terms, kept, answer)?;
+            Ok(of_type(next))
+        }
+        Sheet::Same(kept) => {
+            let next = lk_same::same::resume(alloc, terms, kept, answer)?;
+            Ok(of_same(next))
+        }
     }
 }

@@ -22,7 +22,7 @@ later_later (Some l) None u = refl
 later_later (Some l) (Some m) None = refl
 later_later (Some l) (Some m) (Some n) = ap Some (let e : max l (max m n) ≡ max (max l m) n = omega arith in e)
 
-later_none : (t : Option ℕ) → later t None ≡ t
+pub later_none : (t : Option ℕ) → later t None ≡ t
 later_none None = refl
 later_none (Some m) = refl
 

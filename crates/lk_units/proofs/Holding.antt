@@ -63,10 +63,6 @@ grown_known c d x a k = record {
   units_in = units_stay c d x a.units.items k.units_in;
 }
 
--- a name as the store grows
-pub name_kept : (c d : Contents) (n : ℕ) → Extends c d → n < length c.names → name_at d n ≡ name_at c n
-name_kept c d n x h = x.names.same n h
-
 -- one more number
 put_lem : {X : Type 0} → (b : Bool) (e old : Option ℕ) (i : ℕ) (have : ℕ → X) (mean : Option X) → e ≡ (if b then Some i else old) → option_map have old ≡ mean → option_map have e ≡ (if b then Some (have i) else mean)
 put_lem true e old i have mean q h = ap (option_map have) q

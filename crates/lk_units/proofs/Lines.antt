@@ -1,12 +1,12 @@
 -- What whole lines add.
 use Rattle.std.proofs.Common.{◌≡◌, ℕ, List, [], ◌∷◌, ◌++◌, refl, ◌∙◌, ap, Ok, Err, Vec}
-use Rattle.std.specs.Prelude.{Result, IfOk, OnOk}
+use Rattle.std.specs.Prelude.{Result}
 use Rattle.std.specs.declared.alloc.Global.{Global}
 use Rattle.std.proofs.lemmas.List.{map-append}
 use Rattle.lk_tree.specs.Tree.{Name, Level, Tree, const}
 use Rattle.lk_rulebook.specs.Units.{Body, LibraryUnit, of_decl}
 use Rattle.lk_store.specs.Contents.{Contents}
-use Rattle.lk_env.specs.Units.{unit_at, library_at, IsUnitIn}
+use Rattle.lk_env.specs.Units.{unit_at, library_at}
 use Rattle.lk_env.specs.declared.unit.Unit.{Unit as StoredUnit}
 use Rattle.lk_lines.specs.declared.words.Word.{Word}
 use Rattle.lk_lines.specs.Reading.{◌>>=◌}
@@ -14,7 +14,7 @@ use Rattle.lk_units.specs.declared.assembler.Assembler.{Assembler}
 use Rattle.lk_units.specs.declared.assembler.TakeError.{TakeError}
 use Rattle.lk_units.specs.declared.assembler.TakeError.TheVariants as errors
 use Rattle.lk_units.specs.State.{State, known, all_known, constant_tree, declaration_of, with_unit, counted}
-use Rattle.lk_units.specs.Held.{IsKnown, Holds, Fails, Makes, Follows}
+use Rattle.lk_units.specs.Held.{Holds, Fails, Makes, Follows}
 
 -- what follows a fault is that fault
 pub fails_then : {X Y : Type 0} (e : TakeError) (said : Result X Word) (next : X → Result Y Word) → Fails e said → Fails e (said >>= next)
@@ -57,8 +57,3 @@ unit_pushed a units c s u made said h m is e = (
 -- what a line adds is counted
 pub counted_follows : (r : Result (Unit {0}) TakeError) (a : Assembler) (c : Contents) (said : Result State Word) (s : State) → said ≡ Ok s → Follows a c r (counted s) → Follows a c r (said >>= λ t. counted t)
 counted_follows r a c said s e h = rw e h
-
-pub unit_known : (r : Result (Unit {0}) TakeError) (a b : Assembler) (made : Result StoredUnit TakeError) → ((c : Contents) → IsKnown a c → IfOk made (λ u. IsUnitIn c u))
-    → OnOk r ((c : Contents) → IsKnown a c → IfOk made (λ u. IsUnitIn c u) → IsKnown b c) → OnOk r ((c : Contents) → IsKnown a c → IsKnown b c)
-unit_known (Ok x) a b made k f = λ c h. f c h (k c h)
-unit_known (Err e) a b made k f = tt

@@ -1,4 +1,4 @@
-//! The theorems of a file, gathered item by item.
+//! The units of a file, gathered item by item.
 ghost use Rattle.std.specs.Prelude.{◌≡◌, IfOk, IfErr};
 ghost use Rattle.lk_store.specs.Contents.{Contents, Extends};
 ghost use Rattle.lk_units.specs.State.{State, begin, counted};

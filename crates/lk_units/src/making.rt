@@ -85,7 +85,6 @@ fn make_list<T: Terms>(store: &mut T, mut levels: Vec<u64>) -> Result<u64, NoMem
 }
 
 /// A constant at levels.
-#[tactic(auto, using(crate::proofs::Holding::name_kept))]
 fn make_constant<T: Terms>(store: &mut T, name: u64, levels: Vec<u64>) -> Result<u64, TakeError>
     requires name_in { name < length (T.contents store.old).names }
     requires levels_in { All (λ l. l < length (T.contents store.old).levels) levels.items }

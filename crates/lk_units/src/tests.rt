@@ -1,7 +1,7 @@
 //! Items of a file, and what each comes to by the format's tables.
 
 use crate::{Assembler, Numbering, TakeError};
-use lk_env::unit::Unit;
+use lk_env::unit::{Body, Unit};
 use lk_lines::{BinderInfo, Declaration, Entry, Word};
 use lk_rows::memory::NoMemory;
 use lk_store::base_store::BaseStore;
@@ -198,9 +198,11 @@ fn faults_of_an_item(rt: HostRuntime) -> Result<(), Fail> {
         second(
             alloc,
             8,
-            Entry::Apply {
-                function: 7,
-                argument: 7
+            Entry::Let {
+                name: 0,
+                binder_type: 7,
+                value: 7,
+                body: 7
             }
         ),
         unbuilt
@@ -218,5 +220,91 @@ fn faults_of_an_item(rt: HostRuntime) -> Result<(), Fail> {
         ),
         Ok(())
     );
+    Ok(())
+}
+
+// A constant at levels as the second of two items.
+fn constant(alloc: Global, own: u32, name: u32, levels: &[u32]) -> Result<(), TakeError> {
+    let Ok(levels) = Vec::from_slice(alloc, levels) else {
+        return Err(TakeError::NoMemory);
+    };
+    second(alloc, own, Entry::Constant { name, levels })
+}
+
+#[test]
+fn faults_of_constants_and_applications(rt: HostRuntime) -> Result<(), Fail> {
+    let alloc = rt.alloc();
+    let taken = Err(TakeError::Fault(Word::IndexTaken));
+    let unknown = Err(TakeError::Fault(Word::IndexUnknown));
+    for (own, name, level, want) in [
+        (8, 0, 0, Ok(())),
+        (7, 1, 0, taken),
+        (8, 1, 0, unknown),
+        (8, 0, 1, unknown),
+    ] {
+        assert_eq!(rt; constant(alloc, own, name, &[0, level]), want);
+    }
+    for (own, function, argument, want) in [
+        (8, 7, 7, Ok(())),
+        (7, 9, 9, taken),
+        (8, 7, 8, unknown),
+        (8, 9, 7, unknown),
+    ] {
+        assert_eq!(rt;
+            second(alloc, own, Entry::Apply { function, argument }),
+            want
+        );
+    }
+    Ok(())
+}
+
+// What an axiom comes to whose type is a sort, and what was taken with it.
+fn axiom(
+    alloc: Global,
+    name: u32,
+    declared_type: u32,
+    parameter: u32,
+) -> Result<Assembler, TakeError> {
+    let mut store = BaseStore::new(alloc);
+    let mut file = Assembler::new(alloc, &mut store)?;
+    let a = Entry::NameText {
+        parent: 0,
+        text: b"a",
+    };
+    file.take_entry(alloc, &mut store, 1, a)?;
+    file.take_entry(alloc, &mut store, 7, Entry::Sort { level: 0 })?;
+    let Ok(parameters) = Vec::from_slice(alloc, &[1, parameter]) else {
+        return Err(TakeError::NoMemory);
+    };
+    file.take_declaration(
+        alloc,
+        &mut store,
+        Declaration::Axiom {
+            name,
+            declared_type,
+            parameters,
+        },
+    )?;
+    Ok(file)
+}
+
+#[test]
+fn axioms(rt: HostRuntime) -> Result<(), Fail> {
+    let alloc = rt.alloc();
+    let unknown = Some(TakeError::Fault(Word::IndexUnknown));
+    assert_eq!(rt; axiom(alloc, 2, 7, 1).err(), unknown);
+    assert_eq!(rt; axiom(alloc, 1, 8, 1).err(), unknown);
+    assert_eq!(rt; axiom(alloc, 1, 7, 2).err(), unknown);
+    let file = axiom(alloc, 1, 7, 0)?;
+    for unit in &file.units {
+        match unit {
+            Unit::Declaration(declaration) => {
+                assert_eq!(rt; declaration.levels.len(), 2);
+                assert_eq!(rt; declaration.body, Body::Axiom);
+            }
+            Unit::Block(_) => panic!(rt; "a block"),
+        }
+    }
+    assert_eq!(rt; file.units.len(), 1);
     Ok(())
 }

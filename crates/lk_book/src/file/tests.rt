@@ -19,7 +19,7 @@ const IDENTITY: &str = "2.0.0
 #THM 2 4 6
 ";
 
-// How many theorems a file states that is read in pieces of at most so many bytes, where the read `failing` fails.
+// How many units a file states that is read in pieces of at most so many bytes, where the read `failing` fails.
 fn count_of(
     alloc: Global,
     bytes: Vec<u8>,
@@ -77,6 +77,19 @@ fn first_faults(rt: HostRuntime) -> Result<(), Fail> {
         ("0 #EV 0\n\n1 #EV 0 0", 3, Word::ExtraField),
         ("0 #US 0", 1, Word::IndexTaken),
         ("1 #NS 0 a\n#THM 1 0 0", 2, Word::IndexUnknown),
+        ("0 #EC 1 1\n0 #EV\n", 1, Word::IndexUnknown),
+        ("0 #EC 0 0 1", 1, Word::IndexUnknown),
+        ("0 #EC 0 0\n0 #EC 1\n", 2, Word::IndexTaken),
+        ("0 #EV 0\n1 #EA 0 2\n2 #EV 0\n", 2, Word::IndexUnknown),
+        ("0 #EV 0\n0 #EA 5 5\n", 2, Word::IndexTaken),
+        ("0 #EV 0\n1 #EA 0\n", 2, Word::MissingField),
+        ("0 #ES 0\n#AX 1 0\n", 2, Word::IndexUnknown),
+        ("1 #NS 0 a\n#AX 1 0\n0 #ES 0\n", 2, Word::IndexUnknown),
+        (
+            "1 #NS 0 a\n0 #ES 0\n#AX 1 0 2\n2 #NS 0 u\n",
+            3,
+            Word::IndexUnknown,
+        ),
     ] {
         for greatest in [1, 16, 1000] {
             let bytes = Vec::from_slice(alloc, text.as_bytes())?;
@@ -90,6 +103,22 @@ fn first_faults(rt: HostRuntime) -> Result<(), Fail> {
     for text in ["", "\n", " ", "2.1.0\n\n", "\n2.0.0"] {
         let bytes = Vec::from_slice(alloc, text.as_bytes())?;
         assert_eq!(rt; count_of(alloc, bytes, 16, None), Ok(0), "at {text:?}");
+    }
+    Ok(())
+}
+
+#[test]
+fn axioms_and_constants(rt: HostRuntime) -> Result<(), Fail> {
+    let alloc = rt.alloc();
+    let a = "1 #NS 0 a\n0 #ES 0\n";
+    for (text, want) in [
+        ("#AX 1 0 1 0\n", 1),
+        ("1 #EC 1 0 0\n2 #EA 1 1\n#AX 1 2\n", 1),
+        ("1 #EC 1\n#AX 1 0\n#THM 0 1 1\n#AX 0 0", 3),
+    ] {
+        let mut bytes = Vec::from_slice(alloc, a.as_bytes())?;
+        bytes.extend_from_slice(text.as_bytes())?;
+        assert_eq!(rt; count_of(alloc, bytes, 7, None), Ok(want), "at {text:?}");
     }
     Ok(())
 }

@@ -2,7 +2,7 @@ use Rattle.std.proofs.Common.{rules}
 use Rattle.std.proofs.lemmas.List.Elements.{All-rest}
 use Rattle.lk_store.specs.Store.{contents_of}
 use Rattle.lk_env.specs.Units.{IsUnitIn}
-use Rattle.leancheck.proofs.Joined.{text_more}
+use Rattle.leancheck.proofs.Shown.{text_more}
 use Rattle.leancheck.proofs.report.add_lines.Goals as goal
 
 pub loop-unit-preserved : goal.loop-unit-preserved
@@ -10,7 +10,7 @@ loop-unit-preserved c =
     let at = contents_of c.args.library.now.0 in
     record {
       text = text_more at _ _ _ c.loop-unit.number c.loop-unit.left.now c.in-Some.more.now c.in-Some.unit.now c.loop-unit.said.now c.in-Some-split_first.others.now c.in-Some-split_first.v.now
-          c.in-Some.ensures.cases.0 c.in-Some-split_first.ensures.cases.0 (rw (c.deref.ensures.value, c.in_ok-name.ensures) at c.in_ok-add_verdict.ensures) c.loop-unit.invariant.text;
+          c.in-Some.ensures.cases.0 c.in-Some-split_first.ensures.cases.0 (rw (c.deref.ensures.value, c.in_ok-name.ensures, c.kind_word.ensures at) at c.in_ok-add_verdict.ensures) c.loop-unit.invariant.text;
       known = All-rest (IsUnitIn at) c.in-Some.unit.now c.in-Some.more.now c.loop-unit.left.now c.in-Some.ensures.cases.0 c.loop-unit.invariant.known;
       few = search rules;
     }

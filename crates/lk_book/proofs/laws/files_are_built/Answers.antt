@@ -1,6 +1,6 @@
-use Rattle.lk_book.proofs.Kept.{theorems_kept}
+use Rattle.lk_book.proofs.Kept.{library_kept}
 use Rattle.lk_book.proofs.Spelled.{read_spelled}
 use Rattle.lk_book.proofs.laws.files_are_built.Goals as goal
 
 pub returns : goal.returns
-returns c = record { built = λ bytes ts e. theorems_kept bytes ts e; spelled = λ bytes us e. read_spelled bytes us e }
+returns c = record { built = λ bytes us e. library_kept bytes us e; spelled = λ bytes us e. read_spelled bytes us e }
