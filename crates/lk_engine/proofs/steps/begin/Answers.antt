@@ -10,4 +10,4 @@ pub returns-in_ok-next-in-Same-clause-known : goal.returns-in_ok-next-in-Same-cl
 returns-in_ok-next-in-Same-clause-known g c = c.of_same.ensures.known _ c.in_ok-next-in-Same.ensures.known
 
 pub returns-in-Whnf-clause-known : goal.returns-in-Whnf-clause-known
-returns-in-Whnf-clause-known g c = c.of_core-in-Whnf.ensures.known _ (c.begin-next.ensures.known _ c.requires.query_in)
+returns-in-Whnf-clause-known g c = c.of_core-in-Whnf.ensures.known _ (c.begin-next.ensures.known _ (rw c.in-Whnf.is at c.requires.query_in))
