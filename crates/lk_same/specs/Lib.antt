@@ -1,1 +1,1 @@
-pub mod Sames
+pub mod Tests

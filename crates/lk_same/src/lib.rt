@@ -1,4 +1,5 @@
 //! Whether two terms are the same: what `Same` asks, step by step, as the table says it.
 #![tactic(auto)]
 
-pub mod same;
+pub mod levels;
+pub mod value;
