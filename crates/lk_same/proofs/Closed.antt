@@ -1,5 +1,6 @@
 -- Levels that hold no parameter.
-use Rattle.std.proofs.Common.{◌≡◌, ℕ, Bool, true, false, refl, sym, ◌∙◌, ap}
+use Rattle.std.proofs.Common.{◌≡◌, ℕ, Bool, true, false, refl}
+use Rattle.std.proofs.Common.{eq-eqb}
 use Rattle.std.specs.Prelude.{nat_eq, not, ◌&&◌, ◌||◌, [], Some, None}
 use Rattle.lk_tree.specs.Tree.{Level, zero_level, succ_level, max_level, imax_level, param}
 use Rattle.lk_tree.specs.Scan.{level_over}
@@ -36,8 +37,7 @@ pub both_closed : (l m : Level) (x y : ℕ) → level_has_params l ≡ false →
 both_closed l m x y h k p q = rw (closed_is l, closed_is m, h, k, p, q) refl
 
 nat_eq_self : (n : ℕ) → nat_eq n n ≡ true
-nat_eq_self 0 = refl
-nat_eq_self (suc n) = nat_eq_self n
+nat_eq_self n = eq-eqb n n refl
 
 pub same_number : (l m : Level) → l ≡ m → level_has_params l ≡ false → test_answer (Some true) ≡ closed_test l m
 same_number l m same h = rw (← same, closed_is l, h, nat_eq_self (least_value l)) refl

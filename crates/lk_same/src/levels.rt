@@ -12,7 +12,6 @@ use lk_store::terms::Terms;
 use std::alloc::Global;
 
 /// Whether two levels are equal. There is no answer where one of them holds a parameter.
-#[tactic(auto, using(crate::proofs::Closed::open_left, crate::proofs::Closed::open_right, crate::proofs::Closed::same_number, crate::proofs::Closed::both_closed))]
 pub fn closed_test<T: Terms>(
     alloc: Global,
     terms: &T,
