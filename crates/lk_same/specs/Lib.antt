@@ -1,1 +1,3 @@
+pub mod Sames
+pub mod Spines
 pub mod Tests

@@ -2,4 +2,6 @@
 #![tactic(auto)]
 
 pub mod levels;
+pub mod parts;
+pub mod same;
 pub mod value;
