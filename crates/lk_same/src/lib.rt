@@ -4,4 +4,5 @@
 pub mod levels;
 pub mod parts;
 pub mod same;
+pub mod shape;
 pub mod value;
