@@ -4,8 +4,6 @@ use Rattle.std.proofs.Common.{eq-eqb}
 use Rattle.std.specs.Prelude.{nat_eq, not, ◌&&◌, ◌||◌, [], Some, None}
 use Rattle.lk_tree.specs.Tree.{Level, zero_level, succ_level, max_level, imax_level, param}
 use Rattle.lk_tree.specs.Scan.{level_over}
-use Rattle.lk_tree.specs.RuleNo.{builtin_shape}
-use Rattle.lk_plain.specs.Program.{Program, done, refuse}
 use Rattle.lk_table.specs.Levels.{closed_test, least_value}
 use Rattle.lk_store.specs.Measures.{level_has_params}
 use Rattle.lk_same.specs.Tests.{test_answer}

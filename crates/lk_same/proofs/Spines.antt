@@ -1,6 +1,6 @@
 -- Facts on two spines that are walked down at once.
 use Rattle.std.proofs.Common.{◌≡◌, ◌+◌, ◌<◌, ℕ, Bool, true, false, List, [], ◌∷◌, ◌++◌, length, map, refl, sym, ◌∙◌, ap, subst, arith, append_assoc, eq-eqb}
-use Rattle.std.specs.Prelude.{nat_eq, reverse, All, if◌then◌else◌}
+use Rattle.std.specs.Prelude.{nat_eq, reverse}
 use Rattle.std.proofs.lemmas.Bool.Decides.{nat_tests}
 use Rattle.std.proofs.lemmas.List.{append-nil, map-append, reverse-append, length-reverse, length-map, length-append}
 use Rattle.std.proofs.lemmas.List.Elements.{All-nil, All-push}

@@ -1,5 +1,5 @@
 -- Levels that are compared.
-use Rattle.std.specs.Prelude.{◌≡◌, ℕ, Bool, List, All, Option, Some, None}
+use Rattle.std.specs.Prelude.{◌≡◌, Bool, List, All, Option, Some, None}
 use Rattle.lk_tree.specs.RuleNo.{builtin_shape}
 use Rattle.lk_plain.specs.Program.{Program, done, refuse}
 use Rattle.lk_table.specs.Levels.{least_value}

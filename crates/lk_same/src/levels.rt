@@ -60,12 +60,7 @@ fn same_length<T: Terms>(terms: &T, a: u64, b: u64) -> bool
 }
 
 /// Whether two lists of levels are equal pair by pair, up to the first pair that is not.
-fn pairs_equal<T: Terms>(
-    alloc: Global,
-    terms: &T,
-    a: u64,
-    b: u64,
-) -> Result<Option<bool>, NoMemory>
+fn pairs_equal<T: Terms>(alloc: Global, terms: &T, a: u64, b: u64) -> Result<Option<bool>, NoMemory>
     requires a_in { a < length (T.contents terms.now).lists }
     requires b_in { b < length (T.contents terms.now).lists }
     ensures { IfOk result (λ r. test_answer r ≡ level_pairs_equal plain_test (list_at (T.contents terms.now) a) (list_at (T.contents terms.now) b)) }

@@ -127,13 +127,7 @@ fn lambda_and<T: Terms>(
 }
 
 /// A Pi and another term.
-fn pi_and<T: Terms>(
-    terms: &T,
-    domain: u64,
-    body: u64,
-    a: u64,
-    b: u64,
-) -> Result<SameNext, NoMemory>
+fn pi_and<T: Terms>(terms: &T, domain: u64, body: u64, a: u64, b: u64) -> Result<SameNext, NoMemory>
     requires domain_in { domain < length (T.contents terms.now).trees }
     requires body_in { body < length (T.contents terms.now).trees }
     requires a_in { a < length (T.contents terms.now).trees }

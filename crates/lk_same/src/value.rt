@@ -58,11 +58,7 @@ fn found<T: Terms>(terms: &T, values: &Table<LevelValue>, level: u64) -> Result<
 }
 
 /// The value above that of a level.
-fn succ_value<T: Terms>(
-    terms: &T,
-    values: &Table<LevelValue>,
-    level: u64,
-) -> Result<u64, NoMemory>
+fn succ_value<T: Terms>(terms: &T, values: &Table<LevelValue>, level: u64) -> Result<u64, NoMemory>
     requires values { AreValues (T.contents terms.now) values.now }
     ensures { IfOk result (λ v. v ≡ suc (plain_value (level_at (T.contents terms.now) level))) }
 {

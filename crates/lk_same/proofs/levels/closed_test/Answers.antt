@@ -1,4 +1,4 @@
-use Rattle.std.proofs.Common.{◌≡◌, ◌∙◌, sym, ap}
+use Rattle.std.proofs.Common.{◌∙◌, sym, ap}
 use Rattle.lk_store.specs.Contents.{level_at}
 use Rattle.lk_same.proofs.Closed.{open_left, open_right, same_number, both_closed}
 use Rattle.lk_same.proofs.levels.closed_test.Goals as goal

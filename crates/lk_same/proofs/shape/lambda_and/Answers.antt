@@ -1,6 +1,6 @@
-use Rattle.std.proofs.Common.{◌≡◌, ◌∙◌, ap}
+use Rattle.std.proofs.Common.{◌∙◌, ap}
 use Rattle.lk_plain.specs.Erased.{truth, erased}
-use Rattle.lk_store.specs.Contents.{level_at, tree_at}
+use Rattle.lk_store.specs.Contents.{tree_at}
 use Rattle.lk_same.proofs.Shapes.{lambda_and_other}
 use Rattle.lk_same.proofs.shape.lambda_and.Goals as goal
 

@@ -1,4 +1,4 @@
-use Rattle.std.proofs.Common.{◌≡◌, ◌∙◌, ap}
+use Rattle.std.proofs.Common.{◌∙◌, ap}
 use Rattle.lk_plain.specs.Erased.{truth, erased}
 use Rattle.lk_store.specs.Contents.{level_at, tree_at}
 use Rattle.lk_same.proofs.Shapes.{sort_and_other}
