@@ -6,7 +6,7 @@ use Rattle.lk_tree.specs.Tree.{Level, zero_level, succ_level, max_level, imax_le
 use Rattle.lk_tree.specs.Scan.{level_over}
 use Rattle.lk_table.specs.Levels.{closed_test, least_value}
 use Rattle.lk_store.specs.Measures.{level_has_params}
-use Rattle.lk_same.specs.Tests.{test_answer}
+use Rattle.lk_same.specs.LevelTests.{test_answer}
 
 neither : (a b : Bool) → (not a && not b) ≡ not (a || b)
 neither true b = refl

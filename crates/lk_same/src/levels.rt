@@ -3,7 +3,7 @@
 ghost use Rattle.std.specs.Prelude.{◌≡◌, ◌<◌, nat_eq, length, IfOk};
 ghost use Rattle.lk_table.specs.Levels.{closed_test as plain_test, level_pairs_equal, levels_equal as plain_equal};
 ghost use Rattle.lk_store.specs.Contents.{level_at, list_at};
-ghost use Rattle.lk_same.specs.Tests.{test_answer};
+ghost use Rattle.lk_same.specs.LevelTests.{test_answer};
 
 use crate::value::least_value;
 use lk_rows::memory::NoMemory;

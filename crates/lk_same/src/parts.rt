@@ -11,7 +11,7 @@ ghost use Rattle.lk_ask.specs.Nexts.{IsKnownNext};
 ghost use Rattle.lk_ask.specs.Sheets.{map_pair, IsKnownPair, IsKnownSame};
 ghost use Rattle.lk_same.specs.Sames.{others_same, parts_rest, same_next};
 ghost use Rattle.lk_same.specs.Spines.{spines_same};
-ghost use Rattle.lk_same.specs.Tests.{test_answer};
+ghost use Rattle.lk_same.specs.LevelTests.{test_answer};
 
 use crate::levels::levels_equal;
 use crate::same::SameNext;

@@ -4,7 +4,7 @@ ghost use Rattle.std.specs.Prelude.{◌≡◌, ◌<◌, suc, length, IfOk};
 ghost use Rattle.lk_tree.specs.Level.{imax};
 ghost use Rattle.lk_table.specs.Levels.{least_value as plain_value};
 ghost use Rattle.lk_store.specs.Contents.{level_at};
-ghost use Rattle.lk_same.specs.Tests.{AreValues};
+ghost use Rattle.lk_same.specs.LevelTests.{AreValues};
 
 use lk_rows::memory::NoMemory;
 use lk_rows::row::Row;

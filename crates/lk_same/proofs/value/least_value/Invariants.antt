@@ -1,5 +1,5 @@
 use Rattle.lk_subst.specs.Parts.{AreVisits, visits_cost}
-use Rattle.lk_same.specs.Tests.{AreValues}
+use Rattle.lk_same.specs.LevelTests.{AreValues}
 use Rattle.lk_same.proofs.value.least_value.Given as goal
 
 abbrev pub invariant-walk : goal.invariant-walk
