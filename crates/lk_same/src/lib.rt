@@ -1,4 +1,8 @@
 //! Whether two terms are the same: what `Same` asks, step by step, as the table says it.
 #![tactic(auto)]
 
+pub mod levels;
+pub mod parts;
 pub mod same;
+pub mod shape;
+pub mod value;

@@ -1,15 +1,17 @@
 //! `Same`: its first step, and how it goes on.
 
-ghost use Rattle.std.specs.Prelude.{◌≡◌, ◌<◌, ℕ, Bool, IfOk, Option, length};
+ghost use Rattle.std.specs.Prelude.{◌≡◌, ◌<◌, ℕ, true, IfOk, Option, length};
 ghost use Rattle.lk_rulebook.specs.Place.{Place};
-ghost use Rattle.lk_plain.specs.Erased.{truth, erased};
+ghost use Rattle.lk_plain.specs.Erased.{a_tree, truth, erased};
 ghost use Rattle.lk_table.specs.Built.{same_row};
 ghost use Rattle.lk_store.specs.Contents.{tree_at, Extends};
 ghost use Rattle.lk_ask.specs.Questions.{value_at, IsKnownAnswer};
 ghost use Rattle.lk_ask.specs.Nexts.{IsKnownNext};
 ghost use Rattle.lk_ask.specs.Sheets.{map_same, IsKnownSame};
-ghost use Rattle.lk_same.specs.Sames.{same_rest, same_next};
+ghost use Rattle.lk_same.specs.Sames.{bodies_rest, cores_rest, same_rest, same_next};
 
+use crate::parts::{after_pair, parts};
+use crate::shape::shape;
 use lk_ask::next::Next;
 use lk_ask::query::{Answer, Query};
 use lk_ask::rule::Rule;
@@ -17,6 +19,7 @@ use lk_ask::sheet::SameSheet;
 use lk_rows::memory::NoMemory;
 use lk_store::node::Node;
 use lk_store::terms::Terms;
+use lk_subst::opening::open_with;
 use std::alloc::Global;
 
 /// What `Same` does next.
@@ -31,7 +34,140 @@ pub fn begin<T: Terms>(alloc: Global, terms: &mut T, a: u64, b: u64) -> Result<S
     ensures known { IfOk result (IsKnownNext IsKnownSame (length (T.contents terms.new).trees)) }
     ensures steps { IfOk result (λ next. (w : Place) (last : Option ℕ) → same_next w (tree_at (T.contents terms.new)) last next ≡ erased w truth last (same_row (tree_at (T.contents terms.old) a) (tree_at (T.contents terms.old) b))) }
 {
-    Err(NoMemory)
+    if terms.same(a, b) {
+        return Ok(Next::Done(Answer::Truth(true)));
+    }
+    shape(alloc, terms, a, b)
+}
+
+/// Two bodies, opened with one Local of their first domain.
+fn bodies<T: Terms>(
+    alloc: Global,
+    terms: &mut T,
+    domain: u64,
+    left: u64,
+    right: u64,
+    number: u64,
+) -> Result<SameNext, NoMemory>
+    requires domain_in { domain < length (T.contents terms.old).trees }
+    requires left_in { left < length (T.contents terms.old).trees }
+    requires right_in { right < length (T.contents terms.old).trees }
+    ensures keeps { Extends (T.contents terms.old) (T.contents terms.new) }
+    ensures rest { T.rest terms.new ≡ T.rest terms.old }
+    ensures known { IfOk result (IsKnownNext IsKnownSame (length (T.contents terms.new).trees)) }
+    ensures steps { IfOk result (λ next. (w : Place) (last : Option ℕ) → same_next w (tree_at (T.contents terms.new)) last next ≡ erased w truth last (bodies_rest number
+        (tree_at (T.contents terms.old) domain) (tree_at (T.contents terms.old) left) (tree_at (T.contents terms.old) right) true)) }
+{
+    let fresh = terms.make(Node::Local(number, domain))?;
+    let a = open_with(alloc, terms, left, fresh)?;
+    let b = open_with(alloc, terms, right, fresh)?;
+    Ok(Next::Ask(Query::Same(a, b), SameSheet::Passed))
+}
+
+/// Goes on with two binders, once their domains were compared.
+fn after_domains<T: Terms>(
+    alloc: Global,
+    terms: &mut T,
+    domain: u64,
+    left: u64,
+    right: u64,
+    number: u64,
+    equal: bool,
+) -> Result<SameNext, NoMemory>
+    requires domain_in { domain < length (T.contents terms.old).trees }
+    requires left_in { left < length (T.contents terms.old).trees }
+    requires right_in { right < length (T.contents terms.old).trees }
+    ensures keeps { Extends (T.contents terms.old) (T.contents terms.new) }
+    ensures rest { T.rest terms.new ≡ T.rest terms.old }
+    ensures known { IfOk result (IsKnownNext IsKnownSame (length (T.contents terms.new).trees)) }
+    ensures steps { IfOk result (λ next. (w : Place) (last : Option ℕ) → same_next w (tree_at (T.contents terms.new)) last next ≡ erased w truth last (bodies_rest number
+        (tree_at (T.contents terms.old) domain) (tree_at (T.contents terms.old) left) (tree_at (T.contents terms.old) right) equal)) }
+{
+    if equal {
+        bodies(alloc, terms, domain, left, right, number)
+    } else {
+        Ok(Next::Done(Answer::Truth(false)))
+    }
+}
+
+/// Goes on with two terms, once the `Core` of each is there: `form` and `e`.
+fn after_cores<T: Terms>(
+    alloc: Global,
+    terms: &T,
+    left: u64,
+    right: u64,
+    form: u64,
+    e: u64,
+) -> Result<SameNext, NoMemory>
+    requires left_in { left < length (T.contents terms.now).trees }
+    requires right_in { right < length (T.contents terms.now).trees }
+    requires form_in { form < length (T.contents terms.now).trees }
+    requires e_in { e < length (T.contents terms.now).trees }
+    ensures known { IfOk result (IsKnownNext IsKnownSame (length (T.contents terms.now).trees)) }
+    ensures steps { IfOk result (λ next. (w : Place) (last : Option ℕ) → same_next w (tree_at (T.contents terms.now)) last next ≡ erased w truth last (cores_rest
+        (tree_at (T.contents terms.now) left) (tree_at (T.contents terms.now) right) (tree_at (T.contents terms.now) form) (tree_at (T.contents terms.now) e))) }
+{
+    if terms.same(form, left) && terms.same(e, right) {
+        return parts(alloc, terms, left, right);
+    }
+    Ok(Next::Ask(Query::Same(form, e), SameSheet::Passed))
+}
+
+/// Goes on with an answer that is a term.
+fn resume_term<T: Terms>(
+    alloc: Global,
+    terms: &T,
+    sheet: SameSheet<u64>,
+    e: u64,
+) -> Result<SameNext, NoMemory>
+    requires sheet_in { IsKnownSame (length (T.contents terms.now).trees) sheet }
+    requires e_in { e < length (T.contents terms.now).trees }
+    ensures known { IfOk result (IsKnownNext IsKnownSame (length (T.contents terms.now).trees)) }
+    ensures steps { IfOk result (λ next. (w : Place) (last : Option ℕ) → same_next w (tree_at (T.contents terms.now)) last next ≡ same_rest w last (map_same (tree_at (T.contents terms.now)) sheet) (a_tree (tree_at (T.contents terms.now) e))) }
+{
+    match sheet {
+        SameSheet::Passed => Ok(Next::No(Rule::LooseVariable)),
+        SameSheet::Domains { .. } => Ok(Next::No(Rule::LooseVariable)),
+        SameSheet::CoreLeft { left, right } => Ok(Next::Ask(
+            Query::Core(right),
+            SameSheet::CoreRight {
+                left,
+                right,
+                form: e,
+            },
+        )),
+        SameSheet::CoreRight { left, right, form } => {
+            after_cores(alloc, terms, left, right, form, e)
+        }
+        SameSheet::Parts { .. } => Ok(Next::No(Rule::LooseVariable)),
+    }
+}
+
+/// Goes on with an answer that is a truth value.
+fn resume_truth<T: Terms>(
+    alloc: Global,
+    terms: &mut T,
+    sheet: SameSheet<u64>,
+    equal: bool,
+) -> Result<SameNext, NoMemory>
+    requires sheet_in { IsKnownSame (length (T.contents terms.old).trees) sheet }
+    ensures keeps { Extends (T.contents terms.old) (T.contents terms.new) }
+    ensures rest { T.rest terms.new ≡ T.rest terms.old }
+    ensures known { IfOk result (IsKnownNext IsKnownSame (length (T.contents terms.new).trees)) }
+    ensures steps { IfOk result (λ next. (w : Place) (last : Option ℕ) → same_next w (tree_at (T.contents terms.new)) last next ≡ same_rest w last (map_same (tree_at (T.contents terms.old)) sheet) (truth equal)) }
+{
+    match sheet {
+        SameSheet::Passed => Ok(Next::Done(Answer::Truth(equal))),
+        SameSheet::Domains {
+            domain,
+            left,
+            right,
+            number,
+        } => after_domains(alloc, terms, domain, left, right, number, equal),
+        SameSheet::CoreLeft { .. } => Ok(Next::No(Rule::LooseVariable)),
+        SameSheet::CoreRight { .. } => Ok(Next::No(Rule::LooseVariable)),
+        SameSheet::Parts { others } => Ok(after_pair(others, equal)),
+    }
 }
 
 /// Goes on with `Same` once the answer is there that its sheet waits for.
@@ -48,5 +184,8 @@ pub fn resume<T: Terms>(
     ensures known { IfOk result (IsKnownNext IsKnownSame (length (T.contents terms.new).trees)) }
     ensures steps { IfOk result (λ next. (w : Place) (last : Option ℕ) → same_next w (tree_at (T.contents terms.new)) last next ≡ same_rest w last (map_same (tree_at (T.contents terms.old)) sheet) (value_at (tree_at (T.contents terms.old)) answer)) }
 {
-    Err(NoMemory)
+    match answer {
+        Answer::Term(e) => resume_term(alloc, terms, sheet, e),
+        Answer::Truth(equal) => resume_truth(alloc, terms, sheet, equal),
+    }
 }

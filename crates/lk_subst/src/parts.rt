@@ -48,7 +48,7 @@ pub struct Visit {
 }
 
 /// Puts a level on the stack again, and its parts above it.
-fn open<T: Terms>(terms: &T, stack: &mut Vec<Visit>, level: u64) -> Result<(), NoMemory>
+pub fn open<T: Terms>(terms: &T, stack: &mut Vec<Visit>, level: u64) -> Result<(), NoMemory>
     requires level_in { level < length (T.contents terms.now).levels }
     requires visits { AreVisits (T.contents terms.now) stack.old.items }
     ensures visits { OnOk result (AreVisits (T.contents terms.now) stack.new.items) }

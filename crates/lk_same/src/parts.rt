@@ -1,0 +1,164 @@
+//! Two terms compared part by part, and the pairs of parts that are still to be compared.
+
+ghost use Rattle.std.specs.Prelude.{◌≡◌, ◌<◌, ℕ, IfOk, Option, length, map, All};
+ghost use Rattle.lk_tree.specs.Tree.{Tree, const};
+ghost use Rattle.lk_rulebook.specs.Place.{Place};
+ghost use Rattle.lk_plain.specs.Erased.{truth, erased};
+ghost use Rattle.lk_table.specs.Levels.{closed_test};
+ghost use Rattle.lk_table.specs.Built.{same_parts};
+ghost use Rattle.lk_store.specs.Contents.{name_at, list_at, tree_at};
+ghost use Rattle.lk_ask.specs.Nexts.{IsKnownNext};
+ghost use Rattle.lk_ask.specs.Sheets.{map_pair, IsKnownPair, IsKnownSame};
+ghost use Rattle.lk_same.specs.Sames.{others_same, parts_rest, same_next};
+ghost use Rattle.lk_same.specs.Spines.{spines_same};
+ghost use Rattle.lk_same.specs.LevelTests.{test_answer};
+
+use crate::levels::levels_equal;
+use crate::same::SameNext;
+use lk_ask::next::Next;
+use lk_ask::query::{Answer, Query};
+use lk_ask::rule::Rule;
+use lk_ask::sheet::{Pair, SameSheet};
+use lk_ask::stack::Stack;
+use lk_rows::memory::NoMemory;
+use lk_store::node::Node;
+use lk_store::terms::Terms;
+use std::alloc::Global;
+
+/// What a test of levels answers.
+pub(crate) fn tested(answer: Option<bool>) -> SameNext
+    ensures known { (n : ℕ) → IsKnownNext IsKnownSame n result }
+    ensures steps { (w : Place) (t : ℕ → Tree) (last : Option ℕ) → same_next w t last result ≡ erased w truth last (test_answer answer) }
+{
+    match answer {
+        Some(equal) => Next::Done(Answer::Truth(equal)),
+        None => Next::No(Rule::BuiltinShape),
+    }
+}
+
+/// Two constants: their names, then their levels.
+fn constants<T: Terms>(
+    alloc: Global,
+    terms: &T,
+    left: u64,
+    left_levels: u64,
+    right: u64,
+    right_levels: u64,
+) -> Result<SameNext, NoMemory>
+    requires left_in { left < length (T.contents terms.now).names }
+    requires right_in { right < length (T.contents terms.now).names }
+    requires left_levels_in { left_levels < length (T.contents terms.now).lists }
+    requires right_levels_in { right_levels < length (T.contents terms.now).lists }
+    ensures known { IfOk result (IsKnownNext IsKnownSame (length (T.contents terms.now).trees)) }
+    ensures steps { IfOk result (λ next. (w : Place) (last : Option ℕ) → same_next w (tree_at (T.contents terms.now)) last next ≡ erased w truth last (same_parts closed_test
+        (const (name_at (T.contents terms.now) left) (list_at (T.contents terms.now) left_levels))
+        (const (name_at (T.contents terms.now) right) (list_at (T.contents terms.now) right_levels)))) }
+{
+    if !terms.same_name(left, right) {
+        return Ok(Next::Done(Answer::Truth(false)));
+    }
+    let equal = levels_equal(alloc, terms, left_levels, right_levels)?;
+    Ok(tested(equal))
+}
+
+/// A constant and another term.
+fn constant_and<T: Terms>(
+    alloc: Global,
+    terms: &T,
+    name: u64,
+    levels: u64,
+    b: u64,
+) -> Result<SameNext, NoMemory>
+    requires name_in { name < length (T.contents terms.now).names }
+    requires levels_in { levels < length (T.contents terms.now).lists }
+    requires b_in { b < length (T.contents terms.now).trees }
+    ensures known { IfOk result (IsKnownNext IsKnownSame (length (T.contents terms.now).trees)) }
+    ensures steps { IfOk result (λ next. (w : Place) (last : Option ℕ) → same_next w (tree_at (T.contents terms.now)) last next ≡ erased w truth last (same_parts closed_test
+        (const (name_at (T.contents terms.now) name) (list_at (T.contents terms.now) levels)) (tree_at (T.contents terms.now) b))) }
+{
+    match terms.view(b) {
+        Node::Const(other, other_levels) => {
+            constants(alloc, terms, name, levels, other, other_levels)
+        }
+        _ => Ok(Next::Done(Answer::Truth(false))),
+    }
+}
+
+/// Two spines, walked down at once: their heads are asked for, and the pairs of arguments are kept.
+fn spines<T: Terms>(alloc: Global, terms: &T, a: u64, b: u64) -> Result<SameNext, NoMemory>
+    requires a_in { a < length (T.contents terms.now).trees }
+    requires b_in { b < length (T.contents terms.now).trees }
+    ensures known { IfOk result (IsKnownNext IsKnownSame (length (T.contents terms.now).trees)) }
+    ensures steps { IfOk result (λ next. (w : Place) (last : Option ℕ) → same_next w (tree_at (T.contents terms.now)) last next ≡ erased w truth last (spines_same (tree_at (T.contents terms.now) a) (tree_at (T.contents terms.now) b))) }
+{
+    let mut items: Vec<Pair<u64>> = Vec::new(alloc);
+    let mut left = a;
+    let mut right = b;
+    'down: while let Node::App(f, x) = terms.view(left) {
+        match terms.view(right) {
+            Node::App(g, y) => {
+                items.push(Pair { left: x, right: y })?;
+                left = f;
+                right = g;
+            }
+            _ => return Ok(Next::Done(Answer::Truth(false))),
+        }
+    }
+    if let Node::App(_, _) = terms.view(right) {
+        return Ok(Next::Done(Answer::Truth(false)));
+    }
+    Ok(Next::Ask(
+        Query::Same(left, right),
+        SameSheet::Parts {
+            others: Stack { items },
+        },
+    ))
+}
+
+/// Two terms that `Core` leaves as they are, part by part.
+pub(crate) fn parts<T: Terms>(
+    alloc: Global,
+    terms: &T,
+    a: u64,
+    b: u64,
+) -> Result<SameNext, NoMemory>
+    requires a_in { a < length (T.contents terms.now).trees }
+    requires b_in { b < length (T.contents terms.now).trees }
+    ensures known { IfOk result (IsKnownNext IsKnownSame (length (T.contents terms.now).trees)) }
+    ensures steps { IfOk result (λ next. (w : Place) (last : Option ℕ) → same_next w (tree_at (T.contents terms.now)) last next ≡ erased w truth last (same_parts closed_test (tree_at (T.contents terms.now) a) (tree_at (T.contents terms.now) b))) }
+{
+    match terms.view(a) {
+        Node::Const(name, levels) => constant_and(alloc, terms, name, levels, b),
+        Node::App(_, _) => spines(alloc, terms, a, b),
+        _ => Ok(Next::Done(Answer::Truth(false))),
+    }
+}
+
+/// Goes on with the pairs that are left.
+fn next_pair(others: Stack<Pair<u64>>) -> SameNext
+    ensures known { (n : ℕ) → All (IsKnownPair n) others → IsKnownNext IsKnownSame n result }
+    ensures steps { (w : Place) (t : ℕ → Tree) (last : Option ℕ) → same_next w t last result ≡ erased w truth last (others_same (map (map_pair t) others)) }
+{
+    let mut items = others.items;
+    match items.pop() {
+        None => Next::Done(Answer::Truth(true)),
+        Some(pair) => Next::Ask(
+            Query::Same(pair.left, pair.right),
+            SameSheet::Parts {
+                others: Stack { items },
+            },
+        ),
+    }
+}
+
+/// Goes on with the pairs that are left, once the one before them was compared.
+pub(crate) fn after_pair(others: Stack<Pair<u64>>, equal: bool) -> SameNext
+    ensures known { (n : ℕ) → All (IsKnownPair n) others → IsKnownNext IsKnownSame n result }
+    ensures steps { (w : Place) (t : ℕ → Tree) (last : Option ℕ) → same_next w t last result ≡ erased w truth last (parts_rest (map (map_pair t) others) equal) }
+{
+    if equal {
+        next_pair(others)
+    } else {
+        Next::Done(Answer::Truth(false))
+    }
+}
