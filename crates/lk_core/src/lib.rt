@@ -2,5 +2,5 @@
 #![tactic(auto)]
 
 pub mod beta;
-pub mod core;
+pub mod core_form;
 pub mod whnf;
