@@ -11,6 +11,10 @@ pub app_row_is : (P : Program Tree → Type 0) (e f a : Tree) → app f a ≡ e 
 unfolding head args
 app_row_is P e f a is h = subst (λ t. P (core_row t)) is (subst (λ t. P (built_applied t (head t) (args t))) (sym is) h)
 
+-- it goes by its head
+pub head_is : (P : Program Tree → Type 0) (e h t : Tree) → h ≡ t → t ≡ head e → P (built_applied e h (args e)) → P (built_applied e (head e) (args e))
+head_is P e h t is front p = subst (λ u. P (built_applied e u (args e))) (is ∙ front) p
+
 pub lambda_applied_is : (P : Program Tree → Type 0) (e h A b : Tree) → lam A b ≡ h → h ≡ head e → P (asked (core (beta (lambdas h) h (args e)))) → P (built_applied e (head e) (args e))
 lambda_applied_is P e h A b is front p =
-    subst (λ t. P (built_applied e t (args e))) (is ∙ front) (subst (λ t. P (asked (core (beta (lambdas t) t (args e))))) (sym is) p)
+    head_is P e (lam A b) h is front (subst (λ t. P (asked (core (beta (lambdas t) t (args e))))) (sym is) p)
