@@ -127,8 +127,8 @@ pub fn begin<T: Terms>(
         ≡ erased (place_at library.now site.now.unit) a_tree meter.old.last (core_row (tree_at (T.contents terms.old) e))) }
 {
     match terms.view(e) {
-        Node::Let(_, _, _) | Node::Proj(_, _, _) => Ok(Next::No(Rule::BuiltinShape)),
         Node::App(_, _) => applied(alloc, library, site, terms, meter, e),
+        Node::Let(_, _, _) | Node::Proj(_, _, _) => Ok(Next::No(Rule::BuiltinShape)),
         _ => Ok(Next::Done(Answer::Term(e))),
     }
 }
