@@ -15,7 +15,7 @@ use lk_subst::opening::open_with;
 use lk_subst::putting::put;
 use std::alloc::Global;
 
-/// The body under the leading lambdas of a term, of which at most so many are left, and how many were left.
+/// What stands under the leading lambdas of a term, at most so many of them, and under how many it stands.
 fn body_under<T: Terms>(terms: &T, head: u64, most: usize) -> (u64, usize)
     requires { head < length (T.contents terms.now).trees }
     ensures count { result.1 ≡ min (lambdas (tree_at (T.contents terms.now) head)) most }
@@ -48,8 +48,8 @@ fn are_closed<T: Terms>(terms: &T, values: &[u64]) -> bool
     true
 }
 
-/// A term of so many leading lambdas, which are opened with the first arguments, one after another. It is applied to
-/// the other arguments.
+/// A term applied to arguments, where so many of its leading lambdas are opened with the first ones, one after another.
+/// Where it has fewer lambdas, those are opened.
 fn open_in_turn<T: Terms>(
     alloc: Global,
     terms: &mut T,
@@ -79,8 +79,8 @@ fn open_in_turn<T: Terms>(
     Ok(e)
 }
 
-/// The body under so many leading lambdas of a term, with the first arguments in place of their variables, all at once,
-/// applied to the other arguments.
+/// The body under so many leading lambdas, with the first arguments in place of their variables, all at once, applied
+/// to the other arguments.
 fn put_at_once<T: Terms>(
     alloc: Global,
     terms: &mut T,

@@ -56,7 +56,7 @@ fn value_of(entry: Entry) -> Option<u64>
     }
 }
 
-/// The arguments of a term, to which another head is applied.
+/// Another head, applied to the arguments of a term.
 fn with_head<T: Terms>(alloc: Global, terms: &mut T, e: u64, front: u64) -> Result<u64, NoMemory>
     requires e_in { e < length (T.contents terms.old).trees }
     requires front_in { front < length (T.contents terms.old).trees }
