@@ -17,5 +17,5 @@ returns-clause-outcome c =
     let after = contents_of (over c.answer.new.terms.0 c.answer.new.terms.1) in
     let inside = c.self.inside in
     let there = exactly_so after (out_of rows (place_at inside.library.now inside.site.unit) (query_of (tree_at (contents_of (over inside.terms.0 inside.terms.1))) c.args.query) inside.meter.left)
-        c.answer.new.meter.left c.answer.new.meter.last c.answer.result c.answer.ensures.outcome in
+    c.answer.new.meter.left c.answer.new.meter.last c.answer.result c.answer.ensures.outcome in
     subst (λ s. IsOutcome after (out_of rows (place_at s.0 s.1.unit) (query_of (tree_at (contents_of (over s.2.0 s.2.1))) c.args.query) s.3.left) c.answer.new.meter.left c.answer.result) c.self.view_is there
