@@ -1,5 +1,5 @@
 -- What waits for an answer, after units were looked at, and while a store grows.
-use Rattle.std.proofs.Common.{◌≡◌, ℕ, ◌<◌, List, [], ◌∷◌, ◌++◌, map, length, Option, Some, None, refl, ap, sym, ◌∙◌}
+use Rattle.std.proofs.Common.{◌≡◌, ℕ, ◌<◌, List, [], ◌∷◌, length, Option, None, refl, ap, sym, arith}
 use Rattle.std.specs.Prelude.{All}
 use Rattle.std.proofs.lemmas.List.Elements.{All-weaker, All-head, All-tail}
 use Rattle.lk_tree.specs.Tree.{Tree}
@@ -23,8 +23,16 @@ use Rattle.lk_ask.proofs.Sheets.{sheet_steady, sheet_known}
 use Rattle.lk_core.specs.Forms.{core_rest}
 use Rattle.lk_type.specs.Types.{type_rest, level_in, lam_sorted, pi_sorted, pi_end, applied_rest, applied_argument, applied_end}
 use Rattle.lk_same.specs.Sames.{same_rest, bodies_rest, cores_rest, parts_rest}
+use Rattle.lk_ask.specs.declared.query.Query.{Query}
+use Rattle.lk_ask.specs.declared.query.Query.TheVariants as query
+use Rattle.lk_ask.specs.declared.query.Answer.{Answer}
+use Rattle.lk_ask.specs.declared.query.Answer.TheVariants as answer
+use Rattle.lk_ask.specs.declared.kept.Kept.{Kept}
+use Rattle.lk_ask.specs.Questions.{query_of, value_at, IsKnownQuery, IsKnownAnswer}
+use Rattle.lk_memo.specs.declared.key.Key.{Key}
 use Rattle.lk_engine.specs.declared.answering.Frame.{Frame}
-use Rattle.lk_engine.specs.Rests.{sheet_rest, map_frame, IsKnownFrame}
+use Rattle.lk_engine.specs.Entries.{AreTrue}
+use Rattle.lk_engine.specs.Rests.{sheet_rest, IsKnownFrame, Linked}
 
 module _ (w : Place) (last : Option ℕ) (b : ℕ) where
   -- it runs as from the beginning, with the last unit seen
@@ -85,15 +93,50 @@ module _ (w : Place) (last : Option ℕ) (b : ℕ) where
   sheet_from (sheet.Same s) v = same_from s v
 
 module _ {c d : Contents} (x : Extends c d) where
-  frame_steady : (s : Frame ℕ) → IsKnownFrame (length c.trees) s → map_frame (tree_at d) s ≡ map_frame (tree_at c) s
-  frame_steady s h = let e = sheet_steady x s.sheet h in rw e refl
+  grown : (e : ℕ) → e < length c.trees → e < length d.trees
+  grown e h = let l = x.trees.longer in omega arith
 
-  pub stack_known : (ss : List (Frame ℕ)) → All (IsKnownFrame (length c.trees)) ss → All (IsKnownFrame (length d.trees)) ss
-  stack_known ss h = All-weaker (IsKnownFrame (length c.trees)) (IsKnownFrame (length d.trees)) (λ s. sheet_known x s.sheet) ss h
+  pub query_steady : (q : Query ℕ) → IsKnownQuery (length c.trees) q → query_of (tree_at d) q ≡ query_of (tree_at c) q
+  query_steady (query.Core e) h = ap plain.core (x.trees.same e h)
+  query_steady (query.Whnf e) h = ap plain.whnf (x.trees.same e h)
+  query_steady (query.Infer e) h = ap plain.infer (x.trees.same e h)
+  query_steady (query.Same a b) h = let p = x.trees.same a h.0 in let q = x.trees.same b h.1 in cc
 
-  pub stack_steady : (ss : List (Frame ℕ)) → All (IsKnownFrame (length c.trees)) ss → map (map_frame (tree_at d)) ss ≡ map (map_frame (tree_at c)) ss
-  stack_steady [] h = refl
-  stack_steady (s ∷ ss) h =
-      let first = frame_steady s (All-head (IsKnownFrame (length c.trees)) s ss h) in
-      let others = stack_steady ss (All-tail (IsKnownFrame (length c.trees)) s ss h) in
-      cc
+  pub query_known : (q : Query ℕ) → IsKnownQuery (length c.trees) q → IsKnownQuery (length d.trees) q
+  query_known (query.Core e) h = grown e h
+  query_known (query.Whnf e) h = grown e h
+  query_known (query.Infer e) h = grown e h
+  query_known (query.Same a b) h = (grown a h.0, grown b h.1)
+
+  pub answer_steady : (v : Answer ℕ) → IsKnownAnswer (length c.trees) v → value_at (tree_at d) v ≡ value_at (tree_at c) v
+  answer_steady (answer.Term e) h = ap a_tree (x.trees.same e h)
+  answer_steady (answer.Truth b) h = refl
+
+  pub answer_known : (v : Answer ℕ) → IsKnownAnswer (length c.trees) v → IsKnownAnswer (length d.trees) v
+  answer_known (answer.Term e) h = grown e h
+  answer_known (answer.Truth b) h = tt
+
+  frame_known : (f : Frame) → IsKnownFrame (length c.trees) f → IsKnownFrame (length d.trees) f
+  frame_known f h = record { asker = query_known f.asker h.asker; sheet = sheet_known x f.sheet h.sheet }
+
+  pub stack_known : (fs : List Frame) → All (IsKnownFrame (length c.trees)) fs → All (IsKnownFrame (length d.trees)) fs
+  stack_known fs h = All-weaker (IsKnownFrame (length c.trees)) (IsKnownFrame (length d.trees)) frame_known fs h
+
+  -- questions that wait hang together as before
+  pub links_steady : (w : Place) (q : plain.Query) (b : ℕ) (fs : List Frame) (asked : plain.Query) (left : ℕ) → All (IsKnownFrame (length c.trees)) fs → Linked w (tree_at c) q b fs asked left → Linked w (tree_at d) q b fs asked left
+  links_steady w q b [] asked left k h = h
+  links_steady w q b (f ∷ fs) asked left k h =
+      let first = All-head (IsKnownFrame (length c.trees)) f fs k in
+      (rw (query_steady f.asker first.asker) h.0, h.1, (h.2.0, h.2.1, rw (sheet_steady x f.sheet first.sheet) h.2.2, links_steady w h.2.0 h.2.1 fs asked left (All-tail (IsKnownFrame (length c.trees)) f fs k) h.2.3))
+
+  -- what is kept stays true
+  pub entries_steady : (w : Place) (es : List (Key × Kept)) → AreTrue w c es → AreTrue w d es
+  entries_steady w es h = record {
+    each = λ e within q same.
+        let was = h.each e within q same in
+        record {
+          query = query_known q was.query;
+          answer = answer_known e.1.answer was.answer;
+          is = rw (query_steady q was.query, answer_steady e.1.answer was.answer) was.is;
+        };
+  }

@@ -1,5 +1,3 @@
-pub mod Asking
 pub mod Frames
-pub mod Outcomes
-pub mod Stacks
+pub mod Links
 pub mod ZeroWalks

@@ -1,3 +1,4 @@
+pub mod Entries
 pub mod Outcomes
 pub mod Rests
 pub mod Zeros

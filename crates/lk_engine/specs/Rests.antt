@@ -1,14 +1,16 @@
--- What any question goes on with, and what stacked questions make of an outcome.
+-- What any question goes on with, and how questions that wait hang together.
 use Rattle.std.specs.Prelude.{◌≡◌, ℕ, List, [], ◌∷◌, Option, None}
 use Rattle.lk_tree.specs.Tree.{Tree}
 use Rattle.lk_rulebook.specs.Place.{Place}
-use Rattle.lk_plain.specs.Erased.{Value, a_tree, truth, Steps, erased, Out, seen, go_on, run_steps, out_of}
+use Rattle.lk_plain.specs.Erased.{Value, a_tree, truth, Steps, erased, seen, go_on, run_steps, out_of}
 use Rattle.lk_table.specs.Built.{core_row, whnf_row, infer_row, same_row, rows}
 use Rattle.lk_ask.specs.declared.query.Query.{Query}
 use Rattle.lk_ask.specs.declared.query.Query.TheVariants.{Core, Whnf, Infer, Same}
 use Rattle.lk_ask.specs.declared.next.Next.{Next}
 use Rattle.lk_ask.specs.declared.sheet.Sheet.{Sheet}
 use Rattle.lk_ask.specs.declared.sheet.Sheet.TheVariants as sheet
+use Rattle.lk_plain.specs.Query as plain
+use Rattle.lk_ask.specs.Questions.{query_of, IsKnownQuery}
 use Rattle.lk_ask.specs.Nexts.{next_steps}
 use Rattle.lk_ask.specs.Sheets.{map_sheet, IsKnownSheet}
 use Rattle.lk_core.specs.Forms.{core_rest}
@@ -33,14 +35,14 @@ query_steps w t last (Whnf e) = erased w a_tree last (whnf_row (t e))
 query_steps w t last (Infer e) = erased w a_tree last (infer_row (t e))
 query_steps w t last (Same a b) = erased w truth last (same_row (t a) (t b))
 
-abbrev pub map_frame : {X Y : Type 0} → (X → Y) → Frame X → Frame Y
-map_frame f s = record { sheet = map_sheet f s.sheet; last = s.last }
-
 -- its numbers are below n
-abbrev pub IsKnownFrame : ℕ → Frame ℕ → Type 0
-IsKnownFrame n s = IsKnownSheet n s.sheet
+pub record IsKnownFrame (n : ℕ) (f : Frame) : Type 0 where
+  pub asker : IsKnownQuery n f.asker
+  pub sheet : IsKnownSheet n f.sheet
 
--- what a stack of waiting questions makes of the outcome of the one that is at work; the first question stands first
-abbrev pub after_all : Place → List (Frame Tree) → Out → Out
-after_all w [] o = o
-after_all w (s ∷ ss) o = seen s.last (go_on (after_all w ss o) (λ v rest. run_steps (out_of rows w) (sheet_rest w None s.sheet v) rest))
+-- the first frame's question is q under the budget b, each asks the next one's, and the last asks `asked` under `left`
+abbrev pub Linked : Place → (ℕ → Tree) → plain.Query → ℕ → List Frame → plain.Query → ℕ → Type 0
+Linked w t q b [] asked left = (asked ≡ q) × (left ≡ b)
+Linked w t q b (f ∷ fs) asked left =
+    (query_of t f.asker ≡ q) × (f.budget ≡ b)
+    × ((r : plain.Query) × (c : ℕ) × (out_of rows w q b ≡ seen f.last (go_on (out_of rows w r c) (λ v rest. run_steps (out_of rows w) (sheet_rest w None (map_sheet t f.sheet) v) rest))) × Linked w t r c fs asked left)

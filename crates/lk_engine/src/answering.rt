@@ -1,76 +1,152 @@
 //! The loop that answers a question, by a stack of what waits for answers.
 
-ghost use Rattle.std.specs.Prelude.{◌≡◌, length, IfOk};
-ghost use Rattle.lk_plain.specs.Erased.{out_of};
+ghost use Rattle.std.specs.Prelude.{◌≡◌, ◌<◌, ◌⊎◌, length, Contains, IfOk, OnOk, IfErr};
+ghost use Rattle.lk_plain.specs.Erased.{run_steps, out_of};
 ghost use Rattle.lk_table.specs.Built.{rows};
 ghost use Rattle.lk_store.specs.Contents.{tree_at, Extends};
 ghost use Rattle.lk_store.specs.Store.{contents_of};
 ghost use Rattle.lk_env.specs.Places.{place_at};
 ghost use Rattle.lk_ask.specs.Questions.{query_of, IsKnownQuery, IsKnownAnswer};
-ghost use Rattle.lk_ask.specs.Outcomes.{IsExactly};
+ghost use Rattle.lk_ask.specs.Nexts.{IsKnownNext};
+ghost use Rattle.lk_ask.specs.Outcomes.{IsExactly, IsStop};
+ghost use Rattle.lk_ask.specs.Sheets.{IsKnownSheet};
+ghost use Rattle.lk_memo.specs.Keys.{key_of};
+ghost use Rattle.lk_engine.specs.Entries.{AreTrue};
+ghost use Rattle.lk_engine.specs.Rests.{next_of};
 
-use crate::steps::{begin, resume};
+use crate::steps::{AnyNext, begin, resume};
+use lk_ask::kept::Kept;
 use lk_ask::next::Next;
 use lk_ask::query::{Answer, Query};
 use lk_ask::sheet::Sheet;
 use lk_ask::stop::Stop;
 use lk_env::entry::Site;
 use lk_env::library::Library;
+use lk_memo::memo::PrivateMemo;
 use lk_meter::meter::Meter;
 use lk_store::terms::Terms;
 use std::alloc::Global;
 
-/// A question that waits: its sheet, and the last unit that was looked at for it so far.
+/// A question that waits: what was asked under which budget, its sheet, and the last unit that was looked at for it so far.
 #[derive(Drop)]
-pub struct Frame<X: Drop> {
-    pub sheet: Sheet<X>,
+pub struct Frame {
+    pub asker: Query<u64>,
+    pub budget: u128,
+    pub sheet: Sheet<u64>,
     pub last: Option<u32>,
 }
 
+/// The first step of a question, or the answer that the memo has of it. A kept answer costs what it cost before.
+fn open<T: Terms>(
+    alloc: Global,
+    library: &Library,
+    site: &Site,
+    terms: &mut T,
+    meter: &mut Meter,
+    memo: &mut PrivateMemo,
+    query: Query<u64>,
+) -> Result<AnyNext, Stop>
+    requires over { Extends (contents_of library.now.0) (T.contents terms.old) }
+    requires query_in { IsKnownQuery (length (T.contents terms.old).trees) query }
+    requires entries { AreTrue (place_at library.now site.now.unit) (T.contents terms.old) memo.old.cache.entries }
+    ensures keeps { Extends (T.contents terms.old) (T.contents terms.new) }
+    ensures rest { T.rest terms.new ≡ T.rest terms.old }
+    ensures entries { AreTrue (place_at library.now site.now.unit) (T.contents terms.new) memo.new.cache.entries }
+    ensures known { IfOk result (IsKnownNext IsKnownSheet (length (T.contents terms.new).trees)) }
+    ensures next { IfOk result (λ next. run_steps (out_of rows (place_at library.now site.now.unit)) (next_of (place_at library.now site.now.unit) (tree_at (T.contents terms.new)) meter.new.last next) meter.new.left
+        ≡ out_of rows (place_at library.now site.now.unit) (query_of (tree_at (T.contents terms.old)) query) meter.old.left) }
+    ensures less { OnOk result (meter.new.left < meter.old.left) }
+    ensures err { IfErr result (IsStop (out_of rows (place_at library.now site.now.unit) (query_of (tree_at (T.contents terms.old)) query) meter.old.left)) }
+{
+    match memo.find(query, site.unit) {
+        Some(kept) => match meter.spend(kept.cost) {
+            Ok(()) => {
+                meter.last = kept.top;
+                Ok(Next::Done(kept.answer))
+            }
+            Err(_) => Err(Stop::Spent),
+        },
+        None => match meter.spend(1) {
+            Ok(()) => {
+                meter.last = None;
+                let next = begin(alloc, library, site, terms, meter, query)?;
+                Ok(next)
+            }
+            Err(_) => Err(Stop::Spent),
+        },
+    }
+}
+
+/// Keeps an answer, where finding it is less than asking anew. Where there is no room the memo stays as it is.
+fn keep(memo: &mut PrivateMemo, query: Query<u64>, kept: Kept)
+    ensures { (e : _) → Contains memo.new.cache.entries e → Contains memo.old.cache.entries e ⊎ (e ≡ (key_of query, kept)) }
+{
+    if kept.cost > 1 {
+        let _kept = memo.keep(query, kept);
+    }
+}
+
 /// The plain answer of a question at a site, with what is left of a budget. What is left afterwards is left, and the meter
-/// has the last unit that was looked at for this question.
+/// has the last unit that was looked at for this question. What the memo keeps of earlier questions costs the same as
+/// without it.
 pub fn answer<T: Terms>(
     alloc: Global,
     library: &Library,
     site: &Site,
     terms: &mut T,
     meter: &mut Meter,
+    memo: &mut PrivateMemo,
     query: Query<u64>,
 ) -> Result<Answer<u64>, Stop>
     requires over { Extends (contents_of library.now.0) (T.contents terms.old) }
     requires query_in { IsKnownQuery (length (T.contents terms.old).trees) query }
+    requires entries { AreTrue (place_at library.now site.now.unit) (T.contents terms.old) memo.old.cache.entries }
     ensures keeps { Extends (T.contents terms.old) (T.contents terms.new) }
     ensures rest { T.rest terms.new ≡ T.rest terms.old }
+    ensures entries { AreTrue (place_at library.now site.now.unit) (T.contents terms.new) memo.new.cache.entries }
     ensures known { IfOk result (IsKnownAnswer (length (T.contents terms.new).trees)) }
     ensures outcome { IsExactly (T.contents terms.new) (out_of rows (place_at library.now site.now.unit) (query_of (tree_at (T.contents terms.old)) query) meter.old.left) meter.new.left meter.new.last result }
 {
-    let mut stack: Vec<Frame<u64>> = Vec::new(alloc);
-    match meter.spend(1) {
-        Ok(()) => {}
-        Err(_) => return Err(Stop::Spent),
-    }
-    let _before = meter.take_last();
-    let mut next = begin(alloc, library, site, terms, meter, query)?;
+    let mut stack: Vec<Frame> = Vec::new(alloc);
+    let mut asked = query;
+    let mut budget = meter.left;
+    let mut next = match open(alloc, library, site, terms, meter, memo, query) {
+        Ok(opened) => opened,
+        Err(stop) => return Err(stop),
+    };
     'work: loop {
         match next {
-            Next::Ask(asked, sheet) => {
-                match meter.spend(1) {
-                    Ok(()) => {}
-                    Err(_) => return Err(Stop::Spent),
-                }
-                let last = meter.take_last();
+            Next::Ask(other, sheet) => {
+                let last = meter.last;
                 stack
-                    .push(Frame { sheet, last })
+                    .push(Frame {
+                        asker: asked,
+                        budget,
+                        sheet,
+                        last,
+                    })
                     .map_err(|_| Stop::NoMemory)?;
-                next = begin(alloc, library, site, terms, meter, asked)?;
+                asked = other;
+                budget = meter.left;
+                next = match open(alloc, library, site, terms, meter, memo, other) {
+                    Ok(opened) => opened,
+                    Err(stop) => return Err(stop),
+                };
             }
-            Next::Done(answer) => match stack.pop() {
-                None => return Ok(answer),
-                Some(frame) => {
-                    meter.note_before(frame.last);
-                    next = resume(alloc, library, site, terms, meter, frame.sheet, answer)?;
+            Next::Done(answer) => {
+                let cost = budget - meter.left;
+                let top = meter.last;
+                keep(memo, asked, Kept { answer, cost, top });
+                match stack.pop() {
+                    None => return Ok(answer),
+                    Some(frame) => {
+                        asked = frame.asker;
+                        budget = frame.budget;
+                        meter.note_before(frame.last);
+                        next = resume(alloc, library, site, terms, meter, frame.sheet, answer)?;
+                    }
                 }
-            },
+            }
             Next::No(rule) => return Err(Stop::Rule(rule)),
         }
     }

@@ -1,10 +1,9 @@
 use Rattle.std.proofs.Common.{◌≡◌, ◌+◌, ◌*◌, vec_len}
-use Rattle.lk_plain.specs.Erased.{out_of}
-use Rattle.lk_table.specs.Built.{rows}
 use Rattle.lk_store.specs.Contents.{tree_at, Extends}
 use Rattle.lk_env.specs.Places.{place_at}
 use Rattle.lk_ask.specs.Questions.{query_of}
-use Rattle.lk_engine.proofs.Stacks.{IsWork}
+use Rattle.lk_engine.specs.Entries.{AreTrue}
+use Rattle.lk_engine.proofs.Links.{IsLinked}
 use Rattle.lk_engine.proofs.answering.answer.Given as goal
 
 abbrev pub invariant-work : goal.invariant-work
@@ -14,9 +13,10 @@ invariant-work g l =
     record {
       grown : Extends (contents l.fn.terms) (contents l.terms);
       rest : g.T.Terms.rest l.terms ≡ g.T.Terms.rest l.fn.terms;
-      work : IsWork w (out_of rows w (query_of (tree_at (contents l.fn.terms)) l.fn.query) l.fn.meter.left) (contents l.terms) l.stack.items l.next l.meter.left l.meter.last;
+      entries : AreTrue w (contents l.terms) l.memo.cache.entries;
+      linked : IsLinked w (query_of (tree_at (contents l.fn.terms)) l.fn.query) l.fn.meter.left (contents l.terms) l.stack.items l.asked l.budget l.next l.meter.left l.meter.last;
     }
 
--- each question takes one from the budget, and each answer one frame from the stack
+-- each question takes from the budget, and each answer one frame from the stack
 abbrev pub decreases-work : goal.decreases-work
 decreases-work g l = 2 * l.meter.left + vec_len l.stack

@@ -1,0 +1,200 @@
+-- The work of the loop: questions that wait, the one that is worked on, and what is kept.
+use Rattle.std.proofs.Common.{◌≡◌, ℕ, ◌-◌, ◌<◌, ◌≤◌, List, [], ◌∷◌, ◌++◌, length, Option, Some, None, refl, ap, sym, ◌∙◌, arith, inl, inr, ◌⊎◌}
+use Rattle.std.specs.Prelude.{All, Contains}
+use Rattle.std.proofs.lemmas.List.Elements.{All-push, All-pop}
+use Rattle.lk_tree.specs.Tree.{Tree}
+use Rattle.lk_tree.specs.RuleNo.{RuleNo}
+use Rattle.lk_rulebook.specs.Place.{Place}
+use Rattle.lk_plain.specs.Query as plain
+use Rattle.lk_plain.specs.Answer.{later}
+use Rattle.lk_plain.specs.Erased.{Value, Out, finished, stopped, used_up, seen, go_on, run_steps, out_of, steps_of, IsAnsweredAt}
+use Rattle.lk_plain.proofs.Erasing.{out-zero, out-step, seen_seen}
+use Rattle.lk_plain.proofs.Exact.{out_exact}
+use Rattle.lk_table.specs.Built.{rows}
+use Rattle.lk_store.specs.Contents.{Contents, tree_at, Extends}
+use Rattle.lk_ask.specs.declared.query.Query.{Query}
+use Rattle.lk_ask.specs.declared.query.Query.TheVariants.{Core, Whnf, Infer, Same}
+use Rattle.lk_ask.specs.declared.query.Answer.{Answer}
+use Rattle.lk_ask.specs.declared.rule.Rule.{Rule}
+use Rattle.lk_ask.specs.declared.stop.Stop.{Stop}
+use Rattle.lk_ask.specs.declared.stop.Stop.TheVariants as stop
+use Rattle.lk_ask.specs.declared.kept.Kept.{Kept}
+use Rattle.lk_ask.specs.declared.next.Next.{Next}
+use Rattle.lk_ask.specs.declared.next.Next.TheVariants.{Ask, Done, No}
+use Rattle.lk_ask.specs.declared.sheet.Sheet.{Sheet}
+use Rattle.lk_ask.specs.Questions.{query_of, value_at, rule_no, IsKnownQuery, IsKnownAnswer}
+use Rattle.lk_ask.specs.Nexts.{IsKnownNext}
+use Rattle.lk_ask.specs.Outcomes.{IsStop}
+use Rattle.lk_ask.specs.Sheets.{map_sheet, IsKnownSheet}
+use Rattle.lk_memo.specs.declared.key.Key.{Key}
+use Rattle.lk_memo.specs.Keys.{key_of}
+use Rattle.lk_memo.proofs.Keys.{key_of-injective}
+use Rattle.lk_engine.specs.declared.answering.Frame.{Frame}
+use Rattle.lk_engine.specs.Entries.{IsTrueAt, AreTrue}
+use Rattle.lk_engine.specs.Rests.{sheet_rest, next_of, query_steps, IsKnownFrame, Linked}
+use Rattle.lk_engine.proofs.Frames.{sheet_from, query_steady, query_known, stack_known, links_steady}
+
+-- a question's row is its row in the table
+query_steps_is : (w : Place) (t : ℕ → Tree) (q : Query ℕ) → query_steps w t None q ≡ steps_of rows w (query_of t q)
+query_steps_is w t (Core e) = refl
+query_steps_is w t (Whnf e) = refl
+query_steps_is w t (Infer e) = refl
+query_steps_is w t (Same a b) = refl
+
+-- one more entry, and fewer
+pub entries_more : (w : Place) (c : Contents) (es fs : List (Key × Kept)) (q : Query ℕ) (kept : Kept) → AreTrue w c es
+    → ((e : Key × Kept) → Contains fs e → Contains es e ⊎ (e ≡ (key_of q, kept))) → IsTrueAt w c q kept → AreTrue w c fs
+entries_more w c es fs q kept h more new = record {
+  each = λ e within r same. elim (more e within) [
+    | inl old ↦ h.each e old r same
+    | inr is ↦
+        let one : r ≡ q = key_of-injective r q (same ∙ ap (λ (p : Key × Kept). p.0) is) in
+        let two : e.1 ≡ kept = ap (λ (p : Key × Kept). p.1) is in
+        rw (one, two) new
+  ];
+}
+
+pub entries_fewer : (w : Place) (c : Contents) (es fs : List (Key × Kept)) → AreTrue w c es → ((e : Key × Kept) → Contains fs e → Contains es e) → AreTrue w c fs
+entries_fewer w c es fs h fewer = record { each = λ e within r same. h.each e (fewer e within) r same }
+
+-- an entry that the memo gave
+pub true_at : (w : Place) (c : Contents) (es : List (Key × Kept)) (q : Query ℕ) (kept : Kept) → AreTrue w c es → Contains es (key_of q, kept) → IsTrueAt w c q kept
+true_at w c es q kept h within = h.each (key_of q, kept) within q refl
+
+module _ (w : Place) (t : ℕ → Tree) where
+  -- what waits for an answer, with this frame
+  abbrev waiting : Frame → Out → Out
+  waiting f o = seen f.last (go_on o (λ v rest. run_steps (out_of rows w) (sheet_rest w None (map_sheet t f.sheet) v) rest))
+
+  -- one more question is asked
+  links_push : (q : plain.Query) (b : ℕ) (fs : List Frame) (f : Frame) (asked : plain.Query) (left : ℕ)
+      → Linked w t q b fs (query_of t f.asker) f.budget → out_of rows w (query_of t f.asker) f.budget ≡ waiting f (out_of rows w asked left) → Linked w t q b (fs ++ f ∷ []) asked left
+  links_push q b [] f asked left h e = (h.0, h.1, (asked, left, rw (h.0, h.1) at e, (refl, refl)))
+  links_push q b (g ∷ fs) f asked left h e = (h.0, h.1, (h.2.0, h.2.1, h.2.2, links_push h.2.0 h.2.1 fs f asked left h.2.3 e))
+
+  links_pop : (q : plain.Query) (b : ℕ) (fs : List Frame) (f : Frame) (asked : plain.Query) (left : ℕ)
+      → Linked w t q b (fs ++ f ∷ []) asked left → Linked w t q b fs (query_of t f.asker) f.budget × (out_of rows w (query_of t f.asker) f.budget ≡ waiting f (out_of rows w asked left))
+  links_pop q b [] f asked left h =
+      let p = h.2.3.0 in
+      let r = h.2.3.1 in
+      ((h.0, h.1), rw (h.0, h.1, p, r) h.2.2)
+  links_pop q b (g ∷ fs) f asked left h =
+      let r = links_pop h.2.0 h.2.1 fs f asked left h.2.3 in
+      ((h.0, h.1, (h.2.0, h.2.1, h.2.2, r.0)), r.1)
+
+  -- a stop goes through to the first question
+  links_stop : (q : plain.Query) (b : ℕ) (fs : List Frame) (asked : plain.Query) (left : ℕ) (s : Stop) → Linked w t q b fs asked left → IsStop (out_of rows w asked left) s → IsStop (out_of rows w q b) s
+  links_stop q b [] asked left s h e = rw (h.0, h.1) at e
+  links_stop q b (f ∷ fs) asked left s h e = stops_behind f q b h.2.0 h.2.1 s h.2.2 (links_stop h.2.0 h.2.1 fs asked left s h.2.3 e)
+    where
+      stops_behind : (f : Frame) (q : plain.Query) (b : ℕ) (r : plain.Query) (c : ℕ) (s : Stop) → out_of rows w q b ≡ waiting f (out_of rows w r c) → IsStop (out_of rows w r c) s → IsStop (out_of rows w q b) s
+      stops_behind f q b r c (stop.Rule rule) h e = h ∙ ap (waiting f) e
+      stops_behind f q b r c stop.Spent h e = h ∙ ap (waiting f) e
+      stops_behind f q b r c stop.NoMemory h e = tt
+
+  -- an answer goes to the frame that waits
+  waiting_goes : (f : Frame) (v : Value) (left : ℕ) (last last2 : Option ℕ) → last2 ≡ later f.last last → waiting f (finished v left last) ≡ run_steps (out_of rows w) (sheet_rest w last2 (map_sheet t f.sheet) v) left
+  waiting_goes f v left last last2 e =
+      seen_seen f.last last (run_steps (out_of rows w) (sheet_rest w None (map_sheet t f.sheet) v) left)
+      ∙ ap (λ s. seen s (run_steps (out_of rows w) (sheet_rest w None (map_sheet t f.sheet) v) left)) (sym e)
+      ∙ sym (sheet_from w last2 left (map_sheet t f.sheet) v)
+
+-- a question is opened
+pub opened : (w : Place) (t u : ℕ → Tree) (q : Query ℕ) (next : Next ℕ (Sheet ℕ)) (left left2 : ℕ) (last : Option ℕ) → 0 < left → left2 ≡ left - 1 → next_of w u last next ≡ query_steps w t None q
+    → run_steps (out_of rows w) (next_of w u last next) left2 ≡ out_of rows w (query_of t q) left
+opened w t u q next left left2 last l e p = ap (run_steps (out_of rows w) (next_of w u last next)) e ∙ ap (λ r. run_steps (out_of rows w) r (left - 1)) (p ∙ query_steps_is w t q) ∙ sym (out-step rows w (query_of t q) left l)
+
+-- nothing is left for it
+pub not_opened : (w : Place) (t : ℕ → Tree) (q : Query ℕ) (left : ℕ) → left < 1 → out_of rows w (query_of t q) left ≡ used_up
+not_opened w t q left h = let e : left ≡ 0 = omega arith in rw e (out-zero rows w (query_of t q))
+
+-- where the work stands: the first question is q under b, and the one that is worked on is `asked` under `budget`
+pub record IsLinked (w : Place) (q : plain.Query) (b : ℕ) (c : Contents) (stack : List Frame) (asked : Query ℕ) (budget : ℕ) (next : Next ℕ (Sheet ℕ)) (left : ℕ) (last : Option ℕ) : Type 0 where
+  pub stacked : All (IsKnownFrame (length c.trees)) stack
+  pub asked_known : IsKnownQuery (length c.trees) asked
+  pub known : IsKnownNext IsKnownSheet (length c.trees) next
+  pub links : Linked w (tree_at c) q b stack (query_of (tree_at c) asked) budget
+  pub runs : run_steps (out_of rows w) (next_of w (tree_at c) last next) left ≡ out_of rows w (query_of (tree_at c) asked) budget
+
+pub linked_begins : {c d : Contents} {next : Next ℕ (Sheet ℕ)} {left : ℕ} {last : Option ℕ} (w : Place) (q : Query ℕ) (b : ℕ) → Extends c d → IsKnownQuery (length c.trees) q → IsKnownNext IsKnownSheet (length d.trees) next
+    → run_steps (out_of rows w) (next_of w (tree_at d) last next) left ≡ out_of rows w (query_of (tree_at c) q) b → IsLinked w (query_of (tree_at c) q) b d [] q b next left last
+linked_begins {c} {d} {next} {left} {last} w q b x h k e =
+    let same = query_steady x q h in
+    record { stacked = λ i d h. absurd (omega arith); asked_known = query_known x q h; known = k; links = (same, refl); runs = e ∙ sym (ap (λ r. out_of rows w r b) same) }
+
+module _ {w : Place} {q : plain.Query} {b : ℕ} {c : Contents} {stack : List Frame} {asked : Query ℕ} {budget : ℕ} {next : Next ℕ (Sheet ℕ)} {left : ℕ} {last : Option ℕ} (l : IsLinked w q b c stack asked budget next left last) where
+  -- another question is asked
+  pub linked_asks : {d : Contents} {other : Query ℕ} {sheet : Sheet ℕ} {stack' : List Frame} {next' : Next ℕ (Sheet ℕ)} {left' : ℕ} {last' : Option ℕ} → next ≡ Ask other sheet
+      → stack' ≡ stack ++ record { asker = asked; budget = budget; sheet = sheet; last = last } ∷ [] → Extends c d → IsKnownNext IsKnownSheet (length d.trees) next'
+      → run_steps (out_of rows w) (next_of w (tree_at d) last' next') left' ≡ out_of rows w (query_of (tree_at c) other) left → IsLinked w q b d stack' other left next' left' last'
+  linked_asks {d} {other} {sheet} {stack'} {next'} {left'} {last'} is pushed x k e =
+      let frame : Frame = record { asker = asked; budget = budget; sheet = sheet; last = last } in
+      let known = rw is at l.known in
+      let runs = rw is at l.runs in
+      let all = All-push (IsKnownFrame (length c.trees)) stack frame l.stacked (record { asker = l.asked_known; sheet = known.1 }) in
+      let linked : Linked w (tree_at c) q b (stack ++ frame ∷ []) (query_of (tree_at c) other) left = links_push w (tree_at c) q b stack frame (query_of (tree_at c) other) left l.links (sym runs) in
+      let same = query_steady x other known.0 in
+      rw pushed (record {
+        stacked = stack_known x (stack ++ frame ∷ []) all;
+        asked_known = query_known x other known.0;
+        known = k;
+        links = rw same (links_steady x w q b (stack ++ frame ∷ []) (query_of (tree_at c) other) left all linked);
+        runs = rw same e;
+      })
+
+  -- what was asked is answered
+  pub linked_answers : {answer : Answer ℕ} → next ≡ Done answer → IsKnownAnswer (length c.trees) answer × (out_of rows w (query_of (tree_at c) asked) budget ≡ finished (value_at (tree_at c) answer) left last)
+  linked_answers {answer} is = (rw is at l.known, sym (rw is at l.runs))
+
+  pub linked_left : {answer : Answer ℕ} → next ≡ Done answer → left ≤ budget
+  linked_left {answer} is = let h = (out_exact rows w (query_of (tree_at c) asked) budget (value_at (tree_at c) answer) left last (linked_answers is).1).0 in omega arith
+
+  pub linked_true : {answer : Answer ℕ} → next ≡ Done answer → IsTrueAt w c asked (record { answer = answer; cost = budget - left; top = last })
+  linked_true {answer} is = record {
+    query = l.asked_known;
+    answer = (linked_answers is).0;
+    is = (out_exact rows w (query_of (tree_at c) asked) budget (value_at (tree_at c) answer) left last (linked_answers is).1).1;
+  }
+
+  pub top_known : (stack' : List Frame) (frame : Frame) → stack ≡ stack' ++ frame ∷ [] → IsKnownFrame (length c.trees) frame
+  top_known stack' frame popped = (All-pop (IsKnownFrame (length c.trees)) stack stack' (Some frame) popped l.stacked).1
+
+  -- the answer goes to the question that asked
+  pub linked_resumes : {d : Contents} {answer : Answer ℕ} {next' : Next ℕ (Sheet ℕ)} {last2 last3 : Option ℕ} (stack' : List Frame) (frame : Frame) → next ≡ Done answer → stack ≡ stack' ++ frame ∷ [] → last2 ≡ later frame.last last → Extends c d
+      → IsKnownNext IsKnownSheet (length d.trees) next' → next_of w (tree_at d) last3 next' ≡ sheet_rest w last2 (map_sheet (tree_at c) frame.sheet) (value_at (tree_at c) answer)
+      → IsLinked w q b d stack' frame.asker frame.budget next' left last3
+  linked_resumes {d} {answer} {next'} {last2} {last3} stack' frame is popped e x k p =
+      let all = All-pop (IsKnownFrame (length c.trees)) stack stack' (Some frame) popped l.stacked in
+      let links = rw popped at l.links in
+      let both = links_pop w (tree_at c) q b stack' frame (query_of (tree_at c) asked) budget links in
+      let same = query_steady x frame.asker all.1.asker in
+      let given = (linked_answers is).1 in
+      let asker_is : out_of rows w (query_of (tree_at c) frame.asker) frame.budget ≡ run_steps (out_of rows w) (sheet_rest w last2 (map_sheet (tree_at c) frame.sheet) (value_at (tree_at c) answer)) left =
+          both.1 ∙ ap (waiting w (tree_at c) frame) given ∙ waiting_goes w (tree_at c) frame (value_at (tree_at c) answer) left last last2 e in
+      record {
+        stacked = stack_known x stack' all.0;
+        asked_known = query_known x frame.asker all.1.asker;
+        known = k;
+        links = rw same (links_steady x w q b stack' (query_of (tree_at c) frame.asker) frame.budget all.0 both.0);
+        runs = rw (p, same) (sym asker_is);
+      }
+
+  -- why the first question has no answer
+  pub linked_stops : {other : Query ℕ} {sheet : Sheet ℕ} (s : Stop) → next ≡ Ask other sheet → IsStop (out_of rows w (query_of (tree_at c) other) left) s → IsStop (out_of rows w q b) s
+  linked_stops {other} {sheet} s is e = links_stop w (tree_at c) q b stack (query_of (tree_at c) asked) budget s l.links (go s e)
+    where
+      runs : waiting w (tree_at c) (record { asker = asked; budget = budget; sheet = sheet; last = last }) (out_of rows w (query_of (tree_at c) other) left) ≡ out_of rows w (query_of (tree_at c) asked) budget
+      runs = rw is at l.runs
+      go : (s : Stop) → IsStop (out_of rows w (query_of (tree_at c) other) left) s → IsStop (out_of rows w (query_of (tree_at c) asked) budget) s
+      go (stop.Rule r) e = sym runs ∙ ap (waiting w (tree_at c) (record { asker = asked; budget = budget; sheet = sheet; last = last })) e
+      go stop.Spent e = sym runs ∙ ap (waiting w (tree_at c) (record { asker = asked; budget = budget; sheet = sheet; last = last })) e
+      go stop.NoMemory e = tt
+
+  pub linked_refused : {rule : Rule} → next ≡ No rule → out_of rows w q b ≡ stopped (rule_no rule)
+  linked_refused {rule} is = links_stop w (tree_at c) q b stack (query_of (tree_at c) asked) budget (stop.Rule rule) l.links (sym (rw is at l.runs))
+
+  pub linked_ends : {answer : Answer ℕ} → next ≡ Done answer → stack ≡ [] → IsKnownAnswer (length c.trees) answer × (out_of rows w q b ≡ finished (value_at (tree_at c) answer) left last)
+  linked_ends {answer} is empty =
+      let links = rw empty at l.links in
+      let a = linked_answers is in
+      (a.0, rw (sym links.0, sym links.1) a.1)

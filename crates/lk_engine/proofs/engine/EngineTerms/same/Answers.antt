@@ -1,4 +1,0 @@
-use Rattle.lk_engine.proofs.engine.EngineTerms.same.Goals as goal
-
-pub returns : goal.returns
-returns c = rw (← c.self.view_is) c.same.ensures

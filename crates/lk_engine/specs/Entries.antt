@@ -1,0 +1,21 @@
+-- What a memo keeps is true.
+use Rattle.std.specs.Prelude.{◌≡◌, ℕ, List, length, Contains}
+use Rattle.lk_rulebook.specs.Place.{Place}
+use Rattle.lk_plain.specs.Erased.{out_of, IsAnsweredAt}
+use Rattle.lk_table.specs.Built.{rows}
+use Rattle.lk_store.specs.Contents.{Contents, tree_at}
+use Rattle.lk_ask.specs.declared.query.Query.{Query}
+use Rattle.lk_ask.specs.declared.kept.Kept.{Kept}
+use Rattle.lk_ask.specs.Questions.{query_of, value_at, IsKnownQuery, IsKnownAnswer}
+use Rattle.lk_memo.specs.declared.key.Key.{Key}
+use Rattle.lk_memo.specs.Keys.{key_of}
+
+-- at the place the question has this answer, at just this cost, and this is the last unit that was looked at
+pub record IsTrueAt (w : Place) (c : Contents) (q : Query ℕ) (kept : Kept) : Type 0 where
+  pub query : IsKnownQuery (length c.trees) q
+  pub answer : IsKnownAnswer (length c.trees) kept.answer
+  pub is : IsAnsweredAt (out_of rows w (query_of (tree_at c) q)) (value_at (tree_at c) kept.answer) kept.cost kept.top
+
+-- each entry is true of its question
+pub record AreTrue (w : Place) (c : Contents) (entries : List (Key × Kept)) : Type 0 where
+  pub each : (e : Key × Kept) → Contains entries e → (q : Query ℕ) → key_of q ≡ e.0 → IsTrueAt w c q e.1
