@@ -4,6 +4,7 @@
 
 pub mod asks;
 pub mod constants;
+pub mod kept;
 pub mod next;
 pub mod query;
 pub mod rule;

@@ -7,3 +7,4 @@ pub mod Settled
 pub mod Soundness
 pub mod Parts
 pub mod Erasing
+pub mod Exact

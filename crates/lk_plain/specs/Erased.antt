@@ -1,6 +1,6 @@
 -- Programs and answers in which the question's type is forgotten, as a loop over a stack has them. Beside each answer stands
 -- the last unit that was looked at for it: the greatest number, where there is one.
-use Rattle.std.specs.Prelude.{ℕ, ◌-◌, Bool, Option, Some, None}
+use Rattle.std.specs.Prelude.{◌≡◌, ◌<◌, ◌≤◌, ℕ, ◌-◌, Bool, Option, Some, None}
 use Rattle.lk_tree.specs.Tree.{Tree}
 use Rattle.lk_tree.specs.RuleNo.{RuleNo, loose_variable}
 use Rattle.lk_rulebook.specs.Place.{Place, Entry}
@@ -88,3 +88,10 @@ out_of table w q budget = left_of (value_of q) budget (plain_answer table w q bu
 -- what the question does, by its row of the table
 abbrev pub steps_of : Table → Place → Query → Steps
 steps_of table w q = erased w (value_of q) None (table q)
+
+-- v comes at just the cost c, with t the last unit that was looked at: under each budget of at least c, and below it the budget is
+-- used up
+pub record IsAnsweredAt (f : ℕ → Out) (v : Value) (c : ℕ) (t : Option ℕ) : Type 0 where
+  pub some : 0 < c
+  pub enough : (b : ℕ) → c ≤ b → f b ≡ finished v (b - c) t
+  pub too_little : (b : ℕ) → b < c → f b ≡ used_up

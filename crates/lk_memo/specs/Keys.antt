@@ -1,0 +1,12 @@
+-- Questions as keys.
+use Rattle.std.specs.Prelude.{ℕ}
+use Rattle.lk_ask.specs.declared.query.Query.{Query}
+use Rattle.lk_ask.specs.declared.query.Query.TheVariants as query
+use Rattle.lk_memo.specs.declared.key.Key.{Key}
+use Rattle.lk_memo.specs.declared.key.Kind.TheVariants.{Core, Whnf, Infer, Same}
+
+abbrev pub key_of : Query ℕ → Key
+key_of (query.Core e) = record { kind = Core; first = e; second = e }
+key_of (query.Whnf e) = record { kind = Whnf; first = e; second = e }
+key_of (query.Infer e) = record { kind = Infer; first = e; second = e }
+key_of (query.Same a b) = record { kind = Same; first = a; second = b }

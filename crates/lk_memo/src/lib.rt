@@ -1,0 +1,5 @@
+//! A memo of the last answers, with what they cost, which one worker has for itself.
+#![tactic(auto)]
+
+pub mod key;
+pub mod memo;
