@@ -8,7 +8,7 @@ use Rattle.lk_tree.specs.Tree.{Name, Level, Tree}
 use Rattle.lk_tree.specs.Levels.{put_levels}
 use Rattle.lk_rulebook.specs.Place.{Entry as PlainEntry}
 use Rattle.lk_store.specs.Contents.{Contents, name_at, level_at, list_at, Extends, IsTree}
-use Rattle.lk_subst.specs.Levels.{names-stay}
+use Rattle.lk_subst.specs.Numbers.{values-steady}
 use Rattle.lk_ask.specs.Constants.{IsLevels, IsAtLevels}
 
 -- the first levels of a list stand in front, and the rest is still to be taken
@@ -35,7 +35,7 @@ pub at_levels_is : (c d f : Contents) (o : Option PlainEntry) (params values : L
     → IsTree f r (put_levels (map (name_at d) params) (map (level_at d) values) t) → o ≡ Some g → IsAtLevels f g.levels ls t (Some r)
 at_levels_is c d f o params values ls t r g x known declared levels count made e =
     let names : g.levels ≡ map (name_at c) params = entry_params o (map (name_at c) params) g declared e in
-    let same : map (name_at d) params ≡ g.levels = names-stay c d params x known ∙ sym names in
+    let same : map (name_at d) params ≡ g.levels = values-steady [] c.names d.names params x.names known ∙ sym names in
     let as_many : length ls ≡ length g.levels =
         ap length (sym levels.are) ∙ length-map values (level_at d) ∙ count ∙ sym (length-map params (name_at c)) ∙ ap length (sym names) in
     (grind (arith, nat_tests, as_many), rw (← levels.are, ← same) made)

@@ -1,3 +1,4 @@
+pub mod Asking
 pub mod Frames
 pub mod Stacks
 pub mod ZeroWalks

@@ -3,12 +3,13 @@ use Rattle.std.proofs.Common.{◌≡◌, ◌≢◌, ◌↔◌, ℕ, zero, suc, B
 use Rattle.std.specs.Prelude.{All, ◌||◌}
 use Rattle.std.proofs.lemmas.Grind.{common_steps}
 use Rattle.std.proofs.lemmas.List.{map-append}
-use Rattle.std.proofs.lemmas.List.Elements.{All-head, All-tail, All-weaker}
+use Rattle.std.proofs.lemmas.List.Elements.{All-weaker}
 use Rattle.lk_tree.specs.Tree.{Name, name_discrete, Level, zero_level, succ_level, max_level, imax_level, param}
 use Rattle.lk_tree.specs.Levels.{level_for, put_in_level}
 use Rattle.lk_store.specs.Measures.{level_has_params, list_has_params}
 use Rattle.lk_store.specs.Contents.{Contents, name_at, level_at, list_at, Extends, IsLevel}
 use Rattle.lk_subst.specs.declared.parts.Met.{Met}
+use Rattle.lk_subst.specs.Numbers.{values-steady, values-known}
 use Rattle.lk_subst.specs.Parts.{AreMet}
 use Rattle.lk_subst.specs.Parameters.{putting, ArePut}
 
@@ -78,30 +79,14 @@ level_for-none c (p ∷ ps) (v ∷ vs) n none =
 
 -- While the store grows.
 module _ (c d : Contents) (x : Extends c d) where
-  names-steady : (ps : List ℕ) → All (λ p. p < length c.names) ps → map (name_at d) ps ≡ map (name_at c) ps
-  names-steady [] h = refl
-  names-steady (p ∷ ps) h =
-      let P : ℕ → Type 0 = λ p. p < length c.names in
-      let first = x.names.same p (All-head P p ps h) in
-      let others = names-steady ps (All-tail P p ps h) in
-      cc
-
-  levels-steady : (vs : List ℕ) → All (λ v. v < length c.levels) vs → map (level_at d) vs ≡ map (level_at c) vs
-  levels-steady [] h = refl
-  levels-steady (v ∷ vs) h =
-      let P : ℕ → Type 0 = λ v. v < length c.levels in
-      let first = x.levels.same v (All-head P v vs h) in
-      let others = levels-steady vs (All-tail P v vs h) in
-      cc
-
   pub putting-steady : (ps vs : List ℕ) → All (λ p. p < length c.names) ps → All (λ v. v < length c.levels) vs → putting d ps vs ≡ putting c ps vs
-  putting-steady ps vs h k = rw (names-steady ps h, levels-steady vs k) refl
+  putting-steady ps vs h k = rw (values-steady [] c.names d.names ps x.names h, values-steady zero_level c.levels d.levels vs x.levels k) refl
 
   pub names-known : (ps : List ℕ) → All (λ p. p < length c.names) ps → All (λ p. p < length d.names) ps
-  names-known ps h = let longer = x.names.longer in All-weaker (λ p. p < length c.names) (λ p. p < length d.names) (λ p l. omega arith) ps h
+  names-known ps h = values-known [] c.names d.names ps x.names h
 
   pub levels-known : (vs : List ℕ) → All (λ v. v < length c.levels) vs → All (λ v. v < length d.levels) vs
-  levels-known vs h = let longer = x.levels.longer in All-weaker (λ v. v < length c.levels) (λ v. v < length d.levels) (λ v l. omega arith) vs h
+  levels-known vs h = values-known zero_level c.levels d.levels vs x.levels h
 
   pub met-known : (met : List Met) → AreMet c met → AreMet d met
   met-known met h = let longer = x.levels.longer in All-weaker (λ (m : Met). m.level < length c.levels) (λ (m : Met). m.level < length d.levels) (λ m l. omega arith) met h

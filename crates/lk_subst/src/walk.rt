@@ -211,8 +211,8 @@ fn begin<T: Terms, R: Rewrite<T>>(
             e: first,
             depth,
         }),
-        // A step makes something of each leaf.
-        None => Err(NoMemory),
+        // A step makes something of each leaf at once.
+        None => unreachable!(),
     }
 }
 

@@ -6,6 +6,9 @@
 //! the last term is printed.
 #![tactic(auto)]
 
+#[cfg(test)]
+mod tests;
+
 use lk_rows::memory::NoMemory;
 use lk_store::base_store::BaseStore;
 use lk_store::node::{LevelNode, Node};
