@@ -37,5 +37,5 @@ at_levels_is c d f o params values ls t r g x known declared levels count made e
     let names : g.levels ≡ map (name_at c) params = entry_params o (map (name_at c) params) g declared e in
     let same : map (name_at d) params ≡ g.levels = values-steady [] c.names d.names params x.names known ∙ sym names in
     let as_many : length ls ≡ length g.levels =
-        ap length (sym levels.are) ∙ length-map values (level_at d) ∙ count ∙ sym (length-map params (name_at c)) ∙ ap length (sym names) in
+    ap length (sym levels.are) ∙ length-map values (level_at d) ∙ count ∙ sym (length-map params (name_at c)) ∙ ap length (sym names) in
     (grind (arith, nat_tests, as_many), rw (← levels.are, ← same) made)

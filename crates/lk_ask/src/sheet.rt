@@ -58,11 +58,20 @@ pub enum SameSheet<X: Drop> {
         number: u64,
     },
     /// After `Core` of the left one.
-    CoreLeft { left: X, right: X },
+    CoreLeft {
+        left: X,
+        right: X,
+    },
     /// After `Core` of the right one; `form` is that of the left one.
-    CoreRight { left: X, right: X, form: X },
+    CoreRight {
+        left: X,
+        right: X,
+        form: X,
+    },
     /// After a pair. The others are still to be compared, the last one first.
-    Parts { others: Stack<Pair<X>> },
+    Parts {
+        others: Stack<Pair<X>>,
+    },
 }
 
 /// What a question keeps.

@@ -1,25 +1,35 @@
 //! `Whnf`: the weak head form.
 
-ghost use Rattle.std.specs.Prelude.{◌≡◌, ◌<◌, ℕ, IfOk, Option, length};
-ghost use Rattle.lk_tree.specs.Tree.{Tree};
-ghost use Rattle.lk_rulebook.specs.Place.{Place};
+ghost use Rattle.std.specs.Prelude.{◌≡◌, ◌<◌, ℕ, Option, Some, List, IfOk, IfSome, IsSome, length, option_map};
+ghost use Rattle.lk_tree.specs.Tree.{Name, Tree, const};
+ghost use Rattle.lk_tree.specs.Spine.{apply as apply_to, args as args_of};
+ghost use Rattle.lk_rulebook.specs.Place.{Place, Entry as PlainEntry};
 ghost use Rattle.lk_plain.specs.Erased.{a_tree, erased};
-ghost use Rattle.lk_table.specs.Built.{whnf_row};
-ghost use Rattle.lk_store.specs.Contents.{tree_at, Extends};
+ghost use Rattle.lk_table.specs.Core.{unfolded};
+ghost use Rattle.lk_table.specs.Steps.{value_of as plain_value};
+ghost use Rattle.lk_table.specs.Built.{whnf_built, whnf_end, whnf_row};
+ghost use Rattle.lk_store.specs.Contents.{Contents, name_at, list_at, tree_at, Extends, IsTree};
 ghost use Rattle.lk_store.specs.Store.{contents_of};
+ghost use Rattle.lk_env.specs.declared.unit.Unit.{Unit as StoredUnit};
+ghost use Rattle.lk_env.specs.Entries.{plain_entry, IsEntryIn};
 ghost use Rattle.lk_env.specs.Places.{place_at};
 ghost use Rattle.lk_ask.specs.Questions.{value_at, IsKnownAnswer};
 ghost use Rattle.lk_ask.specs.Nexts.{IsKnownNext};
-ghost use Rattle.lk_core.specs.Forms.{core_rest, core_next, IsKnownCore};
+ghost use Rattle.lk_core.specs.Forms.{core_next, core_rest, IsKnownCore};
 
 use crate::core_form::CoreNext;
+use lk_ask::constants::{at_levels, is_built, look_up};
 use lk_ask::next::Next;
 use lk_ask::query::{Answer, Query};
+use lk_ask::rule::Rule;
 use lk_ask::sheet::CoreSheet;
-use lk_env::entry::Site;
+use lk_env::entry::{Entry, Kind, Site};
 use lk_env::library::Library;
+use lk_env::unit::Body;
 use lk_meter::meter::Meter;
 use lk_rows::memory::NoMemory;
+use lk_spine::{apply, args, head};
+use lk_store::node::Node;
 use lk_store::terms::Terms;
 use std::alloc::Global;
 
@@ -31,9 +41,129 @@ pub fn begin(e: u64) -> CoreNext
     Next::Ask(Query::Core(e), CoreSheet::WhnfCore)
 }
 
+/// The value that a constant is unfolded by.
+fn value_of(entry: Entry) -> Option<u64>
+    ensures known { (c : Contents) → IsEntryIn c entry → IfSome result (λ v. v < length c.trees) }
+    ensures value { (c : Contents) (us : List StoredUnit) (g : PlainEntry) → plain_entry c us entry ≡ Some g → plain_value g.kind ≡ option_map (tree_at c) result }
+{
+    match entry.kind {
+        Kind::Declared(body) => match body {
+            Body::Definition { value, .. } => Some(value),
+            Body::Theorem { proof } => Some(proof),
+            Body::Axiom | Body::Opaque { .. } | Body::Quotient => None,
+        },
+        Kind::Type(_) | Kind::Constructor { .. } | Kind::Recursor(_) => None,
+    }
+}
+
+/// Another head, applied to the arguments of a term.
+fn with_head<T: Terms>(alloc: Global, terms: &mut T, e: u64, front: u64) -> Result<u64, NoMemory>
+    requires e_in { e < length (T.contents terms.old).trees }
+    requires front_in { front < length (T.contents terms.old).trees }
+    ensures keeps { Extends (T.contents terms.old) (T.contents terms.new) }
+    ensures rest { T.rest terms.new ≡ T.rest terms.old }
+    ensures ok { IfOk result (λ r. IsTree (T.contents terms.new) r (apply_to (tree_at (T.contents terms.old) front) (args_of (tree_at (T.contents terms.old) e)))) }
+{
+    let values = args(alloc, terms, e)?;
+    apply(terms, front, &values)
+}
+
+/// Unfolds the head of a term, a constant of these levels, by its value.
+fn unfold<T: Terms>(
+    alloc: Global,
+    library: &Library,
+    terms: &mut T,
+    entry: Entry,
+    levels: u64,
+    value: u64,
+    e: u64,
+) -> Result<CoreNext, NoMemory>
+    requires over { Extends (contents_of library.now.0) (T.contents terms.old) }
+    requires meant { IsSome (plain_entry (contents_of library.now.0) library.now.1 entry) }
+    requires levels_in { levels < length (T.contents terms.old).lists }
+    requires value_in { value < length (T.contents terms.old).trees }
+    requires e_in { e < length (T.contents terms.old).trees }
+    ensures keeps { Extends (T.contents terms.old) (T.contents terms.new) }
+    ensures rest { T.rest terms.new ≡ T.rest terms.old }
+    ensures known { IfOk result (IsKnownNext IsKnownCore (length (T.contents terms.new).trees)) }
+    ensures steps { (w : Place) (last : Option ℕ) (g : PlainEntry) (f : Name) → plain_entry (contents_of library.now.0) library.now.1 entry ≡ Some g
+        → IfOk result (λ next. core_next w (tree_at (T.contents terms.new)) last next
+        ≡ erased w a_tree last (unfolded g (const f (list_at (T.contents terms.old) levels)) (tree_at (T.contents terms.old) e) (Some (tree_at (T.contents terms.old) value)))) }
+{
+    match at_levels(alloc, library, terms, entry, levels, value)? {
+        Some(front) => {
+            let next = with_head(alloc, terms, e, front)?;
+            Ok(Next::Ask(Query::Whnf(next), CoreSheet::Passed))
+        }
+        None => Ok(Next::No(Rule::LevelCount)),
+    }
+}
+
+/// The end of `Whnf` of a term whose head is a constant.
+fn constant_end<T: Terms>(
+    alloc: Global,
+    library: &Library,
+    site: &Site,
+    terms: &mut T,
+    meter: &mut Meter,
+    e: u64,
+    name: u64,
+    levels: u64,
+) -> Result<CoreNext, NoMemory>
+    requires over { Extends (contents_of library.now.0) (T.contents terms.old) }
+    requires e_in { e < length (T.contents terms.old).trees }
+    requires name_in { name < length (T.contents terms.old).names }
+    requires levels_in { levels < length (T.contents terms.old).lists }
+    ensures keeps { Extends (T.contents terms.old) (T.contents terms.new) }
+    ensures rest { T.rest terms.new ≡ T.rest terms.old }
+    ensures left { meter.new.left ≡ meter.old.left }
+    ensures known { IfOk result (IsKnownNext IsKnownCore (length (T.contents terms.new).trees)) }
+    ensures steps { IfOk result (λ next. core_next (place_at library.now site.now.unit) (tree_at (T.contents terms.new)) meter.new.last next
+        ≡ erased (place_at library.now site.now.unit) a_tree meter.old.last (whnf_built (tree_at (T.contents terms.old) e) (const (name_at (T.contents terms.old) name) (list_at (T.contents terms.old) levels)))) }
+{
+    let entry = match look_up(library, site, terms, name, meter) {
+        Ok(entry) => entry,
+        Err(rule) => return Ok(Next::No(rule)),
+    };
+    if !is_built(entry.kind) {
+        return Ok(Next::No(Rule::BuiltinShape));
+    }
+    match value_of(entry) {
+        Some(value) => unfold(alloc, library, terms, entry, levels, value, e),
+        None => Ok(Next::Done(Answer::Term(e))),
+    }
+}
+
+/// The end of `Whnf`, once its `Core` is there.
+fn end<T: Terms>(
+    alloc: Global,
+    library: &Library,
+    site: &Site,
+    terms: &mut T,
+    meter: &mut Meter,
+    e: u64,
+) -> Result<CoreNext, NoMemory>
+    requires over { Extends (contents_of library.now.0) (T.contents terms.old) }
+    requires e_in { e < length (T.contents terms.old).trees }
+    ensures keeps { Extends (T.contents terms.old) (T.contents terms.new) }
+    ensures rest { T.rest terms.new ≡ T.rest terms.old }
+    ensures left { meter.new.left ≡ meter.old.left }
+    ensures known { IfOk result (IsKnownNext IsKnownCore (length (T.contents terms.new).trees)) }
+    ensures steps { IfOk result (λ next. core_next (place_at library.now site.now.unit) (tree_at (T.contents terms.new)) meter.new.last next
+        ≡ erased (place_at library.now site.now.unit) a_tree meter.old.last (whnf_end (tree_at (T.contents terms.old) e))) }
+{
+    let front = head(terms, e);
+    match terms.view(front) {
+        Node::Const(name, levels) => {
+            constant_end(alloc, library, site, terms, meter, e, name, levels)
+        }
+        _ => Ok(Next::Done(Answer::Term(e))),
+    }
+}
+
 /// Goes on with `Core` or `Whnf` once the answer is there that its sheet waits for.
 pub fn resume<T: Terms>(
-    _alloc: Global,
+    alloc: Global,
     library: &Library,
     site: &Site,
     terms: &mut T,
@@ -50,5 +180,12 @@ pub fn resume<T: Terms>(
     ensures steps { IfOk result (λ next. core_next (place_at library.now site.now.unit) (tree_at (T.contents terms.new)) meter.new.last next
         ≡ core_rest (place_at library.now site.now.unit) meter.old.last sheet (value_at (tree_at (T.contents terms.old)) answer)) }
 {
-    Err(NoMemory)
+    match answer {
+        Answer::Term(e) => match sheet {
+            CoreSheet::Passed => Ok(Next::Done(Answer::Term(e))),
+            CoreSheet::WhnfCore => end(alloc, library, site, terms, meter, e),
+        },
+        // No sheet waits for a truth value.
+        Answer::Truth(_) => Ok(Next::No(Rule::LooseVariable)),
+    }
 }

@@ -1,5 +1,5 @@
 -- What waits for an answer goes on, or stops.
-use Rattle.std.proofs.Common.{◌≡◌, ℕ, Bool, true, false, Option, None, Ok, Err, Result, refl, ap, sym, ◌∙◌, if◌then◌else◌}
+use Rattle.std.proofs.Common.{◌≡◌, ℕ, Bool, true, false, Option, None, Ok, Err, Result, refl, ap, sym, subst, ◌∙◌, if◌then◌else◌}
 use Rattle.lk_tree.specs.Tree.{Tree, Level}
 use Rattle.lk_tree.specs.RuleNo.{not_a_sort, value_type, theorem_not_prop}
 use Rattle.lk_tree.specs.Level.{is_zero_level}
@@ -7,16 +7,21 @@ use Rattle.lk_rulebook.specs.Place.{Place}
 use Rattle.lk_rulebook.specs.Units.{Decl, Body, as_axiom, as_thm}
 use Rattle.lk_plain.specs.Query as plain
 use Rattle.lk_plain.specs.Answer.{later}
-use Rattle.lk_plain.specs.Program.{Program, done, refuse, ◌>>=◌}
+use Rattle.lk_plain.specs.Program.{Program, Table, done, refuse, ◌>>=◌}
 use Rattle.lk_plain.specs.Erased.{Value, truth, Steps, asks, with_tree, with_truth, Out, finished, stopped, used_up, seen, go_on, run_steps}
 use Rattle.lk_plain.proofs.Erasing.{seen_seen, seen_none}
 use Rattle.lk_table.specs.Steps.{as_sort, sort_of, given}
 use Rattle.lk_table.specs.Declarations.{Yes, checked, value_steps, body_steps, unit_steps}
 use Rattle.lk_store.specs.Contents.{Contents, level_at}
+use Rattle.lk_ask.specs.declared.rule.Rule.TheVariants.{NotASort}
 use Rattle.lk_ask.specs.declared.stop.Stop.{Stop}
 use Rattle.lk_ask.specs.declared.stop.Stop.TheVariants.{Rule, Spent, NoMemory}
 use Rattle.lk_ask.specs.Outcomes.{IsStop}
 use Rattle.lk_engine.specs.Outcomes.{IsAccepted, Passes, Asker, GivesTree, GivesTruth, GivesLevel, GivesSort, unit_steps_of}
+
+-- what is so of a table and a place is so of their equals
+pub moved : (P : Table → Place → Type 0) (t u : Table) (w x : Place) → u ≡ t → x ≡ w → P u x → P t w
+moved P t u w x e f h = subst (λ y. P t y) f (subst (λ y. P y x) e h)
 
 passes_same : (o p : Out) → o ≡ p → Passes o p
 passes_same o p e = (None, e ∙ sym (seen_none p))
@@ -72,7 +77,7 @@ module _ (answer : Asker) where
     pub sort_by_level : (E T S : Tree) (b c d : ℕ) (s : Contents) (r : Result ℕ Stop) → GoesWithTree (plain.infer E) b T c → GoesWithTree (plain.whnf T) c S d
         → GivesLevel s S r → GivesSort answer w E b s d r
     sort_by_level E T S b c d s (Ok l) first second h = sort_goes E T S (done (level_at s l)) b c d first second h.1
-    sort_by_level E T S b c d s (Err stop) first second h = λ k. rw h.0 (stop_passes _ _ (Rule _) (sort_goes E T S (refuse not_a_sort) b c d first second h.1 k) refl)
+    sort_by_level E T S b c d s (Err stop) first second h = λ k. rw h.0 (stop_passes (unit_run (sort_of E >>= k) b) (stopped not_a_sort) (Rule NotASort) (sort_goes E T S (refuse not_a_sort) b c d first second h.1 k) refl)
 
     -- the value's type is asked for, and then compared
     abbrev compared : Tree → Tree → Steps
@@ -137,4 +142,4 @@ module _ (answer : Asker) where
         → (stop : Stop) → IsStop (stopped theorem_not_prop) stop → IsAccepted (unit_run (unit_steps d) b) left (Err stop)
     theorem_no_prop d type proof l b c left e f zero sorted stop h =
         of_declaration d type (as_thm proof) b left (Err stop) e f
-        (stop_passes _ _ stop (passes_on _ _ _ (sorted (proved type proof)) (passes_same _ _ (ap (λ t. unit_run (if t then value_steps type proof else refuse theorem_not_prop) c) zero))) h)
+        (stop_passes (unit_run (sort_of type >>= proved type proof) b) (stopped theorem_not_prop) stop (passes_on _ _ (stopped theorem_not_prop) (sorted (proved type proof)) (passes_same _ (stopped theorem_not_prop) (ap (λ t. unit_run (if t then value_steps type proof else refuse theorem_not_prop) c) zero))) h)

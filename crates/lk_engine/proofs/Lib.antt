@@ -1,4 +1,5 @@
 pub mod Asking
 pub mod Frames
+pub mod Outcomes
 pub mod Stacks
 pub mod ZeroWalks

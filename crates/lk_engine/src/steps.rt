@@ -123,8 +123,7 @@ pub fn resume<T: Terms>(
 {
     match sheet {
         Sheet::Core(kept) => {
-            let next =
-                lk_core::whnf::resume(alloc, library, site, terms, meter, kept, answer)?;
+            let next = lk_core::whnf::resume(alloc, library, site, terms, meter, kept, answer)?;
             Ok(of_core(next))
         }
         Sheet::Type(kept) => {

@@ -54,7 +54,9 @@ pub fn begin<T: Terms>(
         Node::Var(_) => Ok(Next::No(Rule::LooseVariable)),
         Node::Sort(level) => next_sort(terms, level),
         Node::Local(_, kind) => Ok(Next::Done(Answer::Term(kind))),
-        Node::Const(name, levels) => constant_type(alloc, library, site, terms, meter, name, levels),
+        Node::Const(name, levels) => constant_type(
+            alloc, library, site, terms, meter, name, levels,
+        ),
         Node::App(function, argument) => Ok(Next::Ask(
             Query::Infer(function),
             TypeSheet::Function { argument },
@@ -68,8 +70,9 @@ pub fn begin<T: Terms>(
             TypeSheet::PiDomain { domain, body },
         )),
         // Those of the other kinds are not built yet.
-        Node::Let(_, _, _) | Node::Proj(_, _, _) | Node::Lit(_) | Node::Wide | Node::Str(_) =>
-            Ok(Next::No(Rule::BuiltinShape)),
+        Node::Let(_, _, _) | Node::Proj(_, _, _) | Node::Lit(_) | Node::Wide | Node::Str(_) => Ok(
+            Next::No(Rule::BuiltinShape),
+        ),
     }
 }
 

@@ -1,0 +1,4 @@
+pub mod Lambdas
+pub mod Opened
+pub mod Constants
+pub mod Rows

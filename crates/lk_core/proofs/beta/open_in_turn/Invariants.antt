@@ -1,0 +1,20 @@
+use Rattle.std.proofs.Common.{◌≡◌, ◌<◌, length, map}
+use Rattle.std.specs.Prelude.{All}
+use Rattle.lk_store.specs.Contents.{tree_at, Extends}
+use Rattle.lk_table.specs.Core.{beta}
+use Rattle.lk_core.proofs.beta.open_in_turn.Given as goal
+
+abbrev pub invariant-open : goal.invariant-open
+invariant-open g l =
+    let c = g.T.Terms.contents l.fn.terms in
+    let now = g.T.Terms.contents l.terms in
+    record {
+      grown : Extends c now;
+      same_rest : g.T.Terms.rest l.terms ≡ g.T.Terms.rest l.fn.terms;
+      known : l.e < length now.trees;
+      args_known : All (λ e. e < length c.trees) l.rest;
+      stands : beta l.left (tree_at now l.e) (map (tree_at c) l.rest) ≡ beta l.fn.count (tree_at c l.fn.head) (map (tree_at c) l.fn.args);
+    }
+
+abbrev pub decreases-open : goal.decreases-open
+decreases-open g l = length l.rest

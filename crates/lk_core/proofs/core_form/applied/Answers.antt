@@ -1,0 +1,27 @@
+use Rattle.std.proofs.Common.{◌≡◌}
+use Rattle.std.specs.Prelude.{IfOk}
+use Rattle.lk_tree.specs.Tree.{const}
+use Rattle.lk_tree.specs.Spine.{args}
+use Rattle.lk_plain.specs.Erased.{a_tree, erased}
+use Rattle.lk_store.specs.Contents.{name_at, list_at, tree_at}
+use Rattle.lk_env.specs.Places.{place_at}
+use Rattle.lk_core.specs.Forms.{core_next}
+use Rattle.lk_core.proofs.Rows.{head_is, lambda_applied_is}
+use Rattle.lk_core.proofs.core_form.applied.Goals as goal
+
+pub returns-in-Const-clause-steps : goal.returns-in-Const-clause-steps
+returns-in-Const-clause-steps g c =
+    let t = g.T.Terms.contents c.args.terms.now in
+    let e = tree_at t c.args.e in
+    let ls = list_at t c.in-Const.field-1 in
+    let w = place_at c.args.library.now c.args.site.now.unit in
+    head_is (λ p. core_next w (tree_at t) c.constant_applied.new.meter.last c.constant_applied.result ≡ erased w a_tree c.args.meter.now.last p)
+    e (const (name_at t c.in-Const.name) ls) (tree_at t c.head-front.result) c.in-Const.ensures.tree c.head-front.ensures.is (c.constant_applied.ensures.steps ls (args e))
+
+pub returns-in-Lam-clause-steps : goal.returns-in-Lam-clause-steps
+returns-in-Lam-clause-steps g c =
+    let t = g.T.Terms.contents c.args.terms.now in
+    let w = place_at c.args.library.now c.args.site.now.unit in
+    let last = c.args.meter.now.last in
+    lambda_applied_is (λ p. IfOk c.lambda_applied.result (λ next. core_next w (tree_at (g.T.Terms.contents c.lambda_applied.new.terms)) last next ≡ erased w a_tree last p))
+    (tree_at t c.args.e) (tree_at t c.head-front.result) _ _ c.in-Lam.ensures.tree c.head-front.ensures.is (c.lambda_applied.ensures.steps w last)
