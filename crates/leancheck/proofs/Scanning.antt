@@ -75,7 +75,7 @@ unfolding questions_of
 plain_is us n budget d there b =
     ap (λ o. told (elim o as (λ y. Plain) [ Some u ↦ plain_of stage us n u budget | None ↦ says_steps ])) there
     ∙ by_tests (is_new us n d.name) (none_twice d.levels) (all_bound (trees_of (of_decl d))) (all_over (trees_of (of_decl d))) (all_narrow (trees_of (of_decl d))) (unbuilt_body d.body)
-        (plain_questions rows us n (of_decl d) budget) (decl_over d b) (decl_narrow d b)
+    (plain_questions rows us n (of_decl d) budget) (decl_over d b) (decl_narrow d b)
 
 told_yes : (p : Plain) → told p ≡ accepted → p ≡ says_yes
 told_yes says_yes e = refl

@@ -47,4 +47,4 @@ pub questions_answered : (table : Table) (w : Place) (b left : ℕ) (d : Decl) (
     → IsAccepted (run_steps (out_of table w) (unit_steps_of w (unit_steps d)) b) left r → IsPlain (built_of w b d) (result_verdict r)
 questions_answered table w b left d r is built h =
     let of_rows : IsAccepted (run_steps (out_of rows w) (unit_steps_of w (unit_steps d)) b) left r = subst (λ t. IsAccepted (run_steps (out_of t w) (unit_steps_of w (unit_steps d)) b) left r) is h in
-    rw built (questions_are w b left d r of_rows)
+    rw (built, built_of) (questions_are w b left d r of_rows)
