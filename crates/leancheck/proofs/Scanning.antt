@@ -5,7 +5,7 @@ use Rattle.lk_tree.specs.Tree.{Name, Level, zero_level, succ_level, Tree, var, s
 use Rattle.lk_tree.specs.Scan.{is_narrow, level_over, levels_over, tree_over, none_twice}
 use Rattle.lk_tree.specs.RuleNo.{RuleNo, duplicate_name, duplicate_level, loose_variable, undeclared_level, wide_literal}
 use Rattle.lk_tree.proofs.Scans.{and_true}
-use Rattle.lk_rulebook.specs.Units.{Body, as_axiom, as_thm, Decl, LibraryUnit, of_decl, Library, body_trees, trees_of, all_bound, all_narrow, first_broken}
+use Rattle.lk_rulebook.specs.Units.{Body, as_axiom, as_thm, Decl, of_decl, Library, body_trees, trees_of, all_bound, all_narrow, first_broken}
 use Rattle.lk_rulebook.specs.Scan.{all_over}
 use Rattle.lk_table.specs.Built.{rows}
 use Rattle.lk_verdict.specs.GoodUnit.{IsClearLibrary}
