@@ -1,10 +1,10 @@
 -- The components of a name, met from the last one to the first.
-use Rattle.std.proofs.Common.{◌≡◌, ℕ, ◌+◌, ◌<◌, List, [], ◌∷◌, ◌++◌, length, map, refl, ap, sym, ◌∙◌, append_assoc}
-use Rattle.std.specs.Prelude.{All, reverse}
+use Rattle.std.proofs.Common.{◌≡◌, ℕ, List, [], ◌∷◌, ◌++◌, map, refl, ap, sym, ◌∙◌, append_assoc}
+use Rattle.std.specs.Prelude.{reverse}
 use Rattle.std.proofs.lemmas.Grind.{reverse_onto}
-use Rattle.std.proofs.lemmas.List.{map-append, append-nil}
+use Rattle.std.proofs.lemmas.List.{map-append}
 use Rattle.lk_tree.specs.Tree.{Name, Part}
-use Rattle.lk_store.specs.Contents.{Contents, name_at}
+use Rattle.lk_store.specs.Contents.{Contents}
 use Rattle.leancheck.specs.declared.names.Component.{Component}
 use Rattle.leancheck.specs.Names.{part_at}
 use Rattle.leancheck.specs.Text.{part_text, dotted}

@@ -1,4 +1,5 @@
 pub mod Scanning
+pub mod Judging
 pub mod Worked
 pub mod Checks
 pub mod Shown

@@ -1,5 +1,5 @@
 -- The name that a unit goes by, under its number.
-use Rattle.std.proofs.Common.{◌≡◌, ℕ, ◌<◌, List, [], ◌∷◌, map, length, Some, None, refl, ap, sym, ◌∙◌}
+use Rattle.std.proofs.Common.{◌≡◌, ℕ, ◌<◌, List, [], ◌∷◌, map, length, Some, None, refl, ap}
 use Rattle.std.specs.Prelude.{All}
 use Rattle.std.proofs.lemmas.List.Elements.{All-head}
 use Rattle.lk_rulebook.specs.Units.{members_of, of_block}
@@ -8,7 +8,7 @@ use Rattle.lk_env.specs.declared.unit.BlockType.{BlockType}
 use Rattle.lk_env.specs.declared.unit.Recursor.{Recursor}
 use Rattle.lk_env.specs.declared.unit.Unit.{Unit as StoredUnit}
 use Rattle.lk_env.specs.declared.unit.Unit.TheVariants as unit
-use Rattle.lk_env.specs.Units.{unit_at, type_at, recursor_at, IsTypeIn, IsRecursorIn, IsUnitIn}
+use Rattle.lk_env.specs.Units.{type_at, recursor_at, IsTypeIn, IsRecursorIn, IsUnitIn}
 use Rattle.leancheck.specs.Text.{name_text, first_name}
 use Rattle.leancheck.specs.Names.{first_of_block, first_number, unit_text}
 

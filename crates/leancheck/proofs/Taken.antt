@@ -1,49 +1,27 @@
--- Whether an earlier unit gives a name, by the place where the library gives it first.
-use Rattle.std.proofs.Common.{◌≡◌, ℕ, zero, suc, ◌+◌, ◌<◌, ◌≤◌, Bool, true, false, nat_lt, List, [], ◌∷◌, take, Option, Some, None, refl, ap, sym, ◌∙◌, arith}
-use Rattle.std.specs.Prelude.{option_map}
-use Rattle.std.proofs.lemmas.Bool.Decides.{nat_tests}
-use Rattle.lk_tree.specs.Tree.{Name, name_discrete}
-use Rattle.lk_tree.specs.Mentions.{is_one_of}
-use Rattle.lk_rulebook.specs.Units.{Library, members_of}
-use Rattle.lk_units.specs.Theorems.{Theorem, units_of}
+-- Whether an earlier unit gives a name, by the place where it gives it first.
+use Rattle.std.proofs.Common.{◌≡◌, ℕ, Bool, not, Option, Some, None, ap, sym, ◌∙◌, refl, take}
+use Rattle.std.specs.Prelude.{is_some, option_map}
+use Rattle.lk_tree.specs.Tree.{Name}
+use Rattle.lk_rulebook.specs.Units.{Library, Found, first_giving}
+use Rattle.lk_rulebook.specs.Scan.{is_none}
 use Rattle.lk_env.specs.declared.place.Place.{Place}
-use Rattle.lk_env.specs.Places.{member_in, first_place, at_member, place_in}
+use Rattle.lk_env.specs.Places.{place_in}
 use Rattle.lk_env.specs.Index.{pair_of}
-use Rattle.leancheck.specs.Rows.{names_of}
+use Rattle.lk_env.proofs.Given.{unit_is}
+use Rattle.leancheck.specs.Rows.{is_new}
 
--- whether the place is in one of the first k units
-is_before : ℕ → Option (ℕ × ℕ) → Bool
-is_before k None = false
-is_before k (Some p) = nat_lt p.0 k
+none_mapped : {X Y : Type 0} (f : X → Y) (o : Option X) → is_none (option_map f o) ≡ is_none o
+none_mapped f None = refl
+none_mapped f (Some x) = refl
 
-place_from : (us : Library) (i k : ℕ) (c : Name) → k ≤ i → is_before k (place_in i us c) ≡ false
-unfolding is_before
-place_from [] i k c l = refl
-place_from (u ∷ us) i k c l = go (member_in 0 (members_of u) c) (place_from us (suc i) k c (omega arith))
-  where
-    go : (o : Option ℕ) → is_before k (place_in (suc i) us c) ≡ false → is_before k (first_place (at_member i o) (place_in (suc i) us c)) ≡ false
-    go None h = h
-    go (Some j) h = grind (arith, nat_tests)
+none_is : {X : Type 0} (o : Option X) (r : Bool) → is_some o ≡ not r → r ≡ is_none o
+none_is None Bool.true e = refl
+none_is None Bool.false e = absurd (cc)
+none_is (Some x) Bool.true e = absurd (cc)
+none_is (Some x) Bool.false e = refl
 
-taken_lem : (ts : List Theorem) (i n k : ℕ) (c : Name) → k ≡ i + n → is_before k (place_in i (units_of ts) c) ≡ is_one_of (names_of (take n ts)) c
-unfolding is_before
-taken_lem ts i zero k c e = place_from (units_of ts) i k c (omega arith)
-taken_lem [] i (suc n) k c e = refl
-taken_lem (t ∷ ts) i (suc n) k c e = let below : nat_lt i k ≡ true = grind (arith, nat_tests, e) in go (name_discrete t.name c) below (taken_lem ts (suc i) n k c (omega arith))
-  where
-    go : (d : Dec (t.name ≡ c)) → nat_lt i k ≡ true → is_before k (place_in (suc i) (units_of ts) c) ≡ is_one_of (names_of (take n ts)) c
-        → is_before k (first_place (at_member i (elim d as (λ y. Option ℕ) [ yes e ↦ Some 0 | no f ↦ None ])) (place_in (suc i) (units_of ts) c))
-        ≡ elim d as (λ y. Bool) [ yes e ↦ true | no f ↦ is_one_of (names_of (take n ts)) c ]
-    go (yes f) l h = l
-    go (no f) l h = h
-
-taken_is : (us : Library) (ts : List Theorem) (n : ℕ) (c : Name) → us ≡ units_of ts → is_before n (place_in 0 us c) ≡ is_one_of (names_of (take n ts)) c
-taken_is us ts n c e = ap (λ x. is_before n (place_in 0 x c)) e ∙ taken_lem ts 0 n n c (omega arith)
-
-pub taken_before : (us : Library) (ts : List Theorem) (n : ℕ) (c : Name) (p : Place) → us ≡ units_of ts → option_map pair_of (Some p) ≡ place_in 0 us c → nat_lt p.unit n ≡ is_one_of (names_of (take n ts)) c
-unfolding is_before
-taken_before us ts n c p e found = ap (is_before n) found ∙ taken_is us ts n c e
-
-pub taken_by_none : (us : Library) (ts : List Theorem) (n : ℕ) (c : Name) → us ≡ units_of ts → option_map pair_of None ≡ place_in 0 us c → false ≡ is_one_of (names_of (take n ts)) c
-unfolding is_before
-taken_by_none us ts n c e found = ap (is_before n) found ∙ taken_is us ts n c e
+pub new_is : (us : Library) (n : ℕ) (c : Name) (p : Option Place) (r : Bool) → option_map pair_of p ≡ place_in 0 (take n us) c → is_some p ≡ not r → r ≡ is_new us n c
+new_is us n c p r placed asked =
+    none_is p r asked ∙ sym (none_mapped pair_of p) ∙ ap is_none placed
+    ∙ sym (none_mapped (λ (x : ℕ × ℕ). x.0) (place_in 0 (take n us) c)) ∙ ap is_none (sym (unit_is (take n us) c))
+    ∙ none_mapped (λ (x : Found). x.unit) (first_giving 0 (take n us) c)

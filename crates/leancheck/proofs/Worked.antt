@@ -1,51 +1,79 @@
--- Worked verdicts of the stage.
-use Rattle.std.proofs.Common.{◌≡◌, [], ◌∷◌, refl}
-use Rattle.lk_tree.specs.Tree.{Tree, tree_discrete, level_discrete, name_discrete, part_discrete, zero_level, var, sort, lam, pi}
+-- Worked verdicts of the stage: the files of the tests.
+use Rattle.std.proofs.Common.{◌≡◌, ℕ, [], ◌∷◌, refl}
+use Rattle.lk_tree.specs.Tree.{Name, number, Tree, tree_discrete, level_discrete, name_discrete, part_discrete, zero_level, var, sort, const, app, lam, pi}
 use Rattle.lk_tree.specs.Decide.{list_discrete, both_discrete}
 use Rattle.lk_tree.specs.Bind.{open_at, close_at, bound}
+use Rattle.lk_tree.specs.Levels.{put_levels, put_in_level, level_for}
+use Rattle.lk_tree.specs.LevelTest.{level_le}
 use Rattle.lk_tree.specs.Spine.{head, args}
-use Rattle.lk_tree.specs.RuleNo.{value_type, duplicate_name, loose_variable, theorem_not_prop}
+use Rattle.lk_tree.specs.RuleNo.{argument_type, value_type, duplicate_name, loose_variable, theorem_not_prop}
+use Rattle.lk_rulebook.specs.Units.{as_axiom, as_thm, LibraryUnit, of_decl, Library}
 use Rattle.lk_plain.specs.Answer.{answer_to_depth}
 use Rattle.lk_verdict.specs.Verdict.{says_yes, says_no, says_steps, plain_verdict}
 use Rattle.lk_verdict.specs.Built.{stage}
-use Rattle.lk_units.specs.Theorems.{Theorem, units_of}
 use native.Mathlib.Decide.{ℕ_discrete}
 
 abbrev prop : Tree
 prop = sort zero_level
 
-abbrev id : Theorem
-id = record { name = []; levels = []; type = pi prop (pi (var 0) (var 1)); proof = lam prop (lam (var 0) (var 0)) }
+abbrev name : ℕ → Name
+name n = number n ∷ []
 
-abbrev other : Theorem
-other = record { name = []; levels = []; type = pi prop (pi (var 0) (var 1)); proof = lam prop (var 0) }
+abbrev named : ℕ → Tree
+named n = const (name n) []
 
-abbrev unbound : Theorem
-unbound = record { name = []; levels = []; type = var 0; proof = prop }
+abbrev axiom_of : ℕ → Tree → LibraryUnit
+axiom_of n type = of_decl (record { name = name n; levels = []; type = type; body = as_axiom })
 
-abbrev no_prop : Theorem
-no_prop = record { name = []; levels = []; type = prop; proof = prop }
+abbrev theorem_of : ℕ → Tree → Tree → LibraryUnit
+theorem_of n type proof = of_decl (record { name = name n; levels = []; type = type; body = as_thm proof })
 
-id_yes : plain_verdict stage (units_of (id ∷ [])) 0 25 ≡ says_yes
-unfolding answer_to_depth open_at close_at bound head args tree_discrete level_discrete name_discrete part_discrete list_discrete both_discrete ℕ_discrete
+abbrev id : LibraryUnit
+id = theorem_of 0 (pi prop (pi (var 0) (var 1))) (lam prop (lam (var 0) (var 0)))
+
+abbrev other : LibraryUnit
+other = theorem_of 0 (pi prop (pi (var 0) (var 1))) (lam prop (var 0))
+
+abbrev no_prop : LibraryUnit
+no_prop = theorem_of 0 prop prop
+
+-- an axiom whose type has a loose variable, one of Prop, and one of the first
+abbrev loose : Library
+loose = axiom_of 1 (var 0) ∷ axiom_of 2 prop ∷ axiom_of 3 (named 1) ∷ []
+
+-- A and B of Prop, f : A → A and b : B; then x : A := f b and y : A := x
+abbrev applied : Library
+applied = axiom_of 1 prop ∷ axiom_of 2 prop ∷ axiom_of 3 (pi (named 1) (named 1)) ∷ axiom_of 4 (named 2)
+    ∷ theorem_of 5 (named 1) (app (named 3) (named 4)) ∷ theorem_of 6 (named 1) (named 5) ∷ []
+
+id_yes : plain_verdict stage (id ∷ []) 0 25 ≡ says_yes
+unfolding answer_to_depth open_at close_at bound head args put_levels put_in_level level_for level_le tree_discrete level_discrete name_discrete part_discrete list_discrete both_discrete ℕ_discrete
 id_yes = refl
 
-id_short : plain_verdict stage (units_of (id ∷ [])) 0 24 ≡ says_steps
-unfolding answer_to_depth open_at close_at bound head args tree_discrete level_discrete name_discrete part_discrete list_discrete both_discrete ℕ_discrete
+id_short : plain_verdict stage (id ∷ []) 0 24 ≡ says_steps
+unfolding answer_to_depth open_at close_at bound head args put_levels put_in_level level_for level_le tree_discrete level_discrete name_discrete part_discrete list_discrete both_discrete ℕ_discrete
 id_short = refl
 
-id_twice : plain_verdict stage (units_of (id ∷ id ∷ [])) 1 25 ≡ says_no duplicate_name
-unfolding answer_to_depth open_at close_at bound head args tree_discrete level_discrete name_discrete part_discrete list_discrete both_discrete ℕ_discrete
+id_twice : plain_verdict stage (id ∷ id ∷ []) 1 25 ≡ says_no duplicate_name
+unfolding answer_to_depth open_at close_at bound head args put_levels put_in_level level_for level_le tree_discrete level_discrete name_discrete part_discrete list_discrete both_discrete ℕ_discrete
 id_twice = refl
 
-other_no : plain_verdict stage (units_of (other ∷ [])) 0 100 ≡ says_no value_type
-unfolding answer_to_depth open_at close_at bound head args tree_discrete level_discrete name_discrete part_discrete list_discrete both_discrete ℕ_discrete
+other_no : plain_verdict stage (other ∷ []) 0 100 ≡ says_no value_type
+unfolding answer_to_depth open_at close_at bound head args put_levels put_in_level level_for level_le tree_discrete level_discrete name_discrete part_discrete list_discrete both_discrete ℕ_discrete
 other_no = refl
 
-open_no : plain_verdict stage (units_of (unbound ∷ [])) 0 100 ≡ says_no loose_variable
-unfolding answer_to_depth open_at close_at bound head args tree_discrete level_discrete name_discrete part_discrete list_discrete both_discrete ℕ_discrete
-open_no = refl
-
-no_prop_no : plain_verdict stage (units_of (no_prop ∷ [])) 0 100 ≡ says_no theorem_not_prop
-unfolding answer_to_depth open_at close_at bound head args tree_discrete level_discrete name_discrete part_discrete list_discrete both_discrete ℕ_discrete
+no_prop_no : plain_verdict stage (no_prop ∷ []) 0 100 ≡ says_no theorem_not_prop
+unfolding answer_to_depth open_at close_at bound head args put_levels put_in_level level_for level_le tree_discrete level_discrete name_discrete part_discrete list_discrete both_discrete ℕ_discrete
 no_prop_no = refl
+
+of_loose_no : plain_verdict stage loose 2 3 ≡ says_no loose_variable
+unfolding answer_to_depth open_at close_at bound head args put_levels put_in_level level_for level_le tree_discrete level_discrete name_discrete part_discrete list_discrete both_discrete ℕ_discrete
+of_loose_no = refl
+
+applied_no : plain_verdict stage applied 4 1000 ≡ says_no argument_type
+unfolding answer_to_depth open_at close_at bound head args put_levels put_in_level level_for level_le tree_discrete level_discrete name_discrete part_discrete list_discrete both_discrete ℕ_discrete
+applied_no = refl
+
+after_applied_yes : plain_verdict stage applied 5 1000 ≡ says_yes
+unfolding answer_to_depth open_at close_at bound head args put_levels put_in_level level_for level_le tree_discrete level_discrete name_discrete part_discrete list_discrete both_discrete ℕ_discrete
+after_applied_yes = refl

@@ -1,9 +1,9 @@
 -- What verdicts that are held stand for.
 use Rattle.std.specs.Prelude.{◌≡◌, ◌⊎◌, Result, Ok, Err}
-use Rattle.lk_engine.specs.declared.stop.Stop.{Stop}
-use Rattle.lk_engine.specs.declared.stop.Stop.TheVariants.{Rule, Spent, NoMemory}
+use Rattle.lk_ask.specs.declared.stop.Stop.{Stop}
+use Rattle.lk_ask.specs.declared.stop.Stop.TheVariants.{Rule, Spent, NoMemory}
+use Rattle.lk_ask.specs.Questions.{rule_no}
 use Rattle.lk_verdict.specs.Told.{Verdict, accepted, rejected, out_of_steps, out_of_memory}
-use Rattle.lk_engine.specs.Questions.{rule_no}
 use Rattle.leancheck.specs.declared.checking.Verdict.{Verdict as HeldVerdict}
 use Rattle.leancheck.specs.declared.checking.Verdict.TheVariants.{Yes, No, Steps, Memory}
 
@@ -17,7 +17,7 @@ verdict Memory = out_of_memory
 abbrev pub IsPlain : Verdict → HeldVerdict → Type 0
 IsPlain plain v = (verdict v ≡ plain) ⊎ (verdict v ≡ out_of_memory)
 
--- the verdict that the outcome of a theorem's questions gives
+-- the verdict that the outcome of a declaration's questions gives
 abbrev pub result_verdict : Result (Unit {0}) Stop → HeldVerdict
 result_verdict (Ok u) = Yes
 result_verdict (Err (Rule r)) = No r

@@ -1,7 +1,7 @@
 //! The text of a run.
 
 ghost use Rattle.std.specs.Prelude.{◌≡◌, ◌++◌, ◌∷◌, [], ℕ, List, map, decimal, codes, OnOk, IfOk};
-ghost use Rattle.lk_engine.specs.Questions.{rule_no};
+ghost use Rattle.lk_ask.specs.Questions.{rule_no};
 ghost use Rattle.leancheck.specs.Held.{verdict};
 ghost use Rattle.leancheck.specs.Text.{bad_line, rule_word, body_word, kind_word, title_text, head_text, why_text, verdict_text, lines_text, is_of, count, counted_text, summary_text, report_text};
 ghost use Rattle.leancheck.specs.Ends.{IsChecked, status_of};
@@ -14,7 +14,7 @@ use crate::checking::Verdict;
 use crate::names::{add_name, add_number};
 use crate::status::Status;
 use itoa::Buffer;
-use lk_engine::question::Rule;
+use lk_ask::rule::Rule;
 use lk_env::library::Library;
 use lk_env::unit::{BlockType, Body, Recursor, Unit};
 use lk_lines::Fault;
@@ -137,13 +137,32 @@ fn word_of(rule: Rule) -> &'static [u8]
     ensures { result.now ≡ rule_word (rule_no rule) }
 {
     match rule {
-        Rule::DuplicateName => b"DuplicateName",
+        Rule::UnknownConstant => b"UnknownConstant",
+        Rule::LevelCount => b"LevelCount",
+        Rule::UndeclaredLevel => b"UndeclaredLevel",
         Rule::DuplicateLevel => b"DuplicateLevel",
+        Rule::DuplicateName => b"DuplicateName",
         Rule::LooseVariable => b"LooseVariable",
         Rule::NotASort => b"NotASort",
+        Rule::NotAFunction => b"NotAFunction",
+        Rule::ArgumentType => b"ArgumentType",
+        Rule::LetType => b"LetType",
         Rule::ValueType => b"ValueType",
         Rule::TheoremNotProp => b"TheoremNotProp",
+        Rule::BadProjection => b"BadProjection",
+        Rule::PropProjection => b"PropProjection",
+        Rule::WideLiteral => b"WideLiteral",
+        Rule::NoBuiltin => b"NoBuiltin",
         Rule::BuiltinShape => b"BuiltinShape",
+        Rule::QuotShape => b"QuotShape",
+        Rule::LevelWidth => b"LevelWidth",
+        Rule::BlockShape => b"BlockShape",
+        Rule::ParameterDiffers => b"ParameterDiffers",
+        Rule::ConstructorResult => b"ConstructorResult",
+        Rule::NotPositive => b"NotPositive",
+        Rule::FieldUniverse => b"FieldUniverse",
+        Rule::NestedForm => b"NestedForm",
+        Rule::RecursorDiffers => b"RecursorDiffers",
     }
 }
 

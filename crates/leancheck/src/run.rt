@@ -4,11 +4,9 @@ ghost use Rattle.std.specs.Prelude.{◌≡◌, ◌≢◌, ◌⊎◌, ℕ, List, 
 ghost use Rattle.std.specs.Io.KnownBytes.{Appends};
 ghost use Rattle.lk_port.specs.Bytes.{Rose, AppendsSome};
 ghost use Rattle.lk_lines.specs.declared.line.Fault.{Fault as LineFault};
-ghost use Rattle.lk_units.specs.Theorems.{Theorem};
-ghost use Rattle.lk_units.specs.Theorems.{units_of};
 ghost use Rattle.lk_store.specs.Store.{contents_of};
 ghost use Rattle.lk_env.specs.Units.{library_at};
-ghost use Rattle.lk_book.specs.File.{theorems_of, library_of};
+ghost use Rattle.lk_book.specs.File.{library_of};
 ghost use Rattle.leancheck.specs.Words.{IsMeaningless, MeansCheck, texts_of};
 ghost use Rattle.leancheck.specs.declared.words.Options.{Options as CheckOptions};
 ghost use Rattle.leancheck.specs.Text.{usage_line, bad_line};
@@ -34,7 +32,7 @@ fn checked<G: Gate>(
     steps: u128,
     gate: &G,
 ) -> Result<(Vec<u8>, Status), NoMemory>
-    ensures gives { (bytes : List ℕ) (all : List Theorem) → theorems_of bytes ≡ Ok all → library_at (contents_of library.now.0) library.now.1 ≡ units_of all → Gives steps bytes result }
+    ensures gives { (bytes : List ℕ) → library_of bytes ≡ Ok (library_at (contents_of library.now.0) library.now.1) → Gives steps bytes result }
     ensures status { IfOk result (λ r. IsChecked r.1) }
 {
     let Ok(verdicts) = check_all(alloc, library, steps, gate) else {
@@ -85,8 +83,8 @@ fn tell_verdicts<K: Sink, G: Gate>(
     sink: &mut K,
     gate: &G,
 ) -> Status
-    ensures told { IsChecked result → ((bytes : List ℕ) (all : List Theorem) → theorems_of bytes ≡ Ok all → library_at (contents_of library.now.0) library.now.1 ≡ units_of all → Reports steps bytes result (K.written sink.old) (K.written sink.new)) × (K.faults sink.new ≡ K.faults sink.old) }
-    ensures failed { result ≡ Status.WriteFault → ((bytes : List ℕ) (all : List Theorem) → theorems_of bytes ≡ Ok all → library_at (contents_of library.now.0) library.now.1 ≡ units_of all → WritesPrefix steps bytes (K.written sink.old) (K.written sink.new)) × Rose (K.faults sink.old) (K.faults sink.new) }
+    ensures told { IsChecked result → ((bytes : List ℕ) → library_of bytes ≡ Ok (library_at (contents_of library.now.0) library.now.1) → Reports steps bytes result (K.written sink.old) (K.written sink.new)) × (K.faults sink.new ≡ K.faults sink.old) }
+    ensures failed { result ≡ Status.WriteFault → ((bytes : List ℕ) → library_of bytes ≡ Ok (library_at (contents_of library.now.0) library.now.1) → WritesPrefix steps bytes (K.written sink.old) (K.written sink.new)) × Rose (K.faults sink.old) (K.faults sink.new) }
     ensures no_memory { result ≡ Status.NoMemory → sink.new ≡ sink.old }
     ensures only { IsChecked result ⊎ (result ≡ Status.WriteFault) ⊎ (result ≡ Status.NoMemory) }
 {

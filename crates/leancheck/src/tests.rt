@@ -144,6 +144,68 @@ fn files(rt: HostRuntime) -> Result<(), Fail> {
     Ok(())
 }
 
+const AXIOMS: &[u8] = b"1 #NS 0 a\n2 #NS 0 b\n0 #EV 0\n1 #ES 0\n#AX 1 0\n#AX 2 1\n";
+
+// The third is of the type a, whose own type has a loose variable.
+const OF_A_LOOSE_ONE: &[u8] =
+    b"1 #NS 0 a\n2 #NS 0 b\n0 #EV 0\n1 #ES 0\n#AX 1 0\n#AX 2 1\n3 #NS 0 c\n2 #EC 1\n#AX 3 2\n";
+
+#[test]
+fn axioms(rt: HostRuntime) -> Result<(), Fail> {
+    let alloc = rt.alloc();
+    let rows: [(&str, &[u8], &[u8], Status); 4] = [
+        (
+            "leancheck check",
+            b"1 #NS 0 a b\n2 #NS 1 \n0 #ES 0\n#AX 2 0\n",
+            b"yes axiom 0 a b.\nunits 1 yes 1 no 0 memory 0\n",
+            Status::AllYes,
+        ),
+        (
+            "leancheck check --steps 1",
+            AXIOMS,
+            b"no axiom 0 a\n  why LooseVariable\nno axiom 1 b\n  why steps\nunits 2 yes 0 no 2 memory 0\n",
+            Status::SomeNo,
+        ),
+        (
+            "leancheck check --steps 3",
+            AXIOMS,
+            b"no axiom 0 a\n  why LooseVariable\nyes axiom 1 b\nunits 2 yes 1 no 1 memory 0\n",
+            Status::SomeNo,
+        ),
+        (
+            "leancheck check --steps 3",
+            OF_A_LOOSE_ONE,
+            b"no axiom 0 a\n  why LooseVariable\nyes axiom 1 b\nno axiom 2 c\n  why LooseVariable\nunits 3 yes 1 no 2 memory 0\n",
+            Status::SomeNo,
+        ),
+    ];
+    for (line, bytes, written, status) in rows {
+        assert!(rt; is_row(&rt, alloc, line, bytes, written, status)?, "{line}");
+    }
+    Ok(())
+}
+
+// Axioms A and B of Prop, f : A -> A and b : B; then theorems x : A := f b and y : A := x.
+const APPLIED: &[u8] =
+    b"1 #NS 0 A\n2 #NS 0 B\n3 #NS 0 f\n4 #NS 0 b\n5 #NS 0 x\n6 #NS 0 y\n0 #ES 0\n1 #EC 1\n2 #EC 2\n3 #EP #BD 0 1 1\n4 #EC 3\n5 #EC 4\n6 #EA 4 5\n7 #EC 5\n#AX 1 0\n#AX 2 0\n#AX 3 3\n#AX 4 2\n#THM 5 1 6\n#THM 6 1 7\n";
+
+// A theorem that is refused is still a constant of its type.
+#[test]
+fn applications(rt: HostRuntime) -> Result<(), Fail> {
+    let alloc = rt.alloc();
+    assert!(rt;
+        is_row(
+            &rt,
+            alloc,
+            "leancheck check",
+            APPLIED,
+            b"yes axiom 0 A\nyes axiom 1 B\nyes axiom 2 f\nyes axiom 3 b\nno thm 4 x\n  why ArgumentType\nyes thm 5 y\nunits 6 yes 5 no 1 memory 0\n",
+            Status::SomeNo
+        )?
+    );
+    Ok(())
+}
+
 #[test]
 fn files_with_a_fault(rt: HostRuntime) -> Result<(), Fail> {
     let alloc = rt.alloc();

@@ -1,6 +1,6 @@
 use Rattle.std.proofs.Common.{rules, sym}
 use Rattle.lk_store.specs.Store.{contents_of}
-use Rattle.leancheck.proofs.Distinct.{looked_twice, looked_more, looked_done}
+use Rattle.leancheck.proofs.Distinct.{looked_twice, looked_more}
 use Rattle.leancheck.proofs.different.none_twice.Goals as goal
 
 pub returns-then-has : goal.returns-then-has
