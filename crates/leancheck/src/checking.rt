@@ -22,6 +22,7 @@ use lk_engine::engine::Engine;
 use lk_env::closed;
 use lk_env::library::Library;
 use lk_env::unit::{Body, Declaration, Unit};
+use lk_memo::memo::PrivateMemo;
 use lk_port::Gate;
 use lk_rows::memory::NoMemory;
 use lk_store::terms::Terms;
@@ -169,19 +170,22 @@ fn judge<A: Asks>(
     }
 }
 
-/// The verdicts of the units, in their order; the questions of each may take so many steps.
+/// The verdicts of the units, in their order; the questions of each may take so many steps, and so many of their answers are
+/// kept while the unit is at work.
 ///
 /// One engine serves them all: it is started anew for each unit, and then knows nothing of the work of an earlier one.
 pub fn check_all<G: Gate>(
     alloc: Global,
     library: &Library,
     steps: u128,
+    kept: u32,
     gate: &G,
 ) -> Result<Vec<Verdict>, NoMemory>
     ensures { IfOk result (λ v. AllBuilt (library_of library.now)
         → AreVerdicts (library_of library.now) steps 0 (library_of library.now) (map verdict v.items)) }
 {
-    let mut engine = Engine::new(alloc, library);
+    let mut memo = PrivateMemo::new(alloc, kept)?;
+    let mut engine = Engine::new(alloc, library, &mut memo);
     let mut verdicts = Vec::new(alloc);
     let mut rest = library.units();
     while let Some((unit, more)) = rest.split_first() {

@@ -25,17 +25,18 @@ use std::alloc::Global;
 use std::sync::Wait;
 use std::thread::Threads;
 
-/// What is written for the units of a library, and the status.
+/// What is written for the units of a library, and the status. So many answers are kept.
 fn checked<G: Gate>(
     alloc: Global,
     library: &Library,
     steps: u128,
+    kept: u32,
     gate: &G,
 ) -> Result<(Vec<u8>, Status), NoMemory>
     ensures gives { (bytes : List ℕ) → library_of bytes ≡ Ok (library_at (contents_of library.now.0) library.now.1) → Gives steps bytes result }
     ensures status { IfOk result (λ r. IsChecked r.1) }
 {
-    let Ok(verdicts) = check_all(alloc, library, steps, gate) else {
+    let Ok(verdicts) = check_all(alloc, library, steps, kept, gate) else {
         return Err(NoMemory);
     };
     let Ok(text) = report(alloc, library, &verdicts) else {
@@ -75,11 +76,12 @@ fn tell_fault<K: Sink>(alloc: Global, fault: Fault, sink: &mut K) -> Status
     }
 }
 
-/// Checks the units of a library, and writes a verdict for each.
+/// Checks the units of a library, and writes a verdict for each. So many answers are kept.
 fn tell_verdicts<K: Sink, G: Gate>(
     alloc: Global,
     library: &Library,
     steps: u128,
+    kept: u32,
     sink: &mut K,
     gate: &G,
 ) -> Status
@@ -88,7 +90,7 @@ fn tell_verdicts<K: Sink, G: Gate>(
     ensures no_memory { result ≡ Status.NoMemory → sink.new ≡ sink.old }
     ensures only { IsChecked result ⊎ (result ≡ Status.WriteFault) ⊎ (result ≡ Status.NoMemory) }
 {
-    match checked(alloc, library, steps, gate) {
+    match checked(alloc, library, steps, kept, gate) {
         Ok((text, status)) => match write_all(sink, &text) {
             Ok(()) => status,
             Err(_) => Status::WriteFault,
@@ -116,7 +118,7 @@ fn check<S: Source, K: Sink, G: Gate>(
     ensures no_memory { result ≡ Status.NoMemory → K.written sink.new ≡ K.written sink.old }
 {
     match read_library(alloc, source) {
-        Ok(library) => tell_verdicts(alloc, &library, options.steps, sink, gate),
+        Ok(library) => tell_verdicts(alloc, &library, options.steps, options.memo, sink, gate),
         Err(ReadError::ReadFault) => Status::ReadFault,
         Err(ReadError::NoMemory) => Status::NoMemory,
         Err(ReadError::Fault(fault)) => tell_fault(alloc, fault, sink),

@@ -140,3 +140,7 @@ module _ {c d : Contents} (x : Extends c d) where
           is = rw (query_steady q was.query, answer_steady e.1.answer was.answer) was.is;
         };
   }
+
+-- where nothing is kept
+pub nothing_kept : (w : Place) (c : Contents) (es : List (Key × Kept)) → es ≡ [] → AreTrue w c es
+nothing_kept w c es e = rw e (record { each = λ x within q same. absurd (omega (arith, within.1)) })

@@ -1,3 +1,5 @@
+pub mod Asking
 pub mod Frames
 pub mod Links
+pub mod Outcomes
 pub mod ZeroWalks

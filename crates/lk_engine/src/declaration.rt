@@ -1,0 +1,152 @@
+//! The questions of a declaration: its type has a sort, and its value is of that type.
+
+ghost use Rattle.std.specs.Prelude.{◌≡◌, ◌<◌, length, IfOk};
+ghost use Rattle.lk_rulebook.specs.Units.{Decl, as_axiom, as_thm};
+ghost use Rattle.lk_table.specs.Declarations.{unit_steps, value_steps};
+ghost use Rattle.lk_plain.specs.Erased.{out_of, run_steps};
+ghost use Rattle.lk_store.specs.Contents.{tree_at, Extends};
+ghost use Rattle.lk_ask.specs.Questions.{query_of, IsKnownQuery};
+ghost use Rattle.lk_engine.specs.Outcomes.{GivesTree, GivesTruth, GivesSort, GivesLevel, IsAccepted, unit_steps_of};
+
+use crate::levels::is_zero;
+use lk_ask::asks::Asks;
+use lk_ask::query::{Answer, Query};
+use lk_ask::rule::Rule;
+use lk_ask::stop::Stop;
+use lk_store::node::Node;
+use lk_store::terms::Terms;
+use std::alloc::Global;
+
+/// Asks a question that answers a term.
+fn ask_term<A: Asks>(asks: &mut A, query: Query<u64>) -> Result<u64, Stop>
+    requires { IsKnownQuery (length (A.contents asks.old).trees) query }
+    ensures keeps { Extends (A.contents asks.old) (A.contents asks.new) }
+    ensures rest { A.rest asks.new ≡ A.rest asks.old }
+    ensures table { A.table asks.new ≡ A.table asks.old }
+    ensures place { A.place asks.new ≡ A.place asks.old }
+    ensures known { IfOk result (λ e. e < length (A.contents asks.new).trees) }
+    ensures outcome { GivesTree (out_of (A.table asks.old) (A.place asks.old)) (query_of (tree_at (A.contents asks.old)) query) (A.left asks.old) (A.contents asks.new) (A.left asks.new) result }
+{
+    match asks.ask(query) {
+        Ok(Answer::Term(e)) => Ok(e),
+        Ok(Answer::Truth(_)) => Err(Stop::Rule(Rule::LooseVariable)),
+        Err(stop) => Err(stop),
+    }
+}
+
+/// Asks a question that answers yes or no.
+fn ask_truth<A: Asks>(asks: &mut A, query: Query<u64>) -> Result<bool, Stop>
+    requires { IsKnownQuery (length (A.contents asks.old).trees) query }
+    ensures keeps { Extends (A.contents asks.old) (A.contents asks.new) }
+    ensures rest { A.rest asks.new ≡ A.rest asks.old }
+    ensures table { A.table asks.new ≡ A.table asks.old }
+    ensures place { A.place asks.new ≡ A.place asks.old }
+    ensures outcome { GivesTruth (out_of (A.table asks.old) (A.place asks.old)) (query_of (tree_at (A.contents asks.old)) query) (A.left asks.old) (A.left asks.new) result }
+{
+    match asks.ask(query) {
+        Ok(Answer::Truth(truth)) => Ok(truth),
+        Ok(Answer::Term(_)) => Err(Stop::Rule(Rule::LooseVariable)),
+        Err(stop) => Err(stop),
+    }
+}
+
+/// The level of a weak head form, which is to be a sort.
+fn level_in<A: Asks>(asks: &A, form: u64) -> Result<u64, Stop>
+    requires { form < length (A.contents asks.now).trees }
+    ensures { GivesLevel (A.contents asks.now) (tree_at (A.contents asks.now) form) result }
+{
+    match asks.view(form) {
+        Node::Sort(level) => Ok(level),
+        _ => Err(Stop::Rule(Rule::NotASort)),
+    }
+}
+
+/// The level of a term's sort.
+fn sort_of<A: Asks>(asks: &mut A, e: u64) -> Result<u64, Stop>
+    requires { e < length (A.contents asks.old).trees }
+    ensures keeps { Extends (A.contents asks.old) (A.contents asks.new) }
+    ensures rest { A.rest asks.new ≡ A.rest asks.old }
+    ensures table { A.table asks.new ≡ A.table asks.old }
+    ensures place { A.place asks.new ≡ A.place asks.old }
+    ensures known { IfOk result (λ l. l < length (A.contents asks.new).levels) }
+    ensures outcome { GivesSort (out_of (A.table asks.old) (A.place asks.old)) (A.place asks.old) (tree_at (A.contents asks.old) e) (A.left asks.old) (A.contents asks.new) (A.left asks.new) result }
+{
+    let kind = match ask_term(asks, Query::Infer(e)) {
+        Ok(kind) => kind,
+        Err(stop) => return Err(stop),
+    };
+    let form = match ask_term(asks, Query::Whnf(kind)) {
+        Ok(form) => form,
+        Err(stop) => return Err(stop),
+    };
+    level_in(asks, form)
+}
+
+/// Whether the value is of the type.
+fn check_value<A: Asks>(asks: &mut A, kind: u64, value: u64) -> Result<(), Stop>
+    requires kind_in { kind < length (A.contents asks.old).trees }
+    requires value_in { value < length (A.contents asks.old).trees }
+    ensures rest { A.rest asks.new ≡ A.rest asks.old }
+    ensures table { A.table asks.new ≡ A.table asks.old }
+    ensures place { A.place asks.new ≡ A.place asks.old }
+    ensures outcome { IsAccepted (run_steps (out_of (A.table asks.old) (A.place asks.old)) (unit_steps_of (A.place asks.old) (value_steps (tree_at (A.contents asks.old) kind) (tree_at (A.contents asks.old) value))) (A.left asks.old)) (A.left asks.new) result }
+{
+    let found = match ask_term(asks, Query::Infer(value)) {
+        Ok(found) => found,
+        Err(stop) => return Err(stop),
+    };
+    let equal = match ask_truth(asks, Query::Same(found, kind)) {
+        Ok(equal) => equal,
+        Err(stop) => return Err(stop),
+    };
+    if equal {
+        Ok(())
+    } else {
+        Err(Stop::Rule(Rule::ValueType))
+    }
+}
+
+/// Asks the question of an axiom: its type has a sort.
+pub fn check_axiom<A: Asks>(asks: &mut A, kind: u64) -> Result<(), Stop>
+    requires { kind < length (A.contents asks.old).trees }
+    ensures rest { A.rest asks.new ≡ A.rest asks.old }
+    ensures table { A.table asks.new ≡ A.table asks.old }
+    ensures place { A.place asks.new ≡ A.place asks.old }
+    ensures outcome { (d : Decl) → d.type ≡ tree_at (A.contents asks.old) kind → d.body ≡ as_axiom
+        → IsAccepted (run_steps (out_of (A.table asks.old) (A.place asks.old)) (unit_steps_of (A.place asks.old) (unit_steps d)) (A.left asks.old)) (A.left asks.new) result }
+{
+    match sort_of(asks, kind) {
+        Ok(_) => Ok(()),
+        Err(stop) => Err(stop),
+    }
+}
+
+/// Asks the questions of a theorem: the sort of its type is 0, and its proof is of that type.
+pub fn check_theorem<A: Asks>(
+    alloc: Global,
+    asks: &mut A,
+    kind: u64,
+    proof: u64,
+) -> Result<(), Stop>
+    requires kind_in { kind < length (A.contents asks.old).trees }
+    requires proof_in { proof < length (A.contents asks.old).trees }
+    ensures rest { A.rest asks.new ≡ A.rest asks.old }
+    ensures table { A.table asks.new ≡ A.table asks.old }
+    ensures place { A.place asks.new ≡ A.place asks.old }
+    ensures outcome { (d : Decl) → d.type ≡ tree_at (A.contents asks.old) kind → d.body ≡ as_thm (tree_at (A.contents asks.old) proof)
+        → IsAccepted (run_steps (out_of (A.table asks.old) (A.place asks.old)) (unit_steps_of (A.place asks.old) (unit_steps d)) (A.left asks.old)) (A.left asks.new) result }
+{
+    let level = match sort_of(asks, kind) {
+        Ok(level) => level,
+        Err(stop) => return Err(stop),
+    };
+    let zero = match is_zero(alloc, asks, level) {
+        Ok(zero) => zero,
+        Err(_) => return Err(Stop::NoMemory),
+    };
+    if zero {
+        check_value(asks, kind, proof)
+    } else {
+        Err(Stop::Rule(Rule::TheoremNotProp))
+    }
+}

@@ -1,0 +1,205 @@
+//! The engine: a store over that of a library in which questions are answered, as a unit of the library may ask them.
+
+use crate::answering::answer;
+use lk_ask::asks::Asks;
+use lk_ask::query::{Answer, Query};
+use lk_ask::stop::Stop;
+use lk_env::entry::Site;
+use lk_env::library::Library;
+use lk_memo::memo::PrivateMemo;
+use lk_meter::meter::Meter;
+use lk_rows::memory::NoMemory;
+use lk_store::node::{LevelNode, ListNode, NameNode, Node};
+use lk_store::overlay::Overlay;
+use lk_store::terms::Terms;
+use lk_store::text::Text;
+use std::alloc::Global;
+use std::marker::Model;
+
+/// An engine over a library. What a unit makes stands over the library's store, and goes when the next unit is started, and
+/// with it what the memo keeps, which is lent.
+#[derive(Drop)]
+pub struct Engine<'a> {
+    alloc: Global,
+    library: &'a Library,
+    site: Site,
+    terms: Overlay<'a>,
+    meter: Meter,
+    memo: &'a mut PrivateMemo,
+}
+
+impl<'a> Model for Engine<'a> {
+    ghost use Rattle.std.specs.Prelude.{◌≡◌, List};
+    ghost use Rattle.lk_store.specs.declared.tables.Tables.{Tables};
+    ghost use Rattle.lk_store.specs.Contents.{Extends};
+    ghost use Rattle.lk_store.specs.Store.{over, contents_of};
+    ghost use Rattle.lk_env.specs.Places.{place_at};
+    ghost use Rattle.lk_engine.specs.Entries.{AreTrue};
+    ghost use Rattle.lk_env.specs.declared.entry.Site.{Site as LookedFrom};
+    ghost use Rattle.lk_env.specs.declared.unit.Unit.{Unit as StoredUnit};
+    ghost use Rattle.lk_meter.specs.declared.meter.Meter.{Meter as Metered};
+
+    ghost Value = { (Tables × List StoredUnit) × LookedFrom × (Tables × Tables) × Metered };
+
+    ghost view = { λ s. (s.library.now, s.site, s.terms, s.meter) };
+
+    ghost invariant = { λ s. (s.terms.0 ≡ s.library.now.0)
+        × Extends (contents_of s.library.now.0) (contents_of (over s.terms.0 s.terms.1))
+        × AreTrue (place_at s.library.now s.site.unit) (contents_of (over s.terms.0 s.terms.1)) s.memo.now.cache.entries };
+}
+
+impl<'a> Engine<'a> {
+    ghost use Rattle.std.specs.Prelude.{◌≡◌};
+    ghost use Rattle.lk_store.specs.Store.{over, contents_of};
+
+    /// An engine with nothing to spend. The memo is emptied. It takes no memory.
+    #[tactic(auto, using(crate::proofs::Frames::nothing_kept))]
+    pub fn new(alloc: Global, library: &'a Library, memo: &'a mut PrivateMemo) -> Self
+        ensures { result.0 ≡ library.now }
+    {
+        memo.clear();
+        Engine {
+            alloc,
+            library,
+            site: Site { unit: 0 },
+            terms: Overlay::new(alloc, library.base()),
+            meter: Meter::new(0),
+            memo,
+        }
+    }
+
+    /// Begins a unit: the names below it are seen, so many steps may be taken, and what earlier units made, and what is
+    /// kept of their questions, is gone. It costs nothing that grows with the library.
+    #[tactic(auto, using(crate::proofs::Frames::nothing_kept))]
+    pub fn start(&mut self, unit: u32, budget: u128)
+        ensures library { self.new.0 ≡ self.old.0 }
+        ensures site { self.new.1.unit ≡ unit }
+        ensures contents { contents_of (over self.new.2.0 self.new.2.1) ≡ contents_of self.old.0.0 }
+        ensures left { self.new.3.left ≡ budget }
+    {
+        self.site = Site { unit };
+        self.terms.clear();
+        self.memo.clear();
+        self.meter = Meter::new(budget);
+    }
+}
+
+impl<'a> Terms for Engine<'a> {
+    ghost use Rattle.lk_store.specs.Store.{over, contents_of};
+
+    /// The library and the place at which it is seen.
+    type Rest = (Library, Site);
+
+    ghost rest = { λ s. (s.0, s.1) };
+
+    ghost contents = { λ s. contents_of (over s.2.0 s.2.1) };
+
+    fn len(&self) -> u64 {
+        self.terms.len()
+    }
+
+    fn view(&self, e: u64) -> Node {
+        self.terms.view(e)
+    }
+
+    #[tactic(auto, using(crate::proofs::Frames::entries_steady))]
+    fn make(&mut self, node: Node) -> Result<u64, NoMemory> {
+        self.terms.make(node)
+    }
+
+    fn same(&self, a: u64, b: u64) -> bool {
+        self.terms.same(a, b)
+    }
+
+    fn loose_bound(&self, e: u64) -> u128 {
+        self.terms.loose_bound(e)
+    }
+
+    fn local_bound(&self, e: u64) -> u128 {
+        self.terms.local_bound(e)
+    }
+
+    fn has_params(&self, e: u64) -> bool {
+        self.terms.has_params(e)
+    }
+
+    fn is_narrow(&self, e: u64) -> bool {
+        self.terms.is_narrow(e)
+    }
+
+    fn level(&self, l: u64) -> LevelNode {
+        self.terms.level(l)
+    }
+
+    #[tactic(auto, using(crate::proofs::Frames::entries_steady))]
+    fn make_level(&mut self, node: LevelNode) -> Result<u64, NoMemory> {
+        self.terms.make_level(node)
+    }
+
+    fn level_has_params(&self, l: u64) -> bool {
+        self.terms.level_has_params(l)
+    }
+
+    fn levels(&self, ls: u64) -> ListNode {
+        self.terms.levels(ls)
+    }
+
+    #[tactic(auto, using(crate::proofs::Frames::entries_steady))]
+    fn make_levels(&mut self, node: ListNode) -> Result<u64, NoMemory> {
+        self.terms.make_levels(node)
+    }
+
+    fn levels_have_params(&self, ls: u64) -> bool {
+        self.terms.levels_have_params(ls)
+    }
+
+    fn count_names(&self) -> u64 {
+        self.terms.count_names()
+    }
+
+    fn name(&self, n: u64) -> NameNode {
+        self.terms.name(n)
+    }
+
+    #[tactic(auto, using(crate::proofs::Frames::entries_steady))]
+    fn make_name(&mut self, node: NameNode) -> Result<u64, NoMemory> {
+        self.terms.make_name(node)
+    }
+
+    fn same_name(&self, m: u64, n: u64) -> bool {
+        self.terms.same_name(m, n)
+    }
+
+    fn text(&self, s: u64) -> &Text {
+        self.terms.text(s)
+    }
+
+    #[tactic(auto, using(crate::proofs::Frames::entries_steady))]
+    fn make_text(&mut self, text: Text) -> Result<u64, NoMemory> {
+        self.terms.make_text(text)
+    }
+}
+
+impl<'a> Asks for Engine<'a> {
+    ghost use Rattle.lk_table.specs.Built.{rows};
+    ghost use Rattle.lk_env.specs.Places.{place_at};
+
+    ghost table = { λ s. rows };
+
+    ghost place = { λ s. place_at s.0 s.1.unit };
+
+    ghost left = { λ s. s.3.left };
+
+    fn ask(&mut self, query: Query<u64>) -> Result<Answer<u64>, Stop> {
+        let memo = &mut *self.memo;
+        answer(
+            self.alloc,
+            self.library,
+            &self.site,
+            &mut self.terms,
+            &mut self.meter,
+            memo,
+            query,
+        )
+    }
+}
