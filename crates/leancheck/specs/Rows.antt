@@ -1,5 +1,5 @@
--- How a program finds the plain verdict of a declaration that a file states: is the name new, are its level parameters different,
--- is each tree closed, is its kind built, and then the questions.
+-- How a program finds the plain verdict of a declaration that a file states: is the name new, are its level parameters
+-- different, is each tree closed, is its kind built, and then the questions.
 use Rattle.std.specs.Prelude.{ℕ, [], Bool, Some, None, take, if◌then◌else◌}
 use Rattle.lk_tree.specs.Tree.{Name}
 use Rattle.lk_tree.specs.Scan.{none_twice}

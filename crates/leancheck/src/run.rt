@@ -99,7 +99,7 @@ fn tell_verdicts<K: Sink, G: Gate>(
     }
 }
 
-/// Reads an export from the source and writes a verdict for each of its theorems to the sink.
+/// Reads an export from the source and writes a verdict for each of its units to the sink.
 fn check<S: Source, K: Sink, G: Gate>(
     alloc: Global,
     options: Options,
@@ -125,9 +125,9 @@ fn check<S: Source, K: Sink, G: Gate>(
     }
 }
 
-/// Does what the words say: reads an export from the source and writes a verdict for each of its theorems to the sink.
+/// Does what the words say: reads an export from the source and writes a verdict for each of its units to the sink.
 ///
-/// The words begin with the program's name. The gate is told of each theorem before its first question.
+/// The words begin with the program's name. The gate is told of each unit before its first question.
 pub fn run<R: Threads + Wait + Sync, S: Source, K: Sink, G: Gate>(
     _rt: &R,
     alloc: Global,
