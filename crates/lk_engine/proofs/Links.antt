@@ -170,7 +170,7 @@ module _ {w : Place} {q : plain.Query} {b : ℕ} {c : Contents} {stack : List Fr
       let same = query_steady x frame.asker all.1.asker in
       let given = (linked_answers is).1 in
       let asker_is : out_of rows w (query_of (tree_at c) frame.asker) frame.budget ≡ run_steps (out_of rows w) (sheet_rest w last2 (map_sheet (tree_at c) frame.sheet) (value_at (tree_at c) answer)) left =
-          both.1 ∙ ap (waiting w (tree_at c) frame) given ∙ waiting_goes w (tree_at c) frame (value_at (tree_at c) answer) left last last2 e in
+      both.1 ∙ ap (waiting w (tree_at c) frame) given ∙ waiting_goes w (tree_at c) frame (value_at (tree_at c) answer) left last last2 e in
       record {
         stacked = stack_known x stack' all.0;
         asked_known = query_known x frame.asker all.1.asker;
@@ -185,6 +185,7 @@ module _ {w : Place} {q : plain.Query} {b : ℕ} {c : Contents} {stack : List Fr
     where
       runs : waiting w (tree_at c) (record { asker = asked; budget = budget; sheet = sheet; last = last }) (out_of rows w (query_of (tree_at c) other) left) ≡ out_of rows w (query_of (tree_at c) asked) budget
       runs = rw is at l.runs
+
       go : (s : Stop) → IsStop (out_of rows w (query_of (tree_at c) other) left) s → IsStop (out_of rows w (query_of (tree_at c) asked) budget) s
       go (stop.Rule r) e = sym runs ∙ ap (waiting w (tree_at c) (record { asker = asked; budget = budget; sheet = sheet; last = last })) e
       go stop.Spent e = sym runs ∙ ap (waiting w (tree_at c) (record { asker = asked; budget = budget; sheet = sheet; last = last })) e

@@ -102,7 +102,6 @@ impl<'a> Terms for Engine<'a> {
         self.terms.view(e)
     }
 
-    #[tactic(auto, using(crate::proofs::Frames::entries_steady))]
     fn make(&mut self, node: Node) -> Result<u64, NoMemory> {
         self.terms.make(node)
     }
@@ -131,7 +130,6 @@ impl<'a> Terms for Engine<'a> {
         self.terms.level(l)
     }
 
-    #[tactic(auto, using(crate::proofs::Frames::entries_steady))]
     fn make_level(&mut self, node: LevelNode) -> Result<u64, NoMemory> {
         self.terms.make_level(node)
     }
@@ -144,7 +142,6 @@ impl<'a> Terms for Engine<'a> {
         self.terms.levels(ls)
     }
 
-    #[tactic(auto, using(crate::proofs::Frames::entries_steady))]
     fn make_levels(&mut self, node: ListNode) -> Result<u64, NoMemory> {
         self.terms.make_levels(node)
     }
@@ -161,7 +158,6 @@ impl<'a> Terms for Engine<'a> {
         self.terms.name(n)
     }
 
-    #[tactic(auto, using(crate::proofs::Frames::entries_steady))]
     fn make_name(&mut self, node: NameNode) -> Result<u64, NoMemory> {
         self.terms.make_name(node)
     }
@@ -174,7 +170,6 @@ impl<'a> Terms for Engine<'a> {
         self.terms.text(s)
     }
 
-    #[tactic(auto, using(crate::proofs::Frames::entries_steady))]
     fn make_text(&mut self, text: Text) -> Result<u64, NoMemory> {
         self.terms.make_text(text)
     }
