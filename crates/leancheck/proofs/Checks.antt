@@ -82,6 +82,10 @@ progress_more steps c units vs new v n u rest more p cut pushed count judged =
           subst (λ w. AreVerdicts all steps 0 (library_at c (p.done ++ u ∷ [])) w) (sym (ap (map verdict) pushed ∙ map-append verdict vs (v ∷ []))) by_units;
     }
 
+pub none_left : (rest : List StoredUnit) → length rest ≡ 0 → rest ≡ []
+none_left [] e = refl
+none_left (u ∷ rest) e = absurd (omega arith)
+
 -- behind the last unit
 pub progress_done : (steps : ℕ) (c : Contents) (units : List StoredUnit) (vs : List HeldVerdict) (rest : List StoredUnit) → rest ≡ [] → Progress steps c units vs rest → AllBuilt (library_at c units) → AreVerdicts (library_at c units) steps 0 (library_at c units) (map verdict vs)
 progress_done steps c units vs rest none p built =
