@@ -21,7 +21,7 @@ fn numbers_have_their_places(rt: HostRuntime) -> Result<(), Fail> {
 }
 
 // The identity theorem: `forall p : Prop, p -> p`, with one level parameter.
-fn identity(alloc: Global, store: &mut BaseStore) -> Result<Assembler, TakeError> {
+fn identity<T: Terms>(alloc: Global, store: &mut T) -> Result<Assembler, TakeError> {
     let mut file = Assembler::new(alloc, store)?;
     let id = Entry::NameText {
         parent: 0,
@@ -99,7 +99,7 @@ fn identity(alloc: Global, store: &mut BaseStore) -> Result<Assembler, TakeError
 }
 
 // The number of the name that has the text `id` and the number 4.
-fn number_of_name(alloc: Global, store: &mut BaseStore) -> Result<u64, NoMemory> {
+fn number_of_name<T: Terms>(alloc: Global, store: &mut T) -> Result<u64, NoMemory> {
     let nothing = store.make_name(NameNode::Anonymous)?;
     let text = store.make_text(Text::new(Vec::from_slice(alloc, b"id")?))?;
     let parent = store.make_name(NameNode::Text(nothing, text))?;
@@ -113,25 +113,42 @@ fn has_name(unit: &Unit, name: u64) -> bool {
     }
 }
 
+// Whether the identity theorem is taken, under its name.
+fn is_taken<T: Terms>(alloc: Global, store: &mut T) -> Result<bool, TakeError> {
+    let file = identity(alloc, store)?;
+    let name = number_of_name(alloc, store)?;
+    match file.units.as_slice() {
+        [unit] => Ok(has_name(unit, name)),
+        _ => Ok(false),
+    }
+}
+
+fn is_taken_over_a_store(alloc: Global) -> Result<bool, TakeError> {
+    let mut store = BaseStore::new(alloc);
+    is_taken(alloc, &mut store)
+}
+
 #[test]
 fn a_theorem_is_taken(rt: HostRuntime) -> Result<(), Fail> {
-    let alloc = rt.alloc();
-    let mut store = BaseStore::new(alloc);
-    let file = identity(alloc, &mut store)?;
-    let name = number_of_name(alloc, &mut store)?;
-    assert_eq!(rt; file.units.len(), 1);
-    for unit in &file.units {
-        assert!(rt; has_name(unit, name));
-    }
+    assert_eq!(rt; is_taken_over_a_store(rt.alloc()), Ok(true));
     Ok(())
 }
 
 // What the second of two items comes to.
+fn second_over<T: Terms>(
+    alloc: Global,
+    store: &mut T,
+    own: u32,
+    entry: Entry<'_>,
+) -> Result<(), TakeError> {
+    let mut file = Assembler::new(alloc, store)?;
+    file.take_entry(alloc, store, 7, Entry::Sort { level: 0 })?;
+    file.take_entry(alloc, store, own, entry)
+}
+
 fn second(alloc: Global, own: u32, entry: Entry<'_>) -> Result<(), TakeError> {
     let mut store = BaseStore::new(alloc);
-    let mut file = Assembler::new(alloc, &mut store)?;
-    file.take_entry(alloc, &mut store, 7, Entry::Sort { level: 0 })?;
-    file.take_entry(alloc, &mut store, own, entry)
+    second_over(alloc, &mut store, own, entry)
 }
 
 #[test]
@@ -258,53 +275,53 @@ fn faults_of_constants_and_applications(rt: HostRuntime) -> Result<(), Fail> {
     Ok(())
 }
 
-// What an axiom comes to whose type is a sort, and what was taken with it.
-fn axiom(
+// Whether an axiom whose type is a sort is taken, with a level parameter twice.
+fn axiom_over<T: Terms>(
     alloc: Global,
+    store: &mut T,
     name: u32,
     declared_type: u32,
-    parameter: u32,
-) -> Result<Assembler, TakeError> {
-    let mut store = BaseStore::new(alloc);
-    let mut file = Assembler::new(alloc, &mut store)?;
-    let a = Entry::NameText {
-        parent: 0,
-        text: b"a",
-    };
-    file.take_entry(alloc, &mut store, 1, a)?;
-    file.take_entry(alloc, &mut store, 7, Entry::Sort { level: 0 })?;
-    let Ok(parameters) = Vec::from_slice(alloc, &[1, parameter]) else {
+) -> Result<bool, TakeError> {
+    let mut file = Assembler::new(alloc, store)?;
+    file.take_entry(alloc, store, 7, Entry::Sort { level: 0 })?;
+    let Ok(parameters) = Vec::from_slice(alloc, &[0, 0]) else {
         return Err(TakeError::NoMemory);
     };
     file.take_declaration(
         alloc,
-        &mut store,
+        store,
         Declaration::Axiom {
             name,
             declared_type,
             parameters,
         },
     )?;
-    Ok(file)
+    match file.units.as_slice() {
+        [unit] => Ok(is_axiom(unit)),
+        _ => Ok(false),
+    }
+}
+
+fn is_axiom(unit: &Unit) -> bool {
+    match unit {
+        Unit::Declaration(declaration) => {
+            declaration.body == Body::Axiom && declaration.levels.len() == 2
+        }
+        Unit::Block(_) => false,
+    }
+}
+
+fn axiom(alloc: Global, name: u32, declared_type: u32) -> Result<bool, TakeError> {
+    let mut store = BaseStore::new(alloc);
+    axiom_over(alloc, &mut store, name, declared_type)
 }
 
 #[test]
 fn axioms(rt: HostRuntime) -> Result<(), Fail> {
     let alloc = rt.alloc();
-    let unknown = Some(TakeError::Fault(Word::IndexUnknown));
-    assert_eq!(rt; axiom(alloc, 2, 7, 1).err(), unknown);
-    assert_eq!(rt; axiom(alloc, 1, 8, 1).err(), unknown);
-    assert_eq!(rt; axiom(alloc, 1, 7, 2).err(), unknown);
-    let file = axiom(alloc, 1, 7, 0)?;
-    for unit in &file.units {
-        match unit {
-            Unit::Declaration(declaration) => {
-                assert_eq!(rt; declaration.levels.len(), 2);
-                assert_eq!(rt; declaration.body, Body::Axiom);
-            }
-            Unit::Block(_) => panic!(rt; "a block"),
-        }
-    }
-    assert_eq!(rt; file.units.len(), 1);
+    let unknown = Err(TakeError::Fault(Word::IndexUnknown));
+    assert_eq!(rt; axiom(alloc, 2, 7), unknown);
+    assert_eq!(rt; axiom(alloc, 0, 8), unknown);
+    assert_eq!(rt; axiom(alloc, 0, 7), Ok(true));
     Ok(())
 }
