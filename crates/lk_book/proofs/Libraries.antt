@@ -5,10 +5,7 @@ use Rattle.lk_store.specs.Contents.{Contents}
 use Rattle.lk_store.specs.Store.{contents_of}
 use Rattle.lk_store.specs.declared.tables.Tables.{Tables}
 use Rattle.lk_env.specs.declared.unit.Unit.{Unit as StoredUnit}
-use Rattle.lk_env.specs.Units.{library_at}
-use Rattle.lk_lines.specs.declared.line.Fault.{Fault}
 use Rattle.lk_units.specs.declared.assembler.Assembler.{Assembler}
-use Rattle.lk_book.specs.Course.{Course}
 use Rattle.lk_book.specs.File.{after, course_of, library_of}
 use Rattle.lk_book.specs.Reading.{Reads, ReadsLibrary}
 use Rattle.lk_book.specs.declared.error.ReadError.{ReadError}

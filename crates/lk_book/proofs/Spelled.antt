@@ -1,9 +1,9 @@
 -- No name of a library that is read holds a line feed.
 use Rattle.std.proofs.Common.{◌≡◌, ℕ, ◌==◌, nat_eq, true, ◌&&◌, List, [], ◌∷◌, Ok, refl}
 use Rattle.std.specs.Prelude.{not}
-use Rattle.lk_tree.specs.Tree.{Name, text, number, Tree, var, sort, const, app, lam, pi}
+use Rattle.lk_tree.specs.Tree.{Name, text, number, Tree, var, sort, const, app, lam, pi, let_in}
 use Rattle.lk_tree.proofs.Scans.{both_true, and_true}
-use Rattle.lk_rulebook.specs.Units.{Body, as_axiom, as_thm, LibraryUnit, of_decl, Library, members_of, body_trees, trees_of}
+use Rattle.lk_rulebook.specs.Units.{Body, as_axiom, as_def, as_thm, as_opaque, LibraryUnit, of_decl, Library, members_of, body_trees, trees_of}
 use Rattle.lk_rulebook.specs.Spelled.{no_lf, is_spelled, tree_spelled, names_spelled, all_spelled, library_spelled}
 use Rattle.lk_units.specs.Names.{is_plain, IsPlainName}
 use Rattle.lk_units.specs.Built.{IsBuilt, IsBuiltBody, IsBuiltUnit, AllBuilt}
@@ -31,11 +31,15 @@ built_spelled (const c ls) b = name_spelled c b.0
 built_spelled (app f a) b = and_true (tree_spelled f) (tree_spelled a) (built_spelled f b.0) (built_spelled a b.1)
 built_spelled (lam A e) b = and_true (tree_spelled A) (tree_spelled e) (built_spelled A b.0) (built_spelled e b.1)
 built_spelled (pi A e) b = and_true (tree_spelled A) (tree_spelled e) (built_spelled A b.0) (built_spelled e b.1)
+built_spelled (let_in A v e) b =
+    and_true (tree_spelled A) (tree_spelled v && tree_spelled e) (built_spelled A b.0.0) (and_true (tree_spelled v) (tree_spelled e) (built_spelled v b.0.1) (built_spelled e b.1))
 built_spelled _ b = absurd b
 
 body_spelled : (ps : List Name) (v : Body) → IsBuiltBody v → all_spelled (body_trees ps v) ≡ true
 body_spelled ps as_axiom b = refl
+body_spelled ps (as_def h v) b = and_true (tree_spelled v) true (built_spelled v b) refl
 body_spelled ps (as_thm v) b = and_true (tree_spelled v) true (built_spelled v b) refl
+body_spelled ps (as_opaque v) b = and_true (tree_spelled v) true (built_spelled v b) refl
 body_spelled ps _ b = absurd b
 
 unit_spelled : (u : LibraryUnit) → IsBuiltUnit u → (names_spelled (members_of u) && all_spelled (trees_of u)) ≡ true

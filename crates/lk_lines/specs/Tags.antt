@@ -43,14 +43,20 @@ abbrev pub is_built : Tag → Bool
 is_built (Entry entry.NameText) = true
 is_built (Entry entry.NameNumber) = true
 is_built (Entry entry.Successor) = true
+is_built (Entry entry.Max) = true
+is_built (Entry entry.Imax) = true
+is_built (Entry entry.Parameter) = true
 is_built (Entry entry.Sort) = true
 is_built (Entry entry.Constant) = true
 is_built (Entry entry.Apply) = true
 is_built (Entry entry.Variable) = true
 is_built (Entry entry.Lambda) = true
 is_built (Entry entry.Pi) = true
+is_built (Entry entry.Let) = true
 is_built (Declaration declaration.Axiom) = true
+is_built (Declaration declaration.Definition) = true
 is_built (Declaration declaration.Theorem) = true
+is_built (Declaration declaration.Opaque) = true
 is_built t = false
 
 -- the tags of lines that define a number, which stands in front of the tag

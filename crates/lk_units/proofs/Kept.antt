@@ -2,8 +2,8 @@
 use Rattle.std.proofs.Common.{◌≡◌, ℕ, ◌<◌, ◌+◌, ◌==◌, Bool, true, false, List, [], ◌∷◌, ◌++◌, Some, None, nat_lt}
 use Rattle.std.specs.Prelude.{IfSome, IfOk, is_some, if◌then◌else◌, ◌^◌, ◌-◌, Result, Ok, Err}
 use Rattle.std.specs.declared.option.Option.{Option}
-use Rattle.lk_tree.specs.Tree.{Name, text, number, Level, zero_level, succ_level, Tree, var, sort, const, app, lam, pi}
-use Rattle.lk_rulebook.specs.Units.{Body, as_axiom, as_thm, LibraryUnit, of_decl, Library}
+use Rattle.lk_tree.specs.Tree.{Name, text, number, Level, zero_level, succ_level, max_level, imax_level, param, Tree, var, sort, const, app, lam, pi, let_in}
+use Rattle.lk_rulebook.specs.Units.{Body, as_axiom, as_def, as_thm, as_opaque, LibraryUnit, of_decl, Library}
 use Rattle.lk_lines.specs.declared.words.Word.{Word}
 use Rattle.lk_lines.specs.declared.words.Word.TheVariants.{IndexTaken, TooManyItems}
 use Rattle.lk_lines.specs.declared.tags.EntryTag.{EntryTag}
@@ -18,7 +18,7 @@ use Rattle.lk_lines.specs.Values.{Value}
 use Rattle.lk_lines.specs.Values as value
 use Rattle.lk_units.specs.Built.{IsBuiltLevel, AreBuiltLevels, IsBuilt, IsBuiltBody, IsBuiltUnit, AllBuilt}
 use Rattle.lk_units.specs.Names.{is_plain, IsPlainName, Each, ArePlain}
-use Rattle.lk_units.specs.State.{State, begin, known, known_of, all_known, fresh, put, with_name, with_level, with_tree, with_unit, longer_name, successor_level, sort_tree, constant_tree, application_tree, binder_tree, declaration_of, proof_of, theorem_of, axiom_of, entry_added, declaration_added, added, counted, take_item}
+use Rattle.lk_units.specs.State.{State, begin, known, known_of, all_known, fresh, put, with_name, with_level, with_tree, with_unit, longer_name, successor_level, pair_level, parameter_level, sort_tree, constant_tree, application_tree, binder_tree, let_tree, declaration_of, hint_said, value_body, valued_of, axiom_of, entry_added, declaration_added, added, counted, take_item}
 use Rattle.lk_units.specs.Plain.{ArePlainValues, IsPlainItem}
 
 pub record Kept (s : State) : Type 0 where
@@ -81,6 +81,11 @@ kept_constant s n ls k =
     if_then IsPlainName IsBuilt (known s.names n) (λ name. (all_known s.levels ls >>= λ levels. Ok (const name levels))) (if_known IsPlainName s.names n (k.names n))
     (λ name p. if_then AreBuiltLevels IsBuilt (all_known s.levels ls) (λ levels. Ok (const name levels)) (if_all_known IsBuiltLevel s.levels ls k.levels) (λ levels q. (p, q)))
 
+kept_pair : (f : Level → Level → Level) → ((l m : Level) → IsBuiltLevel l → IsBuiltLevel m → IsBuiltLevel (f l m)) → (s : State) (l m : ℕ) → Kept s → IfOk (pair_level s f l m) IsBuiltLevel
+kept_pair f g s l m k =
+    if_then IsBuiltLevel IsBuiltLevel (known s.levels l) (λ x. (known s.levels m >>= λ y. Ok (f x y))) (if_known IsBuiltLevel s.levels l (k.levels l))
+    (λ x px. if_then IsBuiltLevel IsBuiltLevel (known s.levels m) (λ y. Ok (f x y)) (if_known IsBuiltLevel s.levels m (k.levels m)) (λ y py. g x y px py))
+
 kept_application : (s : State) (f a : ℕ) → Kept s → IfOk (application_tree s f a) IsBuilt
 kept_application s f a k =
     if_then IsBuilt IsBuilt (known s.trees f) (λ x. (known s.trees a >>= λ y. Ok (app x y))) (if_known IsBuilt s.trees f (k.trees f))
@@ -92,6 +97,13 @@ kept_binder f g s n a b k =
     (λ name p. if_then IsBuilt IsBuilt (known s.trees a) (λ x. (known s.trees b >>= λ y. Ok (f x y))) (if_known IsBuilt s.trees a (k.trees a))
     (λ x px. if_then IsBuilt IsBuilt (known s.trees b) (λ y. Ok (f x y)) (if_known IsBuilt s.trees b (k.trees b)) (λ y py. g x y px py)))
 
+kept_let : (s : State) (n a v b : ℕ) → Kept s → IfOk (let_tree s n a v b) IsBuilt
+kept_let s n a v b k =
+    if_then IsPlainName IsBuilt (known s.names n) (λ name. (known s.trees a >>= λ x. (known s.trees v >>= λ y. (known s.trees b >>= λ z. Ok (let_in x y z))))) (if_known IsPlainName s.names n (k.names n))
+    (λ name p. if_then IsBuilt IsBuilt (known s.trees a) (λ x. (known s.trees v >>= λ y. (known s.trees b >>= λ z. Ok (let_in x y z)))) (if_known IsBuilt s.trees a (k.trees a))
+    (λ x px. if_then IsBuilt IsBuilt (known s.trees v) (λ y. (known s.trees b >>= λ z. Ok (let_in x y z))) (if_known IsBuilt s.trees v (k.trees v))
+    (λ y py. if_then IsBuilt IsBuilt (known s.trees b) (λ z. Ok (let_in x y z)) (if_known IsBuilt s.trees b (k.trees b)) (λ z pz. ((px, py), pz)))))
+
 abbrev stated : Name → Tree → Body → List Name → LibraryUnit
 stated n a b ps = of_decl (record { name = n; levels = ps; type = a; body = b })
 
@@ -102,8 +114,11 @@ kept_stated s n a said ps k h =
     (λ type pt. if_then IsBuiltBody IsBuiltUnit said (λ body. (all_known s.names ps >>= λ levels. Ok (stated name type body levels))) h
     (λ body pb. if_then ArePlain IsBuiltUnit (all_known s.names ps) (λ levels. Ok (stated name type body levels)) (if_all_known IsPlainName s.names ps k.names) (λ levels pl. ((pn, pl), (pt, pb))))))
 
-kept_proof : (s : State) (v : ℕ) → Kept s → IfOk (proof_of s v) IsBuiltBody
-kept_proof s v k = if_then IsBuilt IsBuiltBody (known s.trees v) (λ proof. Ok (as_thm proof)) (if_known IsBuilt s.trees v (k.trees v)) (λ proof p. p)
+kept_value : (f : Tree → Body) → ((e : Tree) → IsBuilt e → IsBuiltBody (f e)) → (s : State) (v : ℕ) → Kept s → IfOk (value_body s f v) IsBuiltBody
+kept_value f g s v k = if_then IsBuilt IsBuiltBody (known s.trees v) (λ value. Ok (f value)) (if_known IsBuilt s.trees v (k.trees v)) g
+
+kept_valued : (f : Tree → Body) → ((e : Tree) → IsBuilt e → IsBuiltBody (f e)) → (s : State) (n a v : ℕ) (ps : List ℕ) → Kept s → IfOk (valued_of s f n a v ps) IsBuiltUnit
+kept_valued f g s n a v ps k = kept_stated s n a (value_body s f v) ps k (kept_value f g s v k)
 
 kept_unit : (s : State) (said : Result LibraryUnit Word) → Kept s → IfOk said IsBuiltUnit → IfOk (with_unit s said) Kept
 kept_unit s said k h = if_then IsBuiltUnit Kept said (λ x. Ok (record s { units = s.units ++ x ∷ [] })) h (λ u p. record { names = k.names; levels = k.levels; trees = k.trees; built = built_push s.units u k.built p })
@@ -113,17 +128,23 @@ unfolding entry_added
 kept_entry s own entry.NameText (value.Number p ∷ value.Bytes bytes ∷ []) i k = kept_name s own (longer_name s p (text bytes)) k (if_then IsPlainName IsPlainName (known s.names p) (λ x. Ok (x ++ text bytes ∷ [])) (if_known IsPlainName s.names p (k.names p)) (λ x px. text_push x bytes i px))
 kept_entry s own entry.NameNumber (value.Number p ∷ value.Number n ∷ []) i k = kept_name s own (longer_name s p (number n)) k (if_then IsPlainName IsPlainName (known s.names p) (λ x. Ok (x ++ number n ∷ [])) (if_known IsPlainName s.names p (k.names p)) (λ x px. number_push x n i px))
 kept_entry s own entry.Successor (value.Number l ∷ []) i k = kept_level s own (successor_level s l) k (if_then IsBuiltLevel IsBuiltLevel (known s.levels l) (λ x. Ok (succ_level x)) (if_known IsBuiltLevel s.levels l (k.levels l)) (λ x px. px))
+kept_entry s own entry.Max (value.Number l ∷ value.Number m ∷ []) i k = kept_level s own (pair_level s (λ x y. max_level x y) l m) k (kept_pair (λ x y. max_level x y) (λ x y h j. (h, j)) s l m k)
+kept_entry s own entry.Imax (value.Number l ∷ value.Number m ∷ []) i k = kept_level s own (pair_level s (λ x y. imax_level x y) l m) k (kept_pair (λ x y. imax_level x y) (λ x y h j. (h, j)) s l m k)
+kept_entry s own entry.Parameter (value.Number n ∷ []) i k = kept_level s own (parameter_level s n) k (if_then IsPlainName IsBuiltLevel (known s.names n) (λ x. Ok (param x)) (if_known IsPlainName s.names n (k.names n)) (λ x px. px))
 kept_entry s own entry.Variable (value.Number x ∷ []) i k = kept_tree s own (Ok (var x)) k tt
 kept_entry s own entry.Sort (value.Number u ∷ []) i k = kept_tree s own (sort_tree s u) k (if_then IsBuiltLevel IsBuilt (known s.levels u) (λ x. Ok (sort x)) (if_known IsBuiltLevel s.levels u (k.levels u)) (λ x px. px))
 kept_entry s own entry.Constant (value.Number n ∷ value.Numbers ls ∷ []) i k = kept_tree s own (constant_tree s n ls) k (kept_constant s n ls k)
 kept_entry s own entry.Apply (value.Number f ∷ value.Number a ∷ []) i k = kept_tree s own (application_tree s f a) k (kept_application s f a k)
 kept_entry s own entry.Lambda (value.OfInfo o ∷ value.Number n ∷ value.Number a ∷ value.Number b ∷ []) i k = kept_tree s own (binder_tree s (λ A e. lam A e) n a b) k (kept_binder (λ A e. lam A e) (λ a b h j. (h, j)) s n a b k)
 kept_entry s own entry.Pi (value.OfInfo o ∷ value.Number n ∷ value.Number a ∷ value.Number b ∷ []) i k = kept_tree s own (binder_tree s (λ A e. pi A e) n a b) k (kept_binder (λ A e. pi A e) (λ a b h j. (h, j)) s n a b k)
+kept_entry s own entry.Let (value.Number n ∷ value.Number a ∷ value.Number v ∷ value.Number b ∷ []) i k = kept_tree s own (let_tree s n a v b) k (kept_let s n a v b k)
 kept_entry s own t values i k = tt
 
 kept_declaration : (s : State) (t : DeclarationTag) (values : List Value) → Kept s → IfOk (declaration_added s t values) Kept
 unfolding declaration_added
-kept_declaration s decl.Theorem (value.Number n ∷ value.Number a ∷ value.Number v ∷ value.Numbers ps ∷ []) k = kept_unit s (theorem_of s n a v ps) k (kept_stated s n a (proof_of s v) ps k (kept_proof s v k))
+kept_declaration s decl.Definition (value.Number n ∷ value.Number a ∷ value.Number v ∷ value.OfHint h ∷ value.Numbers ps ∷ []) k = kept_unit s (valued_of s (λ e. as_def (hint_said h) e) n a v ps) k (kept_valued (λ e. as_def (hint_said h) e) (λ e p. p) s n a v ps k)
+kept_declaration s decl.Theorem (value.Number n ∷ value.Number a ∷ value.Number v ∷ value.Numbers ps ∷ []) k = kept_unit s (valued_of s (λ e. as_thm e) n a v ps) k (kept_valued (λ e. as_thm e) (λ e p. p) s n a v ps k)
+kept_declaration s decl.Opaque (value.Number n ∷ value.Number a ∷ value.Number v ∷ value.Numbers ps ∷ []) k = kept_unit s (valued_of s (λ e. as_opaque e) n a v ps) k (kept_valued (λ e. as_opaque e) (λ e p. p) s n a v ps k)
 kept_declaration s decl.Axiom (value.Number n ∷ value.Number a ∷ value.Numbers ps ∷ []) k = kept_unit s (axiom_of s n a ps) k (kept_stated s n a (Ok as_axiom) ps k tt)
 kept_declaration s t values k = tt
 

@@ -1,19 +1,21 @@
 -- What a file may state today.
 use Rattle.std.specs.Prelude.{List}
-use Rattle.lk_tree.specs.Tree.{Level, zero_level, succ_level, Tree, var, sort, const, app, lam, pi}
-use Rattle.lk_rulebook.specs.Units.{Body, as_axiom, as_thm, Decl, LibraryUnit, of_decl, Library}
+use Rattle.lk_tree.specs.Tree.{Level, zero_level, succ_level, max_level, imax_level, param, Tree, var, sort, const, app, lam, pi, let_in}
+use Rattle.lk_rulebook.specs.Units.{Body, as_axiom, as_def, as_thm, as_opaque, Decl, LibraryUnit, of_decl, Library}
 use Rattle.lk_units.specs.Names.{Each, IsPlainName, ArePlain}
 
--- the level holds successors of zero alone
+-- the names of the level's parameters are plain
 abbrev pub IsBuiltLevel : Level → Type 0
 IsBuiltLevel zero_level = Unit {0}
 IsBuiltLevel (succ_level l) = IsBuiltLevel l
-IsBuiltLevel _ = ⊥
+IsBuiltLevel (max_level l m) = IsBuiltLevel l × IsBuiltLevel m
+IsBuiltLevel (imax_level l m) = IsBuiltLevel l × IsBuiltLevel m
+IsBuiltLevel (param n) = IsPlainName n
 
 abbrev pub AreBuiltLevels : List Level → Type 0
 AreBuiltLevels ls = Each IsBuiltLevel ls
 
--- the tree holds variables, sorts, constants, applications, lambdas and Pis alone, at such levels
+-- the tree holds variables, sorts, constants, applications, lambdas, Pis and lets alone, at such levels
 abbrev pub IsBuilt : Tree → Type 0
 IsBuilt (var i) = Unit {0}
 IsBuilt (sort l) = IsBuiltLevel l
@@ -21,12 +23,15 @@ IsBuilt (const c ls) = IsPlainName c × AreBuiltLevels ls
 IsBuilt (app f a) = IsBuilt f × IsBuilt a
 IsBuilt (lam A b) = IsBuilt A × IsBuilt b
 IsBuilt (pi A b) = IsBuilt A × IsBuilt b
+IsBuilt (let_in A v b) = (IsBuilt A × IsBuilt v) × IsBuilt b
 IsBuilt _ = ⊥
 
--- an axiom or a theorem
+-- an axiom, a definition, a theorem or an opaque constant
 abbrev pub IsBuiltBody : Body → Type 0
 IsBuiltBody as_axiom = Unit {0}
+IsBuiltBody (as_def h v) = IsBuilt v
 IsBuiltBody (as_thm v) = IsBuilt v
+IsBuiltBody (as_opaque v) = IsBuilt v
 IsBuiltBody _ = ⊥
 
 abbrev pub IsBuiltDecl : Decl → Type 0

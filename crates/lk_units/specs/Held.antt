@@ -1,9 +1,10 @@
 -- What an assembler holds, by what its numbers have in a store.
 use Rattle.std.specs.Prelude.{◌≡◌, ◌<◌, ◌==◌, ℕ, length, IfSome, Result, Ok, Err, Some, option_map, is_some, if◌then◌else◌}
 use Rattle.std.specs.declared.option.Option.{Option}
-use Rattle.lk_tree.specs.Tree.{Tree, lam, pi}
+use Rattle.lk_tree.specs.Tree.{Level, max_level, imax_level, Tree, lam, pi}
 use Rattle.lk_store.specs.Contents.{Contents, name_at, level_at, tree_at}
-use Rattle.lk_env.specs.Units.{library_at, AreUnitsIn}
+use Rattle.lk_rulebook.specs.Units.{Body as PlainBody, as_def, as_thm, as_opaque}
+use Rattle.lk_env.specs.Units.{hint_of, library_at, AreUnitsIn}
 use Rattle.lk_lines.specs.declared.words.Word.{Word}
 use Rattle.lk_lines.specs.declared.words.Word.TheVariants.{IndexTaken}
 use Rattle.lk_units.specs.Numbering.{entry}
@@ -12,6 +13,10 @@ use Rattle.lk_units.specs.declared.numbering.Numbering.{Numbering}
 use Rattle.lk_units.specs.declared.assembler.Assembler.{Assembler}
 use Rattle.lk_units.specs.declared.assembler.Binder.{Binder}
 use Rattle.lk_units.specs.declared.assembler.Binder.TheVariants.{Lambda, Pi}
+use Rattle.lk_units.specs.declared.assembler.LevelPair.{LevelPair}
+use Rattle.lk_units.specs.declared.assembler.LevelPair.TheVariants.{Max, Imax}
+use Rattle.lk_units.specs.declared.assembler.ValueUse.{ValueUse}
+use Rattle.lk_units.specs.declared.assembler.ValueUse.TheVariants as uses
 use Rattle.lk_units.specs.declared.assembler.TakeError.{TakeError}
 use Rattle.lk_units.specs.declared.assembler.TakeError.TheVariants as errors
 
@@ -41,6 +46,15 @@ pub record Holds (a : Assembler) (c : Contents) (s : State) : Type 0 where
 abbrev pub binder_of : Binder → Tree → Tree → Tree
 binder_of Lambda = λ A b. lam A b
 binder_of Pi = λ A b. pi A b
+
+abbrev pub pair_of : LevelPair → Level → Level → Level
+pair_of Max = λ l m. max_level l m
+pair_of Imax = λ l m. imax_level l m
+
+abbrev pub body_of : ValueUse → Tree → PlainBody
+body_of (uses.Definition h) = λ e. as_def (hint_of h) e
+body_of uses.Theorem = λ e. as_thm e
+body_of uses.Opaque = λ e. as_opaque e
 
 abbrev pub Fails : {X : Type 0} → TakeError → Result X Word → Type 0
 Fails errors.NoMemory said = Unit {0}

@@ -1,8 +1,11 @@
 -- What the numbers of a file stand for behind its lines so far, and what an item adds, or its fault.
 use Rattle.std.specs.Prelude.{ℕ, ◌==◌, ◌+◌, ◌-◌, ◌^◌, List, [], ◌∷◌, ◌++◌, Result, Ok, Err, Some, None, if◌then◌else◌, is_some, nat_lt}
 use Rattle.std.specs.declared.option.Option.{Option}
-use Rattle.lk_tree.specs.Tree.{Name, Part, text, number, Level, zero_level, succ_level, Tree, var, sort, const, app, lam, pi}
-use Rattle.lk_rulebook.specs.Units.{Body, as_axiom, as_thm, LibraryUnit, of_decl, Library}
+use Rattle.lk_tree.specs.Tree.{Name, Part, text, number, Level, zero_level, succ_level, max_level, imax_level, param, Tree, var, sort, const, app, lam, pi, let_in}
+use Rattle.lk_rulebook.specs.Place.{Hint, opaque_hint, abbreviation, regular}
+use Rattle.lk_rulebook.specs.Units.{Body, as_axiom, as_def, as_thm, as_opaque, LibraryUnit, of_decl, Library}
+use Rattle.lk_lines.specs.declared.line.ReducibilityHint.{ReducibilityHint}
+use Rattle.lk_lines.specs.declared.line.ReducibilityHint.TheVariants as hints
 use Rattle.lk_lines.specs.declared.words.Word.{Word}
 use Rattle.lk_lines.specs.declared.words.Word.TheVariants.{UnknownTag, IndexTaken, IndexUnknown, TooManyItems}
 use Rattle.lk_lines.specs.declared.tags.EntryTag.{EntryTag}
@@ -66,12 +69,23 @@ longer_name s p part = known s.names p >>= λ x. Ok (x ++ part ∷ [])
 abbrev pub successor_level : State → ℕ → Result Level Word
 successor_level s l = known s.levels l >>= λ x. Ok (succ_level x)
 
+-- the greater of two levels, or 0 where it is an `imax` and the right one is 0
+abbrev pub pair_level : State → (Level → Level → Level) → ℕ → ℕ → Result Level Word
+pair_level s f l m = known s.levels l >>= λ x. (known s.levels m >>= λ y. Ok (f x y))
+
+abbrev pub parameter_level : State → ℕ → Result Level Word
+parameter_level s n = known s.names n >>= λ name. Ok (param name)
+
 abbrev pub sort_tree : State → ℕ → Result Tree Word
 sort_tree s u = known s.levels u >>= λ l. Ok (sort l)
 
 -- a lambda or a Pi, whose binder's name is to stand for something
 abbrev pub binder_tree : State → (Tree → Tree → Tree) → ℕ → ℕ → ℕ → Result Tree Word
 binder_tree s f n a b = known s.names n >>= λ name. (known s.trees a >>= λ x. (known s.trees b >>= λ y. Ok (f x y)))
+
+-- a let, whose name is to stand for something
+abbrev pub let_tree : State → ℕ → ℕ → ℕ → ℕ → Result Tree Word
+let_tree s n a v b = known s.names n >>= λ name. (known s.trees a >>= λ x. (known s.trees v >>= λ y. (known s.trees b >>= λ z. Ok (let_in x y z))))
 
 -- a constant at levels, each of which is to stand for something
 abbrev pub constant_tree : State → ℕ → List ℕ → Result Tree Word
@@ -85,12 +99,19 @@ abbrev pub declaration_of : State → ℕ → ℕ → Result Body Word → List 
 declaration_of s n a said ps = known s.names n >>= λ name. (known s.trees a >>= λ type. (said >>= λ body.
     (all_known s.names ps >>= λ levels. Ok (of_decl (record { name = name; levels = levels; type = type; body = body })))))
 
--- the body of a theorem with this proof
-abbrev pub proof_of : State → ℕ → Result Body Word
-proof_of s v = known s.trees v >>= λ proof. Ok (as_thm proof)
+-- how readily a definition is unfolded, as its line says it
+abbrev pub hint_said : ReducibilityHint → Hint
+hint_said hints.Opaque = opaque_hint
+hint_said hints.Abbreviation = abbreviation
+hint_said (hints.Regular n) = regular n
 
-abbrev pub theorem_of : State → ℕ → ℕ → ℕ → List ℕ → Result LibraryUnit Word
-theorem_of s n a v ps = declaration_of s n a (proof_of s v) ps
+-- the body that a value makes
+abbrev pub value_body : State → (Tree → Body) → ℕ → Result Body Word
+value_body s f v = known s.trees v >>= λ value. Ok (f value)
+
+-- a declaration with a value
+abbrev pub valued_of : State → (Tree → Body) → ℕ → ℕ → ℕ → List ℕ → Result LibraryUnit Word
+valued_of s f n a v ps = declaration_of s n a (value_body s f v) ps
 
 abbrev pub axiom_of : State → ℕ → ℕ → List ℕ → Result LibraryUnit Word
 axiom_of s n a ps = declaration_of s n a (Ok as_axiom) ps
@@ -101,16 +122,22 @@ unfoldable pub entry_added : State → ℕ → EntryTag → List Value → Resul
 entry_added s own entry.NameText (value.Number p ∷ value.Bytes bytes ∷ []) = with_name s own (longer_name s p (text bytes))
 entry_added s own entry.NameNumber (value.Number p ∷ value.Number n ∷ []) = with_name s own (longer_name s p (number n))
 entry_added s own entry.Successor (value.Number l ∷ []) = with_level s own (successor_level s l)
+entry_added s own entry.Max (value.Number l ∷ value.Number m ∷ []) = with_level s own (pair_level s (λ x y. max_level x y) l m)
+entry_added s own entry.Imax (value.Number l ∷ value.Number m ∷ []) = with_level s own (pair_level s (λ x y. imax_level x y) l m)
+entry_added s own entry.Parameter (value.Number n ∷ []) = with_level s own (parameter_level s n)
 entry_added s own entry.Variable (value.Number i ∷ []) = with_tree s own (Ok (var i))
 entry_added s own entry.Sort (value.Number u ∷ []) = with_tree s own (sort_tree s u)
 entry_added s own entry.Constant (value.Number n ∷ value.Numbers ls ∷ []) = with_tree s own (constant_tree s n ls)
 entry_added s own entry.Apply (value.Number f ∷ value.Number a ∷ []) = with_tree s own (application_tree s f a)
 entry_added s own entry.Lambda (value.OfInfo i ∷ value.Number n ∷ value.Number a ∷ value.Number b ∷ []) = with_tree s own (binder_tree s (λ A e. lam A e) n a b)
 entry_added s own entry.Pi (value.OfInfo i ∷ value.Number n ∷ value.Number a ∷ value.Number b ∷ []) = with_tree s own (binder_tree s (λ A e. pi A e) n a b)
+entry_added s own entry.Let (value.Number n ∷ value.Number a ∷ value.Number v ∷ value.Number b ∷ []) = with_tree s own (let_tree s n a v b)
 entry_added s own t values = Err UnknownTag
 
 unfoldable pub declaration_added : State → DeclarationTag → List Value → Result State Word
-declaration_added s decl.Theorem (value.Number n ∷ value.Number a ∷ value.Number v ∷ value.Numbers ps ∷ []) = with_unit s (theorem_of s n a v ps)
+declaration_added s decl.Definition (value.Number n ∷ value.Number a ∷ value.Number v ∷ value.OfHint h ∷ value.Numbers ps ∷ []) = with_unit s (valued_of s (λ e. as_def (hint_said h) e) n a v ps)
+declaration_added s decl.Theorem (value.Number n ∷ value.Number a ∷ value.Number v ∷ value.Numbers ps ∷ []) = with_unit s (valued_of s (λ e. as_thm e) n a v ps)
+declaration_added s decl.Opaque (value.Number n ∷ value.Number a ∷ value.Number v ∷ value.Numbers ps ∷ []) = with_unit s (valued_of s (λ e. as_opaque e) n a v ps)
 declaration_added s decl.Axiom (value.Number n ∷ value.Number a ∷ value.Numbers ps ∷ []) = with_unit s (axiom_of s n a ps)
 declaration_added s t values = Err UnknownTag
 

@@ -5,7 +5,7 @@ ghost use Rattle.lk_units.specs.State.{State, begin, counted};
 ghost use Rattle.lk_units.specs.Held.{IsKnown, Holds, Follows};
 
 use crate::numbering::Numbering;
-use lk_env::unit::Unit;
+use lk_env::unit::{Hint, Unit};
 use lk_lines::Word;
 use lk_rows::memory::NoMemory;
 use lk_store::node::{LevelNode, NameNode};
@@ -50,6 +50,21 @@ impl From<NoMemory> for TakeError {
 pub enum Binder {
     Lambda,
     Pi,
+}
+
+/// What a value is to its declaration.
+#[derive(Clone, Copy, Debug, PartialEq, Eq)]
+pub enum ValueUse {
+    Definition(Hint),
+    Theorem,
+    Opaque,
+}
+
+/// How a level is made of two.
+#[derive(Clone, Copy, Debug, PartialEq, Eq)]
+pub enum LevelPair {
+    Max,
+    Imax,
 }
 
 impl Assembler {

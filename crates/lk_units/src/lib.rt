@@ -9,5 +9,5 @@ mod taking;
 #[cfg(test)]
 mod tests;
 
-pub use assembler::{Assembler, Binder, TakeError};
+pub use assembler::{Assembler, Binder, LevelPair, TakeError, ValueUse};
 pub use numbering::Numbering;

@@ -2,13 +2,13 @@
 ghost use Rattle.std.specs.Prelude.{◌≡◌, ◌<◌, ◌++◌, ◌∷◌, [], length, map, All, IfOk, Ok, Result};
 ghost use Rattle.lk_tree.specs.Tree.{Level, text, number, var, const};
 ghost use Rattle.lk_rulebook.specs.Units.{Body as PlainBody};
-ghost use Rattle.lk_store.specs.Contents.{Contents, name_at, level_at, tree_at, tree_of, IsIn, IsName, IsList, Extends};
+ghost use Rattle.lk_store.specs.Contents.{Contents, name_at, level_at, tree_at, level_of, tree_of, IsIn, IsLevelIn, IsName, IsList, Extends};
 ghost use Rattle.lk_env.specs.Units.{body_at, unit_at, IsBodyIn, IsUnitIn};
 ghost use Rattle.lk_lines.specs.declared.words.Word.{Word as LineWord};
-ghost use Rattle.lk_units.specs.State.{State, longer_name, successor_level, sort_tree, constant_tree, application_tree, binder_tree, declaration_of, proof_of, theorem_of, axiom_of};
-ghost use Rattle.lk_units.specs.Held.{IsKnown, Holds, Makes, binder_of};
+ghost use Rattle.lk_units.specs.State.{State, longer_name, successor_level, pair_level, parameter_level, sort_tree, constant_tree, application_tree, binder_tree, let_tree, declaration_of, value_body, valued_of, axiom_of};
+ghost use Rattle.lk_units.specs.Held.{IsKnown, Holds, Makes, binder_of, pair_of, body_of};
 
-use crate::{Assembler, Binder, TakeError};
+use crate::{Assembler, Binder, LevelPair, TakeError, ValueUse};
 use lk_env::unit::{Body, Declaration, Unit};
 use lk_lines::Word;
 use lk_rows::memory::NoMemory;
@@ -25,6 +25,43 @@ fn binder_node(binder: Binder, domain: u64, body: u64) -> Node
     match binder {
         Binder::Lambda => Node::Lam(domain, body),
         Binder::Pi => Node::Pi(domain, body),
+    }
+}
+
+// The node of a level that is made of two.
+fn pair_node(pair: LevelPair, left: u64, right: u64) -> LevelNode
+    ensures level { (c : Contents) → level_of c result ≡ pair_of pair (level_at c left) (level_at c right) }
+    ensures parts { (c : Contents) → left < length c.levels → right < length c.levels → IsLevelIn c result }
+{
+    match pair {
+        LevelPair::Max => LevelNode::Max(left, right),
+        LevelPair::Imax => LevelNode::IMax(left, right),
+    }
+}
+
+// The body that a value makes.
+fn value_body(value_use: ValueUse, value: u64) -> Body
+    ensures body { (c : Contents) → body_at c result ≡ body_of value_use (tree_at c value) }
+    ensures parts { (c : Contents) → value < length c.trees → IsBodyIn c result }
+{
+    match value_use {
+        ValueUse::Definition(hint) => Body::Definition { hint, value },
+        ValueUse::Theorem => Body::Theorem { proof: value },
+        ValueUse::Opaque => Body::Opaque { value },
+    }
+}
+
+// A level.
+fn make_level<T: Terms>(store: &mut T, node: LevelNode) -> Result<u64, TakeError>
+    requires { IsLevelIn (T.contents store.old) node }
+    ensures keeps { Extends (T.contents store.old) (T.contents store.new) }
+    ensures rest { T.rest store.new ≡ T.rest store.old }
+    ensures known { IfOk result (λ l. l < length (T.contents store.new).levels) }
+    ensures made { Makes (level_at (T.contents store.new)) result (Ok (level_of (T.contents store.old) node)) }
+{
+    match store.make_level(node) {
+        Ok(l) => Ok(l),
+        Err(_) => Err(TakeError::NoMemory),
     }
 }
 
@@ -190,6 +227,37 @@ impl Assembler {
         make(store, binder_node(binder, domain, body))
     }
 
+    /// A let.
+    #[tactic(auto, using(crate::proofs::Holding::found, crate::proofs::Holding::missing, crate::proofs::Holding::is_below, crate::proofs::Holding::unchanged))]
+    pub(crate) fn let_in<T: Terms>(
+        &self,
+        store: &mut T,
+        name: u32,
+        domain: u32,
+        value: u32,
+        body: u32,
+    ) -> Result<u64, TakeError>
+        requires { IsKnown self.now (T.contents store.old) }
+        ensures keeps { Extends (T.contents store.old) (T.contents store.new) }
+        ensures rest { T.rest store.new ≡ T.rest store.old }
+        ensures known { IfOk result (λ e. e < length (T.contents store.new).trees) }
+        ensures made { (s : State) → Holds self.now (T.contents store.old) s → Makes (tree_at (T.contents store.new)) result (let_tree s name domain value body) }
+    {
+        let Some(_name) = self.by_name.find(name) else {
+            return Err(TakeError::Fault(Word::IndexUnknown));
+        };
+        let Some(domain) = self.by_tree.find(domain) else {
+            return Err(TakeError::Fault(Word::IndexUnknown));
+        };
+        let Some(value) = self.by_tree.find(value) else {
+            return Err(TakeError::Fault(Word::IndexUnknown));
+        };
+        let Some(body) = self.by_tree.find(body) else {
+            return Err(TakeError::Fault(Word::IndexUnknown));
+        };
+        make(store, Node::Let(domain, value, body))
+    }
+
     /// The successor of a level.
     #[tactic(auto, using(crate::proofs::Holding::found, crate::proofs::Holding::missing, crate::proofs::Holding::is_below, crate::proofs::Holding::unchanged))]
     pub(crate) fn successor<T: Terms>(&self, store: &mut T, level: u32) -> Result<u64, TakeError>
@@ -202,10 +270,46 @@ impl Assembler {
         let Some(level) = self.by_level.find(level) else {
             return Err(TakeError::Fault(Word::IndexUnknown));
         };
-        match store.make_level(LevelNode::Succ(level)) {
-            Ok(made) => Ok(made),
-            Err(_) => Err(TakeError::NoMemory),
-        }
+        make_level(store, LevelNode::Succ(level))
+    }
+
+    /// The maximum of two levels, or 0 where it is an `imax` and the right one is 0.
+    #[tactic(auto, using(crate::proofs::Holding::found, crate::proofs::Holding::missing, crate::proofs::Holding::is_below, crate::proofs::Holding::unchanged))]
+    pub(crate) fn level_pair<T: Terms>(
+        &self,
+        store: &mut T,
+        pair: LevelPair,
+        left: u32,
+        right: u32,
+    ) -> Result<u64, TakeError>
+        requires { IsKnown self.now (T.contents store.old) }
+        ensures keeps { Extends (T.contents store.old) (T.contents store.new) }
+        ensures rest { T.rest store.new ≡ T.rest store.old }
+        ensures known { IfOk result (λ l. l < length (T.contents store.new).levels) }
+        ensures made { (s : State) → Holds self.now (T.contents store.old) s → Makes (level_at (T.contents store.new)) result (pair_level s (pair_of pair) left right) }
+    {
+        let Some(left) = self.by_level.find(left) else {
+            return Err(TakeError::Fault(Word::IndexUnknown));
+        };
+        let Some(right) = self.by_level.find(right) else {
+            return Err(TakeError::Fault(Word::IndexUnknown));
+        };
+        make_level(store, pair_node(pair, left, right))
+    }
+
+    /// A level parameter.
+    #[tactic(auto, using(crate::proofs::Holding::found, crate::proofs::Holding::missing, crate::proofs::Holding::is_below, crate::proofs::Holding::unchanged))]
+    pub(crate) fn parameter<T: Terms>(&self, store: &mut T, name: u32) -> Result<u64, TakeError>
+        requires { IsKnown self.now (T.contents store.old) }
+        ensures keeps { Extends (T.contents store.old) (T.contents store.new) }
+        ensures rest { T.rest store.new ≡ T.rest store.old }
+        ensures known { IfOk result (λ l. l < length (T.contents store.new).levels) }
+        ensures made { (s : State) → Holds self.now (T.contents store.old) s → Makes (level_at (T.contents store.new)) result (parameter_level s name) }
+    {
+        let Some(name) = self.by_name.find(name) else {
+            return Err(TakeError::Fault(Word::IndexUnknown));
+        };
+        make_level(store, LevelNode::Param(name))
     }
 
     /// A name with one more component, a text.
@@ -290,31 +394,32 @@ impl Assembler {
         }
     }
 
-    /// The body of a theorem.
+    /// The body that a value makes.
     #[tactic(auto, using(crate::proofs::Holding::found, crate::proofs::Holding::missing, crate::proofs::Holding::is_below))]
-    fn proof(&self, proof: u32) -> Result<Body, TakeError>
+    fn body(&self, value_use: ValueUse, value: u32) -> Result<Body, TakeError>
         ensures known { (c : Contents) → IsKnown self.now c → IfOk result (λ b. IsBodyIn c b) }
-        ensures made { (c : Contents) (s : State) → Holds self.now c s → Makes (body_at c) result (proof_of s proof) }
+        ensures made { (c : Contents) (s : State) → Holds self.now c s → Makes (body_at c) result (value_body s (body_of value_use) value) }
     {
-        let Some(proof) = self.by_tree.find(proof) else {
+        let Some(value) = self.by_tree.find(value) else {
             return Err(TakeError::Fault(Word::IndexUnknown));
         };
-        Ok(Body::Theorem { proof })
+        Ok(value_body(value_use, value))
     }
 
-    /// A theorem.
-    pub(crate) fn theorem(
+    /// A declaration with a value.
+    pub(crate) fn valued(
         &self,
         alloc: Global,
+        value_use: ValueUse,
         name: u32,
         kind: u32,
-        proof: u32,
+        value: u32,
         parameters: &[u32],
     ) -> Result<Unit, TakeError>
         ensures known { (c : Contents) → IsKnown self.now c → IfOk result (λ unit. IsUnitIn c unit) }
-        ensures made { (c : Contents) (s : State) → Holds self.now c s → Makes (unit_at c) result (theorem_of s name kind proof parameters.now) }
+        ensures made { (c : Contents) (s : State) → Holds self.now c s → Makes (unit_at c) result (valued_of s (body_of value_use) name kind value parameters.now) }
     {
-        let body = self.proof(proof);
+        let body = self.body(value_use, value);
         self.declaration(alloc, name, kind, body, parameters)
     }
 

@@ -3,19 +3,30 @@ ghost use Rattle.std.specs.Prelude.{◌≡◌, IfOk, OnOk, Ok, Some, None, Resul
 ghost use Rattle.lk_tree.specs.Tree.{text, number, var};
 ghost use Rattle.lk_rulebook.specs.Units.{LibraryUnit};
 ghost use Rattle.lk_store.specs.Contents.{Contents, Extends};
-ghost use Rattle.lk_env.specs.Units.{unit_at, IsUnitIn};
+ghost use Rattle.lk_env.specs.Units.{hint_of, unit_at, IsUnitIn};
 ghost use Rattle.lk_lines.specs.declared.words.Word.{Word as LineWord};
 ghost use Rattle.lk_lines.specs.declared.tags.Tag.TheVariants as tag;
 ghost use Rattle.lk_lines.specs.Views.{entry_tag, entry_values, declaration_tag, declaration_values};
-ghost use Rattle.lk_units.specs.State.{State, longer_name, successor_level, sort_tree, constant_tree, application_tree, binder_tree, with_name, with_level, with_tree, with_unit, theorem_of, axiom_of, entry_added, declaration_added, take_item};
-ghost use Rattle.lk_units.specs.Held.{IsKnown, Holds, Makes, Follows, binder_of};
+ghost use Rattle.lk_units.specs.State.{State, longer_name, successor_level, pair_level, parameter_level, sort_tree, constant_tree, application_tree, binder_tree, let_tree, with_name, with_level, with_tree, with_unit, hint_said, valued_of, axiom_of, entry_added, declaration_added, take_item};
+ghost use Rattle.lk_units.specs.Held.{IsKnown, Holds, Makes, Follows, binder_of, pair_of, body_of};
 
 use crate::making::variable;
-use crate::{Assembler, Binder, TakeError};
-use lk_env::unit::Unit;
-use lk_lines::{Declaration, Entry, Word};
+use crate::{Assembler, Binder, LevelPair, TakeError, ValueUse};
+use lk_env::unit::{Hint, Unit};
+use lk_lines::{Declaration, Entry, ReducibilityHint, Word};
 use lk_store::terms::Terms;
 use std::alloc::Global;
+
+// How readily a definition is unfolded, as it is held.
+fn held_hint(hint: ReducibilityHint) -> Hint
+    ensures { hint_of result ≡ hint_said hint }
+{
+    match hint {
+        ReducibilityHint::Opaque => Hint::Opaque,
+        ReducibilityHint::Abbreviation => Hint::Abbreviation,
+        ReducibilityHint::Regular(height) => Hint::Regular(u64::from(height)),
+    }
+}
 
 impl Assembler {
     // A line of a name whose last component is a text.
@@ -72,6 +83,44 @@ impl Assembler {
         ensures follows { (s : State) → Holds self.old (T.contents store.old) s → Follows self.new (T.contents store.new) result (with_level s own (successor_level s level)) }
     {
         let made = self.successor(store, level);
+        self.by_level.put_new(own, made)
+    }
+
+    // A line of a level that is made of two.
+    #[tactic(auto, using(crate::proofs::Putting::level_known, crate::proofs::Putting::level_follows))]
+    fn pair_line<T: Terms>(
+        &mut self,
+        store: &mut T,
+        own: u32,
+        pair: LevelPair,
+        left: u32,
+        right: u32,
+    ) -> Result<(), TakeError>
+        requires { IsKnown self.old (T.contents store.old) }
+        ensures keeps { Extends (T.contents store.old) (T.contents store.new) }
+        ensures rest { T.rest store.new ≡ T.rest store.old }
+        ensures known { OnOk result (IsKnown self.new (T.contents store.new)) }
+        ensures follows { (s : State) → Holds self.old (T.contents store.old) s → Follows self.new (T.contents store.new) result (with_level s own (pair_level s (pair_of pair) left right)) }
+    {
+        let made = self.level_pair(store, pair, left, right);
+        self.by_level.put_new(own, made)
+    }
+
+    // A line of a level parameter.
+    #[tactic(auto, using(crate::proofs::Putting::level_known, crate::proofs::Putting::level_follows))]
+    fn parameter_line<T: Terms>(
+        &mut self,
+        store: &mut T,
+        own: u32,
+        name: u32,
+    ) -> Result<(), TakeError>
+        requires { IsKnown self.old (T.contents store.old) }
+        ensures keeps { Extends (T.contents store.old) (T.contents store.new) }
+        ensures rest { T.rest store.new ≡ T.rest store.old }
+        ensures known { OnOk result (IsKnown self.new (T.contents store.new)) }
+        ensures follows { (s : State) → Holds self.old (T.contents store.old) s → Follows self.new (T.contents store.new) result (with_level s own (parameter_level s name)) }
+    {
+        let made = self.parameter(store, name);
         self.by_level.put_new(own, made)
     }
 
@@ -166,6 +215,27 @@ impl Assembler {
         self.by_tree.put_new(own, made)
     }
 
+    // A line of a let.
+    #[tactic(auto, using(crate::proofs::Putting::tree_known, crate::proofs::Putting::tree_follows))]
+    fn let_line<T: Terms>(
+        &mut self,
+        store: &mut T,
+        own: u32,
+        name: u32,
+        domain: u32,
+        value: u32,
+        body: u32,
+    ) -> Result<(), TakeError>
+        requires { IsKnown self.old (T.contents store.old) }
+        ensures keeps { Extends (T.contents store.old) (T.contents store.new) }
+        ensures rest { T.rest store.new ≡ T.rest store.old }
+        ensures known { OnOk result (IsKnown self.new (T.contents store.new)) }
+        ensures follows { (s : State) → Holds self.old (T.contents store.old) s → Follows self.new (T.contents store.new) result (with_tree s own (let_tree s name domain value body)) }
+    {
+        let made = self.let_in(store, name, domain, value, body);
+        self.by_tree.put_new(own, made)
+    }
+
     // Adds the unit that a line made.
     #[tactic(auto, using(crate::proofs::Lines::fails_then))]
     fn push_unit(&mut self, made: Result<Unit, TakeError>) -> Result<(), TakeError>
@@ -183,19 +253,20 @@ impl Assembler {
         Ok(())
     }
 
-    // A line of a theorem.
-    fn theorem_line(
+    // A line of a declaration with a value.
+    fn valued_line(
         &mut self,
         alloc: Global,
+        value_use: ValueUse,
         name: u32,
         kind: u32,
-        proof: u32,
+        value: u32,
         parameters: &[u32],
     ) -> Result<(), TakeError>
         ensures known { OnOk result ((c : Contents) → IsKnown self.old c → IsKnown self.new c) }
-        ensures follows { (c : Contents) (s : State) → Holds self.old c s → Follows self.new c result (with_unit s (theorem_of s name kind proof parameters.now)) }
+        ensures follows { (c : Contents) (s : State) → Holds self.old c s → Follows self.new c result (with_unit s (valued_of s (body_of value_use) name kind value parameters.now)) }
     {
-        let made = self.theorem(alloc, name, kind, proof, parameters);
+        let made = self.valued(alloc, value_use, name, kind, value, parameters);
         self.push_unit(made)
     }
 
@@ -236,6 +307,13 @@ impl Assembler {
                 self.number_line(store, own, parent, component)
             }
             Entry::Successor { level } => self.successor_line(store, own, level),
+            Entry::Max { left, right } => {
+                self.pair_line(store, own, LevelPair::Max, left, right)
+            }
+            Entry::Imax { left, right } => {
+                self.pair_line(store, own, LevelPair::Imax, left, right)
+            }
+            Entry::Parameter { name } => self.parameter_line(store, own, name),
             Entry::Variable { index } => self.variable_line(store, own, index),
             Entry::Sort { level } => self.sort_line(store, own, level),
             Entry::Constant { name, levels } => {
@@ -256,11 +334,13 @@ impl Assembler {
                 body,
                 ..
             } => self.binder_line(store, own, Binder::Pi, name, binder_type, body),
-            Entry::Max { .. }
-            | Entry::Imax { .. }
-            | Entry::Parameter { .. }
-            | Entry::Let { .. }
-            | Entry::Project { .. }
+            Entry::Let {
+                name,
+                binder_type,
+                value,
+                body,
+            } => self.let_line(store, own, name, binder_type, value, body),
+            Entry::Project { .. }
             | Entry::NatLiteral { .. }
             | Entry::TextLiteral { .. }
             | Entry::Rule { .. } => Err(TakeError::Fault(Word::UnknownTag)),
@@ -275,20 +355,40 @@ impl Assembler {
             → Follows self.new c result (declaration_added s (declaration_tag declaration) (declaration_values declaration)) }
     {
         match declaration {
+            Declaration::Definition {
+                name,
+                declared_type,
+                value,
+                hint,
+                parameters,
+            } => {
+                let value_use = ValueUse::Definition(held_hint(hint));
+                self.valued_line(alloc, value_use, name, declared_type, value, &parameters)
+            }
             Declaration::Theorem {
                 name,
                 declared_type,
                 value,
                 parameters,
-            } => self.theorem_line(alloc, name, declared_type, value, &parameters),
+            } => {
+                let value_use = ValueUse::Theorem;
+                self.valued_line(alloc, value_use, name, declared_type, value, &parameters)
+            }
+            Declaration::Opaque {
+                name,
+                declared_type,
+                value,
+                parameters,
+            } => {
+                let value_use = ValueUse::Opaque;
+                self.valued_line(alloc, value_use, name, declared_type, value, &parameters)
+            }
             Declaration::Axiom {
                 name,
                 declared_type,
                 parameters,
             } => self.axiom_line(alloc, name, declared_type, &parameters),
-            Declaration::Definition { .. }
-            | Declaration::Opaque { .. }
-            | Declaration::Quotient { .. }
+            Declaration::Quotient { .. }
             | Declaration::Inductive { .. }
             | Declaration::Constructor { .. }
             | Declaration::Recursor { .. } => Err(TakeError::Fault(Word::UnknownTag)),

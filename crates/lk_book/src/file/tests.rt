@@ -76,6 +76,10 @@ fn first_faults(rt: HostRuntime) -> Result<(), Fail> {
         ("0 #ES 9\nx\n", 1, Word::IndexUnknown),
         ("0 #EV 0\n\n1 #EV 0 0", 3, Word::ExtraField),
         ("0 #US 0", 1, Word::IndexTaken),
+        ("1 #UM 0 1", 1, Word::IndexUnknown),
+        ("1 #UIM 1 0", 1, Word::IndexUnknown),
+        ("1 #UP 1", 1, Word::IndexUnknown),
+        ("0 #UP 1", 1, Word::IndexTaken),
         ("1 #NS 0 a\n#THM 1 0 0", 2, Word::IndexUnknown),
         ("0 #EC 1 1\n0 #EV\n", 1, Word::IndexUnknown),
         ("0 #EC 0 0 1", 1, Word::IndexUnknown),
@@ -114,6 +118,7 @@ fn axioms_and_constants(rt: HostRuntime) -> Result<(), Fail> {
     for (text, want) in [
         ("#AX 1 0 1 0\n", 1),
         ("1 #EC 1 0 0\n2 #EA 1 1\n#AX 1 2\n", 1),
+        ("1 #UP 1\n2 #UM 0 1\n3 #UIM 2 1\n1 #ES 3\n#AX 1 1 1\n", 1),
         ("1 #EC 1\n#AX 1 0\n#THM 0 1 1\n#AX 0 0", 3),
     ] {
         let mut bytes = Vec::from_slice(alloc, a.as_bytes())?;

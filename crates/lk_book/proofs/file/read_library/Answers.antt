@@ -1,6 +1,4 @@
-use Rattle.std.proofs.Common.{◌≡◌, Ok, subst, sym}
 use Rattle.lk_store.specs.Store.{contents_of}
-use Rattle.lk_book.specs.Reading.{ReadsLibrary}
 use Rattle.lk_book.proofs.Libraries.{library_or_not, library_not_read}
 use Rattle.lk_book.proofs.file.read_library.Goals as goal
 
