@@ -18,7 +18,7 @@ cost_positive (param n) = omega arith
 pub popped_cost : (c : Contents) (stack stack' : List Visit) (v : Visit) → stack ≡ stack' ++ v ∷ [] → visits_cost c stack ≡ visits_cost c stack' + visit_cost c v
 popped_cost c stack stack' v popped = rw popped (sum_by_push (visit_cost c) stack' v)
 
-cost_where_positive : (b : Bool) (l : Level) → 0 < cost_where b l
+pub cost_where_positive : (b : Bool) (l : Level) → 0 < cost_where b l
 cost_where_positive true l = omega arith
 cost_where_positive false l = cost_positive l
 

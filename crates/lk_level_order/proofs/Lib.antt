@@ -1,0 +1,10 @@
+pub mod Names
+pub mod Tested
+pub mod Digits
+pub mod Decided
+pub mod Gathered
+pub mod Ordered
+pub mod Placed
+pub mod Valued
+pub mod Asked
+pub mod Related

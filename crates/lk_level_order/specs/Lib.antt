@@ -1,0 +1,6 @@
+pub mod Parameters
+pub mod Values
+pub mod Compared
+pub mod Gathering
+pub mod Placing
+pub mod Cases
