@@ -9,7 +9,7 @@ pub mod library;
 mod member;
 mod parameters;
 pub mod place;
-mod scan;
+pub mod scan;
 #[cfg(test)]
 mod tests;
 pub mod unit;

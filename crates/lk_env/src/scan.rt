@@ -119,7 +119,7 @@ fn unit_passes(base: &BaseStore, test: Test, unit: &Unit) -> bool
 
 /// The flaw of a unit, if it has one: first a tree that is not closed, then a wide literal.
 #[tactic(auto, using(crate::proofs::Trees::closed_pass, crate::proofs::Trees::narrow_pass))]
-fn flaw_of(base: &BaseStore, unit: &Unit) -> Option<Flaw>
+pub fn flaw_of(base: &BaseStore, unit: &Unit) -> Option<Flaw>
     requires { IsUnitIn (contents_of base.now) unit.now }
     ensures { option_map rule_of result ≡ rule_against (unit_at (contents_of base.now) unit.now) }
 {

@@ -1,0 +1,5 @@
+pub mod Numbers
+pub mod Visits
+pub mod Opening
+pub mod Blocks
+pub mod Given

@@ -1,0 +1,62 @@
+//! The rule that a unit breaks by its own lines.
+
+ghost use Rattle.lk_rulebook.specs.Scan.{own_scan};
+ghost use Rattle.lk_store.specs.Store.{contents_of};
+ghost use Rattle.lk_env.specs.Units.{unit_at, IsUnitIn};
+ghost use Rattle.lk_scan.specs.Scans.{IsScan};
+
+use crate::distinct::levels_distinct;
+use crate::trees::levels_declared;
+use lk_env::entry::Flaw;
+use lk_env::scan::flaw_of;
+use lk_env::unit::Unit;
+use lk_rows::memory::NoMemory;
+use lk_store::base_store::BaseStore;
+use std::alloc::Global;
+
+/// What is wrong with a unit in itself.
+#[derive(Clone, Copy, Debug, PartialEq, Eq)]
+pub enum ScanError {
+    /// A member declares a level parameter twice.
+    DuplicateLevel,
+    /// A tree has a loose variable, or a Local.
+    LooseVariable,
+    /// A level parameter is none that its member declares.
+    UndeclaredLevel,
+    /// A literal is above 2^128 - 1.
+    WideLiteral,
+    /// Memory is wanting.
+    NoMemory,
+}
+
+impl From<NoMemory> for ScanError {
+    ghost use Rattle.std.specs.Prelude.{◌≡◌};
+    ghost use Rattle.lk_scan.specs.declared.scan.ScanError.TheVariants.{NoMemory};
+
+    ghost from_gives = { λ _ e. e ≡ NoMemory };
+
+    fn from(_e: NoMemory) -> ScanError {
+        ScanError::NoMemory
+    }
+}
+
+/// Finds the first rule, in the order of `ScanError`, that a unit breaks by its own lines.
+pub fn scan(alloc: Global, base: &BaseStore, unit: &Unit) -> Result<(), ScanError>
+    requires { IsUnitIn (contents_of base.now) unit.now }
+    ensures { IsScan (own_scan (unit_at (contents_of base.now) unit.now)) result }
+{
+    if !levels_distinct(alloc, base, unit)? {
+        return Err(ScanError::DuplicateLevel);
+    }
+    let flaw = flaw_of(base, unit);
+    if flaw == Some(Flaw::LooseVariable) {
+        return Err(ScanError::LooseVariable);
+    }
+    if !levels_declared(alloc, base, unit)? {
+        return Err(ScanError::UndeclaredLevel);
+    }
+    match flaw {
+        Some(_) => Err(ScanError::WideLiteral),
+        None => Ok(()),
+    }
+}
