@@ -1,12 +1,12 @@
 -- An answer under one budget tells its cost, and so what comes under every other.
-use Rattle.std.proofs.Common.{ℕ, zero, suc, ◌≡◌, ◌<◌, ◌≤◌, ◌-◌, Option, Some, None, refl, ap, sym, subst, ◌∙◌, arith}
+use Rattle.std.proofs.Common.{ℕ, zero, suc, ◌≡◌, ◌<◌, ◌-◌, Option, ap, sym, ◌∙◌, arith}
 use Rattle.lk_rulebook.specs.Place.{Place}
 use Rattle.lk_plain.specs.Query.{Query, AnswerTo}
 use Rattle.lk_plain.specs.Program.{Table}
 use Rattle.lk_plain.specs.Answer.{Outcome, answered, refused, spent, IfAnswered, plain_answer}
 use Rattle.lk_plain.specs.Laws.{IsSteady}
 use Rattle.lk_plain.proofs.Budgets.{ans_steady, ans_zero}
-use Rattle.lk_plain.specs.Erased.{Value, value_of, Out, finished, stopped, used_up, left_of, out_of, IsAnsweredAt}
+use Rattle.lk_plain.specs.Erased.{Value, value_of, finished, left_of, out_of, IsAnsweredAt}
 
 module _ (table : Table) (w : Place) (q : Query) where
   at_least_one : (b : ℕ) (a : AnswerTo q) (c : ℕ) (t : Option ℕ) → IsSteady (plain_answer table w q) b a c t → 0 < c

@@ -5,7 +5,6 @@ use Rattle.lk_rulebook.specs.Place.{Place, Entry}
 use Rattle.lk_plain.specs.Query.{Query, AnswerTo}
 use Rattle.lk_plain.specs.Program.{Program, done, refuse, ask, look, Table, ◌>>=◌}
 use Rattle.lk_plain.specs.Answer.{Outcome, answered, refused, spent, after, and_then, looked_up, IfAnswered, outcome_of, answer_to_depth, plain_answer}
-use Rattle.lk_plain.proofs.Outcomes.{and_then_same}
 use Rattle.lk_plain.specs.Sound.{IsJustified, IsSound, IsSoundTable}
 use Rattle.lk_plain.specs.Parts.{restricted, IsPart, stops, ends, asks, looks, IsStageOf}
 

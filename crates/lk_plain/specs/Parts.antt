@@ -2,7 +2,7 @@
 use Rattle.std.specs.Prelude.{Bool, true, false, if◌then◌else◌}
 use Rattle.lk_tree.specs.Tree.{Name}
 use Rattle.lk_tree.specs.RuleNo.{RuleNo, builtin_shape}
-use Rattle.lk_rulebook.specs.Place.{Entry, Kind, an_axiom, a_thm}
+use Rattle.lk_rulebook.specs.Place.{Entry, Kind, an_axiom, a_def, a_thm, an_opaque}
 use Rattle.lk_plain.specs.Query.{Query, AnswerTo}
 use Rattle.lk_plain.specs.Program.{Program, done, refuse, ask, look, Table}
 
@@ -13,7 +13,9 @@ restricted built r table q = if built q then table q else refuse r
 -- the kinds of constants that are built
 abbrev pub is_built_kind : Kind → Bool
 is_built_kind an_axiom = true
+is_built_kind (a_def h v) = true
 is_built_kind (a_thm v) = true
+is_built_kind (an_opaque v) = true
 is_built_kind _ = false
 
 -- what goes on with an entry, where its kind is built

@@ -62,7 +62,7 @@ sound_by_parts w (proj S i s) (proj T j t) f g na nb =
     (λ y. tt)
 sound_by_parts w _ _ f g na nb = tt
 
-sound_by_proof_irrelevance : (w : Place) (a b : Tree) → IsWellFormed a → IsWellFormed b → IsHeadNormal a → IsHeadNormal b → SoundLine w (by_proof_irrelevance a b) (IsDefEq w a b)
+pub sound_by_proof_irrelevance : (w : Place) (a b : Tree) → IsWellFormed a → IsWellFormed b → IsHeadNormal a → IsHeadNormal b → SoundLine w (by_proof_irrelevance a b) (IsDefEq w a b)
 sound_by_proof_irrelevance w a b fa fb na nb = (
   fa,
   λ A mA. sound_bind w (sort_of A) _ (λ l. HasSort w A l) (λ o. IfAnswers o (IsDefEq w a b)) (sound_sort_of w A (well_formed_of_type mA.0).1)
@@ -192,7 +192,7 @@ sound_by_ranks w ok a b fa fb (Some u) (Some v) i j =
     (sound_answers_yes w (same_by_arguments a b u v) (IsDefEq w a b) (sound_same_unfolding w a b fa fb u v i j))
     (sound_both w ok a b fa fb u v i j))))
 
-sound_by_unfolding : (w : Place) → WellStated w → (a b : Tree) → IsWellFormed a → IsWellFormed b → SoundLine w (by_unfolding a b) (IsDefEq w a b)
+pub sound_by_unfolding : (w : Place) → WellStated w → (a b : Tree) → IsWellFormed a → IsWellFormed b → SoundLine w (by_unfolding a b) (IsDefEq w a b)
 sound_by_unfolding w ok a b fa fb =
     sound_bind w (unfolding_of (head a)) _ (IfUnfolding w (head a)) (λ o. IfAnswers o (IsDefEq w a b)) (sound_unfolding_of w (head a))
     (λ u i. sound_bind w (unfolding_of (head b)) (λ v. by_ranks a b u v) (IfUnfolding w (head b)) (λ o. IfAnswers o (IsDefEq w a b)) (sound_unfolding_of w (head b))

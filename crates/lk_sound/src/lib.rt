@@ -16,7 +16,7 @@ ghost use Rattle.lk_rulebook.specs.Stated.{GivesNoLocal};
 ghost use Rattle.lk_rulebook.specs.Units.{Decl, Members, LibraryUnit, place_of, Library};
 ghost use Rattle.lk_table.specs.Built.{rows_by, rows};
 ghost use Rattle.lk_table.specs.Declarations.{unit_steps};
-ghost use Rattle.lk_table.specs.Levels.{LevelTest, IsLevelTest, complete_test, closed_test};
+ghost use Rattle.lk_table.specs.Levels.{LevelTest, IsLevelTest, complete_test};
 ghost use Rattle.lk_table.specs.Table.{steps};
 ghost use Rattle.lk_verdict.specs.Built.{stage};
 ghost use Rattle.lk_verdict.specs.GoodUnit.{IsGoodUnit, IsClearLibrary};
@@ -65,11 +65,10 @@ pub fn yes_unit_is_good()
     ensures whole { (us : Library) (n budget : ℕ) → IsClearLibrary us → plain_verdict whole us n budget ≡ says_yes → IsGoodUnit us n }
 {}
 
-/// Where a test of levels says yes, the two levels are equal under every assignment. So it is with the complete test, and with
-/// the test of levels without parameters. The rows that are built are sound with each such test.
+/// Where the complete test of levels says yes, the two levels are equal under every assignment. The rows that are built are
+/// sound with each test of which that holds.
 pub fn level_tests_are_sound()
     ensures complete { IsLevelTest complete_test }
-    ensures closed { IsLevelTest closed_test }
     ensures rows { (test : LevelTest) → IsLevelTest test → IsSoundTable (rows_by test) }
 {}
 

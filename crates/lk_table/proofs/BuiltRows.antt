@@ -1,9 +1,10 @@
 -- The rows that are built lie within the table.
-use Rattle.std.proofs.Common.{◌≡◌, Bool, true, false, List, ap, if◌then◌else◌}
-use Rattle.lk_tree.specs.Tree.{Tree, var, sort, const, app, lam, pi, let_in, proj, lit, wide, str, local}
+use Rattle.std.proofs.Common.{◌≡◌, Bool, true, false, List, ◌&&◌, refl, ap, if◌then◌else◌}
+use Rattle.lk_tree.specs.Tree.{Name, Level, Tree, var, sort, const, app, lam, pi, let_in, proj, lit, wide, str, local}
 use Rattle.lk_tree.specs.Spine.{head, args}
 use Rattle.lk_tree.specs.RuleNo.{builtin_shape}
 use Rattle.lk_rulebook.specs.Place.{Entry}
+use Rattle.lk_rulebook.specs.Literals.{by_def}
 use Rattle.lk_plain.specs.Query.{same}
 use Rattle.lk_plain.specs.Program.{Program, done, refuse, ◌>>=◌}
 use Rattle.lk_plain.specs.Parts.{IsPart, stops, ends, asks, looks}
@@ -15,19 +16,20 @@ use Rattle.lk_table.specs.Core.{core_applied, unfolded, stepped, core_steps, whn
 use Rattle.lk_table.specs.Infer.{infer_steps}
 use Rattle.lk_table.specs.Same.{by_shape}
 use Rattle.lk_table.specs.Table.{steps}
-use Rattle.lk_table.specs.Built.{is_built_kind, where_built, built_applied, core_row, whnf_built, whnf_row, infer_row}
+use Rattle.lk_table.specs.Built.{is_built_kind, where_built, built_applied, core_row, names_operation, unfolded_built, whnf_built, whnf_row, infer_row}
+use Rattle.lk_table.proofs.BuiltSteps.{no_literal_step}
 
-part_where : {A : Type 0} (k : Entry → Program A) (g : Entry) → IsPart (where_built k g) (k g)
-part_where k g = go (is_built_kind g.kind)
+part_where : {A : Type 0} (k whole : Entry → Program A) (g : Entry) → (is_built_kind g.kind ≡ true → IsPart (k g) (whole g)) → IsPart (where_built k g) (whole g)
+part_where k whole g part = go (is_built_kind g.kind) refl
   where
-    go : (b : Bool) → IsPart (if b then k g else refuse builtin_shape) (k g)
-    go true = part_itself (k g)
-    go false = stops
+    go : (b : Bool) → is_built_kind g.kind ≡ b → IsPart (if b then k g else refuse builtin_shape) (whole g)
+    go true e = part e
+    go false e = stops
 
 part_applied : (e h : Tree) (xs : List Tree) → IsPart (built_applied e h xs) (core_applied e h xs)
-part_applied e (let_in A v b) xs = stops
+part_applied e (let_in A v b) xs = part_itself _
 part_applied e (proj S i s) xs = stops
-part_applied e (const c ls) xs = looks (λ g. part_where (λ x. core_constant e c ls xs x x.kind) g)
+part_applied e (const c ls) xs = looks (λ g. part_where (λ x. core_constant e c ls xs x x.kind) (λ x. core_constant e c ls xs x x.kind) g (λ b. part_itself _))
 part_applied e (var i) xs = part_itself _
 part_applied e (sort l) xs = part_itself _
 part_applied e (app f a) xs = part_itself _
@@ -39,7 +41,7 @@ part_applied e (str s) xs = part_itself _
 part_applied e (local k T) xs = part_itself _
 
 pub core_part : (e : Tree) → IsPart (core_row e) (core_steps e)
-core_part (let_in A v b) = stops
+core_part (let_in A v b) = part_itself _
 core_part (proj S i s) = stops
 core_part (app f a) = part_applied (app f a) (head f) (args (app f a))
 core_part (var i) = ends
@@ -52,8 +54,20 @@ core_part wide = ends
 core_part (str s) = ends
 core_part (local k T) = ends
 
+whole_constant : Tree → Name → List Level → Entry → Program Tree
+whole_constant c f ls g = literal_step c f ls g >>= λ r. stepped r (unfolded g (const f ls) c (value_of g.kind))
+
+part_unfolded : (c : Tree) (f : Name) (ls : List Level) (g : Entry) → is_built_kind g.kind ≡ true → IsPart (unfolded_built c f (const f ls) g) (whole_constant c f ls g)
+unfolding whole_constant
+part_unfolded c f ls g b = go (by_def g.kind && names_operation f) refl
+  where
+    go : (o : Bool) → (by_def g.kind && names_operation f) ≡ o → IsPart (if o then refuse builtin_shape else unfolded g (const f ls) c (value_of g.kind)) (whole_constant c f ls g)
+    go true e = stops
+    go false e = rw (no_literal_step c f ls g b e) (part_itself _)
+
 part_headed : (c h : Tree) → IsPart (whnf_built c h) (whnf_headed c h)
-part_headed c (const f ls) = looks (λ g. part_where (λ x. literal_step c f ls x >>= λ r. stepped r (unfolded x (const f ls) c (value_of x.kind))) g)
+unfolding whole_constant
+part_headed c (const f ls) = looks (λ g. part_where (unfolded_built c f (const f ls)) (whole_constant c f ls) g (part_unfolded c f ls g))
 part_headed c (let_in A v b) = ends
 part_headed c (proj S i s) = ends
 part_headed c (app f a) = ends
@@ -70,8 +84,8 @@ pub whnf_part : (e : Tree) → IsPart (whnf_row e) (whnf_steps e)
 whnf_part e = asks (λ c. part_headed c (head c))
 
 pub infer_part : (e : Tree) → IsPart (infer_row e) (infer_steps e)
-infer_part (const c ls) = looks (λ g. part_where (λ x. with_levels x ls x.type) g)
-infer_part (let_in A v b) = stops
+infer_part (const c ls) = looks (λ g. part_where (λ x. with_levels x ls x.type) (λ x. with_levels x ls x.type) g (λ b. part_itself _))
+infer_part (let_in A v b) = part_itself (infer_steps (let_in A v b))
 infer_part (proj S i s) = stops
 infer_part (lit n) = stops
 infer_part wide = stops

@@ -5,3 +5,4 @@ pub mod WorkedLiterals
 pub mod LineParts
 pub mod BuiltRows
 pub mod WorkedConstants
+pub mod WorkedDefinitions

@@ -7,7 +7,7 @@ use Rattle.lk_tree.specs.Bind.{open_at, close_at, bound}
 use Rattle.lk_tree.specs.Levels.{put_levels, put_in_level, level_for}
 use Rattle.lk_tree.specs.LevelTest.{level_le}
 use Rattle.lk_tree.specs.Spine.{head, args}
-use Rattle.lk_tree.specs.RuleNo.{unknown_constant, level_count, loose_variable, not_a_function, argument_type, builtin_shape}
+use Rattle.lk_tree.specs.RuleNo.{unknown_constant, level_count, loose_variable, not_a_function, argument_type}
 use Rattle.lk_rulebook.specs.Place.{Place, regular}
 use Rattle.lk_rulebook.specs.Names.{word, named}
 use Rattle.lk_rulebook.specs.Quotients.{prop}
@@ -15,21 +15,20 @@ use Rattle.lk_rulebook.specs.Units.{place_of, LibraryUnit, of_decl, Decl, as_axi
 use Rattle.lk_plain.specs.Query.{core, whnf, infer, same}
 use Rattle.lk_plain.specs.Answer.{answered, refused, spent, answer_to_depth, outcome_of, plain_answer}
 use Rattle.lk_table.specs.Declarations.{checked, unit_steps}
-use Rattle.lk_table.specs.Levels.{complete_test}
 use Rattle.lk_table.specs.Table.{steps}
-use Rattle.lk_table.specs.Built.{rows_by, rows}
+use Rattle.lk_table.specs.Built.{rows}
 use native.Mathlib.Decide.{ℕ_discrete}
 
-abbrev one : Level
+abbrev pub one : Level
 one = succ_level zero_level
 
-abbrev A : Tree
+abbrev pub A : Tree
 A = named (word "A")
 
-abbrev B : Tree
+abbrev pub B : Tree
 B = named (word "B")
 
-abbrev Q : Tree
+abbrev pub Q : Tree
 Q = named (word "Q")
 
 abbrev u : Level
@@ -39,27 +38,27 @@ u = param (word "u")
 abbrev F : Level → Tree
 F l = const (word "F") (l ∷ [])
 
-abbrev a : Tree
+abbrev pub a : Tree
 a = named (word "a")
 
-abbrev b : Tree
+abbrev pub b : Tree
 b = named (word "b")
 
-abbrev f : Tree
+abbrev pub f : Tree
 f = named (word "f")
 
-abbrev q : Tree
+abbrev pub q : Tree
 q = named (word "q")
 
 -- the theorem Q → Q
-abbrev t : Tree
+abbrev pub t : Tree
 t = named (word "t")
 
-abbrev id_of : Tree → Tree
+abbrev pub id_of : Tree → Tree
 id_of T = lam T (var 0)
 
 -- F lives in Sort (u + 1); unit 9 is a def, and unit 10 holds a loose variable
-abbrev units : List LibraryUnit
+abbrev pub units : List LibraryUnit
 units = of_decl (record { name = word "A"; levels = []; type = sort one; body = as_axiom })
     ∷ of_decl (record { name = word "B"; levels = []; type = sort one; body = as_axiom })
     ∷ of_decl (record { name = word "F"; levels = word "u" ∷ []; type = sort (succ_level u); body = as_axiom })
@@ -168,12 +167,6 @@ two_levels_whole : plain_answer steps place (infer (const (word "F") (one ∷ on
 unfolding answer_to_depth open_at close_at bound head args put_levels put_in_level level_for level_le tree_discrete level_discrete name_discrete part_discrete list_discrete both_discrete ℕ_discrete
 two_levels_whole = refl
 
--- a def is not built yet
-
-of_a_def : plain_answer rows place (infer (named (word "d"))) 100 ≡ refused builtin_shape
-unfolding answer_to_depth open_at close_at bound head args put_levels put_in_level level_for level_le tree_discrete level_discrete name_discrete part_discrete list_discrete both_discrete ℕ_discrete
-of_a_def = refl
-
 of_a_def_whole : plain_answer steps place (infer (named (word "d"))) 1 ≡ answered A 1 (Some 9)
 unfolding answer_to_depth open_at close_at bound head args put_levels put_in_level level_for level_le tree_discrete level_discrete name_discrete part_discrete list_discrete both_discrete ℕ_discrete
 of_a_def_whole = refl
@@ -218,7 +211,7 @@ theorem_applied_whole : plain_answer steps place (infer (app t q)) 6 ≡ answere
 unfolding answer_to_depth open_at close_at bound head args put_levels put_in_level level_for level_le tree_discrete level_discrete name_discrete part_discrete list_discrete both_discrete ℕ_discrete
 theorem_applied_whole = refl
 
-pis_with_other_bodies : plain_answer rows place (same (pi A A) (pi A B)) 5 ≡ answered false 5 None
+pis_with_other_bodies : plain_answer rows place (same (pi A A) (pi A B)) 9 ≡ answered false 9 (Some 1)
 unfolding answer_to_depth open_at close_at bound head args put_levels put_in_level level_for level_le tree_discrete level_discrete name_discrete part_discrete list_discrete both_discrete ℕ_discrete
 pis_with_other_bodies = refl
 
@@ -226,7 +219,7 @@ pis_with_other_bodies_whole : plain_answer steps place (same (pi A A) (pi A B)) 
 unfolding answer_to_depth open_at close_at bound head args put_levels put_in_level level_for level_le tree_discrete level_discrete name_discrete part_discrete list_discrete both_discrete ℕ_discrete
 pis_with_other_bodies_whole = refl
 
-pis_with_other_domains : plain_answer rows place (same (pi A A) (pi B A)) 4 ≡ answered false 4 None
+pis_with_other_domains : plain_answer rows place (same (pi A A) (pi B A)) 8 ≡ answered false 8 (Some 1)
 unfolding answer_to_depth open_at close_at bound head args put_levels put_in_level level_for level_le tree_discrete level_discrete name_discrete part_discrete list_discrete both_discrete ℕ_discrete
 pis_with_other_domains = refl
 
@@ -234,7 +227,7 @@ pis_with_other_domains_whole : plain_answer steps place (same (pi A A) (pi B A))
 unfolding answer_to_depth open_at close_at bound head args put_levels put_in_level level_for level_le tree_discrete level_discrete name_discrete part_discrete list_discrete both_discrete ℕ_discrete
 pis_with_other_domains_whole = refl
 
-lambdas : plain_answer rows place (same (lam A (app f (var 0))) (lam A (app f (app (id_of A) (var 0))))) 11 ≡ answered true 11 (Some 5)
+lambdas : plain_answer rows place (same (lam A (app f (var 0))) (lam A (app f (app (id_of A) (var 0))))) 20 ≡ answered true 20 (Some 5)
 unfolding answer_to_depth open_at close_at bound head args put_levels put_in_level level_for level_le tree_discrete level_discrete name_discrete part_discrete list_discrete both_discrete ℕ_discrete
 lambdas = refl
 
@@ -242,7 +235,7 @@ lambdas_whole : plain_answer steps place (same (lam A (app f (var 0))) (lam A (a
 unfolding answer_to_depth open_at close_at bound head args put_levels put_in_level level_for level_le tree_discrete level_discrete name_discrete part_discrete list_discrete both_discrete ℕ_discrete
 lambdas_whole = refl
 
-equal_levels : plain_answer rows place (same (F zero_level) (F (max_level zero_level zero_level))) 3 ≡ answered true 3 None
+equal_levels : plain_answer rows place (same (F zero_level) (F (max_level zero_level zero_level))) 7 ≡ answered true 7 (Some 2)
 unfolding answer_to_depth open_at close_at bound head args put_levels put_in_level level_for level_le tree_discrete level_discrete name_discrete part_discrete list_discrete both_discrete ℕ_discrete
 equal_levels = refl
 
@@ -250,7 +243,7 @@ equal_levels_whole : plain_answer steps place (same (F zero_level) (F (max_level
 unfolding answer_to_depth open_at close_at bound head args put_levels put_in_level level_for level_le tree_discrete level_discrete name_discrete part_discrete list_discrete both_discrete ℕ_discrete
 equal_levels_whole = refl
 
-other_levels : plain_answer rows place (same (F zero_level) (F one)) 3 ≡ answered false 3 None
+other_levels : plain_answer rows place (same (F zero_level) (F one)) 7 ≡ answered false 7 (Some 2)
 unfolding answer_to_depth open_at close_at bound head args put_levels put_in_level level_for level_le tree_discrete level_discrete name_discrete part_discrete list_discrete both_discrete ℕ_discrete
 other_levels = refl
 
@@ -258,7 +251,7 @@ other_levels_whole : plain_answer steps place (same (F zero_level) (F one)) 10 �
 unfolding answer_to_depth open_at close_at bound head args put_levels put_in_level level_for level_le tree_discrete level_discrete name_discrete part_discrete list_discrete both_discrete ℕ_discrete
 other_levels_whole = refl
 
-other_constants : plain_answer rows place (same A B) 3 ≡ answered false 3 None
+other_constants : plain_answer rows place (same A B) 7 ≡ answered false 7 (Some 1)
 unfolding answer_to_depth open_at close_at bound head args put_levels put_in_level level_for level_le tree_discrete level_discrete name_discrete part_discrete list_discrete both_discrete ℕ_discrete
 other_constants = refl
 
@@ -266,7 +259,7 @@ other_constants_whole : plain_answer steps place (same A B) 10 ≡ answered fals
 unfolding answer_to_depth open_at close_at bound head args put_levels put_in_level level_for level_le tree_discrete level_discrete name_discrete part_discrete list_discrete both_discrete ℕ_discrete
 other_constants_whole = refl
 
-applications : plain_answer rows place (same (app f (app (id_of A) a)) (app f a)) 9 ≡ answered true 9 (Some 5)
+applications : plain_answer rows place (same (app f (app (id_of A) a)) (app f a)) 27 ≡ answered true 27 (Some 5)
 unfolding answer_to_depth open_at close_at bound head args put_levels put_in_level level_for level_le tree_discrete level_discrete name_discrete part_discrete list_discrete both_discrete ℕ_discrete
 applications = refl
 
@@ -274,7 +267,7 @@ applications_whole : plain_answer steps place (same (app f (app (id_of A) a)) (a
 unfolding answer_to_depth open_at close_at bound head args put_levels put_in_level level_for level_le tree_discrete level_discrete name_discrete part_discrete list_discrete both_discrete ℕ_discrete
 applications_whole = refl
 
-applications_of_others : plain_answer rows place (same (app f a) (app f (app f a))) 7 ≡ answered false 7 (Some 5)
+applications_of_others : plain_answer rows place (same (app f a) (app f (app f a))) 20 ≡ answered false 20 (Some 5)
 unfolding answer_to_depth open_at close_at bound head args put_levels put_in_level level_for level_le tree_discrete level_discrete name_discrete part_discrete list_discrete both_discrete ℕ_discrete
 applications_of_others = refl
 
@@ -282,7 +275,7 @@ applications_of_others_whole : plain_answer steps place (same (app f a) (app f (
 unfolding answer_to_depth open_at close_at bound head args put_levels put_in_level level_for level_le tree_discrete level_discrete name_discrete part_discrete list_discrete both_discrete ℕ_discrete
 applications_of_others_whole = refl
 
-other_heads : plain_answer rows place (same (app f a) (app t a)) 6 ≡ answered false 6 (Some 8)
+other_heads : plain_answer rows place (same (app f a) (app t a)) 28 ≡ answered false 28 (Some 8)
 unfolding answer_to_depth open_at close_at bound head args put_levels put_in_level level_for level_le tree_discrete level_discrete name_discrete part_discrete list_discrete both_discrete ℕ_discrete
 other_heads = refl
 
@@ -290,7 +283,7 @@ other_heads_whole : plain_answer steps place (same (app f a) (app t a)) 36 ≡ a
 unfolding answer_to_depth open_at close_at bound head args put_levels put_in_level level_for level_le tree_discrete level_discrete name_discrete part_discrete list_discrete both_discrete ℕ_discrete
 other_heads_whole = refl
 
-other_argument_counts : plain_answer rows place (same (app f a) (app (app f a) a)) 3 ≡ answered false 3 (Some 5)
+other_argument_counts : plain_answer rows place (same (app f a) (app (app f a) a)) 12 ≡ answered false 12 (Some 5)
 unfolding answer_to_depth open_at close_at bound head args put_levels put_in_level level_for level_le tree_discrete level_discrete name_discrete part_discrete list_discrete both_discrete ℕ_discrete
 other_argument_counts = refl
 
@@ -298,9 +291,9 @@ other_argument_counts_whole : plain_answer steps place (same (app f a) (app (app
 unfolding answer_to_depth open_at close_at bound head args put_levels put_in_level level_for level_le tree_discrete level_discrete name_discrete part_discrete list_discrete both_discrete ℕ_discrete
 other_argument_counts_whole = refl
 
--- two proofs of one proposition: the line that sees it is not built yet
+-- two proofs of one proposition are the same, before the theorem is unfolded
 
-two_proofs : plain_answer rows place (same q (app t q)) 3 ≡ answered false 3 (Some 8)
+two_proofs : plain_answer rows place (same q (app t q)) 14 ≡ answered true 14 (Some 8)
 unfolding answer_to_depth open_at close_at bound head args put_levels put_in_level level_for level_le tree_discrete level_discrete name_discrete part_discrete list_discrete both_discrete ℕ_discrete
 two_proofs = refl
 
@@ -308,9 +301,9 @@ two_proofs_whole : plain_answer steps place (same q (app t q)) 14 ≡ answered t
 unfolding answer_to_depth open_at close_at bound head args put_levels put_in_level level_for level_le tree_discrete level_discrete name_discrete part_discrete list_discrete both_discrete ℕ_discrete
 two_proofs_whole = refl
 
--- with parameters the built rows have no test of levels yet
+-- levels with parameters
 
-levels_with_parameters : plain_answer rows place (same (sort u) (sort (max_level u u))) 100 ≡ refused builtin_shape
+levels_with_parameters : plain_answer rows place (same (sort u) (sort (max_level u u))) 1 ≡ answered true 1 None
 unfolding answer_to_depth open_at close_at bound head args put_levels put_in_level level_for level_le tree_discrete level_discrete name_discrete part_discrete list_discrete both_discrete ℕ_discrete
 levels_with_parameters = refl
 
@@ -318,9 +311,9 @@ levels_with_parameters_whole : plain_answer steps place (same (sort u) (sort (ma
 unfolding answer_to_depth open_at close_at bound head args put_levels put_in_level level_for level_le tree_discrete level_discrete name_discrete part_discrete list_discrete both_discrete ℕ_discrete
 levels_with_parameters_whole = refl
 
-levels_with_parameters_complete : plain_answer (rows_by complete_test) place (same (sort u) (sort (max_level u u))) 1 ≡ answered true 1 None
+other_levels_with_parameters : plain_answer rows place (same (sort u) (sort (succ_level u))) 1 ≡ answered false 1 None
 unfolding answer_to_depth open_at close_at bound head args put_levels put_in_level level_for level_le tree_discrete level_discrete name_discrete part_discrete list_discrete both_discrete ℕ_discrete
-levels_with_parameters_complete = refl
+other_levels_with_parameters = refl
 
 -- units of a file
 abbrev theorem_of : Tree → Tree → Decl

@@ -1,10 +1,9 @@
 -- Levels compared. The test of two levels is a parameter: what compares lists of levels is the same for each.
-use Rattle.std.specs.Prelude.{ℕ, Bool, true, false, ◌&&◌, nat_eq, List, [], ◌∷◌, length, Option, Some, None, if◌then◌else◌}
+use Rattle.std.specs.Prelude.{Bool, true, false, nat_eq, List, [], ◌∷◌, length, Option, Some, None, if◌then◌else◌}
 use Rattle.lk_tree.specs.Tree.{Level}
-use Rattle.lk_tree.specs.Level.{SameLevel, level_value}
+use Rattle.lk_tree.specs.Level.{SameLevel}
 use Rattle.lk_tree.specs.LevelTest.{level_test}
-use Rattle.lk_tree.specs.Scan.{level_over}
-use Rattle.lk_tree.specs.RuleNo.{level_width, builtin_shape}
+use Rattle.lk_tree.specs.RuleNo.{level_width}
 use Rattle.lk_rulebook.specs.Place.{Place}
 use Rattle.lk_plain.specs.Program.{Program, done, refuse, ◌>>=◌}
 use Rattle.lk_plain.specs.Sound.{IsSound, IfYes}
@@ -24,14 +23,6 @@ tested None = refuse level_width
 -- the complete test
 abbrev pub complete_test : LevelTest
 complete_test l m = tested (level_test l m)
-
--- the value of a level in which each parameter is 0
-abbrev pub least_value : Level → ℕ
-least_value l = level_value (λ n. 0) l
-
--- levels that hold no parameter, by their values; the others are refused
-abbrev pub closed_test : LevelTest
-closed_test l m = if level_over [] l && level_over [] m then done (nat_eq (least_value l) (least_value m)) else refuse builtin_shape
 
 -- pair by pair, up to the first unequal one
 abbrev pub level_pairs_equal : LevelTest → List Level → List Level → Program Bool

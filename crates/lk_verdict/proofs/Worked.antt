@@ -8,7 +8,7 @@ use Rattle.lk_tree.specs.LevelTest.{level_le}
 use Rattle.lk_tree.specs.Spine.{head, args}
 use Rattle.lk_tree.specs.RuleNo.{unknown_constant, undeclared_level, duplicate_level, duplicate_name, loose_variable, value_type, wide_literal, builtin_shape, block_shape}
 use Rattle.lk_rulebook.specs.Place.{opaque_hint, abbreviation}
-use Rattle.lk_rulebook.specs.Units.{Body, as_axiom, as_def, as_thm, LibraryUnit, of_decl, of_block, Library}
+use Rattle.lk_rulebook.specs.Units.{Body, as_axiom, as_def, as_thm, as_opaque, as_quot, LibraryUnit, of_decl, of_block, Library}
 use Rattle.lk_plain.specs.Answer.{answer_to_depth}
 use Rattle.lk_verdict.specs.Verdict.{says_yes, says_no, says_steps, whole, plain_verdict}
 use Rattle.lk_verdict.specs.Built.{stage}
@@ -141,15 +141,19 @@ local_no : plain_verdict whole (of_local ∷ []) 0 100 ≡ says_no loose_variabl
 unfolding name_discrete part_discrete list_discrete both_discrete ℕ_discrete
 local_no = refl
 
--- what the program checks today: axiom p : Prop, axiom h : p, theorem k : p := (λ (x : p), x) h, and
--- theorem m : p → p := λ (x : p), k; a def and a block are not checked yet
+-- what the program checks today: axiom p : Prop, axiom h : p, theorem k : p := (λ (x : p), x) h,
+-- theorem m : p → p := λ (x : p), k, def d : p := h, opaque o : p := d, and def e : Prop := o; a block and a quotient are not
+-- checked yet
 abbrev built : Library
 built = an 112 [] prop as_axiom
     ∷ an 104 [] (n 112) as_axiom
     ∷ an 107 [] (n 112) (as_thm (app (lam (n 112) (var 0)) (n 104)))
     ∷ an 109 [] (pi (n 112) (n 112)) (as_thm (lam (n 112) (n 107)))
     ∷ an 100 [] (n 112) (as_def abbreviation (n 104))
+    ∷ an 111 [] (n 112) (as_opaque (n 100))
+    ∷ an 101 [] prop (as_def abbreviation (n 111))
     ∷ of_block t_block []
+    ∷ an 113 [] prop as_quot
     ∷ []
 
 axiom_built : plain_verdict stage built 0 3 ≡ says_yes
@@ -180,10 +184,30 @@ theorem_of_theorem_built_short : plain_verdict stage built 3 14 ≡ says_steps
 unfolding answer_to_depth open_at close_at bound head args put_levels put_in_level level_for level_le tree_discrete level_discrete name_discrete part_discrete list_discrete both_discrete ℕ_discrete
 theorem_of_theorem_built_short = refl
 
-def_not_built : plain_verdict stage built 4 1000 ≡ says_no builtin_shape
+def_built : plain_verdict stage built 4 5 ≡ says_yes
 unfolding answer_to_depth open_at close_at bound head args put_levels put_in_level level_for level_le tree_discrete level_discrete name_discrete part_discrete list_discrete both_discrete ℕ_discrete
-def_not_built = refl
+def_built = refl
 
-block_not_built : plain_verdict stage built 5 1000 ≡ says_no block_shape
+def_built_short : plain_verdict stage built 4 4 ≡ says_steps
+unfolding answer_to_depth open_at close_at bound head args put_levels put_in_level level_for level_le tree_discrete level_discrete name_discrete part_discrete list_discrete both_discrete ℕ_discrete
+def_built_short = refl
+
+opaque_built : plain_verdict stage built 5 5 ≡ says_yes
+unfolding answer_to_depth open_at close_at bound head args put_levels put_in_level level_for level_le tree_discrete level_discrete name_discrete part_discrete list_discrete both_discrete ℕ_discrete
+opaque_built = refl
+
+opaque_built_short : plain_verdict stage built 5 4 ≡ says_steps
+unfolding answer_to_depth open_at close_at bound head args put_levels put_in_level level_for level_le tree_discrete level_discrete name_discrete part_discrete list_discrete both_discrete ℕ_discrete
+opaque_built_short = refl
+
+def_refused : plain_verdict stage built 6 1000 ≡ says_no value_type
+unfolding answer_to_depth open_at close_at bound head args put_levels put_in_level level_for level_le tree_discrete level_discrete name_discrete part_discrete list_discrete both_discrete ℕ_discrete
+def_refused = refl
+
+block_not_built : plain_verdict stage built 7 1000 ≡ says_no block_shape
 unfolding answer_to_depth open_at close_at bound head args put_levels put_in_level level_for level_le tree_discrete level_discrete name_discrete part_discrete list_discrete both_discrete ℕ_discrete
 block_not_built = refl
+
+quotient_not_built : plain_verdict stage built 8 1000 ≡ says_no builtin_shape
+unfolding answer_to_depth open_at close_at bound head args put_levels put_in_level level_for level_le tree_discrete level_discrete name_discrete part_discrete list_discrete both_discrete ℕ_discrete
+quotient_not_built = refl

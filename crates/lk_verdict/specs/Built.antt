@@ -1,14 +1,14 @@
--- What the program checks today: the built rows of the table, theorems and axioms. All else is refused until it is built.
+-- What the program checks today: the built rows of the table, axioms, definitions, theorems and opaques. All else is refused
+-- until it is built.
 use Rattle.std.specs.Prelude.{Option, Some, None}
 use Rattle.lk_tree.specs.RuleNo.{RuleNo, builtin_shape, block_shape}
-use Rattle.lk_rulebook.specs.Units.{Body, as_axiom, as_thm, LibraryUnit, of_decl, of_block}
+use Rattle.lk_rulebook.specs.Units.{Body, as_quot, LibraryUnit, of_decl, of_block}
 use Rattle.lk_table.specs.Built.{rows}
 use Rattle.lk_verdict.specs.Verdict.{Stage}
 
 abbrev pub unbuilt_body : Body → Option RuleNo
-unbuilt_body as_axiom = None
-unbuilt_body (as_thm value) = None
-unbuilt_body _ = Some builtin_shape
+unbuilt_body as_quot = Some builtin_shape
+unbuilt_body _ = None
 
 abbrev pub unbuilt : LibraryUnit → Option RuleNo
 unbuilt (of_decl d) = unbuilt_body d.body
