@@ -4,7 +4,7 @@ ghost use Rattle.std.specs.Prelude.{◌≡◌, ◌<◌, ◌≤◌, ◌+◌, ◌-
 ghost use Rattle.lk_plain.specs.Answer.{later};
 
 /// What is left of a budget of steps, how many turns were taken, and the last unit that was looked at (the greatest
-/// number) since that was last taken.
+/// number).
 #[derive(Clone, Copy, Debug, PartialEq, Eq)]
 pub struct Meter {
     pub left: u128,
@@ -62,18 +62,6 @@ impl Meter {
         ensures last { self.new.last ≡ later self.old.last (Some unit) }
     {
         self.last = later(self.last, Some(unit));
-    }
-
-    /// Takes the last unit that was looked at.
-    pub fn take_last(&mut self) -> Option<u32>
-        ensures result { result ≡ self.old.last }
-        ensures left { self.new.left ≡ self.old.left }
-        ensures turns { self.new.turns ≡ self.old.turns }
-        ensures last { self.new.last ≡ None }
-    {
-        let last = self.last;
-        self.last = None;
-        last
     }
 
     /// Notes what was looked at before.
