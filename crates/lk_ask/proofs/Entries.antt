@@ -1,8 +1,8 @@
 -- What an entry by numbers stands for: its type, and the kind of a declaration.
-use Rattle.std.proofs.Common.{◌≡◌, ℕ, List, Option, Some, None, refl, ap, sym, subst, ◌∙◌}
+use Rattle.std.proofs.Common.{◌≡◌, List, Option, Some, None, refl, ap, sym, subst, ◌∙◌}
 use Rattle.std.specs.Prelude.{option_map, option_and_then, slice_get}
 use Rattle.lk_tree.specs.Tree.{Tree}
-use Rattle.lk_rulebook.specs.Place.{Entry as PlainEntry, Ctor, BlockType, Rec, Kind as PlainKind, a_type, a_ctor, a_rec}
+use Rattle.lk_rulebook.specs.Place.{Entry as PlainEntry, Ctor, BlockType, Rec, a_type, a_ctor, a_rec}
 use Rattle.lk_rulebook.specs.Units.{LibraryUnit, of_decl, of_block, kind_of}
 use Rattle.lk_store.specs.Contents.{Contents, tree_at}
 use Rattle.lk_env.specs.declared.entry.Kind.{Kind}

@@ -1,5 +1,5 @@
 -- Look-ups that were made.
-use Rattle.std.proofs.Common.{◌≡◌, ℕ, Bool, true, false, List, Option, Some, None, refl, ap, sym, ◌∙◌, if◌then◌else◌}
+use Rattle.std.proofs.Common.{◌≡◌, ℕ, true, false, List, Option, Some, None, refl, ap, sym, ◌∙◌, if◌then◌else◌}
 use Rattle.std.specs.Prelude.{IsSome}
 use Rattle.lk_tree.specs.Tree.{Name}
 use Rattle.lk_tree.specs.RuleNo.{RuleNo, unknown_constant, builtin_shape}
@@ -7,12 +7,12 @@ use Rattle.lk_rulebook.specs.Place.{Place, Entry as PlainEntry}
 use Rattle.lk_plain.specs.Answer.{later}
 use Rattle.lk_plain.specs.Program.{Program, refuse, look}
 use Rattle.lk_plain.specs.Parts.{is_built_kind, where_built}
-use Rattle.lk_plain.specs.Erased.{Value, Steps, refuses, looked, erased}
+use Rattle.lk_plain.specs.Erased.{Value, refuses, looked, erased}
 use Rattle.lk_store.specs.Store.{contents_of}
 use Rattle.lk_store.specs.declared.tables.Tables.{Tables}
 use Rattle.lk_env.specs.declared.entry.Entry.{Entry}
 use Rattle.lk_env.specs.declared.unit.Unit.{Unit as StoredUnit}
-use Rattle.lk_env.specs.Entries.{plain_entry, IsMeaning}
+use Rattle.lk_env.specs.Entries.{IsMeaning}
 use Rattle.lk_ask.specs.declared.rule.Rule.{Rule}
 use Rattle.lk_ask.specs.Questions.{rule_no}
 use Rattle.lk_ask.specs.Constants.{IsFound, IsRefused}

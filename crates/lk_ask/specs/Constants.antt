@@ -1,8 +1,9 @@
 -- What a constant means at a place, and its trees at levels.
-use Rattle.std.specs.Prelude.{◌≡◌, ◌<◌, ℕ, Bool, true, false, nat_eq, List, length, map, All, Option, Some, None}
+use Rattle.std.specs.Prelude.{◌≡◌, ◌<◌, ℕ, true, false, nat_eq, List, length, map, All, Option, Some, None}
 use Rattle.lk_tree.specs.Tree.{Name, Level, Tree}
 use Rattle.lk_tree.specs.Levels.{put_levels}
-use Rattle.lk_tree.specs.RuleNo.{RuleNo, unknown_constant}
+use Rattle.lk_tree.specs.Spine.{apply}
+use Rattle.lk_tree.specs.RuleNo.{unknown_constant}
 use Rattle.lk_rulebook.specs.Place.{Place, Entry as PlainEntry}
 use Rattle.lk_plain.specs.Answer.{later, refusal}
 use Rattle.lk_store.specs.Contents.{Contents, level_at, IsTree}
@@ -30,6 +31,11 @@ pub record IsRefused (w : Place) (x : Name) (r : Rule) : Type 0 where
 abbrev pub IsAtLevels : Contents → List Name → List Level → Tree → Option ℕ → Type 0
 IsAtLevels c ps ls t (Some r) = (nat_eq (length ls) (length ps) ≡ true) × IsTree c r (put_levels ps ls t)
 IsAtLevels c ps ls t None = nat_eq (length ls) (length ps) ≡ false
+
+-- the number stands for the value v at these levels, applied; there is none where the counts differ
+abbrev pub IsUnfolded : Contents → List Name → List Level → Tree → List Tree → Option ℕ → Type 0
+IsUnfolded c ps ls v xs (Some r) = (nat_eq (length ls) (length ps) ≡ true) × IsTree c r (apply (put_levels ps ls v) xs)
+IsUnfolded c ps ls v xs None = nat_eq (length ls) (length ps) ≡ false
 
 -- the numbers of these levels
 pub record IsLevels (c : Contents) (numbers : List ℕ) (ls : List Level) : Type 0 where

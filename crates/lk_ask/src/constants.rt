@@ -1,6 +1,6 @@
 //! What the constants of a term mean in a library.
 
-ghost use Rattle.std.specs.Prelude.{◌≡◌, ◌<◌, List, length, IfOk, IfErr, Some};
+ghost use Rattle.std.specs.Prelude.{◌≡◌, ◌<◌, List, length, IfOk, IfErr, IfSome, Some};
 ghost use Rattle.lk_rulebook.specs.Place.{Entry as PlainEntry};
 ghost use Rattle.lk_plain.specs.Parts.{is_built_kind};
 ghost use Rattle.lk_store.specs.Contents.{Contents, name_at, list_at, tree_at, Extends};
@@ -53,8 +53,10 @@ pub fn is_built(kind: Kind) -> bool
 {
     match kind {
         Kind::Declared(body) => match body {
-            Body::Axiom | Body::Theorem { .. } => true,
-            Body::Definition { .. } | Body::Opaque { .. } | Body::Quotient => false,
+            Body::Axiom | Body::Definition { .. } | Body::Theorem { .. } | Body::Opaque { .. } => {
+                true
+            }
+            Body::Quotient => false,
         },
         Kind::Type(_) | Kind::Constructor { .. } | Kind::Recursor(_) => false,
     }
@@ -89,6 +91,7 @@ pub fn at_levels<T: Terms>(
     requires e_in { e < length (T.contents terms.old).trees }
     ensures keeps { Extends (T.contents terms.old) (T.contents terms.new) }
     ensures rest { T.rest terms.new ≡ T.rest terms.old }
+    ensures known { IfOk result (λ r. IfSome r (λ t. t < length (T.contents terms.new).trees)) }
     ensures ok { IfOk result (λ r. (g : PlainEntry) → plain_entry (contents_of library.now.0) library.now.1 entry ≡ Some g
         → IsAtLevels (T.contents terms.new) g.levels (list_at (T.contents terms.old) levels) (tree_at (T.contents terms.old) e) r) }
 {

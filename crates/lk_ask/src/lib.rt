@@ -1,5 +1,5 @@
 //! Questions, answers and what waits for them, as plain values; whoever answers questions; and what a constant of a term
-//! means in a library.
+//! means in a library, and by what it is unfolded.
 #![tactic(auto)]
 
 pub mod asks;
@@ -11,3 +11,4 @@ pub mod rule;
 pub mod sheet;
 pub mod stack;
 pub mod stop;
+pub mod unfolding;

@@ -4,9 +4,11 @@ use crate::stack::Stack;
 
 /// What the weak head forms keep.
 #[derive(Clone, Copy, Debug, PartialEq, Eq)]
-pub enum CoreSheet {
+pub enum CoreSheet<X> {
     /// The answer is that of the question too.
     Passed,
+    /// `Core` of an application, after that of its head.
+    Head { application: X },
     /// `Whnf`, after `Core`.
     WhnfCore,
 }
@@ -14,6 +16,8 @@ pub enum CoreSheet {
 /// What `Infer` keeps.
 #[derive(Clone, Copy, Debug, PartialEq, Eq)]
 pub enum TypeSheet<X> {
+    /// The answer is that of the question too.
+    Passed,
     /// A lambda, after the type of its domain.
     LamDomain { domain: X, body: X },
     /// After the weak head form of that.
@@ -36,6 +40,14 @@ pub enum TypeSheet<X> {
     Argument { domain: X, body: X, argument: X },
     /// After that was compared with the domain.
     ArgumentSame { body: X, argument: X },
+    /// A Let, after the type of what it states as its value's type.
+    LetType { kind: X, value: X, body: X },
+    /// After the weak head form of that.
+    LetTypeSort { kind: X, value: X, body: X },
+    /// After the type of its value.
+    LetValue { kind: X, value: X, body: X },
+    /// After that was compared with what is stated.
+    LetValueSame { value: X, body: X },
 }
 
 /// Two that are compared.
@@ -43,6 +55,35 @@ pub enum TypeSheet<X> {
 pub struct Pair<X> {
     pub left: X,
     pub right: X,
+}
+
+/// What unfolding in `Same` keeps.
+#[derive(Drop)]
+pub enum LazySheet<X: Drop> {
+    /// The answer is that of the question too.
+    Passed,
+    /// Two terms whose heads are one constant, after a pair of their arguments. The others are still to be compared, the
+    /// last one first. Where two are not the same, both terms unfold.
+    Arguments {
+        left: X,
+        right: X,
+        others: Stack<Pair<X>>,
+    },
+}
+
+/// What the comparison of two terms as proofs keeps. `kind` is the type of the left one.
+#[derive(Drop)]
+pub enum ProofSheet<X: Drop> {
+    /// After `Infer` of the left one.
+    Left { left: X, right: X },
+    /// After `Infer` of its type.
+    LeftSort { left: X, right: X, kind: X },
+    /// After `Whnf` of that.
+    LeftSortForm { left: X, right: X, kind: X },
+    /// After `Infer` of the right one, where the type of the left one is a proposition.
+    Right { left: X, right: X, kind: X },
+    /// After the two types were compared.
+    Types { left: X, right: X },
 }
 
 /// What `Same` keeps.
@@ -72,12 +113,16 @@ pub enum SameSheet<X: Drop> {
     Parts {
         others: Stack<Pair<X>>,
     },
+    /// As proofs.
+    Proof(ProofSheet<X>),
+    /// By unfolding.
+    Lazy(LazySheet<X>),
 }
 
 /// What a question keeps.
 #[derive(Drop)]
 pub enum Sheet<X: Drop> {
-    Core(CoreSheet),
+    Core(CoreSheet<X>),
     Type(TypeSheet<X>),
     Same(SameSheet<X>),
 }

@@ -2,3 +2,4 @@ pub mod Lambdas
 pub mod Opened
 pub mod Constants
 pub mod Rows
+pub mod Naming

@@ -13,7 +13,8 @@ ghost use Rattle.lk_store.specs.Contents.{name_at, tree_at, Extends};
 ghost use Rattle.lk_store.specs.Store.{contents_of};
 ghost use Rattle.lk_env.specs.Places.{place_at};
 ghost use Rattle.lk_ask.specs.Nexts.{IsKnownNext};
-ghost use Rattle.lk_core.specs.Forms.{core_next, IsKnownCore};
+ghost use Rattle.lk_ask.specs.Sheets.{IsKnownCore};
+ghost use Rattle.lk_core.specs.Forms.{core_next, headed_rest};
 
 use crate::beta::beta;
 use lk_ask::constants::{is_built, look_up};
@@ -21,6 +22,7 @@ use lk_ask::next::Next;
 use lk_ask::query::{Answer, Query};
 use lk_ask::rule::Rule;
 use lk_ask::sheet::CoreSheet;
+use lk_ask::unfolding::with_head;
 use lk_env::entry::Site;
 use lk_env::library::Library;
 use lk_meter::meter::Meter;
@@ -28,10 +30,11 @@ use lk_rows::memory::NoMemory;
 use lk_spine::{args, head};
 use lk_store::node::Node;
 use lk_store::terms::Terms;
+use lk_subst::opening::open_with;
 use std::alloc::Global;
 
 /// What `Core` or `Whnf` does next.
-pub type CoreNext = Next<u64, CoreSheet>;
+pub type CoreNext = Next<u64, CoreSheet<u64>>;
 
 /// `Core` of an application whose head is a constant, which takes no step of those that are built.
 fn constant_applied<T: Terms>(
@@ -101,11 +104,35 @@ fn applied<T: Terms>(
 {
     let front = head(terms, e);
     match terms.view(front) {
-        Node::Let(_, _, _) | Node::Proj(_, _, _) => Ok(Next::No(Rule::BuiltinShape)),
+        Node::Let(_, _, _) => Ok(Next::Ask(Query::Core(front), CoreSheet::Head { application: e })),
+        Node::Proj(_, _, _) => Ok(Next::No(Rule::BuiltinShape)),
         Node::Const(name, _) => Ok(constant_applied(library, site, terms, meter, e, name)),
         Node::Lam(_, _) => lambda_applied(alloc, terms, e, front),
         _ => Ok(Next::Done(Answer::Term(e))),
     }
+}
+
+/// Goes on with `Core` of an application, once that of its head is there.
+pub(crate) fn after_head<T: Terms>(
+    alloc: Global,
+    terms: &mut T,
+    application: u64,
+    form: u64,
+) -> Result<CoreNext, NoMemory>
+    requires application_in { application < length (T.contents terms.old).trees }
+    requires form_in { form < length (T.contents terms.old).trees }
+    ensures keeps { Extends (T.contents terms.old) (T.contents terms.new) }
+    ensures rest { T.rest terms.new ≡ T.rest terms.old }
+    ensures known { IfOk result (IsKnownNext IsKnownCore (length (T.contents terms.new).trees)) }
+    ensures steps { (w : Place) (last : Option ℕ) → IfOk result (λ next. core_next w (tree_at (T.contents terms.new)) last next
+        ≡ erased w a_tree last (headed_rest (tree_at (T.contents terms.old) application) (tree_at (T.contents terms.old) form))) }
+{
+    let front = head(terms, application);
+    if terms.same(form, front) {
+        return Ok(Next::Done(Answer::Term(application)));
+    }
+    let next = with_head(alloc, terms, application, form)?;
+    Ok(Next::Ask(Query::Core(next), CoreSheet::Passed))
 }
 
 /// The first step of `Core` of a term.
@@ -128,7 +155,11 @@ pub fn begin<T: Terms>(
 {
     match terms.view(e) {
         Node::App(_, _) => applied(alloc, library, site, terms, meter, e),
-        Node::Let(_, _, _) | Node::Proj(_, _, _) => Ok(Next::No(Rule::BuiltinShape)),
+        Node::Let(_, value, body) => {
+            let next = open_with(alloc, terms, body, value)?;
+            Ok(Next::Ask(Query::Core(next), CoreSheet::Passed))
+        }
+        Node::Proj(_, _, _) => Ok(Next::No(Rule::BuiltinShape)),
         _ => Ok(Next::Done(Answer::Term(e))),
     }
 }

@@ -1,34 +1,37 @@
 //! `Whnf`: the weak head form.
 
-ghost use Rattle.std.specs.Prelude.{◌≡◌, ◌<◌, ℕ, Option, Some, List, IfOk, IfSome, IsSome, length, option_map};
+ghost use Rattle.std.specs.Prelude.{◌≡◌, ◌<◌, ◌&&◌, ℕ, Option, Some, List, IfOk, IfSome, length, option_map};
 ghost use Rattle.lk_tree.specs.Tree.{Name, Tree, const};
-ghost use Rattle.lk_tree.specs.Spine.{apply as apply_to, args as args_of};
 ghost use Rattle.lk_rulebook.specs.Place.{Place, Entry as PlainEntry};
+ghost use Rattle.lk_rulebook.specs.Literals.{by_def};
 ghost use Rattle.lk_plain.specs.Erased.{a_tree, erased};
 ghost use Rattle.lk_table.specs.Core.{unfolded};
 ghost use Rattle.lk_table.specs.Steps.{value_of as plain_value};
-ghost use Rattle.lk_table.specs.Built.{whnf_built, whnf_end, whnf_row};
-ghost use Rattle.lk_store.specs.Contents.{Contents, name_at, list_at, tree_at, Extends, IsTree};
+ghost use Rattle.lk_table.specs.Built.{names_operation as plain_names_operation, unfolded_built, whnf_built, whnf_end, whnf_row};
+ghost use Rattle.lk_store.specs.Contents.{Contents, name_at, list_at, tree_at, Extends};
 ghost use Rattle.lk_store.specs.Store.{contents_of};
 ghost use Rattle.lk_env.specs.declared.unit.Unit.{Unit as StoredUnit};
 ghost use Rattle.lk_env.specs.Entries.{plain_entry, IsEntryIn};
 ghost use Rattle.lk_env.specs.Places.{place_at};
 ghost use Rattle.lk_ask.specs.Questions.{value_at, IsKnownAnswer};
 ghost use Rattle.lk_ask.specs.Nexts.{IsKnownNext};
-ghost use Rattle.lk_core.specs.Forms.{core_next, core_rest, IsKnownCore};
+ghost use Rattle.lk_ask.specs.Sheets.{map_core, IsKnownCore};
+ghost use Rattle.lk_core.specs.Forms.{core_next, core_rest};
 
-use crate::core_form::CoreNext;
-use lk_ask::constants::{at_levels, is_built, look_up};
+use crate::core_form::{CoreNext, after_head};
+use crate::operations::names_operation;
+use lk_ask::constants::{is_built, look_up};
 use lk_ask::next::Next;
 use lk_ask::query::{Answer, Query};
 use lk_ask::rule::Rule;
 use lk_ask::sheet::CoreSheet;
+use lk_ask::unfolding::unfold;
 use lk_env::entry::{Entry, Kind, Site};
 use lk_env::library::Library;
 use lk_env::unit::Body;
 use lk_meter::meter::Meter;
 use lk_rows::memory::NoMemory;
-use lk_spine::{apply, args, head};
+use lk_spine::head;
 use lk_store::node::Node;
 use lk_store::terms::Terms;
 use std::alloc::Global;
@@ -56,20 +59,29 @@ fn value_of(entry: Entry) -> Option<u64>
     }
 }
 
-/// Another head, applied to the arguments of a term.
-fn with_head<T: Terms>(alloc: Global, terms: &mut T, e: u64, front: u64) -> Result<u64, NoMemory>
-    requires e_in { e < length (T.contents terms.old).trees }
-    requires front_in { front < length (T.contents terms.old).trees }
-    ensures keeps { Extends (T.contents terms.old) (T.contents terms.new) }
-    ensures rest { T.rest terms.new ≡ T.rest terms.old }
-    ensures ok { IfOk result (λ r. IsTree (T.contents terms.new) r (apply_to (tree_at (T.contents terms.old) front) (args_of (tree_at (T.contents terms.old) e)))) }
+/// Whether it is a definition.
+fn is_definition(kind: Kind) -> bool
+    ensures { (c : Contents) (us : List StoredUnit) (e : Entry) (g : PlainEntry) → e.kind ≡ kind → plain_entry c us e ≡ Some g → result ≡ by_def g.kind }
 {
-    let values = args(alloc, terms, e)?;
-    apply(terms, front, &values)
+    match kind {
+        Kind::Declared(Body::Definition { .. }) => true,
+        Kind::Declared(Body::Axiom | Body::Theorem { .. } | Body::Opaque { .. } | Body::Quotient) =>
+            { false }
+        Kind::Type(_) | Kind::Constructor { .. } | Kind::Recursor(_) => false,
+    }
+}
+
+/// Whether it is a definition that has the name of an operation on numbers.
+fn is_operation<T: Terms>(terms: &T, kind: Kind, name: u64) -> bool
+    requires { name < length (T.contents terms.now).names }
+    ensures { (c : Contents) (us : List StoredUnit) (e : Entry) (g : PlainEntry) → e.kind ≡ kind → plain_entry c us e ≡ Some g
+        → result ≡ (by_def g.kind && plain_names_operation (name_at (T.contents terms.now) name)) }
+{
+    is_definition(kind) && names_operation(terms, name)
 }
 
 /// Unfolds the head of a term, a constant of these levels, by its value.
-fn unfold<T: Terms>(
+fn by_value<T: Terms>(
     alloc: Global,
     library: &Library,
     terms: &mut T,
@@ -79,7 +91,6 @@ fn unfold<T: Terms>(
     e: u64,
 ) -> Result<CoreNext, NoMemory>
     requires over { Extends (contents_of library.now.0) (T.contents terms.old) }
-    requires meant { IsSome (plain_entry (contents_of library.now.0) library.now.1 entry) }
     requires levels_in { levels < length (T.contents terms.old).lists }
     requires value_in { value < length (T.contents terms.old).trees }
     requires e_in { e < length (T.contents terms.old).trees }
@@ -90,12 +101,42 @@ fn unfold<T: Terms>(
         → IfOk result (λ next. core_next w (tree_at (T.contents terms.new)) last next
         ≡ erased w a_tree last (unfolded g (const f (list_at (T.contents terms.old) levels)) (tree_at (T.contents terms.old) e) (Some (tree_at (T.contents terms.old) value)))) }
 {
-    match at_levels(alloc, library, terms, entry, levels, value)? {
-        Some(front) => {
-            let next = with_head(alloc, terms, e, front)?;
-            Ok(Next::Ask(Query::Whnf(next), CoreSheet::Passed))
-        }
+    match unfold(alloc, library, terms, entry, levels, value, e)? {
+        Some(next) => Ok(Next::Ask(Query::Whnf(next), CoreSheet::Passed)),
         None => Ok(Next::No(Rule::LevelCount)),
+    }
+}
+
+/// The end of `Whnf` of a term whose head is the constant of this entry.
+fn entry_end<T: Terms>(
+    alloc: Global,
+    library: &Library,
+    terms: &mut T,
+    entry: Entry,
+    name: u64,
+    levels: u64,
+    e: u64,
+) -> Result<CoreNext, NoMemory>
+    requires over { Extends (contents_of library.now.0) (T.contents terms.old) }
+    requires entry_in { IsEntryIn (contents_of library.now.0) entry }
+    requires name_in { name < length (T.contents terms.old).names }
+    requires levels_in { levels < length (T.contents terms.old).lists }
+    requires e_in { e < length (T.contents terms.old).trees }
+    ensures keeps { Extends (T.contents terms.old) (T.contents terms.new) }
+    ensures rest { T.rest terms.new ≡ T.rest terms.old }
+    ensures known { IfOk result (IsKnownNext IsKnownCore (length (T.contents terms.new).trees)) }
+    ensures steps { (w : Place) (last : Option ℕ) (g : PlainEntry) → plain_entry (contents_of library.now.0) library.now.1 entry ≡ Some g
+        → IfOk result (λ next. core_next w (tree_at (T.contents terms.new)) last next
+        ≡ erased w a_tree last (unfolded_built (tree_at (T.contents terms.old) e) (name_at (T.contents terms.old) name)
+        (const (name_at (T.contents terms.old) name) (list_at (T.contents terms.old) levels)) g)) }
+{
+    // That a definition computes numbers is not built yet.
+    if is_operation(terms, entry.kind, name) {
+        return Ok(Next::No(Rule::BuiltinShape));
+    }
+    match value_of(entry) {
+        Some(value) => by_value(alloc, library, terms, entry, levels, value, e),
+        None => Ok(Next::Done(Answer::Term(e))),
     }
 }
 
@@ -128,10 +169,7 @@ fn constant_end<T: Terms>(
     if !is_built(entry.kind) {
         return Ok(Next::No(Rule::BuiltinShape));
     }
-    match value_of(entry) {
-        Some(value) => unfold(alloc, library, terms, entry, levels, value, e),
-        None => Ok(Next::Done(Answer::Term(e))),
-    }
+    entry_end(alloc, library, terms, entry, name, levels, e)
 }
 
 /// The end of `Whnf`, once its `Core` is there.
@@ -168,21 +206,23 @@ pub fn resume<T: Terms>(
     site: &Site,
     terms: &mut T,
     meter: &mut Meter,
-    sheet: CoreSheet,
+    sheet: CoreSheet<u64>,
     answer: Answer<u64>,
 ) -> Result<CoreNext, NoMemory>
     requires over { Extends (contents_of library.now.0) (T.contents terms.old) }
+    requires sheet_in { IsKnownCore (length (T.contents terms.old).trees) sheet }
     requires answer_in { IsKnownAnswer (length (T.contents terms.old).trees) answer }
     ensures keeps { Extends (T.contents terms.old) (T.contents terms.new) }
     ensures rest { T.rest terms.new ≡ T.rest terms.old }
     ensures left { meter.new.left ≡ meter.old.left }
     ensures known { IfOk result (IsKnownNext IsKnownCore (length (T.contents terms.new).trees)) }
     ensures steps { IfOk result (λ next. core_next (place_at library.now site.now.unit) (tree_at (T.contents terms.new)) meter.new.last next
-        ≡ core_rest (place_at library.now site.now.unit) meter.old.last sheet (value_at (tree_at (T.contents terms.old)) answer)) }
+        ≡ core_rest (place_at library.now site.now.unit) meter.old.last (map_core (tree_at (T.contents terms.old)) sheet) (value_at (tree_at (T.contents terms.old)) answer)) }
 {
     match answer {
         Answer::Term(e) => match sheet {
             CoreSheet::Passed => Ok(Next::Done(Answer::Term(e))),
+            CoreSheet::Head { application } => after_head(alloc, terms, application, e),
             CoreSheet::WhnfCore => end(alloc, library, site, terms, meter, e),
         },
         // No sheet waits for a truth value.

@@ -1,3 +1,3 @@
-pub mod Closed
 pub mod Shapes
 pub mod Spines
+pub mod ZeroWalks

@@ -1,154 +1,18 @@
--- Facts on two spines that are walked down at once.
-use Rattle.std.proofs.Common.{◌≡◌, ◌+◌, ◌<◌, ℕ, Bool, true, false, List, [], ◌∷◌, ◌++◌, length, map, refl, sym, ◌∙◌, ap, subst, arith, append_assoc, eq-eqb}
-use Rattle.std.specs.Prelude.{nat_eq, reverse}
+-- Two spines, where one is an application.
+use Rattle.std.proofs.Common.{◌≡◌, ◌+◌, Bool, false, [], ◌∷◌, length, refl, ◌∙◌, ap, subst, arith}
+use Rattle.std.specs.Prelude.{nat_eq}
 use Rattle.std.proofs.lemmas.Bool.Decides.{nat_tests}
-use Rattle.std.proofs.lemmas.List.{append-nil, map-append, reverse-append, length-reverse, length-map, length-append}
-use Rattle.std.proofs.lemmas.List.Elements.{All-nil, All-push}
+use Rattle.std.proofs.lemmas.List.{length-append}
 use Rattle.lk_tree.specs.Tree.{Tree, app, var, sort, const, lam, pi, let_in, proj, lit, wide, str, local}
 use Rattle.lk_tree.specs.Spine.{head, args}
 use Rattle.lk_plain.specs.Program.{Program, done}
-use Rattle.lk_table.specs.Levels.{closed_test}
-use Rattle.lk_table.specs.Pairs.{same_all}
+use Rattle.lk_table.specs.Levels.{complete_test}
 use Rattle.lk_table.specs.Built.{same_parts}
-use Rattle.lk_store.specs.Contents.{Contents, tree_at, tree_of}
-use Rattle.lk_store.specs.declared.node.Node.{Node}
-use Rattle.lk_store.specs.declared.node.Node.TheVariants.{Var, Sort, Const, App, Lam, Pi, Let, Proj, Lit, Wide, Str, Local}
-use Rattle.lk_ask.specs.declared.sheet.Pair.{Pair}
-use Rattle.lk_ask.specs.Sheets.{map_pair, IsKnownPair}
-use Rattle.lk_same.specs.Spines.{spines_same, lefts, rights, IsSpineWalk}
+use Rattle.lk_lazy.proofs.Walks.{args-app}
+use Rattle.lk_same.specs.Spines.{spines_same}
 
-args-app : (f a : Tree) → args (app f a) ≡ args f ++ a ∷ []
-unfolding args
-args-app f a = refl
-
-head-app : (f a : Tree) → head (app f a) ≡ head f
-unfolding head
-head-app f a = refl
-
--- no argument, and the head is the tree itself
-pub record IsBare (t : Tree) : Type 0 where
-  pub no_args : args t ≡ []
-  pub own_head : head t ≡ t
-
-bare : (c : Contents) (node : Node) → ((f a : ℕ) → node ≡ App f a → ⊥) → IsBare (tree_of c node)
-unfolding args head
-bare c (App f a) h = absurd (h f a refl)
-bare c (Var i) h = record { no_args = refl; own_head = refl }
-bare c (Sort i) h = record { no_args = refl; own_head = refl }
-bare c (Const n l) h = record { no_args = refl; own_head = refl }
-bare c (Lam f a) h = record { no_args = refl; own_head = refl }
-bare c (Pi f a) h = record { no_args = refl; own_head = refl }
-bare c (Let f v a) h = record { no_args = refl; own_head = refl }
-bare c (Proj n i s) h = record { no_args = refl; own_head = refl }
-bare c (Lit n) h = record { no_args = refl; own_head = refl }
-bare c Wide h = record { no_args = refl; own_head = refl }
-bare c (Str s) h = record { no_args = refl; own_head = refl }
-bare c (Local k T) h = record { no_args = refl; own_head = refl }
-
-lefts-push : (ps : List (Pair Tree)) (p : Pair Tree) → lefts (ps ++ p ∷ []) ≡ p.left ∷ lefts ps
-lefts-push ps p = ap (map (λ (q : Pair Tree). q.left)) (reverse-append ps (p ∷ []))
-
-rights-push : (ps : List (Pair Tree)) (p : Pair Tree) → rights (ps ++ p ∷ []) ≡ p.right ∷ rights ps
-rights-push ps p = ap (map (λ (q : Pair Tree). q.right)) (reverse-append ps (p ∷ []))
-
-length-lefts : (ps : List (Pair Tree)) → length (lefts ps) ≡ length ps
-length-lefts ps = length-map (reverse ps) (λ (q : Pair Tree). q.left) ∙ length-reverse ps
-
-length-rights : (ps : List (Pair Tree)) → length (rights ps) ≡ length ps
-length-rights ps = length-map (reverse ps) (λ (q : Pair Tree). q.right) ∙ length-reverse ps
-
--- the walk begins with the two themselves
-pub walk_begins : (c : Contents) (a b : ℕ) → a < length c.trees → b < length c.trees → IsSpineWalk c a b a b []
-walk_begins c a b h k = record {
-  left_in = h;
-  right_in = k;
-  pairs_in = All-nil (IsKnownPair (length c.trees));
-  left_head = refl;
-  right_head = refl;
-  left_args = append-nil (args (tree_at c a));
-  right_args = append-nil (args (tree_at c b));
-}
-
-uneven : (a b : Tree) → nat_eq (length (args a)) (length (args b)) ≡ false → spines_same a b ≡ done false
+pub uneven : (a b : Tree) → nat_eq (length (args a)) (length (args b)) ≡ false → spines_same a b ≡ done false
 uneven a b e = rw e refl
-
-module _ {c : Contents} {a b left right : ℕ} {pairs : List (Pair ℕ)} (h : IsSpineWalk c a b left right pairs) where
-  -- both are applications
-  pub walk_down : (f x g y : ℕ) → (f < length c.trees) × (x < length c.trees) → (g < length c.trees) × (y < length c.trees)
-      → tree_of c (App f x) ≡ tree_at c left → tree_of c (App g y) ≡ tree_at c right
-      → IsSpineWalk c a b f g (pairs ++ record { left = x; right = y } ∷ [])
-  walk_down f x g y k l is_left is_right =
-      let p : Pair ℕ = record { left = x; right = y } in
-      let ps = map (map_pair (tree_at c)) pairs in
-      let mapped : map (map_pair (tree_at c)) (pairs ++ p ∷ []) ≡ ps ++ map_pair (tree_at c) p ∷ [] = map-append (map_pair (tree_at c)) pairs (p ∷ []) in
-      let more_lefts : lefts (map (map_pair (tree_at c)) (pairs ++ p ∷ [])) ≡ tree_at c x ∷ lefts ps = ap lefts mapped ∙ lefts-push ps (map_pair (tree_at c) p) in
-      let more_rights : rights (map (map_pair (tree_at c)) (pairs ++ p ∷ [])) ≡ tree_at c y ∷ rights ps = ap rights mapped ∙ rights-push ps (map_pair (tree_at c) p) in
-      record {
-        left_in = k.0;
-        right_in = l.0;
-        pairs_in = All-push (IsKnownPair (length c.trees)) pairs p h.pairs_in (record { left_in = k.1; right_in = l.1 });
-        left_head = sym (head-app (tree_at c f) (tree_at c x)) ∙ ap head is_left ∙ h.left_head;
-        right_head = sym (head-app (tree_at c g) (tree_at c y)) ∙ ap head is_right ∙ h.right_head;
-        left_args = rw more_lefts (sym (append_assoc (args (tree_at c f)) (tree_at c x ∷ []) (lefts ps)) ∙ (rw (← args-app (tree_at c f) (tree_at c x), is_left) h.left_args));
-        right_args = rw more_rights (sym (append_assoc (args (tree_at c g)) (tree_at c y ∷ []) (rights ps)) ∙ (rw (← args-app (tree_at c g) (tree_at c y), is_right) h.right_args));
-      }
-
-  left_count : length (args (tree_at c a)) ≡ length (args (tree_at c left)) + length pairs
-  left_count =
-      let ps = map (map_pair (tree_at c)) pairs in
-      let all = ap length (sym h.left_args) ∙ length-append (args (tree_at c left)) (lefts ps) in
-      let few : length (lefts ps) ≡ length pairs = length-lefts ps ∙ length-map pairs (map_pair (tree_at c)) in
-      rw few at all
-
-  right_count : length (args (tree_at c b)) ≡ length (args (tree_at c right)) + length pairs
-  right_count =
-      let ps = map (map_pair (tree_at c)) pairs in
-      let all = ap length (sym h.right_args) ∙ length-append (args (tree_at c right)) (rights ps) in
-      let few : length (rights ps) ≡ length pairs = length-rights ps ∙ length-map pairs (map_pair (tree_at c)) in
-      rw few at all
-
-  left_bare : (node : Node) → ((f x : ℕ) → node ≡ App f x → ⊥) → tree_of c node ≡ tree_at c left → IsBare (tree_at c left)
-  left_bare node none is = subst IsBare is (bare c node none)
-
-  right_bare : (node : Node) → ((f x : ℕ) → node ≡ App f x → ⊥) → tree_of c node ≡ tree_at c right → IsBare (tree_at c right)
-  right_bare node none is = subst IsBare is (bare c node none)
-
-  -- the left spine is longer
-  pub walk_left_on : (f x : ℕ) → tree_of c (App f x) ≡ tree_at c left → (node : Node) → ((g y : ℕ) → node ≡ App g y → ⊥) → tree_of c node ≡ tree_at c right
-      → spines_same (tree_at c a) (tree_at c b) ≡ done false
-  walk_left_on f x is node none is_right =
-      let p = left_count in
-      let q = right_count in
-      let long : length (args (tree_at c left)) ≡ length (args (tree_at c f)) + 1 =
-      ap (λ t. length (args t)) (sym is) ∙ ap length (args-app (tree_at c f) (tree_at c x)) ∙ length-append (args (tree_at c f)) (tree_at c x ∷ []) in
-      let short : length (args (tree_at c right)) ≡ 0 = ap length ((right_bare node none is_right).no_args) in
-      uneven (tree_at c a) (tree_at c b) (grind (arith, nat_tests))
-
-  -- the right spine is longer
-  pub walk_right_on : (g y : ℕ) → tree_of c (App g y) ≡ tree_at c right → (node : Node) → ((f x : ℕ) → node ≡ App f x → ⊥) → tree_of c node ≡ tree_at c left
-      → spines_same (tree_at c a) (tree_at c b) ≡ done false
-  walk_right_on g y is node none is_left =
-      let p = left_count in
-      let q = right_count in
-      let long : length (args (tree_at c right)) ≡ length (args (tree_at c g)) + 1 =
-      ap (λ t. length (args t)) (sym is) ∙ ap length (args-app (tree_at c g) (tree_at c y)) ∙ length-append (args (tree_at c g)) (tree_at c y ∷ []) in
-      let short : length (args (tree_at c left)) ≡ 0 = ap length ((left_bare node none is_left).no_args) in
-      uneven (tree_at c a) (tree_at c b) (grind (arith, nat_tests))
-
-  -- both are at their heads
-  pub walk_ends : (node : Node) → ((f x : ℕ) → node ≡ App f x → ⊥) → tree_of c node ≡ tree_at c left
-      → (other : Node) → ((g y : ℕ) → other ≡ App g y → ⊥) → tree_of c other ≡ tree_at c right
-      → same_all (tree_at c left ∷ lefts (map (map_pair (tree_at c)) pairs)) (tree_at c right ∷ rights (map (map_pair (tree_at c)) pairs)) ≡ spines_same (tree_at c a) (tree_at c b)
-  walk_ends node none is other other_none other_is =
-      let l = left_bare node none is in
-      let r = right_bare other other_none other_is in
-      let ps = map (map_pair (tree_at c)) pairs in
-      let left_head : head (tree_at c a) ≡ tree_at c left = sym h.left_head ∙ l.own_head in
-      let right_head : head (tree_at c b) ≡ tree_at c right = sym h.right_head ∙ r.own_head in
-      let left_args : args (tree_at c a) ≡ lefts ps = sym h.left_args ∙ ap (λ xs. xs ++ lefts ps) l.no_args in
-      let right_args : args (tree_at c b) ≡ rights ps = sym h.right_args ∙ ap (λ xs. xs ++ rights ps) r.no_args in
-      let even : nat_eq (length (lefts ps)) (length (rights ps)) ≡ true = eq-eqb _ _ (length-lefts ps ∙ sym (length-rights ps)) in
-      rw (left_head, right_head, left_args, right_args, even) refl
 
 -- an application and a tree that is none
 no_spine : (f x t : Tree) → args t ≡ [] → spines_same (app f x) t ≡ done false
@@ -157,7 +21,7 @@ no_spine f x t none =
     let short : length (args t) ≡ 0 = ap length none in
     uneven (app f x) t (grind (arith, nat_tests))
 
-spines_is : (f x b : Tree) → spines_same (app f x) b ≡ same_parts closed_test (app f x) b
+spines_is : (f x b : Tree) → spines_same (app f x) b ≡ same_parts complete_test (app f x) b
 unfolding args head
 spines_is f x (app g y) = refl
 spines_is f x (var i) = no_spine f x (var i) refl
@@ -173,7 +37,7 @@ spines_is f x (str s) = no_spine f x (str s) refl
 spines_is f x (local k T) = no_spine f x (local k T) refl
 
 -- what is true of two spines is true of the parts of an application
-pub parts_of_spines : (P : Program Bool → Type 0) (f x a b : Tree) → app f x ≡ a → P (spines_same a b) → P (same_parts closed_test a b)
+pub parts_of_spines : (P : Program Bool → Type 0) (f x a b : Tree) → app f x ≡ a → P (spines_same a b) → P (same_parts complete_test a b)
 parts_of_spines P f x a b is h =
-    let Q : Tree → Type 0 = λ t. P (spines_same t b) → P (same_parts closed_test t b) in
+    let Q : Tree → Type 0 = λ t. P (spines_same t b) → P (same_parts complete_test t b) in
     subst Q is (subst P (spines_is f x b)) h

@@ -1,3 +1,3 @@
-pub mod LevelTests
 pub mod Sames
 pub mod Spines
+pub mod Zeros

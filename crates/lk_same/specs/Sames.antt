@@ -1,21 +1,25 @@
 -- What Same goes on with, once the answer is there that it waits for.
-use Rattle.std.specs.Prelude.{ℕ, Bool, false, ◌&&◌, List, map, reverse, Option, None, if◌then◌else◌}
-use Rattle.lk_tree.specs.Tree.{Tree, local}
+use Rattle.std.specs.Prelude.{ℕ, Bool, false, ◌&&◌, List, Option, None, if◌then◌else◌}
+use Rattle.lk_tree.specs.Tree.{Tree, Level, local}
 use Rattle.lk_tree.specs.Bind.{opened}
 use Rattle.lk_rulebook.specs.Place.{Place}
-use Rattle.lk_plain.specs.Query.{core, same}
-use Rattle.lk_plain.specs.Program.{Program, done, ask, asked}
+use Rattle.lk_plain.specs.Query.{core, whnf, infer, same}
+use Rattle.lk_plain.specs.Program.{Program, done, ask, asked, ◌>>=◌}
 use Rattle.lk_plain.specs.Erased.{Value, truth, Steps, gives, with_tree, with_truth, erased}
-use Rattle.lk_table.specs.Levels.{closed_test}
-use Rattle.lk_table.specs.Pairs.{same_all}
-use Rattle.lk_table.specs.Steps.{is_same_tree}
-use Rattle.lk_table.specs.Built.{same_parts}
+use Rattle.lk_table.specs.Levels.{complete_test}
+use Rattle.lk_tree.specs.Level.{is_zero_level}
+use Rattle.lk_table.specs.Steps.{is_same_tree, as_sort}
+use Rattle.lk_table.specs.Pairs.{Line, otherwise, yes_alone, answers_yes, ◌or_else◌, goes_on}
+use Rattle.lk_table.specs.Built.{same_unfolded, same_headed}
 use Rattle.lk_ask.specs.declared.next.Next.{Next}
 use Rattle.lk_ask.specs.declared.sheet.Pair.{Pair}
 use Rattle.lk_ask.specs.declared.sheet.SameSheet.{SameSheet}
-use Rattle.lk_ask.specs.declared.sheet.SameSheet.TheVariants.{Passed, Domains, CoreLeft, CoreRight, Parts}
+use Rattle.lk_ask.specs.declared.sheet.SameSheet.TheVariants.{Passed, Domains, CoreLeft, CoreRight, Parts, Proof, Lazy}
+use Rattle.lk_ask.specs.declared.sheet.ProofSheet.{ProofSheet}
+use Rattle.lk_ask.specs.declared.sheet.ProofSheet.TheVariants as proof
 use Rattle.lk_ask.specs.Nexts.{next_steps}
 use Rattle.lk_ask.specs.Sheets.{map_same}
+use Rattle.lk_lazy.specs.Lazies.{others_same, lazy_rest}
 
 -- two binders, once their domains were compared: the bodies are opened with the Local k of the first domain
 abbrev pub bodies_rest : ℕ → Tree → Tree → Tree → Bool → Program Bool
@@ -23,15 +27,37 @@ bodies_rest k A b b' equal = if equal then asked (same (opened b (local k A)) (o
 
 -- a and b, once a' and b' are there, their Core
 abbrev pub cores_rest : Tree → Tree → Tree → Tree → Program Bool
-cores_rest a b a' b' = if is_same_tree a' a && is_same_tree b' b then same_parts closed_test a b else asked (same a' b')
+cores_rest a b a' b' = if is_same_tree a' a && is_same_tree b' b then same_headed complete_test a b else asked (same a' b')
 
--- the pairs of a stack, from the top down
-abbrev pub others_same : List (Pair Tree) → Program Bool
-others_same ps = same_all (map (λ (p : Pair Tree). p.left) (reverse ps)) (map (λ (p : Pair Tree). p.right) (reverse ps))
-
--- the same, once the pair before them was compared
+-- the pairs of a stack, once the pair before them was compared
 abbrev pub parts_rest : List (Pair Tree) → Bool → Program Bool
 parts_rest ps equal = if equal then others_same ps else done false
+
+-- a and b, where a : A and A : Sort l: are they proofs of one proposition
+abbrev pub by_level : Tree → Tree → Tree → Level → Line
+by_level a b A l = if is_zero_level l then (do
+  B ← asked (infer b)
+  answers_yes (asked (same A B))) else goes_on
+
+-- the same, and what comes behind it
+abbrev pub level_rest : Tree → Tree → Tree → Level → Program Bool
+level_rest a b A l = by_level a b A l or_else same_unfolded complete_test a b
+
+-- the same, where S is to be the sort
+abbrev pub form_rest : Tree → Tree → Tree → Tree → Program Bool
+form_rest a b A S = (as_sort S >>= λ l. by_level a b A l) or_else same_unfolded complete_test a b
+
+-- two proofs, once their propositions were compared
+abbrev pub types_rest : Tree → Tree → Bool → Program Bool
+types_rest a b equal = otherwise (yes_alone equal) (same_unfolded complete_test a b)
+
+-- what the comparison as proofs waits for, and goes on with
+abbrev pub proof_rest : Place → Option ℕ → ProofSheet Tree → Value → Steps
+proof_rest w last (proof.Left a b) = with_tree (λ A. erased w truth last (ask (infer A) (λ K. ask (whnf K) (λ S. form_rest a b A S))))
+proof_rest w last (proof.LeftSort a b A) = with_tree (λ K. erased w truth last (ask (whnf K) (λ S. form_rest a b A S)))
+proof_rest w last (proof.LeftSortForm a b A) = with_tree (λ S. erased w truth last (form_rest a b A S))
+proof_rest w last (proof.Right a b A) = with_tree (λ B. erased w truth last (ask (same A B) (λ equal. types_rest a b equal)))
+proof_rest w last (proof.Types a b) = with_truth (λ equal. erased w truth last (types_rest a b equal))
 
 -- what a sheet waits for, and goes on with; last is the last unit that was looked at before
 abbrev pub same_rest : Place → Option ℕ → SameSheet Tree → Value → Steps
@@ -40,6 +66,8 @@ same_rest w last (Domains A b b' k) = with_truth (λ equal. erased w truth last 
 same_rest w last (CoreLeft a b) = with_tree (λ a'. erased w truth last (ask (core b) (λ b'. cores_rest a b a' b')))
 same_rest w last (CoreRight a b a') = with_tree (λ b'. erased w truth last (cores_rest a b a' b'))
 same_rest w last (Parts ps) = with_truth (λ equal. erased w truth last (parts_rest ps equal))
+same_rest w last (Proof s) = proof_rest w last s
+same_rest w last (Lazy s) = lazy_rest w last s
 
 -- what Same does next; t is what numbers stand for
 abbrev pub same_next : Place → (ℕ → Tree) → Option ℕ → Next ℕ (SameSheet ℕ) → Steps

@@ -1,8 +1,9 @@
 //! Whether two terms are the same: what `Same` asks, step by step, as the table says it.
 #![tactic(auto)]
 
-pub mod levels;
+pub mod headed;
+pub mod irrelevance;
 pub mod parts;
 pub mod same;
 pub mod shape;
-pub mod value;
+pub mod zero;

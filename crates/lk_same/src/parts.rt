@@ -4,22 +4,23 @@ ghost use Rattle.std.specs.Prelude.{◌≡◌, ◌<◌, ℕ, IfOk, Option, lengt
 ghost use Rattle.lk_tree.specs.Tree.{Tree, const};
 ghost use Rattle.lk_rulebook.specs.Place.{Place};
 ghost use Rattle.lk_plain.specs.Erased.{truth, erased};
-ghost use Rattle.lk_table.specs.Levels.{closed_test};
+ghost use Rattle.lk_table.specs.Levels.{complete_test, tested as plain_answer};
 ghost use Rattle.lk_table.specs.Built.{same_parts};
 ghost use Rattle.lk_store.specs.Contents.{name_at, list_at, tree_at};
 ghost use Rattle.lk_ask.specs.Nexts.{IsKnownNext};
 ghost use Rattle.lk_ask.specs.Sheets.{map_pair, IsKnownPair, IsKnownSame};
-ghost use Rattle.lk_same.specs.Sames.{others_same, parts_rest, same_next};
+ghost use Rattle.lk_lazy.specs.Lazies.{others_same};
+ghost use Rattle.lk_same.specs.Sames.{parts_rest, same_next};
 ghost use Rattle.lk_same.specs.Spines.{spines_same};
-ghost use Rattle.lk_same.specs.LevelTests.{test_answer};
 
-use crate::levels::levels_equal;
 use crate::same::SameNext;
 use lk_ask::next::Next;
 use lk_ask::query::{Answer, Query};
 use lk_ask::rule::Rule;
 use lk_ask::sheet::{Pair, SameSheet};
 use lk_ask::stack::Stack;
+use lk_lazy::levels::levels_equal;
+use lk_lazy::spines::pair_up;
 use lk_rows::memory::NoMemory;
 use lk_store::node::Node;
 use lk_store::terms::Terms;
@@ -28,11 +29,11 @@ use std::alloc::Global;
 /// What a test of levels answers.
 pub(crate) fn tested(answer: Option<bool>) -> SameNext
     ensures known { (n : ℕ) → IsKnownNext IsKnownSame n result }
-    ensures steps { (w : Place) (t : ℕ → Tree) (last : Option ℕ) → same_next w t last result ≡ erased w truth last (test_answer answer) }
+    ensures steps { (w : Place) (t : ℕ → Tree) (last : Option ℕ) → same_next w t last result ≡ erased w truth last (plain_answer answer) }
 {
     match answer {
         Some(equal) => Next::Done(Answer::Truth(equal)),
-        None => Next::No(Rule::BuiltinShape),
+        None => Next::No(Rule::LevelWidth),
     }
 }
 
@@ -50,7 +51,7 @@ fn constants<T: Terms>(
     requires left_levels_in { left_levels < length (T.contents terms.now).lists }
     requires right_levels_in { right_levels < length (T.contents terms.now).lists }
     ensures known { IfOk result (IsKnownNext IsKnownSame (length (T.contents terms.now).trees)) }
-    ensures steps { IfOk result (λ next. (w : Place) (last : Option ℕ) → same_next w (tree_at (T.contents terms.now)) last next ≡ erased w truth last (same_parts closed_test
+    ensures steps { IfOk result (λ next. (w : Place) (last : Option ℕ) → same_next w (tree_at (T.contents terms.now)) last next ≡ erased w truth last (same_parts complete_test
         (const (name_at (T.contents terms.now) left) (list_at (T.contents terms.now) left_levels))
         (const (name_at (T.contents terms.now) right) (list_at (T.contents terms.now) right_levels)))) }
 {
@@ -73,7 +74,7 @@ fn constant_and<T: Terms>(
     requires levels_in { levels < length (T.contents terms.now).lists }
     requires b_in { b < length (T.contents terms.now).trees }
     ensures known { IfOk result (IsKnownNext IsKnownSame (length (T.contents terms.now).trees)) }
-    ensures steps { IfOk result (λ next. (w : Place) (last : Option ℕ) → same_next w (tree_at (T.contents terms.now)) last next ≡ erased w truth last (same_parts closed_test
+    ensures steps { IfOk result (λ next. (w : Place) (last : Option ℕ) → same_next w (tree_at (T.contents terms.now)) last next ≡ erased w truth last (same_parts complete_test
         (const (name_at (T.contents terms.now) name) (list_at (T.contents terms.now) levels)) (tree_at (T.contents terms.now) b))) }
 {
     match terms.view(b) {
@@ -84,35 +85,22 @@ fn constant_and<T: Terms>(
     }
 }
 
-/// Two spines, walked down at once: their heads are asked for, and the pairs of arguments are kept.
+/// Two spines: their heads are asked for, and the pairs of arguments are kept.
 fn spines<T: Terms>(alloc: Global, terms: &T, a: u64, b: u64) -> Result<SameNext, NoMemory>
     requires a_in { a < length (T.contents terms.now).trees }
     requires b_in { b < length (T.contents terms.now).trees }
     ensures known { IfOk result (IsKnownNext IsKnownSame (length (T.contents terms.now).trees)) }
     ensures steps { IfOk result (λ next. (w : Place) (last : Option ℕ) → same_next w (tree_at (T.contents terms.now)) last next ≡ erased w truth last (spines_same (tree_at (T.contents terms.now) a) (tree_at (T.contents terms.now) b))) }
 {
-    let mut items: Vec<Pair<u64>> = Vec::new(alloc);
-    let mut left = a;
-    let mut right = b;
-    'down: while let Node::App(f, x) = terms.view(left) {
-        match terms.view(right) {
-            Node::App(g, y) => {
-                items.push(Pair { left: x, right: y })?;
-                left = f;
-                right = g;
-            }
-            _ => return Ok(Next::Done(Answer::Truth(false))),
-        }
+    match pair_up(alloc, terms, a, b)? {
+        Some(found) => Ok(Next::Ask(
+            Query::Same(found.left, found.right),
+            SameSheet::Parts {
+                others: Stack { items: found.pairs },
+            },
+        )),
+        None => Ok(Next::Done(Answer::Truth(false))),
     }
-    if let Node::App(_, _) = terms.view(right) {
-        return Ok(Next::Done(Answer::Truth(false)));
-    }
-    Ok(Next::Ask(
-        Query::Same(left, right),
-        SameSheet::Parts {
-            others: Stack { items },
-        },
-    ))
 }
 
 /// Two terms that `Core` leaves as they are, part by part.
@@ -125,7 +113,7 @@ pub(crate) fn parts<T: Terms>(
     requires a_in { a < length (T.contents terms.now).trees }
     requires b_in { b < length (T.contents terms.now).trees }
     ensures known { IfOk result (IsKnownNext IsKnownSame (length (T.contents terms.now).trees)) }
-    ensures steps { IfOk result (λ next. (w : Place) (last : Option ℕ) → same_next w (tree_at (T.contents terms.now)) last next ≡ erased w truth last (same_parts closed_test (tree_at (T.contents terms.now) a) (tree_at (T.contents terms.now) b))) }
+    ensures steps { IfOk result (λ next. (w : Place) (last : Option ℕ) → same_next w (tree_at (T.contents terms.now)) last next ≡ erased w truth last (same_parts complete_test (tree_at (T.contents terms.now) a) (tree_at (T.contents terms.now) b))) }
 {
     match terms.view(a) {
         Node::Const(name, levels) => constant_and(alloc, terms, name, levels, b),

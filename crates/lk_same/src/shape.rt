@@ -5,7 +5,7 @@ ghost use Rattle.lk_tree.specs.Tree.{Tree, sort, lam, pi};
 ghost use Rattle.lk_tree.specs.Bind.{bound};
 ghost use Rattle.lk_rulebook.specs.Place.{Place};
 ghost use Rattle.lk_plain.specs.Erased.{truth, erased};
-ghost use Rattle.lk_table.specs.Levels.{closed_test as plain_test};
+ghost use Rattle.lk_table.specs.Levels.{complete_test as plain_test};
 ghost use Rattle.lk_table.specs.Pairs.{same_bodies};
 ghost use Rattle.lk_table.specs.Built.{same_reduced, same_shape};
 ghost use Rattle.lk_store.specs.Contents.{level_at, tree_at};
@@ -13,12 +13,12 @@ ghost use Rattle.lk_ask.specs.Nexts.{IsKnownNext};
 ghost use Rattle.lk_ask.specs.Sheets.{IsKnownSame};
 ghost use Rattle.lk_same.specs.Sames.{same_next};
 
-use crate::levels::closed_test;
 use crate::parts::tested;
 use crate::same::SameNext;
 use lk_ask::next::Next;
 use lk_ask::query::Query;
 use lk_ask::sheet::SameSheet;
+use lk_lazy::levels::are_equal;
 use lk_rows::memory::NoMemory;
 use lk_store::node::Node;
 use lk_store::terms::Terms;
@@ -49,7 +49,7 @@ fn sort_and<T: Terms>(
 {
     match terms.view(b) {
         Node::Sort(other) => {
-            let equal = closed_test(alloc, terms, level, other)?;
+            let equal = are_equal(alloc, terms, level, other)?;
             Ok(tested(equal))
         }
         _ => Ok(reduced(a, b)),

@@ -1,14 +1,14 @@
 -- Facts on the steps of Infer.
-use Rattle.std.proofs.Common.{◌≡◌, ℕ, List, Bool, true, false, nat_eq, length, Option, Some, None, refl, ap, sym, subst, ◌∙◌}
+use Rattle.std.proofs.Common.{◌≡◌, ℕ, List, Bool, true, false, nat_eq, length, Option, Some, None, ap, sym, subst, ◌∙◌}
 use Rattle.lk_tree.specs.Tree.{Name, Level, Tree, sort}
 use Rattle.lk_tree.specs.Levels.{put_levels}
 use Rattle.lk_tree.specs.RuleNo.{unknown_constant, level_count, builtin_shape}
-use Rattle.lk_rulebook.specs.Place.{Place, Entry as PlainEntry}
+use Rattle.lk_rulebook.specs.Place.{Place}
 use Rattle.lk_plain.specs.Program.{Program, done, look}
 use Rattle.lk_plain.specs.Parts.{is_built_kind, where_built}
 use Rattle.lk_plain.specs.Erased.{Value, a_tree, Steps, gives, refuses, erased}
 use Rattle.lk_table.specs.Steps.{given, with_params, with_levels}
-use Rattle.lk_store.specs.Contents.{Contents, tree_at, IsTree}
+use Rattle.lk_store.specs.Contents.{Contents, tree_at}
 use Rattle.lk_store.specs.Store.{contents_of}
 use Rattle.lk_store.specs.declared.tables.Tables.{Tables}
 use Rattle.lk_env.specs.declared.entry.Entry.{Entry}

@@ -2,7 +2,7 @@
 use Rattle.std.specs.Prelude.{ℕ, Bool, Option, None}
 use Rattle.lk_tree.specs.Tree.{Tree, Level, zero_level, imax_level, sort, lam, pi, local}
 use Rattle.lk_tree.specs.Bind.{opened, close, bound}
-use Rattle.lk_tree.specs.RuleNo.{not_a_function, argument_type}
+use Rattle.lk_tree.specs.RuleNo.{not_a_function, argument_type, let_type}
 use Rattle.lk_rulebook.specs.Place.{Place}
 use Rattle.lk_plain.specs.Query.{whnf, infer, same}
 use Rattle.lk_plain.specs.Program.{Program, done, ask, asked, ◌>>=◌}
@@ -10,7 +10,7 @@ use Rattle.lk_plain.specs.Erased.{Value, a_tree, Steps, gives, with_tree, with_t
 use Rattle.lk_table.specs.Steps.{given, as_sort, as_pi, sort_of}
 use Rattle.lk_ask.specs.declared.next.Next.{Next}
 use Rattle.lk_ask.specs.declared.sheet.TypeSheet.{TypeSheet}
-use Rattle.lk_ask.specs.declared.sheet.TypeSheet.TheVariants.{LamDomain, LamDomainSort, LamBody, PiDomain, PiDomainSort, PiBody, PiBodySort, Function, FunctionForm, Argument, ArgumentSame}
+use Rattle.lk_ask.specs.declared.sheet.TypeSheet.TheVariants.{Passed, LamDomain, LamDomainSort, LamBody, PiDomain, PiDomainSort, PiBody, PiBodySort, Function, FunctionForm, Argument, ArgumentSame, LetType, LetTypeSort, LetValue, LetValueSame}
 use Rattle.lk_ask.specs.Nexts.{next_steps}
 use Rattle.lk_ask.specs.Sheets.{map_type}
 
@@ -57,8 +57,21 @@ applied_argument A B a T = ask (same T A) (λ equal. applied_end B a equal)
 abbrev pub applied_rest : Tree → Tree → Program Tree
 applied_rest a S = as_pi not_a_function S >>= λ p. ask (infer a) (λ T. applied_argument p.0 p.1 a T)
 
+-- a Let, once the type of its value was compared with what is stated
+abbrev pub let_end : Tree → Tree → Bool → Program Tree
+let_end v b equal = given equal let_type (asked (infer (opened b v)))
+
+-- the same, once the type of its value is there
+abbrev pub let_typed : Tree → Tree → Tree → Tree → Program Tree
+let_typed A v b V = ask (same V A) (λ equal. let_end v b equal)
+
+-- the same, where S is to be the sort of what is stated
+abbrev pub let_sorted : Tree → Tree → Tree → Tree → Program Tree
+let_sorted A v b S = as_sort S >>= λ l. ask (infer v) (λ V. let_typed A v b V)
+
 -- what a sheet waits for, and goes on with; last is the last unit that was looked at before
 abbrev pub type_rest : Place → Option ℕ → TypeSheet Tree → Value → Steps
+type_rest w last Passed = with_tree (λ v. gives last (a_tree v))
 type_rest w last (LamDomain A b) = with_tree (λ T. erased w a_tree last (ask (whnf T) (λ S. lam_sorted A b S)))
 type_rest w last (LamDomainSort A b) = with_tree (λ S. erased w a_tree last (lam_sorted A b S))
 type_rest w last (LamBody A k) = with_tree (λ B. gives last (a_tree (pi A (close k B))))
@@ -70,6 +83,10 @@ type_rest w last (Function a) = with_tree (λ F. erased w a_tree last (ask (whnf
 type_rest w last (FunctionForm a) = with_tree (λ S. erased w a_tree last (applied_rest a S))
 type_rest w last (Argument A B a) = with_tree (λ T. erased w a_tree last (applied_argument A B a T))
 type_rest w last (ArgumentSame B a) = with_truth (λ equal. erased w a_tree last (applied_end B a equal))
+type_rest w last (LetType A v b) = with_tree (λ T. erased w a_tree last (ask (whnf T) (λ S. let_sorted A v b S)))
+type_rest w last (LetTypeSort A v b) = with_tree (λ S. erased w a_tree last (let_sorted A v b S))
+type_rest w last (LetValue A v b) = with_tree (λ V. erased w a_tree last (let_typed A v b V))
+type_rest w last (LetValueSame v b) = with_truth (λ equal. erased w a_tree last (let_end v b equal))
 
 -- what Infer does next; t is what numbers stand for
 abbrev pub type_next : Place → (ℕ → Tree) → Option ℕ → Next ℕ (TypeSheet ℕ) → Steps

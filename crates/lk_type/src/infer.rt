@@ -16,6 +16,7 @@ ghost use Rattle.lk_type.specs.Types.{type_rest, type_next};
 use crate::application::{application_end, function_form};
 use crate::binders::{lam_domain_sort, lam_end, pi_domain_sort};
 use crate::constant::constant_type;
+use crate::lets::{let_body, let_type_sort};
 use crate::sorts::{next_sort, pi_body_sort};
 use lk_ask::next::Next;
 use lk_ask::query::{Answer, Query};
@@ -69,10 +70,14 @@ pub fn begin<T: Terms>(
             Query::Infer(domain),
             TypeSheet::PiDomain { domain, body },
         )),
+        Node::Let(kind, value, body) => Ok(Next::Ask(
+            Query::Infer(kind),
+            TypeSheet::LetType { kind, value, body },
+        )),
         // Those of the other kinds are not built yet.
-        Node::Let(_, _, _) | Node::Proj(_, _, _) | Node::Lit(_) | Node::Wide | Node::Str(_) => Ok(
-            Next::No(Rule::BuiltinShape),
-        ),
+        Node::Proj(_, _, _) | Node::Lit(_) | Node::Wide | Node::Str(_) => Ok(Next::No(
+            Rule::BuiltinShape,
+        )),
     }
 }
 
@@ -91,6 +96,7 @@ fn resume_term<T: Terms>(
     ensures steps { IfOk result (λ next. (w : Place) (last : Option ℕ) → type_next w (tree_at (T.contents terms.new)) last next ≡ type_rest w last (map_type (tree_at (T.contents terms.old)) sheet) (a_tree (tree_at (T.contents terms.old) e))) }
 {
     match sheet {
+        TypeSheet::Passed => Ok(Next::Done(Answer::Term(e))),
         TypeSheet::LamDomain { domain, body } => Ok(Next::Ask(
             Query::Whnf(e),
             TypeSheet::LamDomainSort { domain, body },
@@ -117,8 +123,21 @@ fn resume_term<T: Terms>(
             Query::Same(e, domain),
             TypeSheet::ArgumentSame { body, argument },
         )),
-        // It waits for yes or no.
-        TypeSheet::ArgumentSame { .. } => Ok(Next::No(Rule::LooseVariable)),
+        TypeSheet::LetType { kind, value, body } => Ok(Next::Ask(
+            Query::Whnf(e),
+            TypeSheet::LetTypeSort { kind, value, body },
+        )),
+        TypeSheet::LetTypeSort { kind, value, body } => {
+            Ok(let_type_sort(terms, kind, value, body, e))
+        }
+        TypeSheet::LetValue { kind, value, body } => Ok(Next::Ask(
+            Query::Same(e, kind),
+            TypeSheet::LetValueSame { value, body },
+        )),
+        // They wait for yes or no.
+        TypeSheet::ArgumentSame { .. } | TypeSheet::LetValueSame { .. } => {
+            Ok(Next::No(Rule::LooseVariable))
+        }
     }
 }
 
@@ -139,8 +158,13 @@ fn resume_truth<T: Terms>(
         TypeSheet::ArgumentSame { body, argument } => {
             application_end(alloc, terms, body, argument, yes)
         }
+        TypeSheet::LetValueSame { value, body } => let_body(alloc, terms, value, body, yes),
         // The others wait for a term.
-        TypeSheet::LamDomain { .. }
+        TypeSheet::Passed
+        | TypeSheet::LetType { .. }
+        | TypeSheet::LetTypeSort { .. }
+        | TypeSheet::LetValue { .. }
+        | TypeSheet::LamDomain { .. }
         | TypeSheet::LamDomainSort { .. }
         | TypeSheet::LamBody { .. }
         | TypeSheet::PiDomain { .. }

@@ -5,4 +5,5 @@ pub mod application;
 pub mod binders;
 pub mod constant;
 pub mod infer;
+mod lets;
 pub mod sorts;

@@ -1,7 +1,6 @@
 use Rattle.std.proofs.Common.{rules, refl}
 use Rattle.lk_store.specs.Contents.{list_at, tree_at}
 use Rattle.lk_store.specs.Store.{contents_of}
-use Rattle.lk_env.specs.Places.{place_at}
 use Rattle.lk_type.proofs.Types.{unbuilt_row, typed_row, counted_row}
 use Rattle.lk_type.proofs.constant.constant_type.Goals as goal
 
