@@ -3,3 +3,5 @@
 
 pub mod key;
 pub mod memo;
+#[cfg(test)]
+mod tests;

@@ -1,8 +1,10 @@
 //! The memo.
 
-ghost use Rattle.std.specs.Prelude.{◌≡◌, ◌⊎◌, IfSome, IfOk, Contains, [], true};
+ghost use Rattle.std.specs.Prelude.{◌≡◌, ◌⊎◌, None, IfSome, IfOk, OnOk, OnErr, ℕ, Contains, [], true, false};
 ghost use Rattle.lk_plain.specs.Laws.{IsBelow};
+ghost use Rattle.lk_ask.specs.declared.kept.Kept.{Kept as Answered};
 ghost use Rattle.lk_memo.specs.Keys.{key_of};
+ghost use Rattle.lk_memo.specs.Entries.{IsKept};
 
 use crate::key::{Key, key_of};
 use lk_ask::kept::Kept;
@@ -20,7 +22,8 @@ pub struct PrivateMemo {
 
 /// Whether only units below this one were looked at.
 fn is_below(top: Option<u32>, unit: u32) -> bool
-    ensures { result ≡ true → IsBelow top unit }
+    ensures below { result ≡ true → IsBelow top unit }
+    ensures above { result ≡ false → IsBelow top unit → ⊥ }
 {
     match top {
         None => true,
@@ -53,7 +56,8 @@ impl PrivateMemo {
     /// What is kept of a question, where only units below this one were looked at for it. It takes no memory.
     pub fn find(&mut self, query: Query<u64>, unit: u32) -> Option<Kept>
         ensures found { IfSome result (λ kept. Contains self.old.cache.entries (key_of query, kept)) }
-        ensures below { IfSome result (λ kept. IsBelow kept.top unit) }
+        ensures kept { IfSome result (λ kept. IsKept self.old.cache.entries query unit kept) }
+        ensures none { result ≡ None → (kept : Answered) → IsKept self.old.cache.entries query unit kept → ⊥ }
         ensures entries { (e : _) → Contains self.new.cache.entries e → Contains self.old.cache.entries e }
     {
         let kept = match self.cache.get(&key_of(query)) {
@@ -70,6 +74,8 @@ impl PrivateMemo {
     /// Keeps an answer. Where memory is wanting the memo is as before.
     pub fn keep(&mut self, query: Query<u64>, kept: Kept) -> Result<(), NoMemory>
         ensures entries { (e : _) → Contains self.new.cache.entries e → Contains self.old.cache.entries e ⊎ (e ≡ (key_of query, kept)) }
+        ensures kept { OnOk result ((unit : ℕ) → IsBelow kept.top unit → IsKept self.new.cache.entries query unit kept) }
+        ensures refused { OnErr result (self.new.cache ≡ self.old.cache) }
     {
         match self.cache.put(key_of(query), kept) {
             Ok(_) => Ok(()),
