@@ -3,12 +3,12 @@ use Rattle.std.proofs.Common.{◌≡◌, ℕ, Bool, true, false, Option, None, O
 use Rattle.lk_tree.specs.Tree.{Tree, Level}
 use Rattle.lk_tree.specs.RuleNo.{not_a_sort, value_type, theorem_not_prop}
 use Rattle.lk_tree.specs.Level.{is_zero_level}
-use Rattle.lk_rulebook.specs.Place.{Place}
-use Rattle.lk_rulebook.specs.Units.{Decl, Body, as_axiom, as_thm}
+use Rattle.lk_rulebook.specs.Place.{Place, Hint}
+use Rattle.lk_rulebook.specs.Units.{Decl, Body, as_axiom, as_def, as_thm, as_opaque}
 use Rattle.lk_plain.specs.Query as plain
 use Rattle.lk_plain.specs.Answer.{later}
 use Rattle.lk_plain.specs.Program.{Program, Table, done, refuse, ◌>>=◌}
-use Rattle.lk_plain.specs.Erased.{Value, truth, Steps, asks, with_tree, with_truth, Out, finished, stopped, used_up, seen, go_on, run_steps}
+use Rattle.lk_plain.specs.Erased.{Value, truth, Steps, asks, with_tree, with_truth, Out, finished, stopped, seen, go_on, run_steps}
 use Rattle.lk_plain.proofs.Erasing.{seen_seen, seen_none}
 use Rattle.lk_table.specs.Steps.{as_sort, sort_of, given}
 use Rattle.lk_table.specs.Declarations.{Yes, checked, value_steps, body_steps, unit_steps}
@@ -17,7 +17,7 @@ use Rattle.lk_ask.specs.declared.rule.Rule.TheVariants.{NotASort}
 use Rattle.lk_ask.specs.declared.stop.Stop.{Stop}
 use Rattle.lk_ask.specs.declared.stop.Stop.TheVariants.{Rule, Spent, NoMemory}
 use Rattle.lk_ask.specs.Outcomes.{IsStop}
-use Rattle.lk_engine.specs.Outcomes.{IsAccepted, Passes, Asker, GivesTree, GivesTruth, GivesLevel, GivesSort, unit_steps_of}
+use Rattle.lk_engine.specs.Outcomes.{IsAccepted, Passes, Asker, GivesLevel, GivesSort, typed_steps, unit_steps_of}
 
 -- what is so of a table and a place is so of their equals
 pub moved : (P : Table → Place → Type 0) (t u : Table) (w x : Place) → u ≡ t → x ≡ w → P u x → P t w
@@ -119,6 +119,26 @@ module _ (answer : Asker) where
     pub axiom_stops : (d : Decl) (type : Tree) (b c : ℕ) (stop : Stop) → d.type ≡ type → d.body ≡ as_axiom
         → ((k : Level → Program Yes) → IsStop (unit_run (sort_of type >>= k) b) stop) → IsAccepted (unit_run (unit_steps d) b) c (Err stop)
     axiom_stops d type b c stop e f h = of_declaration d type as_axiom b c (Err stop) e f (h (λ m. done checked))
+
+    -- the type's sort, then the value
+    pub typed_stops : (type value : Tree) (b c : ℕ) (stop : Stop) → ((k : Level → Program Yes) → IsStop (unit_run (sort_of type >>= k) b) stop) → IsAccepted (unit_run (typed_steps type value) b) c (Err stop)
+    typed_stops type value b c stop h = h (λ l. value_steps type value)
+
+    pub typed_goes : (type type' value value' : Tree) (l : Level) (b c left : ℕ) (r : Result (Unit {0}) Stop) → type' ≡ type → value' ≡ value
+        → ((k : Level → Program Yes) → Passes (unit_run (sort_of type >>= k) b) (unit_run (k l) c))
+        → IsAccepted (unit_run (value_steps type' value') c) left r → IsAccepted (unit_run (typed_steps type value) b) left r
+    typed_goes type type' value value' l b c left r same_type same_value sorted h =
+        accepted_passes _ _ left r (passes_on _ _ _ (sorted (λ m. value_steps type value))
+        (passes_same _ _ (ap (λ t. unit_run (value_steps t value) c) (sym same_type) ∙ ap (λ p. unit_run (value_steps type' p) c) (sym same_value)))) h
+
+    -- a definition or an opaque asks just that
+    pub definition_is : (d : Decl) (h : Hint) (type value : Tree) (b left : ℕ) (r : Result (Unit {0}) Stop) → d.type ≡ type → d.body ≡ as_def h value
+        → IsAccepted (unit_run (typed_steps type value) b) left r → IsAccepted (unit_run (unit_steps d) b) left r
+    definition_is d h type value b left r e f i = of_declaration d type (as_def h value) b left r e f i
+
+    pub opaque_is : (d : Decl) (type value : Tree) (b left : ℕ) (r : Result (Unit {0}) Stop) → d.type ≡ type → d.body ≡ as_opaque value
+        → IsAccepted (unit_run (typed_steps type value) b) left r → IsAccepted (unit_run (unit_steps d) b) left r
+    opaque_is d type value b left r e f i = of_declaration d type (as_opaque value) b left r e f i
 
     -- what a theorem asks once its type has a sort
     abbrev proved : Tree → Tree → Level → Program Yes

@@ -4,8 +4,7 @@ use Rattle.std.specs.Prelude.{All}
 use Rattle.std.proofs.lemmas.List.Elements.{All-weaker, All-head, All-tail}
 use Rattle.lk_tree.specs.Tree.{Tree}
 use Rattle.lk_rulebook.specs.Place.{Place}
-use Rattle.lk_plain.specs.Answer.{later}
-use Rattle.lk_plain.specs.Erased.{Value, a_tree, truth, Steps, gives, erased, Out, finished, seen, run_steps, out_of}
+use Rattle.lk_plain.specs.Erased.{Value, a_tree, truth, Steps, gives, erased, finished, seen, run_steps, out_of}
 use Rattle.lk_plain.specs.Program.{Program, ask}
 use Rattle.lk_plain.proofs.Erasing.{later_none, run_from}
 use Rattle.lk_table.specs.Built.{rows, whnf_end}
@@ -14,15 +13,20 @@ use Rattle.lk_store.specs.Contents.{Contents, tree_at, Extends}
 use Rattle.lk_ask.specs.declared.sheet.CoreSheet.{CoreSheet}
 use Rattle.lk_ask.specs.declared.sheet.CoreSheet.TheVariants as core
 use Rattle.lk_ask.specs.declared.sheet.TypeSheet.{TypeSheet}
-use Rattle.lk_ask.specs.declared.sheet.TypeSheet.TheVariants.{LamDomain, LamDomainSort, LamBody, PiDomain, PiDomainSort, PiBody, PiBodySort, Function, FunctionForm, Argument, ArgumentSame}
+use Rattle.lk_ask.specs.declared.sheet.TypeSheet.TheVariants.{Passed, LamDomain, LamDomainSort, LamBody, PiDomain, PiDomainSort, PiBody, PiBodySort, Function, FunctionForm, Argument, ArgumentSame, LetType, LetTypeSort, LetValue, LetValueSame}
+use Rattle.lk_ask.specs.declared.sheet.LazySheet.{LazySheet}
+use Rattle.lk_ask.specs.declared.sheet.LazySheet.TheVariants as lazy
+use Rattle.lk_ask.specs.declared.sheet.ProofSheet.{ProofSheet}
+use Rattle.lk_ask.specs.declared.sheet.ProofSheet.TheVariants as proof
 use Rattle.lk_ask.specs.declared.sheet.SameSheet.{SameSheet}
 use Rattle.lk_ask.specs.declared.sheet.SameSheet.TheVariants as same
 use Rattle.lk_ask.specs.declared.sheet.Sheet.{Sheet}
 use Rattle.lk_ask.specs.declared.sheet.Sheet.TheVariants as sheet
 use Rattle.lk_ask.proofs.Sheets.{sheet_steady, sheet_known}
-use Rattle.lk_core.specs.Forms.{core_rest}
-use Rattle.lk_type.specs.Types.{type_rest, level_in, lam_sorted, pi_sorted, pi_end, applied_rest, applied_argument, applied_end}
-use Rattle.lk_same.specs.Sames.{same_rest, bodies_rest, cores_rest, parts_rest}
+use Rattle.lk_core.specs.Forms.{headed_rest, core_rest}
+use Rattle.lk_type.specs.Types.{type_rest, level_in, lam_sorted, pi_sorted, pi_end, applied_rest, applied_argument, applied_end, let_sorted, let_typed, let_end}
+use Rattle.lk_lazy.specs.Lazies.{lazy_rest, arguments_rest}
+use Rattle.lk_same.specs.Sames.{same_rest, bodies_rest, cores_rest, parts_rest, form_rest, types_rest, proof_rest}
 use Rattle.lk_ask.specs.declared.query.Query.{Query}
 use Rattle.lk_ask.specs.declared.query.Query.TheVariants as query
 use Rattle.lk_ask.specs.declared.query.Answer.{Answer}
@@ -45,13 +49,17 @@ module _ (w : Place) (last : Option ℕ) (b : ℕ) where
   from_program : {A : Type 0} (f : A → Value) (p : Program A) → IsFrom (λ t. erased w f t p)
   from_program f p = run_from rows w f last p b
 
-  core_from : (s : CoreSheet) (v : Value) → IsFrom (λ t. core_rest w t s v)
+  core_from : (s : CoreSheet Tree) (v : Value) → IsFrom (λ t. core_rest w t s v)
   core_from core.Passed (a_tree e) = from_gives (a_tree e)
   core_from core.Passed (truth r) = refl
+  core_from (core.Head a) (a_tree e) = from_program a_tree (headed_rest a e)
+  core_from (core.Head a) (truth r) = refl
   core_from core.WhnfCore (a_tree e) = from_program a_tree (whnf_end e)
   core_from core.WhnfCore (truth r) = refl
 
   type_from : (s : TypeSheet Tree) (v : Value) → IsFrom (λ t. type_rest w t s v)
+  type_from Passed (a_tree v) = from_gives (a_tree v)
+  type_from Passed (truth r) = refl
   type_from (LamDomain A e) (a_tree v) = from_program a_tree (ask (plain.whnf v) (λ S. lam_sorted A e S))
   type_from (LamDomain A e) (truth r) = refl
   type_from (LamDomainSort A e) (a_tree v) = from_program a_tree (lam_sorted A e v)
@@ -74,6 +82,32 @@ module _ (w : Place) (last : Option ℕ) (b : ℕ) where
   type_from (Argument A e a) (truth r) = refl
   type_from (ArgumentSame e a) (a_tree v) = refl
   type_from (ArgumentSame e a) (truth r) = from_program a_tree (applied_end e a r)
+  type_from (LetType A x e) (a_tree v) = from_program a_tree (ask (plain.whnf v) (λ S. let_sorted A x e S))
+  type_from (LetType A x e) (truth r) = refl
+  type_from (LetTypeSort A x e) (a_tree v) = from_program a_tree (let_sorted A x e v)
+  type_from (LetTypeSort A x e) (truth r) = refl
+  type_from (LetValue A x e) (a_tree v) = from_program a_tree (let_typed A x e v)
+  type_from (LetValue A x e) (truth r) = refl
+  type_from (LetValueSame x e) (a_tree v) = refl
+  type_from (LetValueSame x e) (truth r) = from_program a_tree (let_end x e r)
+
+  lazy_from : (s : LazySheet Tree) (v : Value) → IsFrom (λ t. lazy_rest w t s v)
+  lazy_from lazy.Passed (a_tree v) = refl
+  lazy_from lazy.Passed (truth r) = from_gives (truth r)
+  lazy_from (lazy.Arguments x y ps) (a_tree v) = refl
+  lazy_from (lazy.Arguments x y ps) (truth q) = from_program truth (arguments_rest w x y ps q)
+
+  proof_from : (s : ProofSheet Tree) (v : Value) → IsFrom (λ t. proof_rest w t s v)
+  proof_from (proof.Left x y) (a_tree A) = from_program truth (ask (plain.infer A) (λ K. ask (plain.whnf K) (λ S. form_rest x y A S)))
+  proof_from (proof.Left x y) (truth q) = refl
+  proof_from (proof.LeftSort x y A) (a_tree K) = from_program truth (ask (plain.whnf K) (λ S. form_rest x y A S))
+  proof_from (proof.LeftSort x y A) (truth q) = refl
+  proof_from (proof.LeftSortForm x y A) (a_tree S) = from_program truth (form_rest x y A S)
+  proof_from (proof.LeftSortForm x y A) (truth q) = refl
+  proof_from (proof.Right x y A) (a_tree B) = from_program truth (ask (plain.same A B) (λ q. types_rest x y q))
+  proof_from (proof.Right x y A) (truth q) = refl
+  proof_from (proof.Types x y) (a_tree v) = refl
+  proof_from (proof.Types x y) (truth q) = from_program truth (types_rest x y q)
 
   same_from : (s : SameSheet Tree) (v : Value) → IsFrom (λ t. same_rest w t s v)
   same_from same.Passed (a_tree v) = refl
@@ -86,6 +120,8 @@ module _ (w : Place) (last : Option ℕ) (b : ℕ) where
   same_from (same.CoreRight x y e) (truth q) = refl
   same_from (same.Parts ps) (a_tree v) = refl
   same_from (same.Parts ps) (truth q) = from_program truth (parts_rest ps q)
+  same_from (same.Proof s) v = proof_from s v
+  same_from (same.Lazy s) v = lazy_from s v
 
   pub sheet_from : (s : Sheet Tree) (v : Value) → run_steps (out_of rows w) (sheet_rest w last s v) b ≡ seen last (run_steps (out_of rows w) (sheet_rest w None s v) b)
   sheet_from (sheet.Core s) v = core_from s v

@@ -2,4 +2,3 @@ pub mod Asking
 pub mod Frames
 pub mod Links
 pub mod Outcomes
-pub mod ZeroWalks

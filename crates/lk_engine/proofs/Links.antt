@@ -3,11 +3,10 @@ use Rattle.std.proofs.Common.{◌≡◌, ℕ, ◌-◌, ◌<◌, ◌≤◌, List,
 use Rattle.std.specs.Prelude.{All, Contains}
 use Rattle.std.proofs.lemmas.List.Elements.{All-push, All-pop}
 use Rattle.lk_tree.specs.Tree.{Tree}
-use Rattle.lk_tree.specs.RuleNo.{RuleNo}
 use Rattle.lk_rulebook.specs.Place.{Place}
 use Rattle.lk_plain.specs.Query as plain
 use Rattle.lk_plain.specs.Answer.{later}
-use Rattle.lk_plain.specs.Erased.{Value, Out, finished, stopped, used_up, seen, go_on, run_steps, out_of, steps_of, IsAnsweredAt}
+use Rattle.lk_plain.specs.Erased.{Value, Out, finished, stopped, used_up, seen, go_on, run_steps, out_of, steps_of}
 use Rattle.lk_plain.proofs.Erasing.{out-zero, out-step, seen_seen}
 use Rattle.lk_plain.proofs.Exact.{out_exact}
 use Rattle.lk_table.specs.Built.{rows}

@@ -1,4 +1,3 @@
 pub mod Entries
 pub mod Outcomes
 pub mod Rests
-pub mod Zeros

@@ -7,7 +7,7 @@ use Rattle.lk_plain.specs.Query as plain
 use Rattle.lk_plain.specs.Program.{Program, done, refuse, ◌>>=◌}
 use Rattle.lk_plain.specs.Erased.{truth, Steps, asks, with_tree, with_truth, erased, Out, finished, seen, run_steps}
 use Rattle.lk_table.specs.Steps.{as_sort, sort_of}
-use Rattle.lk_table.specs.Declarations.{Yes}
+use Rattle.lk_table.specs.Declarations.{Yes, value_steps}
 use Rattle.lk_store.specs.Contents.{Contents, level_at, tree_at}
 use Rattle.lk_ask.specs.declared.rule.Rule.TheVariants.{NotASort}
 use Rattle.lk_ask.specs.declared.stop.Stop.{Stop}
@@ -22,6 +22,10 @@ IsAccepted o left (Err stop) = IsStop o stop
 -- the steps of a unit's program
 abbrev pub unit_steps_of : Place → Program Yes → Steps
 unit_steps_of w p = erased w (λ y. truth true) None p
+
+-- the type's sort, then the value
+abbrev pub typed_steps : Tree → Tree → Program Yes
+typed_steps type value = sort_of type >>= λ l. value_steps type value
 
 -- the one outcome is the other, after units were looked at
 abbrev pub Passes : Out → Out → Type 0

@@ -1,18 +1,19 @@
 //! The questions of a declaration: its type has a sort, and its value is of that type.
 
 ghost use Rattle.std.specs.Prelude.{◌≡◌, ◌<◌, length, IfOk};
-ghost use Rattle.lk_rulebook.specs.Units.{Decl, as_axiom, as_thm};
+ghost use Rattle.lk_rulebook.specs.Place.{Hint};
+ghost use Rattle.lk_rulebook.specs.Units.{Decl, as_axiom, as_def, as_thm, as_opaque};
 ghost use Rattle.lk_table.specs.Declarations.{unit_steps, value_steps};
 ghost use Rattle.lk_plain.specs.Erased.{out_of, run_steps};
 ghost use Rattle.lk_store.specs.Contents.{tree_at, Extends};
 ghost use Rattle.lk_ask.specs.Questions.{query_of, IsKnownQuery};
-ghost use Rattle.lk_engine.specs.Outcomes.{GivesTree, GivesTruth, GivesSort, GivesLevel, IsAccepted, unit_steps_of};
+ghost use Rattle.lk_engine.specs.Outcomes.{GivesTree, GivesTruth, GivesSort, GivesLevel, IsAccepted, typed_steps, unit_steps_of};
 
-use crate::levels::is_zero;
 use lk_ask::asks::Asks;
 use lk_ask::query::{Answer, Query};
 use lk_ask::rule::Rule;
 use lk_ask::stop::Stop;
+use lk_same::zero::is_zero;
 use lk_store::node::Node;
 use lk_store::terms::Terms;
 use std::alloc::Global;
@@ -119,6 +120,47 @@ pub fn check_axiom<A: Asks>(asks: &mut A, kind: u64) -> Result<(), Stop>
         Ok(_) => Ok(()),
         Err(stop) => Err(stop),
     }
+}
+
+/// Asks for the sort of a type, and whether a value is of that type.
+fn check_typed<A: Asks>(asks: &mut A, kind: u64, value: u64) -> Result<(), Stop>
+    requires kind_in { kind < length (A.contents asks.old).trees }
+    requires value_in { value < length (A.contents asks.old).trees }
+    ensures rest { A.rest asks.new ≡ A.rest asks.old }
+    ensures table { A.table asks.new ≡ A.table asks.old }
+    ensures place { A.place asks.new ≡ A.place asks.old }
+    ensures outcome { IsAccepted (run_steps (out_of (A.table asks.old) (A.place asks.old)) (unit_steps_of (A.place asks.old) (typed_steps (tree_at (A.contents asks.old) kind) (tree_at (A.contents asks.old) value))) (A.left asks.old)) (A.left asks.new) result }
+{
+    match sort_of(asks, kind) {
+        Ok(_) => check_value(asks, kind, value),
+        Err(stop) => Err(stop),
+    }
+}
+
+/// Asks the questions of a definition: its type has a sort, and its value is of that type. Its hint is not looked at.
+pub fn check_definition<A: Asks>(asks: &mut A, kind: u64, value: u64) -> Result<(), Stop>
+    requires kind_in { kind < length (A.contents asks.old).trees }
+    requires value_in { value < length (A.contents asks.old).trees }
+    ensures rest { A.rest asks.new ≡ A.rest asks.old }
+    ensures table { A.table asks.new ≡ A.table asks.old }
+    ensures place { A.place asks.new ≡ A.place asks.old }
+    ensures outcome { (d : Decl) (h : Hint) → d.type ≡ tree_at (A.contents asks.old) kind → d.body ≡ as_def h (tree_at (A.contents asks.old) value)
+        → IsAccepted (run_steps (out_of (A.table asks.old) (A.place asks.old)) (unit_steps_of (A.place asks.old) (unit_steps d)) (A.left asks.old)) (A.left asks.new) result }
+{
+    check_typed(asks, kind, value)
+}
+
+/// Asks the questions of an opaque: its type has a sort, and its value is of that type.
+pub fn check_opaque<A: Asks>(asks: &mut A, kind: u64, value: u64) -> Result<(), Stop>
+    requires kind_in { kind < length (A.contents asks.old).trees }
+    requires value_in { value < length (A.contents asks.old).trees }
+    ensures rest { A.rest asks.new ≡ A.rest asks.old }
+    ensures table { A.table asks.new ≡ A.table asks.old }
+    ensures place { A.place asks.new ≡ A.place asks.old }
+    ensures outcome { (d : Decl) → d.type ≡ tree_at (A.contents asks.old) kind → d.body ≡ as_opaque (tree_at (A.contents asks.old) value)
+        → IsAccepted (run_steps (out_of (A.table asks.old) (A.place asks.old)) (unit_steps_of (A.place asks.old) (unit_steps d)) (A.left asks.old)) (A.left asks.new) result }
+{
+    check_typed(asks, kind, value)
 }
 
 /// Asks the questions of a theorem: the sort of its type is 0, and its proof is of that type.

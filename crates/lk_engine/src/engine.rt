@@ -76,11 +76,20 @@ impl<'a> Engine<'a> {
         ensures site { self.new.1.unit ≡ unit }
         ensures contents { contents_of (over self.new.2.0 self.new.2.1) ≡ contents_of self.old.0.0 }
         ensures left { self.new.3.left ≡ budget }
+        ensures turns { self.new.3.turns ≡ 0 }
     {
         self.site = Site { unit };
         self.terms.clear();
         self.memo.clear();
         self.meter = Meter::new(budget);
+    }
+
+    /// How many questions were opened for the unit that was begun last, those of which an answer was kept among them. At
+    /// the greatest number it stays.
+    pub fn turns(&self) -> u64
+        ensures { result ≡ self.now.3.turns }
+    {
+        self.meter.turns
     }
 }
 

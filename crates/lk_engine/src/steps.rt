@@ -8,8 +8,8 @@ ghost use Rattle.lk_store.specs.Store.{contents_of};
 ghost use Rattle.lk_env.specs.Places.{place_at};
 ghost use Rattle.lk_ask.specs.Questions.{value_at, IsKnownQuery, IsKnownAnswer};
 ghost use Rattle.lk_ask.specs.Nexts.{IsKnownNext};
-ghost use Rattle.lk_ask.specs.Sheets.{map_sheet, IsKnownType, IsKnownSame, IsKnownSheet};
-ghost use Rattle.lk_core.specs.Forms.{core_next, IsKnownCore};
+ghost use Rattle.lk_ask.specs.Sheets.{map_sheet, IsKnownCore, IsKnownType, IsKnownSame, IsKnownSheet};
+ghost use Rattle.lk_core.specs.Forms.{core_next};
 ghost use Rattle.lk_type.specs.Types.{type_next};
 ghost use Rattle.lk_same.specs.Sames.{same_next};
 ghost use Rattle.lk_engine.specs.Rests.{sheet_rest, next_of, query_steps};
@@ -131,7 +131,7 @@ pub fn resume<T: Terms>(
             Ok(of_type(next))
         }
         Sheet::Same(kept) => {
-            let next = lk_same::same::resume(alloc, terms, kept, answer)?;
+            let next = lk_same::same::resume(alloc, library, site, terms, meter, kept, answer)?;
             Ok(of_same(next))
         }
     }

@@ -1,42 +1,28 @@
-use Rattle.std.proofs.Common.{rules, arith, ◌≡◌, ◌<◌, ◌++◌, ◌∷◌, [], ◌∙◌}
-use Rattle.lk_store.proofs.Extending.{Extends-trans}
-use Rattle.lk_engine.proofs.Frames.{entries_steady}
-use Rattle.lk_engine.proofs.Links.{linked_asks, linked_left, linked_true, linked_resumes, linked_refused, linked_stops, top_known, entries_more}
+use Rattle.std.proofs.Common.{◌≡◌, ℕ, Ok, Err}
+use Rattle.std.specs.Prelude.{Result, IfOk}
+use Rattle.lk_ask.specs.declared.query.Answer.{Answer}
+use Rattle.lk_ask.specs.declared.stop.Stop.{Stop}
+use Rattle.lk_ask.specs.Questions.{IsKnownAnswer}
+use Rattle.lk_engine.proofs.Links.{entries_fewer, true_at}
 use Rattle.lk_engine.proofs.answering.answer.Goals as goal
 
-pub returns-in-Err-open-clause-outcome : goal.returns-in-Err-open-clause-outcome
-returns-in-Err-open-clause-outcome g c = linked_stops c.work.invariant.linked c.in-Err-open.stop c.in-Ask.is c.in-Err-open.ensures.err
+-- what is answered is what was kept
+kept_known : (n : ℕ) (kept : Answer ℕ) (r : Result (Answer ℕ) Stop) → IfOk r (λ answer. answer ≡ kept) → IsKnownAnswer n kept → IfOk r (IsKnownAnswer n)
+kept_known n kept (Ok answer) is h = rw is h
+kept_known n kept (Err stop) is h = tt
 
-pub work-preserved-in-Ask : goal.work-preserved-in-Ask
-work-preserved-in-Ask g c = record {
-  grown = Extends-trans _ _ _ c.work.invariant.grown c.open-in-Ask.ensures.keeps;
-  rest = c.open-in-Ask.ensures.rest ∙ c.work.invariant.rest;
-  entries = c.open-in-Ask.ensures.entries;
-  linked = linked_asks c.work.invariant.linked c.in-Ask.is (search rules) c.open-in-Ask.ensures.keeps c.in-Ok-open.ensures.known c.in-Ok-open.ensures.next;
-}
+pub work-requires-clause-entries : goal.work-requires-clause-entries
+work-requires-clause-entries g c = entries_fewer _ _ _ _ c.requires.entries c.find.ensures.entries
 
-pub overflow_sub-cost : goal.overflow_sub-cost
-overflow_sub-cost g c = linked_left c.work.invariant.linked c.in-Done.is
+pub returns-in-Some-clause-entries : goal.returns-in-Some-clause-entries
+returns-in-Some-clause-entries g c = entries_fewer _ _ _ _ c.requires.entries c.find.ensures.entries
 
-pub returns-in-None-clause-entries : goal.returns-in-None-clause-entries
-returns-in-None-clause-entries g c = entries_more _ _ _ _ _ _ c.work.invariant.entries c.keep.ensures (linked_true c.work.invariant.linked c.in-Done.is)
+pub returns-in-Some-clause-known : goal.returns-in-Some-clause-known
+returns-in-Some-clause-known g c =
+    let h = true_at _ _ _ _ _ c.requires.entries c.in-Some.ensures.found in
+    kept_known _ _ c.again.result c.again.ensures.answer h.answer
 
-pub resume-requires-clause-sheet_in : goal.resume-requires-clause-sheet_in
-resume-requires-clause-sheet_in g c = (top_known c.work.invariant.linked c.pop.new.self.items c.in-Some.frame (search rules)).sheet
-
-pub returns-in_err-next-in-Some-clause-entries : goal.returns-in_err-next-in-Some-clause-entries
-returns-in_err-next-in-Some-clause-entries g c = entries_steady c.resume.ensures.keeps _ _ (entries_more _ _ _ _ _ _ c.work.invariant.entries c.keep.ensures (linked_true c.work.invariant.linked c.in-Done.is))
-
-pub work-preserved : goal.work-preserved
-work-preserved g c =
-    let kept : c.resume.new.meter.left ≡ c.work.meter.left = c.resume.ensures.left ∙ c.note_before.ensures.left in
-    let resumed = linked_resumes c.work.invariant.linked c.pop.new.self.items c.in-Some.frame c.in-Done.is (search rules) c.note_before.ensures.last c.resume.ensures.keeps c.in_ok-next-in-Some.ensures.known c.in_ok-next-in-Some.ensures.steps in
-    record {
-      grown = Extends-trans _ _ _ c.work.invariant.grown c.resume.ensures.keeps;
-      rest = c.resume.ensures.rest ∙ c.work.invariant.rest;
-      entries = entries_steady c.resume.ensures.keeps _ _ (entries_more _ _ _ _ _ _ c.work.invariant.entries c.keep.ensures (linked_true c.work.invariant.linked c.in-Done.is));
-      linked = rw kept resumed;
-    }
-
-pub returns-in-No-clause-outcome : goal.returns-in-No-clause-outcome
-returns-in-No-clause-outcome g c = linked_refused c.work.invariant.linked c.in-No.is
+pub returns-in-Some-clause-outcome : goal.returns-in-Some-clause-outcome
+returns-in-Some-clause-outcome g c =
+    let h = true_at _ _ _ _ _ c.requires.entries c.in-Some.ensures.found in
+    c.again.ensures.exact (g.T.Terms.contents c.args.terms.now) _ h.is

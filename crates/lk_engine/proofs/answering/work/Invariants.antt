@@ -4,7 +4,7 @@ use Rattle.lk_env.specs.Places.{place_at}
 use Rattle.lk_ask.specs.Questions.{query_of}
 use Rattle.lk_engine.specs.Entries.{AreTrue}
 use Rattle.lk_engine.proofs.Links.{IsLinked}
-use Rattle.lk_engine.proofs.answering.answer.Given as goal
+use Rattle.lk_engine.proofs.answering.work.Given as goal
 
 abbrev pub invariant-work : goal.invariant-work
 invariant-work g l =
