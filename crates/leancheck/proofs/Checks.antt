@@ -2,15 +2,12 @@
 use Rattle.std.proofs.Common.{◌≡◌, ℕ, suc, ◌+◌, inl, inr, List, [], ◌∷◌, ◌++◌, length, map, refl, ap, sym, subst, ◌∙◌, arith, append_assoc}
 use Rattle.std.specs.Prelude.{slice_get, Some}
 use Rattle.std.proofs.lemmas.List.{map-append, length-map, append-nil}
-use Rattle.lk_rulebook.specs.Units.{Decl, LibraryUnit, of_decl, Library}
+use Rattle.lk_rulebook.specs.Units.{LibraryUnit, Library}
 use Rattle.lk_verdict.specs.GoodUnit.{IsClearLibrary}
 use Rattle.lk_verdict.specs.Told.{Verdict, IsVerdict, AreVerdicts}
-use Rattle.lk_verdict.proofs.Spelled.{spelled_clear}
 use Rattle.lk_store.specs.Contents.{Contents}
 use Rattle.lk_env.specs.declared.unit.Unit.{Unit as StoredUnit}
 use Rattle.lk_env.specs.Units.{unit_at, library_at}
-use Rattle.lk_units.specs.Built.{IsBuiltUnit, AllBuilt}
-use Rattle.lk_book.proofs.Spelled.{spelled}
 use Rattle.leancheck.specs.Rows.{row_verdict}
 use Rattle.leancheck.specs.declared.checking.Verdict.{Verdict as HeldVerdict}
 use Rattle.leancheck.specs.Held.{verdict, IsPlain}
@@ -34,34 +31,22 @@ unit_there : (done : Library) (u : LibraryUnit) (more : Library) → slice_get (
 unit_there [] u more = refl
 unit_there (x ∷ done) u more = unit_there done u more
 
-built_there : (done : Library) (u : LibraryUnit) (more : Library) → AllBuilt (done ++ u ∷ more) → IsBuiltUnit u
-built_there [] u more b = b.0
-built_there (x ∷ done) u more b = built_there done u more b.1
-
--- what judging a unit says
-abbrev pub Judged : Library → ℕ → ℕ → LibraryUnit → HeldVerdict → Type 0
-Judged all steps n u v = (d : Decl) → u ≡ of_decl d → IsPlain (row_verdict all steps n d) v
-
-decl_is : (steps : ℕ) (all : Library) → IsClearLibrary all → (n : ℕ) (d : Decl) (v : HeldVerdict) → slice_get all n ≡ Some (of_decl d) → IsBuiltUnit (of_decl d) → IsPlain (row_verdict all steps n d) v → IsVerdict all steps n (verdict v)
-decl_is steps all c n d v there b (inl e) = verdict_plain all c steps n d (verdict v) there b e
-decl_is steps all c n d v there b (inr e) = verdict_memory all steps n (verdict v) e
-
-verdict_is : (steps : ℕ) (all : Library) → IsClearLibrary all → (n : ℕ) (u : LibraryUnit) (v : HeldVerdict) → slice_get all n ≡ Some u → IsBuiltUnit u → Judged all steps n u v → IsVerdict all steps n (verdict v)
-verdict_is steps all c n (of_decl d) v there b judged = decl_is steps all c n d v there b (judged d refl)
-verdict_is steps all c n _ v there b judged = absurd b
+verdict_is : (steps : ℕ) (all : Library) → IsClearLibrary all → (n : ℕ) (u : LibraryUnit) (v : HeldVerdict) → slice_get all n ≡ Some u → IsPlain (row_verdict all steps n u) v → IsVerdict all steps n (verdict v)
+verdict_is steps all c n u v there (inl e) = verdict_plain all c steps n u (verdict v) there e
+verdict_is steps all c n u v there (inr e) = verdict_memory all steps n (verdict v) e
 
 -- the verdicts of the units that are done, in front of those that are left
 pub record Progress (steps : ℕ) (c : Contents) (units : List StoredUnit) (vs : List HeldVerdict) (rest : List StoredUnit) : Type 0 where
   pub done : List StoredUnit
   pub split : units ≡ done ++ rest
-  pub are : AllBuilt (library_at c units) → AreVerdicts (library_at c units) steps 0 (library_at c done) (map verdict vs)
+  pub are : IsClearLibrary (library_at c units) → AreVerdicts (library_at c units) steps 0 (library_at c done) (map verdict vs)
 
 pub progress_begin : (steps : ℕ) (c : Contents) (units rest : List StoredUnit) → rest ≡ units → Progress steps c units [] rest
-progress_begin steps c units rest e = record { done = []; split = sym e; are = λ b. tt }
+progress_begin steps c units rest e = record { done = []; split = sym e; are = λ clear. tt }
 
 -- behind the first unit of those that are left
 pub progress_more : (steps : ℕ) (c : Contents) (units : List StoredUnit) (vs new : List HeldVerdict) (v : HeldVerdict) (n : ℕ) (u : StoredUnit) (rest more : List StoredUnit)
-    → Progress steps c units vs rest → rest ≡ u ∷ more → new ≡ vs ++ v ∷ [] → n ≡ length vs → Judged (library_at c units) steps n (unit_at c u) v → Progress steps c units new more
+    → Progress steps c units vs rest → rest ≡ u ∷ more → new ≡ vs ++ v ∷ [] → n ≡ length vs → IsPlain (row_verdict (library_at c units) steps n (unit_at c u)) v → Progress steps c units new more
 progress_more steps c units vs new v n u rest more p cut pushed count judged =
     let whole : units ≡ p.done ++ u ∷ more = p.split ∙ ap (λ l. p.done ++ l) cut in
     let all = library_at c units in
@@ -70,12 +55,11 @@ progress_more steps c units vs new v n u rest more p cut pushed count judged =
     record {
       done = p.done ++ u ∷ [];
       split = whole ∙ sym (append_assoc p.done (u ∷ []) more);
-      are = λ built.
-          let are = p.are built in
+      are = λ clear.
+          let are = p.are clear in
           let number : n ≡ length said = count ∙ sym (length-map vs verdict) ∙ sym (are_length steps all 0 said (map verdict vs) are) in
           let there : slice_get all n ≡ Some (unit_at c u) = ap (λ x. slice_get x n) parted ∙ ap (slice_get (said ++ unit_at c u ∷ library_at c more)) number ∙ unit_there said (unit_at c u) (library_at c more) in
-          let clear = spelled_clear all (spelled all built) in
-          let is = verdict_is steps all clear n (unit_at c u) v there (built_there said (unit_at c u) (library_at c more) (subst AllBuilt parted built)) judged in
+          let is = verdict_is steps all clear n (unit_at c u) v there judged in
           let from_zero : n ≡ 0 + length said = number ∙ omega arith in
           let longer = are_push steps all 0 said (map verdict vs) (unit_at c u) (verdict v) are (subst (λ m. IsVerdict all steps m (verdict v)) from_zero is) in
           let by_units = subst (λ l. AreVerdicts all steps 0 l (map verdict vs ++ verdict v ∷ [])) (sym (map-append (unit_at c) p.done (u ∷ []))) longer in
@@ -87,7 +71,7 @@ none_left [] e = refl
 none_left (u ∷ rest) e = absurd (omega arith)
 
 -- behind the last unit
-pub progress_done : (steps : ℕ) (c : Contents) (units : List StoredUnit) (vs : List HeldVerdict) (rest : List StoredUnit) → rest ≡ [] → Progress steps c units vs rest → AllBuilt (library_at c units) → AreVerdicts (library_at c units) steps 0 (library_at c units) (map verdict vs)
-progress_done steps c units vs rest none p built =
+pub progress_done : (steps : ℕ) (c : Contents) (units : List StoredUnit) (vs : List HeldVerdict) (rest : List StoredUnit) → rest ≡ [] → Progress steps c units vs rest → IsClearLibrary (library_at c units) → AreVerdicts (library_at c units) steps 0 (library_at c units) (map verdict vs)
+progress_done steps c units vs rest none p clear =
     let whole : units ≡ p.done = p.split ∙ ap (λ l. p.done ++ l) none ∙ append-nil p.done in
-    subst (λ l. AreVerdicts (library_at c units) steps 0 (library_at c l) (map verdict vs)) (sym whole) (p.are built)
+    subst (λ l. AreVerdicts (library_at c units) steps 0 (library_at c l) (map verdict vs)) (sym whole) (p.are clear)

@@ -1,25 +1,36 @@
--- One declaration after the tests of its names.
-use Rattle.std.proofs.Common.{◌≡◌, ℕ, inl, Bool, true, false, [], refl, sym, subst, ◌∙◌}
-use Rattle.lk_tree.specs.Scan.{none_twice}
+-- One unit after the tests of its names and of its own lines.
+use Rattle.std.proofs.Common.{◌≡◌, ℕ, inl, inr, Bool, true, false, [], None, Err, refl, sym, subst, ◌∙◌}
 use Rattle.lk_rulebook.specs.Place.{Place}
-use Rattle.lk_rulebook.specs.Units.{Decl, Library, place_of}
-use Rattle.lk_ask.specs.declared.rule.Rule.TheVariants.{DuplicateLevel}
-use Rattle.leancheck.specs.Rows.{is_new, checked_of, row_verdict}
+use Rattle.lk_rulebook.specs.Units.{LibraryUnit, Library, members_of, place_of}
+use Rattle.lk_rulebook.specs.Scan.{are_new, own_scan}
+use Rattle.lk_ask.specs.declared.rule.Rule.TheVariants.{DuplicateName}
+use Rattle.lk_scan.specs.declared.scan.ScanError.{ScanError}
+use Rattle.lk_scan.specs.declared.scan.ScanError.TheVariants as error
+use Rattle.lk_scan.specs.Scans.{IsScan}
+use Rattle.leancheck.specs.Rows.{asked_of, scanned_of, row_verdict}
 use Rattle.leancheck.specs.declared.checking.Verdict.{Verdict as HeldVerdict}
 use Rattle.leancheck.specs.declared.checking.Verdict.TheVariants.{No}
-use Rattle.leancheck.specs.Held.{IsPlain}
+use Rattle.leancheck.specs.Held.{IsPlain, scan_verdict}
 
--- its name is new, and whether its level parameters are different
-module _ (us : Library) (budget n : ℕ) (d : Decl) where
-  pub judged_twice : (new different : Bool) → new ≡ true → new ≡ is_new us n d.name → different ≡ false → different ≡ none_twice d.levels → IsPlain (row_verdict us budget n d) (No DuplicateLevel)
-  judged_twice new different fresh is twice are =
-      let tested : is_new us n d.name ≡ true = sym is ∙ fresh in
-      let said : none_twice d.levels ≡ false = sym are ∙ twice in
-      rw (tested, said) (inl refl)
+-- what its own lines break
+module _ (w : Place) (budget : ℕ) (u : LibraryUnit) where
+  pub refused : (e : ScanError) → IsScan (own_scan u) (Err e) → IsPlain (scanned_of w budget u) (scan_verdict e)
+  refused error.DuplicateLevel h = rw (h, scanned_of) (inl refl)
+  refused error.LooseVariable h = rw (h, scanned_of) (inl refl)
+  refused error.UndeclaredLevel h = rw (h, scanned_of) (inl refl)
+  refused error.WideLiteral h = rw (h, scanned_of) (inl refl)
+  refused error.NoMemory h = inr refl
 
-  pub judged_new : (new different : Bool) (w : Place) (v : HeldVerdict) → new ≡ true → new ≡ is_new us n d.name → different ≡ true → different ≡ none_twice d.levels → w ≡ place_of us n []
-      → IsPlain (checked_of w budget d) v → IsPlain (row_verdict us budget n d) v
-  judged_new new different w v fresh is once are here h =
-      let tested : is_new us n d.name ≡ true = sym is ∙ fresh in
-      let said : none_twice d.levels ≡ true = sym are ∙ once in
-      rw (tested, said) (subst (λ p. IsPlain (checked_of p budget d) v) here h)
+  pub passed : (v : HeldVerdict) → own_scan u ≡ None → IsPlain (asked_of w budget u) v → IsPlain (scanned_of w budget u) v
+  passed v e h = rw (e, scanned_of) h
+
+-- its names, and then the rest
+module _ (us : Library) (budget n : ℕ) (u : LibraryUnit) where
+  pub judged_twice : (new : Bool) → new ≡ false → new ≡ are_new us n (members_of u) → IsPlain (row_verdict us budget n u) (No DuplicateName)
+  judged_twice new old is = let tested : are_new us n (members_of u) ≡ false = sym is ∙ old in rw tested (inl refl)
+
+  pub judged_new : (new : Bool) (w : Place) (v : HeldVerdict) → new ≡ true → new ≡ are_new us n (members_of u) → w ≡ place_of us n []
+      → IsPlain (scanned_of w budget u) v → IsPlain (row_verdict us budget n u) v
+  judged_new new w v fresh is here h =
+      let tested : are_new us n (members_of u) ≡ true = sym is ∙ fresh in
+      rw tested (subst (λ p. IsPlain (scanned_of p budget u) v) here h)

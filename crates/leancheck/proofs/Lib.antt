@@ -6,8 +6,6 @@ pub mod Shown
 pub mod Joined
 pub mod Naming
 pub mod Components
-pub mod Taken
 pub mod Verdicts
 pub mod WordLaws
-pub mod Distinct
 pub mod Files

@@ -3,6 +3,9 @@ use Rattle.std.specs.Prelude.{◌≡◌, ◌⊎◌, Result, Ok, Err}
 use Rattle.lk_ask.specs.declared.stop.Stop.{Stop}
 use Rattle.lk_ask.specs.declared.stop.Stop.TheVariants.{Rule, Spent, NoMemory}
 use Rattle.lk_ask.specs.Questions.{rule_no}
+use Rattle.lk_ask.specs.declared.rule.Rule.TheVariants.{DuplicateLevel, LooseVariable, UndeclaredLevel, WideLiteral}
+use Rattle.lk_scan.specs.declared.scan.ScanError.{ScanError}
+use Rattle.lk_scan.specs.declared.scan.ScanError.TheVariants as error
 use Rattle.lk_verdict.specs.Told.{Verdict, accepted, rejected, out_of_steps, out_of_memory}
 use Rattle.leancheck.specs.declared.checking.Verdict.{Verdict as HeldVerdict}
 use Rattle.leancheck.specs.declared.checking.Verdict.TheVariants.{Yes, No, Steps, Memory}
@@ -16,6 +19,14 @@ verdict Memory = out_of_memory
 -- the plain verdict, or memory in its place
 abbrev pub IsPlain : Verdict → HeldVerdict → Type 0
 IsPlain plain v = (verdict v ≡ plain) ⊎ (verdict v ≡ out_of_memory)
+
+-- the verdict of a unit that breaks a rule by its own lines
+abbrev pub scan_verdict : ScanError → HeldVerdict
+scan_verdict error.DuplicateLevel = No DuplicateLevel
+scan_verdict error.LooseVariable = No LooseVariable
+scan_verdict error.UndeclaredLevel = No UndeclaredLevel
+scan_verdict error.WideLiteral = No WideLiteral
+scan_verdict error.NoMemory = Memory
 
 -- the verdict that the outcome of a declaration's questions gives
 abbrev pub result_verdict : Result (Unit {0}) Stop → HeldVerdict

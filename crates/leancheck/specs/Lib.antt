@@ -2,7 +2,6 @@ pub mod Command
 pub mod Ends
 pub mod Held
 pub mod Names
-pub mod Different
 pub mod Text
 pub mod Words
 pub mod Rows

@@ -1,31 +1,30 @@
 //! The verdicts of a library's units, in their order.
 
-ghost use Rattle.std.specs.Prelude.{◌≡◌, ◌<◌, List, length, map, IfOk};
-ghost use Rattle.lk_tree.specs.Tree.{Name};
-ghost use Rattle.lk_rulebook.specs.Units.{Decl, of_decl, body_trees, trees_of, all_bound};
+ghost use Rattle.std.specs.Prelude.{◌≡◌, ◌<◌, length, map, IfOk};
+ghost use Rattle.lk_rulebook.specs.Units.{Decl};
+ghost use Rattle.lk_verdict.specs.GoodUnit.{IsClearLibrary};
 ghost use Rattle.lk_table.specs.Built.{rows};
 ghost use Rattle.lk_verdict.specs.Told.{AreVerdicts};
-ghost use Rattle.lk_store.specs.Contents.{name_at, tree_at};
+ghost use Rattle.lk_store.specs.Contents.{tree_at};
 ghost use Rattle.lk_store.specs.Store.{contents_of};
-ghost use Rattle.lk_env.specs.Units.{body_at, declaration_at, unit_at, library_of, IsStatedIn, IsBodyIn, IsUnitIn};
+ghost use Rattle.lk_env.specs.Units.{body_at, unit_at, library_of, IsBodyIn, IsUnitIn};
 ghost use Rattle.lk_env.specs.Places.{place_at};
-ghost use Rattle.lk_units.specs.Built.{AllBuilt};
-ghost use Rattle.leancheck.specs.Rows.{is_new, built_of, checked_of, row_verdict};
-ghost use Rattle.leancheck.specs.Held.{verdict, result_verdict, IsPlain};
+ghost use Rattle.leancheck.specs.Rows.{built_of, asked_of, scanned_of, row_verdict};
+ghost use Rattle.leancheck.specs.Held.{verdict, result_verdict, scan_verdict, IsPlain};
 
-use crate::different::none_twice;
 use lk_ask::asks::Asks;
 use lk_ask::rule::Rule;
 use lk_ask::stop::Stop;
-use lk_engine::declaration::{check_axiom, check_theorem};
+use lk_engine::declaration::{check_axiom, check_definition, check_opaque, check_theorem};
 use lk_engine::engine::Engine;
-use lk_env::closed;
 use lk_env::library::Library;
-use lk_env::unit::{Body, Declaration, Unit};
+use lk_env::unit::{Body, Unit};
 use lk_memo::memo::PrivateMemo;
 use lk_port::Gate;
 use lk_rows::memory::NoMemory;
-use lk_store::terms::Terms;
+use lk_scan::names::are_new;
+use lk_scan::scan::{ScanError, scan};
+use lk_store::base_store::BaseStore;
 use std::alloc::Global;
 
 /// What is said of a unit.
@@ -64,84 +63,51 @@ fn ask<A: Asks>(alloc: Global, asks: &mut A, kind: u64, body: Body) -> Verdict
 {
     match body {
         Body::Axiom => verdict_of(check_axiom(asks, kind)),
+        Body::Definition { value, .. } => verdict_of(check_definition(asks, kind, value)),
         Body::Theorem { proof } => verdict_of(check_theorem(alloc, asks, kind, proof)),
-        Body::Definition { .. } => Verdict::No(Rule::BuiltinShape),
-        Body::Opaque { .. } => Verdict::No(Rule::BuiltinShape),
+        Body::Opaque { value } => verdict_of(check_opaque(asks, kind, value)),
         Body::Quotient => Verdict::No(Rule::BuiltinShape),
     }
 }
 
-/// Whether the trees of a declaration's body are closed.
-fn is_body_closed<T: Terms>(terms: &T, body: Body) -> bool
-    requires { IsBodyIn (T.contents terms.now) body }
-    ensures { (levels : List Name) → result ≡ all_bound (body_trees levels (body_at (T.contents terms.now) body)) }
+/// The verdict of a unit that breaks a rule by its own lines.
+fn refused(error: ScanError) -> Verdict
+    ensures { result ≡ scan_verdict error }
 {
-    match body {
-        Body::Axiom => true,
-        Body::Definition { value, .. } => closed::is_closed(terms, value),
-        Body::Theorem { proof } => closed::is_closed(terms, proof),
-        Body::Opaque { value } => closed::is_closed(terms, value),
-        Body::Quotient => true,
+    match error {
+        ScanError::DuplicateLevel => Verdict::No(Rule::DuplicateLevel),
+        ScanError::LooseVariable => Verdict::No(Rule::LooseVariable),
+        ScanError::UndeclaredLevel => Verdict::No(Rule::UndeclaredLevel),
+        ScanError::WideLiteral => Verdict::No(Rule::WideLiteral),
+        ScanError::NoMemory => Verdict::Memory,
     }
 }
 
-/// Whether the trees of a declaration are closed.
-fn is_closed<T: Terms>(terms: &T, kind: u64, body: Body) -> bool
-    requires kind_in { kind < length (T.contents terms.now).trees }
-    requires body_in { IsBodyIn (T.contents terms.now) body }
-    ensures { (d : Decl) → d.type ≡ tree_at (T.contents terms.now) kind → d.body ≡ body_at (T.contents terms.now) body
-        → result ≡ all_bound (trees_of (of_decl d)) }
-{
-    closed::is_closed(terms, kind) && is_body_closed(terms, body)
-}
-
-/// The verdict of a declaration whose name is new and whose level parameters are different.
-fn judge_declared<A: Asks>(alloc: Global, asks: &mut A, kind: u64, body: Body) -> Verdict
+/// The verdict of a unit with which nothing is wrong in itself.
+fn judge_scanned<A: Asks>(alloc: Global, asks: &mut A, unit: &Unit) -> Verdict
     requires table { A.table asks.old ≡ rows }
-    requires kind_in { kind < length (A.contents asks.old).trees }
-    requires body_in { IsBodyIn (A.contents asks.old) body }
+    requires known { IsUnitIn (A.contents asks.old) unit.now }
     ensures rest { A.rest asks.new ≡ A.rest asks.old }
-    ensures verdict { (d : Decl) → d.type ≡ tree_at (A.contents asks.old) kind → d.body ≡ body_at (A.contents asks.old) body
-        → IsPlain (checked_of (A.place asks.old) (A.left asks.old) d) result }
+    ensures verdict { IsPlain (asked_of (A.place asks.old) (A.left asks.old) (unit_at (A.contents asks.old) unit.now)) result }
 {
-    if !is_closed(asks, kind, body) {
-        return Verdict::No(Rule::LooseVariable);
+    match unit {
+        Unit::Declaration(declaration) => ask(alloc, asks, declaration.kind, declaration.body),
+        // No line of a file states a block yet.
+        Unit::Block(_) => Verdict::No(Rule::BlockShape),
     }
-    ask(alloc, asks, kind, body)
 }
 
-/// Whether no unit before this one gives the name.
-fn is_new(library: &Library, unit: u32, name: u64) -> bool
-    requires { name < length (contents_of library.now.0).names }
-    ensures { result ≡ is_new (library_of library.now) unit (name_at (contents_of library.now.0) name) }
-{
-    let place = library.place_before(unit, name);
-    place.is_none()
-}
-
-/// The verdict of a declaration, over what a library has, at the place of the unit and with what is left of a budget.
-fn judge_declaration<A: Asks>(
-    alloc: Global,
-    library: &Library,
-    asks: &mut A,
-    unit: u32,
-    declaration: &Declaration,
-) -> Verdict
+/// The verdict of a unit whose names are new.
+fn judge_new<A: Asks>(alloc: Global, base: &BaseStore, asks: &mut A, unit: &Unit) -> Verdict
     requires table { A.table asks.old ≡ rows }
-    requires same { A.contents asks.old ≡ contents_of library.now.0 }
-    requires place { A.place asks.old ≡ place_at library.now unit }
-    requires stated { IsStatedIn (contents_of library.now.0) declaration.now.name declaration.now.levels.items declaration.now.kind }
-    requires body_in { IsBodyIn (contents_of library.now.0) declaration.now.body }
+    requires same { A.contents asks.old ≡ contents_of base.now }
+    requires known { IsUnitIn (contents_of base.now) unit.now }
     ensures rest { A.rest asks.new ≡ A.rest asks.old }
-    ensures verdict { IsPlain (row_verdict (library_of library.now) (A.left asks.old) unit (declaration_at (contents_of library.now.0) declaration.now)) result }
+    ensures verdict { IsPlain (scanned_of (A.place asks.old) (A.left asks.old) (unit_at (contents_of base.now) unit.now)) result }
 {
-    if !is_new(library, unit, declaration.name) {
-        return Verdict::No(Rule::DuplicateName);
-    }
-    match none_twice(alloc, library.base(), &declaration.levels) {
-        Ok(true) => judge_declared(alloc, asks, declaration.kind, declaration.body),
-        Ok(false) => Verdict::No(Rule::DuplicateLevel),
-        Err(_) => Verdict::Memory,
+    match scan(alloc, base, unit) {
+        Ok(()) => judge_scanned(alloc, asks, unit),
+        Err(error) => refused(error),
     }
 }
 
@@ -158,15 +124,12 @@ fn judge<A: Asks>(
     requires place { A.place asks.old ≡ place_at library.now number }
     requires known { IsUnitIn (contents_of library.now.0) unit.now }
     ensures rest { A.rest asks.new ≡ A.rest asks.old }
-    ensures verdict { (d : Decl) → unit_at (contents_of library.now.0) unit.now ≡ of_decl d
-        → IsPlain (row_verdict (library_of library.now) (A.left asks.old) number d) result }
+    ensures verdict { IsPlain (row_verdict (library_of library.now) (A.left asks.old) number (unit_at (contents_of library.now.0) unit.now)) result }
 {
-    match unit {
-        Unit::Declaration(declaration) => {
-            judge_declaration(alloc, library, asks, number, declaration)
-        }
-        // No line of a file states a block yet.
-        Unit::Block(_) => Verdict::No(Rule::BlockShape),
+    match are_new(alloc, library, number, unit) {
+        Ok(true) => judge_new(alloc, library.base(), asks, unit),
+        Ok(false) => Verdict::No(Rule::DuplicateName),
+        Err(_) => Verdict::Memory,
     }
 }
 
@@ -181,7 +144,7 @@ pub fn check_all<G: Gate>(
     kept: u32,
     gate: &G,
 ) -> Result<Vec<Verdict>, NoMemory>
-    ensures { IfOk result (λ v. AllBuilt (library_of library.now)
+    ensures { IfOk result (λ v. IsClearLibrary (library_of library.now)
         → AreVerdicts (library_of library.now) steps 0 (library_of library.now) (map verdict v.items)) }
 {
     let mut memo = PrivateMemo::new(alloc, kept)?;

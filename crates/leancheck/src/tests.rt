@@ -57,6 +57,49 @@ fn is_row<R: Threads + Wait + Sync>(
     Ok(end == status && sink.bytes.as_slice() == written)
 }
 
+// A definition whose value is a let.
+const LET: &[u8] = b"1 #NS 0 c\n1 #US 0\n0 #ES 0\n1 #ES 1\n2 #EZ 0 1 0 0\n#DEF 1 1 2 O\n";
+
+// Two definitions of one level parameter: `Sort (imax u 0)` is 0, and `Sort (succ u)` is not.
+const LEVELS: &[u8] =
+    b"1 #NS 0 u\n2 #NS 0 a\n3 #NS 0 b\n1 #UP 1\n2 #UIM 1 0\n3 #US 0\n4 #US 1\n0 #ES 2\n1 #ES 3\n2 #ES 4\n#DEF 2 1 0 A 1\n#DEF 3 2 0 A 1\n";
+
+#[test]
+fn definitions(rt: HostRuntime) -> Result<(), Fail> {
+    let alloc = rt.alloc();
+    assert!(rt;
+        is_row(
+            &rt,
+            alloc,
+            "leancheck check --steps 11",
+            LET,
+            b"yes def 0 c\nunits 1 yes 1 no 0 memory 0\n",
+            Status::AllYes
+        )?
+    );
+    assert!(rt;
+        is_row(
+            &rt,
+            alloc,
+            "leancheck check --steps 10",
+            LET,
+            b"no def 0 c\n  why steps\nunits 1 yes 0 no 1 memory 0\n",
+            Status::SomeNo
+        )?
+    );
+    assert!(rt;
+        is_row(
+            &rt,
+            alloc,
+            "leancheck check --memo 1",
+            LEVELS,
+            b"yes def 0 a\nno def 1 b\n  why ValueType\nunits 2 yes 1 no 1 memory 0\n",
+            Status::SomeNo
+        )?
+    );
+    Ok(())
+}
+
 #[test]
 fn files(rt: HostRuntime) -> Result<(), Fail> {
     let alloc = rt.alloc();

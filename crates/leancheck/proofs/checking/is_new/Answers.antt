@@ -1,8 +1,0 @@
-use Rattle.lk_store.specs.Contents.{name_at}
-use Rattle.lk_store.specs.Store.{contents_of}
-use Rattle.lk_env.specs.Units.{library_of}
-use Rattle.leancheck.proofs.Taken.{new_is}
-use Rattle.leancheck.proofs.checking.is_new.Goals as goal
-
-pub returns : goal.returns
-returns c = new_is (library_of c.args.library.now) c.args.unit (name_at (contents_of c.args.library.now.0) c.args.name) c.place_before-place.result c.is_none.result c.place_before-place.ensures c.is_none.ensures
