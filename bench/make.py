@@ -4,6 +4,7 @@
 usage: make.py lines BYTES [SEED]       names, levels and expressions alone, at least so many bytes
        make.py theorems UNITS [SEED]    so many theorems, each of a name and three lines, all yes
        make.py small UNITS              the same, each of them `P → P` for the same P
+       make.py chain PIS                one axiom, whose type is so many Pis, each over the next
 
 Of `lines`: the tags are #NS #NI #US #ES #EV #EL #EP. Numbers rise with gaps, and some that were left out come later.
 Lines come in groups as of one declaration: names, now and then a level, some sorts and variables, then binders over
@@ -192,9 +193,20 @@ def small(units, _seed):
     out.flush()
 
 
+def chain(pis, _seed):
+    """Its questions are 6 for each Pi and 3 more; of the 6 three are asked for the first time."""
+    out = Lines()
+    for line in ('2.0.0', '1 #NS 0 chain', '0 #ES 0'):
+        out.put(line)
+    for k in range(1, pis + 1):
+        out.put(f'{k} #EP #BD 0 0 {k - 1}')
+    out.put(f'#AX 1 {pis}')
+    out.flush()
+
+
 def main():
     words = sys.argv[1:]
-    makers = {'lines': lines, 'theorems': theorems, 'small': small}
+    makers = {'lines': lines, 'theorems': theorems, 'small': small, 'chain': chain}
     known = bool(words) and words[0] in makers
     if not known or len(words) not in (2, 3) or not all(word.isdecimal() for word in words[1:]):
         sys.exit(__doc__)
