@@ -215,11 +215,10 @@ fn faults_of_an_item(rt: HostRuntime) -> Result<(), Fail> {
         second(
             alloc,
             8,
-            Entry::Let {
-                name: 0,
-                binder_type: 7,
-                value: 7,
-                body: 7
+            Entry::Project {
+                structure: 0,
+                field: 0,
+                subject: 7
             }
         ),
         unbuilt

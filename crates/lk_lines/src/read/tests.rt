@@ -60,7 +60,7 @@ fn faults_of_lines(rt: HostRuntime) {
         ("0 #EC 0 4294967296", Word::NumberTooLarge),
         ("#AX 0", Word::MissingField),
         ("#AX 0 0 x", Word::BadNumber),
-        ("#DEF 0 0 0 A", Word::UnknownTag),
+        ("#QUOT 0 0", Word::UnknownTag),
         ("0 #ES 0 0", Word::ExtraField),
         ("0 #ES 0 x", Word::ExtraField),
         ("0 #ES 0\r", Word::BadNumber),
