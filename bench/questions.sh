@@ -7,11 +7,7 @@
 # Pi. The program of this clone is built where it is not. Needs Python 3.
 set -e
 here=$(CDPATH= cd -- "$(dirname -- "$0")" && pwd)
-program=$here/../crates/leancheck/out/leancheck
-"$here/../leancheck" check </dev/null >/dev/null
-work=$(mktemp -d)
-trap 'rm -rf "$work"' EXIT
-trap 'exit 1' HUP INT TERM
+. "$here/start.sh"
 python3 "$here/make.py" chain "${1:-500000}" >"$work/chain.export"
 sed '$d' "$work/chain.export" >"$work/read.export"
 for file in read chain; do

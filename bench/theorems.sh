@@ -7,11 +7,7 @@
 # clone is built where it is not. Needs Python 3.
 set -e
 here=$(CDPATH= cd -- "$(dirname -- "$0")" && pwd)
-program=$here/../crates/leancheck/out/leancheck
-"$here/../leancheck" check </dev/null >/dev/null
-work=$(mktemp -d)
-trap 'rm -rf "$work"' EXIT
-trap 'exit 1' HUP INT TERM
+. "$here/start.sh"
 python3 "$here/make.py" small "${2:-300000}" >"$work/small.export"
 if [ -n "$1" ]; then
     python3 "$here/measure.py" "$work/small.export" "${3:-5}" -- other "$1" check -- leancheck "$program" check
