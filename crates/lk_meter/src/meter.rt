@@ -1,7 +1,7 @@
 //! A meter of questions.
 
 ghost use Rattle.std.specs.Prelude.{◌≡◌, ◌<◌, ◌≤◌, ◌+◌, ◌-◌, ◌^◌, Some, None, IfOk, IfErr};
-ghost use Rattle.lk_plain.specs.Answer.{later};
+ghost use Rattle.lk_rulebook.specs.Units.{later};
 
 /// What is left of a budget of steps, how many turns were taken, and the last unit that was looked at (the greatest
 /// number).

@@ -1,7 +1,8 @@
 -- The plain answer of a question at a place under a budget.
-use Rattle.std.specs.Prelude.{ℕ, zero, suc, ◌+◌, ◌-◌, max, Option, Some, None}
+use Rattle.std.specs.Prelude.{ℕ, zero, suc, ◌+◌, ◌-◌, Option, Some, None}
 use Rattle.lk_tree.specs.RuleNo.{RuleNo, quot_shape}
 use Rattle.lk_rulebook.specs.Place.{Place, Entry}
+pub use Rattle.lk_rulebook.specs.Units.{later}
 use Rattle.lk_plain.specs.Query.{Query, AnswerTo}
 use Rattle.lk_plain.specs.Program.{Program, done, refuse, ask, look, Table}
 
@@ -10,11 +11,6 @@ pub data Outcome (A : Type 0) : Type 0 where
   answered : A → ℕ → Option ℕ → Outcome A
   refused : RuleNo → Outcome A
   spent : Outcome A
-
-abbrev pub later : Option ℕ → Option ℕ → Option ℕ
-later None t = t
-later (Some m) None = Some m
-later (Some m) (Some n) = Some (max m n)
 
 -- the outcome after c was paid and t was looked at
 abbrev pub after : {A : Type 0} → ℕ → Option ℕ → Outcome A → Outcome A

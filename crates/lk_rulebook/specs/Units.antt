@@ -1,5 +1,5 @@
 -- A unit as the file states it, and what a name means at a place of a library.
-use Rattle.std.specs.Prelude.{ℕ, suc, List, [], ◌∷◌, ◌++◌, take, Bool, true, ◌&&◌, Option, Some, None, option_and_then, if◌then◌else◌}
+use Rattle.std.specs.Prelude.{ℕ, suc, List, [], ◌∷◌, ◌++◌, take, Bool, true, ◌&&◌, Option, Some, None, option_and_then, max, if◌then◌else◌}
 use Rattle.lk_tree.specs.Tree.{Name, name_discrete, Tree}
 use Rattle.lk_tree.specs.Scan.{is_bound, is_narrow}
 use Rattle.lk_tree.specs.RuleNo.{RuleNo, loose_variable, wide_literal}
@@ -160,3 +160,9 @@ place_by n found = record {
 -- the place of unit n
 abbrev pub place_of : Library → ℕ → Members → Place
 place_of us n half = place_by n (λ c. first_of_two (at_half n (given_by half c)) (first_giving 0 (take n us) c))
+
+-- the later of two units that were looked at, by their numbers
+abbrev pub later : Option ℕ → Option ℕ → Option ℕ
+later None t = t
+later (Some m) None = Some m
+later (Some m) (Some n) = Some (max m n)
