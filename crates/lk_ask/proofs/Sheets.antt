@@ -3,6 +3,8 @@ use Rattle.std.proofs.Common.{◌≡◌, ℕ, ◌<◌, List, [], ◌∷◌, map,
 use Rattle.std.specs.Prelude.{All}
 use Rattle.std.proofs.lemmas.List.Elements.{All-weaker, All-head, All-tail}
 use Rattle.lk_store.specs.Contents.{Contents, tree_at, Extends}
+use Rattle.lk_ask.specs.declared.sheet.IotaSheet.{IotaSheet}
+use Rattle.lk_ask.specs.declared.sheet.IotaSheet.TheVariants as iota
 use Rattle.lk_ask.specs.declared.sheet.CoreSheet.{CoreSheet}
 use Rattle.lk_ask.specs.declared.sheet.CoreSheet.TheVariants as core
 use Rattle.lk_ask.specs.declared.sheet.TypeSheet.{TypeSheet}
@@ -16,13 +18,22 @@ use Rattle.lk_ask.specs.declared.sheet.SameSheet.{SameSheet}
 use Rattle.lk_ask.specs.declared.sheet.SameSheet.TheVariants as same
 use Rattle.lk_ask.specs.declared.sheet.Sheet.{Sheet}
 use Rattle.lk_ask.specs.declared.sheet.Sheet.TheVariants as sheet
-use Rattle.lk_ask.specs.Sheets.{map_core, map_type, map_pair, map_lazy, map_proof, map_same, map_sheet, IsKnownCore, IsKnownType, IsKnownPair, IsKnownLazy, IsKnownProof, IsKnownSame, IsKnownSheet}
+use Rattle.lk_ask.specs.Sheets.{map_iota, map_core, map_type, map_pair, map_lazy, map_proof, map_same, map_sheet, IsKnownIota, IsKnownCore, IsKnownType, IsKnownPair, IsKnownLazy, IsKnownProof, IsKnownSame, IsKnownSheet}
 
 module _ {c d : Contents} (x : Extends c d) where
+  iota_steady : (s : IotaSheet ℕ) → IsKnownIota (length c.trees) s → map_iota (tree_at d) s ≡ map_iota (tree_at c) s
+  iota_steady iota.Passed h = refl
+  iota_steady (iota.MajorType e) h = ap (λ t. iota.MajorType t) (x.trees.same e h)
+  iota_steady (iota.MajorTypeForm e) h = ap (λ t. iota.MajorTypeForm t) (x.trees.same e h)
+  iota_steady (iota.Candidate e t k) h = let p = x.trees.same e h.0 in let q = x.trees.same t h.1 in let r = x.trees.same k h.2 in cc
+  iota_steady (iota.CandidateSame e k) h = let p = x.trees.same e h.0 in let q = x.trees.same k h.1 in cc
+  iota_steady (iota.Major e) h = ap (λ t. iota.Major t) (x.trees.same e h)
+
   core_steady : (s : CoreSheet ℕ) → IsKnownCore (length c.trees) s → map_core (tree_at d) s ≡ map_core (tree_at c) s
   core_steady core.Passed h = refl
   core_steady (core.Head e) h = ap (λ t. core.Head t) (x.trees.same e h)
   core_steady core.WhnfCore h = refl
+  core_steady (core.Iota s) h = ap (λ t. core.Iota t) (iota_steady s h)
 
   type_steady : (s : TypeSheet ℕ) → IsKnownType (length c.trees) s → map_type (tree_at d) s ≡ map_type (tree_at c) s
   type_steady Passed h = refl
@@ -80,10 +91,19 @@ module _ {c d : Contents} (x : Extends c d) where
   grown : (e : ℕ) → e < length c.trees → e < length d.trees
   grown e h = let l = x.trees.longer in omega arith
 
+  iota_known : (s : IotaSheet ℕ) → IsKnownIota (length c.trees) s → IsKnownIota (length d.trees) s
+  iota_known iota.Passed h = tt
+  iota_known (iota.MajorType e) h = grown e h
+  iota_known (iota.MajorTypeForm e) h = grown e h
+  iota_known (iota.Candidate e t k) h = (grown e h.0, grown t h.1, grown k h.2)
+  iota_known (iota.CandidateSame e k) h = (grown e h.0, grown k h.1)
+  iota_known (iota.Major e) h = grown e h
+
   core_known : (s : CoreSheet ℕ) → IsKnownCore (length c.trees) s → IsKnownCore (length d.trees) s
   core_known core.Passed h = tt
   core_known (core.Head e) h = grown e h
   core_known core.WhnfCore h = tt
+  core_known (core.Iota s) h = iota_known s h
 
   type_known : (s : TypeSheet ℕ) → IsKnownType (length c.trees) s → IsKnownType (length d.trees) s
   type_known Passed h = tt

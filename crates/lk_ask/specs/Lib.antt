@@ -1,4 +1,5 @@
 pub mod Constants
+pub mod Members
 pub mod Nexts
 pub mod Outcomes
 pub mod Questions

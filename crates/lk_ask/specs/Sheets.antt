@@ -1,5 +1,7 @@
 -- Sheets over other things, and sheets whose numbers are known.
 use Rattle.std.specs.Prelude.{ℕ, ◌<◌, map, All}
+use Rattle.lk_ask.specs.declared.sheet.IotaSheet.{IotaSheet}
+use Rattle.lk_ask.specs.declared.sheet.IotaSheet.TheVariants as iota
 use Rattle.lk_ask.specs.declared.sheet.CoreSheet.{CoreSheet}
 use Rattle.lk_ask.specs.declared.sheet.CoreSheet.TheVariants as core
 use Rattle.lk_ask.specs.declared.sheet.TypeSheet.{TypeSheet}
@@ -14,10 +16,19 @@ use Rattle.lk_ask.specs.declared.sheet.SameSheet.TheVariants as same
 use Rattle.lk_ask.specs.declared.sheet.Sheet.{Sheet}
 use Rattle.lk_ask.specs.declared.sheet.Sheet.TheVariants as sheet
 
+abbrev pub map_iota : {X Y : Type 0} → (X → Y) → IotaSheet X → IotaSheet Y
+map_iota f iota.Passed = iota.Passed
+map_iota f (iota.MajorType e) = iota.MajorType (f e)
+map_iota f (iota.MajorTypeForm e) = iota.MajorTypeForm (f e)
+map_iota f (iota.Candidate e T d) = iota.Candidate (f e) (f T) (f d)
+map_iota f (iota.CandidateSame e d) = iota.CandidateSame (f e) (f d)
+map_iota f (iota.Major e) = iota.Major (f e)
+
 abbrev pub map_core : {X Y : Type 0} → (X → Y) → CoreSheet X → CoreSheet Y
 map_core f core.Passed = core.Passed
 map_core f (core.Head e) = core.Head (f e)
 map_core f core.WhnfCore = core.WhnfCore
+map_core f (core.Iota s) = core.Iota (map_iota f s)
 
 abbrev pub map_type : {X Y : Type 0} → (X → Y) → TypeSheet X → TypeSheet Y
 map_type f Passed = Passed
@@ -66,10 +77,19 @@ map_sheet f (sheet.Type s) = sheet.Type (map_type f s)
 map_sheet f (sheet.Same s) = sheet.Same (map_same f s)
 
 -- its numbers are below n
+abbrev pub IsKnownIota : ℕ → IotaSheet ℕ → Type 0
+IsKnownIota n iota.Passed = Unit {0}
+IsKnownIota n (iota.MajorType e) = e < n
+IsKnownIota n (iota.MajorTypeForm e) = e < n
+IsKnownIota n (iota.Candidate e T d) = (e < n) × (T < n) × (d < n)
+IsKnownIota n (iota.CandidateSame e d) = (e < n) × (d < n)
+IsKnownIota n (iota.Major e) = e < n
+
 abbrev pub IsKnownCore : ℕ → CoreSheet ℕ → Type 0
 IsKnownCore n core.Passed = Unit {0}
 IsKnownCore n (core.Head e) = e < n
 IsKnownCore n core.WhnfCore = Unit {0}
+IsKnownCore n (core.Iota s) = IsKnownIota n s
 
 abbrev pub IsKnownType : ℕ → TypeSheet ℕ → Type 0
 IsKnownType n Passed = Unit {0}

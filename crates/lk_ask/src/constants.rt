@@ -58,7 +58,7 @@ pub fn is_built(kind: Kind) -> bool
             }
             Body::Quotient => false,
         },
-        Kind::Type(_) | Kind::Constructor { .. } | Kind::Recursor(_) => false,
+        Kind::Type(_) | Kind::Constructor { .. } | Kind::Recursor(_) => true,
     }
 }
 

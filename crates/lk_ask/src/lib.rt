@@ -5,6 +5,7 @@
 pub mod asks;
 pub mod constants;
 pub mod kept;
+pub mod members;
 pub mod next;
 pub mod query;
 pub mod rule;

@@ -2,6 +2,36 @@
 
 use crate::stack::Stack;
 
+/// What `Core` of a recursor that is applied keeps. `application` is the whole term.
+#[derive(Clone, Copy, Debug, PartialEq, Eq)]
+pub enum IotaSheet<X> {
+    /// The answer is that of the question too.
+    Passed,
+    /// After the type of the major premise, where the recursor has K.
+    MajorType {
+        application: X,
+    },
+    /// After the weak head form of that.
+    MajorTypeForm {
+        application: X,
+    },
+    /// After the type of the candidate: the constructor at the parameters of `kind`, the major premise's type.
+    Candidate {
+        application: X,
+        kind: X,
+        candidate: X,
+    },
+    /// After the two types were compared.
+    CandidateSame {
+        application: X,
+        candidate: X,
+    },
+    /// After the weak head form of the major premise.
+    Major {
+        application: X,
+    },
+}
+
 /// What the weak head forms keep.
 #[derive(Clone, Copy, Debug, PartialEq, Eq)]
 pub enum CoreSheet<X> {
@@ -11,6 +41,8 @@ pub enum CoreSheet<X> {
     Head { application: X },
     /// `Whnf`, after `Core`.
     WhnfCore,
+    /// A recursor that is applied.
+    Iota(IotaSheet<X>),
 }
 
 /// What `Infer` keeps.

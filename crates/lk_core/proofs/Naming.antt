@@ -7,8 +7,8 @@ use Rattle.lk_tree.specs.Tree.{Name, Part, text, number, name_discrete}
 use Rattle.lk_tree.specs.Mentions.{same_name}
 use Rattle.lk_tree.specs.Operations.{Op, succ, log2, add, sub, mul, div, modulo, gcd, beq, ble, land, lor, xor, shift_left, shift_right, pow}
 use Rattle.lk_rulebook.specs.Names.{nat, op_name}
-use Rattle.lk_table.specs.Literals.{ops, op_named}
-use Rattle.lk_table.specs.Built.{is_some_op, names_operation}
+use Rattle.lk_table.specs.Literals.{op_named}
+use Rattle.lk_table.specs.Built.{is_some_op, names_one_of}
 use Rattle.lk_core.specs.Words.{op_word, is_word_among}
 
 never_empty : (p : Name) (x : Part) → [] ≡ p ++ x ∷ [] → ⊥
@@ -92,15 +92,15 @@ among_is (op ∷ os) p w =
     go true false true e = e
     go true false false e = e
 
-pub word_decides : (p : Name) (w : List ℕ) → names_operation (p ++ text w ∷ []) ≡ (if is_word_among ops w then same_name nat p else false)
-word_decides p w = among_is ops p w
+pub word_decides : (os : List Op) (p : Name) (w : List ℕ) → names_one_of os (p ++ text w ∷ []) ≡ (if is_word_among os w then same_name nat p else false)
+word_decides os p w = among_is os p w
 
 none_named : (os : List Op) (f : Name) → ((op : Op) → op_name op ≡ f → ⊥) → is_some_op (op_named os f) ≡ false
 none_named [] f other = refl
 none_named (op ∷ os) f other = ap (λ b. is_some_op (if b then Some op else op_named os f)) (two_names (op_name op) f (other op)) ∙ none_named os f other
 
-pub empty_names_none : names_operation [] ≡ false
-empty_names_none = none_named ops [] (λ op e. never_empty nat (text (op_word op)) (sym e ∙ op_name_is op))
+pub empty_names_none : (os : List Op) → names_one_of os [] ≡ false
+empty_names_none os = none_named os [] (λ op e. never_empty nat (text (op_word op)) (sym e ∙ op_name_is op))
 
-pub number_names_none : (p : Name) (i : ℕ) → names_operation (p ++ number i ∷ []) ≡ false
-number_names_none p i = none_named ops (p ++ number i ∷ []) (λ op e. let t : text (op_word op) ≡ number i = (snoc_parts nat p (text (op_word op)) (number i) (sym (op_name_is op) ∙ e)).1 in absurd (cc))
+pub number_names_none : (os : List Op) (p : Name) (i : ℕ) → names_one_of os (p ++ number i ∷ []) ≡ false
+number_names_none os p i = none_named os (p ++ number i ∷ []) (λ op e. let t : text (op_word op) ≡ number i = (snoc_parts nat p (text (op_word op)) (number i) (sym (op_name_is op) ∙ e)).1 in absurd (cc))

@@ -10,9 +10,10 @@ use Rattle.lk_table.specs.Steps.{is_same_tree}
 use Rattle.lk_table.specs.Built.{whnf_end}
 use Rattle.lk_ask.specs.declared.next.Next.{Next}
 use Rattle.lk_ask.specs.declared.sheet.CoreSheet.{CoreSheet}
-use Rattle.lk_ask.specs.declared.sheet.CoreSheet.TheVariants.{Passed, Head, WhnfCore}
+use Rattle.lk_ask.specs.declared.sheet.CoreSheet.TheVariants.{Passed, Head, WhnfCore, Iota}
 use Rattle.lk_ask.specs.Nexts.{next_steps}
 use Rattle.lk_ask.specs.Sheets.{map_core}
+use Rattle.lk_iota.specs.Iotas.{iota_rest}
 
 -- Core of the application e, once h is there, the Core of its head
 abbrev pub headed_rest : Tree → Tree → Program Tree
@@ -23,6 +24,7 @@ abbrev pub core_rest : Place → Option ℕ → CoreSheet Tree → Value → Ste
 core_rest w last Passed = with_tree (λ v. gives last (a_tree v))
 core_rest w last (Head e) = with_tree (λ h. erased w a_tree last (headed_rest e h))
 core_rest w last WhnfCore = with_tree (λ c. erased w a_tree last (whnf_end c))
+core_rest w last (Iota s) = iota_rest w last s
 
 -- what Core or Whnf does next; t is what numbers stand for
 abbrev pub core_next : Place → (ℕ → Tree) → Option ℕ → Next ℕ (CoreSheet ℕ) → Steps

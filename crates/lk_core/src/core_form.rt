@@ -1,7 +1,7 @@
 //! `Core`: the weak head form without unfolding.
 
-ghost use Rattle.std.specs.Prelude.{◌≡◌, ◌<◌, ℕ, List, IfOk, Option, length};
-ghost use Rattle.lk_tree.specs.Tree.{Level, Tree, const};
+ghost use Rattle.std.specs.Prelude.{◌≡◌, ◌<◌, ℕ, IfOk, Option, length};
+ghost use Rattle.lk_tree.specs.Tree.{Tree, const};
 ghost use Rattle.lk_tree.specs.Spine.{head as head_of, args as args_of};
 ghost use Rattle.lk_rulebook.specs.Place.{Place};
 ghost use Rattle.lk_plain.specs.Erased.{a_tree, erased};
@@ -9,11 +9,12 @@ ghost use Rattle.lk_plain.specs.Program.{asked};
 ghost use Rattle.lk_plain.specs.Query.{core};
 ghost use Rattle.lk_table.specs.Core.{beta as beta_of, lambdas};
 ghost use Rattle.lk_table.specs.Built.{built_applied, core_row};
-ghost use Rattle.lk_store.specs.Contents.{name_at, tree_at, Extends};
+ghost use Rattle.lk_store.specs.Contents.{name_at, list_at, tree_at, Extends};
 ghost use Rattle.lk_store.specs.Store.{contents_of};
 ghost use Rattle.lk_env.specs.Places.{place_at};
 ghost use Rattle.lk_ask.specs.Nexts.{IsKnownNext};
-ghost use Rattle.lk_ask.specs.Sheets.{IsKnownCore};
+ghost use Rattle.lk_ask.specs.Sheets.{IsKnownIota, IsKnownCore};
+ghost use Rattle.lk_iota.specs.Iotas.{iota_next};
 ghost use Rattle.lk_core.specs.Forms.{core_next, headed_rest};
 
 use crate::beta::beta;
@@ -25,6 +26,7 @@ use lk_ask::sheet::CoreSheet;
 use lk_ask::unfolding::with_head;
 use lk_env::entry::Site;
 use lk_env::library::Library;
+use lk_iota::iota::IotaNext;
 use lk_meter::meter::Meter;
 use lk_rows::memory::NoMemory;
 use lk_spine::{args, head};
@@ -36,32 +38,48 @@ use std::alloc::Global;
 /// What `Core` or `Whnf` does next.
 pub type CoreNext = Next<u64, CoreSheet<u64>>;
 
-/// `Core` of an application whose head is a constant, which takes no step of those that are built.
+/// What a recursor does next.
+pub(crate) fn of_iota(next: IotaNext) -> CoreNext
+    ensures known { (n : ℕ) → IsKnownNext IsKnownIota n next → IsKnownNext IsKnownCore n result }
+    ensures steps { (w : Place) (t : ℕ → Tree) (last : Option ℕ) → core_next w t last result ≡ iota_next w t last next }
+{
+    match next {
+        Next::Ask(asked, sheet) => Next::Ask(asked, CoreSheet::Iota(sheet)),
+        Next::Done(answer) => Next::Done(answer),
+        Next::No(rule) => Next::No(rule),
+    }
+}
+
+/// `Core` of an application whose head is a constant: a recursor may take a step.
 fn constant_applied<T: Terms>(
+    alloc: Global,
     library: &Library,
     site: &Site,
     terms: &T,
     meter: &mut Meter,
     e: u64,
     name: u64,
-) -> CoreNext
+    levels: u64,
+) -> Result<CoreNext, NoMemory>
     requires over { Extends (contents_of library.now.0) (T.contents terms.now) }
     requires e_in { e < length (T.contents terms.now).trees }
     requires name_in { name < length (T.contents terms.now).names }
+    requires levels_in { levels < length (T.contents terms.now).lists }
     ensures left { meter.new.left ≡ meter.old.left }
-    ensures known { IsKnownNext IsKnownCore (length (T.contents terms.now).trees) result }
-    ensures steps { (ls : List Level) (xs : List Tree) → core_next (place_at library.now site.now.unit) (tree_at (T.contents terms.now)) meter.new.last result
-        ≡ erased (place_at library.now site.now.unit) a_tree meter.old.last (built_applied (tree_at (T.contents terms.now) e) (const (name_at (T.contents terms.now) name) ls) xs) }
+    ensures known { IfOk result (IsKnownNext IsKnownCore (length (T.contents terms.now).trees)) }
+    ensures steps { IfOk result (λ next. const (name_at (T.contents terms.now) name) (list_at (T.contents terms.now) levels) ≡ head_of (tree_at (T.contents terms.now) e)
+        → core_next (place_at library.now site.now.unit) (tree_at (T.contents terms.now)) meter.new.last next
+        ≡ erased (place_at library.now site.now.unit) a_tree meter.old.last (built_applied (tree_at (T.contents terms.now) e) (const (name_at (T.contents terms.now) name) (list_at (T.contents terms.now) levels)) (args_of (tree_at (T.contents terms.now) e)))) }
 {
     let entry = match look_up(library, site, terms, name, meter) {
         Ok(entry) => entry,
-        Err(rule) => return Next::No(rule),
+        Err(rule) => return Ok(Next::No(rule)),
     };
-    if is_built(entry.kind) {
-        Next::Done(Answer::Term(e))
-    } else {
-        Next::No(Rule::BuiltinShape)
+    if !is_built(entry.kind) {
+        return Ok(Next::No(Rule::BuiltinShape));
     }
+    let next = lk_iota::iota::begin(alloc, library, site, terms, meter, entry, levels, e)?;
+    Ok(of_iota(next))
 }
 
 /// `Core` of an application whose head is a lambda.
@@ -106,7 +124,9 @@ fn applied<T: Terms>(
     match terms.view(front) {
         Node::Let(_, _, _) => Ok(Next::Ask(Query::Core(front), CoreSheet::Head { application: e })),
         Node::Proj(_, _, _) => Ok(Next::No(Rule::BuiltinShape)),
-        Node::Const(name, _) => Ok(constant_applied(library, site, terms, meter, e, name)),
+        Node::Const(name, levels) => {
+            constant_applied(alloc, library, site, terms, meter, e, name, levels)
+        }
         Node::Lam(_, _) => lambda_applied(alloc, terms, e, front),
         _ => Ok(Next::Done(Answer::Term(e))),
     }

@@ -1,11 +1,11 @@
 //! The names of the operations on numbers.
 
-ghost use Rattle.std.specs.Prelude.{◌≡◌, ◌<◌, [], length};
+ghost use Rattle.std.specs.Prelude.{◌≡◌, ◌<◌, [], ◌∷◌, length};
 ghost use Rattle.std.specs.Str.{bytes_eq};
 ghost use Rattle.lk_tree.specs.Mentions.{same_name};
 ghost use Rattle.lk_rulebook.specs.Names.{nat};
-ghost use Rattle.lk_table.specs.Literals.{ops};
-ghost use Rattle.lk_table.specs.Built.{names_operation as plain_names_operation};
+ghost use Rattle.lk_tree.specs.Operations.{succ};
+ghost use Rattle.lk_table.specs.Built.{def_ops, names_one_of};
 ghost use Rattle.lk_store.specs.Contents.{name_at};
 ghost use Rattle.lk_core.specs.Words.{is_word_among, bit_ops};
 
@@ -32,12 +32,18 @@ fn is_bit_word(word: &[u8]) -> bool
         || is(word, b"pow")
 }
 
-/// Whether the word is that of an operation on numbers.
-fn is_operation_word(word: &[u8]) -> bool
-    ensures { result ≡ is_word_among ops word.now }
+/// Whether the word is that of the successor.
+fn is_successor_word(word: &[u8]) -> bool
+    ensures { result ≡ is_word_among (succ ∷ []) word.now }
 {
     is(word, b"succ")
-        || is(word, b"log2")
+}
+
+/// Whether the word is that of an operation that is a definition.
+fn is_operation_word(word: &[u8]) -> bool
+    ensures { result ≡ is_word_among def_ops word.now }
+{
+    is(word, b"log2")
         || is(word, b"add")
         || is(word, b"sub")
         || is(word, b"mul")
@@ -70,14 +76,28 @@ fn is_nat<T: Terms>(terms: &T, name: u64) -> bool
     }
 }
 
-/// Whether it is the name of an operation on numbers.
+/// Whether it is the name of an operation on numbers that is a definition.
 pub(crate) fn names_operation<T: Terms>(terms: &T, name: u64) -> bool
     requires { name < length (T.contents terms.now).names }
-    ensures { result ≡ plain_names_operation (name_at (T.contents terms.now) name) }
+    ensures { result ≡ names_one_of def_ops (name_at (T.contents terms.now) name) }
 {
     match terms.name(name) {
         NameNode::Text(parent, word) => {
             is_operation_word(terms.text(word).as_bytes()) && is_nat(terms, parent)
+        }
+        NameNode::Anonymous => false,
+        NameNode::Number(_, _) => false,
+    }
+}
+
+/// Whether it is the name of the successor.
+pub(crate) fn names_successor<T: Terms>(terms: &T, name: u64) -> bool
+    requires { name < length (T.contents terms.now).names }
+    ensures { result ≡ names_one_of (succ ∷ []) (name_at (T.contents terms.now) name) }
+{
+    match terms.name(name) {
+        NameNode::Text(parent, word) => {
+            is_successor_word(terms.text(word).as_bytes()) && is_nat(terms, parent)
         }
         NameNode::Anonymous => false,
         NameNode::Number(_, _) => false,

@@ -1,13 +1,12 @@
 //! `Whnf`: the weak head form.
 
-ghost use Rattle.std.specs.Prelude.{◌≡◌, ◌<◌, ◌&&◌, ℕ, Option, Some, List, IfOk, IfSome, length, option_map};
+ghost use Rattle.std.specs.Prelude.{◌≡◌, ◌<◌, ℕ, Option, Some, List, IfOk, IfSome, length, option_map};
 ghost use Rattle.lk_tree.specs.Tree.{Name, Tree, const};
 ghost use Rattle.lk_rulebook.specs.Place.{Place, Entry as PlainEntry};
-ghost use Rattle.lk_rulebook.specs.Literals.{by_def};
-ghost use Rattle.lk_plain.specs.Erased.{a_tree, erased};
+ghost use Rattle.lk_plain.specs.Erased.{a_tree, truth, erased};
 ghost use Rattle.lk_table.specs.Core.{unfolded};
 ghost use Rattle.lk_table.specs.Steps.{value_of as plain_value};
-ghost use Rattle.lk_table.specs.Built.{names_operation as plain_names_operation, unfolded_built, whnf_built, whnf_end, whnf_row};
+ghost use Rattle.lk_table.specs.Built.{ops_of_kind, names_one_of, may_compute as plain_may_compute, unfolded_built, whnf_built, whnf_end, whnf_row};
 ghost use Rattle.lk_store.specs.Contents.{Contents, name_at, list_at, tree_at, Extends};
 ghost use Rattle.lk_store.specs.Store.{contents_of};
 ghost use Rattle.lk_env.specs.declared.unit.Unit.{Unit as StoredUnit};
@@ -18,8 +17,8 @@ ghost use Rattle.lk_ask.specs.Nexts.{IsKnownNext};
 ghost use Rattle.lk_ask.specs.Sheets.{map_core, IsKnownCore};
 ghost use Rattle.lk_core.specs.Forms.{core_next, core_rest};
 
-use crate::core_form::{CoreNext, after_head};
-use crate::operations::names_operation;
+use crate::core_form::{CoreNext, after_head, of_iota};
+use crate::operations::{names_operation, names_successor};
 use lk_ask::constants::{is_built, look_up};
 use lk_ask::next::Next;
 use lk_ask::query::{Answer, Query};
@@ -59,25 +58,31 @@ fn value_of(entry: Entry) -> Option<u64>
     }
 }
 
-/// Whether it is a definition.
-fn is_definition(kind: Kind) -> bool
-    ensures { (c : Contents) (us : List StoredUnit) (e : Entry) (g : PlainEntry) → e.kind ≡ kind → plain_entry c us e ≡ Some g → result ≡ by_def g.kind }
-{
-    match kind {
-        Kind::Declared(Body::Definition { .. }) => true,
-        Kind::Declared(Body::Axiom | Body::Theorem { .. } | Body::Opaque { .. } | Body::Quotient) =>
-            { false }
-        Kind::Type(_) | Kind::Constructor { .. } | Kind::Recursor(_) => false,
-    }
-}
-
-/// Whether it is a definition that has the name of an operation on numbers.
+/// Whether a constant of this kind has the name of an operation on numbers that it may be.
 fn is_operation<T: Terms>(terms: &T, kind: Kind, name: u64) -> bool
     requires { name < length (T.contents terms.now).names }
     ensures { (c : Contents) (us : List StoredUnit) (e : Entry) (g : PlainEntry) → e.kind ≡ kind → plain_entry c us e ≡ Some g
-        → result ≡ (by_def g.kind && plain_names_operation (name_at (T.contents terms.now) name)) }
+        → result ≡ names_one_of (ops_of_kind g.kind) (name_at (T.contents terms.now) name) }
 {
-    is_definition(kind) && names_operation(terms, name)
+    match kind {
+        Kind::Declared(body) => match body {
+            Body::Definition { .. } => names_operation(terms, name),
+            Body::Axiom | Body::Theorem { .. } | Body::Opaque { .. } | Body::Quotient => false,
+        },
+        Kind::Constructor { .. } => names_successor(terms, name),
+        Kind::Type(_) | Kind::Recursor(_) => false,
+    }
+}
+
+/// Whether a term may be computed whose head is the constant of this kind and name: it is an operation on numbers, and
+/// no Local stands in the term.
+fn may_compute<T: Terms>(terms: &T, kind: Kind, name: u64, e: u64) -> bool
+    requires name_in { name < length (T.contents terms.now).names }
+    requires e_in { e < length (T.contents terms.now).trees }
+    ensures { (c : Contents) (us : List StoredUnit) (d : Entry) (g : PlainEntry) → d.kind ≡ kind → plain_entry c us d ≡ Some g
+        → result ≡ plain_may_compute (tree_at (T.contents terms.now) e) (name_at (T.contents terms.now) name) g.kind }
+{
+    terms.local_bound(e) == 0 && is_operation(terms, kind, name)
 }
 
 /// Unfolds the head of a term, a constant of these levels, by its value.
@@ -130,8 +135,8 @@ fn entry_end<T: Terms>(
         ≡ erased w a_tree last (unfolded_built (tree_at (T.contents terms.old) e) (name_at (T.contents terms.old) name)
         (const (name_at (T.contents terms.old) name) (list_at (T.contents terms.old) levels)) g)) }
 {
-    // That a definition computes numbers is not built yet.
-    if is_operation(terms, entry.kind, name) {
+    // That numbers are computed is not built yet.
+    if may_compute(terms, entry.kind, name, e) {
         return Ok(Next::No(Rule::BuiltinShape));
     }
     match value_of(entry) {
@@ -199,6 +204,69 @@ fn end<T: Terms>(
     }
 }
 
+/// Goes on with an answer that is a term.
+fn resume_term<T: Terms>(
+    alloc: Global,
+    library: &Library,
+    site: &Site,
+    terms: &mut T,
+    meter: &mut Meter,
+    sheet: CoreSheet<u64>,
+    e: u64,
+) -> Result<CoreNext, NoMemory>
+    requires over { Extends (contents_of library.now.0) (T.contents terms.old) }
+    requires sheet_in { IsKnownCore (length (T.contents terms.old).trees) sheet }
+    requires e_in { e < length (T.contents terms.old).trees }
+    ensures keeps { Extends (T.contents terms.old) (T.contents terms.new) }
+    ensures rest { T.rest terms.new ≡ T.rest terms.old }
+    ensures left { meter.new.left ≡ meter.old.left }
+    ensures known { IfOk result (IsKnownNext IsKnownCore (length (T.contents terms.new).trees)) }
+    ensures steps { IfOk result (λ next. core_next (place_at library.now site.now.unit) (tree_at (T.contents terms.new)) meter.new.last next
+        ≡ core_rest (place_at library.now site.now.unit) meter.old.last (map_core (tree_at (T.contents terms.old)) sheet) (a_tree (tree_at (T.contents terms.old) e))) }
+{
+    match sheet {
+        CoreSheet::Passed => Ok(Next::Done(Answer::Term(e))),
+        CoreSheet::Head { application } => after_head(alloc, terms, application, e),
+        CoreSheet::WhnfCore => end(alloc, library, site, terms, meter, e),
+        CoreSheet::Iota(kept) => {
+            let answer = Answer::Term(e);
+            let next = lk_iota::iota::resume(alloc, library, site, terms, meter, kept, answer)?;
+            Ok(of_iota(next))
+        }
+    }
+}
+
+/// Goes on with an answer that is a truth value: only a recursor's sheet waits for one.
+fn resume_truth<T: Terms>(
+    alloc: Global,
+    library: &Library,
+    site: &Site,
+    terms: &mut T,
+    meter: &mut Meter,
+    sheet: CoreSheet<u64>,
+    equal: bool,
+) -> Result<CoreNext, NoMemory>
+    requires over { Extends (contents_of library.now.0) (T.contents terms.old) }
+    requires sheet_in { IsKnownCore (length (T.contents terms.old).trees) sheet }
+    ensures keeps { Extends (T.contents terms.old) (T.contents terms.new) }
+    ensures rest { T.rest terms.new ≡ T.rest terms.old }
+    ensures left { meter.new.left ≡ meter.old.left }
+    ensures known { IfOk result (IsKnownNext IsKnownCore (length (T.contents terms.new).trees)) }
+    ensures steps { IfOk result (λ next. core_next (place_at library.now site.now.unit) (tree_at (T.contents terms.new)) meter.new.last next
+        ≡ core_rest (place_at library.now site.now.unit) meter.old.last (map_core (tree_at (T.contents terms.old)) sheet) (truth equal)) }
+{
+    match sheet {
+        CoreSheet::Passed => Ok(Next::No(Rule::LooseVariable)),
+        CoreSheet::Head { .. } => Ok(Next::No(Rule::LooseVariable)),
+        CoreSheet::WhnfCore => Ok(Next::No(Rule::LooseVariable)),
+        CoreSheet::Iota(kept) => {
+            let answer = Answer::Truth(equal);
+            let next = lk_iota::iota::resume(alloc, library, site, terms, meter, kept, answer)?;
+            Ok(of_iota(next))
+        }
+    }
+}
+
 /// Goes on with `Core` or `Whnf` once the answer is there that its sheet waits for.
 pub fn resume<T: Terms>(
     alloc: Global,
@@ -220,12 +288,7 @@ pub fn resume<T: Terms>(
         ≡ core_rest (place_at library.now site.now.unit) meter.old.last (map_core (tree_at (T.contents terms.old)) sheet) (value_at (tree_at (T.contents terms.old)) answer)) }
 {
     match answer {
-        Answer::Term(e) => match sheet {
-            CoreSheet::Passed => Ok(Next::Done(Answer::Term(e))),
-            CoreSheet::Head { application } => after_head(alloc, terms, application, e),
-            CoreSheet::WhnfCore => end(alloc, library, site, terms, meter, e),
-        },
-        // No sheet waits for a truth value.
-        Answer::Truth(_) => Ok(Next::No(Rule::LooseVariable)),
+        Answer::Term(e) => resume_term(alloc, library, site, terms, meter, sheet, e),
+        Answer::Truth(equal) => resume_truth(alloc, library, site, terms, meter, sheet, equal),
     }
 }

@@ -10,6 +10,8 @@ use Rattle.lk_plain.proofs.Erasing.{later_none, run_from}
 use Rattle.lk_table.specs.Built.{rows, whnf_end}
 use Rattle.lk_plain.specs.Query as plain
 use Rattle.lk_store.specs.Contents.{Contents, tree_at, Extends}
+use Rattle.lk_ask.specs.declared.sheet.IotaSheet.{IotaSheet}
+use Rattle.lk_ask.specs.declared.sheet.IotaSheet.TheVariants as iota
 use Rattle.lk_ask.specs.declared.sheet.CoreSheet.{CoreSheet}
 use Rattle.lk_ask.specs.declared.sheet.CoreSheet.TheVariants as core
 use Rattle.lk_ask.specs.declared.sheet.TypeSheet.{TypeSheet}
@@ -23,6 +25,8 @@ use Rattle.lk_ask.specs.declared.sheet.SameSheet.TheVariants as same
 use Rattle.lk_ask.specs.declared.sheet.Sheet.{Sheet}
 use Rattle.lk_ask.specs.declared.sheet.Sheet.TheVariants as sheet
 use Rattle.lk_ask.proofs.Sheets.{sheet_steady, sheet_known}
+use Rattle.lk_iota.specs.Redexes.{redex_at}
+use Rattle.lk_iota.specs.Iotas as iotas
 use Rattle.lk_core.specs.Forms.{headed_rest, core_rest}
 use Rattle.lk_type.specs.Types.{type_rest, level_in, lam_sorted, pi_sorted, pi_end, applied_rest, applied_argument, applied_end, let_sorted, let_typed, let_end}
 use Rattle.lk_lazy.specs.Lazies.{lazy_rest, arguments_rest}
@@ -49,6 +53,20 @@ module _ (w : Place) (last : Option ℕ) (b : ℕ) where
   from_program : {A : Type 0} (f : A → Value) (p : Program A) → IsFrom (λ t. erased w f t p)
   from_program f p = run_from rows w f last p b
 
+  iota_from : (s : IotaSheet Tree) (v : Value) → IsFrom (λ t. iotas.iota_rest w t s v)
+  iota_from iota.Passed (a_tree v) = from_gives (a_tree v)
+  iota_from iota.Passed (truth q) = refl
+  iota_from (iota.MajorType e) (a_tree v) = from_program a_tree (ask (plain.whnf v) (λ T. iotas.type_rest w e (redex_at w e) T))
+  iota_from (iota.MajorType e) (truth q) = refl
+  iota_from (iota.MajorTypeForm e) (a_tree v) = from_program a_tree (iotas.type_rest w e (redex_at w e) v)
+  iota_from (iota.MajorTypeForm e) (truth q) = refl
+  iota_from (iota.Candidate e T d) (a_tree v) = from_program a_tree (ask (plain.same T v) (λ q. iotas.compared_rest e (redex_at w e) d q))
+  iota_from (iota.Candidate e T d) (truth q) = refl
+  iota_from (iota.CandidateSame e d) (a_tree v) = refl
+  iota_from (iota.CandidateSame e d) (truth q) = from_program a_tree (iotas.compared_rest e (redex_at w e) d q)
+  iota_from (iota.Major e) (a_tree v) = from_program a_tree (iotas.form_rest e (redex_at w e) v)
+  iota_from (iota.Major e) (truth q) = refl
+
   core_from : (s : CoreSheet Tree) (v : Value) → IsFrom (λ t. core_rest w t s v)
   core_from core.Passed (a_tree e) = from_gives (a_tree e)
   core_from core.Passed (truth r) = refl
@@ -56,6 +74,7 @@ module _ (w : Place) (last : Option ℕ) (b : ℕ) where
   core_from (core.Head a) (truth r) = refl
   core_from core.WhnfCore (a_tree e) = from_program a_tree (whnf_end e)
   core_from core.WhnfCore (truth r) = refl
+  core_from (core.Iota s) v = iota_from s v
 
   type_from : (s : TypeSheet Tree) (v : Value) → IsFrom (λ t. type_rest w t s v)
   type_from Passed (a_tree v) = from_gives (a_tree v)

@@ -2,7 +2,7 @@
 use Rattle.std.specs.Prelude.{Bool, true, false, if◌then◌else◌}
 use Rattle.lk_tree.specs.Tree.{Name}
 use Rattle.lk_tree.specs.RuleNo.{RuleNo, builtin_shape}
-use Rattle.lk_rulebook.specs.Place.{Entry, Kind, an_axiom, a_def, a_thm, an_opaque}
+use Rattle.lk_rulebook.specs.Place.{Entry, Kind, an_axiom, a_def, a_thm, an_opaque, a_quot, a_type, a_ctor, a_rec}
 use Rattle.lk_plain.specs.Query.{Query, AnswerTo}
 use Rattle.lk_plain.specs.Program.{Program, done, refuse, ask, look, Table}
 
@@ -16,7 +16,10 @@ is_built_kind an_axiom = true
 is_built_kind (a_def h v) = true
 is_built_kind (a_thm v) = true
 is_built_kind (an_opaque v) = true
-is_built_kind _ = false
+is_built_kind a_quot = false
+is_built_kind (a_type b t) = true
+is_built_kind (a_ctor b t c) = true
+is_built_kind (a_rec r) = true
 
 -- what goes on with an entry, where its kind is built
 abbrev pub where_built : {A : Type 0} → (Entry → Program A) → Entry → Program A

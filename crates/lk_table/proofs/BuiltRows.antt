@@ -1,10 +1,9 @@
 -- The rows that are built lie within the table.
-use Rattle.std.proofs.Common.{◌≡◌, Bool, true, false, List, ◌&&◌, refl, ap, if◌then◌else◌}
+use Rattle.std.proofs.Common.{◌≡◌, Bool, true, false, List, refl, ap, if◌then◌else◌}
 use Rattle.lk_tree.specs.Tree.{Name, Level, Tree, var, sort, const, app, lam, pi, let_in, proj, lit, wide, str, local}
 use Rattle.lk_tree.specs.Spine.{head, args}
 use Rattle.lk_tree.specs.RuleNo.{builtin_shape}
 use Rattle.lk_rulebook.specs.Place.{Entry}
-use Rattle.lk_rulebook.specs.Literals.{by_def}
 use Rattle.lk_plain.specs.Query.{same}
 use Rattle.lk_plain.specs.Program.{Program, done, refuse, ◌>>=◌}
 use Rattle.lk_plain.specs.Parts.{IsPart, stops, ends, asks, looks}
@@ -16,8 +15,10 @@ use Rattle.lk_table.specs.Core.{core_applied, unfolded, stepped, core_steps, whn
 use Rattle.lk_table.specs.Infer.{infer_steps}
 use Rattle.lk_table.specs.Same.{by_shape}
 use Rattle.lk_table.specs.Table.{steps}
-use Rattle.lk_table.specs.Built.{is_built_kind, where_built, built_applied, core_row, names_operation, unfolded_built, whnf_built, whnf_row, infer_row}
+use Rattle.lk_table.specs.BuiltIota.{core_constant_built}
+use Rattle.lk_table.specs.Built.{is_built_kind, where_built, built_applied, core_row, may_compute, unfolded_built, whnf_built, whnf_row, infer_row}
 use Rattle.lk_table.proofs.BuiltSteps.{no_literal_step}
+use Rattle.lk_table.proofs.BuiltIotas.{constant_part}
 
 part_where : {A : Type 0} (k whole : Entry → Program A) (g : Entry) → (is_built_kind g.kind ≡ true → IsPart (k g) (whole g)) → IsPart (where_built k g) (whole g)
 part_where k whole g part = go (is_built_kind g.kind) refl
@@ -29,7 +30,8 @@ part_where k whole g part = go (is_built_kind g.kind) refl
 part_applied : (e h : Tree) (xs : List Tree) → IsPart (built_applied e h xs) (core_applied e h xs)
 part_applied e (let_in A v b) xs = part_itself _
 part_applied e (proj S i s) xs = stops
-part_applied e (const c ls) xs = looks (λ g. part_where (λ x. core_constant e c ls xs x x.kind) (λ x. core_constant e c ls xs x x.kind) g (λ b. part_itself _))
+part_applied e (const c ls) xs =
+    looks (λ g. part_where (λ x. core_constant_built e ls xs x x.kind) (λ x. core_constant e c ls xs x x.kind) g (λ b. constant_part e c ls xs g g.kind b))
 part_applied e (var i) xs = part_itself _
 part_applied e (sort l) xs = part_itself _
 part_applied e (app f a) xs = part_itself _
@@ -57,17 +59,17 @@ core_part (local k T) = ends
 whole_constant : Tree → Name → List Level → Entry → Program Tree
 whole_constant c f ls g = literal_step c f ls g >>= λ r. stepped r (unfolded g (const f ls) c (value_of g.kind))
 
-part_unfolded : (c : Tree) (f : Name) (ls : List Level) (g : Entry) → is_built_kind g.kind ≡ true → IsPart (unfolded_built c f (const f ls) g) (whole_constant c f ls g)
+part_unfolded : (c : Tree) (f : Name) (ls : List Level) (g : Entry) → IsPart (unfolded_built c f (const f ls) g) (whole_constant c f ls g)
 unfolding whole_constant
-part_unfolded c f ls g b = go (by_def g.kind && names_operation f) refl
+part_unfolded c f ls g = go (may_compute c f g.kind) refl
   where
-    go : (o : Bool) → (by_def g.kind && names_operation f) ≡ o → IsPart (if o then refuse builtin_shape else unfolded g (const f ls) c (value_of g.kind)) (whole_constant c f ls g)
+    go : (o : Bool) → may_compute c f g.kind ≡ o → IsPart (if o then refuse builtin_shape else unfolded g (const f ls) c (value_of g.kind)) (whole_constant c f ls g)
     go true e = stops
-    go false e = rw (no_literal_step c f ls g b e) (part_itself _)
+    go false e = rw (no_literal_step c f ls g e) (part_itself _)
 
 part_headed : (c h : Tree) → IsPart (whnf_built c h) (whnf_headed c h)
 unfolding whole_constant
-part_headed c (const f ls) = looks (λ g. part_where (unfolded_built c f (const f ls)) (whole_constant c f ls) g (part_unfolded c f ls g))
+part_headed c (const f ls) = looks (λ g. part_where (unfolded_built c f (const f ls)) (whole_constant c f ls) g (λ b. part_unfolded c f ls g))
 part_headed c (let_in A v b) = ends
 part_headed c (proj S i s) = ends
 part_headed c (app f a) = ends

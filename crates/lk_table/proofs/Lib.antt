@@ -1,3 +1,4 @@
+pub mod BuiltIotas
 pub mod BuiltSteps
 pub mod Costs
 pub mod Stuck

@@ -1,24 +1,23 @@
 -- The part of the question table that the program answers today. Trees are variables, sorts, constants, applications, lambdas,
--- Pis, Lets and Locals; constants are axioms, definitions, theorems and opaques. What is not built yet is refused, and so is
--- Whnf at a definition that has the name of an operation on numbers. Two trees that the table calls the same only by a line
--- that is not built are not the same.
-use Rattle.std.specs.Prelude.{Bool, true, false, nat_eq, max, List, ◌∷◌, length, Option, Some, None, ◌&&◌, if◌then◌else◌}
+-- Pis, Lets and Locals; constants are all but those of quotients. What is not built yet is refused, and so is Whnf where an
+-- operation on numbers may be computed. Two trees that the table calls the same only by a line that is not built are not the
+-- same.
+use Rattle.std.specs.Prelude.{Bool, true, false, nat_eq, max, List, [], ◌∷◌, length, Option, Some, None, ◌&&◌, if◌then◌else◌}
 use Rattle.lk_tree.specs.Tree.{Name, name_discrete, Tree, sort, const, app, lam, pi, proj, lit, wide, str}
 use Rattle.lk_tree.specs.Bind.{bound}
 use Rattle.lk_tree.specs.Spine.{head, args}
 use Rattle.lk_tree.specs.RuleNo.{unknown_constant, builtin_shape}
-use Rattle.lk_tree.specs.Operations.{Op}
-use Rattle.lk_rulebook.specs.Place.{Entry}
-use Rattle.lk_rulebook.specs.Literals.{by_def}
+use Rattle.lk_tree.specs.Operations.{Op, succ, log2, add, sub, mul, div, modulo, gcd, beq, ble, land, lor, xor, shift_left, shift_right, pow}
+use Rattle.lk_rulebook.specs.Place.{Entry, Kind, a_def, a_ctor}
 use Rattle.lk_plain.specs.Query.{core, whnf, infer, same}
 pub use Rattle.lk_plain.specs.Parts.{is_built_kind, where_built}
 use Rattle.lk_plain.specs.Program.{Program, done, refuse, look, asked, Table, ◌>>=◌}
 use Rattle.lk_table.specs.Steps.{is_same_tree, decided, with_levels, value_of}
 use Rattle.lk_table.specs.Levels.{LevelTest, complete_test, levels_equal}
 use Rattle.lk_table.specs.Pairs.{same_bodies, by_core, same_all, ◌or_else◌}
-use Rattle.lk_table.specs.Iota.{core_constant}
+use Rattle.lk_table.specs.BuiltIota.{core_constant_built}
 use Rattle.lk_table.specs.Core.{core_applied, core_steps, unfolded}
-use Rattle.lk_table.specs.Literals.{ops, op_named}
+use Rattle.lk_table.specs.Literals.{op_named}
 use Rattle.lk_table.specs.Unfolding.{by_unfolding}
 use Rattle.lk_table.specs.Same.{by_proof_irrelevance}
 use Rattle.lk_table.specs.Infer.{infer_steps}
@@ -26,7 +25,7 @@ use Rattle.lk_table.specs.Infer.{infer_steps}
 -- e is h applied to these arguments, of which there is at least one
 abbrev pub built_applied : Tree → Tree → List Tree → Program Tree
 built_applied e (proj S i s) xs = refuse builtin_shape
-built_applied e (const c ls) xs = look unknown_constant c (where_built λ g. core_constant e c ls xs g g.kind)
+built_applied e (const c ls) xs = look unknown_constant c (where_built λ g. core_constant_built e ls xs g g.kind)
 built_applied e h xs = core_applied e h xs
 
 abbrev pub core_row : Tree → Program Tree
@@ -34,17 +33,31 @@ core_row (proj S i s) = refuse builtin_shape
 core_row (app f a) = built_applied (app f a) (head f) (args (app f a))
 core_row e = core_steps e
 
+-- the operations that are definitions; the other one is the successor
+abbrev pub def_ops : List Op
+def_ops = log2 ∷ add ∷ sub ∷ mul ∷ div ∷ modulo ∷ gcd ∷ beq ∷ ble ∷ land ∷ lor ∷ xor ∷ shift_left ∷ shift_right ∷ pow ∷ []
+
 abbrev pub is_some_op : Option Op → Bool
 is_some_op (Some op) = true
 is_some_op None = false
 
--- whether it is the name of an operation on numbers
-abbrev pub names_operation : Name → Bool
-names_operation f = is_some_op (op_named ops f)
+-- whether it is the name of one of these operations on numbers
+abbrev pub names_one_of : List Op → Name → Bool
+names_one_of os f = is_some_op (op_named os f)
 
--- c, whose head is the constant f ls of this entry, is unfolded; that a definition computes numbers is not built
+-- the operations that a constant of this kind may be
+abbrev pub ops_of_kind : Kind → List Op
+ops_of_kind (a_def h v) = def_ops
+ops_of_kind (a_ctor b t c) = succ ∷ []
+ops_of_kind _ = []
+
+-- whether the table may compute c, whose head is the constant f of this kind: f is an operation, and no Local stands in c
+abbrev pub may_compute : Tree → Name → Kind → Bool
+may_compute c f k = nat_eq (bound c) 0 && names_one_of (ops_of_kind k) f
+
+-- c, whose head is the constant f ls of this entry, is unfolded; that numbers are computed is not built
 abbrev pub unfolded_built : Tree → Name → Tree → Entry → Program Tree
-unfolded_built c f h g = if by_def g.kind && names_operation f then refuse builtin_shape else unfolded g h c (value_of g.kind)
+unfolded_built c f h g = if may_compute c f g.kind then refuse builtin_shape else unfolded g h c (value_of g.kind)
 
 -- what is left of Whnf once its Core is c, with this head
 abbrev pub whnf_built : Tree → Tree → Program Tree

@@ -16,4 +16,5 @@ pub mod Steps
 pub mod Strings
 pub mod Table
 pub mod Declarations
+pub mod BuiltIota
 pub mod Built

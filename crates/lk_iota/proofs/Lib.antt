@@ -1,0 +1,4 @@
+pub mod Splits
+pub mod Forms
+pub mod RightSides
+pub mod Going

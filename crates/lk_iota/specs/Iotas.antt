@@ -1,0 +1,104 @@
+-- What Core of a recursor that is applied goes on with, once the answer is there that it waits for.
+use Rattle.std.specs.Prelude.{ℕ, Bool, List, Option, Some, None, if◌then◌else◌}
+use Rattle.lk_tree.specs.Tree.{Level, Tree}
+use Rattle.lk_tree.specs.Spine.{head}
+use Rattle.lk_tree.specs.RuleNo.{loose_variable}
+use Rattle.lk_rulebook.specs.Place.{Place}
+use Rattle.lk_plain.specs.Query.{whnf, same}
+use Rattle.lk_plain.specs.Program.{Program, done, refuse, ask, ◌>>=◌}
+use Rattle.lk_plain.specs.Erased.{Value, a_tree, Steps, gives, with_tree, with_truth, erased}
+use Rattle.lk_table.specs.Iota.{CtorApp, only_ctor, to_ctor_when_k, levels_at, k_from, iota_at_ctor}
+use Rattle.lk_table.specs.BuiltIota.{no_structure, as_ctor_app_built, iota_of_built, no_literal, iota_after_k_built, iota_built}
+use Rattle.lk_ask.specs.declared.next.Next.{Next}
+use Rattle.lk_ask.specs.declared.sheet.IotaSheet.{IotaSheet}
+use Rattle.lk_ask.specs.declared.sheet.IotaSheet.TheVariants.{Passed, MajorType, MajorTypeForm, Candidate, CandidateSame, Major}
+use Rattle.lk_ask.specs.Nexts.{next_steps}
+use Rattle.lk_ask.specs.Sheets.{map_iota}
+use Rattle.lk_iota.specs.Redexes.{PlainRedex, redex_at}
+use Rattle.lk_iota.specs.Shapes.{only_at}
+
+-- after K, which may have taken the major premise for a constructor
+abbrev pub after_k : Tree → PlainRedex → Option Tree → Program Tree
+after_k e p d = iota_after_k_built e p.entry p.levels p.recursor p.front p.major p.rest d
+
+-- e is this recursor applied, which has K
+abbrev pub with_k : Tree → PlainRedex → Program Tree
+with_k e p = do
+  b ← only_ctor p.recursor.rules
+  d ← to_ctor_when_k p.recursor p.major b
+  after_k e p d
+
+-- e is this recursor applied
+abbrev pub of_redex : Tree → PlainRedex → Program Tree
+of_redex e p = iota_built e p.entry p.levels p.recursor p.front (Some p.major) p.rest
+
+abbrev pub of_redex_if : Tree → Option PlainRedex → Program Tree
+of_redex_if e None = done e
+of_redex_if e (Some p) = of_redex e p
+
+-- m stands for the major premise
+abbrev pub by_subject : Tree → PlainRedex → Tree → Program Tree
+by_subject e p m = iota_of_built e p.entry p.levels p.recursor p.front p.rest m
+
+-- the constructor that is applied in place of the major premise
+abbrev pub at_ctor : Tree → PlainRedex → Option CtorApp → Program Tree
+at_ctor e p c = iota_at_ctor e p.entry p.levels p.recursor p.front p.rest c
+
+-- the major premise is no constructor, or one that is applied
+abbrev pub by_app : Tree → PlainRedex → Option CtorApp → Program Tree
+by_app e p b = do
+  c ← as_ctor_app_built p.recursor b
+  at_ctor e p c
+
+-- the major premise is none, and k the constructor of the only rule
+abbrev pub by_only : Tree → PlainRedex → Option CtorApp → Program Tree
+by_only e p k = do
+  c ← no_structure k
+  at_ctor e p c
+
+-- m is the weak head form of the major premise
+abbrev pub by_form : Tree → PlainRedex → Tree → Program Tree
+by_form e p m = do
+  s ← no_literal m
+  by_subject e p s
+
+abbrev pub form_rest : Tree → Option PlainRedex → Tree → Program Tree
+form_rest e None m = refuse loose_variable
+form_rest e (Some p) m = by_form e p m
+
+-- T is the weak head form of the major premise's type, and b the constructor of the only rule
+abbrev pub at_levels : Tree → PlainRedex → CtorApp → Tree → Option (List Level) → Program Tree
+at_levels e p b T ks = do
+  d ← k_from b T ks
+  after_k e p d
+
+abbrev pub by_type : Tree → PlainRedex → CtorApp → Tree → Program Tree
+by_type e p b T = at_levels e p b T (levels_at b.ind.name (head T))
+
+abbrev pub by_type_if : Tree → PlainRedex → Tree → Option CtorApp → Program Tree
+by_type_if e p T None = refuse loose_variable
+by_type_if e p T (Some b) = by_type e p b T
+
+abbrev pub type_rest : Place → Tree → Option PlainRedex → Tree → Program Tree
+type_rest w e None T = refuse loose_variable
+type_rest w e (Some p) T = by_type_if e p T (only_at w p.recursor.rules)
+
+-- the candidate d, once its type was compared
+abbrev pub compared_rest : Tree → Option PlainRedex → Tree → Bool → Program Tree
+compared_rest e None d equal = refuse loose_variable
+compared_rest e (Some p) d equal = do
+  o ← if equal then done (Some d) else done None
+  after_k e p o
+
+-- what a sheet waits for, and goes on with; last is the last unit that was looked at before
+abbrev pub iota_rest : Place → Option ℕ → IotaSheet Tree → Value → Steps
+iota_rest w last Passed = with_tree (λ v. gives last (a_tree v))
+iota_rest w last (MajorType e) = with_tree (λ T₀. erased w a_tree last (ask (whnf T₀) (λ T. type_rest w e (redex_at w e) T)))
+iota_rest w last (MajorTypeForm e) = with_tree (λ T. erased w a_tree last (type_rest w e (redex_at w e) T))
+iota_rest w last (Candidate e T d) = with_tree (λ D. erased w a_tree last (ask (same T D) (λ equal. compared_rest e (redex_at w e) d equal)))
+iota_rest w last (CandidateSame e d) = with_truth (λ equal. erased w a_tree last (compared_rest e (redex_at w e) d equal))
+iota_rest w last (Major e) = with_tree (λ m. erased w a_tree last (form_rest e (redex_at w e) m))
+
+-- what Core of a recursor does next; t is what numbers stand for
+abbrev pub iota_next : Place → (ℕ → Tree) → Option ℕ → Next ℕ (IotaSheet ℕ) → Steps
+iota_next w t last next = next_steps (λ s. iota_rest w None (map_iota t s)) t last next

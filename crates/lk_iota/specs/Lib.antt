@@ -1,0 +1,4 @@
+pub mod Redexes
+pub mod Shapes
+pub mod RightSides
+pub mod Iotas

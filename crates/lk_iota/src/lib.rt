@@ -1,0 +1,9 @@
+//! `Core` of a recursor that is applied: what is asked, step by step, as the table says it.
+#![tactic(auto)]
+
+mod candidate;
+pub mod iota;
+mod major;
+mod rule;
+mod shape;
+mod subject;
