@@ -1,0 +1,4 @@
+pub mod Counts
+pub mod Courses
+pub mod Forms
+pub mod Parts

@@ -1,0 +1,125 @@
+//! Pis opened one after another, each with a Local of its own.
+
+ghost use Rattle.std.specs.Prelude.{◌≡◌, ◌<◌, suc, ◌++◌, ◌∷◌, [], length, map, All, IfOk, OnOk};
+ghost use Rattle.lk_tree.specs.Tree.{local};
+ghost use Rattle.lk_tree.specs.Bind.{opened};
+ghost use Rattle.lk_store.specs.Contents.{tree_at, Extends, IsTree};
+ghost use Rattle.lk_blocks.specs.BlockSteps.{telescope};
+ghost use Rattle.lk_block.specs.Courses.{Gives};
+ghost use Rattle.lk_block.specs.Forms.{local_form};
+
+use crate::asking::pi_of;
+use crate::builds::Builds;
+use lk_ask::stop::Stop;
+use lk_rows::memory::NoMemory;
+use lk_store::node::Node;
+use std::alloc::Global;
+
+/// The Local of a number for a Pi, and the Pi's body, opened with it.
+fn open_local<A: Builds>(
+    alloc: Global,
+    asks: &mut A,
+    number: u64,
+    domain: u64,
+    body: u64,
+) -> Result<(u64, u64), NoMemory>
+    requires domain_in { domain < length (A.contents asks.old).trees }
+    requires body_in { body < length (A.contents asks.old).trees }
+    ensures keeps { Extends (A.contents asks.old) (A.contents asks.new) }
+    ensures rest { A.rest asks.new ≡ A.rest asks.old }
+    ensures table { A.table asks.new ≡ A.table asks.old }
+    ensures place { A.place asks.new ≡ A.place asks.old }
+    ensures left { A.left asks.new ≡ A.left asks.old }
+    ensures made { IfOk result (λ p. IsTree (A.contents asks.new) p.0 (local number (tree_at (A.contents asks.old) domain))) }
+    ensures opened { IfOk result (λ p. IsTree (A.contents asks.new) p.1 (opened (tree_at (A.contents asks.old) body) (local number (tree_at (A.contents asks.old) domain)))) }
+{
+    let local = asks.build(Node::Local(number, domain))?;
+    let rest = asks.open(alloc, body, local)?;
+    Ok((local, rest))
+}
+
+/// The Local of a number for the Pi that a term's weak head form is to be, and what is left, opened with it.
+fn next_local<A: Builds>(
+    alloc: Global,
+    asks: &mut A,
+    number: u64,
+    e: u64,
+) -> Result<(u64, u64), Stop>
+    requires { e < length (A.contents asks.old).trees }
+    ensures keeps { Extends (A.contents asks.old) (A.contents asks.new) }
+    ensures rest { A.rest asks.new ≡ A.rest asks.old }
+    ensures table { A.table asks.new ≡ A.table asks.old }
+    ensures place { A.place asks.new ≡ A.place asks.old }
+    ensures known { IfOk result (λ p. (p.0 < length (A.contents asks.new).trees) × (p.1 < length (A.contents asks.new).trees)) }
+    ensures outcome { Gives (A.table asks.old) (A.place asks.old) (local_form number (tree_at (A.contents asks.old) e)) (A.left asks.old) (λ p. (tree_at (A.contents asks.new) p.0, tree_at (A.contents asks.new) p.1)) (A.left asks.new) result }
+{
+    let parts = match pi_of(asks, e) {
+        Ok(parts) => parts,
+        Err(stop) => return Err(stop),
+    };
+    match open_local(alloc, asks, number, parts.0, parts.1) {
+        Ok(opened) => Ok(opened),
+        Err(_) => Err(Stop::NoMemory),
+    }
+}
+
+/// The number after this one. No Local in memory has the greatest number.
+fn number_after(number: u64) -> Result<u64, NoMemory>
+    ensures { IfOk result (λ n. n ≡ suc number) }
+{
+    match number.checked_add(1) {
+        Some(next) => Ok(next),
+        None => Err(NoMemory),
+    }
+}
+
+/// Adds a Local, the number of which is taken, and tells the next number.
+fn keep_local(locals: &mut Vec<u64>, local: u64, number: u64) -> Result<u64, Stop>
+    ensures locals { OnOk result (locals.new.items ≡ locals.old.items ++ local ∷ []) }
+    ensures next { IfOk result (λ n. n ≡ suc number) }
+{
+    match locals.push(local) {
+        Ok(_) => {}
+        Err(_) => return Err(Stop::NoMemory),
+    }
+    match number_after(number) {
+        Ok(next) => Ok(next),
+        Err(_) => Err(Stop::NoMemory),
+    }
+}
+
+/// So many Pis of a term, opened with Locals from a number on: the Locals, and what is left.
+pub fn telescope<A: Builds>(
+    alloc: Global,
+    asks: &mut A,
+    first: u64,
+    count: u64,
+    e: u64,
+) -> Result<(Vec<u64>, u64), Stop>
+    requires { e < length (A.contents asks.old).trees }
+    ensures keeps { Extends (A.contents asks.old) (A.contents asks.new) }
+    ensures rest { A.rest asks.new ≡ A.rest asks.old }
+    ensures table { A.table asks.new ≡ A.table asks.old }
+    ensures place { A.place asks.new ≡ A.place asks.old }
+    ensures locals_known { IfOk result (λ t. All (λ x. x < length (A.contents asks.new).trees) t.0.items) }
+    ensures rest_known { IfOk result (λ t. t.1 < length (A.contents asks.new).trees) }
+    ensures outcome { Gives (A.table asks.old) (A.place asks.old) (telescope first count (tree_at (A.contents asks.old) e)) (A.left asks.old) (λ t. (map (tree_at (A.contents asks.new)) t.0.items, tree_at (A.contents asks.new) t.1)) (A.left asks.new) result }
+{
+    let mut locals: Vec<u64> = Vec::new(alloc);
+    let mut number = first;
+    let mut left = count;
+    let mut rest = e;
+    'pis: while left > 0 {
+        let opened = match next_local(alloc, asks, number, rest) {
+            Ok(opened) => opened,
+            Err(stop) => return Err(stop),
+        };
+        number = match keep_local(&mut locals, opened.0, number) {
+            Ok(next) => next,
+            Err(_) => return Err(Stop::NoMemory),
+        };
+        rest = opened.1;
+        left -= 1;
+    }
+    Ok((locals, rest))
+}

@@ -1,0 +1,307 @@
+//! The types of a block: what their parameters, their indices and the level of their sort are.
+
+ghost use Rattle.std.specs.Prelude.{◌≡◌, ◌<◌, ◌∷◌, [], length, map, All, IfOk};
+ghost use Rattle.lk_store.specs.Contents.{level_at, tree_at, Extends};
+ghost use Rattle.lk_env.specs.Units.{type_at, IsTypeIn};
+ghost use Rattle.lk_blocks.specs.BlockSteps.{type_end, types_steps};
+ghost use Rattle.lk_block.specs.Courses.{Gives};
+ghost use Rattle.lk_block.specs.Forms.{end_form, next_form};
+ghost use Rattle.lk_block.specs.Parts.{lists_at, AreListsIn, parts_at, ArePartsIn, more_form, self_form, open_form, first_form, others_form};
+
+use crate::asking::{level_of, levels_equal, sort_of};
+use crate::builds::Builds;
+use crate::over::over;
+use crate::telescope::telescope;
+use lk_ask::rule::Rule;
+use lk_ask::stop::Stop;
+use lk_env::unit::BlockType;
+use lk_rows::memory::NoMemory;
+use std::alloc::Global;
+
+/// The indices of a type past its parameters, and the level of its sort.
+pub fn type_end<A: Builds>(
+    alloc: Global,
+    asks: &mut A,
+    first: u64,
+    count: u64,
+    e: u64,
+) -> Result<(Vec<u64>, u64), Stop>
+    requires { e < length (A.contents asks.old).trees }
+    ensures keeps { Extends (A.contents asks.old) (A.contents asks.new) }
+    ensures rest { A.rest asks.new ≡ A.rest asks.old }
+    ensures table { A.table asks.new ≡ A.table asks.old }
+    ensures place { A.place asks.new ≡ A.place asks.old }
+    ensures indices_known { IfOk result (λ t. All (λ x. x < length (A.contents asks.new).trees) t.0.items) }
+    ensures level_known { IfOk result (λ t. t.1 < length (A.contents asks.new).levels) }
+    ensures outcome { Gives (A.table asks.old) (A.place asks.old) (type_end first count (tree_at (A.contents asks.old) e)) (A.left asks.old) (λ t. (map (tree_at (A.contents asks.new)) t.0.items, level_at (A.contents asks.new) t.1)) (A.left asks.new) result }
+{
+    let opened = match telescope(alloc, asks, first, count, e) {
+        Ok(opened) => opened,
+        Err(stop) => return Err(stop),
+    };
+    match level_of(asks, opened.1) {
+        Ok(level) => Ok((opened.0, level)),
+        Err(stop) => Err(stop),
+    }
+}
+
+/// The indices of a type past its parameters, where the level of its sort is to be this one.
+fn end_at_level<A: Builds>(
+    alloc: Global,
+    asks: &mut A,
+    first: u64,
+    count: u64,
+    level: u64,
+    e: u64,
+) -> Result<Vec<u64>, Stop>
+    requires e_in { e < length (A.contents asks.old).trees }
+    requires level_in { level < length (A.contents asks.old).levels }
+    ensures keeps { Extends (A.contents asks.old) (A.contents asks.new) }
+    ensures rest { A.rest asks.new ≡ A.rest asks.old }
+    ensures table { A.table asks.new ≡ A.table asks.old }
+    ensures place { A.place asks.new ≡ A.place asks.old }
+    ensures known { IfOk result (λ t. All (λ x. x < length (A.contents asks.new).trees) t.items) }
+    ensures outcome { Gives (A.table asks.old) (A.place asks.old) (end_form first count (level_at (A.contents asks.old) level) (tree_at (A.contents asks.old) e)) (A.left asks.old) (λ t. map (tree_at (A.contents asks.new)) t.items) (A.left asks.new) result }
+{
+    let end = match type_end(alloc, asks, first, count, e) {
+        Ok(end) => end,
+        Err(stop) => return Err(stop),
+    };
+    match levels_equal(alloc, asks, end.1, level) {
+        Ok(true) => Ok(end.0),
+        Ok(false) => Err(Stop::Rule(Rule::BlockShape)),
+        Err(stop) => Err(stop),
+    }
+}
+
+/// The indices of a type after the first one: it has a sort, its parameters are those of the first, and so is its level.
+pub fn next_type<A: Builds>(
+    alloc: Global,
+    asks: &mut A,
+    parameters: &[u64],
+    level: u64,
+    kind: u64,
+    indices: u64,
+) -> Result<Vec<u64>, Stop>
+    requires parameters_in { All (λ x. x < length (A.contents asks.old).trees) parameters.now }
+    requires level_in { level < length (A.contents asks.old).levels }
+    requires kind_in { kind < length (A.contents asks.old).trees }
+    ensures keeps { Extends (A.contents asks.old) (A.contents asks.new) }
+    ensures rest { A.rest asks.new ≡ A.rest asks.old }
+    ensures table { A.table asks.new ≡ A.table asks.old }
+    ensures place { A.place asks.new ≡ A.place asks.old }
+    ensures known { IfOk result (λ t. All (λ x. x < length (A.contents asks.new).trees) t.items) }
+    ensures outcome { Gives (A.table asks.old) (A.place asks.old) (next_form (map (tree_at (A.contents asks.old)) parameters.now) (level_at (A.contents asks.old) level) indices (tree_at (A.contents asks.old) kind)) (A.left asks.old) (λ t. map (tree_at (A.contents asks.new)) t.items) (A.left asks.new) result }
+{
+    match sort_of(asks, kind) {
+        Ok(_) => {}
+        Err(stop) => return Err(stop),
+    }
+    let rest = match over(alloc, asks, parameters, kind) {
+        Ok(rest) => rest,
+        Err(stop) => return Err(stop),
+    };
+    end_at_level(alloc, asks, parameters.len() as u64, indices, level, rest)
+}
+
+/// The indices of a type past its parameters, and the level of its sort, which is not too wide.
+fn end_with_itself<A: Builds>(
+    alloc: Global,
+    asks: &mut A,
+    first: u64,
+    count: u64,
+    e: u64,
+) -> Result<(Vec<u64>, u64), Stop>
+    requires { e < length (A.contents asks.old).trees }
+    ensures keeps { Extends (A.contents asks.old) (A.contents asks.new) }
+    ensures rest { A.rest asks.new ≡ A.rest asks.old }
+    ensures table { A.table asks.new ≡ A.table asks.old }
+    ensures place { A.place asks.new ≡ A.place asks.old }
+    ensures indices_known { IfOk result (λ t. All (λ x. x < length (A.contents asks.new).trees) t.0.items) }
+    ensures level_known { IfOk result (λ t. t.1 < length (A.contents asks.new).levels) }
+    ensures outcome { Gives (A.table asks.old) (A.place asks.old) (self_form first count (tree_at (A.contents asks.old) e)) (A.left asks.old) (λ t. (map (tree_at (A.contents asks.new)) t.0.items, level_at (A.contents asks.new) t.1)) (A.left asks.new) result }
+{
+    let end = match type_end(alloc, asks, first, count, e) {
+        Ok(end) => end,
+        Err(stop) => return Err(stop),
+    };
+    match levels_equal(alloc, asks, end.1, end.1) {
+        Ok(true) => Ok(end),
+        Ok(false) => Err(Stop::Rule(Rule::BlockShape)),
+        Err(stop) => Err(stop),
+    }
+}
+
+/// What the checks of a block's types find out: the Locals of the parameters, the level of the types' sort, and each type's
+/// Locals of its indices.
+#[derive(Drop)]
+pub struct TypeParts {
+    pub parameters: Vec<u64>,
+    pub sort: u64,
+    pub indices: Vec<Vec<u64>>,
+}
+
+/// The indices of the types after the first one are added to those of the first.
+fn more_types<A: Builds>(
+    alloc: Global,
+    asks: &mut A,
+    parameters: &[u64],
+    level: u64,
+    types: &[BlockType],
+    indices: &mut Vec<Vec<u64>>,
+) -> Result<(), Stop>
+    requires parameters_in { All (λ x. x < length (A.contents asks.old).trees) parameters.now }
+    requires level_in { level < length (A.contents asks.old).levels }
+    requires types_in { All (IsTypeIn (A.contents asks.old)) types.now }
+    requires indices_in { AreListsIn (A.contents asks.old) indices.old.items }
+    ensures keeps { Extends (A.contents asks.old) (A.contents asks.new) }
+    ensures rest { A.rest asks.new ≡ A.rest asks.old }
+    ensures table { A.table asks.new ≡ A.table asks.old }
+    ensures place { A.place asks.new ≡ A.place asks.old }
+    ensures known { AreListsIn (A.contents asks.new) indices.new.items }
+    ensures outcome { Gives (A.table asks.old) (A.place asks.old) (more_form (lists_at (A.contents asks.old) indices.old.items) (map (tree_at (A.contents asks.old)) parameters.now) (level_at (A.contents asks.old) level) (map (type_at (A.contents asks.old)) types.now)) (A.left asks.old) (λ u. lists_at (A.contents asks.new) indices.new.items) (A.left asks.new) result }
+{
+    let mut rest = types;
+    'types: while let Some((stated, more)) = rest.split_first() {
+        let own = match next_type(alloc, asks, parameters, level, stated.kind, stated.indices) {
+            Ok(own) => own,
+            Err(stop) => return Err(stop),
+        };
+        match indices.push(own) {
+            Ok(_) => {}
+            Err(_) => return Err(Stop::NoMemory),
+        }
+        rest = more;
+    }
+    Ok(())
+}
+
+/// The parts of a block whose first type has these.
+fn parts_of(
+    alloc: Global,
+    parameters: Vec<u64>,
+    indices: Vec<u64>,
+    sort: u64,
+) -> Result<TypeParts, NoMemory>
+    ensures parameters { IfOk result (λ p. p.parameters ≡ parameters) }
+    ensures sort { IfOk result (λ p. p.sort ≡ sort) }
+    ensures indices { IfOk result (λ p. p.indices.items ≡ indices ∷ []) }
+{
+    let mut all: Vec<Vec<u64>> = Vec::new(alloc);
+    all.push(indices)?;
+    Ok(TypeParts {
+        parameters,
+        sort,
+        indices: all,
+    })
+}
+
+/// The parts of a block with the first type's alone, past its sort.
+fn open_parameters<A: Builds>(
+    alloc: Global,
+    asks: &mut A,
+    parameters: u64,
+    kind: u64,
+    indices: u64,
+) -> Result<TypeParts, Stop>
+    requires { kind < length (A.contents asks.old).trees }
+    ensures keeps { Extends (A.contents asks.old) (A.contents asks.new) }
+    ensures rest { A.rest asks.new ≡ A.rest asks.old }
+    ensures table { A.table asks.new ≡ A.table asks.old }
+    ensures place { A.place asks.new ≡ A.place asks.old }
+    ensures known { IfOk result (ArePartsIn (A.contents asks.new)) }
+    ensures outcome { Gives (A.table asks.old) (A.place asks.old) (open_form parameters indices (tree_at (A.contents asks.old) kind)) (A.left asks.old) (parts_at (A.contents asks.new)) (A.left asks.new) result }
+{
+    let opened = match telescope(alloc, asks, 0, parameters, kind) {
+        Ok(opened) => opened,
+        Err(stop) => return Err(stop),
+    };
+    let end = match end_with_itself(alloc, asks, parameters, indices, opened.1) {
+        Ok(end) => end,
+        Err(stop) => return Err(stop),
+    };
+    match parts_of(alloc, opened.0, end.0, end.1) {
+        Ok(parts) => Ok(parts),
+        Err(_) => Err(Stop::NoMemory),
+    }
+}
+
+/// The parts of a block with the first type's alone.
+fn first_type<A: Builds>(
+    alloc: Global,
+    asks: &mut A,
+    parameters: u64,
+    kind: u64,
+    indices: u64,
+) -> Result<TypeParts, Stop>
+    requires { kind < length (A.contents asks.old).trees }
+    ensures keeps { Extends (A.contents asks.old) (A.contents asks.new) }
+    ensures rest { A.rest asks.new ≡ A.rest asks.old }
+    ensures table { A.table asks.new ≡ A.table asks.old }
+    ensures place { A.place asks.new ≡ A.place asks.old }
+    ensures known { IfOk result (ArePartsIn (A.contents asks.new)) }
+    ensures outcome { Gives (A.table asks.old) (A.place asks.old) (first_form parameters indices (tree_at (A.contents asks.old) kind)) (A.left asks.old) (parts_at (A.contents asks.new)) (A.left asks.new) result }
+{
+    match sort_of(asks, kind) {
+        Ok(_) => open_parameters(alloc, asks, parameters, kind, indices),
+        Err(stop) => Err(stop),
+    }
+}
+
+/// The parts of a block, once those of its first type are known.
+fn add_others<A: Builds>(
+    alloc: Global,
+    asks: &mut A,
+    parts: TypeParts,
+    others: &[BlockType],
+) -> Result<TypeParts, Stop>
+    requires parts_in { ArePartsIn (A.contents asks.old) parts }
+    requires others_in { All (IsTypeIn (A.contents asks.old)) others.now }
+    ensures keeps { Extends (A.contents asks.old) (A.contents asks.new) }
+    ensures rest { A.rest asks.new ≡ A.rest asks.old }
+    ensures table { A.table asks.new ≡ A.table asks.old }
+    ensures place { A.place asks.new ≡ A.place asks.old }
+    ensures known { IfOk result (ArePartsIn (A.contents asks.new)) }
+    ensures outcome { Gives (A.table asks.old) (A.place asks.old) (others_form (parts_at (A.contents asks.old) parts) (map (type_at (A.contents asks.old)) others.now)) (A.left asks.old) (parts_at (A.contents asks.new)) (A.left asks.new) result }
+{
+    let TypeParts {
+        parameters,
+        sort,
+        mut indices,
+    } = parts;
+    match more_types(alloc, asks, &parameters, sort, others, &mut indices) {
+        Ok(_) => Ok(TypeParts {
+            parameters,
+            sort,
+            indices,
+        }),
+        Err(stop) => Err(stop),
+    }
+}
+
+/// The checks of a block's types, each of which has this number of parameters: each has a sort, all have the parameters and
+/// the level of the first.
+pub fn check_types<A: Builds>(
+    alloc: Global,
+    asks: &mut A,
+    parameters: u64,
+    types: &[BlockType],
+) -> Result<TypeParts, Stop>
+    requires { All (IsTypeIn (A.contents asks.old)) types.now }
+    ensures keeps { Extends (A.contents asks.old) (A.contents asks.new) }
+    ensures rest { A.rest asks.new ≡ A.rest asks.old }
+    ensures table { A.table asks.new ≡ A.table asks.old }
+    ensures place { A.place asks.new ≡ A.place asks.old }
+    ensures known { IfOk result (ArePartsIn (A.contents asks.new)) }
+    ensures outcome { Gives (A.table asks.old) (A.place asks.old) (types_steps parameters (map (type_at (A.contents asks.old)) types.now)) (A.left asks.old) (parts_at (A.contents asks.new)) (A.left asks.new) result }
+{
+    match types.split_first() {
+        None => Err(Stop::Rule(Rule::BlockShape)),
+        Some((first, others)) => {
+            match first_type(alloc, asks, parameters, first.kind, first.indices) {
+                Ok(parts) => add_others(alloc, asks, parts, others),
+                Err(stop) => Err(stop),
+            }
+        }
+    }
+}

@@ -1,0 +1,5 @@
+pub mod Names
+pub mod Parts
+pub mod Walks
+pub mod Pis
+pub mod Fields

@@ -1,0 +1,12 @@
+//! Which names a term mentions, and whether the type of a constructor is that of a structure: walks over the parts of
+//! terms by their numbers, each part once, so that a term takes no longer than its parts in the store.
+#![tactic(auto)]
+
+pub mod fields;
+mod looking;
+pub mod names;
+pub mod part;
+mod pis;
+#[cfg(test)]
+mod tests;
+pub mod walk;

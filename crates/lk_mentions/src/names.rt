@@ -1,0 +1,68 @@
+//! Sets of names.
+
+ghost use Rattle.std.specs.Prelude.{◌≡◌, ℕ, ◌==◌, IfOk, OnOk, true, if◌then◌else◌, nat_eq};
+ghost use Rattle.std.specs.HashSet.{contains};
+ghost use Rattle.lk_mentions.specs.Names.{any_number};
+
+use lk_rows::memory::NoMemory;
+use std::alloc::Global;
+use std::collections::HashSet;
+use std::marker::Model;
+
+fn add(set: &mut HashSet<u64>, number: u64) -> Result<(), NoMemory>
+    ensures { OnOk result ((q : ℕ) → contains nat_eq set.new q ≡ (if number == q then true else contains nat_eq set.old q)) }
+{
+    match set.insert(number) {
+        Ok(_) => {}
+        Err(_) => return Err(NoMemory),
+    }
+    Ok(())
+}
+
+fn set_of(alloc: Global, numbers: &[u64]) -> Result<HashSet<u64>, NoMemory>
+    ensures { IfOk result (λ set. (q : ℕ) → contains nat_eq set q ≡ any_number q numbers.now) }
+{
+    let mut set: HashSet<u64> = HashSet::new(alloc);
+    for number in numbers {
+        add(&mut set, *number)?;
+    }
+    Ok(set)
+}
+
+/// Names by their numbers, as a list and as a set. They are put together once, and then asked for many names.
+#[derive(Drop)]
+pub struct Names {
+    numbers: Vec<u64>,
+    set: HashSet<u64>,
+}
+
+impl Model for Names {
+    ghost use Rattle.std.specs.Prelude.{◌≡◌, ℕ, List, nat_eq};
+    ghost use Rattle.std.specs.HashSet.{contains};
+    ghost use Rattle.lk_mentions.specs.Names.{any_number};
+
+    ghost Value = { List ℕ };
+
+    ghost view = { λ n. n.numbers.items };
+
+    ghost invariant = { λ n. (q : ℕ) → contains nat_eq n.set q ≡ any_number q n.numbers.items };
+}
+
+impl Names {
+    /// These names.
+    pub fn new(alloc: Global, numbers: &[u64]) -> Result<Names, NoMemory>
+        ensures { IfOk result (λ names. names ≡ numbers.now) }
+    {
+        let set = set_of(alloc, numbers)?;
+        let mut kept: Vec<u64> = Vec::new(alloc);
+        kept.extend_from_slice(numbers)?;
+        Ok(Names { numbers: kept, set })
+    }
+
+    /// Whether the number is one of theirs.
+    pub fn has(&self, number: u64) -> bool
+        ensures { result ≡ any_number number self.now }
+    {
+        self.set.contains(&number)
+    }
+}
