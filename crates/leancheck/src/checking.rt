@@ -92,7 +92,7 @@ fn judge_scanned<A: Asks>(alloc: Global, asks: &mut A, unit: &Unit) -> Verdict
 {
     match unit {
         Unit::Declaration(declaration) => ask(alloc, asks, declaration.kind, declaration.body),
-        // No line of a file states a block yet.
+        // The checks of a block are not built yet.
         Unit::Block(_) => Verdict::No(Rule::BlockShape),
     }
 }

@@ -13,12 +13,16 @@ use Rattle.lk_lines.specs.Limits.{limits}
 use Rattle.lk_lines.specs.Reading.{◌>>=◌}
 use Rattle.lk_lines.specs.Says.{Says, Blank, Version, OfItem, said_of}
 use Rattle.lk_rulebook.specs.Units.{Library}
-use Rattle.lk_units.specs.Built.{AllBuilt}
+use Rattle.lk_tree.specs.Mentions.{same_name}
+use Rattle.lk_members.specs.Faults.{first_open}
+use Rattle.lk_members.specs.Plain.{PlainLine, library_stated}
+use Rattle.lk_units.specs.Built.{AreBuiltLines, AllBuilt}
+use Rattle.lk_units.proofs.BuiltUnits.{built_units}
 use Rattle.lk_units.specs.State.{State, take_item}
 use Rattle.lk_units.proofs.Kept.{Kept, kept_item, kept_begin}
 use Rattle.lk_units.proofs.Items.{plain_item}
 use Rattle.lk_book.specs.Course.{Course, begin_course, passed, taken, unless, at_line, step}
-use Rattle.lk_book.specs.File.{lines_of, has_more, after, course_over, course_of, library_of}
+use Rattle.lk_book.specs.File.{lines_of, has_more, after, course_over, course_of, closed, units_stated, library_of}
 
 other_byte : (b : ℕ) → (b == 10) ≡ false → b ≢ 10
 other_byte b h = grind (arith, nat_tests, h)
@@ -59,7 +63,7 @@ kept_state c (Err w) h = tt
 kept_taken : (c : Course) (first : Bool) (line : List ℕ) (says : Says) → HasNoLineFeed line → said_of first line ≡ Ok says → Kept c.state → IfOk (taken c says) KeptCourse
 kept_taken c first line Blank h e k = k
 kept_taken c first line Version h e k = k
-kept_taken c first line (OfItem item) h e k = kept_state c (take_item c.state item) (kept_item c.state item (plain_item first line item h e) k)
+kept_taken c first line (OfItem item) h e k = kept_state c (take_item c.number c.state item) (kept_item c.number c.state item (plain_item first line item h e) k)
 
 kept_said : (c : Course) (first : Bool) (line : List ℕ) (said : Result Says Word) → HasNoLineFeed line → said_of first line ≡ said → Kept c.state → IfOk (said >>= taken c) KeptCourse
 kept_said c first line (Ok says) h e k = kept_taken c first line says h e k
@@ -83,8 +87,12 @@ kept_course : (bytes : List ℕ) → IfOk (course_of bytes) KeptCourse
 unfolding course_of
 kept_course bytes = kept_over begin_course (lines_of bytes) (are_cut bytes) kept_begin
 
-stated : (r : Result Course Fault) (us : Library) → IfOk r KeptCourse → after r (λ c. Ok c.state.units) ≡ Ok us → AllBuilt us
-stated (Ok c) us k e = let is : c.state.units ≡ us = cc in rw (← is) k.built
+closed_built : (o : Option ℕ) (lines : List PlainLine) (us : Library) → AreBuiltLines lines → closed o lines ≡ Ok us → AllBuilt us
+closed_built None lines us k e = let is : library_stated lines ≡ us = cc in rw (← is) (built_units lines k)
+closed_built (Some n) lines us k e = absurd (cc)
+
+stated : (r : Result Course Fault) (us : Library) → IfOk r KeptCourse → after r (λ c. units_stated c.state.lines) ≡ Ok us → AllBuilt us
+stated (Ok c) us k e = closed_built (first_open same_name c.state.lines c.state.lines) c.state.lines us k.lines e
 stated (Err f) us k e = absurd (cc)
 
 -- what a file states

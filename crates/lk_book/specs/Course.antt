@@ -30,7 +30,7 @@ passed c length feed = record c { number = c.number + 1; before = c.before + len
 abbrev pub taken : Course → Says → Result Course Word
 taken c Blank = Ok c
 taken c Version = Ok (record c { first = false })
-taken c (OfItem item) = take_item c.state item >>= λ s. Ok (record c { first = false; state = s })
+taken c (OfItem item) = take_item c.number c.state item >>= λ s. Ok (record c { first = false; state = s })
 
 -- the fault of the limits, or else what is said
 abbrev pub unless : {A : Type 0} → Option Word → Result A Word → Result A Word

@@ -1,7 +1,12 @@
 -- The library that the bytes of a file state, or the file's fault.
-use Rattle.std.specs.Prelude.{ℕ, ◌==◌, Bool, true, false, List, [], ◌∷◌, Result, Ok, Err}
+use Rattle.std.specs.Prelude.{ℕ, ◌==◌, Bool, true, false, List, [], ◌∷◌, Result, Ok, Err, Some, None}
+use Rattle.std.specs.declared.option.Option.{Option}
 use Rattle.std.specs.List.{slice_split}
 use Rattle.lk_rulebook.specs.Units.{Library}
+use Rattle.lk_tree.specs.Mentions.{same_name}
+use Rattle.lk_members.specs.Faults.{first_open}
+use Rattle.lk_members.specs.Plain.{PlainLine, library_stated}
+use Rattle.lk_lines.specs.declared.words.Word.TheVariants.{BlockOpen}
 use Rattle.lk_lines.specs.declared.line.Fault.{Fault}
 use Rattle.lk_book.specs.Course.{Course, begin_course, step}
 
@@ -27,6 +32,14 @@ course_over c (line ∷ more) = after (step c (has_more more) line) (λ d. cours
 unfoldable pub course_of : List ℕ → Result Course Fault
 course_of bytes = course_over begin_course (lines_of bytes)
 
--- the units that the items of the file state
+-- the units that lines state, where none is open
+abbrev pub closed : Option ℕ → List PlainLine → Result Library Fault
+closed None lines = Ok (library_stated lines)
+closed (Some number) lines = Err (record { line = number; word = BlockOpen })
+
+abbrev pub units_stated : List PlainLine → Result Library Fault
+units_stated lines = closed (first_open same_name lines lines) lines
+
+-- the units that the items of the file state, or its first fault: that of a line, else that of the first line that is open
 abbrev pub library_of : List ℕ → Result Library Fault
-library_of bytes = after (course_of bytes) (λ c. Ok c.state.units)
+library_of bytes = after (course_of bytes) (λ c. units_stated c.state.lines)

@@ -27,8 +27,8 @@ abbrev pub read_error : LineError → ReadError
 read_error line_errors.NoMemory = errors.NoMemory
 read_error (line_errors.Fault f) = errors.Fault f
 
--- what the assembler holds is what the file states, or the file's fault is told; a failed read and want of memory
--- tell nothing of the file
+-- what the assembler holds is what the lines of the file state, or the fault of the first faulty line is told; a failed read
+-- and want of memory tell nothing of the file
 abbrev pub Reads : Contents → Result Course Fault → Result Assembler ReadError → Type 0
 Reads store said (Ok a) = (c : Course) × (said ≡ Ok c) × Holds a store c.state
 Reads store said (Err errors.NoMemory) = Unit {0}
@@ -41,6 +41,12 @@ ReadsLibrary said (Ok l) = said ≡ Ok (library_at (contents_of l.0) l.1)
 ReadsLibrary said (Err errors.NoMemory) = Unit {0}
 ReadsLibrary said (Err errors.ReadFault) = Unit {0}
 ReadsLibrary said (Err (errors.Fault f)) = said ≡ Err f
+
+-- want of memory, or this fault
+abbrev pub TellsOpen : ReadError → Result Library Fault → Type 0
+TellsOpen errors.NoMemory said = Unit {0}
+TellsOpen errors.ReadFault said = ⊥
+TellsOpen (errors.Fault f) said = said ≡ Err f
 
 -- behind its last line the assembler holds what the line makes of the course, or the line's fault is told
 abbrev pub Ends : Contents → Result Assembler LineError → Result Course Fault → Type 0

@@ -8,15 +8,19 @@ ghost use Rattle.lk_port.specs.Bytes.{Rose};
 ghost use Rattle.lk_token.specs.Lines.{HasNoLineFeed};
 ghost use Rattle.lk_units.specs.Held.{IsKnown};
 ghost use Rattle.lk_book.specs.Course.{Course, step};
-ghost use Rattle.lk_book.specs.File.{course_of, library_of};
+ghost use Rattle.lk_env.specs.Units.{library_at, AreUnitsIn};
+ghost use Rattle.lk_members.specs.Plain.{lines_at};
+ghost use Rattle.lk_book.specs.File.{course_of, units_stated, library_of};
 ghost use Rattle.lk_book.specs.Passing.{Stands, IsCounted};
-ghost use Rattle.lk_book.specs.Reading.{Remains, ConsumesSome, TellsFault, Ends, Reads, ReadsLibrary};
+ghost use Rattle.lk_book.specs.Reading.{Remains, ConsumesSome, TellsFault, TellsOpen, Ends, Reads, ReadsLibrary};
 
 use crate::lines::take_piece;
 use crate::long::long_line;
 use crate::{MAX_LINE, PIECE, ReadError, Reader};
 use lk_env::library::Library;
-use lk_lines::{Fault, LineError};
+use lk_env::unit::Unit;
+use lk_lines::{Fault, LineError, Word};
+use lk_members::finish::FinishError;
 use lk_port::Source;
 use lk_store::base_store::BaseStore;
 use lk_store::terms::Terms;
@@ -128,8 +132,8 @@ fn take_last<T: Terms>(
     Ok(reader.assembler)
 }
 
-/// Reads the units that a file states, from a source and into a store; or tells the file's fault.
-fn read_units<T: Terms, S: Source>(
+/// Reads the lines of a file, from a source and into a store; or tells the fault of the first faulty line.
+fn read_all_lines<T: Terms, S: Source>(
     alloc: Global,
     store: &mut T,
     source: &mut S,
@@ -162,18 +166,41 @@ fn read_units<T: Terms, S: Source>(
     Ok(assembler)
 }
 
-/// The library of the units that were read.
+/// The units of the lines that were read, or the first line of a block that is open.
+fn units_of(alloc: Global, store: &BaseStore, assembler: Assembler) -> Result<Vec<Unit>, ReadError>
+    requires { IsKnown assembler (contents_of store.now) }
+    ensures known { IfOk result (λ us. AreUnitsIn (contents_of store.now) us.items) }
+    ensures units { IfOk result (λ us. units_stated (lines_at (contents_of store.now) assembler.members.lines.items) ≡ Ok (library_at (contents_of store.now) us.items)) }
+    ensures fault { IfErr result (λ e. TellsOpen e (units_stated (lines_at (contents_of store.now) assembler.members.lines.items))) }
+{
+    // The names of the store are apart, so that their numbers tell.
+    let _names = store.count_names();
+    match assembler.members.finish(alloc) {
+        Ok(units) => Ok(units),
+        Err(FinishError::NoMemory) => Err(ReadError::NoMemory),
+        Err(FinishError::Open(line)) => Err(ReadError::Fault(Fault {
+            line,
+            word: Word::BlockOpen,
+        })),
+    }
+}
+
+/// The library of the lines that were read.
 fn library_of(
     alloc: Global,
     mut store: BaseStore,
     assembler: Assembler,
 ) -> Result<Library, ReadError>
     requires { IsKnown assembler (contents_of store) }
-    ensures ok { IfOk result (λ l. l ≡ (store, assembler.units.items)) }
-    ensures err { IfErr result (λ e. e ≡ ReadError.NoMemory) }
+    ensures library { ReadsLibrary (units_stated (lines_at (contents_of store) assembler.members.lines.items)) result }
+    ensures read { result ≢ Err ReadError.ReadFault }
 {
     store.freeze();
-    match Library::new(alloc, store, assembler.units) {
+    let units = match units_of(alloc, &store, assembler) {
+        Ok(units) => units,
+        Err(error) => return Err(error),
+    };
+    match Library::new(alloc, store, units) {
         Ok(library) => Ok(library),
         Err(_) => Err(ReadError::NoMemory),
     }
@@ -194,7 +221,7 @@ pub fn read_library<S: Source>(alloc: Global, source: &mut S) -> Result<Library,
     ensures no_fault { result ≢ Err ReadError.ReadFault → S.faults source.new ≡ S.faults source.old }
 {
     let mut store = BaseStore::new(alloc);
-    match read_units(alloc, &mut store, source) {
+    match read_all_lines(alloc, &mut store, source) {
         Ok(assembler) => library_of(alloc, store, assembler),
         Err(error) => Err(error),
     }

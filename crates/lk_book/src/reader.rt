@@ -44,7 +44,7 @@ fn feed_count(feed: bool) -> u64
 }
 
 impl Reader {
-    /// Takes what line `number` says.
+    /// Takes what the line says that was counted last, of this number.
     #[tactic(auto, using(crate::proofs::Steps::item_goes, crate::proofs::Steps::item_stops, lk_units::proofs::Holding::unchanged))]
     fn take_said<T: Terms>(
         &mut self,
@@ -53,7 +53,8 @@ impl Reader {
         number: u64,
         said: Said<'_>,
     ) -> Result<(), LineError>
-        requires { IsKnown self.old.assembler (T.contents store.old) }
+        requires known { IsKnown self.old.assembler (T.contents store.old) }
+        requires number { number ≡ self.old.number }
         ensures keeps { Extends (T.contents store.old) (T.contents store.new) }
         ensures rest { T.rest store.new ≡ T.rest store.old }
         ensures known { OnOk result (IsKnown self.new.assembler (T.contents store.new)) }
@@ -76,7 +77,10 @@ impl Reader {
             }
             Said::Declaration(declaration) => {
                 self.first = false;
-                match self.assembler.take_declaration(alloc, store, declaration) {
+                match self
+                    .assembler
+                    .take_declaration(alloc, store, number, declaration)
+                {
                     Ok(()) => Ok(()),
                     Err(error) => Err(at_line(number, error)),
                 }

@@ -53,18 +53,23 @@ is_built (Entry entry.Variable) = true
 is_built (Entry entry.Lambda) = true
 is_built (Entry entry.Pi) = true
 is_built (Entry entry.Let) = true
+is_built (Entry entry.Rule) = true
 is_built (Declaration declaration.Axiom) = true
 is_built (Declaration declaration.Definition) = true
 is_built (Declaration declaration.Theorem) = true
 is_built (Declaration declaration.Opaque) = true
+is_built (Declaration declaration.Inductive) = true
+is_built (Declaration declaration.Constructor) = true
+is_built (Declaration declaration.Recursor) = true
 is_built t = false
 
--- the tags of lines that define a number, which stands in front of the tag
+-- those of lines that define a number which are not often met
 abbrev pub rare_tags : List Tag
 rare_tags = Entry entry.Successor ∷ Entry entry.Max ∷ Entry entry.Imax ∷ Entry entry.Parameter
     ∷ Entry entry.Let ∷ Entry entry.Project
     ∷ Entry entry.NatLiteral ∷ Entry entry.TextLiteral ∷ Entry entry.Rule ∷ []
 
+-- the tags of lines that define a number, which stands in front of the tag
 abbrev pub numbered_tags : List Tag
 numbered_tags = Entry entry.Apply ∷ Entry entry.Constant ∷ Entry entry.Lambda ∷ Entry entry.Pi
     ∷ Entry entry.Variable ∷ Entry entry.NameText

@@ -70,7 +70,7 @@ fn entry_is_built(tag: EntryTag) -> bool
         EntryTag::Project => false,
         EntryTag::NatLiteral => false,
         EntryTag::TextLiteral => false,
-        EntryTag::Rule => false,
+        EntryTag::Rule => true,
     }
 }
 
@@ -83,9 +83,9 @@ fn declaration_is_built(tag: DeclarationTag) -> bool
         DeclarationTag::Theorem => true,
         DeclarationTag::Opaque => true,
         DeclarationTag::Quotient => false,
-        DeclarationTag::Inductive => false,
-        DeclarationTag::Constructor => false,
-        DeclarationTag::Recursor => false,
+        DeclarationTag::Inductive => true,
+        DeclarationTag::Constructor => true,
+        DeclarationTag::Recursor => true,
     }
 }
 

@@ -1,7 +1,8 @@
 -- What an assembler stands for, by what it has.
-use Rattle.std.proofs.Common.{◌≡◌, ℕ, ◌<◌, ◌≤◌, ◌==◌, Bool, true, false, length, Some, None, refl, sym, ◌∙◌, ap, arith}
-use Rattle.std.specs.Prelude.{option_map, IfSome, is_some, if◌then◌else◌, Ok, Err}
+use Rattle.std.proofs.Common.{◌≡◌, ℕ, ◌<◌, ◌≤◌, ◌==◌, Bool, true, false, List, length, Some, None, refl, sym, ◌∙◌, ap, arith}
+use Rattle.std.specs.Prelude.{option_map, All, IfSome, is_some, if◌then◌else◌, Ok, Err}
 use Rattle.std.specs.declared.option.Option.{Option}
+use Rattle.std.proofs.lemmas.List.Elements.{All-weaker}
 use Rattle.lk_store.specs.Contents.{Contents, name_at, level_at, tree_at, Extends}
 use Rattle.lk_store.proofs.Made.{Extends-self}
 use Rattle.lk_lines.specs.declared.words.Word.TheVariants.{IndexUnknown}
@@ -9,8 +10,10 @@ use Rattle.lk_units.specs.declared.numbering.Numbering.{Numbering}
 use Rattle.lk_units.specs.declared.assembler.Assembler.{Assembler}
 use Rattle.lk_units.specs.Numbering.{entry}
 use Rattle.lk_units.specs.State.{State, known, known_of, put}
-use Rattle.lk_units.specs.Held.{Numbered, Below, IsKnown, Holds}
-use Rattle.lk_units.proofs.UnitsGrowing.{units_steady, units_stay}
+use Rattle.lk_env.specs.declared.unit.RecursorRule.{RecursorRule}
+use Rattle.lk_env.specs.Units.{IsRuleIn}
+use Rattle.lk_units.specs.Held.{Numbered, Below, rule_at_place, rule_held, IsKnown, Holds}
+use Rattle.lk_members.proofs.Growing.{rule_same, rule_stays, lines_steady, lines_stay}
 
 -- a store that did not change extends itself
 pub ruleset unchanged = (Extends-self)
@@ -39,11 +42,15 @@ below_lem : (e : Option ℕ) (len len2 : ℕ) → len ≤ len2 → IfSome e (λ 
 below_lem None len len2 le lt = lt
 below_lem (Some i) len len2 le lt = omega arith
 
-grown_numbered : {X : Type 0} → (numbers : Numbering) (len : ℕ) (have have2 : ℕ → X) (mean : ℕ → Option X) → ((i : ℕ) → i < len → have2 i ≡ have i) → Below numbers len → Numbered numbers have mean → Numbered numbers have2 mean
+pub grown_numbered : {X : Type 0} → (numbers : Numbering) (len : ℕ) (have have2 : ℕ → X) (mean : ℕ → Option X) → ((i : ℕ) → i < len → have2 i ≡ have i) → Below numbers len → Numbered numbers have mean → Numbered numbers have2 mean
 grown_numbered numbers len have have2 mean same b h = record { same = λ n. grown_lem (entry numbers n) len have have2 (b.below n) same ∙ h.same n }
 
-grown_below : (numbers : Numbering) (len len2 : ℕ) → len ≤ len2 → Below numbers len → Below numbers len2
+pub grown_below : (numbers : Numbering) (len len2 : ℕ) → len ≤ len2 → Below numbers len → Below numbers len2
 grown_below numbers len len2 le h = record { below = λ n. below_lem (entry numbers n) len len2 le (h.below n) }
+
+-- rules stand for the same for good
+rules_steady : (c d : Contents) → Extends c d → (rules : List RecursorRule) → All (IsRuleIn c) rules → (i : ℕ) → i < length rules → rule_held d rules i ≡ rule_held c rules i
+rules_steady c d x rules h i l = rule_same c d x (rule_at_place rules i) (h i _ l)
 
 -- an assembler as the store grows
 pub grown_holds : (c d : Contents) → Extends c d → (a : Assembler) (s : State) → IsKnown a c → Holds a c s → Holds a d s
@@ -51,7 +58,8 @@ grown_holds c d x a s k h = record {
   names = grown_numbered a.by_name (length c.names) (name_at c) (name_at d) s.names x.names.same k.names_below h.names;
   levels = grown_numbered a.by_level (length c.levels) (level_at c) (level_at d) s.levels x.levels.same k.levels_below h.levels;
   trees = grown_numbered a.by_tree (length c.trees) (tree_at c) (tree_at d) s.trees x.trees.same k.trees_below h.trees;
-  units = units_steady c d x a.units.items k.units_in ∙ h.units;
+  rules = grown_numbered a.by_rule (length a.rules.items) (rule_held c a.rules.items) (rule_held d a.rules.items) s.rules (rules_steady c d x a.rules.items k.rules_in) k.rules_below h.rules;
+  lines = lines_steady c d x a.members.lines.items k.lines_in ∙ h.lines;
   count = h.count;
 }
 
@@ -60,7 +68,11 @@ grown_known c d x a k = record {
   names_below = grown_below a.by_name (length c.names) (length d.names) x.names.longer k.names_below;
   levels_below = grown_below a.by_level (length c.levels) (length d.levels) x.levels.longer k.levels_below;
   trees_below = grown_below a.by_tree (length c.trees) (length d.trees) x.trees.longer k.trees_below;
-  units_in = units_stay c d x a.units.items k.units_in;
+  rules_below = k.rules_below;
+  rules_in = All-weaker (IsRuleIn c) (IsRuleIn d) (rule_stays c d x) a.rules.items k.rules_in;
+  lines_in = lines_stay c d x a.members.lines.items k.lines_in;
+  indexed = k.indexed;
+  faultless = k.faultless;
 }
 
 -- one more number

@@ -3,7 +3,13 @@ use Rattle.std.proofs.Common.{◌≡◌, ℕ, ◌<◌, ◌+◌, ◌==◌, Bool, 
 use Rattle.std.specs.Prelude.{IfSome, IfOk, is_some, if◌then◌else◌, ◌^◌, ◌-◌, Result, Ok, Err}
 use Rattle.std.specs.declared.option.Option.{Option}
 use Rattle.lk_tree.specs.Tree.{Name, text, number, Level, zero_level, succ_level, max_level, imax_level, param, Tree, var, sort, const, app, lam, pi, let_in}
-use Rattle.lk_rulebook.specs.Units.{Body, as_axiom, as_def, as_thm, as_opaque, LibraryUnit, of_decl, Library}
+use Rattle.lk_tree.specs.Mentions.{same_name}
+use Rattle.lk_rulebook.specs.Place.{Ctor, RecRule, Rec}
+use Rattle.lk_rulebook.specs.Units.{Body, as_axiom, as_def, as_thm, as_opaque}
+use Rattle.lk_members.specs.declared.fault.MemberFault.{MemberFault}
+use Rattle.lk_members.specs.Lines.{alone, a_type, a_ctor, a_recursor}
+use Rattle.lk_members.specs.Faults.{fault_of}
+use Rattle.lk_members.specs.Plain.{Head, PlainSaid, PlainLine}
 use Rattle.lk_lines.specs.declared.words.Word.{Word}
 use Rattle.lk_lines.specs.declared.words.Word.TheVariants.{IndexTaken, TooManyItems}
 use Rattle.lk_lines.specs.declared.tags.EntryTag.{EntryTag}
@@ -16,16 +22,17 @@ use Rattle.lk_lines.specs.Reading.{◌>>=◌}
 use Rattle.lk_lines.specs.Items.{Item}
 use Rattle.lk_lines.specs.Values.{Value}
 use Rattle.lk_lines.specs.Values as value
-use Rattle.lk_units.specs.Built.{IsBuiltLevel, AreBuiltLevels, IsBuilt, IsBuiltBody, IsBuiltUnit, AllBuilt}
+use Rattle.lk_units.specs.Built.{IsBuiltLevel, AreBuiltLevels, IsBuilt, IsBuiltBody, IsBuiltRule, IsBuiltSaid, AreBuiltLines}
 use Rattle.lk_units.specs.Names.{is_plain, IsPlainName, Each, ArePlain}
-use Rattle.lk_units.specs.State.{State, begin, known, known_of, all_known, fresh, put, with_name, with_level, with_tree, with_unit, longer_name, successor_level, pair_level, parameter_level, sort_tree, constant_tree, application_tree, binder_tree, let_tree, declaration_of, hint_said, value_body, valued_of, axiom_of, entry_added, declaration_added, added, counted, take_item}
+use Rattle.lk_units.specs.State.{State, Counts, begin, known, known_of, all_known, fresh, put, with_name, with_level, with_tree, with_rule, longer_name, successor_level, pair_level, parameter_level, sort_tree, constant_tree, application_tree, binder_tree, let_tree, rule_of, type_said, ctor_said, recursor_said, declaration_of, hint_said, value_body, valued_of, axiom_of, entry_added, member_said, declaration_said, counted, unless_fault, with_line, declared, added, take_item}
 use Rattle.lk_units.specs.Plain.{ArePlainValues, IsPlainItem}
 
 pub record Kept (s : State) : Type 0 where
   pub names : (n : ℕ) → IfSome (s.names n) IsPlainName
   pub levels : (n : ℕ) → IfSome (s.levels n) IsBuiltLevel
   pub trees : (n : ℕ) → IfSome (s.trees n) IsBuilt
-  pub built : AllBuilt s.units
+  pub rules : (n : ℕ) → IfSome (s.rules n) IsBuiltRule
+  pub lines : AreBuiltLines s.lines
 
 put_if : {X : Type 0} (P : X → Type 0) (b : Bool) (x : X) (o : Option X) → P x → IfSome o P → IfSome (if b then Some x else o) P
 put_if P true x o p h = p
@@ -48,17 +55,20 @@ if_fresh P true r h = tt
 if_fresh P false r h = h
 
 kept_name : (s : State) (own : ℕ) (said : Result Name Word) → Kept s → IfOk said IsPlainName → IfOk (with_name s own said) Kept
-kept_name s own said k h = if_then IsPlainName Kept (fresh s.names own said) (λ x. Ok (record s { names = put s.names own x })) (if_fresh IsPlainName (is_some (s.names own)) said h) (λ x p. record { names = λ q. put_if IsPlainName (q == own) x (s.names q) p (k.names q); levels = k.levels; trees = k.trees; built = k.built })
+kept_name s own said k h = if_then IsPlainName Kept (fresh s.names own said) (λ x. Ok (record s { names = put s.names own x })) (if_fresh IsPlainName (is_some (s.names own)) said h) (λ x p. record { names = λ q. put_if IsPlainName (q == own) x (s.names q) p (k.names q); levels = k.levels; trees = k.trees; rules = k.rules; lines = k.lines })
 
 kept_level : (s : State) (own : ℕ) (said : Result Level Word) → Kept s → IfOk said IsBuiltLevel → IfOk (with_level s own said) Kept
-kept_level s own said k h = if_then IsBuiltLevel Kept (fresh s.levels own said) (λ x. Ok (record s { levels = put s.levels own x })) (if_fresh IsBuiltLevel (is_some (s.levels own)) said h) (λ x p. record { names = k.names; levels = λ q. put_if IsBuiltLevel (q == own) x (s.levels q) p (k.levels q); trees = k.trees; built = k.built })
+kept_level s own said k h = if_then IsBuiltLevel Kept (fresh s.levels own said) (λ x. Ok (record s { levels = put s.levels own x })) (if_fresh IsBuiltLevel (is_some (s.levels own)) said h) (λ x p. record { names = k.names; levels = λ q. put_if IsBuiltLevel (q == own) x (s.levels q) p (k.levels q); trees = k.trees; rules = k.rules; lines = k.lines })
 
 kept_tree : (s : State) (own : ℕ) (said : Result Tree Word) → Kept s → IfOk said IsBuilt → IfOk (with_tree s own said) Kept
-kept_tree s own said k h = if_then IsBuilt Kept (fresh s.trees own said) (λ x. Ok (record s { trees = put s.trees own x })) (if_fresh IsBuilt (is_some (s.trees own)) said h) (λ x p. record { names = k.names; levels = k.levels; trees = λ q. put_if IsBuilt (q == own) x (s.trees q) p (k.trees q); built = k.built })
+kept_tree s own said k h = if_then IsBuilt Kept (fresh s.trees own said) (λ x. Ok (record s { trees = put s.trees own x })) (if_fresh IsBuilt (is_some (s.trees own)) said h) (λ x p. record { names = k.names; levels = k.levels; trees = λ q. put_if IsBuilt (q == own) x (s.trees q) p (k.trees q); rules = k.rules; lines = k.lines })
 
-built_push : (us : Library) (u : LibraryUnit) → AllBuilt us → IsBuiltUnit u → AllBuilt (us ++ u ∷ [])
-built_push [] u h b = (b, tt)
-built_push (v ∷ us) u h b = (h.0, built_push us u h.1 b)
+kept_rule : (s : State) (own : ℕ) (said : Result RecRule Word) → Kept s → IfOk said IsBuiltRule → IfOk (with_rule s own said) Kept
+kept_rule s own said k h = if_then IsBuiltRule Kept (fresh s.rules own said) (λ x. Ok (record s { rules = put s.rules own x })) (if_fresh IsBuiltRule (is_some (s.rules own)) said h) (λ x p. record { names = k.names; levels = k.levels; trees = k.trees; rules = λ q. put_if IsBuiltRule (q == own) x (s.rules q) p (k.rules q); lines = k.lines })
+
+built_push : (ls : List PlainLine) (l : PlainLine) → AreBuiltLines ls → IsBuiltSaid l.said → AreBuiltLines (ls ++ l ∷ [])
+built_push [] l h b = (b, tt)
+built_push (k ∷ ls) l h b = (h.0, built_push ls l h.1 b)
 
 text_push : (n : Name) (bytes : List ℕ) → is_plain bytes ≡ true → IsPlainName n → IsPlainName (n ++ text bytes ∷ [])
 text_push [] bytes p h = (p, tt)
@@ -104,24 +114,63 @@ kept_let s n a v b k =
     (λ x px. if_then IsBuilt IsBuilt (known s.trees v) (λ y. (known s.trees b >>= λ z. Ok (let_in x y z))) (if_known IsBuilt s.trees v (k.trees v))
     (λ y py. if_then IsBuilt IsBuilt (known s.trees b) (λ z. Ok (let_in x y z)) (if_known IsBuilt s.trees b (k.trees b)) (λ z pz. ((px, py), pz)))))
 
-abbrev stated : Name → Tree → Body → List Name → LibraryUnit
-stated n a b ps = of_decl (record { name = n; levels = ps; type = a; body = b })
+abbrev stated : Name → Tree → Body → List Name → PlainSaid
+stated n a b ps = alone (record { name = n; levels = ps; type = a; body = b })
 
-kept_stated : (s : State) (n a : ℕ) (said : Result Body Word) (ps : List ℕ) → Kept s → IfOk said IsBuiltBody → IfOk (declaration_of s n a said ps) IsBuiltUnit
+kept_stated : (s : State) (n a : ℕ) (said : Result Body Word) (ps : List ℕ) → Kept s → IfOk said IsBuiltBody → IfOk (declaration_of s n a said ps) IsBuiltSaid
 kept_stated s n a said ps k h =
-    if_then IsPlainName IsBuiltUnit (known s.names n) (λ name. (known s.trees a >>= λ type. (said >>= λ body. (all_known s.names ps >>= λ levels. Ok (stated name type body levels))))) (if_known IsPlainName s.names n (k.names n))
-    (λ name pn. if_then IsBuilt IsBuiltUnit (known s.trees a) (λ type. (said >>= λ body. (all_known s.names ps >>= λ levels. Ok (stated name type body levels)))) (if_known IsBuilt s.trees a (k.trees a))
-    (λ type pt. if_then IsBuiltBody IsBuiltUnit said (λ body. (all_known s.names ps >>= λ levels. Ok (stated name type body levels))) h
-    (λ body pb. if_then ArePlain IsBuiltUnit (all_known s.names ps) (λ levels. Ok (stated name type body levels)) (if_all_known IsPlainName s.names ps k.names) (λ levels pl. ((pn, pl), (pt, pb))))))
+    if_then IsPlainName IsBuiltSaid (known s.names n) (λ name. (known s.trees a >>= λ type. (said >>= λ body. (all_known s.names ps >>= λ levels. Ok (stated name type body levels))))) (if_known IsPlainName s.names n (k.names n))
+    (λ name pn. if_then IsBuilt IsBuiltSaid (known s.trees a) (λ type. (said >>= λ body. (all_known s.names ps >>= λ levels. Ok (stated name type body levels)))) (if_known IsBuilt s.trees a (k.trees a))
+    (λ type pt. if_then IsBuiltBody IsBuiltSaid said (λ body. (all_known s.names ps >>= λ levels. Ok (stated name type body levels))) h
+    (λ body pb. if_then ArePlain IsBuiltSaid (all_known s.names ps) (λ levels. Ok (stated name type body levels)) (if_all_known IsPlainName s.names ps k.names) (λ levels pl. ((pn, pl), (pt, pb))))))
+
+kept_rule_of : (s : State) (n fields v : ℕ) → Kept s → IfOk (rule_of s n fields v) IsBuiltRule
+kept_rule_of s n fields v k =
+    if_then IsPlainName IsBuiltRule (known s.names n) (λ name. (known s.trees v >>= λ value. Ok (record { ctor = name; fields = fields; value = value }))) (if_known IsPlainName s.names n (k.names n))
+    (λ name pn. if_then IsBuilt IsBuiltRule (known s.trees v) (λ value. Ok (record { ctor = name; fields = fields; value = value })) (if_known IsBuilt s.trees v (k.trees v)) (λ value pv. (pn, pv)))
+
+abbrev head_stated : Name → Tree → ℕ → ℕ → List Name → Head
+head_stated n a p i ls = record { name = n; levels = ls; type = a; parameters = p; indices = i }
+
+kept_type : (s : State) (n a p i : ℕ) (ts cs ps : List ℕ) → Kept s → IfOk (type_said s n a p i ts cs ps) IsBuiltSaid
+kept_type s n a p i ts cs ps k =
+    if_then IsPlainName IsBuiltSaid (known s.names n) (λ name. (known s.trees a >>= λ type. (all_known s.names ts >>= λ types. (all_known s.names cs >>= λ ctors. (all_known s.names ps >>= λ levels. Ok (a_type name types ctors (head_stated name type p i levels)))))))
+    (if_known IsPlainName s.names n (k.names n))
+    (λ name pn. if_then IsBuilt IsBuiltSaid (known s.trees a) (λ type. (all_known s.names ts >>= λ types. (all_known s.names cs >>= λ ctors. (all_known s.names ps >>= λ levels. Ok (a_type name types ctors (head_stated name type p i levels))))))
+    (if_known IsBuilt s.trees a (k.trees a))
+    (λ type pt. if_then ArePlain IsBuiltSaid (all_known s.names ts) (λ types. (all_known s.names cs >>= λ ctors. (all_known s.names ps >>= λ levels. Ok (a_type name types ctors (head_stated name type p i levels))))) (if_all_known IsPlainName s.names ts k.names)
+    (λ types pu. if_then ArePlain IsBuiltSaid (all_known s.names cs) (λ ctors. (all_known s.names ps >>= λ levels. Ok (a_type name types ctors (head_stated name type p i levels)))) (if_all_known IsPlainName s.names cs k.names)
+    (λ ctors pc. if_then ArePlain IsBuiltSaid (all_known s.names ps) (λ levels. Ok (a_type name types ctors (head_stated name type p i levels))) (if_all_known IsPlainName s.names ps k.names) (λ levels pl. ((pn, pl), pt))))))
+
+abbrev ctor_stated : Name → Tree → Name → ℕ → ℕ → ℕ → List Name → Ctor
+ctor_stated n a parent i p f ls = record { name = n; levels = ls; type = a; parent = parent; place = i; parameters = p; fields = f }
+
+kept_ctor : (s : State) (n a q i p f : ℕ) (ps : List ℕ) → Kept s → IfOk (ctor_said s n a q i p f ps) IsBuiltSaid
+kept_ctor s n a q i p f ps k =
+    if_then IsPlainName IsBuiltSaid (known s.names n) (λ name. (known s.trees a >>= λ type. (known s.names q >>= λ parent. (all_known s.names ps >>= λ levels. Ok (a_ctor parent name (ctor_stated name type parent i p f levels))))))
+    (if_known IsPlainName s.names n (k.names n))
+    (λ name pn. if_then IsBuilt IsBuiltSaid (known s.trees a) (λ type. (known s.names q >>= λ parent. (all_known s.names ps >>= λ levels. Ok (a_ctor parent name (ctor_stated name type parent i p f levels))))) (if_known IsBuilt s.trees a (k.trees a))
+    (λ type pt. if_then IsPlainName IsBuiltSaid (known s.names q) (λ parent. (all_known s.names ps >>= λ levels. Ok (a_ctor parent name (ctor_stated name type parent i p f levels)))) (if_known IsPlainName s.names q (k.names q))
+    (λ parent pq. if_then ArePlain IsBuiltSaid (all_known s.names ps) (λ levels. Ok (a_ctor parent name (ctor_stated name type parent i p f levels))) (if_all_known IsPlainName s.names ps k.names) (λ levels pl. (((pn, pl), pt), pq)))))
+
+abbrev rec_stated : Name → Tree → Counts → List RecRule → List Name → Rec
+rec_stated n a c rs ls = record { name = n; levels = ls; type = a; recursor = record { parameters = c.parameters; indices = c.indices; motives = c.motives; minors = c.minors; k = c.k; rules = rs } }
+
+kept_recursor : (s : State) (n a : ℕ) (ts : List ℕ) (c : Counts) (rs ps : List ℕ) → Kept s → IfOk (recursor_said s n a ts c rs ps) IsBuiltSaid
+kept_recursor s n a ts c rs ps k =
+    if_then IsPlainName IsBuiltSaid (known s.names n) (λ name. (known s.trees a >>= λ type. (all_known s.names ts >>= λ types. (all_known s.rules rs >>= λ rules. (all_known s.names ps >>= λ levels. Ok (a_recursor types name (rec_stated name type c rules levels)))))))
+    (if_known IsPlainName s.names n (k.names n))
+    (λ name pn. if_then IsBuilt IsBuiltSaid (known s.trees a) (λ type. (all_known s.names ts >>= λ types. (all_known s.rules rs >>= λ rules. (all_known s.names ps >>= λ levels. Ok (a_recursor types name (rec_stated name type c rules levels))))))
+    (if_known IsBuilt s.trees a (k.trees a))
+    (λ type pt. if_then ArePlain IsBuiltSaid (all_known s.names ts) (λ types. (all_known s.rules rs >>= λ rules. (all_known s.names ps >>= λ levels. Ok (a_recursor types name (rec_stated name type c rules levels))))) (if_all_known IsPlainName s.names ts k.names)
+    (λ types pu. if_then (Each IsBuiltRule) IsBuiltSaid (all_known s.rules rs) (λ rules. (all_known s.names ps >>= λ levels. Ok (a_recursor types name (rec_stated name type c rules levels)))) (if_all_known IsBuiltRule s.rules rs k.rules)
+    (λ rules pr. if_then ArePlain IsBuiltSaid (all_known s.names ps) (λ levels. Ok (a_recursor types name (rec_stated name type c rules levels))) (if_all_known IsPlainName s.names ps k.names) (λ levels pl. (((pn, pl), pt), pr))))))
 
 kept_value : (f : Tree → Body) → ((e : Tree) → IsBuilt e → IsBuiltBody (f e)) → (s : State) (v : ℕ) → Kept s → IfOk (value_body s f v) IsBuiltBody
 kept_value f g s v k = if_then IsBuilt IsBuiltBody (known s.trees v) (λ value. Ok (f value)) (if_known IsBuilt s.trees v (k.trees v)) g
 
-kept_valued : (f : Tree → Body) → ((e : Tree) → IsBuilt e → IsBuiltBody (f e)) → (s : State) (n a v : ℕ) (ps : List ℕ) → Kept s → IfOk (valued_of s f n a v ps) IsBuiltUnit
+kept_valued : (f : Tree → Body) → ((e : Tree) → IsBuilt e → IsBuiltBody (f e)) → (s : State) (n a v : ℕ) (ps : List ℕ) → Kept s → IfOk (valued_of s f n a v ps) IsBuiltSaid
 kept_valued f g s n a v ps k = kept_stated s n a (value_body s f v) ps k (kept_value f g s v k)
-
-kept_unit : (s : State) (said : Result LibraryUnit Word) → Kept s → IfOk said IsBuiltUnit → IfOk (with_unit s said) Kept
-kept_unit s said k h = if_then IsBuiltUnit Kept said (λ x. Ok (record s { units = s.units ++ x ∷ [] })) h (λ u p. record { names = k.names; levels = k.levels; trees = k.trees; built = built_push s.units u k.built p })
 
 kept_entry : (s : State) (own : ℕ) (t : EntryTag) (values : List Value) → ArePlainValues (Entry t) values → Kept s → IfOk (entry_added s own t values) Kept
 unfolding entry_added
@@ -138,32 +187,52 @@ kept_entry s own entry.Apply (value.Number f ∷ value.Number a ∷ []) i k = ke
 kept_entry s own entry.Lambda (value.OfInfo o ∷ value.Number n ∷ value.Number a ∷ value.Number b ∷ []) i k = kept_tree s own (binder_tree s (λ A e. lam A e) n a b) k (kept_binder (λ A e. lam A e) (λ a b h j. (h, j)) s n a b k)
 kept_entry s own entry.Pi (value.OfInfo o ∷ value.Number n ∷ value.Number a ∷ value.Number b ∷ []) i k = kept_tree s own (binder_tree s (λ A e. pi A e) n a b) k (kept_binder (λ A e. pi A e) (λ a b h j. (h, j)) s n a b k)
 kept_entry s own entry.Let (value.Number n ∷ value.Number a ∷ value.Number v ∷ value.Number b ∷ []) i k = kept_tree s own (let_tree s n a v b) k (kept_let s n a v b k)
+kept_entry s own entry.Rule (value.Number n ∷ value.Number f ∷ value.Number v ∷ []) i k = kept_rule s own (rule_of s n f v) k (kept_rule_of s n f v k)
 kept_entry s own t values i k = tt
 
-kept_declaration : (s : State) (t : DeclarationTag) (values : List Value) → Kept s → IfOk (declaration_added s t values) Kept
-unfolding declaration_added
-kept_declaration s decl.Definition (value.Number n ∷ value.Number a ∷ value.Number v ∷ value.OfHint h ∷ value.Numbers ps ∷ []) k = kept_unit s (valued_of s (λ e. as_def (hint_said h) e) n a v ps) k (kept_valued (λ e. as_def (hint_said h) e) (λ e p. p) s n a v ps k)
-kept_declaration s decl.Theorem (value.Number n ∷ value.Number a ∷ value.Number v ∷ value.Numbers ps ∷ []) k = kept_unit s (valued_of s (λ e. as_thm e) n a v ps) k (kept_valued (λ e. as_thm e) (λ e p. p) s n a v ps k)
-kept_declaration s decl.Opaque (value.Number n ∷ value.Number a ∷ value.Number v ∷ value.Numbers ps ∷ []) k = kept_unit s (valued_of s (λ e. as_opaque e) n a v ps) k (kept_valued (λ e. as_opaque e) (λ e p. p) s n a v ps k)
-kept_declaration s decl.Axiom (value.Number n ∷ value.Number a ∷ value.Numbers ps ∷ []) k = kept_unit s (axiom_of s n a ps) k (kept_stated s n a (Ok as_axiom) ps k tt)
-kept_declaration s t values k = tt
+kept_member : (s : State) (t : DeclarationTag) (values : List Value) → Kept s → IfOk (member_said s t values) IsBuiltSaid
+unfolding member_said
+kept_member s decl.Inductive (value.Number n ∷ value.Number a ∷ value.Number u ∷ value.Number v ∷ value.Number p ∷ value.Number i ∷ value.Numbers ts ∷ value.Numbers cs ∷ value.Numbers ps ∷ []) k = kept_type s n a p i ts cs ps k
+kept_member s decl.Constructor (value.Number n ∷ value.Number a ∷ value.Number q ∷ value.Number i ∷ value.Number p ∷ value.Number f ∷ value.Numbers ps ∷ []) k = kept_ctor s n a q i p f ps k
+kept_member s decl.Recursor (value.Number n ∷ value.Number a ∷ value.Numbers ts ∷ value.Number p ∷ value.Number i ∷ value.Number m ∷ value.Number o ∷ value.Numbers rs ∷ value.Flag b ∷ value.Numbers ps ∷ []) k = kept_recursor s n a ts _ rs ps k
+kept_member s t values k = tt
 
-kept_added : (s : State) (own : Option ℕ) (t : Tag) (values : List Value) → ArePlainValues t values → Kept s → IfOk (added s own t values) Kept
-kept_added s (Some own) (Entry t) values i k = kept_entry s own t values i k
-kept_added s None (Declaration t) values i k = kept_declaration s t values k
-kept_added s (Some own) (Declaration t) values i k = tt
-kept_added s None (Entry t) values i k = tt
+kept_declaration : (s : State) (t : DeclarationTag) (values : List Value) → Kept s → IfOk (declaration_said s t values) IsBuiltSaid
+unfolding declaration_said
+kept_declaration s decl.Definition (value.Number n ∷ value.Number a ∷ value.Number v ∷ value.OfHint h ∷ value.Numbers ps ∷ []) k = kept_valued (λ e. as_def (hint_said h) e) (λ e p. p) s n a v ps k
+kept_declaration s decl.Theorem (value.Number n ∷ value.Number a ∷ value.Number v ∷ value.Numbers ps ∷ []) k = kept_valued (λ e. as_thm e) (λ e p. p) s n a v ps k
+kept_declaration s decl.Opaque (value.Number n ∷ value.Number a ∷ value.Number v ∷ value.Numbers ps ∷ []) k = kept_valued (λ e. as_opaque e) (λ e p. p) s n a v ps k
+kept_declaration s decl.Axiom (value.Number n ∷ value.Number a ∷ value.Numbers ps ∷ []) k = kept_stated s n a (Ok as_axiom) ps k tt
+kept_declaration s t values k = kept_member s t values k
 
 kept_counted : (s : State) → Kept s → IfOk (counted s) Kept
 kept_counted s k = go (nat_lt s.count (2 ^ 32 - 1))
   where
     go : (b : Bool) → IfOk (if b then Ok (record s { count = s.count + 1 }) else Err TooManyItems) Kept
-    go true = record { names = k.names; levels = k.levels; trees = k.trees; built = k.built }
+    go true = record { names = k.names; levels = k.levels; trees = k.trees; rules = k.rules; lines = k.lines }
     go false = tt
 
-pub kept_item : (s : State) (item : Item) → IsPlainItem item → Kept s → IfOk (take_item s item) Kept
+kept_line : (l : ℕ) (s : State) (x : PlainSaid) → Kept s → IsBuiltSaid x → IfOk (with_line l s x) Kept
+kept_line l s x k h = go (fault_of same_name s.lines x)
+  where
+    go : (o : Option MemberFault) → IfOk (unless_fault o (record s { lines = s.lines ++ record { number = l; said = x } ∷ [] })) Kept
+    go None = record { names = k.names; levels = k.levels; trees = k.trees; rules = k.rules; lines = built_push s.lines (record { number = l; said = x }) k.lines h }
+    go (Some f) = tt
+
+kept_declared : (l : ℕ) (s : State) (said : Result PlainSaid Word) → Kept s → IfOk said IsBuiltSaid → IfOk (declared l s said) Kept
+kept_declared l s said k h =
+    if_then IsBuiltSaid Kept said (λ x. (counted s >>= λ t. with_line l t x)) h
+    (λ x p. if_then Kept Kept (counted s) (λ t. with_line l t x) (kept_counted s k) (λ t kt. kept_line l t x kt p))
+
+kept_added : (l : ℕ) (s : State) (own : Option ℕ) (t : Tag) (values : List Value) → ArePlainValues t values → Kept s → IfOk (added l s own t values) Kept
+kept_added l s (Some own) (Entry t) values i k = if_then Kept Kept (entry_added s own t values) (λ u. counted u) (kept_entry s own t values i k) (λ u ku. kept_counted u ku)
+kept_added l s None (Declaration t) values i k = kept_declared l s (declaration_said s t values) k (kept_declaration s t values k)
+kept_added l s (Some own) (Declaration t) values i k = tt
+kept_added l s None (Entry t) values i k = tt
+
+pub kept_item : (l : ℕ) (s : State) (item : Item) → IsPlainItem item → Kept s → IfOk (take_item l s item) Kept
 unfolding take_item
-kept_item s item i k = if_then Kept Kept (added s item.own item.tag item.values) (λ t. counted t) (kept_added s item.own item.tag item.values i k) (λ t kt. kept_counted t kt)
+kept_item l s item i k = kept_added l s item.own item.tag item.values i k
 
 pub kept_begin : Kept begin
-kept_begin = record { names = λ q. put_if IsPlainName (q == 0) [] None tt tt; levels = λ q. put_if IsBuiltLevel (q == 0) zero_level None tt tt; trees = λ q. tt; built = tt }
+kept_begin = record { names = λ q. put_if IsPlainName (q == 0) [] None tt tt; levels = λ q. put_if IsBuiltLevel (q == 0) zero_level None tt tt; trees = λ q. tt; rules = λ q. tt; lines = tt }

@@ -1,5 +1,4 @@
 pub mod Holding
-pub mod UnitsGrowing
 pub mod Putting
 pub mod Counting
 pub mod Lines
@@ -7,3 +6,5 @@ pub mod Several
 pub mod Listing
 pub mod Kept
 pub mod Items
+pub mod Placing
+pub mod BuiltUnits

@@ -65,3 +65,15 @@ pub found_all : {X : Type 0} (numbers : Numbering) (have : ℕ → X) (mean : �
 found_all numbers have mean ns (Ok v) h m = known_all numbers have mean h ns ∙ ap (λ r. r >>= λ is. Ok (map have is)) m
 found_all numbers have mean ns (Err errors.NoMemory) h m = tt
 found_all numbers have mean ns (Err (errors.Fault w)) h m = known_all numbers have mean h ns ∙ ap (λ r. r >>= λ is. Ok (map have is)) m
+
+-- one place more is looked at
+pub place_more : {X : Type 0} (f : ℕ → X) (found found' : List X) (rest more places : List ℕ) (i : ℕ) → rest ≡ i ∷ more → found' ≡ found ++ f i ∷ [] → found ++ map f rest ≡ map f places → found' ++ map f more ≡ map f places
+place_more f found found' rest more places i e g h = rw g (append_assoc found (f i ∷ []) (map f more) ∙ (rw e at h))
+
+fused : {X Y : Type 0} (f : X → Y) (g : ℕ → X) (is : List ℕ) → map f (map g is) ≡ map (λ i. f (g i)) is
+fused f g [] = refl
+fused f g (i ∷ is) = ap (λ ys. f (g i) ∷ ys) (fused f g is)
+
+-- what was found at the places is what all the numbers stand for
+pub places_stand : {X Y : Type 0} (f : X → Y) (g : ℕ → X) (found : List X) (is : List ℕ) (said : Result (List Y) Word) → found ≡ map g is → said ≡ Ok (map (λ i. f (g i)) is) → said ≡ Ok (map f found)
+places_stand f g found is said e h = rw e (h ∙ ap Ok (sym (fused f g is)))

@@ -1,14 +1,23 @@
 -- What an assembler holds, by what its numbers have in a store.
-use Rattle.std.specs.Prelude.{◌≡◌, ◌<◌, ◌==◌, ℕ, length, IfSome, Result, Ok, Err, Some, option_map, is_some, if◌then◌else◌}
+use Rattle.std.specs.Prelude.{◌≡◌, ◌<◌, ◌==◌, ℕ, List, length, All, slice_index_or, IfSome, Result, Ok, Err, Some, option_map, is_some, if◌then◌else◌}
 use Rattle.std.specs.declared.option.Option.{Option}
 use Rattle.lk_tree.specs.Tree.{Level, max_level, imax_level, Tree, lam, pi}
 use Rattle.lk_store.specs.Contents.{Contents, name_at, level_at, tree_at}
 use Rattle.lk_rulebook.specs.Units.{Body as PlainBody, as_def, as_thm, as_opaque}
-use Rattle.lk_env.specs.Units.{hint_of, library_at, AreUnitsIn}
+use Rattle.lk_rulebook.specs.Place.{RecRule}
+use Rattle.lk_env.specs.Units.{hint_of, rule_at, IsRuleIn}
+use Rattle.lk_env.specs.declared.unit.RecursorRule.{RecursorRule}
+use Rattle.lk_members.specs.Stored.{lines_of, AreLinesIn}
+use Rattle.lk_members.specs.Finishing.{IsFaultless}
+use Rattle.lk_members.specs.Plain.{lines_at}
+use Rattle.lk_members.specs.Indices.{IsIndexed}
 use Rattle.lk_lines.specs.declared.words.Word.{Word}
 use Rattle.lk_lines.specs.declared.words.Word.TheVariants.{IndexTaken}
 use Rattle.lk_units.specs.Numbering.{entry}
-use Rattle.lk_units.specs.State.{State}
+use Rattle.lk_members.specs.declared.fault.TakeError.{TakeError as MemberError}
+use Rattle.lk_members.specs.declared.fault.TakeError.TheVariants as members
+use Rattle.lk_units.specs.State.{State, Counts, fault_word}
+use Rattle.lk_units.specs.declared.stating.RecursorCounts.{RecursorCounts}
 use Rattle.lk_units.specs.declared.numbering.Numbering.{Numbering}
 use Rattle.lk_units.specs.declared.assembler.Assembler.{Assembler}
 use Rattle.lk_units.specs.declared.assembler.Binder.{Binder}
@@ -28,19 +37,31 @@ pub record Numbered {X : Type 0} (numbers : Numbering) (have : ℕ → X) (mean 
 pub record Below (numbers : Numbering) (len : ℕ) : Type 0 where
   pub below : (n : ℕ) → IfSome (entry numbers n) (λ i. i < len)
 
+-- the rule of a place
+abbrev pub rule_at_place : List RecursorRule → ℕ → RecursorRule
+rule_at_place rules i = slice_index_or rules i (record { constructor = 0; fields = 0; value = 0 })
+
+abbrev pub rule_held : Contents → List RecursorRule → ℕ → RecRule
+rule_held c rules i = rule_at c (rule_at_place rules i)
+
 -- the numbers that an assembler has are numbers of the store
 pub record IsKnown (a : Assembler) (c : Contents) : Type 0 where
   pub names_below : Below a.by_name (length c.names)
   pub levels_below : Below a.by_level (length c.levels)
   pub trees_below : Below a.by_tree (length c.trees)
-  pub units_in : AreUnitsIn c a.units.items
+  pub rules_below : Below a.by_rule (length a.rules.items)
+  pub rules_in : All (IsRuleIn c) a.rules.items
+  pub lines_in : AreLinesIn c a.members.lines.items
+  pub indexed : IsIndexed a.members
+  pub faultless : IsFaultless (lines_of a.members.lines.items)
 
 -- the assembler stands for the state
 pub record Holds (a : Assembler) (c : Contents) (s : State) : Type 0 where
   pub names : Numbered a.by_name (name_at c) s.names
   pub levels : Numbered a.by_level (level_at c) s.levels
   pub trees : Numbered a.by_tree (tree_at c) s.trees
-  pub units : library_at c a.units.items ≡ s.units
+  pub rules : Numbered a.by_rule (rule_held c a.rules.items) s.rules
+  pub lines : lines_at c a.members.lines.items ≡ s.lines
   pub count : a.count ≡ s.count
 
 abbrev pub binder_of : Binder → Tree → Tree → Tree
@@ -79,3 +100,11 @@ Puts old new own made (Err (errors.Fault w)) = unless_taken old own made ≡ Err
 abbrev pub Follows : Assembler → Contents → Result (Unit {0}) TakeError → Result State Word → Type 0
 Follows a c (Ok u) said = (s : State) × (said ≡ Ok s) × Holds a c s
 Follows a c (Err e) said = Fails e said
+
+abbrev pub counts_of : RecursorCounts → Counts
+counts_of n = record { parameters = n.parameters; indices = n.indices; motives = n.motives; minors = n.minors; k = n.k }
+
+-- why a line is not taken among those before it
+abbrev pub told : MemberError → TakeError
+told members.NoMemory = errors.NoMemory
+told (members.Fault f) = errors.Fault (fault_word f)

@@ -1,13 +1,19 @@
 -- What the numbers of a file stand for behind its lines so far, and what an item adds, or its fault.
-use Rattle.std.specs.Prelude.{ℕ, ◌==◌, ◌+◌, ◌-◌, ◌^◌, List, [], ◌∷◌, ◌++◌, Result, Ok, Err, Some, None, if◌then◌else◌, is_some, nat_lt}
+use Rattle.std.specs.Prelude.{ℕ, ◌==◌, ◌+◌, ◌-◌, ◌^◌, Bool, List, [], ◌∷◌, ◌++◌, Result, Ok, Err, Some, None, if◌then◌else◌, is_some, nat_lt}
 use Rattle.std.specs.declared.option.Option.{Option}
 use Rattle.lk_tree.specs.Tree.{Name, Part, text, number, Level, zero_level, succ_level, max_level, imax_level, param, Tree, var, sort, const, app, lam, pi, let_in}
-use Rattle.lk_rulebook.specs.Place.{Hint, opaque_hint, abbreviation, regular}
-use Rattle.lk_rulebook.specs.Units.{Body, as_axiom, as_def, as_thm, as_opaque, LibraryUnit, of_decl, Library}
+use Rattle.lk_tree.specs.Mentions.{same_name}
+use Rattle.lk_rulebook.specs.Place.{Hint, opaque_hint, abbreviation, regular, Ctor, RecRule, Recursor, Rec}
+use Rattle.lk_rulebook.specs.Units.{Body, as_axiom, as_def, as_thm, as_opaque, Decl}
+use Rattle.lk_members.specs.declared.fault.MemberFault.{MemberFault}
+use Rattle.lk_members.specs.declared.fault.MemberFault.TheVariants as faults
+use Rattle.lk_members.specs.Lines.{alone, a_type, a_ctor, a_recursor}
+use Rattle.lk_members.specs.Faults.{fault_of}
+use Rattle.lk_members.specs.Plain.{Head, PlainSaid, PlainLine}
 use Rattle.lk_lines.specs.declared.line.ReducibilityHint.{ReducibilityHint}
 use Rattle.lk_lines.specs.declared.line.ReducibilityHint.TheVariants as hints
 use Rattle.lk_lines.specs.declared.words.Word.{Word}
-use Rattle.lk_lines.specs.declared.words.Word.TheVariants.{UnknownTag, IndexTaken, IndexUnknown, TooManyItems}
+use Rattle.lk_lines.specs.declared.words.Word.TheVariants.{UnknownTag, IndexTaken, IndexUnknown, TooManyItems, BadCount, RepeatedMember}
 use Rattle.lk_lines.specs.declared.tags.EntryTag.{EntryTag}
 use Rattle.lk_lines.specs.declared.tags.EntryTag.TheVariants as entry
 use Rattle.lk_lines.specs.declared.tags.DeclarationTag.{DeclarationTag}
@@ -23,12 +29,13 @@ pub record State : Type 0 where
   pub names : ℕ → Option Name
   pub levels : ℕ → Option Level
   pub trees : ℕ → Option Tree
-  pub units : Library
+  pub rules : ℕ → Option RecRule
+  pub lines : List PlainLine
   pub count : ℕ
 
 -- name 0 is the anonymous name, and level 0 is zero
 abbrev pub begin : State
-begin = record { names = λ n. if n == 0 then Some [] else None; levels = λ n. if n == 0 then Some zero_level else None; trees = λ n. None; units = []; count = 0 }
+begin = record { names = λ n. if n == 0 then Some [] else None; levels = λ n. if n == 0 then Some zero_level else None; trees = λ n. None; rules = λ n. None; lines = []; count = 0 }
 
 -- what a number that is referred to stands for
 abbrev pub known_of : {X : Type 0} → Option X → Result X Word
@@ -59,8 +66,8 @@ with_level s own said = fresh s.levels own said >>= λ x. Ok (record s { levels 
 abbrev pub with_tree : State → ℕ → Result Tree Word → Result State Word
 with_tree s own said = fresh s.trees own said >>= λ x. Ok (record s { trees = put s.trees own x })
 
-abbrev pub with_unit : State → Result LibraryUnit Word → Result State Word
-with_unit s said = said >>= λ x. Ok (record s { units = s.units ++ x ∷ [] })
+abbrev pub with_rule : State → ℕ → Result RecRule Word → Result State Word
+with_rule s own said = fresh s.rules own said >>= λ x. Ok (record s { rules = put s.rules own x })
 
 -- a name with one more component
 abbrev pub longer_name : State → ℕ → Part → Result Name Word
@@ -95,9 +102,9 @@ abbrev pub application_tree : State → ℕ → ℕ → Result Tree Word
 application_tree s f a = known s.trees f >>= λ x. (known s.trees a >>= λ y. Ok (app x y))
 
 -- a declaration with this body
-abbrev pub declaration_of : State → ℕ → ℕ → Result Body Word → List ℕ → Result LibraryUnit Word
+abbrev pub declaration_of : State → ℕ → ℕ → Result Body Word → List ℕ → Result PlainSaid Word
 declaration_of s n a said ps = known s.names n >>= λ name. (known s.trees a >>= λ type. (said >>= λ body.
-    (all_known s.names ps >>= λ levels. Ok (of_decl (record { name = name; levels = levels; type = type; body = body })))))
+    (all_known s.names ps >>= λ levels. Ok (alone (record { name = name; levels = levels; type = type; body = body })))))
 
 -- how readily a definition is unfolded, as its line says it
 abbrev pub hint_said : ReducibilityHint → Hint
@@ -110,11 +117,44 @@ abbrev pub value_body : State → (Tree → Body) → ℕ → Result Body Word
 value_body s f v = known s.trees v >>= λ value. Ok (f value)
 
 -- a declaration with a value
-abbrev pub valued_of : State → (Tree → Body) → ℕ → ℕ → ℕ → List ℕ → Result LibraryUnit Word
+abbrev pub valued_of : State → (Tree → Body) → ℕ → ℕ → ℕ → List ℕ → Result PlainSaid Word
 valued_of s f n a v ps = declaration_of s n a (value_body s f v) ps
 
-abbrev pub axiom_of : State → ℕ → ℕ → List ℕ → Result LibraryUnit Word
+abbrev pub axiom_of : State → ℕ → ℕ → List ℕ → Result PlainSaid Word
 axiom_of s n a ps = declaration_of s n a (Ok as_axiom) ps
+
+-- a rule of a recursor
+abbrev pub rule_of : State → ℕ → ℕ → ℕ → Result RecRule Word
+rule_of s n fields v = known s.names n >>= λ name. (known s.trees v >>= λ value. Ok (record { ctor = name; fields = fields; value = value }))
+
+-- a type of a block, with the names of the block's types and of its own constructors
+abbrev pub type_said : State → ℕ → ℕ → ℕ → ℕ → List ℕ → List ℕ → List ℕ → Result PlainSaid Word
+type_said s n a parameters indices ts cs ps =
+    known s.names n >>= λ name. (known s.trees a >>= λ type. (all_known s.names ts >>= λ types. (all_known s.names cs >>= λ ctors. (all_known s.names ps >>= λ levels.
+    Ok (a_type name types ctors (record { name = name; levels = levels; type = type; parameters = parameters; indices = indices }))))))
+
+abbrev pub ctor_said : State → ℕ → ℕ → ℕ → ℕ → ℕ → ℕ → List ℕ → Result PlainSaid Word
+ctor_said s n a p place parameters fields ps =
+    known s.names n >>= λ name. (known s.trees a >>= λ type. (known s.names p >>= λ parent. (all_known s.names ps >>= λ levels.
+    Ok (a_ctor parent name (record { name = name; levels = levels; type = type; parent = parent; place = place; parameters = parameters; fields = fields })))))
+
+-- how a recursor counts its arguments, and whether it has K
+pub record Counts : Type 0 where
+  pub parameters : ℕ
+  pub indices : ℕ
+  pub motives : ℕ
+  pub minors : ℕ
+  pub k : Bool
+
+abbrev pub recursor_said : State → ℕ → ℕ → List ℕ → Counts → List ℕ → List ℕ → Result PlainSaid Word
+recursor_said s n a ts counts rs ps =
+    known s.names n >>= λ name. (known s.trees a >>= λ type. (all_known s.names ts >>= λ types. (all_known s.rules rs >>= λ rules. (all_known s.names ps >>= λ levels.
+    Ok (a_recursor types name (record {
+      name = name;
+      levels = levels;
+      type = type;
+      recursor = record { parameters = counts.parameters; indices = counts.indices; motives = counts.motives; minors = counts.minors; k = counts.k; rules = rules };
+    }))))))
 
 -- what the values behind each tag add; a line of any other kind is no line yet. A built tag with values of another shape
 -- is given by no line, and the same word stands for it.
@@ -132,23 +172,51 @@ entry_added s own entry.Apply (value.Number f ∷ value.Number a ∷ []) = with_
 entry_added s own entry.Lambda (value.OfInfo i ∷ value.Number n ∷ value.Number a ∷ value.Number b ∷ []) = with_tree s own (binder_tree s (λ A e. lam A e) n a b)
 entry_added s own entry.Pi (value.OfInfo i ∷ value.Number n ∷ value.Number a ∷ value.Number b ∷ []) = with_tree s own (binder_tree s (λ A e. pi A e) n a b)
 entry_added s own entry.Let (value.Number n ∷ value.Number a ∷ value.Number v ∷ value.Number b ∷ []) = with_tree s own (let_tree s n a v b)
+entry_added s own entry.Rule (value.Number n ∷ value.Number fields ∷ value.Number v ∷ []) = with_rule s own (rule_of s n fields v)
 entry_added s own t values = Err UnknownTag
 
-unfoldable pub declaration_added : State → DeclarationTag → List Value → Result State Word
-declaration_added s decl.Definition (value.Number n ∷ value.Number a ∷ value.Number v ∷ value.OfHint h ∷ value.Numbers ps ∷ []) = with_unit s (valued_of s (λ e. as_def (hint_said h) e) n a v ps)
-declaration_added s decl.Theorem (value.Number n ∷ value.Number a ∷ value.Number v ∷ value.Numbers ps ∷ []) = with_unit s (valued_of s (λ e. as_thm e) n a v ps)
-declaration_added s decl.Opaque (value.Number n ∷ value.Number a ∷ value.Number v ∷ value.Numbers ps ∷ []) = with_unit s (valued_of s (λ e. as_opaque e) n a v ps)
-declaration_added s decl.Axiom (value.Number n ∷ value.Number a ∷ value.Numbers ps ∷ []) = with_unit s (axiom_of s n a ps)
-declaration_added s t values = Err UnknownTag
+-- a member of a block
+unfoldable pub member_said : State → DeclarationTag → List Value → Result PlainSaid Word
+member_said s decl.Inductive (value.Number n ∷ value.Number a ∷ value.Number recursive ∷ value.Number nested ∷ value.Number parameters ∷ value.Number indices ∷ value.Numbers ts ∷ value.Numbers cs ∷ value.Numbers ps ∷ []) =
+    type_said s n a parameters indices ts cs ps
+member_said s decl.Constructor (value.Number n ∷ value.Number a ∷ value.Number p ∷ value.Number place ∷ value.Number parameters ∷ value.Number fields ∷ value.Numbers ps ∷ []) =
+    ctor_said s n a p place parameters fields ps
+member_said s decl.Recursor (value.Number n ∷ value.Number a ∷ value.Numbers ts ∷ value.Number parameters ∷ value.Number indices ∷ value.Number motives ∷ value.Number minors ∷ value.Numbers rs ∷ value.Flag k ∷ value.Numbers ps ∷ []) =
+    recursor_said s n a ts (record { parameters = parameters; indices = indices; motives = motives; minors = minors; k = k }) rs ps
+member_said s t values = Err UnknownTag
 
-abbrev pub added : State → Option ℕ → Tag → List Value → Result State Word
-added s (Some own) (Entry t) values = entry_added s own t values
-added s None (Declaration t) values = declaration_added s t values
-added s own t values = Err UnknownTag
+unfoldable pub declaration_said : State → DeclarationTag → List Value → Result PlainSaid Word
+declaration_said s decl.Definition (value.Number n ∷ value.Number a ∷ value.Number v ∷ value.OfHint h ∷ value.Numbers ps ∷ []) = valued_of s (λ e. as_def (hint_said h) e) n a v ps
+declaration_said s decl.Theorem (value.Number n ∷ value.Number a ∷ value.Number v ∷ value.Numbers ps ∷ []) = valued_of s (λ e. as_thm e) n a v ps
+declaration_said s decl.Opaque (value.Number n ∷ value.Number a ∷ value.Number v ∷ value.Numbers ps ∷ []) = valued_of s (λ e. as_opaque e) n a v ps
+declaration_said s decl.Axiom (value.Number n ∷ value.Number a ∷ value.Numbers ps ∷ []) = axiom_of s n a ps
+declaration_said s t values = member_said s t values
 
 -- items are counted, and there are fewer than 2^32
 abbrev pub counted : State → Result State Word
 counted s = if nat_lt s.count (2 ^ 32 - 1) then Ok (record s { count = s.count + 1 }) else Err TooManyItems
 
-unfoldable pub take_item : State → Item → Result State Word
-take_item s item = added s item.own item.tag item.values >>= λ t. counted t
+abbrev pub fault_word : MemberFault → Word
+fault_word faults.BadCount = BadCount
+fault_word faults.RepeatedMember = RepeatedMember
+
+abbrev pub unless_fault : Option MemberFault → State → Result State Word
+unless_fault None s = Ok s
+unless_fault (Some f) s = Err (fault_word f)
+
+-- line l, which declares something, behind those before it, unless it has a fault among those before it
+abbrev pub with_line : ℕ → State → PlainSaid → Result State Word
+with_line l s said = unless_fault (fault_of same_name s.lines said) (record s { lines = s.lines ++ record { number = l; said = said } ∷ [] })
+
+-- a line that declares something is counted before it is looked at beside others
+abbrev pub declared : ℕ → State → Result PlainSaid Word → Result State Word
+declared l s said = said >>= λ x. (counted s >>= λ t. with_line l t x)
+
+-- the item of line l, by its own number, its tag and its values
+abbrev pub added : ℕ → State → Option ℕ → Tag → List Value → Result State Word
+added l s (Some own) (Entry t) values = entry_added s own t values >>= λ u. counted u
+added l s None (Declaration t) values = declared l s (declaration_said s t values)
+added l s own t values = Err UnknownTag
+
+unfoldable pub take_item : ℕ → State → Item → Result State Word
+take_item l s item = added l s item.own item.tag item.values

@@ -1,12 +1,13 @@
 //! The units of a file, gathered item by item.
-ghost use Rattle.std.specs.Prelude.{◌≡◌, IfOk, IfErr};
-ghost use Rattle.lk_store.specs.Contents.{Contents, Extends};
+ghost use Rattle.std.specs.Prelude.{◌≡◌, length, IfOk, IfErr};
+ghost use Rattle.lk_store.specs.Contents.{Contents, name_at, level_at, Extends};
 ghost use Rattle.lk_units.specs.State.{State, begin, counted};
-ghost use Rattle.lk_units.specs.Held.{IsKnown, Holds, Follows};
+ghost use Rattle.lk_units.specs.Held.{Numbered, Below, IsKnown, Holds, Follows};
 
 use crate::numbering::Numbering;
-use lk_env::unit::{Hint, Unit};
+use lk_env::unit::{Hint, RecursorRule};
 use lk_lines::Word;
+use lk_members::members::Members;
 use lk_rows::memory::NoMemory;
 use lk_store::node::{LevelNode, NameNode};
 use lk_store::terms::Terms;
@@ -15,13 +16,16 @@ use std::alloc::Global;
 /// A file has at most this many items: names, levels, expressions, rules and declarations.
 const MAX_ITEMS: u64 = (1 << 32) - 1;
 
-/// What was taken so far. Each numbering leads from the file's numbers to those of a store.
+/// What was taken so far. The numberings of names, levels and trees lead from the file's numbers to those of a store.
 #[derive(Drop)]
 pub struct Assembler {
     pub by_name: Numbering,
     pub by_level: Numbering,
     pub by_tree: Numbering,
-    pub units: Vec<Unit>,
+    /// From the file's numbers of rules to places among `rules`.
+    pub by_rule: Numbering,
+    pub rules: Vec<RecursorRule>,
+    pub members: Members,
     pub count: u64,
 }
 
@@ -67,6 +71,22 @@ pub enum LevelPair {
     Imax,
 }
 
+/// An assembler with these numberings of names and levels, and nothing else.
+fn over(alloc: Global, by_name: Numbering, by_level: Numbering) -> Assembler
+    ensures known { (c : Contents) → Below by_name (length c.names) → Below by_level (length c.levels) → IsKnown result c }
+    ensures holds { (c : Contents) → Numbered by_name (name_at c) begin.names → Numbered by_level (level_at c) begin.levels → Holds result c begin }
+{
+    Assembler {
+        by_name,
+        by_level,
+        by_tree: Numbering::new(alloc),
+        by_rule: Numbering::new(alloc),
+        rules: Vec::new(alloc),
+        members: Members::new(alloc),
+        count: 0,
+    }
+}
+
 impl Assembler {
     /// An assembler that has the anonymous name and level zero alone.
     pub fn new<T: Terms>(alloc: Global, store: &mut T) -> Result<Self, TakeError>
@@ -82,13 +102,7 @@ impl Assembler {
         by_name.add(0, anonymous)?;
         let mut by_level = Numbering::new(alloc);
         by_level.add(0, zero)?;
-        Ok(Assembler {
-            by_name,
-            by_level,
-            by_tree: Numbering::new(alloc),
-            units: Vec::new(alloc),
-            count: 0,
-        })
+        Ok(over(alloc, by_name, by_level))
     }
 
     /// Counts an item that was taken.

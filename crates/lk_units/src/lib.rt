@@ -5,9 +5,11 @@
 mod assembler;
 mod making;
 mod numbering;
+mod stating;
 mod taking;
 #[cfg(test)]
 mod tests;
 
 pub use assembler::{Assembler, Binder, LevelPair, TakeError, ValueUse};
 pub use numbering::Numbering;
+pub use stating::{ConstructorCounts, RecursorCounts, TypeCounts};

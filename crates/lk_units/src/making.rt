@@ -3,14 +3,17 @@ ghost use Rattle.std.specs.Prelude.{◌≡◌, ◌<◌, ◌++◌, ◌∷◌, [],
 ghost use Rattle.lk_tree.specs.Tree.{Level, text, number, var, const};
 ghost use Rattle.lk_rulebook.specs.Units.{Body as PlainBody};
 ghost use Rattle.lk_store.specs.Contents.{Contents, name_at, level_at, tree_at, level_of, tree_of, IsIn, IsLevelIn, IsName, IsList, Extends};
-ghost use Rattle.lk_env.specs.Units.{body_at, unit_at, IsBodyIn, IsUnitIn};
+ghost use Rattle.lk_env.specs.Units.{body_at, rule_at, IsBodyIn, IsRuleIn};
+ghost use Rattle.lk_members.specs.Stored.{IsSaidIn};
+ghost use Rattle.lk_members.specs.Plain.{said_at};
 ghost use Rattle.lk_lines.specs.declared.words.Word.{Word as LineWord};
-ghost use Rattle.lk_units.specs.State.{State, longer_name, successor_level, pair_level, parameter_level, sort_tree, constant_tree, application_tree, binder_tree, let_tree, declaration_of, value_body, valued_of, axiom_of};
+ghost use Rattle.lk_units.specs.State.{State, longer_name, successor_level, pair_level, parameter_level, sort_tree, constant_tree, application_tree, binder_tree, let_tree, rule_of, declaration_of, value_body, valued_of, axiom_of};
 ghost use Rattle.lk_units.specs.Held.{IsKnown, Holds, Makes, binder_of, pair_of, body_of};
 
 use crate::{Assembler, Binder, LevelPair, TakeError, ValueUse};
-use lk_env::unit::{Body, Declaration, Unit};
+use lk_env::unit::{Body, Declaration, RecursorRule};
 use lk_lines::Word;
+use lk_members::line::Said;
 use lk_rows::memory::NoMemory;
 use lk_store::node::{LevelNode, ListNode, NameNode, Node};
 use lk_store::terms::Terms;
@@ -359,6 +362,30 @@ impl Assembler {
         }
     }
 
+    /// A rule of a recursor.
+    #[tactic(auto, using(crate::proofs::Holding::found, crate::proofs::Holding::missing, crate::proofs::Holding::is_below))]
+    pub(crate) fn rule(
+        &self,
+        constructor: u32,
+        fields: u32,
+        value: u32,
+    ) -> Result<RecursorRule, TakeError>
+        ensures known { (c : Contents) → IsKnown self.now c → IfOk result (IsRuleIn c) }
+        ensures made { (c : Contents) (s : State) → Holds self.now c s → Makes (rule_at c) result (rule_of s constructor fields value) }
+    {
+        let Some(constructor) = self.by_name.find(constructor) else {
+            return Err(TakeError::Fault(Word::IndexUnknown));
+        };
+        let Some(value) = self.by_tree.find(value) else {
+            return Err(TakeError::Fault(Word::IndexUnknown));
+        };
+        Ok(RecursorRule {
+            constructor,
+            fields: u64::from(fields),
+            value,
+        })
+    }
+
     /// A declaration with this body. A fault of the body comes behind those of its name and type.
     #[tactic(auto, using(crate::proofs::Holding::found, crate::proofs::Holding::missing, crate::proofs::Holding::is_below))]
     fn declaration(
@@ -368,10 +395,10 @@ impl Assembler {
         kind: u32,
         body: Result<Body, TakeError>,
         parameters: &[u32],
-    ) -> Result<Unit, TakeError>
-        ensures known { (c : Contents) → IsKnown self.now c → IfOk body (λ b. IsBodyIn c b) → IfOk result (λ unit. IsUnitIn c unit) }
+    ) -> Result<Said, TakeError>
+        ensures known { (c : Contents) → IsKnown self.now c → IfOk body (λ b. IsBodyIn c b) → IfOk result (IsSaidIn c) }
         ensures made { (c : Contents) (s : State) (said : Result PlainBody LineWord) → Holds self.now c s → Makes (body_at c) body said
-            → Makes (unit_at c) result (declaration_of s name kind said parameters.now) }
+            → Makes (said_at c) result (declaration_of s name kind said parameters.now) }
     {
         let Some(name) = self.by_name.find(name) else {
             return Err(TakeError::Fault(Word::IndexUnknown));
@@ -384,7 +411,7 @@ impl Assembler {
             Err(error) => return Err(error),
         };
         match self.by_name.find_all(alloc, parameters) {
-            Ok(levels) => Ok(Unit::Declaration(Declaration {
+            Ok(levels) => Ok(Said::Alone(Declaration {
                 name,
                 levels,
                 kind,
@@ -415,9 +442,9 @@ impl Assembler {
         kind: u32,
         value: u32,
         parameters: &[u32],
-    ) -> Result<Unit, TakeError>
-        ensures known { (c : Contents) → IsKnown self.now c → IfOk result (λ unit. IsUnitIn c unit) }
-        ensures made { (c : Contents) (s : State) → Holds self.now c s → Makes (unit_at c) result (valued_of s (body_of value_use) name kind value parameters.now) }
+    ) -> Result<Said, TakeError>
+        ensures known { (c : Contents) → IsKnown self.now c → IfOk result (IsSaidIn c) }
+        ensures made { (c : Contents) (s : State) → Holds self.now c s → Makes (said_at c) result (valued_of s (body_of value_use) name kind value parameters.now) }
     {
         let body = self.body(value_use, value);
         self.declaration(alloc, name, kind, body, parameters)
@@ -430,9 +457,9 @@ impl Assembler {
         name: u32,
         kind: u32,
         parameters: &[u32],
-    ) -> Result<Unit, TakeError>
-        ensures known { (c : Contents) → IsKnown self.now c → IfOk result (λ unit. IsUnitIn c unit) }
-        ensures made { (c : Contents) (s : State) → Holds self.now c s → Makes (unit_at c) result (axiom_of s name kind parameters.now) }
+    ) -> Result<Said, TakeError>
+        ensures known { (c : Contents) → IsKnown self.now c → IfOk result (IsSaidIn c) }
+        ensures made { (c : Contents) (s : State) → Holds self.now c s → Makes (said_at c) result (axiom_of s name kind parameters.now) }
     {
         self.declaration(alloc, name, kind, Ok(Body::Axiom), parameters)
     }

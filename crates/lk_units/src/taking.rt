@@ -1,21 +1,40 @@
 //! Items taken one after another.
-ghost use Rattle.std.specs.Prelude.{◌≡◌, IfOk, OnOk, Ok, Some, None, Result};
+ghost use Rattle.std.specs.Prelude.{◌≡◌, ◌<◌, ℕ, length, IfOk, OnOk, Ok, Some, None, Result};
 ghost use Rattle.lk_tree.specs.Tree.{text, number, var};
-ghost use Rattle.lk_rulebook.specs.Units.{LibraryUnit};
+ghost use Rattle.lk_rulebook.specs.Place.{RecRule};
 ghost use Rattle.lk_store.specs.Contents.{Contents, Extends};
-ghost use Rattle.lk_env.specs.Units.{hint_of, unit_at, IsUnitIn};
+ghost use Rattle.lk_env.specs.Units.{hint_of, IsRuleIn, rule_at};
+ghost use Rattle.lk_members.specs.Stored.{IsSaidIn};
+ghost use Rattle.lk_members.specs.Plain.{said_at};
 ghost use Rattle.lk_lines.specs.declared.words.Word.{Word as LineWord};
 ghost use Rattle.lk_lines.specs.declared.tags.Tag.TheVariants as tag;
 ghost use Rattle.lk_lines.specs.Views.{entry_tag, entry_values, declaration_tag, declaration_values};
-ghost use Rattle.lk_units.specs.State.{State, longer_name, successor_level, pair_level, parameter_level, sort_tree, constant_tree, application_tree, binder_tree, let_tree, with_name, with_level, with_tree, with_unit, hint_said, valued_of, axiom_of, entry_added, declaration_added, take_item};
-ghost use Rattle.lk_units.specs.Held.{IsKnown, Holds, Makes, Follows, binder_of, pair_of, body_of};
+ghost use Rattle.lk_units.specs.State.{State, longer_name, successor_level, pair_level, parameter_level, sort_tree, constant_tree, application_tree, binder_tree, let_tree, rule_of, with_name, with_level, with_tree, with_rule, hint_said, valued_of, axiom_of, entry_added, declaration_said, with_line, take_item};
+ghost use Rattle.lk_units.specs.Held.{Below, IsKnown, Holds, Makes, Follows, rule_held, told, binder_of, pair_of, body_of};
 
 use crate::making::variable;
 use crate::{Assembler, Binder, LevelPair, TakeError, ValueUse};
-use lk_env::unit::{Hint, Unit};
+use lk_env::unit::{Hint, RecursorRule};
 use lk_lines::{Declaration, Entry, ReducibilityHint, Word};
+use lk_members::fault::MemberFault;
+use lk_members::line::Said;
 use lk_store::terms::Terms;
 use std::alloc::Global;
+
+// Why a line is not taken among those before it.
+fn member_error(error: lk_members::fault::TakeError) -> TakeError
+    ensures { result ≡ told error }
+{
+    match error {
+        lk_members::fault::TakeError::NoMemory => TakeError::NoMemory,
+        lk_members::fault::TakeError::Fault(MemberFault::BadCount) => {
+            TakeError::Fault(Word::BadCount)
+        }
+        lk_members::fault::TakeError::Fault(MemberFault::RepeatedMember) => {
+            TakeError::Fault(Word::RepeatedMember)
+        }
+    }
+}
 
 // How readily a definition is unfolded, as it is held.
 fn held_hint(hint: ReducibilityHint) -> Hint
@@ -236,53 +255,39 @@ impl Assembler {
         self.by_tree.put_new(own, made)
     }
 
-    // Adds the unit that a line made.
-    #[tactic(auto, using(crate::proofs::Lines::fails_then))]
-    fn push_unit(&mut self, made: Result<Unit, TakeError>) -> Result<(), TakeError>
-        ensures known { OnOk result ((c : Contents) → IsKnown self.old c → IfOk made (λ unit. IsUnitIn c unit) → IsKnown self.new c) }
-        ensures follows { (c : Contents) (s : State) (said : Result LibraryUnit LineWord) → Holds self.old c s → Makes (unit_at c) made said → Follows self.new c result (with_unit s said) }
+    // Adds the rule that a line made.
+    fn push_rule(&mut self, made: Result<RecursorRule, TakeError>) -> Result<u64, TakeError>
+        ensures known { OnOk result ((c : Contents) → IsKnown self.old c → IfOk made (IsRuleIn c) → IsKnown self.new c) }
+        ensures below { IfOk result (λ i. i < length self.new.rules.items) }
+        ensures made { (c : Contents) (said : Result RecRule LineWord) → Makes (rule_at c) made said → Makes (rule_held c self.new.rules.items) result said }
+        ensures holds { (c : Contents) (s : State) → IsKnown self.old c → Holds self.old c s → Holds self.new c s }
+        ensures same { self.new.by_rule ≡ self.old.by_rule }
     {
-        let unit = match made {
-            Ok(unit) => unit,
+        let rule = match made {
+            Ok(rule) => rule,
             Err(error) => return Err(error),
         };
-        match self.units.push(unit) {
-            Ok(_) => {}
-            Err(_) => return Err(TakeError::NoMemory),
+        let place = self.rules.len() as u64;
+        match self.rules.push(rule) {
+            Ok(()) => Ok(place),
+            Err(_) => Err(TakeError::NoMemory),
         }
-        Ok(())
     }
 
-    // A line of a declaration with a value.
-    fn valued_line(
+    // A line of a rule.
+    fn rule_line(
         &mut self,
-        alloc: Global,
-        value_use: ValueUse,
-        name: u32,
-        kind: u32,
+        own: u32,
+        constructor: u32,
+        fields: u32,
         value: u32,
-        parameters: &[u32],
     ) -> Result<(), TakeError>
         ensures known { OnOk result ((c : Contents) → IsKnown self.old c → IsKnown self.new c) }
-        ensures follows { (c : Contents) (s : State) → Holds self.old c s → Follows self.new c result (with_unit s (valued_of s (body_of value_use) name kind value parameters.now)) }
+        ensures follows { (c : Contents) (s : State) → IsKnown self.old c → Holds self.old c s → Follows self.new c result (with_rule s own (rule_of s constructor fields value)) }
     {
-        let made = self.valued(alloc, value_use, name, kind, value, parameters);
-        self.push_unit(made)
-    }
-
-    // A line of an axiom.
-    fn axiom_line(
-        &mut self,
-        alloc: Global,
-        name: u32,
-        kind: u32,
-        parameters: &[u32],
-    ) -> Result<(), TakeError>
-        ensures known { OnOk result ((c : Contents) → IsKnown self.old c → IsKnown self.new c) }
-        ensures follows { (c : Contents) (s : State) → Holds self.old c s → Follows self.new c result (with_unit s (axiom_of s name kind parameters.now)) }
-    {
-        let made = self.axiom(alloc, name, kind, parameters);
-        self.push_unit(made)
+        let made = self.rule(constructor, fields, value);
+        let place = self.push_rule(made);
+        self.by_rule.put_new(own, place)
     }
 
     // What a line that defines a number adds.
@@ -340,19 +345,24 @@ impl Assembler {
                 value,
                 body,
             } => self.let_line(store, own, name, binder_type, value, body),
-            Entry::Project { .. }
-            | Entry::NatLiteral { .. }
-            | Entry::TextLiteral { .. }
-            | Entry::Rule { .. } => Err(TakeError::Fault(Word::UnknownTag)),
+            Entry::Rule {
+                constructor,
+                field_count,
+                value,
+            } => self.rule_line(own, constructor, field_count, value),
+            Entry::Project { .. } | Entry::NatLiteral { .. } | Entry::TextLiteral { .. } => Err(
+                TakeError::Fault(Word::UnknownTag),
+            ),
         }
     }
 
     // What a line that declares something adds.
-    #[tactic(auto, unfolding(crate::specs::State::declaration_added))]
-    fn add_declaration(&mut self, alloc: Global, declaration: Declaration) -> Result<(), TakeError>
-        ensures known { OnOk result ((c : Contents) → IsKnown self.old c → IsKnown self.new c) }
-        ensures follows { (c : Contents) (s : State) → Holds self.old c s
-            → Follows self.new c result (declaration_added s (declaration_tag declaration) (declaration_values declaration)) }
+    #[tactic(auto, unfolding(crate::specs::State::declaration_said))]
+    fn said(&self, alloc: Global, declaration: &Declaration) -> Result<Said, TakeError>
+        requires { Below self.now.by_rule (length self.now.rules.items) }
+        ensures known { (c : Contents) → IsKnown self.now c → IfOk result (IsSaidIn c) }
+        ensures made { (c : Contents) (s : State) → Holds self.now c s
+            → Makes (said_at c) result (declaration_said s (declaration_tag declaration.now) (declaration_values declaration.now)) }
     {
         match declaration {
             Declaration::Definition {
@@ -362,8 +372,8 @@ impl Assembler {
                 hint,
                 parameters,
             } => {
-                let value_use = ValueUse::Definition(held_hint(hint));
-                self.valued_line(alloc, value_use, name, declared_type, value, &parameters)
+                let value_use = ValueUse::Definition(held_hint(*hint));
+                self.valued(alloc, value_use, *name, *declared_type, *value, parameters)
             }
             Declaration::Theorem {
                 name,
@@ -372,7 +382,7 @@ impl Assembler {
                 parameters,
             } => {
                 let value_use = ValueUse::Theorem;
-                self.valued_line(alloc, value_use, name, declared_type, value, &parameters)
+                self.valued(alloc, value_use, *name, *declared_type, *value, parameters)
             }
             Declaration::Opaque {
                 name,
@@ -381,17 +391,39 @@ impl Assembler {
                 parameters,
             } => {
                 let value_use = ValueUse::Opaque;
-                self.valued_line(alloc, value_use, name, declared_type, value, &parameters)
+                self.valued(alloc, value_use, *name, *declared_type, *value, parameters)
             }
             Declaration::Axiom {
                 name,
                 declared_type,
                 parameters,
-            } => self.axiom_line(alloc, name, declared_type, &parameters),
+            } => self.axiom(alloc, *name, *declared_type, parameters),
             Declaration::Quotient { .. }
             | Declaration::Inductive { .. }
             | Declaration::Constructor { .. }
-            | Declaration::Recursor { .. } => Err(TakeError::Fault(Word::UnknownTag)),
+            | Declaration::Recursor { .. } => self.member_said(alloc, declaration),
+        }
+    }
+
+    // Puts a line that declares something behind those before it.
+    fn place<T: Terms>(
+        &mut self,
+        alloc: Global,
+        store: &T,
+        number: u64,
+        said: Said,
+    ) -> Result<(), TakeError>
+        requires known { IsKnown self.old (T.contents store.now) }
+        requires said_in { IsSaidIn (T.contents store.now) said }
+        ensures known { OnOk result (IsKnown self.new (T.contents store.now)) }
+        ensures follows { (s : State) → Holds self.old (T.contents store.now) s
+            → Follows self.new (T.contents store.now) result (with_line number s (said_at (T.contents store.now) said)) }
+    {
+        // The names of the store are apart, so that their numbers tell.
+        let _names = store.count_names();
+        match self.members.take(alloc, number, said) {
+            Ok(()) => Ok(()),
+            Err(error) => Err(member_error(error)),
         }
     }
 
@@ -409,8 +441,8 @@ impl Assembler {
         ensures keeps { Extends (T.contents store.old) (T.contents store.new) }
         ensures rest { T.rest store.new ≡ T.rest store.old }
         ensures known { OnOk result (IsKnown self.new (T.contents store.new)) }
-        ensures follows { (s : State) → Holds self.old (T.contents store.old) s
-            → Follows self.new (T.contents store.new) result (take_item s (record { own = Some own; tag = tag.Entry (entry_tag line.entry); values = entry_values line.entry })) }
+        ensures follows { (number : ℕ) (s : State) → Holds self.old (T.contents store.old) s
+            → Follows self.new (T.contents store.new) result (take_item number s (record { own = Some own; tag = tag.Entry (entry_tag line.entry); values = entry_values line.entry })) }
     {
         match self.add_entry(alloc, store, own, line) {
             Ok(()) => self.counts(),
@@ -418,12 +450,14 @@ impl Assembler {
         }
     }
 
-    /// Takes a line that declares something.
-    #[tactic(auto, using(crate::proofs::Lines::fails_then, crate::proofs::Lines::counted_follows, crate::proofs::Holding::unchanged), unfolding(crate::specs::State::take_item))]
+    /// Takes line `number`, which declares something. A number that stands for nothing comes before too many items, that
+    /// before lists of a block that are bad, and that before a member that has a line already.
+    #[tactic(auto, using(crate::proofs::Lines::fails_then, crate::proofs::Lines::declared_follows), unfolding(crate::specs::State::take_item))]
     pub fn take_declaration<T: Terms>(
         &mut self,
         alloc: Global,
         store: &mut T,
+        number: u64,
         declaration: Declaration,
     ) -> Result<(), TakeError>
         requires { IsKnown self.old (T.contents store.old) }
@@ -431,12 +465,16 @@ impl Assembler {
         ensures rest { T.rest store.new ≡ T.rest store.old }
         ensures known { OnOk result (IsKnown self.new (T.contents store.new)) }
         ensures follows { (s : State) → Holds self.old (T.contents store.old) s
-            → Follows self.new (T.contents store.new) result (take_item s (record { own = None; tag = tag.Declaration (declaration_tag declaration); values = declaration_values declaration })) }
+            → Follows self.new (T.contents store.new) result (take_item number s (record { own = None; tag = tag.Declaration (declaration_tag declaration); values = declaration_values declaration })) }
     {
-        let _store = store;
-        match self.add_declaration(alloc, declaration) {
-            Ok(()) => self.counts(),
-            Err(error) => Err(error),
+        let said = match self.said(alloc, &declaration) {
+            Ok(said) => said,
+            Err(error) => return Err(error),
+        };
+        match self.counts() {
+            Ok(()) => {}
+            Err(error) => return Err(error),
         }
+        self.place(alloc, store, number, said)
     }
 }

@@ -1,8 +1,9 @@
 //! Items of a file, and what each comes to by the format's tables.
 
 use crate::{Assembler, Numbering, TakeError};
-use lk_env::unit::{Body, Unit};
+use lk_env::unit::Body;
 use lk_lines::{BinderInfo, Declaration, Entry, Word};
+use lk_members::line::Said;
 use lk_rows::memory::NoMemory;
 use lk_store::base_store::BaseStore;
 use lk_store::node::NameNode;
@@ -88,6 +89,7 @@ fn identity<T: Terms>(alloc: Global, store: &mut T) -> Result<Assembler, TakeErr
     file.take_declaration(
         alloc,
         store,
+        12,
         Declaration::Theorem {
             name: 2,
             declared_type: 4,
@@ -106,10 +108,10 @@ fn number_of_name<T: Terms>(alloc: Global, store: &mut T) -> Result<u64, NoMemor
     store.make_name(NameNode::Number(parent, 4))
 }
 
-fn has_name(unit: &Unit, name: u64) -> bool {
-    match unit {
-        Unit::Declaration(declaration) => declaration.name == name,
-        Unit::Block(_) => false,
+fn has_name(said: &Said, name: u64) -> bool {
+    match said {
+        Said::Alone(declaration) => declaration.name == name,
+        _ => false,
     }
 }
 
@@ -117,8 +119,8 @@ fn has_name(unit: &Unit, name: u64) -> bool {
 fn is_taken<T: Terms>(alloc: Global, store: &mut T) -> Result<bool, TakeError> {
     let file = identity(alloc, store)?;
     let name = number_of_name(alloc, store)?;
-    match file.units.as_slice() {
-        [unit] => Ok(has_name(unit, name)),
+    match file.members.lines.as_slice() {
+        [line] => Ok(line.number == 12 && has_name(&line.said, name)),
         _ => Ok(false),
     }
 }
@@ -289,24 +291,25 @@ fn axiom_over<T: Terms>(
     file.take_declaration(
         alloc,
         store,
+        12,
         Declaration::Axiom {
             name,
             declared_type,
             parameters,
         },
     )?;
-    match file.units.as_slice() {
-        [unit] => Ok(is_axiom(unit)),
+    match file.members.lines.as_slice() {
+        [line] => Ok(is_axiom(&line.said)),
         _ => Ok(false),
     }
 }
 
-fn is_axiom(unit: &Unit) -> bool {
-    match unit {
-        Unit::Declaration(declaration) => {
+fn is_axiom(said: &Said) -> bool {
+    match said {
+        Said::Alone(declaration) => {
             declaration.body == Body::Axiom && declaration.levels.len() == 2
         }
-        Unit::Block(_) => false,
+        _ => false,
     }
 }
 
@@ -322,5 +325,75 @@ fn axioms(rt: HostRuntime) -> Result<(), Fail> {
     assert_eq!(rt; axiom(alloc, 2, 7), unknown);
     assert_eq!(rt; axiom(alloc, 0, 8), unknown);
     assert_eq!(rt; axiom(alloc, 0, 7), Ok(true));
+    Ok(())
+}
+
+// A type without constructors, whose list of types is this, and a rule before it.
+fn inductive_over<T: Terms>(
+    alloc: Global,
+    store: &mut T,
+    types: &[u32],
+) -> Result<bool, TakeError> {
+    let mut file = Assembler::new(alloc, store)?;
+    file.take_entry(alloc, store, 7, Entry::Sort { level: 0 })?;
+    let rule = Entry::Rule {
+        constructor: 0,
+        field_count: 3,
+        value: 7,
+    };
+    file.take_entry(alloc, store, 5, rule)?;
+    let Ok(types) = Vec::from_slice(alloc, types) else {
+        return Err(TakeError::NoMemory);
+    };
+    let declaration = Declaration::Inductive {
+        name: 0,
+        declared_type: 7,
+        recursive: 0,
+        nested: 0,
+        parameter_count: 1,
+        index_count: 2,
+        types,
+        constructors: Vec::new(alloc),
+        parameters: Vec::new(alloc),
+    };
+    file.take_declaration(alloc, store, 3, declaration)?;
+    let rule_is_kept = match file.rules.as_slice() {
+        [rule] => rule.fields == 3,
+        _ => false,
+    };
+    match file.members.lines.as_slice() {
+        [line] => Ok(rule_is_kept && line.number == 3 && is_type(&line.said)),
+        _ => Ok(false),
+    }
+}
+
+fn is_type(said: &Said) -> bool {
+    match said {
+        Said::Type { head, .. } => head.parameters == 1 && head.indices == 2,
+        _ => false,
+    }
+}
+
+fn inductive(alloc: Global, types: &[u32]) -> Result<bool, TakeError> {
+    let mut store = BaseStore::new(alloc);
+    inductive_over(alloc, &mut store, types)
+}
+
+#[test]
+fn types_of_blocks(rt: HostRuntime) -> Result<(), Fail> {
+    let alloc = rt.alloc();
+    assert_eq!(rt; inductive(alloc, &[0]), Ok(true));
+    assert_eq!(rt;
+        inductive(alloc, &[]),
+        Err(TakeError::Fault(Word::BadCount))
+    );
+    assert_eq!(rt;
+        inductive(alloc, &[0, 0]),
+        Err(TakeError::Fault(Word::BadCount))
+    );
+    assert_eq!(rt;
+        inductive(alloc, &[0, 1]),
+        Err(TakeError::Fault(Word::IndexUnknown))
+    );
     Ok(())
 }

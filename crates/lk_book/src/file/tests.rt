@@ -129,6 +129,95 @@ fn axioms_and_constants(rt: HostRuntime) -> Result<(), Fail> {
 }
 
 #[test]
+fn faults_of_blocks(rt: HostRuntime) -> Result<(), Fail> {
+    let alloc = rt.alloc();
+    for (text, line, word) in [
+        (
+            "1 #NS 0 T\n0 #ES 0\n#IND 1 0 0 0 0 0 2 1",
+            3,
+            Word::BadCount,
+        ),
+        (
+            "1 #NS 0 T\n2 #NS 1 mk\n0 #ES 0\n#IND 1 0 0 0 0 0 1 1 1 2",
+            4,
+            Word::BlockOpen,
+        ),
+        (
+            "1 #NS 0 T\n0 #ES 0\n#IND 1 0 0 0 0 0 1 0 0",
+            3,
+            Word::BadCount,
+        ),
+        (
+            "1 #NS 0 T\n0 #ES 0\n#IND 1 0 0 0 0 0 1 1 0\n#IND 1 0 0 0 0 0 1 1 0",
+            4,
+            Word::RepeatedMember,
+        ),
+        (
+            "1 #NS 0 T\n2 #NS 0 c\n0 #ES 0\n#CTOR 2 0 1 0 0 0",
+            4,
+            Word::BlockOpen,
+        ),
+        (
+            "1 #NS 0 T\n0 #ES 0\n#REC 1 0 1 1 0 0 0 0 0 0\n#REC 1 0 1 1 0 0 0 0 0 0",
+            4,
+            Word::RepeatedMember,
+        ),
+        (
+            "1 #NS 0 T\n0 #ES 0\n#REC 1 0 1 1 0 0 0 0 0 0",
+            3,
+            Word::BlockOpen,
+        ),
+        (
+            "1 #NS 0 T\n0 #ES 0\n#REC 1 0 1 1 0 0 0 0 1 0 0",
+            3,
+            Word::IndexUnknown,
+        ),
+        ("1 #NS 0 T\n0 #ES 0\n0 #RR 1 0 1", 3, Word::IndexUnknown),
+        (
+            "1 #NS 0 T\n0 #ES 0\n#IND 1 0 0 0 0 0 1 1 0\n#IND 0 0 0 0 0 0 2 0 1 0",
+            4,
+            Word::BadCount,
+        ),
+        (
+            "1 #NS 0 T\n0 #ES 0\n#IND 1 0 0 0 0 0 1 1 2 0 0",
+            3,
+            Word::BadCount,
+        ),
+    ] {
+        let bytes = Vec::from_slice(alloc, text.as_bytes())?;
+        assert_eq!(rt;
+            count_of(alloc, bytes, 16, None),
+            Err(ReadError::Fault(Fault { line, word })),
+            "at {text:?}"
+        );
+    }
+    Ok(())
+}
+
+#[test]
+fn blocks(rt: HostRuntime) -> Result<(), Fail> {
+    let alloc = rt.alloc();
+    for (text, want) in [
+        ("#IND 1 0 0 0 0 0 1 1 0\n", 1),
+        ("#CTOR 2 0 1 0 0 0\n#AX 3 0\n#IND 1 0 0 0 0 0 1 1 1 2\n", 2),
+        (
+            "0 #RR 2 0 0\n#REC 3 0 1 1 0 0 1 1 1 0 0\n#IND 1 0 0 0 0 0 1 1 1 2\n#CTOR 2 0 1 0 0 0\n",
+            1,
+        ),
+        (
+            "#IND 1 0 0 0 0 0 2 1 2 0\n#AX 3 0\n#IND 2 0 0 0 0 0 2 1 2 0\n",
+            2,
+        ),
+    ] {
+        let names = "1 #NS 0 T\n2 #NS 0 mk\n3 #NS 0 r\n0 #ES 0\n";
+        let mut bytes = Vec::from_slice(alloc, names.as_bytes())?;
+        bytes.extend_from_slice(text.as_bytes())?;
+        assert_eq!(rt; count_of(alloc, bytes, 7, None), Ok(want), "at {text:?}");
+    }
+    Ok(())
+}
+
+#[test]
 fn long_lines(rt: HostRuntime) -> Result<(), Fail> {
     let alloc = rt.alloc();
     let mut bytes = vec![in alloc; b' '; MAX_LINE]?;

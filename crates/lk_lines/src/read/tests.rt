@@ -305,7 +305,7 @@ fn limits_and_tags(rt: HostRuntime) {
         );
     }
     assert!(rt; is_built(Tag::Declaration(DeclarationTag::Theorem)));
-    assert!(rt; !is_built(Tag::Entry(EntryTag::Rule)));
+    assert!(rt; !is_built(Tag::Entry(EntryTag::Project)));
     assert_eq!(rt; Word::NumberTooLarge.text(), "NumberTooLarge");
     lines_are_exact();
     dues_are_exact();

@@ -1,4 +1,4 @@
-use Rattle.std.proofs.Common.{refl}
+use Rattle.std.proofs.Common.{refl, ◌∙◌}
 use Rattle.std.specs.Prelude.{false}
 use Rattle.lk_book.proofs.Steps.{item_goes}
 use Rattle.lk_book.proofs.reader.Reader.take_said.Goals as goal
@@ -7,7 +7,7 @@ pub returns-in-Version-clause-follows : goal.returns-in-Version-clause-follows
 returns-in-Version-clause-follows g c = λ d h. rw c.in-Version.is (record d { first = false }, refl, record { first = refl; number = h.number; before = h.before; holds = h.holds })
 
 pub returns-in-Ok-clause-follows : goal.returns-in-Ok-clause-follows
-returns-in-Ok-clause-follows g c = λ d h. rw c.in-Entry.is (item_goes c.args.self.now c.take_entry.new.self _ _ d c.args.number _ h (c.in-Ok.ensures.follows d.state h.holds))
+returns-in-Ok-clause-follows g c = λ d h. rw c.in-Entry.is (item_goes c.args.self.now c.take_entry.new.self _ _ d c.args.number _ h (c.in-Ok.ensures.follows d.number d.state h.holds))
 
 pub returns-in-Ok-take_declaration-clause-follows : goal.returns-in-Ok-take_declaration-clause-follows
-returns-in-Ok-take_declaration-clause-follows g c = λ d h. rw c.in-Declaration.is (item_goes c.args.self.now c.take_declaration.new.self _ _ d c.args.number _ h (c.in-Ok-take_declaration.ensures.follows d.state h.holds))
+returns-in-Ok-take_declaration-clause-follows g c = λ d h. rw c.in-Declaration.is (item_goes c.args.self.now c.take_declaration.new.self _ _ d c.args.number _ h (rw (c.requires.number ∙ h.number) at c.in-Ok-take_declaration.ensures.follows d.state h.holds))

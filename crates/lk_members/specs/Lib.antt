@@ -1,0 +1,9 @@
+pub mod Lines
+pub mod Faults
+pub mod Units
+pub mod Stored
+pub mod Hashes
+pub mod Indices
+pub mod Plain
+pub mod Taking
+pub mod Finishing
