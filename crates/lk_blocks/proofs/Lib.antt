@@ -1,10 +1,13 @@
 pub mod After
 pub mod Enough
+pub mod FlatBlocks
+pub mod FlatParts
 pub mod Fuel
 pub mod Halves
 pub mod More
 pub mod MoreBlocks
 pub mod Plain
+pub mod ReadBack
 pub mod SettledTasks
 pub mod StageTasks
 pub mod TaskLaws

@@ -1,6 +1,6 @@
 -- The plain verdict of a block is steady: it comes exactly where the budget is at least its cost.
 use Rattle.std.proofs.Common.{ℕ, suc, ◌≡◌, ◌≤◌, ◌<◌, ◌+◌, ◌-◌, ◌++◌, List, [], Option, None, refl, ap, ◌∙◌, arith}
-use Rattle.lk_rulebook.specs.Place.{Place, Block}
+use Rattle.lk_rulebook.specs.Place.{Place, Block, type_names}
 use Rattle.lk_rulebook.specs.Units.{Members, LibraryUnit, place_of}
 use Rattle.lk_plain.specs.Query.{Query, AnswerTo}
 use Rattle.lk_plain.specs.Program.{Table, Program, done, refuse, ask, look}
@@ -8,9 +8,11 @@ use Rattle.lk_plain.specs.Answer.{Outcome, answered, and_then, IfAnswered, outco
 use Rattle.lk_plain.specs.Laws.{IsSteady}
 use Rattle.lk_plain.proofs.Outcomes.{and_then_same, found_same, if_map, of_answered}
 use Rattle.lk_plain.proofs.Budgets.{ans_steady}
-use Rattle.lk_blocks.specs.Block.{parameters_of, Shape}
+use Rattle.lk_blocks.specs.Block.{parameters_of}
 use Rattle.lk_blocks.specs.BlockSteps.{TypeParts, counts_steps, types_steps, all_ctor_sorts, shape_steps}
 use Rattle.lk_blocks.specs.Recursors.{Rec}
+use Rattle.lk_blocks.specs.Flat.{flat_types}
+use Rattle.lk_blocks.specs.FlatTask.{flat_recs, flat_task, plain_flat}
 use Rattle.lk_blocks.specs.Nested.{Larger, larger_block, enlarge, aux_sorts, aux_indices, bare_entries}
 use Rattle.lk_blocks.specs.NestedTask.{setting_of, nested_recs, nested_shape, whole_task, plain_whole}
 use Rattle.lk_blocks.specs.Whole.{partial_types}
@@ -83,30 +85,64 @@ same_whole places f cost most m n lm ln b stated =
     (λ lg. same_then places f most (here (aux_sorts ts.sort lg.auxs)) (here (aux_sorts ts.sort lg.auxs)) _ _ (same_itself places f most (here (aux_sorts ts.sort lg.auxs)))
     (λ z. same_nested_shape places f cost most m n lm ln b stated ts lg))))))
 
-abbrev pub at_fuel : Table → List LibraryUnit → ℕ → Block → List Rec → ℕ → ℕ → Outcome (Shape × Members)
-at_fuel table us n b stated fuel i = run_task (place_of us n) (λ w. plain_answer table w) [] i (whole_task fuel b stated)
+-- a check that does not depend on fuel above the budget
+pub record NeedsNoFuel {A : Type 0} (task : ℕ → Task A) : Type 0 where
+  pub same : (places : Members → Place) (f : Place → (q : Query) → ℕ → Outcome (AnswerTo q)) → ((w : Place) → Costs (f w)) → (most m n : ℕ) → most < m → most < n → SameTask places f most (task m) (task n)
 
-pub same_fuel : (table : Table) (us : List LibraryUnit) (n : ℕ) (b : Block) (stated : List Rec) (x y i : ℕ) → i < x → i < y → at_fuel table us n b stated x i ≡ at_fuel table us n b stated y i
-same_fuel table us n b stated x y i lx ly = (same_whole (place_of us n) (λ w. plain_answer table w) (plain_costs table) i x y lx ly b stated).agrees [] i (omega arith)
+pub whole_fuel : (b : Block) (stated : List Rec) → NeedsNoFuel (λ fuel. whole_task fuel b stated)
+whole_fuel b stated = record { same = λ places f cost most m n lm ln. same_whole places f cost most m n lm ln b stated }
 
-fuel_steady : (table : Table) (us : List LibraryUnit) (n : ℕ) (b : Block) (stated : List Rec) (fuel i : ℕ) → IfAnswered (at_fuel table us n b stated fuel i) (IsSteady (at_fuel table us n b stated fuel) i)
-fuel_steady table us n b stated fuel i = task_steady (place_of us n) (λ w. plain_answer table w) (λ w q j. ans_steady table w q j) [] (whole_task fuel b stated) i
+abbrev pub at_fuel : {A : Type 0} → Table → List LibraryUnit → ℕ → (ℕ → Task A) → ℕ → ℕ → Outcome (A × Members)
+at_fuel table us n task fuel i = run_task (place_of us n) (λ w. plain_answer table w) [] i (task fuel)
 
-steady_from : (table : Table) (us : List LibraryUnit) (n : ℕ) (b : Block) (stated : List Rec) (budget : ℕ) (v : Shape × Members) (c : ℕ) (t : Option ℕ) →
-    IsSteady (at_fuel table us n b stated (suc budget)) budget v c t → IsSteady (plain_whole table us n b stated) budget v c t
-steady_from table us n b stated budget v c t h = record {
+-- the fuel is above the budget
+abbrev pub fueled : {A : Type 0} → Table → List LibraryUnit → ℕ → (ℕ → Task A) → ℕ → Outcome (A × Members)
+fueled table us n task i = at_fuel table us n task (suc i) i
+
+pub same_fuel : {A : Type 0} (table : Table) (us : List LibraryUnit) (n : ℕ) (task : ℕ → Task A) → NeedsNoFuel task → (x y i : ℕ) → i < x → i < y → at_fuel table us n task x i ≡ at_fuel table us n task y i
+same_fuel table us n task free x y i lx ly = (free.same (place_of us n) (λ w. plain_answer table w) (plain_costs table) i x y lx ly).agrees [] i (omega arith)
+
+fuel_steady : {A : Type 0} (table : Table) (us : List LibraryUnit) (n : ℕ) (task : ℕ → Task A) (fuel i : ℕ) → IfAnswered (at_fuel table us n task fuel i) (IsSteady (at_fuel table us n task fuel) i)
+fuel_steady table us n task fuel i = task_steady (place_of us n) (λ w. plain_answer table w) (λ w q j. ans_steady table w q j) [] (task fuel) i
+
+steady_from : {A : Type 0} (table : Table) (us : List LibraryUnit) (n : ℕ) (task : ℕ → Task A) → NeedsNoFuel task → (budget : ℕ) (v : A × Members) (c : ℕ) (t : Option ℕ) →
+    IsSteady (at_fuel table us n task (suc budget)) budget v c t → IsSteady (fueled table us n task) budget v c t
+steady_from table us n task free budget v c t h = record {
   paid = h.paid;
   enough = λ i l.
       let fuel : ℕ = suc (budget + i) in
-      let there : at_fuel table us n b stated fuel budget ≡ answered v c t = same_fuel table us n b stated fuel (suc budget) budget (omega arith) (omega arith) ∙ h.enough budget h.paid in
-      let y : IsSteady (at_fuel table us n b stated fuel) budget v c t = of_answered (IsSteady (at_fuel table us n b stated fuel) budget) (at_fuel table us n b stated fuel budget) v c t there (fuel_steady table us n b stated fuel budget) in
-      same_fuel table us n b stated (suc i) fuel i (omega arith) (omega arith) ∙ y.enough i l;
-  too_little = λ i l. same_fuel table us n b stated (suc i) (suc budget) i (omega arith) (omega (arith, h.paid)) ∙ h.too_little i l;
+      let there : at_fuel table us n task fuel budget ≡ answered v c t = same_fuel table us n task free fuel (suc budget) budget (omega arith) (omega arith) ∙ h.enough budget h.paid in
+      let y : IsSteady (at_fuel table us n task fuel) budget v c t = of_answered (IsSteady (at_fuel table us n task fuel) budget) (at_fuel table us n task fuel budget) v c t there (fuel_steady table us n task fuel budget) in
+      same_fuel table us n task free (suc i) fuel i (omega arith) (omega arith) ∙ y.enough i l;
+  too_little = λ i l. same_fuel table us n task free (suc i) (suc budget) i (omega arith) (omega (arith, h.paid)) ∙ h.too_little i l;
 }
 
--- the plain verdict comes exactly where the budget is at least its cost, and is then the same
+-- such a check's outcome comes exactly where the budget is at least its cost, and is then the same
+pub fueled_steady : {A : Type 0} (table : Table) (us : List LibraryUnit) (n : ℕ) (task : ℕ → Task A) → NeedsNoFuel task → (budget : ℕ) → IfAnswered (fueled table us n task budget) (IsSteady (fueled table us n task) budget)
+fueled_steady table us n task free budget =
+    if_map (IsSteady (at_fuel table us n task (suc budget)) budget) (IsSteady (fueled table us n task) budget) (fueled table us n task budget)
+    (λ v c t h. steady_from table us n task free budget v c t h) (fuel_steady table us n task (suc budget) budget)
+
 pub plain_steady : (table : Table) (us : List LibraryUnit) (n : ℕ) (b : Block) (stated : List Rec) (budget : ℕ) →
     IfAnswered (plain_whole table us n b stated budget) (IsSteady (plain_whole table us n b stated) budget)
-plain_steady table us n b stated budget =
-    if_map (IsSteady (at_fuel table us n b stated (suc budget)) budget) (IsSteady (plain_whole table us n b stated) budget) (plain_whole table us n b stated budget)
-    (λ v c t h. steady_from table us n b stated budget v c t h) (fuel_steady table us n b stated (suc budget) budget)
+plain_steady table us n b stated budget = fueled_steady table us n (λ fuel. whole_task fuel b stated) (whole_fuel b stated) budget
+
+-- where nested occurrences are refused
+same_flat : (places : Members → Place) (f : Place → (q : Query) → ℕ → Outcome (AnswerTo q)) → ((w : Place) → Costs (f w)) →
+    (most m n : ℕ) → most < m → most < n → (b : Block) (stated : List Rec) → SameTask places f most (flat_task m b stated) (flat_task n b stated)
+same_flat places f cost most m n lm ln b stated =
+    same_then places f most (here (counts_steps b)) (here (counts_steps b)) _ _ (same_itself places f most (here (counts_steps b)))
+    (λ y. same_then places f most (here (types_steps (parameters_of b) b.types)) (here (types_steps (parameters_of b) b.types)) _ _ (same_itself places f most (here (types_steps (parameters_of b) b.types)))
+    (λ ts. same_then places f most (half_there (partial_types b)) (half_there (partial_types b)) _ _ (same_itself places f most (half_there (partial_types b)))
+    (λ hs. same_then places f most (here (all_ctor_sorts b.types)) (here (all_ctor_sorts b.types)) _ _ (same_itself places f most (here (all_ctor_sorts b.types)))
+    (λ ls. same_then places f most (here (flat_types (type_names b.types) b.types)) (here (flat_types (type_names b.types) b.types)) _ _ (same_itself places f most (here (flat_types (type_names b.types) b.types)))
+    (λ z. same_then places f most (here (shape_steps m b ts)) (here (shape_steps n b ts)) _ _
+    (same_here places f most (shape_steps m b ts) (shape_steps n b ts) (λ w. same_shape w (f w) (cost w) most m n lm ln b ts))
+    (λ s. same_itself places f most (flat_recs b stated s)))))))
+
+pub flat_fuel : (b : Block) (stated : List Rec) → NeedsNoFuel (λ fuel. flat_task fuel b stated)
+flat_fuel b stated = record { same = λ places f cost most m n lm ln. same_flat places f cost most m n lm ln b stated }
+
+pub flat_steady : (table : Table) (us : List LibraryUnit) (n : ℕ) (b : Block) (stated : List Rec) (budget : ℕ) →
+    IfAnswered (plain_flat table us n b stated budget) (IsSteady (plain_flat table us n b stated) budget)
+flat_steady table us n b stated budget = fueled_steady table us n (λ fuel. flat_task fuel b stated) (flat_fuel b stated) budget

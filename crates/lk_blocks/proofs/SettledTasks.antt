@@ -8,8 +8,9 @@ use Rattle.lk_plain.specs.Laws.{IsSettled}
 use Rattle.lk_plain.specs.Program.{Table}
 use Rattle.lk_plain.proofs.Settled.{Settles, settled_then, settled_found, ans_settled}
 use Rattle.lk_blocks.specs.Task.{Task, done_with, stopped, asking, looking, half, run_task}
+use Rattle.lk_blocks.specs.FlatTask.{flat_task, plain_flat}
 use Rattle.lk_blocks.specs.NestedTask.{whole_task, plain_whole}
-use Rattle.lk_blocks.proofs.Plain.{at_fuel, same_fuel}
+use Rattle.lk_blocks.proofs.Plain.{NeedsNoFuel, whole_fuel, flat_fuel, at_fuel, fueled, same_fuel}
 
 pub task_settled : {A : Type 0} (places : Members → Place) (f : Place → (q : Query) → ℕ → Outcome (AnswerTo q)) → ((w : Place) (q : Query) → IsSettled (f w q)) → (h : Members) (t : Task A) → IsSettled (λ b. run_task places f h b t)
 task_settled places f s h (done_with v) b i l = inr refl
@@ -25,7 +26,14 @@ moved_to : {A : Type 0} (o p o' : Outcome A) → o ≡ p → Settles p o' → Se
 moved_to o p o' e (inl x) = inl (e ∙ x)
 moved_to o p o' e (inr x) = inr (let y : o' ≡ o = cc in y)
 
+fueled_settled : {A : Type 0} (table : Table) (us : Library) (n : ℕ) (task : ℕ → Task A) → NeedsNoFuel task → IsSettled (fueled table us n task)
+fueled_settled table us n task free i more l =
+    moved_to (fueled table us n task i) (at_fuel table us n task (suc more) i) (fueled table us n task more) (same_fuel table us n task free (suc i) (suc more) i (omega arith) (omega arith))
+    (task_settled (place_of us n) (λ w. plain_answer table w) (λ w q. ans_settled table w q) [] (task (suc more)) i more l)
+
 pub plain_settled : (table : Table) (us : Library) (n : ℕ) (b : Block) (stated : List Rec) → IsSettled (plain_whole table us n b stated)
-plain_settled table us n b stated i more l =
-    moved_to (plain_whole table us n b stated i) (at_fuel table us n b stated (suc more) i) (plain_whole table us n b stated more) (same_fuel table us n b stated (suc i) (suc more) i (omega arith) (omega arith))
-    (task_settled (place_of us n) (λ w. plain_answer table w) (λ w q. ans_settled table w q) [] (whole_task (suc more) b stated) i more l)
+plain_settled table us n b stated = fueled_settled table us n (λ fuel. whole_task fuel b stated) (whole_fuel b stated)
+
+-- where nested occurrences are refused
+pub flat_settled : (table : Table) (us : Library) (n : ℕ) (b : Block) (stated : List Rec) → IsSettled (plain_flat table us n b stated)
+flat_settled table us n b stated = fueled_settled table us n (λ fuel. flat_task fuel b stated) (flat_fuel b stated)

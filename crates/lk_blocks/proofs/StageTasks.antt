@@ -8,6 +8,7 @@ use Rattle.lk_plain.specs.Answer.{Outcome, plain_answer}
 use Rattle.lk_plain.specs.Parts.{IsStageOf}
 use Rattle.lk_plain.proofs.Parts.{Gives, gives_then, gives_found, ans_gives}
 use Rattle.lk_blocks.specs.Task.{Task, done_with, stopped, asking, looking, half, run_task}
+use Rattle.lk_blocks.specs.FlatTask.{flat_task, plain_flat}
 use Rattle.lk_blocks.specs.NestedTask.{whole_task, plain_whole}
 
 pub task_gives : {A : Type 0} (places : Members → Place) (f g : Place → (q : Query) → ℕ → Outcome (AnswerTo q)) → ((w : Place) (q : Query) (b : ℕ) → Gives (f w q b) (g w q b)) →
@@ -23,3 +24,7 @@ task_gives places f g i h b (half ms t) = task_gives places f g i (h ++ ms) b t
 
 pub plain_gives : (stage table : Table) → IsStageOf stage table → (us : Library) (n : ℕ) (b : Block) (stated : List Rec) (budget : ℕ) → Gives (plain_whole stage us n b stated budget) (plain_whole table us n b stated budget)
 plain_gives stage table h us n b stated budget = task_gives (place_of us n) (λ w. plain_answer stage w) (λ w. plain_answer table w) (λ w q i. ans_gives stage table h w q i) [] budget (whole_task (suc budget) b stated)
+
+-- where nested occurrences are refused
+pub flat_gives : (stage table : Table) → IsStageOf stage table → (us : Library) (n : ℕ) (b : Block) (stated : List Rec) (budget : ℕ) → Gives (plain_flat stage us n b stated budget) (plain_flat table us n b stated budget)
+flat_gives stage table h us n b stated budget = task_gives (place_of us n) (λ w. plain_answer stage w) (λ w. plain_answer table w) (λ w q i. ans_gives stage table h w q i) [] budget (flat_task (suc budget) b stated)

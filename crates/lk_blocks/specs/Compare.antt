@@ -3,8 +3,8 @@ use Rattle.std.specs.Prelude.{◌≡◌, ◌⊎◌, Bool, true, false, ◌&&◌,
 use Rattle.lk_tree.specs.Tree.{Name, Level, param, Tree}
 use Rattle.lk_tree.specs.Levels.{put_levels}
 use Rattle.lk_tree.specs.RuleNo.{recursor_differs}
-use Rattle.lk_rulebook.specs.Place.{Place, RecRule, a_rec}
-use Rattle.lk_rulebook.specs.Units.{Members}
+use Rattle.lk_rulebook.specs.Place.{Place, RecRule}
+pub use Rattle.lk_rulebook.specs.Units.{rec_entries}
 use Rattle.lk_tree.specs.Mentions.{same_name}
 use Rattle.lk_rulebook.specs.Rules.{HasType, HasSort, IsDefEq}
 use Rattle.lk_plain.specs.Query.{infer, same}
@@ -62,11 +62,6 @@ compare_steps rs [] = done checked
 compare_steps rs (s ∷ ss) = do
   y ← compare_found s (rec_named rs s.name)
   compare_steps rs ss
-
--- the stated recursors as they are half there, without rules
-abbrev pub rec_entries : List Rec → Members
-rec_entries [] = []
-rec_entries (r ∷ rs) = (r.name, record { levels = r.levels; type = r.type; kind = a_rec (record r.recursor { rules = [] }) }) ∷ rec_entries rs
 
 -- each rule's value has a type, and is equal to the recomputed one
 pub data AreRules (w : Place) (stated r : Rec) : List RecRule → List RecRule → Type 0 where

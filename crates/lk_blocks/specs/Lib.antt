@@ -1,6 +1,8 @@
 pub mod Block
 pub mod BlockSteps
 pub mod Compare
+pub mod Flat
+pub mod FlatTask
 pub mod Grows
 pub mod Nested
 pub mod NestedRelation

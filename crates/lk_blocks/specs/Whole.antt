@@ -1,23 +1,15 @@
--- What is half there while a block is checked (a name is half there where it is given while its own block is being checked), and
--- what a yes means where no occurrence is nested.
+-- What a yes of a block means where no occurrence is nested, and that the scans hold of it.
 use Rattle.std.specs.Prelude.{◌++◌, List, [], ◌∷◌}
 use Rattle.lk_tree.specs.Tree.{Level}
 use Rattle.lk_rulebook.specs.Place.{Place, Block, BlockType, Ctor}
 use Rattle.lk_rulebook.specs.Units.{Members}
+pub use Rattle.lk_rulebook.specs.Units.{partial_types, partial_members}
 use Rattle.lk_rulebook.specs.Rules.{HasSort}
 use Rattle.lk_plain.specs.Sound.{IsStated, TypesStated, RulesStated}
-use Rattle.lk_blocks.specs.Block.{Shape, type_entries, all_ctor_entries}
+use Rattle.lk_blocks.specs.Block.{Shape}
 use Rattle.lk_blocks.specs.Relation.{IsBlock, CountsAgree}
 use Rattle.lk_blocks.specs.Recursors.{Rec, recursors}
-use Rattle.lk_blocks.specs.Compare.{rec_entries, AreRecs}
-
--- half there once the types are checked
-abbrev pub partial_types : Block → Members
-partial_types b = type_entries b b.types
-
--- half there too once the constructors are checked, before the recursors
-abbrev pub partial_members : Block → List Rec → Members
-partial_members b stated = all_ctor_entries b b.types ++ rec_entries stated
+use Rattle.lk_blocks.specs.Compare.{AreRecs}
 
 abbrev pub CtorsSorted : Place → List Ctor → Type 0
 CtorsSorted w [] = Unit {0}

@@ -3,6 +3,7 @@
 
 ghost use Rattle.std.specs.Prelude.{◌≡◌, ℕ, suc, None, ◌++◌, [], List, Some, take, slice_get};
 ghost use Rattle.lk_blocks.specs.Block.{Shape};
+ghost use Rattle.lk_blocks.specs.FlatTask.{plain_flat};
 ghost use Rattle.lk_blocks.specs.Grows.{IsWithin, Completes};
 ghost use Rattle.lk_blocks.specs.NestedTask.{plain_whole};
 ghost use Rattle.lk_blocks.specs.Recursors.{Rec};
@@ -38,4 +39,20 @@ pub fn block_stages_agree()
 /// The plain verdict of a block comes exactly where the budget is at least its cost, and is the same under each such budget.
 pub fn plain_block_is_steady()
     ensures { (table : Table) (us : List LibraryUnit) (n : ℕ) (b : Block) (stated : List Rec) (budget : ℕ) → IfAnswered (plain_whole table us n b stated budget) (IsSteady (plain_whole table us n b stated) budget) }
+{}
+
+/// What is answered of a block where nested occurrences are refused, the whole check answers too, at the same cost.
+pub fn flat_block_is_whole()
+    ensures { (table : Table) (us : List LibraryUnit) (n : ℕ) (b : Block) (stated : List Rec) (budget : ℕ) → IfAnswered (plain_flat table us n b stated budget) (λ v c t. plain_whole table us n b stated budget ≡ answered v c t) }
+{}
+
+/// Where nested occurrences are refused, what a stage answers of a block its table answers too, at the same cost.
+pub fn flat_stages_agree()
+    ensures { (stage table : Table) (us : List LibraryUnit) (n : ℕ) (b : Block) (stated : List Rec) (budget : ℕ) → IsStageOf stage table → IfAnswered (plain_flat stage us n b stated budget) (λ v c t. plain_flat table us n b stated budget ≡ answered v c t) }
+{}
+
+/// Where nested occurrences are refused, the plain verdict of a block comes exactly where the budget is at least its cost, and is
+/// the same under each such budget.
+pub fn plain_flat_is_steady()
+    ensures { (table : Table) (us : List LibraryUnit) (n : ℕ) (b : Block) (stated : List Rec) (budget : ℕ) → IfAnswered (plain_flat table us n b stated budget) (IsSteady (plain_flat table us n b stated) budget) }
 {}

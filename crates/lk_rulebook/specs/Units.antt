@@ -47,6 +47,19 @@ abbrev pub rec_members : List Rec → Members
 rec_members [] = []
 rec_members (r ∷ rs) = (r.name, record { levels = r.levels; type = r.type; kind = a_rec r.recursor }) ∷ rec_members rs
 
+-- the recursors as they are partial, without rules
+abbrev pub rec_entries : List Rec → Members
+rec_entries [] = []
+rec_entries (r ∷ rs) = (r.name, record { levels = r.levels; type = r.type; kind = a_rec (record r.recursor { rules = [] }) }) ∷ rec_entries rs
+
+-- partial once the types of a block are checked (a member is partial where it is given while its own block is being checked)
+abbrev pub partial_types : Block → Members
+partial_types b = type_entries b b.types
+
+-- partial too once its constructors are checked, before the recursors
+abbrev pub partial_members : Block → List Rec → Members
+partial_members b stated = all_ctor_entries b b.types ++ rec_entries stated
+
 abbrev pub kind_of : Body → Kind
 kind_of as_axiom = an_axiom
 kind_of (as_def h v) = a_def h v

@@ -7,7 +7,6 @@ use Rattle.lk_rulebook.specs.Scan.{IsScanned, scan_of}
 use Rattle.lk_rulebook.specs.Derived.{BodyWellFormed, DeclDerived}
 use Rattle.lk_rulebook.proofs.Scans.{scan_right, AllStated, scanned_stated}
 use Rattle.lk_plain.specs.Answer.{outcome_of, plain_answer}
-use Rattle.lk_plain.specs.Program.{Table}
 use Rattle.lk_plain.specs.Sound.{IsSoundTable}
 use Rattle.lk_table.specs.Declarations.{unit_steps}
 use Rattle.lk_blocks.specs.Block.{Shape}
@@ -18,7 +17,7 @@ use Rattle.lk_blocks.specs.NestedRelation.{NestedDerived}
 use Rattle.lk_verdict.specs.GoodUnit.{UnitDerived, declaration, block, nested, IsGoodUnit, IsClearLibrary}
 use Rattle.lk_verdict.specs.Verdict.{says_yes, Stage, questions_of, refused_at_once, verdict_of, plain_verdict}
 use Rattle.lk_verdict.proofs.Clears.{all_clear, block_clear, clear_at}
-use Rattle.lk_verdict.proofs.Verdicts.{IsAnswer, yes_answer, first_none, scanned_yes, yes_of}
+use Rattle.lk_verdict.proofs.Verdicts.{IsAnswer, yes_answer, first_none, scanned_yes, yes_of, yes_of_whole}
 use Rattle.lk_sound.proofs.Declarations.{yes_is_good}
 use Rattle.lk_sound.proofs.WholeYes.{yes_whole}
 use Rattle.lk_sound.proofs.NoNested.{nothing_nested}
@@ -35,20 +34,21 @@ either_block : (us : Library) (n : ℕ) (b : Block) (rs : List Rec) (s : Shape) 
 either_block us n b rs s st g [] e = block (nothing_nested (place_of us n) b rs s st g e)
 either_block us n b rs s st g (a ∷ as_) e = nested g
 
-derived : (table : Table) → IsSoundTable table → (us : Library) (n budget : ℕ) (u : LibraryUnit) → IsClearLibrary us → slice_get us n ≡ Some u → IsScanned us n u → questions_of table us n u budget ≡ says_yes → UnitDerived us n u
-derived table sound us n budget (of_decl d) cl at sc e =
+derived : (stage : Stage) → IsSoundTable stage.table → (us : Library) (n budget : ℕ) (u : LibraryUnit) → IsClearLibrary us → slice_get us n ≡ Some u → IsScanned us n u → questions_of stage us n u budget ≡ says_yes → UnitDerived us n u
+derived stage sound us n budget (of_decl d) cl at sc e =
     let st : AllStated (trees_of (of_decl d)) = scanned_stated (trees_of (of_decl d)) sc.trees in
     let w : Place = place_of us n [] in
-    declaration (yes_answer (outcome_of w (plain_answer table w) budget (unit_steps d)) (λ y c t. DeclDerived w d) (yes_is_good table sound w (all_well_stated us n) d budget (st.0.0, body_fine d.levels d.body st.1)) e).has
-derived table sound us n budget (of_block b rs) cl at sc e =
+    declaration (yes_answer (outcome_of w (plain_answer stage.table w) budget (unit_steps d)) (λ y c t. DeclDerived w d) (yes_is_good stage.table sound w (all_well_stated us n) d budget (st.0.0, body_fine d.levels d.body st.1)) e).has
+derived stage sound us n budget (of_block b rs) cl at sc e =
     let st : BlockStated b rs = block_stated b rs (scanned_stated (trees_of (of_block b rs)) sc.trees) in
-    let a : IsAnswer (plain_whole table us n b rs budget) (λ v c t. NestedDerived (place_of us n) b rs v.0) =
-    yes_answer (plain_whole table us n b rs budget) (λ v c t. NestedDerived (place_of us n) b rs v.0) (yes_whole table sound us n b rs budget (all_well_stated us n) (all_clear us n cl) st (block_clear b rs (clear_at us n (of_block b rs) cl at).trees)) e in
+    let a : IsAnswer (plain_whole stage.table us n b rs budget) (λ v c t. NestedDerived (place_of us n) b rs v.0) =
+    yes_answer (plain_whole stage.table us n b rs budget) (λ v c t. NestedDerived (place_of us n) b rs v.0) (yes_whole stage.table sound us n b rs budget (all_well_stated us n) (all_clear us n cl) st (block_clear b rs (clear_at us n (of_block b rs) cl at).trees))
+    (yes_of_whole stage.nested stage.table us n b rs budget e) in
     either_block us n b rs a.value.0 st a.has a.has.larger.auxs refl
 
 pub good_of_yes : (stage : Stage) → IsSoundTable stage.table → (us : Library) (n budget : ℕ) → IsClearLibrary us → plain_verdict stage us n budget ≡ says_yes → IsGoodUnit us n
 good_of_yes stage sound us n budget cl h =
     let a : (u : LibraryUnit) × (slice_get us n ≡ Some u) × (verdict_of stage us n u budget ≡ says_yes) = yes_of stage us n budget (slice_get us n) h in
-    let s : (refused_at_once stage us n a.0 ≡ None) × (questions_of stage.table us n a.0 budget ≡ says_yes) = scanned_yes (refused_at_once stage us n a.0) (questions_of stage.table us n a.0 budget) a.2 in
+    let s : (refused_at_once stage us n a.0 ≡ None) × (questions_of stage us n a.0 budget ≡ says_yes) = scanned_yes (refused_at_once stage us n a.0) (questions_of stage us n a.0 budget) a.2 in
     let sc : IsScanned us n a.0 = scan_right us n a.0 (first_none (scan_of us n a.0) (stage.unbuilt a.0) s.0).0 in
-    record { unit = a.0; given = a.1; scanned = sc; clear = clear_at us n a.0 cl a.1; derived = derived stage.table sound us n budget a.0 cl a.1 sc s.1 }
+    record { unit = a.0; given = a.1; scanned = sc; clear = clear_at us n a.0 cl a.1; derived = derived stage sound us n budget a.0 cl a.1 sc s.1 }

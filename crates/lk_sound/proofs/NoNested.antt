@@ -1,22 +1,23 @@
 -- A block without auxiliary types meets the block and the recursor relation itself.
-use Rattle.std.proofs.Common.{ℕ, suc, ◌≡◌, ◌≤◌, ◌<◌, List, [], ◌∷◌, ◌++◌, length, refl, sym, ap, subst, ◌∙◌, arith}
+use Rattle.std.proofs.Common.{ℕ, suc, ◌≡◌, ◌≤◌, ◌<◌, List, [], ◌∷◌, ◌++◌, refl, sym, ap, subst, ◌∙◌, arith}
+use Rattle.std.proofs.lemmas.List.{append-nil}
 use Rattle.lk_tree.specs.Tree.{Name, Tree, var, sort, const, app, lam, pi, let_in, proj, lit, wide, str, local}
 use Rattle.lk_tree.specs.Bind.{open_at, open_var, close_at, opened, close, bound}
-use Rattle.lk_tree.specs.Spine.{apply}
 use Rattle.lk_tree.specs.WellFormed.{IsWellFormed, IsWellFormedUnder}
 use Rattle.lk_tree.proofs.Binding.{Opening, opening, below, at, above, Closing, closing, closed, stays, open_fine}
 use Rattle.lk_rulebook.specs.Place.{Place, Block, BlockType, Ctor}
 use Rattle.lk_rulebook.specs.Units.{Members}
 use Rattle.lk_plain.specs.Sound.{IsStated, CtorsStated, TypesStated}
-use Rattle.lk_blocks.specs.Block.{CtorShape, TypeShape, Shape}
+use Rattle.lk_blocks.specs.Block.{Shape}
 use Rattle.lk_blocks.specs.Relation.{AreNumbered, IsBlock}
-use Rattle.lk_blocks.specs.Recursors.{number, Rec, as_they_are, pis, lams, rec_body, rule_body, rule_value, rules_of, rec_of, recs_from, past_minors, minors, recursors_by}
+use Rattle.lk_blocks.specs.Recursors.{number, Rec, minors, recursors_by}
 use Rattle.lk_blocks.specs.Compare.{AreRecs}
 use Rattle.lk_blocks.specs.Whole.{partial_types, partial_members, BlockStated, BlockDerived}
 use Rattle.lk_blocks.specs.Nested.{Setting, Larger, larger_block, bare_entries}
-use Rattle.lk_blocks.specs.Restore.{Original, first_name, all_stand, restore, restoring}
+use Rattle.lk_blocks.specs.Restore.{Original, first_name, all_stand, restoring}
 use Rattle.lk_blocks.specs.NestedTask.{setting_of, restoring_of}
 use Rattle.lk_blocks.specs.NestedRelation.{ReadsPast, read_rest, read_past, ReadsAs, as_stated, past_params, IsOwnCtor, OwnCtors, no_own_ctor, own_ctor_more, IsOwnType, OwnTypes, no_own_type, own_type_more, AuxTypes, aux_more, middle_half, NestedDerived}
+use Rattle.lk_blocks.proofs.ReadBack.{back_none, same_recs}
 use Rattle.lk_sound.proofs.Scoped.{local_bound, open_bound}
 use Rattle.lk_sound.proofs.Telescopes.{params_numbered}
 
@@ -50,23 +51,6 @@ closes d k A (lit n) f h = refl
 closes d k A wide f h = refl
 closes d k A (str s) f h = refl
 closes d k A (local j T) f h = local_stays d k j T h (closing d k j T)
-
--- where nothing stands for anything a tree is read back as it is
-back_none : (s : Setting) (e : Tree) (xs : List Tree) → restore [] s e xs ≡ apply e xs
-back_none s (app f a) xs = back_none s f (restore [] s a [] ∷ xs) ∙ ap (λ b. apply (app f b) xs) (back_none s a [])
-back_none s (const c ls) xs = refl
-back_none s (lam A b) xs = ap (λ D. apply (lam D (restore [] s b [])) xs) (back_none s A []) ∙ ap (λ c. apply (lam A c) xs) (back_none s b [])
-back_none s (pi A b) xs = ap (λ D. apply (pi D (restore [] s b [])) xs) (back_none s A []) ∙ ap (λ c. apply (pi A c) xs) (back_none s b [])
-back_none s (let_in A v b) xs =
-    ap (λ D. apply (let_in D (restore [] s v []) (restore [] s b [])) xs) (back_none s A [])
-    ∙ (ap (λ u. apply (let_in A u (restore [] s b [])) xs) (back_none s v []) ∙ ap (λ c. apply (let_in A v c) xs) (back_none s b []))
-back_none s (proj S i e) xs = ap (λ c. apply (proj S i c) xs) (back_none s e [])
-back_none s (var i) xs = refl
-back_none s (sort l) xs = refl
-back_none s (lit k) xs = refl
-back_none s wide xs = refl
-back_none s (str k) xs = refl
-back_none s (local k T) xs = refl
 
 pi_bounds : (j : ℕ) (A B : Tree) → bound (pi A B) ≤ j → bound B ≤ j
 unfolding bound
@@ -119,30 +103,9 @@ no_types : (w : Place) (s : Setting) (ms : List (Name × Original)) (i : ℕ) (t
 no_types w s ms i [] h = refl
 no_types w s ms i (t ∷ ts) (aux_more e x h) = absurd cc
 
--- recursors read back where nothing stands for anything
-same_rule_values : (s : Shape) (qs : Setting) (ms : List Tree) (cs : List CtorShape) → rules_of (restoring [] qs) s ms cs ≡ rules_of as_they_are s ms cs
-same_rule_values s qs [] cs = refl
-same_rule_values s qs (m ∷ ms) [] = refl
-same_rule_values s qs (m ∷ ms) (c ∷ cs) =
-    ap (λ e. record { ctor = c.name; fields = length c.fields; value = lams s.params e } ∷ rules_of (restoring [] qs) s ms cs) (back_none qs (rule_body s m c) [])
-    ∙ ap (λ rs. record { ctor = c.name; fields = length c.fields; value = rule_value as_they_are s m c } ∷ rs) (same_rule_values s qs ms cs)
-
-same_rec : (s : Shape) (qs : Setting) (ms : List Tree) (t : TypeShape) → rec_of (restoring [] qs) s ms t ≡ rec_of as_they_are s ms t
-same_rec s qs ms t =
-    ap (λ e. record (rec_of (restoring [] qs) s ms t) { type = pis s.params e }) (back_none qs (rec_body s t) [])
-    ∙ ap (λ rs. record (rec_of as_they_are s ms t) { recursor = record (rec_of as_they_are s ms t).recursor { rules = rs } }) (same_rule_values s qs ms t.ctors)
-
-same_recs : (s : Shape) (qs : Setting) (ms : List Tree) (ts : List TypeShape) → recs_from (restoring [] qs) s ms ts ≡ recs_from as_they_are s ms ts
-same_recs s qs ms [] = refl
-same_recs s qs ms (t ∷ ts) = ap (λ r. r ∷ recs_from (restoring [] qs) s (past_minors t.ctors ms) ts) (same_rec s qs ms t) ∙ ap (λ rs. rec_of as_they_are s ms t ∷ rs) (same_recs s qs (past_minors t.ctors ms) ts)
-
-append_none : {A : Type 0} (xs : List A) → xs ++ [] ≡ xs
-append_none [] = refl
-append_none (x ∷ xs) = ap (λ ys. x ∷ ys) (append_none xs)
-
 -- the larger block is the stated one
 larger_same : (lg : Larger) (b : Block) → lg.own ≡ b.types → lg.aux ≡ [] → larger_block lg ≡ b
-larger_same lg b e f = ap (λ ts. record { types = ts ++ lg.aux }) e ∙ (ap (λ us. record { types = b.types ++ us }) f ∙ ap (λ ts. record { types = ts }) (append_none b.types))
+larger_same lg b e f = ap (λ ts. record { types = ts ++ lg.aux }) e ∙ (ap (λ us. record { types = b.types ++ us }) f ∙ ap (λ ts. record { types = ts }) (append-nil b.types))
 
 pub nothing_nested : (places : Members → Place) (b : Block) (stated : List Rec) (s : Shape) → BlockStated b stated → (g : NestedDerived places b stated s) → g.larger.auxs ≡ [] → BlockDerived places b stated s
 nothing_nested places b stated s st g none =
@@ -155,7 +118,7 @@ nothing_nested places b stated s st g none =
     let no_aux_type : lg.aux ≡ [] = no_types (places (partial_types b)) set [] 0 lg.aux aux in
     let same_own : lg.own ≡ b.types = types_same set b.types lg.own (params_numbered (places []) (larger_block lg).types s.params g.block.params) st.types own in
     let same : larger_block lg ≡ b = larger_same lg b same_own no_aux_type in
-    let middle : middle_half b lg ≡ partial_types b = ap (λ us. partial_types b ++ bare_entries us) no_aux_type ∙ append_none (partial_types b) in
+    let middle : middle_half b lg ≡ partial_types b = ap (λ us. partial_types b ++ bare_entries us) no_aux_type ∙ append-nil (partial_types b) in
     let block1 : IsBlock (places []) (places (partial_types b)) (larger_block lg) s = subst (λ h. IsBlock (places []) (places h) (larger_block lg) s) middle g.block in
     let recs1 : AreRecs (places (partial_types b ++ partial_members b stated)) (recursors_by (restoring_of b set lg) s) stated = subst (λ h. AreRecs (places (h ++ partial_members b stated)) (recursors_by (restoring_of b set lg) s) stated) middle g.recs in
     let recs2 : AreRecs (places (partial_types b ++ partial_members b stated)) (recursors_by (restoring [] set) s) stated =

@@ -17,6 +17,7 @@ use Rattle.lk_verdict.specs.GoodUnit.{IsGoodUnit}
 use Rattle.lk_verdict.proofs.Spelled.{spelled_clear}
 use Rattle.lk_sound.proofs.WholeTable.{sound_steps}
 use Rattle.lk_sound.proofs.GoodUnits.{good_of_yes}
+use Rattle.lk_verdict.specs.Built.{stage}
 use Rattle.lk_verdict.specs.Verdict.{says_yes, says_no, says_steps, whole, plain_verdict}
 use native.Mathlib.Decide.{ℕ_discrete}
 
@@ -35,6 +36,15 @@ nat_short = refl
 nat_no : plain_verdict whole (nats (pi (named nat) (app (var 2) (app (named nat_succ) (var 0))))) 0 1000 ≡ says_no recursor_differs
 unfolding answer_to_depth open_at close_at bound head args put_levels put_in_level level_for level_le tree_discrete level_discrete name_discrete list_discrete both_discrete part_discrete ℕ_discrete
 nat_no = refl
+
+-- by what the program checks today
+nat_built : plain_verdict stage (nats s_type) 0 237 ≡ says_yes
+unfolding answer_to_depth open_at close_at bound head args put_levels put_in_level level_for level_le tree_discrete level_discrete name_discrete list_discrete both_discrete part_discrete ℕ_discrete
+nat_built = refl
+
+nat_built_short : plain_verdict stage (nats s_type) 0 236 ≡ says_steps
+unfolding answer_to_depth open_at close_at bound head args put_levels put_in_level level_for level_le tree_discrete level_discrete name_discrete list_discrete both_discrete part_discrete ℕ_discrete
+nat_built_short = refl
 
 -- its recursor stated twice
 rec_twice : plain_verdict whole (of_block nat_block (nat_rec_with s_type ∷ nat_rec_with s_type ∷ []) ∷ []) 0 1000 ≡ says_no duplicate_name

@@ -6,10 +6,11 @@ use Rattle.lk_tree.specs.Bind.{open_at, close_at, bound}
 use Rattle.lk_tree.specs.Levels.{put_levels, put_in_level, level_for}
 use Rattle.lk_tree.specs.LevelTest.{level_le}
 use Rattle.lk_tree.specs.Spine.{head, args}
-use Rattle.lk_tree.specs.RuleNo.{unknown_constant, undeclared_level, duplicate_level, duplicate_name, loose_variable, value_type, wide_literal, builtin_shape, block_shape}
+use Rattle.lk_tree.specs.RuleNo.{unknown_constant, undeclared_level, duplicate_level, duplicate_name, loose_variable, value_type, wide_literal, builtin_shape, nested_form}
 use Rattle.lk_rulebook.specs.Place.{opaque_hint, abbreviation}
 use Rattle.lk_rulebook.specs.Units.{Body, as_axiom, as_def, as_thm, as_opaque, as_quot, LibraryUnit, of_decl, of_block, Library}
 use Rattle.lk_plain.specs.Answer.{answer_to_depth}
+use Rattle.lk_blocks.proofs.WorkedNested.{list_unit, tree_block, tree_recs}
 use Rattle.lk_verdict.specs.Verdict.{says_yes, says_no, says_steps, whole, plain_verdict}
 use Rattle.lk_verdict.specs.Built.{stage}
 use Rattle.lk_verdict.specs.Attacks.{prop, t_block, shadowed, doubled, undeclared, of_local}
@@ -142,8 +143,8 @@ unfolding name_discrete part_discrete list_discrete both_discrete ℕ_discrete
 local_no = refl
 
 -- what the program checks today: axiom p : Prop, axiom h : p, theorem k : p := (λ (x : p), x) h,
--- theorem m : p → p := λ (x : p), k, def d : p := h, opaque o : p := d, and def e : Prop := o; a block and a quotient are not
--- checked yet
+-- theorem m : p → p := λ (x : p), k, def d : p := h, opaque o : p := d, def e : Prop := o, and a block; a quotient is
+-- not checked yet
 abbrev built : Library
 built = an 112 [] prop as_axiom
     ∷ an 104 [] (n 112) as_axiom
@@ -204,9 +205,18 @@ def_refused : plain_verdict stage built 6 1000 ≡ says_no value_type
 unfolding answer_to_depth open_at close_at bound head args put_levels put_in_level level_for level_le tree_discrete level_discrete name_discrete part_discrete list_discrete both_discrete ℕ_discrete
 def_refused = refl
 
-block_not_built : plain_verdict stage built 7 1000 ≡ says_no block_shape
+block_built : plain_verdict stage built 7 10 ≡ says_yes
 unfolding answer_to_depth open_at close_at bound head args put_levels put_in_level level_for level_le tree_discrete level_discrete name_discrete part_discrete list_discrete both_discrete ℕ_discrete
-block_not_built = refl
+block_built = refl
+
+block_built_short : plain_verdict stage built 7 9 ≡ says_steps
+unfolding answer_to_depth open_at close_at bound head args put_levels put_in_level level_for level_le tree_discrete level_discrete name_discrete part_discrete list_discrete both_discrete ℕ_discrete
+block_built_short = refl
+
+-- List, then Tree with node : List Tree -> Tree
+nested_not_built : plain_verdict stage (list_unit ∷ of_block tree_block tree_recs ∷ []) 1 1000 ≡ says_no nested_form
+unfolding answer_to_depth open_at close_at bound head args put_levels put_in_level level_for level_le tree_discrete level_discrete name_discrete part_discrete list_discrete both_discrete ℕ_discrete
+nested_not_built = refl
 
 quotient_not_built : plain_verdict stage built 8 1000 ≡ says_no builtin_shape
 unfolding answer_to_depth open_at close_at bound head args put_levels put_in_level level_for level_le tree_discrete level_discrete name_discrete part_discrete list_discrete both_discrete ℕ_discrete

@@ -1,7 +1,7 @@
--- What the program checks today: the built rows of the table, axioms, definitions, theorems and opaques. All else is refused
--- until it is built.
-use Rattle.std.specs.Prelude.{Option, Some, None}
-use Rattle.lk_tree.specs.RuleNo.{RuleNo, builtin_shape, block_shape}
+-- What the program checks today: the built rows of the table, axioms, definitions, theorems, opaques, and single and mutual
+-- blocks; a nested occurrence is refused until it is built, and so is all else.
+use Rattle.std.specs.Prelude.{false, Option, Some, None}
+use Rattle.lk_tree.specs.RuleNo.{RuleNo, builtin_shape}
 use Rattle.lk_rulebook.specs.Units.{Body, as_quot, LibraryUnit, of_decl, of_block}
 use Rattle.lk_table.specs.Built.{rows}
 use Rattle.lk_verdict.specs.Verdict.{Stage}
@@ -12,7 +12,7 @@ unbuilt_body _ = None
 
 abbrev pub unbuilt : LibraryUnit → Option RuleNo
 unbuilt (of_decl d) = unbuilt_body d.body
-unbuilt (of_block b rs) = Some block_shape
+unbuilt (of_block b rs) = None
 
 abbrev pub stage : Stage
-stage = record { table = rows; unbuilt = unbuilt }
+stage = record { table = rows; unbuilt = unbuilt; nested = false }

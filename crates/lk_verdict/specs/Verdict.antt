@@ -1,13 +1,16 @@
 -- The plain verdict of a unit by a stage: the scan, then the unit's questions under one budget.
-use Rattle.std.specs.Prelude.{ℕ, ◌≡◌, ◌<◌, ◌≤◌, [], Option, Some, None, slice_get}
+use Rattle.std.specs.Prelude.{ℕ, ◌≡◌, ◌<◌, ◌≤◌, Bool, true, false, List, [], Option, Some, None, slice_get}
 use Rattle.lk_tree.specs.RuleNo.{RuleNo}
-use Rattle.lk_rulebook.specs.Units.{LibraryUnit, of_decl, of_block, Library, place_of}
+use Rattle.lk_rulebook.specs.Place.{Block, Rec}
+use Rattle.lk_rulebook.specs.Units.{LibraryUnit, of_decl, of_block, Library, Members, place_of}
 use Rattle.lk_rulebook.specs.Scan.{scan_of}
 use Rattle.lk_plain.specs.Answer.{Outcome, answered, refused, spent, outcome_of, plain_answer}
 use Rattle.lk_plain.specs.Program.{Table}
 use Rattle.lk_plain.specs.Parts.{IsStageOf}
 use Rattle.lk_table.specs.Table.{steps}
 use Rattle.lk_table.specs.Declarations.{unit_steps}
+use Rattle.lk_blocks.specs.Block.{Shape}
+use Rattle.lk_blocks.specs.FlatTask.{plain_flat}
 use Rattle.lk_blocks.specs.NestedTask.{plain_whole}
 
 pub data Verdict : Type 0 where
@@ -20,26 +23,33 @@ verdict_by (answered v c t) = says_yes
 verdict_by (refused r) = says_no r
 verdict_by spent = says_steps
 
--- what is built: the table by which questions are answered, and the rule by which a unit is refused that is not checked yet
+-- what is built: the table by which questions are answered, the rule by which a unit is refused that is not checked yet, and
+-- whether nested occurrences are checked (else a block that has one is refused)
 pub record Stage : Type 0 where
   pub table : Table
   pub unbuilt : LibraryUnit → Option RuleNo
+  pub nested : Bool
 
 -- all is built
 abbrev pub whole : Stage
-whole = record { table = steps; unbuilt = λ u. None }
+whole = record { table = steps; unbuilt = λ u. None; nested = true }
+
+-- the check of a block as unit n, with nested occurrences or without
+abbrev pub block_outcome : Bool → Table → Library → ℕ → Block → List Rec → ℕ → Outcome (Shape × Members)
+block_outcome true table us n b rs budget = plain_whole table us n b rs budget
+block_outcome false table us n b rs budget = plain_flat table us n b rs budget
 
 -- what the questions of u as unit n say
-abbrev pub questions_of : Table → Library → ℕ → LibraryUnit → ℕ → Verdict
-questions_of table us n (of_decl d) budget = verdict_by (outcome_of (place_of us n []) (plain_answer table (place_of us n [])) budget (unit_steps d))
-questions_of table us n (of_block b rs) budget = verdict_by (plain_whole table us n b rs budget)
+abbrev pub questions_of : Stage → Library → ℕ → LibraryUnit → ℕ → Verdict
+questions_of stage us n (of_decl d) budget = verdict_by (outcome_of (place_of us n []) (plain_answer stage.table (place_of us n [])) budget (unit_steps d))
+questions_of stage us n (of_block b rs) budget = verdict_by (block_outcome stage.nested stage.table us n b rs budget)
 
 -- the rule by which u is refused with no question: the scan's, else the stage's
 abbrev pub refused_at_once : Stage → Library → ℕ → LibraryUnit → Option RuleNo
 refused_at_once stage us n u = elim (scan_of us n u) [ Some r ↦ Some r | None ↦ stage.unbuilt u ]
 
 abbrev pub verdict_of : Stage → Library → ℕ → LibraryUnit → ℕ → Verdict
-verdict_of stage us n u budget = elim (refused_at_once stage us n u) [ Some r ↦ says_no r | None ↦ questions_of stage.table us n u budget ]
+verdict_of stage us n u budget = elim (refused_at_once stage us n u) [ Some r ↦ says_no r | None ↦ questions_of stage us n u budget ]
 
 -- the plain verdict of unit n (beyond the last unit it is never yes)
 abbrev pub plain_verdict : Stage → Library → ℕ → ℕ → Verdict
@@ -54,3 +64,4 @@ pub record IsYesFrom (f : ℕ → Verdict) (c : ℕ) : Type 0 where
 pub record IsWidened (stage wider : Stage) : Type 0 where
   pub table : IsStageOf stage.table wider.table
   pub units : (u : LibraryUnit) → stage.unbuilt u ≡ None → wider.unbuilt u ≡ None
+  pub nested : stage.nested ≡ true → wider.nested ≡ true
