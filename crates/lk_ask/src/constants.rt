@@ -33,8 +33,8 @@ pub fn look_up<T: Terms>(
     requires name_in { name < length (T.contents terms.now).names }
     ensures known { IfOk result (IsEntryIn (contents_of library.now.0)) }
     ensures left { meter.new.left ≡ meter.old.left }
-    ensures found { IfOk result (λ e. IsFound library.now (place_at library.now site.now.unit) (name_at (T.contents terms.now) name) meter.old.last e meter.new.last) }
-    ensures refused { IfErr result (IsRefused (place_at library.now site.now.unit) (name_at (T.contents terms.now) name)) }
+    ensures found { IfOk result (λ e. IsFound library.now (place_at library.now site.now) (name_at (T.contents terms.now) name) meter.old.last e meter.new.last) }
+    ensures refused { IfErr result (IsRefused (place_at library.now site.now) (name_at (T.contents terms.now) name)) }
 {
     match library.means(site, terms, name) {
         Ok(entry) => {
@@ -58,7 +58,8 @@ pub fn is_built(kind: Kind) -> bool
             }
             Body::Quotient => false,
         },
-        Kind::Type(_) | Kind::Constructor { .. } | Kind::Recursor(_) => true,
+        Kind::Type(_) | Kind::Constructor { .. } => true,
+        Kind::Recursor(_) | Kind::BareRecursor(_) => true,
     }
 }
 

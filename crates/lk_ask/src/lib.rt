@@ -1,8 +1,9 @@
-//! Questions, answers and what waits for them, as plain values; whoever answers questions; and what a constant of a term
-//! means in a library, and by what it is unfolded.
+//! Questions, answers and what waits for them, as plain values; whoever answers questions, and terms made between them; and
+//! what a constant of a term means in a library, what an entry of a block has, and by what a constant is unfolded.
 #![tactic(auto)]
 
 pub mod asks;
+pub mod building;
 pub mod constants;
 pub mod kept;
 pub mod members;

@@ -1,31 +1,38 @@
 //! What an entry of a block has, lent from the library.
 
-ghost use Rattle.std.specs.Prelude.{◌≡◌, IfSome, Some, option_map, option_copied};
+ghost use Rattle.std.specs.Prelude.{◌≡◌, All, IfSome, Some, option_map};
 ghost use Rattle.lk_tree.specs.Tree.{Tree};
 ghost use Rattle.lk_rulebook.specs.Place.{Entry as PlainEntry};
 ghost use Rattle.lk_store.specs.Contents.{Contents};
 ghost use Rattle.lk_store.specs.Store.{contents_of};
-ghost use Rattle.lk_env.specs.Units.{type_at, constructor_at, IsUnitIn, AreUnitsIn, IsTypeIn, IsConstructorIn, IsRecursorIn};
+ghost use Rattle.lk_env.specs.Units.{type_at, constructor_at, IsUnitIn, AreUnitsIn, IsTypeIn, IsConstructorIn, IsRecursorIn, IsRuleIn};
 ghost use Rattle.lk_env.specs.Entries.{plain_entry};
-ghost use Rattle.lk_ask.specs.Members.{recursor_in, constructor_in, plain_recursor, HasRecursor, HasConstructor};
+ghost use Rattle.lk_ask.specs.Members.{recursor_in, constructor_in, parameters_in, given_recursor, HasRecursor, HasConstructor, HasCount};
 
 use lk_env::entry::{Entry, Kind};
 use lk_env::library::Library;
-use lk_env::unit::{Block, BlockType, Constructor, Recursor, Unit};
+use lk_env::unit::{Block, BlockType, Constructor, Recursor, RecursorRule, Unit};
 
-fn block_recursor(block: &Block, kind: Kind) -> Option<&Recursor>
-    ensures value { (c : Contents) (T : Tree) → HasRecursor c (Unit.Block block.now) kind T (option_copied result) }
-    ensures known { (c : Contents) → IsUnitIn c (Unit.Block block.now) → IfSome (option_copied result) (IsRecursorIn c) }
+fn block_recursor(block: &Block, kind: Kind) -> Option<(&Recursor, &[RecursorRule])>
+    ensures value { (c : Contents) (T : Tree) → HasRecursor c (Unit.Block block.now) kind T (option_map (λ p. given_recursor c p.0.now p.1.now) result) }
+    ensures known { (c : Contents) → IsUnitIn c (Unit.Block block.now) → IfSome result (λ p. IsRecursorIn c p.0.now × All (IsRuleIn c) p.1.now) }
 {
     match kind {
-        Kind::Recursor(i) => block.recursors.get(i),
+        Kind::Recursor(i) => match block.recursors.get(i) {
+            Some(r) => Some((r, r.rules.as_slice())),
+            None => None,
+        },
+        Kind::BareRecursor(i) => match block.recursors.get(i) {
+            Some(r) => Some((r, &[])),
+            None => None,
+        },
         Kind::Declared(_) | Kind::Type(_) | Kind::Constructor { .. } => None,
     }
 }
 
-fn unit_recursor(unit: &Unit, kind: Kind) -> Option<&Recursor>
-    ensures value { (c : Contents) (T : Tree) → HasRecursor c unit.now kind T (option_copied result) }
-    ensures known { (c : Contents) → IsUnitIn c unit.now → IfSome (option_copied result) (IsRecursorIn c) }
+fn unit_recursor(unit: &Unit, kind: Kind) -> Option<(&Recursor, &[RecursorRule])>
+    ensures value { (c : Contents) (T : Tree) → HasRecursor c unit.now kind T (option_map (λ p. given_recursor c p.0.now p.1.now) result) }
+    ensures known { (c : Contents) → IsUnitIn c unit.now → IfSome result (λ p. IsRecursorIn c p.0.now × All (IsRuleIn c) p.1.now) }
 {
     match unit {
         Unit::Declaration(_) => None,
@@ -33,9 +40,9 @@ fn unit_recursor(unit: &Unit, kind: Kind) -> Option<&Recursor>
     }
 }
 
-fn recursor_among(units: &[Unit], entry: Entry) -> Option<&Recursor>
-    ensures value { (c : Contents) → IfSome (plain_entry c units.now entry) (λ e. recursor_in e.kind ≡ option_map (plain_recursor c) (option_copied result)) }
-    ensures known { (c : Contents) → AreUnitsIn c units.now → IfSome (option_copied result) (IsRecursorIn c) }
+fn recursor_among(units: &[Unit], entry: Entry) -> Option<(&Recursor, &[RecursorRule])>
+    ensures value { (c : Contents) → IfSome (plain_entry c units.now entry) (λ e. recursor_in e.kind ≡ option_map (λ p. given_recursor c p.0.now p.1.now) result) }
+    ensures known { (c : Contents) → AreUnitsIn c units.now → IfSome result (λ p. IsRecursorIn c p.0.now × All (IsRuleIn c) p.1.now) }
 {
     match units.get(entry.unit as usize) {
         Some(unit) => unit_recursor(unit, entry.kind),
@@ -43,11 +50,11 @@ fn recursor_among(units: &[Unit], entry: Entry) -> Option<&Recursor>
     }
 }
 
-/// The recursor of an entry, where it is one. It takes no memory.
-pub fn recursor_of(library: &Library, entry: Entry) -> Option<&Recursor>
+/// The recursor of an entry, where it is one, with the rules that are given: none while it is partial. It takes no memory.
+pub fn recursor_of(library: &Library, entry: Entry) -> Option<(&Recursor, &[RecursorRule])>
     ensures value { (g : PlainEntry) → plain_entry (contents_of library.now.0) library.now.1 entry ≡ Some g
-        → recursor_in g.kind ≡ option_map (plain_recursor (contents_of library.now.0)) (option_copied result) }
-    ensures known { IfSome (option_copied result) (IsRecursorIn (contents_of library.now.0)) }
+        → recursor_in g.kind ≡ option_map (λ p. given_recursor (contents_of library.now.0) p.0.now p.1.now) result }
+    ensures known { IfSome result (λ p. IsRecursorIn (contents_of library.now.0) p.0.now × All (IsRuleIn (contents_of library.now.0)) p.1.now) }
 {
     recursor_among(library.units(), entry)
 }
@@ -64,7 +71,7 @@ fn block_constructor(block: &Block, kind: Kind) -> Option<(&BlockType, &Construc
             },
             None => None,
         },
-        Kind::Declared(_) | Kind::Type(_) | Kind::Recursor(_) => None,
+        Kind::Declared(_) | Kind::Type(_) | Kind::Recursor(_) | Kind::BareRecursor(_) => None,
     }
 }
 
@@ -95,4 +102,42 @@ pub fn constructor_of(library: &Library, entry: Entry) -> Option<(&BlockType, &C
     ensures known { IfSome result (λ p. IsTypeIn (contents_of library.now.0) p.0.now × IsConstructorIn (contents_of library.now.0) p.1.now) }
 {
     constructor_among(library.units(), entry)
+}
+
+fn block_parameters(block: &Block, kind: Kind) -> Option<u64>
+    ensures { (c : Contents) (T : Tree) → HasCount c (Unit.Block block.now) kind T result }
+{
+    match kind {
+        Kind::Type(i) => match block.types.get(i) {
+            Some(t) => Some(t.parameters),
+            None => None,
+        },
+        Kind::Declared(_) | Kind::Constructor { .. } | Kind::Recursor(_) | Kind::BareRecursor(_) =>
+            None,
+    }
+}
+
+fn unit_parameters(unit: &Unit, kind: Kind) -> Option<u64>
+    ensures { (c : Contents) (T : Tree) → HasCount c unit.now kind T result }
+{
+    match unit {
+        Unit::Declaration(_) => None,
+        Unit::Block(block) => block_parameters(block, kind),
+    }
+}
+
+fn parameters_among(units: &[Unit], entry: Entry) -> Option<u64>
+    ensures { (c : Contents) → IfSome (plain_entry c units.now entry) (λ e. parameters_in e.kind ≡ result) }
+{
+    match units.get(entry.unit as usize) {
+        Some(unit) => unit_parameters(unit, entry.kind),
+        None => None,
+    }
+}
+
+/// The number of parameters of an entry that is a type of a block. It takes no memory.
+pub fn parameters_of(library: &Library, entry: Entry) -> Option<u64>
+    ensures { (g : PlainEntry) → plain_entry (contents_of library.now.0) library.now.1 entry ≡ Some g → result ≡ parameters_in g.kind }
+{
+    parameters_among(library.units(), entry)
 }

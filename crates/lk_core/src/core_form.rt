@@ -68,8 +68,8 @@ fn constant_applied<T: Terms>(
     ensures left { meter.new.left ≡ meter.old.left }
     ensures known { IfOk result (IsKnownNext IsKnownCore (length (T.contents terms.now).trees)) }
     ensures steps { IfOk result (λ next. const (name_at (T.contents terms.now) name) (list_at (T.contents terms.now) levels) ≡ head_of (tree_at (T.contents terms.now) e)
-        → core_next (place_at library.now site.now.unit) (tree_at (T.contents terms.now)) meter.new.last next
-        ≡ erased (place_at library.now site.now.unit) a_tree meter.old.last (built_applied (tree_at (T.contents terms.now) e) (const (name_at (T.contents terms.now) name) (list_at (T.contents terms.now) levels)) (args_of (tree_at (T.contents terms.now) e)))) }
+        → core_next (place_at library.now site.now) (tree_at (T.contents terms.now)) meter.new.last next
+        ≡ erased (place_at library.now site.now) a_tree meter.old.last (built_applied (tree_at (T.contents terms.now) e) (const (name_at (T.contents terms.now) name) (list_at (T.contents terms.now) levels)) (args_of (tree_at (T.contents terms.now) e)))) }
 {
     let entry = match look_up(library, site, terms, name, meter) {
         Ok(entry) => entry,
@@ -117,8 +117,8 @@ fn applied<T: Terms>(
     ensures rest { T.rest terms.new ≡ T.rest terms.old }
     ensures left { meter.new.left ≡ meter.old.left }
     ensures known { IfOk result (IsKnownNext IsKnownCore (length (T.contents terms.new).trees)) }
-    ensures steps { IfOk result (λ next. core_next (place_at library.now site.now.unit) (tree_at (T.contents terms.new)) meter.new.last next
-        ≡ erased (place_at library.now site.now.unit) a_tree meter.old.last (built_applied (tree_at (T.contents terms.old) e) (head_of (tree_at (T.contents terms.old) e)) (args_of (tree_at (T.contents terms.old) e)))) }
+    ensures steps { IfOk result (λ next. core_next (place_at library.now site.now) (tree_at (T.contents terms.new)) meter.new.last next
+        ≡ erased (place_at library.now site.now) a_tree meter.old.last (built_applied (tree_at (T.contents terms.old) e) (head_of (tree_at (T.contents terms.old) e)) (args_of (tree_at (T.contents terms.old) e)))) }
 {
     let front = head(terms, e);
     match terms.view(front) {
@@ -170,8 +170,8 @@ pub fn begin<T: Terms>(
     ensures rest { T.rest terms.new ≡ T.rest terms.old }
     ensures left { meter.new.left ≡ meter.old.left }
     ensures known { IfOk result (IsKnownNext IsKnownCore (length (T.contents terms.new).trees)) }
-    ensures steps { IfOk result (λ next. core_next (place_at library.now site.now.unit) (tree_at (T.contents terms.new)) meter.new.last next
-        ≡ erased (place_at library.now site.now.unit) a_tree meter.old.last (core_row (tree_at (T.contents terms.old) e))) }
+    ensures steps { IfOk result (λ next. core_next (place_at library.now site.now) (tree_at (T.contents terms.new)) meter.new.last next
+        ≡ erased (place_at library.now site.now) a_tree meter.old.last (core_row (tree_at (T.contents terms.old) e))) }
 {
     match terms.view(e) {
         Node::App(_, _) => applied(alloc, library, site, terms, meter, e),

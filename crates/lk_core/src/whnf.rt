@@ -54,7 +54,8 @@ fn value_of(entry: Entry) -> Option<u64>
             Body::Theorem { proof } => Some(proof),
             Body::Axiom | Body::Opaque { .. } | Body::Quotient => None,
         },
-        Kind::Type(_) | Kind::Constructor { .. } | Kind::Recursor(_) => None,
+        Kind::Type(_) | Kind::Constructor { .. } | Kind::Recursor(_) | Kind::BareRecursor(_) =>
+            None,
     }
 }
 
@@ -70,7 +71,7 @@ fn is_operation<T: Terms>(terms: &T, kind: Kind, name: u64) -> bool
             Body::Axiom | Body::Theorem { .. } | Body::Opaque { .. } | Body::Quotient => false,
         },
         Kind::Constructor { .. } => names_successor(terms, name),
-        Kind::Type(_) | Kind::Recursor(_) => false,
+        Kind::Type(_) | Kind::Recursor(_) | Kind::BareRecursor(_) => false,
     }
 }
 
@@ -164,8 +165,8 @@ fn constant_end<T: Terms>(
     ensures rest { T.rest terms.new ≡ T.rest terms.old }
     ensures left { meter.new.left ≡ meter.old.left }
     ensures known { IfOk result (IsKnownNext IsKnownCore (length (T.contents terms.new).trees)) }
-    ensures steps { IfOk result (λ next. core_next (place_at library.now site.now.unit) (tree_at (T.contents terms.new)) meter.new.last next
-        ≡ erased (place_at library.now site.now.unit) a_tree meter.old.last (whnf_built (tree_at (T.contents terms.old) e) (const (name_at (T.contents terms.old) name) (list_at (T.contents terms.old) levels)))) }
+    ensures steps { IfOk result (λ next. core_next (place_at library.now site.now) (tree_at (T.contents terms.new)) meter.new.last next
+        ≡ erased (place_at library.now site.now) a_tree meter.old.last (whnf_built (tree_at (T.contents terms.old) e) (const (name_at (T.contents terms.old) name) (list_at (T.contents terms.old) levels)))) }
 {
     let entry = match look_up(library, site, terms, name, meter) {
         Ok(entry) => entry,
@@ -192,8 +193,8 @@ fn end<T: Terms>(
     ensures rest { T.rest terms.new ≡ T.rest terms.old }
     ensures left { meter.new.left ≡ meter.old.left }
     ensures known { IfOk result (IsKnownNext IsKnownCore (length (T.contents terms.new).trees)) }
-    ensures steps { IfOk result (λ next. core_next (place_at library.now site.now.unit) (tree_at (T.contents terms.new)) meter.new.last next
-        ≡ erased (place_at library.now site.now.unit) a_tree meter.old.last (whnf_end (tree_at (T.contents terms.old) e))) }
+    ensures steps { IfOk result (λ next. core_next (place_at library.now site.now) (tree_at (T.contents terms.new)) meter.new.last next
+        ≡ erased (place_at library.now site.now) a_tree meter.old.last (whnf_end (tree_at (T.contents terms.old) e))) }
 {
     let front = head(terms, e);
     match terms.view(front) {
@@ -221,8 +222,8 @@ fn resume_term<T: Terms>(
     ensures rest { T.rest terms.new ≡ T.rest terms.old }
     ensures left { meter.new.left ≡ meter.old.left }
     ensures known { IfOk result (IsKnownNext IsKnownCore (length (T.contents terms.new).trees)) }
-    ensures steps { IfOk result (λ next. core_next (place_at library.now site.now.unit) (tree_at (T.contents terms.new)) meter.new.last next
-        ≡ core_rest (place_at library.now site.now.unit) meter.old.last (map_core (tree_at (T.contents terms.old)) sheet) (a_tree (tree_at (T.contents terms.old) e))) }
+    ensures steps { IfOk result (λ next. core_next (place_at library.now site.now) (tree_at (T.contents terms.new)) meter.new.last next
+        ≡ core_rest (place_at library.now site.now) meter.old.last (map_core (tree_at (T.contents terms.old)) sheet) (a_tree (tree_at (T.contents terms.old) e))) }
 {
     match sheet {
         CoreSheet::Passed => Ok(Next::Done(Answer::Term(e))),
@@ -252,8 +253,8 @@ fn resume_truth<T: Terms>(
     ensures rest { T.rest terms.new ≡ T.rest terms.old }
     ensures left { meter.new.left ≡ meter.old.left }
     ensures known { IfOk result (IsKnownNext IsKnownCore (length (T.contents terms.new).trees)) }
-    ensures steps { IfOk result (λ next. core_next (place_at library.now site.now.unit) (tree_at (T.contents terms.new)) meter.new.last next
-        ≡ core_rest (place_at library.now site.now.unit) meter.old.last (map_core (tree_at (T.contents terms.old)) sheet) (truth equal)) }
+    ensures steps { IfOk result (λ next. core_next (place_at library.now site.now) (tree_at (T.contents terms.new)) meter.new.last next
+        ≡ core_rest (place_at library.now site.now) meter.old.last (map_core (tree_at (T.contents terms.old)) sheet) (truth equal)) }
 {
     match sheet {
         CoreSheet::Passed => Ok(Next::No(Rule::LooseVariable)),
@@ -284,8 +285,8 @@ pub fn resume<T: Terms>(
     ensures rest { T.rest terms.new ≡ T.rest terms.old }
     ensures left { meter.new.left ≡ meter.old.left }
     ensures known { IfOk result (IsKnownNext IsKnownCore (length (T.contents terms.new).trees)) }
-    ensures steps { IfOk result (λ next. core_next (place_at library.now site.now.unit) (tree_at (T.contents terms.new)) meter.new.last next
-        ≡ core_rest (place_at library.now site.now.unit) meter.old.last (map_core (tree_at (T.contents terms.old)) sheet) (value_at (tree_at (T.contents terms.old)) answer)) }
+    ensures steps { IfOk result (λ next. core_next (place_at library.now site.now) (tree_at (T.contents terms.new)) meter.new.last next
+        ≡ core_rest (place_at library.now site.now) meter.old.last (map_core (tree_at (T.contents terms.old)) sheet) (value_at (tree_at (T.contents terms.old)) answer)) }
 {
     match answer {
         Answer::Term(e) => resume_term(alloc, library, site, terms, meter, sheet, e),

@@ -22,7 +22,7 @@ use lk_ask::next::Next;
 use lk_ask::query::{Answer, Query};
 use lk_ask::sheet::Sheet;
 use lk_ask::stop::Stop;
-use lk_env::entry::Site;
+use lk_env::entry::{Partial, Site};
 use lk_env::library::Library;
 use lk_memo::memo::PrivateMemo;
 use lk_meter::meter::Meter;
@@ -52,10 +52,10 @@ fn first_step<T: Terms>(
     ensures keeps { Extends (T.contents terms.old) (T.contents terms.new) }
     ensures rest { T.rest terms.new ≡ T.rest terms.old }
     ensures known { IfOk result (IsKnownNext IsKnownSheet (length (T.contents terms.new).trees)) }
-    ensures next { IfOk result (λ next. run_steps (out_of rows (place_at library.now site.now.unit)) (next_of (place_at library.now site.now.unit) (tree_at (T.contents terms.new)) meter.new.last next) meter.new.left
-        ≡ out_of rows (place_at library.now site.now.unit) (query_of (tree_at (T.contents terms.old)) query) meter.old.left) }
+    ensures next { IfOk result (λ next. run_steps (out_of rows (place_at library.now site.now)) (next_of (place_at library.now site.now) (tree_at (T.contents terms.new)) meter.new.last next) meter.new.left
+        ≡ out_of rows (place_at library.now site.now) (query_of (tree_at (T.contents terms.old)) query) meter.old.left) }
     ensures less { OnOk result (meter.new.left < meter.old.left) }
-    ensures err { IfErr result (IsStop (out_of rows (place_at library.now site.now.unit) (query_of (tree_at (T.contents terms.old)) query) meter.old.left)) }
+    ensures err { IfErr result (IsStop (out_of rows (place_at library.now site.now) (query_of (tree_at (T.contents terms.old)) query) meter.old.left)) }
     ensures nothing_left { meter.old.left ≡ 0 → result ≡ Err Stop.Spent }
 {
     meter.turn();
@@ -99,15 +99,16 @@ fn open<T: Terms>(
 ) -> Result<AnyNext, Stop>
     requires over { Extends (contents_of library.now.0) (T.contents terms.old) }
     requires query_in { IsKnownQuery (length (T.contents terms.old).trees) query }
-    requires entries { AreTrue (place_at library.now site.now.unit) (T.contents terms.old) memo.old.cache.entries }
+    requires entries { AreTrue (place_at library.now site.now) (T.contents terms.old) memo.old.cache.entries }
     ensures keeps { Extends (T.contents terms.old) (T.contents terms.new) }
     ensures rest { T.rest terms.new ≡ T.rest terms.old }
-    ensures entries { AreTrue (place_at library.now site.now.unit) (T.contents terms.new) memo.new.cache.entries }
+    ensures entries { AreTrue (place_at library.now site.now) (T.contents terms.new) memo.new.cache.entries }
+    ensures unkept { (e : _) → Contains memo.new.cache.entries e → Contains memo.old.cache.entries e }
     ensures known { IfOk result (IsKnownNext IsKnownSheet (length (T.contents terms.new).trees)) }
-    ensures next { IfOk result (λ next. run_steps (out_of rows (place_at library.now site.now.unit)) (next_of (place_at library.now site.now.unit) (tree_at (T.contents terms.new)) meter.new.last next) meter.new.left
-        ≡ out_of rows (place_at library.now site.now.unit) (query_of (tree_at (T.contents terms.old)) query) meter.old.left) }
+    ensures next { IfOk result (λ next. run_steps (out_of rows (place_at library.now site.now)) (next_of (place_at library.now site.now) (tree_at (T.contents terms.new)) meter.new.last next) meter.new.left
+        ≡ out_of rows (place_at library.now site.now) (query_of (tree_at (T.contents terms.old)) query) meter.old.left) }
     ensures less { OnOk result (meter.new.left < meter.old.left) }
-    ensures err { IfErr result (IsStop (out_of rows (place_at library.now site.now.unit) (query_of (tree_at (T.contents terms.old)) query) meter.old.left)) }
+    ensures err { IfErr result (IsStop (out_of rows (place_at library.now site.now) (query_of (tree_at (T.contents terms.old)) query) meter.old.left)) }
 {
     match memo.find(query, site.unit) {
         Some(kept) => match again(meter, kept) {
@@ -118,12 +119,19 @@ fn open<T: Terms>(
     }
 }
 
-/// Keeps an answer, where finding it is less than asking anew. Where there is no room the memo stays as it is.
-fn keep(memo: &mut PrivateMemo, query: Query<u64>, kept: Kept)
-    ensures { (e : _) → Contains memo.new.cache.entries e → Contains memo.old.cache.entries e ⊎ (e ≡ (key_of query, kept)) }
+/// Keeps an answer, where finding it is less than asking anew. While members are partial none is kept: names come to mean
+/// more, and few questions are asked twice meanwhile. Where there is no room the memo stays as it is.
+fn keep(memo: &mut PrivateMemo, partial: Partial, query: Query<u64>, kept: Kept)
+    ensures entries { (e : _) → Contains memo.new.cache.entries e → Contains memo.old.cache.entries e ⊎ (e ≡ (key_of query, kept)) }
+    ensures unkept { partial ≢ Partial.Nothing → (e : _) → Contains memo.new.cache.entries e → Contains memo.old.cache.entries e }
 {
-    if kept.cost > 1 {
-        let _kept = memo.keep(query, kept);
+    match partial {
+        Partial::Nothing => {
+            if kept.cost > 1 {
+                let _kept = memo.keep(query, kept);
+            }
+        }
+        Partial::Types | Partial::Members => {}
     }
 }
 
@@ -139,12 +147,13 @@ fn work<T: Terms>(
 ) -> Result<Answer<u64>, Stop>
     requires over { Extends (contents_of library.now.0) (T.contents terms.old) }
     requires query_in { IsKnownQuery (length (T.contents terms.old).trees) query }
-    requires entries { AreTrue (place_at library.now site.now.unit) (T.contents terms.old) memo.old.cache.entries }
+    requires entries { AreTrue (place_at library.now site.now) (T.contents terms.old) memo.old.cache.entries }
     ensures keeps { Extends (T.contents terms.old) (T.contents terms.new) }
     ensures rest { T.rest terms.new ≡ T.rest terms.old }
-    ensures entries { AreTrue (place_at library.now site.now.unit) (T.contents terms.new) memo.new.cache.entries }
+    ensures entries { AreTrue (place_at library.now site.now) (T.contents terms.new) memo.new.cache.entries }
+    ensures unkept { site.now.partial ≢ Partial.Nothing → (e : _) → Contains memo.new.cache.entries e → Contains memo.old.cache.entries e }
     ensures known { IfOk result (IsKnownAnswer (length (T.contents terms.new).trees)) }
-    ensures outcome { IsExactly (T.contents terms.new) (out_of rows (place_at library.now site.now.unit) (query_of (tree_at (T.contents terms.old)) query) meter.old.left) meter.new.left meter.new.last result }
+    ensures outcome { IsExactly (T.contents terms.new) (out_of rows (place_at library.now site.now) (query_of (tree_at (T.contents terms.old)) query) meter.old.left) meter.new.left meter.new.last result }
     ensures nothing_left { meter.old.left ≡ 0 → result ≡ Err Stop.Spent }
 {
     let mut stack: Vec<Frame> = Vec::new(alloc);
@@ -176,7 +185,7 @@ fn work<T: Terms>(
             Next::Done(answer) => {
                 let cost = budget - meter.left;
                 let top = meter.last;
-                keep(memo, asked, Kept { answer, cost, top });
+                keep(memo, site.partial, asked, Kept { answer, cost, top });
                 match stack.pop() {
                     None => return Ok(answer),
                     Some(frame) => {
@@ -207,12 +216,13 @@ pub fn answer<T: Terms>(
 ) -> Result<Answer<u64>, Stop>
     requires over { Extends (contents_of library.now.0) (T.contents terms.old) }
     requires query_in { IsKnownQuery (length (T.contents terms.old).trees) query }
-    requires entries { AreTrue (place_at library.now site.now.unit) (T.contents terms.old) memo.old.cache.entries }
+    requires entries { AreTrue (place_at library.now site.now) (T.contents terms.old) memo.old.cache.entries }
     ensures keeps { Extends (T.contents terms.old) (T.contents terms.new) }
     ensures rest { T.rest terms.new ≡ T.rest terms.old }
-    ensures entries { AreTrue (place_at library.now site.now.unit) (T.contents terms.new) memo.new.cache.entries }
+    ensures entries { AreTrue (place_at library.now site.now) (T.contents terms.new) memo.new.cache.entries }
+    ensures unkept { site.now.partial ≢ Partial.Nothing → (e : _) → Contains memo.new.cache.entries e → Contains memo.old.cache.entries e }
     ensures known { IfOk result (IsKnownAnswer (length (T.contents terms.new).trees)) }
-    ensures outcome { IsExactly (T.contents terms.new) (out_of rows (place_at library.now site.now.unit) (query_of (tree_at (T.contents terms.old)) query) meter.old.left) meter.new.left meter.new.last result }
+    ensures outcome { IsExactly (T.contents terms.new) (out_of rows (place_at library.now site.now) (query_of (tree_at (T.contents terms.old)) query) meter.old.left) meter.new.left meter.new.last result }
     ensures turns { (kept : Answered) → IsKept memo.old.cache.entries query site.now.unit kept → meter.old.turns < 2 ^ 64 - 1 → meter.new.turns ≡ meter.old.turns + 1 }
     ensures kept { (kept : Answered) → IsKept memo.old.cache.entries query site.now.unit kept → result ≢ Err Stop.NoMemory }
     ensures nothing_left { meter.old.left ≡ 0 → result ≢ Err Stop.NoMemory }

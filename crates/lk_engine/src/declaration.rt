@@ -13,7 +13,7 @@ use lk_ask::asks::Asks;
 use lk_ask::query::{Answer, Query};
 use lk_ask::rule::Rule;
 use lk_ask::stop::Stop;
-use lk_same::zero::is_zero;
+use lk_level_order::zero::is_zero;
 use lk_store::node::Node;
 use lk_store::terms::Terms;
 use std::alloc::Global;
@@ -22,7 +22,7 @@ use std::alloc::Global;
 fn ask_term<A: Asks>(asks: &mut A, query: Query<u64>) -> Result<u64, Stop>
     requires { IsKnownQuery (length (A.contents asks.old).trees) query }
     ensures keeps { Extends (A.contents asks.old) (A.contents asks.new) }
-    ensures rest { A.rest asks.new ≡ A.rest asks.old }
+    ensures basis { A.basis asks.new ≡ A.basis asks.old }
     ensures table { A.table asks.new ≡ A.table asks.old }
     ensures place { A.place asks.new ≡ A.place asks.old }
     ensures known { IfOk result (λ e. e < length (A.contents asks.new).trees) }
@@ -39,7 +39,7 @@ fn ask_term<A: Asks>(asks: &mut A, query: Query<u64>) -> Result<u64, Stop>
 fn ask_truth<A: Asks>(asks: &mut A, query: Query<u64>) -> Result<bool, Stop>
     requires { IsKnownQuery (length (A.contents asks.old).trees) query }
     ensures keeps { Extends (A.contents asks.old) (A.contents asks.new) }
-    ensures rest { A.rest asks.new ≡ A.rest asks.old }
+    ensures basis { A.basis asks.new ≡ A.basis asks.old }
     ensures table { A.table asks.new ≡ A.table asks.old }
     ensures place { A.place asks.new ≡ A.place asks.old }
     ensures outcome { GivesTruth (out_of (A.table asks.old) (A.place asks.old)) (query_of (tree_at (A.contents asks.old)) query) (A.left asks.old) (A.left asks.new) result }
@@ -66,7 +66,7 @@ fn level_in<A: Asks>(asks: &A, form: u64) -> Result<u64, Stop>
 fn sort_of<A: Asks>(asks: &mut A, e: u64) -> Result<u64, Stop>
     requires { e < length (A.contents asks.old).trees }
     ensures keeps { Extends (A.contents asks.old) (A.contents asks.new) }
-    ensures rest { A.rest asks.new ≡ A.rest asks.old }
+    ensures basis { A.basis asks.new ≡ A.basis asks.old }
     ensures table { A.table asks.new ≡ A.table asks.old }
     ensures place { A.place asks.new ≡ A.place asks.old }
     ensures known { IfOk result (λ l. l < length (A.contents asks.new).levels) }
@@ -87,7 +87,7 @@ fn sort_of<A: Asks>(asks: &mut A, e: u64) -> Result<u64, Stop>
 fn check_value<A: Asks>(asks: &mut A, kind: u64, value: u64) -> Result<(), Stop>
     requires kind_in { kind < length (A.contents asks.old).trees }
     requires value_in { value < length (A.contents asks.old).trees }
-    ensures rest { A.rest asks.new ≡ A.rest asks.old }
+    ensures basis { A.basis asks.new ≡ A.basis asks.old }
     ensures table { A.table asks.new ≡ A.table asks.old }
     ensures place { A.place asks.new ≡ A.place asks.old }
     ensures outcome { IsAccepted (run_steps (out_of (A.table asks.old) (A.place asks.old)) (unit_steps_of (A.place asks.old) (value_steps (tree_at (A.contents asks.old) kind) (tree_at (A.contents asks.old) value))) (A.left asks.old)) (A.left asks.new) result }
@@ -110,7 +110,7 @@ fn check_value<A: Asks>(asks: &mut A, kind: u64, value: u64) -> Result<(), Stop>
 /// Asks the question of an axiom: its type has a sort.
 pub fn check_axiom<A: Asks>(asks: &mut A, kind: u64) -> Result<(), Stop>
     requires { kind < length (A.contents asks.old).trees }
-    ensures rest { A.rest asks.new ≡ A.rest asks.old }
+    ensures basis { A.basis asks.new ≡ A.basis asks.old }
     ensures table { A.table asks.new ≡ A.table asks.old }
     ensures place { A.place asks.new ≡ A.place asks.old }
     ensures outcome { (d : Decl) → d.type ≡ tree_at (A.contents asks.old) kind → d.body ≡ as_axiom
@@ -126,7 +126,7 @@ pub fn check_axiom<A: Asks>(asks: &mut A, kind: u64) -> Result<(), Stop>
 fn check_typed<A: Asks>(asks: &mut A, kind: u64, value: u64) -> Result<(), Stop>
     requires kind_in { kind < length (A.contents asks.old).trees }
     requires value_in { value < length (A.contents asks.old).trees }
-    ensures rest { A.rest asks.new ≡ A.rest asks.old }
+    ensures basis { A.basis asks.new ≡ A.basis asks.old }
     ensures table { A.table asks.new ≡ A.table asks.old }
     ensures place { A.place asks.new ≡ A.place asks.old }
     ensures outcome { IsAccepted (run_steps (out_of (A.table asks.old) (A.place asks.old)) (unit_steps_of (A.place asks.old) (typed_steps (tree_at (A.contents asks.old) kind) (tree_at (A.contents asks.old) value))) (A.left asks.old)) (A.left asks.new) result }
@@ -141,7 +141,7 @@ fn check_typed<A: Asks>(asks: &mut A, kind: u64, value: u64) -> Result<(), Stop>
 pub fn check_definition<A: Asks>(asks: &mut A, kind: u64, value: u64) -> Result<(), Stop>
     requires kind_in { kind < length (A.contents asks.old).trees }
     requires value_in { value < length (A.contents asks.old).trees }
-    ensures rest { A.rest asks.new ≡ A.rest asks.old }
+    ensures basis { A.basis asks.new ≡ A.basis asks.old }
     ensures table { A.table asks.new ≡ A.table asks.old }
     ensures place { A.place asks.new ≡ A.place asks.old }
     ensures outcome { (d : Decl) (h : Hint) → d.type ≡ tree_at (A.contents asks.old) kind → d.body ≡ as_def h (tree_at (A.contents asks.old) value)
@@ -154,7 +154,7 @@ pub fn check_definition<A: Asks>(asks: &mut A, kind: u64, value: u64) -> Result<
 pub fn check_opaque<A: Asks>(asks: &mut A, kind: u64, value: u64) -> Result<(), Stop>
     requires kind_in { kind < length (A.contents asks.old).trees }
     requires value_in { value < length (A.contents asks.old).trees }
-    ensures rest { A.rest asks.new ≡ A.rest asks.old }
+    ensures basis { A.basis asks.new ≡ A.basis asks.old }
     ensures table { A.table asks.new ≡ A.table asks.old }
     ensures place { A.place asks.new ≡ A.place asks.old }
     ensures outcome { (d : Decl) → d.type ≡ tree_at (A.contents asks.old) kind → d.body ≡ as_opaque (tree_at (A.contents asks.old) value)
@@ -172,7 +172,7 @@ pub fn check_theorem<A: Asks>(
 ) -> Result<(), Stop>
     requires kind_in { kind < length (A.contents asks.old).trees }
     requires proof_in { proof < length (A.contents asks.old).trees }
-    ensures rest { A.rest asks.new ≡ A.rest asks.old }
+    ensures basis { A.basis asks.new ≡ A.basis asks.old }
     ensures table { A.table asks.new ≡ A.table asks.old }
     ensures place { A.place asks.new ≡ A.place asks.old }
     ensures outcome { (d : Decl) → d.type ≡ tree_at (A.contents asks.old) kind → d.body ≡ as_thm (tree_at (A.contents asks.old) proof)

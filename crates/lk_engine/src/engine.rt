@@ -1,10 +1,12 @@
 //! The engine: a store over that of a library in which questions are answered, as a unit of the library may ask them.
 
 use crate::answering::answer;
+use crate::parameters::parameters_at;
 use lk_ask::asks::Asks;
 use lk_ask::query::{Answer, Query};
+use lk_ask::rule::Rule;
 use lk_ask::stop::Stop;
-use lk_env::entry::Site;
+use lk_env::entry::{Partial, Site};
 use lk_env::library::Library;
 use lk_memo::memo::PrivateMemo;
 use lk_meter::meter::Meter;
@@ -45,7 +47,7 @@ impl<'a> Model for Engine<'a> {
 
     ghost invariant = { λ s. (s.terms.0 ≡ s.library.now.0)
         × Extends (contents_of s.library.now.0) (contents_of (over s.terms.0 s.terms.1))
-        × AreTrue (place_at s.library.now s.site.unit) (contents_of (over s.terms.0 s.terms.1)) s.memo.now.cache.entries };
+        × AreTrue (place_at s.library.now s.site) (contents_of (over s.terms.0 s.terms.1)) s.memo.now.cache.entries };
 }
 
 impl<'a> Engine<'a> {
@@ -61,24 +63,29 @@ impl<'a> Engine<'a> {
         Engine {
             alloc,
             library,
-            site: Site { unit: 0 },
+            site: Site {
+                unit: 0,
+                partial: Partial::Nothing,
+            },
             terms: Overlay::new(alloc, library.base()),
             meter: Meter::new(0),
             memo,
         }
     }
 
-    /// Begins a unit: the names below it are seen, so many steps may be taken, and what earlier units made, and what is
-    /// kept of their questions, is gone. It costs nothing that grows with the library.
+    /// Begins a unit: the names below it are seen, nothing of it is partial, so many steps may be taken, and what earlier
+    /// units made, and what is kept of their questions, is gone. It costs nothing that grows with the library.
     #[tactic(auto, using(crate::proofs::Frames::nothing_kept))]
     pub fn start(&mut self, unit: u32, budget: u128)
         ensures library { self.new.0 ≡ self.old.0 }
-        ensures site { self.new.1.unit ≡ unit }
+        ensures unit { self.new.1.unit ≡ unit }
+        ensures partial { self.new.1.partial ≡ Partial.Nothing }
         ensures contents { contents_of (over self.new.2.0 self.new.2.1) ≡ contents_of self.old.0.0 }
         ensures left { self.new.3.left ≡ budget }
         ensures turns { self.new.3.turns ≡ 0 }
     {
-        self.site = Site { unit };
+        let partial = Partial::Nothing;
+        self.site = Site { unit, partial };
         self.terms.clear();
         self.memo.clear();
         self.meter = Meter::new(budget);
@@ -96,10 +103,10 @@ impl<'a> Engine<'a> {
 impl<'a> Terms for Engine<'a> {
     ghost use Rattle.lk_store.specs.Store.{over, contents_of};
 
-    /// The library and the place at which it is seen.
-    type Rest = (Library, Site);
+    /// All but the terms: the library, from where it is seen, and what is left of the budget.
+    type Rest = (Library, Site, Meter);
 
-    ghost rest = { λ s. (s.0, s.1) };
+    ghost rest = { λ s. (s.0, s.1, s.3) };
 
     ghost contents = { λ s. contents_of (over s.2.0 s.2.1) };
 
@@ -185,14 +192,22 @@ impl<'a> Terms for Engine<'a> {
 }
 
 impl<'a> Asks for Engine<'a> {
+    ghost use Rattle.std.proofs.Common.{refl, ap};
     ghost use Rattle.lk_table.specs.Built.{rows};
     ghost use Rattle.lk_env.specs.Places.{place_at};
 
+    /// The library and the number of the unit at work.
+    type Basis = (Library, u32);
+
+    ghost basis = { λ s. (s.0, s.1.unit) };
+
     ghost table = { λ s. rows };
 
-    ghost place = { λ s. place_at s.0 s.1.unit };
+    ghost place = { λ s. place_at s.0 s.1 };
 
     ghost left = { λ s. s.3.left };
+
+    ghost places = { λ b p. place_at b.0 (record { unit = b.1; partial = p }) };
 
     fn ask(&mut self, query: Query<u64>) -> Result<Answer<u64>, Stop> {
         let memo = &mut *self.memo;
@@ -206,4 +221,16 @@ impl<'a> Asks for Engine<'a> {
             query,
         )
     }
+
+    fn parameters_of(&self, name: u64) -> Result<Option<u64>, Rule> {
+        parameters_at(self.library, &self.site, &self.terms, name)
+    }
+
+    #[tactic(auto, using(crate::proofs::Frames::nothing_kept))]
+    fn give(&mut self, partial: Partial) {
+        self.site.partial = partial;
+        self.memo.clear();
+    }
+
+    ghost decided = { λ a b h. (ap (λ r. (r.0, r.1.unit)) h, refl, ap (λ r. place_at r.0 r.1) h, ap (λ r. r.2.left) h) };
 }

@@ -78,8 +78,8 @@ pub fn begin<T: Terms>(
     ensures rest { T.rest terms.new ≡ T.rest terms.old }
     ensures left { meter.new.left ≡ meter.old.left }
     ensures known { IfOk result (IsKnownNext IsKnownSheet (length (T.contents terms.new).trees)) }
-    ensures steps { IfOk result (λ next. next_of (place_at library.now site.now.unit) (tree_at (T.contents terms.new)) meter.new.last next
-        ≡ query_steps (place_at library.now site.now.unit) (tree_at (T.contents terms.old)) meter.old.last query) }
+    ensures steps { IfOk result (λ next. next_of (place_at library.now site.now) (tree_at (T.contents terms.new)) meter.new.last next
+        ≡ query_steps (place_at library.now site.now) (tree_at (T.contents terms.old)) meter.old.last query) }
 {
     match query {
         Query::Core(e) => {
@@ -118,8 +118,8 @@ pub fn resume<T: Terms>(
     ensures rest { T.rest terms.new ≡ T.rest terms.old }
     ensures left { meter.new.left ≡ meter.old.left }
     ensures known { IfOk result (IsKnownNext IsKnownSheet (length (T.contents terms.new).trees)) }
-    ensures steps { IfOk result (λ next. next_of (place_at library.now site.now.unit) (tree_at (T.contents terms.new)) meter.new.last next
-        ≡ sheet_rest (place_at library.now site.now.unit) meter.old.last (map_sheet (tree_at (T.contents terms.old)) sheet) (value_at (tree_at (T.contents terms.old)) answer)) }
+    ensures steps { IfOk result (λ next. next_of (place_at library.now site.now) (tree_at (T.contents terms.new)) meter.new.last next
+        ≡ sheet_rest (place_at library.now site.now) meter.old.last (map_sheet (tree_at (T.contents terms.old)) sheet) (value_at (tree_at (T.contents terms.old)) answer)) }
 {
     match sheet {
         Sheet::Core(kept) => {

@@ -6,7 +6,7 @@ use Rattle.lk_rulebook.specs.Units.{Library, members_of}
 use Rattle.lk_env.specs.Places.{member_in, first_place, at_member, place_in, place_below}
 
 -- no place is before the first unit
-none_below : (c : Name) (us : Library) (i k : ℕ) → k ≤ i → place_below k (place_in i us c) ≡ None
+pub none_below : (c : Name) (us : Library) (i k : ℕ) → k ≤ i → place_below k (place_in i us c) ≡ None
 none_below c [] i k h = refl
 none_below c (u ∷ us) i k h = go (member_in 0 (members_of u) c) (none_below c us (suc i) k (omega arith))
   where

@@ -6,3 +6,5 @@ pub mod Bounds
 pub mod Trees
 pub mod Standing
 pub mod Answered
+pub mod Partial
+pub mod Bare

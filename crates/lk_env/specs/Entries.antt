@@ -1,5 +1,5 @@
 -- What an entry by numbers stands for, and what the answer to a look-up says.
-use Rattle.std.specs.Prelude.{◌≡◌, ◌<◌, ℕ, List, length, map, IfSome, Option, Some, None, Result, Ok, Err, IsSome, option_map, option_and_then, slice_get}
+use Rattle.std.specs.Prelude.{◌≡◌, ◌<◌, ℕ, List, [], length, map, IfSome, Option, Some, None, Result, Ok, Err, IsSome, option_map, option_and_then, slice_get}
 use Rattle.lk_tree.specs.Tree.{Name, Tree}
 use Rattle.lk_tree.specs.RuleNo.{RuleNo, loose_variable, wide_literal}
 use Rattle.lk_rulebook.specs.Place.{Place, Ctor, BlockType, Rec, a_type, a_ctor, a_rec}
@@ -25,6 +25,7 @@ entry_of c (of_block b rs) (kind.Type i) T = option_map (λ (t : BlockType). rec
 entry_of c (of_block b rs) (kind.Constructor i j) T =
     option_and_then (λ (t : BlockType). option_map (λ (k : Ctor). record { levels = k.levels; type = T; kind = a_ctor b t k }) (slice_get t.ctors j)) (slice_get b.types i)
 entry_of c (of_block b rs) (kind.Recursor i) T = option_map (λ (r : Rec). record { levels = r.levels; type = T; kind = a_rec r.recursor }) (slice_get rs i)
+entry_of c (of_block b rs) (kind.BareRecursor i) T = option_map (λ (r : Rec). record { levels = r.levels; type = T; kind = a_rec (record r.recursor { rules = [] }) }) (slice_get rs i)
 
 -- what an entry stands for
 abbrev pub plain_entry : Contents → List StoredUnit → Entry → Option PlainEntry

@@ -1,9 +1,13 @@
 -- Where a library gives a name: the first unit that gives it, and which of its members. What names mean at a unit.
-use Rattle.std.specs.Prelude.{ℕ, suc, List, [], ◌∷◌, Option, Some, None, option_map, option_and_then, slice_get, nat_lt, if◌then◌else◌}
+use Rattle.std.specs.Prelude.{ℕ, suc, List, [], ◌∷◌, ◌++◌, take, Option, Some, None, option_map, option_and_then, slice_get, nat_eq, nat_lt, if◌then◌else◌}
 use Rattle.lk_tree.specs.Tree.{Name, name_discrete}
 use Rattle.lk_rulebook.specs.Place.{Entry, Place}
-use Rattle.lk_rulebook.specs.Units.{Members, LibraryUnit, members_of, Library, Found, at_unit, place_of}
+use Rattle.lk_rulebook.specs.Units.{Members, LibraryUnit, of_decl, of_block, members_of, partial_types, partial_members, Library, Found, at_unit, first_giving, place_of}
+use Rattle.lk_rulebook.specs.Scan.{is_none}
 use Rattle.lk_store.specs.declared.tables.Tables.{Tables}
+use Rattle.lk_env.specs.declared.entry.Partial.{Partial}
+use Rattle.lk_env.specs.declared.entry.Partial.TheVariants.{Nothing, Types, Members as AllMembers}
+use Rattle.lk_env.specs.declared.entry.Site.{Site}
 use Rattle.lk_env.specs.declared.unit.Unit.{Unit as StoredUnit}
 use Rattle.lk_env.specs.Units.{library_of}
 
@@ -40,6 +44,36 @@ abbrev pub place_below : ℕ → Option (ℕ × ℕ) → Option (ℕ × ℕ)
 place_below n None = None
 place_below n (Some p) = if nat_lt p.0 n then Some p else None
 
--- the place of unit n in the library of a store's tables and units, with no names that are half there
-abbrev pub place_at : Tables × List StoredUnit → ℕ → Place
-place_at l n = place_of (library_of l) n []
+-- what is partial of a unit
+abbrev pub partial_of : LibraryUnit → Partial → Members
+partial_of u Nothing = []
+partial_of (of_decl d) Types = []
+partial_of (of_decl d) AllMembers = []
+partial_of (of_block b rs) Types = partial_types b
+partial_of (of_block b rs) AllMembers = partial_types b ++ partial_members b rs
+
+-- the entry of a unit's member as it is partial
+abbrev pub partial_entry_at : LibraryUnit → Partial → ℕ → Option Entry
+partial_entry_at u p j = option_map (λ m. m.1) (slice_get (partial_of u p) j)
+
+-- the same of the unit at a site
+abbrev pub partial_entry_in : Library → Site → ℕ → Option Entry
+partial_entry_in us s j = option_and_then (λ u. partial_entry_at u s.partial j) (slice_get us s.unit)
+
+-- the member, where the place is in unit n
+abbrev pub own_member : ℕ → Option (ℕ × ℕ) → Option ℕ
+own_member n None = None
+own_member n (Some p) = if nat_eq p.0 n then Some p.1 else None
+
+-- those of the names that no unit before number n gives
+abbrev pub new_among : Library → ℕ → Members → Members
+new_among us n [] = []
+new_among us n (m ∷ ms) = if is_none (first_giving 0 (take n us) m.0) then m ∷ new_among us n ms else new_among us n ms
+
+-- what is partial at a site
+abbrev pub partial_at : Library → Site → Members
+partial_at us s = elim (slice_get us s.unit) [ None ↦ [] | Some u ↦ new_among us s.unit (partial_of u s.partial) ]
+
+-- the place of a site in the library of a store's tables and units; where names of a unit are not new, they are not partial
+abbrev pub place_at : Tables × List StoredUnit → Site → Place
+place_at l s = place_of (library_of l) s.unit (partial_at (library_of l) s)

@@ -3,13 +3,14 @@
 use crate::unit::Body;
 
 /// Which member of its unit it is: a declaration, with its body, or by number a type of a block, a constructor of a
-/// type of a block, or a recursor of a block.
+/// type of a block, or a recursor of a block. A recursor that is partial is bare: its rules are not given yet.
 #[derive(Clone, Copy, Debug, PartialEq, Eq)]
 pub enum Kind {
     Declared(Body),
     Type(usize),
     Constructor { parent: usize, number: usize },
     Recursor(usize),
+    BareRecursor(usize),
 }
 
 /// A member of a unit, by numbers: which it is, its type, and the number of its unit, which has its level parameters
@@ -36,9 +37,19 @@ pub enum Refused {
     WideLiteral,
 }
 
-/// From where names are looked up: the units below this one are seen. Names that are half there, while their own block
-/// is checked, are not seen yet.
+/// Which members of a unit are partial: given while the unit itself is checked.
+#[derive(Clone, Copy, Debug, PartialEq, Eq)]
+pub enum Partial {
+    Nothing,
+    /// The types of a block.
+    Types,
+    /// All members of a block, its recursors without their rules.
+    Members,
+}
+
+/// From where names are looked up: the units below this one are seen, and what is partial of this one.
 #[derive(Clone, Copy, Debug, PartialEq, Eq)]
 pub struct Site {
     pub unit: u32,
+    pub partial: Partial,
 }

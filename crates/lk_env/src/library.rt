@@ -2,7 +2,7 @@
 
 use crate::entry::{Entry, Flaw, Refused, Site};
 use crate::index::index_of;
-use crate::member::member_entry;
+use crate::member::{member_entry, partial_entry};
 use crate::parameters::parameters_in;
 use crate::place::Place;
 use crate::scan::flaws_of;
@@ -46,10 +46,10 @@ impl Model for Library {
 
 ghost use Rattle.std.specs.Prelude.{◌≡◌, ℕ, ◌<◌, length, map, option_map, All, IfOk, IfSome};
 ghost use Rattle.lk_tree.specs.Tree.{Name as PlainName};
-ghost use Rattle.lk_rulebook.specs.Units.{place_by};
+ghost use Rattle.lk_rulebook.specs.Units.{at_half, place_by};
 ghost use Rattle.lk_store.specs.Contents.{Contents, name_at, name_of, IsNameIn};
 ghost use Rattle.lk_env.specs.Units.{library_at, AreUnitsIn};
-ghost use Rattle.lk_env.specs.Places.{place_below, found_at};
+ghost use Rattle.lk_env.specs.Places.{place_below, own_member, found_at, partial_entry_in};
 ghost use Rattle.lk_env.specs.Index.{pair_of};
 ghost use Rattle.lk_env.specs.Entries.{plain_entry, judged, IsEntryIn, IsAnswer};
 ghost use Rattle.lk_env.specs.Scan.{AreFlaws};
@@ -92,6 +92,31 @@ fn entry_in(units: &[Unit], flaws: &[Option<Flaw>], place: Place) -> Result<Entr
     }
 }
 
+/// The member, where the place is in the unit.
+fn member_of(place: Option<Place>, unit: u32) -> Option<u32>
+    ensures { result ≡ own_member unit (option_map pair_of place) }
+{
+    match place {
+        Some(p) if p.unit == unit => Some(p.member),
+        _ => None,
+    }
+}
+
+/// The entry of a member of the site's own unit, where it is partial. Nothing is wrong with a unit that is partial.
+fn partial_in(units: &[Unit], site: &Site, member: usize) -> Result<Entry, Refused>
+    ensures known { (c : Contents) → AreUnitsIn c units.now → IfOk result (IsEntryIn c) }
+    ensures answer { (c : Contents) (x : PlainName)
+        → IsAnswer c units.now (place_by site.now.unit (λ y. at_half site.now.unit (partial_entry_in (library_at c units.now) site.now member))) x result }
+{
+    match units.get(site.unit as usize) {
+        Some(unit) => match partial_entry(site.unit, unit, site.partial, member) {
+            Some(entry) => Ok(entry),
+            None => Err(Refused::UnknownConstant),
+        },
+        None => Err(Refused::UnknownConstant),
+    }
+}
+
 fn parameters_of(units: &[Unit], entry: Entry) -> &[u64]
     ensures value { (c : Contents)
         → IfSome (plain_entry c units.now entry) (λ e. e.levels ≡ map (name_at c) result.now) }
@@ -104,7 +129,7 @@ fn parameters_of(units: &[Unit], entry: Entry) -> &[u64]
 }
 
 impl Library {
-    ghost use Rattle.std.specs.Prelude.{take};
+    ghost use Rattle.std.specs.Prelude.{take, None};
     ghost use Rattle.lk_store.specs.Store.{contents_of};
     ghost use Rattle.lk_env.specs.Units.{library_of};
     ghost use Rattle.lk_env.specs.Places.{place_in, place_at};
@@ -157,17 +182,30 @@ impl Library {
         place_among(self.place_of(name), units)
     }
 
-    /// What the name means at the site, with no names that are half there. It takes no memory, and of the library it
-    /// reads one unit.
+    /// What the name means among the partial members of the site's unit, where no unit before gives it.
+    fn among_partial(&self, site: &Site, name: u64) -> Result<Entry, Refused>
+        requires name_in { name < length (contents_of self.now.0).names }
+        requires new { place_in 0 (take site.now.unit (library_of self.now)) (name_at (contents_of self.now.0) name) ≡ None }
+        ensures known { IfOk result (IsEntryIn (contents_of self.now.0)) }
+        ensures answer { IsAnswer (contents_of self.now.0) self.now.1
+            (place_at self.now site.now) (name_at (contents_of self.now.0) name) result }
+    {
+        match member_of(self.place_of(name), site.unit) {
+            Some(member) => partial_in(&self.units, site, member as usize),
+            None => Err(Refused::UnknownConstant),
+        }
+    }
+
+    /// What the name means at the site. It takes no memory, and of the library it reads one unit.
     pub fn at(&self, site: &Site, name: u64) -> Result<Entry, Refused>
         requires { name < length (contents_of self.now.0).names }
         ensures known { IfOk result (IsEntryIn (contents_of self.now.0)) }
         ensures answer { IsAnswer (contents_of self.now.0) self.now.1
-            (place_at self.now site.now.unit) (name_at (contents_of self.now.0) name) result }
+            (place_at self.now site.now) (name_at (contents_of self.now.0) name) result }
     {
         match self.place_before(site.unit, name) {
             Some(place) => entry_in(&self.units, &self.flaws, place),
-            None => Err(Refused::UnknownConstant),
+            None => self.among_partial(site, name),
         }
     }
 
@@ -178,7 +216,7 @@ impl Library {
         requires name_in { name < length (T.contents terms.now).names }
         ensures known { IfOk result (IsEntryIn (contents_of self.now.0)) }
         ensures answer { IsAnswer (contents_of self.now.0) self.now.1
-            (place_at self.now site.now.unit) (name_at (T.contents terms.now) name) result }
+            (place_at self.now site.now) (name_at (T.contents terms.now) name) result }
     {
         if name < self.base.count_names() {
             return self.at(site, name);

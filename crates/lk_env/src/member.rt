@@ -1,12 +1,12 @@
 //! The entry of a unit's member, by the number of the member.
 
-ghost use Rattle.std.specs.Prelude.{◌≡◌, ◌+◌, ◌<◌, length, option_map, slice_get, IfOk, IfErr, IfSome};
+ghost use Rattle.std.specs.Prelude.{◌≡◌, ℕ, ◌+◌, ◌<◌, length, option_map, slice_get, IfOk, IfErr, IfSome};
 ghost use Rattle.std.specs.List.{flat_map};
 ghost use Rattle.lk_store.specs.Contents.{Contents};
 ghost use Rattle.lk_env.specs.Index.{constructor_names};
-ghost use Rattle.lk_env.specs.Member.{recursor_entry_at, IsConstructorAt, IsMember, IsMemberIfAny};
+ghost use Rattle.lk_env.specs.Member.{recursor_entry_at, IsConstructorAt, IsMember, IsMemberIfAny, IsPartialIfAny, bare_kind, is_type_kind};
 
-use crate::entry::{Entry, Kind};
+use crate::entry::{Entry, Kind, Partial};
 use crate::unit::{Block, BlockType, Declaration, Recursor, Unit};
 
 fn declaration_entry(unit: u32, declaration: &Declaration) -> Entry
@@ -93,5 +93,67 @@ pub(crate) fn member_entry(number: u32, unit: &Unit, member: usize) -> Option<En
             }
         }
         Unit::Block(block) => block_entry(number, block, member),
+    }
+}
+
+/// The entry as it is while its unit is partial: a recursor without its rules.
+fn bare(entry: Entry) -> Entry
+    ensures unit { result.unit ≡ entry.unit }
+    ensures stated { result.stated ≡ entry.stated }
+    ensures kind { result.kind ≡ bare_kind entry.kind }
+{
+    match entry.kind {
+        Kind::Recursor(i) => Entry {
+            kind: Kind::BareRecursor(i),
+            stated: entry.stated,
+            unit: entry.unit,
+        },
+        _ => entry,
+    }
+}
+
+fn is_type(kind: Kind) -> bool
+    ensures { result ≡ is_type_kind kind }
+{
+    match kind {
+        Kind::Type(_) => true,
+        _ => false,
+    }
+}
+
+/// The entry as it is partial, if it is.
+fn as_partial(partial: Partial, entry: Entry) -> Option<Entry>
+    ensures unit { IfSome result (λ e. e.unit ≡ entry.unit) }
+    ensures member { (c : Contents) (b : Block) (j : ℕ) → IsMember c (Unit.Block b) j entry → IsPartialIfAny c (Unit.Block b) partial j result }
+{
+    match partial {
+        Partial::Nothing => None,
+        Partial::Types => {
+            if is_type(entry.kind) {
+                Some(entry)
+            } else {
+                None
+            }
+        }
+        Partial::Members => Some(bare(entry)),
+    }
+}
+
+/// The entry of a unit's member as it is partial, if it is.
+pub(crate) fn partial_entry(
+    number: u32,
+    unit: &Unit,
+    partial: Partial,
+    member: usize,
+) -> Option<Entry>
+    ensures unit { IfSome result (λ e. e.unit ≡ number) }
+    ensures member { (c : Contents) → IsPartialIfAny c unit.now partial member result }
+{
+    match unit {
+        Unit::Declaration(_) => None,
+        Unit::Block(block) => match block_entry(number, block, member) {
+            Some(entry) => as_partial(partial, entry),
+            None => None,
+        },
     }
 }

@@ -26,7 +26,7 @@ fn block_parameters(block: &Block, kind: Kind) -> &[u64]
             },
             None => &[],
         },
-        Kind::Recursor(i) => match block.recursors.get(i) {
+        Kind::Recursor(i) | Kind::BareRecursor(i) => match block.recursors.get(i) {
             Some(r) => &r.levels,
             None => &[],
         },

@@ -5,7 +5,7 @@ ghost use Rattle.lk_store.specs.Contents.{Extends, IsIn};
 ghost use Rattle.lk_store.specs.Store.{contents_of, no_tables};
 ghost use Rattle.lk_env.specs.Units.{AreUnitsIn};
 
-use crate::entry::{Entry, Kind, Refused, Site};
+use crate::entry::{Entry, Kind, Partial, Refused, Site};
 use crate::library::Library;
 use crate::place::Place;
 use crate::unit::{Body, Declaration, Unit};
@@ -99,7 +99,13 @@ fn look_up(library: &Library, number: u64, unit: u32) -> Result<Entry, Refused> 
         return Err(Refused::UnknownConstant);
     };
     match library.base().find_name(NameNode::Number(nothing, number)) {
-        Some(n) => library.at(&Site { unit }, n),
+        Some(n) => library.at(
+            &Site {
+                unit,
+                partial: Partial::Nothing,
+            },
+            n,
+        ),
         None => Err(Refused::UnknownConstant),
     }
 }
@@ -130,7 +136,14 @@ fn meant(alloc: Global, number: u64, unit: u32) -> Result<Result<Entry, Refused>
     let library = library(alloc, Node::Lit(0))?;
     let mut terms = Overlay::new(alloc, library.base());
     let name = make_number(&mut terms, number)?;
-    Ok(library.means(&Site { unit }, &terms, name))
+    Ok(library.means(
+        &Site {
+            unit,
+            partial: Partial::Nothing,
+        },
+        &terms,
+        name,
+    ))
 }
 
 fn is_theorem(answer: Result<Entry, Refused>, unit: u32) -> bool {

@@ -110,14 +110,14 @@ too_few w last e p b T ks few =
     else done None) >>= λ d. after_k e p d)) off)
 
 -- the candidate's type is asked for
-pub candidate_asked : (w : Place) (last : Option ℕ) (e e2 T T2 C : Tree) (p : PlainRedex) (b : CtorApp) (ks : List Level) → e2 ≡ e → T2 ≡ T → C ≡ apply (const b.name ks) (take b.ctor.parameters (args T))
+pub candidate_asked : (w : Place) (last : Option ℕ) (e made_from T made_type constructor_type : Tree) (p : PlainRedex) (b : CtorApp) (ks : List Level) → made_from ≡ e → made_type ≡ T → constructor_type ≡ apply (const b.name ks) (take b.ctor.parameters (args T))
     → redex_at w e ≡ Some p → b.ctor.parameters ≤ length (args T)
-    → asks last (infer C) (iota_rest w None (Candidate e2 T2 C)) ≡ erased w a_tree last (at_levels e p b T (Some ks))
-candidate_asked w last e e2 T T2 C p b ks e_is T_is C_is at many =
+    → asks last (infer constructor_type) (iota_rest w None (Candidate made_from made_type constructor_type)) ≡ erased w a_tree last (at_levels e p b T (Some ks))
+candidate_asked w last e made_from T made_type constructor_type p b ks e_is T_is C_is at many =
     let on : nat_le b.ctor.parameters (length (args T)) ≡ true = grind (arith, nat_tests) in
     let made : Tree = apply (const b.name ks) (take b.ctor.parameters (args T)) in
-    ap (λ t. asks last (infer C) (iota_rest w None (Candidate t T2 C))) e_is
-    ∙ ap (λ t. asks last (infer C) (iota_rest w None (Candidate e t C))) T_is
+    ap (λ t. asks last (infer constructor_type) (iota_rest w None (Candidate t made_type constructor_type))) e_is
+    ∙ ap (λ t. asks last (infer constructor_type) (iota_rest w None (Candidate e t constructor_type))) T_is
     ∙ ap (λ t. asks last (infer t) (iota_rest w None (Candidate e T t))) C_is
     ∙ ap (λ o. asks last (infer made) (with_tree (λ D. erased w a_tree None (ask (same T D) (λ equal. compared_rest e o made equal))))) at
     ∙ sym (ap (λ (t : Bool). erased w a_tree last ((if t then (do

@@ -23,7 +23,7 @@ use Rattle.lk_env.specs.declared.unit.Recursor.{Recursor}
 use Rattle.lk_env.specs.declared.unit.Unit.{Unit as StoredUnit}
 use Rattle.lk_env.specs.Units.{rule_at, IsRuleIn}
 use Rattle.lk_ask.specs.Constants.{IsAtLevels}
-use Rattle.lk_ask.specs.Members.{recursor_in, plain_recursor}
+use Rattle.lk_ask.specs.Members.{recursor_in, given_recursor}
 use Rattle.lk_iota.specs.declared.major.Redex.{Redex}
 use Rattle.lk_iota.specs.declared.shape.Shape.{Shape}
 use Rattle.lk_iota.specs.Redexes.{PlainRedex, IsKnownRedex, IsRedex}
@@ -37,11 +37,11 @@ pub rule_passed : (c : Contents) (rest more : List RecursorRule) (rule : Recurso
 rule_passed c rest more rule x p n b one is off =
     ap (λ rs. fitting_rule (map (rule_at c) rs) x p n) one ∙ ap (λ (t : Bool). if t then Some (rule_at c rule) else fitting_rule (map (rule_at c) more) x p n) (sym is ∙ off)
 
--- the rules of a recursor
-pub rules_are : (base : Contents) (k : Kind) (r : PlainRecursor) (u : Recursor) → recursor_in k ≡ Some (plain_recursor base u) → k ≡ a_rec r → r.rules ≡ map (rule_at base) u.rules.items
-rules_are base k r u h kind =
-    let both : Some r ≡ Some (plain_recursor base u) = sym (ap recursor_in kind) ∙ h in
-    let one : r ≡ plain_recursor base u = cc in
+-- the rules of a recursor that are given
+pub rules_are : (base : Contents) (k : Kind) (r : PlainRecursor) (u : Recursor) (rules : List RecursorRule) → recursor_in k ≡ Some (given_recursor base u rules) → k ≡ a_rec r → r.rules ≡ map (rule_at base) rules
+rules_are base k r u rules h kind =
+    let both : Some r ≡ Some (given_recursor base u rules) = sym (ap recursor_in kind) ∙ h in
+    let one : r ≡ given_recursor base u rules = cc in
     ap (λ (q : PlainRecursor). q.rules) one
 
 pub no_rules : (k : Kind) (r : PlainRecursor) → recursor_in k ≡ None → k ≡ a_rec r → ⊥

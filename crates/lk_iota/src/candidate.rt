@@ -123,9 +123,9 @@ pub(crate) fn after_type<T: Terms>(
     ensures keeps { Extends (T.contents terms.old) (T.contents terms.new) }
     ensures rest { T.rest terms.new ≡ T.rest terms.old }
     ensures known { IfOk result (IsKnownNext IsKnownIota (length (T.contents terms.new).trees)) }
-    ensures steps { (last : Option ℕ) (p : PlainRedex) → redex_at (place_at library.now site.now.unit) (tree_at (T.contents terms.old) e) ≡ Some p → IsRedex (T.contents terms.old) library.now redex.now p
-        → IfOk result (λ next. iota_next (place_at library.now site.now.unit) (tree_at (T.contents terms.new)) last next
-        ≡ erased (place_at library.now site.now.unit) a_tree last (by_type_if (tree_at (T.contents terms.old) e) p (tree_at (T.contents terms.old) kind) (only_at (place_at library.now site.now.unit) p.recursor.rules))) }
+    ensures steps { (last : Option ℕ) (p : PlainRedex) → redex_at (place_at library.now site.now) (tree_at (T.contents terms.old) e) ≡ Some p → IsRedex (T.contents terms.old) library.now redex.now p
+        → IfOk result (λ next. iota_next (place_at library.now site.now) (tree_at (T.contents terms.new)) last next
+        ≡ erased (place_at library.now site.now) a_tree last (by_type_if (tree_at (T.contents terms.old) e) p (tree_at (T.contents terms.old) kind) (only_at (place_at library.now site.now) p.recursor.rules))) }
 {
     match only_again(library, site, terms, rules_of(library, redex.entry)) {
         Some(shape) => by_type(alloc, terms, redex, shape, e, kind),

@@ -48,8 +48,8 @@ fn with_k<T: Terms>(
     requires e_in { e < length (T.contents terms.now).trees }
     ensures left { meter.new.left ≡ meter.old.left }
     ensures known { IsKnownNext IsKnownIota (length (T.contents terms.now).trees) result }
-    ensures steps { (p : PlainRedex) → redex_at (place_at library.now site.now.unit) (tree_at (T.contents terms.now) e) ≡ Some p → IsRedex (T.contents terms.now) library.now redex.now p
-        → iota_next (place_at library.now site.now.unit) (tree_at (T.contents terms.now)) meter.new.last result ≡ erased (place_at library.now site.now.unit) a_tree meter.old.last (plain_with_k (tree_at (T.contents terms.now) e) p) }
+    ensures steps { (p : PlainRedex) → redex_at (place_at library.now site.now) (tree_at (T.contents terms.now) e) ≡ Some p → IsRedex (T.contents terms.now) library.now redex.now p
+        → iota_next (place_at library.now site.now) (tree_at (T.contents terms.now)) meter.new.last result ≡ erased (place_at library.now site.now) a_tree meter.old.last (plain_with_k (tree_at (T.contents terms.now) e) p) }
 {
     let found = match only(library, site, terms, meter, rules_of(library, redex.entry)) {
         Ok(found) => found,
@@ -78,8 +78,8 @@ fn first<T: Terms>(
     requires e_in { e < length (T.contents terms.now).trees }
     ensures left { meter.new.left ≡ meter.old.left }
     ensures known { IsKnownNext IsKnownIota (length (T.contents terms.now).trees) result }
-    ensures steps { (p : PlainRedex) → redex_at (place_at library.now site.now.unit) (tree_at (T.contents terms.now) e) ≡ Some p → IsRedex (T.contents terms.now) library.now redex.now p
-        → iota_next (place_at library.now site.now.unit) (tree_at (T.contents terms.now)) meter.new.last result ≡ erased (place_at library.now site.now.unit) a_tree meter.old.last (of_redex (tree_at (T.contents terms.now) e) p) }
+    ensures steps { (p : PlainRedex) → redex_at (place_at library.now site.now) (tree_at (T.contents terms.now) e) ≡ Some p → IsRedex (T.contents terms.now) library.now redex.now p
+        → iota_next (place_at library.now site.now) (tree_at (T.contents terms.now)) meter.new.last result ≡ erased (place_at library.now site.now) a_tree meter.old.last (of_redex (tree_at (T.contents terms.now) e) p) }
 {
     if redex.k {
         with_k(library, site, terms, meter, redex, e)
@@ -106,9 +106,9 @@ pub fn begin<T: Terms>(
     ensures left { meter.new.left ≡ meter.old.left }
     ensures known { IfOk result (IsKnownNext IsKnownIota (length (T.contents terms.now).trees)) }
     ensures steps { IfOk result (λ next. (g : PlainEntry) → plain_entry (contents_of library.now.0) library.now.1 entry ≡ Some g
-        → redex_at (place_at library.now site.now.unit) (tree_at (T.contents terms.now) e) ≡ plain_by (list_at (T.contents terms.now) levels) (args_of (tree_at (T.contents terms.now) e)) g g.kind
-        → iota_next (place_at library.now site.now.unit) (tree_at (T.contents terms.now)) meter.new.last next
-        ≡ erased (place_at library.now site.now.unit) a_tree meter.old.last (core_constant_built (tree_at (T.contents terms.now) e) (list_at (T.contents terms.now) levels) (args_of (tree_at (T.contents terms.now) e)) g g.kind)) }
+        → redex_at (place_at library.now site.now) (tree_at (T.contents terms.now) e) ≡ plain_by (list_at (T.contents terms.now) levels) (args_of (tree_at (T.contents terms.now) e)) g g.kind
+        → iota_next (place_at library.now site.now) (tree_at (T.contents terms.now)) meter.new.last next
+        ≡ erased (place_at library.now site.now) a_tree meter.old.last (core_constant_built (tree_at (T.contents terms.now) e) (list_at (T.contents terms.now) levels) (args_of (tree_at (T.contents terms.now) e)) g g.kind)) }
 {
     match redex_by(alloc, library, terms, entry, levels, e)? {
         Some(redex) => Ok(first(library, site, terms, meter, &redex, e)),
@@ -131,8 +131,8 @@ fn type_again<T: Terms>(
     ensures keeps { Extends (T.contents terms.old) (T.contents terms.new) }
     ensures rest { T.rest terms.new ≡ T.rest terms.old }
     ensures known { IfOk result (IsKnownNext IsKnownIota (length (T.contents terms.new).trees)) }
-    ensures steps { (last : Option ℕ) → IfOk result (λ next. iota_next (place_at library.now site.now.unit) (tree_at (T.contents terms.new)) last next
-        ≡ erased (place_at library.now site.now.unit) a_tree last (type_rest (place_at library.now site.now.unit) (tree_at (T.contents terms.old) e) (redex_at (place_at library.now site.now.unit) (tree_at (T.contents terms.old) e)) (tree_at (T.contents terms.old) kind))) }
+    ensures steps { (last : Option ℕ) → IfOk result (λ next. iota_next (place_at library.now site.now) (tree_at (T.contents terms.new)) last next
+        ≡ erased (place_at library.now site.now) a_tree last (type_rest (place_at library.now site.now) (tree_at (T.contents terms.old) e) (redex_at (place_at library.now site.now) (tree_at (T.contents terms.old) e)) (tree_at (T.contents terms.old) kind))) }
 {
     match redex_again(alloc, library, site, terms, e)? {
         Some(redex) => after_type(alloc, library, site, terms, &redex, e, kind),
@@ -160,9 +160,9 @@ fn compared<T: Terms>(
     ensures rest { T.rest terms.new ≡ T.rest terms.old }
     ensures left { meter.new.left ≡ meter.old.left }
     ensures known { IfOk result (IsKnownNext IsKnownIota (length (T.contents terms.new).trees)) }
-    ensures steps { (p : PlainRedex) → redex_at (place_at library.now site.now.unit) (tree_at (T.contents terms.old) e) ≡ Some p → IsRedex (T.contents terms.old) library.now redex.now p
-        → IfOk result (λ next. iota_next (place_at library.now site.now.unit) (tree_at (T.contents terms.new)) meter.new.last next
-        ≡ erased (place_at library.now site.now.unit) a_tree meter.old.last (compared_rest (tree_at (T.contents terms.old) e) (Some p) (tree_at (T.contents terms.old) candidate) equal)) }
+    ensures steps { (p : PlainRedex) → redex_at (place_at library.now site.now) (tree_at (T.contents terms.old) e) ≡ Some p → IsRedex (T.contents terms.old) library.now redex.now p
+        → IfOk result (λ next. iota_next (place_at library.now site.now) (tree_at (T.contents terms.new)) meter.new.last next
+        ≡ erased (place_at library.now site.now) a_tree meter.old.last (compared_rest (tree_at (T.contents terms.old) e) (Some p) (tree_at (T.contents terms.old) candidate) equal)) }
 {
     if equal {
         by_subject(alloc, library, site, terms, meter, redex, e, candidate)
@@ -189,8 +189,8 @@ fn compared_again<T: Terms>(
     ensures rest { T.rest terms.new ≡ T.rest terms.old }
     ensures left { meter.new.left ≡ meter.old.left }
     ensures known { IfOk result (IsKnownNext IsKnownIota (length (T.contents terms.new).trees)) }
-    ensures steps { IfOk result (λ next. iota_next (place_at library.now site.now.unit) (tree_at (T.contents terms.new)) meter.new.last next
-        ≡ erased (place_at library.now site.now.unit) a_tree meter.old.last (compared_rest (tree_at (T.contents terms.old) e) (redex_at (place_at library.now site.now.unit) (tree_at (T.contents terms.old) e)) (tree_at (T.contents terms.old) candidate) equal)) }
+    ensures steps { IfOk result (λ next. iota_next (place_at library.now site.now) (tree_at (T.contents terms.new)) meter.new.last next
+        ≡ erased (place_at library.now site.now) a_tree meter.old.last (compared_rest (tree_at (T.contents terms.old) e) (redex_at (place_at library.now site.now) (tree_at (T.contents terms.old) e)) (tree_at (T.contents terms.old) candidate) equal)) }
 {
     match redex_again(alloc, library, site, terms, e)? {
         Some(redex) => compared(
@@ -217,8 +217,8 @@ fn form_again<T: Terms>(
     ensures rest { T.rest terms.new ≡ T.rest terms.old }
     ensures left { meter.new.left ≡ meter.old.left }
     ensures known { IfOk result (IsKnownNext IsKnownIota (length (T.contents terms.new).trees)) }
-    ensures steps { IfOk result (λ next. iota_next (place_at library.now site.now.unit) (tree_at (T.contents terms.new)) meter.new.last next
-        ≡ erased (place_at library.now site.now.unit) a_tree meter.old.last (form_rest (tree_at (T.contents terms.old) e) (redex_at (place_at library.now site.now.unit) (tree_at (T.contents terms.old) e)) (tree_at (T.contents terms.old) m))) }
+    ensures steps { IfOk result (λ next. iota_next (place_at library.now site.now) (tree_at (T.contents terms.new)) meter.new.last next
+        ≡ erased (place_at library.now site.now) a_tree meter.old.last (form_rest (tree_at (T.contents terms.old) e) (redex_at (place_at library.now site.now) (tree_at (T.contents terms.old) e)) (tree_at (T.contents terms.old) m))) }
 {
     match redex_again(alloc, library, site, terms, e)? {
         Some(redex) => by_form(alloc, library, site, terms, meter, &redex, e, m),
@@ -243,8 +243,8 @@ fn resume_term<T: Terms>(
     ensures rest { T.rest terms.new ≡ T.rest terms.old }
     ensures left { meter.new.left ≡ meter.old.left }
     ensures known { IfOk result (IsKnownNext IsKnownIota (length (T.contents terms.new).trees)) }
-    ensures steps { IfOk result (λ next. iota_next (place_at library.now site.now.unit) (tree_at (T.contents terms.new)) meter.new.last next
-        ≡ iota_rest (place_at library.now site.now.unit) meter.old.last (map_iota (tree_at (T.contents terms.old)) sheet) (a_tree (tree_at (T.contents terms.old) v))) }
+    ensures steps { IfOk result (λ next. iota_next (place_at library.now site.now) (tree_at (T.contents terms.new)) meter.new.last next
+        ≡ iota_rest (place_at library.now site.now) meter.old.last (map_iota (tree_at (T.contents terms.old)) sheet) (a_tree (tree_at (T.contents terms.old) v))) }
 {
     match sheet {
         IotaSheet::Passed => Ok(Next::Done(Answer::Term(v))),
@@ -289,8 +289,8 @@ fn resume_truth<T: Terms>(
     ensures rest { T.rest terms.new ≡ T.rest terms.old }
     ensures left { meter.new.left ≡ meter.old.left }
     ensures known { IfOk result (IsKnownNext IsKnownIota (length (T.contents terms.new).trees)) }
-    ensures steps { IfOk result (λ next. iota_next (place_at library.now site.now.unit) (tree_at (T.contents terms.new)) meter.new.last next
-        ≡ iota_rest (place_at library.now site.now.unit) meter.old.last (map_iota (tree_at (T.contents terms.old)) sheet) (truth equal)) }
+    ensures steps { IfOk result (λ next. iota_next (place_at library.now site.now) (tree_at (T.contents terms.new)) meter.new.last next
+        ≡ iota_rest (place_at library.now site.now) meter.old.last (map_iota (tree_at (T.contents terms.old)) sheet) (truth equal)) }
 {
     match sheet {
         IotaSheet::Passed => Ok(Next::No(Rule::LooseVariable)),
@@ -331,8 +331,8 @@ pub fn resume<T: Terms>(
     ensures rest { T.rest terms.new ≡ T.rest terms.old }
     ensures left { meter.new.left ≡ meter.old.left }
     ensures known { IfOk result (IsKnownNext IsKnownIota (length (T.contents terms.new).trees)) }
-    ensures steps { IfOk result (λ next. iota_next (place_at library.now site.now.unit) (tree_at (T.contents terms.new)) meter.new.last next
-        ≡ iota_rest (place_at library.now site.now.unit) meter.old.last (map_iota (tree_at (T.contents terms.old)) sheet) (value_at (tree_at (T.contents terms.old)) answer)) }
+    ensures steps { IfOk result (λ next. iota_next (place_at library.now site.now) (tree_at (T.contents terms.new)) meter.new.last next
+        ≡ iota_rest (place_at library.now site.now) meter.old.last (map_iota (tree_at (T.contents terms.old)) sheet) (value_at (tree_at (T.contents terms.old)) answer)) }
 {
     match answer {
         Answer::Term(v) => resume_term(alloc, library, site, terms, meter, sheet, v),

@@ -6,10 +6,11 @@ ghost use Rattle.lk_rulebook.specs.Place.{Entry as PlainEntry, a_rec};
 ghost use Rattle.lk_store.specs.Contents.{Contents, list_at, tree_at, Extends};
 ghost use Rattle.lk_store.specs.Store.{contents_of};
 ghost use Rattle.lk_store.specs.declared.tables.Tables.{Tables};
+ghost use Rattle.lk_env.specs.declared.unit.RecursorRule.{RecursorRule};
 ghost use Rattle.lk_env.specs.declared.unit.Unit.{Unit as StoredUnit};
 ghost use Rattle.lk_env.specs.Entries.{plain_entry};
 ghost use Rattle.lk_env.specs.Places.{place_at};
-ghost use Rattle.lk_ask.specs.Members.{plain_recursor};
+ghost use Rattle.lk_ask.specs.Members.{given_recursor};
 ghost use Rattle.lk_iota.specs.Redexes.{split_at, redex_by as plain_redex_by, redex_at, IsKnownRedex, IsRedexIf};
 
 use lk_ask::members::recursor_of;
@@ -51,8 +52,9 @@ fn counts(parameters: u64, motives: u64, minors: u64, indices: u64) -> (u128, u1
 /// The arguments of a recursor, split at the major premise. There is none where they are too few.
 fn split(entry: Entry, levels: u64, recursor: &Recursor, arguments: Vec<u64>) -> Option<Redex>
     ensures known { (c : Contents) → levels < length c.lists → All (λ x. x < length c.trees) arguments.items → IfSome result (IsKnownRedex c) }
-    ensures is { (c : Contents) (l : Tables × List StoredUnit) (g : PlainEntry) → plain_entry (contents_of l.0) l.1 entry ≡ Some g → g.kind ≡ a_rec (plain_recursor (contents_of l.0) recursor.now)
-        → IsRedexIf c l result (split_at (list_at c levels) g (plain_recursor (contents_of l.0) recursor.now) (map (tree_at c) arguments.items)) }
+    ensures is { (c : Contents) (l : Tables × List StoredUnit) (g : PlainEntry) (rules : List RecursorRule) → plain_entry (contents_of l.0) l.1 entry ≡ Some g
+        → g.kind ≡ a_rec (given_recursor (contents_of l.0) recursor.now rules)
+        → IsRedexIf c l result (split_at (list_at c levels) g (given_recursor (contents_of l.0) recursor.now rules) (map (tree_at c) arguments.items)) }
 {
     let (shared, before) = counts(
         recursor.parameters,
@@ -92,7 +94,7 @@ pub(crate) fn redex_by<T: Terms>(
         → IsRedexIf (T.contents terms.now) library.now u (plain_redex_by (list_at (T.contents terms.now) levels) (args_of (tree_at (T.contents terms.now) e)) g g.kind)) }
 {
     match recursor_of(library, entry) {
-        Some(recursor) => {
+        Some((recursor, _)) => {
             let arguments = args(alloc, terms, e)?;
             Ok(split(entry, levels, recursor, arguments))
         }
@@ -111,7 +113,7 @@ pub(crate) fn redex_again<T: Terms>(
     requires over { Extends (contents_of library.now.0) (T.contents terms.now) }
     requires e_in { e < length (T.contents terms.now).trees }
     ensures known { IfOk result (λ u. IfSome u (IsKnownRedex (T.contents terms.now))) }
-    ensures is { IfOk result (λ u. IsRedexIf (T.contents terms.now) library.now u (redex_at (place_at library.now site.now.unit) (tree_at (T.contents terms.now) e))) }
+    ensures is { IfOk result (λ u. IsRedexIf (T.contents terms.now) library.now u (redex_at (place_at library.now site.now) (tree_at (T.contents terms.now) e))) }
 {
     let front = head(terms, e);
     match terms.view(front) {

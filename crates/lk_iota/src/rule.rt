@@ -74,13 +74,13 @@ fn fitting_rule<T: Terms>(
     None
 }
 
-/// The rules of an entry, where it is a recursor.
+/// The rules that are given of an entry, where it is a recursor.
 pub(crate) fn rules_of(library: &Library, entry: Entry) -> &[RecursorRule]
     ensures known { All (IsRuleIn (contents_of library.now.0)) result.now }
     ensures value { (g : PlainEntry) (r : PlainRecursor) → plain_entry (contents_of library.now.0) library.now.1 entry ≡ Some g → g.kind ≡ a_rec r → r.rules ≡ map (rule_at (contents_of library.now.0)) result.now }
 {
     match recursor_of(library, entry) {
-        Some(recursor) => &recursor.rules,
+        Some((_, rules)) => rules,
         None => &[],
     }
 }

@@ -73,10 +73,10 @@ fn look<T: Terms>(
     requires name_in { name < length (T.contents terms.now).names }
     ensures left { meter.new.left ≡ meter.old.left }
     ensures known { IfOk result (λ u. IfSome u (IsKnownShape (T.contents terms.now))) }
-    ensures found { IfOk result (λ u. (ks : List Level) (xs : List Tree) → IsShapeIf (T.contents terms.now) xs u (ctor_at (place_at library.now site.now.unit) (name_at (T.contents terms.now) name) ks xs)) }
-    ensures goes { IfOk result (λ u. (ks : List Level) (xs : List Tree) (k : Option CtorApp → Program Tree) → erased (place_at library.now site.now.unit) a_tree meter.old.last (name_looked (name_at (T.contents terms.now) name) ks xs k)
-        ≡ erased (place_at library.now site.now.unit) a_tree meter.new.last (k (ctor_at (place_at library.now site.now.unit) (name_at (T.contents terms.now) name) ks xs))) }
-    ensures refused { IfErr result (λ r. (ks : List Level) (xs : List Tree) (k : Option CtorApp → Program Tree) → erased (place_at library.now site.now.unit) a_tree meter.old.last (name_looked (name_at (T.contents terms.now) name) ks xs k) ≡ refuses (rule_no r)) }
+    ensures found { IfOk result (λ u. (ks : List Level) (xs : List Tree) → IsShapeIf (T.contents terms.now) xs u (ctor_at (place_at library.now site.now) (name_at (T.contents terms.now) name) ks xs)) }
+    ensures goes { IfOk result (λ u. (ks : List Level) (xs : List Tree) (k : Option CtorApp → Program Tree) → erased (place_at library.now site.now) a_tree meter.old.last (name_looked (name_at (T.contents terms.now) name) ks xs k)
+        ≡ erased (place_at library.now site.now) a_tree meter.new.last (k (ctor_at (place_at library.now site.now) (name_at (T.contents terms.now) name) ks xs))) }
+    ensures refused { IfErr result (λ r. (ks : List Level) (xs : List Tree) (k : Option CtorApp → Program Tree) → erased (place_at library.now site.now) a_tree meter.old.last (name_looked (name_at (T.contents terms.now) name) ks xs k) ≡ refuses (rule_no r)) }
 {
     let entry = match look_up(library, site, terms, name, meter) {
         Ok(entry) => entry,
@@ -90,7 +90,7 @@ fn again<T: Terms>(library: &Library, site: &Site, terms: &T, name: u64) -> Opti
     requires over { Extends (contents_of library.now.0) (T.contents terms.now) }
     requires name_in { name < length (T.contents terms.now).names }
     ensures known { IfSome result (IsKnownShape (T.contents terms.now)) }
-    ensures found { (ks : List Level) (xs : List Tree) → IsShapeIf (T.contents terms.now) xs result (ctor_at (place_at library.now site.now.unit) (name_at (T.contents terms.now) name) ks xs) }
+    ensures found { (ks : List Level) (xs : List Tree) → IsShapeIf (T.contents terms.now) xs result (ctor_at (place_at library.now site.now) (name_at (T.contents terms.now) name) ks xs) }
 {
     match library.means(site, terms, name) {
         Ok(entry) => shape_by(library, name, entry),
@@ -110,10 +110,10 @@ pub(crate) fn applied<T: Terms>(
     requires e_in { e < length (T.contents terms.now).trees }
     ensures left { meter.new.left ≡ meter.old.left }
     ensures known { IfOk result (λ u. IfSome u (IsKnownShape (T.contents terms.now))) }
-    ensures found { IfOk result (λ u. (xs : List Tree) → IsShapeIf (T.contents terms.now) xs u (app_at (place_at library.now site.now.unit) (head_of (tree_at (T.contents terms.now) e)) xs)) }
-    ensures goes { IfOk result (λ u. (xs : List Tree) (k : Option CtorApp → Program Tree) → erased (place_at library.now site.now.unit) a_tree meter.old.last (app_looked (head_of (tree_at (T.contents terms.now) e)) xs k)
-        ≡ erased (place_at library.now site.now.unit) a_tree meter.new.last (k (app_at (place_at library.now site.now.unit) (head_of (tree_at (T.contents terms.now) e)) xs))) }
-    ensures refused { IfErr result (λ r. (xs : List Tree) (k : Option CtorApp → Program Tree) → erased (place_at library.now site.now.unit) a_tree meter.old.last (app_looked (head_of (tree_at (T.contents terms.now) e)) xs k) ≡ refuses (rule_no r)) }
+    ensures found { IfOk result (λ u. (xs : List Tree) → IsShapeIf (T.contents terms.now) xs u (app_at (place_at library.now site.now) (head_of (tree_at (T.contents terms.now) e)) xs)) }
+    ensures goes { IfOk result (λ u. (xs : List Tree) (k : Option CtorApp → Program Tree) → erased (place_at library.now site.now) a_tree meter.old.last (app_looked (head_of (tree_at (T.contents terms.now) e)) xs k)
+        ≡ erased (place_at library.now site.now) a_tree meter.new.last (k (app_at (place_at library.now site.now) (head_of (tree_at (T.contents terms.now) e)) xs))) }
+    ensures refused { IfErr result (λ r. (xs : List Tree) (k : Option CtorApp → Program Tree) → erased (place_at library.now site.now) a_tree meter.old.last (app_looked (head_of (tree_at (T.contents terms.now) e)) xs k) ≡ refuses (rule_no r)) }
 {
     let front = head(terms, e);
     match terms.view(front) {
@@ -144,10 +144,10 @@ pub(crate) fn only<T: Terms>(
     requires rules_in { All (IsRuleIn (contents_of library.now.0)) rules.now }
     ensures left { meter.new.left ≡ meter.old.left }
     ensures known { IfOk result (λ u. IfSome u (IsKnownShape (T.contents terms.now))) }
-    ensures found { IfOk result (λ u. IsShapeIf (T.contents terms.now) [] u (only_at (place_at library.now site.now.unit) (map (rule_at (contents_of library.now.0)) rules.now))) }
-    ensures goes { IfOk result (λ u. (k : Option CtorApp → Program Tree) → erased (place_at library.now site.now.unit) a_tree meter.old.last (only_looked (map (rule_at (contents_of library.now.0)) rules.now) k)
-        ≡ erased (place_at library.now site.now.unit) a_tree meter.new.last (k (only_at (place_at library.now site.now.unit) (map (rule_at (contents_of library.now.0)) rules.now)))) }
-    ensures refused { IfErr result (λ r. (k : Option CtorApp → Program Tree) → erased (place_at library.now site.now.unit) a_tree meter.old.last (only_looked (map (rule_at (contents_of library.now.0)) rules.now) k) ≡ refuses (rule_no r)) }
+    ensures found { IfOk result (λ u. IsShapeIf (T.contents terms.now) [] u (only_at (place_at library.now site.now) (map (rule_at (contents_of library.now.0)) rules.now))) }
+    ensures goes { IfOk result (λ u. (k : Option CtorApp → Program Tree) → erased (place_at library.now site.now) a_tree meter.old.last (only_looked (map (rule_at (contents_of library.now.0)) rules.now) k)
+        ≡ erased (place_at library.now site.now) a_tree meter.new.last (k (only_at (place_at library.now site.now) (map (rule_at (contents_of library.now.0)) rules.now)))) }
+    ensures refused { IfErr result (λ r. (k : Option CtorApp → Program Tree) → erased (place_at library.now site.now) a_tree meter.old.last (only_looked (map (rule_at (contents_of library.now.0)) rules.now) k) ≡ refuses (rule_no r)) }
 {
     match only_rule(rules) {
         Some(rule) => look(library, site, terms, meter, rule.constructor),
@@ -165,7 +165,7 @@ pub(crate) fn only_again<T: Terms>(
     requires over { Extends (contents_of library.now.0) (T.contents terms.now) }
     requires rules_in { All (IsRuleIn (contents_of library.now.0)) rules.now }
     ensures known { IfSome result (IsKnownShape (T.contents terms.now)) }
-    ensures found { IsShapeIf (T.contents terms.now) [] result (only_at (place_at library.now site.now.unit) (map (rule_at (contents_of library.now.0)) rules.now)) }
+    ensures found { IsShapeIf (T.contents terms.now) [] result (only_at (place_at library.now site.now) (map (rule_at (contents_of library.now.0)) rules.now)) }
 {
     match only_rule(rules) {
         Some(rule) => again(library, site, terms, rule.constructor),

@@ -55,7 +55,7 @@ fn no_constructor<T: Terms>(
     ensures left { meter.new.left ≡ meter.old.left }
     ensures known { IsKnownNext IsKnownIota (length (T.contents terms.now).trees) result }
     ensures steps { (p : PlainRedex) → IsRedex (T.contents terms.now) library.now redex.now p
-        → iota_next (place_at library.now site.now.unit) (tree_at (T.contents terms.now)) meter.new.last result ≡ erased (place_at library.now site.now.unit) a_tree meter.old.last (by_app (tree_at (T.contents terms.now) e) p None) }
+        → iota_next (place_at library.now site.now) (tree_at (T.contents terms.now)) meter.new.last result ≡ erased (place_at library.now site.now) a_tree meter.old.last (by_app (tree_at (T.contents terms.now) e) p None) }
 {
     let found = match only(library, site, terms, meter, rules_of(library, redex.entry)) {
         Ok(found) => found,
@@ -93,8 +93,8 @@ pub(crate) fn by_subject<T: Terms>(
     ensures rest { T.rest terms.new ≡ T.rest terms.old }
     ensures left { meter.new.left ≡ meter.old.left }
     ensures known { IfOk result (IsKnownNext IsKnownIota (length (T.contents terms.new).trees)) }
-    ensures steps { (p : PlainRedex) → IsRedex (T.contents terms.old) library.now redex.now p → IfOk result (λ next. iota_next (place_at library.now site.now.unit) (tree_at (T.contents terms.new)) meter.new.last next
-        ≡ erased (place_at library.now site.now.unit) a_tree meter.old.last (plain_subject (tree_at (T.contents terms.old) e) p (tree_at (T.contents terms.old) m))) }
+    ensures steps { (p : PlainRedex) → IsRedex (T.contents terms.old) library.now redex.now p → IfOk result (λ next. iota_next (place_at library.now site.now) (tree_at (T.contents terms.new)) meter.new.last next
+        ≡ erased (place_at library.now site.now) a_tree meter.old.last (plain_subject (tree_at (T.contents terms.old) e) p (tree_at (T.contents terms.old) m))) }
 {
     let found = match applied(library, site, terms, meter, m) {
         Ok(found) => found,
@@ -125,8 +125,8 @@ pub(crate) fn by_form<T: Terms>(
     ensures rest { T.rest terms.new ≡ T.rest terms.old }
     ensures left { meter.new.left ≡ meter.old.left }
     ensures known { IfOk result (IsKnownNext IsKnownIota (length (T.contents terms.new).trees)) }
-    ensures steps { (p : PlainRedex) → IsRedex (T.contents terms.old) library.now redex.now p → IfOk result (λ next. iota_next (place_at library.now site.now.unit) (tree_at (T.contents terms.new)) meter.new.last next
-        ≡ erased (place_at library.now site.now.unit) a_tree meter.old.last (plain_form (tree_at (T.contents terms.old) e) p (tree_at (T.contents terms.old) m))) }
+    ensures steps { (p : PlainRedex) → IsRedex (T.contents terms.old) library.now redex.now p → IfOk result (λ next. iota_next (place_at library.now site.now) (tree_at (T.contents terms.new)) meter.new.last next
+        ≡ erased (place_at library.now site.now) a_tree meter.old.last (plain_form (tree_at (T.contents terms.old) e) p (tree_at (T.contents terms.old) m))) }
 {
     // A literal that stands for a constructor is not built yet.
     match terms.view(m) {

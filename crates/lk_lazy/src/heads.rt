@@ -60,7 +60,8 @@ fn unfolding_by(name: u64, levels: u64, entry: Entry) -> Option<Unfolding>
             }),
             Body::Axiom | Body::Opaque { .. } | Body::Quotient => None,
         },
-        Kind::Type(_) | Kind::Constructor { .. } | Kind::Recursor(_) => None,
+        Kind::Type(_) | Kind::Constructor { .. } | Kind::Recursor(_) | Kind::BareRecursor(_) =>
+            None,
     }
 }
 
@@ -75,10 +76,10 @@ pub(crate) fn unfolding_of<T: Terms>(
     requires over { Extends (contents_of library.now.0) (T.contents terms.now) }
     requires e_in { e < length (T.contents terms.now).trees }
     ensures left { meter.new.left ≡ meter.old.left }
-    ensures found { IfOk result (λ u. IsUnfoldingIf (T.contents terms.now) library.now u (unfolding_at (place_at library.now site.now.unit) (head_of (tree_at (T.contents terms.now) e)))) }
-    ensures goes { IfOk result (λ u. (k : Option PlainUnfolding → Program Bool) → erased (place_at library.now site.now.unit) truth meter.old.last (looked_up (head_of (tree_at (T.contents terms.now) e)) k)
-        ≡ erased (place_at library.now site.now.unit) truth meter.new.last (k (unfolding_at (place_at library.now site.now.unit) (head_of (tree_at (T.contents terms.now) e))))) }
-    ensures refused { IfErr result (λ r. (k : Option PlainUnfolding → Program Bool) → erased (place_at library.now site.now.unit) truth meter.old.last (looked_up (head_of (tree_at (T.contents terms.now) e)) k) ≡ refuses (rule_no r)) }
+    ensures found { IfOk result (λ u. IsUnfoldingIf (T.contents terms.now) library.now u (unfolding_at (place_at library.now site.now) (head_of (tree_at (T.contents terms.now) e)))) }
+    ensures goes { IfOk result (λ u. (k : Option PlainUnfolding → Program Bool) → erased (place_at library.now site.now) truth meter.old.last (looked_up (head_of (tree_at (T.contents terms.now) e)) k)
+        ≡ erased (place_at library.now site.now) truth meter.new.last (k (unfolding_at (place_at library.now site.now) (head_of (tree_at (T.contents terms.now) e))))) }
+    ensures refused { IfErr result (λ r. (k : Option PlainUnfolding → Program Bool) → erased (place_at library.now site.now) truth meter.old.last (looked_up (head_of (tree_at (T.contents terms.now) e)) k) ≡ refuses (rule_no r)) }
 {
     let front = head(terms, e);
     match terms.view(front) {
@@ -102,7 +103,7 @@ pub(crate) fn unfolding_again<T: Terms>(
 ) -> Option<Unfolding>
     requires over { Extends (contents_of library.now.0) (T.contents terms.now) }
     requires e_in { e < length (T.contents terms.now).trees }
-    ensures { IsUnfoldingIf (T.contents terms.now) library.now result (unfolding_at (place_at library.now site.now.unit) (head_of (tree_at (T.contents terms.now) e))) }
+    ensures { IsUnfoldingIf (T.contents terms.now) library.now result (unfolding_at (place_at library.now site.now) (head_of (tree_at (T.contents terms.now) e))) }
 {
     let front = head(terms, e);
     match terms.view(front) {

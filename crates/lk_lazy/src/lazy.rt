@@ -282,7 +282,7 @@ pub fn begin<T: Terms>(
     ensures rest { T.rest terms.new ≡ T.rest terms.old }
     ensures left { meter.new.left ≡ meter.old.left }
     ensures known { IfOk result (λ r. IfSome r (IsKnownNext IsKnownLazy (length (T.contents terms.new).trees))) }
-    ensures steps { IfOk result (GoesLine (place_at library.now site.now.unit) (tree_at (T.contents terms.new)) meter.old.last meter.new.last
+    ensures steps { IfOk result (GoesLine (place_at library.now site.now) (tree_at (T.contents terms.new)) meter.old.last meter.new.last
         (by_unfolding (tree_at (T.contents terms.old) a) (tree_at (T.contents terms.old) b))) }
 {
     let left = match unfolding_of(library, site, terms, meter, a) {
@@ -311,8 +311,8 @@ fn after_arguments<T: Terms>(
     ensures keeps { Extends (T.contents terms.old) (T.contents terms.new) }
     ensures rest { T.rest terms.new ≡ T.rest terms.old }
     ensures known { IfOk result (IsKnownNext IsKnownLazy (length (T.contents terms.new).trees)) }
-    ensures steps { (last : Option ℕ) → IfOk result (λ next. lazy_next (place_at library.now site.now.unit) (tree_at (T.contents terms.new)) last next
-        ≡ erased (place_at library.now site.now.unit) truth last (unfold_again (place_at library.now site.now.unit) (tree_at (T.contents terms.old) a) (tree_at (T.contents terms.old) b))) }
+    ensures steps { (last : Option ℕ) → IfOk result (λ next. lazy_next (place_at library.now site.now) (tree_at (T.contents terms.new)) last next
+        ≡ erased (place_at library.now site.now) truth last (unfold_again (place_at library.now site.now) (tree_at (T.contents terms.old) a) (tree_at (T.contents terms.old) b))) }
 {
     match unfolding_again(library, site, terms, a) {
         Some(u) => match unfolding_again(library, site, terms, b) {
@@ -337,8 +337,8 @@ pub fn resume<T: Terms>(
     ensures keeps { Extends (T.contents terms.old) (T.contents terms.new) }
     ensures rest { T.rest terms.new ≡ T.rest terms.old }
     ensures known { IfOk result (IsKnownNext IsKnownLazy (length (T.contents terms.new).trees)) }
-    ensures steps { (last : Option ℕ) → IfOk result (λ next. lazy_next (place_at library.now site.now.unit) (tree_at (T.contents terms.new)) last next
-        ≡ lazy_rest (place_at library.now site.now.unit) last (map_lazy (tree_at (T.contents terms.old)) sheet) (truth equal)) }
+    ensures steps { (last : Option ℕ) → IfOk result (λ next. lazy_next (place_at library.now site.now) (tree_at (T.contents terms.new)) last next
+        ≡ lazy_rest (place_at library.now site.now) last (map_lazy (tree_at (T.contents terms.old)) sheet) (truth equal)) }
 {
     match sheet {
         LazySheet::Passed => Ok(Next::Done(Answer::Truth(equal))),

@@ -8,3 +8,4 @@ pub mod Placed
 pub mod Valued
 pub mod Asked
 pub mod Related
+pub mod ZeroWalks

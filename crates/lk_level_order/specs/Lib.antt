@@ -4,3 +4,4 @@ pub mod Compared
 pub mod Gathering
 pub mod Placing
 pub mod Cases
+pub mod Zeros

@@ -1,3 +1,2 @@
 pub mod Sames
 pub mod Spines
-pub mod Zeros

@@ -55,8 +55,8 @@ pub(crate) fn unfolded<T: Terms>(
     ensures rest { T.rest terms.new ≡ T.rest terms.old }
     ensures left { meter.new.left ≡ meter.old.left }
     ensures known { IfOk result (IsKnownNext IsKnownSame (length (T.contents terms.new).trees)) }
-    ensures steps { IfOk result (λ next. same_next (place_at library.now site.now.unit) (tree_at (T.contents terms.new)) meter.new.last next
-        ≡ erased (place_at library.now site.now.unit) truth meter.old.last (same_unfolded complete_test (tree_at (T.contents terms.old) a) (tree_at (T.contents terms.old) b))) }
+    ensures steps { IfOk result (λ next. same_next (place_at library.now site.now) (tree_at (T.contents terms.new)) meter.new.last next
+        ≡ erased (place_at library.now site.now) truth meter.old.last (same_unfolded complete_test (tree_at (T.contents terms.old) a) (tree_at (T.contents terms.old) b))) }
 {
     match lk_lazy::lazy::begin(alloc, library, site, terms, meter, a, b)? {
         Some(next) => Ok(of_lazy(next)),

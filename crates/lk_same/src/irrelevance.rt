@@ -15,13 +15,13 @@ ghost use Rattle.lk_same.specs.Sames.{level_rest, form_rest, types_rest, proof_r
 
 use crate::headed::unfolded;
 use crate::same::SameNext;
-use crate::zero::is_zero;
 use lk_ask::next::Next;
 use lk_ask::query::{Answer, Query};
 use lk_ask::rule::Rule;
 use lk_ask::sheet::{ProofSheet, SameSheet};
 use lk_env::entry::Site;
 use lk_env::library::Library;
+use lk_level_order::zero::is_zero;
 use lk_meter::meter::Meter;
 use lk_rows::memory::NoMemory;
 use lk_store::node::Node;
@@ -60,8 +60,8 @@ fn by_level<T: Terms>(
     ensures rest { T.rest terms.new ≡ T.rest terms.old }
     ensures left { meter.new.left ≡ meter.old.left }
     ensures known { IfOk result (IsKnownNext IsKnownSame (length (T.contents terms.new).trees)) }
-    ensures steps { IfOk result (λ next. same_next (place_at library.now site.now.unit) (tree_at (T.contents terms.new)) meter.new.last next
-        ≡ erased (place_at library.now site.now.unit) truth meter.old.last (level_rest (tree_at (T.contents terms.old) left) (tree_at (T.contents terms.old) right) (tree_at (T.contents terms.old) kind) (level_at (T.contents terms.old) level))) }
+    ensures steps { IfOk result (λ next. same_next (place_at library.now site.now) (tree_at (T.contents terms.new)) meter.new.last next
+        ≡ erased (place_at library.now site.now) truth meter.old.last (level_rest (tree_at (T.contents terms.old) left) (tree_at (T.contents terms.old) right) (tree_at (T.contents terms.old) kind) (level_at (T.contents terms.old) level))) }
 {
     if is_zero(alloc, terms, level)? {
         return Ok(Next::Ask(
@@ -93,8 +93,8 @@ fn by_form<T: Terms>(
     ensures rest { T.rest terms.new ≡ T.rest terms.old }
     ensures left { meter.new.left ≡ meter.old.left }
     ensures known { IfOk result (IsKnownNext IsKnownSame (length (T.contents terms.new).trees)) }
-    ensures steps { IfOk result (λ next. same_next (place_at library.now site.now.unit) (tree_at (T.contents terms.new)) meter.new.last next
-        ≡ erased (place_at library.now site.now.unit) truth meter.old.last (form_rest (tree_at (T.contents terms.old) left) (tree_at (T.contents terms.old) right) (tree_at (T.contents terms.old) kind) (tree_at (T.contents terms.old) form))) }
+    ensures steps { IfOk result (λ next. same_next (place_at library.now site.now) (tree_at (T.contents terms.new)) meter.new.last next
+        ≡ erased (place_at library.now site.now) truth meter.old.last (form_rest (tree_at (T.contents terms.old) left) (tree_at (T.contents terms.old) right) (tree_at (T.contents terms.old) kind) (tree_at (T.contents terms.old) form))) }
 {
     match terms.view(form) {
         Node::Sort(level) => {
@@ -122,8 +122,8 @@ fn by_types<T: Terms>(
     ensures rest { T.rest terms.new ≡ T.rest terms.old }
     ensures left { meter.new.left ≡ meter.old.left }
     ensures known { IfOk result (IsKnownNext IsKnownSame (length (T.contents terms.new).trees)) }
-    ensures steps { IfOk result (λ next. same_next (place_at library.now site.now.unit) (tree_at (T.contents terms.new)) meter.new.last next
-        ≡ erased (place_at library.now site.now.unit) truth meter.old.last (types_rest (tree_at (T.contents terms.old) left) (tree_at (T.contents terms.old) right) equal)) }
+    ensures steps { IfOk result (λ next. same_next (place_at library.now site.now) (tree_at (T.contents terms.new)) meter.new.last next
+        ≡ erased (place_at library.now site.now) truth meter.old.last (types_rest (tree_at (T.contents terms.old) left) (tree_at (T.contents terms.old) right) equal)) }
 {
     if equal {
         return Ok(Next::Done(Answer::Truth(true)));
@@ -148,8 +148,8 @@ pub(crate) fn resume_term<T: Terms>(
     ensures rest { T.rest terms.new ≡ T.rest terms.old }
     ensures left { meter.new.left ≡ meter.old.left }
     ensures known { IfOk result (IsKnownNext IsKnownSame (length (T.contents terms.new).trees)) }
-    ensures steps { IfOk result (λ next. same_next (place_at library.now site.now.unit) (tree_at (T.contents terms.new)) meter.new.last next
-        ≡ proof_rest (place_at library.now site.now.unit) meter.old.last (map_proof (tree_at (T.contents terms.old)) sheet) (a_tree (tree_at (T.contents terms.old) e))) }
+    ensures steps { IfOk result (λ next. same_next (place_at library.now site.now) (tree_at (T.contents terms.new)) meter.new.last next
+        ≡ proof_rest (place_at library.now site.now) meter.old.last (map_proof (tree_at (T.contents terms.old)) sheet) (a_tree (tree_at (T.contents terms.old) e))) }
 {
     match sheet {
         ProofSheet::Left { left, right } => Ok(Next::Ask(
@@ -191,8 +191,8 @@ pub(crate) fn resume_truth<T: Terms>(
     ensures rest { T.rest terms.new ≡ T.rest terms.old }
     ensures left { meter.new.left ≡ meter.old.left }
     ensures known { IfOk result (IsKnownNext IsKnownSame (length (T.contents terms.new).trees)) }
-    ensures steps { IfOk result (λ next. same_next (place_at library.now site.now.unit) (tree_at (T.contents terms.new)) meter.new.last next
-        ≡ proof_rest (place_at library.now site.now.unit) meter.old.last (map_proof (tree_at (T.contents terms.old)) sheet) (truth equal)) }
+    ensures steps { IfOk result (λ next. same_next (place_at library.now site.now) (tree_at (T.contents terms.new)) meter.new.last next
+        ≡ proof_rest (place_at library.now site.now) meter.old.last (map_proof (tree_at (T.contents terms.old)) sheet) (truth equal)) }
 {
     match sheet {
         ProofSheet::Left { .. } => Ok(Next::No(Rule::LooseVariable)),

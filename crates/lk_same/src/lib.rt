@@ -6,4 +6,3 @@ pub mod irrelevance;
 pub mod parts;
 pub mod same;
 pub mod shape;
-pub mod zero;

@@ -119,8 +119,8 @@ fn after_cores<T: Terms>(
     ensures rest { T.rest terms.new ≡ T.rest terms.old }
     ensures left { meter.new.left ≡ meter.old.left }
     ensures known { IfOk result (IsKnownNext IsKnownSame (length (T.contents terms.new).trees)) }
-    ensures steps { IfOk result (λ next. same_next (place_at library.now site.now.unit) (tree_at (T.contents terms.new)) meter.new.last next
-        ≡ erased (place_at library.now site.now.unit) truth meter.old.last (cores_rest
+    ensures steps { IfOk result (λ next. same_next (place_at library.now site.now) (tree_at (T.contents terms.new)) meter.new.last next
+        ≡ erased (place_at library.now site.now) truth meter.old.last (cores_rest
         (tree_at (T.contents terms.old) left) (tree_at (T.contents terms.old) right) (tree_at (T.contents terms.old) form) (tree_at (T.contents terms.old) e))) }
 {
     if terms.same(form, left) && terms.same(e, right) {
@@ -146,8 +146,8 @@ fn resume_term<T: Terms>(
     ensures rest { T.rest terms.new ≡ T.rest terms.old }
     ensures left { meter.new.left ≡ meter.old.left }
     ensures known { IfOk result (IsKnownNext IsKnownSame (length (T.contents terms.new).trees)) }
-    ensures steps { IfOk result (λ next. same_next (place_at library.now site.now.unit) (tree_at (T.contents terms.new)) meter.new.last next
-        ≡ same_rest (place_at library.now site.now.unit) meter.old.last (map_same (tree_at (T.contents terms.old)) sheet) (a_tree (tree_at (T.contents terms.old) e))) }
+    ensures steps { IfOk result (λ next. same_next (place_at library.now site.now) (tree_at (T.contents terms.new)) meter.new.last next
+        ≡ same_rest (place_at library.now site.now) meter.old.last (map_same (tree_at (T.contents terms.old)) sheet) (a_tree (tree_at (T.contents terms.old) e))) }
 {
     match sheet {
         SameSheet::Passed => Ok(Next::No(Rule::LooseVariable)),
@@ -187,8 +187,8 @@ fn resume_truth<T: Terms>(
     ensures rest { T.rest terms.new ≡ T.rest terms.old }
     ensures left { meter.new.left ≡ meter.old.left }
     ensures known { IfOk result (IsKnownNext IsKnownSame (length (T.contents terms.new).trees)) }
-    ensures steps { IfOk result (λ next. same_next (place_at library.now site.now.unit) (tree_at (T.contents terms.new)) meter.new.last next
-        ≡ same_rest (place_at library.now site.now.unit) meter.old.last (map_same (tree_at (T.contents terms.old)) sheet) (truth equal)) }
+    ensures steps { IfOk result (λ next. same_next (place_at library.now site.now) (tree_at (T.contents terms.new)) meter.new.last next
+        ≡ same_rest (place_at library.now site.now) meter.old.last (map_same (tree_at (T.contents terms.old)) sheet) (truth equal)) }
 {
     match sheet {
         SameSheet::Passed => Ok(Next::Done(Answer::Truth(equal))),
@@ -228,8 +228,8 @@ pub fn resume<T: Terms>(
     ensures rest { T.rest terms.new ≡ T.rest terms.old }
     ensures left { meter.new.left ≡ meter.old.left }
     ensures known { IfOk result (IsKnownNext IsKnownSame (length (T.contents terms.new).trees)) }
-    ensures steps { IfOk result (λ next. same_next (place_at library.now site.now.unit) (tree_at (T.contents terms.new)) meter.new.last next
-        ≡ same_rest (place_at library.now site.now.unit) meter.old.last (map_same (tree_at (T.contents terms.old)) sheet) (value_at (tree_at (T.contents terms.old)) answer)) }
+    ensures steps { IfOk result (λ next. same_next (place_at library.now site.now) (tree_at (T.contents terms.new)) meter.new.last next
+        ≡ same_rest (place_at library.now site.now) meter.old.last (map_same (tree_at (T.contents terms.old)) sheet) (value_at (tree_at (T.contents terms.old)) answer)) }
 {
     match answer {
         Answer::Term(e) => resume_term(alloc, library, site, terms, meter, sheet, e),

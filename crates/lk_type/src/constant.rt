@@ -40,8 +40,8 @@ pub(crate) fn constant_type<T: Terms>(
     ensures rest { T.rest terms.new ≡ T.rest terms.old }
     ensures left { meter.new.left ≡ meter.old.left }
     ensures known { IfOk result (IsKnownNext IsKnownType (length (T.contents terms.new).trees)) }
-    ensures steps { IfOk result (λ next. type_next (place_at library.now site.now.unit) (tree_at (T.contents terms.new)) meter.new.last next
-        ≡ erased (place_at library.now site.now.unit) a_tree meter.old.last (infer_row (const (name_at (T.contents terms.old) name) (list_at (T.contents terms.old) levels)))) }
+    ensures steps { IfOk result (λ next. type_next (place_at library.now site.now) (tree_at (T.contents terms.new)) meter.new.last next
+        ≡ erased (place_at library.now site.now) a_tree meter.old.last (infer_row (const (name_at (T.contents terms.old) name) (list_at (T.contents terms.old) levels)))) }
 {
     let entry = match look_up(library, site, terms, name, meter) {
         Ok(entry) => entry,

@@ -48,8 +48,8 @@ pub fn begin<T: Terms>(
     ensures rest { T.rest terms.new ≡ T.rest terms.old }
     ensures left { meter.new.left ≡ meter.old.left }
     ensures known { IfOk result (IsKnownNext IsKnownType (length (T.contents terms.new).trees)) }
-    ensures steps { IfOk result (λ next. type_next (place_at library.now site.now.unit) (tree_at (T.contents terms.new)) meter.new.last next
-        ≡ erased (place_at library.now site.now.unit) a_tree meter.old.last (infer_row (tree_at (T.contents terms.old) e))) }
+    ensures steps { IfOk result (λ next. type_next (place_at library.now site.now) (tree_at (T.contents terms.new)) meter.new.last next
+        ≡ erased (place_at library.now site.now) a_tree meter.old.last (infer_row (tree_at (T.contents terms.old) e))) }
 {
     match terms.view(e) {
         Node::Var(_) => Ok(Next::No(Rule::LooseVariable)),

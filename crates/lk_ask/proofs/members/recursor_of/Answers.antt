@@ -1,14 +1,14 @@
 use Rattle.std.proofs.Common.{◌≡◌}
-use Rattle.std.specs.Prelude.{option_map, option_copied}
+use Rattle.std.specs.Prelude.{option_map}
 use Rattle.lk_rulebook.specs.Place.{Entry as PlainEntry}
 use Rattle.lk_store.specs.Store.{contents_of}
 use Rattle.lk_env.specs.Entries.{plain_entry}
-use Rattle.lk_ask.specs.Members.{recursor_in, plain_recursor}
+use Rattle.lk_ask.specs.Members.{recursor_in, given_recursor}
 use Rattle.lk_ask.proofs.Lent.{of_some}
 use Rattle.lk_ask.proofs.members.recursor_of.Goals as goal
 
 pub returns-clause-value : goal.returns-clause-value
 returns-clause-value c g h =
     let base = contents_of c.args.library.now.0 in
-    of_some (λ (y : PlainEntry). recursor_in y.kind ≡ option_map (plain_recursor base) (option_copied c.recursor_among.result)) (plain_entry base c.args.library.now.1 c.args.entry) g
+    of_some (λ (y : PlainEntry). recursor_in y.kind ≡ option_map (λ p. given_recursor base p.0.now p.1.now) c.recursor_among.result) (plain_entry base c.args.library.now.1 c.args.entry) g
     (rw (← c.units.ensures.value) (c.recursor_among.ensures.value base)) h

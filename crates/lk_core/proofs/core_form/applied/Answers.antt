@@ -17,7 +17,7 @@ returns-in-Const-clause-steps g c =
     let e = tree_at t c.args.e in
     let ls = list_at t c.in-Const.levels in
     let x = name_at t c.in-Const.name in
-    let w = place_at c.args.library.now c.args.site.now.unit in
+    let w = place_at c.args.library.now c.args.site.now in
     let last = c.constant_applied.new.meter.last in
     let before = c.args.meter.now.last in
     if_ok (λ next. const x ls ≡ head e → core_next w (tree_at t) last next ≡ erased w a_tree before (built_applied e (const x ls) (args e)))
@@ -28,7 +28,7 @@ returns-in-Const-clause-steps g c =
 pub returns-in-Lam-clause-steps : goal.returns-in-Lam-clause-steps
 returns-in-Lam-clause-steps g c =
     let t = g.T.Terms.contents c.args.terms.now in
-    let w = place_at c.args.library.now c.args.site.now.unit in
+    let w = place_at c.args.library.now c.args.site.now in
     let last = c.args.meter.now.last in
     lambda_applied_is (λ p. IfOk c.lambda_applied.result (λ next. core_next w (tree_at (g.T.Terms.contents c.lambda_applied.new.terms)) last next ≡ erased w a_tree last p))
     (tree_at t c.args.e) (tree_at t c.head-front.result) _ _ c.in-Lam.ensures.tree c.head-front.ensures.is (c.lambda_applied.ensures.steps w last)

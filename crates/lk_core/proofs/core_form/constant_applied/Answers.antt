@@ -25,7 +25,7 @@ returns-clause-known g c = c.of_iota.ensures.known _ c.in_ok-next.ensures.known
 pub returns-clause-steps : goal.returns-clause-steps
 returns-clause-steps g c is =
     let t = g.T.Terms.contents c.args.terms.now in
-    let w = place_at c.args.library.now c.args.site.now.unit in
+    let w = place_at c.args.library.now c.args.site.now in
     let h = c.in-Ok.ensures.found in
     let built : is_built_kind h.entry.kind ≡ true = sym (c.is_built.ensures (contents_of c.args.library.now.0) c.args.library.now.1 c.in-Ok.entry h.entry refl h.is) ∙ c.if-not-is_built.false in
     c.of_iota.ensures.steps w (tree_at t) c.begin.new.meter.last

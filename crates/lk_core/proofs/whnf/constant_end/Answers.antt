@@ -23,7 +23,7 @@ returns-then-not-is_built-clause-steps g c =
 pub returns-clause-steps : goal.returns-clause-steps
 returns-clause-steps g c =
     let t = g.T.Terms.contents c.args.terms.now in
-    let w = place_at c.args.library.now c.args.site.now.unit in
+    let w = place_at c.args.library.now c.args.site.now in
     let last = c.look_up.new.meter.last in
     let x = name_at t c.args.name in
     let h = c.in-Ok.ensures.found in

@@ -12,6 +12,7 @@ work-init g c = record {
   grown = c.first_step.ensures.keeps;
   rest = c.first_step.ensures.rest;
   entries = entries_steady c.first_step.ensures.keeps _ _ c.requires.entries;
+  unkept = λ p e h. h;
   linked =
       let none : c.new-stack.result.items ≡ [] = search rules in
       rw none (linked_begins _ _ _ c.first_step.ensures.keeps c.requires.query_in c.in-Ok.ensures.known c.in-Ok.ensures.next);
@@ -25,6 +26,7 @@ work-preserved-in-Ask g c = record {
   grown = Extends-trans _ _ _ c.work.invariant.grown c.«open».ensures.keeps;
   rest = c.«open».ensures.rest ∙ c.work.invariant.rest;
   entries = c.«open».ensures.entries;
+  unkept = λ p e h. c.work.invariant.unkept p e (c.«open».ensures.unkept e h);
   linked = linked_asks c.work.invariant.linked c.in-Ask.is (search rules) c.«open».ensures.keeps c.in-Ok-open.ensures.known c.in-Ok-open.ensures.next;
 }
 
@@ -32,13 +34,13 @@ pub overflow_sub-cost : goal.overflow_sub-cost
 overflow_sub-cost g c = linked_left c.work.invariant.linked c.in-Done.is
 
 pub returns-in-None-clause-entries : goal.returns-in-None-clause-entries
-returns-in-None-clause-entries g c = entries_more _ _ _ _ _ _ c.work.invariant.entries c.keep.ensures (linked_true c.work.invariant.linked c.in-Done.is)
+returns-in-None-clause-entries g c = entries_more _ _ _ _ _ _ c.work.invariant.entries c.keep.ensures.entries (linked_true c.work.invariant.linked c.in-Done.is)
 
 pub resume-requires-clause-sheet_in : goal.resume-requires-clause-sheet_in
 resume-requires-clause-sheet_in g c = (top_known c.work.invariant.linked c.pop.new.self.items c.in-Some.frame (search rules)).sheet
 
 pub returns-in_err-next-in-Some-clause-entries : goal.returns-in_err-next-in-Some-clause-entries
-returns-in_err-next-in-Some-clause-entries g c = entries_steady c.resume.ensures.keeps _ _ (entries_more _ _ _ _ _ _ c.work.invariant.entries c.keep.ensures (linked_true c.work.invariant.linked c.in-Done.is))
+returns-in_err-next-in-Some-clause-entries g c = entries_steady c.resume.ensures.keeps _ _ (entries_more _ _ _ _ _ _ c.work.invariant.entries c.keep.ensures.entries (linked_true c.work.invariant.linked c.in-Done.is))
 
 pub work-preserved : goal.work-preserved
 work-preserved g c =
@@ -47,7 +49,8 @@ work-preserved g c =
     record {
       grown = Extends-trans _ _ _ c.work.invariant.grown c.resume.ensures.keeps;
       rest = c.resume.ensures.rest ∙ c.work.invariant.rest;
-      entries = entries_steady c.resume.ensures.keeps _ _ (entries_more _ _ _ _ _ _ c.work.invariant.entries c.keep.ensures (linked_true c.work.invariant.linked c.in-Done.is));
+      entries = entries_steady c.resume.ensures.keeps _ _ (entries_more _ _ _ _ _ _ c.work.invariant.entries c.keep.ensures.entries (linked_true c.work.invariant.linked c.in-Done.is));
+      unkept = λ p e h. c.work.invariant.unkept p e (c.keep.ensures.unkept p e h);
       linked = rw kept resumed;
     }
 

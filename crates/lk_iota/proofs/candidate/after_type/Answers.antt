@@ -14,7 +14,7 @@ pub returns-in-Some-clause-steps : goal.returns-in-Some-clause-steps
 returns-in-Some-clause-steps g c last p at is =
     let base = contents_of c.args.library.now.0 in
     let d = g.T.Terms.contents c.args.terms.now in
-    let w = place_at c.args.library.now c.args.site.now.unit in
+    let w = place_at c.args.library.now c.args.site.now in
     let e = tree_at d c.args.e in
     let T = tree_at d c.args.kind in
     let rs = map (rule_at base) c.rules_of.result.now in

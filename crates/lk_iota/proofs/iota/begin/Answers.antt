@@ -11,7 +11,7 @@ use Rattle.lk_iota.proofs.iota.begin.Goals as goal
 pub returns-in-Some-clause-steps : goal.returns-in-Some-clause-steps
 returns-in-Some-clause-steps g c p h at =
     let d = g.T.Terms.contents c.args.terms.now in
-    let w = place_at c.args.library.now c.args.site.now.unit in
+    let w = place_at c.args.library.now c.args.site.now in
     let e = tree_at d c.args.e in
     let ls = list_at d c.args.levels in
     let before = c.args.meter.now.last in
@@ -22,7 +22,7 @@ returns-in-Some-clause-steps g c p h at =
 pub returns-in-None-clause-steps : goal.returns-in-None-clause-steps
 returns-in-None-clause-steps g c p h at =
     let d = g.T.Terms.contents c.args.terms.now in
-    let w = place_at c.args.library.now c.args.site.now.unit in
+    let w = place_at c.args.library.now c.args.site.now in
     let e = tree_at d c.args.e in
     let ls = list_at d c.args.levels in
     let before = c.args.meter.now.last in

@@ -11,7 +11,7 @@ use Rattle.lk_iota.proofs.iota.form_again.Goals as goal
 pub returns-in-Some-clause-steps : goal.returns-in-Some-clause-steps
 returns-in-Some-clause-steps g c =
     let d = g.T.Terms.contents c.args.terms.now in
-    let w = place_at c.args.library.now c.args.site.now.unit in
+    let w = place_at c.args.library.now c.args.site.now in
     let e = tree_at d c.args.e in
     let m = tree_at d c.args.m in
     let r = some_redex d c.args.library.now c.in-Some.redex (redex_at w e) (rw c.in-Some.is at c.in_ok-redex.ensures.is) in
@@ -21,7 +21,7 @@ returns-in-Some-clause-steps g c =
 pub returns-in-None-clause-steps : goal.returns-in-None-clause-steps
 returns-in-None-clause-steps g c =
     let d = g.T.Terms.contents c.args.terms.now in
-    let w = place_at c.args.library.now c.args.site.now.unit in
+    let w = place_at c.args.library.now c.args.site.now in
     let e = tree_at d c.args.e in
     let m = tree_at d c.args.m in
     let none = none_redex d c.args.library.now (redex_at w e) (rw c.in-None.is at c.in_ok-redex.ensures.is) in

@@ -11,7 +11,7 @@ use Rattle.lk_iota.proofs.iota.with_k.Goals as goal
 pub returns-in-Err-clause-steps : goal.returns-in-Err-clause-steps
 returns-in-Err-clause-steps g c p at is =
     let d = g.T.Terms.contents c.args.terms.now in
-    let w = place_at c.args.library.now c.args.site.now.unit in
+    let w = place_at c.args.library.now c.args.site.now in
     let e = tree_at d c.args.e in
     let rs = map (rule_at (contents_of c.args.library.now.0)) c.rules_of.result.now in
     k_refused w e p rs (c.rules_of.ensures.value p.entry p.recursor is.entry_is is.kind_is) c.args.meter.now.last (rule_no c.in-Err.rule) c.in-Err.ensures.refused
@@ -19,7 +19,7 @@ returns-in-Err-clause-steps g c p at is =
 pub returns-in-Some-clause-steps : goal.returns-in-Some-clause-steps
 returns-in-Some-clause-steps g c p at is =
     let d = g.T.Terms.contents c.args.terms.now in
-    let w = place_at c.args.library.now c.args.site.now.unit in
+    let w = place_at c.args.library.now c.args.site.now in
     let e = tree_at d c.args.e in
     let rs = map (rule_at (contents_of c.args.library.now.0)) c.rules_of.result.now in
     let b = some_shape d [] c.in-Some.field-0 (only_at w rs) (rw c.in-Some.is at c.in-Ok.ensures.found) in
@@ -31,7 +31,7 @@ returns-in-None-clause-known g c = c.ask_major.ensures.known _ c.requires.redex_
 pub returns-in-None-clause-steps : goal.returns-in-None-clause-steps
 returns-in-None-clause-steps g c p at is =
     let d = g.T.Terms.contents c.args.terms.now in
-    let w = place_at c.args.library.now c.args.site.now.unit in
+    let w = place_at c.args.library.now c.args.site.now in
     let e = tree_at d c.args.e in
     let last = c.only.new.meter.last in
     let rs = map (rule_at (contents_of c.args.library.now.0)) c.rules_of.result.now in

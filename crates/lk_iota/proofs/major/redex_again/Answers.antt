@@ -14,7 +14,7 @@ pub returns-in-Ok-clause-is : goal.returns-in-Ok-clause-is
 returns-in-Ok-clause-is g c =
     let d = g.T.Terms.contents c.args.terms.now in
     let l = c.args.library.now in
-    let w = place_at l c.args.site.now.unit in
+    let w = place_at l c.args.site.now in
     let x = name_at d c.in-Const.name in
     let ls = list_at d c.in-Const.levels in
     let e = tree_at d c.args.e in

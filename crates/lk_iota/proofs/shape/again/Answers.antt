@@ -9,7 +9,7 @@ pub returns-in-Ok-clause-found : goal.returns-in-Ok-clause-found
 returns-in-Ok-clause-found g c ks xs =
     let d = g.T.Terms.contents c.args.terms.now in
     let l = c.args.library.now in
-    let w = place_at l c.args.site.now.unit in
+    let w = place_at l c.args.site.now in
     let x = name_at d c.args.name in
     let h = found_is l w x None (Some c.in-Ok.entry.unit) c.in-Ok.entry c.in-Ok.ensures.answer refl in
     shape_named d w c.shape_by.result x ks xs h.entry h.means (c.shape_by.ensures.is d h.entry ks xs c.requires.over h.is)

@@ -15,7 +15,7 @@ use Rattle.lk_iota.proofs.shape.applied.Goals as goal
 pub returns-in-Const-clause-found : goal.returns-in-Const-clause-found
 returns-in-Const-clause-found g c =
     let d = g.T.Terms.contents c.args.terms.now in
-    let w = place_at c.args.library.now c.args.site.now.unit in
+    let w = place_at c.args.library.now c.args.site.now in
     let x = name_at d c.in-Const.name in
     let ks = list_at d c.in-Const.field-1 in
     let h = head (tree_at d c.args.e) in
@@ -25,7 +25,7 @@ returns-in-Const-clause-found g c =
 pub returns-in-Const-clause-goes : goal.returns-in-Const-clause-goes
 returns-in-Const-clause-goes g c =
     let d = g.T.Terms.contents c.args.terms.now in
-    let w = place_at c.args.library.now c.args.site.now.unit in
+    let w = place_at c.args.library.now c.args.site.now in
     let x = name_at d c.in-Const.name in
     let ks = list_at d c.in-Const.field-1 in
     let h = head (tree_at d c.args.e) in
@@ -38,7 +38,7 @@ returns-in-Const-clause-goes g c =
 pub returns-in-Const-clause-refused : goal.returns-in-Const-clause-refused
 returns-in-Const-clause-refused g c =
     let d = g.T.Terms.contents c.args.terms.now in
-    let w = place_at c.args.library.now c.args.site.now.unit in
+    let w = place_at c.args.library.now c.args.site.now in
     let x = name_at d c.in-Const.name in
     let ks = list_at d c.in-Const.field-1 in
     let h = head (tree_at d c.args.e) in

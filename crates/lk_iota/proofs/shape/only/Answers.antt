@@ -17,7 +17,7 @@ pub returns-in-Some-clause-found : goal.returns-in-Some-clause-found
 returns-in-Some-clause-found g c =
     let base = contents_of c.args.library.now.0 in
     let d = g.T.Terms.contents c.args.terms.now in
-    let w = place_at c.args.library.now c.args.site.now.unit in
+    let w = place_at c.args.library.now c.args.site.now in
     let x = name_at d c.in-Some.rule.constructor in
     let rules = c.args.rules.now in
     if_ok (λ u. (ks : List Level) (xs : List Tree) → IsShapeIf d xs u (ctor_at w x ks xs)) (λ u. IsShapeIf d [] u (only_at w (map (rule_at base) rules))) c.look.result
@@ -27,7 +27,7 @@ pub returns-in-Some-clause-goes : goal.returns-in-Some-clause-goes
 returns-in-Some-clause-goes g c =
     let base = contents_of c.args.library.now.0 in
     let d = g.T.Terms.contents c.args.terms.now in
-    let w = place_at c.args.library.now c.args.site.now.unit in
+    let w = place_at c.args.library.now c.args.site.now in
     let x = name_at d c.in-Some.rule.constructor in
     let rules = c.args.rules.now in
     let before = c.args.meter.now.last in
@@ -40,7 +40,7 @@ pub returns-in-Some-clause-refused : goal.returns-in-Some-clause-refused
 returns-in-Some-clause-refused g c =
     let base = contents_of c.args.library.now.0 in
     let d = g.T.Terms.contents c.args.terms.now in
-    let w = place_at c.args.library.now c.args.site.now.unit in
+    let w = place_at c.args.library.now c.args.site.now in
     let x = name_at d c.in-Some.rule.constructor in
     let rules = c.args.rules.now in
     let before = c.args.meter.now.last in
@@ -51,12 +51,12 @@ returns-in-Some-clause-refused g c =
 pub returns-in-None-clause-found : goal.returns-in-None-clause-found
 returns-in-None-clause-found g c =
     let base = contents_of c.args.library.now.0 in
-    let w = place_at c.args.library.now c.args.site.now.unit in
+    let w = place_at c.args.library.now c.args.site.now in
     subst (IsShapeIf (g.T.Terms.contents c.args.terms.now) [] None) (sym (not_one_at w base c.args.rules.now c.in-None.ensures)) tt
 
 pub returns-in-None-clause-goes : goal.returns-in-None-clause-goes
 returns-in-None-clause-goes g c k =
     let base = contents_of c.args.library.now.0 in
-    let w = place_at c.args.library.now c.args.site.now.unit in
+    let w = place_at c.args.library.now c.args.site.now in
     let last = c.args.meter.now.last in
     ap (erased w a_tree last) (not_one_looked base c.args.rules.now k c.in-None.ensures ∙ ap k (sym (not_one_at w base c.args.rules.now c.in-None.ensures)))

@@ -11,7 +11,7 @@ use Rattle.lk_iota.proofs.subject.by_subject.Goals as goal
 pub returns-in-Some-clause-steps : goal.returns-in-Some-clause-steps
 returns-in-Some-clause-steps g c p is =
     let d = g.T.Terms.contents c.args.terms.now in
-    let w = place_at c.args.library.now c.args.site.now.unit in
+    let w = place_at c.args.library.now c.args.site.now in
     let e = tree_at d c.args.e in
     let m = tree_at d c.args.m in
     let last = c.applied.new.meter.last in
@@ -24,7 +24,7 @@ returns-in-Some-clause-steps g c p is =
 pub returns-in-None-clause-steps : goal.returns-in-None-clause-steps
 returns-in-None-clause-steps g c p is =
     let d = g.T.Terms.contents c.args.terms.now in
-    let w = place_at c.args.library.now c.args.site.now.unit in
+    let w = place_at c.args.library.now c.args.site.now in
     let e = tree_at d c.args.e in
     let m = tree_at d c.args.m in
     let last = c.applied.new.meter.last in

@@ -12,7 +12,7 @@ use Rattle.lk_iota.proofs.subject.no_constructor.Goals as goal
 pub returns-in-Err-clause-steps : goal.returns-in-Err-clause-steps
 returns-in-Err-clause-steps g c p is =
     let d = g.T.Terms.contents c.args.terms.now in
-    let w = place_at c.args.library.now c.args.site.now.unit in
+    let w = place_at c.args.library.now c.args.site.now in
     let e = tree_at d c.args.e in
     let rs = map (rule_at (contents_of c.args.library.now.0)) c.rules_of.result.now in
     none_refused w e p rs (c.rules_of.ensures.value p.entry p.recursor is.entry_is is.kind_is) c.args.meter.now.last (rule_no c.in-Err.rule) (c.in-Err.ensures.refused (by_only e p))
@@ -20,7 +20,7 @@ returns-in-Err-clause-steps g c p is =
 pub returns-then-shape-clause-steps : goal.returns-then-shape-clause-steps
 returns-then-shape-clause-steps g c p is =
     let d = g.T.Terms.contents c.args.terms.now in
-    let w = place_at c.args.library.now c.args.site.now.unit in
+    let w = place_at c.args.library.now c.args.site.now in
     let e = tree_at d c.args.e in
     let last = c.only.new.meter.last in
     let rs = map (rule_at (contents_of c.args.library.now.0)) c.rules_of.result.now in
@@ -31,7 +31,7 @@ returns-then-shape-clause-steps g c p is =
 pub returns-else-shape-clause-steps : goal.returns-else-shape-clause-steps
 returns-else-shape-clause-steps g c p is =
     let d = g.T.Terms.contents c.args.terms.now in
-    let w = place_at c.args.library.now c.args.site.now.unit in
+    let w = place_at c.args.library.now c.args.site.now in
     let e = tree_at d c.args.e in
     let last = c.only.new.meter.last in
     let rs = map (rule_at (contents_of c.args.library.now.0)) c.rules_of.result.now in
@@ -42,7 +42,7 @@ returns-else-shape-clause-steps g c p is =
 pub returns-in-None-clause-steps : goal.returns-in-None-clause-steps
 returns-in-None-clause-steps g c p is =
     let d = g.T.Terms.contents c.args.terms.now in
-    let w = place_at c.args.library.now c.args.site.now.unit in
+    let w = place_at c.args.library.now c.args.site.now in
     let e = tree_at d c.args.e in
     let last = c.only.new.meter.last in
     let rs = map (rule_at (contents_of c.args.library.now.0)) c.rules_of.result.now in

@@ -11,7 +11,7 @@ pub returns-in-Some-unfolding_again-clause-steps : goal.returns-in-Some-unfoldin
 returns-in-Some-unfolding_again-clause-steps g c last =
     let d = g.T.Terms.contents c.args.terms.now in
     let t = tree_at d in
-    let w = place_at c.args.library.now c.args.site.now.unit in
+    let w = place_at c.args.library.now c.args.site.now in
     let u = some_of d c.args.library.now c.in-Some.u _ (rw c.in-Some.is at c.unfolding_again.ensures) in
     let v = some_of d c.args.library.now c.in-Some-unfolding_again.v _ (rw c.in-Some-unfolding_again.is at c.unfolding_again-in-Some.ensures) in
     subst (λ s. IfOk c.unfold_both.result (λ next. lazy_next w (tree_at (g.T.Terms.contents c.unfold_both.new.terms)) last next ≡ erased w truth last s))

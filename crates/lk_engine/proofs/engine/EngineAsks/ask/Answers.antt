@@ -1,4 +1,4 @@
-use Rattle.std.proofs.Common.{length, sym, subst}
+use Rattle.std.proofs.Common.{length, ap, sym, subst}
 use Rattle.lk_plain.specs.Erased.{out_of}
 use Rattle.lk_table.specs.Built.{rows}
 use Rattle.lk_store.specs.Contents.{tree_at}
@@ -16,6 +16,9 @@ pub returns-clause-outcome : goal.returns-clause-outcome
 returns-clause-outcome c =
     let after = contents_of (over c.answer.new.terms.0 c.answer.new.terms.1) in
     let inside = c.self.inside in
-    let there = exactly_so after (out_of rows (place_at inside.library.now inside.site.unit) (query_of (tree_at (contents_of (over inside.terms.0 inside.terms.1))) c.args.query) inside.meter.left)
+    let there = exactly_so after (out_of rows (place_at inside.library.now inside.site) (query_of (tree_at (contents_of (over inside.terms.0 inside.terms.1))) c.args.query) inside.meter.left)
     c.answer.new.meter.left c.answer.new.meter.last c.answer.result c.answer.ensures.outcome in
-    subst (λ s. IsOutcome after (out_of rows (place_at s.0 s.1.unit) (query_of (tree_at (contents_of (over s.2.0 s.2.1))) c.args.query) s.3.left) c.answer.new.meter.left c.answer.result) c.self.view_is there
+    subst (λ s. IsOutcome after (out_of rows (place_at s.0 s.1) (query_of (tree_at (contents_of (over s.2.0 s.2.1))) c.args.query) s.3.left) c.answer.new.meter.left c.answer.result) c.self.view_is there
+
+pub returns-clause-place : goal.returns-clause-place
+returns-clause-place c = ap (λ s. place_at s.0 s.1) c.self.view_is

@@ -4,7 +4,7 @@ ghost use Rattle.std.specs.Prelude.{◌≡◌, ◌<◌, ◌++◌, ◌∷◌, [],
 ghost use Rattle.lk_tree.specs.Level.{is_zero_level};
 ghost use Rattle.lk_store.specs.Contents.{level_at};
 ghost use Rattle.lk_subst.specs.Parts.{visits_cost};
-ghost use Rattle.lk_same.specs.Zeros.{IsZeroWalk};
+ghost use Rattle.lk_level_order.specs.Zeros.{IsZeroWalk};
 
 use lk_rows::memory::NoMemory;
 use lk_rows::table::Table;

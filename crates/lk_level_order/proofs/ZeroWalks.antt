@@ -10,7 +10,7 @@ use Rattle.lk_store.specs.declared.node.LevelNode.TheVariants.{Zero, Max, IMax}
 use Rattle.lk_subst.specs.declared.parts.Met.{Met}
 use Rattle.lk_subst.specs.declared.parts.Visit.{Visit}
 use Rattle.lk_subst.specs.Parts.{AreVisits}
-use Rattle.lk_same.specs.Zeros.{IsZero, AreLeftZero, AreOpened, IsZeroWalk}
+use Rattle.lk_level_order.specs.Zeros.{IsZero, AreLeftZero, AreOpened, IsZeroWalk}
 
 abbrev pub closed_at : ℕ → Visit
 closed_at l = record { level = l; opened = false }

@@ -2,7 +2,7 @@ use Rattle.std.proofs.Common.{◌≡◌, ◌<◌, length}
 use Rattle.lk_tree.specs.Level.{is_zero_level}
 use Rattle.lk_store.specs.Contents.{level_at}
 use Rattle.lk_subst.specs.Parts.{cost}
-use Rattle.lk_same.proofs.zero.is_zero.Given as goal
+use Rattle.lk_level_order.proofs.zero.is_zero.Given as goal
 
 abbrev pub invariant-right : goal.invariant-right
 invariant-right g l =

@@ -1,8 +1,8 @@
 use Rattle.std.proofs.Common.{rules, ◌≡◌, ◌++◌, ◌∷◌, [], refl, append_assoc}
 use Rattle.lk_subst.specs.declared.parts.Met.{Met}
 use Rattle.lk_subst.proofs.LevelCosts.{popped_less}
-use Rattle.lk_same.proofs.ZeroWalks.{closed_at, opened_at, walk_closes, walk_met, walk_zero, walk_opens_max, walk_opens_imax}
-use Rattle.lk_same.proofs.zero.may_be_zero.Goals as goal
+use Rattle.lk_level_order.proofs.ZeroWalks.{closed_at, opened_at, walk_closes, walk_met, walk_zero, walk_opens_max, walk_opens_imax}
+use Rattle.lk_level_order.proofs.zero.may_be_zero.Goals as goal
 
 pub returns-then-visit-clause-yes : goal.returns-then-visit-clause-yes
 returns-then-visit-clause-yes g c is root h =

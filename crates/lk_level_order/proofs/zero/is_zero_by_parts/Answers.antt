@@ -1,6 +1,6 @@
 use Rattle.std.proofs.Common.{rules, ◌≡◌, ◌++◌, ◌∷◌, []}
-use Rattle.lk_same.proofs.ZeroWalks.{walk_fails}
-use Rattle.lk_same.proofs.zero.is_zero_by_parts.Goals as goal
+use Rattle.lk_level_order.proofs.ZeroWalks.{walk_fails}
+use Rattle.lk_level_order.proofs.zero.is_zero_by_parts.Goals as goal
 
 pub returns-then-not-may : goal.returns-then-not-may
 returns-then-not-may g c =
