@@ -2,3 +2,17 @@ pub mod Counts
 pub mod Courses
 pub mod Forms
 pub mod Parts
+pub mod Shapes
+pub mod Stages
+pub mod Agreeing
+pub mod Settling
+pub mod Sorts
+pub mod Smalls
+pub mod Findings
+pub mod Nestings
+pub mod Frames
+pub mod Members
+pub mod Positive
+pub mod Fields
+pub mod Constructors
+pub mod Wholes

@@ -25,7 +25,7 @@ use std::alloc::Global;
 pub(crate) fn form_of<A: Asks>(asks: &mut A, e: u64) -> Result<u64, Stop>
     requires { e < length (A.contents asks.old).trees }
     ensures keeps { Extends (A.contents asks.old) (A.contents asks.new) }
-    ensures rest { A.rest asks.new ≡ A.rest asks.old }
+    ensures basis { A.basis asks.new ≡ A.basis asks.old }
     ensures table { A.table asks.new ≡ A.table asks.old }
     ensures place { A.place asks.new ≡ A.place asks.old }
     ensures known { IfOk result (λ f. f < length (A.contents asks.new).trees) }
@@ -39,10 +39,10 @@ pub(crate) fn form_of<A: Asks>(asks: &mut A, e: u64) -> Result<u64, Stop>
 }
 
 /// The type of a term.
-pub(crate) fn type_of<A: Asks>(asks: &mut A, e: u64) -> Result<u64, Stop>
+pub fn type_of<A: Asks>(asks: &mut A, e: u64) -> Result<u64, Stop>
     requires { e < length (A.contents asks.old).trees }
     ensures keeps { Extends (A.contents asks.old) (A.contents asks.new) }
-    ensures rest { A.rest asks.new ≡ A.rest asks.old }
+    ensures basis { A.basis asks.new ≡ A.basis asks.old }
     ensures table { A.table asks.new ≡ A.table asks.old }
     ensures place { A.place asks.new ≡ A.place asks.old }
     ensures known { IfOk result (λ f. f < length (A.contents asks.new).trees) }
@@ -56,11 +56,11 @@ pub(crate) fn type_of<A: Asks>(asks: &mut A, e: u64) -> Result<u64, Stop>
 }
 
 /// Whether two terms are the same.
-pub(crate) fn are_same<A: Asks>(asks: &mut A, a: u64, b: u64) -> Result<bool, Stop>
+pub fn are_same<A: Asks>(asks: &mut A, a: u64, b: u64) -> Result<bool, Stop>
     requires a_in { a < length (A.contents asks.old).trees }
     requires b_in { b < length (A.contents asks.old).trees }
     ensures keeps { Extends (A.contents asks.old) (A.contents asks.new) }
-    ensures rest { A.rest asks.new ≡ A.rest asks.old }
+    ensures basis { A.basis asks.new ≡ A.basis asks.old }
     ensures table { A.table asks.new ≡ A.table asks.old }
     ensures place { A.place asks.new ≡ A.place asks.old }
     ensures outcome { Gives (A.table asks.old) (A.place asks.old) (asked (same (tree_at (A.contents asks.old) a) (tree_at (A.contents asks.old) b))) (A.left asks.old) (λ r. r) (A.left asks.new) result }
@@ -88,7 +88,7 @@ fn pi_in<T: Terms>(terms: &T, form: u64) -> Result<(u64, u64), Stop>
 pub(crate) fn pi_of<A: Asks>(asks: &mut A, e: u64) -> Result<(u64, u64), Stop>
     requires { e < length (A.contents asks.old).trees }
     ensures keeps { Extends (A.contents asks.old) (A.contents asks.new) }
-    ensures rest { A.rest asks.new ≡ A.rest asks.old }
+    ensures basis { A.basis asks.new ≡ A.basis asks.old }
     ensures table { A.table asks.new ≡ A.table asks.old }
     ensures place { A.place asks.new ≡ A.place asks.old }
     ensures known { IfOk result (λ p. (p.0 < length (A.contents asks.new).trees) × (p.1 < length (A.contents asks.new).trees)) }
@@ -116,7 +116,7 @@ fn sort_in<T: Terms>(terms: &T, form: u64) -> Result<u64, Stop>
 fn sort_of_kind<A: Asks>(asks: &mut A, kind: u64) -> Result<u64, Stop>
     requires { kind < length (A.contents asks.old).trees }
     ensures keeps { Extends (A.contents asks.old) (A.contents asks.new) }
-    ensures rest { A.rest asks.new ≡ A.rest asks.old }
+    ensures basis { A.basis asks.new ≡ A.basis asks.old }
     ensures table { A.table asks.new ≡ A.table asks.old }
     ensures place { A.place asks.new ≡ A.place asks.old }
     ensures known { IfOk result (λ l. l < length (A.contents asks.new).levels) }
@@ -129,10 +129,10 @@ fn sort_of_kind<A: Asks>(asks: &mut A, kind: u64) -> Result<u64, Stop>
 }
 
 /// The level of a term's sort.
-pub(crate) fn sort_of<A: Asks>(asks: &mut A, e: u64) -> Result<u64, Stop>
+pub fn sort_of<A: Asks>(asks: &mut A, e: u64) -> Result<u64, Stop>
     requires { e < length (A.contents asks.old).trees }
     ensures keeps { Extends (A.contents asks.old) (A.contents asks.new) }
-    ensures rest { A.rest asks.new ≡ A.rest asks.old }
+    ensures basis { A.basis asks.new ≡ A.basis asks.old }
     ensures table { A.table asks.new ≡ A.table asks.old }
     ensures place { A.place asks.new ≡ A.place asks.old }
     ensures known { IfOk result (λ l. l < length (A.contents asks.new).levels) }
@@ -160,7 +160,7 @@ fn level_in<T: Terms>(terms: &T, form: u64) -> Result<u64, Stop>
 pub(crate) fn level_of<A: Asks>(asks: &mut A, e: u64) -> Result<u64, Stop>
     requires { e < length (A.contents asks.old).trees }
     ensures keeps { Extends (A.contents asks.old) (A.contents asks.new) }
-    ensures rest { A.rest asks.new ≡ A.rest asks.old }
+    ensures basis { A.basis asks.new ≡ A.basis asks.old }
     ensures table { A.table asks.new ≡ A.table asks.old }
     ensures place { A.place asks.new ≡ A.place asks.old }
     ensures known { IfOk result (λ l. l < length (A.contents asks.new).levels) }

@@ -14,7 +14,7 @@ use lk_store::terms::Terms;
 
 /// Whether two names are equal.
 #[tactic(auto, using(crate::proofs::Counted::name_decides))]
-fn is_name<T: Terms>(terms: &T, name: u64, other: u64) -> bool
+pub(crate) fn is_name<T: Terms>(terms: &T, name: u64, other: u64) -> bool
     requires name_in { name < length (T.contents terms.now).names }
     requires other_in { other < length (T.contents terms.now).names }
     ensures { result ≡ same_name (name_at (T.contents terms.now) name) (name_at (T.contents terms.now) other) }

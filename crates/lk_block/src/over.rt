@@ -8,7 +8,8 @@ ghost use Rattle.lk_block.specs.Courses.{Gives};
 ghost use Rattle.lk_block.specs.Forms.{put_form, over_form};
 
 use crate::asking::{are_same, pi_of};
-use crate::builds::Builds;
+use lk_ask::asks::Asks;
+use lk_ask::building::open;
 use lk_ask::rule::Rule;
 use lk_ask::stop::Stop;
 use lk_store::node::Node;
@@ -16,7 +17,7 @@ use lk_store::terms::Terms;
 use std::alloc::Global;
 
 /// The type inside a Local.
-fn domain_of<T: Terms>(terms: &T, e: u64) -> u64
+pub(crate) fn domain_of<T: Terms>(terms: &T, e: u64) -> u64
     requires { e < length (T.contents terms.now).trees }
     ensures known { result < length (T.contents terms.now).trees }
     ensures domain { tree_at (T.contents terms.now) result ≡ domain (tree_at (T.contents terms.now) e) }
@@ -28,7 +29,7 @@ fn domain_of<T: Terms>(terms: &T, e: u64) -> u64
 }
 
 /// A body with a Local put in, whose type the domain is to be.
-fn put_in<A: Builds>(
+fn put_in<A: Asks>(
     alloc: Global,
     asks: &mut A,
     parameter: u64,
@@ -39,7 +40,7 @@ fn put_in<A: Builds>(
     requires domain_in { domain < length (A.contents asks.old).trees }
     requires body_in { body < length (A.contents asks.old).trees }
     ensures keeps { Extends (A.contents asks.old) (A.contents asks.new) }
-    ensures rest { A.rest asks.new ≡ A.rest asks.old }
+    ensures basis { A.basis asks.new ≡ A.basis asks.old }
     ensures table { A.table asks.new ≡ A.table asks.old }
     ensures place { A.place asks.new ≡ A.place asks.old }
     ensures known { IfOk result (λ e. e < length (A.contents asks.new).trees) }
@@ -53,23 +54,18 @@ fn put_in<A: Builds>(
     if !equal {
         return Err(Stop::Rule(Rule::ParameterDiffers));
     }
-    match asks.open(alloc, body, parameter) {
+    match open(alloc, asks, body, parameter) {
         Ok(rest) => Ok(rest),
         Err(_) => Err(Stop::NoMemory),
     }
 }
 
 /// What is left of the Pi that a term's weak head form is to be, once a Local is put in, whose type its domain is to be.
-fn put_parameter<A: Builds>(
-    alloc: Global,
-    asks: &mut A,
-    parameter: u64,
-    e: u64,
-) -> Result<u64, Stop>
+fn put_parameter<A: Asks>(alloc: Global, asks: &mut A, parameter: u64, e: u64) -> Result<u64, Stop>
     requires parameter_in { parameter < length (A.contents asks.old).trees }
     requires e_in { e < length (A.contents asks.old).trees }
     ensures keeps { Extends (A.contents asks.old) (A.contents asks.new) }
-    ensures rest { A.rest asks.new ≡ A.rest asks.old }
+    ensures basis { A.basis asks.new ≡ A.basis asks.old }
     ensures table { A.table asks.new ≡ A.table asks.old }
     ensures place { A.place asks.new ≡ A.place asks.old }
     ensures known { IfOk result (λ e. e < length (A.contents asks.new).trees) }
@@ -83,11 +79,11 @@ fn put_parameter<A: Builds>(
 }
 
 /// What is left of a term of Pis over the types of these Locals, which are put in.
-pub fn over<A: Builds>(alloc: Global, asks: &mut A, parameters: &[u64], e: u64) -> Result<u64, Stop>
+pub fn over<A: Asks>(alloc: Global, asks: &mut A, parameters: &[u64], e: u64) -> Result<u64, Stop>
     requires parameters_in { All (λ x. x < length (A.contents asks.old).trees) parameters.now }
     requires e_in { e < length (A.contents asks.old).trees }
     ensures keeps { Extends (A.contents asks.old) (A.contents asks.new) }
-    ensures rest { A.rest asks.new ≡ A.rest asks.old }
+    ensures basis { A.basis asks.new ≡ A.basis asks.old }
     ensures table { A.table asks.new ≡ A.table asks.old }
     ensures place { A.place asks.new ≡ A.place asks.old }
     ensures known { IfOk result (λ e. e < length (A.contents asks.new).trees) }

@@ -9,14 +9,15 @@ ghost use Rattle.lk_block.specs.Courses.{Gives};
 ghost use Rattle.lk_block.specs.Forms.{local_form};
 
 use crate::asking::pi_of;
-use crate::builds::Builds;
+use lk_ask::asks::Asks;
+use lk_ask::building::{build, open};
 use lk_ask::stop::Stop;
 use lk_rows::memory::NoMemory;
 use lk_store::node::Node;
 use std::alloc::Global;
 
 /// The Local of a number for a Pi, and the Pi's body, opened with it.
-fn open_local<A: Builds>(
+pub(crate) fn open_local<A: Asks>(
     alloc: Global,
     asks: &mut A,
     number: u64,
@@ -26,28 +27,23 @@ fn open_local<A: Builds>(
     requires domain_in { domain < length (A.contents asks.old).trees }
     requires body_in { body < length (A.contents asks.old).trees }
     ensures keeps { Extends (A.contents asks.old) (A.contents asks.new) }
-    ensures rest { A.rest asks.new ≡ A.rest asks.old }
+    ensures basis { A.basis asks.new ≡ A.basis asks.old }
     ensures table { A.table asks.new ≡ A.table asks.old }
     ensures place { A.place asks.new ≡ A.place asks.old }
     ensures left { A.left asks.new ≡ A.left asks.old }
     ensures made { IfOk result (λ p. IsTree (A.contents asks.new) p.0 (local number (tree_at (A.contents asks.old) domain))) }
     ensures opened { IfOk result (λ p. IsTree (A.contents asks.new) p.1 (opened (tree_at (A.contents asks.old) body) (local number (tree_at (A.contents asks.old) domain)))) }
 {
-    let local = asks.build(Node::Local(number, domain))?;
-    let rest = asks.open(alloc, body, local)?;
+    let local = build(asks, Node::Local(number, domain))?;
+    let rest = open(alloc, asks, body, local)?;
     Ok((local, rest))
 }
 
 /// The Local of a number for the Pi that a term's weak head form is to be, and what is left, opened with it.
-fn next_local<A: Builds>(
-    alloc: Global,
-    asks: &mut A,
-    number: u64,
-    e: u64,
-) -> Result<(u64, u64), Stop>
+fn next_local<A: Asks>(alloc: Global, asks: &mut A, number: u64, e: u64) -> Result<(u64, u64), Stop>
     requires { e < length (A.contents asks.old).trees }
     ensures keeps { Extends (A.contents asks.old) (A.contents asks.new) }
-    ensures rest { A.rest asks.new ≡ A.rest asks.old }
+    ensures basis { A.basis asks.new ≡ A.basis asks.old }
     ensures table { A.table asks.new ≡ A.table asks.old }
     ensures place { A.place asks.new ≡ A.place asks.old }
     ensures known { IfOk result (λ p. (p.0 < length (A.contents asks.new).trees) × (p.1 < length (A.contents asks.new).trees)) }
@@ -64,7 +60,7 @@ fn next_local<A: Builds>(
 }
 
 /// The number after this one. No Local in memory has the greatest number.
-fn number_after(number: u64) -> Result<u64, NoMemory>
+pub(crate) fn number_after(number: u64) -> Result<u64, NoMemory>
     ensures { IfOk result (λ n. n ≡ suc number) }
 {
     match number.checked_add(1) {
@@ -74,7 +70,7 @@ fn number_after(number: u64) -> Result<u64, NoMemory>
 }
 
 /// Adds a Local, the number of which is taken, and tells the next number.
-fn keep_local(locals: &mut Vec<u64>, local: u64, number: u64) -> Result<u64, Stop>
+pub(crate) fn keep_local(locals: &mut Vec<u64>, local: u64, number: u64) -> Result<u64, Stop>
     ensures locals { OnOk result (locals.new.items ≡ locals.old.items ++ local ∷ []) }
     ensures next { IfOk result (λ n. n ≡ suc number) }
 {
@@ -89,7 +85,7 @@ fn keep_local(locals: &mut Vec<u64>, local: u64, number: u64) -> Result<u64, Sto
 }
 
 /// So many Pis of a term, opened with Locals from a number on: the Locals, and what is left.
-pub fn telescope<A: Builds>(
+pub fn telescope<A: Asks>(
     alloc: Global,
     asks: &mut A,
     first: u64,
@@ -98,7 +94,7 @@ pub fn telescope<A: Builds>(
 ) -> Result<(Vec<u64>, u64), Stop>
     requires { e < length (A.contents asks.old).trees }
     ensures keeps { Extends (A.contents asks.old) (A.contents asks.new) }
-    ensures rest { A.rest asks.new ≡ A.rest asks.old }
+    ensures basis { A.basis asks.new ≡ A.basis asks.old }
     ensures table { A.table asks.new ≡ A.table asks.old }
     ensures place { A.place asks.new ≡ A.place asks.old }
     ensures locals_known { IfOk result (λ t. All (λ x. x < length (A.contents asks.new).trees) t.0.items) }

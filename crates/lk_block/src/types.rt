@@ -9,9 +9,9 @@ ghost use Rattle.lk_block.specs.Forms.{end_form, next_form};
 ghost use Rattle.lk_block.specs.Parts.{lists_at, AreListsIn, parts_at, ArePartsIn, more_form, self_form, open_form, first_form, others_form};
 
 use crate::asking::{level_of, levels_equal, sort_of};
-use crate::builds::Builds;
 use crate::over::over;
 use crate::telescope::telescope;
+use lk_ask::asks::Asks;
 use lk_ask::rule::Rule;
 use lk_ask::stop::Stop;
 use lk_env::unit::BlockType;
@@ -19,7 +19,7 @@ use lk_rows::memory::NoMemory;
 use std::alloc::Global;
 
 /// The indices of a type past its parameters, and the level of its sort.
-pub fn type_end<A: Builds>(
+pub fn type_end<A: Asks>(
     alloc: Global,
     asks: &mut A,
     first: u64,
@@ -28,7 +28,7 @@ pub fn type_end<A: Builds>(
 ) -> Result<(Vec<u64>, u64), Stop>
     requires { e < length (A.contents asks.old).trees }
     ensures keeps { Extends (A.contents asks.old) (A.contents asks.new) }
-    ensures rest { A.rest asks.new ≡ A.rest asks.old }
+    ensures basis { A.basis asks.new ≡ A.basis asks.old }
     ensures table { A.table asks.new ≡ A.table asks.old }
     ensures place { A.place asks.new ≡ A.place asks.old }
     ensures indices_known { IfOk result (λ t. All (λ x. x < length (A.contents asks.new).trees) t.0.items) }
@@ -46,7 +46,7 @@ pub fn type_end<A: Builds>(
 }
 
 /// The indices of a type past its parameters, where the level of its sort is to be this one.
-fn end_at_level<A: Builds>(
+fn end_at_level<A: Asks>(
     alloc: Global,
     asks: &mut A,
     first: u64,
@@ -57,7 +57,7 @@ fn end_at_level<A: Builds>(
     requires e_in { e < length (A.contents asks.old).trees }
     requires level_in { level < length (A.contents asks.old).levels }
     ensures keeps { Extends (A.contents asks.old) (A.contents asks.new) }
-    ensures rest { A.rest asks.new ≡ A.rest asks.old }
+    ensures basis { A.basis asks.new ≡ A.basis asks.old }
     ensures table { A.table asks.new ≡ A.table asks.old }
     ensures place { A.place asks.new ≡ A.place asks.old }
     ensures known { IfOk result (λ t. All (λ x. x < length (A.contents asks.new).trees) t.items) }
@@ -75,7 +75,7 @@ fn end_at_level<A: Builds>(
 }
 
 /// The indices of a type after the first one: it has a sort, its parameters are those of the first, and so is its level.
-pub fn next_type<A: Builds>(
+pub fn next_type<A: Asks>(
     alloc: Global,
     asks: &mut A,
     parameters: &[u64],
@@ -87,7 +87,7 @@ pub fn next_type<A: Builds>(
     requires level_in { level < length (A.contents asks.old).levels }
     requires kind_in { kind < length (A.contents asks.old).trees }
     ensures keeps { Extends (A.contents asks.old) (A.contents asks.new) }
-    ensures rest { A.rest asks.new ≡ A.rest asks.old }
+    ensures basis { A.basis asks.new ≡ A.basis asks.old }
     ensures table { A.table asks.new ≡ A.table asks.old }
     ensures place { A.place asks.new ≡ A.place asks.old }
     ensures known { IfOk result (λ t. All (λ x. x < length (A.contents asks.new).trees) t.items) }
@@ -105,7 +105,7 @@ pub fn next_type<A: Builds>(
 }
 
 /// The indices of a type past its parameters, and the level of its sort, which is not too wide.
-fn end_with_itself<A: Builds>(
+fn end_with_itself<A: Asks>(
     alloc: Global,
     asks: &mut A,
     first: u64,
@@ -114,7 +114,7 @@ fn end_with_itself<A: Builds>(
 ) -> Result<(Vec<u64>, u64), Stop>
     requires { e < length (A.contents asks.old).trees }
     ensures keeps { Extends (A.contents asks.old) (A.contents asks.new) }
-    ensures rest { A.rest asks.new ≡ A.rest asks.old }
+    ensures basis { A.basis asks.new ≡ A.basis asks.old }
     ensures table { A.table asks.new ≡ A.table asks.old }
     ensures place { A.place asks.new ≡ A.place asks.old }
     ensures indices_known { IfOk result (λ t. All (λ x. x < length (A.contents asks.new).trees) t.0.items) }
@@ -142,7 +142,7 @@ pub struct TypeParts {
 }
 
 /// The indices of the types after the first one are added to those of the first.
-fn more_types<A: Builds>(
+fn more_types<A: Asks>(
     alloc: Global,
     asks: &mut A,
     parameters: &[u64],
@@ -155,7 +155,7 @@ fn more_types<A: Builds>(
     requires types_in { All (IsTypeIn (A.contents asks.old)) types.now }
     requires indices_in { AreListsIn (A.contents asks.old) indices.old.items }
     ensures keeps { Extends (A.contents asks.old) (A.contents asks.new) }
-    ensures rest { A.rest asks.new ≡ A.rest asks.old }
+    ensures basis { A.basis asks.new ≡ A.basis asks.old }
     ensures table { A.table asks.new ≡ A.table asks.old }
     ensures place { A.place asks.new ≡ A.place asks.old }
     ensures known { AreListsIn (A.contents asks.new) indices.new.items }
@@ -197,7 +197,7 @@ fn parts_of(
 }
 
 /// The parts of a block with the first type's alone, past its sort.
-fn open_parameters<A: Builds>(
+fn open_parameters<A: Asks>(
     alloc: Global,
     asks: &mut A,
     parameters: u64,
@@ -206,7 +206,7 @@ fn open_parameters<A: Builds>(
 ) -> Result<TypeParts, Stop>
     requires { kind < length (A.contents asks.old).trees }
     ensures keeps { Extends (A.contents asks.old) (A.contents asks.new) }
-    ensures rest { A.rest asks.new ≡ A.rest asks.old }
+    ensures basis { A.basis asks.new ≡ A.basis asks.old }
     ensures table { A.table asks.new ≡ A.table asks.old }
     ensures place { A.place asks.new ≡ A.place asks.old }
     ensures known { IfOk result (ArePartsIn (A.contents asks.new)) }
@@ -227,7 +227,7 @@ fn open_parameters<A: Builds>(
 }
 
 /// The parts of a block with the first type's alone.
-fn first_type<A: Builds>(
+fn first_type<A: Asks>(
     alloc: Global,
     asks: &mut A,
     parameters: u64,
@@ -236,7 +236,7 @@ fn first_type<A: Builds>(
 ) -> Result<TypeParts, Stop>
     requires { kind < length (A.contents asks.old).trees }
     ensures keeps { Extends (A.contents asks.old) (A.contents asks.new) }
-    ensures rest { A.rest asks.new ≡ A.rest asks.old }
+    ensures basis { A.basis asks.new ≡ A.basis asks.old }
     ensures table { A.table asks.new ≡ A.table asks.old }
     ensures place { A.place asks.new ≡ A.place asks.old }
     ensures known { IfOk result (ArePartsIn (A.contents asks.new)) }
@@ -249,7 +249,7 @@ fn first_type<A: Builds>(
 }
 
 /// The parts of a block, once those of its first type are known.
-fn add_others<A: Builds>(
+fn add_others<A: Asks>(
     alloc: Global,
     asks: &mut A,
     parts: TypeParts,
@@ -258,7 +258,7 @@ fn add_others<A: Builds>(
     requires parts_in { ArePartsIn (A.contents asks.old) parts }
     requires others_in { All (IsTypeIn (A.contents asks.old)) others.now }
     ensures keeps { Extends (A.contents asks.old) (A.contents asks.new) }
-    ensures rest { A.rest asks.new ≡ A.rest asks.old }
+    ensures basis { A.basis asks.new ≡ A.basis asks.old }
     ensures table { A.table asks.new ≡ A.table asks.old }
     ensures place { A.place asks.new ≡ A.place asks.old }
     ensures known { IfOk result (ArePartsIn (A.contents asks.new)) }
@@ -281,7 +281,7 @@ fn add_others<A: Builds>(
 
 /// The checks of a block's types, each of which has this number of parameters: each has a sort, all have the parameters and
 /// the level of the first.
-pub fn check_types<A: Builds>(
+pub fn check_types<A: Asks>(
     alloc: Global,
     asks: &mut A,
     parameters: u64,
@@ -289,7 +289,7 @@ pub fn check_types<A: Builds>(
 ) -> Result<TypeParts, Stop>
     requires { All (IsTypeIn (A.contents asks.old)) types.now }
     ensures keeps { Extends (A.contents asks.old) (A.contents asks.new) }
-    ensures rest { A.rest asks.new ≡ A.rest asks.old }
+    ensures basis { A.basis asks.new ≡ A.basis asks.old }
     ensures table { A.table asks.new ≡ A.table asks.old }
     ensures place { A.place asks.new ≡ A.place asks.old }
     ensures known { IfOk result (ArePartsIn (A.contents asks.new)) }

@@ -23,7 +23,7 @@ parameters-preserved g c =
     let known = first_has (λ x. x < length before.trees) c.parameters.more.now c.in-Some.parameter.now c.in-Some.others.now c.in-Some.ensures.cases.0 c.parameters.invariant.more_in in
     record {
       keeps = Extends-trans before now after c.parameters.invariant.keeps c.in-Ok.ensures.keeps;
-      same_rest = c.in-Ok.ensures.rest ∙ c.parameters.invariant.same_rest;
+      same_basis = c.in-Ok.ensures.basis ∙ c.parameters.invariant.same_basis;
       same_table = c.in-Ok.ensures.table ∙ c.parameters.invariant.same_table;
       same_place = c.in-Ok.ensures.place ∙ c.parameters.invariant.same_place;
       more_in = rest_have (λ x. x < length before.trees) c.parameters.more.now c.in-Some.parameter.now c.in-Some.others.now c.in-Some.ensures.cases.0 c.parameters.invariant.more_in;

@@ -17,7 +17,7 @@ returns-then-not-equal-clause-outcome g c =
 pub returns-in-Ok-open-clause-outcome : goal.returns-in-Ok-open-clause-outcome
 returns-in-Ok-open-clause-outcome g c =
     let before = g.A.Terms.contents c.args.asks.now in
-    let after = g.A.Terms.contents c.open.new.self in
+    let after = g.A.Terms.contents c.open.new.asks in
     put_goes (g.A.Asks.table c.args.asks.now) (g.A.Asks.place c.args.asks.now) (tree_at before c.args.parameter) (tree_at before c.args.domain) (tree_at before c.args.body) (tree_at before c.domain_of-own.result)
-    (g.A.Asks.left c.args.asks.now) c.domain_of-own.ensures.domain c.in-Ok.equal (g.A.Asks.left c.are_same.new.asks) (g.A.Asks.left c.open.new.self) (tree_at after c.in-Ok-open.rest) c.in-Ok.ensures.outcome c.if-not-equal.false
+    (g.A.Asks.left c.args.asks.now) c.domain_of-own.ensures.domain c.in-Ok.equal (g.A.Asks.left c.are_same.new.asks) (g.A.Asks.left c.open.new.asks) (tree_at after c.in-Ok-open.rest) c.in-Ok.ensures.outcome c.if-not-equal.false
     (rw (← c.in-Ok.ensures.keeps.trees.same c.args.body c.requires.body_in, ← c.in-Ok.ensures.keeps.trees.same c.args.parameter c.requires.parameter_in) c.in-Ok-open.ensures.ok.is) c.open.ensures.left

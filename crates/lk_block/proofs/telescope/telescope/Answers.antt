@@ -12,7 +12,7 @@ pis-init g c =
     let before = g.A.Terms.contents c.args.asks.now in
     record {
       keeps = search rules;
-      same_rest = refl;
+      same_basis = refl;
       same_table = refl;
       same_place = refl;
       locals_in = All-same (λ x. x < length before.trees) c.new-locals.result.items [] c.new-locals.ensures.items (All-nil (λ x. x < length before.trees));
@@ -39,7 +39,7 @@ pis-preserved g c =
     let kept = All-weaker (λ x. x < length now.trees) (λ x. x < length after.trees) (λ x h. let longer = grown.trees.longer in omega arith) c.pis.locals.items c.pis.invariant.locals_in in
     record {
       keeps = Extends-trans before now after c.pis.invariant.keeps grown;
-      same_rest = c.in-Ok.ensures.rest ∙ c.pis.invariant.same_rest;
+      same_basis = c.in-Ok.ensures.basis ∙ c.pis.invariant.same_basis;
       same_table = c.in-Ok.ensures.table ∙ c.pis.invariant.same_table;
       same_place = c.in-Ok.ensures.place ∙ c.pis.invariant.same_place;
       locals_in = All-same (λ x. x < length after.trees) more (c.pis.locals.items ++ c.in-Ok.opened.0 ∷ []) pushed (All-push (λ x. x < length after.trees) c.pis.locals.items c.in-Ok.opened.0 kept c.in-Ok.ensures.known.0);

@@ -9,7 +9,7 @@ invariant-pis g l =
     let now = g.A.Terms.contents l.asks in
     record {
       keeps : Extends before now;
-      same_rest : g.A.Terms.rest l.asks ≡ g.A.Terms.rest l.fn.asks;
+      same_basis : g.A.Asks.basis l.asks ≡ g.A.Asks.basis l.fn.asks;
       same_table : g.A.Asks.table l.asks ≡ g.A.Asks.table l.fn.asks;
       same_place : g.A.Asks.place l.asks ≡ g.A.Asks.place l.fn.asks;
       locals_in : All (λ x. x < length now.trees) l.locals.items;

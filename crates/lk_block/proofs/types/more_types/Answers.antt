@@ -49,7 +49,7 @@ types-preserved g c =
     let pushed = c.in-Ok-push.ensures.items in
     record {
       keeps = Extends-trans before now after kept grown;
-      same_rest = c.in-Ok.ensures.rest ∙ c.types.invariant.same_rest;
+      same_basis = c.in-Ok.ensures.basis ∙ c.types.invariant.same_basis;
       same_table = c.in-Ok.ensures.table ∙ c.types.invariant.same_table;
       same_place = c.in-Ok.ensures.place ∙ c.types.invariant.same_place;
       rest_in = rest_have (IsTypeIn before) c.types.rest.now stated c.in-Some.more.now c.in-Some.ensures.cases.0 c.types.invariant.rest_in;

@@ -1,0 +1,63 @@
+-- Types that are listed, terms that mention no name, and arguments past the parameters.
+use Rattle.std.proofs.Common.{◌≡◌, ◌↔◌, ◌<◌, ◌&&◌, ◌||◌, ℕ, Bool, true, false, not, IsTrue, List, [], ◌∷◌, length, map, All, Option, Some, None, nat_eq, if◌then◌else◌, refl, sym, ap, subst, ◌∙◌, arith}
+use Rattle.lk_tree.specs.Tree.{Name, Level, Tree, tree_discrete, var, sort, const, app, lam, pi, let_in, proj, lit, wide, str, local}
+use Rattle.lk_tree.specs.Mentions.{mentions, same_name}
+use Rattle.lk_table.specs.Steps.{decided, is_same_tree}
+use Rattle.lk_store.specs.Contents.{Contents, name_at, tree_at}
+use Rattle.lk_env.specs.declared.unit.BlockType.{BlockType}
+use Rattle.lk_mentions.specs.Names.{names_at}
+use Rattle.lk_mentions.specs.Walks.{is_clear}
+use Rattle.lk_blocks.specs.Block.{Frame}
+use Rattle.lk_blocks.specs.BlockSteps.{is_listed, mention_none, after_params, plain_indices, as_member}
+use Rattle.lk_block.specs.Frames.{listed_at}
+use Rattle.lk_block.specs.Members.{own_name}
+
+-- the first type is the one, or not
+pub listed_first : (c : Contents) (rest more : List BlockType) (x : BlockType) (n : Name) (k : ℕ) → rest ≡ x ∷ more → (same_name (name_at c x.name) n && nat_eq x.indices k) ≡ true → is_listed (listed_at c rest) n k ≡ true
+listed_first c rest more x n k e h = rw e (ap (λ b. b || is_listed (listed_at c more) n k) h)
+
+pub listed_next : (c : Contents) (rest more : List BlockType) (x : BlockType) (n : Name) (k : ℕ) → rest ≡ x ∷ more → (same_name (name_at c x.name) n && nat_eq x.indices k) ≡ false
+    → is_listed (listed_at c rest) n k ≡ is_listed (listed_at c more) n k
+listed_next c rest more x n k e h = rw e (ap (λ b. b || is_listed (listed_at c more) n k) h)
+
+-- the first term mentions none of the names, or one
+pub clear_next : (c : Contents) (ks : List ℕ) (rest more : List ℕ) (x : ℕ) → rest ≡ x ∷ more → is_clear c ks x ≡ true
+    → mention_none (names_at c ks) (map (tree_at c) rest) ≡ mention_none (names_at c ks) (map (tree_at c) more)
+clear_next c ks rest more x e h = rw e (ap (λ b. b && mention_none (names_at c ks) (map (tree_at c) more)) h)
+
+pub clear_fails : (c : Contents) (ks : List ℕ) (rest more : List ℕ) (x : ℕ) → rest ≡ x ∷ more → is_clear c ks x ≡ false → mention_none (names_at c ks) (map (tree_at c) rest) ≡ false
+clear_fails c ks rest more x e h = rw e (ap (λ b. b && mention_none (names_at c ks) (map (tree_at c) more)) h)
+
+-- a test of two trees decides as the definition does
+pub tree_decides : (r : Bool) (a b : Tree) → (IsTrue r ↔ (a ≡ b)) → r ≡ is_same_tree a b
+tree_decides r a b h = go r (tree_discrete a b) h
+  where
+    go : (s : Bool) (d : Dec (a ≡ b)) → (IsTrue s ↔ (a ≡ b)) → s ≡ decided d
+    go true (yes e) i = refl
+    go true (no f) i = absurd (f (i.0 refl))
+    go false (yes e) i = i.1 e
+    go false (no f) i = refl
+
+-- the first argument is the first parameter, or not
+pub params_next : (f : ℕ → Tree) (left right ps xs : List ℕ) (p x : ℕ) → left ≡ p ∷ ps → right ≡ x ∷ xs → is_same_tree (f p) (f x) ≡ true → after_params (map f left) (map f right) ≡ after_params (map f ps) (map f xs)
+params_next f left right ps xs p x e g h = rw (e, g) (ap (λ b. if b then after_params (map f ps) (map f xs) else None) h)
+
+pub params_differ : (f : ℕ → Tree) (left right ps xs : List ℕ) (p x : ℕ) → left ≡ p ∷ ps → right ≡ x ∷ xs → is_same_tree (f p) (f x) ≡ false → after_params (map f left) (map f right) ≡ None
+params_differ f left right ps xs p x e g h = rw (e, g) (ap (λ b. if b then after_params (map f ps) (map f xs) else None) h)
+
+pub params_missing : (f : ℕ → Tree) (left right ps : List ℕ) (p : ℕ) → left ≡ p ∷ ps → length right ≡ 0 → after_params (map f left) (map f right) ≡ None
+params_missing f left [] ps p e g = rw e refl
+params_missing f left (x ∷ xs) ps p e g = absurd (omega arith)
+
+pub params_end : (f : ℕ → Tree) (left right : List ℕ) → length left ≡ 0 → after_params (map f left) (map f right) ≡ Some (map f right)
+params_end f [] right e = refl
+params_end f (p ∷ ps) right e = absurd (omega arith)
+
+-- a constant at the block's own levels, or none
+pub member_named : (F : Frame) (h : Tree) (xs : List Tree) (T : Name) → Some T ≡ own_name F.levels h → as_member F h xs ≡ plain_indices F T (after_params F.params xs)
+member_named F (const c ls) xs T e = go (is_same_tree (const c ls) (const c F.levels)) e
+  where
+    go : (b : Bool) → Some T ≡ (if b then Some c else None) → (if b then plain_indices F c (after_params F.params xs) else None) ≡ plain_indices F T (after_params F.params xs)
+    go true i = let same : c ≡ T = cc in ap (λ n. plain_indices F n (after_params F.params xs)) same
+    go false i = absurd (cc)
+member_named F _ xs T e = absurd (cc)

@@ -1,0 +1,16 @@
+use Rattle.std.proofs.Common.{◌≡◌, length, map}
+use Rattle.lk_blocks.specs.BlockSteps.{is_among}
+use Rattle.lk_store.specs.Contents.{tree_at}
+use Rattle.lk_block.specs.Shapes.{AreTreesIn}
+use Rattle.lk_block.proofs.elimination.is_among.Given as goal
+
+abbrev pub invariant-others : goal.invariant-others
+invariant-others g l =
+    let s = g.T.Terms.contents l.terms in
+    record {
+      rest_in : AreTreesIn s l.rest;
+      same : is_among (tree_at s l.fn.e) (map (tree_at s) l.fn.others) ≡ is_among (tree_at s l.fn.e) (map (tree_at s) l.rest);
+    }
+
+abbrev pub decreases-others : goal.decreases-others
+decreases-others g l = length l.rest

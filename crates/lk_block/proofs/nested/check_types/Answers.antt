@@ -1,0 +1,36 @@
+use Rattle.std.proofs.Common.{◌≡◌, map, ap, subst, ◌∙◌}
+use Rattle.lk_table.specs.Declarations.{checked}
+use Rattle.lk_blocks.specs.Flat.{flat_ctors, flat_types}
+use Rattle.lk_env.specs.Units.{constructor_at, type_at, IsTypeIn}
+use Rattle.lk_mentions.specs.Names.{names_at}
+use Rattle.lk_block.specs.Findings.{found, finding, FindsNothing}
+use Rattle.lk_block.proofs.Counted.{rest_have, first_has}
+use Rattle.lk_block.proofs.Flats.{type_flat, type_stops, nothing_from}
+use Rattle.lk_block.proofs.nested.check_types.Goals as goal
+
+pub check_constructors-requires-clause-constructors_in : goal.check_constructors-requires-clause-constructors_in
+check_constructors-requires-clause-constructors_in g c =
+    let s = g.A.Terms.contents c.args.asks.now in
+    rw c.deref.ensures.value (first_has (IsTypeIn s) c.types.rest.now c.in-Some.stated.now c.in-Some.more.now c.in-Some.ensures.cases.0 c.types.invariant.rest_in).constructors_in
+
+pub returns-in-Err : goal.returns-in-Err
+returns-in-Err g c =
+    let s = g.A.Terms.contents c.args.asks.now in
+    let w = g.A.Asks.place c.args.asks.now in
+    let ns = names_at s c.args.names.now in
+    nothing_from w (flat_types ns (map (type_at s) c.args.types.now)) (flat_types ns (map (type_at s) c.types.rest.now)) c.in-Err.stop c.types.invariant.leads
+    (type_stops w ns (map (type_at s) c.types.rest.now) (type_at s c.in-Some.stated.now) (map (type_at s) c.in-Some.more.now) (ap (map (type_at s)) c.in-Some.ensures.cases.0) c.in-Err.stop
+    (subst (λ ks. FindsNothing (finding w (flat_ctors ns (map (constructor_at s) ks))) c.in-Err.stop) c.deref.ensures.value c.in-Err.ensures.found))
+
+pub types-preserved : goal.types-preserved
+types-preserved g c =
+    let s = g.A.Terms.contents c.args.asks.now in
+    let w = g.A.Asks.place c.args.asks.now in
+    let ns = names_at s c.args.names.now in
+    record {
+      walked = c.in-Ok.ensures.walked;
+      rest_in = rest_have (IsTypeIn s) c.types.rest.now c.in-Some.stated.now c.in-Some.more.now c.in-Some.ensures.cases.0 c.types.invariant.rest_in;
+      leads = c.types.invariant.leads
+          ∙ type_flat w ns (map (type_at s) c.types.rest.now) (type_at s c.in-Some.stated.now) (map (type_at s) c.in-Some.more.now) (ap (map (type_at s)) c.in-Some.ensures.cases.0)
+          (subst (λ ks. finding w (flat_ctors ns (map (constructor_at s) ks)) ≡ found checked) c.deref.ensures.value c.in-Ok.ensures.found);
+    }

@@ -1,0 +1,62 @@
+use Rattle.std.proofs.Common.{map, refl, ap, ◌∙◌}
+use Rattle.lk_table.specs.Declarations.{Yes, checked}
+use Rattle.lk_blocks.specs.BlockSteps.{ctor_sorts}
+use Rattle.lk_store.proofs.Extending.{Extends-trans}
+use Rattle.lk_env.specs.Units.{constructor_at, type_at, IsTypeIn}
+use Rattle.lk_block.specs.Sorts.{constructors_form, sorts_form}
+use Rattle.lk_block.proofs.Counted.{rest_have, first_has, none_left}
+use Rattle.lk_block.proofs.Firsts.{type_grown}
+use Rattle.lk_block.proofs.Leading.{leads_on, leads_stop, leads_end}
+use Rattle.lk_block.proofs.Sorted.{types_split, constructors_kept}
+use Rattle.lk_block.proofs.sorts.check_sorts.Goals as goal
+
+pub check_constructors-requires : goal.check_constructors-requires
+check_constructors-requires g c =
+    let before = g.A.Terms.contents c.args.asks.now in
+    let first = c.in-Some.stated.now in
+    let known = first_has (IsTypeIn before) c.types.rest.now first c.in-Some.more.now c.in-Some.ensures.cases.0 c.types.invariant.rest_in in
+    rw c.deref.ensures.value (type_grown before (g.A.Terms.contents c.types.asks) first c.types.invariant.keeps known).constructors_in
+
+pub returns-in-Err-clause-outcome : goal.returns-in-Err-clause-outcome
+returns-in-Err-clause-outcome g c =
+    let before = g.A.Terms.contents c.args.asks.now in
+    let now = g.A.Terms.contents c.types.asks in
+    let first = c.in-Some.stated.now in
+    let more = c.in-Some.more.now in
+    let was = c.types.invariant in
+    let known = first_has (IsTypeIn before) c.types.rest.now first more c.in-Some.ensures.cases.0 was.rest_in in
+    leads_stop (g.A.Asks.table c.args.asks.now) (g.A.Asks.table c.types.asks) (g.A.Asks.place c.args.asks.now) (g.A.Asks.place c.types.asks) was.same_table was.same_place
+    (sorts_form (map (type_at before) c.args.types.now)) (g.A.Asks.left c.args.asks.now) (sorts_form (map (type_at before) c.types.rest.now)) (g.A.Asks.left c.types.asks) was.leads
+    (constructors_form (map (constructor_at now) c.deref.result.now)) (λ (y : Yes). sorts_form (map (type_at before) more))
+    (types_split (map (type_at before) c.types.rest.now) (type_at before first) (map (type_at before) more) (ctor_sorts (map (constructor_at now) c.deref.result.now)) (ap (map (type_at before)) c.in-Some.ensures.cases.0)
+    (ap (λ ks. ctor_sorts (map (constructor_at now) ks)) c.deref.ensures.value ∙ constructors_kept before now first.constructors.items was.keeps known.constructors_in))
+    c.in-Err.stop c.in-Err.ensures.outcome
+
+pub types-preserved : goal.types-preserved
+types-preserved g c =
+    let before = g.A.Terms.contents c.args.asks.now in
+    let now = g.A.Terms.contents c.types.asks in
+    let after = g.A.Terms.contents c.check_constructors.new.asks in
+    let first = c.in-Some.stated.now in
+    let more = c.in-Some.more.now in
+    let was = c.types.invariant in
+    let known = first_has (IsTypeIn before) c.types.rest.now first more c.in-Some.ensures.cases.0 was.rest_in in
+    record {
+      keeps = Extends-trans before now after was.keeps c.in-Ok.ensures.keeps;
+      same_basis = c.in-Ok.ensures.basis ∙ was.same_basis;
+      same_table = c.in-Ok.ensures.table ∙ was.same_table;
+      same_place = c.in-Ok.ensures.place ∙ was.same_place;
+      rest_in = rest_have (IsTypeIn before) c.types.rest.now first more c.in-Some.ensures.cases.0 was.rest_in;
+      leads = leads_on (g.A.Asks.table c.args.asks.now) (g.A.Asks.table c.types.asks) (g.A.Asks.place c.args.asks.now) (g.A.Asks.place c.types.asks) was.same_table was.same_place
+          (sorts_form (map (type_at before) c.args.types.now)) (g.A.Asks.left c.args.asks.now) (sorts_form (map (type_at before) c.types.rest.now)) (g.A.Asks.left c.types.asks) was.leads
+          (constructors_form (map (constructor_at now) c.deref.result.now)) (λ (y : Yes). sorts_form (map (type_at before) more))
+          (types_split (map (type_at before) c.types.rest.now) (type_at before first) (map (type_at before) more) (ctor_sorts (map (constructor_at now) c.deref.result.now)) (ap (map (type_at before)) c.in-Some.ensures.cases.0)
+          (ap (λ ks. ctor_sorts (map (constructor_at now) ks)) c.deref.ensures.value ∙ constructors_kept before now first.constructors.items was.keeps known.constructors_in))
+          checked (g.A.Asks.left c.check_constructors.new.asks) (sorts_form (map (type_at before) more)) c.in-Ok.ensures.outcome refl;
+    }
+
+pub returns-clause-outcome : goal.returns-clause-outcome
+returns-clause-outcome g c =
+    let before = g.A.Terms.contents c.args.asks.now in
+    leads_end (g.A.Asks.table c.args.asks.now) (g.A.Asks.place c.args.asks.now) (sorts_form (map (type_at before) c.args.types.now)) (g.A.Asks.left c.args.asks.now) (sorts_form (map (type_at before) c.types.rest.now)) (g.A.Asks.left c.types.asks) checked
+    c.types.invariant.leads (ap sorts_form (none_left (type_at before) c.types.rest.now c.in_default.ensures.cases))

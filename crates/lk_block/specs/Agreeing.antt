@@ -1,0 +1,22 @@
+-- The outcome of a check, told in two ways: as the outcome of a task, and as what its pieces come to one after another.
+use Rattle.std.specs.Prelude.{ℕ, ◌≡◌, suc, List}
+use Rattle.lk_rulebook.specs.Place.{Block, Rec}
+use Rattle.lk_rulebook.specs.Units.{Library, of_block, place_of}
+use Rattle.lk_plain.specs.Answer.{Outcome, answered, refused, spent}
+use Rattle.lk_plain.specs.Erased.{Out, finished, stopped, used_up}
+use Rattle.lk_plain.specs.Program.{Table}
+use Rattle.lk_env.specs.Places.{partial_of}
+use Rattle.lk_blocks.specs.FlatTask.{plain_flat}
+use Rattle.lk_block.specs.Stages.{block_stages}
+
+-- both are an answer, one refusal, or the budget is used up
+abbrev pub Agrees : {A : Type 0} → Outcome A → Out → Type 0
+Agrees (answered v c t) (finished u left last) = Unit {0}
+Agrees (refused r) (stopped s) = r ≡ s
+Agrees spent used_up = Unit {0}
+Agrees _ _ = ⊥
+
+-- the plain outcome of a block as unit n is that of its stages
+abbrev pub FlatGoesByStages : Type 0
+FlatGoesByStages = (table : Table) (us : Library) (n : ℕ) (b : Block) (rs : List Rec) (budget : ℕ)
+    → Agrees (plain_flat table us n b rs budget) (block_stages table (λ p. place_of us n (partial_of (of_block b rs) p)) (suc budget) b rs budget)

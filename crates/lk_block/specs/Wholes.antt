@@ -1,0 +1,27 @@
+-- A block by its types alone, and its constructors and large elimination as the code asks them.
+use Rattle.std.specs.Prelude.{ℕ, Bool, List}
+use Rattle.lk_tree.specs.Tree.{Level, Tree}
+use Rattle.lk_rulebook.specs.Place.{Block, BlockType, type_names}
+use Rattle.lk_plain.specs.Program.{Program, done, ◌>>=◌}
+use Rattle.lk_table.specs.Declarations.{Yes}
+use Rattle.lk_blocks.specs.Block.{levels_of, frame_of, TypeShape, Shape}
+use Rattle.lk_blocks.specs.BlockSteps.{shapes_steps, large_steps}
+use Rattle.lk_blocks.specs.Flat.{flat_types}
+
+abbrev pub block_of : List BlockType → Block
+block_of ts = record { types = ts }
+
+-- that no occurrence is nested
+abbrev pub flat_form : List BlockType → Program Yes
+flat_form ts = flat_types (type_names ts) ts
+
+-- the constructors of a block with these parameters, this level and these indices
+abbrev pub shapes_form : ℕ → List BlockType → List Tree → Level → List (List Tree) → Program (List TypeShape)
+shapes_form fuel ts ps l is = shapes_steps fuel (frame_of (block_of ts) ps l) ts is
+
+abbrev pub shape_with : List BlockType → List Tree → Level → List TypeShape → Bool → Shape
+shape_with ts ps l ss large = record { levels = levels_of (block_of ts); params = ps; sort = l; types = ss; large = large }
+
+-- large elimination, and the shape
+abbrev pub large_form : List BlockType → List Tree → Level → List TypeShape → Program Shape
+large_form ts ps l ss = large_steps l ss >>= λ large. done (shape_with ts ps l ss large)

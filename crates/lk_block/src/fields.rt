@@ -1,0 +1,210 @@
+//! The fields of a constructor: each fits in the universe of the block, and is positive.
+
+ghost use Rattle.std.specs.Prelude.{◌≡◌, ◌<◌, ℕ, suc, ◌++◌, ◌∷◌, [], length, map, All, IfOk, OnOk};
+ghost use Rattle.lk_tree.specs.LevelTest.{level_le_test};
+ghost use Rattle.lk_table.specs.Levels.{tested};
+ghost use Rattle.lk_store.specs.Contents.{level_at, tree_at, Extends};
+ghost use Rattle.lk_blocks.specs.BlockSteps.{fits, fits_in, fields_steps};
+ghost use Rattle.lk_block.specs.Courses.{Gives, Settles};
+ghost use Rattle.lk_block.specs.Frames.{frame_at, IsFrameIn};
+ghost use Rattle.lk_block.specs.Shapes.{kind_at, field_at, IsKindIn, IsFieldIn};
+ghost use Rattle.lk_block.specs.Fields.{kind_form, field_form, next_field};
+
+use crate::asking::{pi_of, sort_of};
+use crate::frame::Frame;
+use crate::positive::walk;
+use crate::shape::{Field, FieldKind};
+use crate::telescope::{number_after, open_local};
+use lk_ask::asks::Asks;
+use lk_ask::rule::Rule;
+use lk_ask::stop::Stop;
+use lk_level_order::compared::{LevelError, leq};
+use lk_level_order::zero::is_zero;
+use lk_store::terms::Terms;
+use std::alloc::Global;
+
+/// Whether a level is at most another one under every assignment.
+fn is_at_most<T: Terms>(alloc: Global, terms: &T, level: u64, bound: u64) -> Result<bool, Stop>
+    requires level_in { level < length (T.contents terms.now).levels }
+    requires bound_in { bound < length (T.contents terms.now).levels }
+    ensures { Settles (tested (level_le_test (level_at (T.contents terms.now) level) (level_at (T.contents terms.now) bound))) (λ r. r) result }
+{
+    match leq(alloc, terms, level, bound) {
+        Ok(below) => Ok(below),
+        Err(error) => match error {
+            LevelError::Width => Err(Stop::Rule(Rule::LevelWidth)),
+            LevelError::NoMemory => Err(Stop::NoMemory),
+        },
+    }
+}
+
+/// Whether the level of a type's sort is at most this one.
+fn fits<A: Asks>(alloc: Global, asks: &mut A, level: u64, domain: u64) -> Result<bool, Stop>
+    requires level_in { level < length (A.contents asks.old).levels }
+    requires domain_in { domain < length (A.contents asks.old).trees }
+    ensures keeps { Extends (A.contents asks.old) (A.contents asks.new) }
+    ensures basis { A.basis asks.new ≡ A.basis asks.old }
+    ensures table { A.table asks.new ≡ A.table asks.old }
+    ensures place { A.place asks.new ≡ A.place asks.old }
+    ensures outcome { Gives (A.table asks.old) (A.place asks.old) (fits (level_at (A.contents asks.old) level) (tree_at (A.contents asks.old) domain)) (A.left asks.old) (λ r. r) (A.left asks.new) result }
+{
+    match sort_of(asks, domain) {
+        Ok(own) => is_at_most(alloc, asks, own, level),
+        Err(stop) => Err(stop),
+    }
+}
+
+/// Whether a type may be that of a field where the block's types have a sort at this level: each may, where that is 0.
+fn fits_in<A: Asks>(alloc: Global, asks: &mut A, level: u64, domain: u64) -> Result<bool, Stop>
+    requires level_in { level < length (A.contents asks.old).levels }
+    requires domain_in { domain < length (A.contents asks.old).trees }
+    ensures keeps { Extends (A.contents asks.old) (A.contents asks.new) }
+    ensures basis { A.basis asks.new ≡ A.basis asks.old }
+    ensures table { A.table asks.new ≡ A.table asks.old }
+    ensures place { A.place asks.new ≡ A.place asks.old }
+    ensures outcome { Gives (A.table asks.old) (A.place asks.old) (fits_in (level_at (A.contents asks.old) level) (tree_at (A.contents asks.old) domain)) (A.left asks.old) (λ r. r) (A.left asks.new) result }
+{
+    match is_zero(alloc, asks, level) {
+        Ok(true) => Ok(true),
+        Ok(false) => fits(alloc, asks, level, domain),
+        Err(_) => Err(Stop::NoMemory),
+    }
+}
+
+/// The kind of a field by its type, which is to fit in the universe of the block. Locals get numbers from this one on.
+fn kind_of_field<A: Asks>(
+    alloc: Global,
+    asks: &mut A,
+    frame: &Frame,
+    number: u64,
+    domain: u64,
+) -> Result<FieldKind, Stop>
+    requires frame_in { IsFrameIn (A.contents asks.old) frame.now }
+    requires domain_in { domain < length (A.contents asks.old).trees }
+    ensures keeps { Extends (A.contents asks.old) (A.contents asks.new) }
+    ensures basis { A.basis asks.new ≡ A.basis asks.old }
+    ensures table { A.table asks.new ≡ A.table asks.old }
+    ensures place { A.place asks.new ≡ A.place asks.old }
+    ensures known { IfOk result (IsKindIn (A.contents asks.new)) }
+    ensures outcome { (fuel : ℕ) → A.left asks.old < fuel → Gives (A.table asks.old) (A.place asks.old) (kind_form fuel (frame_at (A.contents asks.old) frame.now) number (tree_at (A.contents asks.old) domain)) (A.left asks.old) (kind_at (A.contents asks.new)) (A.left asks.new) result }
+{
+    match fits_in(alloc, asks, frame.sort, domain) {
+        Ok(true) => walk(alloc, asks, frame, number, domain),
+        Ok(false) => Err(Stop::Rule(Rule::FieldUniverse)),
+        Err(stop) => Err(stop),
+    }
+}
+
+/// The field that the Local of a number stands for, with its type.
+fn field_of<A: Asks>(
+    alloc: Global,
+    asks: &mut A,
+    frame: &Frame,
+    number: u64,
+    domain: u64,
+    variable: u64,
+) -> Result<Field, Stop>
+    requires frame_in { IsFrameIn (A.contents asks.old) frame.now }
+    requires domain_in { domain < length (A.contents asks.old).trees }
+    requires variable_in { variable < length (A.contents asks.old).trees }
+    ensures keeps { Extends (A.contents asks.old) (A.contents asks.new) }
+    ensures basis { A.basis asks.new ≡ A.basis asks.old }
+    ensures table { A.table asks.new ≡ A.table asks.old }
+    ensures place { A.place asks.new ≡ A.place asks.old }
+    ensures known { IfOk result (IsFieldIn (A.contents asks.new)) }
+    ensures outcome { (fuel : ℕ) → A.left asks.old < fuel → Gives (A.table asks.old) (A.place asks.old) (field_form fuel (frame_at (A.contents asks.old) frame.now) number (tree_at (A.contents asks.old) domain) (tree_at (A.contents asks.old) variable)) (A.left asks.old) (field_at (A.contents asks.new)) (A.left asks.new) result }
+{
+    let next = match number_after(number) {
+        Ok(next) => next,
+        Err(_) => return Err(Stop::NoMemory),
+    };
+    match kind_of_field(alloc, asks, frame, next, domain) {
+        Ok(kind) => Ok(Field { variable, kind }),
+        Err(stop) => Err(stop),
+    }
+}
+
+/// The field of the Pi that a term's weak head form is to be, and what is left, opened with the Local of a number.
+fn next_field<A: Asks>(
+    alloc: Global,
+    asks: &mut A,
+    frame: &Frame,
+    number: u64,
+    e: u64,
+) -> Result<(Field, u64), Stop>
+    requires frame_in { IsFrameIn (A.contents asks.old) frame.now }
+    requires e_in { e < length (A.contents asks.old).trees }
+    ensures keeps { Extends (A.contents asks.old) (A.contents asks.new) }
+    ensures basis { A.basis asks.new ≡ A.basis asks.old }
+    ensures table { A.table asks.new ≡ A.table asks.old }
+    ensures place { A.place asks.new ≡ A.place asks.old }
+    ensures field_known { IfOk result (λ p. IsFieldIn (A.contents asks.new) p.0) }
+    ensures rest_known { IfOk result (λ p. p.1 < length (A.contents asks.new).trees) }
+    ensures outcome { (fuel : ℕ) → A.left asks.old < fuel → Gives (A.table asks.old) (A.place asks.old) (next_field fuel (frame_at (A.contents asks.old) frame.now) number (tree_at (A.contents asks.old) e)) (A.left asks.old) (λ p. (field_at (A.contents asks.new) p.0, tree_at (A.contents asks.new) p.1)) (A.left asks.new) result }
+{
+    let parts = match pi_of(asks, e) {
+        Ok(parts) => parts,
+        Err(stop) => return Err(stop),
+    };
+    let opened = match open_local(alloc, asks, number, parts.0, parts.1) {
+        Ok(opened) => opened,
+        Err(_) => return Err(Stop::NoMemory),
+    };
+    match field_of(alloc, asks, frame, number, parts.0, opened.0) {
+        Ok(field) => Ok((field, opened.1)),
+        Err(stop) => Err(stop),
+    }
+}
+
+/// Adds a field, whose Local's number is taken, and tells the next number.
+fn keep_field(fields: &mut Vec<Field>, field: Field, number: u64) -> Result<u64, Stop>
+    ensures fields { OnOk result (fields.new.items ≡ fields.old.items ++ field ∷ []) }
+    ensures next { IfOk result (λ n. n ≡ suc number) }
+{
+    match fields.push(field) {
+        Ok(_) => {}
+        Err(_) => return Err(Stop::NoMemory),
+    }
+    match number_after(number) {
+        Ok(next) => Ok(next),
+        Err(_) => Err(Stop::NoMemory),
+    }
+}
+
+/// So many fields of a term, with Locals from a number on, and what is left.
+pub fn fields<A: Asks>(
+    alloc: Global,
+    asks: &mut A,
+    frame: &Frame,
+    first: u64,
+    count: u64,
+    e: u64,
+) -> Result<(Vec<Field>, u64), Stop>
+    requires frame_in { IsFrameIn (A.contents asks.old) frame.now }
+    requires e_in { e < length (A.contents asks.old).trees }
+    ensures keeps { Extends (A.contents asks.old) (A.contents asks.new) }
+    ensures basis { A.basis asks.new ≡ A.basis asks.old }
+    ensures table { A.table asks.new ≡ A.table asks.old }
+    ensures place { A.place asks.new ≡ A.place asks.old }
+    ensures fields_known { IfOk result (λ t. All (IsFieldIn (A.contents asks.new)) t.0.items) }
+    ensures rest_known { IfOk result (λ t. t.1 < length (A.contents asks.new).trees) }
+    ensures outcome { (fuel : ℕ) → A.left asks.old < fuel → Gives (A.table asks.old) (A.place asks.old) (fields_steps fuel (frame_at (A.contents asks.old) frame.now) first count (tree_at (A.contents asks.old) e)) (A.left asks.old) (λ t. (map (field_at (A.contents asks.new)) t.0.items, tree_at (A.contents asks.new) t.1)) (A.left asks.new) result }
+{
+    let mut found: Vec<Field> = Vec::new(alloc);
+    let mut number = first;
+    let mut left = count;
+    let mut rest = e;
+    'fields: while left > 0 {
+        let next = match next_field(alloc, asks, frame, number, rest) {
+            Ok(next) => next,
+            Err(stop) => return Err(stop),
+        };
+        number = match keep_field(&mut found, next.0, number) {
+            Ok(after) => after,
+            Err(_) => return Err(Stop::NoMemory),
+        };
+        rest = next.1;
+        left -= 1;
+    }
+    Ok((found, rest))
+}
