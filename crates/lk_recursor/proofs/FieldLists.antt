@@ -1,0 +1,51 @@
+-- Fields, hypotheses and minor premises, one after another.
+use Rattle.std.proofs.Common.{◌≡◌, ◌<◌, ℕ, List, [], ◌∷◌, ◌++◌, map, length, All, refl, sym, ap, ◌∙◌, append_assoc}
+use Rattle.std.proofs.lemmas.List.Elements.{All-map, All-same, All-weaker}
+use Rattle.lk_tree.specs.Tree.{Name, Tree}
+use Rattle.lk_store.specs.Contents.{Contents, tree_at}
+use Rattle.lk_blocks.specs.Block as plain
+use Rattle.lk_blocks.specs.Recursors.{variables, with_hypothesis, hypotheses, with_induction, inductions}
+use Rattle.lk_block.specs.declared.shape.Field.{Field}
+use Rattle.lk_block.specs.Shapes.{field_at, IsFieldIn}
+use Rattle.lk_recursor.specs.Hypotheses.{hypothesis, induction}
+
+-- the Locals of fields
+pub variables_are : (c : Contents) (fs : List Field) → variables (map (field_at c) fs) ≡ map (tree_at c) (map (λ (f : Field). f.variable) fs)
+variables_are c [] = refl
+variables_are c (f ∷ fs) = ap (λ ts. tree_at c f.variable ∷ ts) (variables_are c fs)
+
+pub variables_known : (c : Contents) (fs : List Field) → All (IsFieldIn c) fs → All (λ e. e < length c.trees) (map (λ (f : Field). f.variable) fs)
+variables_known c fs h = All-map (λ e. e < length c.trees) (λ (f : Field). f.variable) fs (All-weaker (IsFieldIn c) (λ (f : Field). f.variable < length c.trees) (λ f k. k.variable_in) fs h)
+
+-- and where a list is theirs
+pub variables_at : (c : Contents) (given : List ℕ) (fs : List Field) → given ≡ map (λ (f : Field). f.variable) fs → map (tree_at c) given ≡ variables (map (field_at c) fs)
+variables_at c given fs same = ap (map (tree_at c)) same ∙ sym (variables_are c fs)
+
+pub variables_in : (c : Contents) (given : List ℕ) (fs : List Field) → given ≡ map (λ (f : Field). f.variable) fs → All (IsFieldIn c) fs → All (λ e. e < length c.trees) given
+variables_in c given fs same h = All-same (λ e. e < length c.trees) given (map (λ (f : Field). f.variable) fs) same (variables_known c fs h)
+
+-- a hypothesis more
+with_hypothesis-front : (s : plain.Shape) (x : Tree) (k : plain.FieldKind) (rest : List Tree) → with_hypothesis s x k rest ≡ with_hypothesis s x k [] ++ rest
+with_hypothesis-front s x plain.plain rest = refl
+with_hypothesis-front s x (plain.recursive ys T is) rest = refl
+
+pub hypotheses-cons : (s : plain.Shape) (f : plain.Field) (fs : List plain.Field) → hypotheses s (f ∷ fs) ≡ hypotheses s (f ∷ []) ++ hypotheses s fs
+hypotheses-cons s f fs = with_hypothesis-front s f.variable f.kind (hypotheses s fs)
+
+pub hypothesis_one : (s : plain.Shape) (x : Tree) (k : plain.FieldKind) (ys : List Tree) (T : Name) (is : List Tree) → k ≡ plain.recursive ys T is → with_hypothesis s x k [] ≡ hypothesis s x ys T is ∷ []
+hypothesis_one s x k ys T is e = ap (λ (j : plain.FieldKind). with_hypothesis s x j []) e
+
+with_induction-front : (s : plain.Shape) (x : Tree) (k : plain.FieldKind) (rest : List Tree) → with_induction s x k rest ≡ with_induction s x k [] ++ rest
+with_induction-front s x plain.plain rest = refl
+with_induction-front s x (plain.recursive ys T is) rest = refl
+
+pub inductions-cons : (s : plain.Shape) (f : plain.Field) (fs : List plain.Field) → inductions s (f ∷ fs) ≡ inductions s (f ∷ []) ++ inductions s fs
+inductions-cons s f fs = with_induction-front s f.variable f.kind (inductions s fs)
+
+pub induction_one : (s : plain.Shape) (x : Tree) (k : plain.FieldKind) (ys : List Tree) (T : Name) (is : List Tree) → k ≡ plain.recursive ys T is → with_induction s x k [] ≡ induction s x ys T is ∷ []
+induction_one s x k ys T is e = ap (λ (j : plain.FieldKind). with_induction s x j []) e
+
+-- what one step adds to what is found, where something is left
+pub added_more : (found more one rest front whole : List Tree) → found ++ front ≡ whole → front ≡ one ++ rest → more ≡ found ++ one → more ++ rest ≡ whole
+added_more found more one rest front whole was split is =
+    ap (λ ys. ys ++ rest) is ∙ append_assoc found one rest ∙ ap (λ ys. found ++ ys) (sym split) ∙ was

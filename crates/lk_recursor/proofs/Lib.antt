@@ -1,0 +1,14 @@
+pub mod Lists
+pub mod Steady
+pub mod Maxima
+pub mod Names
+pub mod RunLists
+pub mod Applied
+pub mod Closed
+pub mod FieldLists
+pub mod Fronts
+pub mod Named
+pub mod Agreeing
+pub mod Compared
+pub mod Leading
+pub mod Checked

@@ -1,0 +1,46 @@
+use Rattle.std.proofs.Common.{◌<◌, length, map, ap, ◌∙◌, arith}
+use Rattle.lk_tree.specs.Tree.{Tree}
+use Rattle.lk_tree.specs.Bind.{close}
+use Rattle.lk_store.specs.Contents.{tree_at}
+use Rattle.lk_store.proofs.Extending.{Extends-trans}
+use Rattle.lk_blocks.specs.Block.{domain}
+use Rattle.lk_blocks.specs.Recursors.{number}
+use Rattle.lk_recursor.specs.Binders.{bind, bound_by}
+use Rattle.lk_recursor.proofs.Lists.{all_last, all_others, bound_next, bound_end}
+use Rattle.lk_recursor.proofs.binders.over_each.Goals as goal
+
+pub over_local-requires-clause-local_in : goal.over_local-requires-clause-local_in
+over_local-requires-clause-local_in g c =
+    let before = g.T.Terms.contents c.args.terms.now in
+    let known = all_last (λ x. x < length before.trees) c.locals.left.now c.in-Some.others.now c.in-Some.local.now c.in-Some.ensures.cases.0 c.locals.invariant.left_in in
+    let longer = c.locals.invariant.keeps.trees.longer in
+    omega arith
+
+pub locals-preserved : goal.locals-preserved
+locals-preserved g c =
+    let before = g.T.Terms.contents c.args.terms.now in
+    let now = g.T.Terms.contents c.locals.terms in
+    let after = g.T.Terms.contents c.over_local.new.terms in
+    let was = c.locals.invariant in
+    let x = c.in-Some.local.now in
+    let split = c.in-Some.ensures.cases.0 in
+    let known = all_last (λ e. e < length before.trees) c.locals.left.now c.in-Some.others.now x split was.left_in in
+    let made = c.in_ok-made.ensures.ok in
+    record {
+      keeps = Extends-trans before now after was.keeps c.in_ok-made.ensures.keeps;
+      same_rest = c.in_ok-made.ensures.rest ∙ was.same_rest;
+      left_in = all_others (λ e. e < length before.trees) c.locals.left.now c.in-Some.others.now x split was.left_in;
+      made_in = made.known;
+      leads =
+          bound_next c.args.binder (tree_at before) c.locals.left.now c.in-Some.others.now x (tree_at now c.locals.made) (tree_at after c.in_ok-made.made) (bound_by c.args.binder (map (tree_at before) c.args.locals.now) (tree_at before c.args.e))
+          split (made.is ∙ ap (λ (t : Tree). bind c.args.binder (domain t) (close (number t) (tree_at now c.locals.made))) (was.keeps.trees.same x known)) was.leads;
+    }
+
+pub returns-clause-ok : goal.returns-clause-ok
+returns-clause-ok g c =
+    let before = g.T.Terms.contents c.args.terms.now in
+    let was = c.locals.invariant in
+    record {
+      known = was.made_in;
+      is = bound_end c.args.binder (tree_at before) c.locals.left.now (tree_at (g.T.Terms.contents c.locals.terms) c.locals.made) (bound_by c.args.binder (map (tree_at before) c.args.locals.now) (tree_at before c.args.e)) c.in_default.ensures.cases was.leads;
+    }

@@ -1,0 +1,40 @@
+use Rattle.std.proofs.Common.{◌<◌, length, map, ap, sym, ◌∙◌}
+use Rattle.std.proofs.lemmas.List.Elements.{All-same}
+use Rattle.lk_tree.specs.Tree.{param}
+use Rattle.lk_table.specs.Declarations.{checked}
+use Rattle.lk_store.specs.Contents.{name_at, level_at}
+use Rattle.lk_env.specs.Units.{recursor_at}
+use Rattle.lk_blocks.specs.Compare.{rec_steps}
+use Rattle.lk_block.specs.Shapes.{shape_at}
+use Rattle.lk_recursor.specs.Comparisons.{own_at}
+use Rattle.lk_recursor.proofs.Steady.{names-steady}
+use Rattle.lk_recursor.proofs.Compared.{shared-known, own-known, recursor-known}
+use Rattle.lk_recursor.proofs.Checked.{pair-steady}
+use Rattle.lk_recursor.proofs.Leading.{gives_moved}
+use Rattle.lk_recursor.proofs.comparing.check_found.Goals as goal
+
+pub check_pair-requires : goal.check_pair-requires
+check_pair-requires g c =
+    let before = g.A.Terms.contents c.args.asks.now in
+    let between = g.A.Terms.contents c.levels_between.new.asks in
+    let grown = c.in-Ok.ensures.keeps in
+    let stated = c.args.stated.now in
+    record {
+      shared_is = shared-known before between grown c.args.shared.now c.requires.shared_is;
+      own_is = own-known before between grown c.args.own c.requires.own_is;
+      stated_in = recursor-known before between grown stated c.requires.stated_in;
+      levels_in = All-same (λ l. l < length between.levels) c.deref-2.result.now c.in-Ok.levels.items c.deref-2.ensures.value c.in-Ok.ensures.known;
+      levels_are = ap (map (level_at between)) c.deref-2.ensures.value ∙ c.in-Ok.ensures.ok ∙ ap (λ ns. map param (map (name_at before) ns)) c.deref.ensures.value
+          ∙ ap (map param) (sym (names-steady before between grown stated.levels.items c.requires.stated_in.stated.levels_in));
+    }
+
+pub returns-clause-outcome : goal.returns-clause-outcome
+returns-clause-outcome g c =
+    let before = g.A.Terms.contents c.args.asks.now in
+    let between = g.A.Terms.contents c.levels_between.new.asks in
+    let shape = c.args.shared.now.shape.now in
+    let made = c.in-Ok.ensures in
+    gives_moved (g.A.Asks.table c.args.asks.now) (g.A.Asks.table c.levels_between.new.asks) (g.A.Asks.place c.args.asks.now) (g.A.Asks.place c.levels_between.new.asks) made.table made.place
+    (rec_steps (recursor_at before c.args.stated.now) (own_at before (shape_at before shape) c.args.own)) (rec_steps (recursor_at between c.args.stated.now) (own_at between (shape_at between shape) c.args.own))
+    (pair-steady before between made.keeps shape c.requires.shared_is.shape_in c.args.stated.now c.args.own c.requires.stated_in c.requires.own_is)
+    (g.A.Asks.left c.args.asks.now) (g.A.Asks.left c.levels_between.new.asks) made.left (λ u. checked) (g.A.Asks.left c.check_pair.new.asks) c.check_pair.result c.check_pair.ensures.outcome

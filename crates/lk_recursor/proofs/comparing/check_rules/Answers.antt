@@ -1,0 +1,142 @@
+use Rattle.std.proofs.Common.{◌<◌, length, map, ◌∙◌, arith}
+use Rattle.lk_table.specs.Declarations.{Yes, checked}
+use Rattle.lk_store.specs.Contents.{tree_at}
+use Rattle.lk_store.proofs.Extending.{Extends-trans}
+use Rattle.lk_env.specs.Units.{rule_at, IsRuleIn}
+use Rattle.lk_blocks.specs.Recursors.{rules_of, as_they_are}
+use Rattle.lk_blocks.specs.Compare.{rules_steps}
+use Rattle.lk_block.specs.Shapes.{shape_at, constructor_shape_at, IsConstructorShapeIn}
+use Rattle.lk_block.proofs.Counted.{rest_have, first_has}
+use Rattle.lk_recursor.specs.Comparisons.{stated_of, own_of, renamed_value, rule_form}
+use Rattle.lk_recursor.proofs.Steady.{constructor-known}
+use Rattle.lk_recursor.proofs.Compared.{comparison-known}
+use Rattle.lk_recursor.proofs.Checked.{rules_step, no_rule, no_minor, no_constructor}
+use Rattle.lk_recursor.proofs.Leading.{leads_next, leads_halt, leads_end}
+use Rattle.lk_recursor.proofs.comparing.check_rules.Goals as goal
+
+pub returns-in-None-clause-outcome : goal.returns-in-None-clause-outcome
+returns-in-None-clause-outcome g c =
+    let before = g.A.Terms.contents c.args.asks.now in
+    let now = g.A.Terms.contents c.rules.asks in
+    let pair = c.args.pair.now in
+    let inv = c.rules.invariant in
+    let stated = stated_of before pair in
+    let own = own_of before pair in
+    let shape = shape_at before pair.shared.shape.now in
+    let all = rules_steps stated own stated.recursor.rules own.recursor.rules in
+    let rest = rules_steps stated own (map (rule_at before) c.rules.rules.now) (rules_of as_they_are shape (map (tree_at before) c.rules.minors.now) (map (constructor_shape_at before) c.rules.constructors.now)) in
+    leads_end (g.A.Asks.table c.args.asks.now) (g.A.Asks.place c.args.asks.now) all rest (g.A.Asks.left c.args.asks.now) (g.A.Asks.left c.rules.asks) checked inv.leads
+    (no_minor before stated own shape c.rules.rules.now c.rules.minors.now c.rules.constructors.now c.in-None.ensures.cases)
+
+pub returns-in-None-split_first-clause-outcome : goal.returns-in-None-split_first-clause-outcome
+returns-in-None-split_first-clause-outcome g c =
+    let before = g.A.Terms.contents c.args.asks.now in
+    let now = g.A.Terms.contents c.rules.asks in
+    let pair = c.args.pair.now in
+    let inv = c.rules.invariant in
+    let stated = stated_of before pair in
+    let own = own_of before pair in
+    let shape = shape_at before pair.shared.shape.now in
+    let all = rules_steps stated own stated.recursor.rules own.recursor.rules in
+    let rest = rules_steps stated own (map (rule_at before) c.rules.rules.now) (rules_of as_they_are shape (map (tree_at before) c.rules.minors.now) (map (constructor_shape_at before) c.rules.constructors.now)) in
+    leads_end (g.A.Asks.table c.args.asks.now) (g.A.Asks.place c.args.asks.now) all rest (g.A.Asks.left c.args.asks.now) (g.A.Asks.left c.rules.asks) checked inv.leads
+    (no_constructor before stated own shape c.rules.rules.now c.rules.minors.now c.rules.constructors.now c.in-None-split_first.ensures.cases)
+
+pub returns-clause-outcome : goal.returns-clause-outcome
+returns-clause-outcome g c =
+    let before = g.A.Terms.contents c.args.asks.now in
+    let now = g.A.Terms.contents c.rules.asks in
+    let pair = c.args.pair.now in
+    let inv = c.rules.invariant in
+    let stated = stated_of before pair in
+    let own = own_of before pair in
+    let shape = shape_at before pair.shared.shape.now in
+    let all = rules_steps stated own stated.recursor.rules own.recursor.rules in
+    let rest = rules_steps stated own (map (rule_at before) c.rules.rules.now) (rules_of as_they_are shape (map (tree_at before) c.rules.minors.now) (map (constructor_shape_at before) c.rules.constructors.now)) in
+    leads_end (g.A.Asks.table c.args.asks.now) (g.A.Asks.place c.args.asks.now) all rest (g.A.Asks.left c.args.asks.now) (g.A.Asks.left c.rules.asks) checked inv.leads
+    (no_rule before stated own shape c.rules.rules.now c.rules.minors.now c.rules.constructors.now c.in_default.ensures.cases)
+
+pub check_rule-requires-clause-pair_is : goal.check_rule-requires-clause-pair_is
+check_rule-requires-clause-pair_is g c =
+    comparison-known (g.A.Terms.contents c.args.asks.now) (g.A.Terms.contents c.rules.asks) c.rules.invariant.keeps c.args.pair.now c.requires
+
+pub check_rule-requires-clause-minor_in : goal.check_rule-requires-clause-minor_in
+check_rule-requires-clause-minor_in g c =
+    let before = g.A.Terms.contents c.args.asks.now in
+    let now = g.A.Terms.contents c.rules.asks in
+    let pair = c.args.pair.now in
+    let inv = c.rules.invariant in
+    let minor_in = first_has (λ m. m < length before.trees) c.rules.minors.now c.in-Some-split_first.minor.now c.in-Some-split_first.more_minors.now c.in-Some-split_first.ensures.cases.0 inv.minors_in in
+    let longer = inv.keeps.trees.longer in
+    omega arith
+
+pub check_rule-requires-clause-constructor_in : goal.check_rule-requires-clause-constructor_in
+check_rule-requires-clause-constructor_in g c =
+    let before = g.A.Terms.contents c.args.asks.now in
+    let now = g.A.Terms.contents c.rules.asks in
+    let pair = c.args.pair.now in
+    let inv = c.rules.invariant in
+    let constructor_in = first_has (IsConstructorShapeIn before) c.rules.constructors.now c.in-Some-split_first-2.constructor.now c.in-Some-split_first-2.others.now c.in-Some-split_first-2.ensures.cases.0 inv.constructors_in in
+    constructor-known before now inv.keeps c.in-Some-split_first-2.constructor.now constructor_in
+
+pub check_rule-requires-clause-value_in : goal.check_rule-requires-clause-value_in
+check_rule-requires-clause-value_in g c =
+    let before = g.A.Terms.contents c.args.asks.now in
+    let now = g.A.Terms.contents c.rules.asks in
+    let pair = c.args.pair.now in
+    let inv = c.rules.invariant in
+    let rule_in = first_has (IsRuleIn before) c.rules.rules.now c.in-Some.rule.now c.in-Some.more_rules.now c.in-Some.ensures.cases.0 inv.rules_in in
+    let value_in = rule_in.value_in in
+    let longer = inv.keeps.trees.longer in
+    omega arith
+
+pub returns-in-Err-clause-outcome : goal.returns-in-Err-clause-outcome
+returns-in-Err-clause-outcome g c =
+    let before = g.A.Terms.contents c.args.asks.now in
+    let now = g.A.Terms.contents c.rules.asks in
+    let pair = c.args.pair.now in
+    let inv = c.rules.invariant in
+    let rule_in = first_has (IsRuleIn before) c.rules.rules.now c.in-Some.rule.now c.in-Some.more_rules.now c.in-Some.ensures.cases.0 inv.rules_in in
+    let minor_in = first_has (λ m. m < length before.trees) c.rules.minors.now c.in-Some-split_first.minor.now c.in-Some-split_first.more_minors.now c.in-Some-split_first.ensures.cases.0 inv.minors_in in
+    let constructor_in = first_has (IsConstructorShapeIn before) c.rules.constructors.now c.in-Some-split_first-2.constructor.now c.in-Some-split_first-2.others.now c.in-Some-split_first-2.ensures.cases.0 inv.constructors_in in
+    let stated = stated_of before pair in
+    let own = own_of before pair in
+    let shape = shape_at before pair.shared.shape.now in
+    let all = rules_steps stated own stated.recursor.rules own.recursor.rules in
+    let rest = rules_steps stated own (map (rule_at before) c.rules.rules.now) (rules_of as_they_are shape (map (tree_at before) c.rules.minors.now) (map (constructor_shape_at before) c.rules.constructors.now)) in
+    let more = rules_steps stated own (map (rule_at before) c.in-Some.more_rules.now) (rules_of as_they_are shape (map (tree_at before) c.in-Some-split_first.more_minors.now) (map (constructor_shape_at before) c.in-Some-split_first-2.others.now)) in
+    let step = rules_step before now inv.keeps pair c.requires c.rules.rules.now c.in-Some.more_rules.now c.in-Some.rule.now c.rules.minors.now c.in-Some-split_first.more_minors.now c.in-Some-split_first.minor.now
+    c.rules.constructors.now c.in-Some-split_first-2.others.now c.in-Some-split_first-2.constructor.now c.in-Some.ensures.cases.0 c.in-Some-split_first.ensures.cases.0 c.in-Some-split_first-2.ensures.cases.0 rule_in.value_in minor_in constructor_in in
+    let form = rule_form (tree_at now c.in-Some.rule.now.value) (renamed_value now pair c.in-Some-split_first.minor.now c.in-Some-split_first-2.constructor.now) in
+    leads_halt (g.A.Asks.table c.args.asks.now) (g.A.Asks.table c.rules.asks) (g.A.Asks.place c.args.asks.now) (g.A.Asks.place c.rules.asks) inv.same_table inv.same_place
+    all rest (g.A.Asks.left c.args.asks.now) (g.A.Asks.left c.rules.asks) inv.leads form (λ (u : Yes). more) step c.in-Err.stop c.in-Err.ensures.outcome
+
+pub rules-preserved : goal.rules-preserved
+rules-preserved g c =
+    let before = g.A.Terms.contents c.args.asks.now in
+    let now = g.A.Terms.contents c.rules.asks in
+    let pair = c.args.pair.now in
+    let inv = c.rules.invariant in
+    let rule_in = first_has (IsRuleIn before) c.rules.rules.now c.in-Some.rule.now c.in-Some.more_rules.now c.in-Some.ensures.cases.0 inv.rules_in in
+    let minor_in = first_has (λ m. m < length before.trees) c.rules.minors.now c.in-Some-split_first.minor.now c.in-Some-split_first.more_minors.now c.in-Some-split_first.ensures.cases.0 inv.minors_in in
+    let constructor_in = first_has (IsConstructorShapeIn before) c.rules.constructors.now c.in-Some-split_first-2.constructor.now c.in-Some-split_first-2.others.now c.in-Some-split_first-2.ensures.cases.0 inv.constructors_in in
+    let stated = stated_of before pair in
+    let own = own_of before pair in
+    let shape = shape_at before pair.shared.shape.now in
+    let all = rules_steps stated own stated.recursor.rules own.recursor.rules in
+    let rest = rules_steps stated own (map (rule_at before) c.rules.rules.now) (rules_of as_they_are shape (map (tree_at before) c.rules.minors.now) (map (constructor_shape_at before) c.rules.constructors.now)) in
+    let more = rules_steps stated own (map (rule_at before) c.in-Some.more_rules.now) (rules_of as_they_are shape (map (tree_at before) c.in-Some-split_first.more_minors.now) (map (constructor_shape_at before) c.in-Some-split_first-2.others.now)) in
+    let step = rules_step before now inv.keeps pair c.requires c.rules.rules.now c.in-Some.more_rules.now c.in-Some.rule.now c.rules.minors.now c.in-Some-split_first.more_minors.now c.in-Some-split_first.minor.now
+    c.rules.constructors.now c.in-Some-split_first-2.others.now c.in-Some-split_first-2.constructor.now c.in-Some.ensures.cases.0 c.in-Some-split_first.ensures.cases.0 c.in-Some-split_first-2.ensures.cases.0 rule_in.value_in minor_in constructor_in in
+    let form = rule_form (tree_at now c.in-Some.rule.now.value) (renamed_value now pair c.in-Some-split_first.minor.now c.in-Some-split_first-2.constructor.now) in
+    record {
+      keeps = Extends-trans before now (g.A.Terms.contents c.check_rule.new.asks) inv.keeps c.in-Ok.ensures.keeps;
+      same_basis = c.in-Ok.ensures.basis ∙ inv.same_basis;
+      same_table = c.in-Ok.ensures.table ∙ inv.same_table;
+      same_place = c.in-Ok.ensures.place ∙ inv.same_place;
+      rules_in = rest_have (IsRuleIn before) c.rules.rules.now c.in-Some.rule.now c.in-Some.more_rules.now c.in-Some.ensures.cases.0 inv.rules_in;
+      minors_in = rest_have (λ m. m < length before.trees) c.rules.minors.now c.in-Some-split_first.minor.now c.in-Some-split_first.more_minors.now c.in-Some-split_first.ensures.cases.0 inv.minors_in;
+      constructors_in = rest_have (IsConstructorShapeIn before) c.rules.constructors.now c.in-Some-split_first-2.constructor.now c.in-Some-split_first-2.others.now c.in-Some-split_first-2.ensures.cases.0 inv.constructors_in;
+      leads = leads_next (g.A.Asks.table c.args.asks.now) (g.A.Asks.table c.rules.asks) (g.A.Asks.place c.args.asks.now) (g.A.Asks.place c.rules.asks) inv.same_table inv.same_place
+          all rest (g.A.Asks.left c.args.asks.now) (g.A.Asks.left c.rules.asks) inv.leads form (λ (u : Yes). more) step checked (g.A.Asks.left c.check_rule.new.asks) c.in-Ok.ensures.outcome;
+    }

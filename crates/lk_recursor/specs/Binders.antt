@@ -1,0 +1,20 @@
+-- Binders over Locals.
+use Rattle.std.specs.Prelude.{◌≡◌, ℕ, suc, List, [], ◌∷◌}
+use Rattle.lk_tree.specs.Tree.{Tree, lam, pi}
+use Rattle.lk_blocks.specs.Recursors.{number, pis, lams}
+use Rattle.lk_recursor.specs.declared.binders.Binder.{Binder}
+use Rattle.lk_recursor.specs.declared.binders.Binder.TheVariants.{Pi, Lam}
+
+abbrev pub bind : Binder → Tree → Tree → Tree
+bind Pi A B = pi A B
+bind Lam A b = lam A b
+
+-- one for each Local
+abbrev pub bound_by : Binder → List Tree → Tree → Tree
+bound_by Pi xs e = pis xs e
+bound_by Lam xs e = lams xs e
+
+-- Locals whose numbers go up by one, from this one on
+abbrev pub AreRun : ℕ → List Tree → Type 0
+AreRun k [] = Unit {0}
+AreRun k (x ∷ xs) = (number x ≡ k) × AreRun (suc k) xs

@@ -1,0 +1,5 @@
+pub mod Binders
+pub mod Fronts
+pub mod Comparisons
+pub mod Hypotheses
+pub mod Runs

@@ -1,0 +1,133 @@
+//! What all recursors of a block share.
+
+ghost use Rattle.std.specs.Prelude.{◌≡◌, ◌<◌, ◌+◌, ◌++◌, length, map, IfOk};
+ghost use Rattle.lk_tree.specs.Spine.{apply as applied};
+ghost use Rattle.lk_store.specs.Contents.{tree_at, Extends, IsTree};
+ghost use Rattle.lk_blocks.specs.Recursors.{front as front_locals, motives, minors, shape_bound};
+ghost use Rattle.lk_block.specs.Shapes.{shape_at, IsShapeIn};
+ghost use Rattle.lk_recursor.specs.Binders.{bound_by};
+ghost use Rattle.lk_recursor.specs.Fronts.{AreHeads, IsFront};
+
+use crate::binders::{Binder, over_locals};
+use crate::bounds::bound_of;
+use crate::heads::{Heads, motives_of};
+use crate::levels::{elimination_level, level_names};
+use crate::minors::minors_of;
+use lk_block::parameters::parameters_of;
+use lk_block::shape::Shape;
+use lk_rows::memory::NoMemory;
+use lk_spine::apply;
+use lk_store::terms::Terms;
+use std::alloc::Global;
+
+/// What all recursors of a block share. All numbers are those of one store.
+#[derive(Drop)]
+pub struct Front {
+    pub heads: Heads,
+    /// The names of a recursor's level parameters.
+    pub names: Vec<u64>,
+    /// The list of these, as levels.
+    pub levels: u64,
+    /// The Local of each constructor's minor premise, in the order of all constructors.
+    pub minors: Vec<u64>,
+    /// The number of the Local for a major premise. It is above those of all other Locals.
+    pub major: u64,
+}
+
+/// The number of the Local after so many.
+fn number_past(number: u64, count: usize) -> Result<u64, NoMemory>
+    ensures { IfOk result (λ n. n ≡ number + count) }
+{
+    // No Local in memory has so great a number.
+    match number.checked_add(count as u64) {
+        Some(next) => Ok(next),
+        None => Err(NoMemory),
+    }
+}
+
+/// The motives of a shape, numbered from its bound on.
+fn heads_of<T: Terms>(
+    alloc: Global,
+    terms: &mut T,
+    shape: &Shape,
+    first: u64,
+) -> Result<Heads, NoMemory>
+    requires shape_in { IsShapeIn (T.contents terms.old) shape.now }
+    requires first_is { first ≡ shape_bound (shape_at (T.contents terms.old) shape.now) }
+    ensures keeps { Extends (T.contents terms.old) (T.contents terms.new) }
+    ensures rest { T.rest terms.new ≡ T.rest terms.old }
+    ensures ok { IfOk result (AreHeads (T.contents terms.new) shape.now) }
+{
+    let own_levels = parameters_of(terms, &shape.levels)?;
+    let level = elimination_level(alloc, terms, shape)?;
+    let motives = motives_of(alloc, terms, shape, own_levels, level, first)?;
+    Ok(Heads {
+        own_levels,
+        motives,
+    })
+}
+
+/// What all recursors of a block of this shape share.
+pub fn front_of<T: Terms>(alloc: Global, terms: &mut T, shape: &Shape) -> Result<Front, NoMemory>
+    requires { IsShapeIn (T.contents terms.old) shape.now }
+    ensures keeps { Extends (T.contents terms.old) (T.contents terms.new) }
+    ensures rest { T.rest terms.new ≡ T.rest terms.old }
+    ensures ok { IfOk result (IsFront (T.contents terms.new) shape.now) }
+{
+    let first = bound_of(terms, shape)?;
+    let first_minor = number_past(first, shape.types.len())?;
+    let names = level_names(alloc, terms, shape)?;
+    let levels = parameters_of(terms, &names)?;
+    let heads = heads_of(alloc, terms, shape, first)?;
+    let minors = minors_of(alloc, terms, shape, &heads, first_minor)?;
+    let major = number_past(first_minor, minors.len())?;
+    Ok(Front {
+        heads,
+        names,
+        levels,
+        minors,
+        major,
+    })
+}
+
+/// Binders over a tree: for the parameters, the motives and the minor premises.
+pub(crate) fn over_front<T: Terms>(
+    alloc: Global,
+    terms: &mut T,
+    binder: Binder,
+    shape: &Shape,
+    front: &Front,
+    e: u64,
+) -> Result<u64, NoMemory>
+    requires shape_in { IsShapeIn (T.contents terms.old) shape.now }
+    requires front_is { IsFront (T.contents terms.old) shape.now front.now }
+    requires e_in { e < length (T.contents terms.old).trees }
+    ensures keeps { Extends (T.contents terms.old) (T.contents terms.new) }
+    ensures rest { T.rest terms.new ≡ T.rest terms.old }
+    ensures ok { IfOk result (λ r. IsTree (T.contents terms.new) r (bound_by binder (shape_at (T.contents terms.old) shape.now).params (bound_by binder (motives (shape_at (T.contents terms.old) shape.now) ++ minors (shape_at (T.contents terms.old) shape.now)) (tree_at (T.contents terms.old) e)))) }
+{
+    let inner = over_locals(alloc, terms, binder, &front.minors, e)?;
+    let middle = over_locals(alloc, terms, binder, &front.heads.motives, inner)?;
+    let made = over_locals(alloc, terms, binder, &shape.parameters, middle)?;
+    Ok(made)
+}
+
+/// A head applied to the parameters, the motives and the minor premises.
+pub(crate) fn at_front<T: Terms>(
+    terms: &mut T,
+    shape: &Shape,
+    front: &Front,
+    head: u64,
+) -> Result<u64, NoMemory>
+    requires shape_in { IsShapeIn (T.contents terms.old) shape.now }
+    requires front_is { IsFront (T.contents terms.old) shape.now front.now }
+    requires head_in { head < length (T.contents terms.old).trees }
+    ensures keeps { Extends (T.contents terms.old) (T.contents terms.new) }
+    ensures rest { T.rest terms.new ≡ T.rest terms.old }
+    ensures ok { IfOk result (λ r. IsTree (T.contents terms.new) r (applied (tree_at (T.contents terms.old) head) (front_locals (shape_at (T.contents terms.old) shape.now)))) }
+{
+    let first = apply(terms, head, &shape.parameters)?;
+    let second = apply(terms, first, &front.heads.motives)?;
+    let made = apply(terms, second, &front.minors)?;
+    Ok(made)
+}
