@@ -1,7 +1,7 @@
 -- Unit after unit.
 use Rattle.std.proofs.Common.{◌≡◌, ℕ, suc, ◌+◌, inl, inr, List, [], ◌∷◌, ◌++◌, length, map, refl, ap, sym, subst, ◌∙◌, arith, append_assoc}
 use Rattle.std.specs.Prelude.{slice_get, Some}
-use Rattle.std.proofs.lemmas.List.{map-append, length-map, append-nil}
+use Rattle.std.proofs.lemmas.List.{map-append, length-map, append-nil, length-append}
 use Rattle.lk_rulebook.specs.Units.{LibraryUnit, Library}
 use Rattle.lk_verdict.specs.GoodUnit.{IsClearLibrary}
 use Rattle.lk_verdict.specs.Told.{Verdict, IsVerdict, AreVerdicts}
@@ -39,10 +39,20 @@ verdict_is steps all c n u v there (inr e) = verdict_memory all steps n (verdict
 pub record Progress (steps : ℕ) (c : Contents) (units : List StoredUnit) (vs : List HeldVerdict) (rest : List StoredUnit) : Type 0 where
   pub done : List StoredUnit
   pub split : units ≡ done ++ rest
+  pub count : length done ≡ length vs
   pub are : IsClearLibrary (library_at c units) → AreVerdicts (library_at c units) steps 0 (library_at c done) (map verdict vs)
 
 pub progress_begin : (steps : ℕ) (c : Contents) (units rest : List StoredUnit) → rest ≡ units → Progress steps c units [] rest
-progress_begin steps c units rest e = record { done = []; split = sym e; are = λ clear. tt }
+progress_begin steps c units rest e = record { done = []; split = sym e; count = refl; are = λ clear. tt }
+
+-- the first unit of those that are left stands at the number of those that are done
+pub next_stands : (steps : ℕ) (c : Contents) (units : List StoredUnit) (vs : List HeldVerdict) (rest more : List StoredUnit) (u : StoredUnit) (n : ℕ)
+    → Progress steps c units vs rest → rest ≡ u ∷ more → n ≡ length vs → slice_get (library_at c units) n ≡ Some (unit_at c u)
+next_stands steps c units vs rest more u n p cut number =
+    let done = library_at c p.done in
+    let parted : library_at c units ≡ done ++ unit_at c u ∷ library_at c more = ap (library_at c) (p.split ∙ ap (λ l. p.done ++ l) cut) ∙ map-append (unit_at c) p.done (u ∷ more) in
+    let place : n ≡ length done = number ∙ sym p.count ∙ sym (length-map p.done (unit_at c)) in
+    ap (λ x. slice_get x n) parted ∙ ap (slice_get (done ++ unit_at c u ∷ library_at c more)) place ∙ unit_there done (unit_at c u) (library_at c more)
 
 -- behind the first unit of those that are left
 pub progress_more : (steps : ℕ) (c : Contents) (units : List StoredUnit) (vs new : List HeldVerdict) (v : HeldVerdict) (n : ℕ) (u : StoredUnit) (rest more : List StoredUnit)
@@ -55,6 +65,7 @@ progress_more steps c units vs new v n u rest more p cut pushed count judged =
     record {
       done = p.done ++ u ∷ [];
       split = whole ∙ sym (append_assoc p.done (u ∷ []) more);
+      count = length-append p.done (u ∷ []) ∙ ap (λ n. n + 1) p.count ∙ sym (length-append vs (v ∷ [])) ∙ ap length (sym pushed);
       are = λ clear.
           let are = p.are clear in
           let number : n ≡ length said = count ∙ sym (length-map vs verdict) ∙ sym (are_length steps all 0 said (map verdict vs) are) in

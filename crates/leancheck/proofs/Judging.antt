@@ -1,8 +1,11 @@
 -- One unit after the tests of its names and of its own lines.
-use Rattle.std.proofs.Common.{◌≡◌, ℕ, inl, inr, Bool, true, false, [], None, Err, refl, sym, subst, ◌∙◌}
+use Rattle.std.proofs.Common.{◌≡◌, ℕ, inl, inr, Bool, true, false, None, Err, refl, sym, subst, ◌∙◌}
 use Rattle.lk_rulebook.specs.Place.{Place}
 use Rattle.lk_rulebook.specs.Units.{LibraryUnit, Library, members_of, place_of}
 use Rattle.lk_rulebook.specs.Scan.{are_new, own_scan}
+use Rattle.lk_env.specs.declared.entry.Partial.{Partial}
+use Rattle.lk_env.specs.Places.{partial_of}
+use Rattle.std.proofs.Math.Path.{fun_ext}
 use Rattle.lk_ask.specs.declared.rule.Rule.TheVariants.{DuplicateName}
 use Rattle.lk_scan.specs.declared.scan.ScanError.{ScanError}
 use Rattle.lk_scan.specs.declared.scan.ScanError.TheVariants as error
@@ -13,7 +16,7 @@ use Rattle.leancheck.specs.declared.checking.Verdict.TheVariants.{No}
 use Rattle.leancheck.specs.Held.{IsPlain, scan_verdict}
 
 -- what its own lines break
-module _ (w : Place) (budget : ℕ) (u : LibraryUnit) where
+module _ (w : Partial → Place) (budget : ℕ) (u : LibraryUnit) where
   pub refused : (e : ScanError) → IsScan (own_scan u) (Err e) → IsPlain (scanned_of w budget u) (scan_verdict e)
   refused error.DuplicateLevel h = rw (h, scanned_of) (inl refl)
   refused error.LooseVariable h = rw (h, scanned_of) (inl refl)
@@ -29,8 +32,8 @@ module _ (us : Library) (budget n : ℕ) (u : LibraryUnit) where
   pub judged_twice : (new : Bool) → new ≡ false → new ≡ are_new us n (members_of u) → IsPlain (row_verdict us budget n u) (No DuplicateName)
   judged_twice new old is = let tested : are_new us n (members_of u) ≡ false = sym is ∙ old in rw tested (inl refl)
 
-  pub judged_new : (new : Bool) (w : Place) (v : HeldVerdict) → new ≡ true → new ≡ are_new us n (members_of u) → w ≡ place_of us n []
+  pub judged_new : (new : Bool) (w : Partial → Place) (v : HeldVerdict) → new ≡ true → new ≡ are_new us n (members_of u) → (are_new us n (members_of u) ≡ true → (p : Partial) → w p ≡ place_of us n (partial_of u p))
       → IsPlain (scanned_of w budget u) v → IsPlain (row_verdict us budget n u) v
   judged_new new w v fresh is here h =
       let tested : are_new us n (members_of u) ≡ true = sym is ∙ fresh in
-      rw tested (subst (λ p. IsPlain (scanned_of p budget u) v) here h)
+      rw tested (subst (λ p. IsPlain (scanned_of p budget u) v) (fun_ext (here tested)) h)

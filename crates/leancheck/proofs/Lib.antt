@@ -9,3 +9,6 @@ pub mod Components
 pub mod Verdicts
 pub mod WordLaws
 pub mod Files
+pub mod Started
+pub mod Staging
+pub mod PartsStay

@@ -1,16 +1,23 @@
 -- How a program finds the plain verdict of a unit is right.
-use Rattle.std.proofs.Common.{ℕ, ◌≡◌, inl, inr, Bool, true, false, Option, Some, None, refl, ap, sym, ◌∙◌}
+use Rattle.std.proofs.Common.{ℕ, suc, ◌≡◌, inl, inr, Bool, true, false, Option, Some, None, refl, ap, sym, ◌∙◌}
 use Rattle.std.specs.Prelude.{slice_get, if◌then◌else◌}
-use Rattle.lk_tree.specs.RuleNo.{RuleNo, duplicate_name, block_shape}
-use Rattle.lk_rulebook.specs.Units.{LibraryUnit, of_decl, of_block, Library, members_of}
+use Rattle.lk_tree.specs.RuleNo.{RuleNo, duplicate_name}
+use Rattle.lk_rulebook.specs.Units.{LibraryUnit, of_decl, of_block, Library, members_of, place_of}
+use Rattle.lk_plain.specs.Answer.{Outcome, answered, refused, spent}
+use Rattle.lk_plain.specs.Erased.{Out, finished, stopped, used_up}
+use Rattle.lk_env.specs.Places.{partial_of}
+use Rattle.lk_blocks.specs.FlatTask.{plain_flat}
+use Rattle.lk_block.specs.Agreeing.{Agrees}
+use Rattle.lk_block.specs.Stages.{block_stages}
+use Rattle.lk_block.proofs.Staged.{goes_by_stages}
 use Rattle.lk_rulebook.specs.Scan.{are_new, own_scan}
 use Rattle.lk_table.specs.Built.{rows}
 use Rattle.lk_verdict.specs.GoodUnit.{IsClearLibrary}
-use Rattle.lk_verdict.specs.Verdict.{Verdict as Plain, says_yes, says_no, says_steps, questions_of as plain_questions, verdict_of as plain_of, plain_verdict}
+use Rattle.lk_verdict.specs.Verdict.{Verdict as Plain, says_yes, says_no, says_steps, questions_of as plain_questions, verdict_by, verdict_of as plain_of, plain_verdict}
 use Rattle.lk_verdict.specs.Built.{unbuilt_body, stage}
 use Rattle.lk_verdict.specs.Told.{Verdict, accepted, rejected, out_of_memory, told, IsVerdict}
 use Rattle.lk_sound.proofs.BuiltTable.{good_of_stage}
-use Rattle.leancheck.specs.Rows.{questions_of, row_verdict}
+use Rattle.leancheck.specs.Rows.{questions_of, stages_verdict, row_verdict}
 
 -- a scan of the names and of the unit's own lines, then the stage's rule, then the questions
 by_tests : (new : Bool) (own unbuilt : Option RuleNo) (q : Plain)
@@ -21,12 +28,25 @@ by_tests true (Some r) unbuilt q = refl
 by_tests true None None q = refl
 by_tests true None (Some r) q = refl
 
+agreed : {A : Type 0} (o : Outcome A) (p : Out) → Agrees o p → told (verdict_by o) ≡ stages_verdict p
+agreed (answered v c t) (finished u left last) h = refl
+agreed (answered v c t) (stopped r) h = absurd h
+agreed (answered v c t) used_up h = absurd h
+agreed (refused r) (finished u left last) h = absurd h
+agreed (refused r) (stopped s) h = ap rejected h
+agreed (refused r) used_up h = absurd h
+agreed spent (finished u left last) h = absurd h
+agreed spent (stopped s) h = absurd h
+agreed spent used_up h = refl
+
 unit_is : (us : Library) (n budget : ℕ) (u : LibraryUnit) → told (plain_of stage us n u budget) ≡ row_verdict us budget n u
 unfolding questions_of
 unit_is us n budget (of_decl d) =
-    by_tests (are_new us n (members_of (of_decl d))) (own_scan (of_decl d)) (unbuilt_body d.body) (plain_questions rows us n (of_decl d) budget)
+    by_tests (are_new us n (members_of (of_decl d))) (own_scan (of_decl d)) (unbuilt_body d.body) (plain_questions stage us n (of_decl d) budget)
 unit_is us n budget (of_block b rs) =
-    by_tests (are_new us n (members_of (of_block b rs))) (own_scan (of_block b rs)) (Some block_shape) (plain_questions rows us n (of_block b rs) budget)
+    by_tests (are_new us n (members_of (of_block b rs))) (own_scan (of_block b rs)) None (plain_questions stage us n (of_block b rs) budget)
+    ∙ ap (λ v. if are_new us n (members_of (of_block b rs)) then (elim (own_scan (of_block b rs)) as (λ y. Verdict) [ Some r ↦ rejected r | None ↦ v ]) else rejected duplicate_name)
+    (agreed (plain_flat rows us n b rs budget) (block_stages rows (λ p. place_of us n (partial_of (of_block b rs) p)) (suc budget) b rs budget) (goes_by_stages rows us n b rs budget))
 
 -- the plain verdict is found so
 plain_is : (us : Library) (n budget : ℕ) (u : LibraryUnit) → slice_get us n ≡ Some u → told (plain_verdict stage us n budget) ≡ row_verdict us budget n u

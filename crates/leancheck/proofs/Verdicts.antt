@@ -1,11 +1,11 @@
 -- What a declaration's questions answer, as a verdict.
-use Rattle.std.proofs.Common.{◌≡◌, ℕ, inl, inr, true, Ok, Err, Result, Option, None, refl, ap, sym, subst, ◌∙◌}
+use Rattle.std.proofs.Common.{◌≡◌, ℕ, suc, List, inl, inr, true, Ok, Err, Result, Option, None, refl, ap, sym, subst, ◌∙◌}
 use Rattle.lk_tree.specs.RuleNo.{RuleNo}
-use Rattle.lk_rulebook.specs.Place.{Place}
+use Rattle.lk_rulebook.specs.Place.{Place, Block, Rec}
 use Rattle.lk_rulebook.specs.Units.{Decl}
 use Rattle.lk_plain.specs.Program.{Table}
 use Rattle.lk_plain.specs.Answer.{Outcome, answered, refused, spent, outcome_of, plain_answer}
-use Rattle.lk_plain.specs.Erased.{Value, truth, finished, stopped, used_up, left_of, run_steps, out_of}
+use Rattle.lk_plain.specs.Erased.{Out, Value, truth, finished, stopped, used_up, left_of, run_steps, out_of}
 use Rattle.lk_plain.proofs.Erasing.{run_erased}
 use Rattle.lk_table.specs.Declarations.{unit_steps}
 use Rattle.lk_table.specs.Built.{rows}
@@ -14,7 +14,10 @@ use Rattle.lk_verdict.specs.Told.{accepted, rejected, out_of_steps}
 use Rattle.lk_ask.specs.declared.stop.Stop.{Stop}
 use Rattle.lk_ask.specs.declared.stop.Stop.TheVariants.{Rule, Spent, NoMemory}
 use Rattle.lk_engine.specs.Outcomes.{IsAccepted, unit_steps_of}
-use Rattle.leancheck.specs.Rows.{verdict_of, questions_of, built_of}
+use Rattle.lk_env.specs.declared.entry.Partial.{Partial}
+use Rattle.lk_block.specs.Settling.{IsChecked}
+use Rattle.lk_block.specs.Stages.{block_stages}
+use Rattle.leancheck.specs.Rows.{verdict_of, questions_of, built_of, stages_verdict}
 use Rattle.leancheck.specs.Held.{IsPlain, result_verdict}
 
 out_accepted : {A : Type 0} (f : A → Value) (b l : ℕ) (v : Value) (last : Option ℕ) (o : Outcome A) → left_of f b o ≡ finished v l last → verdict_of o ≡ accepted
@@ -48,3 +51,14 @@ pub questions_answered : (table : Table) (w : Place) (b left : ℕ) (d : Decl) (
 questions_answered table w b left d r is built h =
     let of_rows : IsAccepted (run_steps (out_of rows w) (unit_steps_of w (unit_steps d)) b) left r = subst (λ t. IsAccepted (run_steps (out_of t w) (unit_steps_of w (unit_steps d)) b) left r) is h in
     rw (built, built_of) (questions_are w b left d r of_rows)
+
+-- the verdict of a block, by what its stages come to
+pub stages_answered : (table : Table) (places : Partial → Place) (b : Block) (rs : List Rec) (left : ℕ) (r : Result (Unit {0}) Stop) → table ≡ rows
+    → IsChecked (block_stages table places (suc left) b rs left) r → IsPlain (stages_verdict (block_stages rows places (suc left) b rs left)) (result_verdict r)
+stages_answered table places b rs left r is h = checked_plain (block_stages rows places (suc left) b rs left) r (subst (λ t. IsChecked (block_stages t places (suc left) b rs left) r) is h)
+  where
+    checked_plain : (o : Out) (r : Result (Unit {0}) Stop) → IsChecked o r → IsPlain (stages_verdict o) (result_verdict r)
+    checked_plain o (Ok u) h = rw h.2 (inl refl)
+    checked_plain o (Err (Rule r)) h = rw h (inl refl)
+    checked_plain o (Err Spent) h = rw h (inl refl)
+    checked_plain o (Err NoMemory) h = inr refl

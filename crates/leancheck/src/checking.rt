@@ -1,22 +1,26 @@
 //! The verdicts of a library's units, in their order.
 
-ghost use Rattle.std.specs.Prelude.{◌≡◌, ◌<◌, length, map, IfOk};
-ghost use Rattle.lk_rulebook.specs.Units.{Decl};
+ghost use Rattle.std.specs.Prelude.{◌≡◌, ◌<◌, true, length, map, IfOk};
+ghost use Rattle.lk_rulebook.specs.Scan.{are_new};
+ghost use Rattle.lk_rulebook.specs.Units.{Decl, members_of, place_of};
 ghost use Rattle.lk_verdict.specs.GoodUnit.{IsClearLibrary};
 ghost use Rattle.lk_table.specs.Built.{rows};
 ghost use Rattle.lk_verdict.specs.Told.{AreVerdicts};
 ghost use Rattle.lk_store.specs.Contents.{tree_at};
 ghost use Rattle.lk_store.specs.Store.{contents_of};
+ghost use Rattle.lk_env.specs.declared.entry.Partial.{Partial as GivenMembers};
+ghost use Rattle.lk_env.specs.Places.{partial_of};
 ghost use Rattle.lk_env.specs.Units.{body_at, unit_at, library_of, IsBodyIn, IsUnitIn};
-ghost use Rattle.lk_env.specs.Places.{place_at};
 ghost use Rattle.leancheck.specs.Rows.{built_of, asked_of, scanned_of, row_verdict};
 ghost use Rattle.leancheck.specs.Held.{verdict, result_verdict, scan_verdict, IsPlain};
 
+use crate::blocks::check_block;
 use lk_ask::asks::Asks;
 use lk_ask::rule::Rule;
 use lk_ask::stop::Stop;
 use lk_engine::declaration::{check_axiom, check_definition, check_opaque, check_theorem};
 use lk_engine::engine::Engine;
+use lk_env::entry::Partial;
 use lk_env::library::Library;
 use lk_env::unit::{Body, Unit};
 use lk_memo::memo::PrivateMemo;
@@ -57,7 +61,7 @@ fn ask<A: Asks>(alloc: Global, asks: &mut A, kind: u64, body: Body) -> Verdict
     requires table { A.table asks.old ≡ rows }
     requires kind_in { kind < length (A.contents asks.old).trees }
     requires body_in { IsBodyIn (A.contents asks.old) body }
-    ensures rest { A.rest asks.new ≡ A.rest asks.old }
+    ensures basis { A.basis asks.new ≡ A.basis asks.old }
     ensures verdict { (d : Decl) → d.type ≡ tree_at (A.contents asks.old) kind → d.body ≡ body_at (A.contents asks.old) body
         → IsPlain (built_of (A.place asks.old) (A.left asks.old) d) result }
 {
@@ -83,17 +87,17 @@ fn refused(error: ScanError) -> Verdict
     }
 }
 
-/// The verdict of a unit with which nothing is wrong in itself.
+/// The verdict of a unit with which nothing is wrong in itself. Nothing of it is partial yet.
 fn judge_scanned<A: Asks>(alloc: Global, asks: &mut A, unit: &Unit) -> Verdict
     requires table { A.table asks.old ≡ rows }
+    requires place { A.place asks.old ≡ A.places (A.basis asks.old) Partial.Nothing }
     requires known { IsUnitIn (A.contents asks.old) unit.now }
-    ensures rest { A.rest asks.new ≡ A.rest asks.old }
-    ensures verdict { IsPlain (asked_of (A.place asks.old) (A.left asks.old) (unit_at (A.contents asks.old) unit.now)) result }
+    ensures basis { A.basis asks.new ≡ A.basis asks.old }
+    ensures verdict { IsPlain (asked_of (A.places (A.basis asks.old)) (A.left asks.old) (unit_at (A.contents asks.old) unit.now)) result }
 {
     match unit {
         Unit::Declaration(declaration) => ask(alloc, asks, declaration.kind, declaration.body),
-        // The checks of a block are not built yet.
-        Unit::Block(_) => Verdict::No(Rule::BlockShape),
+        Unit::Block(block) => verdict_of(check_block(alloc, asks, block)),
     }
 }
 
@@ -101,9 +105,10 @@ fn judge_scanned<A: Asks>(alloc: Global, asks: &mut A, unit: &Unit) -> Verdict
 fn judge_new<A: Asks>(alloc: Global, base: &BaseStore, asks: &mut A, unit: &Unit) -> Verdict
     requires table { A.table asks.old ≡ rows }
     requires same { A.contents asks.old ≡ contents_of base.now }
+    requires place { A.place asks.old ≡ A.places (A.basis asks.old) Partial.Nothing }
     requires known { IsUnitIn (contents_of base.now) unit.now }
-    ensures rest { A.rest asks.new ≡ A.rest asks.old }
-    ensures verdict { IsPlain (scanned_of (A.place asks.old) (A.left asks.old) (unit_at (contents_of base.now) unit.now)) result }
+    ensures basis { A.basis asks.new ≡ A.basis asks.old }
+    ensures verdict { IsPlain (scanned_of (A.places (A.basis asks.old)) (A.left asks.old) (unit_at (contents_of base.now) unit.now)) result }
 {
     match scan(alloc, base, unit) {
         Ok(()) => judge_scanned(alloc, asks, unit),
@@ -121,9 +126,11 @@ fn judge<A: Asks>(
 ) -> Verdict
     requires table { A.table asks.old ≡ rows }
     requires same { A.contents asks.old ≡ contents_of library.now.0 }
-    requires place { A.place asks.old ≡ place_at library.now number }
+    requires place { A.place asks.old ≡ A.places (A.basis asks.old) Partial.Nothing }
+    requires places { are_new (library_of library.now) number (members_of (unit_at (contents_of library.now.0) unit.now)) ≡ true → (p : GivenMembers)
+        → A.places (A.basis asks.old) p ≡ place_of (library_of library.now) number (partial_of (unit_at (contents_of library.now.0) unit.now) p) }
     requires known { IsUnitIn (contents_of library.now.0) unit.now }
-    ensures rest { A.rest asks.new ≡ A.rest asks.old }
+    ensures basis { A.basis asks.new ≡ A.basis asks.old }
     ensures verdict { IsPlain (row_verdict (library_of library.now) (A.left asks.old) number (unit_at (contents_of library.now.0) unit.now)) result }
 {
     match are_new(alloc, library, number, unit) {

@@ -26,6 +26,10 @@ const OTHER: &[u8] =
 const BLOCK: &[u8] =
     b"1 #NS 0 T\n2 #NS 1 mk\n3 #NS 1 rec\n4 #NS 0 u\n5 #NS 0 C\n6 #NS 0 P\n7 #NS 0 p\n8 #NS 0 q\n1 #US 0\n2 #UP 4\n0 #ES 1\n1 #EC 1\n2 #EC 2\n3 #ES 2\n4 #EP #BD 0 1 3\n5 #EV 0\n7 #EV 2\n8 #EA 5 2\n9 #EA 7 5\n10 #EP #BD 0 1 9\n11 #EP #BD 0 8 10\n12 #EP #BD 5 4 11\n13 #EL #BD 0 8 5\n14 #EL #BD 5 4 13\n#IND 1 0 0 0 0 0 1 1 1 2\n#CTOR 2 1 1 0 0 0\n0 #RR 2 0 14\n#REC 3 12 1 1 0 0 1 1 1 0 0 4\n15 #ES 0\n16 #EP #BD 0 1 15\n#AX 6 16\n17 #EC 6\n18 #EA 17 2\n#AX 7 18\n19 #EL #BD 0 1 1\n20 #EC 3 1\n21 #EA 20 19\n22 #EA 21 2\n23 #EA 22 2\n24 #EA 17 23\n25 #EC 7\n#THM 8 24 25\n";
 
+// A type T over an axiom N whose constructor has a field `(T -> N) -> T`.
+const NOT_POSITIVE: &[u8] =
+    b"1 #NS 0 N\n2 #NS 0 T\n3 #NS 2 mk\n1 #US 0\n0 #ES 1\n1 #EC 1\n2 #EC 2\n3 #EP #BD 0 2 1\n4 #EP #BD 0 3 2\n5 #EP #BD 0 4 2\n#AX 1 0\n#IND 2 0 1 0 0 0 1 2 1 3\n#CTOR 3 5 2 0 0 1\n";
+
 const USAGE: &[u8] =
     b"usage: leancheck check|make|trial [--workers W] [--steps N] [--memo M] [--units N] [--seed S]\n";
 
@@ -112,7 +116,17 @@ fn blocks(rt: HostRuntime) -> Result<(), Fail> {
             rt.alloc(),
             "leancheck check",
             BLOCK,
-            b"no block 0 T\n  why BlockShape\nyes axiom 1 P\nyes axiom 2 p\nyes thm 3 q\nunits 4 yes 3 no 1 memory 0\n",
+            b"yes block 0 T\nyes axiom 1 P\nyes axiom 2 p\nyes thm 3 q\nunits 4 yes 4 no 0 memory 0\n",
+            Status::AllYes
+        )?
+    );
+    assert!(rt;
+        is_row(
+            &rt,
+            rt.alloc(),
+            "leancheck check",
+            NOT_POSITIVE,
+            b"yes axiom 0 N\nno block 1 T\n  why NotPositive\nunits 2 yes 1 no 1 memory 0\n",
             Status::SomeNo
         )?
     );

@@ -1,0 +1,175 @@
+//! The whole check of a block of inductive types, stage by stage, while its own members come to be given.
+
+ghost use Rattle.std.specs.Prelude.{◌≡◌, ◌<◌, ℕ, suc, length, map, All};
+ghost use Rattle.lk_store.specs.Contents.{Contents, Extends};
+ghost use Rattle.lk_table.specs.Declarations.{checked};
+ghost use Rattle.lk_env.specs.Units.{block_at, type_at, recursor_at, IsTypeIn, IsRecursorIn};
+ghost use Rattle.lk_blocks.specs.Block.{parameters_of};
+ghost use Rattle.lk_block.specs.Courses.{Gives};
+ghost use Rattle.lk_block.specs.Wholes.{flat_form};
+ghost use Rattle.lk_block.specs.Parts.{parts_at, ArePartsIn};
+ghost use Rattle.lk_block.specs.Settling.{IsChecked};
+ghost use Rattle.lk_block.specs.Shapes.{shape_at, IsShapeIn};
+ghost use Rattle.lk_block.specs.Stages.{recursors_stage, shape_stage, flat_stage, sorts_stage, types_stage, block_stages};
+
+use lk_ask::asks::Asks;
+use lk_ask::rule::Rule;
+use lk_ask::stop::Stop;
+use lk_block::block::{check_shape, names_of};
+use lk_block::counts::counts_agree;
+use lk_block::nested::check_flat;
+use lk_block::shape::Shape;
+use lk_block::sorts::check_sorts;
+use lk_block::types::{TypeParts, check_types};
+use lk_env::entry::Partial;
+use lk_env::unit::{Block, BlockType, Recursor};
+use lk_recursor::comparing::compare;
+use std::alloc::Global;
+
+/// The stated recursors, where all members are given.
+fn check_recursors<A: Asks>(
+    alloc: Global,
+    asks: &mut A,
+    shape: &Shape,
+    stated: &[Recursor],
+) -> Result<(), Stop>
+    requires shape_in { IsShapeIn (A.contents asks.old) shape.now }
+    requires stated_in { All (IsRecursorIn (A.contents asks.old)) stated.now }
+    ensures basis { A.basis asks.new ≡ A.basis asks.old }
+    ensures outcome { IsChecked (recursors_stage (A.table asks.old) (A.places (A.basis asks.old)) (map (recursor_at (A.contents asks.old)) stated.now) (shape_at (A.contents asks.old) shape.now) (A.left asks.old)) result }
+{
+    asks.give(Partial::Members);
+    compare(alloc, asks, shape, stated)
+}
+
+/// The constructors and large elimination, and then the recursors. The types are given.
+fn check_constructors<A: Asks>(
+    alloc: Global,
+    asks: &mut A,
+    block: &Block,
+    parts: TypeParts,
+) -> Result<(), Stop>
+    requires types_in { All (IsTypeIn (A.contents asks.old)) block.now.types.items }
+    requires stated_in { All (IsRecursorIn (A.contents asks.old)) block.now.recursors.items }
+    requires parts_in { ArePartsIn (A.contents asks.old) parts }
+    requires place { A.place asks.old ≡ A.places (A.basis asks.old) Partial.Types }
+    ensures basis { A.basis asks.new ≡ A.basis asks.old }
+    ensures outcome { (fuel : ℕ) → A.left asks.old < fuel → IsChecked (shape_stage (A.table asks.old) (A.places (A.basis asks.old)) fuel (block_at (A.contents asks.old) block.now) (map (recursor_at (A.contents asks.old)) block.now.recursors.items) (parts_at (A.contents asks.old) parts) (A.left asks.old)) result }
+{
+    let shape = match check_shape(alloc, asks, &block.types, parts) {
+        Ok(shape) => shape,
+        Err(stop) => return Err(stop),
+    };
+    check_recursors(alloc, asks, &shape, &block.recursors)
+}
+
+/// That no occurrence is nested.
+fn check_occurrences<A: Asks>(alloc: Global, asks: &A, types: &[BlockType]) -> Result<(), Stop>
+    requires { All (IsTypeIn (A.contents asks.now)) types.now }
+    ensures { Gives (A.table asks.now) (A.place asks.now) (flat_form (map (type_at (A.contents asks.now)) types.now)) (A.left asks.now) (λ u. checked) (A.left asks.now) result }
+{
+    let names = match names_of(alloc, types) {
+        Ok(names) => names,
+        Err(_) => return Err(Stop::NoMemory),
+    };
+    check_flat(alloc, asks, &names, types)
+}
+
+/// That no occurrence is nested, and then the constructors and what follows. The types are given.
+fn check_flat_block<A: Asks>(
+    alloc: Global,
+    asks: &mut A,
+    block: &Block,
+    parts: TypeParts,
+) -> Result<(), Stop>
+    requires types_in { All (IsTypeIn (A.contents asks.old)) block.now.types.items }
+    requires stated_in { All (IsRecursorIn (A.contents asks.old)) block.now.recursors.items }
+    requires parts_in { ArePartsIn (A.contents asks.old) parts }
+    requires place { A.place asks.old ≡ A.places (A.basis asks.old) Partial.Types }
+    ensures basis { A.basis asks.new ≡ A.basis asks.old }
+    ensures outcome { (fuel : ℕ) → A.left asks.old < fuel → IsChecked (flat_stage (A.table asks.old) (A.places (A.basis asks.old)) fuel (block_at (A.contents asks.old) block.now) (map (recursor_at (A.contents asks.old)) block.now.recursors.items) (parts_at (A.contents asks.old) parts) (A.left asks.old)) result }
+{
+    match check_occurrences(alloc, asks, &block.types) {
+        Ok(()) => check_constructors(alloc, asks, block, parts),
+        Err(stop) => Err(stop),
+    }
+}
+
+/// The sorts of the constructors' types, and then what follows. The types are given.
+fn check_members<A: Asks>(
+    alloc: Global,
+    asks: &mut A,
+    block: &Block,
+    parts: TypeParts,
+) -> Result<(), Stop>
+    requires types_in { All (IsTypeIn (A.contents asks.old)) block.now.types.items }
+    requires stated_in { All (IsRecursorIn (A.contents asks.old)) block.now.recursors.items }
+    requires parts_in { ArePartsIn (A.contents asks.old) parts }
+    requires place { A.place asks.old ≡ A.places (A.basis asks.old) Partial.Types }
+    ensures basis { A.basis asks.new ≡ A.basis asks.old }
+    ensures outcome { (fuel : ℕ) → A.left asks.old < fuel → IsChecked (sorts_stage (A.table asks.old) (A.places (A.basis asks.old)) fuel (block_at (A.contents asks.old) block.now) (map (recursor_at (A.contents asks.old)) block.now.recursors.items) (parts_at (A.contents asks.old) parts) (A.left asks.old)) result }
+{
+    match check_sorts(asks, &block.types) {
+        Ok(()) => check_flat_block(alloc, asks, block, parts),
+        Err(stop) => Err(stop),
+    }
+}
+
+/// All that follows the types. From here on they are given.
+fn check_past_types<A: Asks>(
+    alloc: Global,
+    asks: &mut A,
+    block: &Block,
+    parts: TypeParts,
+) -> Result<(), Stop>
+    requires types_in { All (IsTypeIn (A.contents asks.old)) block.now.types.items }
+    requires stated_in { All (IsRecursorIn (A.contents asks.old)) block.now.recursors.items }
+    requires parts_in { ArePartsIn (A.contents asks.old) parts }
+    ensures basis { A.basis asks.new ≡ A.basis asks.old }
+    ensures outcome { (fuel : ℕ) → A.left asks.old < fuel → IsChecked (sorts_stage (A.table asks.old) (A.places (A.basis asks.old)) fuel (block_at (A.contents asks.old) block.now) (map (recursor_at (A.contents asks.old)) block.now.recursors.items) (parts_at (A.contents asks.old) parts) (A.left asks.old)) result }
+{
+    asks.give(Partial::Types);
+    check_members(alloc, asks, block, parts)
+}
+
+/// The number of parameters that the first type of a block states.
+fn parameters_of(types: &[BlockType]) -> u64
+    ensures { (c : Contents) → result ≡ parameters_of (record { types = map (type_at c) types.now }) }
+{
+    match types.first() {
+        Some(first) => first.parameters,
+        None => 0,
+    }
+}
+
+/// The types, and then all that follows.
+fn check_stated<A: Asks>(alloc: Global, asks: &mut A, block: &Block) -> Result<(), Stop>
+    requires types_in { All (IsTypeIn (A.contents asks.old)) block.now.types.items }
+    requires stated_in { All (IsRecursorIn (A.contents asks.old)) block.now.recursors.items }
+    requires place { A.place asks.old ≡ A.places (A.basis asks.old) Partial.Nothing }
+    ensures basis { A.basis asks.new ≡ A.basis asks.old }
+    ensures outcome { (fuel : ℕ) → A.left asks.old < fuel → IsChecked (types_stage (A.table asks.old) (A.places (A.basis asks.old)) fuel (block_at (A.contents asks.old) block.now) (map (recursor_at (A.contents asks.old)) block.now.recursors.items) (A.left asks.old)) result }
+{
+    let parameters = parameters_of(&block.types);
+    match check_types(alloc, asks, parameters, &block.types) {
+        Ok(parts) => check_past_types(alloc, asks, block, parts),
+        Err(stop) => Err(stop),
+    }
+}
+
+/// The whole check of a block of inductive types in which no occurrence may be nested, under what is left. In its order: the
+/// counts that its members state; the types; from then on they are given; the sorts of the constructors' types; that no
+/// occurrence is nested; the constructors and large elimination; from then on all members are given; the stated recursors.
+pub fn check_block<A: Asks>(alloc: Global, asks: &mut A, block: &Block) -> Result<(), Stop>
+    requires types_in { All (IsTypeIn (A.contents asks.old)) block.now.types.items }
+    requires stated_in { All (IsRecursorIn (A.contents asks.old)) block.now.recursors.items }
+    requires place { A.place asks.old ≡ A.places (A.basis asks.old) Partial.Nothing }
+    ensures basis { A.basis asks.new ≡ A.basis asks.old }
+    ensures outcome { IsChecked (block_stages (A.table asks.old) (A.places (A.basis asks.old)) (suc (A.left asks.old)) (block_at (A.contents asks.old) block.now) (map (recursor_at (A.contents asks.old)) block.now.recursors.items) (A.left asks.old)) result }
+{
+    if counts_agree(asks, block) {
+        check_stated(alloc, asks, block)
+    } else {
+        Err(Stop::Rule(Rule::BlockShape))
+    }
+}
