@@ -119,8 +119,8 @@ fn open<T: Terms>(
     }
 }
 
-/// Keeps an answer, where finding it is less than asking anew. While members are partial none is kept: names come to mean
-/// more, and few questions are asked twice meanwhile. Where there is no room the memo stays as it is.
+/// Keeps an answer, where finding it is less than asking anew. While members are partial none is kept: it may rest on them,
+/// and would be true at that place alone. Where there is no room the memo stays as it is.
 fn keep(memo: &mut PrivateMemo, partial: Partial, query: Query<u64>, kept: Kept)
     ensures entries { (e : _) → Contains memo.new.cache.entries e → Contains memo.old.cache.entries e ⊎ (e ≡ (key_of query, kept)) }
     ensures unkept { partial ≢ Partial.Nothing → (e : _) → Contains memo.new.cache.entries e → Contains memo.old.cache.entries e }

@@ -54,10 +54,15 @@ impl<'a> Engine<'a> {
     ghost use Rattle.std.specs.Prelude.{◌≡◌};
     ghost use Rattle.lk_store.specs.Store.{over, contents_of};
 
-    /// An engine with nothing to spend. The memo is emptied. It takes no memory.
+    /// An engine at the first unit, with nothing to spend. The memo is emptied. It takes no memory.
     #[tactic(auto, using(crate::proofs::Frames::nothing_kept))]
     pub fn new(alloc: Global, library: &'a Library, memo: &'a mut PrivateMemo) -> Self
-        ensures { result.0 ≡ library.now }
+        ensures library { result.0 ≡ library.now }
+        ensures unit { result.1.unit ≡ 0 }
+        ensures partial { result.1.partial ≡ Partial.Nothing }
+        ensures contents { contents_of (over result.2.0 result.2.1) ≡ contents_of library.now.0 }
+        ensures left { result.3.left ≡ 0 }
+        ensures turns { result.3.turns ≡ 0 }
     {
         memo.clear();
         Engine {
