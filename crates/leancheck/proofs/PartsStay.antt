@@ -1,10 +1,10 @@
 -- What the checks of the types found out stands for what it stood for, once a store has grown.
 use Rattle.std.proofs.Common.{◌≡◌, ◌<◌, length, map, refl, arith}
 use Rattle.lk_store.specs.Contents.{Contents, tree_at, level_at, Extends}
-use Rattle.lk_subst.specs.Numbers.{trees-steady}
+use Rattle.lk_subst.specs.Numbers.{trees-steady, trees-known}
 use Rattle.lk_block.specs.declared.types.TypeParts.{TypeParts}
 use Rattle.lk_block.specs.Parts.{lists_at, parts_at, ArePartsIn}
-use Rattle.lk_block.proofs.Firsts.{lists-steady, list-grown, lists-grown}
+use Rattle.lk_block.proofs.Firsts.{lists-steady, lists-known}
 
 pub parts_stay : (c d : Contents) → Extends c d → (p : TypeParts) → ArePartsIn c p → parts_at d p ≡ parts_at c p
 parts_stay c d x p h =
@@ -12,7 +12,7 @@ parts_stay c d x p h =
 
 pub parts_in_stay : (c d : Contents) → Extends c d → (p : TypeParts) → ArePartsIn c p → ArePartsIn d p
 parts_in_stay c d x p h = record {
-  parameters_in = list-grown c d p.parameters.items x h.parameters_in;
+  parameters_in = trees-known c d p.parameters.items x h.parameters_in;
   sort_in = let small = h.sort_in in let longer = x.levels.longer in omega arith;
-  indices_in = lists-grown c d p.indices.items x h.indices_in;
+  indices_in = lists-known c d p.indices.items x h.indices_in;
 }

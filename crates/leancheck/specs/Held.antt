@@ -28,7 +28,7 @@ scan_verdict error.UndeclaredLevel = No UndeclaredLevel
 scan_verdict error.WideLiteral = No WideLiteral
 scan_verdict error.NoMemory = Memory
 
--- the verdict that the outcome of a declaration's questions gives
+-- the verdict that the outcome of a unit's questions gives
 abbrev pub result_verdict : Result (Unit {0}) Stop → HeldVerdict
 result_verdict (Ok u) = Yes
 result_verdict (Err (Rule r)) = No r

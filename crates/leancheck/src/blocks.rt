@@ -4,7 +4,7 @@ ghost use Rattle.std.specs.Prelude.{◌≡◌, ◌<◌, ℕ, suc, length, map, A
 ghost use Rattle.lk_store.specs.Contents.{Contents, Extends};
 ghost use Rattle.lk_table.specs.Declarations.{checked};
 ghost use Rattle.lk_env.specs.Units.{block_at, type_at, recursor_at, IsTypeIn, IsRecursorIn};
-ghost use Rattle.lk_blocks.specs.Block.{parameters_of};
+ghost use Rattle.lk_blocks.specs.Block.{parameters_of as stated_parameters};
 ghost use Rattle.lk_block.specs.Courses.{Gives};
 ghost use Rattle.lk_block.specs.Wholes.{flat_form};
 ghost use Rattle.lk_block.specs.Parts.{parts_at, ArePartsIn};
@@ -42,8 +42,8 @@ fn check_recursors<A: Asks>(
     compare(alloc, asks, shape, stated)
 }
 
-/// The constructors and large elimination, and then the recursors. The types are given.
-fn check_constructors<A: Asks>(
+/// The shape, which is the constructors and large elimination, and then the recursors. The types are given.
+fn check_from_shape<A: Asks>(
     alloc: Global,
     asks: &mut A,
     block: &Block,
@@ -75,8 +75,8 @@ fn check_occurrences<A: Asks>(alloc: Global, asks: &A, types: &[BlockType]) -> R
     check_flat(alloc, asks, &names, types)
 }
 
-/// That no occurrence is nested, and then the constructors and what follows. The types are given.
-fn check_flat_block<A: Asks>(
+/// That no occurrence is nested, and then the shape and what follows. The types are given.
+fn check_from_occurrences<A: Asks>(
     alloc: Global,
     asks: &mut A,
     block: &Block,
@@ -90,13 +90,13 @@ fn check_flat_block<A: Asks>(
     ensures outcome { (fuel : ℕ) → A.left asks.old < fuel → IsChecked (flat_stage (A.table asks.old) (A.places (A.basis asks.old)) fuel (block_at (A.contents asks.old) block.now) (map (recursor_at (A.contents asks.old)) block.now.recursors.items) (parts_at (A.contents asks.old) parts) (A.left asks.old)) result }
 {
     match check_occurrences(alloc, asks, &block.types) {
-        Ok(()) => check_constructors(alloc, asks, block, parts),
+        Ok(()) => check_from_shape(alloc, asks, block, parts),
         Err(stop) => Err(stop),
     }
 }
 
 /// The sorts of the constructors' types, and then what follows. The types are given.
-fn check_members<A: Asks>(
+fn check_from_sorts<A: Asks>(
     alloc: Global,
     asks: &mut A,
     block: &Block,
@@ -110,13 +110,13 @@ fn check_members<A: Asks>(
     ensures outcome { (fuel : ℕ) → A.left asks.old < fuel → IsChecked (sorts_stage (A.table asks.old) (A.places (A.basis asks.old)) fuel (block_at (A.contents asks.old) block.now) (map (recursor_at (A.contents asks.old)) block.now.recursors.items) (parts_at (A.contents asks.old) parts) (A.left asks.old)) result }
 {
     match check_sorts(asks, &block.types) {
-        Ok(()) => check_flat_block(alloc, asks, block, parts),
+        Ok(()) => check_from_occurrences(alloc, asks, block, parts),
         Err(stop) => Err(stop),
     }
 }
 
-/// All that follows the types. From here on they are given.
-fn check_past_types<A: Asks>(
+/// Gives the types, and then makes all the checks that follow theirs.
+fn give_types<A: Asks>(
     alloc: Global,
     asks: &mut A,
     block: &Block,
@@ -129,12 +129,12 @@ fn check_past_types<A: Asks>(
     ensures outcome { (fuel : ℕ) → A.left asks.old < fuel → IsChecked (sorts_stage (A.table asks.old) (A.places (A.basis asks.old)) fuel (block_at (A.contents asks.old) block.now) (map (recursor_at (A.contents asks.old)) block.now.recursors.items) (parts_at (A.contents asks.old) parts) (A.left asks.old)) result }
 {
     asks.give(Partial::Types);
-    check_members(alloc, asks, block, parts)
+    check_from_sorts(alloc, asks, block, parts)
 }
 
 /// The number of parameters that the first type of a block states.
-fn parameters_of(types: &[BlockType]) -> u64
-    ensures { (c : Contents) → result ≡ parameters_of (record { types = map (type_at c) types.now }) }
+fn stated_parameters(types: &[BlockType]) -> u64
+    ensures { (c : Contents) → result ≡ stated_parameters (record { types = map (type_at c) types.now }) }
 {
     match types.first() {
         Some(first) => first.parameters,
@@ -143,16 +143,16 @@ fn parameters_of(types: &[BlockType]) -> u64
 }
 
 /// The types, and then all that follows.
-fn check_stated<A: Asks>(alloc: Global, asks: &mut A, block: &Block) -> Result<(), Stop>
+fn check_from_types<A: Asks>(alloc: Global, asks: &mut A, block: &Block) -> Result<(), Stop>
     requires types_in { All (IsTypeIn (A.contents asks.old)) block.now.types.items }
     requires stated_in { All (IsRecursorIn (A.contents asks.old)) block.now.recursors.items }
     requires place { A.place asks.old ≡ A.places (A.basis asks.old) Partial.Nothing }
     ensures basis { A.basis asks.new ≡ A.basis asks.old }
     ensures outcome { (fuel : ℕ) → A.left asks.old < fuel → IsChecked (types_stage (A.table asks.old) (A.places (A.basis asks.old)) fuel (block_at (A.contents asks.old) block.now) (map (recursor_at (A.contents asks.old)) block.now.recursors.items) (A.left asks.old)) result }
 {
-    let parameters = parameters_of(&block.types);
+    let parameters = stated_parameters(&block.types);
     match check_types(alloc, asks, parameters, &block.types) {
-        Ok(parts) => check_past_types(alloc, asks, block, parts),
+        Ok(parts) => give_types(alloc, asks, block, parts),
         Err(stop) => Err(stop),
     }
 }
@@ -168,7 +168,7 @@ pub fn check_block<A: Asks>(alloc: Global, asks: &mut A, block: &Block) -> Resul
     ensures outcome { IsChecked (block_stages (A.table asks.old) (A.places (A.basis asks.old)) (suc (A.left asks.old)) (block_at (A.contents asks.old) block.now) (map (recursor_at (A.contents asks.old)) block.now.recursors.items) (A.left asks.old)) result }
 {
     if counts_agree(asks, block) {
-        check_stated(alloc, asks, block)
+        check_from_types(alloc, asks, block)
     } else {
         Err(Stop::Rule(Rule::BlockShape))
     }

@@ -42,7 +42,7 @@ pub enum Verdict {
     Memory,
 }
 
-/// The verdict that the outcome of a declaration's questions gives.
+/// The verdict that the outcome of a unit's questions gives.
 fn verdict_of(outcome: Result<(), Stop>) -> Verdict
     ensures { result ≡ result_verdict outcome }
 {

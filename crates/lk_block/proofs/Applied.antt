@@ -23,7 +23,8 @@ use Rattle.lk_ask.specs.Constants.{IsRefused}
 use Rattle.lk_ask.specs.Members.{parameters_in, HasParameters}
 use Rattle.lk_block.specs.declared.spines.Spine.{Spine}
 use Rattle.lk_block.specs.Findings.{refused, looked, finding, then_held}
-use Rattle.lk_block.specs.Nestings.{constant_name, named_at, constant_in, function_of, function_at, function_in, IsSpine, AreSpines, nested_in, nested_below, IsHeadTest, IsTreeTest}
+use Rattle.lk_block.specs.Members.{named_at}
+use Rattle.lk_block.specs.Nestings.{constant_name, constant_in, function_of, function_at, function_in, IsSpine, AreSpines, nested_in, nested_below, IsHeadTest, IsTreeTest}
 use Rattle.lk_block.proofs.Findings.{either_found}
 
 pub node_named : (c : Contents) (n : Node) (e : ℕ) → tree_of c n ≡ tree_at c e → named_at c (constant_in n) ≡ constant_name (tree_at c e)
@@ -136,11 +137,7 @@ no_arguments wide h = refl
 no_arguments (str s) h = refl
 no_arguments (local k T) h = refl
 
--- one argument less
 module _ (c : Contents) (t : Tree) (f : ℕ) (applied : function_of t ≡ Some (tree_at c f)) where
-  pub head_down : (h : Tree) → head t ≡ h → head (tree_at c f) ≡ h
-  head_down h is = sym (head_of_function t (tree_at c f) applied) ∙ is
-
   pub count_down : length (args t) ≡ length (args (tree_at c f)) + 1
   count_down = count_of_function t (tree_at c f) applied
 
@@ -151,9 +148,6 @@ module _ (c : Contents) (e at f n m : ℕ) (applied : function_of (tree_at c at)
 
   pub counted_down : length (args (tree_at c e)) ≡ n + length (args (tree_at c at)) → m ≡ n + 1 → length (args (tree_at c e)) ≡ m + length (args (tree_at c f))
   counted_down h more = let k = count_down c (tree_at c at) f applied in omega arith
-
-  pub less_left : left_depth (tree_at c f) < left_depth (tree_at c at)
-  less_left = depth_of_function (tree_at c at) (tree_at c f) applied
 
 -- nothing is left of the way down
 pub spine_ends : (c : Contents) (e at n : ℕ) (s : Spine) → at < length c.trees → head (tree_at c e) ≡ head (tree_at c at) → length (args (tree_at c e)) ≡ n + length (args (tree_at c at)) → function_of (tree_at c at) ≡ None → s.head ≡ at → s.count ≡ n → IsSpine c e s
@@ -177,10 +171,6 @@ module _ (c : Contents) (s : Spine) (f : ℕ) (spine : IsSpine c s.tree s) (appl
 
 pub spines_pushed : (c : Contents) (old new : List Spine) (row : Spine) → AreSpines c old → IsSpine c row.tree row → new ≡ old ++ row ∷ [] → AreSpines c new
 spines_pushed c old new row h own is = subst (AreSpines c) (sym is) (All-push (λ (s : Spine). IsSpine c s.tree s) old row h own)
-
--- a row that was found
-pub spine_found : (c : Contents) (e : ℕ) (spines : List Spine) (i : ℕ) → AreSpines c spines → i < length spines → ((d : Spine) → (slice_index_or spines i d).tree ≡ e) → (d : Spine) → IsSpine c e (slice_index_or spines i d)
-spine_found c e spines i h l is d = subst (λ t. IsSpine c t (slice_index_or spines i d)) (is d) (h i d l)
 
 and_true : (b : Bool) → (b && true) ≡ b
 and_true true = refl

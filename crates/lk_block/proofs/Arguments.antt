@@ -12,10 +12,6 @@ use Rattle.lk_blocks.specs.BlockSteps.{is_listed, mention_none, after_params, pl
 use Rattle.lk_block.specs.Frames.{listed_at}
 use Rattle.lk_block.specs.Members.{own_name}
 
--- the first type is the one, or not
-pub listed_first : (c : Contents) (rest more : List BlockType) (x : BlockType) (n : Name) (k : ℕ) → rest ≡ x ∷ more → (same_name (name_at c x.name) n && nat_eq x.indices k) ≡ true → is_listed (listed_at c rest) n k ≡ true
-listed_first c rest more x n k e h = rw e (ap (λ b. b || is_listed (listed_at c more) n k) h)
-
 pub listed_next : (c : Contents) (rest more : List BlockType) (x : BlockType) (n : Name) (k : ℕ) → rest ≡ x ∷ more → (same_name (name_at c x.name) n && nat_eq x.indices k) ≡ false
     → is_listed (listed_at c rest) n k ≡ is_listed (listed_at c more) n k
 listed_next c rest more x n k e h = rw e (ap (λ b. b || is_listed (listed_at c more) n k) h)
@@ -24,9 +20,6 @@ listed_next c rest more x n k e h = rw e (ap (λ b. b || is_listed (listed_at c 
 pub clear_next : (c : Contents) (ks : List ℕ) (rest more : List ℕ) (x : ℕ) → rest ≡ x ∷ more → is_clear c ks x ≡ true
     → mention_none (names_at c ks) (map (tree_at c) rest) ≡ mention_none (names_at c ks) (map (tree_at c) more)
 clear_next c ks rest more x e h = rw e (ap (λ b. b && mention_none (names_at c ks) (map (tree_at c) more)) h)
-
-pub clear_fails : (c : Contents) (ks : List ℕ) (rest more : List ℕ) (x : ℕ) → rest ≡ x ∷ more → is_clear c ks x ≡ false → mention_none (names_at c ks) (map (tree_at c) rest) ≡ false
-clear_fails c ks rest more x e h = rw e (ap (λ b. b && mention_none (names_at c ks) (map (tree_at c) more)) h)
 
 -- a test of two trees decides as the definition does
 pub tree_decides : (r : Bool) (a b : Tree) → (IsTrue r ↔ (a ≡ b)) → r ≡ is_same_tree a b
@@ -41,17 +34,6 @@ tree_decides r a b h = go r (tree_discrete a b) h
 -- the first argument is the first parameter, or not
 pub params_next : (f : ℕ → Tree) (left right ps xs : List ℕ) (p x : ℕ) → left ≡ p ∷ ps → right ≡ x ∷ xs → is_same_tree (f p) (f x) ≡ true → after_params (map f left) (map f right) ≡ after_params (map f ps) (map f xs)
 params_next f left right ps xs p x e g h = rw (e, g) (ap (λ b. if b then after_params (map f ps) (map f xs) else None) h)
-
-pub params_differ : (f : ℕ → Tree) (left right ps xs : List ℕ) (p x : ℕ) → left ≡ p ∷ ps → right ≡ x ∷ xs → is_same_tree (f p) (f x) ≡ false → after_params (map f left) (map f right) ≡ None
-params_differ f left right ps xs p x e g h = rw (e, g) (ap (λ b. if b then after_params (map f ps) (map f xs) else None) h)
-
-pub params_missing : (f : ℕ → Tree) (left right ps : List ℕ) (p : ℕ) → left ≡ p ∷ ps → length right ≡ 0 → after_params (map f left) (map f right) ≡ None
-params_missing f left [] ps p e g = rw e refl
-params_missing f left (x ∷ xs) ps p e g = absurd (omega arith)
-
-pub params_end : (f : ℕ → Tree) (left right : List ℕ) → length left ≡ 0 → after_params (map f left) (map f right) ≡ Some (map f right)
-params_end f [] right e = refl
-params_end f (p ∷ ps) right e = absurd (omega arith)
 
 -- a constant at the block's own levels, or none
 pub member_named : (F : Frame) (h : Tree) (xs : List Tree) (T : Name) → Some T ≡ own_name F.levels h → as_member F h xs ≡ plain_indices F T (after_params F.params xs)

@@ -11,9 +11,6 @@ use Rattle.lk_plain.specs.Erased.{Out, out_of}
 use Rattle.lk_blocks.specs.Block.{Frame, Field, CtorShape, TypeShape}
 use Rattle.lk_blocks.specs.BlockSteps.{over, as_member, own_indices, fields_steps, ctor_steps, ctors_steps, shapes_steps}
 use Rattle.lk_store.specs.Contents.{Contents, name_at, tree_at, Extends}
-use Rattle.lk_subst.specs.Numbers.{values-steady}
-use Rattle.lk_env.specs.declared.unit.Constructor.{Constructor}
-use Rattle.lk_env.specs.Units.{constructor_at, IsConstructorIn}
 use Rattle.lk_ask.specs.declared.rule.Rule.TheVariants.{BlockShape}
 use Rattle.lk_ask.specs.declared.stop.Stop.{Stop}
 use Rattle.lk_ask.specs.declared.stop.Stop.TheVariants.{Rule}
@@ -21,7 +18,6 @@ use Rattle.lk_block.specs.Courses.{run_then, Passes, Goes, Halts, Gives}
 use Rattle.lk_block.specs.Constructors.{result_form, rest_form, constructor_form, type_form, constructors_form, shapes_form}
 use Rattle.lk_block.proofs.Running.{run_same, run_bind, passes_same, passes_on, stop_passes, stop_same, goes_on, halts_later, halts_first, ends_at}
 use Rattle.lk_block.proofs.Leading.{Leads, Splits}
-use Rattle.lk_block.proofs.Shaping.{each-steady}
 
 pub own_kept : (G F : Frame) (S T : Name) (R : Tree) → G ≡ F → S ≡ T → own_indices S (as_member G (head R) (args R)) ≡ own_indices T (as_member F (head R) (args R))
 own_kept G F S T R e f = ap (λ H. own_indices S (as_member H (head R) (args R))) e ∙ ap (λ U. own_indices U (as_member F (head R) (args R))) f
@@ -114,16 +110,3 @@ shapes_missing t w p b ss fuel F ts x more xs c so_far is none = record {
 
 pub turned : {A : Type 0} (xs ys : List A) (x : A) → xs ≡ ys ++ x ∷ [] → reverse xs ≡ x ∷ reverse ys
 turned xs ys x e = ap reverse e ∙ reverse-append ys (x ∷ [])
-
-stated_same : (m n : Name) (ms ns : List Name) (A B : Tree) (p q : Name) (i k j : ℕ) → m ≡ n → ms ≡ ns → A ≡ B → p ≡ q
-    → (let s : Ctor = record { name = m; levels = ms; type = A; parent = p; place = i; parameters = k; fields = j } in s) ≡ (let s : Ctor = record { name = n; levels = ns; type = B; parent = q; place = i; parameters = k; fields = j } in s)
-stated_same m n ms ns A B p q i k j e f g h = cc
-
--- a constructor stays as it is stated
-pub stated-steady : (c d : Contents) (k : Constructor) → Extends c d → IsConstructorIn c k → constructor_at d k ≡ constructor_at c k
-stated-steady c d k x h =
-    stated_same (name_at d k.name) (name_at c k.name) (map (name_at d) k.levels.items) (map (name_at c) k.levels.items) (tree_at d k.kind) (tree_at c k.kind) (name_at d k.parent) (name_at c k.parent) k.place k.parameters k.fields
-    (x.names.same k.name h.stated.name_in) (values-steady [] c.names d.names k.levels.items x.names h.stated.levels_in) (x.trees.same k.kind h.stated.kind_in) (x.names.same k.parent h.parent_in)
-
-pub all-stated-steady : (c d : Contents) (ks : List Constructor) → Extends c d → All (IsConstructorIn c) ks → map (constructor_at d) ks ≡ map (constructor_at c) ks
-all-stated-steady c d ks x h = each-steady (IsConstructorIn c) (constructor_at d) (constructor_at c) ks (λ k i. stated-steady c d k x i) h

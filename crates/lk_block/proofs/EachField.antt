@@ -19,68 +19,8 @@ use Rattle.lk_ask.specs.declared.stop.Stop.TheVariants.{Rule}
 use Rattle.lk_block.specs.Courses.{tree_then, truth_then, answer_then, look_then, run_then, Passes, Goes, Halts, Gives}
 use Rattle.lk_block.specs.Forms.{pi_form}
 use Rattle.lk_block.specs.Fields.{kind_form, field_form, next_field}
-use Rattle.lk_block.proofs.Running.{go_on_same, answer_then_same, run_same, run_bind, passes_same, passes_on, stop_passes, goes_on, gives_on, halts_later, halts_first, ends_at}
-
--- no more is left than there was
-abbrev AtMost : ℕ → Out → Type 0
-AtMost b (finished v left t) = left ≤ b
-AtMost b (stopped r) = Unit {0}
-AtMost b used_up = Unit {0}
-
-most_seen : (b : ℕ) (t : Option ℕ) (o : Out) → AtMost b o → AtMost b (seen t o)
-most_seen b t (finished v left u) h = h
-most_seen b t (stopped r) h = tt
-most_seen b t used_up h = tt
-
-most_unseen : (b : ℕ) (t : Option ℕ) (v : Value) (left : ℕ) (u : Option ℕ) (o : Out) → AtMost b o → o ≡ seen t (finished v left u) → left ≤ b
-most_unseen b t v left u o h e = subst (AtMost b) e h
-
-most_less : (a b : ℕ) (o : Out) → a ≤ b → AtMost a o → AtMost b o
-most_less a b (finished v left t) l h = omega arith
-most_less a b (stopped r) l h = tt
-most_less a b used_up l h = tt
-
-most_then : (b : ℕ) (o : Out) (k : Value → ℕ → Out) → AtMost b o → ((v : Value) (left : ℕ) → AtMost left (k v left)) → AtMost b (go_on o k)
-most_then b (finished v left t) k h more = most_seen b t (k v left) (most_less left b (k v left) h (more v left))
-most_then b (stopped r) k h more = tt
-most_then b used_up k h more = tt
-
-most_answered : (q : Query) (k : AnswerTo q → ℕ → Out) → ((v : AnswerTo q) (left : ℕ) → AtMost left (k v left)) → (v : Value) (left : ℕ) → AtMost left (answer_then q k v left)
-most_answered (core e) k h (a_tree t) left = h t left
-most_answered (core e) k h (truth b) left = tt
-most_answered (whnf e) k h (a_tree t) left = h t left
-most_answered (whnf e) k h (truth b) left = tt
-most_answered (infer e) k h (a_tree t) left = h t left
-most_answered (infer e) k h (truth b) left = tt
-most_answered (same a b) k h (a_tree t) left = tt
-most_answered (same a b) k h (truth r) left = h r left
-
-most_found : (b : ℕ) (r : RuleNo) (e : Option Entry) (unit : ℕ) (flaw : Option RuleNo) (k : Entry → Out) → ((e : Entry) → AtMost b (k e)) → AtMost b (look_then r e unit flaw k)
-most_found b r None unit flaw k h = tt
-most_found b r (Some e) unit flaw k h = most_seen b (Some unit) (k e) (h e)
-
-most_out : (t : Table) (w : Place) (q : Query) (b : ℕ) → AtMost b (out_of t w q b)
-unfolding out_of
-most_out t w q b = go (plain_answer t w q b)
-  where
-    go : (o : Outcome (AnswerTo q)) → AtMost b (left_of (value_of q) b o)
-    go (answered v c u) = omega arith
-    go (refused r) = tt
-    go spent = tt
-
-most_run : {A : Type 0} (t : Table) (w : Place) (p : Program A) (b : ℕ) (k : A → ℕ → Out) → ((v : A) (left : ℕ) → AtMost left (k v left)) → AtMost b (run_then (out_of t w) w p b k)
-most_run t w (done v) b k h = h v b
-most_run t w (refuse r) b k h = tt
-most_run t w (ask q f) b k h =
-    most_then b (out_of t w q b) (answer_then q (λ v left. run_then (out_of t w) w (f v) left k)) (most_out t w q b)
-    (most_answered q (λ v left. run_then (out_of t w) w (f v) left k) (λ v left. most_run t w (f v) left k h))
-most_run t w (look r c f) b k h = most_found b r (w.means c) (w.origin c) (w.flaw c) (λ e. run_then (out_of t w) w (f e) b k) (λ e. most_run t w (f e) b k h)
-
-pub goes_less : {A : Type 0} (t : Table) (w : Place) (p : Program A) (b c : ℕ) (v : A) → Goes t w p b v c → c ≤ b
-goes_less {A = A} t w p b c v h =
-    let k : A → ℕ → Out = λ u left. finished (a_tree wide) left None in
-    let e = h.on k in
-    most_unseen b e.0 (a_tree wide) c None (run_then (out_of t w) w p b k) (most_run t w p b k (λ u left. omega arith)) e.1
+use Rattle.lk_block.proofs.Within.{goes_within}
+use Rattle.lk_block.proofs.Running.{go_on_same, answer_then_same, run_same, run_bind, bind_same, passes_same, passes_on, stop_passes, goes_on, gives_on, halts_later, halts_first, ends_at}
 
 -- where the block's level is not 0
 pub fits_above : (l : Level) (A : Tree) (r : Bool) → r ≡ is_zero_level l → r ≡ false → fits_in l A ≡ fits l A
@@ -113,10 +53,6 @@ module _ (t u : Table) (w x : Place) (same_table : u ≡ t) (same_place : x ≡ 
       (halts_first u x (field_form fuel F j A (local j A)) (λ f. done (f, opened B (local j A))) c stop second)
 
 module _ (answer : Query → ℕ → Out) (w : Place) (fuel : ℕ) (F : Frame) where
-  bind_same : {A B C : Type 0} (p : Program A) (f : A → Program B) (g : A → Program C) (b : ℕ) (k : B → ℕ → Out) (l : C → ℕ → Out)
-      → ((v : A) (left : ℕ) → run_then answer w (f v) left k ≡ run_then answer w (g v) left l) → run_then answer w (p >>= f) b k ≡ run_then answer w (p >>= g) b l
-  bind_same p f g b k l h = run_bind answer w p f b k ∙ run_same answer w p b (λ v left. run_then answer w (f v) left k) (λ v left. run_then answer w (g v) left l) h ∙ sym (run_bind answer w p g b l)
-
   -- one field, and then the others
   pub fields_one : (j n : ℕ) (r : Tree) (b : ℕ) (k : List Field × Tree → ℕ → Out)
       → run_then answer w (fields_steps fuel F j (suc n) r) b k ≡ run_then answer w (next_field fuel F j r) b (λ p left. run_then answer w (fields_steps fuel F (suc j) n p.1) left (λ x rest. k (p.0 ∷ x.0, x.1) rest))
@@ -137,7 +73,7 @@ module _ (answer : Query → ℕ → Out) (w : Place) (fuel : ℕ) (F : Frame) w
       (λ q l. run_bind answer w (fields_steps fuel F (suc j) n (opened p.1 (local j p.0))) (λ fs. done (record { variable = local j p.0; kind = q } ∷ fs.0, fs.1)) l k)
       ∙ sym (run_bind answer w (field_form fuel F j p.0 (local j p.0)) (pair p) left next
       ∙ run_bind answer w (kind_form fuel F (suc j) p.0) (field p) left (λ f l. next (f, opened p.1 (local j p.0)) l)) in
-      let form : (R : Tree) (left : ℕ) → run_then answer w (as_pi block_shape R >>= whole) left k ≡ run_then answer w (as_pi block_shape R >>= own) left next = λ R left. bind_same (as_pi block_shape R) whole own left k next one in
+      let form : (R : Tree) (left : ℕ) → run_then answer w (as_pi block_shape R >>= whole) left k ≡ run_then answer w (as_pi block_shape R >>= own) left next = λ R left. bind_same answer w (as_pi block_shape R) whole own left k next one in
       go_on_same (answer (whnf r) b) (tree_then (λ R left. run_then answer w (as_pi block_shape R >>= whole) left k)) (tree_then (λ R left. run_then answer w (as_pi block_shape R >>= own) left next))
       (answer_then_same (whnf r) (λ R left. run_then answer w (as_pi block_shape R >>= whole) left k) (λ R left. run_then answer w (as_pi block_shape R >>= own) left next) form)
 
@@ -155,7 +91,7 @@ module _ (t u : Table) (w x : Place) (same_table : u ≡ t) (same_place : x ≡ 
 
   pub fields_next : (gs : List Field) (h l : ℕ) (f : Field) (v : Tree) (d : ℕ) → m ≡ suc l → h ≡ suc i → gs ≡ fs ++ f ∷ [] → ((fuel : ℕ) → c < fuel → Goes u x (next_field fuel G i s) c (f, v) d) → LeadsFields t w F j n r b gs h l v d
   fields_next gs h l f v d one next more goes = record {
-    less = let before = so_far.less in let here = goes_less u x (next_field (suc c) G i s) c d (f, v) (goes (suc c) (omega arith)) in omega arith;
+    less = let before = so_far.less in let here = goes_within u x (next_field (suc c) G i s) c (f, v) d (goes (suc c) (omega arith)) in omega arith;
     on = λ fuel enough k.
         let inner : List Field × Tree → ℕ → Out = λ x left. k (fs ++ x.0, x.1) left in
         let here : Goes t w (next_field fuel F i s) c (f, v) d = moved_goes fuel (f, v) d (goes fuel (let before = so_far.less in omega arith)) in

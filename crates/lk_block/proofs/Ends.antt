@@ -31,9 +31,6 @@ module _ (t u : Table) (w x : Place) (same_table : u ≡ t) (same_place : x ≡ 
       (ends_at u x (level_form e) (λ l. done (xs, l)) c d d l (xs, l) (qs, l) second refl (ap (λ q. (q, l)) kept) refl)
 
 module _ (t : Table) (w : Place) (j n : ℕ) (r : Tree) (b : ℕ) (l l' m : Level) (qs : List Tree) (c : ℕ) (level_kept : l' ≡ l) where
-  pub at_level_halts : (stop : Stop) → Halts t w (type_end j n r) b stop → Halts t w (end_form j n l r) b stop
-  at_level_halts stop h = halts_first t w (type_end j n r) (λ e. tested (level_test e.1 l) >>= λ equal. given equal block_shape (done e.0)) b stop h
-
   moved_test : (p : Program Bool) → tested (level_test m l') ≡ p → (tested (level_test m l) >>= λ equal. given equal block_shape (done qs)) ≡ (p >>= λ equal. given equal block_shape (done qs))
   moved_test p e = ap (λ k. tested (level_test m k) >>= λ equal. given equal block_shape (done qs)) (sym level_kept) ∙ ap (λ q. q >>= λ equal. given equal block_shape (done qs)) e
 
@@ -57,9 +54,6 @@ module _ (t : Table) (w : Place) (j n : ℕ) (r : Tree) (b : ℕ) (l l' m : Leve
 
 module _ (t u : Table) (w x : Place) (same_table : u ≡ t) (same_place : x ≡ w) (ps ps' : List Tree) (T T' : Tree) (l l' : Level) (n : ℕ) (b : ℕ)
     (params_kept : ps' ≡ ps) (kind_kept : T' ≡ T) where
-  pub next_halts : (stop : Stop) → Halts t w (sort_of T) b stop → Halts t w (next_form ps l n T) b stop
-  next_halts stop h = halts_first t w (sort_of T) (λ s. over ps T >>= λ r. end_form (length ps) n l r) b stop h
-
   pub next_halts_later : (s : Level) (c : ℕ) (stop : Stop) → Goes t w (sort_of T) b s c → Halts u x (over ps' T') c stop → Halts t w (next_form ps l n T) b stop
   next_halts_later s c stop first h =
       halts_later t u w x same_table same_place (sort_of T) (λ s. over ps T >>= λ r. end_form (length ps) n l r) b c s stop first

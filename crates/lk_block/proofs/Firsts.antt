@@ -17,7 +17,7 @@ use Rattle.lk_blocks.specs.BlockSteps.{TypeParts as PlainParts, telescope, type_
 use Rattle.lk_store.specs.Contents.{Contents, level_at, tree_at, Extends}
 use Rattle.lk_env.specs.declared.unit.BlockType.{BlockType as StoredType}
 use Rattle.lk_env.specs.Units.{type_at, IsStatedIn, IsConstructorIn, IsTypeIn}
-use Rattle.lk_subst.specs.Numbers.{trees-steady}
+use Rattle.lk_subst.specs.Numbers.{trees-steady, trees-known}
 use Rattle.lk_ask.specs.declared.rule.Rule.TheVariants.{BlockShape}
 use Rattle.lk_ask.specs.declared.stop.Stop.{Stop}
 use Rattle.lk_ask.specs.declared.stop.Stop.TheVariants.{Rule, Spent, NoMemory}
@@ -25,7 +25,7 @@ use Rattle.lk_block.specs.declared.types.TypeParts.{TypeParts}
 use Rattle.lk_block.specs.Courses.{run_then, Passes, Goes, Halts, Gives, IsRefused}
 use Rattle.lk_block.specs.Forms.{next_form}
 use Rattle.lk_block.specs.Parts.{lists_at, AreListsIn, parts_at, more_form, self_form, first_parts, open_form, first_form, others_form}
-use Rattle.lk_block.proofs.Running.{run_same, run_bind, passes_same, passes_on, stop_passes, stop_same, gives_on, settles_on, halts_first, halts_later, goes_on, ends_at}
+use Rattle.lk_block.proofs.Running.{run_same, run_bind, bind_same, passes_same, passes_on, stop_passes, stop_same, gives_on, settles_on, halts_first, halts_later, goes_on, ends_at}
 
 pub lists-steady : (c d : Contents) (xs : List (Vec ℕ Global)) → Extends c d → AreListsIn c xs → lists_at d xs ≡ lists_at c xs
 lists-steady c d [] x h = refl
@@ -33,11 +33,8 @@ lists-steady c d (ys ∷ xs) x h =
     let K : Vec ℕ Global → Type 0 = λ v. All (λ i. i < length c.trees) v.items in
     ap (λ ts. ts ∷ lists_at d xs) (trees-steady c d ys.items x (All-head K ys xs h)) ∙ ap (λ us. map (tree_at c) ys.items ∷ us) (lists-steady c d xs x (All-tail K ys xs h))
 
-pub list-grown : (c d : Contents) (xs : List ℕ) → Extends c d → All (λ i. i < length c.trees) xs → All (λ i. i < length d.trees) xs
-list-grown c d xs x h = All-weaker (λ i. i < length c.trees) (λ i. i < length d.trees) (λ i below. let longer = x.trees.longer in omega arith) xs h
-
-pub lists-grown : (c d : Contents) (xs : List (Vec ℕ Global)) → Extends c d → AreListsIn c xs → AreListsIn d xs
-lists-grown c d xs x h = All-weaker (λ v. All (λ i. i < length c.trees) v.items) (λ v. All (λ i. i < length d.trees) v.items) (λ v all. list-grown c d v.items x all) xs h
+pub lists-known : (c d : Contents) (xs : List (Vec ℕ Global)) → Extends c d → AreListsIn c xs → AreListsIn d xs
+lists-known c d xs x h = All-weaker (λ v. All (λ i. i < length c.trees) v.items) (λ v. All (λ i. i < length d.trees) v.items) (λ v all. trees-known c d v.items x all) xs h
 
 -- one list more
 pub lists-push : (c d : Contents) (xs : List (Vec ℕ Global)) (own : Vec ℕ Global) → Extends c d → AreListsIn c xs → lists_at d (xs ++ own ∷ []) ≡ lists_at c xs ++ map (tree_at d) own.items ∷ []
@@ -79,10 +76,6 @@ module _ (answer : Query → ℕ → Out) (w : Place) where
       ∙ run_same answer w (next_types ps l ts) left (λ xs rest. k (is ++ x ∷ xs) rest) (λ xs rest. k ((is ++ x ∷ []) ++ xs) rest) (λ xs rest. ap (λ ys. k ys rest) (sym (append_assoc is (x ∷ []) xs)))
       ∙ sym (run_bind answer w (next_types ps l ts) (λ xs. done ((is ++ x ∷ []) ++ xs)) left k))
 
-  bind_same : {A B C : Type 0} (p : Program A) (f : A → Program B) (g : A → Program C) (b : ℕ) (k : B → ℕ → Out) (l : C → ℕ → Out)
-      → ((v : A) (left : ℕ) → run_then answer w (f v) left k ≡ run_then answer w (g v) left l) → run_then answer w (p >>= f) b k ≡ run_then answer w (p >>= g) b l
-  bind_same p f g b k l h = run_bind answer w p f b k ∙ run_same answer w p b (λ v left. run_then answer w (f v) left k) (λ v left. run_then answer w (g v) left l) h ∙ sym (run_bind answer w p g b l)
-
   -- all types, and the first one with the others after it
   pub types_run : (p : ℕ) (t : BlockType) (ts : List BlockType) (b : ℕ) (k : PlainParts → ℕ → Out) → run_then answer w (types_steps p (t ∷ ts)) b k ≡ run_then answer w (first_form p t.indices t.type >>= λ f. others_form f ts) b k
   types_run p t ts b k =
@@ -90,10 +83,10 @@ module _ (answer : Query → ℕ → Out) (w : Place) where
       let rest : List Tree → List Tree × Level → Bool → Program PlainParts = λ ps e equal. given equal block_shape (next_types ps e.1 ts) >>= λ xs. done (record { params = ps; sort = e.1; indices = e.0 ∷ xs }) in
       let end : List Tree → List Tree × Level → Program PlainParts = λ ps e. tested (level_test e.1 e.1) >>= rest ps e in
       let own : List Tree × Level → Bool → Program (List Tree × Level) = λ e equal. given equal block_shape (done e) in
-      bind_same (sort_of t.type) (λ s. telescope 0 p t.type >>= λ ps. type_end p t.indices ps.1 >>= end ps.0) (λ s. open_form p t.indices t.type) b k after
-      (λ s left. bind_same (telescope 0 p t.type) (λ ps. type_end p t.indices ps.1 >>= end ps.0) (λ ps. self_form p t.indices ps.1 >>= λ e. done (first_parts ps.0 e)) left k after
-      (λ ps left. bind_same (type_end p t.indices ps.1) (end ps.0) (λ e. tested (level_test e.1 e.1) >>= own e) left k (λ e l. after (first_parts ps.0 e) l)
-      (λ e left. bind_same (tested (level_test e.1 e.1)) (rest ps.0 e) (own e) left k (λ e l. after (first_parts ps.0 e) l) (λ equal left. last ps.0 e left equal))
+      bind_same answer w (sort_of t.type) (λ s. telescope 0 p t.type >>= λ ps. type_end p t.indices ps.1 >>= end ps.0) (λ s. open_form p t.indices t.type) b k after
+      (λ s left. bind_same answer w (telescope 0 p t.type) (λ ps. type_end p t.indices ps.1 >>= end ps.0) (λ ps. self_form p t.indices ps.1 >>= λ e. done (first_parts ps.0 e)) left k after
+      (λ ps left. bind_same answer w (type_end p t.indices ps.1) (end ps.0) (λ e. tested (level_test e.1 e.1) >>= own e) left k (λ e l. after (first_parts ps.0 e) l)
+      (λ e left. bind_same answer w (tested (level_test e.1 e.1)) (rest ps.0 e) (own e) left k (λ e l. after (first_parts ps.0 e) l) (λ equal left. last ps.0 e left equal))
       ∙ sym (run_bind answer w (self_form p t.indices ps.1) (λ e. done (first_parts ps.0 e)) left after)))
       ∙ sym (run_bind answer w (first_form p t.indices t.type) (λ f. others_form f ts) b k)
     where
@@ -108,9 +101,6 @@ module _ (answer : Query → ℕ → Out) (w : Place) where
 -- whatever comes next, the one is the other
 pub record LeadsTypes (t : Table) (w : Place) (ps : List Tree) (l : Level) (is : List (List Tree)) (ts : List BlockType) (b : ℕ) (js : List (List Tree)) (us : List BlockType) (c : ℕ) : Type 0 where
   pub on : (k : List (List Tree) → ℕ → Out) → Passes (run_then (out_of t w) w (more_form is ps l ts) b k) (run_then (out_of t w) w (more_form js ps l us) c k)
-
-pub types_first : (t : Table) (w : Place) (ps : List Tree) (l : Level) (is : List (List Tree)) (ts : List BlockType) (b : ℕ) → LeadsTypes t w ps l is ts b is ts b
-types_first t w ps l is ts b = record { on = λ k. passes_same _ _ refl }
 
 module _ (t u : Table) (w x : Place) (same_table : u ≡ t) (same_place : x ≡ w) (ps ps' : List Tree) (l l' : Level) (is : List (List Tree)) (ts : List BlockType) (b : ℕ) (js : List (List Tree)) (us : List BlockType) (c : ℕ)
     (so_far : LeadsTypes t w ps l is ts b js us c) where
@@ -169,19 +159,6 @@ types_kept c d ps l (t ∷ ts) x h =
     let others = types_kept c d ps l ts x (All-tail (IsTypeIn c) t ts h) in
     ap (λ T. next_form ps l t.indices T >>= λ y. next_types ps l (map (type_at d) ts) >>= λ ys. done (y ∷ ys)) (x.trees.same t.kind known.stated.kind_in)
     ∙ ap (λ q. next_form ps l t.indices (tree_at c t.kind) >>= λ y. q >>= λ ys. done (y ∷ ys)) others
-
-pub type_grown : (c d : Contents) (t : StoredType) → Extends c d → IsTypeIn c t → IsTypeIn d t
-type_grown c d t x h = record {
-  stated = stated_grown t.name t.levels.items t.kind h.stated;
-  constructors_in = All-weaker (IsConstructorIn c) (IsConstructorIn d) (λ k i. record { stated = stated_grown k.name k.levels.items k.kind i.stated; parent_in = let longer = x.names.longer in let within = i.parent_in in omega arith }) t.constructors.items h.constructors_in;
-}
-  where
-    stated_grown : (name : ℕ) (levels : List ℕ) (kind : ℕ) → IsStatedIn c name levels kind → IsStatedIn d name levels kind
-    stated_grown name levels kind s = record {
-      name_in = let longer = x.names.longer in let within = s.name_in in omega arith;
-      levels_in = All-weaker (λ i. i < length c.names) (λ i. i < length d.names) (λ i below. let longer = x.names.longer in omega arith) levels s.levels_in;
-      kind_in = let longer = x.trees.longer in let within = s.kind_in in omega arith;
-    }
 
 module _ (t u : Table) (w x : Place) (same_table : u ≡ t) (same_place : x ≡ w) (p : ℕ) (T : BlockType) (ts us : List BlockType) (all : List BlockType) (b : ℕ) (is : all ≡ T ∷ ts) where
   pub types_stop : (stop : Stop) → Halts t w (first_form p T.indices T.type) b stop → Halts t w (types_steps p all) b stop

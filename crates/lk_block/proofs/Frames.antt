@@ -1,6 +1,6 @@
 -- What the checks of constructors know of their block, while the store grows.
 use Rattle.std.proofs.Common.{◌≡◌, ◌<◌, ℕ, List, [], ◌∷◌, length, map, All, refl, ap, ◌∙◌, arith}
-use Rattle.std.proofs.lemmas.List.Elements.{All-head, All-tail, All-weaker}
+use Rattle.std.proofs.lemmas.List.Elements.{All-head, All-tail}
 use Rattle.lk_tree.specs.Tree.{Name, Level, Tree}
 use Rattle.lk_store.specs.Contents.{Contents, name_at, level_at, list_at, tree_at, Extends}
 use Rattle.lk_subst.specs.Numbers.{values-steady, values-known, trees-steady, trees-known}
@@ -10,7 +10,7 @@ use Rattle.lk_mentions.specs.Names.{names_at}
 use Rattle.lk_blocks.specs.Block as plain
 use Rattle.lk_block.specs.declared.frame.Frame.{Frame}
 use Rattle.lk_block.specs.Frames.{listed_at, frame_at, IsFrameIn}
-use Rattle.lk_block.proofs.Firsts.{type_grown}
+use Rattle.lk_block.proofs.Stays.{types_in_stay}
 
 pub listed-steady : (c d : Contents) (ts : List BlockType) → Extends c d → All (IsTypeIn c) ts → listed_at d ts ≡ listed_at c ts
 listed-steady c d [] x h = refl
@@ -27,12 +27,3 @@ pub frame-steady : (c d : Contents) (f : Frame) → Extends c d → IsFrameIn c 
 frame-steady c d f x h =
     frame_same (list_at d f.levels) (list_at c f.levels) (map (tree_at d) f.parameters.now) (map (tree_at c) f.parameters.now) (level_at d f.sort) (level_at c f.sort) (names_at d f.names) (names_at c f.names) (listed_at d f.types.now) (listed_at c f.types.now)
     (x.lists.same f.levels h.levels_in) (trees-steady c d f.parameters.now x h.parameters_in) (x.levels.same f.sort h.sort_in) (values-steady [] c.names d.names f.names x.names h.names_in) (listed-steady c d f.types.now x h.types_in)
-
-pub frame-grown : (c d : Contents) (f : Frame) → Extends c d → IsFrameIn c f → IsFrameIn d f
-frame-grown c d f x h = record {
-  levels_in = let longer = x.lists.longer in let within = h.levels_in in omega arith;
-  parameters_in = trees-known c d f.parameters.now x h.parameters_in;
-  sort_in = let longer = x.levels.longer in let within = h.sort_in in omega arith;
-  names_in = values-known [] c.names d.names f.names x.names h.names_in;
-  types_in = All-weaker (IsTypeIn c) (IsTypeIn d) (λ t i. type_grown c d t x i) f.types.now h.types_in;
-}

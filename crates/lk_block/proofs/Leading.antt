@@ -1,12 +1,12 @@
 -- Programs that lead to what is left of them, part by part.
-use Rattle.std.proofs.Common.{◌≡◌, ℕ, refl, ap, subst}
+use Rattle.std.proofs.Common.{◌≡◌, ◌∙◌, ℕ, refl, ap, subst}
 use Rattle.lk_rulebook.specs.Place.{Place}
 use Rattle.lk_plain.specs.Query.{Query}
-use Rattle.lk_plain.specs.Program.{Program, Table, done}
+use Rattle.lk_plain.specs.Program.{Program, Table, done, ◌>>=◌}
 use Rattle.lk_plain.specs.Erased.{Out, out_of}
 use Rattle.lk_ask.specs.declared.stop.Stop.{Stop}
 use Rattle.lk_block.specs.Courses.{run_then, Passes, Goes, Halts}
-use Rattle.lk_block.proofs.Running.{passes_same, passes_on, stop_passes}
+use Rattle.lk_block.proofs.Running.{run_bind, passes_same, passes_on, stop_passes}
 
 -- whatever comes next, the one is the other
 pub record Leads {A : Type 0} (t : Table) (w : Place) (p : Program A) (b : ℕ) (q : Program A) (c : ℕ) : Type 0 where
@@ -15,6 +15,9 @@ pub record Leads {A : Type 0} (t : Table) (w : Place) (p : Program A) (b : ℕ) 
 -- the run of q is that of p, and then of what its value leads to
 pub record Splits {A B : Type 0} (q : Program B) (p : Program A) (f : A → Program B) : Type 0 where
   pub run : (answer : Query → ℕ → Out) (w : Place) (b : ℕ) (k : B → ℕ → Out) → run_then answer w q b k ≡ run_then answer w p b (λ v left. run_then answer w (f v) left k)
+
+pub split_bind : {A B : Type 0} (q : Program B) (p : Program A) (f : A → Program B) → q ≡ (p >>= f) → Splits q p f
+split_bind q p f is = record { run = λ answer w b k. ap (λ y. run_then answer w y b k) is ∙ run_bind answer w p f b k }
 
 pub leads_here : {A : Type 0} (t : Table) (w : Place) (p : Program A) (b : ℕ) → Leads t w p b p b
 leads_here t w p b = record { on = λ k. passes_same _ _ refl }

@@ -46,9 +46,6 @@ module _ (answer : Query → ℕ → Out) (w : Place) where
 pub record LeadsOver (t : Table) (w : Place) (ps : List Tree) (r : Tree) (b : ℕ) (qs : List Tree) (s : Tree) (c : ℕ) : Type 0 where
   pub on : (k : Tree → ℕ → Out) → Passes (run_then (out_of t w) w (over ps r) b k) (run_then (out_of t w) w (over qs s) c k)
 
-pub over_first : (t : Table) (w : Place) (ps : List Tree) (r : Tree) (b : ℕ) → LeadsOver t w ps r b ps r b
-over_first t w ps r b = record { on = λ k. passes_same _ _ refl }
-
 module _ (t u : Table) (w x : Place) (same_table : u ≡ t) (same_place : x ≡ w) (ps : List Tree) (r : Tree) (b : ℕ) (qs : List Tree) (s : Tree) (c : ℕ) (so_far : LeadsOver t w ps r b qs s c) where
   pub over_next : (P P' : Tree) (others : List Tree) (v : Tree) (d : ℕ) → qs ≡ P ∷ others → P' ≡ P → Goes u x (over_form P' s) c v d → LeadsOver t w ps r b others v d
   over_next P P' others v d one is goes =

@@ -51,6 +51,11 @@ module _ (answer : Query → ℕ → Out) (w : Place) where
   run_bind (look r c g) f b k =
       look_then_same r (w.means c) (w.origin c) (w.flaw c) (λ e. run_then answer w (g e >>= f) b k) (λ e. run_then answer w (g e) b (λ u rest. run_then answer w (f u) rest k)) (λ e. run_bind (g e) f b k)
 
+  -- a program and then others that run alike
+  pub bind_same : {A B C : Type 0} (p : Program A) (f : A → Program B) (g : A → Program C) (b : ℕ) (k : B → ℕ → Out) (l : C → ℕ → Out)
+      → ((v : A) (left : ℕ) → run_then answer w (f v) left k ≡ run_then answer w (g v) left l) → run_then answer w (p >>= f) b k ≡ run_then answer w (p >>= g) b l
+  bind_same p f g b k l h = run_bind p f b k ∙ run_same p b (λ v left. run_then answer w (f v) left k) (λ v left. run_then answer w (g v) left l) h ∙ sym (run_bind p g b l)
+
 pub passes_same : (o p : Out) → o ≡ p → Passes o p
 passes_same o p e = (None, e ∙ sym (seen_none p))
 

@@ -1,13 +1,13 @@
 -- Fields that keep a block from being eliminated into every universe, and types and constructors of which there is one.
-use Rattle.std.proofs.Common.{◌≡◌, ℕ, Bool, true, false, ◌||◌, List, [], ◌∷◌, map, All, Result, refl, sym, ap, subst, ◌∙◌, ◌↔◌, IsTrue, arith}
+use Rattle.std.proofs.Common.{◌≡◌, ℕ, Bool, true, false, ◌||◌, List, [], ◌∷◌, map, All, Result, refl, sym, ap, subst, ◌∙◌, ◌↔◌, IsTrue}
 use Rattle.std.specs.Prelude.{if◌then◌else◌}
-use Rattle.std.proofs.lemmas.List.Elements.{All-head, All-tail, All-weaker}
-use Rattle.lk_tree.specs.Tree.{Tree, tree_discrete, Level}
+use Rattle.std.proofs.lemmas.List.Elements.{All-head, All-tail}
+use Rattle.lk_tree.specs.Tree.{Tree, Level}
 use Rattle.lk_tree.specs.Level.{is_zero_level}
 use Rattle.lk_rulebook.specs.Place.{Place}
 use Rattle.lk_plain.specs.Program.{Program, Table, done, ◌>>=◌}
 use Rattle.lk_plain.specs.Erased.{Out}
-use Rattle.lk_table.specs.Steps.{decided, is_same_tree, sort_of}
+use Rattle.lk_table.specs.Steps.{sort_of}
 use Rattle.lk_blocks.specs.Block as plain
 use Rattle.lk_blocks.specs.Block.{domain}
 use Rattle.lk_blocks.specs.BlockSteps.{is_among, small_steps, one_ctor_steps, one_type_steps}
@@ -15,31 +15,16 @@ use Rattle.lk_store.specs.Contents.{Contents, tree_at, Extends}
 use Rattle.lk_subst.specs.Numbers.{trees-steady}
 use Rattle.lk_ask.specs.declared.stop.Stop.{Stop}
 use Rattle.lk_block.specs.declared.shape.Field.{Field}
-use Rattle.lk_block.specs.declared.shape.FieldKind.{FieldKind}
-use Rattle.lk_block.specs.declared.shape.FieldKind.TheVariants.{Plain, Recursive}
 use Rattle.lk_block.specs.declared.shape.ConstructorShape.{ConstructorShape}
 use Rattle.lk_block.specs.declared.shape.TypeShape.{TypeShape}
 use Rattle.lk_block.specs.Courses.{run_then, Goes, Halts, Gives}
-use Rattle.lk_block.specs.Shapes.{field_at, constructor_shape_at, type_shape_at, IsKindIn, IsFieldIn, IsConstructorShapeIn, IsTypeShapeIn}
+use Rattle.lk_block.specs.Shapes.{field_at, constructor_shape_at, type_shape_at, IsFieldIn, IsConstructorShapeIn, IsTypeShapeIn}
 use Rattle.lk_block.specs.Smalls.{small_form}
 use Rattle.lk_block.proofs.Running.{run_bind, halts_first, ends_at}
-use Rattle.lk_block.proofs.Firsts.{list-grown}
+use Rattle.lk_block.proofs.Arguments.{tree_decides}
 use Rattle.lk_block.proofs.Leading.{Splits}
 
--- a test of two trees decides as the definition does
-pub tree_decides : (r : Bool) (a b : Tree) → (IsTrue r ↔ (a ≡ b)) → r ≡ is_same_tree a b
-tree_decides r a b h = go r (tree_discrete a b) h
-  where
-    go : (s : Bool) (d : Dec (a ≡ b)) → (IsTrue s ↔ (a ≡ b)) → s ≡ decided d
-    go true (yes e) i = refl
-    go true (no f) i = absurd (f (i.0 refl))
-    go false (yes e) i = i.1 e
-    go false (no f) i = refl
-
 module _ (f : ℕ → Tree) (x : Tree) (xs : List ℕ) (y : ℕ) (more : List ℕ) (is : xs ≡ y ∷ more) (r : Bool) (decides : IsTrue r ↔ (x ≡ f y)) where
-  pub among_here : r ≡ true → true ≡ is_among x (map f xs)
-  among_here h = sym (rw is (ap (λ b. b || is_among x (map f more)) (sym (tree_decides r x (f y) decides) ∙ h)))
-
   pub among_later : r ≡ false → is_among x (map f xs) ≡ is_among x (map f more)
   among_later h = rw is (ap (λ b. b || is_among x (map f more)) (sym (tree_decides r x (f y) decides) ∙ h))
 
@@ -70,12 +55,7 @@ module _ (t : Table) (w : Place) (is : List Tree) (x kind : Tree) (b : ℕ) (is_
   pub small_index : (s : Level) (c : ℕ) (r z : Bool) → Goes t w (sort_of kind) b s c → r ≡ is_zero_level s → r ≡ false → z ≡ is_among x is → Goes t w (small_form is x) b z c
   small_index s c r z h e no_zero among = small_goes s c c z h (among ∙ sym (ap (λ z. z || is_among x is) (sym e ∙ no_zero))) refl
 
--- a program under another name
-pub gives_as : {A X : Type 0} (t u : Table) (w x : Place) (p q : Program A) (b d : ℕ) (value : X → A) (r : Result X Stop) → u ≡ t → x ≡ w → q ≡ p → Gives u x p b value d r → Gives t w q b value d r
-gives_as t u w x p q b d value r same_table same_place same h =
-    subst (λ s. Gives t w s b value d r) (sym same) (subst (λ y. Gives t y p b value d r) same_place (subst (λ y. Gives y x p b value d r) same_table h))
-
--- shapes stay, and stay in the store
+-- what is asked of shapes stays
 module _ (c d : Contents) (x : Extends c d) where
   small_kept : (is : List Tree) (fs : List Field) → All (IsFieldIn c) fs → small_steps is (map (field_at d) fs) ≡ small_steps is (map (field_at c) fs)
   small_kept is [] h = refl
@@ -96,27 +76,3 @@ module _ (c d : Contents) (x : Extends c d) where
   shapes_kept [] h = refl
   shapes_kept (t ∷ []) h = constructors_kept t.constructors.items (All-head (IsTypeShapeIn c) t [] h).constructors_in
   shapes_kept (t ∷ u ∷ ts) h = refl
-
-  kind_grown : (k : FieldKind) → IsKindIn c k → IsKindIn d k
-  kind_grown Plain h = tt
-  kind_grown (Recursive ys T is) h = (list-grown c d ys.items x h.0, (let longer = x.names.longer in let within = h.1 in omega arith), list-grown c d is.items x h.2)
-
-  field_grown : (f : Field) → IsFieldIn c f → IsFieldIn d f
-  field_grown f h = record { variable_in = let longer = x.trees.longer in let within = h.variable_in in omega arith; kind_in = kind_grown f.kind h.kind_in }
-
-  constructor_grown : (k : ConstructorShape) → IsConstructorShapeIn c k → IsConstructorShapeIn d k
-  constructor_grown k h = record {
-    name_in = let longer = x.names.longer in let within = h.name_in in omega arith;
-    fields_in = All-weaker (IsFieldIn c) (IsFieldIn d) field_grown k.fields.items h.fields_in;
-    indices_in = list-grown c d k.indices.items x h.indices_in;
-  }
-
-  type_grown : (t : TypeShape) → IsTypeShapeIn c t → IsTypeShapeIn d t
-  type_grown t h = record {
-    name_in = let longer = x.names.longer in let within = h.name_in in omega arith;
-    indices_in = list-grown c d t.indices.items x h.indices_in;
-    constructors_in = All-weaker (IsConstructorShapeIn c) (IsConstructorShapeIn d) constructor_grown t.constructors.items h.constructors_in;
-  }
-
-  pub shapes_grown : (ts : List TypeShape) → All (IsTypeShapeIn c) ts → All (IsTypeShapeIn d) ts
-  shapes_grown ts h = All-weaker (IsTypeShapeIn c) (IsTypeShapeIn d) type_grown ts h

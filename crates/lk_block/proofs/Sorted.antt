@@ -17,10 +17,6 @@ use Rattle.lk_block.specs.Sorts.{constructors_form, sorts_form}
 use Rattle.lk_block.proofs.Running.{run_bind, run_same}
 use Rattle.lk_block.proofs.Leading.{Splits}
 
--- whoever does not look at the levels goes on alike
-pub sorts_unread : (answer : Query → ℕ → Out) (w : Place) (ts : List BlockType) (b : ℕ) (k : ℕ → Out) → run_then answer w (all_ctor_sorts ts) b (λ ls left. k left) ≡ run_then answer w (sorts_form ts) b (λ y left. k left)
-sorts_unread answer w ts b k = sym (run_bind answer w (all_ctor_sorts ts) (λ ls. done checked) b (λ y left. k left))
-
 pub constructors_split : (cs : List Ctor) (c : Ctor) (more : List Ctor) (T : Tree) → cs ≡ c ∷ more → T ≡ c.type → Splits (constructors_form cs) (sort_of T) (λ s. constructors_form more)
 constructors_split cs c more T is same = record {
   run = λ answer w b k.

@@ -18,10 +18,13 @@ module _ (c d : Contents) (x : Extends c d) where
   pub names_stay : (ns : List ℕ) → All (λ n. n < length c.names) ns → map (name_at d) ns ≡ map (name_at c) ns
   names_stay = all_stay (λ n. n < length c.names) (name_at d) (name_at c) (λ n h. x.names.same n h)
 
+  pub names_in_stay : (ns : List ℕ) → All (λ n. n < length c.names) ns → All (λ n. n < length d.names) ns
+  names_in_stay = All-weaker (λ n. n < length c.names) (λ n. n < length d.names) (λ n small. let longer = x.names.longer in omega arith)
+
   stated_stays : (name : ℕ) (levels : List ℕ) (kind : ℕ) → IsStatedIn c name levels kind → IsStatedIn d name levels kind
   stated_stays name levels kind h = record {
     name_in = let small = h.name_in in let longer = x.names.longer in omega arith;
-    levels_in = All-weaker (λ n. n < length c.names) (λ n. n < length d.names) (λ n small. let longer = x.names.longer in omega arith) levels h.levels_in;
+    levels_in = names_in_stay levels h.levels_in;
     kind_in = let small = h.kind_in in let longer = x.trees.longer in omega arith;
   }
 
@@ -42,7 +45,7 @@ module _ (c d : Contents) (x : Extends c d) where
   type_stays t h =
       rw (x.names.same t.name h.stated.name_in, names_stay t.levels.items h.stated.levels_in, x.trees.same t.kind h.stated.kind_in, constructors_stay t.constructors.items h.constructors_in) refl
 
-  type_in_stays : (t : BlockType) → IsTypeIn c t → IsTypeIn d t
+  pub type_in_stays : (t : BlockType) → IsTypeIn c t → IsTypeIn d t
   type_in_stays t h = record {
     stated = stated_stays t.name t.levels.items t.kind h.stated;
     constructors_in = All-weaker (IsConstructorIn c) (IsConstructorIn d) constructor_in_stays t.constructors.items h.constructors_in;
@@ -67,7 +70,7 @@ module _ (c d : Contents) (x : Extends c d) where
   recursor_stays r h =
       rw (x.names.same r.name h.stated.name_in, names_stay r.levels.items h.stated.levels_in, x.trees.same r.kind h.stated.kind_in, all_stay (IsRuleIn c) (rule_at d) (rule_at c) rule_stays r.rules.items h.rules_in) refl
 
-  recursor_in_stays : (r : Recursor) → IsRecursorIn c r → IsRecursorIn d r
+  pub recursor_in_stays : (r : Recursor) → IsRecursorIn c r → IsRecursorIn d r
   recursor_in_stays r h = record {
     stated = stated_stays r.name r.levels.items r.kind h.stated;
     rules_in = All-weaker (IsRuleIn c) (IsRuleIn d) rule_in_stays r.rules.items h.rules_in;

@@ -16,7 +16,7 @@ Agrees (refused r) (stopped s) = r ≡ s
 Agrees spent used_up = Unit {0}
 Agrees _ _ = ⊥
 
--- the plain outcome of a block as unit n is that of its stages
+-- so it is with the plain outcome of a block as unit n and that of its stages
 abbrev pub FlatGoesByStages : Type 0
 FlatGoesByStages = (table : Table) (us : Library) (n : ℕ) (b : Block) (rs : List Rec) (budget : ℕ)
     → Agrees (plain_flat table us n b rs budget) (block_stages table (λ p. place_of us n (partial_of (of_block b rs) p)) (suc budget) b rs budget)

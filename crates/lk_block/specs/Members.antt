@@ -11,13 +11,9 @@ abbrev pub own_name : List Level → Tree → Option Name
 own_name us (const T ls) = if is_same_tree (const T ls) (const T us) then Some T else None
 own_name us _ = None
 
-abbrev pub name_in : Contents → Option ℕ → Option Name
-name_in c None = None
-name_in c (Some n) = Some (name_at c n)
-
-abbrev pub trees_in : Contents → Option (List ℕ) → Option (List Tree)
-trees_in c None = None
-trees_in c (Some xs) = Some (map (tree_at c) xs)
+abbrev pub named_at : Contents → Option ℕ → Option Name
+named_at c (Some n) = Some (name_at c n)
+named_at c None = None
 
 abbrev pub member_at : Contents → Option Member → Option (Name × List Tree)
 member_at c None = None

@@ -23,10 +23,6 @@ abbrev pub constant_name : Tree → Option Name
 constant_name (const n ls) = Some n
 constant_name _ = None
 
-abbrev pub named_at : Contents → Option ℕ → Option Name
-named_at c (Some n) = Some (name_at c n)
-named_at c None = None
-
 abbrev pub constant_in : Node → Option ℕ
 constant_in (node.Const n ls) = Some n
 constant_in _ = None

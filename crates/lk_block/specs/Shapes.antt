@@ -2,6 +2,7 @@
 use Rattle.std.specs.Prelude.{ℕ, ◌<◌, List, length, map, All}
 use Rattle.lk_store.specs.Contents.{Contents, name_at, level_at, tree_at}
 use Rattle.lk_blocks.specs.Block as plain
+use Rattle.lk_block.specs.declared.shape.Recursion.{Recursion}
 use Rattle.lk_block.specs.declared.shape.FieldKind.{FieldKind}
 use Rattle.lk_block.specs.declared.shape.FieldKind.TheVariants.{Plain, Recursive}
 use Rattle.lk_block.specs.declared.shape.Field.{Field}
@@ -11,7 +12,7 @@ use Rattle.lk_block.specs.declared.shape.Shape.{Shape}
 
 abbrev pub kind_at : Contents → FieldKind → plain.FieldKind
 kind_at c Plain = plain.plain
-kind_at c (Recursive ys T is) = plain.recursive (map (tree_at c) ys.items) (name_at c T) (map (tree_at c) is.items)
+kind_at c (Recursive r) = plain.recursive (map (tree_at c) r.arguments.items) (name_at c r.name) (map (tree_at c) r.indices.items)
 
 abbrev pub field_at : Contents → Field → plain.Field
 field_at c f = record { variable = tree_at c f.variable; kind = kind_at c f.kind }
@@ -31,13 +32,19 @@ shape_at c s = record {
   large = s.large;
 }
 
--- its names, levels and trees are numbers of the store
+-- numbers of trees
 abbrev pub AreTreesIn : Contents → List ℕ → Type 0
 AreTreesIn c xs = All (λ x. x < length c.trees) xs
 
+-- whatever has them is of the store: its names, levels and trees are
+pub record IsRecursionIn (c : Contents) (r : Recursion) : Type 0 where
+  pub arguments_in : AreTreesIn c r.arguments.items
+  pub name_in : r.name < length c.names
+  pub indices_in : AreTreesIn c r.indices.items
+
 abbrev pub IsKindIn : Contents → FieldKind → Type 0
 IsKindIn c Plain = Unit {0}
-IsKindIn c (Recursive ys T is) = AreTreesIn c ys.items × (T < length c.names) × AreTreesIn c is.items
+IsKindIn c (Recursive r) = IsRecursionIn c r
 
 pub record IsFieldIn (c : Contents) (f : Field) : Type 0 where
   pub variable_in : f.variable < length c.trees

@@ -1,7 +1,7 @@
 //! Questions asked one after another, of whoever answers them.
 
 ghost use Rattle.std.specs.Prelude.{◌≡◌, ◌<◌, length, IfOk};
-ghost use Rattle.lk_tree.specs.LevelTest.{level_test};
+ghost use Rattle.lk_tree.specs.LevelTest.{level_test, level_le_test};
 ghost use Rattle.lk_tree.specs.RuleNo.{block_shape};
 ghost use Rattle.lk_plain.specs.Query.{whnf, infer, same};
 ghost use Rattle.lk_plain.specs.Program.{asked};
@@ -16,7 +16,7 @@ use lk_ask::asks::Asks;
 use lk_ask::query::{Answer, Query};
 use lk_ask::rule::Rule;
 use lk_ask::stop::Stop;
-use lk_level_order::compared::{LevelError, equal};
+use lk_level_order::compared::{LevelError, equal, leq};
 use lk_store::node::Node;
 use lk_store::terms::Terms;
 use std::alloc::Global;
@@ -72,7 +72,7 @@ pub fn are_same<A: Asks>(asks: &mut A, a: u64, b: u64) -> Result<bool, Stop>
     }
 }
 
-/// The domain and the body of a weak head form, which is to be a Pi.
+/// The domain and the body of a weak head form, which is to be a Pi (`BlockShape`).
 fn pi_in<T: Terms>(terms: &T, form: u64) -> Result<(u64, u64), Stop>
     requires { form < length (T.contents terms.now).trees }
     ensures known { IfOk result (λ p. (p.0 < length (T.contents terms.now).trees) × (p.1 < length (T.contents terms.now).trees)) }
@@ -100,7 +100,7 @@ pub(crate) fn pi_of<A: Asks>(asks: &mut A, e: u64) -> Result<(u64, u64), Stop>
     }
 }
 
-/// The level of a weak head form, which is to be a sort, as a sort that is asked for.
+/// The level of a weak head form, which is to be a sort (`NotASort`).
 fn sort_in<T: Terms>(terms: &T, form: u64) -> Result<u64, Stop>
     requires { form < length (T.contents terms.now).trees }
     ensures known { IfOk result (λ l. l < length (T.contents terms.now).levels) }
@@ -128,7 +128,7 @@ fn sort_of_kind<A: Asks>(asks: &mut A, kind: u64) -> Result<u64, Stop>
     }
 }
 
-/// The level of a term's sort.
+/// The level of a term's sort (`NotASort`).
 pub fn sort_of<A: Asks>(asks: &mut A, e: u64) -> Result<u64, Stop>
     requires { e < length (A.contents asks.old).trees }
     ensures keeps { Extends (A.contents asks.old) (A.contents asks.new) }
@@ -144,7 +144,7 @@ pub fn sort_of<A: Asks>(asks: &mut A, e: u64) -> Result<u64, Stop>
     }
 }
 
-/// The level of a weak head form, which is to be a sort, as the end of a type of a block.
+/// The level of a weak head form, which is to be a sort since a type of a block ends in it (`BlockShape`).
 fn level_in<T: Terms>(terms: &T, form: u64) -> Result<u64, Stop>
     requires { form < length (T.contents terms.now).trees }
     ensures known { IfOk result (λ l. l < length (T.contents terms.now).levels) }
@@ -156,7 +156,7 @@ fn level_in<T: Terms>(terms: &T, form: u64) -> Result<u64, Stop>
     }
 }
 
-/// The level of the sort that the end of a type of a block is to be.
+/// The level of the sort that the end of a type of a block is to be (`BlockShape`).
 pub(crate) fn level_of<A: Asks>(asks: &mut A, e: u64) -> Result<u64, Stop>
     requires { e < length (A.contents asks.old).trees }
     ensures keeps { Extends (A.contents asks.old) (A.contents asks.new) }
@@ -180,6 +180,21 @@ pub(crate) fn levels_equal<T: Terms>(alloc: Global, terms: &T, a: u64, b: u64) -
 {
     match equal(alloc, terms, a, b) {
         Ok(same) => Ok(same),
+        Err(error) => match error {
+            LevelError::Width => Err(Stop::Rule(Rule::LevelWidth)),
+            LevelError::NoMemory => Err(Stop::NoMemory),
+        },
+    }
+}
+
+/// Whether the left level is at most the right one under every assignment.
+pub(crate) fn is_at_most<T: Terms>(alloc: Global, terms: &T, a: u64, b: u64) -> Result<bool, Stop>
+    requires a_in { a < length (T.contents terms.now).levels }
+    requires b_in { b < length (T.contents terms.now).levels }
+    ensures { Settles (tested (level_le_test (level_at (T.contents terms.now) a) (level_at (T.contents terms.now) b))) (λ r. r) result }
+{
+    match leq(alloc, terms, a, b) {
+        Ok(at_most) => Ok(at_most),
         Err(error) => match error {
             LevelError::Width => Err(Stop::Rule(Rule::LevelWidth)),
             LevelError::NoMemory => Err(Stop::NoMemory),

@@ -15,7 +15,7 @@ ghost use Rattle.lk_block.specs.Wholes.{block_of, shapes_form, shape_with};
 use crate::constructors::check_constructors;
 use crate::elimination::may_be_large;
 use crate::frame::Frame;
-use crate::parameters::parameters_of;
+use crate::parameters::parameter_levels;
 use crate::shape::{Shape, TypeShape};
 use crate::types::TypeParts;
 use lk_ask::asks::Asks;
@@ -64,7 +64,7 @@ fn own_levels<A: Asks>(asks: &mut A, types: &[BlockType]) -> Result<u64, NoMemor
     ensures left { A.left asks.new ≡ A.left asks.old }
     ensures ok { IfOk result (λ ls. IsList (A.contents asks.new) ls (map param (levels_of (block_of (map (type_at (A.contents asks.old)) types.now))))) }
 {
-    parameters_of(asks, level_names(types))
+    parameter_levels(asks, level_names(types))
 }
 
 /// What the checks of constructors know of the block.
@@ -147,6 +147,11 @@ fn shape_of(
 }
 
 /// The checks of a block's constructors and of large elimination, once those of its types are made: the shape of the block.
+///
+/// A constructor's parameters are those of the first type (`ParameterDiffers`). Each of its fields fits in the universe of
+/// the types (`FieldUniverse`) and is positive (`NotPositive`), and then stands its own type, applied to the parameters and
+/// to indices that mention no type of the block (`ConstructorResult`). A Pi that is missing says `BlockShape`, and levels
+/// that cannot be compared say `LevelWidth`. What a question refuses is handed on.
 pub fn check_shape<A: Asks>(
     alloc: Global,
     asks: &mut A,

@@ -13,7 +13,7 @@ ghost use Rattle.lk_block.specs.Shapes.{constructor_shape_at, type_shape_at, Are
 ghost use Rattle.lk_block.specs.Constructors.{result_form, rest_form, constructor_form, type_form};
 
 use crate::asking::form_of;
-use crate::counts::is_name;
+use crate::counts::names_equal;
 use crate::fields::fields;
 use crate::frame::Frame;
 use crate::members::{Member, as_member};
@@ -33,7 +33,7 @@ fn indices_of<T: Terms>(terms: &T, parent: u64, member: Member) -> Result<Vec<u6
     ensures known { IfOk result (λ v. AreTreesIn (T.contents terms.now) v.items) }
     ensures indices { Settles (own_indices (name_at (T.contents terms.now) parent) (member_at (T.contents terms.now) (Some member))) (λ v. map (tree_at (T.contents terms.now)) v.items) result }
 {
-    if is_name(terms, member.name, parent) {
+    if names_equal(terms, member.name, parent) {
         Ok(member.indices)
     } else {
         Err(Stop::Rule(Rule::ConstructorResult))

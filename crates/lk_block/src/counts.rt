@@ -14,7 +14,7 @@ use lk_store::terms::Terms;
 
 /// Whether two names are equal.
 #[tactic(auto, using(crate::proofs::Counted::name_decides))]
-pub(crate) fn is_name<T: Terms>(terms: &T, name: u64, other: u64) -> bool
+pub fn names_equal<T: Terms>(terms: &T, name: u64, other: u64) -> bool
     requires name_in { name < length (T.contents terms.now).names }
     requires other_in { other < length (T.contents terms.now).names }
     ensures { result ≡ same_name (name_at (T.contents terms.now) name) (name_at (T.contents terms.now) other) }
@@ -34,7 +34,7 @@ fn names_agree<T: Terms>(terms: &T, first: &[u64], second: &[u64]) -> bool
         match right.split_first() {
             None => return false,
             Some((n, right_rest)) => {
-                if !is_name(terms, *m, *n) {
+                if !names_equal(terms, *m, *n) {
                     return false;
                 }
                 left = left_rest;
@@ -65,7 +65,7 @@ fn constructor_agrees<T: Terms>(
     if constructor.parameters != parameters {
         return false;
     }
-    if !is_name(terms, constructor.parent, parent) {
+    if !names_equal(terms, constructor.parent, parent) {
         return false;
     }
     constructor.place == place

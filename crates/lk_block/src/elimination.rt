@@ -2,21 +2,17 @@
 
 ghost use Rattle.std.specs.Prelude.{◌≡◌, ◌<◌, length, map, All, IfOk};
 ghost use Rattle.lk_tree.specs.Tree.{zero_level, succ_level};
-ghost use Rattle.lk_tree.specs.LevelTest.{level_le_test};
-ghost use Rattle.lk_table.specs.Levels.{tested};
 ghost use Rattle.lk_store.specs.Contents.{level_at, tree_at, level_of, IsLevelIn, Extends, IsLevel};
 ghost use Rattle.lk_blocks.specs.BlockSteps.{is_among, small_steps, one_ctor_steps, one_type_steps, large_steps};
 ghost use Rattle.lk_block.specs.Courses.{Gives, Settles};
 ghost use Rattle.lk_block.specs.Shapes.{field_at, constructor_shape_at, type_shape_at, AreTreesIn, IsFieldIn, IsConstructorShapeIn, IsTypeShapeIn};
 ghost use Rattle.lk_block.specs.Smalls.{small_form, above_form};
 
-use crate::asking::sort_of;
+use crate::asking::{is_at_most, sort_of};
 use crate::over::domain_of;
 use crate::shape::{ConstructorShape, Field, TypeShape};
 use lk_ask::asks::Asks;
-use lk_ask::rule::Rule;
 use lk_ask::stop::Stop;
-use lk_level_order::compared::{LevelError, leq};
 use lk_level_order::zero::is_zero;
 use lk_rows::memory::NoMemory;
 use lk_store::node::LevelNode;
@@ -47,21 +43,6 @@ fn level_one<A: Asks>(asks: &mut A) -> Result<u64, NoMemory>
 {
     let zero = build_level(asks, LevelNode::Zero)?;
     build_level(asks, LevelNode::Succ(zero))
-}
-
-/// Whether the left level is at most the right one under every assignment.
-fn is_at_most<T: Terms>(alloc: Global, terms: &T, a: u64, b: u64) -> Result<bool, Stop>
-    requires a_in { a < length (T.contents terms.now).levels }
-    requires b_in { b < length (T.contents terms.now).levels }
-    ensures { Settles (tested (level_le_test (level_at (T.contents terms.now) a) (level_at (T.contents terms.now) b))) (λ r. r) result }
-{
-    match leq(alloc, terms, a, b) {
-        Ok(at_most) => Ok(at_most),
-        Err(error) => match error {
-            LevelError::Width => Err(Stop::Rule(Rule::LevelWidth)),
-            LevelError::NoMemory => Err(Stop::NoMemory),
-        },
-    }
 }
 
 /// Whether a level is at least 1 under every assignment.

@@ -1,42 +1,24 @@
 //! The fields of a constructor: each fits in the universe of the block, and is positive.
 
-ghost use Rattle.std.specs.Prelude.{◌≡◌, ◌<◌, ℕ, suc, ◌++◌, ◌∷◌, [], length, map, All, IfOk, OnOk};
-ghost use Rattle.lk_tree.specs.LevelTest.{level_le_test};
-ghost use Rattle.lk_table.specs.Levels.{tested};
+ghost use Rattle.std.specs.Prelude.{◌≡◌, ◌<◌, ℕ, length, map, All, IfOk};
 ghost use Rattle.lk_store.specs.Contents.{level_at, tree_at, Extends};
 ghost use Rattle.lk_blocks.specs.BlockSteps.{fits, fits_in, fields_steps};
-ghost use Rattle.lk_block.specs.Courses.{Gives, Settles};
+ghost use Rattle.lk_block.specs.Courses.{Gives};
 ghost use Rattle.lk_block.specs.Frames.{frame_at, IsFrameIn};
 ghost use Rattle.lk_block.specs.Shapes.{kind_at, field_at, IsKindIn, IsFieldIn};
 ghost use Rattle.lk_block.specs.Fields.{kind_form, field_form, next_field};
 
-use crate::asking::{pi_of, sort_of};
+use crate::asking::{is_at_most, pi_of, sort_of};
 use crate::frame::Frame;
+use crate::numbers::{keep, number_after};
 use crate::positive::walk;
 use crate::shape::{Field, FieldKind};
-use crate::telescope::{number_after, open_local};
+use crate::telescope::open_local;
 use lk_ask::asks::Asks;
 use lk_ask::rule::Rule;
 use lk_ask::stop::Stop;
-use lk_level_order::compared::{LevelError, leq};
 use lk_level_order::zero::is_zero;
-use lk_store::terms::Terms;
 use std::alloc::Global;
-
-/// Whether a level is at most another one under every assignment.
-fn is_at_most<T: Terms>(alloc: Global, terms: &T, level: u64, bound: u64) -> Result<bool, Stop>
-    requires level_in { level < length (T.contents terms.now).levels }
-    requires bound_in { bound < length (T.contents terms.now).levels }
-    ensures { Settles (tested (level_le_test (level_at (T.contents terms.now) level) (level_at (T.contents terms.now) bound))) (λ r. r) result }
-{
-    match leq(alloc, terms, level, bound) {
-        Ok(below) => Ok(below),
-        Err(error) => match error {
-            LevelError::Width => Err(Stop::Rule(Rule::LevelWidth)),
-            LevelError::NoMemory => Err(Stop::NoMemory),
-        },
-    }
-}
 
 /// Whether the level of a type's sort is at most this one.
 fn fits<A: Asks>(alloc: Global, asks: &mut A, level: u64, domain: u64) -> Result<bool, Stop>
@@ -156,21 +138,6 @@ fn next_field<A: Asks>(
     }
 }
 
-/// Adds a field, whose Local's number is taken, and tells the next number.
-fn keep_field(fields: &mut Vec<Field>, field: Field, number: u64) -> Result<u64, Stop>
-    ensures fields { OnOk result (fields.new.items ≡ fields.old.items ++ field ∷ []) }
-    ensures next { IfOk result (λ n. n ≡ suc number) }
-{
-    match fields.push(field) {
-        Ok(_) => {}
-        Err(_) => return Err(Stop::NoMemory),
-    }
-    match number_after(number) {
-        Ok(next) => Ok(next),
-        Err(_) => Err(Stop::NoMemory),
-    }
-}
-
 /// So many fields of a term, with Locals from a number on, and what is left.
 pub fn fields<A: Asks>(
     alloc: Global,
@@ -199,7 +166,7 @@ pub fn fields<A: Asks>(
             Ok(next) => next,
             Err(stop) => return Err(stop),
         };
-        number = match keep_field(&mut found, next.0, number) {
+        number = match keep(&mut found, next.0, number) {
             Ok(after) => after,
             Err(_) => return Err(Stop::NoMemory),
         };

@@ -8,7 +8,8 @@ pub fn courses_are_steps()
     ensures { CoursesAreSteps }
 {}
 
-/// The plain outcome of a block in which no occurrence may be nested is what its stages come to, one after another.
+/// The plain outcome of a block in which no occurrence may be nested, and what its stages come to one after another, are
+/// both an answer, both the same refusal, or both that the budget is used up.
 pub fn flat_check_goes_by_stages()
     ensures { FlatGoesByStages }
 {}

@@ -1,23 +1,25 @@
-//! The checks of a block of inductive types: what is asked, as the checks say it.
+//! The checks of a block of inductive types, each as a run of questions: the lines of its members, its types, its
+//! constructors, and whether it may be eliminated into every universe.
 #![tactic(auto)]
 
 pub mod asking;
 pub mod block;
-pub mod constructors;
+mod constructors;
 pub mod counts;
-pub mod elimination;
-pub mod fields;
-pub mod frame;
+mod elimination;
+mod fields;
+mod frame;
 pub mod laws;
 mod members;
 pub mod nested;
-pub mod over;
+pub mod numbers;
+mod over;
 pub mod parameters;
-pub mod positive;
+mod positive;
 pub mod shape;
 pub mod sorts;
-pub mod spines;
-pub mod telescope;
+mod spines;
+mod telescope;
 #[cfg(test)]
 mod tests;
 pub mod types;

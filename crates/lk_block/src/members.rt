@@ -8,9 +8,9 @@ ghost use Rattle.lk_env.specs.Units.{IsTypeIn};
 ghost use Rattle.lk_mentions.specs.Names.{names_at};
 ghost use Rattle.lk_blocks.specs.BlockSteps.{after_params, mention_none, is_listed, plain_indices, as_member};
 ghost use Rattle.lk_block.specs.Frames.{listed_at, frame_at, IsFrameIn};
-ghost use Rattle.lk_block.specs.Members.{own_name, name_in, member_at, IsMemberIn};
+ghost use Rattle.lk_block.specs.Members.{own_name, named_at, member_at, IsMemberIn};
 
-use crate::counts::is_name;
+use crate::counts::names_equal;
 use crate::frame::Frame;
 use lk_ask::asks::Asks;
 use lk_ask::building::build;
@@ -38,7 +38,7 @@ fn is_listing<T: Terms>(terms: &T, listed: &BlockType, name: u64, count: u64) ->
     requires name_in { name < length (T.contents terms.now).names }
     ensures { result ≡ (same_name (name_at (T.contents terms.now) listed.now.name) (name_at (T.contents terms.now) name) && nat_eq listed.now.indices count) }
 {
-    if !is_name(terms, listed.name, name) {
+    if !names_equal(terms, listed.name, name) {
         return false;
     }
     listed.indices == count
@@ -198,7 +198,7 @@ fn own_name<A: Asks>(asks: &mut A, levels: u64, head: u64) -> Result<Option<u64>
     ensures place { A.place asks.new ≡ A.place asks.old }
     ensures left { A.left asks.new ≡ A.left asks.old }
     ensures known { IfOk result (λ o. IfSome o (λ n. n < length (A.contents asks.new).names)) }
-    ensures name { IfOk result (λ o. name_in (A.contents asks.new) o ≡ own_name (list_at (A.contents asks.old) levels) (tree_at (A.contents asks.old) head)) }
+    ensures name { IfOk result (λ o. named_at (A.contents asks.new) o ≡ own_name (list_at (A.contents asks.old) levels) (tree_at (A.contents asks.old) head)) }
 {
     let name = match asks.view(head) {
         Node::Const(name, _) => name,

@@ -14,7 +14,8 @@ ghost use Rattle.lk_mentions.specs.Parts.{closed};
 ghost use Rattle.lk_mentions.specs.Walks.{AreClear};
 ghost use Rattle.lk_block.specs.Courses.{Gives};
 ghost use Rattle.lk_block.specs.Findings.{finding, Finds};
-ghost use Rattle.lk_block.specs.Nestings.{constant_in, named_at, constant_name, parts_back, IsSpine, IsHeadTest, IsTreeTest, nested_in, nested_below, IsOpened, IsLooked, AreWalked};
+ghost use Rattle.lk_block.specs.Members.{named_at};
+ghost use Rattle.lk_block.specs.Nestings.{constant_in, constant_name, parts_back, IsSpine, IsHeadTest, IsTreeTest, nested_in, nested_below, IsOpened, IsLooked, AreWalked};
 
 use crate::spines::{Spine, function_of, keep_function, spine_of};
 use lk_ask::asks::Asks;
@@ -32,7 +33,7 @@ use std::alloc::Global;
 
 /// What is kept of the terms that were walked, so that a part which terms share is walked once.
 #[derive(Drop)]
-pub struct Walked {
+struct Walked {
     /// Those that mention no type of the block.
     pub clear: Table<Met>,
     /// Those that hold no nested occurrence.
@@ -307,7 +308,8 @@ fn check_types<A: Asks>(
     Ok(())
 }
 
-/// No constructor's type holds a nested occurrence of these names. It takes no step.
+/// No constructor's type holds a nested occurrence of these names (`NestedForm`). It takes no step. A name that is not given
+/// is refused as a look-up of it is.
 pub fn check_flat<A: Asks>(
     alloc: Global,
     asks: &A,

@@ -21,8 +21,8 @@ fn with_parameter<T: Terms>(terms: &mut T, name: u64, list: u64) -> Result<u64, 
     Ok(made)
 }
 
-/// The list of the parameters of these names.
-pub fn parameters_of<T: Terms>(terms: &mut T, names: &[u64]) -> Result<u64, NoMemory>
+/// The list of the level parameters of these names, as levels.
+pub fn parameter_levels<T: Terms>(terms: &mut T, names: &[u64]) -> Result<u64, NoMemory>
     requires { All (λ n. n < length (T.contents terms.old).names) names.now }
     ensures keeps { Extends (T.contents terms.old) (T.contents terms.new) }
     ensures rest { T.rest terms.new ≡ T.rest terms.old }

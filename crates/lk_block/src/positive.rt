@@ -16,8 +16,9 @@ ghost use Rattle.lk_block.specs.Positive.{kind_with, member_step, under_step, in
 use crate::asking::form_of;
 use crate::frame::Frame;
 use crate::members::{Member, as_member};
-use crate::shape::FieldKind;
-use crate::telescope::{keep_local, open_local};
+use crate::numbers::keep;
+use crate::shape::{FieldKind, Recursion};
+use crate::telescope::open_local;
 use lk_ask::asks::Asks;
 use lk_ask::rule::Rule;
 use lk_ask::stop::Stop;
@@ -229,7 +230,7 @@ fn walk_pis<A: Asks>(
         match step {
             Step::Ends(found) => return Ok(found),
             Step::Under(local, inner) => {
-                number = match keep_local(arguments, local, number) {
+                number = match keep(arguments, local, number) {
                     Ok(next) => next,
                     Err(_) => return Err(Stop::NoMemory),
                 };
@@ -247,11 +248,11 @@ fn kind_of(arguments: Vec<u64>, found: Option<Member>) -> FieldKind
 {
     match found {
         None => FieldKind::Plain,
-        Some(member) => FieldKind::Recursive {
+        Some(member) => FieldKind::Recursive(Recursion {
             arguments,
             name: member.name,
             indices: member.indices,
-        },
+        }),
     }
 }
 

@@ -1,17 +1,21 @@
 //! What the check of a block finds out about it.
 
-/// What the type of a field is: it mentions no type of the block, or it is `(ys) -> T P is`, where T is a type of the
-/// block, P its parameters and neither the types of the ys nor the indices mention one.
+/// The type `(ys) -> T P is` of a field, where T is a type of the block, P its parameters and neither the types of the ys
+/// nor the indices mention a type of the block.
+#[derive(Drop)]
+pub struct Recursion {
+    /// The Locals of the ys.
+    pub arguments: Vec<u64>,
+    /// The name of T.
+    pub name: u64,
+    pub indices: Vec<u64>,
+}
+
+/// What the type of a field is: it mentions no type of the block, or the field is recursive.
 #[derive(Drop)]
 pub enum FieldKind {
     Plain,
-    Recursive {
-        /// The Locals of the ys.
-        arguments: Vec<u64>,
-        /// The name of T.
-        name: u64,
-        indices: Vec<u64>,
-    },
+    Recursive(Recursion),
 }
 
 /// The Local that stands for a field, and what its type is.

@@ -32,7 +32,7 @@ fn check_constructors<A: Asks>(asks: &mut A, constructors: &[Constructor]) -> Re
     Ok(())
 }
 
-/// Each constructor's type has a sort, type by type.
+/// Each constructor's type has a sort, type by type (`NotASort`). What a question refuses is handed on.
 pub fn check_sorts<A: Asks>(asks: &mut A, types: &[BlockType]) -> Result<(), Stop>
     requires { All (IsTypeIn (A.contents asks.old)) types.now }
     ensures keeps { Extends (A.contents asks.old) (A.contents asks.new) }

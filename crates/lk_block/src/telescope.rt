@@ -1,6 +1,6 @@
 //! Pis opened one after another, each with a Local of its own.
 
-ghost use Rattle.std.specs.Prelude.{◌≡◌, ◌<◌, suc, ◌++◌, ◌∷◌, [], length, map, All, IfOk, OnOk};
+ghost use Rattle.std.specs.Prelude.{◌≡◌, ◌<◌, length, map, All, IfOk};
 ghost use Rattle.lk_tree.specs.Tree.{local};
 ghost use Rattle.lk_tree.specs.Bind.{opened};
 ghost use Rattle.lk_store.specs.Contents.{tree_at, Extends, IsTree};
@@ -9,6 +9,7 @@ ghost use Rattle.lk_block.specs.Courses.{Gives};
 ghost use Rattle.lk_block.specs.Forms.{local_form};
 
 use crate::asking::pi_of;
+use crate::numbers::keep;
 use lk_ask::asks::Asks;
 use lk_ask::building::{build, open};
 use lk_ask::stop::Stop;
@@ -59,31 +60,6 @@ fn next_local<A: Asks>(alloc: Global, asks: &mut A, number: u64, e: u64) -> Resu
     }
 }
 
-/// The number after this one. No Local in memory has the greatest number.
-pub(crate) fn number_after(number: u64) -> Result<u64, NoMemory>
-    ensures { IfOk result (λ n. n ≡ suc number) }
-{
-    match number.checked_add(1) {
-        Some(next) => Ok(next),
-        None => Err(NoMemory),
-    }
-}
-
-/// Adds a Local, the number of which is taken, and tells the next number.
-pub(crate) fn keep_local(locals: &mut Vec<u64>, local: u64, number: u64) -> Result<u64, Stop>
-    ensures locals { OnOk result (locals.new.items ≡ locals.old.items ++ local ∷ []) }
-    ensures next { IfOk result (λ n. n ≡ suc number) }
-{
-    match locals.push(local) {
-        Ok(_) => {}
-        Err(_) => return Err(Stop::NoMemory),
-    }
-    match number_after(number) {
-        Ok(next) => Ok(next),
-        Err(_) => Err(Stop::NoMemory),
-    }
-}
-
 /// So many Pis of a term, opened with Locals from a number on: the Locals, and what is left.
 pub fn telescope<A: Asks>(
     alloc: Global,
@@ -110,7 +86,7 @@ pub fn telescope<A: Asks>(
             Ok(opened) => opened,
             Err(stop) => return Err(stop),
         };
-        number = match keep_local(&mut locals, opened.0, number) {
+        number = match keep(&mut locals, opened.0, number) {
             Ok(next) => next,
             Err(_) => return Err(Stop::NoMemory),
         };

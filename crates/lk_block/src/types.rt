@@ -19,7 +19,7 @@ use lk_rows::memory::NoMemory;
 use std::alloc::Global;
 
 /// The indices of a type past its parameters, and the level of its sort.
-pub fn type_end<A: Asks>(
+fn type_end<A: Asks>(
     alloc: Global,
     asks: &mut A,
     first: u64,
@@ -75,7 +75,7 @@ fn end_at_level<A: Asks>(
 }
 
 /// The indices of a type after the first one: it has a sort, its parameters are those of the first, and so is its level.
-pub fn next_type<A: Asks>(
+fn next_type<A: Asks>(
     alloc: Global,
     asks: &mut A,
     parameters: &[u64],
@@ -279,8 +279,10 @@ fn add_others<A: Asks>(
     }
 }
 
-/// The checks of a block's types, each of which has this number of parameters: each has a sort, all have the parameters and
-/// the level of the first.
+/// The checks of a block's types, each of which has this number of parameters: each has a sort (`NotASort`), all have the
+/// parameters of the first (`ParameterDiffers`), and past parameters and indices a sort of one level stands (`BlockShape`, as
+/// where a Pi is missing or there is no type; `LevelWidth` where the levels cannot be compared). What a question refuses is
+/// handed on.
 pub fn check_types<A: Asks>(
     alloc: Global,
     asks: &mut A,

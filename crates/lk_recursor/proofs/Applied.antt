@@ -10,7 +10,7 @@ use Rattle.lk_blocks.specs.Block as plain
 use Rattle.lk_blocks.specs.Recursors.{motive_in, motive_of, at_params}
 use Rattle.lk_block.specs.declared.shape.Shape.{Shape}
 use Rattle.lk_block.specs.Shapes.{shape_at, IsShapeIn}
-use Rattle.lk_recursor.proofs.Steady.{shape-steady}
+use Rattle.lk_block.proofs.Shaping.{shape-steady}
 
 -- a head that is known, and arguments that are numbers of the store before
 pub applied_then : (c d : Contents) (grown : Extends c d) (given arguments : List ℕ) (made head front : Tree) → given ≡ arguments → All (λ e. e < length c.trees) arguments

@@ -18,8 +18,9 @@ use Rattle.lk_recursor.specs.declared.own.Shared.{Shared}
 use Rattle.lk_recursor.specs.declared.own.OwnRecursor.{OwnRecursor}
 use Rattle.lk_recursor.specs.declared.own.Comparison.{Comparison}
 use Rattle.lk_recursor.specs.Comparisons.{own_at, stated_of, own_of, renamed_value, rule_form, parts_form, IsShared, IsOwnRecursor, IsComparison}
-use Rattle.lk_recursor.proofs.Steady.{map-agree, constructor-steady, shape-steady}
-use Rattle.lk_recursor.proofs.Compared.{recursor-steady, own-steady, stated_of-steady, own_of-steady}
+use Rattle.lk_block.proofs.Stays.{recursor_stays, recursors_stay}
+use Rattle.lk_block.proofs.Shaping.{constructor-steady, shape-steady}
+use Rattle.lk_recursor.proofs.Compared.{own-steady, stated_of-steady, own_of-steady}
 use Rattle.lk_recursor.proofs.Leading.{rules_then}
 
 module _ (c d : Contents) (grown : Extends c d) (x : Comparison) (known : IsComparison c x) where
@@ -96,7 +97,7 @@ recursors_are c s known minors types e f =
 module _ (c d : Contents) (grown : Extends c d) (shape : Shape) (shape_in : IsShapeIn c shape) where
   pub pair-steady : (stated : Recursor) (own : OwnRecursor) → IsRecursorIn c stated → IsOwnRecursor c own → rec_steps (recursor_at d stated) (own_at d (shape_at d shape) own) ≡ rec_steps (recursor_at c stated) (own_at c (shape_at c shape) own)
   pair-steady stated own stated_in own_in =
-      ap (λ s. rec_steps s (own_at d (shape_at d shape) own)) (recursor-steady c d grown stated stated_in)
+      ap (λ s. rec_steps s (own_at d (shape_at d shape) own)) (recursor_stays c d grown stated stated_in)
       ∙ ap (λ p. rec_steps (recursor_at c stated) (own_at d p own)) (shape-steady c d grown shape shape_in)
       ∙ ap (rec_steps (recursor_at c stated)) (own-steady c d grown (shape_at c shape) own own_in)
 
@@ -107,14 +108,14 @@ module _ (c d : Contents) (grown : Extends c d) (shape : Shape) (shape_in : IsSh
       let rs = recursors (shape_at c shape) in
       let others = compare_steps rs (map (recursor_at c) more) in
       ap (λ ss. compare_steps rs (map (recursor_at c) ss)) split
-      ∙ ap (λ s. compare_found s (rec_named rs (name_at c r.name)) >>= λ y. others) (sym (recursor-steady c d grown r r_in))
+      ∙ ap (λ s. compare_found s (rec_named rs (name_at c r.name)) >>= λ y. others) (sym (recursor_stays c d grown r r_in))
       ∙ ap (λ n. compare_found (recursor_at d r) (rec_named rs n) >>= λ y. others) (sym (grown.names.same r.name r_in.stated.name_in))
       ∙ ap (λ p. compare_found (recursor_at d r) (rec_named (recursors p) (name_at d r.name)) >>= λ y. others) (sym (shape-steady c d grown shape shape_in))
 
   pub compare-steady : (stated : List Recursor) → All (IsRecursorIn c) stated → compare_steps (recursors (shape_at d shape)) (map (recursor_at d) stated) ≡ compare_steps (recursors (shape_at c shape)) (map (recursor_at c) stated)
   compare-steady stated stated_in =
       ap (λ p. compare_steps (recursors p) (map (recursor_at d) stated)) (shape-steady c d grown shape shape_in)
-      ∙ ap (compare_steps (recursors (shape_at c shape))) (map-agree (recursor_at d) (recursor_at c) (IsRecursorIn c) stated (recursor-steady c d grown) stated_in)
+      ∙ ap (compare_steps (recursors (shape_at c shape))) (recursors_stay c d grown stated stated_in)
 
 -- nothing is stated
 pub none_stated : (c : Contents) (rs : List Rec) (stated : List Recursor) → length stated ≡ 0 → compare_steps rs (map (recursor_at c) stated) ≡ done checked

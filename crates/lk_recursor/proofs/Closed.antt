@@ -1,12 +1,9 @@
 -- Locals of a run closed at once, and one after another.
-use Rattle.std.proofs.Common.{◌≡◌, ℕ, zero, suc, ◌+◌, ◌-◌, ◌<◌, ◌≤◌, Bool, true, false, nat_eq, nat_lt, refl, ap, sym, ◌∙◌, arith}
+use Rattle.std.proofs.Common.{◌≡◌, ℕ, suc, ◌+◌, ◌-◌, ◌<◌, ◌≤◌, Bool, true, false, nat_eq, nat_lt, refl, ap, sym, ◌∙◌, arith}
 use Rattle.std.specs.Prelude.{if◌then◌else◌}
 use Rattle.std.proofs.lemmas.Bool.Decides.{nat_tests}
 use Rattle.lk_tree.specs.Tree.{Tree, var, sort, const, app, lam, pi, let_in, proj, lit, wide, str, local}
 use Rattle.lk_tree.specs.Bind.{close_at, bound}
-use Rattle.lk_recursor.specs.declared.binders.Binder.{Binder}
-use Rattle.lk_recursor.specs.declared.binders.Binder.TheVariants.{Pi, Lam}
-use Rattle.lk_recursor.specs.Binders.{bind}
 use Rattle.lk_recursor.specs.Runs.{run_var, close_run_at}
 
 run_var-low : (d j m k : ℕ) (T : Tree) → k < j → run_var d j m k T ≡ local k T

@@ -1,13 +1,9 @@
 -- A comparison, while the store grows.
-use Rattle.std.proofs.Common.{◌≡◌, ◌<◌, ℕ, List, [], ◌∷◌, ◌++◌, map, length, All, refl, ap, sym, ◌∙◌, append_assoc, arith}
+use Rattle.std.proofs.Common.{◌≡◌, ◌<◌, ℕ, List, [], ◌∷◌, ◌++◌, map, length, All, ap, sym, ◌∙◌, append_assoc, arith}
 use Rattle.std.proofs.lemmas.List.{append-nil, map-append}
-use Rattle.std.proofs.lemmas.List.Elements.{All-weaker}
 use Rattle.lk_tree.specs.Tree.{Tree, Name, param, zero_level}
 use Rattle.lk_store.specs.Contents.{Contents, name_at, level_at, tree_at, Extends}
 use Rattle.lk_subst.specs.Numbers.{values-steady, values-known, trees-steady, trees-known}
-use Rattle.lk_env.specs.declared.unit.Recursor.{Recursor}
-use Rattle.lk_env.specs.declared.unit.RecursorRule.{RecursorRule}
-use Rattle.lk_env.specs.Units.{rule_at, recursor_at, IsRuleIn, IsRecursorIn}
 use Rattle.lk_blocks.specs.Block as plain
 use Rattle.lk_blocks.specs.Recursors.{as_they_are, rec_name, rec_of, is_k}
 use Rattle.lk_blocks.specs.Compare.{renamed}
@@ -17,40 +13,15 @@ use Rattle.lk_recursor.specs.declared.own.Shared.{Shared}
 use Rattle.lk_recursor.specs.declared.own.OwnRecursor.{OwnRecursor}
 use Rattle.lk_recursor.specs.declared.own.Comparison.{Comparison}
 use Rattle.lk_recursor.specs.Comparisons.{own_at, AreNames, IsShared, IsOwnRecursor, stated_of, own_of, IsComparison}
-use Rattle.lk_recursor.proofs.Steady.{map-agree, names-steady, names-known, type-steady, type-known, shape-steady, shape-known, front-steady}
+use Rattle.lk_block.proofs.Stays.{all_stay, names_stay, names_in_stay, recursor_stays, recursor_in_stays}
+use Rattle.lk_block.proofs.Shaping.{type-steady, type-known, shape-steady, shape-known}
+use Rattle.lk_recursor.proofs.Steady.{front-steady}
 
 module _ (c d : Contents) (grown : Extends c d) where
-  pub rule-steady : (r : RecursorRule) → IsRuleIn c r → rule_at d r ≡ rule_at c r
-  rule-steady r h = let one = grown.names.same r.constructor h.constructor_in in let two = grown.trees.same r.value h.value_in in rw (one, two) refl
-
-  pub rule-known : (r : RecursorRule) → IsRuleIn c r → IsRuleIn d r
-  rule-known r h = record {
-    constructor_in = (let longer = grown.names.longer in let known = h.constructor_in in omega arith);
-    value_in = (let longer = grown.trees.longer in let known = h.value_in in omega arith);
-  }
-
-  pub recursor-steady : (r : Recursor) → IsRecursorIn c r → recursor_at d r ≡ recursor_at c r
-  recursor-steady r h =
-      let one = grown.names.same r.name h.stated.name_in in
-      let two = names-steady c d grown r.levels.items h.stated.levels_in in
-      let three = grown.trees.same r.kind h.stated.kind_in in
-      let four = map-agree (rule_at d) (rule_at c) (IsRuleIn c) r.rules.items rule-steady h.rules_in in
-      rw (one, two, three, four) refl
-
-  pub recursor-known : (r : Recursor) → IsRecursorIn c r → IsRecursorIn d r
-  recursor-known r h = record {
-    stated = record {
-      name_in = (let longer = grown.names.longer in let known = h.stated.name_in in omega arith);
-      levels_in = names-known c d grown r.levels.items h.stated.levels_in;
-      kind_in = (let longer = grown.trees.longer in let known = h.stated.kind_in in omega arith);
-    };
-    rules_in = All-weaker (IsRuleIn c) (IsRuleIn d) rule-known r.rules.items h.rules_in;
-  }
-
   pub own_names-steady : (names : List ℕ) (types : List TypeShape) → All (IsTypeShapeIn c) types → AreNames c names types → AreNames d names types
   own_names-steady names types types_in h = record {
-    known = names-known c d grown names h.known;
-    are = names-steady c d grown names h.known ∙ h.are ∙ sym (map-agree (λ (t : TypeShape). rec_name (name_at d t.name)) (λ (t : TypeShape). rec_name (name_at c t.name)) (IsTypeShapeIn c) types (λ t i. ap rec_name (grown.names.same t.name i.name_in)) types_in);
+    known = names_in_stay c d grown names h.known;
+    are = names_stay c d grown names h.known ∙ h.are ∙ sym (all_stay (IsTypeShapeIn c) (λ (t : TypeShape). rec_name (name_at d t.name)) (λ (t : TypeShape). rec_name (name_at c t.name)) (λ t i. ap rec_name (grown.names.same t.name i.name_in)) types types_in);
   }
 
   pub shared-known : (s : Shared) → IsShared c s → IsShared d s
@@ -70,7 +41,7 @@ module _ (c d : Contents) (grown : Extends c d) where
       ∙ ap (rec_of as_they_are s (map (tree_at c) r.minors.now)) (type-steady c d grown r.of.now h.of_in)
 
   pub stated_of-steady : (x : Comparison) → IsComparison c x → stated_of d x ≡ stated_of c x
-  stated_of-steady x h = recursor-steady x.stated.now h.stated_in
+  stated_of-steady x h = recursor_stays c d grown x.stated.now h.stated_in
 
   pub own_of-steady : (x : Comparison) → IsComparison c x → own_of d x ≡ own_of c x
   own_of-steady x h = ap (λ s. own_at d s x.own) (shape-steady c d grown x.shared.shape.now h.shared_is.shape_in) ∙ own-steady (shape_at c x.shared.shape.now) x.own h.own_is
@@ -79,9 +50,9 @@ module _ (c d : Contents) (grown : Extends c d) where
   comparison-known x h = record {
     shared_is = shared-known x.shared h.shared_is;
     own_is = own-known x.own h.own_is;
-    stated_in = recursor-known x.stated.now h.stated_in;
+    stated_in = recursor_in_stays c d grown x.stated.now h.stated_in;
     levels_in = values-known zero_level c.levels d.levels x.levels.now grown.levels h.levels_in;
-    levels_are = values-steady zero_level c.levels d.levels x.levels.now grown.levels h.levels_in ∙ h.levels_are ∙ ap (map param) (sym (names-steady c d grown x.stated.now.levels.items h.stated_in.stated.levels_in));
+    levels_are = values-steady zero_level c.levels d.levels x.levels.now grown.levels h.levels_in ∙ h.levels_are ∙ ap (map param) (sym (names_stay c d grown x.stated.now.levels.items h.stated_in.stated.levels_in));
   }
 
   pub renamed-steady : (x : Comparison) → IsComparison c x → (m : ℕ) (t : Tree) → tree_at d m ≡ t → renamed (stated_of d x) (own_of d x) (tree_at d m) ≡ renamed (stated_of c x) (own_of c x) t
@@ -100,10 +71,6 @@ levels_more c d e levels more level name rest others grown known pushed split is
     ∙ ap (λ l. map (level_at d) levels ++ l ∷ after) is
     ∙ ap (λ ns. map (level_at d) levels ++ map param (map (name_at c) ns)) (sym split)
 
-pub levels_end : (c d : Contents) (levels rest all : List ℕ) → length rest ≡ 0 → map (level_at d) levels ++ map param (map (name_at c) rest) ≡ map param (map (name_at c) all) → map (level_at d) levels ≡ map param (map (name_at c) all)
-levels_end c d levels [] all none h = sym (append-nil (map (level_at d) levels)) ∙ h
-levels_end c d levels (n ∷ ns) all none h = absurd (omega arith)
-
 -- one name more
 pub own_names_more : (c d e : Contents) (names more : List ℕ) (name : ℕ) (rest others : List TypeShape) (t : TypeShape) → Extends d e → All (λ n. n < length d.names) names → more ≡ names ++ name ∷ [] → rest ≡ t ∷ others
     → name_at e name ≡ rec_name (name_at c t.name) → map (name_at e) more ++ map (λ (t : TypeShape). rec_name (name_at c t.name)) others ≡ map (name_at d) names ++ map (λ (t : TypeShape). rec_name (name_at c t.name)) rest
@@ -112,7 +79,7 @@ own_names_more c d e names more name rest others t grown known pushed split is =
     let after = map own others in
     ap (λ ns. map (name_at e) ns ++ after) pushed
     ∙ ap (λ ns. ns ++ after) (map-append (name_at e) names (name ∷ []))
-    ∙ ap (λ ns. (ns ++ name_at e name ∷ []) ++ after) (names-steady d e grown names known)
+    ∙ ap (λ ns. (ns ++ name_at e name ∷ []) ++ after) (names_stay d e grown names known)
     ∙ append_assoc (map (name_at d) names) (name_at e name ∷ []) after
     ∙ ap (λ n. map (name_at d) names ++ n ∷ after) is
     ∙ ap (λ ts. map (name_at d) names ++ map own ts) (sym split)
@@ -122,6 +89,6 @@ pub own_names_end : (c d : Contents) → Extends c d → (names : List ℕ) (res
 own_names_end c d grown names [] types types_in none known h = record {
   known = known;
   are = sym (append-nil (map (name_at d) names)) ∙ h
-      ∙ sym (map-agree (λ (t : TypeShape). rec_name (name_at d t.name)) (λ (t : TypeShape). rec_name (name_at c t.name)) (IsTypeShapeIn c) types (λ t i. ap rec_name (grown.names.same t.name i.name_in)) types_in);
+      ∙ sym (all_stay (IsTypeShapeIn c) (λ (t : TypeShape). rec_name (name_at d t.name)) (λ (t : TypeShape). rec_name (name_at c t.name)) (λ t i. ap rec_name (grown.names.same t.name i.name_in)) types types_in);
 }
 own_names_end c d grown names (t ∷ ts) types types_in none known h = absurd (omega arith)

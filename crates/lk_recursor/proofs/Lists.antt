@@ -1,7 +1,7 @@
 -- Binders over Locals, taken from the end, and lists that are made from the front.
-use Rattle.std.proofs.Common.{◌≡◌, ◌<◌, ℕ, List, [], ◌∷◌, ◌++◌, map, length, All, refl, sym, ap, subst, ◌∙◌, append_assoc, arith}
-use Rattle.std.proofs.lemmas.List.{map-append, append-nil}
-use Rattle.std.proofs.lemmas.List.Elements.{All-head, All-push, All-same}
+use Rattle.std.proofs.Common.{◌≡◌, ◌<◌, ℕ, List, [], ◌∷◌, ◌++◌, map, length, All, refl, sym, ap, ◌∙◌, append_assoc}
+use Rattle.std.proofs.lemmas.List.{map-append}
+use Rattle.std.proofs.lemmas.List.Elements.{All-push, All-same}
 use Rattle.lk_tree.specs.Tree.{Tree, app, pi, lam}
 use Rattle.lk_tree.specs.Spine.{apply}
 use Rattle.lk_tree.specs.Bind.{close}
@@ -12,6 +12,7 @@ use Rattle.lk_blocks.specs.Recursors.{number, pis, lams, arrows}
 use Rattle.lk_recursor.specs.declared.binders.Binder.{Binder}
 use Rattle.lk_recursor.specs.declared.binders.Binder.TheVariants.{Pi, Lam}
 use Rattle.lk_recursor.specs.Binders.{bind, bound_by}
+use Rattle.lk_block.proofs.Counted.{none_left}
 pub use Rattle.lk_block.proofs.FromTheEnd.{all_last, all_others}
 
 pub pis-append : (xs ys : List Tree) (e : Tree) → pis (xs ++ ys) e ≡ pis xs (pis ys e)
@@ -30,15 +31,9 @@ bound-last : (b : Binder) (xs : List Tree) (x e : Tree) → bound_by b (xs ++ x 
 bound-last Pi xs x e = pis-append xs (x ∷ []) e
 bound-last Lam xs x e = lams-append xs (x ∷ []) e
 
-pub none_left : {X Y : Type 0} (f : X → Y) (xs : List X) → length xs ≡ 0 → map f xs ≡ []
-none_left f [] e = refl
-none_left f (x ∷ xs) e = absurd (omega arith)
-
 pub bound-none : (b : Binder) (e : Tree) → bound_by b [] e ≡ e
 bound-none Pi e = refl
 bound-none Lam e = refl
-
--- the last of a list, and the others
 
 -- one Local more is bound
 pub bound_next : (b : Binder) (f : ℕ → Tree) (left others : List ℕ) (x : ℕ) (m n whole : Tree) → left ≡ others ++ x ∷ []
@@ -55,12 +50,6 @@ arrows_next f left others x m n whole split is h =
 pub bound_end : (b : Binder) (f : ℕ → Tree) (left : List ℕ) (m whole : Tree) → length left ≡ 0 → bound_by b (map f left) m ≡ whole → m ≡ whole
 bound_end b f left m whole none h = sym (bound-none b m) ∙ ap (λ ys. bound_by b ys m) (sym (none_left f left none)) ∙ h
 
-pub arrows_end : (f : ℕ → Tree) (left : List ℕ) (m whole : Tree) → length left ≡ 0 → arrows (map f left) m ≡ whole → m ≡ whole
-arrows_end f left m whole none h = ap (λ ys. arrows ys m) (sym (none_left f left none)) ∙ h
-
-pub first_has : {X : Type 0} (P : X → Type 0) (xs : List X) (x : X) (more : List X) → xs ≡ x ∷ more → All P xs → P x
-first_has P xs x more e h = All-head P x more (subst (All P) e h)
-
 -- a list that is made from the front: what is made, and what is left
 pub pushed_more : (c d : Contents) (found more : List ℕ) (x : ℕ) (front rest whole : List Tree) → Extends c d → All (λ e. e < length c.trees) found → more ≡ found ++ x ∷ []
     → map (tree_at c) found ++ front ≡ whole → front ≡ tree_at d x ∷ rest → map (tree_at d) more ++ rest ≡ whole
@@ -74,10 +63,6 @@ pushed_more c d found more x front rest whole grown known push was is =
 
 pub pushed_known : (c d : Contents) (found more : List ℕ) (x : ℕ) → Extends c d → All (λ e. e < length c.trees) found → more ≡ found ++ x ∷ [] → x < length d.trees → All (λ e. e < length d.trees) more
 pushed_known c d found more x grown known push here = All-same (λ e. e < length d.trees) more (found ++ x ∷ []) push (All-push (λ e. e < length d.trees) found x (trees-known c d found grown known) here)
-
--- nothing is left
-pub pushed_end : (found : List Tree) (front whole : List Tree) → found ++ front ≡ whole → front ≡ [] → found ≡ whole
-pushed_end found front whole was none = sym (append-nil found) ∙ ap (λ ys. found ++ ys) (sym none) ∙ was
 
 pub bound-append : (b : Binder) (xs ys : List Tree) (e : Tree) → bound_by b (xs ++ ys) e ≡ bound_by b xs (bound_by b ys e)
 bound-append Pi xs ys e = pis-append xs ys e

@@ -1,5 +1,5 @@
 -- The recursor of a name, type by type.
-use Rattle.std.proofs.Common.{◌≡◌, ◌<◌, ℕ, true, false, List, [], ◌∷◌, length, map, drop, All, None, Some, refl, ap, sym, subst, ◌∙◌, arith}
+use Rattle.std.proofs.Common.{◌≡◌, ◌<◌, ℕ, true, false, List, [], ◌∷◌, length, map, drop, All, Some, refl, ap, sym, subst, ◌∙◌}
 use Rattle.std.proofs.lemmas.List.Elements.{All-tail}
 use Rattle.lk_tree.specs.Tree.{Name, Tree}
 use Rattle.lk_tree.specs.Mentions.{same_name}
@@ -33,13 +33,6 @@ names_more c names more types others n t e f h =
       are = ap (λ ns. tail_of (map (name_at c) ns)) (sym e) ∙ ap tail_of h.are ∙ ap (λ ts. tail_of (map own ts)) f;
     }
 
--- there is a name for each type
-pub no_name_left : {A : Type 0} (c : Contents) (names : List ℕ) (types others : List TypeShape) (t : TypeShape) → names ≡ [] → types ≡ t ∷ others → AreNames c names types → A
-no_name_left c names types others t e f h =
-    let own : TypeShape → Name = λ t. rec_name (name_at c t.name) in
-    let none = ap (λ ns. length (map (name_at c) ns)) (sym e) ∙ ap length h.are ∙ ap (λ ts. length (map own ts)) f in
-    absurd (omega arith)
-
 module _ (c : Contents) (s : PlainShape) (n : Name) (names more : List ℕ) (types others : List TypeShape) (minors : List ℕ) (own : ℕ) (t : TypeShape) (e : names ≡ own ∷ more) (f : types ≡ t ∷ others) (h : AreNames c names types) where
   first_name : rec_name (name_at c t.name) ≡ name_at c own
   first_name =
@@ -54,15 +47,3 @@ module _ (c : Contents) (s : PlainShape) (n : Name) (names more : List ℕ) (typ
       ap (λ ts. rec_named (recs_from as_they_are s (map (tree_at c) minors) (map (type_shape_at c) ts)) n) f
       ∙ ap (λ b. elim b [ true ↦ Some r | false ↦ rec_named (recs_from as_they_are s past (map (type_shape_at c) others)) n ]) (ap (λ m. same_name m n) first_name ∙ differs)
       ∙ ap (λ ms. rec_named (recs_from as_they_are s ms (map (type_shape_at c) others)) n) (past_is_drop (constructor_shape_at c) (tree_at c) t.constructors.items minors ∙ ap (map (tree_at c)) (sym is))
-
-  pub named_found : same_name (name_at c own) n ≡ true → rec_named (recs_from as_they_are s (map (tree_at c) minors) (map (type_shape_at c) types)) n ≡ Some (rec_of as_they_are s (map (tree_at c) minors) (type_shape_at c t))
-  named_found agrees =
-      let r : Rec = rec_of as_they_are s (map (tree_at c) minors) (type_shape_at c t) in
-      let past = past_minors (map (constructor_shape_at c) t.constructors.items) (map (tree_at c) minors) in
-      ap (λ ts. rec_named (recs_from as_they_are s (map (tree_at c) minors) (map (type_shape_at c) ts)) n) f
-      ∙ ap (λ b. elim b [ true ↦ Some r | false ↦ rec_named (recs_from as_they_are s past (map (type_shape_at c) others)) n ]) (ap (λ m. same_name m n) first_name ∙ agrees)
-
--- no type is left
-pub named_nowhere : (c : Contents) (s : PlainShape) (n : Name) (minors : List ℕ) (types : List TypeShape) → length types ≡ 0 → rec_named (recs_from as_they_are s (map (tree_at c) minors) (map (type_shape_at c) types)) n ≡ None
-named_nowhere c s n minors [] e = refl
-named_nowhere c s n minors (t ∷ ts) e = absurd (omega arith)

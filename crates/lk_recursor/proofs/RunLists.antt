@@ -1,5 +1,5 @@
 -- Locals of a run, taken from the last, and the binders over them.
-use Rattle.std.proofs.Common.{◌≡◌, ℕ, zero, suc, ◌+◌, List, [], ◌∷◌, ◌++◌, map, length, refl, sym, ap, subst, ◌∙◌, append_assoc, arith}
+use Rattle.std.proofs.Common.{◌≡◌, ℕ, suc, ◌+◌, List, [], ◌∷◌, ◌++◌, map, length, refl, sym, ap, subst, ◌∙◌, append_assoc, arith}
 use Rattle.std.proofs.lemmas.List.{append-nil, length-map, map-append, length-append}
 use Rattle.lk_tree.specs.Tree.{Tree}
 use Rattle.lk_tree.specs.Bind.{close}
@@ -9,7 +9,8 @@ use Rattle.lk_recursor.specs.declared.binders.Binder.{Binder}
 use Rattle.lk_recursor.specs.declared.binders.Binder.TheVariants.{Pi, Lam}
 use Rattle.lk_recursor.specs.Binders.{bind, bound_by, AreRun}
 use Rattle.lk_recursor.specs.Runs.{close_run_at}
-use Rattle.lk_recursor.proofs.Lists.{none_left}
+use Rattle.lk_block.proofs.Counted.{none_left}
+use Rattle.lk_recursor.proofs.Lists.{bound-none}
 use Rattle.lk_recursor.proofs.Closed.{close_run_at-none, close_run_at-next}
 
 -- what is left and what is done are all; those that are done go on from those that are left
@@ -52,10 +53,6 @@ bound-cons : (b : Binder) (x : Tree) (xs : List Tree) (e : Tree) → bound_by b 
 bound-cons Pi x xs e = refl
 bound-cons Lam x xs e = refl
 
-bound-nil : (b : Binder) (e : Tree) → bound_by b [] e ≡ e
-bound-nil Pi e = refl
-bound-nil Lam e = refl
-
 close_run-bind : (b : Binder) (d j m : ℕ) (A B : Tree) → close_run_at d j m (bind b A B) ≡ bind b (close_run_at d j m A) (close_run_at (suc d) j m B)
 unfolding close_run_at
 close_run-bind Pi d j m A B = refl
@@ -73,7 +70,7 @@ bound_first b first f all e made count many runs is = record {
   done = [];
   joined = append-nil (map f all);
   runs = runs;
-  is = is ∙ ap (λ n. close_run_at 0 first n e) (many ∙ sym (length-map all f)) ∙ ap (close_run_at 0 first (length (map f all))) (sym (bound-nil b e));
+  is = is ∙ ap (λ n. close_run_at 0 first n e) (many ∙ sym (length-map all f)) ∙ ap (close_run_at 0 first (length (map f all))) (sym (bound-none b e));
 }
 
 pub bound_next_in_run : (b : Binder) (first : ℕ) (f : ℕ → Tree) (left others : List ℕ) (x : ℕ) (all : List Tree) (e made next : Tree) (count : ℕ) → left ≡ others ++ x ∷ [] → count ≡ length others

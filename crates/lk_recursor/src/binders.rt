@@ -1,6 +1,6 @@
 //! Pis and lambdas over Locals, arrows, and Locals for types.
 
-ghost use Rattle.std.specs.Prelude.{◌≡◌, ◌<◌, suc, true, length, map, All, IfOk};
+ghost use Rattle.std.specs.Prelude.{◌≡◌, ◌<◌, true, length, map, All, IfOk};
 ghost use Rattle.lk_tree.specs.Tree.{local};
 ghost use Rattle.lk_tree.specs.Bind.{close as closed};
 ghost use Rattle.lk_store.specs.Contents.{Contents, tree_at, tree_of, IsIn, Extends, IsTree};
@@ -11,6 +11,7 @@ ghost use Rattle.lk_recursor.specs.Binders.{bind, bound_by, AreRun};
 ghost use Rattle.lk_recursor.specs.Runs.{close_run_at};
 
 use crate::runs::{Run, close_run};
+use lk_block::numbers::number_after;
 use lk_rows::memory::NoMemory;
 use lk_store::node::Node;
 use lk_store::terms::Terms;
@@ -198,16 +199,6 @@ pub fn arrows_to<T: Terms>(terms: &mut T, domains: &[u64], e: u64) -> Result<u64
         left = others;
     }
     Ok(made)
-}
-
-/// The number after this one. No Local in memory has the greatest number.
-fn number_after(number: u64) -> Result<u64, NoMemory>
-    ensures { IfOk result (λ n. n ≡ suc number) }
-{
-    match number.checked_add(1) {
-        Some(next) => Ok(next),
-        None => Err(NoMemory),
-    }
 }
 
 /// Locals for types, numbered from a number on.

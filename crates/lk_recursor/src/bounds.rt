@@ -37,11 +37,10 @@ fn bound_of_kind<T: Terms>(terms: &T, kind: &FieldKind) -> u128
 {
     match kind {
         FieldKind::Plain => 0,
-        FieldKind::Recursive {
-            arguments,
-            name: _,
-            indices,
-        } => larger(trees_bound(terms, arguments), trees_bound(terms, indices)),
+        FieldKind::Recursive(recursion) => larger(
+            trees_bound(terms, &recursion.arguments),
+            trees_bound(terms, &recursion.indices),
+        ),
     }
 }
 

@@ -302,6 +302,10 @@ fn compare_with<A: Asks>(
 
 /// The stated recursors, in their order, against those of the block's shape. A recursor that is not stated is not missed,
 /// and not made.
+///
+/// Each has the name of one of these, its counts, its k and its rules' constructors and numbers of fields, a type that has a
+/// sort (`NotASort`) and is the same, and in each rule a value that has a type and is the same (`RecursorDiffers`). What a
+/// question refuses is handed on.
 pub fn compare<A: Asks>(
     alloc: Global,
     asks: &mut A,

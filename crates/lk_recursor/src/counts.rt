@@ -10,7 +10,8 @@ ghost use Rattle.lk_blocks.specs.Compare.{same_rules, same_counts};
 ghost use Rattle.lk_block.specs.Shapes.{constructor_shape_at, IsConstructorShapeIn};
 ghost use Rattle.lk_recursor.specs.Comparisons.{stated_of, own_of, IsComparison};
 
-use crate::own::{Comparison, is_name};
+use crate::own::Comparison;
+use lk_block::counts::names_equal;
 use lk_block::shape::ConstructorShape;
 use lk_env::unit::RecursorRule;
 use lk_store::terms::Terms;
@@ -21,7 +22,7 @@ fn rule_agrees<T: Terms>(terms: &T, rule: &RecursorRule, constructor: &Construct
     requires constructor_in { IsConstructorShapeIn (T.contents terms.now) constructor.now }
     ensures { result ≡ (same_name (name_at (T.contents terms.now) rule.now.constructor) (name_at (T.contents terms.now) constructor.now.name) && nat_eq rule.now.fields (length constructor.now.fields.items)) }
 {
-    is_name(terms, rule.constructor, constructor.name)
+    names_equal(terms, rule.constructor, constructor.name)
         && rule.fields == constructor.fields.len() as u64
 }
 

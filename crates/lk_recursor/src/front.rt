@@ -13,7 +13,7 @@ use crate::bounds::bound_of;
 use crate::heads::{Heads, motives_of};
 use crate::levels::{elimination_level, level_names};
 use crate::minors::minors_of;
-use lk_block::parameters::parameters_of;
+use lk_block::parameters::parameter_levels;
 use lk_block::shape::Shape;
 use lk_rows::memory::NoMemory;
 use lk_spine::apply;
@@ -58,7 +58,7 @@ fn heads_of<T: Terms>(
     ensures rest { T.rest terms.new ≡ T.rest terms.old }
     ensures ok { IfOk result (AreHeads (T.contents terms.new) shape.now) }
 {
-    let own_levels = parameters_of(terms, &shape.levels)?;
+    let own_levels = parameter_levels(terms, &shape.levels)?;
     let level = elimination_level(alloc, terms, shape)?;
     let motives = motives_of(alloc, terms, shape, own_levels, level, first)?;
     Ok(Heads {
@@ -77,7 +77,7 @@ pub fn front_of<T: Terms>(alloc: Global, terms: &mut T, shape: &Shape) -> Result
     let first = bound_of(terms, shape)?;
     let first_minor = number_past(first, shape.types.len())?;
     let names = level_names(alloc, terms, shape)?;
-    let levels = parameters_of(terms, &names)?;
+    let levels = parameter_levels(terms, &names)?;
     let heads = heads_of(alloc, terms, shape, first)?;
     let minors = minors_of(alloc, terms, shape, &heads, first_minor)?;
     let major = number_past(first_minor, minors.len())?;

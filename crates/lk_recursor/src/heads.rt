@@ -2,7 +2,6 @@
 
 ghost use Rattle.std.specs.Prelude.{◌≡◌, ◌<◌, [], length, map, All, IfOk, MatchOption};
 ghost use Rattle.lk_tree.specs.Tree.{app, const, param};
-ghost use Rattle.lk_tree.specs.Mentions.{same_name};
 ghost use Rattle.lk_tree.specs.Spine.{apply as applied};
 ghost use Rattle.lk_store.specs.Contents.{name_at, level_at, tree_at, Extends, IsList, IsTree};
 ghost use Rattle.lk_spine.specs.Reading.{AreTrees};
@@ -11,6 +10,7 @@ ghost use Rattle.lk_block.specs.Shapes.{type_shape_at, shape_at, IsTypeShapeIn, 
 ghost use Rattle.lk_recursor.specs.Fronts.{AreHeads};
 
 use crate::binders::{Binder, locals_of, over_locals};
+use lk_block::counts::names_equal;
 use lk_block::shape::{Shape, TypeShape};
 use lk_rows::memory::NoMemory;
 use lk_spine::apply;
@@ -123,16 +123,6 @@ pub fn motives_of<T: Terms>(
     Ok(motives)
 }
 
-/// Whether two names are equal.
-#[tactic(auto, using(lk_block::proofs::Counted::name_decides))]
-fn is_name<T: Terms>(terms: &T, name: u64, other: u64) -> bool
-    requires name_in { name < length (T.contents terms.now).names }
-    requires other_in { other < length (T.contents terms.now).names }
-    ensures { result ≡ same_name (name_at (T.contents terms.now) name) (name_at (T.contents terms.now) other) }
-{
-    terms.same_name(name, other)
-}
-
 /// The motive of the type of a name, among types and their motives.
 fn find_motive<T: Terms>(terms: &T, types: &[TypeShape], motives: &[u64], name: u64) -> Option<u64>
     requires types_in { All (IsTypeShapeIn (T.contents terms.now)) types.now }
@@ -147,7 +137,7 @@ fn find_motive<T: Terms>(terms: &T, types: &[TypeShape], motives: &[u64], name: 
     'types: while let Some((of, more_types)) = types_left.split_first() {
         match motives_left.split_first() {
             Some((motive, more_motives)) => {
-                if is_name(terms, of.name, name) {
+                if names_equal(terms, of.name, name) {
                     return Some(*motive);
                 }
                 types_left = more_types;

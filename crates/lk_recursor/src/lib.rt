@@ -3,18 +3,18 @@
 #![tactic(auto)]
 
 mod between;
-pub mod binders;
+mod binders;
 mod bounds;
 pub mod comparing;
-pub mod counts;
+mod counts;
 pub mod front;
 pub mod heads;
-pub mod levels;
-pub mod minors;
-pub mod own;
+mod levels;
+mod minors;
+mod own;
 pub mod recursor;
-pub mod renaming;
+mod renaming;
 pub mod rules;
-pub mod runs;
+mod runs;
 #[cfg(test)]
 mod tests;

@@ -4,13 +4,13 @@ ghost use Rattle.std.specs.Prelude.{◌≡◌, ◌<◌, ◌+◌, ◌++◌, ◌�
 ghost use Rattle.lk_store.specs.Contents.{name_at, tree_at, Extends, IsTree};
 ghost use Rattle.lk_spine.specs.Reading.{AreTrees};
 ghost use Rattle.lk_blocks.specs.Recursors.{hypotheses, minor_type, minor_types, minors, shape_bound};
-ghost use Rattle.lk_block.specs.Shapes.{AreTreesIn, field_at, constructor_shape_at, type_shape_at, shape_at, IsFieldIn, IsConstructorShapeIn, IsTypeShapeIn, IsShapeIn};
+ghost use Rattle.lk_block.specs.Shapes.{AreTreesIn, field_at, constructor_shape_at, type_shape_at, shape_at, IsFieldIn, IsRecursionIn, IsConstructorShapeIn, IsTypeShapeIn, IsShapeIn};
 ghost use Rattle.lk_recursor.specs.Fronts.{AreHeads};
 ghost use Rattle.lk_recursor.specs.Hypotheses.{hypothesis, minor_body};
 
 use crate::binders::{Binder, arrows_to, locals_of, over_locals};
 use crate::heads::{Heads, at_parameters, motive_at};
-use lk_block::shape::{ConstructorShape, Field, FieldKind, Shape, TypeShape};
+use lk_block::shape::{ConstructorShape, Field, FieldKind, Recursion, Shape, TypeShape};
 use lk_rows::memory::NoMemory;
 use lk_spine::apply;
 use lk_store::terms::Terms;
@@ -34,23 +34,26 @@ fn hypothesis_of<T: Terms>(
     shape: &Shape,
     heads: &Heads,
     variable: u64,
-    arguments: &[u64],
-    name: u64,
-    indices: &[u64],
+    recursion: &Recursion,
 ) -> Result<u64, NoMemory>
     requires shape_in { IsShapeIn (T.contents terms.old) shape.now }
     requires heads_are { AreHeads (T.contents terms.old) shape.now heads.now }
     requires variable_in { variable < length (T.contents terms.old).trees }
-    requires arguments_in { AreTreesIn (T.contents terms.old) arguments.now }
-    requires name_in { name < length (T.contents terms.old).names }
-    requires indices_in { AreTreesIn (T.contents terms.old) indices.now }
+    requires recursion_in { IsRecursionIn (T.contents terms.old) recursion.now }
     ensures keeps { Extends (T.contents terms.old) (T.contents terms.new) }
     ensures rest { T.rest terms.new ≡ T.rest terms.old }
-    ensures ok { IfOk result (λ e. IsTree (T.contents terms.new) e (hypothesis (shape_at (T.contents terms.old) shape.now) (tree_at (T.contents terms.old) variable) (map (tree_at (T.contents terms.old)) arguments.now) (name_at (T.contents terms.old) name) (map (tree_at (T.contents terms.old)) indices.now))) }
+    ensures ok { IfOk result (λ e. IsTree (T.contents terms.new) e (hypothesis (shape_at (T.contents terms.old) shape.now) (tree_at (T.contents terms.old) variable) (map (tree_at (T.contents terms.old)) recursion.now.arguments.items) (name_at (T.contents terms.old) recursion.now.name) (map (tree_at (T.contents terms.old)) recursion.now.indices.items))) }
 {
-    let subject = apply(terms, variable, arguments)?;
-    let body = motive_at(terms, shape, heads, name, indices, subject)?;
-    let made = over_locals(alloc, terms, Binder::Pi, arguments, body)?;
+    let subject = apply(terms, variable, &recursion.arguments)?;
+    let body = motive_at(
+        terms,
+        shape,
+        heads,
+        recursion.name,
+        &recursion.indices,
+        subject,
+    )?;
+    let made = over_locals(alloc, terms, Binder::Pi, &recursion.arguments, body)?;
     Ok(made)
 }
 
@@ -74,21 +77,8 @@ fn add_hypothesis<T: Terms>(
 {
     match &field.kind {
         FieldKind::Plain => Ok(()),
-        FieldKind::Recursive {
-            arguments,
-            name,
-            indices,
-        } => {
-            let made = hypothesis_of(
-                alloc,
-                terms,
-                shape,
-                heads,
-                field.variable,
-                arguments,
-                *name,
-                indices,
-            )?;
+        FieldKind::Recursive(recursion) => {
+            let made = hypothesis_of(alloc, terms, shape, heads, field.variable, recursion)?;
             found.push(made)?;
             Ok(())
         }

@@ -1,7 +1,6 @@
 //! A block's own recursors, so far as they are made before one of their names is stated.
 
 ghost use Rattle.std.specs.Prelude.{◌≡◌, ◌<◌, length, map, drop, All, IfOk, IfSome, option_map};
-ghost use Rattle.lk_tree.specs.Mentions.{same_name};
 ghost use Rattle.lk_store.specs.Contents.{name_at, tree_at, Extends};
 ghost use Rattle.lk_blocks.specs.Block.{Shape as PlainShape};
 ghost use Rattle.lk_blocks.specs.Compare.{rec_named};
@@ -11,6 +10,7 @@ ghost use Rattle.lk_recursor.specs.Comparisons.{own_at, AreNames, IsOwnRecursor}
 
 use crate::front::Front;
 use crate::levels::recursor_name;
+use lk_block::counts::names_equal;
 use lk_block::shape::{ConstructorShape, Shape, TypeShape};
 use lk_env::unit::Recursor;
 use lk_rows::memory::NoMemory;
@@ -43,16 +43,6 @@ pub struct Comparison<'a> {
     pub stated: &'a Recursor,
     /// The stated level parameters, as levels.
     pub levels: &'a [u64],
-}
-
-/// Whether two names are equal.
-#[tactic(auto, using(lk_block::proofs::Counted::name_decides))]
-pub(crate) fn is_name<T: Terms>(terms: &T, name: u64, other: u64) -> bool
-    requires name_in { name < length (T.contents terms.now).names }
-    requires other_in { other < length (T.contents terms.now).names }
-    ensures { result ≡ same_name (name_at (T.contents terms.now) name) (name_at (T.contents terms.now) other) }
-{
-    terms.same_name(name, other)
 }
 
 /// The minor premises after those of a type.
@@ -109,7 +99,7 @@ pub fn named<'a, T: Terms>(
         match names.split_first() {
             None => return None,
             Some((own, more_names)) => {
-                if is_name(terms, *own, name) {
+                if names_equal(terms, *own, name) {
                     return Some(OwnRecursor { of, minors });
                 }
                 minors = past_minors(&of.constructors, minors);

@@ -6,7 +6,7 @@ ghost use Rattle.lk_tree.specs.Spine.{apply as applied};
 ghost use Rattle.lk_store.specs.Contents.{name_at, tree_at, Extends, IsTree};
 ghost use Rattle.lk_spine.specs.Reading.{AreTrees};
 ghost use Rattle.lk_blocks.specs.Recursors.{inductions, rule_value, as_they_are};
-ghost use Rattle.lk_block.specs.Shapes.{AreTreesIn, field_at, shape_at, constructor_shape_at, IsFieldIn, IsShapeIn, IsConstructorShapeIn};
+ghost use Rattle.lk_block.specs.Shapes.{AreTreesIn, field_at, shape_at, constructor_shape_at, IsFieldIn, IsRecursionIn, IsShapeIn, IsConstructorShapeIn};
 ghost use Rattle.lk_recursor.specs.Fronts.{IsFront};
 ghost use Rattle.lk_recursor.specs.Hypotheses.{recursor_at, induction, rule_end};
 
@@ -14,7 +14,7 @@ use crate::binders::{Binder, over_locals};
 use crate::front::{Front, at_front, over_front};
 use crate::levels::recursor_name;
 use crate::minors::variables_of;
-use lk_block::shape::{ConstructorShape, Field, FieldKind, Shape};
+use lk_block::shape::{ConstructorShape, Field, FieldKind, Recursion, Shape};
 use lk_rows::memory::NoMemory;
 use lk_spine::apply;
 use lk_store::node::Node;
@@ -74,23 +74,27 @@ fn induction_of<T: Terms>(
     shape: &Shape,
     front: &Front,
     variable: u64,
-    arguments: &[u64],
-    name: u64,
-    indices: &[u64],
+    recursion: &Recursion,
 ) -> Result<u64, NoMemory>
     requires shape_in { IsShapeIn (T.contents terms.old) shape.now }
     requires front_is { IsFront (T.contents terms.old) shape.now front.now }
     requires variable_in { variable < length (T.contents terms.old).trees }
-    requires arguments_in { AreTreesIn (T.contents terms.old) arguments.now }
-    requires name_in { name < length (T.contents terms.old).names }
-    requires indices_in { AreTreesIn (T.contents terms.old) indices.now }
+    requires recursion_in { IsRecursionIn (T.contents terms.old) recursion.now }
     ensures keeps { Extends (T.contents terms.old) (T.contents terms.new) }
     ensures rest { T.rest terms.new ≡ T.rest terms.old }
-    ensures ok { IfOk result (λ e. IsTree (T.contents terms.new) e (induction (shape_at (T.contents terms.old) shape.now) (tree_at (T.contents terms.old) variable) (map (tree_at (T.contents terms.old)) arguments.now) (name_at (T.contents terms.old) name) (map (tree_at (T.contents terms.old)) indices.now))) }
+    ensures ok { IfOk result (λ e. IsTree (T.contents terms.new) e (induction (shape_at (T.contents terms.old) shape.now) (tree_at (T.contents terms.old) variable) (map (tree_at (T.contents terms.old)) recursion.now.arguments.items) (name_at (T.contents terms.old) recursion.now.name) (map (tree_at (T.contents terms.old)) recursion.now.indices.items))) }
 {
-    let subject = apply(terms, variable, arguments)?;
-    let body = recursor_applied(alloc, terms, shape, front, name, indices, subject)?;
-    let made = over_locals(alloc, terms, Binder::Lam, arguments, body)?;
+    let subject = apply(terms, variable, &recursion.arguments)?;
+    let body = recursor_applied(
+        alloc,
+        terms,
+        shape,
+        front,
+        recursion.name,
+        &recursion.indices,
+        subject,
+    )?;
+    let made = over_locals(alloc, terms, Binder::Lam, &recursion.arguments, body)?;
     Ok(made)
 }
 
@@ -114,21 +118,8 @@ fn add_induction<T: Terms>(
 {
     match &field.kind {
         FieldKind::Plain => Ok(()),
-        FieldKind::Recursive {
-            arguments,
-            name,
-            indices,
-        } => {
-            let made = induction_of(
-                alloc,
-                terms,
-                shape,
-                front,
-                field.variable,
-                arguments,
-                *name,
-                indices,
-            )?;
+        FieldKind::Recursive(recursion) => {
+            let made = induction_of(alloc, terms, shape, front, field.variable, recursion)?;
             found.push(made)?;
             Ok(())
         }

@@ -13,8 +13,8 @@ returns-then-counts_agree-clause-outcome g c =
     let t = g.A.Asks.table c.args.asks.now in
     let left = g.A.Asks.left c.args.asks.now in
     let places = g.A.Asks.places (g.A.Asks.basis c.args.asks.now) in
-    test_passes t places Nothing block_shape _ left (λ y rest. types_stage t places (suc left) (block_at at c.args.block.now) (map (recursor_at at) c.args.block.now.recursors.items) rest) c.check_stated.result
-    (sym c.counts_agree.ensures ∙ c.if-counts_agree.true) (c.check_stated.ensures.outcome (suc left) (omega arith))
+    test_passes t places Nothing block_shape _ left (λ y rest. types_stage t places (suc left) (block_at at c.args.block.now) (map (recursor_at at) c.args.block.now.recursors.items) rest) c.check_from_types.result
+    (sym c.counts_agree.ensures ∙ c.if-counts_agree.true) (c.check_from_types.ensures.outcome (suc left) (omega arith))
 
 pub returns-else-counts_agree-clause-outcome : goal.returns-else-counts_agree-clause-outcome
 returns-else-counts_agree-clause-outcome g c =

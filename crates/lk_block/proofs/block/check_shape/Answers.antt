@@ -11,9 +11,8 @@ use Rattle.lk_block.specs.Parts.{lists_at}
 use Rattle.lk_block.specs.Shapes.{type_shape_at, shape_at, IsTypeShapeIn}
 use Rattle.lk_block.specs.Wholes.{shapes_form, shape_with, large_form}
 use Rattle.lk_block.proofs.Running.{goes_on, ends_at, halts_first, halts_later}
-use Rattle.lk_block.proofs.Shaping.{type-steady}
-use Rattle.lk_block.proofs.Smallness.{shapes_grown}
-use Rattle.lk_block.proofs.Stays.{all_stay, types_stay, types_in_stay}
+use Rattle.lk_block.proofs.Shaping.{types-steady, types-known}
+use Rattle.lk_block.proofs.Stays.{types_stay, types_in_stay}
 use Rattle.lk_block.proofs.block.check_shape.Goals as goal
 
 pub returns-in-Err-clause-outcome : goal.returns-in-Err-clause-outcome
@@ -49,7 +48,7 @@ returns-in-Ok-shape_of-clause-known g c =
     let grown = Extends-trans before between after c.in-Ok.ensures.keeps c.in-Ok-may_be_large.ensures.keeps in
     c.in-Ok-shape_of.ensures.known after (types_in_stay before after grown c.args.types.now c.requires.types_in) (trees-known before after c.args.parts.parameters.items grown c.requires.parts_in.parameters_in)
     (let longer = grown.levels.longer in let small = c.requires.parts_in.sort_in in omega arith)
-    (shapes_grown between after c.in-Ok-may_be_large.ensures.keeps c.in-Ok.shapes.items c.in-Ok.ensures.known)
+    (types-known between after c.in-Ok-may_be_large.ensures.keeps c.in-Ok.shapes.items c.in-Ok.ensures.known)
 
 pub returns-in-Ok-shape_of-clause-outcome : goal.returns-in-Ok-shape_of-clause-outcome
 returns-in-Ok-shape_of-clause-outcome g c fuel enough =
@@ -72,7 +71,7 @@ returns-in-Ok-shape_of-clause-outcome g c fuel enough =
       types_stay before after grown c.args.types.now c.requires.types_in,
       trees-steady before after c.args.parts.parameters.items grown c.requires.parts_in.parameters_in,
       grown.levels.same c.args.parts.sort c.requires.parts_in.sort_in,
-      all_stay (IsTypeShapeIn between) (type_shape_at after) (type_shape_at between) (λ s h. type-steady between after s c.in-Ok-may_be_large.ensures.keeps h) c.in-Ok.shapes.items c.in-Ok.ensures.known,
+      types-steady between after c.in-Ok-may_be_large.ensures.keeps c.in-Ok.shapes.items c.in-Ok.ensures.known,
     ) refl in
     goes_on (g.A.Asks.table c.args.asks.now) t (g.A.Asks.place c.args.asks.now) w c.in-Ok.ensures.table c.in-Ok.ensures.place
     (shapes_form fuel types ps l (lists_at before c.args.parts.indices.items)) (large_form types ps l) (g.A.Asks.left c.args.asks.now) left rest shapes (shape_at after c.in-Ok-shape_of.shape) (subst (λ xs. Goes (g.A.Asks.table c.args.asks.now) (g.A.Asks.place c.args.asks.now) (shapes_form fuel types (map (tree_at before) xs) l (lists_at before c.args.parts.indices.items)) (g.A.Asks.left c.args.asks.now) shapes left) c.deref.ensures.value (c.in-Ok.ensures.outcome fuel enough))

@@ -16,9 +16,9 @@ returns-clause-outcome g c fuel enough =
     let before = g.A.Terms.contents c.args.asks.now in
     let after = g.A.Terms.contents c.frame_of.new.asks in
     let grown = c.in-Ok.ensures.keeps in
-    gives_moved (g.A.Asks.table c.args.asks.now) (g.A.Asks.table c.frame_of.new.asks) (g.A.Asks.place c.args.asks.now) (g.A.Asks.place c.frame_of.new.asks)
+    gives_moved (g.A.Asks.table c.args.asks.now) (g.A.Asks.table c.frame_of.new.asks) (g.A.Asks.place c.args.asks.now) (g.A.Asks.place c.frame_of.new.asks) c.in-Ok.ensures.table c.in-Ok.ensures.place
     (shapes_form fuel (map (type_at before) c.args.types.now) (map (tree_at before) c.args.parameters.now) (level_at before c.args.sort) (lists_at before c.args.indices.items))
-    (shapes_steps fuel (frame_at after c.in-Ok.frame) (map (type_at after) c.args.types.now) (lists_at after c.args.indices.items)) (g.A.Asks.left c.args.asks.now) (g.A.Asks.left c.frame_of.new.asks)
-    _ (g.A.Asks.left c.check_constructors.new.asks) c.check_constructors.result c.in-Ok.ensures.table c.in-Ok.ensures.place
+    (shapes_steps fuel (frame_at after c.in-Ok.frame) (map (type_at after) c.args.types.now) (lists_at after c.args.indices.items))
     (rw (c.in-Ok.ensures.frame, types_stay before after grown c.args.types.now c.requires.types_in, lists-steady before after c.args.indices.items grown c.requires.indices_in) refl)
-    c.in-Ok.ensures.left (c.check_constructors.ensures.outcome fuel (subst (λ n. n < fuel) (sym c.in-Ok.ensures.left) enough))
+    (g.A.Asks.left c.args.asks.now) (g.A.Asks.left c.frame_of.new.asks) c.in-Ok.ensures.left
+    _ (g.A.Asks.left c.check_constructors.new.asks) c.check_constructors.result (c.check_constructors.ensures.outcome fuel (subst (λ n. n < fuel) (sym c.in-Ok.ensures.left) enough))

@@ -19,12 +19,12 @@ use Rattle.lk_block.specs.Parts.{lists_at}
 use Rattle.lk_block.specs.Shapes.{type_shape_at, IsTypeShapeIn}
 use Rattle.lk_block.specs.Constructors.{type_form, shapes_form}
 use Rattle.lk_block.proofs.Counted.{rest_have, first_has, none_left}
-use Rattle.lk_block.proofs.Firsts.{type_grown}
+use Rattle.lk_block.proofs.Stays.{type_in_stays, constructors_stay}
 use Rattle.lk_block.proofs.Frames.{frame-steady}
 use Rattle.lk_block.proofs.Leading.{leads_on, leads_stop, leads_end}
-use Rattle.lk_block.proofs.Shaping.{type-steady, types-grown, each-push}
-use Rattle.lk_block.proofs.EachField.{goes_less}
-use Rattle.lk_block.proofs.EachConstructor.{type_kept, all-stated-steady, shapes_split, shapes_missing, goes_bare, halts_bare, turned}
+use Rattle.lk_block.proofs.Shaping.{type-steady, types-known, each-push}
+use Rattle.lk_block.proofs.Within.{goes_within}
+use Rattle.lk_block.proofs.EachConstructor.{type_kept, shapes_split, shapes_missing, goes_bare, halts_bare, turned}
 use Rattle.lk_block.proofs.constructors.check_constructors.Goals as goal
 
 pub returns-in-None-clause-outcome : goal.returns-in-None-clause-outcome
@@ -44,7 +44,7 @@ pub type_of-requires-clause-stated_in : goal.type_of-requires-clause-stated_in
 type_of-requires-clause-stated_in g c =
     let before = g.A.Terms.contents c.args.asks.now in
     let now = g.A.Terms.contents c.types.asks in
-    type_grown before now c.in-Some.stated.now c.types.invariant.keeps (first_has (IsTypeIn before) c.types.rest.now c.in-Some.stated.now c.in-Some.more.now c.in-Some.ensures.cases.0 c.types.invariant.rest_in)
+    type_in_stays before now c.types.invariant.keeps c.in-Some.stated.now (first_has (IsTypeIn before) c.types.rest.now c.in-Some.stated.now c.in-Some.more.now c.in-Some.ensures.cases.0 c.types.invariant.rest_in)
 
 pub type_of-requires-clause-indices_in : goal.type_of-requires-clause-indices_in
 type_of-requires-clause-indices_in g c =
@@ -76,7 +76,7 @@ returns-in-Err-clause-outcome g c fuel enough =
     let left = lists_at before (reverse c.pop.new.self.items) in
     let less = was.less in
     let same = type_kept fuel (frame_at now c.args.frame.now) F (name_at now first.name) (name_at before first.name) (map (constructor_at now) first.constructors.items) (map (constructor_at before) first.constructors.items) (map (tree_at now) own.items) (map (tree_at before) own.items)
-    (frame-steady before now c.args.frame.now was.keeps c.requires.frame_in) (was.keeps.names.same first.name known.stated.name_in) (all-stated-steady before now first.constructors.items was.keeps known.constructors_in) (trees-steady before now own.items was.keeps own_known) in
+    (frame-steady before now c.args.frame.now was.keeps c.requires.frame_in) (was.keeps.names.same first.name known.stated.name_in) (constructors_stay before now was.keeps first.constructors.items known.constructors_in) (trees-steady before now own.items was.keeps own_known) in
     halts_bare (g.A.Asks.table c.args.asks.now) (g.A.Asks.place c.args.asks.now) (shapes_steps fuel F ts xs) (g.A.Asks.left c.args.asks.now) c.in-Err.stop
     (leads_stop (g.A.Asks.table c.args.asks.now) (g.A.Asks.table c.types.asks) (g.A.Asks.place c.args.asks.now) (g.A.Asks.place c.types.asks) was.same_table was.same_place
     (shapes_form [] fuel F ts xs) (g.A.Asks.left c.args.asks.now) (shapes_form ss fuel F rest waiting) (g.A.Asks.left c.types.asks) (was.leads fuel enough)
@@ -111,7 +111,7 @@ types-preserved g c =
     let end = g.A.Asks.left c.type_of.new.asks in
     let shape = type_shape_at after c.in-Ok.shape in
     let before_less = was.less in
-    let here_less = goes_less (g.A.Asks.table c.types.asks) (g.A.Asks.place c.types.asks) (p (suc start)) start end shape (c.in-Ok.ensures.outcome (suc start) (omega arith)) in
+    let here_less = goes_within (g.A.Asks.table c.types.asks) (g.A.Asks.place c.types.asks) (p (suc start)) start shape end (c.in-Ok.ensures.outcome (suc start) (omega arith)) in
     record {
       keeps = Extends-trans before now after was.keeps grown;
       same_basis = c.in-Ok.ensures.basis ∙ was.same_basis;
@@ -121,17 +121,17 @@ types-preserved g c =
       rest_in = rest_have (IsTypeIn before) c.types.rest.now first c.in-Some.more.now c.in-Some.ensures.cases.0 was.rest_in;
       waiting_in = rest_have (λ (ys : Vec ℕ Global). All (λ x. x < length before.trees) ys.items) (reverse c.types.waiting.items) own (reverse c.pop.new.self.items) around was.waiting_in;
       shapes_in = All-same (IsTypeShapeIn after) c.push.new.self.items (c.types.shapes.items ++ c.in-Ok.shape ∷ []) pushed
-          (All-push (IsTypeShapeIn after) c.types.shapes.items c.in-Ok.shape (types-grown now after c.types.shapes.items grown was.shapes_in) c.in-Ok.ensures.known);
+          (All-push (IsTypeShapeIn after) c.types.shapes.items c.in-Ok.shape (types-known now after grown c.types.shapes.items was.shapes_in) c.in-Ok.ensures.known);
       leads = λ fuel enough.
           leads_on (g.A.Asks.table c.args.asks.now) (g.A.Asks.table c.types.asks) (g.A.Asks.place c.args.asks.now) (g.A.Asks.place c.types.asks) was.same_table was.same_place
           (shapes_form [] fuel F ts xs) (g.A.Asks.left c.args.asks.now) (shapes_form ss fuel F rest waiting) start (was.leads fuel enough)
           (p fuel) (λ (s : TypeShape). shapes_form (ss ++ s ∷ []) fuel F more left)
           (shapes_split ss fuel F rest (type_at before first) more waiting (map (tree_at before) own.items) left (p fuel) (ap (map (type_at before)) c.in-Some.ensures.cases.0) (ap (lists_at before) around)
           (type_kept fuel (frame_at now c.args.frame.now) F (name_at now first.name) (name_at before first.name) (map (constructor_at now) first.constructors.items) (map (constructor_at before) first.constructors.items) (map (tree_at now) own.items) (map (tree_at before) own.items)
-          (frame-steady before now c.args.frame.now was.keeps c.requires.frame_in) (was.keeps.names.same first.name known.stated.name_in) (all-stated-steady before now first.constructors.items was.keeps known.constructors_in) (trees-steady before now own.items was.keeps own_known)))
+          (frame-steady before now c.args.frame.now was.keeps c.requires.frame_in) (was.keeps.names.same first.name known.stated.name_in) (constructors_stay before now was.keeps first.constructors.items known.constructors_in) (trees-steady before now own.items was.keeps own_known)))
           shape end (shapes_form (map (type_shape_at after) c.push.new.self.items) fuel F more left) (c.in-Ok.ensures.outcome fuel (omega arith))
           (ap (λ ys. shapes_form ys fuel F more left) (sym (ap (map (type_shape_at after)) pushed
-          ∙ each-push (IsTypeShapeIn now) (type_shape_at after) (type_shape_at now) c.types.shapes.items c.in-Ok.shape (λ (s : StoredShape) h. type-steady now after s grown h) was.shapes_in)));
+          ∙ each-push (IsTypeShapeIn now) (type_shape_at after) (type_shape_at now) c.types.shapes.items c.in-Ok.shape (type-steady now after grown) was.shapes_in)));
     }
 
 pub returns-clause-outcome : goal.returns-clause-outcome

@@ -8,7 +8,7 @@ use Rattle.lk_block.specs.Shapes.{constructor_shape_at}
 use Rattle.lk_block.specs.Constructors.{rest_form}
 use Rattle.lk_block.proofs.Running.{halts_first, gives_on}
 use Rattle.lk_block.proofs.Frames.{frame-steady}
-use Rattle.lk_block.proofs.EachField.{goes_less}
+use Rattle.lk_block.proofs.Within.{goes_within}
 use Rattle.lk_block.proofs.EachConstructor.{rest_kept}
 use Rattle.lk_block.proofs.constructors.constructor_of.Goals as goal
 
@@ -25,7 +25,7 @@ returns-in-Ok-clause-outcome g c fuel enough =
     let start = g.A.Asks.left c.args.asks.now in
     let middle = g.A.Asks.left c.over.new.asks in
     let end = g.A.Asks.left c.rest_of.new.asks in
-    let less = goes_less (g.A.Asks.table c.args.asks.now) (g.A.Asks.place c.args.asks.now) (over F.params A) start middle r c.in-Ok.ensures.outcome in
+    let less = goes_within (g.A.Asks.table c.args.asks.now) (g.A.Asks.place c.args.asks.now) (over F.params A) start r middle c.in-Ok.ensures.outcome in
     gives_on (g.A.Asks.table c.args.asks.now) (g.A.Asks.table c.over.new.asks) (g.A.Asks.place c.args.asks.now) (g.A.Asks.place c.over.new.asks) c.in-Ok.ensures.table c.in-Ok.ensures.place
     (over F.params A) (λ (r : Tree). rest_form fuel F T n c.args.count r) start middle end r (constructor_shape_at after) c.rest_of.result c.in-Ok.ensures.outcome
     (subst (λ p. Gives (g.A.Asks.table c.over.new.asks) (g.A.Asks.place c.over.new.asks) p middle (constructor_shape_at after) end c.rest_of.result)

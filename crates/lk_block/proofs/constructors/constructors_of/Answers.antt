@@ -14,8 +14,8 @@ use Rattle.lk_block.specs.Constructors.{constructor_form, constructors_form}
 use Rattle.lk_block.proofs.Counted.{rest_have, first_has, none_left}
 use Rattle.lk_block.proofs.Frames.{frame-steady}
 use Rattle.lk_block.proofs.Leading.{leads_here, leads_on, leads_stop, leads_end}
-use Rattle.lk_block.proofs.Shaping.{constructor-steady, constructors-grown, each-push}
-use Rattle.lk_block.proofs.EachField.{goes_less}
+use Rattle.lk_block.proofs.Shaping.{constructor-steady, constructors-known, each-push}
+use Rattle.lk_block.proofs.Within.{goes_within}
 use Rattle.lk_block.proofs.EachConstructor.{constructor_kept, constructors_split, goes_bare, halts_bare}
 use Rattle.lk_block.proofs.constructors.constructors_of.Goals as goal
 
@@ -79,7 +79,7 @@ constructors-preserved g c =
     let end = g.A.Asks.left c.constructor_of.new.asks in
     let shape = constructor_shape_at after c.in-Ok.shape in
     let before_less = was.less in
-    let here_less = goes_less (g.A.Asks.table c.constructors.asks) (g.A.Asks.place c.constructors.asks) (p (suc start)) start end shape (c.in-Ok.ensures.outcome (suc start) (omega arith)) in
+    let here_less = goes_within (g.A.Asks.table c.constructors.asks) (g.A.Asks.place c.constructors.asks) (p (suc start)) start shape end (c.in-Ok.ensures.outcome (suc start) (omega arith)) in
     record {
       keeps = Extends-trans before now after was.keeps grown;
       same_basis = c.in-Ok.ensures.basis ∙ was.same_basis;
@@ -88,7 +88,7 @@ constructors-preserved g c =
       less = omega arith;
       rest_in = rest_have (IsConstructorIn before) c.constructors.rest.now first c.in-Some.more.now c.in-Some.ensures.cases.0 was.rest_in;
       shapes_in = All-same (IsConstructorShapeIn after) c.push.new.self.items (c.constructors.shapes.items ++ c.in-Ok.shape ∷ []) pushed
-          (All-push (IsConstructorShapeIn after) c.constructors.shapes.items c.in-Ok.shape (constructors-grown now after c.constructors.shapes.items grown was.shapes_in) c.in-Ok.ensures.known);
+          (All-push (IsConstructorShapeIn after) c.constructors.shapes.items c.in-Ok.shape (constructors-known now after grown c.constructors.shapes.items was.shapes_in) c.in-Ok.ensures.known);
       leads = λ fuel enough.
           leads_on (g.A.Asks.table c.args.asks.now) (g.A.Asks.table c.constructors.asks) (g.A.Asks.place c.args.asks.now) (g.A.Asks.place c.constructors.asks) was.same_table was.same_place
           (constructors_form [] fuel F T all) (g.A.Asks.left c.args.asks.now) (constructors_form ss fuel F T rest) start (was.leads fuel enough)
@@ -98,7 +98,7 @@ constructors-preserved g c =
           (frame-steady before now c.args.frame.now was.keeps c.requires.frame_in) (was.keeps.names.same c.args.parent c.requires.parent_in) (was.keeps.names.same first.name known.stated.name_in) (was.keeps.trees.same first.kind known.stated.kind_in)))
           shape end (constructors_form (map (constructor_shape_at after) c.push.new.self.items) fuel F T more) (c.in-Ok.ensures.outcome fuel (omega arith))
           (ap (λ xs. constructors_form xs fuel F T more) (sym (ap (map (constructor_shape_at after)) pushed
-          ∙ each-push (IsConstructorShapeIn now) (constructor_shape_at after) (constructor_shape_at now) c.constructors.shapes.items c.in-Ok.shape (λ (s : ConstructorShape) h. constructor-steady now after s grown h) was.shapes_in)));
+          ∙ each-push (IsConstructorShapeIn now) (constructor_shape_at after) (constructor_shape_at now) c.constructors.shapes.items c.in-Ok.shape (constructor-steady now after grown) was.shapes_in)));
     }
 
 pub returns-clause-outcome : goal.returns-clause-outcome

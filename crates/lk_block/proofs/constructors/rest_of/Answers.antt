@@ -50,7 +50,7 @@ returns-in-Ok-result_of-clause-outcome g c fuel enough =
     (subst (λ p. Goes (g.A.Asks.table c.fields.new.asks) (g.A.Asks.place c.fields.new.asks) p middle is end)
     (result_kept (frame_at between c.args.frame.now) F (name_at between c.args.parent) T e (frame-steady before between c.args.frame.now c.in-Ok.ensures.keeps c.requires.frame_in) (c.in-Ok.ensures.keeps.names.same c.args.parent c.requires.parent_in))
     c.in-Ok-result_of.ensures.outcome)
-    (shape_is (name_at after c.args.name) (name_at before c.args.name) (map (field_at after) c.in-Ok.opened.0.items) fs is (all.names.same c.args.name c.requires.name_in) (fields-steady between after c.in-Ok.opened.0.items c.in-Ok-result_of.ensures.keeps c.in-Ok.ensures.fields_known))
+    (shape_is (name_at after c.args.name) (name_at before c.args.name) (map (field_at after) c.in-Ok.opened.0.items) fs is (all.names.same c.args.name c.requires.name_in) (fields-steady between after c.in-Ok-result_of.ensures.keeps c.in-Ok.opened.0.items c.in-Ok.ensures.fields_known))
 
 pub returns-in-Err-result_of-clause-outcome : goal.returns-in-Err-result_of-clause-outcome
 returns-in-Err-result_of-clause-outcome g c fuel enough =

@@ -6,7 +6,7 @@ use Rattle.lk_block.specs.declared.shape.Field.{Field}
 use Rattle.lk_block.specs.Frames.{frame_at}
 use Rattle.lk_block.specs.Shapes.{field_at, IsFieldIn}
 use Rattle.lk_block.proofs.Frames.{frame-steady}
-use Rattle.lk_block.proofs.Shaping.{field-steady, fields-grown, each-push}
+use Rattle.lk_block.proofs.Shaping.{field-steady, fields-known, each-push}
 use Rattle.lk_block.proofs.EachField.{fields_first, fields_next, fields_halt, fields_end}
 use Rattle.lk_block.proofs.fields.fields.Goals as goal
 
@@ -37,23 +37,23 @@ fields-preserved g c =
     let before = g.A.Terms.contents c.args.asks.now in
     let now = g.A.Terms.contents c.fields.asks in
     let after = g.A.Terms.contents c.next_field.new.asks in
-    let more = c.keep_field.new.fields.items in
+    let more = c.keep.new.kept.items in
     let grown = c.in-Ok.ensures.keeps in
-    let pushed = c.in-Ok-keep_field.ensures.fields in
+    let pushed = c.in-Ok-keep.ensures.kept in
     record {
       keeps = Extends-trans before now after c.fields.invariant.keeps grown;
       same_basis = c.in-Ok.ensures.basis ∙ c.fields.invariant.same_basis;
       same_table = c.in-Ok.ensures.table ∙ c.fields.invariant.same_table;
       same_place = c.in-Ok.ensures.place ∙ c.fields.invariant.same_place;
-      found_in = All-same (IsFieldIn after) more (c.fields.found.items ++ c.in-Ok.next.0 ∷ []) pushed (All-push (IsFieldIn after) c.fields.found.items c.in-Ok.next.0 (fields-grown now after c.fields.found.items grown c.fields.invariant.found_in) c.in-Ok.ensures.field_known);
+      found_in = All-same (IsFieldIn after) more (c.fields.found.items ++ c.in-Ok.next.0 ∷ []) pushed (All-push (IsFieldIn after) c.fields.found.items c.in-Ok.next.0 (fields-known now after grown c.fields.found.items c.fields.invariant.found_in) c.in-Ok.ensures.field_known);
       rest_in = c.in-Ok.ensures.rest_known;
       leads =
           fields_next (g.A.Asks.table c.args.asks.now) (g.A.Asks.table c.fields.asks) (g.A.Asks.place c.args.asks.now) (g.A.Asks.place c.fields.asks) c.fields.invariant.same_table c.fields.invariant.same_place
           (frame_at before c.args.frame.now) c.args.first c.args.count (tree_at before c.args.e) (g.A.Asks.left c.args.asks.now) (map (field_at now) c.fields.found.items) c.fields.number c.fields.left (tree_at now c.fields.rest) (g.A.Asks.left c.fields.asks) c.fields.invariant.leads
           (frame_at now c.args.frame.now) (frame-steady before now c.args.frame.now c.fields.invariant.keeps c.requires.frame_in)
-          (map (field_at after) more) c.in-Ok-keep_field.after (c.fields.left - 1) (field_at after c.in-Ok.next.0) (tree_at after c.in-Ok.next.1) (g.A.Asks.left c.next_field.new.asks)
-          (let some = c.fields-test.true in omega arith) c.in-Ok-keep_field.ensures.next
-          (ap (map (field_at after)) pushed ∙ each-push (IsFieldIn now) (field_at after) (field_at now) c.fields.found.items c.in-Ok.next.0 (λ (f : Field) h. field-steady now after f grown h) c.fields.invariant.found_in)
+          (map (field_at after) more) c.in-Ok-keep.after (c.fields.left - 1) (field_at after c.in-Ok.next.0) (tree_at after c.in-Ok.next.1) (g.A.Asks.left c.next_field.new.asks)
+          (let some = c.fields-test.true in omega arith) c.in-Ok-keep.ensures.next
+          (ap (map (field_at after)) pushed ∙ each-push (IsFieldIn now) (field_at after) (field_at now) c.fields.found.items c.in-Ok.next.0 (field-steady now after grown) c.fields.invariant.found_in)
           c.in-Ok.ensures.outcome;
     }
 

@@ -8,7 +8,8 @@ use Rattle.lk_block.specs.Frames.{frame_at}
 use Rattle.lk_block.specs.Shapes.{kind_at}
 use Rattle.lk_block.proofs.Running.{halts_first}
 use Rattle.lk_block.proofs.Frames.{frame-steady}
-use Rattle.lk_block.proofs.EachField.{goes_less, walk_kept, kind_gives, kind_differs}
+use Rattle.lk_block.proofs.Within.{goes_within}
+use Rattle.lk_block.proofs.EachField.{walk_kept, kind_gives, kind_differs}
 use Rattle.lk_block.proofs.fields.kind_of_field.Goals as goal
 
 pub returns-in-Ok-true-clause-outcome : goal.returns-in-Ok-true-clause-outcome
@@ -21,7 +22,7 @@ returns-in-Ok-true-clause-outcome g c fuel enough =
     let start = g.A.Asks.left c.args.asks.now in
     let left = g.A.Asks.left c.fits_in.new.asks in
     let end = g.A.Asks.left c.walk.new.asks in
-    let less = goes_less (g.A.Asks.table c.args.asks.now) (g.A.Asks.place c.args.asks.now) (fits_in F.sort A) start left c.in-Ok-true.field-0 c.in-Ok-true.ensures.outcome in
+    let less = goes_within (g.A.Asks.table c.args.asks.now) (g.A.Asks.place c.args.asks.now) (fits_in F.sort A) start c.in-Ok-true.field-0 left c.in-Ok-true.ensures.outcome in
     kind_gives (g.A.Asks.table c.args.asks.now) (g.A.Asks.table c.fits_in.new.asks) (g.A.Asks.place c.args.asks.now) (g.A.Asks.place c.fits_in.new.asks) c.in-Ok-true.ensures.table c.in-Ok-true.ensures.place
     fuel F c.args.number A start left c.in-Ok-true.field-0 c.in-Ok-true.ensures.outcome end (kind_at after) c.walk.result c.in-Ok-true.field-0-test
     (subst (λ p. Gives (g.A.Asks.table c.fits_in.new.asks) (g.A.Asks.place c.fits_in.new.asks) p left (kind_at after) end c.walk.result)

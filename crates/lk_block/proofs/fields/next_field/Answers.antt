@@ -12,7 +12,8 @@ use Rattle.lk_block.specs.Shapes.{field_at}
 use Rattle.lk_block.specs.Fields.{field_form}
 use Rattle.lk_block.proofs.Running.{halts_first}
 use Rattle.lk_block.proofs.Frames.{frame-steady}
-use Rattle.lk_block.proofs.EachField.{goes_less, field_kept, field_goes, field_halts}
+use Rattle.lk_block.proofs.Within.{goes_within}
+use Rattle.lk_block.proofs.EachField.{field_kept, field_goes, field_halts}
 use Rattle.lk_block.proofs.fields.next_field.Goals as goal
 
 pub returns-in-Err-clause-outcome : goal.returns-in-Err-clause-outcome
@@ -35,7 +36,7 @@ returns-in-Ok-field_of-clause-outcome g c fuel enough =
     let start = g.A.Asks.left c.args.asks.now in
     let middle = g.A.Asks.left c.pi_of.new.asks in
     let end = g.A.Asks.left c.field_of.new.asks in
-    let less = goes_less (g.A.Asks.table c.args.asks.now) (g.A.Asks.place c.args.asks.now) (pi_form r) start middle (A, B) c.in-Ok.ensures.outcome in
+    let less = goes_within (g.A.Asks.table c.args.asks.now) (g.A.Asks.place c.args.asks.now) (pi_form r) start (A, B) middle c.in-Ok.ensures.outcome in
     let unspent = c.open_local.ensures.left in
     let field = field_at after c.in-Ok-field_of.field in
     let same_frame = frame-steady before made c.args.frame.now (Extends-trans before between made c.in-Ok.ensures.keeps c.open_local.ensures.keeps) c.requires.frame_in in
@@ -57,7 +58,7 @@ returns-in-Err-field_of-clause-outcome g c fuel enough =
     let B = tree_at between c.in-Ok.parts.1 in
     let start = g.A.Asks.left c.args.asks.now in
     let middle = g.A.Asks.left c.pi_of.new.asks in
-    let less = goes_less (g.A.Asks.table c.args.asks.now) (g.A.Asks.place c.args.asks.now) (pi_form r) start middle (A, B) c.in-Ok.ensures.outcome in
+    let less = goes_within (g.A.Asks.table c.args.asks.now) (g.A.Asks.place c.args.asks.now) (pi_form r) start (A, B) middle c.in-Ok.ensures.outcome in
     let unspent = c.open_local.ensures.left in
     let same_frame = frame-steady before made c.args.frame.now (Extends-trans before between made c.in-Ok.ensures.keeps c.open_local.ensures.keeps) c.requires.frame_in in
     let same_form = field_kept fuel (frame_at made c.args.frame.now) F c.args.number (tree_at made c.in-Ok.parts.0) A (tree_at made c.in-Ok-open_local.opened.0) (local c.args.number A) same_frame (c.open_local.ensures.keeps.trees.same c.in-Ok.parts.0 c.in-Ok.ensures.known.0) c.in-Ok-open_local.ensures.made.is in

@@ -5,7 +5,7 @@ use Rattle.lk_blocks.specs.Block.{Frame}
 use Rattle.lk_blocks.specs.BlockSteps.{after_params, plain_indices}
 use Rattle.lk_store.specs.Contents.{name_at, list_at, tree_at}
 use Rattle.lk_block.specs.Frames.{frame_at}
-use Rattle.lk_block.specs.Members.{own_name, name_in, member_at}
+use Rattle.lk_block.specs.Members.{own_name, named_at, member_at}
 use Rattle.lk_block.proofs.Frames.{frame-steady}
 use Rattle.lk_block.proofs.Arguments.{member_named}
 use Rattle.lk_block.proofs.members.as_member.Goals as goal
@@ -17,7 +17,7 @@ returns-clause-member g c =
     let F = frame_at before c.args.frame.now in
     let T = name_at after c.in-Some.name in
     let e = tree_at before c.args.e in
-    let named : Some T ≡ own_name F.levels (head e) = sym (ap (name_in after) c.in-Some.is) ∙ c.in_ok-own_name.ensures.name ∙ ap (own_name F.levels) c.head-start.ensures.is in
+    let named : Some T ≡ own_name F.levels (head e) = sym (ap (named_at after) c.in-Some.is) ∙ c.in_ok-own_name.ensures.name ∙ ap (own_name F.levels) c.head-start.ensures.is in
     subst (λ y. IfOk c.member_in.result (λ o. member_at after o ≡ y))
     (ap (λ (G : Frame). plain_indices G T (after_params G.params (args (tree_at after c.args.e)))) (frame-steady before after c.args.frame.now c.in_ok-own_name.ensures.keeps c.requires.frame_in)
     ∙ ap (λ t. plain_indices F T (after_params F.params (args t))) (c.in_ok-own_name.ensures.keeps.trees.same c.args.e c.requires.e_in) ∙ sym (member_named F (head e) (args e) T named)) c.member_in.ensures.member

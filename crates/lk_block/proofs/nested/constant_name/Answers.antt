@@ -1,5 +1,5 @@
 use Rattle.std.proofs.Common.{ap, ◌∙◌}
-use Rattle.lk_block.specs.Nestings.{named_at}
+use Rattle.lk_block.specs.Members.{named_at}
 use Rattle.lk_block.proofs.Applied.{node_named}
 use Rattle.lk_block.proofs.nested.constant_name.Goals as goal
 

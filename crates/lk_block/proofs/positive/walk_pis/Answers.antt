@@ -54,8 +54,8 @@ walk-preserved g c =
     let after = g.A.Terms.contents c.walk_step.new.asks in
     let left = g.A.Asks.left c.walk_step.new.asks in
     let grown = c.in-Ok.ensures.keeps in
-    let more = c.keep_local.new.locals.items in
-    let pushed = c.in-Ok-keep_local.ensures.locals in
+    let more = c.keep.new.kept.items in
+    let pushed = c.in-Ok-keep.ensures.kept in
     let parts : (c.in-Under.local < length after.trees) × (c.in-Under.inner < length after.trees) = subst (IsStepIn after) c.in-Under.is c.in-Ok.ensures.known in
     record {
       keeps = Extends-trans before now after c.walk.invariant.keeps grown;
@@ -71,7 +71,7 @@ walk-preserved g c =
           walk_next (g.A.Asks.table c.args.asks.now) (g.A.Asks.table c.walk.asks) (g.A.Asks.place c.args.asks.now) (g.A.Asks.place c.walk.asks) c.walk.invariant.same_table c.walk.invariant.same_place
           (frame_at before c.args.frame.now) c.args.first (tree_at before c.args.e) (g.A.Asks.left c.args.asks.now) (map (tree_at now) c.walk.arguments.items) c.walk.number (tree_at now c.walk.rest) (g.A.Asks.left c.walk.asks) c.walk.invariant.leads
           (frame_at now c.args.frame.now) (frame-steady before now c.args.frame.now c.walk.invariant.keeps c.requires.frame_in)
-          (map (tree_at after) more) c.in-Ok-keep_local.next (tree_at after c.in-Under.local) (tree_at after c.in-Under.inner) left c.in-Ok-keep_local.ensures.next
+          (map (tree_at after) more) c.in-Ok-keep.next (tree_at after c.in-Under.local) (tree_at after c.in-Under.inner) left c.in-Ok-keep.ensures.next
           (ap (map (tree_at after)) pushed ∙ map-append (tree_at after) c.walk.arguments.items (c.in-Under.local ∷ []) ∙ ap (λ ts. ts ++ tree_at after c.in-Under.local ∷ []) (trees-steady now after c.walk.arguments.items grown c.walk.invariant.arguments_in))
           c.in-Ok.ensures.paid
           (subst (λ s. Goes (g.A.Asks.table c.walk.asks) (g.A.Asks.place c.walk.asks) (walk_step (frame_at now c.args.frame.now) c.walk.number (tree_at now c.walk.rest)) (g.A.Asks.left c.walk.asks) (step_at after s) left) c.in-Under.is c.in-Ok.ensures.outcome);

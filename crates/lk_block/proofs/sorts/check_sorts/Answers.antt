@@ -5,7 +5,7 @@ use Rattle.lk_store.proofs.Extending.{Extends-trans}
 use Rattle.lk_env.specs.Units.{constructor_at, type_at, IsTypeIn}
 use Rattle.lk_block.specs.Sorts.{constructors_form, sorts_form}
 use Rattle.lk_block.proofs.Counted.{rest_have, first_has, none_left}
-use Rattle.lk_block.proofs.Firsts.{type_grown}
+use Rattle.lk_block.proofs.Stays.{type_in_stays}
 use Rattle.lk_block.proofs.Leading.{leads_on, leads_stop, leads_end}
 use Rattle.lk_block.proofs.Sorted.{types_split, constructors_kept}
 use Rattle.lk_block.proofs.sorts.check_sorts.Goals as goal
@@ -15,7 +15,7 @@ check_constructors-requires g c =
     let before = g.A.Terms.contents c.args.asks.now in
     let first = c.in-Some.stated.now in
     let known = first_has (IsTypeIn before) c.types.rest.now first c.in-Some.more.now c.in-Some.ensures.cases.0 c.types.invariant.rest_in in
-    rw c.deref.ensures.value (type_grown before (g.A.Terms.contents c.types.asks) first c.types.invariant.keeps known).constructors_in
+    rw c.deref.ensures.value (type_in_stays before (g.A.Terms.contents c.types.asks) c.types.invariant.keeps first known).constructors_in
 
 pub returns-in-Err-clause-outcome : goal.returns-in-Err-clause-outcome
 returns-in-Err-clause-outcome g c =

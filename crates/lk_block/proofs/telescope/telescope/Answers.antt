@@ -33,9 +33,9 @@ pis-preserved g c =
     let before = g.A.Terms.contents c.args.asks.now in
     let now = g.A.Terms.contents c.pis.asks in
     let after = g.A.Terms.contents c.next_local.new.asks in
-    let more = c.keep_local.new.locals.items in
+    let more = c.keep.new.kept.items in
     let grown = c.in-Ok.ensures.keeps in
-    let pushed = c.in-Ok-keep_local.ensures.locals in
+    let pushed = c.in-Ok-keep.ensures.kept in
     let kept = All-weaker (λ x. x < length now.trees) (λ x. x < length after.trees) (λ x h. let longer = grown.trees.longer in omega arith) c.pis.locals.items c.pis.invariant.locals_in in
     record {
       keeps = Extends-trans before now after c.pis.invariant.keeps grown;
@@ -47,8 +47,8 @@ pis-preserved g c =
       leads =
           leads_next (g.A.Asks.table c.args.asks.now) (g.A.Asks.table c.pis.asks) (g.A.Asks.place c.args.asks.now) (g.A.Asks.place c.pis.asks) c.pis.invariant.same_table c.pis.invariant.same_place
           c.args.first c.args.count (tree_at before c.args.e) (g.A.Asks.left c.args.asks.now) (map (tree_at now) c.pis.locals.items) c.pis.number c.pis.left (tree_at now c.pis.rest) (g.A.Asks.left c.pis.asks) c.pis.invariant.leads
-          (map (tree_at after) more) c.in-Ok-keep_local.next (c.pis.left - 1) (tree_at after c.in-Ok.opened.0) (tree_at after c.in-Ok.opened.1) (g.A.Asks.left c.next_local.new.asks)
-          (let some = c.pis-test.true in omega arith) c.in-Ok-keep_local.ensures.next
+          (map (tree_at after) more) c.in-Ok-keep.next (c.pis.left - 1) (tree_at after c.in-Ok.opened.0) (tree_at after c.in-Ok.opened.1) (g.A.Asks.left c.next_local.new.asks)
+          (let some = c.pis-test.true in omega arith) c.in-Ok-keep.ensures.next
           (ap (map (tree_at after)) pushed ∙ map-append (tree_at after) c.pis.locals.items (c.in-Ok.opened.0 ∷ []) ∙ ap (λ ts. ts ++ tree_at after c.in-Ok.opened.0 ∷ []) (trees-steady now after c.pis.locals.items grown c.pis.invariant.locals_in))
           c.in-Ok.ensures.outcome;
     }

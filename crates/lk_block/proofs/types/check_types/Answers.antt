@@ -1,16 +1,16 @@
 use Rattle.std.proofs.Common.{map, ap}
-use Rattle.std.proofs.lemmas.List.Elements.{All-weaker}
 use Rattle.lk_env.specs.Units.{type_at, IsTypeIn}
 use Rattle.lk_block.specs.Parts.{parts_at}
 use Rattle.lk_block.proofs.Counted.{rest_have}
-use Rattle.lk_block.proofs.Firsts.{types_stop, types_give, types_kept, type_grown}
+use Rattle.lk_block.proofs.Firsts.{types_stop, types_give, types_kept}
+use Rattle.lk_block.proofs.Stays.{types_in_stay}
 use Rattle.lk_block.proofs.types.check_types.Goals as goal
 
 pub add_others-requires-clause-others_in : goal.add_others-requires-clause-others_in
 add_others-requires-clause-others_in g c =
     let before = g.A.Terms.contents c.args.asks.now in
     let between = g.A.Terms.contents c.first_type.new.asks in
-    All-weaker (IsTypeIn before) (IsTypeIn between) (λ t known. type_grown before between t c.in-Ok.ensures.keeps known) c.in-Some.others.now
+    types_in_stay before between c.in-Ok.ensures.keeps c.in-Some.others.now
     (rest_have (IsTypeIn before) c.args.types.now c.in-Some.first.now c.in-Some.others.now c.in-Some.ensures.cases.0 c.requires)
 
 pub returns-in-Ok-clause-outcome : goal.returns-in-Ok-clause-outcome

@@ -7,7 +7,7 @@ use Rattle.lk_subst.specs.Numbers.{trees-steady}
 use Rattle.lk_block.specs.Forms.{next_form}
 use Rattle.lk_block.specs.Parts.{lists_at}
 use Rattle.lk_block.proofs.Counted.{rest_have, first_has, none_left}
-use Rattle.lk_block.proofs.Firsts.{form_kept, lists-grown, lists-push, types_next, types_halt, types_end}
+use Rattle.lk_block.proofs.Firsts.{form_kept, lists-known, lists-push, types_next, types_halt, types_end}
 use Rattle.lk_block.proofs.types.more_types.Goals as goal
 
 pub returns-in-Err-clause-outcome : goal.returns-in-Err-clause-outcome
@@ -54,7 +54,7 @@ types-preserved g c =
       same_place = c.in-Ok.ensures.place ∙ c.types.invariant.same_place;
       rest_in = rest_have (IsTypeIn before) c.types.rest.now stated c.in-Some.more.now c.in-Some.ensures.cases.0 c.types.invariant.rest_in;
       lists_in = All-same (λ ys. All (λ x. x < length after.trees) ys.items) c.push.new.self.items (c.types.indices.items ++ c.in-Ok.own ∷ []) pushed
-          (All-push (λ ys. All (λ x. x < length after.trees) ys.items) c.types.indices.items c.in-Ok.own (lists-grown now after c.types.indices.items grown c.types.invariant.lists_in) c.in-Ok.ensures.known);
+          (All-push (λ ys. All (λ x. x < length after.trees) ys.items) c.types.indices.items c.in-Ok.own (lists-known now after c.types.indices.items grown c.types.invariant.lists_in) c.in-Ok.ensures.known);
       leads = types_next (g.A.Asks.table c.args.asks.now) (g.A.Asks.table c.types.asks) (g.A.Asks.place c.args.asks.now) (g.A.Asks.place c.types.asks) c.types.invariant.same_table c.types.invariant.same_place
           ps (map (tree_at now) c.args.parameters.now) l (level_at now c.args.level) (lists_at before c.args.indices.now.items) (map (type_at before) c.args.types.now) (g.A.Asks.left c.args.asks.now)
           (lists_at now c.types.indices.items) (map (type_at before) c.types.rest.now) (g.A.Asks.left c.types.asks) c.types.invariant.leads

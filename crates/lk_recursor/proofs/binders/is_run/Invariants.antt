@@ -1,4 +1,4 @@
-use Rattle.std.proofs.Common.{◌≡◌, ◌<◌, length, map, All}
+use Rattle.std.proofs.Common.{◌<◌, length, map, All}
 use Rattle.lk_store.specs.Contents.{tree_at}
 use Rattle.lk_recursor.proofs.RunLists.{RunsOn}
 use Rattle.lk_recursor.proofs.binders.is_run.Given as goal

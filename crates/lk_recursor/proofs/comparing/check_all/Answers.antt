@@ -1,4 +1,4 @@
-use Rattle.std.proofs.Common.{map, ◌∙◌}
+use Rattle.std.proofs.Common.{map, refl, ◌∙◌}
 use Rattle.lk_table.specs.Declarations.{Yes, checked}
 use Rattle.lk_store.specs.Contents.{name_at}
 use Rattle.lk_store.proofs.Extending.{Extends-trans}
@@ -7,9 +7,10 @@ use Rattle.lk_blocks.specs.Recursors.{recursors}
 use Rattle.lk_blocks.specs.Compare.{rec_named, compare_found, compare_steps}
 use Rattle.lk_block.specs.Shapes.{shape_at}
 use Rattle.lk_block.proofs.Counted.{rest_have, first_has}
-use Rattle.lk_recursor.proofs.Compared.{shared-known, recursor-known}
+use Rattle.lk_block.proofs.Stays.{recursor_in_stays}
+use Rattle.lk_recursor.proofs.Compared.{shared-known}
 use Rattle.lk_recursor.proofs.Checked.{recursors_step, none_stated}
-use Rattle.lk_recursor.proofs.Leading.{leads_next, leads_halt, leads_end}
+use Rattle.lk_block.proofs.Leading.{split_bind, leads_on, leads_stop, leads_end}
 use Rattle.lk_recursor.proofs.comparing.check_all.Goals as goal
 
 pub check_recursor-requires-clause-shared_is : goal.check_recursor-requires-clause-shared_is
@@ -19,7 +20,7 @@ check_recursor-requires-clause-shared_is g c =
 pub check_recursor-requires-clause-stated_in : goal.check_recursor-requires-clause-stated_in
 check_recursor-requires-clause-stated_in g c =
     let before = g.A.Terms.contents c.args.asks.now in
-    recursor-known before (g.A.Terms.contents c.stated.asks) c.stated.invariant.keeps c.in-Some.recursor.now (first_has (IsRecursorIn before) c.stated.rest.now c.in-Some.recursor.now c.in-Some.more.now c.in-Some.ensures.cases.0 c.stated.invariant.rest_in)
+    recursor_in_stays before (g.A.Terms.contents c.stated.asks) c.stated.invariant.keeps c.in-Some.recursor.now (first_has (IsRecursorIn before) c.stated.rest.now c.in-Some.recursor.now c.in-Some.more.now c.in-Some.ensures.cases.0 c.stated.invariant.rest_in)
 
 pub returns-in-Err-clause-outcome : goal.returns-in-Err-clause-outcome
 returns-in-Err-clause-outcome g c =
@@ -34,8 +35,8 @@ returns-in-Err-clause-outcome g c =
     let step = recursors_step before now inv.keeps shape c.requires.shared_is.shape_in c.stated.rest.now c.in-Some.more.now c.in-Some.recursor.now c.in-Some.ensures.cases.0 known in
     let one = compare_found (recursor_at now c.in-Some.recursor.now) (rec_named (recursors (shape_at now shape)) (name_at now c.in-Some.recursor.now.name)) in
     let others = compare_steps all (map (recursor_at before) c.in-Some.more.now) in
-    leads_halt (g.A.Asks.table c.args.asks.now) (g.A.Asks.table c.stated.asks) (g.A.Asks.place c.args.asks.now) (g.A.Asks.place c.stated.asks) inv.same_table inv.same_place
-    whole rest (g.A.Asks.left c.args.asks.now) (g.A.Asks.left c.stated.asks) inv.leads one (λ (y : Yes). others) step c.in-Err.stop c.in-Err.ensures.outcome
+    leads_stop (g.A.Asks.table c.args.asks.now) (g.A.Asks.table c.stated.asks) (g.A.Asks.place c.args.asks.now) (g.A.Asks.place c.stated.asks) inv.same_table inv.same_place
+    whole (g.A.Asks.left c.args.asks.now) rest (g.A.Asks.left c.stated.asks) inv.leads one (λ (y : Yes). others) (split_bind rest one (λ (y : Yes). others) step) c.in-Err.stop c.in-Err.ensures.outcome
 
 pub stated-preserved : goal.stated-preserved
 stated-preserved g c =
@@ -56,8 +57,8 @@ stated-preserved g c =
       same_table = c.in-Ok.ensures.table ∙ inv.same_table;
       same_place = c.in-Ok.ensures.place ∙ inv.same_place;
       rest_in = rest_have (IsRecursorIn before) c.stated.rest.now c.in-Some.recursor.now c.in-Some.more.now c.in-Some.ensures.cases.0 inv.rest_in;
-      leads = leads_next (g.A.Asks.table c.args.asks.now) (g.A.Asks.table c.stated.asks) (g.A.Asks.place c.args.asks.now) (g.A.Asks.place c.stated.asks) inv.same_table inv.same_place
-          whole rest (g.A.Asks.left c.args.asks.now) (g.A.Asks.left c.stated.asks) inv.leads one (λ (y : Yes). others) step checked (g.A.Asks.left c.check_recursor.new.asks) c.in-Ok.ensures.outcome;
+      leads = leads_on (g.A.Asks.table c.args.asks.now) (g.A.Asks.table c.stated.asks) (g.A.Asks.place c.args.asks.now) (g.A.Asks.place c.stated.asks) inv.same_table inv.same_place
+          whole (g.A.Asks.left c.args.asks.now) rest (g.A.Asks.left c.stated.asks) inv.leads one (λ (y : Yes). others) (split_bind rest one (λ (y : Yes). others) step) checked (g.A.Asks.left c.check_recursor.new.asks) others c.in-Ok.ensures.outcome refl;
     }
 
 pub returns-clause-outcome : goal.returns-clause-outcome
@@ -69,5 +70,5 @@ returns-clause-outcome g c =
     let all = recursors (shape_at before shape) in
     let whole = compare_steps all (map (recursor_at before) c.args.stated.now) in
     let rest = compare_steps all (map (recursor_at before) c.stated.rest.now) in
-    leads_end (g.A.Asks.table c.args.asks.now) (g.A.Asks.place c.args.asks.now) whole rest (g.A.Asks.left c.args.asks.now) (g.A.Asks.left c.stated.asks) checked inv.leads
+    leads_end (g.A.Asks.table c.args.asks.now) (g.A.Asks.place c.args.asks.now) whole (g.A.Asks.left c.args.asks.now) rest (g.A.Asks.left c.stated.asks) checked inv.leads
     (none_stated before all c.stated.rest.now c.in_default.ensures.cases)

@@ -4,7 +4,7 @@ use Rattle.lk_env.specs.Units.{recursor_at, IsRecursorIn}
 use Rattle.lk_blocks.specs.Recursors.{recursors}
 use Rattle.lk_blocks.specs.Compare.{compare_steps}
 use Rattle.lk_block.specs.Shapes.{shape_at}
-use Rattle.lk_recursor.proofs.Leading.{Leads}
+use Rattle.lk_block.proofs.Leading.{Leads}
 use Rattle.lk_recursor.proofs.comparing.check_all.Given as goal
 
 abbrev pub invariant-stated : goal.invariant-stated

@@ -7,10 +7,10 @@ use Rattle.lk_env.specs.Units.{recursor_at}
 use Rattle.lk_blocks.specs.Compare.{rec_steps}
 use Rattle.lk_block.specs.Shapes.{shape_at}
 use Rattle.lk_recursor.specs.Comparisons.{own_at}
-use Rattle.lk_recursor.proofs.Steady.{names-steady}
-use Rattle.lk_recursor.proofs.Compared.{shared-known, own-known, recursor-known}
+use Rattle.lk_block.proofs.Stays.{recursor_in_stays, names_stay}
+use Rattle.lk_recursor.proofs.Compared.{shared-known, own-known}
 use Rattle.lk_recursor.proofs.Checked.{pair-steady}
-use Rattle.lk_recursor.proofs.Leading.{gives_moved}
+use Rattle.lk_block.proofs.Moves.{gives_moved}
 use Rattle.lk_recursor.proofs.comparing.check_found.Goals as goal
 
 pub check_pair-requires : goal.check_pair-requires
@@ -22,10 +22,10 @@ check_pair-requires g c =
     record {
       shared_is = shared-known before between grown c.args.shared.now c.requires.shared_is;
       own_is = own-known before between grown c.args.own c.requires.own_is;
-      stated_in = recursor-known before between grown stated c.requires.stated_in;
+      stated_in = recursor_in_stays before between grown stated c.requires.stated_in;
       levels_in = All-same (λ l. l < length between.levels) c.deref-2.result.now c.in-Ok.levels.items c.deref-2.ensures.value c.in-Ok.ensures.known;
       levels_are = ap (map (level_at between)) c.deref-2.ensures.value ∙ c.in-Ok.ensures.ok ∙ ap (λ ns. map param (map (name_at before) ns)) c.deref.ensures.value
-          ∙ ap (map param) (sym (names-steady before between grown stated.levels.items c.requires.stated_in.stated.levels_in));
+          ∙ ap (map param) (sym (names_stay before between grown stated.levels.items c.requires.stated_in.stated.levels_in));
     }
 
 pub returns-clause-outcome : goal.returns-clause-outcome

@@ -6,7 +6,8 @@ use Rattle.lk_block.proofs.Running.{halts_first, gives_on}
 use Rattle.lk_recursor.specs.Comparisons.{stated_of, own_of, same_form, renamed_type}
 use Rattle.lk_recursor.proofs.Compared.{comparison-known}
 use Rattle.lk_recursor.proofs.Checked.{rules-steady}
-use Rattle.lk_recursor.proofs.Leading.{gives_moved, same_then}
+use Rattle.lk_block.proofs.Moves.{gives_moved}
+use Rattle.lk_recursor.proofs.Leading.{same_then}
 use Rattle.lk_recursor.proofs.comparing.check_parts.Goals as goal
 
 pub check_rules-requires : goal.check_rules-requires

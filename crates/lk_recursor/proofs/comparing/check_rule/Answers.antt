@@ -8,7 +8,7 @@ use Rattle.lk_block.proofs.Running.{halts_first, gives_on}
 use Rattle.lk_recursor.specs.Comparisons.{same_form, renamed_value}
 use Rattle.lk_recursor.proofs.Compared.{comparison-known}
 use Rattle.lk_recursor.proofs.Checked.{renamed_value-steady}
-use Rattle.lk_recursor.proofs.Leading.{gives_moved}
+use Rattle.lk_block.proofs.Moves.{gives_moved}
 use Rattle.lk_recursor.proofs.comparing.check_rule.Goals as goal
 
 pub check_value-requires-clause-pair_is : goal.check_value-requires-clause-pair_is

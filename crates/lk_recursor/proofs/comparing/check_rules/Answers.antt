@@ -1,4 +1,4 @@
-use Rattle.std.proofs.Common.{◌<◌, length, map, ◌∙◌, arith}
+use Rattle.std.proofs.Common.{◌<◌, length, map, refl, ◌∙◌, arith}
 use Rattle.lk_table.specs.Declarations.{Yes, checked}
 use Rattle.lk_store.specs.Contents.{tree_at}
 use Rattle.lk_store.proofs.Extending.{Extends-trans}
@@ -8,10 +8,10 @@ use Rattle.lk_blocks.specs.Compare.{rules_steps}
 use Rattle.lk_block.specs.Shapes.{shape_at, constructor_shape_at, IsConstructorShapeIn}
 use Rattle.lk_block.proofs.Counted.{rest_have, first_has}
 use Rattle.lk_recursor.specs.Comparisons.{stated_of, own_of, renamed_value, rule_form}
-use Rattle.lk_recursor.proofs.Steady.{constructor-known}
+use Rattle.lk_block.proofs.Shaping.{constructor-known}
 use Rattle.lk_recursor.proofs.Compared.{comparison-known}
 use Rattle.lk_recursor.proofs.Checked.{rules_step, no_rule, no_minor, no_constructor}
-use Rattle.lk_recursor.proofs.Leading.{leads_next, leads_halt, leads_end}
+use Rattle.lk_block.proofs.Leading.{split_bind, leads_on, leads_stop, leads_end}
 use Rattle.lk_recursor.proofs.comparing.check_rules.Goals as goal
 
 pub returns-in-None-clause-outcome : goal.returns-in-None-clause-outcome
@@ -25,7 +25,7 @@ returns-in-None-clause-outcome g c =
     let shape = shape_at before pair.shared.shape.now in
     let all = rules_steps stated own stated.recursor.rules own.recursor.rules in
     let rest = rules_steps stated own (map (rule_at before) c.rules.rules.now) (rules_of as_they_are shape (map (tree_at before) c.rules.minors.now) (map (constructor_shape_at before) c.rules.constructors.now)) in
-    leads_end (g.A.Asks.table c.args.asks.now) (g.A.Asks.place c.args.asks.now) all rest (g.A.Asks.left c.args.asks.now) (g.A.Asks.left c.rules.asks) checked inv.leads
+    leads_end (g.A.Asks.table c.args.asks.now) (g.A.Asks.place c.args.asks.now) all (g.A.Asks.left c.args.asks.now) rest (g.A.Asks.left c.rules.asks) checked inv.leads
     (no_minor before stated own shape c.rules.rules.now c.rules.minors.now c.rules.constructors.now c.in-None.ensures.cases)
 
 pub returns-in-None-split_first-clause-outcome : goal.returns-in-None-split_first-clause-outcome
@@ -39,7 +39,7 @@ returns-in-None-split_first-clause-outcome g c =
     let shape = shape_at before pair.shared.shape.now in
     let all = rules_steps stated own stated.recursor.rules own.recursor.rules in
     let rest = rules_steps stated own (map (rule_at before) c.rules.rules.now) (rules_of as_they_are shape (map (tree_at before) c.rules.minors.now) (map (constructor_shape_at before) c.rules.constructors.now)) in
-    leads_end (g.A.Asks.table c.args.asks.now) (g.A.Asks.place c.args.asks.now) all rest (g.A.Asks.left c.args.asks.now) (g.A.Asks.left c.rules.asks) checked inv.leads
+    leads_end (g.A.Asks.table c.args.asks.now) (g.A.Asks.place c.args.asks.now) all (g.A.Asks.left c.args.asks.now) rest (g.A.Asks.left c.rules.asks) checked inv.leads
     (no_constructor before stated own shape c.rules.rules.now c.rules.minors.now c.rules.constructors.now c.in-None-split_first.ensures.cases)
 
 pub returns-clause-outcome : goal.returns-clause-outcome
@@ -53,7 +53,7 @@ returns-clause-outcome g c =
     let shape = shape_at before pair.shared.shape.now in
     let all = rules_steps stated own stated.recursor.rules own.recursor.rules in
     let rest = rules_steps stated own (map (rule_at before) c.rules.rules.now) (rules_of as_they_are shape (map (tree_at before) c.rules.minors.now) (map (constructor_shape_at before) c.rules.constructors.now)) in
-    leads_end (g.A.Asks.table c.args.asks.now) (g.A.Asks.place c.args.asks.now) all rest (g.A.Asks.left c.args.asks.now) (g.A.Asks.left c.rules.asks) checked inv.leads
+    leads_end (g.A.Asks.table c.args.asks.now) (g.A.Asks.place c.args.asks.now) all (g.A.Asks.left c.args.asks.now) rest (g.A.Asks.left c.rules.asks) checked inv.leads
     (no_rule before stated own shape c.rules.rules.now c.rules.minors.now c.rules.constructors.now c.in_default.ensures.cases)
 
 pub check_rule-requires-clause-pair_is : goal.check_rule-requires-clause-pair_is
@@ -108,8 +108,8 @@ returns-in-Err-clause-outcome g c =
     let step = rules_step before now inv.keeps pair c.requires c.rules.rules.now c.in-Some.more_rules.now c.in-Some.rule.now c.rules.minors.now c.in-Some-split_first.more_minors.now c.in-Some-split_first.minor.now
     c.rules.constructors.now c.in-Some-split_first-2.others.now c.in-Some-split_first-2.constructor.now c.in-Some.ensures.cases.0 c.in-Some-split_first.ensures.cases.0 c.in-Some-split_first-2.ensures.cases.0 rule_in.value_in minor_in constructor_in in
     let form = rule_form (tree_at now c.in-Some.rule.now.value) (renamed_value now pair c.in-Some-split_first.minor.now c.in-Some-split_first-2.constructor.now) in
-    leads_halt (g.A.Asks.table c.args.asks.now) (g.A.Asks.table c.rules.asks) (g.A.Asks.place c.args.asks.now) (g.A.Asks.place c.rules.asks) inv.same_table inv.same_place
-    all rest (g.A.Asks.left c.args.asks.now) (g.A.Asks.left c.rules.asks) inv.leads form (λ (u : Yes). more) step c.in-Err.stop c.in-Err.ensures.outcome
+    leads_stop (g.A.Asks.table c.args.asks.now) (g.A.Asks.table c.rules.asks) (g.A.Asks.place c.args.asks.now) (g.A.Asks.place c.rules.asks) inv.same_table inv.same_place
+    all (g.A.Asks.left c.args.asks.now) rest (g.A.Asks.left c.rules.asks) inv.leads form (λ (u : Yes). more) (split_bind rest form (λ (u : Yes). more) step) c.in-Err.stop c.in-Err.ensures.outcome
 
 pub rules-preserved : goal.rules-preserved
 rules-preserved g c =
@@ -137,6 +137,6 @@ rules-preserved g c =
       rules_in = rest_have (IsRuleIn before) c.rules.rules.now c.in-Some.rule.now c.in-Some.more_rules.now c.in-Some.ensures.cases.0 inv.rules_in;
       minors_in = rest_have (λ m. m < length before.trees) c.rules.minors.now c.in-Some-split_first.minor.now c.in-Some-split_first.more_minors.now c.in-Some-split_first.ensures.cases.0 inv.minors_in;
       constructors_in = rest_have (IsConstructorShapeIn before) c.rules.constructors.now c.in-Some-split_first-2.constructor.now c.in-Some-split_first-2.others.now c.in-Some-split_first-2.ensures.cases.0 inv.constructors_in;
-      leads = leads_next (g.A.Asks.table c.args.asks.now) (g.A.Asks.table c.rules.asks) (g.A.Asks.place c.args.asks.now) (g.A.Asks.place c.rules.asks) inv.same_table inv.same_place
-          all rest (g.A.Asks.left c.args.asks.now) (g.A.Asks.left c.rules.asks) inv.leads form (λ (u : Yes). more) step checked (g.A.Asks.left c.check_rule.new.asks) c.in-Ok.ensures.outcome;
+      leads = leads_on (g.A.Asks.table c.args.asks.now) (g.A.Asks.table c.rules.asks) (g.A.Asks.place c.args.asks.now) (g.A.Asks.place c.rules.asks) inv.same_table inv.same_place
+          all (g.A.Asks.left c.args.asks.now) rest (g.A.Asks.left c.rules.asks) inv.leads form (λ (u : Yes). more) (split_bind rest form (λ (u : Yes). more) step) checked (g.A.Asks.left c.check_rule.new.asks) more c.in-Ok.ensures.outcome refl;
     }

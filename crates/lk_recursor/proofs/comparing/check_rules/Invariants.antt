@@ -5,7 +5,7 @@ use Rattle.lk_blocks.specs.Recursors.{rules_of, as_they_are}
 use Rattle.lk_blocks.specs.Compare.{rules_steps}
 use Rattle.lk_block.specs.Shapes.{shape_at, constructor_shape_at, IsConstructorShapeIn}
 use Rattle.lk_recursor.specs.Comparisons.{stated_of, own_of}
-use Rattle.lk_recursor.proofs.Leading.{Leads}
+use Rattle.lk_block.proofs.Leading.{Leads}
 use Rattle.lk_recursor.proofs.comparing.check_rules.Given as goal
 
 abbrev pub invariant-rules : goal.invariant-rules

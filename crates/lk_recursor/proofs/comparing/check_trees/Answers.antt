@@ -7,7 +7,7 @@ use Rattle.lk_block.proofs.Running.{halts_first, gives_on}
 use Rattle.lk_recursor.specs.Comparisons.{stated_of, own_of, parts_form}
 use Rattle.lk_recursor.proofs.Compared.{comparison-known}
 use Rattle.lk_recursor.proofs.Checked.{parts-steady}
-use Rattle.lk_recursor.proofs.Leading.{gives_moved}
+use Rattle.lk_block.proofs.Moves.{gives_moved}
 use Rattle.lk_recursor.proofs.comparing.check_trees.Goals as goal
 
 pub check_parts-requires : goal.check_parts-requires

@@ -2,7 +2,7 @@ use Rattle.std.proofs.Common.{ap, ◌∙◌}
 use Rattle.lk_table.specs.Declarations.{checked}
 use Rattle.lk_store.specs.Contents.{tree_at}
 use Rattle.lk_recursor.specs.Comparisons.{same_form, renamed_value}
-use Rattle.lk_recursor.proofs.Leading.{gives_moved}
+use Rattle.lk_block.proofs.Moves.{gives_moved}
 use Rattle.lk_recursor.proofs.comparing.check_value.Goals as goal
 
 pub returns-in-Ok-clause-outcome : goal.returns-in-Ok-clause-outcome

@@ -5,7 +5,7 @@ use Rattle.lk_blocks.specs.Recursors.{recursors}
 use Rattle.lk_blocks.specs.Compare.{compare_steps}
 use Rattle.lk_block.specs.Shapes.{shape_at}
 use Rattle.lk_recursor.proofs.Checked.{compare-steady}
-use Rattle.lk_recursor.proofs.Leading.{gives_moved}
+use Rattle.lk_block.proofs.Moves.{gives_moved}
 use Rattle.lk_recursor.proofs.comparing.compare.Goals as goal
 
 pub returns-in-Ok-clause-outcome : goal.returns-in-Ok-clause-outcome

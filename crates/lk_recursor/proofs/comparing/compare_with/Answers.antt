@@ -7,9 +7,10 @@ use Rattle.lk_blocks.specs.Recursors.{recursors}
 use Rattle.lk_blocks.specs.Compare.{compare_steps}
 use Rattle.lk_block.specs.Shapes.{shape_at}
 use Rattle.lk_recursor.specs.Comparisons.{AreNames}
-use Rattle.lk_recursor.proofs.Steady.{shape-known, front-steady}
+use Rattle.lk_block.proofs.Shaping.{shape-known}
+use Rattle.lk_recursor.proofs.Steady.{front-steady}
 use Rattle.lk_recursor.proofs.Checked.{compare-steady}
-use Rattle.lk_recursor.proofs.Leading.{gives_moved}
+use Rattle.lk_block.proofs.Moves.{gives_moved}
 use Rattle.lk_recursor.proofs.comparing.compare_with.Goals as goal
 
 pub check_all-requires-clause-shared_is : goal.check_all-requires-clause-shared_is

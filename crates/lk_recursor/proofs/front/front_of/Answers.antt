@@ -8,21 +8,23 @@ use Rattle.lk_blocks.specs.Block as plain
 use Rattle.lk_blocks.specs.Recursors.{minors, rec_params, shape_bound}
 use Rattle.lk_block.specs.Shapes.{shape_at, type_shape_at}
 use Rattle.lk_recursor.proofs.Fronts.{front_made}
-use Rattle.lk_recursor.proofs.Steady.{list-steady, names-steady, names-known, shape-steady, shape-known, heads-steady}
+use Rattle.lk_block.proofs.Stays.{names_stay, names_in_stay}
+use Rattle.lk_block.proofs.Shaping.{shape-steady, shape-known}
+use Rattle.lk_recursor.proofs.Steady.{list-steady, heads-steady}
 use Rattle.lk_recursor.proofs.front.front_of.Goals as goal
 
 pub heads_of-requires-clause-first_is : goal.heads_of-requires-clause-first_is
 heads_of-requires-clause-first_is g c =
     let before = g.T.Terms.contents c.args.terms.now in
     let first = g.T.Terms.contents c.level_names.new.terms in
-    let second = g.T.Terms.contents c.parameters_of.new.terms in
+    let second = g.T.Terms.contents c.parameter_levels.new.terms in
     c.in_ok-first.ensures ∙ ap shape_bound (sym (shape-steady before second (Extends-trans before first second c.in_ok-names.ensures.keeps c.in_ok-levels.ensures.keeps) c.args.shape.now c.requires))
 
 pub minors_of-requires-clause-first_is : goal.minors_of-requires-clause-first_is
 minors_of-requires-clause-first_is g c =
     let before = g.T.Terms.contents c.args.terms.now in
     let first = g.T.Terms.contents c.level_names.new.terms in
-    let second = g.T.Terms.contents c.parameters_of.new.terms in
+    let second = g.T.Terms.contents c.parameter_levels.new.terms in
     let third = g.T.Terms.contents c.heads_of.new.terms in
     let s = c.args.shape.now in
     let grown = Extends-trans before second third (Extends-trans before first second c.in_ok-names.ensures.keeps c.in_ok-levels.ensures.keeps) c.in_ok-heads.ensures.keeps in
@@ -38,7 +40,7 @@ pub returns-clause-ok : goal.returns-clause-ok
 returns-clause-ok g c =
     let before = g.T.Terms.contents c.args.terms.now in
     let first = g.T.Terms.contents c.level_names.new.terms in
-    let second = g.T.Terms.contents c.parameters_of.new.terms in
+    let second = g.T.Terms.contents c.parameter_levels.new.terms in
     let third = g.T.Terms.contents c.heads_of.new.terms in
     let after = g.T.Terms.contents c.minors_of.new.terms in
     let s = c.args.shape.now in
@@ -64,8 +66,8 @@ returns-clause-ok g c =
     front_made after s p (shape-steady before after (Extends-trans before third after to_third last.keeps) s c.requires)
     (record { heads = c.in_ok-heads.heads; names = ns; levels = ls; minors = ms; major = c.in_ok-major.major })
     (heads-steady third after last.keeps s c.in_ok-heads.heads (shape-known before third to_third s c.requires) heads.ok)
-    (names-known first after from_first ns.items names.known)
-    (names-steady first after from_first ns.items names.known ∙ names.ok)
+    (names_in_stay first after from_first ns.items names.known)
+    (names_stay first after from_first ns.items names.known ∙ names.ok)
     (list-steady second after from_second ls (map param (rec_params p))
     (subst (λ xs. IsList second ls (map param xs)) (ap (map (name_at first)) c.deref.ensures.value ∙ names.ok) levels.ok))
     minors_are (omega arith)

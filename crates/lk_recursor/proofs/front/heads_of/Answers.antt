@@ -7,13 +7,14 @@ use Rattle.lk_blocks.specs.Block as plain
 use Rattle.lk_blocks.specs.Recursors.{motives, shape_bound}
 use Rattle.lk_block.specs.Shapes.{shape_at}
 use Rattle.lk_recursor.proofs.Fronts.{heads_made}
-use Rattle.lk_recursor.proofs.Steady.{list-steady, shape-steady}
+use Rattle.lk_block.proofs.Shaping.{shape-steady}
+use Rattle.lk_recursor.proofs.Steady.{list-steady}
 use Rattle.lk_recursor.proofs.front.heads_of.Goals as goal
 
 pub motives_of-requires-clause-levels_are : goal.motives_of-requires-clause-levels_are
 motives_of-requires-clause-levels_are g c =
     let before = g.T.Terms.contents c.args.terms.now in
-    let first = g.T.Terms.contents c.parameters_of.new.terms in
+    let first = g.T.Terms.contents c.parameter_levels.new.terms in
     let second = g.T.Terms.contents c.elimination_level.new.terms in
     let s = c.args.shape.now in
     let own = c.in_ok-own_levels.own_levels in
@@ -25,14 +26,14 @@ motives_of-requires-clause-levels_are g c =
 pub motives_of-requires-clause-first_is : goal.motives_of-requires-clause-first_is
 motives_of-requires-clause-first_is g c =
     let before = g.T.Terms.contents c.args.terms.now in
-    let first = g.T.Terms.contents c.parameters_of.new.terms in
+    let first = g.T.Terms.contents c.parameter_levels.new.terms in
     let second = g.T.Terms.contents c.elimination_level.new.terms in
     c.requires.first_is ∙ ap shape_bound (sym (shape-steady before second (Extends-trans before first second c.in_ok-own_levels.ensures.keeps c.in_ok-level.ensures.keeps) c.args.shape.now c.requires.shape_in))
 
 pub returns-clause-ok : goal.returns-clause-ok
 returns-clause-ok g c =
     let before = g.T.Terms.contents c.args.terms.now in
-    let first = g.T.Terms.contents c.parameters_of.new.terms in
+    let first = g.T.Terms.contents c.parameter_levels.new.terms in
     let second = g.T.Terms.contents c.elimination_level.new.terms in
     let after = g.T.Terms.contents c.motives_of.new.terms in
     let s = c.args.shape.now in

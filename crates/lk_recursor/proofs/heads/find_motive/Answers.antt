@@ -18,7 +18,7 @@ types-preserved g c =
       types_in = All-rest (IsTypeShapeIn d) x c.in-Some.more_types.now c.types.types_left.now split c.types.invariant.types_in;
       motives_in = All-rest (λ e. e < length d.trees) m c.in-Some-split_first.more_motives.now c.types.motives_left.now split_motives c.types.invariant.motives_in;
       same =
-          sym (motive_passed (map (type_shape_at d) c.in-Some.more_types.now) (type_shape_at d x) (map (tree_at d) c.in-Some-split_first.more_motives.now) (tree_at d m) T c.is_name.result c.is_name.ensures c.if-is_name.false)
+          sym (motive_passed (map (type_shape_at d) c.in-Some.more_types.now) (type_shape_at d x) (map (tree_at d) c.in-Some-split_first.more_motives.now) (tree_at d m) T c.names_equal.result c.names_equal.ensures c.if-names_equal.false)
           ∙ sym (ap (λ ys. motive_in (map (type_shape_at d) ys) (map (tree_at d) c.types.motives_left.now) T) split ∙ ap (λ ys. motive_in (type_shape_at d x ∷ map (type_shape_at d) c.in-Some.more_types.now) (map (tree_at d) ys) T) split_motives)
           ∙ c.types.invariant.same;
     }

@@ -6,8 +6,10 @@ use Rattle.lk_store.proofs.Extending.{Extends-trans}
 use Rattle.lk_blocks.specs.Block as plain
 use Rattle.lk_blocks.specs.Recursors.{motive_type}
 use Rattle.lk_block.specs.Shapes.{type_shape_at, shape_at, IsTypeShapeIn}
-use Rattle.lk_recursor.proofs.Lists.{first_has, pushed_more, pushed_known}
-use Rattle.lk_recursor.proofs.Steady.{levels-steady, type-steady, type-known, shape-steady}
+use Rattle.lk_block.proofs.Counted.{first_has}
+use Rattle.lk_recursor.proofs.Lists.{pushed_more, pushed_known}
+use Rattle.lk_block.proofs.Shaping.{type-steady, type-known, shape-steady}
+use Rattle.lk_recursor.proofs.Steady.{levels-steady}
 use Rattle.lk_recursor.proofs.heads.types_of_motives.Goals as goal
 
 pub type_of_motive-requires-clause-levels_are : goal.type_of_motive-requires-clause-levels_are

@@ -15,17 +15,14 @@ returns-in_ok-push-in-Recursive-clause-ok g c =
     let p = shape_at before c.args.shape.now in
     let f = c.args.field.now in
     let x = tree_at before f.variable in
-    let ys = map (tree_at before) c.in-Recursive.arguments.items in
-    let is = map (tree_at before) c.in-Recursive.indices.items in
-    let T = name_at before c.in-Recursive.name in
+    let ys = map (tree_at before) c.in-Recursive.recursion.arguments.items in
+    let is = map (tree_at before) c.in-Recursive.recursion.indices.items in
+    let T = name_at before c.in-Recursive.recursion.name in
     let old = c.args.found.now.items in
     let made = c.in_ok-made-in-Recursive.ensures in
     let r = c.in_ok-made-in-Recursive.made in
     let pushed : c.push.new.self.items ≡ old ++ r ∷ [] = search rules in
-    let r_is : tree_at after r ≡ hypothesis p x ys T is =
-    made.ok.is
-    ∙ ap (λ ts. hypothesis p x (map (tree_at before) ts) T (map (tree_at before) c.deref-in-Recursive.result.now)) c.deref.ensures.value
-    ∙ ap (λ ts. hypothesis p x ys T (map (tree_at before) ts)) c.deref-in-Recursive.ensures.value in
+    let r_is : tree_at after r ≡ hypothesis p x ys T is = made.ok.is in
     ap (map (tree_at after)) pushed
     ∙ map-append (tree_at after) old (r ∷ [])
     ∙ ap (λ ts. ts ++ tree_at after r ∷ []) (trees-steady before after old made.keeps c.requires.found_in)

@@ -18,5 +18,5 @@ types-preserved g c =
       types_in = rest_have (IsTypeShapeIn s) c.types.types.now c.in-Some.of.now c.in-Some.more_types.now types_split inv.types_in;
       minors_in = All-same (λ x. x < length s.trees) c.past_minors-minors.result.now (drop (length c.in-Some.of.now.constructors.items) c.types.minors.now) after (All-drop (λ x. x < length s.trees) (length c.in-Some.of.now.constructors.items) c.types.minors.now inv.minors_in);
       same = λ p. inv.same p ∙ named_next s p (name_at s c.args.name) c.types.names.now c.in-Some-split_first.more_names.now c.types.types.now c.in-Some.more_types.now c.types.minors.now c.in-Some-split_first.own.now c.in-Some.of.now names_split types_split inv.names_are
-          c.past_minors-minors.result.now after (sym c.is_name.ensures ∙ c.if-is_name.false);
+          c.past_minors-minors.result.now after (sym c.names_equal.ensures ∙ c.if-names_equal.false);
     }

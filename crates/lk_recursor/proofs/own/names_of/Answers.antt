@@ -4,7 +4,7 @@ use Rattle.lk_blocks.specs.Recursors.{rec_name}
 use Rattle.lk_store.proofs.Extending.{Extends-trans}
 use Rattle.lk_block.specs.Shapes.{IsTypeShapeIn}
 use Rattle.lk_block.proofs.Counted.{rest_have, first_has}
-use Rattle.lk_recursor.proofs.Steady.{names-known}
+use Rattle.lk_block.proofs.Stays.{names_in_stay}
 use Rattle.lk_recursor.proofs.Compared.{own_names_more, own_names_end}
 use Rattle.lk_recursor.proofs.own.names_of.Goals as goal
 
@@ -23,7 +23,7 @@ types-preserved g c =
       same_rest = made.rest ∙ inv.same_rest;
       rest_in = rest_have (IsTypeShapeIn before) c.types.rest.now c.in-Some.of.now c.in-Some.more.now split inv.rest_in;
       names_in = All-same (λ n. n < length after.names) c.push.new.self.items (c.types.names.items ++ c.in_ok-name.name ∷ []) pushed
-          (All-push (λ n. n < length after.names) c.types.names.items c.in_ok-name.name (names-known now after made.keeps c.types.names.items inv.names_in) made.ok.known);
+          (All-push (λ n. n < length after.names) c.types.names.items c.in_ok-name.name (names_in_stay now after made.keeps c.types.names.items inv.names_in) made.ok.known);
       so_far = own_names_more before now after c.types.names.items c.push.new.self.items c.in_ok-name.name c.types.rest.now c.in-Some.more.now c.in-Some.of.now made.keeps inv.names_in pushed split
           (made.ok.is ∙ ap rec_name (inv.keeps.names.same c.in-Some.of.now.name known.name_in)) ∙ inv.so_far;
     }

@@ -7,7 +7,8 @@ use Rattle.lk_block.specs.Shapes.{shape_at, type_shape_at}
 use Rattle.lk_recursor.specs.declared.binders.Binder.TheVariants.{Pi}
 use Rattle.lk_recursor.specs.Hypotheses.{major_end}
 use Rattle.lk_recursor.proofs.Fronts.{bound_then}
-use Rattle.lk_recursor.proofs.Steady.{front-steady, shape-steady}
+use Rattle.lk_block.proofs.Shaping.{shape-steady}
+use Rattle.lk_recursor.proofs.Steady.{front-steady}
 use Rattle.lk_recursor.proofs.recursor.recursor_type.Goals as goal
 
 pub over_front-requires-clause-front_is : goal.over_front-requires-clause-front_is

@@ -8,7 +8,8 @@ use Rattle.lk_blocks.specs.Block as plain
 use Rattle.lk_blocks.specs.Recursors.{lams}
 use Rattle.lk_block.specs.Shapes.{shape_at}
 use Rattle.lk_recursor.specs.Hypotheses.{recursor_at}
-use Rattle.lk_recursor.proofs.Steady.{front-steady, shape-steady}
+use Rattle.lk_block.proofs.Shaping.{shape-steady}
+use Rattle.lk_recursor.proofs.Steady.{front-steady}
 use Rattle.lk_recursor.proofs.rules.induction_of.Goals as goal
 
 pub recursor_applied-requires-clause-front_is : goal.recursor_applied-requires-clause-front_is
@@ -24,16 +25,17 @@ returns-clause-ok g c =
     let subject = c.in_ok-subject.ensures in
     let body = c.in_ok-body.ensures in
     let made = c.in_ok-made.ensures.ok in
-    let ys = map (tree_at before) c.args.arguments.now in
-    let is = map (tree_at before) c.args.indices.now in
-    let T = name_at before c.args.name in
+    let ys = map (tree_at before) c.args.recursion.now.arguments.items in
+    let is = map (tree_at before) c.args.recursion.now.indices.items in
+    let T = name_at before c.args.recursion.now.name in
     let x = apply (tree_at before c.args.variable) ys in
-    let indices_same = trees-steady before first c.args.indices.now subject.keeps c.requires.indices_in in
-    let arguments_same = trees-steady before second c.args.arguments.now (Extends-trans before first second subject.keeps body.keeps) c.requires.arguments_in in
+    let indices_same = trees-steady before first c.args.recursion.now.indices.items subject.keeps c.requires.recursion_in.indices_in in
+    let arguments_same = trees-steady before second c.args.recursion.now.arguments.items (Extends-trans before first second subject.keeps body.keeps) c.requires.recursion_in.arguments_in in
     let body_is : tree_at second c.in_ok-body.body ≡ app (apply (recursor_at p T) is) x =
     body.ok.is
-    ∙ ap (λ (q : plain.Shape). app (apply (recursor_at q (name_at first c.args.name)) (map (tree_at first) c.args.indices.now)) (tree_at first c.in_ok-subject.subject)) (shape-steady before first subject.keeps c.args.shape.now c.requires.shape_in)
-    ∙ ap (λ (n : Name). app (apply (recursor_at p n) (map (tree_at first) c.args.indices.now)) (tree_at first c.in_ok-subject.subject)) (subject.keeps.names.same c.args.name c.requires.name_in)
+    ∙ ap (λ ts. app (apply (recursor_at (shape_at first c.args.shape.now) (name_at first c.args.recursion.now.name)) (map (tree_at first) ts)) (tree_at first c.in_ok-subject.subject)) c.deref-2.ensures.value
+    ∙ ap (λ (q : plain.Shape). app (apply (recursor_at q (name_at first c.args.recursion.now.name)) (map (tree_at first) c.args.recursion.now.indices.items)) (tree_at first c.in_ok-subject.subject)) (shape-steady before first subject.keeps c.args.shape.now c.requires.shape_in)
+    ∙ ap (λ (n : Name). app (apply (recursor_at p n) (map (tree_at first) c.args.recursion.now.indices.items)) (tree_at first c.in_ok-subject.subject)) (subject.keeps.names.same c.args.recursion.now.name c.requires.recursion_in.name_in)
     ∙ ap (λ ts. app (apply (recursor_at p T) ts) (tree_at first c.in_ok-subject.subject)) indices_same
-    ∙ ap (app (apply (recursor_at p T) is)) subject.ok.is in
-    record { known = made.known; is = made.is ∙ ap (λ ts. lams ts (tree_at second c.in_ok-body.body)) arguments_same ∙ ap (lams ys) body_is }
+    ∙ ap (app (apply (recursor_at p T) is)) (subject.ok.is ∙ ap (λ ts. apply (tree_at before c.args.variable) (map (tree_at before) ts)) c.deref.ensures.value) in
+    record { known = made.known; is = made.is ∙ ap (λ ts. lams (map (tree_at second) ts) (tree_at second c.in_ok-body.body)) c.deref-3.ensures.value ∙ ap (λ ts. lams ts (tree_at second c.in_ok-body.body)) arguments_same ∙ ap (lams ys) body_is }

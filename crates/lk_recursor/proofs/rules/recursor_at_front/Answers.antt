@@ -6,7 +6,8 @@ use Rattle.lk_store.proofs.Extending.{Extends-trans}
 use Rattle.lk_blocks.specs.Block as plain
 use Rattle.lk_blocks.specs.Recursors.{front, rec_name, rec_params}
 use Rattle.lk_block.specs.Shapes.{shape_at}
-use Rattle.lk_recursor.proofs.Steady.{front-steady, shape-steady}
+use Rattle.lk_block.proofs.Shaping.{shape-steady}
+use Rattle.lk_recursor.proofs.Steady.{front-steady}
 use Rattle.lk_recursor.proofs.rules.recursor_at_front.Goals as goal
 
 pub at_front-requires-clause-front_is : goal.at_front-requires-clause-front_is

@@ -10,7 +10,8 @@ use Rattle.lk_recursor.specs.declared.binders.Binder.TheVariants.{Lam}
 use Rattle.lk_recursor.specs.Hypotheses.{rule_end}
 use Rattle.lk_recursor.proofs.FieldLists.{variables_at, variables_in}
 use Rattle.lk_recursor.proofs.Fronts.{bound_then}
-use Rattle.lk_recursor.proofs.Steady.{front-steady, shape-steady}
+use Rattle.lk_block.proofs.Shaping.{shape-steady}
+use Rattle.lk_recursor.proofs.Steady.{front-steady}
 use Rattle.lk_recursor.proofs.rules.rule_value.Goals as goal
 
 pub minor_applied-requires-clause-variables_in : goal.minor_applied-requires-clause-variables_in

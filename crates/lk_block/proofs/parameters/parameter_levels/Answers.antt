@@ -3,7 +3,7 @@ use Rattle.lk_tree.specs.Tree.{Name, param}
 use Rattle.lk_store.specs.Contents.{name_at, list_at}
 use Rattle.lk_store.proofs.Extending.{Extends-trans}
 use Rattle.lk_block.proofs.FromTheEnd.{all_last, all_others, parameters_next}
-use Rattle.lk_block.proofs.parameters.parameters_of.Goals as goal
+use Rattle.lk_block.proofs.parameters.parameter_levels.Goals as goal
 
 pub names-preserved : goal.names-preserved
 names-preserved g c =

@@ -13,7 +13,7 @@ use Rattle.lk_block.specs.Wholes.{block_of}
 use Rattle.lk_block.specs.Sorts.{sorts_form}
 use Rattle.leancheck.proofs.PartsStay.{parts_stay, parts_in_stay}
 use Rattle.leancheck.proofs.Staging.{stage_stop, stage_on, moved_five, levels_forgotten}
-use Rattle.leancheck.proofs.blocks.check_members.Goals as goal
+use Rattle.leancheck.proofs.blocks.check_from_sorts.Goals as goal
 
 pub check_sorts-requires : goal.check_sorts-requires
 check_sorts-requires g c = subst (All (IsTypeIn (g.A.Terms.contents c.args.asks.now))) (sym c.deref.ensures.value) c.requires.types_in
@@ -30,14 +30,14 @@ returns-in-Err-clause-outcome g c fuel enough =
     (ap (λ ts. sorts_form (map (type_at at) ts)) c.deref.ensures.value) refl
     (λ y rest. flat_stage t places fuel (block_at at c.args.block.now) (map (recursor_at at) c.args.block.now.recursors.items) (parts_at at c.args.parts) rest) c.in-Err.stop c.in-Err.ensures.outcome)
 
-pub check_flat_block-requires-clause-types_in : goal.check_flat_block-requires-clause-types_in
-check_flat_block-requires-clause-types_in g c = types_in_stay _ _ c.in-Ok.ensures.keeps c.args.block.now.types.items c.requires.types_in
+pub check_from_occurrences-requires-clause-types_in : goal.check_from_occurrences-requires-clause-types_in
+check_from_occurrences-requires-clause-types_in g c = types_in_stay _ _ c.in-Ok.ensures.keeps c.args.block.now.types.items c.requires.types_in
 
-pub check_flat_block-requires-clause-stated_in : goal.check_flat_block-requires-clause-stated_in
-check_flat_block-requires-clause-stated_in g c = recursors_in_stay _ _ c.in-Ok.ensures.keeps c.args.block.now.recursors.items c.requires.stated_in
+pub check_from_occurrences-requires-clause-stated_in : goal.check_from_occurrences-requires-clause-stated_in
+check_from_occurrences-requires-clause-stated_in g c = recursors_in_stay _ _ c.in-Ok.ensures.keeps c.args.block.now.recursors.items c.requires.stated_in
 
-pub check_flat_block-requires-clause-parts_in : goal.check_flat_block-requires-clause-parts_in
-check_flat_block-requires-clause-parts_in g c = parts_in_stay _ _ c.in-Ok.ensures.keeps c.args.parts c.requires.parts_in
+pub check_from_occurrences-requires-clause-parts_in : goal.check_from_occurrences-requires-clause-parts_in
+check_from_occurrences-requires-clause-parts_in g c = parts_in_stay _ _ c.in-Ok.ensures.keeps c.args.parts c.requires.parts_in
 
 pub returns-in-Ok-clause-outcome : goal.returns-in-Ok-clause-outcome
 returns-in-Ok-clause-outcome g c fuel enough =
@@ -51,11 +51,11 @@ returns-in-Ok-clause-outcome g c fuel enough =
     let goes = subst (λ p. Goes t (g.A.Asks.place c.args.asks.now) p (g.A.Asks.left c.args.asks.now) checked left) same c.in-Ok.ensures.outcome in
     let less = goes_within t (g.A.Asks.place c.args.asks.now) form (g.A.Asks.left c.args.asks.now) checked left goes in
     levels_forgotten t places Types (map (type_at at) c.args.block.now.types.items) (g.A.Asks.left c.args.asks.now)
-    (λ rest. flat_stage t places fuel (block_at at c.args.block.now) (map (recursor_at at) c.args.block.now.recursors.items) (parts_at at c.args.parts) rest) c.check_flat_block.result
+    (λ rest. flat_stage t places fuel (block_at at c.args.block.now) (map (recursor_at at) c.args.block.now.recursors.items) (parts_at at c.args.parts) rest) c.check_from_occurrences.result
     (stage_on t t places Types (g.A.Asks.place c.args.asks.now) form form _ _ refl c.requires.place refl refl
-    (λ y rest. flat_stage t places fuel (block_at at c.args.block.now) (map (recursor_at at) c.args.block.now.recursors.items) (parts_at at c.args.parts) rest) checked left c.check_flat_block.result goes
-    (moved_five (λ u ps b rs q. IsChecked (flat_stage u ps fuel b rs q left) c.check_flat_block.result) c.in-Ok.ensures.table (ap (g.A.Asks.places) c.in-Ok.ensures.basis)
+    (λ y rest. flat_stage t places fuel (block_at at c.args.block.now) (map (recursor_at at) c.args.block.now.recursors.items) (parts_at at c.args.parts) rest) checked left c.check_from_occurrences.result goes
+    (moved_five (λ u ps b rs q. IsChecked (flat_stage u ps fuel b rs q left) c.check_from_occurrences.result) c.in-Ok.ensures.table (ap (g.A.Asks.places) c.in-Ok.ensures.basis)
     (ap block_of (types_stay at grown c.in-Ok.ensures.keeps c.args.block.now.types.items c.requires.types_in))
     (recursors_stay at grown c.in-Ok.ensures.keeps c.args.block.now.recursors.items c.requires.stated_in)
     (parts_stay at grown c.in-Ok.ensures.keeps c.args.parts c.requires.parts_in)
-    (c.check_flat_block.ensures.outcome fuel (omega arith))))
+    (c.check_from_occurrences.ensures.outcome fuel (omega arith))))

@@ -13,7 +13,7 @@ use Rattle.leancheck.proofs.Staging.{stage_stop, stage_on, moved_thrice}
 use Rattle.lk_block.proofs.Stays.{recursors_stay, recursors_in_stay}
 use Rattle.lk_block.specs.Settling.{IsChecked}
 use Rattle.std.specs.Prelude.{All}
-use Rattle.leancheck.proofs.blocks.check_constructors.Goals as goal
+use Rattle.leancheck.proofs.blocks.check_from_shape.Goals as goal
 
 pub returns-in-Err-clause-outcome : goal.returns-in-Err-clause-outcome
 returns-in-Err-clause-outcome g c fuel enough =

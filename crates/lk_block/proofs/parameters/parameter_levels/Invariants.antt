@@ -1,7 +1,7 @@
 use Rattle.std.proofs.Common.{◌≡◌, ◌<◌, ◌++◌, length, map, All}
 use Rattle.lk_tree.specs.Tree.{param}
 use Rattle.lk_store.specs.Contents.{name_at, list_at, Extends}
-use Rattle.lk_block.proofs.parameters.parameters_of.Given as goal
+use Rattle.lk_block.proofs.parameters.parameter_levels.Given as goal
 
 abbrev pub invariant-names : goal.invariant-names
 invariant-names g l =

@@ -1,0 +1,27 @@
+use Rattle.std.proofs.Common.{◌<◌, ◌≡◌, ℕ, Result, map, All, refl, ap, sym, subst, ◌∙◌}
+use Rattle.lk_store.specs.Contents.{Contents}
+use Rattle.lk_env.specs.Units.{block_at, recursor_at, IsTypeIn, IsRecursorIn}
+use Rattle.lk_env.specs.declared.entry.Partial.TheVariants.{Types}
+use Rattle.lk_block.specs.Parts.{parts_at, ArePartsIn}
+use Rattle.lk_block.specs.Settling.{IsChecked}
+use Rattle.lk_block.specs.Stages.{sorts_stage}
+use Rattle.leancheck.proofs.Staging.{moved_four}
+use Rattle.leancheck.proofs.blocks.give_types.Goals as goal
+
+pub check_from_sorts-requires-clause-types_in : goal.check_from_sorts-requires-clause-types_in
+check_from_sorts-requires-clause-types_in g c = subst (λ (d : Contents). All (IsTypeIn d) c.args.block.now.types.items) (sym c.give.ensures.contents) c.requires.types_in
+
+pub check_from_sorts-requires-clause-stated_in : goal.check_from_sorts-requires-clause-stated_in
+check_from_sorts-requires-clause-stated_in g c = subst (λ (d : Contents). All (IsRecursorIn d) c.args.block.now.recursors.items) (sym c.give.ensures.contents) c.requires.stated_in
+
+pub check_from_sorts-requires-clause-parts_in : goal.check_from_sorts-requires-clause-parts_in
+check_from_sorts-requires-clause-parts_in g c = subst (λ (d : Contents). ArePartsIn d c.args.parts) (sym c.give.ensures.contents) c.requires.parts_in
+
+pub check_from_sorts-requires-clause-place : goal.check_from_sorts-requires-clause-place
+check_from_sorts-requires-clause-place g c = c.give.ensures.place ∙ ap (λ b. g.A.Asks.places b Types) (sym c.give.ensures.basis)
+
+pub returns-clause-outcome : goal.returns-clause-outcome
+returns-clause-outcome g c fuel enough =
+    moved_four (λ u ps (d : Contents) n. IsChecked (sorts_stage u ps fuel (block_at d c.args.block.now) (map (recursor_at d) c.args.block.now.recursors.items) (parts_at d c.args.parts) n) c.check_from_sorts.result)
+    c.give.ensures.table (ap (g.A.Asks.places) c.give.ensures.basis) c.give.ensures.contents c.give.ensures.left
+    (c.check_from_sorts.ensures.outcome fuel (subst (λ n. n < fuel) (sym c.give.ensures.left) enough))
