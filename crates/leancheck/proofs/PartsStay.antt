@@ -1,9 +1,9 @@
 -- What the checks of the types found out stands for what it stood for, once a store has grown.
-use Rattle.std.proofs.Common.{◌≡◌, ◌<◌, length, map, refl, arith}
-use Rattle.lk_store.specs.Contents.{Contents, tree_at, level_at, Extends}
+use Rattle.std.proofs.Common.{◌≡◌, refl, arith}
+use Rattle.lk_store.specs.Contents.{Contents, Extends}
 use Rattle.lk_subst.specs.Numbers.{trees-steady, trees-known}
 use Rattle.lk_block.specs.declared.types.TypeParts.{TypeParts}
-use Rattle.lk_block.specs.Parts.{lists_at, parts_at, ArePartsIn}
+use Rattle.lk_block.specs.Parts.{parts_at, ArePartsIn}
 use Rattle.lk_block.proofs.Firsts.{lists-steady, lists-known}
 
 pub parts_stay : (c d : Contents) → Extends c d → (p : TypeParts) → ArePartsIn c p → parts_at d p ≡ parts_at c p

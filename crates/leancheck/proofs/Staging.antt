@@ -1,5 +1,5 @@
 -- Stages of the check of a block, told by who answers at the time.
-use Rattle.std.proofs.Common.{◌≡◌, ℕ, Bool, true, false, List, Option, None, Ok, Err, Result, refl, subst}
+use Rattle.std.proofs.Common.{◌≡◌, ℕ, Bool, true, false, List, None, Ok, Err, Result, refl, subst}
 use Rattle.lk_rulebook.specs.Place.{Place, BlockType}
 use Rattle.lk_plain.specs.Program.{Program, Table, done}
 use Rattle.lk_plain.specs.Erased.{Out, out_of}

@@ -1,4 +1,4 @@
-use Rattle.std.proofs.Common.{◌<◌, suc, map, sym, ◌∙◌, arith}
+use Rattle.std.proofs.Common.{suc, map, sym, ◌∙◌, arith}
 use Rattle.lk_tree.specs.RuleNo.{block_shape}
 use Rattle.lk_ask.specs.declared.rule.Rule.TheVariants.{BlockShape}
 use Rattle.lk_env.specs.Units.{block_at, recursor_at}

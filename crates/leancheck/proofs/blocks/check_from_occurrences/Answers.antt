@@ -1,4 +1,4 @@
-use Rattle.std.proofs.Common.{◌<◌, map, refl, ap, sym, subst}
+use Rattle.std.proofs.Common.{map, refl, ap, sym, subst}
 use Rattle.std.specs.Prelude.{All}
 use Rattle.lk_table.specs.Declarations.{checked}
 use Rattle.lk_env.specs.Units.{block_at, type_at, recursor_at, IsTypeIn}

@@ -1,9 +1,6 @@
 use Rattle.std.proofs.Common.{map, refl, ap, sym, subst, ◌∙◌}
-use Rattle.lk_store.specs.Contents.{Contents}
-use Rattle.lk_store.proofs.Extending.{Extends-trans}
 use Rattle.lk_env.specs.Units.{type_at, recursor_at, IsRecursorIn}
 use Rattle.lk_env.specs.declared.entry.Partial.TheVariants.{Types}
-use Rattle.lk_blocks.specs.Block.{Shape}
 use Rattle.lk_blocks.specs.BlockSteps.{shape_steps}
 use Rattle.lk_block.specs.Parts.{parts_at}
 use Rattle.lk_block.specs.Shapes.{shape_at}

@@ -1,4 +1,4 @@
-use Rattle.std.proofs.Common.{map, ap, rules}
+use Rattle.std.proofs.Common.{map, ap}
 use Rattle.lk_store.specs.Contents.{Contents}
 use Rattle.lk_env.specs.Units.{recursor_at}
 use Rattle.lk_env.specs.declared.entry.Partial.TheVariants.{Members}

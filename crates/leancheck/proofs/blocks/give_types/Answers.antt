@@ -1,4 +1,4 @@
-use Rattle.std.proofs.Common.{◌<◌, ◌≡◌, ℕ, Result, map, All, refl, ap, sym, subst, ◌∙◌}
+use Rattle.std.proofs.Common.{◌<◌, map, All, ap, sym, subst, ◌∙◌}
 use Rattle.lk_store.specs.Contents.{Contents}
 use Rattle.lk_env.specs.Units.{block_at, recursor_at, IsTypeIn, IsRecursorIn}
 use Rattle.lk_env.specs.declared.entry.Partial.TheVariants.{Types}

@@ -1,4 +1,4 @@
-use Rattle.std.proofs.Common.{map, refl, subst, sym}
+use Rattle.std.proofs.Common.{map, refl, subst}
 use Rattle.lk_env.specs.Units.{declaration_at, block_at, recursor_at}
 use Rattle.leancheck.specs.Rows.{built_of}
 use Rattle.leancheck.specs.Held.{IsPlain}
