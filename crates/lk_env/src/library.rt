@@ -13,9 +13,9 @@ use lk_store::node::NameNode;
 use lk_store::terms::Terms;
 use std::alloc::Global;
 use std::marker::Model;
+use std::mem::drop;
 
 /// A library, with an index over the names of its units.
-#[derive(Drop)]
 pub struct Library {
     base: BaseStore,
     units: Vec<Unit>,
@@ -125,6 +125,21 @@ fn parameters_of(units: &[Unit], entry: Entry) -> &[u64]
     match units.get(entry.unit as usize) {
         Some(unit) => parameters_in(unit, entry.kind),
         None => &[],
+    }
+}
+
+impl Drop for Library {
+    fn drop(self) {
+        let Library {
+            base,
+            units,
+            cells,
+            flaws,
+        } = self;
+        drop(base);
+        drop(units);
+        drop(cells);
+        drop(flaws);
     }
 }
 

@@ -14,9 +14,9 @@ use crate::text::Text;
 use lk_rows::memory::NoMemory;
 use std::alloc::Global;
 use std::marker::Model;
+use std::mem::drop;
 
 /// The store of a library: each thing stands in it once.
-#[derive(Drop)]
 pub struct BaseStore {
     /// What it lies over, which is empty.
     pub(crate) nothing: Tables,
@@ -34,6 +34,14 @@ impl Model for BaseStore {
     ghost view = { λ s. s.tables };
 
     ghost invariant = { λ s. IsStore s.tables × (s.nothing ≡ no_tables) };
+}
+
+impl Drop for BaseStore {
+    fn drop(self) {
+        let BaseStore { nothing, tables } = self;
+        drop(nothing);
+        drop(tables);
+    }
 }
 
 impl BaseStore {

@@ -15,9 +15,9 @@ use crate::text::Text;
 use lk_rows::memory::NoMemory;
 use std::alloc::Global;
 use std::marker::Model;
+use std::mem::drop;
 
 /// A store over that of a library, which is only read. What is made stands in it alone; what the library has keeps its number.
-#[derive(Drop)]
 pub struct Overlay<'a> {
     base: &'a Tables,
     own: Tables,
@@ -33,6 +33,13 @@ impl<'a> Model for Overlay<'a> {
     ghost view = { λ s. (s.base.now, s.own) };
 
     ghost invariant = { λ s. IsStore s.base.now × IsStore (over s.base.now s.own) };
+}
+
+impl Drop for Overlay<'_> {
+    fn drop(self) {
+        let Overlay { base: _, own } = self;
+        drop(own);
+    }
 }
 
 impl<'a> Overlay<'a> {

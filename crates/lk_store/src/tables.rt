@@ -4,9 +4,9 @@ use crate::key::{LevelRow, ListRow, NameKey, Number, TreeRow};
 use crate::text::Text;
 use lk_rows::table::Table;
 use std::alloc::Global;
+use std::mem::drop;
 
 /// The tables of a store.
-#[derive(Drop)]
 pub struct Tables {
     pub(crate) numbers: Table<Number>,
     pub(crate) names: Table<NameKey>,
@@ -14,6 +14,26 @@ pub struct Tables {
     pub(crate) levels: Table<LevelRow>,
     pub(crate) lists: Table<ListRow>,
     pub(crate) trees: Table<TreeRow>,
+}
+
+/// Each table goes by a call, so that whoever lets a store go has one call to prove.
+impl Drop for Tables {
+    fn drop(self) {
+        let Tables {
+            numbers,
+            names,
+            texts,
+            levels,
+            lists,
+            trees,
+        } = self;
+        drop(numbers);
+        drop(names);
+        drop(texts);
+        drop(levels);
+        drop(lists);
+        drop(trees);
+    }
 }
 
 impl Tables {
