@@ -6,12 +6,12 @@ use Rattle.lk_rulebook.specs.Units.{LibraryUnit, of_decl, of_block, Library, mem
 use Rattle.lk_plain.specs.Answer.{Outcome, answered, refused, spent}
 use Rattle.lk_plain.specs.Erased.{Out, finished, stopped, used_up}
 use Rattle.lk_env.specs.Places.{partial_of}
-use Rattle.lk_blocks.specs.FlatTask.{plain_flat}
+use Rattle.lk_inductive.specs.FlatTask.{plain_flat}
 use Rattle.lk_block.specs.Agreeing.{Agrees}
 use Rattle.lk_block.specs.Stages.{block_stages}
 use Rattle.lk_block.proofs.Staged.{goes_by_stages}
 use Rattle.lk_rulebook.specs.Scan.{are_new, own_scan}
-use Rattle.lk_table.specs.Built.{rows}
+use Rattle.lk_questions.specs.Built.{rows}
 use Rattle.lk_verdict.specs.GoodUnit.{IsClearLibrary}
 use Rattle.lk_verdict.specs.Verdict.{Verdict as Plain, says_yes, says_no, says_steps, questions_of as plain_questions, verdict_by, verdict_of as plain_of, plain_verdict}
 use Rattle.lk_verdict.specs.Built.{unbuilt_body, stage}

@@ -3,18 +3,18 @@ use Rattle.std.proofs.Common.{◌≡◌, ℕ, Bool, true, false, List, None, Ok,
 use Rattle.lk_rulebook.specs.Place.{Place, BlockType}
 use Rattle.lk_plain.specs.Program.{Program, Table, done}
 use Rattle.lk_plain.specs.Erased.{Out, out_of}
-use Rattle.lk_table.specs.Declarations.{Yes, checked}
+use Rattle.lk_questions.specs.Declarations.{Yes, checked}
 use Rattle.lk_env.specs.declared.entry.Partial.{Partial}
 use Rattle.lk_ask.specs.declared.stop.Stop.{Stop}
 use Rattle.lk_ask.specs.declared.stop.Stop.TheVariants.{Rule}
 use Rattle.lk_ask.specs.declared.rule.Rule.{Rule as Rule_}
 use Rattle.lk_ask.specs.Questions.{rule_no}
 use Rattle.lk_tree.specs.RuleNo.{RuleNo}
-use Rattle.lk_table.specs.Steps.{given}
+use Rattle.lk_questions.specs.Steps.{given}
 use Rattle.lk_block.specs.Courses.{Goes, Halts, Gives}
 use Rattle.lk_block.specs.Settling.{IsChecked}
 use Rattle.lk_block.specs.Stages.{stage, ends}
-use Rattle.lk_blocks.specs.BlockSteps.{all_ctor_sorts}
+use Rattle.lk_inductive.specs.BlockSteps.{all_ctor_sorts}
 use Rattle.lk_block.proofs.Running.{run_bind}
 use Rattle.lk_block.specs.Sorts.{sorts_form}
 use Rattle.lk_block.proofs.Settled.{checked_on, checked_stop}

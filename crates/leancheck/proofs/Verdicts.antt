@@ -7,8 +7,8 @@ use Rattle.lk_plain.specs.Program.{Table}
 use Rattle.lk_plain.specs.Answer.{Outcome, answered, refused, spent, outcome_of, plain_answer}
 use Rattle.lk_plain.specs.Erased.{Out, Value, truth, finished, stopped, used_up, left_of, run_steps, out_of}
 use Rattle.lk_plain.proofs.Erasing.{run_erased}
-use Rattle.lk_table.specs.Declarations.{unit_steps}
-use Rattle.lk_table.specs.Built.{rows}
+use Rattle.lk_questions.specs.Declarations.{unit_steps}
+use Rattle.lk_questions.specs.Built.{rows}
 use Rattle.lk_verdict.specs.Built.{unbuilt_body}
 use Rattle.lk_verdict.specs.Told.{accepted, rejected, out_of_steps}
 use Rattle.lk_ask.specs.declared.stop.Stop.{Stop}

@@ -7,8 +7,8 @@ use Rattle.lk_rulebook.specs.Units.{Decl, LibraryUnit, of_decl, of_block, Librar
 use Rattle.lk_rulebook.specs.Scan.{are_new, own_scan}
 use Rattle.lk_plain.specs.Answer.{Outcome, outcome_of, plain_answer}
 use Rattle.lk_plain.specs.Erased.{Out, finished, stopped, used_up}
-use Rattle.lk_table.specs.Declarations.{unit_steps}
-use Rattle.lk_table.specs.Built.{rows}
+use Rattle.lk_questions.specs.Declarations.{unit_steps}
+use Rattle.lk_questions.specs.Built.{rows}
 use Rattle.lk_verdict.specs.Verdict.{verdict_by}
 use Rattle.lk_verdict.specs.Built.{unbuilt_body}
 use Rattle.lk_verdict.specs.Told.{Verdict, accepted, rejected, out_of_steps, told}

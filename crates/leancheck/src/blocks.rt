@@ -2,9 +2,9 @@
 
 ghost use Rattle.std.specs.Prelude.{◌≡◌, ◌<◌, ℕ, suc, length, map, All};
 ghost use Rattle.lk_store.specs.Contents.{Contents, Extends};
-ghost use Rattle.lk_table.specs.Declarations.{checked};
+ghost use Rattle.lk_questions.specs.Declarations.{checked};
 ghost use Rattle.lk_env.specs.Units.{block_at, type_at, recursor_at, IsTypeIn, IsRecursorIn};
-ghost use Rattle.lk_blocks.specs.Block.{parameters_of as stated_parameters};
+ghost use Rattle.lk_inductive.specs.Block.{parameters_of as stated_parameters};
 ghost use Rattle.lk_block.specs.Courses.{Gives};
 ghost use Rattle.lk_block.specs.Wholes.{flat_form};
 ghost use Rattle.lk_block.specs.Parts.{parts_at, ArePartsIn};

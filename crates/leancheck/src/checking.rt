@@ -4,7 +4,7 @@ ghost use Rattle.std.specs.Prelude.{◌≡◌, ◌<◌, true, length, map, IfOk}
 ghost use Rattle.lk_rulebook.specs.Scan.{are_new};
 ghost use Rattle.lk_rulebook.specs.Units.{Decl, members_of, place_of};
 ghost use Rattle.lk_verdict.specs.GoodUnit.{IsClearLibrary};
-ghost use Rattle.lk_table.specs.Built.{rows};
+ghost use Rattle.lk_questions.specs.Built.{rows};
 ghost use Rattle.lk_verdict.specs.Told.{AreVerdicts};
 ghost use Rattle.lk_store.specs.Contents.{tree_at};
 ghost use Rattle.lk_store.specs.Store.{contents_of};

@@ -10,8 +10,8 @@ use Rattle.lk_tree.specs.Mentions.{is_one_of, mentions}
 use Rattle.lk_tree.specs.RuleNo.{unknown_constant}
 use Rattle.lk_rulebook.specs.Place.{Place, Entry, Kind, an_axiom, a_def, a_thm, an_opaque, a_quot, a_type, a_ctor, a_rec}
 use Rattle.lk_plain.specs.Program.{Program, done, look}
-use Rattle.lk_blocks.specs.BlockSteps.{mention_none}
-use Rattle.lk_blocks.specs.Nested.{holds_kind, holds_head, either_holds, holds_nested}
+use Rattle.lk_inductive.specs.BlockSteps.{mention_none}
+use Rattle.lk_inductive.specs.Nested.{holds_kind, holds_head, either_holds, holds_nested}
 use Rattle.lk_store.specs.Contents.{Contents, tree_at, tree_of}
 use Rattle.lk_store.specs.declared.node.Node.{Node}
 use Rattle.lk_store.specs.declared.node.Node.TheVariants as node

@@ -2,13 +2,13 @@
 use Rattle.std.proofs.Common.{◌≡◌, ◌↔◌, ◌<◌, ◌&&◌, ◌||◌, ℕ, Bool, true, false, not, IsTrue, List, [], ◌∷◌, length, map, All, Option, Some, None, nat_eq, if◌then◌else◌, refl, sym, ap, subst, ◌∙◌, arith}
 use Rattle.lk_tree.specs.Tree.{Name, Level, Tree, tree_discrete, var, sort, const, app, lam, pi, let_in, proj, lit, wide, str, local}
 use Rattle.lk_tree.specs.Mentions.{mentions, same_name}
-use Rattle.lk_table.specs.Steps.{decided, is_same_tree}
+use Rattle.lk_questions.specs.Steps.{decided, is_same_tree}
 use Rattle.lk_store.specs.Contents.{Contents, name_at, tree_at}
 use Rattle.lk_env.specs.declared.unit.BlockType.{BlockType}
 use Rattle.lk_mentions.specs.Names.{names_at}
 use Rattle.lk_mentions.specs.Walks.{is_clear}
-use Rattle.lk_blocks.specs.Block.{Frame}
-use Rattle.lk_blocks.specs.BlockSteps.{is_listed, mention_none, after_params, plain_indices, as_member}
+use Rattle.lk_inductive.specs.Block.{Frame}
+use Rattle.lk_inductive.specs.BlockSteps.{is_listed, mention_none, after_params, plain_indices, as_member}
 use Rattle.lk_block.specs.Frames.{listed_at}
 use Rattle.lk_block.specs.Members.{own_name}
 

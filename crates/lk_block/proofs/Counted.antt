@@ -4,7 +4,7 @@ use Rattle.std.proofs.lemmas.List.Elements.{All-head, All-tail}
 use Rattle.lk_tree.specs.Tree.{Name, name_discrete}
 use Rattle.lk_tree.specs.Mentions.{same_name}
 use Rattle.lk_rulebook.specs.Place.{BlockType, Ctor}
-use Rattle.lk_blocks.specs.BlockSteps.{same_names, ctor_agrees, ctors_agree, types_agree}
+use Rattle.lk_inductive.specs.BlockSteps.{same_names, ctor_agrees, ctors_agree, types_agree}
 use Rattle.lk_block.specs.Counts.{type_agrees}
 
 -- a test of two names decides as the definition does

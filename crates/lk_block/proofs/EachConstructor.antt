@@ -8,8 +8,8 @@ use Rattle.lk_rulebook.specs.Place.{Place, BlockType, Ctor}
 use Rattle.lk_plain.specs.Query.{Query}
 use Rattle.lk_plain.specs.Program.{Program, Table, done, ◌>>=◌}
 use Rattle.lk_plain.specs.Erased.{Out, out_of}
-use Rattle.lk_blocks.specs.Block.{Frame, Field, CtorShape, TypeShape}
-use Rattle.lk_blocks.specs.BlockSteps.{over, as_member, own_indices, fields_steps, ctor_steps, ctors_steps, shapes_steps}
+use Rattle.lk_inductive.specs.Block.{Frame, Field, CtorShape, TypeShape}
+use Rattle.lk_inductive.specs.BlockSteps.{over, as_member, own_indices, fields_steps, ctor_steps, ctors_steps, shapes_steps}
 use Rattle.lk_store.specs.Contents.{Contents, name_at, tree_at, Extends}
 use Rattle.lk_ask.specs.declared.rule.Rule.TheVariants.{BlockShape}
 use Rattle.lk_ask.specs.declared.stop.Stop.{Stop}

@@ -10,9 +10,9 @@ use Rattle.lk_plain.specs.Query.{Query, AnswerTo, core, whnf, infer, same}
 use Rattle.lk_plain.specs.Program.{Program, Table, done, refuse, ask, look, asked, ◌>>=◌}
 use Rattle.lk_plain.specs.Answer.{Outcome, answered, refused, spent, plain_answer}
 use Rattle.lk_plain.specs.Erased.{Value, a_tree, truth, value_of, Out, finished, stopped, used_up, seen, go_on, left_of, out_of}
-use Rattle.lk_table.specs.Steps.{given, as_pi}
-use Rattle.lk_blocks.specs.Block.{Frame, FieldKind, Field}
-use Rattle.lk_blocks.specs.BlockSteps.{fits, fits_in, walk, fields_steps}
+use Rattle.lk_questions.specs.Steps.{given, as_pi}
+use Rattle.lk_inductive.specs.Block.{Frame, FieldKind, Field}
+use Rattle.lk_inductive.specs.BlockSteps.{fits, fits_in, walk, fields_steps}
 use Rattle.lk_ask.specs.declared.rule.Rule.TheVariants.{FieldUniverse}
 use Rattle.lk_ask.specs.declared.stop.Stop.{Stop}
 use Rattle.lk_ask.specs.declared.stop.Stop.TheVariants.{Rule}

@@ -5,9 +5,9 @@ use Rattle.lk_tree.specs.LevelTest.{level_test}
 use Rattle.lk_tree.specs.RuleNo.{block_shape}
 use Rattle.lk_rulebook.specs.Place.{Place}
 use Rattle.lk_plain.specs.Program.{Program, Table, done, refuse, ◌>>=◌}
-use Rattle.lk_table.specs.Steps.{given, sort_of}
-use Rattle.lk_table.specs.Levels.{tested}
-use Rattle.lk_blocks.specs.BlockSteps.{telescope, over, type_end}
+use Rattle.lk_questions.specs.Steps.{given, sort_of}
+use Rattle.lk_questions.specs.Levels.{tested}
+use Rattle.lk_inductive.specs.BlockSteps.{telescope, over, type_end}
 use Rattle.lk_ask.specs.declared.rule.Rule.TheVariants.{BlockShape}
 use Rattle.lk_ask.specs.declared.stop.Stop.{Stop}
 use Rattle.lk_ask.specs.declared.stop.Stop.TheVariants.{Rule, Spent, NoMemory}

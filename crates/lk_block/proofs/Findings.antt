@@ -6,7 +6,7 @@ use Rattle.lk_plain.specs.Query.{Query}
 use Rattle.lk_plain.specs.Program.{Program, Table, done, refuse, ask, look, ◌>>=◌}
 use Rattle.lk_plain.specs.Answer.{refusal}
 use Rattle.lk_plain.specs.Erased.{Out, stopped, seen, out_of}
-use Rattle.lk_blocks.specs.Nested.{either_holds}
+use Rattle.lk_inductive.specs.Nested.{either_holds}
 use Rattle.lk_ask.specs.declared.stop.Stop.{Stop}
 use Rattle.lk_ask.specs.declared.stop.Stop.TheVariants.{Rule, Spent, NoMemory}
 use Rattle.lk_ask.specs.Questions.{rule_no}

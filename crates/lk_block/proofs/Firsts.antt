@@ -11,9 +11,9 @@ use Rattle.lk_rulebook.specs.Place.{Place, BlockType}
 use Rattle.lk_plain.specs.Query.{Query}
 use Rattle.lk_plain.specs.Program.{Program, Table, done, ◌>>=◌}
 use Rattle.lk_plain.specs.Erased.{Out, out_of}
-use Rattle.lk_table.specs.Steps.{given, sort_of}
-use Rattle.lk_table.specs.Levels.{tested}
-use Rattle.lk_blocks.specs.BlockSteps.{TypeParts as PlainParts, telescope, type_end, next_type, next_types, types_steps}
+use Rattle.lk_questions.specs.Steps.{given, sort_of}
+use Rattle.lk_questions.specs.Levels.{tested}
+use Rattle.lk_inductive.specs.BlockSteps.{TypeParts as PlainParts, telescope, type_end, next_type, next_types, types_steps}
 use Rattle.lk_store.specs.Contents.{Contents, level_at, tree_at, Extends}
 use Rattle.lk_env.specs.declared.unit.BlockType.{BlockType as StoredType}
 use Rattle.lk_env.specs.Units.{type_at, IsStatedIn, IsConstructorIn, IsTypeIn}

@@ -5,10 +5,10 @@ use Rattle.lk_tree.specs.Tree.{Name}
 use Rattle.lk_tree.specs.RuleNo.{nested_form}
 use Rattle.lk_rulebook.specs.Place.{Place, BlockType, Ctor}
 use Rattle.lk_plain.specs.Program.{Program, ◌>>=◌}
-use Rattle.lk_table.specs.Steps.{given}
-use Rattle.lk_table.specs.Declarations.{Yes, checked}
-use Rattle.lk_blocks.specs.Nested.{holds_nested}
-use Rattle.lk_blocks.specs.Flat.{flat_ctors, flat_types}
+use Rattle.lk_questions.specs.Steps.{given}
+use Rattle.lk_questions.specs.Declarations.{Yes, checked}
+use Rattle.lk_inductive.specs.Nested.{holds_nested}
+use Rattle.lk_inductive.specs.Flat.{flat_ctors, flat_types}
 use Rattle.lk_ask.specs.declared.stop.Stop.{Stop}
 use Rattle.lk_ask.specs.declared.stop.Stop.TheVariants.{Rule, Spent, NoMemory}
 use Rattle.lk_ask.specs.Questions.{rule_no}

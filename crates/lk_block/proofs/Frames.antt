@@ -7,7 +7,7 @@ use Rattle.lk_subst.specs.Numbers.{values-steady, values-known, trees-steady, tr
 use Rattle.lk_env.specs.declared.unit.BlockType.{BlockType}
 use Rattle.lk_env.specs.Units.{IsTypeIn}
 use Rattle.lk_mentions.specs.Names.{names_at}
-use Rattle.lk_blocks.specs.Block as plain
+use Rattle.lk_inductive.specs.Block as plain
 use Rattle.lk_block.specs.declared.frame.Frame.{Frame}
 use Rattle.lk_block.specs.Frames.{listed_at, frame_at, IsFrameIn}
 use Rattle.lk_block.proofs.Stays.{types_in_stay}

@@ -7,9 +7,9 @@ use Rattle.lk_rulebook.specs.Place.{Place}
 use Rattle.lk_plain.specs.Query.{Query, whnf, same}
 use Rattle.lk_plain.specs.Program.{Program, Table, done, asked, ◌>>=◌}
 use Rattle.lk_plain.specs.Erased.{Out, out_of}
-use Rattle.lk_table.specs.Steps.{as_pi, given}
-use Rattle.lk_blocks.specs.Block.{domain}
-use Rattle.lk_blocks.specs.BlockSteps.{over}
+use Rattle.lk_questions.specs.Steps.{as_pi, given}
+use Rattle.lk_inductive.specs.Block.{domain}
+use Rattle.lk_inductive.specs.BlockSteps.{over}
 use Rattle.lk_ask.specs.declared.stop.Stop.{Stop}
 use Rattle.lk_block.specs.Courses.{tree_then, truth_then, run_then, Passes, Goes, Halts}
 use Rattle.lk_block.specs.Forms.{put_form, over_form}

@@ -7,10 +7,10 @@ use Rattle.lk_tree.specs.Level.{is_zero_level}
 use Rattle.lk_rulebook.specs.Place.{Place}
 use Rattle.lk_plain.specs.Program.{Program, Table, done, ◌>>=◌}
 use Rattle.lk_plain.specs.Erased.{Out}
-use Rattle.lk_table.specs.Steps.{sort_of}
-use Rattle.lk_blocks.specs.Block as plain
-use Rattle.lk_blocks.specs.Block.{domain}
-use Rattle.lk_blocks.specs.BlockSteps.{is_among, small_steps, one_ctor_steps, one_type_steps}
+use Rattle.lk_questions.specs.Steps.{sort_of}
+use Rattle.lk_inductive.specs.Block as plain
+use Rattle.lk_inductive.specs.Block.{domain}
+use Rattle.lk_inductive.specs.BlockSteps.{is_among, small_steps, one_ctor_steps, one_type_steps}
 use Rattle.lk_store.specs.Contents.{Contents, tree_at, Extends}
 use Rattle.lk_subst.specs.Numbers.{trees-steady}
 use Rattle.lk_ask.specs.declared.stop.Stop.{Stop}

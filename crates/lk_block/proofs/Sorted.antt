@@ -6,9 +6,9 @@ use Rattle.lk_rulebook.specs.Place.{Place, BlockType, Ctor}
 use Rattle.lk_plain.specs.Query.{Query}
 use Rattle.lk_plain.specs.Program.{Program, done, ◌>>=◌}
 use Rattle.lk_plain.specs.Erased.{Out}
-use Rattle.lk_table.specs.Declarations.{Yes, checked}
-use Rattle.lk_table.specs.Steps.{sort_of}
-use Rattle.lk_blocks.specs.BlockSteps.{ctor_sorts, all_ctor_sorts}
+use Rattle.lk_questions.specs.Declarations.{Yes, checked}
+use Rattle.lk_questions.specs.Steps.{sort_of}
+use Rattle.lk_inductive.specs.BlockSteps.{ctor_sorts, all_ctor_sorts}
 use Rattle.lk_store.specs.Contents.{Contents, tree_at, Extends}
 use Rattle.lk_env.specs.declared.unit.Constructor.{Constructor}
 use Rattle.lk_env.specs.Units.{constructor_at, IsConstructorIn}

@@ -9,13 +9,13 @@ use Rattle.lk_plain.specs.Answer.{Outcome, answered, refused, spent, after, and_
 use Rattle.lk_plain.specs.Erased.{truth, value_of, Out, finished, stopped, used_up, seen, go_on, left_of, out_of}
 use Rattle.lk_env.specs.declared.entry.Partial.{Partial}
 use Rattle.lk_env.specs.Places.{partial_of}
-use Rattle.lk_blocks.specs.Block.{parameters_of, Shape}
-use Rattle.lk_blocks.specs.BlockSteps.{TypeParts, counts_steps, types_steps, all_ctor_sorts, shape_steps}
-use Rattle.lk_blocks.specs.Recursors.{recursors}
-use Rattle.lk_blocks.specs.Compare.{compare_steps}
-use Rattle.lk_blocks.specs.Flat.{flat_types}
-use Rattle.lk_blocks.specs.FlatTask.{flat_recs}
-use Rattle.lk_blocks.specs.Task.{Task, done_with, here, half_there, ◌>>=◌, run_task}
+use Rattle.lk_inductive.specs.Block.{parameters_of, Shape}
+use Rattle.lk_inductive.specs.BlockSteps.{TypeParts, counts_steps, types_steps, all_ctor_sorts, shape_steps}
+use Rattle.lk_inductive.specs.Recursors.{recursors}
+use Rattle.lk_inductive.specs.Compare.{compare_steps}
+use Rattle.lk_inductive.specs.Flat.{flat_types}
+use Rattle.lk_inductive.specs.FlatTask.{flat_recs}
+use Rattle.lk_inductive.specs.Task.{Task, done_with, here, half_there, ◌>>=◌, run_task}
 use Rattle.lk_block.specs.Stages.{recursors_stage, shape_stage, flat_stage, sorts_stage, types_stage}
 use Rattle.lk_block.specs.Courses.{answer_then, look_then, run_then}
 use Rattle.lk_block.specs.Agreeing.{Agrees, FlatGoesByStages}

@@ -8,8 +8,8 @@ use Rattle.lk_rulebook.specs.Place.{Place}
 use Rattle.lk_plain.specs.Query.{Query, whnf}
 use Rattle.lk_plain.specs.Program.{Program, Table, done, ◌>>=◌}
 use Rattle.lk_plain.specs.Erased.{Out, out_of}
-use Rattle.lk_table.specs.Steps.{as_pi}
-use Rattle.lk_blocks.specs.BlockSteps.{telescope}
+use Rattle.lk_questions.specs.Steps.{as_pi}
+use Rattle.lk_inductive.specs.BlockSteps.{telescope}
 use Rattle.lk_ask.specs.declared.stop.Stop.{Stop}
 use Rattle.lk_block.specs.Courses.{tree_then, run_then, Passes, Goes, Halts}
 use Rattle.lk_block.specs.Forms.{pi_form, local_form}

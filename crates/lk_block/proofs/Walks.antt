@@ -11,9 +11,9 @@ use Rattle.lk_plain.specs.Query.{Query, whnf}
 use Rattle.lk_plain.specs.Program.{Program, Table, done, refuse, asked, ◌>>=◌}
 use Rattle.lk_plain.specs.Answer.{Outcome, answered, refused, spent, IfAnswered, later, plain_answer}
 use Rattle.lk_plain.specs.Erased.{Value, a_tree, value_of, Out, finished, stopped, used_up, seen, go_on, left_of, out_of}
-use Rattle.lk_blocks.specs.Block.{Frame, FieldKind, plain, recursive, under}
-use Rattle.lk_blocks.specs.BlockSteps.{as_member, last_kind, walk_on, walk}
-use Rattle.lk_blocks.proofs.Fuel.{plain_costs}
+use Rattle.lk_inductive.specs.Block.{Frame, FieldKind, plain, recursive, under}
+use Rattle.lk_inductive.specs.BlockSteps.{as_member, last_kind, walk_on, walk}
+use Rattle.lk_inductive.proofs.Fuel.{plain_costs}
 use Rattle.lk_ask.specs.declared.stop.Stop.{Stop}
 use Rattle.lk_block.specs.Courses.{tree_then, run_then, Passes, Goes, Halts}
 use Rattle.lk_block.specs.Positive.{Walked, ends, goes_under, kind_with, under_all, member_step, under_step, inner_step, form_step, walk_step, followed}

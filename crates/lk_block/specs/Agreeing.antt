@@ -6,7 +6,7 @@ use Rattle.lk_plain.specs.Answer.{Outcome, answered, refused, spent}
 use Rattle.lk_plain.specs.Erased.{Out, finished, stopped, used_up}
 use Rattle.lk_plain.specs.Program.{Table}
 use Rattle.lk_env.specs.Places.{partial_of}
-use Rattle.lk_blocks.specs.FlatTask.{plain_flat}
+use Rattle.lk_inductive.specs.FlatTask.{plain_flat}
 use Rattle.lk_block.specs.Stages.{block_stages}
 
 -- both are an answer, one refusal, or the budget is used up

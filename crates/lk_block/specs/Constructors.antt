@@ -5,8 +5,8 @@ use Rattle.lk_tree.specs.Spine.{head, args}
 use Rattle.lk_rulebook.specs.Place.{BlockType, Ctor}
 use Rattle.lk_plain.specs.Query.{whnf}
 use Rattle.lk_plain.specs.Program.{Program, done, asked, ◌>>=◌}
-use Rattle.lk_blocks.specs.Block.{Frame, CtorShape, TypeShape}
-use Rattle.lk_blocks.specs.BlockSteps.{over, as_member, own_indices, fields_steps, ctors_steps, shapes_steps}
+use Rattle.lk_inductive.specs.Block.{Frame, CtorShape, TypeShape}
+use Rattle.lk_inductive.specs.BlockSteps.{over, as_member, own_indices, fields_steps, ctors_steps, shapes_steps}
 
 -- the indices of T where the weak head form is T applied
 abbrev pub result_form : Frame → Name → Tree → Program (List Tree)

@@ -2,7 +2,7 @@
 use Rattle.std.specs.Prelude.{ℕ, Bool, ◌&&◌, nat_eq, List}
 use Rattle.lk_tree.specs.Tree.{Name}
 use Rattle.lk_rulebook.specs.Place.{BlockType}
-use Rattle.lk_blocks.specs.BlockSteps.{same_names, ctors_agree}
+use Rattle.lk_inductive.specs.BlockSteps.{same_names, ctors_agree}
 
 -- a type of the block and its constructors
 abbrev pub type_agrees : ℕ → List Name → BlockType → Bool

@@ -8,7 +8,7 @@ use Rattle.lk_plain.specs.Query.{Query, AnswerTo, core, whnf, infer, same}
 use Rattle.lk_plain.specs.Program.{Program, Table, done, refuse, ask, look}
 use Rattle.lk_plain.specs.Answer.{refusal}
 use Rattle.lk_plain.specs.Erased.{Value, a_tree, truth, erased, Out, finished, stopped, seen, go_on, run_steps, out_of}
-use Rattle.lk_table.specs.Declarations.{Yes}
+use Rattle.lk_questions.specs.Declarations.{Yes}
 use Rattle.lk_ask.specs.declared.stop.Stop.{Stop}
 use Rattle.lk_ask.specs.declared.stop.Stop.TheVariants.{Rule, Spent, NoMemory}
 use Rattle.lk_ask.specs.Outcomes.{IsStop}

@@ -4,9 +4,9 @@ use Rattle.lk_tree.specs.Tree.{Tree, local}
 use Rattle.lk_tree.specs.Bind.{opened}
 use Rattle.lk_tree.specs.RuleNo.{field_universe}
 use Rattle.lk_plain.specs.Program.{Program, done, ◌>>=◌}
-use Rattle.lk_table.specs.Steps.{given}
-use Rattle.lk_blocks.specs.Block.{Frame, FieldKind, Field}
-use Rattle.lk_blocks.specs.BlockSteps.{fits_in, walk}
+use Rattle.lk_questions.specs.Steps.{given}
+use Rattle.lk_inductive.specs.Block.{Frame, FieldKind, Field}
+use Rattle.lk_inductive.specs.BlockSteps.{fits_in, walk}
 use Rattle.lk_block.specs.Forms.{pi_form}
 
 -- the kind of a field by its type, which is to fit in the universe of the block

@@ -6,10 +6,10 @@ use Rattle.lk_tree.specs.LevelTest.{level_test}
 use Rattle.lk_tree.specs.RuleNo.{block_shape, parameter_differs}
 use Rattle.lk_plain.specs.Query.{whnf, same}
 use Rattle.lk_plain.specs.Program.{Program, done, asked, ◌>>=◌}
-use Rattle.lk_table.specs.Steps.{given, as_pi, as_sort, sort_of}
-use Rattle.lk_table.specs.Levels.{tested}
-use Rattle.lk_blocks.specs.Block.{domain}
-use Rattle.lk_blocks.specs.BlockSteps.{as_level, over, type_end}
+use Rattle.lk_questions.specs.Steps.{given, as_pi, as_sort, sort_of}
+use Rattle.lk_questions.specs.Levels.{tested}
+use Rattle.lk_inductive.specs.Block.{domain}
+use Rattle.lk_inductive.specs.BlockSteps.{as_level, over, type_end}
 
 -- the domain and the body of the weak head form, which is to be a Pi
 abbrev pub pi_form : Tree → Program (Tree × Tree)

@@ -5,8 +5,8 @@ use Rattle.lk_store.specs.Contents.{Contents, level_at, list_at, tree_at}
 use Rattle.lk_env.specs.declared.unit.BlockType.{BlockType}
 use Rattle.lk_env.specs.Units.{type_at, IsTypeIn}
 use Rattle.lk_mentions.specs.Names.{names_at}
-use Rattle.lk_blocks.specs.Block as plain
-use Rattle.lk_blocks.specs.Block.{counts_of}
+use Rattle.lk_inductive.specs.Block as plain
+use Rattle.lk_inductive.specs.Block.{counts_of}
 use Rattle.lk_block.specs.declared.frame.Frame.{Frame}
 
 -- the types' names, each with its number of indices

@@ -4,7 +4,7 @@ use Rattle.lk_tree.specs.Tree.{Name, Tree, const, app, lam, pi, let_in, proj}
 use Rattle.lk_tree.specs.Spine.{head, args}
 use Rattle.lk_rulebook.specs.Place.{Place}
 use Rattle.lk_plain.specs.Program.{Program}
-use Rattle.lk_blocks.specs.Nested.{holds_head, holds_nested}
+use Rattle.lk_inductive.specs.Nested.{holds_head, holds_nested}
 use Rattle.lk_store.specs.Contents.{Contents, name_at, tree_at}
 use Rattle.lk_store.specs.declared.node.Node.{Node}
 use Rattle.lk_store.specs.declared.node.Node.TheVariants as node

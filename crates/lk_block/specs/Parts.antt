@@ -5,9 +5,9 @@ use Rattle.lk_tree.specs.LevelTest.{level_test}
 use Rattle.lk_tree.specs.RuleNo.{block_shape}
 use Rattle.lk_rulebook.specs.Place.{BlockType}
 use Rattle.lk_plain.specs.Program.{Program, done, ◌>>=◌}
-use Rattle.lk_table.specs.Steps.{given, sort_of}
-use Rattle.lk_table.specs.Levels.{tested}
-use Rattle.lk_blocks.specs.BlockSteps.{TypeParts as PlainParts, telescope, type_end, next_types}
+use Rattle.lk_questions.specs.Steps.{given, sort_of}
+use Rattle.lk_questions.specs.Levels.{tested}
+use Rattle.lk_inductive.specs.BlockSteps.{TypeParts as PlainParts, telescope, type_end, next_types}
 use Rattle.lk_store.specs.Contents.{Contents, level_at, tree_at}
 use Rattle.lk_block.specs.declared.types.TypeParts.{TypeParts}
 use Rattle.std.specs.Prelude.{Vec}

@@ -8,8 +8,8 @@ use Rattle.lk_tree.specs.RuleNo.{not_positive}
 use Rattle.lk_plain.specs.Query.{whnf}
 use Rattle.lk_plain.specs.Program.{Program, done, refuse, asked, ◌>>=◌}
 use Rattle.lk_store.specs.Contents.{Contents, tree_at}
-use Rattle.lk_blocks.specs.Block.{Frame, FieldKind, plain, recursive, under}
-use Rattle.lk_blocks.specs.BlockSteps.{as_member}
+use Rattle.lk_inductive.specs.Block.{Frame, FieldKind, plain, recursive, under}
+use Rattle.lk_inductive.specs.BlockSteps.{as_member}
 use Rattle.lk_block.specs.Members.{member_at, IsMemberIn}
 use Rattle.lk_block.specs.declared.positive.Step.{Step}
 use Rattle.lk_block.specs.declared.positive.Step.TheVariants.{Ends, Under}

@@ -1,7 +1,7 @@
 -- What a shape stands for, by the numbers of a store.
 use Rattle.std.specs.Prelude.{ℕ, ◌<◌, List, length, map, All}
 use Rattle.lk_store.specs.Contents.{Contents, name_at, level_at, tree_at}
-use Rattle.lk_blocks.specs.Block as plain
+use Rattle.lk_inductive.specs.Block as plain
 use Rattle.lk_block.specs.declared.shape.Recursion.{Recursion}
 use Rattle.lk_block.specs.declared.shape.FieldKind.{FieldKind}
 use Rattle.lk_block.specs.declared.shape.FieldKind.TheVariants.{Plain, Recursive}

@@ -4,10 +4,10 @@ use Rattle.lk_tree.specs.Tree.{Level, Tree, zero_level, succ_level}
 use Rattle.lk_tree.specs.Level.{is_zero_level}
 use Rattle.lk_tree.specs.LevelTest.{level_le_test}
 use Rattle.lk_plain.specs.Program.{Program, done, ◌>>=◌}
-use Rattle.lk_table.specs.Steps.{sort_of}
-use Rattle.lk_table.specs.Levels.{tested}
-use Rattle.lk_blocks.specs.Block.{domain}
-use Rattle.lk_blocks.specs.BlockSteps.{is_among}
+use Rattle.lk_questions.specs.Steps.{sort_of}
+use Rattle.lk_questions.specs.Levels.{tested}
+use Rattle.lk_inductive.specs.Block.{domain}
+use Rattle.lk_inductive.specs.BlockSteps.{is_among}
 
 -- the field is a proof, or it is one of the indices
 abbrev pub small_form : List Tree → Tree → Program Bool

@@ -2,8 +2,8 @@
 use Rattle.std.specs.Prelude.{List}
 use Rattle.lk_rulebook.specs.Place.{BlockType, Ctor}
 use Rattle.lk_plain.specs.Program.{Program, done, ◌>>=◌}
-use Rattle.lk_table.specs.Declarations.{Yes, checked}
-use Rattle.lk_blocks.specs.BlockSteps.{ctor_sorts, all_ctor_sorts}
+use Rattle.lk_questions.specs.Declarations.{Yes, checked}
+use Rattle.lk_inductive.specs.BlockSteps.{ctor_sorts, all_ctor_sorts}
 
 abbrev pub constructors_form : List Ctor → Program Yes
 constructors_form cs = ctor_sorts cs >>= λ ls. done checked

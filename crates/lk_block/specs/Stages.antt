@@ -6,11 +6,11 @@ use Rattle.lk_plain.specs.Program.{Program, Table}
 use Rattle.lk_plain.specs.Erased.{truth, Out, finished, out_of}
 use Rattle.lk_env.specs.declared.entry.Partial.{Partial}
 use Rattle.lk_env.specs.declared.entry.Partial.TheVariants.{Nothing, Types, Members}
-use Rattle.lk_blocks.specs.Block.{parameters_of, Shape}
-use Rattle.lk_blocks.specs.BlockSteps.{TypeParts, counts_steps, types_steps, all_ctor_sorts, shape_steps}
-use Rattle.lk_blocks.specs.Recursors.{recursors}
-use Rattle.lk_blocks.specs.Compare.{compare_steps}
-use Rattle.lk_blocks.specs.Flat.{flat_types}
+use Rattle.lk_inductive.specs.Block.{parameters_of, Shape}
+use Rattle.lk_inductive.specs.BlockSteps.{TypeParts, counts_steps, types_steps, all_ctor_sorts, shape_steps}
+use Rattle.lk_inductive.specs.Recursors.{recursors}
+use Rattle.lk_inductive.specs.Compare.{compare_steps}
+use Rattle.lk_inductive.specs.Flat.{flat_types}
 use Rattle.lk_block.specs.Courses.{run_then}
 
 -- a program where so much is partial, and what comes next

@@ -3,10 +3,10 @@ use Rattle.std.specs.Prelude.{ℕ, Bool, List}
 use Rattle.lk_tree.specs.Tree.{Level, Tree}
 use Rattle.lk_rulebook.specs.Place.{Block, BlockType, type_names}
 use Rattle.lk_plain.specs.Program.{Program, done, ◌>>=◌}
-use Rattle.lk_table.specs.Declarations.{Yes}
-use Rattle.lk_blocks.specs.Block.{levels_of, frame_of, TypeShape, Shape}
-use Rattle.lk_blocks.specs.BlockSteps.{shapes_steps, large_steps}
-use Rattle.lk_blocks.specs.Flat.{flat_types}
+use Rattle.lk_questions.specs.Declarations.{Yes}
+use Rattle.lk_inductive.specs.Block.{levels_of, frame_of, TypeShape, Shape}
+use Rattle.lk_inductive.specs.BlockSteps.{shapes_steps, large_steps}
+use Rattle.lk_inductive.specs.Flat.{flat_types}
 
 abbrev pub block_of : List BlockType → Block
 block_of ts = record { types = ts }

@@ -6,9 +6,9 @@ ghost use Rattle.lk_tree.specs.RuleNo.{block_shape};
 ghost use Rattle.lk_plain.specs.Query.{whnf, infer, same};
 ghost use Rattle.lk_plain.specs.Program.{asked};
 ghost use Rattle.lk_store.specs.Contents.{level_at, tree_at, Extends};
-ghost use Rattle.lk_table.specs.Steps.{as_pi, as_sort, sort_of};
-ghost use Rattle.lk_table.specs.Levels.{tested};
-ghost use Rattle.lk_blocks.specs.BlockSteps.{as_level};
+ghost use Rattle.lk_questions.specs.Steps.{as_pi, as_sort, sort_of};
+ghost use Rattle.lk_questions.specs.Levels.{tested};
+ghost use Rattle.lk_inductive.specs.BlockSteps.{as_level};
 ghost use Rattle.lk_block.specs.Courses.{Gives, Settles};
 ghost use Rattle.lk_block.specs.Forms.{pi_form, sort_form, level_form};
 

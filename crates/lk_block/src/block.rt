@@ -4,8 +4,8 @@ ghost use Rattle.std.specs.Prelude.{◌≡◌, ◌<◌, ◌++◌, ℕ, length, m
 ghost use Rattle.lk_tree.specs.Tree.{param};
 ghost use Rattle.lk_store.specs.Contents.{Contents, name_at, level_at, tree_at, Extends, IsList};
 ghost use Rattle.lk_env.specs.Units.{type_at, IsTypeIn};
-ghost use Rattle.lk_blocks.specs.Block.{levels_of, frame_of};
-ghost use Rattle.lk_blocks.specs.BlockSteps.{shape_steps};
+ghost use Rattle.lk_inductive.specs.Block.{levels_of, frame_of};
+ghost use Rattle.lk_inductive.specs.BlockSteps.{shape_steps};
 ghost use Rattle.lk_block.specs.Courses.{Gives};
 ghost use Rattle.lk_block.specs.Frames.{frame_at, IsFrameIn};
 ghost use Rattle.lk_block.specs.Parts.{parts_at, lists_at, ArePartsIn, AreListsIn};

@@ -4,7 +4,7 @@ ghost use Rattle.std.specs.Prelude.{◌≡◌, ◌<◌, ℕ, length, map, All, I
 ghost use Rattle.lk_tree.specs.Spine.{head, args};
 ghost use Rattle.lk_store.specs.Contents.{name_at, tree_at, Extends};
 ghost use Rattle.lk_env.specs.Units.{constructor_at, type_at, IsConstructorIn, IsTypeIn};
-ghost use Rattle.lk_blocks.specs.BlockSteps.{as_member, own_indices, ctors_steps, shapes_steps};
+ghost use Rattle.lk_inductive.specs.BlockSteps.{as_member, own_indices, ctors_steps, shapes_steps};
 ghost use Rattle.lk_block.specs.Courses.{Gives, Settles};
 ghost use Rattle.lk_block.specs.Frames.{frame_at, IsFrameIn};
 ghost use Rattle.lk_block.specs.Members.{member_at, IsMemberIn};

@@ -5,8 +5,8 @@ ghost use Rattle.std.specs.Prelude.{◌≡◌, ◌<◌, length, map, All};
 ghost use Rattle.lk_tree.specs.Mentions.{same_name};
 ghost use Rattle.lk_store.specs.Contents.{name_at};
 ghost use Rattle.lk_env.specs.Units.{constructor_at, type_at, block_at, IsConstructorIn, IsTypeIn};
-ghost use Rattle.lk_blocks.specs.Block.{levels_of, parameters_of as stated_parameters};
-ghost use Rattle.lk_blocks.specs.BlockSteps.{same_names, ctor_agrees, ctors_agree, types_agree};
+ghost use Rattle.lk_inductive.specs.Block.{levels_of, parameters_of as stated_parameters};
+ghost use Rattle.lk_inductive.specs.BlockSteps.{same_names, ctor_agrees, ctors_agree, types_agree};
 ghost use Rattle.lk_block.specs.Counts.{type_agrees};
 
 use lk_env::unit::{Block, BlockType, Constructor};

@@ -3,7 +3,7 @@
 ghost use Rattle.std.specs.Prelude.{◌≡◌, ◌<◌, length, map, All, IfOk};
 ghost use Rattle.lk_tree.specs.Tree.{zero_level, succ_level};
 ghost use Rattle.lk_store.specs.Contents.{level_at, tree_at, level_of, IsLevelIn, Extends, IsLevel};
-ghost use Rattle.lk_blocks.specs.BlockSteps.{is_among, small_steps, one_ctor_steps, one_type_steps, large_steps};
+ghost use Rattle.lk_inductive.specs.BlockSteps.{is_among, small_steps, one_ctor_steps, one_type_steps, large_steps};
 ghost use Rattle.lk_block.specs.Courses.{Gives, Settles};
 ghost use Rattle.lk_block.specs.Shapes.{field_at, constructor_shape_at, type_shape_at, AreTreesIn, IsFieldIn, IsConstructorShapeIn, IsTypeShapeIn};
 ghost use Rattle.lk_block.specs.Smalls.{small_form, above_form};

@@ -2,7 +2,7 @@
 
 ghost use Rattle.std.specs.Prelude.{◌≡◌, ◌<◌, ℕ, length, map, All, IfOk};
 ghost use Rattle.lk_store.specs.Contents.{level_at, tree_at, Extends};
-ghost use Rattle.lk_blocks.specs.BlockSteps.{fits, fits_in, fields_steps};
+ghost use Rattle.lk_inductive.specs.BlockSteps.{fits, fits_in, fields_steps};
 ghost use Rattle.lk_block.specs.Courses.{Gives};
 ghost use Rattle.lk_block.specs.Frames.{frame_at, IsFrameIn};
 ghost use Rattle.lk_block.specs.Shapes.{kind_at, field_at, IsKindIn, IsFieldIn};

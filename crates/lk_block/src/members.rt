@@ -6,7 +6,7 @@ ghost use Rattle.lk_tree.specs.Spine.{head, args};
 ghost use Rattle.lk_store.specs.Contents.{name_at, list_at, tree_at, Extends};
 ghost use Rattle.lk_env.specs.Units.{IsTypeIn};
 ghost use Rattle.lk_mentions.specs.Names.{names_at};
-ghost use Rattle.lk_blocks.specs.BlockSteps.{after_params, mention_none, is_listed, plain_indices, as_member};
+ghost use Rattle.lk_inductive.specs.BlockSteps.{after_params, mention_none, is_listed, plain_indices, as_member};
 ghost use Rattle.lk_block.specs.Frames.{listed_at, frame_at, IsFrameIn};
 ghost use Rattle.lk_block.specs.Members.{own_name, named_at, member_at, IsMemberIn};
 

@@ -5,8 +5,8 @@ ghost use Rattle.std.specs.Prelude.{◌≡◌, ◌<◌, ◌++◌, List, Some, fa
 ghost use Rattle.lk_tree.specs.Tree.{Name};
 ghost use Rattle.lk_tree.specs.Mentions.{is_one_of};
 ghost use Rattle.lk_tree.specs.Spine.{head, args};
-ghost use Rattle.lk_table.specs.Declarations.{checked};
-ghost use Rattle.lk_blocks.specs.Flat.{flat_ctors, flat_types};
+ghost use Rattle.lk_questions.specs.Declarations.{checked};
+ghost use Rattle.lk_inductive.specs.Flat.{flat_ctors, flat_types};
 ghost use Rattle.lk_store.specs.Contents.{name_at, tree_at};
 ghost use Rattle.lk_env.specs.Units.{constructor_at, type_at, IsConstructorIn, IsTypeIn};
 ghost use Rattle.lk_mentions.specs.Names.{names_at};

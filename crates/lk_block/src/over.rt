@@ -2,8 +2,8 @@
 
 ghost use Rattle.std.specs.Prelude.{◌≡◌, ◌<◌, length, map, All, IfOk};
 ghost use Rattle.lk_store.specs.Contents.{tree_at, Extends};
-ghost use Rattle.lk_blocks.specs.Block.{domain};
-ghost use Rattle.lk_blocks.specs.BlockSteps.{over};
+ghost use Rattle.lk_inductive.specs.Block.{domain};
+ghost use Rattle.lk_inductive.specs.BlockSteps.{over};
 ghost use Rattle.lk_block.specs.Courses.{Gives};
 ghost use Rattle.lk_block.specs.Forms.{put_form, over_form};
 

@@ -5,7 +5,7 @@ ghost use Rattle.lk_tree.specs.Mentions.{mentions};
 ghost use Rattle.lk_tree.specs.Spine.{head, args};
 ghost use Rattle.lk_tree.specs.Tree.{pi};
 ghost use Rattle.lk_store.specs.Contents.{Contents, tree_at, Extends};
-ghost use Rattle.lk_blocks.specs.BlockSteps.{as_member, walk};
+ghost use Rattle.lk_inductive.specs.BlockSteps.{as_member, walk};
 ghost use Rattle.lk_mentions.specs.Names.{names_at};
 ghost use Rattle.lk_block.specs.Courses.{Gives, Settles};
 ghost use Rattle.lk_block.specs.Frames.{frame_at, IsFrameIn};

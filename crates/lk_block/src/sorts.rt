@@ -1,7 +1,7 @@
 //! The sorts of the constructors' types.
 
 ghost use Rattle.std.specs.Prelude.{◌≡◌, map, All};
-ghost use Rattle.lk_table.specs.Declarations.{checked};
+ghost use Rattle.lk_questions.specs.Declarations.{checked};
 ghost use Rattle.lk_store.specs.Contents.{Extends};
 ghost use Rattle.lk_env.specs.Units.{constructor_at, type_at, IsConstructorIn, IsTypeIn};
 ghost use Rattle.lk_block.specs.Courses.{Gives};

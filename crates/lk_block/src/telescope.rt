@@ -4,7 +4,7 @@ ghost use Rattle.std.specs.Prelude.{◌≡◌, ◌<◌, length, map, All, IfOk};
 ghost use Rattle.lk_tree.specs.Tree.{local};
 ghost use Rattle.lk_tree.specs.Bind.{opened};
 ghost use Rattle.lk_store.specs.Contents.{tree_at, Extends, IsTree};
-ghost use Rattle.lk_blocks.specs.BlockSteps.{telescope};
+ghost use Rattle.lk_inductive.specs.BlockSteps.{telescope};
 ghost use Rattle.lk_block.specs.Courses.{Gives};
 ghost use Rattle.lk_block.specs.Forms.{local_form};
 

@@ -3,7 +3,7 @@
 ghost use Rattle.std.specs.Prelude.{◌≡◌, ◌<◌, ◌∷◌, [], length, map, All, IfOk};
 ghost use Rattle.lk_store.specs.Contents.{level_at, tree_at, Extends};
 ghost use Rattle.lk_env.specs.Units.{type_at, IsTypeIn};
-ghost use Rattle.lk_blocks.specs.BlockSteps.{type_end, types_steps};
+ghost use Rattle.lk_inductive.specs.BlockSteps.{type_end, types_steps};
 ghost use Rattle.lk_block.specs.Courses.{Gives};
 ghost use Rattle.lk_block.specs.Forms.{end_form, next_form};
 ghost use Rattle.lk_block.specs.Parts.{lists_at, AreListsIn, parts_at, ArePartsIn, more_form, self_form, open_form, first_form, others_form};

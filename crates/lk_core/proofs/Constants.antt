@@ -7,10 +7,10 @@ use Rattle.lk_rulebook.specs.Place.{Place, Entry as PlainEntry}
 use Rattle.lk_plain.specs.Program.{refuse}
 use Rattle.lk_plain.specs.Parts.{is_built_kind}
 use Rattle.lk_plain.specs.Erased.{a_tree, Steps, refuses, erased}
-use Rattle.lk_table.specs.Steps.{value_of}
-use Rattle.lk_table.specs.BuiltIota.{core_constant_built}
-use Rattle.lk_table.specs.Core.{unfolded}
-use Rattle.lk_table.specs.Built.{may_compute, built_applied, unfolded_built}
+use Rattle.lk_questions.specs.Steps.{value_of}
+use Rattle.lk_questions.specs.BuiltIota.{core_constant_built}
+use Rattle.lk_questions.specs.Core.{unfolded}
+use Rattle.lk_questions.specs.Built.{may_compute, built_applied, unfolded_built}
 use Rattle.lk_store.specs.Store.{contents_of}
 use Rattle.lk_store.specs.declared.tables.Tables.{Tables}
 use Rattle.lk_env.specs.declared.entry.Entry.{Entry}

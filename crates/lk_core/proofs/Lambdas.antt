@@ -8,7 +8,7 @@ use Rattle.lk_tree.specs.Loose.{loose}
 use Rattle.lk_tree.specs.Putting.{put}
 use Rattle.lk_tree.specs.Spine.{apply}
 use Rattle.lk_tree.proofs.Puttings.{put_nothing, put_more}
-use Rattle.lk_table.specs.Core.{beta, lambdas}
+use Rattle.lk_questions.specs.Core.{beta, lambdas}
 use Rattle.lk_core.specs.Lambdas.{under}
 
 -- nothing is left to open with

@@ -7,8 +7,8 @@ use Rattle.lk_tree.specs.Tree.{Name, Part, text, number, name_discrete}
 use Rattle.lk_tree.specs.Mentions.{same_name}
 use Rattle.lk_tree.specs.Operations.{Op, succ, log2, add, sub, mul, div, modulo, gcd, beq, ble, land, lor, xor, shift_left, shift_right, pow}
 use Rattle.lk_rulebook.specs.Names.{nat, op_name}
-use Rattle.lk_table.specs.Literals.{op_named}
-use Rattle.lk_table.specs.Built.{is_some_op, names_one_of}
+use Rattle.lk_questions.specs.Literals.{op_named}
+use Rattle.lk_questions.specs.Built.{is_some_op, names_one_of}
 use Rattle.lk_core.specs.Words.{op_word, is_word_among}
 
 never_empty : (p : Name) (x : Part) → [] ≡ p ++ x ∷ [] → ⊥

@@ -8,7 +8,7 @@ use Rattle.lk_tree.specs.Bind.{opened}
 use Rattle.lk_tree.specs.Loose.{loose}
 use Rattle.lk_tree.specs.Putting.{put}
 use Rattle.lk_tree.specs.Spine.{apply}
-use Rattle.lk_table.specs.Core.{beta, lambdas}
+use Rattle.lk_questions.specs.Core.{beta, lambdas}
 use Rattle.lk_store.specs.Contents.{Contents, tree_at, tree_of, Extends}
 use Rattle.lk_store.specs.declared.node.Node.{Node}
 use Rattle.lk_store.specs.declared.node.Node.TheVariants.{Var, Sort, Const, App, Lam, Pi, Let, Proj, Lit, Wide, Str, Local}

@@ -4,8 +4,8 @@ use Rattle.lk_tree.specs.Tree.{Tree, app, lam}
 use Rattle.lk_tree.specs.Spine.{head, args}
 use Rattle.lk_plain.specs.Query.{core}
 use Rattle.lk_plain.specs.Program.{Program, asked}
-use Rattle.lk_table.specs.Core.{beta, lambdas}
-use Rattle.lk_table.specs.Built.{built_applied, core_row}
+use Rattle.lk_questions.specs.Core.{beta, lambdas}
+use Rattle.lk_questions.specs.Built.{built_applied, core_row}
 
 -- it goes by its head and its arguments
 pub app_row_is : (P : Program Tree → Type 0) (e f a : Tree) → app f a ≡ e → P (built_applied e (head e) (args e)) → P (core_row e)

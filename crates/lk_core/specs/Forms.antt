@@ -6,8 +6,8 @@ use Rattle.lk_rulebook.specs.Place.{Place}
 use Rattle.lk_plain.specs.Query.{core}
 use Rattle.lk_plain.specs.Program.{Program, done, asked}
 use Rattle.lk_plain.specs.Erased.{Value, a_tree, Steps, gives, with_tree, erased}
-use Rattle.lk_table.specs.Steps.{is_same_tree}
-use Rattle.lk_table.specs.Built.{whnf_end}
+use Rattle.lk_questions.specs.Steps.{is_same_tree}
+use Rattle.lk_questions.specs.Built.{whnf_end}
 use Rattle.lk_ask.specs.declared.next.Next.{Next}
 use Rattle.lk_ask.specs.declared.sheet.CoreSheet.{CoreSheet}
 use Rattle.lk_ask.specs.declared.sheet.CoreSheet.TheVariants.{Passed, Head, WhnfCore, Iota}

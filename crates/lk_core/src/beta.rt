@@ -4,7 +4,7 @@ ghost use Rattle.std.specs.Prelude.{◌≡◌, ◌<◌, ◌≤◌, ℕ, true, le
 ghost use Rattle.lk_tree.specs.Tree.{Tree};
 ghost use Rattle.lk_tree.specs.Loose.{loose};
 ghost use Rattle.lk_store.specs.Contents.{tree_at, Extends, IsTree};
-ghost use Rattle.lk_table.specs.Core.{beta, lambdas};
+ghost use Rattle.lk_questions.specs.Core.{beta, lambdas};
 ghost use Rattle.lk_core.specs.Lambdas.{under};
 
 use lk_rows::memory::NoMemory;

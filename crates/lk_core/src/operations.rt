@@ -5,7 +5,7 @@ ghost use Rattle.std.specs.Str.{bytes_eq};
 ghost use Rattle.lk_tree.specs.Mentions.{same_name};
 ghost use Rattle.lk_rulebook.specs.Names.{nat};
 ghost use Rattle.lk_tree.specs.Operations.{succ};
-ghost use Rattle.lk_table.specs.Built.{def_ops, names_one_of};
+ghost use Rattle.lk_questions.specs.Built.{def_ops, names_one_of};
 ghost use Rattle.lk_store.specs.Contents.{name_at};
 ghost use Rattle.lk_core.specs.Words.{is_word_among, bit_ops};
 

@@ -4,9 +4,9 @@ ghost use Rattle.std.specs.Prelude.{◌≡◌, ◌<◌, ℕ, Option, Some, List,
 ghost use Rattle.lk_tree.specs.Tree.{Name, Tree, const};
 ghost use Rattle.lk_rulebook.specs.Place.{Place, Entry as PlainEntry};
 ghost use Rattle.lk_plain.specs.Erased.{a_tree, truth, erased};
-ghost use Rattle.lk_table.specs.Core.{unfolded};
-ghost use Rattle.lk_table.specs.Steps.{value_of as plain_value};
-ghost use Rattle.lk_table.specs.Built.{ops_of_kind, names_one_of, may_compute as plain_may_compute, unfolded_built, whnf_built, whnf_end, whnf_row};
+ghost use Rattle.lk_questions.specs.Core.{unfolded};
+ghost use Rattle.lk_questions.specs.Steps.{value_of as plain_value};
+ghost use Rattle.lk_questions.specs.Built.{ops_of_kind, names_one_of, may_compute as plain_may_compute, unfolded_built, whnf_built, whnf_end, whnf_row};
 ghost use Rattle.lk_store.specs.Contents.{Contents, name_at, list_at, tree_at, Extends};
 ghost use Rattle.lk_store.specs.Store.{contents_of};
 ghost use Rattle.lk_env.specs.declared.unit.Unit.{Unit as StoredUnit};

@@ -10,8 +10,8 @@ use Rattle.lk_plain.specs.Answer.{later}
 use Rattle.lk_plain.specs.Program.{Program, Table, done, refuse, ◌>>=◌}
 use Rattle.lk_plain.specs.Erased.{Value, truth, Steps, asks, with_tree, with_truth, Out, finished, stopped, seen, go_on, run_steps}
 use Rattle.lk_plain.proofs.Erasing.{seen_seen, seen_none}
-use Rattle.lk_table.specs.Steps.{as_sort, sort_of, given}
-use Rattle.lk_table.specs.Declarations.{Yes, checked, value_steps, body_steps, unit_steps}
+use Rattle.lk_questions.specs.Steps.{as_sort, sort_of, given}
+use Rattle.lk_questions.specs.Declarations.{Yes, checked, value_steps, body_steps, unit_steps}
 use Rattle.lk_store.specs.Contents.{Contents, level_at}
 use Rattle.lk_ask.specs.declared.rule.Rule.TheVariants.{NotASort}
 use Rattle.lk_ask.specs.declared.stop.Stop.{Stop}

@@ -7,7 +7,7 @@ use Rattle.lk_rulebook.specs.Place.{Place}
 use Rattle.lk_plain.specs.Erased.{Value, a_tree, truth, Steps, gives, erased, finished, seen, run_steps, out_of}
 use Rattle.lk_plain.specs.Program.{Program, ask}
 use Rattle.lk_plain.proofs.Erasing.{later_none, run_from}
-use Rattle.lk_table.specs.Built.{rows, whnf_end}
+use Rattle.lk_questions.specs.Built.{rows, whnf_end}
 use Rattle.lk_plain.specs.Query as plain
 use Rattle.lk_store.specs.Contents.{Contents, tree_at, Extends}
 use Rattle.lk_ask.specs.declared.sheet.IotaSheet.{IotaSheet}

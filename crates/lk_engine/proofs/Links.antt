@@ -9,7 +9,7 @@ use Rattle.lk_plain.specs.Answer.{later}
 use Rattle.lk_plain.specs.Erased.{Value, Out, finished, stopped, used_up, seen, go_on, run_steps, out_of, steps_of}
 use Rattle.lk_plain.proofs.Erasing.{out-zero, out-step, seen_seen}
 use Rattle.lk_plain.proofs.Exact.{out_exact}
-use Rattle.lk_table.specs.Built.{rows}
+use Rattle.lk_questions.specs.Built.{rows}
 use Rattle.lk_store.specs.Contents.{Contents, tree_at, Extends}
 use Rattle.lk_ask.specs.declared.query.Query.{Query}
 use Rattle.lk_ask.specs.declared.query.Query.TheVariants.{Core, Whnf, Infer, Same}

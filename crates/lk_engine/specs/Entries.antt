@@ -2,7 +2,7 @@
 use Rattle.std.specs.Prelude.{◌≡◌, ℕ, List, length, Contains}
 use Rattle.lk_rulebook.specs.Place.{Place}
 use Rattle.lk_plain.specs.Erased.{out_of, IsAnsweredAt}
-use Rattle.lk_table.specs.Built.{rows}
+use Rattle.lk_questions.specs.Built.{rows}
 use Rattle.lk_store.specs.Contents.{Contents, tree_at}
 use Rattle.lk_ask.specs.declared.query.Query.{Query}
 use Rattle.lk_ask.specs.declared.kept.Kept.{Kept}

@@ -6,8 +6,8 @@ use Rattle.lk_rulebook.specs.Place.{Place}
 use Rattle.lk_plain.specs.Query as plain
 use Rattle.lk_plain.specs.Program.{Program, done, refuse, ◌>>=◌}
 use Rattle.lk_plain.specs.Erased.{truth, Steps, asks, with_tree, with_truth, erased, Out, finished, seen, run_steps}
-use Rattle.lk_table.specs.Steps.{as_sort, sort_of}
-use Rattle.lk_table.specs.Declarations.{Yes, value_steps}
+use Rattle.lk_questions.specs.Steps.{as_sort, sort_of}
+use Rattle.lk_questions.specs.Declarations.{Yes, value_steps}
 use Rattle.lk_store.specs.Contents.{Contents, level_at, tree_at}
 use Rattle.lk_ask.specs.declared.rule.Rule.TheVariants.{NotASort}
 use Rattle.lk_ask.specs.declared.stop.Stop.{Stop}

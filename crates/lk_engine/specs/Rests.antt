@@ -3,7 +3,7 @@ use Rattle.std.specs.Prelude.{◌≡◌, ℕ, List, [], ◌∷◌, Option, None}
 use Rattle.lk_tree.specs.Tree.{Tree}
 use Rattle.lk_rulebook.specs.Place.{Place}
 use Rattle.lk_plain.specs.Erased.{Value, a_tree, truth, Steps, erased, seen, go_on, run_steps, out_of}
-use Rattle.lk_table.specs.Built.{core_row, whnf_row, infer_row, same_row, rows}
+use Rattle.lk_questions.specs.Built.{core_row, whnf_row, infer_row, same_row, rows}
 use Rattle.lk_ask.specs.declared.query.Query.{Query}
 use Rattle.lk_ask.specs.declared.query.Query.TheVariants.{Core, Whnf, Infer, Same}
 use Rattle.lk_ask.specs.declared.next.Next.{Next}

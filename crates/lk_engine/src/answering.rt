@@ -2,7 +2,7 @@
 
 ghost use Rattle.std.specs.Prelude.{◌≡◌, ◌≢◌, ◌<◌, ◌≤◌, ◌+◌, ◌-◌, ◌^◌, ◌⊎◌, length, Contains, IfOk, OnOk, IfErr, Err, ℕ};
 ghost use Rattle.lk_plain.specs.Erased.{Out, IsAnsweredAt, run_steps, out_of};
-ghost use Rattle.lk_table.specs.Built.{rows};
+ghost use Rattle.lk_questions.specs.Built.{rows};
 ghost use Rattle.lk_store.specs.Contents.{Contents, tree_at, Extends};
 ghost use Rattle.lk_store.specs.Store.{contents_of};
 ghost use Rattle.lk_env.specs.Places.{place_at};

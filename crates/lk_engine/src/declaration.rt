@@ -3,7 +3,7 @@
 ghost use Rattle.std.specs.Prelude.{◌≡◌, ◌<◌, length, IfOk};
 ghost use Rattle.lk_rulebook.specs.Place.{Hint};
 ghost use Rattle.lk_rulebook.specs.Units.{Decl, as_axiom, as_def, as_thm, as_opaque};
-ghost use Rattle.lk_table.specs.Declarations.{unit_steps, value_steps};
+ghost use Rattle.lk_questions.specs.Declarations.{unit_steps, value_steps};
 ghost use Rattle.lk_plain.specs.Erased.{out_of, run_steps};
 ghost use Rattle.lk_store.specs.Contents.{tree_at, Extends};
 ghost use Rattle.lk_ask.specs.Questions.{query_of, IsKnownQuery};

@@ -198,7 +198,7 @@ impl<'a> Terms for Engine<'a> {
 
 impl<'a> Asks for Engine<'a> {
     ghost use Rattle.std.proofs.Common.{refl, ap};
-    ghost use Rattle.lk_table.specs.Built.{rows};
+    ghost use Rattle.lk_questions.specs.Built.{rows};
     ghost use Rattle.lk_env.specs.Places.{place_at};
 
     /// The library and the number of the unit at work.

@@ -8,7 +8,7 @@ use Rattle.lk_tree.specs.RuleNo.{RuleNo}
 use Rattle.lk_rulebook.specs.Place.{Place, Entry as PlainEntry, Kind, Block, BlockType as PlainType, Ctor, RecRule, an_axiom, a_def, a_thm, an_opaque, a_quot, a_type, a_ctor, a_rec}
 use Rattle.lk_plain.specs.Program.{Program}
 use Rattle.lk_plain.specs.Erased.{a_tree, refuses, erased}
-use Rattle.lk_table.specs.Iota.{CtorApp, ctor_app_by, has_one_ctor}
+use Rattle.lk_questions.specs.Iota.{CtorApp, ctor_app_by, has_one_ctor}
 use Rattle.lk_store.specs.Contents.{Contents, name_at, tree_at, Extends}
 use Rattle.lk_env.specs.declared.unit.BlockType.{BlockType}
 use Rattle.lk_env.specs.declared.unit.Constructor.{Constructor}

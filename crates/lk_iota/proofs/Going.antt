@@ -11,8 +11,8 @@ use Rattle.lk_rulebook.specs.Structures.{before_major}
 use Rattle.lk_plain.specs.Query.{whnf, infer, same}
 use Rattle.lk_plain.specs.Program.{Program, done, refuse, ask, asked, ◌>>=◌}
 use Rattle.lk_plain.specs.Erased.{a_tree, Steps, asks, gives, refuses, with_tree, erased}
-use Rattle.lk_table.specs.Iota.{CtorApp, only_ctor, to_ctor_when_k, levels_at}
-use Rattle.lk_table.specs.BuiltIota.{may_be_structure, no_structure, no_literal, iota_built, core_constant_built}
+use Rattle.lk_questions.specs.Iota.{CtorApp, only_ctor, to_ctor_when_k, levels_at}
+use Rattle.lk_questions.specs.BuiltIota.{may_be_structure, no_structure, no_literal, iota_built, core_constant_built}
 use Rattle.lk_store.specs.Contents.{Contents, tree_of}
 use Rattle.lk_store.specs.declared.node.Node.{Node}
 use Rattle.lk_store.specs.declared.node.Node.TheVariants.{Var, Sort, Const, App, Lam, Pi, Let, Proj, Lit, Wide, Str, Local}

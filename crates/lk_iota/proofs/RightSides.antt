@@ -12,8 +12,8 @@ use Rattle.lk_rulebook.specs.Place.{Place, Entry as PlainEntry, Kind, Recursor a
 use Rattle.lk_plain.specs.Query.{core}
 use Rattle.lk_plain.specs.Program.{done, asked, ◌>>=◌}
 use Rattle.lk_plain.specs.Erased.{a_tree, asks, gives, with_tree, erased}
-use Rattle.lk_table.specs.Steps.{given}
-use Rattle.lk_table.specs.Iota.{CtorApp, fitting_rule, by_rule}
+use Rattle.lk_questions.specs.Steps.{given}
+use Rattle.lk_questions.specs.Iota.{CtorApp, fitting_rule, by_rule}
 use Rattle.lk_store.specs.Contents.{Contents, name_at, list_at, tree_at, Extends}
 use Rattle.lk_store.specs.declared.tables.Tables.{Tables}
 use Rattle.lk_store.proofs.Extending.{Extends-trans}

@@ -7,8 +7,8 @@ use Rattle.lk_rulebook.specs.Place.{Place}
 use Rattle.lk_plain.specs.Query.{whnf, same}
 use Rattle.lk_plain.specs.Program.{Program, done, refuse, ask, ◌>>=◌}
 use Rattle.lk_plain.specs.Erased.{Value, a_tree, Steps, gives, with_tree, with_truth, erased}
-use Rattle.lk_table.specs.Iota.{CtorApp, only_ctor, to_ctor_when_k, levels_at, k_from, iota_at_ctor}
-use Rattle.lk_table.specs.BuiltIota.{no_structure, as_ctor_app_built, iota_of_built, no_literal, iota_after_k_built, iota_built}
+use Rattle.lk_questions.specs.Iota.{CtorApp, only_ctor, to_ctor_when_k, levels_at, k_from, iota_at_ctor}
+use Rattle.lk_questions.specs.BuiltIota.{no_structure, as_ctor_app_built, iota_of_built, no_literal, iota_after_k_built, iota_built}
 use Rattle.lk_ask.specs.declared.next.Next.{Next}
 use Rattle.lk_ask.specs.declared.sheet.IotaSheet.{IotaSheet}
 use Rattle.lk_ask.specs.declared.sheet.IotaSheet.TheVariants.{Passed, MajorType, MajorTypeForm, Candidate, CandidateSame, Major}

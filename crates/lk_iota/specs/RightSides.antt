@@ -5,7 +5,7 @@ use Rattle.lk_tree.specs.Spine.{apply}
 use Rattle.lk_rulebook.specs.Place.{Entry}
 use Rattle.lk_plain.specs.Query.{core}
 use Rattle.lk_plain.specs.Program.{Program, asked, ◌>>=◌}
-use Rattle.lk_table.specs.Steps.{with_levels}
+use Rattle.lk_questions.specs.Steps.{with_levels}
 
 -- v at levels, applied to what the rules share, to the fields, and to what came behind the major premise
 abbrev pub right_side : Entry → List Level → Tree → List Tree → List Tree → List Tree → Program Tree

@@ -4,8 +4,8 @@ use Rattle.lk_tree.specs.Tree.{Name, Level, Tree, const}
 use Rattle.lk_tree.specs.RuleNo.{unknown_constant}
 use Rattle.lk_rulebook.specs.Place.{Place, RecRule}
 use Rattle.lk_plain.specs.Program.{Program, look, ◌>>=◌}
-use Rattle.lk_table.specs.Iota.{CtorApp, ctor_app_by, ctor_app_of, only_ctor}
-use Rattle.lk_table.specs.BuiltIota.{may_be_structure}
+use Rattle.lk_questions.specs.Iota.{CtorApp, ctor_app_by, ctor_app_of, only_ctor}
+use Rattle.lk_questions.specs.BuiltIota.{may_be_structure}
 use Rattle.lk_store.specs.Contents.{Contents, name_at}
 use Rattle.lk_env.specs.declared.unit.RecursorRule.{RecursorRule}
 use Rattle.lk_iota.specs.declared.shape.Shape.{Shape}

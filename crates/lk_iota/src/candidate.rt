@@ -4,7 +4,7 @@ ghost use Rattle.std.specs.Prelude.{◌≡◌, ◌<◌, ℕ, Option, Some, List,
 ghost use Rattle.lk_tree.specs.Tree.{Tree};
 ghost use Rattle.lk_rulebook.specs.Place.{Place};
 ghost use Rattle.lk_plain.specs.Erased.{a_tree, erased};
-ghost use Rattle.lk_table.specs.Iota.{CtorApp};
+ghost use Rattle.lk_questions.specs.Iota.{CtorApp};
 ghost use Rattle.lk_store.specs.Contents.{list_at, tree_at, Extends};
 ghost use Rattle.lk_store.specs.Store.{contents_of};
 ghost use Rattle.lk_store.specs.declared.tables.Tables.{Tables};

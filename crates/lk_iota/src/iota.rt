@@ -4,7 +4,7 @@ ghost use Rattle.std.specs.Prelude.{◌≡◌, ◌<◌, ℕ, Option, Some, IfOk,
 ghost use Rattle.lk_tree.specs.Spine.{args as args_of};
 ghost use Rattle.lk_rulebook.specs.Place.{Entry as PlainEntry};
 ghost use Rattle.lk_plain.specs.Erased.{a_tree, truth, erased};
-ghost use Rattle.lk_table.specs.BuiltIota.{core_constant_built};
+ghost use Rattle.lk_questions.specs.BuiltIota.{core_constant_built};
 ghost use Rattle.lk_store.specs.Contents.{list_at, tree_at, Extends};
 ghost use Rattle.lk_store.specs.Store.{contents_of};
 ghost use Rattle.lk_env.specs.Entries.{plain_entry};

@@ -5,7 +5,7 @@ ghost use Rattle.lk_tree.specs.Mentions.{same_name};
 ghost use Rattle.lk_tree.specs.Spine.{apply as apply_to, args as args_of};
 ghost use Rattle.lk_rulebook.specs.Place.{Place, Entry as PlainEntry, Recursor as PlainRecursor, a_rec};
 ghost use Rattle.lk_plain.specs.Erased.{a_tree, erased};
-ghost use Rattle.lk_table.specs.Iota.{CtorApp, fitting_rule as plain_fitting};
+ghost use Rattle.lk_questions.specs.Iota.{CtorApp, fitting_rule as plain_fitting};
 ghost use Rattle.lk_store.specs.Contents.{name_at, list_at, tree_at, Extends, IsTree};
 ghost use Rattle.lk_store.specs.Store.{contents_of};
 ghost use Rattle.lk_env.specs.Units.{rule_at, IsRuleIn};

@@ -6,7 +6,7 @@ ghost use Rattle.lk_tree.specs.Spine.{head as head_of, args as args_of};
 ghost use Rattle.lk_rulebook.specs.Place.{Entry as PlainEntry};
 ghost use Rattle.lk_plain.specs.Program.{Program};
 ghost use Rattle.lk_plain.specs.Erased.{a_tree, refuses, erased};
-ghost use Rattle.lk_table.specs.Iota.{CtorApp, ctor_app_by, has_one_ctor};
+ghost use Rattle.lk_questions.specs.Iota.{CtorApp, ctor_app_by, has_one_ctor};
 ghost use Rattle.lk_store.specs.Contents.{Contents, name_at, tree_at, Extends};
 ghost use Rattle.lk_store.specs.Store.{contents_of};
 ghost use Rattle.lk_env.specs.Units.{rule_at, type_at, IsRuleIn};

@@ -2,7 +2,7 @@
 use Rattle.std.proofs.Common.{◌≡◌, Bool, refl, ap}
 use Rattle.std.proofs.Math.Path.{fun_ext}
 use Rattle.lk_plain.specs.Program.{Program, done, refuse, ask, look, ◌>>=◌}
-use Rattle.lk_table.specs.Pairs.{answers, ◌or_else◌}
+use Rattle.lk_questions.specs.Pairs.{answers, ◌or_else◌}
 
 pub bind_bind : {A B C : Type 0} (p : Program A) (f : A → Program B) (k : B → Program C) → ((p >>= f) >>= k) ≡ (p >>= λ v. f v >>= k)
 bind_bind (done v) f k = refl

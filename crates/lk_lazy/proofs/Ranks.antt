@@ -8,10 +8,10 @@ use Rattle.lk_tree.specs.RuleNo.{RuleNo, loose_variable}
 use Rattle.lk_rulebook.specs.Place.{Place}
 use Rattle.lk_plain.specs.Program.{Program, done, refuse, ◌>>=◌}
 use Rattle.lk_plain.specs.Erased.{truth, refuses, erased}
-use Rattle.lk_table.specs.Steps.{decided}
-use Rattle.lk_table.specs.Levels.{complete_test, levels_equal}
-use Rattle.lk_table.specs.Pairs.{same_all, otherwise, answers, answers_yes, ◌or_else◌}
-use Rattle.lk_table.specs.Unfolding.{Unfolding as PlainUnfolding, is_less, unfolding_of, unfold_first, unfold_second, unfold_both, same_by_arguments, by_ranks, by_unfolding}
+use Rattle.lk_questions.specs.Steps.{decided}
+use Rattle.lk_questions.specs.Levels.{complete_test, levels_equal}
+use Rattle.lk_questions.specs.Pairs.{same_all, otherwise, answers, answers_yes, ◌or_else◌}
+use Rattle.lk_questions.specs.Unfolding.{Unfolding as PlainUnfolding, is_less, unfolding_of, unfold_first, unfold_second, unfold_both, same_by_arguments, by_ranks, by_unfolding}
 use Rattle.lk_store.specs.Contents.{Contents}
 use Rattle.lk_store.specs.declared.tables.Tables.{Tables}
 use Rattle.lk_env.specs.declared.unit.Unit.{Unit as StoredUnit}

@@ -3,7 +3,7 @@ use Rattle.std.specs.Prelude.{◌≡◌, ◌<◌, Bool, List, length, Option, So
 use Rattle.lk_tree.specs.Tree.{Tree, const}
 use Rattle.lk_rulebook.specs.Place.{Place}
 use Rattle.lk_plain.specs.Program.{Program, ◌>>=◌}
-use Rattle.lk_table.specs.Unfolding.{Unfolding as PlainUnfolding, Rank as PlainRank, lowest, height, highest, unfolding_by, unfolding_of}
+use Rattle.lk_questions.specs.Unfolding.{Unfolding as PlainUnfolding, Rank as PlainRank, lowest, height, highest, unfolding_by, unfolding_of}
 use Rattle.lk_store.specs.Contents.{Contents, name_at, list_at, tree_at}
 use Rattle.lk_store.specs.Store.{contents_of}
 use Rattle.lk_store.specs.declared.tables.Tables.{Tables}

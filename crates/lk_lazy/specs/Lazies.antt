@@ -6,8 +6,8 @@ use Rattle.lk_tree.specs.RuleNo.{loose_variable}
 use Rattle.lk_rulebook.specs.Place.{Place}
 use Rattle.lk_plain.specs.Program.{Program, done, refuse}
 use Rattle.lk_plain.specs.Erased.{Value, truth, Steps, gives, with_truth, erased}
-use Rattle.lk_table.specs.Pairs.{same_all, Line, answers_yes, ◌or_else◌}
-use Rattle.lk_table.specs.Unfolding.{Unfolding as PlainUnfolding, is_less, unfold_first, unfold_second, unfold_both, same_by_arguments}
+use Rattle.lk_questions.specs.Pairs.{same_all, Line, answers_yes, ◌or_else◌}
+use Rattle.lk_questions.specs.Unfolding.{Unfolding as PlainUnfolding, is_less, unfold_first, unfold_second, unfold_both, same_by_arguments}
 use Rattle.lk_ask.specs.declared.next.Next.{Next}
 use Rattle.lk_ask.specs.declared.sheet.Pair.{Pair}
 use Rattle.lk_ask.specs.declared.sheet.LazySheet.{LazySheet}

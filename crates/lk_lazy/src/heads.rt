@@ -5,7 +5,7 @@ ghost use Rattle.lk_tree.specs.Spine.{head as head_of};
 ghost use Rattle.lk_rulebook.specs.Place.{Entry as PlainEntry};
 ghost use Rattle.lk_plain.specs.Program.{Program};
 ghost use Rattle.lk_plain.specs.Erased.{truth, refuses, erased};
-ghost use Rattle.lk_table.specs.Unfolding.{Unfolding as PlainUnfolding, unfolding_by as plain_by};
+ghost use Rattle.lk_questions.specs.Unfolding.{Unfolding as PlainUnfolding, unfolding_by as plain_by};
 ghost use Rattle.lk_store.specs.Contents.{Contents, name_at, list_at, tree_at, Extends};
 ghost use Rattle.lk_store.specs.Store.{contents_of};
 ghost use Rattle.lk_store.specs.declared.tables.Tables.{Tables};

@@ -1,7 +1,7 @@
 //! Levels compared, two or two lists of them.
 
 ghost use Rattle.std.specs.Prelude.{◌≡◌, ◌<◌, nat_eq, length, IfOk};
-ghost use Rattle.lk_table.specs.Levels.{complete_test as plain_test, tested as plain_answer, level_pairs_equal, levels_equal as plain_equal};
+ghost use Rattle.lk_questions.specs.Levels.{complete_test as plain_test, tested as plain_answer, level_pairs_equal, levels_equal as plain_equal};
 ghost use Rattle.lk_store.specs.Contents.{level_at, list_at};
 
 use lk_level_order::compared::{LevelError, equal};

@@ -1,7 +1,7 @@
 //! Which of two terms unfolds.
 
 ghost use Rattle.std.specs.Prelude.{◌≡◌};
-ghost use Rattle.lk_table.specs.Unfolding.{rank_of_hint, is_less as plain_less};
+ghost use Rattle.lk_questions.specs.Unfolding.{rank_of_hint, is_less as plain_less};
 ghost use Rattle.lk_env.specs.Units.{hint_of};
 ghost use Rattle.lk_lazy.specs.Heads.{rank_at};
 

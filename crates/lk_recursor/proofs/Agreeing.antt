@@ -3,9 +3,9 @@ use Rattle.std.proofs.Common.{◌≡◌, ℕ, Bool, true, ◌&&◌, nat_eq, List
 use Rattle.std.proofs.lemmas.List.{length-map}
 use Rattle.std.proofs.lemmas.Bool.Decides.{nat_tests}
 use Rattle.lk_tree.specs.Mentions.{same_name}
-use Rattle.lk_blocks.specs.Block.{Shape as PlainShape}
-use Rattle.lk_blocks.specs.Recursors.{rules_of, as_they_are, rec_params, minors, is_k}
-use Rattle.lk_blocks.specs.Compare.{same_bool, same_rules, same_counts}
+use Rattle.lk_inductive.specs.Block.{Shape as PlainShape}
+use Rattle.lk_inductive.specs.Recursors.{rules_of, as_they_are, rec_params, minors, is_k}
+use Rattle.lk_inductive.specs.Compare.{same_bool, same_rules, same_counts}
 use Rattle.lk_store.specs.Contents.{Contents, name_at, tree_at}
 use Rattle.lk_env.specs.declared.unit.RecursorRule.{RecursorRule}
 use Rattle.lk_env.specs.Units.{rule_at}

@@ -6,8 +6,8 @@ use Rattle.lk_tree.specs.Mentions.{same_name}
 use Rattle.lk_tree.specs.Spine.{apply}
 use Rattle.lk_store.specs.Contents.{Contents, name_at, tree_at, Extends}
 use Rattle.lk_subst.specs.Numbers.{trees-steady}
-use Rattle.lk_blocks.specs.Block as plain
-use Rattle.lk_blocks.specs.Recursors.{motive_in, motive_of, at_params}
+use Rattle.lk_inductive.specs.Block as plain
+use Rattle.lk_inductive.specs.Recursors.{motive_in, motive_of, at_params}
 use Rattle.lk_block.specs.declared.shape.Shape.{Shape}
 use Rattle.lk_block.specs.Shapes.{shape_at, IsShapeIn}
 use Rattle.lk_block.proofs.Shaping.{shape-steady}

@@ -2,14 +2,14 @@
 use Rattle.std.proofs.Common.{◌≡◌, ◌<◌, ℕ, List, [], ◌∷◌, map, length, All, refl, ap, sym, ◌∙◌, arith}
 use Rattle.lk_rulebook.specs.Place.{RecRule}
 use Rattle.lk_plain.specs.Program.{done, ◌>>=◌}
-use Rattle.lk_table.specs.Declarations.{checked}
+use Rattle.lk_questions.specs.Declarations.{checked}
 use Rattle.lk_store.specs.Contents.{Contents, name_at, tree_at, Extends}
 use Rattle.lk_env.specs.declared.unit.RecursorRule.{RecursorRule}
 use Rattle.lk_env.specs.declared.unit.Recursor.{Recursor}
 use Rattle.lk_env.specs.Units.{rule_at, recursor_at, IsRecursorIn}
-use Rattle.lk_blocks.specs.Block as plain
-use Rattle.lk_blocks.specs.Recursors.{Rec, rules_of, as_they_are, rule_value, recs_from, recursors}
-use Rattle.lk_blocks.specs.Compare.{renamed, rules_steps, rec_steps, rec_named, compare_found, compare_steps}
+use Rattle.lk_inductive.specs.Block as plain
+use Rattle.lk_inductive.specs.Recursors.{Rec, rules_of, as_they_are, rule_value, recs_from, recursors}
+use Rattle.lk_inductive.specs.Compare.{renamed, rules_steps, rec_steps, rec_named, compare_found, compare_steps}
 use Rattle.lk_block.specs.declared.shape.ConstructorShape.{ConstructorShape}
 use Rattle.lk_block.specs.declared.shape.TypeShape.{TypeShape}
 use Rattle.lk_block.specs.declared.shape.Shape.{Shape}

@@ -4,9 +4,9 @@ use Rattle.std.proofs.lemmas.List.{append-nil, map-append}
 use Rattle.lk_tree.specs.Tree.{Tree, Name, param, zero_level}
 use Rattle.lk_store.specs.Contents.{Contents, name_at, level_at, tree_at, Extends}
 use Rattle.lk_subst.specs.Numbers.{values-steady, values-known, trees-steady, trees-known}
-use Rattle.lk_blocks.specs.Block as plain
-use Rattle.lk_blocks.specs.Recursors.{as_they_are, rec_name, rec_of, is_k}
-use Rattle.lk_blocks.specs.Compare.{renamed}
+use Rattle.lk_inductive.specs.Block as plain
+use Rattle.lk_inductive.specs.Recursors.{as_they_are, rec_name, rec_of, is_k}
+use Rattle.lk_inductive.specs.Compare.{renamed}
 use Rattle.lk_block.specs.declared.shape.TypeShape.{TypeShape}
 use Rattle.lk_block.specs.Shapes.{shape_at, type_shape_at, IsTypeShapeIn}
 use Rattle.lk_recursor.specs.declared.own.Shared.{Shared}

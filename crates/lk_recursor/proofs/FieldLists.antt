@@ -3,8 +3,8 @@ use Rattle.std.proofs.Common.{◌≡◌, ◌<◌, ℕ, List, [], ◌∷◌, ◌+
 use Rattle.std.proofs.lemmas.List.Elements.{All-map, All-same, All-weaker}
 use Rattle.lk_tree.specs.Tree.{Name, Tree}
 use Rattle.lk_store.specs.Contents.{Contents, tree_at}
-use Rattle.lk_blocks.specs.Block as plain
-use Rattle.lk_blocks.specs.Recursors.{variables, with_hypothesis, hypotheses, with_induction, inductions}
+use Rattle.lk_inductive.specs.Block as plain
+use Rattle.lk_inductive.specs.Recursors.{variables, with_hypothesis, hypotheses, with_induction, inductions}
 use Rattle.lk_block.specs.declared.shape.Field.{Field}
 use Rattle.lk_block.specs.Shapes.{field_at, IsFieldIn}
 use Rattle.lk_recursor.specs.Hypotheses.{hypothesis, induction}

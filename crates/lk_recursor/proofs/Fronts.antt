@@ -4,8 +4,8 @@ use Rattle.lk_tree.specs.Tree.{Tree, param}
 use Rattle.lk_store.specs.Contents.{Contents, name_at, tree_at, Extends, IsList}
 use Rattle.lk_spine.specs.Reading.{AreTrees}
 use Rattle.lk_subst.specs.Numbers.{trees-steady}
-use Rattle.lk_blocks.specs.Block as plain
-use Rattle.lk_blocks.specs.Recursors.{shape_bound, rec_params, motives, minors}
+use Rattle.lk_inductive.specs.Block as plain
+use Rattle.lk_inductive.specs.Recursors.{shape_bound, rec_params, motives, minors}
 use Rattle.lk_block.specs.declared.shape.Shape.{Shape}
 use Rattle.lk_block.specs.Shapes.{shape_at}
 use Rattle.lk_recursor.specs.declared.binders.Binder.{Binder}

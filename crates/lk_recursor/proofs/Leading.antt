@@ -6,10 +6,10 @@ use Rattle.lk_tree.specs.RuleNo.{recursor_differs}
 use Rattle.lk_rulebook.specs.Place.{Place, RecRule}
 use Rattle.lk_plain.specs.Query.{infer, same}
 use Rattle.lk_plain.specs.Program.{Program, Table, done, ask, asked, ◌>>=◌}
-use Rattle.lk_table.specs.Steps.{given}
-use Rattle.lk_table.specs.Declarations.{Yes, checked}
-use Rattle.lk_blocks.specs.Recursors.{Rec}
-use Rattle.lk_blocks.specs.Compare.{renamed, rules_steps}
+use Rattle.lk_questions.specs.Steps.{given}
+use Rattle.lk_questions.specs.Declarations.{Yes, checked}
+use Rattle.lk_inductive.specs.Recursors.{Rec}
+use Rattle.lk_inductive.specs.Compare.{renamed, rules_steps}
 use Rattle.lk_ask.specs.declared.rule.Rule.TheVariants.{RecursorDiffers}
 use Rattle.lk_ask.specs.declared.stop.Stop.TheVariants.{Rule}
 use Rattle.lk_block.specs.Courses.{Goes, Halts}

@@ -7,8 +7,8 @@ use Rattle.lk_tree.specs.Spine.{apply}
 use Rattle.lk_tree.specs.Bind.{close}
 use Rattle.lk_store.specs.Contents.{Contents, tree_at, Extends}
 use Rattle.lk_subst.specs.Numbers.{trees-steady, trees-known}
-use Rattle.lk_blocks.specs.Block.{domain}
-use Rattle.lk_blocks.specs.Recursors.{number, pis, lams, arrows}
+use Rattle.lk_inductive.specs.Block.{domain}
+use Rattle.lk_inductive.specs.Recursors.{number, pis, lams, arrows}
 use Rattle.lk_recursor.specs.declared.binders.Binder.{Binder}
 use Rattle.lk_recursor.specs.declared.binders.Binder.TheVariants.{Pi, Lam}
 use Rattle.lk_recursor.specs.Binders.{bind, bound_by}

@@ -3,9 +3,9 @@ use Rattle.std.proofs.Common.{◌≡◌, ◌<◌, ℕ, true, false, List, [], �
 use Rattle.std.proofs.lemmas.List.Elements.{All-tail}
 use Rattle.lk_tree.specs.Tree.{Name, Tree}
 use Rattle.lk_tree.specs.Mentions.{same_name}
-use Rattle.lk_blocks.specs.Block.{Shape as PlainShape, CtorShape}
-use Rattle.lk_blocks.specs.Compare.{rec_named}
-use Rattle.lk_blocks.specs.Recursors.{Rec, past_minors, rec_name, rec_of, recs_from, as_they_are}
+use Rattle.lk_inductive.specs.Block.{Shape as PlainShape, CtorShape}
+use Rattle.lk_inductive.specs.Compare.{rec_named}
+use Rattle.lk_inductive.specs.Recursors.{Rec, past_minors, rec_name, rec_of, recs_from, as_they_are}
 use Rattle.lk_store.specs.Contents.{Contents, name_at, tree_at}
 use Rattle.lk_block.specs.declared.shape.TypeShape.{TypeShape}
 use Rattle.lk_block.specs.Shapes.{constructor_shape_at, type_shape_at}

@@ -3,8 +3,8 @@ use Rattle.std.proofs.Common.{◌≡◌, ◌<◌, ℕ, true, List, ◌∷◌, ma
 use Rattle.std.specs.Prelude.{if◌then◌else◌}
 use Rattle.std.proofs.lemmas.List.Elements.{All-cons, All-same}
 use Rattle.lk_store.specs.Contents.{Contents, name_at, Extends, IsName}
-use Rattle.lk_blocks.specs.Block as plain
-use Rattle.lk_blocks.specs.Recursors.{motive_level, rec_params}
+use Rattle.lk_inductive.specs.Block as plain
+use Rattle.lk_inductive.specs.Recursors.{motive_level, rec_params}
 use Rattle.lk_block.proofs.Stays.{names_stay, names_in_stay}
 
 -- with the one that large elimination adds

@@ -3,8 +3,8 @@ use Rattle.std.proofs.Common.{◌≡◌, ℕ, suc, ◌+◌, List, [], ◌∷◌,
 use Rattle.std.proofs.lemmas.List.{append-nil, length-map, map-append, length-append}
 use Rattle.lk_tree.specs.Tree.{Tree}
 use Rattle.lk_tree.specs.Bind.{close}
-use Rattle.lk_blocks.specs.Block.{domain}
-use Rattle.lk_blocks.specs.Recursors.{number}
+use Rattle.lk_inductive.specs.Block.{domain}
+use Rattle.lk_inductive.specs.Recursors.{number}
 use Rattle.lk_recursor.specs.declared.binders.Binder.{Binder}
 use Rattle.lk_recursor.specs.declared.binders.Binder.TheVariants.{Pi, Lam}
 use Rattle.lk_recursor.specs.Binders.{bind, bound_by, AreRun}

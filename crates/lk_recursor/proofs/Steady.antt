@@ -8,8 +8,8 @@ use Rattle.lk_block.specs.declared.shape.Shape.{Shape}
 use Rattle.lk_block.specs.Shapes.{shape_at, IsShapeIn}
 use Rattle.lk_block.proofs.Stays.{names_stay, names_in_stay}
 use Rattle.lk_block.proofs.Shaping.{shape-steady}
-use Rattle.lk_blocks.specs.Block as plain
-use Rattle.lk_blocks.specs.Recursors.{shape_bound, rec_params, motives, minors}
+use Rattle.lk_inductive.specs.Block as plain
+use Rattle.lk_inductive.specs.Recursors.{shape_bound, rec_params, motives, minors}
 use Rattle.lk_recursor.specs.declared.heads.Heads.{Heads}
 use Rattle.lk_recursor.specs.declared.front.Front.{Front}
 use Rattle.lk_recursor.specs.Fronts.{AreHeads, IsFront}

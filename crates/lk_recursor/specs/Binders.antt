@@ -1,7 +1,7 @@
 -- Binders over Locals.
 use Rattle.std.specs.Prelude.{◌≡◌, ℕ, suc, List, [], ◌∷◌}
 use Rattle.lk_tree.specs.Tree.{Tree, lam, pi}
-use Rattle.lk_blocks.specs.Recursors.{number, pis, lams}
+use Rattle.lk_inductive.specs.Recursors.{number, pis, lams}
 use Rattle.lk_recursor.specs.declared.binders.Binder.{Binder}
 use Rattle.lk_recursor.specs.declared.binders.Binder.TheVariants.{Pi, Lam}
 

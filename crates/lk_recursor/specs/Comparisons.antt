@@ -4,13 +4,13 @@ use Rattle.lk_tree.specs.Tree.{Tree, param}
 use Rattle.lk_tree.specs.RuleNo.{recursor_differs}
 use Rattle.lk_plain.specs.Query.{infer, same}
 use Rattle.lk_plain.specs.Program.{Program, done, asked, ◌>>=◌}
-use Rattle.lk_table.specs.Steps.{given, sort_of}
-use Rattle.lk_table.specs.Declarations.{Yes, checked}
+use Rattle.lk_questions.specs.Steps.{given, sort_of}
+use Rattle.lk_questions.specs.Declarations.{Yes, checked}
 use Rattle.lk_store.specs.Contents.{Contents, name_at, level_at, tree_at}
 use Rattle.lk_env.specs.Units.{recursor_at, IsRecursorIn}
-use Rattle.lk_blocks.specs.Block as plain
-use Rattle.lk_blocks.specs.Compare.{renamed, rules_steps}
-use Rattle.lk_blocks.specs.Recursors.{Rec, as_they_are, rec_name, rec_of, rule_value, is_k}
+use Rattle.lk_inductive.specs.Block as plain
+use Rattle.lk_inductive.specs.Compare.{renamed, rules_steps}
+use Rattle.lk_inductive.specs.Recursors.{Rec, as_they_are, rec_name, rec_of, rule_value, is_k}
 use Rattle.lk_block.specs.Shapes.{shape_at, constructor_shape_at, type_shape_at, AreTreesIn, IsShapeIn, IsTypeShapeIn}
 use Rattle.lk_block.specs.declared.shape.ConstructorShape.{ConstructorShape}
 use Rattle.lk_block.specs.declared.shape.TypeShape.{TypeShape}

@@ -3,7 +3,7 @@ use Rattle.std.specs.Prelude.{◌≡◌, ◌<◌, ◌+◌, length, map, All}
 use Rattle.lk_tree.specs.Tree.{param}
 use Rattle.lk_store.specs.Contents.{Contents, name_at, IsList}
 use Rattle.lk_spine.specs.Reading.{AreTrees}
-use Rattle.lk_blocks.specs.Recursors.{shape_bound, rec_params, motives, minors}
+use Rattle.lk_inductive.specs.Recursors.{shape_bound, rec_params, motives, minors}
 use Rattle.lk_block.specs.declared.shape.Shape.{Shape}
 use Rattle.lk_block.specs.Shapes.{shape_at}
 use Rattle.lk_recursor.specs.declared.heads.Heads.{Heads}

@@ -2,8 +2,8 @@
 use Rattle.std.specs.Prelude.{List, [], ◌∷◌, map}
 use Rattle.lk_tree.specs.Tree.{Name, Tree, param, const, app}
 use Rattle.lk_tree.specs.Spine.{apply}
-use Rattle.lk_blocks.specs.Block.{Shape, TypeShape, CtorShape}
-use Rattle.lk_blocks.specs.Recursors.{pis, lams, arrows, at_params, motive_of, hypotheses, inductions, rec_name, rec_params, front, major}
+use Rattle.lk_inductive.specs.Block.{Shape, TypeShape, CtorShape}
+use Rattle.lk_inductive.specs.Recursors.{pis, lams, arrows, at_params, motive_of, hypotheses, inductions, rec_name, rec_params, front, major}
 
 -- (ys) -> Cj is (x ys)
 abbrev pub hypothesis : Shape → Tree → List Tree → Name → List Tree → Tree

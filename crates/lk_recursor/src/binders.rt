@@ -5,8 +5,8 @@ ghost use Rattle.lk_tree.specs.Tree.{local};
 ghost use Rattle.lk_tree.specs.Bind.{close as closed};
 ghost use Rattle.lk_store.specs.Contents.{Contents, tree_at, tree_of, IsIn, Extends, IsTree};
 ghost use Rattle.lk_spine.specs.Reading.{AreTrees};
-ghost use Rattle.lk_blocks.specs.Block.{domain};
-ghost use Rattle.lk_blocks.specs.Recursors.{number, arrows, locals_from};
+ghost use Rattle.lk_inductive.specs.Block.{domain};
+ghost use Rattle.lk_inductive.specs.Recursors.{number, arrows, locals_from};
 ghost use Rattle.lk_recursor.specs.Binders.{bind, bound_by, AreRun};
 ghost use Rattle.lk_recursor.specs.Runs.{close_run_at};
 

@@ -2,7 +2,7 @@
 
 ghost use Rattle.std.specs.Prelude.{◌≡◌, ◌<◌, length, map, max, All, IfOk};
 ghost use Rattle.lk_store.specs.Contents.{tree_at};
-ghost use Rattle.lk_blocks.specs.Recursors.{bounds, kind_bound, fields_bound, ctors_bound, types_bound, shape_bound};
+ghost use Rattle.lk_inductive.specs.Recursors.{bounds, kind_bound, fields_bound, ctors_bound, types_bound, shape_bound};
 ghost use Rattle.lk_block.specs.Shapes.{kind_at, field_at, constructor_shape_at, type_shape_at, shape_at, IsKindIn, IsFieldIn, IsConstructorShapeIn, IsTypeShapeIn, IsShapeIn};
 
 use lk_block::shape::{ConstructorShape, Field, FieldKind, Shape, TypeShape};

@@ -1,11 +1,11 @@
 //! The stated recursors of a block against those of its shape.
 
 ghost use Rattle.std.specs.Prelude.{◌≡◌, ◌<◌, length, map, All};
-ghost use Rattle.lk_table.specs.Declarations.{checked};
+ghost use Rattle.lk_questions.specs.Declarations.{checked};
 ghost use Rattle.lk_store.specs.Contents.{name_at, tree_at, Extends};
 ghost use Rattle.lk_env.specs.Units.{recursor_at, IsRecursorIn};
-ghost use Rattle.lk_blocks.specs.Recursors.{recursors};
-ghost use Rattle.lk_blocks.specs.Compare.{rules_steps, rec_steps, rec_named, compare_found, compare_steps};
+ghost use Rattle.lk_inductive.specs.Recursors.{recursors};
+ghost use Rattle.lk_inductive.specs.Compare.{rules_steps, rec_steps, rec_named, compare_found, compare_steps};
 ghost use Rattle.lk_block.specs.Courses.{Gives};
 ghost use Rattle.lk_block.specs.Shapes.{shape_at, IsShapeIn, IsConstructorShapeIn};
 ghost use Rattle.lk_recursor.specs.Fronts.{IsFront};

@@ -4,9 +4,9 @@ ghost use Rattle.std.specs.Prelude.{◌≡◌, ◌&&◌, nat_eq, length, map, Al
 ghost use Rattle.lk_tree.specs.Mentions.{same_name};
 ghost use Rattle.lk_store.specs.Contents.{name_at, tree_at};
 ghost use Rattle.lk_env.specs.Units.{rule_at, IsRuleIn};
-ghost use Rattle.lk_blocks.specs.Block.{Shape as PlainShape};
-ghost use Rattle.lk_blocks.specs.Recursors.{rules_of, as_they_are};
-ghost use Rattle.lk_blocks.specs.Compare.{same_rules, same_counts};
+ghost use Rattle.lk_inductive.specs.Block.{Shape as PlainShape};
+ghost use Rattle.lk_inductive.specs.Recursors.{rules_of, as_they_are};
+ghost use Rattle.lk_inductive.specs.Compare.{same_rules, same_counts};
 ghost use Rattle.lk_block.specs.Shapes.{constructor_shape_at, IsConstructorShapeIn};
 ghost use Rattle.lk_recursor.specs.Comparisons.{stated_of, own_of, IsComparison};
 

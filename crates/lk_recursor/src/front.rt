@@ -3,7 +3,7 @@
 ghost use Rattle.std.specs.Prelude.{◌≡◌, ◌<◌, ◌+◌, ◌++◌, length, map, IfOk};
 ghost use Rattle.lk_tree.specs.Spine.{apply as applied};
 ghost use Rattle.lk_store.specs.Contents.{tree_at, Extends, IsTree};
-ghost use Rattle.lk_blocks.specs.Recursors.{front as front_locals, motives, minors, shape_bound};
+ghost use Rattle.lk_inductive.specs.Recursors.{front as front_locals, motives, minors, shape_bound};
 ghost use Rattle.lk_block.specs.Shapes.{shape_at, IsShapeIn};
 ghost use Rattle.lk_recursor.specs.Binders.{bound_by};
 ghost use Rattle.lk_recursor.specs.Fronts.{AreHeads, IsFront};

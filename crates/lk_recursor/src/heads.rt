@@ -5,7 +5,7 @@ ghost use Rattle.lk_tree.specs.Tree.{app, const, param};
 ghost use Rattle.lk_tree.specs.Spine.{apply as applied};
 ghost use Rattle.lk_store.specs.Contents.{name_at, level_at, tree_at, Extends, IsList, IsTree};
 ghost use Rattle.lk_spine.specs.Reading.{AreTrees};
-ghost use Rattle.lk_blocks.specs.Recursors.{at_params, elim_level, motive_type, motives, motive_in, motive_of, shape_bound};
+ghost use Rattle.lk_inductive.specs.Recursors.{at_params, elim_level, motive_type, motives, motive_in, motive_of, shape_bound};
 ghost use Rattle.lk_block.specs.Shapes.{type_shape_at, shape_at, IsTypeShapeIn, IsShapeIn};
 ghost use Rattle.lk_recursor.specs.Fronts.{AreHeads};
 

@@ -3,7 +3,7 @@
 ghost use Rattle.std.specs.Prelude.{◌≡◌, ◌<◌, ◌++◌, ◌∷◌, [], length, map, All, IfOk};
 ghost use Rattle.lk_tree.specs.Tree.{text};
 ghost use Rattle.lk_store.specs.Contents.{name_at, Extends, IsName, IsLevel};
-ghost use Rattle.lk_blocks.specs.Recursors.{motive_level, elim_level, rec_params, rec_name};
+ghost use Rattle.lk_inductive.specs.Recursors.{motive_level, elim_level, rec_params, rec_name};
 ghost use Rattle.lk_block.specs.Shapes.{shape_at, IsShapeIn};
 
 use lk_block::shape::Shape;

@@ -3,7 +3,7 @@
 ghost use Rattle.std.specs.Prelude.{◌≡◌, ◌<◌, ◌+◌, ◌++◌, ◌∷◌, [], length, map, All, IfOk, OnOk};
 ghost use Rattle.lk_store.specs.Contents.{name_at, tree_at, Extends, IsTree};
 ghost use Rattle.lk_spine.specs.Reading.{AreTrees};
-ghost use Rattle.lk_blocks.specs.Recursors.{hypotheses, minor_type, minor_types, minors, shape_bound};
+ghost use Rattle.lk_inductive.specs.Recursors.{hypotheses, minor_type, minor_types, minors, shape_bound};
 ghost use Rattle.lk_block.specs.Shapes.{AreTreesIn, field_at, constructor_shape_at, type_shape_at, shape_at, IsFieldIn, IsRecursionIn, IsConstructorShapeIn, IsTypeShapeIn, IsShapeIn};
 ghost use Rattle.lk_recursor.specs.Fronts.{AreHeads};
 ghost use Rattle.lk_recursor.specs.Hypotheses.{hypothesis, minor_body};

@@ -2,9 +2,9 @@
 
 ghost use Rattle.std.specs.Prelude.{◌≡◌, ◌<◌, length, map, drop, All, IfOk, IfSome, option_map};
 ghost use Rattle.lk_store.specs.Contents.{name_at, tree_at, Extends};
-ghost use Rattle.lk_blocks.specs.Block.{Shape as PlainShape};
-ghost use Rattle.lk_blocks.specs.Compare.{rec_named};
-ghost use Rattle.lk_blocks.specs.Recursors.{recs_from, as_they_are};
+ghost use Rattle.lk_inductive.specs.Block.{Shape as PlainShape};
+ghost use Rattle.lk_inductive.specs.Compare.{rec_named};
+ghost use Rattle.lk_inductive.specs.Recursors.{recs_from, as_they_are};
 ghost use Rattle.lk_block.specs.Shapes.{type_shape_at, AreTreesIn, IsTypeShapeIn};
 ghost use Rattle.lk_recursor.specs.Comparisons.{own_at, AreNames, IsOwnRecursor};
 

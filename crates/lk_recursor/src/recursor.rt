@@ -2,7 +2,7 @@
 
 ghost use Rattle.std.specs.Prelude.{◌≡◌, ◌∷◌, [], map, IfOk};
 ghost use Rattle.lk_store.specs.Contents.{tree_at, Extends, IsTree};
-ghost use Rattle.lk_blocks.specs.Recursors.{rec_type, is_k, major, pis, as_they_are};
+ghost use Rattle.lk_inductive.specs.Recursors.{rec_type, is_k, major, pis, as_they_are};
 ghost use Rattle.lk_block.specs.Shapes.{shape_at, type_shape_at, IsShapeIn, IsTypeShapeIn};
 ghost use Rattle.lk_recursor.specs.Fronts.{IsFront};
 ghost use Rattle.lk_recursor.specs.Hypotheses.{major_end};

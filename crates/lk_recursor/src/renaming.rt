@@ -3,7 +3,7 @@
 ghost use Rattle.std.specs.Prelude.{◌≡◌, ◌<◌, length, map, All, IfOk};
 ghost use Rattle.lk_tree.specs.Tree.{param};
 ghost use Rattle.lk_store.specs.Contents.{name_at, level_at, tree_at, Extends, IsTree};
-ghost use Rattle.lk_blocks.specs.Compare.{renamed};
+ghost use Rattle.lk_inductive.specs.Compare.{renamed};
 ghost use Rattle.lk_block.specs.Shapes.{IsConstructorShapeIn};
 ghost use Rattle.lk_recursor.specs.Comparisons.{stated_of, own_of, renamed_type, renamed_value, IsComparison};
 

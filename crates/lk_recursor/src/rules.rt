@@ -5,7 +5,7 @@ ghost use Rattle.lk_tree.specs.Tree.{const, app, param};
 ghost use Rattle.lk_tree.specs.Spine.{apply as applied};
 ghost use Rattle.lk_store.specs.Contents.{name_at, tree_at, Extends, IsTree};
 ghost use Rattle.lk_spine.specs.Reading.{AreTrees};
-ghost use Rattle.lk_blocks.specs.Recursors.{inductions, rule_value, as_they_are};
+ghost use Rattle.lk_inductive.specs.Recursors.{inductions, rule_value, as_they_are};
 ghost use Rattle.lk_block.specs.Shapes.{AreTreesIn, field_at, shape_at, constructor_shape_at, IsFieldIn, IsRecursionIn, IsShapeIn, IsConstructorShapeIn};
 ghost use Rattle.lk_recursor.specs.Fronts.{IsFront};
 ghost use Rattle.lk_recursor.specs.Hypotheses.{recursor_at, induction, rule_end};

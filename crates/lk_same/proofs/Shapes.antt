@@ -1,8 +1,8 @@
 -- Two trees of different shapes are compared by their Core.
 use Rattle.std.proofs.Common.{◌≡◌, ℕ, refl, subst}
 use Rattle.lk_tree.specs.Tree.{Level, Tree, sort, lam, pi}
-use Rattle.lk_table.specs.Levels.{complete_test}
-use Rattle.lk_table.specs.Built.{same_reduced, same_shape}
+use Rattle.lk_questions.specs.Levels.{complete_test}
+use Rattle.lk_questions.specs.Built.{same_reduced, same_shape}
 use Rattle.lk_store.specs.Contents.{Contents, tree_of}
 use Rattle.lk_store.specs.declared.node.Node.{Node}
 use Rattle.lk_store.specs.declared.node.Node.TheVariants.{Var, Sort, Const, App, Lam, Pi, Let, Proj, Lit, Wide, Str, Local}

@@ -6,8 +6,8 @@ use Rattle.std.proofs.lemmas.List.{length-append}
 use Rattle.lk_tree.specs.Tree.{Tree, app, var, sort, const, lam, pi, let_in, proj, lit, wide, str, local}
 use Rattle.lk_tree.specs.Spine.{head, args}
 use Rattle.lk_plain.specs.Program.{Program, done}
-use Rattle.lk_table.specs.Levels.{complete_test}
-use Rattle.lk_table.specs.Built.{same_parts}
+use Rattle.lk_questions.specs.Levels.{complete_test}
+use Rattle.lk_questions.specs.Built.{same_parts}
 use Rattle.lk_lazy.proofs.Walks.{args-app}
 use Rattle.lk_same.specs.Spines.{spines_same}
 

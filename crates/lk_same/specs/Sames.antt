@@ -6,11 +6,11 @@ use Rattle.lk_rulebook.specs.Place.{Place}
 use Rattle.lk_plain.specs.Query.{core, whnf, infer, same}
 use Rattle.lk_plain.specs.Program.{Program, done, ask, asked, ◌>>=◌}
 use Rattle.lk_plain.specs.Erased.{Value, truth, Steps, gives, with_tree, with_truth, erased}
-use Rattle.lk_table.specs.Levels.{complete_test}
+use Rattle.lk_questions.specs.Levels.{complete_test}
 use Rattle.lk_tree.specs.Level.{is_zero_level}
-use Rattle.lk_table.specs.Steps.{is_same_tree, as_sort}
-use Rattle.lk_table.specs.Pairs.{Line, otherwise, yes_alone, answers_yes, ◌or_else◌, goes_on}
-use Rattle.lk_table.specs.Built.{same_unfolded, same_headed}
+use Rattle.lk_questions.specs.Steps.{is_same_tree, as_sort}
+use Rattle.lk_questions.specs.Pairs.{Line, otherwise, yes_alone, answers_yes, ◌or_else◌, goes_on}
+use Rattle.lk_questions.specs.Built.{same_unfolded, same_headed}
 use Rattle.lk_ask.specs.declared.next.Next.{Next}
 use Rattle.lk_ask.specs.declared.sheet.Pair.{Pair}
 use Rattle.lk_ask.specs.declared.sheet.SameSheet.{SameSheet}

@@ -3,7 +3,7 @@ use Rattle.std.specs.Prelude.{Bool, false, nat_eq, ◌∷◌, length, if◌then�
 use Rattle.lk_tree.specs.Tree.{Tree}
 use Rattle.lk_tree.specs.Spine.{head, args}
 use Rattle.lk_plain.specs.Program.{Program, done}
-use Rattle.lk_table.specs.Pairs.{same_all}
+use Rattle.lk_questions.specs.Pairs.{same_all}
 
 -- the heads, then the arguments in order, where both have as many
 abbrev pub spines_same : Tree → Tree → Program Bool

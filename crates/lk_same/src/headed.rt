@@ -4,8 +4,8 @@ ghost use Rattle.std.specs.Prelude.{◌≡◌, ◌<◌, ℕ, IfOk, Option, lengt
 ghost use Rattle.lk_tree.specs.Tree.{Tree};
 ghost use Rattle.lk_rulebook.specs.Place.{Place};
 ghost use Rattle.lk_plain.specs.Erased.{truth, erased};
-ghost use Rattle.lk_table.specs.Levels.{complete_test};
-ghost use Rattle.lk_table.specs.Built.{same_unfolded};
+ghost use Rattle.lk_questions.specs.Levels.{complete_test};
+ghost use Rattle.lk_questions.specs.Built.{same_unfolded};
 ghost use Rattle.lk_store.specs.Contents.{tree_at, Extends};
 ghost use Rattle.lk_store.specs.Store.{contents_of};
 ghost use Rattle.lk_env.specs.Places.{place_at};

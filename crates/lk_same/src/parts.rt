@@ -4,8 +4,8 @@ ghost use Rattle.std.specs.Prelude.{◌≡◌, ◌<◌, ℕ, IfOk, Option, lengt
 ghost use Rattle.lk_tree.specs.Tree.{Tree, const};
 ghost use Rattle.lk_rulebook.specs.Place.{Place};
 ghost use Rattle.lk_plain.specs.Erased.{truth, erased};
-ghost use Rattle.lk_table.specs.Levels.{complete_test, tested as plain_answer};
-ghost use Rattle.lk_table.specs.Built.{same_parts};
+ghost use Rattle.lk_questions.specs.Levels.{complete_test, tested as plain_answer};
+ghost use Rattle.lk_questions.specs.Built.{same_parts};
 ghost use Rattle.lk_store.specs.Contents.{name_at, list_at, tree_at};
 ghost use Rattle.lk_ask.specs.Nexts.{IsKnownNext};
 ghost use Rattle.lk_ask.specs.Sheets.{map_pair, IsKnownPair, IsKnownSame};

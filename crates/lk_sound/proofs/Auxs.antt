@@ -7,10 +7,10 @@ use Rattle.lk_plain.specs.Program.{done}
 use Rattle.lk_plain.specs.Sound.{IsSound, IsStated, CtorsStated, TypesStated}
 use Rattle.lk_plain.proofs.Soundness.{sound_bind}
 use Rattle.lk_sound.proofs.Goes.{sound_if}
-use Rattle.lk_blocks.specs.Relation.{Telescope}
-use Rattle.lk_blocks.specs.BlockSteps.{as_level}
-use Rattle.lk_blocks.specs.Nested.{Aux, Setting, at_args, stated_pis, ctors_at, aux_of, others_of, family_of}
-use Rattle.lk_blocks.specs.NestedRelation.{IsTypeOf, AreOverParams, IsFrom, Clear, ClearCtors, ClearTypes}
+use Rattle.lk_inductive.specs.Relation.{Telescope}
+use Rattle.lk_inductive.specs.BlockSteps.{as_level}
+use Rattle.lk_inductive.specs.Nested.{Aux, Setting, at_args, stated_pis, ctors_at, aux_of, others_of, family_of}
+use Rattle.lk_inductive.specs.NestedRelation.{IsTypeOf, AreOverParams, IsFrom, Clear, ClearCtors, ClearTypes}
 use Rattle.lk_sound.proofs.Scoped.{AllIn}
 use Rattle.lk_sound.proofs.Instances.{AllHeld, ParamsHeld, held_in, IsPut, sound_at, IsStatedEnd, sound_stated, sound_level, ArePut, sound_ctors_at}
 

@@ -8,15 +8,15 @@ use Rattle.lk_tree.proofs.Locals.{below_bound}
 use Rattle.lk_rulebook.specs.Place.{Place, Block, BlockType}
 use Rattle.lk_rulebook.specs.Rules.{HasSort}
 use Rattle.lk_plain.specs.Program.{done}
-use Rattle.lk_table.specs.Steps.{given, sort_of}
-use Rattle.lk_table.specs.Levels.{tested}
+use Rattle.lk_questions.specs.Steps.{given, sort_of}
+use Rattle.lk_questions.specs.Levels.{tested}
 use Rattle.lk_plain.specs.Sound.{IsSound, IsStated, TypesStated}
 use Rattle.lk_plain.proofs.Soundness.{sound_bind}
 use Rattle.lk_sound.proofs.Pieces.{sound_given, of_yes, sound_sort_of}
 use Rattle.lk_sound.proofs.Lines.{sound_tested}
-use Rattle.lk_blocks.specs.Block.{parameters_of, Frame, frame_of}
-use Rattle.lk_blocks.specs.Relation.{IsAmong, Telescope, Over, IsTypeOver, AreNumbered, AreParams, of_first}
-use Rattle.lk_blocks.specs.BlockSteps.{telescope, over, type_end, next_type, next_types, TypeParts, types_steps}
+use Rattle.lk_inductive.specs.Block.{parameters_of, Frame, frame_of}
+use Rattle.lk_inductive.specs.Relation.{IsAmong, Telescope, Over, IsTypeOver, AreNumbered, AreParams, of_first}
+use Rattle.lk_inductive.specs.BlockSteps.{telescope, over, type_end, next_type, next_types, TypeParts, types_steps}
 use Rattle.lk_sound.proofs.Scoped.{In, AllIn, in_more, all_in_more}
 use Rattle.lk_sound.proofs.Telescopes.{IsOpened, sound_telescope, sound_over, IsEnd, sound_type_end, over_own, numbered}
 

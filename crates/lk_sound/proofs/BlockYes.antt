@@ -12,17 +12,17 @@ use Rattle.lk_rulebook.specs.Place.{Place, Block, BlockType, Ctor, RecRule}
 use Rattle.lk_tree.specs.Mentions.{same_name}
 use Rattle.lk_rulebook.specs.Rules.{HasSort}
 use Rattle.lk_rulebook.proofs.Scopes.{well_formed_of_reduct}
-use Rattle.lk_table.specs.Steps.{sort_of}
+use Rattle.lk_questions.specs.Steps.{sort_of}
 use Rattle.lk_plain.specs.Sound.{IsSound, IsStated, CtorsStated, TypesStated, RulesStated, IsListed}
 use Rattle.lk_plain.proofs.Soundness.{sound_bind, sound_map}
 use Rattle.lk_sound.proofs.Pieces.{sound_given, of_yes, sound_sort_of}
-use Rattle.lk_blocks.specs.Block.{Frame, frame_of, FieldKind, plain, recursive, under, Field, CtorShape, TypeShape, Shape, type_entries, ctor_entries, all_ctor_entries}
-use Rattle.lk_blocks.specs.Relation.{IsPositive, mentions_none, arrow, member, AreFields, no_field, a_field, IsCtor, AreCtors, no_ctor, a_ctor_more, AreTypes, no_type, a_type_more, AreNumbered, IsBlock}
-use Rattle.lk_blocks.specs.BlockSteps.{ctor_sorts, all_ctor_sorts}
-use Rattle.lk_blocks.specs.Recursors.{Rec}
-use Rattle.lk_blocks.specs.Compare.{renamed, same_rules, same_bool, same_counts, rules_steps, rec_steps, rec_named, compare_found, compare_steps, rec_entries, AreRules, no_rule, a_rule, IsRec, IsOneOf, AreRecs}
-use Rattle.lk_blocks.specs.Whole.{CtorsSorted, TypesSorted, AllCtorsSorted, RecsStated}
-use Rattle.lk_blocks.proofs.Halves.{MembersStated, stated_append}
+use Rattle.lk_inductive.specs.Block.{Frame, frame_of, FieldKind, plain, recursive, under, Field, CtorShape, TypeShape, Shape, type_entries, ctor_entries, all_ctor_entries}
+use Rattle.lk_inductive.specs.Relation.{IsPositive, mentions_none, arrow, member, AreFields, no_field, a_field, IsCtor, AreCtors, no_ctor, a_ctor_more, AreTypes, no_type, a_type_more, AreNumbered, IsBlock}
+use Rattle.lk_inductive.specs.BlockSteps.{ctor_sorts, all_ctor_sorts}
+use Rattle.lk_inductive.specs.Recursors.{Rec}
+use Rattle.lk_inductive.specs.Compare.{renamed, same_rules, same_bool, same_counts, rules_steps, rec_steps, rec_named, compare_found, compare_steps, rec_entries, AreRules, no_rule, a_rule, IsRec, IsOneOf, AreRecs}
+use Rattle.lk_inductive.specs.Whole.{CtorsSorted, TypesSorted, AllCtorsSorted, RecsStated}
+use Rattle.lk_inductive.proofs.Halves.{MembersStated, stated_append}
 use Rattle.lk_sound.proofs.Telescopes.{numbered, params_numbered}
 use Rattle.lk_sound.proofs.BlockTypes.{AreFound, none_found, one_found}
 use Rattle.lk_sound.proofs.Positive.{name_of}

@@ -10,14 +10,14 @@ use Rattle.lk_plain.specs.Query.{core, whnf, infer, same}
 use Rattle.lk_plain.specs.Program.{done}
 use Rattle.lk_plain.specs.Sound.{WellStated, IsSound, IsJustified, IsSoundTable}
 use Rattle.lk_plain.proofs.Parts.{sound_part}
-use Rattle.lk_table.specs.Steps.{is_same_tree, decided}
-use Rattle.lk_table.specs.Levels.{LevelTest, IsLevelTest, complete_test, levels_equal}
-use Rattle.lk_table.specs.Pairs.{same_all}
-use Rattle.lk_table.specs.Unfolding.{by_unfolding}
-use Rattle.lk_table.specs.Same.{by_proof_irrelevance}
-use Rattle.lk_table.specs.Table.{steps}
-use Rattle.lk_table.specs.Built.{core_row, whnf_row, infer_row, same_parts, same_unfolded, same_headed, same_shape, same_row_by, rows_by, rows}
-use Rattle.lk_table.proofs.BuiltRows.{core_part, whnf_part, infer_part}
+use Rattle.lk_questions.specs.Steps.{is_same_tree, decided}
+use Rattle.lk_questions.specs.Levels.{LevelTest, IsLevelTest, complete_test, levels_equal}
+use Rattle.lk_questions.specs.Pairs.{same_all}
+use Rattle.lk_questions.specs.Unfolding.{by_unfolding}
+use Rattle.lk_questions.specs.Same.{by_proof_irrelevance}
+use Rattle.lk_questions.specs.Table.{steps}
+use Rattle.lk_questions.specs.Built.{core_row, whnf_row, infer_row, same_parts, same_unfolded, same_headed, same_shape, same_row_by, rows_by, rows}
+use Rattle.lk_questions.proofs.BuiltRows.{core_part, whnf_part, infer_part}
 use Rattle.lk_verdict.specs.GoodUnit.{IsGoodUnit, IsClearLibrary}
 use Rattle.lk_verdict.specs.Verdict.{says_yes, plain_verdict}
 use Rattle.lk_verdict.specs.Built.{stage}

@@ -4,12 +4,12 @@ use Rattle.lk_tree.specs.Tree.{tree_discrete, Name, name_discrete, param, Tree, 
 use Rattle.lk_tree.specs.Spine.{apply}
 use Rattle.lk_rulebook.specs.Place.{Ctor}
 use Rattle.lk_tree.specs.Mentions.{same_name}
-use Rattle.lk_table.specs.Steps.{decided, is_same_tree}
-use Rattle.lk_blocks.specs.BlockSteps.{after_params}
-use Rattle.lk_blocks.specs.Recursors.{rec_name}
-use Rattle.lk_blocks.specs.Nested.{Aux, Setting, aux_name, aux_ctor, aux_from}
-use Rattle.lk_blocks.specs.Restore.{Original, applied_to, renamed_as, ctors_stand, rec_numbered, all_stand, stands_for, after_own, put_back, restore}
-use Rattle.lk_blocks.specs.NestedRelation.{IsMarked, Clear}
+use Rattle.lk_questions.specs.Steps.{decided, is_same_tree}
+use Rattle.lk_inductive.specs.BlockSteps.{after_params}
+use Rattle.lk_inductive.specs.Recursors.{rec_name}
+use Rattle.lk_inductive.specs.Nested.{Aux, Setting, aux_name, aux_ctor, aux_from}
+use Rattle.lk_inductive.specs.Restore.{Original, applied_to, renamed_as, ctors_stand, rec_numbered, all_stand, stands_for, after_own, put_back, restore}
+use Rattle.lk_inductive.specs.NestedRelation.{IsMarked, Clear}
 use Rattle.lk_sound.proofs.Positive.{name_of}
 
 abbrev pub AllClear : List Tree → Type 0

@@ -12,9 +12,9 @@ use Rattle.lk_rulebook.specs.Rules.{r_zeta}
 use Rattle.lk_rulebook.proofs.Scopes.{well_formed_of_reduct}
 use Rattle.lk_plain.specs.Query.{core, whnf}
 use Rattle.lk_plain.specs.Program.{Program, done, asked, ◌>>=◌}
-use Rattle.lk_table.specs.Steps.{with_levels, value_of, is_same_tree}
-use Rattle.lk_table.specs.Core.{lambdas, beta, core_applied, core_steps, unfolded, stepped, whnf_headed, whnf_steps}
-use Rattle.lk_table.specs.Literals.{literal_step}
+use Rattle.lk_questions.specs.Steps.{with_levels, value_of, is_same_tree}
+use Rattle.lk_questions.specs.Core.{lambdas, beta, core_applied, core_steps, unfolded, stepped, whnf_headed, whnf_steps}
+use Rattle.lk_questions.specs.Literals.{literal_step}
 use Rattle.lk_sound.proofs.LiteralSteps.{IfStep, sound_literal_step}
 use Rattle.lk_plain.specs.Sound.{IsSound, IsJustified, WellStated}
 use Rattle.lk_plain.proofs.Soundness.{sound_bind}

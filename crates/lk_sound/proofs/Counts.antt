@@ -7,11 +7,11 @@ use Rattle.lk_rulebook.specs.Place.{Place, Block, BlockType, Ctor}
 use Rattle.lk_tree.specs.Mentions.{same_name}
 use Rattle.lk_plain.specs.Program.{done}
 use Rattle.lk_plain.specs.Sound.{IsSound}
-use Rattle.lk_table.specs.Declarations.{checked}
+use Rattle.lk_questions.specs.Declarations.{checked}
 use Rattle.lk_sound.proofs.Pieces.{sound_given}
-use Rattle.lk_blocks.specs.Block.{levels_of, parameters_of}
-use Rattle.lk_blocks.specs.Relation.{CtorAgrees, CtorsAgree, TypesAgree, CountsAgree}
-use Rattle.lk_blocks.specs.BlockSteps.{same_names, ctor_agrees, ctors_agree, types_agree, counts_steps}
+use Rattle.lk_inductive.specs.Block.{levels_of, parameters_of}
+use Rattle.lk_inductive.specs.Relation.{CtorAgrees, CtorsAgree, TypesAgree, CountsAgree}
+use Rattle.lk_inductive.specs.BlockSteps.{same_names, ctor_agrees, ctors_agree, types_agree, counts_steps}
 use Rattle.lk_sound.proofs.Positive.{name_of, and_both}
 
 same_number : (m n : ℕ) → nat_eq m n ≡ true → m ≡ n

@@ -14,17 +14,17 @@ use Rattle.lk_tree.specs.Mentions.{same_name}
 use Rattle.lk_rulebook.specs.Rules.{HasSort, is_prop, Reduces}
 use Rattle.lk_rulebook.proofs.Scopes.{well_formed_of_reduct}
 use Rattle.lk_plain.specs.Program.{done}
-use Rattle.lk_table.specs.Steps.{given, sort_of, is_same_tree}
-use Rattle.lk_table.specs.Levels.{tested}
+use Rattle.lk_questions.specs.Steps.{given, sort_of, is_same_tree}
+use Rattle.lk_questions.specs.Levels.{tested}
 use Rattle.lk_plain.specs.Sound.{IsSound, IsStated, CtorsStated, TypesStated}
 use Rattle.lk_plain.proofs.Soundness.{sound_bind, sound_map}
 use Rattle.lk_sound.proofs.Pieces.{sound_given, sound_sort_of, sound_pi, same_tree}
 use Rattle.lk_sound.proofs.Goes.{sound_if}
-use Rattle.lk_blocks.specs.Block.{Frame, frame_of, Field, CtorShape, TypeShape, domain}
+use Rattle.lk_inductive.specs.Block.{Frame, frame_of, Field, CtorShape, TypeShape, domain}
 use Rattle.lk_tree.specs.Level.{AtMost}
-use Rattle.lk_blocks.specs.Relation.{IsMember, IsPositive, FitsIn, in_prop, in_universe, AreFields, no_field, a_field, IsCtor, AreCtors, no_ctor, a_ctor_more, Over, AreTypes, no_type, a_type_more, IsAmong, AreSmall, MayBeLarge, not_prop, empty, small, IsBlock}
+use Rattle.lk_inductive.specs.Relation.{IsMember, IsPositive, FitsIn, in_prop, in_universe, AreFields, no_field, a_field, IsCtor, AreCtors, no_ctor, a_ctor_more, Over, AreTypes, no_type, a_type_more, IsAmong, AreSmall, MayBeLarge, not_prop, empty, small, IsBlock}
 use Rattle.lk_tree.specs.LevelTest.{level_le_test}
-use Rattle.lk_blocks.specs.BlockSteps.{over, as_member, walk, fits, fits_in, fields_steps, own_indices, ctor_steps, ctors_steps, shapes_steps, is_among, small_steps, one_ctor_steps, one_type_steps, large_steps, TypeParts, shape_steps}
+use Rattle.lk_inductive.specs.BlockSteps.{over, as_member, walk, fits, fits_in, fields_steps, own_indices, ctor_steps, ctors_steps, shapes_steps, is_among, small_steps, one_ctor_steps, one_type_steps, large_steps, TypeParts, shape_steps}
 use Rattle.lk_sound.proofs.Scoped.{In, AllIn, in_more, open_in, pi_left, next_local, goes_in, fine_domain}
 use Rattle.lk_sound.proofs.Telescopes.{pi_of, sound_over}
 use Rattle.lk_sound.proofs.BlockTypes.{AreOver, one_over, IsHeaded}

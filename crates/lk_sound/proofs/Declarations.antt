@@ -9,18 +9,18 @@ use Rattle.lk_rulebook.specs.Place.{Place}
 use Rattle.lk_rulebook.specs.Rules.{HasSort}
 use Rattle.lk_rulebook.proofs.Scopes.{well_formed_of_type}
 use Rattle.lk_plain.specs.Program.{done, Table}
-use Rattle.lk_table.specs.Steps.{sort_of}
+use Rattle.lk_questions.specs.Steps.{sort_of}
 use Rattle.lk_plain.specs.Answer.{IfAnswered, outcome_of, plain_answer}
 use Rattle.lk_plain.specs.Sound.{IsSound, WellStated, IsSoundTable}
 use Rattle.lk_rulebook.specs.Units.{Body, as_axiom, as_def, as_thm, as_opaque, as_quot, Decl}
-use Rattle.lk_table.specs.Declarations.{checked, value_steps, body_steps, unit_steps}
+use Rattle.lk_questions.specs.Declarations.{checked, value_steps, body_steps, unit_steps}
 use Rattle.lk_rulebook.specs.Derived.{BodyWellFormed, DeclWellFormed, IsOf, BodyDerived, DeclDerived}
 use Rattle.lk_plain.proofs.Soundness.{sound_bind, sound_map, sound_run}
 use Rattle.lk_sound.proofs.Pieces.{sound_given, of_yes, sound_sort_of}
 use Rattle.lk_sound.proofs.Goes.{sound_if}
 use Rattle.lk_sound.proofs.WholeTable.{ans_sound}
 use Rattle.lk_rulebook.specs.Quotients.{IsQuotient}
-use Rattle.lk_table.specs.QuotientUnits.{quot_steps}
+use Rattle.lk_questions.specs.QuotientUnits.{quot_steps}
 use Rattle.lk_sound.proofs.QuotChecks.{sound_quot_steps}
 
 sound_value : (w : Place) (type value : Tree) (P : Type 0) → IsWellFormed type → IsWellFormed value → (IsOf w value type → P) → IsSound w (value_steps type value) (λ y. P)

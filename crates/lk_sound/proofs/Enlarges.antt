@@ -13,13 +13,13 @@ use Rattle.lk_plain.specs.Sound.{IsSound, WellStated, IsStated, CtorsStated, Typ
 use Rattle.lk_plain.proofs.Soundness.{sound_bind, sound_map}
 use Rattle.lk_sound.proofs.Pieces.{sound_given}
 use Rattle.lk_sound.proofs.Goes.{sound_if}
-use Rattle.lk_blocks.specs.Block.{domain}
-use Rattle.lk_blocks.specs.Relation.{AreNumbered}
-use Rattle.lk_blocks.specs.BlockSteps.{mention_none}
-use Rattle.lk_blocks.specs.Recursors.{number, pis}
-use Rattle.lk_blocks.specs.Nested.{Aux, Setting, has_pis, nest, holds_kind, holds_head, either_holds, holds_nested, nest_past, held_ctor, own_ctor, own_ctors, own_types, aux_ctors, aux_from, aux_type, next_aux, aux_types, Larger, enlarge}
-use Rattle.lk_blocks.specs.Restore.{first_name, all_stand}
-use Rattle.lk_blocks.specs.NestedRelation.{ReadsPast, read_rest, read_past, as_stated, past_params, IsOwnCtor, OwnCtors, no_own_ctor, own_ctor_more, OwnTypes, no_own_type, own_type_more, AuxCtors, no_aux_ctor, aux_ctor_more, AuxTypes, no_aux, aux_more, IsEnlarged, Clear, ClearCtors, ClearTypes, IsClear}
+use Rattle.lk_inductive.specs.Block.{domain}
+use Rattle.lk_inductive.specs.Relation.{AreNumbered}
+use Rattle.lk_inductive.specs.BlockSteps.{mention_none}
+use Rattle.lk_inductive.specs.Recursors.{number, pis}
+use Rattle.lk_inductive.specs.Nested.{Aux, Setting, has_pis, nest, holds_kind, holds_head, either_holds, holds_nested, nest_past, held_ctor, own_ctor, own_ctors, own_types, aux_ctors, aux_from, aux_type, next_aux, aux_types, Larger, enlarge}
+use Rattle.lk_inductive.specs.Restore.{first_name, all_stand}
+use Rattle.lk_inductive.specs.NestedRelation.{ReadsPast, read_rest, read_past, as_stated, past_params, IsOwnCtor, OwnCtors, no_own_ctor, own_ctor_more, OwnTypes, no_own_type, own_type_more, AuxCtors, no_aux_ctor, aux_ctor_more, AuxTypes, no_aux, aux_more, IsEnlarged, Clear, ClearCtors, ClearTypes, IsClear}
 use Rattle.lk_sound.proofs.Scoped.{In, local_bound, open_bound}
 use Rattle.lk_sound.proofs.Clears.{all_marked, clear_back}
 use Rattle.lk_sound.proofs.Instances.{HeldUnder, AllHeld, ParamsHeld, held_open, held_stated, ArePut, put_more, only_in, held_in}

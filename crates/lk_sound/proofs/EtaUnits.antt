@@ -10,8 +10,8 @@ use Rattle.lk_rulebook.specs.Rules.{HasType, Reduces, IsDefEq, e_unit}
 use Rattle.lk_rulebook.proofs.Scopes.{well_formed_of_type}
 use Rattle.lk_plain.specs.Query.{same}
 use Rattle.lk_plain.specs.Program.{asked}
-use Rattle.lk_table.specs.Pairs.{goes_on}
-use Rattle.lk_table.specs.Eta.{is_unit_like, is_unit_like_at, eta_unit, by_unit_eta}
+use Rattle.lk_questions.specs.Pairs.{goes_on}
+use Rattle.lk_questions.specs.Eta.{is_unit_like, is_unit_like_at, eta_unit, by_unit_eta}
 use Rattle.lk_sound.proofs.Pieces.{halves, equal_numbers, if_yes_map}
 use Rattle.lk_sound.proofs.Goes.{sound_if}
 use Rattle.lk_sound.proofs.Lines.{IfAnswers, SoundLine, sound_answers}

@@ -11,9 +11,9 @@ use Rattle.lk_rulebook.specs.Structures.{Structure, is_structure_like}
 use Rattle.lk_rulebook.specs.Rules.{HasType, IsDefEq, e_struct_left, e_struct_right, AllProject, no_more_fields, project}
 use Rattle.lk_rulebook.proofs.Scopes.{well_formed_of_type}
 use Rattle.lk_plain.specs.Program.{done}
-use Rattle.lk_table.specs.Iota.{CtorApp, ctor_app_of, has_one_ctor}
-use Rattle.lk_table.specs.Pairs.{goes_on}
-use Rattle.lk_table.specs.Eta.{same_fields, eta_struct, by_structure_eta}
+use Rattle.lk_questions.specs.Iota.{CtorApp, ctor_app_of, has_one_ctor}
+use Rattle.lk_questions.specs.Pairs.{goes_on}
+use Rattle.lk_questions.specs.Eta.{same_fields, eta_struct, by_structure_eta}
 use Rattle.lk_plain.specs.Sound.{IsSound, IfYes, WellStated}
 use Rattle.lk_plain.proofs.Soundness.{sound_bind, sound_map}
 use Rattle.lk_sound.proofs.Pieces.{of_yes}

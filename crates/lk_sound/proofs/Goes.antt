@@ -11,8 +11,8 @@ use Rattle.lk_rulebook.specs.Place.{Place, Entry}
 use Rattle.lk_rulebook.specs.Rules.{Reduces, r_refl, r_trans, r_head, r_beta, r_delta}
 use Rattle.lk_rulebook.proofs.Scopes.{well_formed_of_reduct}
 use Rattle.lk_plain.specs.Program.{Program}
-use Rattle.lk_table.specs.Steps.{value_of}
-use Rattle.lk_table.specs.Core.{beta}
+use Rattle.lk_questions.specs.Steps.{value_of}
+use Rattle.lk_questions.specs.Core.{beta}
 use Rattle.lk_plain.specs.Sound.{IsSound, IsJustified, WellStated, IsStated}
 use Rattle.lk_plain.specs.Query.{core}
 use Rattle.lk_sound.proofs.Pieces.{has_value, value_stated}

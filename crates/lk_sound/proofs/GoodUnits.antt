@@ -8,12 +8,12 @@ use Rattle.lk_rulebook.specs.Derived.{BodyWellFormed, DeclDerived}
 use Rattle.lk_rulebook.proofs.Scans.{scan_right, AllStated, scanned_stated}
 use Rattle.lk_plain.specs.Answer.{outcome_of, plain_answer}
 use Rattle.lk_plain.specs.Sound.{IsSoundTable}
-use Rattle.lk_table.specs.Declarations.{unit_steps}
-use Rattle.lk_blocks.specs.Block.{Shape}
-use Rattle.lk_blocks.specs.Whole.{BlockStated}
-use Rattle.lk_blocks.specs.Nested.{Aux}
-use Rattle.lk_blocks.specs.NestedTask.{plain_whole}
-use Rattle.lk_blocks.specs.NestedRelation.{NestedDerived}
+use Rattle.lk_questions.specs.Declarations.{unit_steps}
+use Rattle.lk_inductive.specs.Block.{Shape}
+use Rattle.lk_inductive.specs.Whole.{BlockStated}
+use Rattle.lk_inductive.specs.Nested.{Aux}
+use Rattle.lk_inductive.specs.NestedTask.{plain_whole}
+use Rattle.lk_inductive.specs.NestedRelation.{NestedDerived}
 use Rattle.lk_verdict.specs.GoodUnit.{UnitDerived, declaration, block, nested, IsGoodUnit, IsClearLibrary}
 use Rattle.lk_verdict.specs.Verdict.{says_yes, Stage, questions_of, refused_at_once, verdict_of, plain_verdict}
 use Rattle.lk_verdict.proofs.Clears.{all_clear, block_clear, clear_at}

@@ -18,9 +18,9 @@ use Rattle.lk_rulebook.specs.Rules.{Reduces, HasSort, IsProposition, is_prop, t_
 use Rattle.lk_rulebook.proofs.Scopes.{well_formed_of_type, well_formed_of_reduct}
 use Rattle.lk_plain.specs.Query.{infer}
 use Rattle.lk_plain.specs.Program.{done}
-use Rattle.lk_table.specs.Steps.{sort_of, with_params}
-use Rattle.lk_table.specs.Iota.{levels_at}
-use Rattle.lk_table.specs.Projections.{past_parameters, is_prop_if, field_type, of_struct, of_kind, of_type, infer_proj}
+use Rattle.lk_questions.specs.Steps.{sort_of, with_params}
+use Rattle.lk_questions.specs.Iota.{levels_at}
+use Rattle.lk_questions.specs.Projections.{past_parameters, is_prop_if, field_type, of_struct, of_kind, of_type, infer_proj}
 use Rattle.lk_plain.specs.Sound.{IsSound, IsJustified, WellStated, IsStated, KindStated, CtorsStated}
 use Rattle.lk_plain.proofs.Soundness.{sound_bind, sound_map}
 use Rattle.lk_sound.proofs.Pieces.{sound_given, sound_sort_of, sound_pi, sound_with_params, TypesTo, well_formed_of_to}

@@ -12,11 +12,11 @@ use Rattle.lk_rulebook.specs.Rules.{HasSort, Reduces, t_sort, t_local, t_const, 
 use Rattle.lk_rulebook.proofs.Scopes.{well_formed_of_type, well_formed_of_reduct}
 use Rattle.lk_plain.specs.Query.{infer}
 use Rattle.lk_plain.specs.Program.{done}
-use Rattle.lk_table.specs.Steps.{sort_of}
-use Rattle.lk_table.specs.Infer.{infer_steps}
+use Rattle.lk_questions.specs.Steps.{sort_of}
+use Rattle.lk_questions.specs.Infer.{infer_steps}
 use Rattle.lk_plain.specs.Sound.{IsSound, IsJustified, WellStated, IsStated}
 use Rattle.lk_plain.proofs.Soundness.{sound_bind}
-use Rattle.lk_table.specs.Shapes.{nat_shape, string_shape}
+use Rattle.lk_questions.specs.Shapes.{nat_shape, string_shape}
 use Rattle.lk_rulebook.specs.Names.{named, nat, string}
 use Rattle.lk_rulebook.specs.Shapes.{HasNat, HasString}
 use Rattle.lk_sound.proofs.Shaped.{sound_nat_shape, sound_string_shape}

@@ -13,14 +13,14 @@ use Rattle.lk_tree.proofs.Within.{bound_put_levels, fine_put_levels}
 use Rattle.lk_rulebook.specs.Place.{Place, Ctor}
 use Rattle.lk_rulebook.specs.Rules.{r_refl}
 use Rattle.lk_plain.specs.Program.{done}
-use Rattle.lk_table.specs.Steps.{given}
+use Rattle.lk_questions.specs.Steps.{given}
 use Rattle.lk_plain.specs.Sound.{IsSound, IsStated, CtorsStated}
 use Rattle.lk_plain.proofs.Soundness.{sound_bind, sound_map}
 use Rattle.lk_sound.proofs.Pieces.{sound_given}
-use Rattle.lk_blocks.specs.Relation.{Telescope, no_pi, a_pi, IsAmong}
-use Rattle.lk_blocks.specs.BlockSteps.{as_level}
-use Rattle.lk_blocks.specs.Nested.{Setting, is_loose, has_pis, past_pis, at_args, stated_pis, ctors_at}
-use Rattle.lk_blocks.specs.NestedRelation.{Instance, past_none, past_one, Clear, ClearCtors}
+use Rattle.lk_inductive.specs.Relation.{Telescope, no_pi, a_pi, IsAmong}
+use Rattle.lk_inductive.specs.BlockSteps.{as_level}
+use Rattle.lk_inductive.specs.Nested.{Setting, is_loose, has_pis, past_pis, at_args, stated_pis, ctors_at}
+use Rattle.lk_inductive.specs.NestedRelation.{Instance, past_none, past_one, Clear, ClearCtors}
 use Rattle.lk_sound.proofs.Scoped.{In, AllIn, in_more, all_in_more, open_in, next_local}
 use Rattle.lk_sound.proofs.Clears.{AllClear}
 

@@ -1,9 +1,9 @@
 -- Iota and projections of constructors are sound.
 use Rattle.lk_rulebook.specs.Place.{Ctor, Block, BlockType}
 use Rattle.lk_tree.proofs.Lists.{AllWithin, AnyLocal}
-use Rattle.lk_table.specs.Iota.{has_one_ctor, builds_structure, expanded, expand_at, to_ctor_when_structure, as_ctor_app}
+use Rattle.lk_questions.specs.Iota.{has_one_ctor, builds_structure, expanded, expand_at, to_ctor_when_structure, as_ctor_app}
 use Rattle.lk_plain.specs.Sound.{IsListed}
-use Rattle.lk_table.specs.Steps.{sort_of}
+use Rattle.lk_questions.specs.Steps.{sort_of}
 use Rattle.lk_sound.proofs.Pieces.{sound_sort_of, TypesTo, well_formed_of_to}
 use Rattle.lk_tree.specs.Level.{is_zero_level}
 use Rattle.lk_tree.proofs.Zero.{not_zero_level}
@@ -27,8 +27,8 @@ use Rattle.lk_rulebook.specs.Rules.{HasSort, Reduces, r_major, r_proj, r_iota, r
 use Rattle.lk_rulebook.proofs.Scopes.{well_formed_of_type, well_formed_of_reduct}
 use Rattle.lk_plain.specs.Query.{core}
 use Rattle.lk_plain.specs.Program.{done}
-use Rattle.lk_table.specs.Steps.{with_levels}
-use Rattle.lk_table.specs.Iota.{CtorApp, ctor_app_by, ctor_app_of, only_ctor, levels_at, k_from, to_ctor_when_k, fitting_rule, by_rule, iota_at_ctor, iota_of, iota_after_k, iota, core_constant, picked, core_field, core_proj}
+use Rattle.lk_questions.specs.Steps.{with_levels}
+use Rattle.lk_questions.specs.Iota.{CtorApp, ctor_app_by, ctor_app_of, only_ctor, levels_at, k_from, to_ctor_when_k, fitting_rule, by_rule, iota_at_ctor, iota_of, iota_after_k, iota, core_constant, picked, core_field, core_proj}
 use Rattle.lk_plain.specs.Sound.{IsSound, IsJustified, WellStated, IsStated, KindStated, RulesStated}
 use Rattle.lk_plain.proofs.Soundness.{sound_bind}
 use Rattle.lk_sound.proofs.Pieces.{sound_with_levels, of_yes}
@@ -36,7 +36,7 @@ pub use Rattle.lk_sound.proofs.Pieces.{same_name_right}
 use Rattle.lk_sound.proofs.Pieces.{Some_inj}
 use Rattle.lk_sound.proofs.Quots.{sound_core_quot}
 use Rattle.lk_sound.proofs.Readings.{sound_literal_to_ctor, sound_text_to_ctor}
-use Rattle.lk_table.specs.Strings.{literal_to_ctor, text_to_ctor}
+use Rattle.lk_questions.specs.Strings.{literal_to_ctor, text_to_ctor}
 use Rattle.lk_rulebook.specs.Literals.{ReadsText, Reads}
 use Rattle.lk_rulebook.proofs.Texts.{text_fine, text_within, read_within}
 use Rattle.lk_sound.proofs.Goes.{sound_if, GoesTo, stays, goes_on, IsCore, core_stays, core_on, goes_applied}

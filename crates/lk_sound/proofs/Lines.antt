@@ -10,8 +10,8 @@ use Rattle.lk_rulebook.specs.Place.{Place}
 use Rattle.lk_rulebook.specs.Rules.{IsDefEq, e_app, SameLevels, none, more}
 use Rattle.lk_plain.specs.Query.{same}
 use Rattle.lk_plain.specs.Program.{Program, done, asked}
-use Rattle.lk_table.specs.Levels.{LevelTest, IsLevelTest, level_pairs_equal, levels_equal}
-use Rattle.lk_table.specs.Pairs.{same_bodies, same_all, Line, otherwise, answers, answers_yes, yes_alone, ◌or_else◌, unless, ◌or_line◌}
+use Rattle.lk_questions.specs.Levels.{LevelTest, IsLevelTest, level_pairs_equal, levels_equal}
+use Rattle.lk_questions.specs.Pairs.{same_bodies, same_all, Line, otherwise, answers, answers_yes, yes_alone, ◌or_else◌, unless, ◌or_line◌}
 use Rattle.lk_plain.specs.Sound.{IsSound, IfYes}
 use Rattle.lk_plain.proofs.Soundness.{sound_bind, sound_map}
 use Rattle.lk_sound.proofs.Pieces.{of_yes}

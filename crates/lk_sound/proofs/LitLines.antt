@@ -13,9 +13,9 @@ use Rattle.lk_rulebook.proofs.Scopes.{well_formed_of_reduct}
 use Rattle.lk_rulebook.proofs.Texts.{expansion_fine}
 use Rattle.lk_plain.specs.Query.{same}
 use Rattle.lk_plain.specs.Program.{asked}
-use Rattle.lk_table.specs.Strings.{expansion_of}
-use Rattle.lk_table.specs.Pairs.{goes_on}
-use Rattle.lk_table.specs.LiteralLines.{step_of, same_first, same_second, NatCtor, is_zero, is_succ, nat_ctor, lit_first, lit_second, same_numbers, step_first, step_second, by_literals, is_made, text_first, text_second, by_string}
+use Rattle.lk_questions.specs.Strings.{expansion_of}
+use Rattle.lk_questions.specs.Pairs.{goes_on}
+use Rattle.lk_questions.specs.LiteralLines.{step_of, same_first, same_second, NatCtor, is_zero, is_succ, nat_ctor, lit_first, lit_second, same_numbers, step_first, step_second, by_literals, is_made, text_first, text_second, by_string}
 use Rattle.lk_plain.specs.Sound.{IsSound}
 use Rattle.lk_plain.proofs.Soundness.{sound_bind}
 use Rattle.lk_sound.proofs.Pieces.{same_name_right, if_yes_map}

@@ -14,8 +14,8 @@ use Rattle.lk_rulebook.specs.Literals.{IsNumeral, of_lit, of_zero, may_give, IsO
 use Rattle.lk_rulebook.specs.Rules.{r_op, Numerals, no_more_numerals, numeral}
 use Rattle.lk_rulebook.proofs.Texts.{result_within}
 use Rattle.lk_plain.specs.Program.{done}
-use Rattle.lk_table.specs.Shapes.{nat_shape}
-use Rattle.lk_table.specs.Literals.{numeral_of, with_first, numerals, result_of, computed, ops, op_named, op_step, literal_step}
+use Rattle.lk_questions.specs.Shapes.{nat_shape}
+use Rattle.lk_questions.specs.Literals.{numeral_of, with_first, numerals, result_of, computed, ops, op_named, op_step, literal_step}
 use Rattle.lk_plain.specs.Sound.{IsSound}
 use Rattle.lk_plain.proofs.Soundness.{sound_bind, sound_map}
 use Rattle.lk_sound.proofs.Pieces.{Some_inj, halves, less_number, same_name_right}

@@ -16,11 +16,11 @@ use Rattle.lk_plain.specs.Sound.{IsSound, WellStated, KindStated, CtorsStated, T
 use Rattle.lk_plain.proofs.Soundness.{sound_bind}
 use Rattle.lk_sound.proofs.Pieces.{sound_given, same_tree}
 use Rattle.lk_sound.proofs.Goes.{sound_if}
-use Rattle.lk_blocks.specs.Relation.{IsAmong}
-use Rattle.lk_blocks.specs.BlockSteps.{mention_none}
-use Rattle.lk_blocks.specs.Nested.{Aux, Setting, is_loose, has_only, may_nest, same_aux, aux_at, family_of, other_count, aux_applied, aux_name, met, replaced, at_kind, at_head, nest, aux_from}
-use Rattle.lk_blocks.specs.Restore.{Original, applied_to, all_stand, stands_for, put_at, after_own, put_back, restore}
-use Rattle.lk_blocks.specs.NestedRelation.{AreOverParams, Clear, ClearCtors, ClearTypes, IsClear}
+use Rattle.lk_inductive.specs.Relation.{IsAmong}
+use Rattle.lk_inductive.specs.BlockSteps.{mention_none}
+use Rattle.lk_inductive.specs.Nested.{Aux, Setting, is_loose, has_only, may_nest, same_aux, aux_at, family_of, other_count, aux_applied, aux_name, met, replaced, at_kind, at_head, nest, aux_from}
+use Rattle.lk_inductive.specs.Restore.{Original, applied_to, all_stand, stands_for, put_at, after_own, put_back, restore}
+use Rattle.lk_inductive.specs.NestedRelation.{AreOverParams, Clear, ClearCtors, ClearTypes, IsClear}
 use Rattle.lk_sound.proofs.Positive.{and_both, not_true}
 use Rattle.lk_sound.proofs.Clears.{all_marked, clear_back, backs, back_apply, clear_backs, after_own_itself, aux_stands}
 use Rattle.lk_sound.proofs.Instances.{Only, HeldUnder, AllHeld, ParamsHeld, closed}

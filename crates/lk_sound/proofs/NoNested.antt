@@ -8,16 +8,16 @@ use Rattle.lk_tree.proofs.Binding.{Opening, opening, below, at, above, Closing, 
 use Rattle.lk_rulebook.specs.Place.{Place, Block, BlockType, Ctor}
 use Rattle.lk_rulebook.specs.Units.{Members}
 use Rattle.lk_plain.specs.Sound.{IsStated, CtorsStated, TypesStated}
-use Rattle.lk_blocks.specs.Block.{Shape}
-use Rattle.lk_blocks.specs.Relation.{AreNumbered, IsBlock}
-use Rattle.lk_blocks.specs.Recursors.{number, Rec, minors, recursors_by}
-use Rattle.lk_blocks.specs.Compare.{AreRecs}
-use Rattle.lk_blocks.specs.Whole.{partial_types, partial_members, BlockStated, BlockDerived}
-use Rattle.lk_blocks.specs.Nested.{Setting, Larger, larger_block, bare_entries}
-use Rattle.lk_blocks.specs.Restore.{Original, first_name, all_stand, restoring}
-use Rattle.lk_blocks.specs.NestedTask.{setting_of, restoring_of}
-use Rattle.lk_blocks.specs.NestedRelation.{ReadsPast, read_rest, read_past, ReadsAs, as_stated, past_params, IsOwnCtor, OwnCtors, no_own_ctor, own_ctor_more, IsOwnType, OwnTypes, no_own_type, own_type_more, AuxTypes, aux_more, middle_half, NestedDerived}
-use Rattle.lk_blocks.proofs.ReadBack.{back_none, same_recs}
+use Rattle.lk_inductive.specs.Block.{Shape}
+use Rattle.lk_inductive.specs.Relation.{AreNumbered, IsBlock}
+use Rattle.lk_inductive.specs.Recursors.{number, Rec, minors, recursors_by}
+use Rattle.lk_inductive.specs.Compare.{AreRecs}
+use Rattle.lk_inductive.specs.Whole.{partial_types, partial_members, BlockStated, BlockDerived}
+use Rattle.lk_inductive.specs.Nested.{Setting, Larger, larger_block, bare_entries}
+use Rattle.lk_inductive.specs.Restore.{Original, first_name, all_stand, restoring}
+use Rattle.lk_inductive.specs.NestedTask.{setting_of, restoring_of}
+use Rattle.lk_inductive.specs.NestedRelation.{ReadsPast, read_rest, read_past, ReadsAs, as_stated, past_params, IsOwnCtor, OwnCtors, no_own_ctor, own_ctor_more, IsOwnType, OwnTypes, no_own_type, own_type_more, AuxTypes, aux_more, middle_half, NestedDerived}
+use Rattle.lk_inductive.proofs.ReadBack.{back_none, same_recs}
 use Rattle.lk_sound.proofs.Scoped.{local_bound, open_bound}
 use Rattle.lk_sound.proofs.Telescopes.{params_numbered}
 

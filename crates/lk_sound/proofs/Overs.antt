@@ -11,17 +11,17 @@ use Rattle.lk_tree.proofs.Locals.{local_of_close, reopens}
 use Rattle.lk_tree.proofs.Lists.{AnyLocal}
 use Rattle.lk_rulebook.specs.Place.{Place, Block, BlockType}
 use Rattle.lk_rulebook.specs.Rules.{r_refl, e_refl}
-use Rattle.lk_table.specs.Levels.{tested}
+use Rattle.lk_questions.specs.Levels.{tested}
 use Rattle.lk_plain.specs.Sound.{IsSound}
 use Rattle.lk_plain.proofs.Soundness.{sound_bind, sound_map}
 use Rattle.lk_sound.proofs.Pieces.{sound_given, of_yes}
 use Rattle.lk_sound.proofs.Lines.{sound_tested}
-use Rattle.lk_blocks.specs.Block.{domain, Frame, frame_of, parameters_of}
-use Rattle.lk_blocks.specs.Relation.{Telescope, Over, over_none, over_one, AreParams, of_first, IsAmong, AreNumbered, IsTypeOver}
-use Rattle.lk_blocks.specs.Recursors.{number, pis}
-use Rattle.lk_blocks.specs.Nested.{Aux, Setting, aux_from, Larger, larger_block, aux_sorts, aux_indices}
-use Rattle.lk_blocks.specs.Restore.{Original}
-use Rattle.lk_blocks.specs.NestedRelation.{OwnTypes, no_own_type, own_type_more, AuxTypes, no_aux, aux_more, IsEnlarged}
+use Rattle.lk_inductive.specs.Block.{domain, Frame, frame_of, parameters_of}
+use Rattle.lk_inductive.specs.Relation.{Telescope, Over, over_none, over_one, AreParams, of_first, IsAmong, AreNumbered, IsTypeOver}
+use Rattle.lk_inductive.specs.Recursors.{number, pis}
+use Rattle.lk_inductive.specs.Nested.{Aux, Setting, aux_from, Larger, larger_block, aux_sorts, aux_indices}
+use Rattle.lk_inductive.specs.Restore.{Original}
+use Rattle.lk_inductive.specs.NestedRelation.{OwnTypes, no_own_type, own_type_more, AuxTypes, no_aux, aux_more, IsEnlarged}
 use Rattle.lk_sound.proofs.BuiltRecursors.{pis_fine}
 use Rattle.lk_sound.proofs.Instances.{Only, ParamsHeld}
 use Rattle.lk_sound.proofs.Auxs.{AuxIs, AllAux}

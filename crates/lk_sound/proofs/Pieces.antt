@@ -7,7 +7,7 @@ use Rattle.lk_tree.specs.Level.{SameLevel}
 use Rattle.lk_tree.specs.LevelTest.{level_test}
 use Rattle.lk_tree.proofs.LevelTests.{level_test_right}
 use Rattle.lk_tree.specs.Mentions.{same_name}
-use Rattle.lk_table.specs.Levels.{tested}
+use Rattle.lk_questions.specs.Levels.{tested}
 use Rattle.lk_tree.specs.RuleNo.{RuleNo}
 use Rattle.lk_tree.specs.Levels.{put_levels}
 use Rattle.lk_tree.specs.WellFormed.{IsWellFormed}
@@ -15,7 +15,7 @@ use Rattle.lk_rulebook.specs.Place.{Place, Entry, Kind, a_def, a_thm, an_axiom, 
 use Rattle.lk_rulebook.specs.Rules.{HasType, HasSort, has_sort, Reduces, HasValue, of_def, of_thm}
 use Rattle.lk_rulebook.proofs.Scopes.{well_formed_of_type, well_formed_of_reduct}
 use Rattle.lk_plain.specs.Program.{Program, done, ◌>>=◌}
-use Rattle.lk_table.specs.Steps.{given, as_sort, as_pi, sort_of, with_params, with_levels, value_of, decided, is_same_tree}
+use Rattle.lk_questions.specs.Steps.{given, as_sort, as_pi, sort_of, with_params, with_levels, value_of, decided, is_same_tree}
 use Rattle.lk_plain.specs.Sound.{IfYes, IsSound, IsStated, KindStated}
 
 pub sound_given : {A : Type 0} (w : Place) (b : Bool) (r : RuleNo) (p : Program A) (P : A → Type 0) → (b ≡ true → IsSound w p P) → IsSound w (given b r p) P

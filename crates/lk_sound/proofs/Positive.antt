@@ -10,14 +10,14 @@ use Rattle.lk_rulebook.specs.Place.{Place}
 use Rattle.lk_tree.specs.Mentions.{mentions, same_name}
 use Rattle.lk_rulebook.specs.Rules.{Reduces}
 use Rattle.lk_plain.specs.Program.{Program, done, refuse}
-use Rattle.lk_table.specs.Steps.{is_same_tree}
+use Rattle.lk_questions.specs.Steps.{is_same_tree}
 use Rattle.lk_plain.specs.Sound.{IsSound}
 use Rattle.lk_plain.proofs.Soundness.{sound_bind}
 use Rattle.lk_sound.proofs.Pieces.{same_tree}
 use Rattle.lk_sound.proofs.Goes.{sound_if}
-use Rattle.lk_blocks.specs.Block.{Frame, FieldKind, plain, under}
-use Rattle.lk_blocks.specs.Relation.{MentionNone, IsListed, IsMember, IsPositive, mentions_none, arrow, member}
-use Rattle.lk_blocks.specs.BlockSteps.{after_params, mention_none, is_listed, plain_indices, as_member, last_kind, walk_on, walk}
+use Rattle.lk_inductive.specs.Block.{Frame, FieldKind, plain, under}
+use Rattle.lk_inductive.specs.Relation.{MentionNone, IsListed, IsMember, IsPositive, mentions_none, arrow, member}
+use Rattle.lk_inductive.specs.BlockSteps.{after_params, mention_none, is_listed, plain_indices, as_member, last_kind, walk_on, walk}
 use Rattle.lk_sound.proofs.Scoped.{In, open_in, next_local, goes_in}
 
 pub and_both : (a b : Bool) → (a && b) ≡ true → (a ≡ true) × (b ≡ true)

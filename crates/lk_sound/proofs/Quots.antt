@@ -12,7 +12,7 @@ use Rattle.lk_rulebook.specs.Rules.{r_quot_lift, r_quot_ind}
 use Rattle.lk_rulebook.proofs.Scopes.{well_formed_of_reduct}
 use Rattle.lk_plain.specs.Query.{core}
 use Rattle.lk_plain.specs.Program.{done, asked}
-use Rattle.lk_table.specs.Quotients.{by_quot, at_mk, at_major, core_lift, core_ind, core_quot}
+use Rattle.lk_questions.specs.Quotients.{by_quot, at_mk, at_major, core_lift, core_ind, core_quot}
 use Rattle.lk_plain.specs.Sound.{IsSound, IsJustified}
 use Rattle.lk_sound.proofs.Pieces.{same_name_right}
 use Rattle.lk_sound.proofs.Goes.{sound_if, GoesTo, IsCore, core_stays, core_on, goes_applied}

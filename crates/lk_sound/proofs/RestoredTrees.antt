@@ -6,11 +6,11 @@ use Rattle.lk_tree.specs.WellFormed.{IsWellFormedUnder, AllWellFormed}
 use Rattle.lk_tree.proofs.Binding.{fine_more}
 use Rattle.lk_rulebook.specs.Place.{Place, Ctor}
 use Rattle.lk_tree.specs.Mentions.{same_name}
-use Rattle.lk_table.specs.Steps.{is_same_tree}
-use Rattle.lk_blocks.specs.BlockSteps.{after_params}
-use Rattle.lk_blocks.specs.Nested.{Aux, Setting}
-use Rattle.lk_blocks.specs.Restore.{Original, applied_to, renamed_as, ctors_stand, all_stand, stands_for, put_at, after_own, put_back, restore, restoring}
-use Rattle.lk_blocks.specs.NestedRelation.{AreOverParams}
+use Rattle.lk_questions.specs.Steps.{is_same_tree}
+use Rattle.lk_inductive.specs.BlockSteps.{after_params}
+use Rattle.lk_inductive.specs.Nested.{Aux, Setting}
+use Rattle.lk_inductive.specs.Restore.{Original, applied_to, renamed_as, ctors_stand, all_stand, stands_for, put_at, after_own, put_back, restore, restoring}
+use Rattle.lk_inductive.specs.NestedRelation.{AreOverParams}
 use Rattle.lk_sound.proofs.BuiltRecursors.{KeepsWellFormed}
 use Rattle.lk_sound.proofs.Auxs.{AllAux}
 

@@ -14,9 +14,9 @@ use Rattle.lk_plain.specs.Query.{same}
 use Rattle.lk_plain.specs.Program.{Program, asked}
 use Rattle.lk_plain.specs.Sound.{IsSound, IsJustified, IfYes}
 use Rattle.lk_plain.proofs.Soundness.{sound_map}
-use Rattle.lk_table.specs.Steps.{is_same_tree}
-use Rattle.lk_table.specs.Levels.{LevelTest, IsLevelTest, levels_equal}
-use Rattle.lk_table.specs.Pairs.{same_bodies, by_core, same_all}
+use Rattle.lk_questions.specs.Steps.{is_same_tree}
+use Rattle.lk_questions.specs.Levels.{LevelTest, IsLevelTest, levels_equal}
+use Rattle.lk_questions.specs.Pairs.{same_bodies, by_core, same_all}
 use Rattle.lk_sound.proofs.Pieces.{same_tree, halves}
 use Rattle.lk_sound.proofs.Infers.{bound_left, pi_bound_left}
 use Rattle.lk_sound.proofs.Goes.{sound_if}

@@ -8,7 +8,7 @@ use Rattle.lk_tree.proofs.Locals.{local_of_open, below_bound, bound_least, bound
 use Rattle.lk_rulebook.specs.Place.{Place}
 use Rattle.lk_rulebook.specs.Rules.{Reduces}
 use Rattle.lk_rulebook.proofs.Scopes.{well_formed_of_reduct}
-use Rattle.lk_blocks.specs.Block.{domain}
+use Rattle.lk_inductive.specs.Block.{domain}
 
 abbrev pub In : ℕ → Tree → Type 0
 In j e = IsWellFormed e × (bound e ≤ j)

@@ -9,9 +9,9 @@ use Rattle.lk_rulebook.specs.Names.{named, nat, nat_zero, nat_succ, string}
 use Rattle.lk_tree.specs.Mentions.{same_name}
 use Rattle.lk_rulebook.specs.Shapes.{HasNat, HasString}
 use Rattle.lk_plain.specs.Program.{done}
-use Rattle.lk_table.specs.Steps.{is_same_tree}
-use Rattle.lk_table.specs.Levels.{tested}
-use Rattle.lk_table.specs.Shapes.{is_sort_one, are_nat_ctors, nat_shape_by, nat_shape, has_string_shape, string_shape}
+use Rattle.lk_questions.specs.Steps.{is_same_tree}
+use Rattle.lk_questions.specs.Levels.{tested}
+use Rattle.lk_questions.specs.Shapes.{is_sort_one, are_nat_ctors, nat_shape_by, nat_shape, has_string_shape, string_shape}
 use Rattle.lk_plain.specs.Sound.{IfYes, IsSound}
 use Rattle.lk_plain.proofs.Soundness.{sound_bind, sound_map}
 use Rattle.lk_sound.proofs.Pieces.{sound_given, of_yes, same_tree, halves, equal_numbers, no_item, same_name_right, sound_tested, if_yes_map}

@@ -5,7 +5,7 @@ use Rattle.lk_plain.specs.Query.{Query, core, whnf, infer, same}
 use Rattle.lk_plain.specs.Answer.{IfAnswered, plain_answer}
 use Rattle.lk_plain.specs.Program.{Table}
 use Rattle.lk_plain.specs.Sound.{IsJustified, IsAskable, WellStated, IsSoundTable}
-use Rattle.lk_table.specs.Table.{steps}
+use Rattle.lk_questions.specs.Table.{steps}
 use Rattle.lk_plain.proofs.Soundness.{sound_answer}
 use Rattle.lk_sound.proofs.Infers.{sound_infer}
 use Rattle.lk_sound.proofs.Cores.{sound_core, sound_whnf}

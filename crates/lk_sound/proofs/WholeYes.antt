@@ -10,19 +10,19 @@ use Rattle.lk_plain.specs.Answer.{IfAnswered, plain_answer}
 use Rattle.lk_plain.specs.Program.{Table}
 use Rattle.lk_plain.specs.Sound.{WellStated, TypesStated, IsSoundTable}
 use Rattle.lk_sound.proofs.WholeTable.{ans_sound}
-use Rattle.lk_blocks.specs.Block.{frame_of, parameters_of, type_entries, all_ctor_entries}
-use Rattle.lk_blocks.specs.Relation.{IsAmong, AreNumbered, IsBlock, CountsAgree}
-use Rattle.lk_blocks.specs.BlockSteps.{TypeParts, counts_steps, types_steps, all_ctor_sorts, shape_steps}
-use Rattle.lk_blocks.specs.Recursors.{Rec, recursors_by}
-use Rattle.lk_blocks.specs.Compare.{compare_steps, rec_entries, AreRecs}
-use Rattle.lk_blocks.specs.Whole.{partial_types, partial_members, AllCtorsSorted, BlockStated}
-use Rattle.lk_blocks.specs.Nested.{Setting, Larger, larger_block, enlarge, aux_sorts, aux_indices, bare_entries}
-use Rattle.lk_blocks.specs.Restore.{first_name}
-use Rattle.lk_blocks.specs.NestedTask.{setting_of, restoring_of, nested_shape, whole_task}
-use Rattle.lk_blocks.specs.NestedRelation.{Clear, ClearCtors, ClearTypes, IsClear, IsEnlarged, middle_half, last_half, NestedDerived}
-use Rattle.lk_blocks.specs.Task.{here, run_task, IsSoundTask}
-use Rattle.lk_blocks.proofs.Tasks.{sound_run_task, sound_here, sound_then}
-use Rattle.lk_blocks.proofs.Halves.{MembersStated, well_stated_half, stated_append}
+use Rattle.lk_inductive.specs.Block.{frame_of, parameters_of, type_entries, all_ctor_entries}
+use Rattle.lk_inductive.specs.Relation.{IsAmong, AreNumbered, IsBlock, CountsAgree}
+use Rattle.lk_inductive.specs.BlockSteps.{TypeParts, counts_steps, types_steps, all_ctor_sorts, shape_steps}
+use Rattle.lk_inductive.specs.Recursors.{Rec, recursors_by}
+use Rattle.lk_inductive.specs.Compare.{compare_steps, rec_entries, AreRecs}
+use Rattle.lk_inductive.specs.Whole.{partial_types, partial_members, AllCtorsSorted, BlockStated}
+use Rattle.lk_inductive.specs.Nested.{Setting, Larger, larger_block, enlarge, aux_sorts, aux_indices, bare_entries}
+use Rattle.lk_inductive.specs.Restore.{first_name}
+use Rattle.lk_inductive.specs.NestedTask.{setting_of, restoring_of, nested_shape, whole_task}
+use Rattle.lk_inductive.specs.NestedRelation.{Clear, ClearCtors, ClearTypes, IsClear, IsEnlarged, middle_half, last_half, NestedDerived}
+use Rattle.lk_inductive.specs.Task.{here, run_task, IsSoundTask}
+use Rattle.lk_inductive.proofs.Tasks.{sound_run_task, sound_here, sound_then}
+use Rattle.lk_inductive.proofs.Halves.{MembersStated, well_stated_half, stated_append}
 use Rattle.lk_sound.proofs.BlockTypes.{IsTyped, IsHeaded, sound_types}
 use Rattle.lk_sound.proofs.Counts.{sound_counts}
 use Rattle.lk_sound.proofs.Ctors.{sound_shape_at}

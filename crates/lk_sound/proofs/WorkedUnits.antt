@@ -10,9 +10,9 @@ use Rattle.lk_tree.specs.RuleNo.{not_positive, recursor_differs, duplicate_name}
 use Rattle.lk_rulebook.specs.Names.{nat, nat_succ, named}
 use Rattle.lk_rulebook.specs.Units.{of_block, Library}
 use Rattle.lk_plain.specs.Answer.{answer_to_depth}
-use Rattle.lk_blocks.proofs.Worked.{nat_block}
-use Rattle.lk_blocks.proofs.WorkedBlocks.{u, s_type, nat_rec_with, n_unit, t_name, t_block, of_functions}
-use Rattle.lk_blocks.proofs.WorkedNested.{list_unit, tree_block, tree_recs}
+use Rattle.lk_inductive.proofs.Worked.{nat_block}
+use Rattle.lk_inductive.proofs.WorkedBlocks.{u, s_type, nat_rec_with, n_unit, t_name, t_block, of_functions}
+use Rattle.lk_inductive.proofs.WorkedNested.{list_unit, tree_block, tree_recs}
 use Rattle.lk_verdict.specs.GoodUnit.{IsGoodUnit}
 use Rattle.lk_verdict.proofs.Spelled.{spelled_clear}
 use Rattle.lk_sound.proofs.WholeTable.{sound_steps}

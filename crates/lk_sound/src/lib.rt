@@ -2,10 +2,10 @@
 #![tactic(auto)]
 
 ghost use Rattle.std.specs.Prelude.{◌≡◌, ℕ, [], List};
-ghost use Rattle.lk_blocks.specs.Block.{Shape};
-ghost use Rattle.lk_blocks.specs.NestedRelation.{IsClear, ClearTypes, NestedDerived};
-ghost use Rattle.lk_blocks.specs.NestedTask.{plain_whole};
-ghost use Rattle.lk_blocks.specs.Whole.{BlockStated, BlockDerived};
+ghost use Rattle.lk_inductive.specs.Block.{Shape};
+ghost use Rattle.lk_inductive.specs.NestedRelation.{IsClear, ClearTypes, NestedDerived};
+ghost use Rattle.lk_inductive.specs.NestedTask.{plain_whole};
+ghost use Rattle.lk_inductive.specs.Whole.{BlockStated, BlockDerived};
 ghost use Rattle.lk_plain.specs.Answer.{answered, outcome_of, plain_answer, IfAnswered};
 ghost use Rattle.lk_plain.specs.Program.{Table};
 ghost use Rattle.lk_plain.specs.Query.{Query};
@@ -14,10 +14,10 @@ ghost use Rattle.lk_rulebook.specs.Derived.{DeclWellFormed, DeclDerived};
 ghost use Rattle.lk_rulebook.specs.Place.{Place, Block, Rec};
 ghost use Rattle.lk_rulebook.specs.Stated.{GivesNoLocal};
 ghost use Rattle.lk_rulebook.specs.Units.{Decl, Members, LibraryUnit, place_of, Library};
-ghost use Rattle.lk_table.specs.Built.{rows_by, rows};
-ghost use Rattle.lk_table.specs.Declarations.{unit_steps};
-ghost use Rattle.lk_table.specs.Levels.{LevelTest, IsLevelTest, complete_test};
-ghost use Rattle.lk_table.specs.Table.{steps};
+ghost use Rattle.lk_questions.specs.Built.{rows_by, rows};
+ghost use Rattle.lk_questions.specs.Declarations.{unit_steps};
+ghost use Rattle.lk_questions.specs.Levels.{LevelTest, IsLevelTest, complete_test};
+ghost use Rattle.lk_questions.specs.Table.{steps};
 ghost use Rattle.lk_verdict.specs.Built.{stage};
 ghost use Rattle.lk_verdict.specs.GoodUnit.{IsGoodUnit, IsClearLibrary};
 ghost use Rattle.lk_verdict.specs.Verdict.{says_yes, Stage, whole, plain_verdict};

@@ -7,7 +7,7 @@ use Rattle.lk_rulebook.specs.Place.{Place}
 use Rattle.lk_plain.specs.Program.{Program, done, look}
 use Rattle.lk_plain.specs.Parts.{is_built_kind, where_built}
 use Rattle.lk_plain.specs.Erased.{Value, a_tree, Steps, gives, refuses, erased}
-use Rattle.lk_table.specs.Steps.{given, with_params, with_levels}
+use Rattle.lk_questions.specs.Steps.{given, with_params, with_levels}
 use Rattle.lk_store.specs.Contents.{Contents, tree_at}
 use Rattle.lk_store.specs.Store.{contents_of}
 use Rattle.lk_store.specs.declared.tables.Tables.{Tables}

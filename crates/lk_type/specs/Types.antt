@@ -7,7 +7,7 @@ use Rattle.lk_rulebook.specs.Place.{Place}
 use Rattle.lk_plain.specs.Query.{whnf, infer, same}
 use Rattle.lk_plain.specs.Program.{Program, done, ask, asked, ◌>>=◌}
 use Rattle.lk_plain.specs.Erased.{Value, a_tree, Steps, gives, with_tree, with_truth, erased}
-use Rattle.lk_table.specs.Steps.{given, as_sort, as_pi, sort_of}
+use Rattle.lk_questions.specs.Steps.{given, as_sort, as_pi, sort_of}
 use Rattle.lk_ask.specs.declared.next.Next.{Next}
 use Rattle.lk_ask.specs.declared.sheet.TypeSheet.{TypeSheet}
 use Rattle.lk_ask.specs.declared.sheet.TypeSheet.TheVariants.{Passed, LamDomain, LamDomainSort, LamBody, PiDomain, PiDomainSort, PiBody, PiBodySort, Function, FunctionForm, Argument, ArgumentSame, LetType, LetTypeSort, LetValue, LetValueSame}

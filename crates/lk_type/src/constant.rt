@@ -3,7 +3,7 @@
 ghost use Rattle.std.specs.Prelude.{◌≡◌, ◌<◌, IfOk, length};
 ghost use Rattle.lk_tree.specs.Tree.{const};
 ghost use Rattle.lk_plain.specs.Erased.{a_tree, erased};
-ghost use Rattle.lk_table.specs.Built.{infer_row};
+ghost use Rattle.lk_questions.specs.Built.{infer_row};
 ghost use Rattle.lk_store.specs.Contents.{name_at, list_at, tree_at, Extends};
 ghost use Rattle.lk_store.specs.Store.{contents_of};
 ghost use Rattle.lk_env.specs.Places.{place_at};

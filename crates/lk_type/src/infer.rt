@@ -4,7 +4,7 @@ ghost use Rattle.std.specs.Prelude.{◌≡◌, ◌<◌, ℕ, Bool, IfOk, Option,
 ghost use Rattle.lk_tree.specs.Tree.{Tree};
 ghost use Rattle.lk_rulebook.specs.Place.{Place};
 ghost use Rattle.lk_plain.specs.Erased.{a_tree, truth, erased};
-ghost use Rattle.lk_table.specs.Built.{infer_row};
+ghost use Rattle.lk_questions.specs.Built.{infer_row};
 ghost use Rattle.lk_store.specs.Contents.{tree_at, Extends};
 ghost use Rattle.lk_store.specs.Store.{contents_of};
 ghost use Rattle.lk_env.specs.Places.{place_at};

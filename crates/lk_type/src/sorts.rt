@@ -4,7 +4,7 @@ ghost use Rattle.std.specs.Prelude.{◌≡◌, ◌<◌, ℕ, IfOk, Option, lengt
 ghost use Rattle.lk_tree.specs.Tree.{sort as tree_sort, imax_level};
 ghost use Rattle.lk_rulebook.specs.Place.{Place};
 ghost use Rattle.lk_plain.specs.Erased.{a_tree, gives, erased};
-ghost use Rattle.lk_table.specs.Built.{infer_row};
+ghost use Rattle.lk_questions.specs.Built.{infer_row};
 ghost use Rattle.lk_store.specs.Contents.{level_at, tree_at, Extends, IsLevel};
 ghost use Rattle.lk_ask.specs.Nexts.{IsKnownNext};
 ghost use Rattle.lk_ask.specs.Sheets.{IsKnownType};

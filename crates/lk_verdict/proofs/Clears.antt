@@ -5,7 +5,7 @@ use Rattle.lk_tree.specs.Tree.{Name, name_discrete}
 use Rattle.lk_tree.specs.RuleNo.{RuleNo}
 use Rattle.lk_rulebook.specs.Place.{Entry, Kind, a_type, Ctor, BlockType, Block, Rec}
 use Rattle.lk_rulebook.specs.Units.{Body, as_axiom, as_def, as_thm, as_opaque, as_quot, LibraryUnit, of_decl, of_block, Library, Members, members_of, kind_of, type_entries, ctor_entries, all_ctor_entries, rec_members, Trees, trees_of, type_trees, ctor_trees, all_ctor_trees, rec_trees, given_by, first_of_two, at_unit, flaw_of, flawless, first_giving, place_of}
-use Rattle.lk_blocks.specs.NestedRelation.{Clear, ClearCtors, ClearTypes, IsClear}
+use Rattle.lk_inductive.specs.NestedRelation.{Clear, ClearCtors, ClearTypes, IsClear}
 use Rattle.lk_verdict.specs.GoodUnit.{AllClear, IsClearUnit, IsClearLibrary}
 
 clear_split : (xs ys : Trees) → AllClear (xs ++ ys) → AllClear xs × AllClear ys

@@ -7,13 +7,13 @@ use Rattle.lk_rulebook.specs.Units.{LibraryUnit, of_decl, of_block, Library, Mem
 use Rattle.lk_rulebook.specs.Scan.{AreNew, is_none, are_new, own_scan}
 use Rattle.lk_plain.specs.Answer.{outcome_of, plain_answer}
 use Rattle.lk_plain.specs.Program.{Table}
-use Rattle.lk_table.specs.Declarations.{unit_steps}
+use Rattle.lk_questions.specs.Declarations.{unit_steps}
 use Rattle.lk_rulebook.specs.Derived.{DeclDerived}
-use Rattle.lk_blocks.specs.Whole.{BlockDerived}
-use Rattle.lk_blocks.specs.NestedRelation.{NestedDerived}
-use Rattle.lk_blocks.specs.FlatTask.{flat_task}
-use Rattle.lk_blocks.specs.NestedTask.{whole_task}
-use Rattle.lk_blocks.specs.Task.{run_task}
+use Rattle.lk_inductive.specs.Whole.{BlockDerived}
+use Rattle.lk_inductive.specs.NestedRelation.{NestedDerived}
+use Rattle.lk_inductive.specs.FlatTask.{flat_task}
+use Rattle.lk_inductive.specs.NestedTask.{whole_task}
+use Rattle.lk_inductive.specs.Task.{run_task}
 use Rattle.lk_verdict.specs.GoodUnit.{UnitDerived, declaration, block, nested, IsGoodUnit}
 use Rattle.lk_verdict.specs.Verdict.{Verdict, says_no, says_steps, verdict_by, Stage, block_outcome, questions_of, refused_at_once, verdict_of, plain_verdict}
 

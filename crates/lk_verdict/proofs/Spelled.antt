@@ -3,7 +3,7 @@ use Rattle.std.proofs.Common.{◌≡◌, inl, inr, true, ◌&&◌, [], ◌∷◌
 use Rattle.lk_tree.specs.Tree.{Name, Part, Tree, var, sort, const, app, lam, pi, let_in, proj, lit, wide, str, local}
 use Rattle.lk_tree.proofs.Scans.{both_true}
 use Rattle.lk_rulebook.specs.Units.{Library, Members, members_of, Trees, trees_of}
-use Rattle.lk_blocks.specs.NestedRelation.{IsMarked, Clear}
+use Rattle.lk_inductive.specs.NestedRelation.{IsMarked, Clear}
 use Rattle.lk_verdict.specs.GoodUnit.{NamesClear, AllClear, IsClearLibrary}
 use Rattle.lk_rulebook.specs.Spelled.{is_spelled, tree_spelled, all_spelled, names_spelled, library_spelled}
 

@@ -9,13 +9,13 @@ use Rattle.lk_rulebook.specs.Scan.{AreNew, IsScanned}
 use Rattle.lk_rulebook.proofs.Scans.{no_flaw, scanned_stated}
 use Rattle.lk_rulebook.specs.Derived.{IsOf, BodyDerived, DeclDerived}
 use Rattle.lk_plain.proofs.Places.{prefix_gives, found_entry}
-use Rattle.lk_blocks.specs.Grows.{IsWithin, RulesCome, Completes}
-use Rattle.lk_blocks.specs.Block.{Shape}
-use Rattle.lk_blocks.specs.Compare.{rec_entries}
-use Rattle.lk_blocks.specs.Whole.{partial_types, partial_members, BlockDerived}
-use Rattle.lk_blocks.proofs.Halves.{first_entry, given_append}
-use Rattle.lk_blocks.proofs.More.{more_type, more_sort, more_equal}
-use Rattle.lk_blocks.proofs.MoreBlocks.{more_good, block_after}
+use Rattle.lk_inductive.specs.Grows.{IsWithin, RulesCome, Completes}
+use Rattle.lk_inductive.specs.Block.{Shape}
+use Rattle.lk_inductive.specs.Compare.{rec_entries}
+use Rattle.lk_inductive.specs.Whole.{partial_types, partial_members, BlockDerived}
+use Rattle.lk_inductive.proofs.Halves.{first_entry, given_append}
+use Rattle.lk_inductive.proofs.More.{more_type, more_sort, more_equal}
+use Rattle.lk_inductive.proofs.MoreBlocks.{more_good, block_after}
 
 -- each name that w gives means the same at w'
 abbrev Gives : Place → Place → Type 0

@@ -9,18 +9,18 @@ use Rattle.lk_plain.specs.Answer.{Outcome, answered, refused, spent, IfAnswered,
 use Rattle.lk_plain.specs.Laws.{IsSteady, IsSettled}
 use Rattle.lk_plain.specs.Program.{Table}
 use Rattle.lk_plain.specs.Parts.{IsStageOf}
-use Rattle.lk_table.specs.Declarations.{unit_steps}
+use Rattle.lk_questions.specs.Declarations.{unit_steps}
 use Rattle.lk_plain.proofs.Outcomes.{of_answered}
 use Rattle.lk_plain.proofs.Budgets.{run_steady, ans_steady}
 use Rattle.lk_plain.proofs.Parts.{Gives, part_itself, ans_gives, run_gives}
 use Rattle.lk_plain.proofs.Settled.{Settles, run_settled, ans_settled}
-use Rattle.lk_blocks.specs.Block.{Shape}
-use Rattle.lk_blocks.specs.FlatTask.{plain_flat}
-use Rattle.lk_blocks.specs.NestedTask.{plain_whole}
-use Rattle.lk_blocks.proofs.FlatBlocks.{flat_is_whole}
-use Rattle.lk_blocks.proofs.Plain.{plain_steady, flat_steady}
-use Rattle.lk_blocks.proofs.SettledTasks.{plain_settled, flat_settled}
-use Rattle.lk_blocks.proofs.StageTasks.{plain_gives, flat_gives}
+use Rattle.lk_inductive.specs.Block.{Shape}
+use Rattle.lk_inductive.specs.FlatTask.{plain_flat}
+use Rattle.lk_inductive.specs.NestedTask.{plain_whole}
+use Rattle.lk_inductive.proofs.FlatBlocks.{flat_is_whole}
+use Rattle.lk_inductive.proofs.Plain.{plain_steady, flat_steady}
+use Rattle.lk_inductive.proofs.SettledTasks.{plain_settled, flat_settled}
+use Rattle.lk_inductive.proofs.StageTasks.{plain_gives, flat_gives}
 use Rattle.lk_verdict.specs.Verdict.{Verdict, says_yes, says_no, says_steps, verdict_by, Stage, block_outcome, questions_of, refused_at_once, IsWidened, verdict_of, plain_verdict, IsYesFrom}
 
 -- an outcome that says yes is an answer

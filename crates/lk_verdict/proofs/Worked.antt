@@ -10,7 +10,7 @@ use Rattle.lk_tree.specs.RuleNo.{unknown_constant, undeclared_level, duplicate_l
 use Rattle.lk_rulebook.specs.Place.{opaque_hint, abbreviation}
 use Rattle.lk_rulebook.specs.Units.{Body, as_axiom, as_def, as_thm, as_opaque, as_quot, LibraryUnit, of_decl, of_block, Library}
 use Rattle.lk_plain.specs.Answer.{answer_to_depth}
-use Rattle.lk_blocks.proofs.WorkedNested.{list_unit, tree_block, tree_recs}
+use Rattle.lk_inductive.proofs.WorkedNested.{list_unit, tree_block, tree_recs}
 use Rattle.lk_verdict.specs.Verdict.{says_yes, says_no, says_steps, whole, plain_verdict}
 use Rattle.lk_verdict.specs.Built.{stage}
 use Rattle.lk_verdict.specs.Attacks.{prop, t_block, shadowed, doubled, undeclared, of_local}

@@ -3,7 +3,7 @@
 use Rattle.std.specs.Prelude.{false, Option, Some, None}
 use Rattle.lk_tree.specs.RuleNo.{RuleNo, builtin_shape}
 use Rattle.lk_rulebook.specs.Units.{Body, as_quot, LibraryUnit, of_decl, of_block}
-use Rattle.lk_table.specs.Built.{rows}
+use Rattle.lk_questions.specs.Built.{rows}
 use Rattle.lk_verdict.specs.Verdict.{Stage}
 
 abbrev pub unbuilt_body : Body → Option RuleNo

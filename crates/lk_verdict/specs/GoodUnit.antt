@@ -4,9 +4,9 @@ use Rattle.lk_rulebook.specs.Place.{Block, Rec}
 use Rattle.lk_rulebook.specs.Units.{Decl, LibraryUnit, of_decl, of_block, Library, place_of, Members, members_of, Trees, trees_of}
 use Rattle.lk_rulebook.specs.Scan.{IsScanned}
 use Rattle.lk_rulebook.specs.Derived.{DeclDerived}
-use Rattle.lk_blocks.specs.Block.{Shape}
-use Rattle.lk_blocks.specs.Whole.{BlockDerived}
-use Rattle.lk_blocks.specs.NestedRelation.{NestedDerived, IsMarked, Clear}
+use Rattle.lk_inductive.specs.Block.{Shape}
+use Rattle.lk_inductive.specs.Whole.{BlockDerived}
+use Rattle.lk_inductive.specs.NestedRelation.{NestedDerived, IsMarked, Clear}
 
 -- u is derived as unit n: a declaration by its type and value, a block by its types, constructors and recursors, with nested
 -- occurrences by those of a larger block

@@ -7,11 +7,11 @@ use Rattle.lk_rulebook.specs.Scan.{scan_of}
 use Rattle.lk_plain.specs.Answer.{Outcome, answered, refused, spent, outcome_of, plain_answer}
 use Rattle.lk_plain.specs.Program.{Table}
 use Rattle.lk_plain.specs.Parts.{IsStageOf}
-use Rattle.lk_table.specs.Table.{steps}
-use Rattle.lk_table.specs.Declarations.{unit_steps}
-use Rattle.lk_blocks.specs.Block.{Shape}
-use Rattle.lk_blocks.specs.FlatTask.{plain_flat}
-use Rattle.lk_blocks.specs.NestedTask.{plain_whole}
+use Rattle.lk_questions.specs.Table.{steps}
+use Rattle.lk_questions.specs.Declarations.{unit_steps}
+use Rattle.lk_inductive.specs.Block.{Shape}
+use Rattle.lk_inductive.specs.FlatTask.{plain_flat}
+use Rattle.lk_inductive.specs.NestedTask.{plain_whole}
 
 pub data Verdict : Type 0 where
   says_yes : Verdict

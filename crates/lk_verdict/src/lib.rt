@@ -2,16 +2,16 @@
 #![tactic(auto)]
 
 ghost use Rattle.std.specs.Prelude.{◌≡◌, ℕ, [], List, Some, take, slice_get, ◌≤◌, ◌<◌, ◌⊎◌, true};
-ghost use Rattle.lk_blocks.specs.Block.{Shape};
-ghost use Rattle.lk_blocks.specs.Recursors.{Rec};
-ghost use Rattle.lk_blocks.specs.Whole.{BlockDerived};
+ghost use Rattle.lk_inductive.specs.Block.{Shape};
+ghost use Rattle.lk_inductive.specs.Recursors.{Rec};
+ghost use Rattle.lk_inductive.specs.Whole.{BlockDerived};
 ghost use Rattle.lk_plain.specs.Answer.{answered};
 ghost use Rattle.lk_rulebook.specs.Derived.{DeclDerived};
 ghost use Rattle.lk_rulebook.specs.Place.{Block, BlockType, Rec};
 ghost use Rattle.lk_rulebook.specs.Scan.{IsScanned};
 ghost use Rattle.lk_rulebook.specs.Spelled.{library_spelled};
 ghost use Rattle.lk_rulebook.specs.Units.{Decl, place_of, of_block, Library};
-ghost use Rattle.lk_table.specs.Table.{steps};
+ghost use Rattle.lk_questions.specs.Table.{steps};
 ghost use Rattle.lk_verdict.specs.Attacks.{shadowed, doubled, undeclared, of_local, hidden};
 ghost use Rattle.lk_verdict.specs.Built.{stage};
 ghost use Rattle.lk_verdict.specs.GoodUnit.{IsGoodUnit, IsClearLibrary};

@@ -1,4 +1,4 @@
-use Rattle.lk_table.specs.Table.{steps}
+use Rattle.lk_questions.specs.Table.{steps}
 use Rattle.lk_sound.proofs.WholeTable.{sound_steps, ans_sound}
 use Rattle.lk_sound.proofs.plain_answer_is_sound.Goals as goal
 

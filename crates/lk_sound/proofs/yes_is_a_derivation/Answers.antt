@@ -1,4 +1,4 @@
-use Rattle.lk_table.specs.Table.{steps}
+use Rattle.lk_questions.specs.Table.{steps}
 use Rattle.lk_sound.proofs.WholeTable.{sound_steps}
 use Rattle.lk_sound.proofs.Declarations.{yes_is_good}
 use Rattle.lk_sound.proofs.yes_is_a_derivation.Goals as goal

@@ -1,6 +1,6 @@
 use Rattle.std.proofs.Common.{map, refl, ap, sym, subst}
 use Rattle.std.specs.Prelude.{All}
-use Rattle.lk_table.specs.Declarations.{checked}
+use Rattle.lk_questions.specs.Declarations.{checked}
 use Rattle.lk_env.specs.Units.{block_at, type_at, recursor_at, IsTypeIn}
 use Rattle.lk_env.specs.declared.entry.Partial.TheVariants.{Types}
 use Rattle.lk_block.specs.Parts.{parts_at}

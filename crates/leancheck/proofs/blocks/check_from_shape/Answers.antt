@@ -1,7 +1,7 @@
 use Rattle.std.proofs.Common.{map, refl, ap, sym, subst, ◌∙◌}
 use Rattle.lk_env.specs.Units.{type_at, recursor_at, IsRecursorIn}
 use Rattle.lk_env.specs.declared.entry.Partial.TheVariants.{Types}
-use Rattle.lk_blocks.specs.BlockSteps.{shape_steps}
+use Rattle.lk_inductive.specs.BlockSteps.{shape_steps}
 use Rattle.lk_block.specs.Parts.{parts_at}
 use Rattle.lk_block.specs.Shapes.{shape_at}
 use Rattle.lk_block.specs.Stages.{recursors_stage}

@@ -2,8 +2,8 @@ use Rattle.std.proofs.Common.{map, refl, ap, sym, subst, ◌∙◌, arith}
 use Rattle.std.specs.Prelude.{All}
 use Rattle.lk_env.specs.Units.{block_at, type_at, recursor_at, IsTypeIn}
 use Rattle.lk_env.specs.declared.entry.Partial.TheVariants.{Nothing}
-use Rattle.lk_blocks.specs.Block.{parameters_of}
-use Rattle.lk_blocks.specs.BlockSteps.{types_steps}
+use Rattle.lk_inductive.specs.Block.{parameters_of}
+use Rattle.lk_inductive.specs.BlockSteps.{types_steps}
 use Rattle.lk_block.specs.Courses.{Goes}
 use Rattle.lk_block.specs.Settling.{IsChecked}
 use Rattle.lk_block.specs.Parts.{parts_at}

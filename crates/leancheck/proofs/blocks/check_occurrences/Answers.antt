@@ -1,8 +1,8 @@
 use Rattle.std.proofs.Common.{◌<◌, length, map, All, ap, sym, subst, ◌∙◌}
 use Rattle.lk_store.specs.Contents.{name_at}
-use Rattle.lk_table.specs.Declarations.{checked}
+use Rattle.lk_questions.specs.Declarations.{checked}
 use Rattle.lk_env.specs.Units.{type_at}
-use Rattle.lk_blocks.specs.Flat.{flat_types}
+use Rattle.lk_inductive.specs.Flat.{flat_types}
 use Rattle.lk_block.specs.Courses.{Gives}
 use Rattle.lk_block.proofs.TypeNames.{names_are, names_known}
 use Rattle.leancheck.proofs.blocks.check_occurrences.Goals as goal

@@ -2,8 +2,8 @@ use Rattle.std.proofs.Common.{map, ap}
 use Rattle.lk_store.specs.Contents.{Contents}
 use Rattle.lk_env.specs.Units.{recursor_at}
 use Rattle.lk_env.specs.declared.entry.Partial.TheVariants.{Members}
-use Rattle.lk_blocks.specs.Compare.{compare_steps}
-use Rattle.lk_blocks.specs.Recursors.{recursors}
+use Rattle.lk_inductive.specs.Compare.{compare_steps}
+use Rattle.lk_inductive.specs.Recursors.{recursors}
 use Rattle.lk_block.specs.Shapes.{shape_at}
 use Rattle.leancheck.proofs.Staging.{stage_last}
 use Rattle.leancheck.proofs.blocks.check_recursors.Goals as goal

@@ -1,6 +1,6 @@
 use Rattle.lk_plain.specs.Query.{whnf}
 use Rattle.lk_plain.specs.Program.{asked}
-use Rattle.lk_blocks.specs.BlockSteps.{as_level}
+use Rattle.lk_inductive.specs.BlockSteps.{as_level}
 use Rattle.lk_store.specs.Contents.{level_at, tree_at}
 use Rattle.lk_block.proofs.Running.{settles_on, halts_first}
 use Rattle.lk_block.proofs.asking.level_of.Goals as goal

@@ -2,7 +2,7 @@ use Rattle.std.proofs.Common.{ℕ}
 use Rattle.lk_tree.specs.RuleNo.{block_shape}
 use Rattle.lk_plain.specs.Query.{whnf}
 use Rattle.lk_plain.specs.Program.{asked}
-use Rattle.lk_table.specs.Steps.{as_pi}
+use Rattle.lk_questions.specs.Steps.{as_pi}
 use Rattle.lk_store.specs.Contents.{tree_at}
 use Rattle.lk_block.proofs.Running.{settles_on, halts_first}
 use Rattle.lk_block.proofs.asking.pi_of.Goals as goal

@@ -1,6 +1,6 @@
 use Rattle.lk_plain.specs.Query.{whnf}
 use Rattle.lk_plain.specs.Program.{asked}
-use Rattle.lk_table.specs.Steps.{as_sort}
+use Rattle.lk_questions.specs.Steps.{as_sort}
 use Rattle.lk_store.specs.Contents.{level_at, tree_at}
 use Rattle.lk_block.proofs.Running.{settles_on, halts_first}
 use Rattle.lk_block.proofs.asking.sort_of_kind.Goals as goal

@@ -5,7 +5,7 @@ use Rattle.lk_store.specs.Contents.{level_at, tree_at}
 use Rattle.lk_store.proofs.Extending.{Extends-trans}
 use Rattle.lk_subst.specs.Numbers.{trees-steady, trees-known}
 use Rattle.lk_env.specs.Units.{type_at}
-use Rattle.lk_blocks.specs.BlockSteps.{large_steps}
+use Rattle.lk_inductive.specs.BlockSteps.{large_steps}
 use Rattle.lk_block.specs.Courses.{Goes, Halts}
 use Rattle.lk_block.specs.Parts.{lists_at}
 use Rattle.lk_block.specs.Shapes.{type_shape_at, shape_at, IsTypeShapeIn}

@@ -1,7 +1,7 @@
 use Rattle.std.proofs.Common.{◌<◌, map, refl, sym, subst}
 use Rattle.lk_store.specs.Contents.{tree_at, level_at}
 use Rattle.lk_env.specs.Units.{type_at}
-use Rattle.lk_blocks.specs.BlockSteps.{shapes_steps}
+use Rattle.lk_inductive.specs.BlockSteps.{shapes_steps}
 use Rattle.lk_block.specs.Frames.{frame_at}
 use Rattle.lk_block.specs.Parts.{lists_at}
 use Rattle.lk_block.specs.Shapes.{type_shape_at}

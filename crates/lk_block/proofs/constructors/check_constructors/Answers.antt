@@ -5,8 +5,8 @@ use Rattle.std.proofs.lemmas.List.{append-nil}
 use Rattle.std.proofs.lemmas.List.Elements.{All-same, All-push}
 use Rattle.lk_tree.specs.Tree.{Tree}
 use Rattle.lk_plain.specs.Program.{Program, done}
-use Rattle.lk_blocks.specs.Block.{TypeShape}
-use Rattle.lk_blocks.specs.BlockSteps.{shapes_steps}
+use Rattle.lk_inductive.specs.Block.{TypeShape}
+use Rattle.lk_inductive.specs.BlockSteps.{shapes_steps}
 use Rattle.lk_store.specs.Contents.{name_at, tree_at}
 use Rattle.lk_store.proofs.Extending.{Extends-trans}
 use Rattle.lk_subst.specs.Numbers.{trees-steady, trees-known}

@@ -1,6 +1,6 @@
 use Rattle.std.proofs.Common.{◌<◌, map, subst, arith}
 use Rattle.lk_tree.specs.Tree.{Tree}
-use Rattle.lk_blocks.specs.BlockSteps.{over}
+use Rattle.lk_inductive.specs.BlockSteps.{over}
 use Rattle.lk_store.specs.Contents.{name_at, tree_at}
 use Rattle.lk_block.specs.Courses.{Gives}
 use Rattle.lk_block.specs.Frames.{frame_at}

@@ -2,8 +2,8 @@ use Rattle.std.proofs.Common.{◌<◌, ℕ, suc, ◌∷◌, ◌++◌, [], length
 use Rattle.std.proofs.lemmas.List.{append-nil}
 use Rattle.std.proofs.lemmas.List.Elements.{All-nil, All-same, All-push}
 use Rattle.lk_plain.specs.Program.{Program, done}
-use Rattle.lk_blocks.specs.Block.{CtorShape}
-use Rattle.lk_blocks.specs.BlockSteps.{ctors_steps}
+use Rattle.lk_inductive.specs.Block.{CtorShape}
+use Rattle.lk_inductive.specs.BlockSteps.{ctors_steps}
 use Rattle.lk_store.specs.Contents.{name_at, tree_at}
 use Rattle.lk_store.proofs.Extending.{Extends-trans}
 use Rattle.lk_env.specs.Units.{constructor_at, IsConstructorIn}

@@ -2,8 +2,8 @@ use Rattle.std.proofs.Common.{List, length, map, sym, subst, ◌∙◌}
 use Rattle.std.proofs.lemmas.List.{length-map}
 use Rattle.lk_tree.specs.Tree.{Tree}
 use Rattle.lk_plain.specs.Program.{done, ◌>>=◌}
-use Rattle.lk_blocks.specs.Block.{Field, CtorShape}
-use Rattle.lk_blocks.specs.BlockSteps.{fields_steps}
+use Rattle.lk_inductive.specs.Block.{Field, CtorShape}
+use Rattle.lk_inductive.specs.BlockSteps.{fields_steps}
 use Rattle.lk_store.specs.Contents.{name_at, tree_at}
 use Rattle.lk_store.proofs.Extending.{Extends-trans}
 use Rattle.lk_block.specs.Courses.{Goes, Halts}

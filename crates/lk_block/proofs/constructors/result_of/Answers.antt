@@ -5,7 +5,7 @@ use Rattle.lk_tree.specs.Tree.{Tree}
 use Rattle.lk_tree.specs.Spine.{head, args}
 use Rattle.lk_plain.specs.Query.{whnf}
 use Rattle.lk_plain.specs.Program.{asked}
-use Rattle.lk_blocks.specs.BlockSteps.{as_member, own_indices}
+use Rattle.lk_inductive.specs.BlockSteps.{as_member, own_indices}
 use Rattle.lk_store.specs.Contents.{name_at, tree_at}
 use Rattle.lk_block.specs.Courses.{Gives, Settles}
 use Rattle.lk_block.specs.Frames.{frame_at}

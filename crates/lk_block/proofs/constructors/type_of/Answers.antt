@@ -1,8 +1,8 @@
 use Rattle.std.proofs.Common.{List, map, refl, ap, subst}
 use Rattle.lk_plain.specs.Program.{done}
 use Rattle.lk_rulebook.specs.Place.{Ctor}
-use Rattle.lk_blocks.specs.Block.{CtorShape, TypeShape}
-use Rattle.lk_blocks.specs.BlockSteps.{ctors_steps}
+use Rattle.lk_inductive.specs.Block.{CtorShape, TypeShape}
+use Rattle.lk_inductive.specs.BlockSteps.{ctors_steps}
 use Rattle.lk_store.specs.Contents.{name_at, tree_at}
 use Rattle.lk_subst.specs.Numbers.{trees-steady}
 use Rattle.lk_env.specs.Units.{constructor_at}

@@ -1,7 +1,7 @@
 use Rattle.std.proofs.Common.{◌≡◌, ◌+◌, length, map, All}
 use Rattle.lk_store.specs.Contents.{name_at}
 use Rattle.lk_env.specs.Units.{constructor_at, IsConstructorIn}
-use Rattle.lk_blocks.specs.BlockSteps.{ctors_agree}
+use Rattle.lk_inductive.specs.BlockSteps.{ctors_agree}
 use Rattle.lk_block.proofs.counts.constructors_agree.Given as goal
 
 abbrev pub invariant-constructors : goal.invariant-constructors

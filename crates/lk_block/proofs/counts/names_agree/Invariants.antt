@@ -1,6 +1,6 @@
 use Rattle.std.proofs.Common.{◌≡◌, ◌<◌, length, map, All}
 use Rattle.lk_store.specs.Contents.{name_at}
-use Rattle.lk_blocks.specs.BlockSteps.{same_names}
+use Rattle.lk_inductive.specs.BlockSteps.{same_names}
 use Rattle.lk_block.proofs.counts.names_agree.Given as goal
 
 abbrev pub invariant-names : goal.invariant-names

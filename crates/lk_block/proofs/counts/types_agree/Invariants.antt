@@ -1,7 +1,7 @@
 use Rattle.std.proofs.Common.{◌≡◌, length, map, All}
 use Rattle.lk_store.specs.Contents.{name_at}
 use Rattle.lk_env.specs.Units.{type_at, IsTypeIn}
-use Rattle.lk_blocks.specs.BlockSteps.{types_agree}
+use Rattle.lk_inductive.specs.BlockSteps.{types_agree}
 use Rattle.lk_block.proofs.counts.types_agree.Given as goal
 
 abbrev pub invariant-types : goal.invariant-types

@@ -1,5 +1,5 @@
 use Rattle.std.proofs.Common.{◌≡◌, length, map, All}
-use Rattle.lk_blocks.specs.BlockSteps.{small_steps}
+use Rattle.lk_inductive.specs.BlockSteps.{small_steps}
 use Rattle.lk_store.specs.Contents.{tree_at, Extends}
 use Rattle.lk_block.specs.Shapes.{field_at, IsFieldIn}
 use Rattle.lk_block.proofs.Leading.{Leads}

@@ -1,5 +1,5 @@
 use Rattle.std.proofs.Common.{◌≡◌, length, map}
-use Rattle.lk_blocks.specs.BlockSteps.{is_among}
+use Rattle.lk_inductive.specs.BlockSteps.{is_among}
 use Rattle.lk_store.specs.Contents.{tree_at}
 use Rattle.lk_block.specs.Shapes.{AreTreesIn}
 use Rattle.lk_block.proofs.elimination.is_among.Given as goal

@@ -1,5 +1,5 @@
 use Rattle.std.proofs.Common.{map, ap, ◌∙◌}
-use Rattle.lk_blocks.specs.BlockSteps.{is_among}
+use Rattle.lk_inductive.specs.BlockSteps.{is_among}
 use Rattle.lk_store.specs.Contents.{level_at, tree_at}
 use Rattle.lk_subst.specs.Numbers.{trees-steady}
 use Rattle.lk_block.proofs.Smallness.{small_stops, small_proof, small_index}

@@ -1,7 +1,7 @@
 use Rattle.std.proofs.Common.{suc, refl, ap, subst}
 use Rattle.lk_tree.specs.Tree.{Tree}
 use Rattle.lk_plain.specs.Program.{done}
-use Rattle.lk_blocks.specs.Block.{FieldKind, Field}
+use Rattle.lk_inductive.specs.Block.{FieldKind, Field}
 use Rattle.lk_store.specs.Contents.{tree_at}
 use Rattle.lk_block.specs.Courses.{Goes, Halts}
 use Rattle.lk_block.specs.Frames.{frame_at}

@@ -1,8 +1,8 @@
 use Rattle.std.proofs.Common.{Bool, subst}
 use Rattle.lk_tree.specs.Tree.{Level}
 use Rattle.lk_tree.specs.LevelTest.{level_le_test}
-use Rattle.lk_table.specs.Steps.{sort_of}
-use Rattle.lk_table.specs.Levels.{tested}
+use Rattle.lk_questions.specs.Steps.{sort_of}
+use Rattle.lk_questions.specs.Levels.{tested}
 use Rattle.lk_store.specs.Contents.{level_at, tree_at}
 use Rattle.lk_block.specs.Courses.{Settles}
 use Rattle.lk_block.proofs.Running.{settles_on, halts_first}

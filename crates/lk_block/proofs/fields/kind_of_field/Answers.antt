@@ -1,7 +1,7 @@
 use Rattle.std.proofs.Common.{Bool, ◌<◌, subst, arith}
 use Rattle.lk_tree.specs.RuleNo.{field_universe}
-use Rattle.lk_table.specs.Steps.{given}
-use Rattle.lk_blocks.specs.BlockSteps.{fits_in, walk}
+use Rattle.lk_questions.specs.Steps.{given}
+use Rattle.lk_inductive.specs.BlockSteps.{fits_in, walk}
 use Rattle.lk_store.specs.Contents.{tree_at}
 use Rattle.lk_block.specs.Courses.{Gives}
 use Rattle.lk_block.specs.Frames.{frame_at}

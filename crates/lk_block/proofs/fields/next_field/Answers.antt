@@ -2,7 +2,7 @@ use Rattle.std.proofs.Common.{◌≡◌, ◌<◌, sym, ap, subst, ◌∙◌, ari
 use Rattle.lk_tree.specs.Tree.{Tree, local}
 use Rattle.lk_tree.specs.Bind.{opened}
 use Rattle.lk_plain.specs.Program.{done, ◌>>=◌}
-use Rattle.lk_blocks.specs.Block.{Field}
+use Rattle.lk_inductive.specs.Block.{Field}
 use Rattle.lk_store.specs.Contents.{tree_at}
 use Rattle.lk_store.proofs.Extending.{Extends-trans}
 use Rattle.lk_block.specs.Courses.{Goes, Halts}

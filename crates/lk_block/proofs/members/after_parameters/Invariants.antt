@@ -1,6 +1,6 @@
 use Rattle.std.proofs.Common.{◌≡◌, ◌<◌, length, map, All}
 use Rattle.lk_store.specs.Contents.{tree_at}
-use Rattle.lk_blocks.specs.BlockSteps.{after_params}
+use Rattle.lk_inductive.specs.BlockSteps.{after_params}
 use Rattle.lk_block.proofs.members.after_parameters.Given as goal
 
 abbrev pub invariant-parameters : goal.invariant-parameters

@@ -1,7 +1,7 @@
 use Rattle.std.proofs.Common.{◌≡◌, length, All}
 use Rattle.lk_store.specs.Contents.{name_at}
 use Rattle.lk_env.specs.Units.{IsTypeIn}
-use Rattle.lk_blocks.specs.BlockSteps.{is_listed}
+use Rattle.lk_inductive.specs.BlockSteps.{is_listed}
 use Rattle.lk_block.specs.Frames.{listed_at}
 use Rattle.lk_block.proofs.members.is_listed.Given as goal
 

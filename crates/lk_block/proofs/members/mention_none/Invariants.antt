@@ -2,7 +2,7 @@ use Rattle.std.proofs.Common.{◌≡◌, ◌<◌, length, map, All}
 use Rattle.lk_store.specs.Contents.{tree_at}
 use Rattle.lk_mentions.specs.Names.{names_at}
 use Rattle.lk_mentions.specs.Walks.{AreClear}
-use Rattle.lk_blocks.specs.BlockSteps.{mention_none}
+use Rattle.lk_inductive.specs.BlockSteps.{mention_none}
 use Rattle.lk_block.proofs.members.mention_none.Given as goal
 
 abbrev pub invariant-trees : goal.invariant-trees

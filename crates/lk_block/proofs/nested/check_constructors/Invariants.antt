@@ -1,5 +1,5 @@
 use Rattle.std.proofs.Common.{◌≡◌, length, map, All}
-use Rattle.lk_blocks.specs.Flat.{flat_ctors}
+use Rattle.lk_inductive.specs.Flat.{flat_ctors}
 use Rattle.lk_env.specs.Units.{constructor_at, IsConstructorIn}
 use Rattle.lk_mentions.specs.Names.{names_at}
 use Rattle.lk_block.specs.Findings.{finding}

@@ -1,6 +1,6 @@
 use Rattle.std.proofs.Common.{map}
-use Rattle.lk_table.specs.Declarations.{checked}
-use Rattle.lk_blocks.specs.Flat.{flat_types}
+use Rattle.lk_questions.specs.Declarations.{checked}
+use Rattle.lk_inductive.specs.Flat.{flat_types}
 use Rattle.lk_env.specs.Units.{type_at}
 use Rattle.lk_mentions.specs.Names.{names_at}
 use Rattle.lk_block.proofs.Findings.{finds_gives}

@@ -3,7 +3,7 @@ use Rattle.lk_tree.specs.Tree.{Tree}
 use Rattle.lk_plain.specs.Query.{whnf}
 use Rattle.lk_plain.specs.Program.{asked}
 use Rattle.lk_store.specs.Contents.{tree_at}
-use Rattle.lk_blocks.specs.Block.{Frame}
+use Rattle.lk_inductive.specs.Block.{Frame}
 use Rattle.lk_block.specs.Courses.{Gives, Settles}
 use Rattle.lk_block.specs.Frames.{frame_at}
 use Rattle.lk_block.specs.Positive.{form_step, walk_step, step_at}

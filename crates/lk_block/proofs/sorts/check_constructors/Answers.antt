@@ -1,6 +1,6 @@
 use Rattle.std.proofs.Common.{map, refl, ap, ◌∙◌}
-use Rattle.lk_table.specs.Declarations.{checked}
-use Rattle.lk_table.specs.Steps.{sort_of}
+use Rattle.lk_questions.specs.Declarations.{checked}
+use Rattle.lk_questions.specs.Steps.{sort_of}
 use Rattle.lk_tree.specs.Tree.{Level}
 use Rattle.lk_store.specs.Contents.{level_at, tree_at}
 use Rattle.lk_store.proofs.Extending.{Extends-trans}

@@ -1,6 +1,6 @@
 use Rattle.std.proofs.Common.{map, refl, ap, ◌∙◌}
-use Rattle.lk_table.specs.Declarations.{Yes, checked}
-use Rattle.lk_blocks.specs.BlockSteps.{ctor_sorts}
+use Rattle.lk_questions.specs.Declarations.{Yes, checked}
+use Rattle.lk_inductive.specs.BlockSteps.{ctor_sorts}
 use Rattle.lk_store.proofs.Extending.{Extends-trans}
 use Rattle.lk_env.specs.Units.{constructor_at, type_at, IsTypeIn}
 use Rattle.lk_block.specs.Sorts.{constructors_form, sorts_form}

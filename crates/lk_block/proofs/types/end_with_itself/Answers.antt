@@ -3,9 +3,9 @@ use Rattle.lk_tree.specs.LevelTest.{level_test}
 use Rattle.lk_tree.specs.RuleNo.{block_shape}
 use Rattle.lk_tree.specs.Tree.{Level, Tree}
 use Rattle.lk_plain.specs.Program.{done, ◌>>=◌}
-use Rattle.lk_table.specs.Steps.{given}
-use Rattle.lk_table.specs.Levels.{tested}
-use Rattle.lk_blocks.specs.BlockSteps.{type_end}
+use Rattle.lk_questions.specs.Steps.{given}
+use Rattle.lk_questions.specs.Levels.{tested}
+use Rattle.lk_inductive.specs.BlockSteps.{type_end}
 use Rattle.lk_store.specs.Contents.{level_at, tree_at}
 use Rattle.lk_block.proofs.Firsts.{self_goes, self_differs, self_stops}
 use Rattle.lk_block.proofs.Running.{halts_first}

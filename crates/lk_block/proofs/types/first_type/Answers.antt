@@ -1,6 +1,6 @@
 use Rattle.std.proofs.Common.{subst}
 use Rattle.lk_tree.specs.Tree.{Level}
-use Rattle.lk_table.specs.Steps.{sort_of}
+use Rattle.lk_questions.specs.Steps.{sort_of}
 use Rattle.lk_store.specs.Contents.{level_at, tree_at}
 use Rattle.lk_block.specs.Courses.{Gives}
 use Rattle.lk_block.specs.Parts.{parts_at, open_form}

@@ -2,8 +2,8 @@ use Rattle.std.proofs.Common.{◌<◌, length, map, sym, ◌∙◌, arith}
 use Rattle.std.proofs.lemmas.List.{length-map}
 use Rattle.lk_tree.specs.Tree.{Level}
 use Rattle.lk_plain.specs.Program.{◌>>=◌}
-use Rattle.lk_table.specs.Steps.{sort_of}
-use Rattle.lk_blocks.specs.BlockSteps.{over}
+use Rattle.lk_questions.specs.Steps.{sort_of}
+use Rattle.lk_inductive.specs.BlockSteps.{over}
 use Rattle.lk_store.specs.Contents.{level_at, tree_at}
 use Rattle.lk_subst.specs.Numbers.{trees-steady}
 use Rattle.lk_block.specs.Forms.{end_form}

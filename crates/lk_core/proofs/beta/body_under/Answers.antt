@@ -1,5 +1,5 @@
 use Rattle.std.proofs.Common.{◌≡◌, ◌+◌, suc, sym, ap, ◌∙◌, arith}
-use Rattle.lk_table.specs.Core.{lambdas}
+use Rattle.lk_questions.specs.Core.{lambdas}
 use Rattle.lk_store.specs.Contents.{tree_at}
 use Rattle.lk_core.specs.Lambdas.{under}
 use Rattle.lk_core.proofs.Lambdas.{under_next}

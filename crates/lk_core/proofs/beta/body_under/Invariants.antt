@@ -1,6 +1,6 @@
 use Rattle.std.proofs.Common.{◌≡◌, ◌<◌, ◌≤◌, ◌+◌, ◌-◌, length}
 use Rattle.lk_store.specs.Contents.{tree_at}
-use Rattle.lk_table.specs.Core.{lambdas}
+use Rattle.lk_questions.specs.Core.{lambdas}
 use Rattle.lk_core.specs.Lambdas.{under}
 use Rattle.lk_core.proofs.beta.body_under.Given as goal
 

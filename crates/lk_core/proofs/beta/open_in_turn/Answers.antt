@@ -5,7 +5,7 @@ use Rattle.std.proofs.lemmas.List.Elements.{All-same, All-head, All-rest}
 use Rattle.lk_store.specs.Contents.{tree_at, IsTree}
 use Rattle.lk_store.proofs.Extending.{Extends-trans}
 use Rattle.lk_tree.specs.Spine.{apply}
-use Rattle.lk_table.specs.Core.{beta}
+use Rattle.lk_questions.specs.Core.{beta}
 use Rattle.lk_core.proofs.Opened.{one_opened, none_left, no_lambda, all_taken, rest_applied}
 use Rattle.lk_core.proofs.beta.open_in_turn.Goals as goal
 use Rattle.lk_core.proofs.beta.open_in_turn.Goals.{in_default-view-via-in-Lam+else-left-gt0, in_default-view-via-in_default-view}

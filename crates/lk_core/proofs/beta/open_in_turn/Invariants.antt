@@ -1,7 +1,7 @@
 use Rattle.std.proofs.Common.{◌≡◌, ◌<◌, length, map}
 use Rattle.std.specs.Prelude.{All}
 use Rattle.lk_store.specs.Contents.{tree_at, Extends}
-use Rattle.lk_table.specs.Core.{beta}
+use Rattle.lk_questions.specs.Core.{beta}
 use Rattle.lk_core.proofs.beta.open_in_turn.Given as goal
 
 abbrev pub invariant-open : goal.invariant-open

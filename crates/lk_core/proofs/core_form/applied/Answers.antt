@@ -3,7 +3,7 @@ use Rattle.std.specs.Prelude.{IfOk}
 use Rattle.lk_tree.specs.Tree.{const}
 use Rattle.lk_tree.specs.Spine.{head, args}
 use Rattle.lk_plain.specs.Erased.{a_tree, erased}
-use Rattle.lk_table.specs.Built.{built_applied}
+use Rattle.lk_questions.specs.Built.{built_applied}
 use Rattle.lk_store.specs.Contents.{name_at, list_at, tree_at}
 use Rattle.lk_env.specs.Places.{place_at}
 use Rattle.lk_core.specs.Forms.{core_next}

@@ -2,7 +2,7 @@ use Rattle.std.proofs.Common.{rules, ◌≡◌, List, [], ◌∷◌, true, false
 use Rattle.lk_tree.specs.Operations.{Op, succ}
 use Rattle.lk_tree.specs.Mentions.{same_name}
 use Rattle.lk_rulebook.specs.Names.{nat}
-use Rattle.lk_table.specs.Built.{names_one_of}
+use Rattle.lk_questions.specs.Built.{names_one_of}
 use Rattle.lk_store.specs.Contents.{name_at, text_at}
 use Rattle.lk_core.specs.Words.{is_word_among}
 use Rattle.lk_core.proofs.Naming.{word_decides, empty_names_none, number_names_none}

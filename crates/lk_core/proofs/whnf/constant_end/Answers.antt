@@ -4,7 +4,7 @@ use Rattle.lk_tree.specs.Tree.{const}
 use Rattle.lk_tree.specs.RuleNo.{unknown_constant}
 use Rattle.lk_plain.specs.Erased.{a_tree}
 use Rattle.lk_plain.specs.Parts.{is_built_kind}
-use Rattle.lk_table.specs.Built.{unfolded_built}
+use Rattle.lk_questions.specs.Built.{unfolded_built}
 use Rattle.lk_store.specs.Store.{contents_of}
 use Rattle.lk_store.specs.Contents.{name_at, list_at, tree_at}
 use Rattle.lk_env.specs.Places.{place_at}

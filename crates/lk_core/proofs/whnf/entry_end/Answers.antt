@@ -1,6 +1,6 @@
 use Rattle.std.proofs.Common.{◌≡◌, refl, Some, ap, sym, subst, ◌∙◌}
 use Rattle.std.specs.Prelude.{IfOk}
-use Rattle.lk_table.specs.Steps.{value_of}
+use Rattle.lk_questions.specs.Steps.{value_of}
 use Rattle.lk_store.specs.Store.{contents_of}
 use Rattle.lk_store.specs.Contents.{name_at, list_at, tree_at}
 use Rattle.lk_core.specs.Forms.{core_next}

@@ -1,6 +1,6 @@
 use Rattle.std.proofs.Common.{◌≡◌, true, ◌&&◌, nat_eq, ap, sym, ◌∙◌, rules}
 use Rattle.lk_tree.specs.Bind.{bound}
-use Rattle.lk_table.specs.Built.{ops_of_kind, names_one_of}
+use Rattle.lk_questions.specs.Built.{ops_of_kind, names_one_of}
 use Rattle.lk_store.specs.Contents.{name_at, tree_at}
 use Rattle.lk_core.proofs.whnf.may_compute.Goals as goal
 

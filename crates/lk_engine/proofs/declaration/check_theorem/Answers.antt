@@ -1,6 +1,6 @@
 use Rattle.std.proofs.Common.{refl, sym, ◌∙◌}
 use Rattle.lk_plain.specs.Erased.{run_steps, out_of}
-use Rattle.lk_table.specs.Declarations.{value_steps}
+use Rattle.lk_questions.specs.Declarations.{value_steps}
 use Rattle.lk_store.specs.Contents.{level_at, tree_at}
 use Rattle.lk_ask.specs.declared.rule.Rule.TheVariants.{TheoremNotProp}
 use Rattle.lk_ask.specs.declared.stop.Stop.TheVariants.{Rule}

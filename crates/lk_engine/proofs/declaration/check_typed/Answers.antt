@@ -1,5 +1,5 @@
 use Rattle.lk_plain.specs.Erased.{run_steps, out_of}
-use Rattle.lk_table.specs.Declarations.{value_steps}
+use Rattle.lk_questions.specs.Declarations.{value_steps}
 use Rattle.lk_store.specs.Contents.{level_at, tree_at}
 use Rattle.lk_engine.specs.Outcomes.{IsAccepted, unit_steps_of}
 use Rattle.lk_engine.proofs.Asking.{moved, typed_stops, typed_goes}

@@ -1,6 +1,6 @@
 use Rattle.std.proofs.Common.{◌≡◌, length, map}
 use Rattle.std.specs.Prelude.{All}
-use Rattle.lk_table.specs.Iota.{fitting_rule}
+use Rattle.lk_questions.specs.Iota.{fitting_rule}
 use Rattle.lk_store.specs.Contents.{name_at}
 use Rattle.lk_env.specs.Units.{rule_at, IsRuleIn}
 use Rattle.lk_iota.proofs.rule.fitting_rule.Given as goal

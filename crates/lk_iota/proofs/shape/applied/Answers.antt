@@ -3,7 +3,7 @@ use Rattle.lk_tree.specs.Tree.{Level, Tree}
 use Rattle.lk_tree.specs.Spine.{head}
 use Rattle.lk_plain.specs.Program.{Program}
 use Rattle.lk_plain.specs.Erased.{a_tree, refuses, erased}
-use Rattle.lk_table.specs.Iota.{CtorApp}
+use Rattle.lk_questions.specs.Iota.{CtorApp}
 use Rattle.lk_store.specs.Contents.{name_at, list_at, tree_at}
 use Rattle.lk_env.specs.Places.{place_at}
 use Rattle.lk_ask.specs.Questions.{rule_no}

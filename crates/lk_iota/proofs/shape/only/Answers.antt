@@ -2,7 +2,7 @@ use Rattle.std.proofs.Common.{◌≡◌, ◌∙◌, [], List, map, Option, None,
 use Rattle.lk_tree.specs.Tree.{Level, Tree}
 use Rattle.lk_plain.specs.Program.{Program}
 use Rattle.lk_plain.specs.Erased.{a_tree, refuses, erased}
-use Rattle.lk_table.specs.Iota.{CtorApp}
+use Rattle.lk_questions.specs.Iota.{CtorApp}
 use Rattle.lk_store.specs.Contents.{name_at}
 use Rattle.lk_store.specs.Store.{contents_of}
 use Rattle.lk_env.specs.Places.{place_at}

@@ -1,7 +1,7 @@
 use Rattle.std.proofs.Common.{Some, None, sym, ap, ◌∙◌}
 use Rattle.lk_plain.specs.Erased.{truth, erased}
-use Rattle.lk_table.specs.Pairs.{◌or_else◌}
-use Rattle.lk_table.specs.Unfolding.{by_ranks}
+use Rattle.lk_questions.specs.Pairs.{◌or_else◌}
+use Rattle.lk_questions.specs.Unfolding.{by_ranks}
 use Rattle.lk_store.specs.Contents.{tree_at}
 use Rattle.lk_lazy.proofs.Ranks.{some_of, none_of, both_line, first_line, second_line}
 use Rattle.lk_lazy.proofs.lazy.by_heads.Goals as goal

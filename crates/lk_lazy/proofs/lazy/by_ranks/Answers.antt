@@ -1,7 +1,7 @@
 use Rattle.std.proofs.Common.{◌≡◌, true, false, sym, subst, ◌∙◌}
 use Rattle.std.specs.Prelude.{IfOk}
 use Rattle.lk_plain.specs.Erased.{truth, erased}
-use Rattle.lk_table.specs.Unfolding.{is_less}
+use Rattle.lk_questions.specs.Unfolding.{is_less}
 use Rattle.lk_store.specs.Contents.{tree_at}
 use Rattle.lk_lazy.specs.Lazies.{lazy_next}
 use Rattle.lk_lazy.proofs.Ranks.{second_ranked, first_ranked, one_ranked}

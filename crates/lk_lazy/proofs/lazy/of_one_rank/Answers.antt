@@ -2,7 +2,7 @@ use Rattle.std.proofs.Common.{rules, ◌≡◌, true, false, sym, subst, ◌∙�
 use Rattle.std.specs.Prelude.{IfOk}
 use Rattle.lk_plain.specs.Program.{done}
 use Rattle.lk_plain.specs.Erased.{truth, erased}
-use Rattle.lk_table.specs.Levels.{complete_test, levels_equal}
+use Rattle.lk_questions.specs.Levels.{complete_test, levels_equal}
 use Rattle.lk_store.specs.Contents.{name_at, list_at, tree_at}
 use Rattle.lk_lazy.specs.Lazies.{lazy_next}
 use Rattle.lk_lazy.proofs.Ranks.{heads_differ, levels_differ, heads_agree}

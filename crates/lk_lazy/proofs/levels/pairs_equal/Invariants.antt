@@ -1,5 +1,5 @@
 use Rattle.std.proofs.Common.{◌≡◌, ◌<◌, length}
-use Rattle.lk_table.specs.Levels.{complete_test, level_pairs_equal}
+use Rattle.lk_questions.specs.Levels.{complete_test, level_pairs_equal}
 use Rattle.lk_store.specs.Contents.{list_at}
 use Rattle.lk_lazy.proofs.levels.pairs_equal.Given as goal
 

@@ -2,7 +2,7 @@ use Rattle.std.proofs.Common.{◌<◌, length, map, ap, ◌∙◌}
 use Rattle.lk_tree.specs.Tree.{Tree, pi}
 use Rattle.lk_store.specs.Contents.{tree_at}
 use Rattle.lk_store.proofs.Extending.{Extends-trans}
-use Rattle.lk_blocks.specs.Recursors.{arrows}
+use Rattle.lk_inductive.specs.Recursors.{arrows}
 use Rattle.lk_recursor.proofs.Lists.{all_last, all_others, arrows_next}
 use Rattle.lk_recursor.proofs.binders.arrows_to.Goals as goal
 

@@ -1,6 +1,6 @@
 use Rattle.std.proofs.Common.{◌≡◌, ◌<◌, length, map, All}
 use Rattle.lk_store.specs.Contents.{tree_at, Extends}
-use Rattle.lk_blocks.specs.Recursors.{arrows}
+use Rattle.lk_inductive.specs.Recursors.{arrows}
 use Rattle.lk_recursor.proofs.binders.arrows_to.Given as goal
 
 abbrev pub invariant-domains : goal.invariant-domains

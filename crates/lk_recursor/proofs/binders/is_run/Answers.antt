@@ -1,6 +1,6 @@
 use Rattle.std.proofs.Common.{◌≡◌, ◌+◌, ◌<◌, length, map, arith}
 use Rattle.lk_store.specs.Contents.{tree_at}
-use Rattle.lk_blocks.specs.Recursors.{number}
+use Rattle.lk_inductive.specs.Recursors.{number}
 use Rattle.lk_recursor.proofs.Lists.{all_others}
 use Rattle.lk_recursor.proofs.RunLists.{runs_first, runs_next, runs_end}
 use Rattle.lk_recursor.proofs.binders.is_run.Goals as goal

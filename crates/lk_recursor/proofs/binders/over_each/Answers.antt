@@ -3,8 +3,8 @@ use Rattle.lk_tree.specs.Tree.{Tree}
 use Rattle.lk_tree.specs.Bind.{close}
 use Rattle.lk_store.specs.Contents.{tree_at}
 use Rattle.lk_store.proofs.Extending.{Extends-trans}
-use Rattle.lk_blocks.specs.Block.{domain}
-use Rattle.lk_blocks.specs.Recursors.{number}
+use Rattle.lk_inductive.specs.Block.{domain}
+use Rattle.lk_inductive.specs.Recursors.{number}
 use Rattle.lk_recursor.specs.Binders.{bind, bound_by}
 use Rattle.lk_recursor.proofs.Lists.{all_last, all_others, bound_next, bound_end}
 use Rattle.lk_recursor.proofs.binders.over_each.Goals as goal

@@ -2,7 +2,7 @@ use Rattle.std.proofs.Common.{◌<◌, length, map, refl, ap, ◌∙◌, arith}
 use Rattle.lk_tree.specs.Tree.{Tree}
 use Rattle.lk_store.specs.Contents.{tree_at}
 use Rattle.lk_store.proofs.Extending.{Extends-trans}
-use Rattle.lk_blocks.specs.Block.{domain}
+use Rattle.lk_inductive.specs.Block.{domain}
 use Rattle.lk_recursor.specs.Binders.{bind}
 use Rattle.lk_recursor.specs.Runs.{close_run_at}
 use Rattle.lk_recursor.proofs.Lists.{all_last, all_others}

@@ -2,7 +2,7 @@ use Rattle.std.proofs.Common.{map, refl, ap, ◌∙◌}
 use Rattle.std.specs.Prelude.{max}
 use Rattle.std.proofs.lemmas.List.Elements.{All-rest}
 use Rattle.lk_store.specs.Contents.{tree_at}
-use Rattle.lk_blocks.specs.Recursors.{bounds, fields_bound, ctors_bound}
+use Rattle.lk_inductive.specs.Recursors.{bounds, fields_bound, ctors_bound}
 use Rattle.lk_block.specs.Shapes.{field_at, constructor_shape_at, IsConstructorShapeIn}
 use Rattle.lk_recursor.proofs.Maxima.{bound_more_twice}
 use Rattle.lk_recursor.proofs.bounds.bound_of_constructors.Goals as goal

@@ -1,6 +1,6 @@
 use Rattle.std.proofs.Common.{◌≡◌, length, map, All}
 use Rattle.std.specs.Prelude.{max}
-use Rattle.lk_blocks.specs.Recursors.{ctors_bound}
+use Rattle.lk_inductive.specs.Recursors.{ctors_bound}
 use Rattle.lk_block.specs.Shapes.{constructor_shape_at, IsConstructorShapeIn}
 use Rattle.lk_recursor.proofs.bounds.bound_of_constructors.Given as goal
 

@@ -3,7 +3,7 @@ use Rattle.std.specs.Prelude.{max}
 use Rattle.std.proofs.lemmas.List.Elements.{All-rest}
 use Rattle.lk_tree.specs.Bind.{bound}
 use Rattle.lk_store.specs.Contents.{tree_at}
-use Rattle.lk_blocks.specs.Recursors.{kind_bound, fields_bound}
+use Rattle.lk_inductive.specs.Recursors.{kind_bound, fields_bound}
 use Rattle.lk_block.specs.Shapes.{kind_at, field_at, IsFieldIn}
 use Rattle.lk_recursor.proofs.Maxima.{bound_more_twice, max_of_three}
 use Rattle.lk_recursor.proofs.bounds.bound_of_fields.Goals as goal

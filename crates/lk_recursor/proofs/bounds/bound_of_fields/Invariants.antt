@@ -1,6 +1,6 @@
 use Rattle.std.proofs.Common.{◌≡◌, length, map, All}
 use Rattle.std.specs.Prelude.{max}
-use Rattle.lk_blocks.specs.Recursors.{fields_bound}
+use Rattle.lk_inductive.specs.Recursors.{fields_bound}
 use Rattle.lk_block.specs.Shapes.{field_at, IsFieldIn}
 use Rattle.lk_recursor.proofs.bounds.bound_of_fields.Given as goal
 

@@ -2,7 +2,7 @@ use Rattle.std.proofs.Common.{map, refl, ap, ◌∙◌}
 use Rattle.std.specs.Prelude.{max}
 use Rattle.std.proofs.lemmas.List.Elements.{All-rest}
 use Rattle.lk_store.specs.Contents.{tree_at}
-use Rattle.lk_blocks.specs.Recursors.{bounds, ctors_bound, types_bound}
+use Rattle.lk_inductive.specs.Recursors.{bounds, ctors_bound, types_bound}
 use Rattle.lk_block.specs.Shapes.{constructor_shape_at, type_shape_at, IsTypeShapeIn}
 use Rattle.lk_recursor.proofs.Maxima.{bound_more_twice}
 use Rattle.lk_recursor.proofs.bounds.bound_of_types.Goals as goal

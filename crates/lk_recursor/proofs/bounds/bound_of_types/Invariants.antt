@@ -1,6 +1,6 @@
 use Rattle.std.proofs.Common.{◌≡◌, length, map, All}
 use Rattle.std.specs.Prelude.{max}
-use Rattle.lk_blocks.specs.Recursors.{types_bound}
+use Rattle.lk_inductive.specs.Recursors.{types_bound}
 use Rattle.lk_block.specs.Shapes.{type_shape_at, IsTypeShapeIn}
 use Rattle.lk_recursor.proofs.bounds.bound_of_types.Given as goal
 

@@ -3,7 +3,7 @@ use Rattle.std.specs.Prelude.{max}
 use Rattle.std.proofs.lemmas.List.Elements.{All-rest}
 use Rattle.lk_tree.specs.Bind.{bound}
 use Rattle.lk_store.specs.Contents.{tree_at}
-use Rattle.lk_blocks.specs.Recursors.{bounds}
+use Rattle.lk_inductive.specs.Recursors.{bounds}
 use Rattle.lk_recursor.proofs.Maxima.{bound_more}
 use Rattle.lk_recursor.proofs.bounds.trees_bound.Goals as goal
 

@@ -1,7 +1,7 @@
 use Rattle.std.proofs.Common.{◌≡◌, ◌<◌, length, map, All}
 use Rattle.std.specs.Prelude.{max}
 use Rattle.lk_store.specs.Contents.{tree_at}
-use Rattle.lk_blocks.specs.Recursors.{bounds}
+use Rattle.lk_inductive.specs.Recursors.{bounds}
 use Rattle.lk_recursor.proofs.bounds.trees_bound.Given as goal
 
 abbrev pub invariant-trees : goal.invariant-trees

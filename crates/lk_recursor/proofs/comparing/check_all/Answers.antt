@@ -1,10 +1,10 @@
 use Rattle.std.proofs.Common.{map, refl, ◌∙◌}
-use Rattle.lk_table.specs.Declarations.{Yes, checked}
+use Rattle.lk_questions.specs.Declarations.{Yes, checked}
 use Rattle.lk_store.specs.Contents.{name_at}
 use Rattle.lk_store.proofs.Extending.{Extends-trans}
 use Rattle.lk_env.specs.Units.{recursor_at, IsRecursorIn}
-use Rattle.lk_blocks.specs.Recursors.{recursors}
-use Rattle.lk_blocks.specs.Compare.{rec_named, compare_found, compare_steps}
+use Rattle.lk_inductive.specs.Recursors.{recursors}
+use Rattle.lk_inductive.specs.Compare.{rec_named, compare_found, compare_steps}
 use Rattle.lk_block.specs.Shapes.{shape_at}
 use Rattle.lk_block.proofs.Counted.{rest_have, first_has}
 use Rattle.lk_block.proofs.Stays.{recursor_in_stays}

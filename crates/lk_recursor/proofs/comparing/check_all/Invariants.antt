@@ -1,8 +1,8 @@
 use Rattle.std.proofs.Common.{◌≡◌, length, map, All}
 use Rattle.lk_store.specs.Contents.{Extends}
 use Rattle.lk_env.specs.Units.{recursor_at, IsRecursorIn}
-use Rattle.lk_blocks.specs.Recursors.{recursors}
-use Rattle.lk_blocks.specs.Compare.{compare_steps}
+use Rattle.lk_inductive.specs.Recursors.{recursors}
+use Rattle.lk_inductive.specs.Compare.{compare_steps}
 use Rattle.lk_block.specs.Shapes.{shape_at}
 use Rattle.lk_block.proofs.Leading.{Leads}
 use Rattle.lk_recursor.proofs.comparing.check_all.Given as goal

@@ -1,10 +1,10 @@
 use Rattle.std.proofs.Common.{◌<◌, length, map, ap, sym, ◌∙◌}
 use Rattle.std.proofs.lemmas.List.Elements.{All-same}
 use Rattle.lk_tree.specs.Tree.{param}
-use Rattle.lk_table.specs.Declarations.{checked}
+use Rattle.lk_questions.specs.Declarations.{checked}
 use Rattle.lk_store.specs.Contents.{name_at, level_at}
 use Rattle.lk_env.specs.Units.{recursor_at}
-use Rattle.lk_blocks.specs.Compare.{rec_steps}
+use Rattle.lk_inductive.specs.Compare.{rec_steps}
 use Rattle.lk_block.specs.Shapes.{shape_at}
 use Rattle.lk_recursor.specs.Comparisons.{own_at}
 use Rattle.lk_block.proofs.Stays.{recursor_in_stays, names_stay}

@@ -1,7 +1,7 @@
 use Rattle.std.proofs.Common.{sym, subst, ◌∙◌}
 use Rattle.lk_tree.specs.RuleNo.{recursor_differs}
-use Rattle.lk_table.specs.Declarations.{checked}
-use Rattle.lk_table.specs.Steps.{given}
+use Rattle.lk_questions.specs.Declarations.{checked}
+use Rattle.lk_questions.specs.Steps.{given}
 use Rattle.lk_block.specs.Courses.{Gives}
 use Rattle.lk_recursor.specs.Comparisons.{stated_of, own_of, trees_form}
 use Rattle.lk_recursor.proofs.comparing.check_pair.Goals as goal

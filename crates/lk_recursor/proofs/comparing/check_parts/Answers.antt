@@ -1,6 +1,6 @@
 use Rattle.std.proofs.Common.{refl, sym, subst}
-use Rattle.lk_table.specs.Declarations.{Yes, checked}
-use Rattle.lk_blocks.specs.Compare.{rules_steps}
+use Rattle.lk_questions.specs.Declarations.{Yes, checked}
+use Rattle.lk_inductive.specs.Compare.{rules_steps}
 use Rattle.lk_block.specs.Courses.{Gives, Halts}
 use Rattle.lk_block.proofs.Running.{halts_first, gives_on}
 use Rattle.lk_recursor.specs.Comparisons.{stated_of, own_of, same_form, renamed_type}

@@ -1,12 +1,12 @@
 use Rattle.std.proofs.Common.{Err, ap, sym, refl, subst, ◌∙◌}
 use Rattle.lk_tree.specs.RuleNo.{recursor_differs}
 use Rattle.lk_plain.specs.Program.{refuse}
-use Rattle.lk_table.specs.Declarations.{Yes, checked}
+use Rattle.lk_questions.specs.Declarations.{Yes, checked}
 use Rattle.lk_ask.specs.declared.rule.Rule.TheVariants.{RecursorDiffers}
 use Rattle.lk_ask.specs.declared.stop.Stop.TheVariants.{Rule}
 use Rattle.lk_store.specs.Contents.{name_at}
 use Rattle.lk_env.specs.Units.{recursor_at}
-use Rattle.lk_blocks.specs.Compare.{rec_named, compare_found}
+use Rattle.lk_inductive.specs.Compare.{rec_named, compare_found}
 use Rattle.lk_block.specs.Courses.{Gives, Halts}
 use Rattle.lk_block.specs.Shapes.{shape_at}
 use Rattle.lk_block.proofs.Running.{settled}

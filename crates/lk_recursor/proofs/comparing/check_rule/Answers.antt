@@ -2,7 +2,7 @@ use Rattle.std.proofs.Common.{refl, ap, ◌∙◌}
 use Rattle.lk_tree.specs.Tree.{Tree}
 use Rattle.lk_plain.specs.Program.{asked}
 use Rattle.lk_plain.specs.Query.{infer}
-use Rattle.lk_table.specs.Declarations.{checked}
+use Rattle.lk_questions.specs.Declarations.{checked}
 use Rattle.lk_store.specs.Contents.{tree_at}
 use Rattle.lk_block.proofs.Running.{halts_first, gives_on}
 use Rattle.lk_recursor.specs.Comparisons.{same_form, renamed_value}

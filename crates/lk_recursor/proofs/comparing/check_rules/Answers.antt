@@ -1,10 +1,10 @@
 use Rattle.std.proofs.Common.{◌<◌, length, map, refl, ◌∙◌, arith}
-use Rattle.lk_table.specs.Declarations.{Yes, checked}
+use Rattle.lk_questions.specs.Declarations.{Yes, checked}
 use Rattle.lk_store.specs.Contents.{tree_at}
 use Rattle.lk_store.proofs.Extending.{Extends-trans}
 use Rattle.lk_env.specs.Units.{rule_at, IsRuleIn}
-use Rattle.lk_blocks.specs.Recursors.{rules_of, as_they_are}
-use Rattle.lk_blocks.specs.Compare.{rules_steps}
+use Rattle.lk_inductive.specs.Recursors.{rules_of, as_they_are}
+use Rattle.lk_inductive.specs.Compare.{rules_steps}
 use Rattle.lk_block.specs.Shapes.{shape_at, constructor_shape_at, IsConstructorShapeIn}
 use Rattle.lk_block.proofs.Counted.{rest_have, first_has}
 use Rattle.lk_recursor.specs.Comparisons.{stated_of, own_of, renamed_value, rule_form}

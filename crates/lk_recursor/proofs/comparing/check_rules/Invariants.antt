@@ -1,8 +1,8 @@
 use Rattle.std.proofs.Common.{◌≡◌, ◌<◌, length, map, All}
 use Rattle.lk_store.specs.Contents.{tree_at, Extends}
 use Rattle.lk_env.specs.Units.{rule_at, IsRuleIn}
-use Rattle.lk_blocks.specs.Recursors.{rules_of, as_they_are}
-use Rattle.lk_blocks.specs.Compare.{rules_steps}
+use Rattle.lk_inductive.specs.Recursors.{rules_of, as_they_are}
+use Rattle.lk_inductive.specs.Compare.{rules_steps}
 use Rattle.lk_block.specs.Shapes.{shape_at, constructor_shape_at, IsConstructorShapeIn}
 use Rattle.lk_recursor.specs.Comparisons.{stated_of, own_of}
 use Rattle.lk_block.proofs.Leading.{Leads}

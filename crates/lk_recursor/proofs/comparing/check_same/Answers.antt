@@ -1,7 +1,7 @@
 use Rattle.lk_plain.specs.Program.{done, asked}
 use Rattle.lk_plain.specs.Query.{same}
-use Rattle.lk_table.specs.Declarations.{checked}
-use Rattle.lk_table.specs.Steps.{given}
+use Rattle.lk_questions.specs.Declarations.{checked}
+use Rattle.lk_questions.specs.Steps.{given}
 use Rattle.lk_tree.specs.RuleNo.{recursor_differs}
 use Rattle.lk_store.specs.Contents.{tree_at}
 use Rattle.lk_block.proofs.Running.{halts_first}

@@ -1,7 +1,7 @@
 use Rattle.std.proofs.Common.{refl}
 use Rattle.lk_tree.specs.Tree.{Level}
-use Rattle.lk_table.specs.Declarations.{checked}
-use Rattle.lk_table.specs.Steps.{sort_of}
+use Rattle.lk_questions.specs.Declarations.{checked}
+use Rattle.lk_questions.specs.Steps.{sort_of}
 use Rattle.lk_store.specs.Contents.{level_at}
 use Rattle.lk_block.proofs.Running.{halts_first, gives_on}
 use Rattle.lk_recursor.specs.Comparisons.{stated_of, own_of, parts_form}

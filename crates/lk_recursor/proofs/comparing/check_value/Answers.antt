@@ -1,5 +1,5 @@
 use Rattle.std.proofs.Common.{ap, ◌∙◌}
-use Rattle.lk_table.specs.Declarations.{checked}
+use Rattle.lk_questions.specs.Declarations.{checked}
 use Rattle.lk_store.specs.Contents.{tree_at}
 use Rattle.lk_recursor.specs.Comparisons.{same_form, renamed_value}
 use Rattle.lk_block.proofs.Moves.{gives_moved}

@@ -1,8 +1,8 @@
 use Rattle.std.proofs.Common.{map}
-use Rattle.lk_table.specs.Declarations.{checked}
+use Rattle.lk_questions.specs.Declarations.{checked}
 use Rattle.lk_env.specs.Units.{recursor_at}
-use Rattle.lk_blocks.specs.Recursors.{recursors}
-use Rattle.lk_blocks.specs.Compare.{compare_steps}
+use Rattle.lk_inductive.specs.Recursors.{recursors}
+use Rattle.lk_inductive.specs.Compare.{compare_steps}
 use Rattle.lk_block.specs.Shapes.{shape_at}
 use Rattle.lk_recursor.proofs.Checked.{compare-steady}
 use Rattle.lk_block.proofs.Moves.{gives_moved}

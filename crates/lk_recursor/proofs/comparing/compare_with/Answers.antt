@@ -1,10 +1,10 @@
 use Rattle.std.proofs.Common.{◌<◌, length, map, ap, subst, ◌∙◌}
 use Rattle.std.proofs.lemmas.List.Elements.{All-same}
-use Rattle.lk_table.specs.Declarations.{checked}
+use Rattle.lk_questions.specs.Declarations.{checked}
 use Rattle.lk_store.specs.Contents.{name_at}
 use Rattle.lk_env.specs.Units.{recursor_at}
-use Rattle.lk_blocks.specs.Recursors.{recursors}
-use Rattle.lk_blocks.specs.Compare.{compare_steps}
+use Rattle.lk_inductive.specs.Recursors.{recursors}
+use Rattle.lk_inductive.specs.Compare.{compare_steps}
 use Rattle.lk_block.specs.Shapes.{shape_at}
 use Rattle.lk_recursor.specs.Comparisons.{AreNames}
 use Rattle.lk_block.proofs.Shaping.{shape-known}

@@ -1,9 +1,9 @@
 use Rattle.std.proofs.Common.{◌≡◌, length, map, All}
 use Rattle.lk_store.specs.Contents.{tree_at}
 use Rattle.lk_env.specs.Units.{rule_at, IsRuleIn}
-use Rattle.lk_blocks.specs.Block.{Shape as PlainShape}
-use Rattle.lk_blocks.specs.Recursors.{rules_of, as_they_are}
-use Rattle.lk_blocks.specs.Compare.{same_rules}
+use Rattle.lk_inductive.specs.Block.{Shape as PlainShape}
+use Rattle.lk_inductive.specs.Recursors.{rules_of, as_they_are}
+use Rattle.lk_inductive.specs.Compare.{same_rules}
 use Rattle.lk_block.specs.Shapes.{constructor_shape_at, IsConstructorShapeIn}
 use Rattle.lk_recursor.proofs.counts.rules_agree.Given as goal
 

@@ -2,7 +2,7 @@ use Rattle.std.proofs.Common.{◌≡◌, ◌++◌, map, ap, sym, ◌∙◌}
 use Rattle.lk_tree.specs.Spine.{apply}
 use Rattle.lk_store.specs.Contents.{tree_at}
 use Rattle.lk_store.proofs.Extending.{Extends-trans}
-use Rattle.lk_blocks.specs.Recursors.{motives, minors}
+use Rattle.lk_inductive.specs.Recursors.{motives, minors}
 use Rattle.lk_block.specs.Shapes.{shape_at}
 use Rattle.lk_recursor.proofs.Lists.{apply-append}
 use Rattle.lk_recursor.proofs.Applied.{applied_then}

@@ -4,8 +4,8 @@ use Rattle.lk_tree.specs.Tree.{param}
 use Rattle.lk_store.specs.Contents.{name_at, tree_at, IsList}
 use Rattle.lk_store.proofs.Extending.{Extends-trans}
 use Rattle.lk_spine.specs.Reading.{AreTrees}
-use Rattle.lk_blocks.specs.Block as plain
-use Rattle.lk_blocks.specs.Recursors.{minors, rec_params, shape_bound}
+use Rattle.lk_inductive.specs.Block as plain
+use Rattle.lk_inductive.specs.Recursors.{minors, rec_params, shape_bound}
 use Rattle.lk_block.specs.Shapes.{shape_at, type_shape_at}
 use Rattle.lk_recursor.proofs.Fronts.{front_made}
 use Rattle.lk_block.proofs.Stays.{names_stay, names_in_stay}

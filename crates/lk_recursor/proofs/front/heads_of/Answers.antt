@@ -3,8 +3,8 @@ use Rattle.lk_tree.specs.Tree.{param}
 use Rattle.lk_store.specs.Contents.{name_at, IsList}
 use Rattle.lk_store.proofs.Extending.{Extends-trans}
 use Rattle.lk_spine.specs.Reading.{AreTrees}
-use Rattle.lk_blocks.specs.Block as plain
-use Rattle.lk_blocks.specs.Recursors.{motives, shape_bound}
+use Rattle.lk_inductive.specs.Block as plain
+use Rattle.lk_inductive.specs.Recursors.{motives, shape_bound}
 use Rattle.lk_block.specs.Shapes.{shape_at}
 use Rattle.lk_recursor.proofs.Fronts.{heads_made}
 use Rattle.lk_block.proofs.Shaping.{shape-steady}

@@ -2,7 +2,7 @@ use Rattle.std.proofs.Common.{map, refl, ap, ◌∙◌}
 use Rattle.lk_tree.specs.Tree.{const, param}
 use Rattle.lk_store.specs.Contents.{name_at, tree_at}
 use Rattle.lk_store.proofs.Extending.{Extends-trans}
-use Rattle.lk_blocks.specs.Recursors.{at_params}
+use Rattle.lk_inductive.specs.Recursors.{at_params}
 use Rattle.lk_block.specs.Shapes.{shape_at}
 use Rattle.lk_recursor.proofs.Applied.{applied_then}
 use Rattle.lk_recursor.proofs.heads.at_parameters.Goals as goal

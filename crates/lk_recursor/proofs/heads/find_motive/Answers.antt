@@ -1,7 +1,7 @@
 use Rattle.std.proofs.Common.{◌<◌, ◌∷◌, length, map, sym, ap, ◌∙◌}
 use Rattle.std.proofs.lemmas.List.Elements.{All-rest}
 use Rattle.lk_store.specs.Contents.{name_at, tree_at}
-use Rattle.lk_blocks.specs.Recursors.{motive_in}
+use Rattle.lk_inductive.specs.Recursors.{motive_in}
 use Rattle.lk_block.specs.Shapes.{type_shape_at, IsTypeShapeIn}
 use Rattle.lk_recursor.proofs.Applied.{motive_passed}
 use Rattle.lk_recursor.proofs.heads.find_motive.Goals as goal

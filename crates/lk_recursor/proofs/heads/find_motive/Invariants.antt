@@ -1,6 +1,6 @@
 use Rattle.std.proofs.Common.{◌≡◌, ◌<◌, length, map, All}
 use Rattle.lk_store.specs.Contents.{name_at, tree_at}
-use Rattle.lk_blocks.specs.Recursors.{motive_in}
+use Rattle.lk_inductive.specs.Recursors.{motive_in}
 use Rattle.lk_block.specs.Shapes.{type_shape_at, IsTypeShapeIn}
 use Rattle.lk_recursor.proofs.heads.find_motive.Given as goal
 

@@ -3,7 +3,7 @@ use Rattle.lk_tree.specs.Tree.{Tree, app}
 use Rattle.lk_tree.specs.Spine.{apply}
 use Rattle.lk_store.specs.Contents.{name_at, tree_at}
 use Rattle.lk_store.proofs.Extending.{Extends-trans}
-use Rattle.lk_blocks.specs.Recursors.{motive_of}
+use Rattle.lk_inductive.specs.Recursors.{motive_of}
 use Rattle.lk_block.specs.Shapes.{shape_at}
 use Rattle.lk_recursor.proofs.Applied.{applied_then}
 use Rattle.lk_recursor.proofs.heads.motive_at.Goals as goal

@@ -4,7 +4,7 @@ use Rattle.lk_tree.specs.Spine.{apply}
 use Rattle.lk_store.specs.Contents.{name_at, tree_at}
 use Rattle.lk_store.proofs.Extending.{Extends-trans}
 use Rattle.lk_subst.specs.Numbers.{trees-steady}
-use Rattle.lk_blocks.specs.Recursors.{at_params, elim_level, pis}
+use Rattle.lk_inductive.specs.Recursors.{at_params, elim_level, pis}
 use Rattle.lk_block.specs.Shapes.{shape_at}
 use Rattle.lk_recursor.proofs.heads.type_of_motive.Goals as goal
 

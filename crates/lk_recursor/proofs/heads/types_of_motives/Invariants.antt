@@ -1,6 +1,6 @@
 use Rattle.std.proofs.Common.{◌≡◌, ◌<◌, ◌++◌, length, map, All}
 use Rattle.lk_store.specs.Contents.{tree_at, Extends}
-use Rattle.lk_blocks.specs.Recursors.{motive_type}
+use Rattle.lk_inductive.specs.Recursors.{motive_type}
 use Rattle.lk_block.specs.Shapes.{type_shape_at, shape_at, IsTypeShapeIn}
 use Rattle.lk_recursor.proofs.heads.types_of_motives.Given as goal
 

@@ -3,8 +3,8 @@ use Rattle.std.proofs.lemmas.List.Elements.{All-rest}
 use Rattle.lk_tree.specs.Tree.{Tree}
 use Rattle.lk_store.specs.Contents.{tree_at}
 use Rattle.lk_store.proofs.Extending.{Extends-trans}
-use Rattle.lk_blocks.specs.Block as plain
-use Rattle.lk_blocks.specs.Recursors.{minor_type}
+use Rattle.lk_inductive.specs.Block as plain
+use Rattle.lk_inductive.specs.Recursors.{minor_type}
 use Rattle.lk_block.specs.Shapes.{constructor_shape_at, type_shape_at, shape_at, IsConstructorShapeIn}
 use Rattle.lk_block.proofs.Counted.{first_has}
 use Rattle.lk_recursor.proofs.Lists.{pushed_more, pushed_known}

@@ -1,6 +1,6 @@
 use Rattle.std.proofs.Common.{◌≡◌, ◌++◌, length, map, All}
 use Rattle.lk_store.specs.Contents.{tree_at, Extends}
-use Rattle.lk_blocks.specs.Recursors.{minor_type}
+use Rattle.lk_inductive.specs.Recursors.{minor_type}
 use Rattle.lk_block.specs.Shapes.{constructor_shape_at, type_shape_at, shape_at, IsConstructorShapeIn, AreTreesIn}
 use Rattle.lk_recursor.proofs.minors.add_minors.Given as goal
 

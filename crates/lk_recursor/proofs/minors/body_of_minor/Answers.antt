@@ -5,7 +5,7 @@ use Rattle.lk_tree.specs.Spine.{apply}
 use Rattle.lk_store.specs.Contents.{name_at, tree_at}
 use Rattle.lk_store.proofs.Extending.{Extends-trans}
 use Rattle.lk_subst.specs.Numbers.{trees-steady, trees-known}
-use Rattle.lk_blocks.specs.Recursors.{arrows, at_params, hypotheses, motive_of}
+use Rattle.lk_inductive.specs.Recursors.{arrows, at_params, hypotheses, motive_of}
 use Rattle.lk_block.specs.Shapes.{field_at, shape_at}
 use Rattle.lk_recursor.proofs.Applied.{motive_same, constant_same}
 use Rattle.lk_recursor.proofs.Steady.{heads-steady, levels-steady}

@@ -2,8 +2,8 @@ use Rattle.std.proofs.Common.{◌≡◌, ◌++◌, ◌∷◌, [], map, ap, ◌�
 use Rattle.std.proofs.lemmas.List.Elements.{All-rest}
 use Rattle.lk_store.specs.Contents.{tree_at}
 use Rattle.lk_store.proofs.Extending.{Extends-trans}
-use Rattle.lk_blocks.specs.Block as plain
-use Rattle.lk_blocks.specs.Recursors.{hypotheses}
+use Rattle.lk_inductive.specs.Block as plain
+use Rattle.lk_inductive.specs.Recursors.{hypotheses}
 use Rattle.lk_block.specs.Shapes.{field_at, shape_at, IsFieldIn}
 use Rattle.lk_block.proofs.Counted.{first_has}
 use Rattle.lk_block.proofs.Shaping.{shape-steady, field-steady, field-known}

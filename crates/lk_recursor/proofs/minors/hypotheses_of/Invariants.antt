@@ -1,6 +1,6 @@
 use Rattle.std.proofs.Common.{◌≡◌, ◌++◌, length, map, All}
 use Rattle.lk_store.specs.Contents.{tree_at, Extends}
-use Rattle.lk_blocks.specs.Recursors.{hypotheses}
+use Rattle.lk_inductive.specs.Recursors.{hypotheses}
 use Rattle.lk_block.specs.Shapes.{field_at, shape_at, IsFieldIn, AreTreesIn}
 use Rattle.lk_recursor.proofs.minors.hypotheses_of.Given as goal
 

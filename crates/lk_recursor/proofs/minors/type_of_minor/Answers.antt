@@ -2,7 +2,7 @@ use Rattle.std.proofs.Common.{◌≡◌, map, ap, ◌∙◌}
 use Rattle.lk_store.specs.Contents.{tree_at}
 use Rattle.lk_subst.specs.Numbers.{trees-steady, trees-known}
 use Rattle.lk_block.specs.declared.shape.Field.{Field}
-use Rattle.lk_blocks.specs.Recursors.{pis, variables}
+use Rattle.lk_inductive.specs.Recursors.{pis, variables}
 use Rattle.lk_block.specs.Shapes.{constructor_shape_at, type_shape_at, shape_at}
 use Rattle.lk_recursor.specs.Hypotheses.{minor_body}
 use Rattle.lk_recursor.proofs.FieldLists.{variables_at, variables_in}

@@ -2,8 +2,8 @@ use Rattle.std.proofs.Common.{◌≡◌, ◌++◌, map, ap, ◌∙◌}
 use Rattle.std.proofs.lemmas.List.Elements.{All-rest}
 use Rattle.lk_store.specs.Contents.{tree_at}
 use Rattle.lk_store.proofs.Extending.{Extends-trans}
-use Rattle.lk_blocks.specs.Block as plain
-use Rattle.lk_blocks.specs.Recursors.{minor_type, minor_types}
+use Rattle.lk_inductive.specs.Block as plain
+use Rattle.lk_inductive.specs.Recursors.{minor_type, minor_types}
 use Rattle.lk_block.specs.Shapes.{type_shape_at, shape_at, IsTypeShapeIn}
 use Rattle.lk_block.proofs.Counted.{first_has}
 use Rattle.lk_recursor.proofs.FieldLists.{added_more}

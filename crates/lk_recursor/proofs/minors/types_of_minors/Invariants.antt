@@ -1,6 +1,6 @@
 use Rattle.std.proofs.Common.{◌≡◌, ◌++◌, length, map, All}
 use Rattle.lk_store.specs.Contents.{tree_at, Extends}
-use Rattle.lk_blocks.specs.Recursors.{minor_types}
+use Rattle.lk_inductive.specs.Recursors.{minor_types}
 use Rattle.lk_block.specs.Shapes.{type_shape_at, shape_at, IsTypeShapeIn, AreTreesIn}
 use Rattle.lk_recursor.proofs.minors.types_of_minors.Given as goal
 

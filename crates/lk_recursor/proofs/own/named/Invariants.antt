@@ -1,8 +1,8 @@
 use Rattle.std.proofs.Common.{◌≡◌, length, map, All}
 use Rattle.lk_store.specs.Contents.{name_at, tree_at}
-use Rattle.lk_blocks.specs.Block.{Shape as PlainShape}
-use Rattle.lk_blocks.specs.Compare.{rec_named}
-use Rattle.lk_blocks.specs.Recursors.{recs_from, as_they_are}
+use Rattle.lk_inductive.specs.Block.{Shape as PlainShape}
+use Rattle.lk_inductive.specs.Compare.{rec_named}
+use Rattle.lk_inductive.specs.Recursors.{recs_from, as_they_are}
 use Rattle.lk_block.specs.Shapes.{type_shape_at, AreTreesIn, IsTypeShapeIn}
 use Rattle.lk_recursor.specs.Comparisons.{AreNames}
 use Rattle.lk_recursor.proofs.own.named.Given as goal

@@ -1,6 +1,6 @@
 use Rattle.std.proofs.Common.{◌<◌, ◌∷◌, ◌++◌, [], length, ap, ◌∙◌}
 use Rattle.std.proofs.lemmas.List.Elements.{All-same, All-push}
-use Rattle.lk_blocks.specs.Recursors.{rec_name}
+use Rattle.lk_inductive.specs.Recursors.{rec_name}
 use Rattle.lk_store.proofs.Extending.{Extends-trans}
 use Rattle.lk_block.specs.Shapes.{IsTypeShapeIn}
 use Rattle.lk_block.proofs.Counted.{rest_have, first_has}

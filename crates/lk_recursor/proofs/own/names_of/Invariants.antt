@@ -1,5 +1,5 @@
 use Rattle.std.proofs.Common.{◌≡◌, ◌<◌, ◌++◌, length, map, All}
-use Rattle.lk_blocks.specs.Recursors.{rec_name}
+use Rattle.lk_inductive.specs.Recursors.{rec_name}
 use Rattle.lk_store.specs.Contents.{name_at, Extends}
 use Rattle.lk_block.specs.declared.shape.TypeShape.{TypeShape}
 use Rattle.lk_block.specs.Shapes.{IsTypeShapeIn}

@@ -5,8 +5,8 @@ use Rattle.lk_tree.specs.Bind.{close}
 use Rattle.lk_tree.specs.Spine.{apply}
 use Rattle.lk_store.specs.Contents.{tree_at}
 use Rattle.lk_subst.specs.Numbers.{trees-known}
-use Rattle.lk_blocks.specs.Block.{domain}
-use Rattle.lk_blocks.specs.Recursors.{number, major, motive_of}
+use Rattle.lk_inductive.specs.Block.{domain}
+use Rattle.lk_inductive.specs.Recursors.{number, major, motive_of}
 use Rattle.lk_block.specs.Shapes.{shape_at, type_shape_at}
 use Rattle.lk_recursor.proofs.Applied.{motive_same}
 use Rattle.lk_recursor.proofs.Steady.{heads-steady}

@@ -2,7 +2,7 @@ use Rattle.std.proofs.Common.{map, ap, ◌∙◌}
 use Rattle.lk_tree.specs.Tree.{local}
 use Rattle.lk_tree.specs.Spine.{apply}
 use Rattle.lk_store.specs.Contents.{name_at, tree_at}
-use Rattle.lk_blocks.specs.Recursors.{at_params}
+use Rattle.lk_inductive.specs.Recursors.{at_params}
 use Rattle.lk_block.specs.Shapes.{shape_at}
 use Rattle.lk_recursor.proofs.recursor.major_of.Goals as goal
 

@@ -1,8 +1,8 @@
 use Rattle.std.proofs.Common.{◌≡◌, ◌++◌, ap, refl, ◌∙◌}
 use Rattle.lk_store.specs.Contents.{tree_at}
 use Rattle.lk_store.proofs.Extending.{Extends-trans}
-use Rattle.lk_blocks.specs.Block as plain
-use Rattle.lk_blocks.specs.Recursors.{pis, motives, minors}
+use Rattle.lk_inductive.specs.Block as plain
+use Rattle.lk_inductive.specs.Recursors.{pis, motives, minors}
 use Rattle.lk_block.specs.Shapes.{shape_at, type_shape_at}
 use Rattle.lk_recursor.specs.declared.binders.Binder.TheVariants.{Pi}
 use Rattle.lk_recursor.specs.Hypotheses.{major_end}

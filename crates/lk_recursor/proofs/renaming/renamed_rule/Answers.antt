@@ -1,7 +1,7 @@
 use Rattle.std.specs.Prelude.{IfOk}
 use Rattle.std.proofs.Common.{subst}
 use Rattle.lk_store.specs.Contents.{tree_at, IsTree}
-use Rattle.lk_blocks.specs.Recursors.{rule_value, as_they_are}
+use Rattle.lk_inductive.specs.Recursors.{rule_value, as_they_are}
 use Rattle.lk_block.specs.Shapes.{shape_at, constructor_shape_at}
 use Rattle.lk_recursor.proofs.Compared.{comparison-known, renamed-steady}
 use Rattle.lk_recursor.proofs.renaming.renamed_rule.Goals as goal

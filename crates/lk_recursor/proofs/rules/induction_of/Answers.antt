@@ -4,8 +4,8 @@ use Rattle.lk_tree.specs.Spine.{apply}
 use Rattle.lk_store.specs.Contents.{name_at, tree_at}
 use Rattle.lk_store.proofs.Extending.{Extends-trans}
 use Rattle.lk_subst.specs.Numbers.{trees-steady}
-use Rattle.lk_blocks.specs.Block as plain
-use Rattle.lk_blocks.specs.Recursors.{lams}
+use Rattle.lk_inductive.specs.Block as plain
+use Rattle.lk_inductive.specs.Recursors.{lams}
 use Rattle.lk_block.specs.Shapes.{shape_at}
 use Rattle.lk_recursor.specs.Hypotheses.{recursor_at}
 use Rattle.lk_block.proofs.Shaping.{shape-steady}

@@ -1,7 +1,7 @@
 use Rattle.std.proofs.Common.{◌≡◌, map, refl, ap, ◌∙◌}
 use Rattle.lk_tree.specs.Spine.{apply}
 use Rattle.lk_store.specs.Contents.{tree_at}
-use Rattle.lk_blocks.specs.Recursors.{inductions}
+use Rattle.lk_inductive.specs.Recursors.{inductions}
 use Rattle.lk_block.specs.Shapes.{field_at, shape_at}
 use Rattle.lk_recursor.proofs.Applied.{applied_then}
 use Rattle.lk_recursor.proofs.rules.minor_applied.Goals as goal

@@ -3,8 +3,8 @@ use Rattle.lk_tree.specs.Tree.{Name, Tree, const, param}
 use Rattle.lk_tree.specs.Spine.{apply}
 use Rattle.lk_store.specs.Contents.{name_at, list_at, tree_at}
 use Rattle.lk_store.proofs.Extending.{Extends-trans}
-use Rattle.lk_blocks.specs.Block as plain
-use Rattle.lk_blocks.specs.Recursors.{front, rec_name, rec_params}
+use Rattle.lk_inductive.specs.Block as plain
+use Rattle.lk_inductive.specs.Recursors.{front, rec_name, rec_params}
 use Rattle.lk_block.specs.Shapes.{shape_at}
 use Rattle.lk_block.proofs.Shaping.{shape-steady}
 use Rattle.lk_recursor.proofs.Steady.{front-steady}

@@ -2,8 +2,8 @@ use Rattle.std.proofs.Common.{◌≡◌, ◌++◌, map, ap, ◌∙◌}
 use Rattle.lk_store.specs.Contents.{tree_at}
 use Rattle.lk_store.proofs.Extending.{Extends-trans}
 use Rattle.lk_subst.specs.Numbers.{trees-known}
-use Rattle.lk_blocks.specs.Block as plain
-use Rattle.lk_blocks.specs.Recursors.{lams, motives, minors, variables}
+use Rattle.lk_inductive.specs.Block as plain
+use Rattle.lk_inductive.specs.Recursors.{lams, motives, minors, variables}
 use Rattle.lk_block.specs.declared.shape.Field.{Field}
 use Rattle.lk_block.specs.Shapes.{shape_at, constructor_shape_at}
 use Rattle.lk_recursor.specs.declared.binders.Binder.TheVariants.{Lam}

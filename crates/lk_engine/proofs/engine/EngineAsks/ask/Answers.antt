@@ -1,6 +1,6 @@
 use Rattle.std.proofs.Common.{length, ap, sym, subst}
 use Rattle.lk_plain.specs.Erased.{out_of}
-use Rattle.lk_table.specs.Built.{rows}
+use Rattle.lk_questions.specs.Built.{rows}
 use Rattle.lk_store.specs.Contents.{tree_at}
 use Rattle.lk_store.specs.Store.{over, contents_of}
 use Rattle.lk_env.specs.Places.{place_at}

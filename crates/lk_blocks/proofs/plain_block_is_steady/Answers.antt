@@ -1,5 +1,0 @@
-use Rattle.lk_blocks.proofs.Plain.{plain_steady}
-use Rattle.lk_blocks.proofs.plain_block_is_steady.Goals as goal
-
-pub returns : goal.returns
-returns c = λ table us n b stated budget. plain_steady table us n b stated budget
