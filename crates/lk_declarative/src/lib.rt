@@ -17,7 +17,8 @@ ghost use Rattle.lk_declarative.specs.Box.{HasBox, box_place};
 /// What the declarative rules relate is closed and well scoped.
 pub fn declared_is_well_formed()
     ensures types { (w : Place) (e A : Tree) → IsDeclared w e A → IsWellFormed e × IsWellFormed A }
-    ensures conversions { (w : Place) (a b : Tree) → Converts w a b → IsWellFormed a × IsWellFormed b }
+    ensures conversions { (w : Place) (a b : Tree) → Converts w a b → IsWellFormed a
+        × IsWellFormed b }
 {}
 
 /// Each derivation of the directed judgement gives one by the declarative rules, at every place.
@@ -27,13 +28,17 @@ pub fn declared_is_well_formed()
 pub fn derivations_are_declared()
     ensures types { (w : Place) (e A : Tree) → HasType w e A → IsDeclared w e A }
     ensures sorts { (w : Place) (A : Tree) (l : Level) → HasSort w A l → IsDeclared w A (sort l) }
-    ensures propositions { (w : Place) (A : Tree) → IsProposition w A → IsDeclared w A (sort zero_level) }
+    ensures propositions { (w : Place) (A : Tree) → IsProposition w A
+        → IsDeclared w A (sort zero_level) }
     ensures reducts { (w : Place) (a b : Tree) → Reduces w a b → Converts w a b }
     ensures equals { (w : Place) (a b : Tree) → IsDefEq w a b → Converts w a b }
     ensures no_propositions { (w : Place) (c : Ctor) (T : Tree) → IsNotProp w T → MayExpand w c T }
-    ensures projections { (w : Place) (J : Name) (a : Tree) (j : ℕ) (xs : List Tree) → AllProject w J a j xs → EachProjects w J a j xs }
-    ensures parameters { (w : Place) (bs : List Tree) (n : ℕ) (r T : Tree) → PastParameters w bs n r T → AfterParameters w bs n r T }
-    ensures fields { (w : Place) (S : Name) (s : Tree) (l : Level) (j i : ℕ) (r A : Tree) → FieldOf w S s l j i r A → FieldDomain w S s l j i r A }
+    ensures projections { (w : Place) (J : Name) (a : Tree) (j : ℕ) (xs : List Tree)
+        → AllProject w J a j xs → EachProjects w J a j xs }
+    ensures parameters { (w : Place) (bs : List Tree) (n : ℕ) (r T : Tree)
+        → PastParameters w bs n r T → AfterParameters w bs n r T }
+    ensures fields { (w : Place) (S : Name) (s : Tree) (l : Level) (j i : ℕ) (r A : Tree)
+        → FieldOf w S s l j i r A → FieldDomain w S s l j i r A }
 {}
 
 /// The declarative rules relate everything: any two closed, well scoped trees are convertible, a tree that has a type
@@ -44,8 +49,10 @@ pub fn derivations_are_declared()
 /// answer has a derivation by these rules says little, and answers are proved against the directed judgement, which never
 /// expands, and whose Sorts and Pis stay apart (`formers_stay_apart` of lk_rulebook).
 pub fn collapse()
-    ensures conversions { (w : Place) (a b : Tree) → IsWellFormed a → IsWellFormed b → Converts w a b }
-    ensures types { (w : Place) (e A B : Tree) → IsDeclared w e A → IsWellFormed B → IsDeclared w e B }
+    ensures conversions { (w : Place) (a b : Tree) → IsWellFormed a → IsWellFormed b
+        → Converts w a b }
+    ensures types { (w : Place) (e A B : Tree) → IsDeclared w e A → IsWellFormed B
+        → IsDeclared w e B }
     ensures falsehood_is_a_proposition { (w : Place) → IsDeclared w falsehood (sort zero_level) }
     ensures falsehood_is_proved { (w : Place) → IsDeclared w simple_proof falsehood }
 {}
@@ -58,7 +65,8 @@ pub fn collapse()
 /// judgement is not met by this: its equality is not composed, and a projection out of a proposition has no type unless
 /// the field is a proof.
 pub fn guarded_beta_is_not_enough()
-    ensures falsehood_is_proved { (w : Place) → HasBox w → GuardedType false w simple_proof falsehood }
+    ensures falsehood_is_proved { (w : Place) → HasBox w
+        → GuardedType false w simple_proof falsehood }
     ensures such_a_place { HasBox box_place }
 {}
 
@@ -72,9 +80,12 @@ pub fn guarded_beta_is_not_enough()
 /// on `members`; the type of a projection on `constructors`; literals and operations on `numbers`, `texts` and `computed`;
 /// quotients on `lifted` and `induced`.
 pub fn derivations_are_ideal_where_expected()
-    ensures types { (w : Place) (e A : Tree) → Expected w → LawfulLocals w e → HasType w e A → IdealType w e A }
-    ensures reducts { (w : Place) (a b A : Tree) → Expected w → IdealType w a A → Reduces w a b → IdealEquals w a b × IdealType w b A }
-    ensures equals { (w : Place) (a b A B : Tree) → Expected w → IdealType w a A → IdealType w b B → IsDefEq w a b → IdealEquals w a b }
+    ensures types { (w : Place) (e A : Tree) → Expected w → LawfulLocals w e → HasType w e A
+        → IdealType w e A }
+    ensures reducts { (w : Place) (a b A : Tree) → Expected w → IdealType w a A → Reduces w a b
+        → IdealEquals w a b × IdealType w b A }
+    ensures equals { (w : Place) (a b A B : Tree) → Expected w → IdealType w a A → IdealType w b B
+        → IsDefEq w a b → IdealEquals w a b }
 {}
 
 /// The directed judgement takes neither collapse: at no place does the closed tree that the declarative rules take for a

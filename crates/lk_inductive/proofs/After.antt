@@ -1,9 +1,9 @@
--- What is derived while a block is half there is derived after it.
+-- What is derived while a block is partial is derived after it.
 use Rattle.std.proofs.Common.{ℕ, zero, suc, ◌≡◌, ◌+◌, ◌⊎◌, inl, inr, List, [], ◌∷◌, take, Option, Some, None, refl, sym, ap, ◌∙◌, arith}
 use Rattle.std.specs.Prelude.{option_and_then, slice_get}
 use Rattle.lk_tree.specs.Tree.{Name}
 use Rattle.lk_rulebook.specs.Place.{Entry}
-use Rattle.lk_rulebook.specs.Units.{Members, LibraryUnit, Found, given_by, first_of_two, at_unit, first_giving, flawless, place_of, at_half, members_of, flaw_of}
+use Rattle.lk_rulebook.specs.Units.{Members, LibraryUnit, Found, given_by, first_of_two, at_unit, first_giving, flawless, place_of, at_partial, members_of, flaw_of}
 use Rattle.lk_inductive.specs.Grows.{IsWithin, RulesCome, Completes}
 
 first_alone : (o : Option Found) → first_of_two o None ≡ o
@@ -48,7 +48,7 @@ after_within us n u h at fine full fresh c e m = go (given_by h c) refl m
         ∙ (ap (λ o. option_and_then flawless (at_unit (0 + n) u o)) g
         ∙ ap (λ y. option_and_then flawless (Some (record { unit = 0 + n; flaw = y; entry = x }))) fine))
 
-    go : (g : Option Entry) → given_by h c ≡ g → option_and_then flawless (first_of_two (at_half n g) (first_giving 0 (take n us) c)) ≡ Some e →
+    go : (g : Option Entry) → given_by h c ≡ g → option_and_then flawless (first_of_two (at_partial n g) (first_giving 0 (take n us) c)) ≡ Some e →
         ((place_of us (suc n) []).means c ≡ Some e) ⊎ ((e' : Entry) × ((place_of us (suc n) []).means c ≡ Some e') × RulesCome e e')
     go (Some x) g k = elim (full c e (g ∙ k)) [
       | inl y ↦ inl (later e y)

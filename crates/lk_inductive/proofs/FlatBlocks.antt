@@ -17,12 +17,12 @@ use Rattle.lk_inductive.specs.FlatTask.{flat_recs, flat_task, plain_flat}
 use Rattle.lk_inductive.specs.Nested.{Setting, larger_block, enlarge, aux_sorts}
 use Rattle.lk_inductive.specs.NestedTask.{setting_of, nested_recs, nested_shape, whole_task, plain_whole}
 use Rattle.lk_inductive.specs.Whole.{partial_types, partial_members}
-use Rattle.lk_inductive.specs.Task.{Task, done_with, here, half, half_there, ◌>>=◌, run_task}
+use Rattle.lk_inductive.specs.Task.{Task, done_with, here, with_partial, give_partial, ◌>>=◌, run_task}
 use Rattle.lk_inductive.proofs.FlatParts.{turned, nothing_added, flat_enlarge}
 use Rattle.lk_inductive.proofs.ReadBack.{same_recs}
 use Rattle.lk_inductive.proofs.Tasks.{run_then}
 
--- what p answers q answers too, whatever is half there and left
+-- what p answers q answers too, whatever is partial and left
 record GivesTask {A : Type 0} (places : Members → Place) (f : Place → (q : Query) → ℕ → Outcome (AnswerTo q)) (p q : Task A) : Type 0 where
   gives : (h : Members) (left : ℕ) → Gives (run_task places f h left p) (run_task places f h left q)
 
@@ -62,15 +62,15 @@ turned_then : {A B C : Type 0} (places : Members → Place) (f : Place → (q : 
     IsPart (turned g p) q → ((v : A) → GivesTask places f (k v) (l (g v))) → GivesTask places f (here p >>= k) (here q >>= l)
 turned_then places f p q g k l i t = record { gives = λ h left. turned_at places f p q g k l i t h left }
 
--- nothing becomes half there
-after_nothing : {A : Type 0} (places : Members → Place) (f : Place → (q : Query) → ℕ → Outcome (AnswerTo q)) (p q : Task A) → GivesTask places f p q → GivesTask places f p (half [] q)
+-- nothing becomes partial
+after_nothing : {A : Type 0} (places : Members → Place) (f : Place → (q : Query) → ℕ → Outcome (AnswerTo q)) (p q : Task A) → GivesTask places f p q → GivesTask places f p (with_partial [] q)
 after_nothing places f p q t = record { gives = λ h left. subst (λ x. Gives (run_task places f h left p) (run_task places f x left q)) (sym (append-nil h)) (t.gives h left) }
 
 -- the recursors of a block to which nothing is added
 flat_recs_given : (places : Members → Place) (f : Place → (q : Query) → ℕ → Outcome (AnswerTo q)) (b : Block) (stated : List Rec) (s : Setting) (shape : Shape) →
     GivesTask places f (flat_recs b stated shape) (nested_recs b stated s (nothing_added b.types) shape)
 flat_recs_given places f b stated s shape =
-    subst (λ rs. GivesTask places f (flat_recs b stated shape) (half_there (partial_members b stated) >>= λ h. here (compare_steps rs stated) >>= λ y. done_with shape))
+    subst (λ rs. GivesTask places f (flat_recs b stated shape) (give_partial (partial_members b stated) >>= λ h. here (compare_steps rs stated) >>= λ y. done_with shape))
     (sym (same_recs shape s (minors shape) shape.types)) (task_itself places f (flat_recs b stated shape))
 
 -- its constructors and all that follows
@@ -90,7 +90,7 @@ flat_given : (places : Members → Place) (f : Place → (q : Query) → ℕ →
 flat_given places f fuel b stated =
     same_then places f (here (counts_steps b)) _ _
     (λ y. same_then places f (here (types_steps (parameters_of b) b.types)) _ _
-    (λ ts. same_then places f (half_there (partial_types b)) _ _
+    (λ ts. same_then places f (give_partial (partial_types b)) _ _
     (λ hs. same_then places f (here (all_ctor_sorts b.types)) _ _
     (λ ls. turned_then places f (flat_types (type_names b.types) b.types) (enlarge (setting_of b ts.params) b.types) (λ z. nothing_added b.types)
     (λ z. here (shape_steps fuel b ts) >>= flat_recs b stated) (λ lg. here (aux_sorts ts.sort lg.auxs) >>= λ z. nested_shape fuel b stated ts lg)

@@ -3,7 +3,7 @@ pub mod Enough
 pub mod FlatBlocks
 pub mod FlatParts
 pub mod Fuel
-pub mod Halves
+pub mod Partials
 pub mod More
 pub mod MoreBlocks
 pub mod Plain

@@ -11,7 +11,7 @@ use Rattle.lk_inductive.specs.Recursors.{Rec, recursors}
 use Rattle.lk_inductive.specs.Compare.{AreRules, no_rule, a_rule, IsRec, IsOneOf, AreRecs}
 use Rattle.lk_inductive.specs.Whole.{CtorsSorted, TypesSorted, AllCtorsSorted, partial_types, partial_members, BlockDerived}
 use Rattle.lk_inductive.proofs.After.{after_within}
-use Rattle.lk_inductive.proofs.Halves.{first_entry, given_append}
+use Rattle.lk_inductive.proofs.Partials.{first_entry, given_append}
 use Rattle.lk_inductive.proofs.More.{more_type, more_sort, more_prop, more_reduct, more_equal}
 
 more_telescope : (w w' : Place) → IsWithin w w' → {j n : ℕ} {r rest : Tree} {xs : List Tree} → Telescope w j n r xs rest → Telescope w' j n r xs rest

@@ -16,7 +16,7 @@ use Rattle.lk_inductive.specs.FlatTask.{flat_recs, flat_task, plain_flat}
 use Rattle.lk_inductive.specs.Nested.{Larger, larger_block, enlarge, aux_sorts, aux_indices, bare_entries}
 use Rattle.lk_inductive.specs.NestedTask.{setting_of, nested_recs, nested_shape, whole_task, plain_whole}
 use Rattle.lk_inductive.specs.Whole.{partial_types}
-use Rattle.lk_inductive.specs.Task.{Task, here, half_there, ◌>>=◌, run_task}
+use Rattle.lk_inductive.specs.Task.{Task, here, give_partial, ◌>>=◌, run_task}
 use Rattle.lk_inductive.proofs.Tasks.{and_then_then, then_found, run_then, task_steady}
 use Rattle.lk_inductive.proofs.Fuel.{Costs, plain_costs, same_shape, Same}
 
@@ -68,7 +68,7 @@ same_nested_shape : (places : Members → Place) (f : Place → (q : Query) → 
     (most m n : ℕ) → most < m → most < n → (b : Block) (stated : List Rec) (ts : TypeParts) (lg : Larger) → SameTask places f most (nested_shape m b stated ts lg) (nested_shape n b stated ts lg)
 same_nested_shape places f cost most m n lm ln b stated ts lg =
     let parts : TypeParts = record ts { indices = ts.indices ++ aux_indices lg.auxs } in
-    same_then places f most (half_there (bare_entries lg.aux)) (half_there (bare_entries lg.aux)) _ _ (same_itself places f most (half_there (bare_entries lg.aux)))
+    same_then places f most (give_partial (bare_entries lg.aux)) (give_partial (bare_entries lg.aux)) _ _ (same_itself places f most (give_partial (bare_entries lg.aux)))
     (λ k. same_then places f most (here (shape_steps m (larger_block lg) parts)) (here (shape_steps n (larger_block lg) parts)) _ _
     (same_here places f most (shape_steps m (larger_block lg) parts) (shape_steps n (larger_block lg) parts) (λ w. same_shape w (f w) (cost w) most m n lm ln (larger_block lg) parts))
     (λ s. same_itself places f most (nested_recs b stated (setting_of b ts.params) lg s)))
@@ -79,7 +79,7 @@ pub same_whole : (places : Members → Place) (f : Place → (q : Query) → ℕ
 same_whole places f cost most m n lm ln b stated =
     same_then places f most (here (counts_steps b)) (here (counts_steps b)) _ _ (same_itself places f most (here (counts_steps b)))
     (λ y. same_then places f most (here (types_steps (parameters_of b) b.types)) (here (types_steps (parameters_of b) b.types)) _ _ (same_itself places f most (here (types_steps (parameters_of b) b.types)))
-    (λ ts. same_then places f most (half_there (partial_types b)) (half_there (partial_types b)) _ _ (same_itself places f most (half_there (partial_types b)))
+    (λ ts. same_then places f most (give_partial (partial_types b)) (give_partial (partial_types b)) _ _ (same_itself places f most (give_partial (partial_types b)))
     (λ hs. same_then places f most (here (all_ctor_sorts b.types)) (here (all_ctor_sorts b.types)) _ _ (same_itself places f most (here (all_ctor_sorts b.types)))
     (λ ls. same_then places f most (here (enlarge (setting_of b ts.params) b.types)) (here (enlarge (setting_of b ts.params) b.types)) _ _ (same_itself places f most (here (enlarge (setting_of b ts.params) b.types)))
     (λ lg. same_then places f most (here (aux_sorts ts.sort lg.auxs)) (here (aux_sorts ts.sort lg.auxs)) _ _ (same_itself places f most (here (aux_sorts ts.sort lg.auxs)))
@@ -133,7 +133,7 @@ same_flat : (places : Members → Place) (f : Place → (q : Query) → ℕ → 
 same_flat places f cost most m n lm ln b stated =
     same_then places f most (here (counts_steps b)) (here (counts_steps b)) _ _ (same_itself places f most (here (counts_steps b)))
     (λ y. same_then places f most (here (types_steps (parameters_of b) b.types)) (here (types_steps (parameters_of b) b.types)) _ _ (same_itself places f most (here (types_steps (parameters_of b) b.types)))
-    (λ ts. same_then places f most (half_there (partial_types b)) (half_there (partial_types b)) _ _ (same_itself places f most (half_there (partial_types b)))
+    (λ ts. same_then places f most (give_partial (partial_types b)) (give_partial (partial_types b)) _ _ (same_itself places f most (give_partial (partial_types b)))
     (λ hs. same_then places f most (here (all_ctor_sorts b.types)) (here (all_ctor_sorts b.types)) _ _ (same_itself places f most (here (all_ctor_sorts b.types)))
     (λ ls. same_then places f most (here (flat_types (type_names b.types) b.types)) (here (flat_types (type_names b.types) b.types)) _ _ (same_itself places f most (here (flat_types (type_names b.types) b.types)))
     (λ z. same_then places f most (here (shape_steps m b ts)) (here (shape_steps n b ts)) _ _

@@ -7,7 +7,7 @@ use Rattle.lk_plain.specs.Answer.{Outcome, plain_answer}
 use Rattle.lk_plain.specs.Laws.{IsSettled}
 use Rattle.lk_plain.specs.Program.{Table}
 use Rattle.lk_plain.proofs.Settled.{Settles, settled_then, settled_found, ans_settled}
-use Rattle.lk_inductive.specs.Task.{Task, done_with, stopped, asking, looking, half, run_task}
+use Rattle.lk_inductive.specs.Task.{Task, done_with, stopped, asking, looking, with_partial, run_task}
 use Rattle.lk_inductive.specs.FlatTask.{flat_task, plain_flat}
 use Rattle.lk_inductive.specs.NestedTask.{whole_task, plain_whole}
 use Rattle.lk_inductive.proofs.Plain.{NeedsNoFuel, whole_fuel, flat_fuel, at_fuel, fueled, same_fuel}
@@ -20,7 +20,7 @@ task_settled places f s h (asking q k) b i l =
     (λ v c. task_settled places f s h (k v) (b - c) (i - c) (omega arith))
 task_settled places f s h (looking r c k) b i l =
     settled_found r ((places h).means c) ((places h).origin c) ((places h).flaw c) (λ e. run_task places f h b (k e)) (λ e. run_task places f h i (k e)) (λ e. task_settled places f s h (k e) b i l)
-task_settled places f s h (half ms t) b i l = task_settled places f s (h ++ ms) t b i l
+task_settled places f s h (with_partial ms t) b i l = task_settled places f s (h ++ ms) t b i l
 
 moved_to : {A : Type 0} (o p o' : Outcome A) → o ≡ p → Settles p o' → Settles o o'
 moved_to o p o' e (inl x) = inl (e ∙ x)

@@ -7,7 +7,7 @@ use Rattle.lk_plain.specs.Program.{Table}
 use Rattle.lk_plain.specs.Answer.{Outcome, plain_answer}
 use Rattle.lk_plain.specs.Parts.{IsStageOf}
 use Rattle.lk_plain.proofs.Parts.{Gives, gives_then, gives_found, ans_gives}
-use Rattle.lk_inductive.specs.Task.{Task, done_with, stopped, asking, looking, half, run_task}
+use Rattle.lk_inductive.specs.Task.{Task, done_with, stopped, asking, looking, with_partial, run_task}
 use Rattle.lk_inductive.specs.FlatTask.{flat_task, plain_flat}
 use Rattle.lk_inductive.specs.NestedTask.{whole_task, plain_whole}
 
@@ -20,7 +20,7 @@ task_gives places f g i h b (asking q k) =
     (λ v c. task_gives places f g i h (b - c) (k v))
 task_gives places f g i h b (looking r c k) =
     gives_found r ((places h).means c) ((places h).origin c) ((places h).flaw c) (λ e. run_task places f h b (k e)) (λ e. run_task places g h b (k e)) (λ e. task_gives places f g i h b (k e))
-task_gives places f g i h b (half ms t) = task_gives places f g i (h ++ ms) b t
+task_gives places f g i h b (with_partial ms t) = task_gives places f g i (h ++ ms) b t
 
 pub plain_gives : (stage table : Table) → IsStageOf stage table → (us : Library) (n : ℕ) (b : Block) (stated : List Rec) (budget : ℕ) → Gives (plain_whole stage us n b stated budget) (plain_whole table us n b stated budget)
 plain_gives stage table h us n b stated budget = task_gives (place_of us n) (λ w. plain_answer stage w) (λ w. plain_answer table w) (λ w q i. ans_gives stage table h w q i) [] budget (whole_task (suc budget) b stated)

@@ -8,7 +8,7 @@ use Rattle.lk_plain.specs.Laws.{IsBelow, Keeps}
 use Rattle.lk_plain.proofs.Outcomes.{if_and_then, if_found, if_map, found_there}
 use Rattle.lk_plain.proofs.Agreement.{later_below}
 use Rattle.lk_plain.proofs.Renamed.{Renaming, Alike, SameContents, alike_then, alike_found}
-use Rattle.lk_inductive.specs.Task.{Task, done_with, stopped, asking, looking, half, run_task}
+use Rattle.lk_inductive.specs.Task.{Task, done_with, stopped, asking, looking, with_partial, run_task}
 
 -- where the other places give all that units below n give at these, a check that looked at units below n alone ends the same
 pub task_keeps : {A : Type 0} (n : ℕ) (places places' : Members → Place) → ((h : Members) → Keeps n (places h) (places' h)) →
@@ -35,7 +35,7 @@ task_keeps n places places' keeps f same h (looking r c k) b =
     ∙ ap (λ i. after 0 (Some i) (run_task places' f h b (k e))) kept.1
     ∙ ap (after 0 (Some ((places h).origin c))) (z (later_below (Some ((places h).origin c)) s n l).1))
     (task_keeps n places places' keeps f same h (k e) b))
-task_keeps n places places' keeps f same h (half ms t) b = task_keeps n places places' keeps f same (h ++ ms) t b
+task_keeps n places places' keeps f same h (with_partial ms t) b = task_keeps n places places' keeps f same (h ++ ms) t b
 
 -- what may be asked and which names may be read, by a check
 abbrev pub ReadsTask : {A : Type 0} → Renaming → (Members → Place) → Members → Task A → (A × Members → Type 0) → Type 0
@@ -43,7 +43,7 @@ ReadsTask r places h (done_with v) Q = Q (v, h)
 ReadsTask r places h (stopped n) Q = Unit {0}
 ReadsTask r places h (asking q k) Q = r.may_ask q × ((v : AnswerTo q) → r.may_get q v → ReadsTask r places h (k v) Q)
 ReadsTask r places h (looking n c k) Q = r.may_read c × ((e : Entry) → (places h).means c ≡ Some e → ReadsTask r places h (k e) Q)
-ReadsTask r places h (half ms t) Q = ReadsTask r places (h ++ ms) t Q
+ReadsTask r places h (with_partial ms t) Q = ReadsTask r places (h ++ ms) t Q
 
 -- places that give the same contents for each name that may be read give one outcome, but for the units looked at
 pub task_alike : {A : Type 0} (r : Renaming) (places places' : Members → Place) → ((h : Members) → SameContents r (places h) (places' h)) →
@@ -57,4 +57,4 @@ task_alike r places places' same f g i h (asking q k) Q b s =
 task_alike r places places' same f g i h (looking n c k) Q b s =
     alike_found Q n ((places h).means c) ((places' h).means c) ((places h).origin c) ((places' h).origin c) ((places h).flaw c) ((places' h).flaw c) (λ e. run_task places f h b (k e)) (λ e. run_task places' g h b (k e))
     (same h c s.0).0 (same h c s.0).1 (λ e m. task_alike r places places' same f g i h (k e) Q b (s.1 e m))
-task_alike r places places' same f g i h (half ms t) Q b s = task_alike r places places' same f g i (h ++ ms) t Q b s
+task_alike r places places' same f g i h (with_partial ms t) Q b s = task_alike r places places' same f g i (h ++ ms) t Q b s

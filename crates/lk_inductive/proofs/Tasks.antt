@@ -10,7 +10,7 @@ use Rattle.lk_plain.specs.Sound.{IsAskable, IsJustified, IsSound, WellStated}
 use Rattle.lk_plain.specs.Laws.{IsSteady}
 use Rattle.lk_plain.proofs.Outcomes.{if_and_then, if_found, if_map, found_there, and_then_same, found_same}
 use Rattle.lk_plain.proofs.Budgets.{steady_ask, steady_look}
-use Rattle.lk_inductive.specs.Task.{Task, done_with, stopped, asking, looking, half, here, ◌>>=◌, run_task, IsSoundTask}
+use Rattle.lk_inductive.specs.Task.{Task, done_with, stopped, asking, looking, with_partial, here, ◌>>=◌, run_task, IsSoundTask}
 
 Asker : Type 0
 Asker = (q : Query) → ℕ → Outcome (AnswerTo q)
@@ -25,7 +25,7 @@ sound_run_task places f P ok h left (asking q k) s =
     (λ v c t m. sound_run_task places f P ok h (left - c) (k v) (s.2 v m))
 sound_run_task places f P ok h left (looking r c k) s =
     if_found (λ v c t. P v.0 v.1) r ((places h).means c) ((places h).origin c) ((places h).flaw c) (λ e. run_task places f h left (k e)) (λ e m. sound_run_task places f P ok h left (k e) (s e m))
-sound_run_task places f P ok h left (half ms t) s = sound_run_task places f P ok (h ++ ms) left t s
+sound_run_task places f P ok h left (with_partial ms t) s = sound_run_task places f P ok (h ++ ms) left t s
 
 -- a program that is sound at the place that stands is sound as a task
 pub sound_here : {A : Type 0} (places : Members → Place) (h : Members) (p : Program A) (P : A → Type 0) (Q : A → Members → Type 0) →
@@ -41,7 +41,7 @@ sound_then places h (done_with v) k Q P s i = i v h s
 sound_then places h (stopped r) k Q P s i = tt
 sound_then places h (asking q f) k Q P s i = (s.0, s.1, λ v m. sound_then places h (f v) k Q P (s.2 v m) i)
 sound_then places h (looking r c f) k Q P s i = λ e m. sound_then places h (f e) k Q P (s e m) i
-sound_then places h (half ms t) k Q P s i = sound_then places (h ++ ms) t k Q P s i
+sound_then places h (with_partial ms t) k Q P s i = sound_then places (h ++ ms) t k Q P s i
 
 -- under a budget of at least its cost a check ends the same, and is spent under each smaller one
 pub task_steady : {A : Type 0} (places : Members → Place) (f : Place → (q : Query) → ℕ → Outcome (AnswerTo q)) →
@@ -62,9 +62,9 @@ task_steady places f ok h (looking r c k) b =
     (λ u d s z. steady_look (λ i. run_task places f h i (k e)) (λ i. run_task places f h i (looking r c k)) b d (Some ((places h).origin c)) s u
     (λ i. found_there r ((places h).means c) ((places h).origin c) ((places h).flaw c) e (λ x. run_task places f h i (k x)) m) z)
     (task_steady places f ok h (k e) b))
-task_steady places f ok h (half ms t) b = task_steady places f ok (h ++ ms) t b
+task_steady places f ok h (with_partial ms t) b = task_steady places f ok (h ++ ms) t b
 
--- two checks one after the other: what the first leaves, half there and of the budget, is the second's
+-- two checks one after the other: what the first leaves, partial and of the budget, is the second's
 later_assoc : (a b c : Option ℕ) → later a (later b c) ≡ later (later a b) c
 later_assoc None b c = refl
 later_assoc (Some m) None c = refl
@@ -121,4 +121,4 @@ run_then places f h left (asking q g) k =
 run_then places f h left (looking r c g) k =
     found_same r ((places h).means c) ((places h).origin c) ((places h).flaw c) (λ e. run_task places f h left (g e >>= k)) _ (λ e. run_then places f h left (g e) k)
     ∙ then_found r ((places h).means c) ((places h).origin c) ((places h).flaw c) (λ e. run_task places f h left (g e)) (λ v c. run_task places f v.1 (left - c) (k v.0))
-run_then places f h left (half ms t) k = run_then places f (h ++ ms) left t k
+run_then places f h left (with_partial ms t) k = run_then places f (h ++ ms) left t k

@@ -11,12 +11,12 @@ use Rattle.lk_inductive.specs.Recursors.{Rec, recursors}
 use Rattle.lk_inductive.specs.Compare.{compare_steps}
 use Rattle.lk_inductive.specs.Flat.{flat_types}
 use Rattle.lk_inductive.specs.Whole.{partial_types, partial_members}
-use Rattle.lk_inductive.specs.Task.{Task, done_with, here, half_there, ◌>>=◌, run_task}
+use Rattle.lk_inductive.specs.Task.{Task, done_with, here, give_partial, ◌>>=◌, run_task}
 
 -- the recursors
 abbrev pub flat_recs : Block → List Rec → Shape → Task Shape
 flat_recs b stated shape = do
-  h ← half_there (partial_members b stated)
+  h ← give_partial (partial_members b stated)
   y ← here (compare_steps (recursors shape) stated)
   done_with shape
 
@@ -25,7 +25,7 @@ abbrev pub flat_task : ℕ → Block → List Rec → Task Shape
 flat_task fuel b stated = do
   y ← here (counts_steps b)
   ts ← here (types_steps (parameters_of b) b.types)
-  h ← half_there (partial_types b)
+  h ← give_partial (partial_types b)
   ls ← here (all_ctor_sorts b.types)
   z ← here (flat_types (type_names b.types) b.types)
   shape ← here (shape_steps fuel b ts)

@@ -296,7 +296,7 @@ abbrev pub aux_indices : List Aux → List (List Tree)
 aux_indices [] = []
 aux_indices (a ∷ as_) = a.indices ∷ aux_indices as_
 
--- an auxiliary type as it is half there: without constructors
+-- an auxiliary type as it is partial: without constructors
 abbrev pub bare : BlockType → BlockType
 bare t = record t { ctors = [] }
 

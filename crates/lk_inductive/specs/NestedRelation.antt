@@ -119,7 +119,7 @@ pub record IsEnlarged (w : Place) (s : Setting) (b : Block) (lg : Larger) : Type
   pub own : OwnTypes s (all_stand (first_name b.types) 0 lg.auxs) b.types lg.own
   pub aux : AuxTypes w s (all_stand (first_name b.types) 0 lg.auxs) lg.auxs 0 lg.aux
 
--- what is half there while the larger block's constructors are walked, and at the end
+-- what is partial while the larger block's constructors are walked, and at the end
 abbrev pub middle_half : Block → Larger → Members
 middle_half b lg = partial_types b ++ bare_entries lg.aux
 

@@ -13,7 +13,7 @@ use Rattle.lk_inductive.specs.Compare.{compare_steps}
 use Rattle.lk_inductive.specs.Nested.{Setting, Larger, larger_block, enlarge, aux_sorts, aux_indices, bare_entries}
 use Rattle.lk_inductive.specs.Restore.{first_name, all_stand, restoring}
 use Rattle.lk_inductive.specs.Whole.{partial_types, partial_members}
-use Rattle.lk_inductive.specs.Task.{Task, done_with, here, half_there, ◌>>=◌, run_task}
+use Rattle.lk_inductive.specs.Task.{Task, done_with, here, give_partial, ◌>>=◌, run_task}
 
 abbrev pub setting_of : Block → List Tree → Setting
 setting_of b ps = record { names = type_names b.types; levels = levels_of b; params = ps }
@@ -24,14 +24,14 @@ restoring_of b s lg = restoring (all_stand (first_name b.types) 0 lg.auxs) s
 -- the recursors
 abbrev pub nested_recs : Block → List Rec → Setting → Larger → Shape → Task Shape
 nested_recs b stated s lg shape = do
-  h ← half_there (partial_members b stated)
+  h ← give_partial (partial_members b stated)
   y ← here (compare_steps (recursors_by (restoring_of b s lg) shape) stated)
   done_with shape
 
 -- constructors, large elimination, recursors
 abbrev pub nested_shape : ℕ → Block → List Rec → TypeParts → Larger → Task Shape
 nested_shape fuel b stated ts lg = do
-  k ← half_there (bare_entries lg.aux)
+  k ← give_partial (bare_entries lg.aux)
   shape ← here (shape_steps fuel (larger_block lg) (record ts { indices = ts.indices ++ aux_indices lg.auxs }))
   nested_recs b stated (setting_of b ts.params) lg shape
 
@@ -40,7 +40,7 @@ abbrev pub whole_task : ℕ → Block → List Rec → Task Shape
 whole_task fuel b stated = do
   y ← here (counts_steps b)
   ts ← here (types_steps (parameters_of b) b.types)
-  h ← half_there (partial_types b)
+  h ← give_partial (partial_types b)
   ls ← here (all_ctor_sorts b.types)
   lg ← here (enlarge (setting_of b ts.params) b.types)
   z ← here (aux_sorts ts.sort lg.auxs)

@@ -90,7 +90,7 @@ pub data AreCtors (w : Place) (F : Frame) (T : Name) : List Ctor → List CtorSh
   no_ctor : AreCtors w F T [] []
   a_ctor_more : {c : Ctor} {s : CtorShape} {cs : List Ctor} {ss : List CtorShape} → IsCtor w F T c s → AreCtors w F T cs ss → AreCtors w F T (c ∷ cs) (s ∷ ss)
 
--- each type at the place before the block, and each constructor where the types are half there
+-- each type at the place before the block, and each constructor where the types are partial
 pub data AreTypes (before among : Place) (F : Frame) : List BlockType → List TypeShape → Type 0 where
   no_type : AreTypes before among F [] []
   a_type_more : {t : BlockType} {s : TypeShape} {ts : List BlockType} {ss : List TypeShape} →

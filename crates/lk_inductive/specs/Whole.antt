@@ -23,7 +23,7 @@ abbrev pub AllCtorsSorted : Place → List BlockType → Type 0
 AllCtorsSorted w [] = Unit {0}
 AllCtorsSorted w (t ∷ ts) = CtorsSorted w t.ctors × AllCtorsSorted w ts
 
--- the block is derived: places gives the place for what is half there
+-- the block is derived: places gives the place for what is partial
 pub record BlockDerived (places : Members → Place) (b : Block) (stated : List Rec) (s : Shape) : Type 0 where
   pub counts : CountsAgree b
   pub types_sorted : TypesSorted (places []) b.types

@@ -25,34 +25,50 @@ pub fn derivations_stay()
     ensures equals { (w w' : Place) (a b : Tree) → IsWithin w w' → IsDefEq w a b → IsDefEq w' a b }
 {}
 
-/// A block that is derived at its unit's place, with its names half there, is derived at the next unit's, where they are given.
+/// A block that is derived at its unit's place, with its names partial, is derived at the next unit's, where they are given.
 pub fn derived_block_stays()
-    ensures { (us : List LibraryUnit) (n : ℕ) (u : LibraryUnit) (b : Block) (stated : List Rec) (s : Shape) → slice_get us n ≡ Some u → flaw_of u ≡ None → Completes (partial_types b ++ partial_members b stated) (members_of u) →
-        ((c : Name) (e : Entry) → given_by (members_of u) c ≡ Some e → first_giving 0 (take n us) c ≡ None) → BlockDerived (place_of us n) b stated s → BlockDerived (λ h. place_of us (suc n) []) b stated s }
+    ensures { (us : List LibraryUnit) (n : ℕ) (u : LibraryUnit) (b : Block) (stated : List Rec)
+        (s : Shape) → slice_get us n ≡ Some u → flaw_of u ≡ None
+        → Completes (partial_types b ++ partial_members b stated) (members_of u) →
+        ((c : Name) (e : Entry) → given_by (members_of u) c ≡ Some e → first_giving 0 (take n us) c
+        ≡ None) → BlockDerived (place_of us n) b stated s
+        → BlockDerived (λ h. place_of us (suc n) []) b stated s }
 {}
 
 /// What a stage answers of a block its table answers too, at the same cost.
 pub fn block_stages_agree()
-    ensures { (stage table : Table) (us : List LibraryUnit) (n : ℕ) (b : Block) (stated : List Rec) (budget : ℕ) → IsStageOf stage table → IfAnswered (plain_whole stage us n b stated budget) (λ v c t. plain_whole table us n b stated budget ≡ answered v c t) }
+    ensures { (stage table : Table) (us : List LibraryUnit) (n : ℕ) (b : Block) (stated : List Rec)
+        (budget : ℕ) → IsStageOf stage table
+        → IfAnswered (plain_whole stage us n b stated budget)
+        (λ v c t. plain_whole table us n b stated budget ≡ answered v c t) }
 {}
 
 /// The plain verdict of a block comes exactly where the budget is at least its cost, and is the same under each such budget.
 pub fn plain_block_is_steady()
-    ensures { (table : Table) (us : List LibraryUnit) (n : ℕ) (b : Block) (stated : List Rec) (budget : ℕ) → IfAnswered (plain_whole table us n b stated budget) (IsSteady (plain_whole table us n b stated) budget) }
+    ensures { (table : Table) (us : List LibraryUnit) (n : ℕ) (b : Block) (stated : List Rec)
+        (budget : ℕ) → IfAnswered (plain_whole table us n b stated budget)
+        (IsSteady (plain_whole table us n b stated) budget) }
 {}
 
 /// What is answered of a block where nested occurrences are refused, the whole check answers too, at the same cost.
 pub fn flat_block_is_whole()
-    ensures { (table : Table) (us : List LibraryUnit) (n : ℕ) (b : Block) (stated : List Rec) (budget : ℕ) → IfAnswered (plain_flat table us n b stated budget) (λ v c t. plain_whole table us n b stated budget ≡ answered v c t) }
+    ensures { (table : Table) (us : List LibraryUnit) (n : ℕ) (b : Block) (stated : List Rec)
+        (budget : ℕ) → IfAnswered (plain_flat table us n b stated budget)
+        (λ v c t. plain_whole table us n b stated budget ≡ answered v c t) }
 {}
 
 /// Where nested occurrences are refused, what a stage answers of a block its table answers too, at the same cost.
 pub fn flat_stages_agree()
-    ensures { (stage table : Table) (us : List LibraryUnit) (n : ℕ) (b : Block) (stated : List Rec) (budget : ℕ) → IsStageOf stage table → IfAnswered (plain_flat stage us n b stated budget) (λ v c t. plain_flat table us n b stated budget ≡ answered v c t) }
+    ensures { (stage table : Table) (us : List LibraryUnit) (n : ℕ) (b : Block) (stated : List Rec)
+        (budget : ℕ) → IsStageOf stage table
+        → IfAnswered (plain_flat stage us n b stated budget)
+        (λ v c t. plain_flat table us n b stated budget ≡ answered v c t) }
 {}
 
 /// Where nested occurrences are refused, the plain verdict of a block comes exactly where the budget is at least its cost, and is
 /// the same under each such budget.
 pub fn plain_flat_is_steady()
-    ensures { (table : Table) (us : List LibraryUnit) (n : ℕ) (b : Block) (stated : List Rec) (budget : ℕ) → IfAnswered (plain_flat table us n b stated budget) (IsSteady (plain_flat table us n b stated) budget) }
+    ensures { (table : Table) (us : List LibraryUnit) (n : ℕ) (b : Block) (stated : List Rec)
+        (budget : ℕ) → IfAnswered (plain_flat table us n b stated budget)
+        (IsSteady (plain_flat table us n b stated) budget) }
 {}

@@ -19,15 +19,19 @@ ghost use Rattle.lk_meaning.specs.Booleans.{yes_name, no_name, after_b, after_ag
 /// pair, and no such inductive type equals a Sort or a Pi. This is said of each inductive type whose stated type is, as spelled,
 /// Pis ending in a Sort.
 pub fn types_stay_apart()
-    ensures one { (w : Place) (J K : Name) (a b : Tree) → IsFamily w J → IsFamily w K → IsDefEq w a b → IsApplied J a → IsApplied K b → (J ≡ K) × SameSpine w a b }
-    ensures first { (w : Place) (J : Name) (a b : Tree) → IsFamily w J → IsDefEq w a b → IsApplied J a → IsFormer b → ⊥ }
-    ensures second { (w : Place) (J : Name) (a b : Tree) → IsFamily w J → IsDefEq w a b → IsFormer a → IsApplied J b → ⊥ }
+    ensures one { (w : Place) (J K : Name) (a b : Tree) → IsFamily w J → IsFamily w K
+        → IsDefEq w a b → IsApplied J a → IsApplied K b → (J ≡ K) × SameSpine w a b }
+    ensures first { (w : Place) (J : Name) (a b : Tree) → IsFamily w J → IsDefEq w a b
+        → IsApplied J a → IsFormer b → ⊥ }
+    ensures second { (w : Place) (J : Name) (a b : Tree) → IsFamily w J → IsDefEq w a b → IsFormer a
+        → IsApplied J b → ⊥ }
 {}
 
 /// Trees that are equal and come to Sorts, Pis or inductive types with arguments by steps of beta and zeta at the head come to
 /// one of these with equal parts: the forms of types are injective and apart. The inductive types are those of types_stay_apart.
 pub fn types_stay_apart_behind_steps()
-    ensures { (w : Place) (a b F G : Tree) → IsDefEq w a b → RunsTo a F → RunsTo b G → IsTypeForm w F → IsTypeForm w G → SameTypeForm w F G }
+    ensures { (w : Place) (a b F G : Tree) → IsDefEq w a b → RunsTo a F → RunsTo b G
+        → IsTypeForm w F → IsTypeForm w G → SameTypeForm w F G }
 {}
 
 /// Two different constructors of inductive types above Prop that have more than one are never equal, whatever they are applied
@@ -35,8 +39,10 @@ pub fn types_stay_apart_behind_steps()
 /// is also an operation, that are equal have equal arguments. This is said of each constructor whose stated type is, as spelled,
 /// Pis ending in a Sort or in an inductive type whose stated type is, as spelled, Pis ending in a Sort above Prop.
 pub fn constructors_stay_apart()
-    ensures one { (w : Place) (c d : Name) (a b : Tree) → IsChoice w c → IsChoice w d → IsDefEq w a b → Heads c a → Heads d b → c ≡ d }
-    ensures parts { (w : Place) (c : Name) (a b : Tree) → IsChoice w c → (c ≡ nat_succ → ⊥) → IsDefEq w a b → IsApplied c a → IsApplied c b → SameSpine w a b }
+    ensures one { (w : Place) (c d : Name) (a b : Tree) → IsChoice w c → IsChoice w d
+        → IsDefEq w a b → Heads c a → Heads d b → c ≡ d }
+    ensures parts { (w : Place) (c : Name) (a b : Tree) → IsChoice w c → (c ≡ nat_succ → ⊥)
+        → IsDefEq w a b → IsApplied c a → IsApplied c b → SameSpine w a b }
 {}
 
 /// After `inductive B : Type | yes : B | no : B`, which is above Prop, the two constructors are not equal, nor are they where a
@@ -52,20 +58,26 @@ pub fn yes_is_not_no()
 pub fn nothing_rigid_proves_falsehood()
     ensures families { (w : Place) (J : Name) → IsFamily w J → IsRigid w J }
     ensures choices { (w : Place) (c : Name) → IsChoice w c → IsRigid w c }
-    ensures rigid { (w : Place) (c : Name) (e A : Tree) → IsRigid w c → Heads c e → HasType w e A → IsDefEq w A falsehood → ⊥ }
-    ensures formers { (w : Place) (e A : Tree) → IsFormer e → HasType w e A → IsDefEq w A falsehood → ⊥ }
+    ensures rigid { (w : Place) (c : Name) (e A : Tree) → IsRigid w c → Heads c e → HasType w e A
+        → IsDefEq w A falsehood → ⊥ }
+    ensures formers { (w : Place) (e A : Tree) → IsFormer e → HasType w e A → IsDefEq w A falsehood
+        → ⊥ }
 {}
 
 /// Trees with different rigid constants at their heads are never equal, and none equals a Sort or a Pi: two inductive types, an
 /// inductive type and an axiom whose stated type ends in a Sort or in a data type, two constructors of an inductive type above
 /// Prop that is no structure, a literal and another constructor.
 pub fn rigid_stays_apart()
-    ensures heads { (w : Place) (c d : Name) (a b : Tree) → IsRigid w c → IsRigid w d → IsDefEq w a b → Heads c a → Heads d b → c ≡ d }
-    ensures first { (w : Place) (d : Name) (a b : Tree) → IsRigid w d → IsDefEq w a b → IsFormer a → Heads d b → ⊥ }
-    ensures second { (w : Place) (c : Name) (a b : Tree) → IsRigid w c → IsDefEq w a b → Heads c a → IsFormer b → ⊥ }
+    ensures heads { (w : Place) (c d : Name) (a b : Tree) → IsRigid w c → IsRigid w d
+        → IsDefEq w a b → Heads c a → Heads d b → c ≡ d }
+    ensures first { (w : Place) (d : Name) (a b : Tree) → IsRigid w d → IsDefEq w a b → IsFormer a
+        → Heads d b → ⊥ }
+    ensures second { (w : Place) (c : Name) (a b : Tree) → IsRigid w c → IsDefEq w a b → Heads c a
+        → IsFormer b → ⊥ }
 {}
 
 /// Equal applications of one rigid constant but Nat.succ have equal levels and arguments that are equal pair by pair.
 pub fn rigid_is_injective()
-    ensures { (w : Place) (c : Name) (a b : Tree) → IsRigid w c → (c ≡ nat_succ → ⊥) → IsDefEq w a b → IsApplied c a → IsApplied c b → SameSpine w a b }
+    ensures { (w : Place) (c : Name) (a b : Tree) → IsRigid w c → (c ≡ nat_succ → ⊥) → IsDefEq w a b
+        → IsApplied c a → IsApplied c b → SameSpine w a b }
 {}

@@ -3,7 +3,7 @@ use Rattle.std.proofs.Common.{ℕ, zero, suc, ◌≡◌, ◌<◌, ◌≤◌, Lis
 use Rattle.std.specs.Prelude.{option_and_then}
 use Rattle.lk_tree.specs.Tree.{Name}
 use Rattle.lk_rulebook.specs.Place.{Place, Entry}
-use Rattle.lk_rulebook.specs.Units.{Members, LibraryUnit, Found, given_by, first_of_two, at_unit, first_giving, unit_or, flawless, place_of, at_half, members_of}
+use Rattle.lk_rulebook.specs.Units.{Members, LibraryUnit, Found, given_by, first_of_two, at_unit, first_giving, unit_or, flawless, place_of, at_partial, members_of}
 use Rattle.lk_plain.specs.Query.{Query, AnswerTo}
 use Rattle.lk_plain.specs.Program.{Program}
 use Rattle.lk_plain.specs.Answer.{answered, spent, plain_answer}
@@ -29,14 +29,14 @@ pub found_entry : (o : Option Found) (e : Entry) → option_and_then flawless o 
 found_entry (Some f) e h = (f, refl)
 found_entry None e h = absurd cc
 
-pub place_keeps : (us : List LibraryUnit) (n m : ℕ) (half : Members) → n ≤ m →
-    ((c : Name) (f : Found) → first_giving 0 (take n us) c ≡ Some f → given_by half c ≡ None) → Keeps n (place_of us n []) (place_of us m half)
-place_keeps us n m half l fresh = λ c e h below.
+pub place_keeps : (us : List LibraryUnit) (n m : ℕ) (partial : Members) → n ≤ m →
+    ((c : Name) (f : Found) → first_giving 0 (take n us) c ≡ Some f → given_by partial c ≡ None) → Keeps n (place_of us n []) (place_of us m partial)
+place_keeps us n m partial l fresh = λ c e h below.
     let o : Option Found = first_giving 0 (take n us) c in
     let there : (f : Found) × (o ≡ Some f) = found_entry o e h in
     let later : first_giving 0 (take m us) c ≡ Some there.0 = prefix_gives 0 n m us c there.0 l there.1 in
-    let none : given_by half c ≡ None = fresh c there.0 there.1 in
-    let at : first_of_two (at_half m (given_by half c)) (first_giving 0 (take m us) c) ≡ o = ap (λ g. first_of_two (at_half m g) (first_giving 0 (take m us) c)) none ∙ (later ∙ sym there.1) in (
+    let none : given_by partial c ≡ None = fresh c there.0 there.1 in
+    let at : first_of_two (at_partial m (given_by partial c)) (first_giving 0 (take m us) c) ≡ o = ap (λ g. first_of_two (at_partial m g) (first_giving 0 (take m us) c)) none ∙ (later ∙ sym there.1) in (
       ap (option_and_then flawless) at ∙ h,
       ap (λ x. unit_or x m) at ∙ (ap (λ x. unit_or x m) there.1 ∙ sym (ap (λ x. unit_or x n) there.1)),
     )

@@ -15,13 +15,16 @@ ghost use Rattle.lk_tree.specs.RuleNo.{RuleNo};
 /// With nothing left no question is answered. With one more than b left it is opened, and what it asks is answered with what is
 /// left.
 pub fn plain_answer_opens()
-    ensures nothing_left { (table : Table) (w : Place) (q : Query) → plain_answer table w q 0 ≡ spent }
-    ensures opens { (table : Table) (w : Place) (q : Query) (b : ℕ) → plain_answer table w q (suc b) ≡ after 1 None (outcome_of w (plain_answer table w) b (table q)) }
+    ensures nothing_left { (table : Table) (w : Place) (q : Query) → plain_answer table w q 0
+        ≡ spent }
+    ensures opens { (table : Table) (w : Place) (q : Query) (b : ℕ) → plain_answer table w q (suc b)
+        ≡ after 1 None (outcome_of w (plain_answer table w) b (table q)) }
 {}
 
 /// An answer comes exactly where the budget is at least its cost, and is the same under each such budget.
 pub fn plain_answer_is_steady()
-    ensures { (table : Table) (w : Place) (q : Query) (b : ℕ) → IfAnswered (plain_answer table w q b) (IsSteady (plain_answer table w q) b) }
+    ensures { (table : Table) (w : Place) (q : Query) (b : ℕ)
+        → IfAnswered (plain_answer table w q b) (IsSteady (plain_answer table w q) b) }
 {}
 
 /// What is said under a budget, an answer or a refusal, is said under each greater one too.
@@ -32,19 +35,26 @@ pub fn plain_answer_is_settled()
 /// Under each budget the outcome, an answer or a refusal or spent, rests on the contents of names alone, whichever units give
 /// them.
 pub fn plain_answer_rests_on_contents()
-    ensures { (table : Table) (w other : Place) (q : Query) (b : ℕ) → GivesTheSame w other → SameOutcome (plain_answer table w q b) (plain_answer table other q b) }
+    ensures { (table : Table) (w other : Place) (q : Query) (b : ℕ) → GivesTheSame w other
+        → SameOutcome (plain_answer table w q b) (plain_answer table other q b) }
 {}
 
 /// An answer rests on the names alone that units below n give.
 pub fn plain_answers_agree()
-    ensures { (table : Table) (n : ℕ) (w other : Place) (q : Query) (b : ℕ) → Keeps n w other → IfAnswered (plain_answer table w q b) (λ v c t. IsBelow t n → plain_answer table other q b ≡ answered v c t) }
+    ensures { (table : Table) (n : ℕ) (w other : Place) (q : Query) (b : ℕ) → Keeps n w other
+        → IfAnswered (plain_answer table w q b)
+        (λ v c t. IsBelow t n → plain_answer table other q b ≡ answered v c t) }
 {}
 
 /// What a stage answers its table answers too, at the same cost, and a stage of a sound table is sound. A table is a stage of
 /// itself, and a stage is one still where it is restricted to some questions.
 pub fn stages_are_sound()
-    ensures sound { (stage table : Table) → IsStageOf stage table → IsSoundTable table → IsSoundTable stage }
-    ensures agree { (stage table : Table) (w : Place) (q : Query) (b : ℕ) → IsStageOf stage table → IfAnswered (plain_answer stage w q b) (λ v c t. plain_answer table w q b ≡ answered v c t) }
+    ensures sound { (stage table : Table) → IsStageOf stage table → IsSoundTable table
+        → IsSoundTable stage }
+    ensures agree { (stage table : Table) (w : Place) (q : Query) (b : ℕ) → IsStageOf stage table
+        → IfAnswered (plain_answer stage w q b)
+        (λ v c t. plain_answer table w q b ≡ answered v c t) }
     ensures itself { (table : Table) → IsStageOf table table }
-    ensures restricts { (built : Query → Bool) (r : RuleNo) (stage table : Table) → IsStageOf stage table → IsStageOf (restricted built r stage) table }
+    ensures restricts { (built : Query → Bool) (r : RuleNo) (stage table : Table)
+        → IsStageOf stage table → IsStageOf (restricted built r stage) table }
 {}

@@ -100,15 +100,15 @@ abbrev pub same_headed : LevelTest → Tree → Tree → Program Bool
 same_headed test a b = by_proof_irrelevance a b or_else same_unfolded test a b
 
 -- by their Core, where that is new
-abbrev pub same_reduced : LevelTest → Tree → Tree → Program Bool
-same_reduced test a b = by_core a b (same_headed test a b)
+abbrev pub built_by_reduction : LevelTest → Tree → Tree → Program Bool
+built_by_reduction test a b = by_core a b (same_headed test a b)
 
 -- two sorts, lambdas or Pis, else by their Core
 abbrev pub same_shape : LevelTest → Tree → Tree → Program Bool
 same_shape test (sort l) (sort m) = test l m
 same_shape test (lam A b) (lam A' b') = same_bodies (max (bound (lam A b)) (bound (lam A' b'))) A b A' b'
 same_shape test (pi A b) (pi A' b') = same_bodies (max (bound (pi A b)) (bound (pi A' b'))) A b A' b'
-same_shape test a b = same_reduced test a b
+same_shape test a b = built_by_reduction test a b
 
 abbrev pub same_row_by : LevelTest → Tree → Tree → Program Bool
 same_row_by test a b = if is_same_tree a b then done true else same_shape test a b

@@ -27,7 +27,7 @@ pub data LibraryUnit : Type 0 where
 abbrev pub Library : Type 0
 Library = List LibraryUnit
 
--- names with their entries: the members of a unit, or what is half there (given while its own block is being checked)
+-- names with their entries: the members of a unit, or what is partial (given while its own block is being checked)
 abbrev pub Members : Type 0
 Members = List (Name × Entry)
 
@@ -144,10 +144,10 @@ abbrev pub at_unit : ℕ → LibraryUnit → Option Entry → Option Found
 at_unit i u None = None
 at_unit i u (Some e) = Some (record { unit = i; flaw = flaw_of u; entry = e })
 
--- an entry that is half there
-abbrev pub at_half : ℕ → Option Entry → Option Found
-at_half n None = None
-at_half n (Some e) = Some (record { unit = n; flaw = None; entry = e })
+-- an entry that is partial
+abbrev pub at_partial : ℕ → Option Entry → Option Found
+at_partial n None = None
+at_partial n (Some e) = Some (record { unit = n; flaw = None; entry = e })
 
 -- the member in the first unit that gives the name, where the first unit has number i
 abbrev pub first_giving : ℕ → Library → Name → Option Found
@@ -172,7 +172,7 @@ place_by n found = record {
 
 -- the place of unit n
 abbrev pub place_of : Library → ℕ → Members → Place
-place_of us n half = place_by n (λ c. first_of_two (at_half n (given_by half c)) (first_giving 0 (take n us) c))
+place_of us n partial = place_by n (λ c. first_of_two (at_partial n (given_by partial c)) (first_giving 0 (take n us) c))
 
 -- the later of two units that were looked at, by their numbers
 abbrev pub later : Option ℕ → Option ℕ → Option ℕ

@@ -1,4 +1,4 @@
--- Sorts of constructors' types and the stated recursors, and that what is half there is well stated.
+-- Sorts of constructors' types and the stated recursors, and that what is partial is well stated.
 use Rattle.std.proofs.Common.{ℕ, suc, ◌≡◌, inl, inr, Bool, true, false, ◌&&◌, nat_eq, List, [], ◌∷◌, ◌++◌, length, map, Option, Some, None, refl, arith}
 use Rattle.std.proofs.lemmas.Bool.Decides.{nat_tests}
 use Rattle.lk_tree.specs.Tree.{Name, param, Tree, const, local}
@@ -22,7 +22,7 @@ use Rattle.lk_inductive.specs.BlockSteps.{ctor_sorts, all_ctor_sorts}
 use Rattle.lk_inductive.specs.Recursors.{Rec}
 use Rattle.lk_inductive.specs.Compare.{renamed, same_rules, same_bool, same_counts, rules_steps, rec_steps, rec_named, compare_found, compare_steps, rec_entries, AreRules, no_rule, a_rule, IsRec, IsOneOf, AreRecs}
 use Rattle.lk_inductive.specs.Whole.{CtorsSorted, TypesSorted, AllCtorsSorted, RecsStated}
-use Rattle.lk_inductive.proofs.Halves.{MembersStated, stated_append}
+use Rattle.lk_inductive.proofs.Partials.{MembersStated, stated_append}
 use Rattle.lk_sound.proofs.Telescopes.{numbered, params_numbered}
 use Rattle.lk_sound.proofs.BlockTypes.{AreFound, none_found, one_found}
 use Rattle.lk_sound.proofs.Positive.{name_of}
@@ -180,7 +180,7 @@ pub types_sorted : (w : Place) (F : Frame) (ts : List BlockType) (xs : List (Lis
 types_sorted w F ts xs none_found = tt
 types_sorted w F ts xs (one_found {ts = us} {xss = ys} g h) = (g.sorted, types_sorted w F us ys h)
 
--- what is half there is well stated
+-- what is partial is well stated
 pub type_entries_stated : (b : Block) (ts : List BlockType) → TypesStated b.types → TypesStated ts → MembersStated (type_entries b ts)
 type_entries_stated b [] all st = tt
 type_entries_stated b (t ∷ ts) all st = ((st.0.0, (st.0, all)), type_entries_stated b ts all st.1)

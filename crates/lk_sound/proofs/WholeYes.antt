@@ -5,7 +5,7 @@ use Rattle.lk_tree.specs.Tree.{Name, name_discrete, Tree, local}
 use Rattle.lk_tree.specs.WellFormed.{AllWellFormed}
 use Rattle.lk_tree.proofs.Lists.{AnyLocal}
 use Rattle.lk_rulebook.specs.Place.{Place, Entry, Block, BlockType, a_type}
-use Rattle.lk_rulebook.specs.Units.{Members, LibraryUnit, given_by, first_of_two, first_giving, flawless, place_of, at_half}
+use Rattle.lk_rulebook.specs.Units.{Members, LibraryUnit, given_by, first_of_two, first_giving, flawless, place_of, at_partial}
 use Rattle.lk_plain.specs.Answer.{IfAnswered, plain_answer}
 use Rattle.lk_plain.specs.Program.{Table}
 use Rattle.lk_plain.specs.Sound.{WellStated, TypesStated, IsSoundTable}
@@ -22,7 +22,7 @@ use Rattle.lk_inductive.specs.NestedTask.{setting_of, restoring_of, nested_shape
 use Rattle.lk_inductive.specs.NestedRelation.{Clear, ClearCtors, ClearTypes, IsClear, IsEnlarged, middle_half, last_half, NestedDerived}
 use Rattle.lk_inductive.specs.Task.{here, run_task, IsSoundTask}
 use Rattle.lk_inductive.proofs.Tasks.{sound_run_task, sound_here, sound_then}
-use Rattle.lk_inductive.proofs.Halves.{MembersStated, well_stated_half, stated_append}
+use Rattle.lk_inductive.proofs.Partials.{MembersStated, well_stated_half, stated_append}
 use Rattle.lk_sound.proofs.BlockTypes.{IsTyped, IsHeaded, sound_types}
 use Rattle.lk_sound.proofs.Counts.{sound_counts}
 use Rattle.lk_sound.proofs.Ctors.{sound_shape_at}
@@ -156,7 +156,7 @@ given_clear b (u ∷ ts) c e d t all cl g k = go (given_clear b ts c e d t all c
 half_clear : (us : List LibraryUnit) (n : ℕ) (b : Block) → IsClear (place_of us n []) → ClearTypes b.types → IsClear (place_of us n (partial_types b))
 half_clear us n b cl all c e d t = go (given_by (partial_types b) c) refl
   where
-    go : (g : Option Entry) → given_by (partial_types b) c ≡ g → option_and_then flawless (first_of_two (at_half n g) (first_giving 0 (take n us) c)) ≡ Some e → e.kind ≡ a_type d t → (Clear t.type × ClearCtors t.ctors) × ClearTypes d.types
+    go : (g : Option Entry) → given_by (partial_types b) c ≡ g → option_and_then flawless (first_of_two (at_partial n g) (first_giving 0 (take n us) c)) ≡ Some e → e.kind ≡ a_type d t → (Clear t.type × ClearCtors t.ctors) × ClearTypes d.types
     go (Some x) i m k = let q : x ≡ e = Some_is m in given_clear b b.types c e d t all all (i ∙ ap Some q) k
     go None i m k = cl c e d t m k
 

@@ -29,27 +29,43 @@ pub fn whole_table_is_sound()
 
 /// Each answer means what the rule book says.
 pub fn plain_answer_is_sound()
-    ensures each { (table : Table) (w : Place) (q : Query) (b : ℕ) → IsSoundTable table → WellStated w → IsAskable q → IfAnswered (plain_answer table w q b) (λ v c t. IsJustified w q v) }
-    ensures whole { (w : Place) (q : Query) (b : ℕ) → WellStated w → IsAskable q → IfAnswered (plain_answer steps w q b) (λ v c t. IsJustified w q v) }
+    ensures each { (table : Table) (w : Place) (q : Query) (b : ℕ) → IsSoundTable table
+        → WellStated w → IsAskable q → IfAnswered (plain_answer table w q b)
+        (λ v c t. IsJustified w q v) }
+    ensures whole { (w : Place) (q : Query) (b : ℕ) → WellStated w → IsAskable q
+        → IfAnswered (plain_answer steps w q b) (λ v c t. IsJustified w q v) }
 {}
 
 /// A declaration that is answered yes under any budget is derived in the rule book.
 pub fn yes_is_a_derivation()
-    ensures each { (table : Table) (w : Place) (d : Decl) (b : ℕ) → IsSoundTable table → WellStated w → DeclWellFormed d → IfAnswered (outcome_of w (plain_answer table w) b (unit_steps d)) (λ y c t. DeclDerived w d) }
-    ensures whole { (w : Place) (d : Decl) (b : ℕ) → WellStated w → DeclWellFormed d → IfAnswered (outcome_of w (plain_answer steps w) b (unit_steps d)) (λ y c t. DeclDerived w d) }
+    ensures each { (table : Table) (w : Place) (d : Decl) (b : ℕ) → IsSoundTable table
+        → WellStated w → DeclWellFormed d
+        → IfAnswered (outcome_of w (plain_answer table w) b (unit_steps d))
+        (λ y c t. DeclDerived w d) }
+    ensures whole { (w : Place) (d : Decl) (b : ℕ) → WellStated w → DeclWellFormed d
+        → IfAnswered (outcome_of w (plain_answer steps w) b (unit_steps d))
+        (λ y c t. DeclDerived w d) }
 {}
 
 /// A block that is answered yes under any budget, by a table that is sound, is derived, one with nested occurrences by a larger block, and its recursors too.
 pub fn yes_block_is_derived()
-    ensures each { (table : Table) (us : List LibraryUnit) (n : ℕ) (b : Block) (stated : List Rec) (budget : ℕ) → IsSoundTable table → WellStated (place_of us n []) → IsClear (place_of us n []) → BlockStated b stated → ClearTypes b.types →
-        IfAnswered (plain_whole table us n b stated budget) (λ v c t. NestedDerived (place_of us n) b stated v.0) }
-    ensures whole { (us : List LibraryUnit) (n : ℕ) (b : Block) (stated : List Rec) (budget : ℕ) → WellStated (place_of us n []) → IsClear (place_of us n []) → BlockStated b stated → ClearTypes b.types →
-        IfAnswered (plain_whole steps us n b stated budget) (λ v c t. NestedDerived (place_of us n) b stated v.0) }
+    ensures each { (table : Table) (us : List LibraryUnit) (n : ℕ) (b : Block) (stated : List Rec)
+        (budget : ℕ) → IsSoundTable table → WellStated (place_of us n [])
+        → IsClear (place_of us n []) → BlockStated b stated → ClearTypes b.types →
+        IfAnswered (plain_whole table us n b stated budget)
+        (λ v c t. NestedDerived (place_of us n) b stated v.0) }
+    ensures whole { (us : List LibraryUnit) (n : ℕ) (b : Block) (stated : List Rec) (budget : ℕ)
+        → WellStated (place_of us n []) → IsClear (place_of us n []) → BlockStated b stated
+        → ClearTypes b.types →
+        IfAnswered (plain_whole steps us n b stated budget)
+        (λ v c t. NestedDerived (place_of us n) b stated v.0) }
 {}
 
 /// Where no occurrence is nested, the block and its recursors are derived with no larger block.
 pub fn nothing_nested()
-    ensures { (places : Members → Place) (b : Block) (stated : List Rec) (s : Shape) → BlockStated b stated → (g : NestedDerived places b stated s) → g.larger.auxs ≡ [] → BlockDerived places b stated s }
+    ensures { (places : Members → Place) (b : Block) (stated : List Rec) (s : Shape)
+        → BlockStated b stated → (g : NestedDerived places b stated s) → g.larger.auxs ≡ []
+        → BlockDerived places b stated s }
 {}
 
 /// What a library gives anywhere, without a flaw, is closed and holds no Local.
@@ -61,8 +77,10 @@ pub fn places_are_well_stated()
 /// A unit that is answered yes under any budget, by a stage whose table is sound, is good: its names are new, its scan holds,
 /// and it is derived from the units before it, as the file states them. The whole table is such.
 pub fn yes_unit_is_good()
-    ensures each { (stage : Stage) (us : Library) (n budget : ℕ) → IsSoundTable stage.table → IsClearLibrary us → plain_verdict stage us n budget ≡ says_yes → IsGoodUnit us n }
-    ensures whole { (us : Library) (n budget : ℕ) → IsClearLibrary us → plain_verdict whole us n budget ≡ says_yes → IsGoodUnit us n }
+    ensures each { (stage : Stage) (us : Library) (n budget : ℕ) → IsSoundTable stage.table
+        → IsClearLibrary us → plain_verdict stage us n budget ≡ says_yes → IsGoodUnit us n }
+    ensures whole { (us : Library) (n budget : ℕ) → IsClearLibrary us
+        → plain_verdict whole us n budget ≡ says_yes → IsGoodUnit us n }
 {}
 
 /// Where the complete test of levels says yes, the two levels are equal under every assignment. The rows that are built are
@@ -75,5 +93,6 @@ pub fn level_tests_are_sound()
 /// The rows that are built are sound, and a unit to which they say yes is good.
 pub fn built_rows_are_sound()
     ensures sound { IsSoundTable rows }
-    ensures good { (us : Library) (n budget : ℕ) → IsClearLibrary us → plain_verdict stage us n budget ≡ says_yes → IsGoodUnit us n }
+    ensures good { (us : Library) (n budget : ℕ) → IsClearLibrary us
+        → plain_verdict stage us n budget ≡ says_yes → IsGoodUnit us n }
 {}

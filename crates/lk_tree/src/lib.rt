@@ -23,9 +23,11 @@ pub fn at_most_decides()
 /// right sides of imax in the two together.
 pub fn level_test_decides()
     ensures equal { (l m : Level) → level_test l m ≡ Some true → SameLevel l m }
-    ensures equal_complete { (l m : Level) → width l m ≤ 20 → SameLevel l m → level_test l m ≡ Some true }
+    ensures equal_complete { (l m : Level) → width l m ≤ 20 → SameLevel l m → level_test l m
+        ≡ Some true }
     ensures unequal { (l m : Level) → level_test l m ≡ Some false → SameLevel l m → ⊥ }
-    ensures unequal_complete { (l m : Level) → width l m ≤ 20 → (SameLevel l m → ⊥) → level_test l m ≡ Some false }
+    ensures unequal_complete { (l m : Level) → width l m ≤ 20 → (SameLevel l m → ⊥) → level_test l m
+        ≡ Some false }
     ensures wide { (l m : Level) → level_test l m ≡ None → 20 < width l m }
     ensures wide_complete { (l m : Level) → 20 < width l m → level_test l m ≡ None }
 {}
@@ -46,23 +48,28 @@ pub fn opened_is_fine()
 /// are left for the others.
 pub fn putting_opens_in_turn()
     ensures none { (d : ℕ) (b : Tree) → put_at [] d b ≡ b }
-    ensures more { (v : Tree) (vs : List Tree) (d : ℕ) (b : Tree) → loose v ≡ 0 → put_at (v ∷ vs) d b ≡ put_at vs d (open_at (d + length vs) v b) }
+    ensures more { (v : Tree) (vs : List Tree) (d : ℕ) (b : Tree) → loose v ≡ 0
+        → put_at (v ∷ vs) d b ≡ put_at vs d (open_at (d + length vs) v b) }
 {}
 
 /// The greatest common divisor and the binary logarithm, which are computed in a bounded number of rounds, are right for
 /// numbers below 2 ^ 128.
 pub fn bounded_rounds_are_enough()
-    ensures divisor { (a b : ℕ) → b < 2 ^ 128 → (g : ℕ) × (op_value gcd (a ∷ b ∷ []) ≡ Some (number g)) × IsGcd a b g }
-    ensures logarithm { (a : ℕ) → 0 < a → a < 2 ^ 128 → (l : ℕ) × (op_value log2 (a ∷ []) ≡ Some (number l)) × IsLog a l }
+    ensures divisor { (a b : ℕ) → b < 2 ^ 128 → (g : ℕ)
+        × (op_value gcd (a ∷ b ∷ []) ≡ Some (number g)) × IsGcd a b g }
+    ensures logarithm { (a : ℕ) → 0 < a → a < 2 ^ 128 → (l : ℕ)
+        × (op_value log2 (a ∷ []) ≡ Some (number l)) × IsLog a l }
 {}
 
 /// The scans of a tree hold exactly where it is closed and holds no Local, and has no level parameter but those that are
 /// declared, and the scan of names exactly where none stands twice.
 pub fn scans_decide()
     ensures closed { (e : Tree) → is_bound 0 e ≡ true → is_narrow e ≡ true → IsStated e }
-    ensures closed_complete { (e : Tree) → IsStated e → (is_bound 0 e ≡ true) × (is_narrow e ≡ true) }
+    ensures closed_complete { (e : Tree) → IsStated e → (is_bound 0 e ≡ true)
+        × (is_narrow e ≡ true) }
     ensures declared { (ps : List Name) (e : Tree) → tree_over ps e ≡ true → TreeOver ps e }
-    ensures declared_complete { (ps : List Name) (e : Tree) → TreeOver ps e → tree_over ps e ≡ true }
+    ensures declared_complete { (ps : List Name) (e : Tree) → TreeOver ps e → tree_over ps e
+        ≡ true }
     ensures distinct { (ps : List Name) → none_twice ps ≡ true → NoneTwice ps }
     ensures distinct_complete { (ps : List Name) → NoneTwice ps → none_twice ps ≡ true }
 {}

@@ -3,7 +3,7 @@ use Rattle.std.proofs.Common.{ℕ, suc, ◌≡◌, ◌&&◌, Bool, true, false, 
 use Rattle.std.specs.Prelude.{slice_get}
 use Rattle.lk_tree.specs.RuleNo.{RuleNo, duplicate_name}
 use Rattle.lk_rulebook.specs.Place.{Place, Block, Rec}
-use Rattle.lk_rulebook.specs.Units.{LibraryUnit, of_decl, of_block, Library, Members, members_of, given_by, first_of_two, at_half, first_giving, place_by}
+use Rattle.lk_rulebook.specs.Units.{LibraryUnit, of_decl, of_block, Library, Members, members_of, given_by, first_of_two, at_partial, first_giving, place_by}
 use Rattle.lk_rulebook.specs.Scan.{AreNew, is_none, are_new, own_scan}
 use Rattle.lk_plain.specs.Answer.{outcome_of, plain_answer}
 use Rattle.lk_plain.specs.Program.{Table}
@@ -19,7 +19,7 @@ use Rattle.lk_verdict.specs.Verdict.{Verdict, says_no, says_steps, verdict_by, S
 
 -- the place of unit n after these units
 abbrev after_units : ℕ → Library → Members → Place
-after_units n xs half = place_by n (λ c. first_of_two (at_half n (given_by half c)) (first_giving 0 xs c))
+after_units n xs partial = place_by n (λ c. first_of_two (at_partial n (given_by partial c)) (first_giving 0 xs c))
 
 same_new : (us vs : Library) (n : ℕ) → take n us ≡ take n vs → (ms : Members) → are_new us n ms ≡ are_new vs n ms
 same_new us vs n e [] = refl

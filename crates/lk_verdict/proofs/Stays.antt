@@ -13,7 +13,7 @@ use Rattle.lk_inductive.specs.Grows.{IsWithin, RulesCome, Completes}
 use Rattle.lk_inductive.specs.Block.{Shape}
 use Rattle.lk_inductive.specs.Compare.{rec_entries}
 use Rattle.lk_inductive.specs.Whole.{partial_types, partial_members, BlockDerived}
-use Rattle.lk_inductive.proofs.Halves.{first_entry, given_append}
+use Rattle.lk_inductive.proofs.Partials.{first_entry, given_append}
 use Rattle.lk_inductive.proofs.More.{more_type, more_sort, more_equal}
 use Rattle.lk_inductive.proofs.MoreBlocks.{more_good, block_after}
 
@@ -71,7 +71,7 @@ declaration_stays us n m d l h =
     let g : Gives w w' = later_gives us n m l in
     record { level = h.level; sorted = more_sort w w' (within w w' g) h.sorted; body = more_body w w' g d h.level d.body h.body }
 
--- what was half there is what the unit gives
+-- what was partial is what the unit gives
 Some_is : {a b : Entry} → Some a ≡ Some b → a ≡ b
 Some_is e = cc
 

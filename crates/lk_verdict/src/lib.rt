@@ -20,26 +20,35 @@ ghost use Rattle.lk_verdict.specs.Verdict.{says_yes, says_steps, Stage, plain_ve
 /// A yes comes exactly where the budget is at least its cost, and below it the verdict is steps. No verdict but steps changes
 /// with a greater budget.
 pub fn plain_verdict_is_steady()
-    ensures yes { (stage : Stage) (us : Library) (n budget : ℕ) → plain_verdict stage us n budget ≡ says_yes → (c : ℕ) × (c ≤ budget) × IsYesFrom (plain_verdict stage us n) c }
-    ensures settled { (stage : Stage) (us : Library) (n budget more : ℕ) → budget ≤ more → (plain_verdict stage us n budget ≡ says_steps) ⊎ (plain_verdict stage us n more ≡ plain_verdict stage us n budget) }
+    ensures yes { (stage : Stage) (us : Library) (n budget : ℕ) → plain_verdict stage us n budget
+        ≡ says_yes → (c : ℕ) × (c ≤ budget) × IsYesFrom (plain_verdict stage us n) c }
+    ensures settled { (stage : Stage) (us : Library) (n budget more : ℕ) → budget ≤ more
+        → (plain_verdict stage us n budget ≡ says_steps)
+        ⊎ (plain_verdict stage us n more ≡ plain_verdict stage us n budget) }
 {}
 
 /// A unit that is answered yes by a stage is answered yes by each wider one.
 pub fn stages_agree()
-    ensures { (stage wider : Stage) (us : Library) (n budget : ℕ) → IsWidened stage wider → plain_verdict stage us n budget ≡ says_yes → plain_verdict wider us n budget ≡ says_yes }
+    ensures { (stage wider : Stage) (us : Library) (n budget : ℕ) → IsWidened stage wider
+        → plain_verdict stage us n budget ≡ says_yes → plain_verdict wider us n budget ≡ says_yes }
 {}
 
 /// The verdict of a unit, and whether it is good, rest on the units up to it alone.
 pub fn verdicts_rest_on_earlier_units()
-    ensures verdict { (stage : Stage) (us vs : Library) (n budget : ℕ) → take n us ≡ take n vs → slice_get us n ≡ slice_get vs n → plain_verdict stage us n budget ≡ plain_verdict stage vs n budget }
-    ensures good { (us vs : Library) (n : ℕ) → take n us ≡ take n vs → slice_get us n ≡ slice_get vs n → IsGoodUnit us n → IsGoodUnit vs n }
+    ensures verdict { (stage : Stage) (us vs : Library) (n budget : ℕ) → take n us ≡ take n vs
+        → slice_get us n ≡ slice_get vs n → plain_verdict stage us n budget
+        ≡ plain_verdict stage vs n budget }
+    ensures good { (us vs : Library) (n : ℕ) → take n us ≡ take n vs → slice_get us n
+        ≡ slice_get vs n → IsGoodUnit us n → IsGoodUnit vs n }
 {}
 
 /// What is derived of a unit stays derived at later places, where its own names are given too: of declarations, and of blocks
 /// without nested occurrences.
 pub fn good_units_stay()
-    ensures declarations { (us : Library) (n m : ℕ) (d : Decl) → n ≤ m → DeclDerived (place_of us n []) d → DeclDerived (place_of us m []) d }
-    ensures blocks { (us : Library) (n m : ℕ) (b : Block) (rs : List Rec) (s : Shape) → n < m → slice_get us n ≡ Some (of_block b rs) → IsScanned us n (of_block b rs) →
+    ensures declarations { (us : Library) (n m : ℕ) (d : Decl) → n ≤ m
+        → DeclDerived (place_of us n []) d → DeclDerived (place_of us m []) d }
+    ensures blocks { (us : Library) (n m : ℕ) (b : Block) (rs : List Rec) (s : Shape) → n < m
+        → slice_get us n ≡ Some (of_block b rs) → IsScanned us n (of_block b rs) →
         BlockDerived (place_of us n) b rs s → BlockDerived (λ h. place_of us m []) b rs s }
 {}
 
@@ -54,7 +63,9 @@ pub fn spelled_library_is_clear()
 pub fn known_attacks_are_refused()
     ensures shadowed { IsGoodUnit shadowed 1 → ⊥ }
     ensures doubled { (us : Library) (n : ℕ) → slice_get us n ≡ Some doubled → IsGoodUnit us n → ⊥ }
-    ensures undeclared { (us : Library) (n : ℕ) → slice_get us n ≡ Some undeclared → IsGoodUnit us n → ⊥ }
+    ensures undeclared { (us : Library) (n : ℕ) → slice_get us n ≡ Some undeclared → IsGoodUnit us n
+        → ⊥ }
     ensures local { (us : Library) (n : ℕ) → slice_get us n ≡ Some of_local → IsGoodUnit us n → ⊥ }
-    ensures hidden { (us : Library) (n : ℕ) (ts : List BlockType) (rs : List Rec) → slice_get us n ≡ Some (hidden ts rs) → IsGoodUnit us n → ⊥ }
+    ensures hidden { (us : Library) (n : ℕ) (ts : List BlockType) (rs : List Rec) → slice_get us n
+        ≡ Some (hidden ts rs) → IsGoodUnit us n → ⊥ }
 {}

@@ -1,9 +1,9 @@
--- Places with names half there: they are well stated, and give what was given before.
+-- Places with names partial: they are well stated, and give what was given before.
 use Rattle.std.proofs.Common.{ℕ, ◌≡◌, inl, List, [], ◌∷◌, ◌++◌, take, Option, Some, None, refl, ap, ◌∙◌}
 use Rattle.std.specs.Prelude.{option_and_then}
 use Rattle.lk_tree.specs.Tree.{Name, name_discrete}
 use Rattle.lk_rulebook.specs.Place.{Entry}
-use Rattle.lk_rulebook.specs.Units.{Members, LibraryUnit, given_by, first_of_two, first_giving, flawless, place_of, at_half}
+use Rattle.lk_rulebook.specs.Units.{Members, LibraryUnit, given_by, first_of_two, first_giving, flawless, place_of, at_partial}
 use Rattle.lk_plain.specs.Sound.{WellStated, IsStated, KindStated}
 use Rattle.lk_inductive.specs.Grows.{IsWithin}
 
@@ -26,7 +26,7 @@ pub well_stated_half : (us : List LibraryUnit) (n : ℕ) (h : Members) → WellS
 well_stated_half us n h ok s c e = go (given_by h c) refl
   where
     go : (g : Option Entry) → given_by h c ≡ g →
-        option_and_then flawless (first_of_two (at_half n g) (first_giving 0 (take n us) c)) ≡ Some e → IsStated e.type × KindStated e.kind
+        option_and_then flawless (first_of_two (at_partial n g) (first_giving 0 (take n us) c)) ≡ Some e → IsStated e.type × KindStated e.kind
     go (Some x) i m = let k : x ≡ e = Some_is m in given_stated h c e s (i ∙ ap Some k)
     go None i m = ok c e m
 
@@ -48,11 +48,11 @@ given_append (m ∷ xs) ys c = go (given_append xs ys c) (name_discrete m.0 c)
     go f (yes x) = refl
     go f (no x) = f
 
--- what the name means, by what is half there
+-- what the name means, by what is partial
 abbrev means_by : List LibraryUnit → ℕ → Name → Option Entry → Option Entry
-means_by us n c g = option_and_then flawless (first_of_two (at_half n g) (first_giving 0 (take n us) c))
+means_by us n c g = option_and_then flawless (first_of_two (at_partial n g) (first_giving 0 (take n us) c))
 
--- more that is half there, of names that were not given, takes nothing away
+-- more that is partial, of names that were not given, takes nothing away
 pub half_within : (us : List LibraryUnit) (n : ℕ) (h ms : Members) →
     ((c : Name) (e : Entry) → (place_of us n h).means c ≡ Some e → given_by h c ≡ None → given_by ms c ≡ None) →
     IsWithin (place_of us n h) (place_of us n (h ++ ms))
