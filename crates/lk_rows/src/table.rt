@@ -1,8 +1,7 @@
 //! Rows by number, each found by its key.
 
-use crate::memory::NoMemory;
 use crate::row::Row;
-use std::alloc::Global;
+use std::alloc::{AllocError, Global};
 use std::marker::Model;
 
 /// Up to so many rows are looked through one after another.
@@ -29,10 +28,13 @@ impl<R: Row + Drop> Model for Table<R> {
     ghost invariant = { λ t. IsTable R.key R.hash t.rows.items t.links.items t.heads.items };
 }
 
-ghost use Rattle.std.specs.Prelude.{◌≡◌, ◌≢◌, ◌<◌, ◌≤◌, ◌^◌, ◌-◌, ◌⊎◌, ℕ, [], ◌∷◌, ◌++◌, length, slice_index_or, IfNone, IfSome, IfOk, OnOk, OnErr};
+ghost use Rattle.std.specs.Prelude.{◌≡◌, ◌<◌, ◌^◌, ◌⊎◌, [], ◌∷◌, ◌++◌, length, slice_index_or};
+ghost use Rattle.std.specs.Prelude.{IfNone, IfSome, OnOk, OnErr};
 ghost use Rattle.lk_rows.specs.Chains.{bucket, buckets_of, AreLinked, IsTable};
+ghost use Rattle.lk_rows.specs.Rows.{RowHas, NoRowHas};
 
 /// The bucket of a hash among `n`.
+#[inline]
 fn bucket_of(hash: u64, n: usize) -> usize
     requires { 0 < n }
     ensures value { result ≡ bucket hash n }
@@ -46,7 +48,8 @@ fn link_all<R: Row>(rows: &[R], links: &mut [u32], heads: &mut [u32])
     requires one_each { length links.old ≡ length rows.now }
     requires few { length rows.now < 2 ^ 32 }
     requires some { 0 < length heads.old }
-    ensures { AreLinked (buckets_of R.key R.hash rows.now (length heads.new)) links.new heads.new (length rows.now) }
+    ensures { let buckets = buckets_of R.key R.hash rows.now (length heads.new) in
+        AreLinked buckets links.new heads.new (length rows.now) }
 {
     for head in heads.iter_mut() {
         *head = 0;
@@ -59,10 +62,11 @@ fn link_all<R: Row>(rows: &[R], links: &mut [u32], heads: &mut [u32])
 }
 
 /// The row that has the key, where the rows are looked through one after another.
+#[inline]
 fn find_few<R: Row>(rows: &[R], key: &R::Key) -> Option<u64>
-    ensures absent { IfNone result ((k : ℕ) (d : R) → k < length rows.now → R.key (slice_index_or rows.now k d) ≢ key.now) }
+    ensures absent { IfNone result (NoRowHas R.key rows.now key.now) }
     ensures known { IfSome result (λ i. i < length rows.now) }
-    ensures present { IfSome result (λ i. (d : R) → R.key (slice_index_or rows.now i d) ≡ key.now) }
+    ensures present { IfSome result (RowHas R.key rows.now key.now) }
 {
     for (i, row) in rows.iter().enumerate() {
         if row.has(key) {
@@ -72,17 +76,25 @@ fn find_few<R: Row>(rows: &[R], key: &R::Key) -> Option<u64>
     None
 }
 
-/// The row that has the key.
-fn find_linked<R: Row>(rows: &[R], links: &[u32], heads: &[u32], key: &R::Key) -> Option<u64>
-    requires { IsTable R.key R.hash rows.now links.now heads.now }
-    ensures absent { IfNone result ((k : ℕ) (d : R) → k < length rows.now → R.key (slice_index_or rows.now k d) ≢ key.now) }
+/// The row that has the key, whose hash is at hand.
+#[inline]
+fn find_linked<R: Row>(
+    rows: &[R],
+    links: &[u32],
+    heads: &[u32],
+    key: &R::Key,
+    hash: u64,
+) -> Option<u64>
+    requires table { IsTable R.key R.hash rows.now links.now heads.now }
+    requires hash { hash ≡ R.hash key.now }
+    ensures absent { IfNone result (NoRowHas R.key rows.now key.now) }
     ensures known { IfSome result (λ i. i < length rows.now) }
-    ensures present { IfSome result (λ i. (d : R) → R.key (slice_index_or rows.now i d) ≡ key.now) }
+    ensures present { IfSome result (RowHas R.key rows.now key.now) }
 {
     if heads.is_empty() {
         return find_few(rows, key);
     }
-    let b = bucket_of(R::hash_of(key), heads.len());
+    let b = bucket_of(hash, heads.len());
     let mut at = heads[b];
     while at != 0 {
         let i = at - 1;
@@ -94,24 +106,47 @@ fn find_linked<R: Row>(rows: &[R], links: &[u32], heads: &[u32], key: &R::Key) -
     None
 }
 
-/// Makes room for one more row. Few rows need none; links and heads are made when there are more.
-fn make_room<R: Row>(rows: &[R], links: &mut Vec<u32>, heads: &mut Vec<u32>) -> Result<(), NoMemory>
-    requires { IsTable R.key R.hash rows.now links.old.items heads.old.items }
-    ensures linked { IsTable R.key R.hash rows.now links.new.items heads.new.items }
-    ensures room { OnOk result ((length heads.new.items ≡ 0) ⊎ (length rows.now < length heads.new.items)) }
+/// Links the rows under more heads than before.
+#[cold]
+fn link_more<R: Row>(
+    rows: &[R],
+    links: &mut Vec<u32>,
+    heads: &mut Vec<u32>,
+) -> Result<(), AllocError>
+    requires some { 0 < length rows.now }
+    requires table { IsTable R.key R.hash rows.now links.old.items heads.old.items }
+    ensures table { IsTable R.key R.hash rows.now links.new.items heads.new.items }
+    ensures room { OnOk result (length rows.now < length heads.new.items) }
 {
     if heads.is_empty() {
-        if rows.len() < FEW {
-            return Ok(());
-        }
         links.resize(rows.len(), 0)?;
         heads.resize(rows.len().saturating_mul(4), 0)?;
-        link_all(rows, links, heads);
-    } else if rows.len() == heads.len() {
+    } else {
         heads.resize(heads.len().saturating_mul(2), 0)?;
-        link_all(rows, links, heads);
     }
+    link_all(rows, links, heads);
     Ok(())
+}
+
+/// Makes room for one more row. Few rows need none; links and heads are made when there are more.
+#[inline]
+fn make_room<R: Row>(
+    rows: &[R],
+    links: &mut Vec<u32>,
+    heads: &mut Vec<u32>,
+) -> Result<(), AllocError>
+    requires { IsTable R.key R.hash rows.now links.old.items heads.old.items }
+    ensures table { IsTable R.key R.hash rows.now links.new.items heads.new.items }
+    ensures room { let n = length heads.new.items in
+        OnOk result ((n ≡ 0) ⊎ (length rows.now < n)) }
+{
+    if rows.len() < heads.len() {
+        return Ok(());
+    }
+    if heads.is_empty() && rows.len() < FEW {
+        return Ok(());
+    }
+    link_more(rows, links, heads)
 }
 
 impl<R: Row + Drop> Table<R> {
@@ -127,6 +162,7 @@ impl<R: Row + Drop> Table<R> {
     }
 
     /// How many rows there are, which is below 2^32.
+    #[inline]
     pub fn len(&self) -> u64
         ensures len { result ≡ length self.now }
         ensures few { result < 2 ^ 32 }
@@ -136,6 +172,7 @@ impl<R: Row + Drop> Table<R> {
     }
 
     /// The row of a number.
+    #[inline]
     pub fn get(&self, i: u64) -> &R
         requires { i < length self.now }
         ensures { (d : R) → result.now ≡ slice_index_or self.now i d }
@@ -143,14 +180,26 @@ impl<R: Row + Drop> Table<R> {
         &self.rows[i as usize]
     }
 
+    /// The number of the row that has the key, whose hash is at hand.
+    #[inline]
+    pub fn find_hashed(&self, key: &R::Key, hash: u64) -> Option<u64>
+        requires { hash ≡ R.hash key.now }
+        ensures few { IfSome result (λ i. i < 2 ^ 32) }
+        ensures absent { IfNone result (NoRowHas R.key self.now key.now) }
+        ensures known { IfSome result (λ i. i < length self.now) }
+        ensures present { IfSome result (RowHas R.key self.now key.now) }
+    {
+        find_linked(&self.rows, &self.links, &self.heads, key, hash)
+    }
+
     /// The number of the row that has the key.
     pub fn find(&self, key: &R::Key) -> Option<u64>
         ensures few { IfSome result (λ i. i < 2 ^ 32) }
-        ensures absent { IfNone result ((k : ℕ) (d : R) → k < length self.now → R.key (slice_index_or self.now k d) ≢ key.now) }
+        ensures absent { IfNone result (NoRowHas R.key self.now key.now) }
         ensures known { IfSome result (λ i. i < length self.now) }
-        ensures present { IfSome result (λ i. (d : R) → R.key (slice_index_or self.now i d) ≡ key.now) }
+        ensures present { IfSome result (RowHas R.key self.now key.now) }
     {
-        find_linked(&self.rows, &self.links, &self.heads, key)
+        self.find_hashed(key, R::hash_of(key))
     }
 
     /// Gives back the room that no row takes.
@@ -170,27 +219,38 @@ impl<R: Row + Drop> Table<R> {
         self.heads.clear();
     }
 
-    /// Adds a row, whose number is the length before. A table holds fewer than 2^32; one more is want of memory, where all
-    /// is as before.
-    pub fn push(&mut self, row: R) -> Result<(), NoMemory>
+    /// Adds a row, whose number is the length before. A table holds fewer than 2^32; one more is
+    /// want of memory, where all is as before.
+    pub fn push(&mut self, row: R) -> Result<(), AllocError>
+        ensures ok { OnOk result (self.new ≡ self.old ++ row ∷ []) }
+        ensures err { OnErr result (self.new ≡ self.old) }
+    {
+        let hash = row.own_hash();
+        self.push_hashed(row, hash)
+    }
+
+    /// Adds a row, as `push` does, where the hash of its key is at hand.
+    #[inline]
+    pub fn push_hashed(&mut self, row: R, hash: u64) -> Result<(), AllocError>
+        requires { hash ≡ R.hash (R.key row) }
         ensures ok { OnOk result (self.new ≡ self.old ++ row ∷ []) }
         ensures err { OnErr result (self.new ≡ self.old) }
     {
         if self.rows.len() >= u32::MAX as usize {
-            return Err(NoMemory);
+            return Err(AllocError);
         }
         make_room(&self.rows, &mut self.links, &mut self.heads)?;
         if self.heads.is_empty() {
             self.rows.push(row)?;
             return Ok(());
         }
-        let b = bucket_of(row.own_hash(), self.heads.len());
+        let b = bucket_of(hash, self.heads.len());
         let last = self.heads[b];
         let i = self.rows.len() as u32;
         self.links.push(last)?;
         if self.rows.push(row).is_err() {
             let _ = self.links.pop();
-            return Err(NoMemory);
+            return Err(AllocError);
         }
         self.heads[b] = i + 1;
         Ok(())

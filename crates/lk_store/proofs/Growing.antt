@@ -6,7 +6,7 @@ use Rattle.lk_store.specs.Measures.{level_has_params, list_has_params}
 use Rattle.lk_store.specs.Values.{Keeps, AreApart, values_of, IsColumn}
 use Rattle.lk_store.specs.Contents.{Extends}
 use Rattle.lk_store.specs.Keys.{key_name, IsNameBelow, key_level, IsLevelBelow, key_list, IsListBelow, Parts, key_tree, IsTreeBelow, IsMarkedTree}
-use Rattle.lk_store.specs.Store.{names_by, names_of, levels_by, levels_of, lists_by, lists_of, parts_of, trees_by, trees_of, contents_of, IsStore}
+use Rattle.lk_store.specs.Store.{AreNames, AreLevels, AreLists, AreTrees, names_by, names_of, levels_by, levels_of, lists_by, lists_of, parts_of, trees_by, trees_of, contents_of, IsStore}
 use Rattle.lk_store.specs.declared.key.Number.{Number}
 use Rattle.lk_store.specs.declared.key.NameKey.{NameKey}
 use Rattle.lk_store.specs.declared.key.LevelKey.{LevelKey}
@@ -37,31 +37,19 @@ column-agree none f g P Q M N agree more marks ks s =
       },
     )
 
-abbrev pub Names : List (List ℕ) → List NameKey → Type 0
-Names texts keys = IsColumn [] (names_by texts) (λ n k. IsNameBelow (length texts) n k) (λ v k. Unit {0}) keys
-
-abbrev pub Levels : List Name → List LevelRow → Type 0
-Levels names rows = IsColumn zero_level (levels_by names) (λ n row. IsLevelBelow (length names) n row.key) (λ l row. row.params ≡ level_has_params l) rows
-
-abbrev pub Lists : List Level → List ListRow → Type 0
-Lists levels rows = IsColumn [] (lists_by levels) (λ n row. IsListBelow (length levels) n row.key) (λ ls row. row.params ≡ list_has_params ls) rows
-
-abbrev pub Trees : Parts → List TreeRow → Type 0
-Trees parts rows = IsColumn wide (trees_by parts) (λ n row. IsTreeBelow parts n row.key) (λ t row. IsMarkedTree parts.numbers t row) rows
-
-names_carry : (ts us : List (List ℕ)) (keys : List NameKey) → Keeps [] ts us → Names ts keys → (values_of (names_by us) keys ≡ values_of (names_by ts) keys) × Names us keys
+names_carry : (ts us : List (List ℕ)) (keys : List NameKey) → Keeps [] ts us → AreNames ts keys → (values_of (names_by us) keys ≡ values_of (names_by ts) keys) × AreNames us keys
 names_carry ts us keys x s = column-agree [] (names_by ts) (names_by us) _ _ _ _
     (λ vs k h. key_name-texts ts us vs k x h) (λ n k h. name_below-more (length ts) (length us) n n k x.longer (omega arith) h) (λ v k h. h) keys s
 
-levels_carry : (ns ms : List Name) (rows : List LevelRow) → Keeps [] ns ms → Levels ns rows → (values_of (levels_by ms) rows ≡ values_of (levels_by ns) rows) × Levels ms rows
+levels_carry : (ns ms : List Name) (rows : List LevelRow) → Keeps [] ns ms → AreLevels ns rows → (values_of (levels_by ms) rows ≡ values_of (levels_by ns) rows) × AreLevels ms rows
 levels_carry ns ms rows x s = column-agree zero_level (levels_by ns) (levels_by ms) _ _ _ _
     (λ vs k h. key_level-names ns ms vs k.key x h) (λ n k h. level_below-more (length ns) (length ms) n n k.key x.longer (omega arith) h) (λ v k h. h) rows s
 
-lists_carry : (ls ms : List Level) (rows : List ListRow) → Keeps zero_level ls ms → Lists ls rows → (values_of (lists_by ms) rows ≡ values_of (lists_by ls) rows) × Lists ms rows
+lists_carry : (ls ms : List Level) (rows : List ListRow) → Keeps zero_level ls ms → AreLists ls rows → (values_of (lists_by ms) rows ≡ values_of (lists_by ls) rows) × AreLists ms rows
 lists_carry ls ms rows x s = column-agree [] (lists_by ls) (lists_by ms) _ _ _ _
     (λ vs k h. key_list-levels ls ms vs k.key x h) (λ n k h. list_below-more (length ls) (length ms) n n k.key x.longer (omega arith) h) (λ v k h. h) rows s
 
-trees_carry : (p q : Parts) (rows : List TreeRow) → PartsKeep p q → Trees p rows → (values_of (trees_by q) rows ≡ values_of (trees_by p) rows) × Trees q rows
+trees_carry : (p q : Parts) (rows : List TreeRow) → PartsKeep p q → AreTrees p rows → (values_of (trees_by q) rows ≡ values_of (trees_by p) rows) × AreTrees q rows
 trees_carry p q rows x s = column-agree wide (trees_by p) (trees_by q) _ _ _ _
     (λ vs k h. key_tree-parts p q vs k.key x h) (λ n k h. tree_below-parts p q n k.key x h) (λ v k h. marked-parts p.numbers q.numbers v k x.numbers h) rows s
 
@@ -78,15 +66,6 @@ trees_steady : (p : Parts) (vs us : List Tree) (k : TreeRow) → Keeps wide vs u
 trees_steady p vs us k x h = key_tree-keeps p vs us k.key x h
 
 module _ (r : Tables) (s : IsStore r) where
-  pub store_levels : Levels (names_of r) r.levels
-  store_levels = s.levels
-
-  pub store_lists : Lists (levels_of r) r.lists
-  store_lists = s.lists
-
-  pub store_trees : Trees (parts_of r) r.trees
-  store_trees = s.trees
-
   pub length-names_of : length (names_of r) ≡ length r.names
   length-names_of = length-values_of (names_by r.texts) r.names
 
@@ -182,7 +161,7 @@ module _ (r : Tables) (s : IsStore r) where
 
   -- where names or texts were added, and each kept its own, the levels, lists and trees are carried along
   carried : (t : Tables) → Keeps [] (names_of r) (names_of t) → Keeps [] r.texts t.texts → t.numbers ≡ r.numbers → t.levels ≡ r.levels → t.lists ≡ r.lists → t.trees ≡ r.trees
-      → length t.texts < 2 ^ 32 → AreApart [] t.texts → Names t.texts t.names → IsStore t × Extends (contents_of r) (contents_of t)
+      → length t.texts < 2 ^ 32 → AreApart [] t.texts → AreNames t.texts t.names → IsStore t × Extends (contents_of r) (contents_of t)
   carried t names texts same_numbers same_level_rows same_list_rows same_tree_rows few texts_apart column =
       let levels = levels_carry (names_of r) (names_of t) r.levels names s.levels in
       let levels_same : levels_of t ≡ levels_of r = rw same_level_rows levels.0 in

@@ -1,6 +1,10 @@
 -- What the rows of a store's tables stand for.
-use Rattle.std.specs.Prelude.{◌++◌, ◌≡◌, ℕ, ◌<◌, ◌≤◌, ◌+◌, ◌-◌, ◌^◌, nat_lt, if◌then◌else◌, List, [], ◌∷◌, length, slice_index_or}
-use Rattle.lk_tree.specs.Tree.{Name, text, number, Level, zero_level, succ_level, max_level, imax_level, param, Tree, var, sort, const, app, lam, pi, let_in, proj, lit, wide, str, local}
+use Rattle.std.specs.Prelude.{◌≡◌, ℕ, max, ◌<◌, ◌≤◌, ◌+◌, ◌-◌, ◌^◌, nat_lt, if◌then◌else◌}
+use Rattle.std.specs.Prelude.{List, [], ◌∷◌, ◌++◌, length, slice_index_or}
+use Rattle.lk_tree.specs.Tree.{Name, text, number}
+use Rattle.lk_tree.specs.Tree.{Level, zero_level, succ_level, max_level, imax_level, param}
+use Rattle.lk_tree.specs.Tree.{Tree, var, sort, const, app, lam, pi, let_in}
+use Rattle.lk_tree.specs.Tree.{proj, lit, wide, str, local}
 use Rattle.lk_tree.specs.Bind.{bound}
 use Rattle.lk_tree.specs.Loose.{loose}
 use Rattle.lk_tree.specs.Scan.{is_narrow}
@@ -15,12 +19,15 @@ use Rattle.lk_store.specs.declared.key.LevelKey.TheVariants.{Zero, Succ, Max, IM
 use Rattle.lk_store.specs.declared.key.ListKey.{ListKey}
 use Rattle.lk_store.specs.declared.key.ListKey.TheVariants.{Empty, Cons}
 use Rattle.lk_store.specs.declared.key.TreeKey.{TreeKey}
-use Rattle.lk_store.specs.declared.key.TreeKey.TheVariants.{Var, Sort, Const, App, Lam, Pi, Let, Proj, Lit, Wide, Str, Local}
+use Rattle.lk_store.specs.declared.key.TreeKey.TheVariants.{Var, Sort, Const, App, Lam, Pi, Let}
+use Rattle.lk_store.specs.declared.key.TreeKey.TheVariants.{Proj, Lit, Wide, Str, Local}
 use Rattle.lk_store.specs.declared.key.TreeRow.{TreeRow}
 
 -- the number that a code of 32 bits stands for: itself below 2^31, and else a number of the list
 abbrev pub decoded : List Number → ℕ → ℕ
-decoded ns code = if nat_lt code (2 ^ 31) then code else (slice_index_or ns (code - 2 ^ 31) (record { value = 0 })).value
+decoded ns code =
+    if nat_lt code (2 ^ 31) then code
+    else (slice_index_or ns (code - 2 ^ 31) (record { value = 0 })).value
 
 abbrev pub IsCode : List Number → ℕ → Type 0
 IsCode ns code = code < 2 ^ 31 + length ns
@@ -69,7 +76,8 @@ hash_of_tree (Local k T) = hash_of_words 11 k T 0
 -- a name among earlier ones
 abbrev pub key_name : List (List ℕ) → List Name → NameKey → Name
 key_name texts names n.Anonymous = []
-key_name texts names (n.Text a s) = slice_index_or names a [] ++ text (slice_index_or texts s []) ∷ []
+key_name texts names (n.Text a s) =
+    slice_index_or names a [] ++ text (slice_index_or texts s []) ∷ []
 key_name texts names (n.Number a i) = slice_index_or names a [] ++ number i ∷ []
 
 abbrev pub IsNameBelow : ℕ → ℕ → NameKey → Type 0
@@ -77,12 +85,20 @@ IsNameBelow texts names n.Anonymous = Unit {0}
 IsNameBelow texts names (n.Text a s) = (a < names) × (s < texts)
 IsNameBelow texts names (n.Number a i) = a < names
 
+-- the last of its parts that are names, or 0
+abbrev pub last_name : NameKey → ℕ
+last_name n.Anonymous = 0
+last_name (n.Text a s) = a
+last_name (n.Number a i) = a
+
 -- a level among earlier ones
 abbrev pub key_level : List Name → List Level → LevelKey → Level
 key_level names levels Zero = zero_level
 key_level names levels (Succ l) = succ_level (slice_index_or levels l zero_level)
-key_level names levels (Max l m) = max_level (slice_index_or levels l zero_level) (slice_index_or levels m zero_level)
-key_level names levels (IMax l m) = imax_level (slice_index_or levels l zero_level) (slice_index_or levels m zero_level)
+key_level names levels (Max l m) =
+    max_level (slice_index_or levels l zero_level) (slice_index_or levels m zero_level)
+key_level names levels (IMax l m) =
+    imax_level (slice_index_or levels l zero_level) (slice_index_or levels m zero_level)
 key_level names levels (Param n) = param (slice_index_or names n [])
 
 abbrev pub IsLevelBelow : ℕ → ℕ → LevelKey → Type 0
@@ -92,14 +108,28 @@ IsLevelBelow names levels (Max l m) = (l < levels) × (m < levels)
 IsLevelBelow names levels (IMax l m) = (l < levels) × (m < levels)
 IsLevelBelow names levels (Param n) = n < names
 
+-- the last of its parts that are levels, or 0
+abbrev pub last_level : LevelKey → ℕ
+last_level Zero = 0
+last_level (Succ l) = l
+last_level (Max l m) = max l m
+last_level (IMax l m) = max l m
+last_level (Param n) = 0
+
 -- a list of levels among earlier ones
 abbrev pub key_list : List Level → List (List Level) → ListKey → List Level
 key_list levels lists Empty = []
-key_list levels lists (Cons l ls) = slice_index_or levels l zero_level ∷ slice_index_or lists ls []
+key_list levels lists (Cons l ls) =
+    slice_index_or levels l zero_level ∷ slice_index_or lists ls []
 
 abbrev pub IsListBelow : ℕ → ℕ → ListKey → Type 0
 IsListBelow levels lists Empty = Unit {0}
 IsListBelow levels lists (Cons l ls) = (l < levels) × (ls < lists)
+
+-- the list of the others, or 0
+abbrev pub last_list : ListKey → ℕ
+last_list Empty = 0
+last_list (Cons l ls) = ls
 
 -- what trees are made of, beside trees
 pub record Parts : Type 0 where
@@ -117,8 +147,10 @@ key_tree p ts (Const n ls) = const (slice_index_or p.names n []) (slice_index_or
 key_tree p ts (App f a) = app (slice_index_or ts f wide) (slice_index_or ts a wide)
 key_tree p ts (Lam A b) = lam (slice_index_or ts A wide) (slice_index_or ts b wide)
 key_tree p ts (Pi A B) = pi (slice_index_or ts A wide) (slice_index_or ts B wide)
-key_tree p ts (Let A v b) = let_in (slice_index_or ts A wide) (slice_index_or ts v wide) (slice_index_or ts b wide)
-key_tree p ts (Proj S i s) = proj (slice_index_or p.names S []) (decoded p.numbers i) (slice_index_or ts s wide)
+key_tree p ts (Let A v b) =
+    let_in (slice_index_or ts A wide) (slice_index_or ts v wide) (slice_index_or ts b wide)
+key_tree p ts (Proj S i s) =
+    proj (slice_index_or p.names S []) (decoded p.numbers i) (slice_index_or ts s wide)
 key_tree p ts (Lit n) = lit (decoded p.numbers n)
 key_tree p ts Wide = wide
 key_tree p ts (Str s) = str (slice_index_or p.texts s [])
@@ -137,6 +169,16 @@ IsTreeBelow p n (Lit i) = IsCode p.numbers i
 IsTreeBelow p n Wide = Unit {0}
 IsTreeBelow p n (Str s) = s < length p.texts
 IsTreeBelow p n (Local k T) = IsShortCode p.numbers k × (T < n)
+
+-- the last of its parts that are trees, or 0
+abbrev pub last_tree : TreeKey → ℕ
+last_tree (App f a) = max f a
+last_tree (Lam A b) = max A b
+last_tree (Pi A B) = max A B
+last_tree (Let A v b) = max A (max v b)
+last_tree (Proj S i s) = s
+last_tree (Local k T) = T
+last_tree _ = 0
 
 -- what a row keeps of its tree is right
 pub record IsMarkedTree (ns : List Number) (t : Tree) (row : TreeRow) : Type 0 where

@@ -4,7 +4,8 @@ use Rattle.lk_tree.specs.Loose.{loose}
 use Rattle.lk_tree.specs.Scan.{is_narrow}
 use Rattle.lk_tree.specs.Bind.{bound}
 use Rattle.lk_store.specs.declared.marks.Marks.{Marks}
-use Rattle.lk_tree.specs.Tree.{Level, zero_level, succ_level, max_level, imax_level, param, Tree, sort, const, app, lam, pi, let_in, proj, local}
+use Rattle.lk_tree.specs.Tree.{Level, zero_level, succ_level, max_level, imax_level, param}
+use Rattle.lk_tree.specs.Tree.{Tree, sort, const, app, lam, pi, let_in, proj, local}
 
 -- whether a parameter stands in a level
 abbrev pub level_has_params : Level → Bool

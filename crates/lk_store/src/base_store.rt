@@ -3,6 +3,7 @@
 use crate::making::{
     find_name_in, make_in, make_level_in, make_list_in, make_name_in, make_text_in,
 };
+use crate::memory::NoMemory;
 use crate::node::{LevelNode, ListNode, NameNode, Node};
 use crate::reading::{
     count_names_in, len_in, level_in, level_params_in, list_in, list_params_in, local_in, loose_in,
@@ -11,7 +12,6 @@ use crate::reading::{
 use crate::tables::Tables;
 use crate::terms::Terms;
 use crate::text::Text;
-use lk_rows::memory::NoMemory;
 use std::alloc::Global;
 use std::marker::Model;
 use std::mem::drop;
@@ -59,19 +59,23 @@ impl BaseStore {
         }
     }
 
-    /// Gives back the memory that is set aside for more and not used; the store has what it had, and can still be added
-    /// to. It is for the end of the reading, before overlays borrow the store: while one of them lives, nothing is added.
+    /// Gives back the memory that is set aside for more and not used; the store has what it had,
+    /// and can still be added to. It is for the end of the reading, before overlays borrow the
+    /// store: while one of them lives, nothing is added.
     pub fn freeze(&mut self)
         ensures { self.new ≡ self.old }
     {
         self.tables.shrink();
     }
 
-    /// The number of the name that a node makes of its parts, where the store has it. It takes no memory.
+    /// The number of the name that a node makes of its parts, where the store has it. It takes no
+    /// memory.
     pub fn find_name(&self, node: NameNode) -> Option<u64>
         requires { IsNameIn (contents_of self.now) node }
-        ensures absent { IfNone result ((n : ℕ) → n < length (contents_of self.now).names → name_at (contents_of self.now) n ≢ name_of (contents_of self.now) node) }
-        ensures present { IfSome result (λ n. IsName (contents_of self.now) n (name_of (contents_of self.now) node)) }
+        ensures absent { let c = contents_of self.now in
+            IfNone result ((n : ℕ) → n < length c.names → name_at c n ≢ name_of c node) }
+        ensures present { let c = contents_of self.now in
+            IfSome result (λ n. IsName c n (name_of c node)) }
     {
         find_name_in(&self.nothing, &self.tables, node)
     }
@@ -86,10 +90,12 @@ impl Terms for BaseStore {
 
     ghost contents = { contents_of };
 
+    #[inline]
     fn len(&self) -> u64 {
         len_in(&self.nothing, &self.tables)
     }
 
+    #[inline]
     fn view(&self, e: u64) -> Node {
         view_in(&self.nothing, &self.tables, e)
     }
@@ -98,26 +104,32 @@ impl Terms for BaseStore {
         make_in(&self.nothing, &mut self.tables, node)
     }
 
+    #[inline]
     fn same(&self, a: u64, b: u64) -> bool {
         same_in(&self.nothing, &self.tables, a, b)
     }
 
+    #[inline]
     fn loose_bound(&self, e: u64) -> u128 {
         loose_in(&self.nothing, &self.tables, e)
     }
 
+    #[inline]
     fn local_bound(&self, e: u64) -> u128 {
         local_in(&self.nothing, &self.tables, e)
     }
 
+    #[inline]
     fn has_params(&self, e: u64) -> bool {
         params_in(&self.nothing, &self.tables, e)
     }
 
+    #[inline]
     fn is_narrow(&self, e: u64) -> bool {
         narrow_in(&self.nothing, &self.tables, e)
     }
 
+    #[inline]
     fn level(&self, l: u64) -> LevelNode {
         level_in(&self.nothing, &self.tables, l)
     }
@@ -126,10 +138,12 @@ impl Terms for BaseStore {
         make_level_in(&self.nothing, &mut self.tables, node)
     }
 
+    #[inline]
     fn level_has_params(&self, l: u64) -> bool {
         level_params_in(&self.nothing, &self.tables, l)
     }
 
+    #[inline]
     fn levels(&self, ls: u64) -> ListNode {
         list_in(&self.nothing, &self.tables, ls)
     }
@@ -138,14 +152,17 @@ impl Terms for BaseStore {
         make_list_in(&self.nothing, &mut self.tables, node)
     }
 
+    #[inline]
     fn levels_have_params(&self, ls: u64) -> bool {
         list_params_in(&self.nothing, &self.tables, ls)
     }
 
+    #[inline]
     fn count_names(&self) -> u64 {
         count_names_in(&self.nothing, &self.tables)
     }
 
+    #[inline]
     fn name(&self, n: u64) -> NameNode {
         name_in(&self.nothing, &self.tables, n)
     }
@@ -154,6 +171,7 @@ impl Terms for BaseStore {
         make_name_in(&self.nothing, &mut self.tables, node)
     }
 
+    #[inline]
     fn same_name(&self, m: u64, n: u64) -> bool {
         same_name_in(&self.nothing, &self.tables, m, n)
     }

@@ -3,11 +3,13 @@
 ghost use Rattle.std.specs.Prelude.{◌≡◌, ◌↔◌, IsTrue};
 ghost use Rattle.lk_store.specs.Hashes.{hash_of_number};
 ghost use Rattle.lk_store.specs.Keys.{hash_of_name, hash_of_level, hash_of_list, hash_of_tree};
+ghost use Rattle.lk_store.specs.Keys.{last_name, last_level, last_list, last_tree};
 
 use crate::hashing::{hash_words, mix};
 use lk_rows::row::Row;
 
 /// The hash of a number.
+#[inline(always)]
 fn hash_number(n: u128) -> u64
     ensures { result ≡ hash_of_number n }
 {
@@ -15,7 +17,7 @@ fn hash_number(n: u128) -> u64
 }
 
 /// A number that takes more than 31 bits.
-#[derive(Clone, Copy, Debug, PartialEq, Eq)]
+#[derive(Clone, Copy, PartialEq)]
 pub struct Number {
     pub value: u128,
 }
@@ -29,27 +31,44 @@ impl Row for Number {
 
     ghost hash = { λ n. hash_of_number n.value };
 
+    #[inline(always)]
     fn hash_of(wanted: &Number) -> u64 {
         hash_number(wanted.value)
     }
 
+    #[inline(always)]
     fn own_hash(&self) -> u64 {
         hash_number(self.value)
     }
 
+    #[inline(always)]
     fn has(&self, wanted: &Number) -> bool {
         *self == *wanted
     }
 }
 
 /// A name: the anonymous one, or an earlier name with one more component.
-#[derive(Clone, Copy, Debug, PartialEq, Eq)]
+#[derive(Clone, Copy, PartialEq)]
 pub enum NameKey {
     Anonymous,
     Text(u32, u32),
     Number(u32, u64),
 }
 
+impl NameKey {
+    /// The last of its parts that are names, or 0. A name stands after them.
+    #[inline]
+    pub(crate) fn last_part(self) -> u32
+        ensures { result ≡ last_name self }
+    {
+        match self {
+            NameKey::Anonymous => 0,
+            NameKey::Text(a, _) | NameKey::Number(a, _) => a,
+        }
+    }
+}
+
+#[inline(always)]
 fn hash_name(key: &NameKey) -> u64
     ensures { result ≡ hash_of_name key.now }
 {
@@ -69,21 +88,24 @@ impl Row for NameKey {
 
     ghost hash = { hash_of_name };
 
+    #[inline(always)]
     fn hash_of(wanted: &NameKey) -> u64 {
         hash_name(wanted)
     }
 
+    #[inline(always)]
     fn own_hash(&self) -> u64 {
         hash_name(self)
     }
 
+    #[inline(always)]
     fn has(&self, wanted: &NameKey) -> bool {
         *self == *wanted
     }
 }
 
 /// A level.
-#[derive(Clone, Copy, Debug, PartialEq, Eq)]
+#[derive(Clone, Copy, PartialEq)]
 pub enum LevelKey {
     Zero,
     Succ(u32),
@@ -92,6 +114,21 @@ pub enum LevelKey {
     Param(u32),
 }
 
+impl LevelKey {
+    /// The last of its parts that are levels, or 0. A level stands after them.
+    #[inline]
+    pub(crate) fn last_part(self) -> u32
+        ensures { result ≡ last_level self }
+    {
+        match self {
+            LevelKey::Zero | LevelKey::Param(_) => 0,
+            LevelKey::Succ(a) => a,
+            LevelKey::Max(a, b) | LevelKey::IMax(a, b) => a.max(b),
+        }
+    }
+}
+
+#[inline(always)]
 fn hash_level(key: &LevelKey) -> u64
     ensures { result ≡ hash_of_level key.now }
 {
@@ -105,7 +142,7 @@ fn hash_level(key: &LevelKey) -> u64
 }
 
 /// A level, and what is kept of it.
-#[derive(Clone, Copy, Debug, PartialEq, Eq)]
+#[derive(Clone, Copy)]
 pub struct LevelRow {
     pub key: LevelKey,
     /// Whether a parameter stands in it.
@@ -121,26 +158,43 @@ impl Row for LevelRow {
 
     ghost hash = { hash_of_level };
 
+    #[inline(always)]
     fn hash_of(wanted: &LevelKey) -> u64 {
         hash_level(wanted)
     }
 
+    #[inline(always)]
     fn own_hash(&self) -> u64 {
         hash_level(&self.key)
     }
 
+    #[inline(always)]
     fn has(&self, wanted: &LevelKey) -> bool {
         self.key == *wanted
     }
 }
 
 /// A list of levels.
-#[derive(Clone, Copy, Debug, PartialEq, Eq)]
+#[derive(Clone, Copy, PartialEq)]
 pub enum ListKey {
     Empty,
     Cons(u32, u32),
 }
 
+impl ListKey {
+    /// The list of the others, or 0. A list stands after it.
+    #[inline]
+    pub(crate) fn last_part(self) -> u32
+        ensures { result ≡ last_list self }
+    {
+        match self {
+            ListKey::Empty => 0,
+            ListKey::Cons(_, b) => b,
+        }
+    }
+}
+
+#[inline(always)]
 fn hash_list(key: &ListKey) -> u64
     ensures { result ≡ hash_of_list key.now }
 {
@@ -151,7 +205,7 @@ fn hash_list(key: &ListKey) -> u64
 }
 
 /// A list of levels, and what is kept of it.
-#[derive(Clone, Copy, Debug, PartialEq, Eq)]
+#[derive(Clone, Copy)]
 pub struct ListRow {
     pub key: ListKey,
     /// Whether a parameter stands in it.
@@ -167,21 +221,24 @@ impl Row for ListRow {
 
     ghost hash = { hash_of_list };
 
+    #[inline(always)]
     fn hash_of(wanted: &ListKey) -> u64 {
         hash_list(wanted)
     }
 
+    #[inline(always)]
     fn own_hash(&self) -> u64 {
         hash_list(&self.key)
     }
 
+    #[inline(always)]
     fn has(&self, wanted: &ListKey) -> bool {
         self.key == *wanted
     }
 }
 
 /// A tree. The numbers of variables, fields, literals and Locals are codes.
-#[derive(Clone, Copy, Debug, PartialEq, Eq)]
+#[derive(Clone, Copy, PartialEq)]
 pub enum TreeKey {
     Var(u32),
     Sort(u32),
@@ -197,6 +254,28 @@ pub enum TreeKey {
     Local(u32, u32),
 }
 
+impl TreeKey {
+    /// The last of its parts that are trees, or 0. A tree stands after them.
+    #[inline]
+    pub(crate) fn last_part(self) -> u32
+        ensures { result ≡ last_tree self }
+    {
+        match self {
+            TreeKey::App(a, b) | TreeKey::Lam(a, b) | TreeKey::Pi(a, b) => a.max(b),
+            TreeKey::Let(a, b, c) => a.max(b.max(c)),
+            TreeKey::Proj(_, _, c) => c,
+            TreeKey::Local(_, b) => b,
+            TreeKey::Var(_)
+            | TreeKey::Sort(_)
+            | TreeKey::Const(_, _)
+            | TreeKey::Lit(_)
+            | TreeKey::Wide
+            | TreeKey::Str(_) => 0,
+        }
+    }
+}
+
+#[inline(always)]
 fn hash_tree(key: &TreeKey) -> u64
     ensures { result ≡ hash_of_tree key.now }
 {
@@ -217,7 +296,7 @@ fn hash_tree(key: &TreeKey) -> u64
 }
 
 /// A tree, and what is kept of it.
-#[derive(Clone, Copy, Debug, PartialEq, Eq)]
+#[derive(Clone, Copy)]
 pub struct TreeRow {
     pub key: TreeKey,
     /// The code of the least number above its loose variables.
@@ -239,14 +318,17 @@ impl Row for TreeRow {
 
     ghost hash = { hash_of_tree };
 
+    #[inline(always)]
     fn hash_of(wanted: &TreeKey) -> u64 {
         hash_tree(wanted)
     }
 
+    #[inline(always)]
     fn own_hash(&self) -> u64 {
         hash_tree(&self.key)
     }
 
+    #[inline(always)]
     fn has(&self, wanted: &TreeKey) -> bool {
         self.key == *wanted
     }

@@ -1,22 +1,31 @@
-//! What is added to the tables of a store. A row is added only where none has its key, so that each thing stands once.
+//! What is added to the tables of a store. A row is added only where none has its key, so that each
+//! thing stands once. The base is looked into only where it has all parts of the key: a row stands
+//! after its parts.
 
-ghost use Rattle.std.specs.Prelude.{◌≡◌, ◌≢◌, ◌<◌, ◌^◌, ◌+◌, ℕ, length, IfOk, OnErr, IfNone, IfSome};
+ghost use Rattle.std.specs.Prelude.{◌≡◌, ◌≢◌, ◌<◌, ◌≤◌, ◌^◌, ℕ, List, length};
+ghost use Rattle.std.specs.Prelude.{IfOk, OnErr, IfNone, IfSome};
 ghost use Rattle.lk_store.specs.Measures.{level_has_params, list_has_params};
-ghost use Rattle.lk_store.specs.Contents.{name_at, name_of, level_of, list_of, tree_of, IsNameIn, IsLevelIn, IsListIn, IsIn, IsName, IsText, IsLevel, IsList, IsTree};
+ghost use Rattle.lk_store.specs.Contents.{name_at, name_of, level_of, list_of, tree_of};
+ghost use Rattle.lk_store.specs.Contents.{IsNameIn, IsLevelIn, IsListIn, IsIn};
+ghost use Rattle.lk_store.specs.Contents.{IsName, IsText, IsLevel, IsList, IsTree};
 ghost use Rattle.lk_store.specs.Keys.{IsCodeOf};
-ghost use Rattle.lk_store.specs.Nodes.{name_node, level_node, list_node, NameFits, LevelFits, ListFits, NodeFits, IsKeyOf};
+ghost use Rattle.lk_store.specs.declared.key.Number.{Number};
+ghost use Rattle.lk_store.specs.Nodes.{name_node, level_node, list_node, number_in, IsKeyOf};
+ghost use Rattle.lk_store.specs.Nodes.{NameFits, LevelFits, ListFits, NodeFits};
 ghost use Rattle.lk_store.specs.RowFor.{IsRowFor};
 ghost use Rattle.lk_store.specs.Store.{over, contents_of, IsStore, Recoded, Grown};
 
 use crate::key::{LevelKey, LevelRow, ListKey, ListRow, NameKey, Number, TreeKey, TreeRow};
+use crate::memory::NoMemory;
 use crate::node::{LevelNode, ListNode, NameNode, Node};
 use crate::reading::{level_params_in, list_params_in, marks_of};
 use crate::tables::Tables;
 use crate::text::Text;
 use lk_rows::layers::{add, count, find};
-use lk_rows::memory::NoMemory;
+use lk_rows::row::Row;
 
 /// The code of a number, which is kept where it takes more than 31 bits.
+#[inline]
 fn encode(base: &Tables, own: &mut Tables, n: u128) -> Result<u32, NoMemory>
     requires { IsStore (over base.now own.old) }
     ensures recoded { Recoded (over base.now own.old) (over base.now own.new) }
@@ -26,19 +35,33 @@ fn encode(base: &Tables, own: &mut Tables, n: u128) -> Result<u32, NoMemory>
     if n < 0x8000_0000 {
         return Ok(n as u32);
     }
+    encode_large(base, own, n)
+}
+
+/// The code of a number that takes more than 31 bits.
+#[cold]
+fn encode_large(base: &Tables, own: &mut Tables, n: u128) -> Result<u32, NoMemory>
+    requires store { IsStore (over base.now own.old) }
+    requires large { 2 ^ 31 ≤ n }
+    ensures recoded { Recoded (over base.now own.old) (over base.now own.new) }
+    ensures ok { IfOk result (λ code. IsCodeOf (over base.now own.new).numbers code n) }
+    ensures same_trees { own.new.trees ≡ own.old.trees }
+{
     let number = Number { value: n };
-    match find(&base.numbers, &own.numbers, &number) {
+    let hash = Number::hash_of(&number);
+    match find(&base.numbers, &own.numbers, &number, hash, true) {
         Some(i) => Ok(i as u32 + 0x8000_0000),
         None => {
             if count(&base.numbers, &own.numbers) + 1 >= 0x8000_0000 {
                 return Err(NoMemory);
             }
-            let i = add(&base.numbers, &mut own.numbers, number)?;
+            let i = add(&base.numbers, &mut own.numbers, number, hash)?;
             Ok(i as u32 + 0x8000_0000)
         }
     }
 }
 
+#[inline]
 fn name_key(node: NameNode) -> NameKey
     requires { NameFits node }
     ensures { name_node result ≡ node }
@@ -50,6 +73,7 @@ fn name_key(node: NameNode) -> NameKey
     }
 }
 
+#[inline]
 fn level_key(node: LevelNode) -> LevelKey
     requires { LevelFits node }
     ensures { level_node result ≡ node }
@@ -63,6 +87,7 @@ fn level_key(node: LevelNode) -> LevelKey
     }
 }
 
+#[inline]
 fn list_key(node: ListNode) -> ListKey
     requires { ListFits node }
     ensures { list_node result ≡ node }
@@ -109,15 +134,23 @@ pub(crate) fn make_level_in(
     requires store { IsStore (over base.now own.old) }
     requires known { IsLevelIn (contents_of (over base.now own.old)) node }
     ensures grown { Grown (over base.now own.old) (over base.now own.new) }
-    ensures ok { IfOk result (λ l. IsLevel (contents_of (over base.now own.new)) l (level_of (contents_of (over base.now own.old)) node)) }
+    ensures ok { let c = contents_of (over base.now own.old) in
+        IfOk result (λ l. IsLevel (contents_of (over base.now own.new)) l (level_of c node)) }
     ensures err { OnErr result (own.new ≡ own.old) }
 {
     let key = level_key(node);
-    match find(&base.levels, &own.levels, &key) {
+    let hash = LevelRow::hash_of(&key);
+    let in_base = u64::from(key.last_part()) < base.levels.len();
+    match find(&base.levels, &own.levels, &key, hash, in_base) {
         Some(l) => Ok(l),
         None => {
             let params = params_of_level(base, own, node);
-            let l = add(&base.levels, &mut own.levels, LevelRow { key, params })?;
+            let l = add(
+                &base.levels,
+                &mut own.levels,
+                LevelRow { key, params },
+                hash,
+            )?;
             Ok(l)
         }
     }
@@ -128,15 +161,18 @@ pub(crate) fn make_list_in(base: &Tables, own: &mut Tables, node: ListNode) -> R
     requires store { IsStore (over base.now own.old) }
     requires known { IsListIn (contents_of (over base.now own.old)) node }
     ensures grown { Grown (over base.now own.old) (over base.now own.new) }
-    ensures ok { IfOk result (λ ls. IsList (contents_of (over base.now own.new)) ls (list_of (contents_of (over base.now own.old)) node)) }
+    ensures ok { let c = contents_of (over base.now own.old) in
+        IfOk result (λ ls. IsList (contents_of (over base.now own.new)) ls (list_of c node)) }
     ensures err { OnErr result (own.new ≡ own.old) }
 {
     let key = list_key(node);
-    match find(&base.lists, &own.lists, &key) {
+    let hash = ListRow::hash_of(&key);
+    let in_base = u64::from(key.last_part()) < base.lists.len();
+    match find(&base.lists, &own.lists, &key, hash, in_base) {
         Some(ls) => Ok(ls),
         None => {
             let params = params_of_list(base, own, node);
-            let ls = add(&base.lists, &mut own.lists, ListRow { key, params })?;
+            let ls = add(&base.lists, &mut own.lists, ListRow { key, params }, hash)?;
             Ok(ls)
         }
     }
@@ -147,14 +183,17 @@ pub(crate) fn make_name_in(base: &Tables, own: &mut Tables, node: NameNode) -> R
     requires store { IsStore (over base.now own.old) }
     requires known { IsNameIn (contents_of (over base.now own.old)) node }
     ensures grown { Grown (over base.now own.old) (over base.now own.new) }
-    ensures ok { IfOk result (λ n. IsName (contents_of (over base.now own.new)) n (name_of (contents_of (over base.now own.old)) node)) }
+    ensures ok { let c = contents_of (over base.now own.old) in
+        IfOk result (λ n. IsName (contents_of (over base.now own.new)) n (name_of c node)) }
     ensures err { OnErr result (own.new ≡ own.old) }
 {
     let key = name_key(node);
-    match find(&base.names, &own.names, &key) {
+    let hash = NameKey::hash_of(&key);
+    let in_base = u64::from(key.last_part()) < base.names.len();
+    match find(&base.names, &own.names, &key, hash, in_base) {
         Some(n) => Ok(n),
         None => {
-            let n = add(&base.names, &mut own.names, key)?;
+            let n = add(&base.names, &mut own.names, key, hash)?;
             Ok(n)
         }
     }
@@ -164,11 +203,15 @@ pub(crate) fn make_name_in(base: &Tables, own: &mut Tables, node: NameNode) -> R
 pub(crate) fn find_name_in(base: &Tables, own: &Tables, node: NameNode) -> Option<u64>
     requires store { IsStore (over base.now own.now) }
     requires known { IsNameIn (contents_of (over base.now own.now)) node }
-    ensures absent { IfNone result ((n : ℕ) → n < length (contents_of (over base.now own.now)).names → name_at (contents_of (over base.now own.now)) n ≢ name_of (contents_of (over base.now own.now)) node) }
-    ensures present { IfSome result (λ n. IsName (contents_of (over base.now own.now)) n (name_of (contents_of (over base.now own.now)) node)) }
+    ensures absent { let c = contents_of (over base.now own.now) in
+        IfNone result ((n : ℕ) → n < length c.names → name_at c n ≢ name_of c node) }
+    ensures present { let c = contents_of (over base.now own.now) in
+        IfSome result (λ n. IsName c n (name_of c node)) }
 {
     let key = name_key(node);
-    find(&base.names, &own.names, &key)
+    let hash = NameKey::hash_of(&key);
+    let in_base = u64::from(key.last_part()) < base.names.len();
+    find(&base.names, &own.names, &key, hash, in_base)
 }
 
 /// The number of a text.
@@ -178,40 +221,67 @@ pub(crate) fn make_text_in(base: &Tables, own: &mut Tables, text: Text) -> Resul
     ensures ok { IfOk result (λ s. IsText (contents_of (over base.now own.new)) s text) }
     ensures err { OnErr result (own.new ≡ own.old) }
 {
-    match find(&base.texts, &own.texts, &text) {
+    let hash = Text::hash_of(&text);
+    match find(&base.texts, &own.texts, &text, hash, true) {
         Some(s) => Ok(s),
         None => {
-            let s = add(&base.texts, &mut own.texts, text)?;
+            let s = add(&base.texts, &mut own.texts, text, hash)?;
             Ok(s)
         }
     }
 }
 
+/// The number in a node that its key has a code for, or 0.
+#[inline]
+fn number_of(node: Node) -> u128
+    ensures { result ≡ number_in node }
+{
+    match node {
+        Node::Var(i) | Node::Proj(_, i, _) | Node::Local(i, _) => u128::from(i),
+        Node::Lit(n) => n,
+        Node::Sort(_)
+        | Node::Const(_, _)
+        | Node::App(_, _)
+        | Node::Lam(_, _)
+        | Node::Pi(_, _)
+        | Node::Let(_, _, _)
+        | Node::Wide
+        | Node::Str(_) => 0,
+    }
+}
+
+/// The key of a tree, where the code of the number in it is at hand.
+#[inline]
+fn coded_key(node: Node, code: u32) -> TreeKey
+    requires { NodeFits node }
+    ensures { (ns : List Number) → IsCodeOf ns code (number_in node) → IsKeyOf ns result node }
+{
+    match node {
+        Node::Var(_) => TreeKey::Var(code),
+        Node::Sort(l) => TreeKey::Sort(l as u32),
+        Node::Const(n, ls) => TreeKey::Const(n as u32, ls as u32),
+        Node::App(f, a) => TreeKey::App(f as u32, a as u32),
+        Node::Lam(t, b) => TreeKey::Lam(t as u32, b as u32),
+        Node::Pi(t, b) => TreeKey::Pi(t as u32, b as u32),
+        Node::Let(t, v, b) => TreeKey::Let(t as u32, v as u32, b as u32),
+        Node::Proj(n, _, s) => TreeKey::Proj(n as u32, code, s as u32),
+        Node::Lit(_) => TreeKey::Lit(code),
+        Node::Wide => TreeKey::Wide,
+        Node::Str(s) => TreeKey::Str(s as u32),
+        Node::Local(_, t) => TreeKey::Local(code, t as u32),
+    }
+}
+
 /// The key of a tree.
+#[inline]
 fn tree_key(base: &Tables, own: &mut Tables, node: Node) -> Result<TreeKey, NoMemory>
     requires store { IsStore (over base.now own.old) }
     requires fits { NodeFits node }
     ensures recoded { Recoded (over base.now own.old) (over base.now own.new) }
     ensures ok { IfOk result (λ key. IsKeyOf (over base.now own.new).numbers key node) }
 {
-    match node {
-        Node::Var(i) => Ok(TreeKey::Var(encode(base, own, u128::from(i))?)),
-        Node::Proj(n, i, s) => Ok(TreeKey::Proj(
-            n as u32,
-            encode(base, own, u128::from(i))?,
-            s as u32,
-        )),
-        Node::Lit(n) => Ok(TreeKey::Lit(encode(base, own, n)?)),
-        Node::Local(k, t) => Ok(TreeKey::Local(encode(base, own, u128::from(k))?, t as u32)),
-        Node::Sort(l) => Ok(TreeKey::Sort(l as u32)),
-        Node::Const(n, ls) => Ok(TreeKey::Const(n as u32, ls as u32)),
-        Node::App(f, a) => Ok(TreeKey::App(f as u32, a as u32)),
-        Node::Lam(t, b) => Ok(TreeKey::Lam(t as u32, b as u32)),
-        Node::Pi(t, b) => Ok(TreeKey::Pi(t as u32, b as u32)),
-        Node::Let(t, v, b) => Ok(TreeKey::Let(t as u32, v as u32, b as u32)),
-        Node::Wide => Ok(TreeKey::Wide),
-        Node::Str(s) => Ok(TreeKey::Str(s as u32)),
-    }
+    let code = encode(base, own, number_of(node))?;
+    Ok(coded_key(node, code))
 }
 
 /// A row for a tree that has none.
@@ -245,15 +315,19 @@ pub(crate) fn make_in(base: &Tables, own: &mut Tables, node: Node) -> Result<u64
     requires store { IsStore (over base.now own.old) }
     requires known { IsIn (contents_of (over base.now own.old)) node }
     ensures grown { Grown (over base.now own.old) (over base.now own.new) }
-    ensures ok { IfOk result (λ e. IsTree (contents_of (over base.now own.new)) e (tree_of (contents_of (over base.now own.old)) node)) }
-    ensures err { OnErr result (contents_of (over base.now own.new) ≡ contents_of (over base.now own.old)) }
+    ensures ok { let c = contents_of (over base.now own.old) in
+        IfOk result (λ e. IsTree (contents_of (over base.now own.new)) e (tree_of c node)) }
+    ensures err { let c = contents_of (over base.now own.old) in
+        OnErr result (contents_of (over base.now own.new) ≡ c) }
 {
     let key = tree_key(base, own, node)?;
-    match find(&base.trees, &own.trees, &key) {
+    let hash = TreeRow::hash_of(&key);
+    let in_base = u64::from(key.last_part()) < base.trees.len();
+    match find(&base.trees, &own.trees, &key, hash, in_base) {
         Some(e) => Ok(e),
         None => {
             let row = tree_row_for(base, own, key, node)?;
-            let e = add(&base.trees, &mut own.trees, row)?;
+            let e = add(&base.trees, &mut own.trees, row, hash)?;
             Ok(e)
         }
     }

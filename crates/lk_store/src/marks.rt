@@ -1,7 +1,7 @@
 //! What is kept of a tree beside its node.
 
 /// What is kept of a tree.
-#[derive(Clone, Copy, Debug, PartialEq, Eq)]
+#[derive(Clone, Copy)]
 pub struct Marks {
     /// The least number above its loose variables.
     pub loose: u128,
@@ -17,6 +17,7 @@ ghost use Rattle.std.specs.Prelude.{◌≡◌, ◌-◌, ◌||◌, ◌&&◌, max,
 
 impl Marks {
     /// Those of a tree that has neither variables nor Locals.
+    #[inline(always)]
     pub fn closed(params: bool) -> Marks
         ensures { result ≡ record { loose = 0; local = 0; params = params; narrow = true } }
     {
@@ -29,6 +30,7 @@ impl Marks {
     }
 
     /// Those of a literal that is too great.
+    #[inline(always)]
     pub fn wide() -> Marks
         ensures { result ≡ record { loose = 0; local = 0; params = false; narrow = false } }
     {
@@ -41,8 +43,14 @@ impl Marks {
     }
 
     /// Those of two trees together.
+    #[inline(always)]
     pub fn and(self, other: Marks) -> Marks
-        ensures { result ≡ record { loose = max self.loose other.loose; local = max self.local other.local; params = self.params || other.params; narrow = self.narrow && other.narrow } }
+        ensures { result ≡ record {
+          loose = max self.loose other.loose;
+          local = max self.local other.local;
+          params = self.params || other.params;
+          narrow = self.narrow && other.narrow;
+        } }
     {
         Marks {
             loose: self.loose.max(other.loose),
@@ -53,8 +61,9 @@ impl Marks {
     }
 
     /// Those of a body, seen from outside its binder.
+    #[inline(always)]
     pub fn under_binder(self) -> Marks
-        ensures { result ≡ record { loose = self.loose - 1; local = self.local; params = self.params; narrow = self.narrow } }
+        ensures { result ≡ record self { loose = self.loose - 1 } }
     {
         Marks {
             loose: self.loose.saturating_sub(1),

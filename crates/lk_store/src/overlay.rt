@@ -4,6 +4,7 @@ ghost use Rattle.std.specs.Prelude.{◌≡◌};
 
 use crate::base_store::BaseStore;
 use crate::making::{make_in, make_level_in, make_list_in, make_name_in, make_text_in};
+use crate::memory::NoMemory;
 use crate::node::{LevelNode, ListNode, NameNode, Node};
 use crate::reading::{
     count_names_in, len_in, level_in, level_params_in, list_in, list_params_in, local_in, loose_in,
@@ -12,12 +13,12 @@ use crate::reading::{
 use crate::tables::Tables;
 use crate::terms::Terms;
 use crate::text::Text;
-use lk_rows::memory::NoMemory;
 use std::alloc::Global;
 use std::marker::Model;
 use std::mem::drop;
 
-/// A store over that of a library, which is only read. What is made stands in it alone; what the library has keeps its number.
+/// A store over that of a library, which is only read. What is made stands in it alone; what the
+/// library has keeps its number.
 pub struct Overlay<'a> {
     base: &'a Tables,
     own: Tables,
@@ -57,8 +58,9 @@ impl<'a> Overlay<'a> {
         }
     }
 
-    /// Forgets all that was made here: after it the store has what the library has and no more, so that a number that
-    /// was given since `new` or the last `clear` stands for nothing. The memory is kept for what is made next.
+    /// Forgets all that was made here: after it the store has what the library has and no more, so
+    /// that a number that was given since `new` or the last `clear` stands for nothing. The memory
+    /// is kept for what is made next.
     #[tactic(auto, using(crate::proofs::Overlaid::contents_over_nothing))]
     pub fn clear(&mut self)
         ensures value { self.new ≡ (self.old.0, no_tables) }
@@ -78,10 +80,12 @@ impl<'a> Terms for Overlay<'a> {
 
     ghost contents = { λ s. contents_of (over s.0 s.1) };
 
+    #[inline]
     fn len(&self) -> u64 {
         len_in(self.base, &self.own)
     }
 
+    #[inline]
     fn view(&self, e: u64) -> Node {
         view_in(self.base, &self.own, e)
     }
@@ -90,26 +94,32 @@ impl<'a> Terms for Overlay<'a> {
         make_in(self.base, &mut self.own, node)
     }
 
+    #[inline]
     fn same(&self, a: u64, b: u64) -> bool {
         same_in(self.base, &self.own, a, b)
     }
 
+    #[inline]
     fn loose_bound(&self, e: u64) -> u128 {
         loose_in(self.base, &self.own, e)
     }
 
+    #[inline]
     fn local_bound(&self, e: u64) -> u128 {
         local_in(self.base, &self.own, e)
     }
 
+    #[inline]
     fn has_params(&self, e: u64) -> bool {
         params_in(self.base, &self.own, e)
     }
 
+    #[inline]
     fn is_narrow(&self, e: u64) -> bool {
         narrow_in(self.base, &self.own, e)
     }
 
+    #[inline]
     fn level(&self, l: u64) -> LevelNode {
         level_in(self.base, &self.own, l)
     }
@@ -118,10 +128,12 @@ impl<'a> Terms for Overlay<'a> {
         make_level_in(self.base, &mut self.own, node)
     }
 
+    #[inline]
     fn level_has_params(&self, l: u64) -> bool {
         level_params_in(self.base, &self.own, l)
     }
 
+    #[inline]
     fn levels(&self, ls: u64) -> ListNode {
         list_in(self.base, &self.own, ls)
     }
@@ -130,14 +142,17 @@ impl<'a> Terms for Overlay<'a> {
         make_list_in(self.base, &mut self.own, node)
     }
 
+    #[inline]
     fn levels_have_params(&self, ls: u64) -> bool {
         list_params_in(self.base, &self.own, ls)
     }
 
+    #[inline]
     fn count_names(&self) -> u64 {
         count_names_in(self.base, &self.own)
     }
 
+    #[inline]
     fn name(&self, n: u64) -> NameNode {
         name_in(self.base, &self.own, n)
     }
@@ -146,6 +161,7 @@ impl<'a> Terms for Overlay<'a> {
         make_name_in(self.base, &mut self.own, node)
     }
 
+    #[inline]
     fn same_name(&self, m: u64, n: u64) -> bool {
         same_name_in(self.base, &self.own, m, n)
     }

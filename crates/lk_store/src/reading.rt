@@ -1,11 +1,14 @@
-//! What the tables of a store say of its numbers. The rows of `base` have the first numbers, and `own` goes on after them.
+//! What the tables of a store say of its numbers. The rows of `base` have the first numbers, and
+//! `own` goes on after them.
 
 ghost use Rattle.std.specs.Prelude.{◌≡◌, ◌<◌, ◌^◌, ◌↔◌, [], length, IsTrue};
 ghost use Rattle.lk_tree.specs.Bind.{bound};
 ghost use Rattle.lk_tree.specs.Loose.{loose};
 ghost use Rattle.lk_tree.specs.Scan.{is_narrow};
 ghost use Rattle.lk_store.specs.Measures.{level_has_params, list_has_params, has_params, AreMarks};
-ghost use Rattle.lk_store.specs.Contents.{name_at, text_at, level_at, list_at, tree_at, name_of, level_of, list_of, tree_of, IsNameIn, IsLevelIn, IsListIn, IsIn};
+ghost use Rattle.lk_store.specs.Contents.{name_at, text_at, level_at, list_at, tree_at};
+ghost use Rattle.lk_store.specs.Contents.{name_of, level_of, list_of, tree_of};
+ghost use Rattle.lk_store.specs.Contents.{IsNameIn, IsLevelIn, IsListIn, IsIn};
 ghost use Rattle.lk_store.specs.Keys.{decoded, IsCode, IsMarkedTree};
 ghost use Rattle.lk_store.specs.Nodes.{name_node, level_node, list_node, node_of, AreCodes};
 ghost use Rattle.lk_store.specs.Store.{over, contents_of, IsStore};
@@ -19,6 +22,7 @@ use crate::text::Text;
 use lk_rows::layers::{count, row_at};
 
 /// The number that a code stands for.
+#[inline]
 pub(crate) fn decode(base: &Tables, own: &Tables, code: u32) -> u128
     requires { IsCode (over base.now own.now).numbers code }
     ensures { result ≡ decoded (over base.now own.now).numbers code }
@@ -31,6 +35,7 @@ pub(crate) fn decode(base: &Tables, own: &Tables, code: u32) -> u128
 }
 
 /// The number that the code of a `u64` stands for.
+#[inline]
 fn decode_short(base: &Tables, own: &Tables, code: u32) -> u64
     requires code { IsCode (over base.now own.now).numbers code }
     requires short { decoded (over base.now own.now).numbers code < 2 ^ 64 }
@@ -39,6 +44,7 @@ fn decode_short(base: &Tables, own: &Tables, code: u32) -> u64
     decode(base, own, code) as u64
 }
 
+#[inline]
 fn name_of_key(key: NameKey) -> NameNode
     ensures { result ≡ name_node key }
 {
@@ -49,6 +55,7 @@ fn name_of_key(key: NameKey) -> NameNode
     }
 }
 
+#[inline]
 fn level_of_key(key: LevelKey) -> LevelNode
     ensures { result ≡ level_node key }
 {
@@ -61,6 +68,7 @@ fn level_of_key(key: LevelKey) -> LevelNode
     }
 }
 
+#[inline]
 fn list_of_key(key: ListKey) -> ListNode
     ensures { result ≡ list_node key }
 {
@@ -70,6 +78,7 @@ fn list_of_key(key: ListKey) -> ListNode
     }
 }
 
+#[inline]
 fn node_of_key(base: &Tables, own: &Tables, key: TreeKey) -> Node
     requires { AreCodes (over base.now own.now).numbers key }
     ensures { result ≡ node_of (over base.now own.now).numbers key }
@@ -95,26 +104,30 @@ fn node_of_key(base: &Tables, own: &Tables, key: TreeKey) -> Node
 }
 
 /// The row of a name.
+#[inline]
 fn name_row(base: &Tables, own: &Tables, n: u64) -> NameKey
     requires store { IsStore (over base.now own.now) }
     requires known { n < length (contents_of (over base.now own.now)).names }
     ensures known { IsNameIn (contents_of (over base.now own.now)) (name_node result) }
-    ensures name { name_of (contents_of (over base.now own.now)) (name_node result) ≡ name_at (contents_of (over base.now own.now)) n }
+    ensures name { let c = contents_of (over base.now own.now) in
+        name_of c (name_node result) ≡ name_at c n }
 {
     *row_at(&base.names, &own.names, n)
 }
 
 /// The node of a name.
+#[inline]
 pub(crate) fn name_in(base: &Tables, own: &Tables, n: u64) -> NameNode
     requires store { IsStore (over base.now own.now) }
     requires known { n < length (contents_of (over base.now own.now)).names }
     ensures known { IsNameIn (contents_of (over base.now own.now)) result }
-    ensures name { name_of (contents_of (over base.now own.now)) result ≡ name_at (contents_of (over base.now own.now)) n }
+    ensures name { let c = contents_of (over base.now own.now) in name_of c result ≡ name_at c n }
 {
     name_of_key(name_row(base, own, n))
 }
 
 /// How many names there are. No two of them are equal.
+#[inline]
 pub(crate) fn count_names_in(base: &Tables, own: &Tables) -> u64
     requires { IsStore (over base.now own.now) }
     ensures count { result ≡ length (contents_of (over base.now own.now)).names }
@@ -124,11 +137,13 @@ pub(crate) fn count_names_in(base: &Tables, own: &Tables) -> u64
 }
 
 /// Whether two numbers have one name.
+#[inline]
 pub(crate) fn same_name_in(base: &Tables, own: &Tables, m: u64, n: u64) -> bool
     requires store { IsStore (over base.now own.now) }
     requires m_in { m < length (contents_of (over base.now own.now)).names }
     requires n_in { n < length (contents_of (over base.now own.now)).names }
-    ensures { IsTrue result ↔ (name_at (contents_of (over base.now own.now)) m ≡ name_at (contents_of (over base.now own.now)) n) }
+    ensures { let c = contents_of (over base.now own.now) in
+        IsTrue result ↔ (name_at c m ≡ name_at c n) }
 {
     let _base = base;
     let _own = own;
@@ -144,27 +159,33 @@ pub(crate) fn text_in<'a>(base: &'a Tables, own: &'a Tables, s: u64) -> &'a Text
 }
 
 /// The row of a level.
+#[inline]
 fn level_row(base: &Tables, own: &Tables, l: u64) -> LevelRow
     requires store { IsStore (over base.now own.now) }
     requires known { l < length (contents_of (over base.now own.now)).levels }
     ensures known { IsLevelIn (contents_of (over base.now own.now)) (level_node result.key) }
-    ensures level { level_of (contents_of (over base.now own.now)) (level_node result.key) ≡ level_at (contents_of (over base.now own.now)) l }
-    ensures params { result.params ≡ level_has_params (level_at (contents_of (over base.now own.now)) l) }
+    ensures level { let c = contents_of (over base.now own.now) in
+        level_of c (level_node result.key) ≡ level_at c l }
+    ensures params { let c = contents_of (over base.now own.now) in
+        result.params ≡ level_has_params (level_at c l) }
 {
     *row_at(&base.levels, &own.levels, l)
 }
 
 /// The node of a level.
+#[inline]
 pub(crate) fn level_in(base: &Tables, own: &Tables, l: u64) -> LevelNode
     requires store { IsStore (over base.now own.now) }
     requires known { l < length (contents_of (over base.now own.now)).levels }
     ensures known { IsLevelIn (contents_of (over base.now own.now)) result }
-    ensures level { level_of (contents_of (over base.now own.now)) result ≡ level_at (contents_of (over base.now own.now)) l }
+    ensures level { let c = contents_of (over base.now own.now) in
+        level_of c result ≡ level_at c l }
 {
     level_of_key(level_row(base, own, l).key)
 }
 
 /// Whether a parameter stands in a level.
+#[inline]
 pub(crate) fn level_params_in(base: &Tables, own: &Tables, l: u64) -> bool
     requires store { IsStore (over base.now own.now) }
     requires known { l < length (contents_of (over base.now own.now)).levels }
@@ -174,27 +195,32 @@ pub(crate) fn level_params_in(base: &Tables, own: &Tables, l: u64) -> bool
 }
 
 /// The row of a list of levels.
+#[inline]
 fn list_row(base: &Tables, own: &Tables, ls: u64) -> ListRow
     requires store { IsStore (over base.now own.now) }
     requires known { ls < length (contents_of (over base.now own.now)).lists }
     ensures known { IsListIn (contents_of (over base.now own.now)) (list_node result.key) }
-    ensures list { list_of (contents_of (over base.now own.now)) (list_node result.key) ≡ list_at (contents_of (over base.now own.now)) ls }
-    ensures params { result.params ≡ list_has_params (list_at (contents_of (over base.now own.now)) ls) }
+    ensures list { let c = contents_of (over base.now own.now) in
+        list_of c (list_node result.key) ≡ list_at c ls }
+    ensures params { let c = contents_of (over base.now own.now) in
+        result.params ≡ list_has_params (list_at c ls) }
 {
     *row_at(&base.lists, &own.lists, ls)
 }
 
 /// The node of a list of levels.
+#[inline]
 pub(crate) fn list_in(base: &Tables, own: &Tables, ls: u64) -> ListNode
     requires store { IsStore (over base.now own.now) }
     requires known { ls < length (contents_of (over base.now own.now)).lists }
     ensures known { IsListIn (contents_of (over base.now own.now)) result }
-    ensures list { list_of (contents_of (over base.now own.now)) result ≡ list_at (contents_of (over base.now own.now)) ls }
+    ensures list { let c = contents_of (over base.now own.now) in list_of c result ≡ list_at c ls }
 {
     list_of_key(list_row(base, own, ls).key)
 }
 
 /// Whether a parameter stands in a list of levels.
+#[inline]
 pub(crate) fn list_params_in(base: &Tables, own: &Tables, ls: u64) -> bool
     requires store { IsStore (over base.now own.now) }
     requires known { ls < length (contents_of (over base.now own.now)).lists }
@@ -204,6 +230,7 @@ pub(crate) fn list_params_in(base: &Tables, own: &Tables, ls: u64) -> bool
 }
 
 /// How many trees there are.
+#[inline]
 pub(crate) fn len_in(base: &Tables, own: &Tables) -> u64
     requires { IsStore (over base.now own.now) }
     ensures { result ≡ length (contents_of (over base.now own.now)).trees }
@@ -212,33 +239,40 @@ pub(crate) fn len_in(base: &Tables, own: &Tables) -> u64
 }
 
 /// The row of a tree.
+#[inline]
 fn tree_row(base: &Tables, own: &Tables, e: u64) -> TreeRow
     requires store { IsStore (over base.now own.now) }
     requires known { e < length (contents_of (over base.now own.now)).trees }
     ensures codes { AreCodes (over base.now own.now).numbers result.key }
-    ensures known { IsIn (contents_of (over base.now own.now)) (node_of (over base.now own.now).numbers result.key) }
-    ensures tree { tree_of (contents_of (over base.now own.now)) (node_of (over base.now own.now).numbers result.key) ≡ tree_at (contents_of (over base.now own.now)) e }
-    ensures marks { IsMarkedTree (over base.now own.now).numbers (tree_at (contents_of (over base.now own.now)) e) result }
+    ensures known { let c = contents_of (over base.now own.now) in
+        IsIn c (node_of (over base.now own.now).numbers result.key) }
+    ensures tree { let c = contents_of (over base.now own.now) in
+        tree_of c (node_of (over base.now own.now).numbers result.key) ≡ tree_at c e }
+    ensures marks { let c = contents_of (over base.now own.now) in
+        IsMarkedTree (over base.now own.now).numbers (tree_at c e) result }
 {
     *row_at(&base.trees, &own.trees, e)
 }
 
 /// The node of a tree.
+#[inline]
 pub(crate) fn view_in(base: &Tables, own: &Tables, e: u64) -> Node
     requires store { IsStore (over base.now own.now) }
     requires known { e < length (contents_of (over base.now own.now)).trees }
     ensures known { IsIn (contents_of (over base.now own.now)) result }
-    ensures tree { tree_of (contents_of (over base.now own.now)) result ≡ tree_at (contents_of (over base.now own.now)) e }
+    ensures tree { let c = contents_of (over base.now own.now) in tree_of c result ≡ tree_at c e }
 {
     node_of_key(base, own, tree_row(base, own, e).key)
 }
 
 /// Whether two numbers have one tree.
+#[inline]
 pub(crate) fn same_in(base: &Tables, own: &Tables, a: u64, b: u64) -> bool
     requires store { IsStore (over base.now own.now) }
     requires a_in { a < length (contents_of (over base.now own.now)).trees }
     requires b_in { b < length (contents_of (over base.now own.now)).trees }
-    ensures { IsTrue result ↔ (tree_at (contents_of (over base.now own.now)) a ≡ tree_at (contents_of (over base.now own.now)) b) }
+    ensures { let c = contents_of (over base.now own.now) in
+        IsTrue result ↔ (tree_at c a ≡ tree_at c b) }
 {
     let _base = base;
     let _own = own;
@@ -246,6 +280,7 @@ pub(crate) fn same_in(base: &Tables, own: &Tables, a: u64, b: u64) -> bool
 }
 
 /// The least number above the loose variables of a tree.
+#[inline]
 pub(crate) fn loose_in(base: &Tables, own: &Tables, e: u64) -> u128
     requires store { IsStore (over base.now own.now) }
     requires known { e < length (contents_of (over base.now own.now)).trees }
@@ -255,6 +290,7 @@ pub(crate) fn loose_in(base: &Tables, own: &Tables, e: u64) -> u128
 }
 
 /// The least number above the Locals of a tree.
+#[inline]
 pub(crate) fn local_in(base: &Tables, own: &Tables, e: u64) -> u128
     requires store { IsStore (over base.now own.now) }
     requires known { e < length (contents_of (over base.now own.now)).trees }
@@ -264,6 +300,7 @@ pub(crate) fn local_in(base: &Tables, own: &Tables, e: u64) -> u128
 }
 
 /// Whether a parameter stands in a tree.
+#[inline]
 pub(crate) fn params_in(base: &Tables, own: &Tables, e: u64) -> bool
     requires store { IsStore (over base.now own.now) }
     requires known { e < length (contents_of (over base.now own.now)).trees }
@@ -273,6 +310,7 @@ pub(crate) fn params_in(base: &Tables, own: &Tables, e: u64) -> bool
 }
 
 /// Whether each literal in a tree is at most 2^128 - 1.
+#[inline]
 pub(crate) fn narrow_in(base: &Tables, own: &Tables, e: u64) -> bool
     requires store { IsStore (over base.now own.now) }
     requires known { e < length (contents_of (over base.now own.now)).trees }
@@ -282,16 +320,18 @@ pub(crate) fn narrow_in(base: &Tables, own: &Tables, e: u64) -> bool
 }
 
 /// What is kept of a tree.
+#[inline]
 fn marks_in(base: &Tables, own: &Tables, e: u64) -> Marks
     requires store { IsStore (over base.now own.now) }
     requires known { e < length (contents_of (over base.now own.now)).trees }
     ensures { AreMarks (tree_at (contents_of (over base.now own.now)) e) result }
 {
+    let row = tree_row(base, own, e);
     Marks {
-        loose: loose_in(base, own, e),
-        local: local_in(base, own, e),
-        params: params_in(base, own, e),
-        narrow: narrow_in(base, own, e),
+        loose: decode(base, own, row.loose),
+        local: decode(base, own, row.local),
+        params: row.params,
+        narrow: row.narrow,
     }
 }
 

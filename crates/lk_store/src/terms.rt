@@ -6,17 +6,21 @@ ghost use Rattle.lk_tree.specs.Loose.{loose};
 ghost use Rattle.lk_tree.specs.Scan.{is_narrow};
 ghost use Rattle.lk_store.specs.Measures.{level_has_params, list_has_params, has_params};
 ghost use Rattle.lk_store.specs.Values.{AreApart};
-ghost use Rattle.lk_store.specs.Contents.{Contents, name_at, text_at, level_at, list_at, tree_at, name_of, level_of, list_of, tree_of, IsNameIn, IsLevelIn, IsListIn, IsIn, Extends, IsName, IsText, IsLevel, IsList, IsTree};
+ghost use Rattle.lk_store.specs.Contents.{Contents, Extends};
+ghost use Rattle.lk_store.specs.Contents.{name_at, text_at, level_at, list_at, tree_at};
+ghost use Rattle.lk_store.specs.Contents.{name_of, level_of, list_of, tree_of};
+ghost use Rattle.lk_store.specs.Contents.{IsNameIn, IsLevelIn, IsListIn, IsIn};
+ghost use Rattle.lk_store.specs.Contents.{IsName, IsText, IsLevel, IsList, IsTree};
 
+use crate::memory::NoMemory;
 use crate::node::{LevelNode, ListNode, NameNode, Node};
 use crate::text::Text;
-use lk_rows::memory::NoMemory;
 
-/// A store of names, texts, levels, lists of levels and trees. A number stands for one of them for good: what is made
-/// later changes nothing that is there.
+/// A store of names, texts, levels, lists of levels and trees. A number stands for one of them for
+/// good: what is made later changes nothing that is there.
 ///
-/// Of its calls only those that make something take memory. Where it is wanting they answer `NoMemory`, and all that
-/// numbers stand for is as before.
+/// Of its calls only those that make something take memory. Where it is wanting they answer
+/// `NoMemory`, and all that numbers stand for is as before.
 pub trait Terms {
     /// What it has beside them, which no call changes.
     type Rest;
@@ -41,7 +45,8 @@ pub trait Terms {
         requires { IsIn (contents self.old) node }
         ensures keeps { Extends (contents self.old) (contents self.new) }
         ensures rest { rest self.new ≡ rest self.old }
-        ensures ok { IfOk result (λ e. IsTree (contents self.new) e (tree_of (contents self.old) node)) }
+        ensures ok { IfOk result (λ e.
+            IsTree (contents self.new) e (tree_of (contents self.old) node)) }
         ensures err { OnErr result (contents self.new ≡ contents self.old) };
 
     /// Whether two trees are equal.
@@ -50,7 +55,8 @@ pub trait Terms {
         requires b_in { b < length (contents self.now).trees }
         ensures { IsTrue result ↔ (tree_at (contents self.now) a ≡ tree_at (contents self.now) b) };
 
-    /// The least number above every loose variable of a tree. The type that a Local carries is not entered.
+    /// The least number above every loose variable of a tree. The type that a Local carries is not
+    /// entered.
     fn loose_bound(&self, e: u64) -> u128
         requires { e < length (contents self.now).trees }
         ensures { result ≡ loose (tree_at (contents self.now) e) };
@@ -81,7 +87,8 @@ pub trait Terms {
         requires { IsLevelIn (contents self.old) node }
         ensures keeps { Extends (contents self.old) (contents self.new) }
         ensures rest { rest self.new ≡ rest self.old }
-        ensures ok { IfOk result (λ l. IsLevel (contents self.new) l (level_of (contents self.old) node)) }
+        ensures ok { IfOk result (λ l.
+            IsLevel (contents self.new) l (level_of (contents self.old) node)) }
         ensures err { OnErr result (contents self.new ≡ contents self.old) };
 
     /// Whether a level has a parameter.
@@ -100,7 +107,8 @@ pub trait Terms {
         requires { IsListIn (contents self.old) node }
         ensures keeps { Extends (contents self.old) (contents self.new) }
         ensures rest { rest self.new ≡ rest self.old }
-        ensures ok { IfOk result (λ ls. IsList (contents self.new) ls (list_of (contents self.old) node)) }
+        ensures ok { IfOk result (λ ls.
+            IsList (contents self.new) ls (list_of (contents self.old) node)) }
         ensures err { OnErr result (contents self.new ≡ contents self.old) };
 
     /// Whether a level of a list has a parameter.
@@ -124,7 +132,8 @@ pub trait Terms {
         requires { IsNameIn (contents self.old) node }
         ensures keeps { Extends (contents self.old) (contents self.new) }
         ensures rest { rest self.new ≡ rest self.old }
-        ensures ok { IfOk result (λ n. IsName (contents self.new) n (name_of (contents self.old) node)) }
+        ensures ok { IfOk result (λ n.
+            IsName (contents self.new) n (name_of (contents self.old) node)) }
         ensures err { OnErr result (contents self.new ≡ contents self.old) };
 
     /// Whether two names are equal.

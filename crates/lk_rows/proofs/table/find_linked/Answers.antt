@@ -11,11 +11,11 @@ not_true false e h = search rules
 
 pub loop-at-init : goal.loop-at-init
 loop-at-init g c =
-    let chained = c.requires.chained (let w = c.bucket_of-b.ensures.within in omega arith) in
+    let chained = c.requires.table.chained (let w = c.bucket_of-b.ensures.within in omega arith) in
     let key = g.R.Row.key in
     let hash = g.R.Row.hash in
     let is_b : c.bucket_of-b.result ≡ bucket (hash c.args.key.now) (length c.args.heads.now) =
-    c.bucket_of-b.ensures.value ∙ ap (λ h. bucket h (length c.args.heads.now)) c.hash_of.ensures in
+    c.bucket_of-b.ensures.value ∙ ap (λ h. bucket h (length c.args.heads.now)) c.requires.hash in
     let lead = chained.linked.heads_lead c.bucket_of-b.result c.bucket_of-b.ensures.within in
     record {
       in_range = lead.within;
@@ -25,7 +25,7 @@ loop-at-init g c =
 
 pub loop-at-preserved : goal.loop-at-preserved
 loop-at-preserved g c =
-    let chained = c.requires.chained (let w = c.bucket_of-b.ensures.within in omega arith) in
+    let chained = c.requires.table.chained (let w = c.bucket_of-b.ensures.within in omega arith) in
     let key = g.R.Row.key in
     let hash = g.R.Row.hash in
     let rows = c.args.rows.now in

@@ -1,5 +1,6 @@
 use Rattle.lk_store.specs.Store.{over}
 use Rattle.lk_store.proofs.Read.{name_fits}
+use Rattle.lk_store.proofs.Above.{name_above}
 use Rattle.lk_store.proofs.Made.{name_absent, name_present}
 use Rattle.lk_store.proofs.making.find_name_in.Goals as goal
 
@@ -11,3 +12,6 @@ returns-clause-absent c = name_absent (over c.args.base.now c.args.own.now) c.re
 
 pub returns-clause-present : goal.returns-clause-present
 returns-clause-present c = name_present (over c.args.base.now c.args.own.now) c.requires.store c.name_key-key.result c.args.node c.name_key-key.ensures c.find.result c.find.ensures.known c.find.ensures.present
+
+pub find-requires-clause-base : goal.find-requires-clause-base
+find-requires-clause-base c = λ h. name_above c.args.base.now c.args.own.now c.requires.store c.name_key-key.result (cc)

@@ -2,7 +2,7 @@ use Rattle.std.proofs.Common.{◌≡◌, ◌<◌, ◌++◌, ◌∷◌, [], lengt
 use Rattle.std.proofs.lemmas.List.{get_or_default}
 use Rattle.lk_rows.specs.Chains.{bucket}
 use Rattle.lk_rows.proofs.Linking.{IsTable-push}
-use Rattle.lk_rows.proofs.table.Table.push.Goals as goal
+use Rattle.lk_rows.proofs.table.Table.push_hashed.Goals as goal
 
 pub invariant_of-self-2 : goal.invariant_of-self-2
 invariant_of-self-2 g c =
@@ -17,9 +17,9 @@ invariant_of-self-2 g c =
     let link : c.index-last.result.now ≡ get_or heads b 0 = c.index-last.ensures ∙ get_or_default heads b c.index-last.result.now 0 within in
     let links_are : c.push-2.new.self.items ≡ links ++ get_or heads b 0 ∷ [] = search (rules, link) in
     let is_b : b ≡ bucket (g.R.Row.hash (g.R.Row.key c.args.row)) (length heads) =
-    c.bucket_of-b.ensures.value ∙ ap (λ (h : ℕ). bucket h c.len-2.result) c.own_hash.ensures ∙ ap (λ (n : ℕ). bucket (g.R.Row.hash (g.R.Row.key c.args.row)) n) heads_are in
+    c.bucket_of-b.ensures.value ∙ ap (λ (h : ℕ). bucket h c.len-2.result) c.requires ∙ ap (λ (n : ℕ). bucket (g.R.Row.hash (g.R.Row.key c.args.row)) n) heads_are in
     rw (rows_are, links_are, count_is)
     (IsTable-push g.R.Row.key g.R.Row.hash rows links heads c.args.row b
-    (rw c.deref.ensures.value at c.in_ok-make_room.ensures.linked) is_b within
+    (rw c.deref.ensures.value at c.in_ok-make_room.ensures.table) is_b within
     (let room = rw c.deref.ensures.value at c.in_ok-make_room.ensures.room in omega arith)
     (let h = c.if-len.false in let n : c.len.result ≡ length rows = search rules in omega arith))
