@@ -11,8 +11,8 @@ use crate::names::Names;
 use crate::part::Met;
 use crate::pis::head_pi;
 use crate::walk::is_clear;
-use lk_rows::memory::NoMemory;
 use lk_rows::table::Table;
+use lk_store::memory::NoMemory;
 use lk_store::terms::Terms;
 use std::alloc::Global;
 
@@ -20,7 +20,9 @@ use std::alloc::Global;
 fn behind_pis<T: Terms>(terms: &T, count: u64, e: u64) -> Option<u64>
     requires { e < length (T.contents terms.now).trees }
     ensures known { IfSome result (λ r. r < length (T.contents terms.now).trees) }
-    ensures rest { (ns : List Name) → (n : ℕ) → has_plain_fields_after ns count n (tree_at (T.contents terms.now) e) ≡ plain_rest (T.contents terms.now) ns n result }
+    ensures rest { (ns : List Name) → (n : ℕ)
+        → has_plain_fields_after ns count n (tree_at (T.contents terms.now) e)
+        ≡ plain_rest (T.contents terms.now) ns n result }
 {
     let mut rest = e;
     let mut left = count;
@@ -47,7 +49,8 @@ fn has_plain_head<T: Terms>(
 ) -> Result<bool, NoMemory>
     requires names_in { All (λ n. n < length (T.contents terms.now).names) names.now }
     requires tree_in { e < length (T.contents terms.now).trees }
-    ensures { IfOk result (λ r. r ≡ has_plain_fields (names_at (T.contents terms.now) names.now) count (tree_at (T.contents terms.now) e)) }
+    ensures { IfOk result (λ r. r ≡ has_plain_fields
+        (names_at (T.contents terms.now) names.now) count (tree_at (T.contents terms.now) e)) }
 {
     let mut met: Table<Met> = Table::new(alloc);
     let mut rest = e;
@@ -79,7 +82,9 @@ pub fn has_plain_fields<T: Terms>(
 ) -> Result<bool, NoMemory>
     requires names_in { All (λ n. n < length (T.contents terms.now).names) names.now }
     requires tree_in { e < length (T.contents terms.now).trees }
-    ensures { IfOk result (λ r. r ≡ has_plain_fields_after (names_at (T.contents terms.now) names.now) parameters fields (tree_at (T.contents terms.now) e)) }
+    ensures { IfOk result (λ r. r ≡ has_plain_fields_after
+        (names_at (T.contents terms.now) names.now) parameters fields
+        (tree_at (T.contents terms.now) e)) }
 {
     match behind_pis(terms, parameters, e) {
         None => Ok(false),

@@ -7,6 +7,4 @@ mod looking;
 pub mod names;
 pub mod part;
 mod pis;
-#[cfg(test)]
-mod tests;
 pub mod walk;

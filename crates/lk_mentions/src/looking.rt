@@ -9,8 +9,8 @@ ghost use Rattle.lk_mentions.specs.Walks.{AreClear, IsOpened, IsEntered, IsLooke
 
 use crate::names::Names;
 use crate::part::{Met, Visit, is_leaf, push_opened, push_parts};
-use lk_rows::memory::NoMemory;
 use lk_rows::table::Table;
+use lk_store::memory::NoMemory;
 use lk_store::node::Node;
 use lk_store::terms::Terms;
 
@@ -18,7 +18,8 @@ use lk_store::terms::Terms;
 fn is_one_of<T: Terms>(terms: &T, names: &Names, name: u64) -> bool
     requires names_in { All (λ n. n < length (T.contents terms.now).names) names.now }
     requires name_in { name < length (T.contents terms.now).names }
-    ensures { result ≡ is_one_of (names_at (T.contents terms.now) names.now) (name_at (T.contents terms.now) name) }
+    ensures { result ≡ is_one_of (names_at (T.contents terms.now) names.now)
+        (name_at (T.contents terms.now) name) }
 {
     let _names = terms.count_names();
     names.has(name)
@@ -41,7 +42,8 @@ fn is_named<T: Terms>(terms: &T, names: &Names, node: Node) -> bool
 fn open<T: Terms>(terms: &T, stack: &mut Vec<Visit>, e: u64, node: Node) -> Result<(), NoMemory>
     requires node_in { IsIn (T.contents terms.now) node }
     requires tree_is { tree_of (T.contents terms.now) node ≡ tree_at (T.contents terms.now) e }
-    ensures { OnOk result ((ks : List ℕ) → is_named (T.contents terms.now) ks node ≡ false → IsOpened (T.contents terms.now) ks e stack.old.items stack.new.items) }
+    ensures { OnOk result ((ks : List ℕ) → is_named (T.contents terms.now) ks node ≡ false
+        → IsOpened (T.contents terms.now) ks e stack.old.items stack.new.items) }
 {
     let _terms = terms;
     push_opened(stack, e)?;
@@ -59,7 +61,9 @@ fn enter<T: Terms>(
 ) -> Result<(), NoMemory>
     requires node_in { IsIn (T.contents terms.now) node }
     requires tree_is { tree_of (T.contents terms.now) node ≡ tree_at (T.contents terms.now) e }
-    ensures { OnOk result ((ks : List ℕ) → AreClear (T.contents terms.now) ks met.now → is_named (T.contents terms.now) ks node ≡ false → IsEntered (T.contents terms.now) ks e stack.old.items stack.new.items) }
+    ensures { OnOk result ((ks : List ℕ) → AreClear (T.contents terms.now) ks met.now
+        → is_named (T.contents terms.now) ks node ≡ false
+        → IsEntered (T.contents terms.now) ks e stack.old.items stack.new.items) }
 {
     if is_leaf(node) {
         return Ok(());
@@ -82,7 +86,8 @@ pub fn look<T: Terms>(
     requires names_in { All (λ n. n < length (T.contents terms.now).names) names.now }
     requires tree_in { e < length (T.contents terms.now).trees }
     requires met { AreClear (T.contents terms.now) names.now met.now }
-    ensures { IfOk result (λ r. IsLooked (T.contents terms.now) names.now e stack.old.items stack.new.items r) }
+    ensures { IfOk result (λ r. IsLooked
+        (T.contents terms.now) names.now e stack.old.items stack.new.items r) }
 {
     let node = terms.view(e);
     if is_named(terms, names, node) {

@@ -4,13 +4,14 @@ ghost use Rattle.std.specs.Prelude.{◌≡◌, ℕ, ◌==◌, IfOk, OnOk, true, 
 ghost use Rattle.std.specs.HashSet.{contains};
 ghost use Rattle.lk_mentions.specs.Names.{any_number};
 
-use lk_rows::memory::NoMemory;
+use lk_store::memory::NoMemory;
 use std::alloc::Global;
 use std::collections::HashSet;
 use std::marker::Model;
 
 fn add(set: &mut HashSet<u64>, number: u64) -> Result<(), NoMemory>
-    ensures { OnOk result ((q : ℕ) → contains nat_eq set.new q ≡ (if number == q then true else contains nat_eq set.old q)) }
+    ensures { OnOk result ((q : ℕ) → contains nat_eq set.new q
+        ≡ (if number == q then true else contains nat_eq set.old q)) }
 {
     match set.insert(number) {
         Ok(_) => {}

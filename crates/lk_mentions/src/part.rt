@@ -3,13 +3,13 @@
 ghost use Rattle.std.specs.Prelude.{◌≡◌, [], ◌∷◌, ◌++◌, map, OnOk, true};
 ghost use Rattle.lk_mentions.specs.Parts.{closed, opened, parts_of};
 
-use lk_rows::memory::NoMemory;
 use lk_rows::row::Row;
 use lk_store::hashing::mix;
+use lk_store::memory::NoMemory;
 use lk_store::node::Node;
 
 /// A tree that was looked through.
-#[derive(Clone, Copy, Debug, PartialEq, Eq)]
+#[derive(Clone, Copy)]
 pub struct Met {
     pub tree: u64,
 }
@@ -37,7 +37,7 @@ impl Row for Met {
 }
 
 /// A tree on the stack. An opened one has its parts above it.
-#[derive(Clone, Copy, Debug, PartialEq, Eq)]
+#[derive(Clone, Copy)]
 pub struct Visit {
     pub tree: u64,
     pub opened: bool,

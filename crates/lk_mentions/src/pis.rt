@@ -8,7 +8,7 @@ use lk_store::node::Node;
 use lk_store::terms::Terms;
 
 /// A Pi.
-#[derive(Clone, Copy, Debug, PartialEq, Eq)]
+#[derive(Clone, Copy)]
 pub struct Pi {
     pub domain: u64,
     pub body: u64,

@@ -9,8 +9,8 @@ ghost use Rattle.lk_mentions.specs.Walks.{AreClear, is_clear};
 use crate::looking::look;
 use crate::names::Names;
 use crate::part::{Met, Visit, push};
-use lk_rows::memory::NoMemory;
 use lk_rows::table::Table;
+use lk_store::memory::NoMemory;
 use lk_store::terms::Terms;
 use std::alloc::Global;
 
@@ -45,7 +45,8 @@ pub fn is_clear<T: Terms>(
 pub fn mentions<T: Terms>(alloc: Global, terms: &T, names: &Names, e: u64) -> Result<bool, NoMemory>
     requires names_in { All (λ n. n < length (T.contents terms.now).names) names.now }
     requires tree_in { e < length (T.contents terms.now).trees }
-    ensures { IfOk result (λ r. r ≡ mentions (names_at (T.contents terms.now) names.now) (tree_at (T.contents terms.now) e)) }
+    ensures { IfOk result (λ r. r ≡ mentions (names_at (T.contents terms.now) names.now)
+        (tree_at (T.contents terms.now) e)) }
 {
     let mut met: Table<Met> = Table::new(alloc);
     let clear = is_clear(alloc, terms, names, &mut met, e)?;

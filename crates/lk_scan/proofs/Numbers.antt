@@ -1,6 +1,7 @@
 -- No name twice, by the names' numbers, from the last name to the first.
 use Rattle.std.proofs.Common.{◌≡◌, ℕ, ◌<◌, Bool, true, false, List, [], ◌∷◌, ◌++◌, length, map, refl, ap, sym, ◌∙◌, subst, arith, append_assoc}
 use Rattle.std.specs.Prelude.{All, ◌||◌, ◌&&◌, ◌==◌, not, nat_eq, if◌then◌else◌}
+use Rattle.std.specs.List.{list_any}
 use Rattle.std.proofs.lemmas.Bool.Decides.{nat_tests}
 use Rattle.std.proofs.lemmas.List.{map-append, append-nil}
 use Rattle.std.proofs.lemmas.List.Elements.{All-head, All-tail}
@@ -48,12 +49,23 @@ one_of_known c ks q apart known h = one_of_numbers c apart ks q (below_of_all (l
 eq_sym : (a b : ℕ) → nat_eq a b ≡ nat_eq b a
 eq_sym a b = grind (arith, nat_tests)
 
+-- one of the numbers, each compared with q
+pub any_same : (q : ℕ) (ks : List ℕ) → list_any (λ k. nat_eq k q) ks ≡ any_number q ks
+any_same q [] = refl
+any_same q (k ∷ ks) = ap (λ b. b || list_any (λ k. nat_eq k q) ks) (eq_sym k q) ∙ ap (λ b. nat_eq q k || b) (any_same q ks)
+
 -- the numbers of the rest are still to be looked at; the names of those behind them are all different, and are what was seen
 pub record Looked (c : Contents) (seen : Seen) (rest ks : List ℕ) : Type 0 where
   pub done : List ℕ
   pub split : ks ≡ rest ++ done
   pub different : none_twice (map (name_at c) done) ≡ true
   pub named : (q : ℕ) → has_number seen q ≡ any_number q done
+
+-- of fewer than two names none stands twice
+pub few_different : (c : Contents) (ks : List ℕ) → length ks < 2 → none_twice (map (name_at c) ks) ≡ true
+few_different c [] h = refl
+few_different c (k ∷ []) h = refl
+few_different c (k ∷ l ∷ ks) h = absurd (omega arith)
 
 pub looked_begin : (c : Contents) (seen : Seen) (ks : List ℕ) → ((q : ℕ) → has_number seen q ≡ false) → Looked c seen ks ks
 looked_begin c seen ks h = record { done = []; split = sym (append-nil ks); different = refl; named = h }

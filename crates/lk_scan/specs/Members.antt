@@ -9,12 +9,12 @@ use Rattle.lk_env.specs.declared.unit.BlockType.{BlockType}
 use Rattle.lk_env.specs.declared.unit.RecursorRule.{RecursorRule}
 use Rattle.lk_env.specs.declared.unit.Recursor.{Recursor}
 use Rattle.lk_scan.specs.declared.trees.Walked.{Walked}
-use Rattle.lk_scan.specs.Walks.{names_of, IsDeclared, AreOver}
+use Rattle.lk_scan.specs.Walks.{IsDeclared, AreWithin}
 
 -- what was met has no level parameter but the declared ones
 pub record IsWalked (c : Contents) (w : Walked) : Type 0 where
   pub declared_is : IsDeclared c w.declared
-  pub met_over : AreOver c (names_of c w.declared) w.met
+  pub met_over : AreWithin c w.declared w.met
 
 -- no level parameter stands twice
 abbrev pub different : Contents → List ℕ → Bool

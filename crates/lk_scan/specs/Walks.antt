@@ -1,9 +1,10 @@
 -- A walk over the parts of a tree, and what is known on its way.
-use Rattle.std.specs.Prelude.{◌≡◌, ◌⊎◌, ℕ, ◌<◌, ◌+◌, List, [], ◌∷◌, ◌++◌, length, All, sum_by, map, Bool, true, false}
+use Rattle.std.specs.Prelude.{◌≡◌, ◌⊎◌, ℕ, ◌<◌, ◌+◌, List, [], ◌∷◌, ◌++◌, length, All, sum_by, map, Option, IfSome, Bool, true, false}
 use Rattle.std.specs.List.{list_all}
 use Rattle.lk_tree.specs.Tree.{Name}
 use Rattle.lk_store.specs.Contents.{Contents, name_at}
 use Rattle.lk_scan.specs.declared.declared.Declared.{Declared}
+use Rattle.lk_scan.specs.declared.seen.Seen.{Seen}
 use Rattle.lk_scan.specs.declared.part.Part.{Part}
 use Rattle.lk_scan.specs.declared.part.Met.{Met}
 use Rattle.lk_scan.specs.declared.part.Visit.{Visit}
@@ -14,14 +15,22 @@ use Rattle.lk_scan.specs.Parts.{closed, opened, IsPartIn, part_over, parts_over,
 abbrev pub names_of : Contents → Declared → List Name
 names_of c d = map (name_at c) d.numbers.items
 
--- the set has just the numbers, and they are those of names
+-- a set that there is has just these numbers
+abbrev pub IsSetOf : Option Seen → List ℕ → Type 0
+IsSetOf set ks = IfSome set (λ seen. (q : ℕ) → has_number seen q ≡ any_number q ks)
+
+-- the numbers are those of names, and a set that there is has just them
 pub record IsDeclared (c : Contents) (d : Declared) : Type 0 where
   pub known : All (λ n. n < length c.names) d.numbers.items
-  pub is_set : (q : ℕ) → has_number d.set q ≡ any_number q d.numbers.items
+  pub is_set : IsSetOf d.set d.numbers.items
 
 -- each part that was looked through has no level parameter but these
 abbrev pub AreOver : Contents → List Name → List Met → Type 0
 AreOver c ps met = All (λ (m : Met). part_over c ps m.part ≡ true) met
+
+-- the same of what was met under declared level parameters
+abbrev pub AreWithin : Contents → Declared → List Met → Type 0
+AreWithin c d met = AreOver c (names_of c d) met
 
 -- an opened part waits for its own parts, which stand above it
 abbrev pub is_over_where : Bool → Bool → Bool

@@ -6,8 +6,8 @@ ghost use Rattle.lk_store.specs.Contents.{name_at};
 ghost use Rattle.lk_store.specs.Store.{contents_of};
 
 use crate::seen::Seen;
-use lk_rows::memory::NoMemory;
 use lk_store::base_store::BaseStore;
+use lk_store::memory::NoMemory;
 use lk_store::terms::Terms;
 use std::alloc::Global;
 
@@ -17,6 +17,9 @@ pub fn none_twice(alloc: Global, base: &BaseStore, names: &[u64]) -> Result<bool
     ensures { IfOk result (λ r. r ≡ none_twice (map (name_at (contents_of base.now)) names.now)) }
 {
     let _names = base.count_names();
+    if names.len() < 2 {
+        return Ok(true);
+    }
     let mut seen = Seen::new(alloc);
     let mut rest = names;
     while let Some((name, more)) = rest.split_last() {

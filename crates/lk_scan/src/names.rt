@@ -13,7 +13,7 @@ use crate::different::none_twice;
 use lk_env::index::names_of;
 use lk_env::library::Library;
 use lk_env::unit::Unit;
-use lk_rows::memory::NoMemory;
+use lk_store::memory::NoMemory;
 use std::alloc::Global;
 
 /// Whether none of the first units gives the name.
@@ -38,12 +38,18 @@ fn none_given(library: &Library, units: u32, names: &[u64]) -> bool
     true
 }
 
-/// Whether none of the units before this number gives the name of one of the unit's members, and no two of its members
-/// have one name. Each name is looked up once, so that a block of many members takes no longer than its names.
+/// Whether none of the units before this number gives the name of one of the unit's members, and no
+/// two of its members have one name. Each name is looked up once, so that a block of many members
+/// takes no longer than its names.
 pub fn are_new(alloc: Global, library: &Library, number: u32, unit: &Unit) -> Result<bool, NoMemory>
     requires { IsUnitIn (contents_of library.now.0) unit.now }
-    ensures { IfOk result (λ r. r ≡ are_new (library_of library.now) number (members_of (unit_at (contents_of library.now.0) unit.now))) }
+    ensures { IfOk result (λ r. r ≡ are_new (library_of library.now) number
+        (members_of (unit_at (contents_of library.now.0) unit.now))) }
 {
+    if let Unit::Declaration(declaration) = unit {
+        let new = is_new(library, number, declaration.name);
+        return Ok(new);
+    }
     let names = names_of(alloc, unit)?;
     if !none_given(library, number, &names) {
         return Ok(false);

@@ -3,13 +3,13 @@
 ghost use Rattle.std.specs.Prelude.{◌≡◌, [], ◌∷◌, ◌++◌, map, OnOk};
 ghost use Rattle.lk_scan.specs.Parts.{hash_of, closed, parts_of, parts_of_level, parts_of_list};
 
-use lk_rows::memory::NoMemory;
 use lk_rows::row::Row;
 use lk_store::hashing::mix;
+use lk_store::memory::NoMemory;
 use lk_store::node::{LevelNode, ListNode, Node};
 
 /// A tree, a level or a list of levels, by its number.
-#[derive(Clone, Copy, Debug, PartialEq, Eq)]
+#[derive(Clone, Copy, PartialEq, Eq)]
 pub enum Part {
     Tree(u64),
     Level(u64),
@@ -28,7 +28,7 @@ fn hash(part: Part) -> u64
 }
 
 /// A part that was looked through.
-#[derive(Clone, Copy, Debug, PartialEq, Eq)]
+#[derive(Clone, Copy)]
 pub struct Met {
     pub part: Part,
 }
@@ -56,7 +56,7 @@ impl Row for Met {
 }
 
 /// A part on the stack. An opened one has its own parts above it.
-#[derive(Clone, Copy, Debug, PartialEq, Eq)]
+#[derive(Clone, Copy)]
 pub struct Visit {
     pub part: Part,
     pub opened: bool,

@@ -10,12 +10,12 @@ use crate::trees::levels_declared;
 use lk_env::entry::Flaw;
 use lk_env::scan::flaw_of;
 use lk_env::unit::Unit;
-use lk_rows::memory::NoMemory;
 use lk_store::base_store::BaseStore;
+use lk_store::memory::NoMemory;
 use std::alloc::Global;
 
 /// What is wrong with a unit in itself.
-#[derive(Clone, Copy, Debug, PartialEq, Eq)]
+#[derive(Clone, Copy)]
 pub enum ScanError {
     /// A member declares a level parameter twice.
     DuplicateLevel,
@@ -49,7 +49,7 @@ pub fn scan(alloc: Global, base: &BaseStore, unit: &Unit) -> Result<(), ScanErro
         return Err(ScanError::DuplicateLevel);
     }
     let flaw = flaw_of(base, unit);
-    if flaw == Some(Flaw::LooseVariable) {
+    if let Some(Flaw::LooseVariable) = flaw {
         return Err(ScanError::LooseVariable);
     }
     if !levels_declared(alloc, base, unit)? {

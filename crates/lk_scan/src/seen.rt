@@ -3,7 +3,7 @@
 ghost use Rattle.std.specs.Prelude.{◌≡◌, ℕ, IfOk};
 ghost use Rattle.lk_scan.specs.Seen.{has_number, any_number};
 
-use lk_rows::memory::NoMemory;
+use lk_store::memory::NoMemory;
 use std::alloc::Global;
 use std::collections::HashSet;
 
@@ -32,7 +32,8 @@ impl Seen {
     }
 
     pub fn add(&mut self, number: u64) -> Result<(), NoMemory>
-        ensures { OnOk result ((q : ℕ) → has_number self.new q ≡ (if number == q then true else has_number self.old q)) }
+        ensures { OnOk result ((q : ℕ) → has_number self.new q
+            ≡ (if number == q then true else has_number self.old q)) }
     {
         match self.numbers.insert(number) {
             Ok(_) => {}

@@ -7,9 +7,11 @@ ghost use Rattle.lk_rulebook.specs.Units.{trees_of, body_trees};
 ghost use Rattle.lk_rulebook.specs.Scan.{all_over};
 ghost use Rattle.lk_store.specs.Contents.{name_at, tree_at};
 ghost use Rattle.lk_store.specs.Store.{contents_of};
-ghost use Rattle.lk_env.specs.Units.{body_at, unit_at, IsBodyIn, IsConstructorIn, IsTypeIn, IsRuleIn, IsRecursorIn, IsUnitIn};
-ghost use Rattle.lk_scan.specs.Walks.{names_of, IsDeclared, AreOver};
-ghost use Rattle.lk_scan.specs.Members.{IsWalked, type_over, constructor_over, constructors_over, rule_over, recursor_over};
+ghost use Rattle.lk_env.specs.Units.{body_at, unit_at, IsBodyIn, IsConstructorIn, IsTypeIn};
+ghost use Rattle.lk_env.specs.Units.{IsRuleIn, IsRecursorIn, IsUnitIn};
+ghost use Rattle.lk_scan.specs.Walks.{names_of, IsDeclared, AreWithin};
+ghost use Rattle.lk_scan.specs.Members.{IsWalked, type_over, constructor_over, constructors_over};
+ghost use Rattle.lk_scan.specs.Members.{rule_over, recursor_over};
 
 use crate::declared::{Declared, make_declared};
 use crate::part::Met;
@@ -17,9 +19,9 @@ use crate::walk::is_over;
 use lk_env::unit::{
     Block, BlockType, Body, Constructor, Declaration, Recursor, RecursorRule, Unit,
 };
-use lk_rows::memory::NoMemory;
 use lk_rows::table::Table;
 use lk_store::base_store::BaseStore;
+use lk_store::memory::NoMemory;
 use std::alloc::Global;
 
 /// What was met under the level parameters of one member, or of several that declare the same.
@@ -74,7 +76,8 @@ fn stated_over(
     requires tree_in { tree < length (contents_of base.now).trees }
     ensures walked { IfOk result (λ r. IsWalked (contents_of base.now) walked.new) }
     ensures same { IfOk result (λ r. walked.new.declared.numbers.items ≡ levels.now) }
-    ensures over { IfOk result (λ r. r ≡ tree_over (map (name_at (contents_of base.now)) levels.now) (tree_at (contents_of base.now) tree)) }
+    ensures over { IfOk result (λ r. r ≡ tree_over (map (name_at (contents_of base.now)) levels.now)
+        (tree_at (contents_of base.now) tree)) }
 {
     enter(alloc, base, walked, levels)?;
     let over = is_over(alloc, base, &walked.declared, &mut walked.met, tree)?;
@@ -109,7 +112,8 @@ fn constructors_over(
     requires walked { IsWalked (contents_of base.now) walked.old }
     requires constructors_in { All (IsConstructorIn (contents_of base.now)) constructors.now }
     ensures walked { IfOk result (λ r. IsWalked (contents_of base.now) walked.new) }
-    ensures over { IfOk result (λ r. r ≡ list_all (constructor_over (contents_of base.now)) constructors.now) }
+    ensures over { IfOk result (λ r. r ≡ list_all (constructor_over (contents_of base.now))
+        constructors.now) }
 {
     for k in constructors {
         if !stated_over(alloc, base, walked, &k.levels, k.kind)? {
@@ -128,7 +132,8 @@ fn all_constructors_over(
     requires walked { IsWalked (contents_of base.now) walked.old }
     requires types_in { All (IsTypeIn (contents_of base.now)) types.now }
     ensures walked { IfOk result (λ r. IsWalked (contents_of base.now) walked.new) }
-    ensures over { IfOk result (λ r. r ≡ list_all (constructors_over (contents_of base.now)) types.now) }
+    ensures over { IfOk result (λ r. r ≡ list_all (constructors_over (contents_of base.now))
+        types.now) }
 {
     for t in types {
         if !constructors_over(alloc, base, walked, &t.constructors)? {
@@ -146,10 +151,11 @@ fn rules_over(
     rules: &[RecursorRule],
 ) -> Result<bool, NoMemory>
     requires declared { IsDeclared (contents_of base.now) declared.now }
-    requires met { AreOver (contents_of base.now) (names_of (contents_of base.now) declared.now) met.old }
+    requires met { AreWithin (contents_of base.now) declared.now met.old }
     requires rules_in { All (IsRuleIn (contents_of base.now)) rules.now }
-    ensures met { IfOk result (λ r. AreOver (contents_of base.now) (names_of (contents_of base.now) declared.now) met.new) }
-    ensures over { IfOk result (λ r. r ≡ list_all (rule_over (contents_of base.now) (names_of (contents_of base.now) declared.now)) rules.now) }
+    ensures met { IfOk result (λ r. AreWithin (contents_of base.now) declared.now met.new) }
+    ensures over { IfOk result (λ r. r ≡ list_all (rule_over (contents_of base.now)
+        (names_of (contents_of base.now) declared.now)) rules.now) }
 {
     for rule in rules {
         if !is_over(alloc, base, declared, met, rule.value)? {
@@ -203,7 +209,8 @@ fn recursors_over(
 
 fn block_over(alloc: Global, base: &BaseStore, block: &Block) -> Result<bool, NoMemory>
     requires { IsUnitIn (contents_of base.now) (Unit.Block block.now) }
-    ensures { IfOk result (λ r. r ≡ all_over (trees_of (unit_at (contents_of base.now) (Unit.Block block.now)))) }
+    ensures { IfOk result (λ r. r ≡ all_over (trees_of
+        (unit_at (contents_of base.now) (Unit.Block block.now)))) }
 {
     let mut walked = start(alloc, base, &[])?;
     if !types_over(alloc, base, &mut walked, &block.types)? {
@@ -224,7 +231,9 @@ fn body_over(
 ) -> Result<bool, NoMemory>
     requires walked { IsWalked (contents_of base.now) walked.old }
     requires body_in { IsBodyIn (contents_of base.now) body }
-    ensures { IfOk result (λ r. r ≡ all_over (body_trees (names_of (contents_of base.now) walked.old.declared) (body_at (contents_of base.now) body))) }
+    ensures { IfOk result (λ r. r ≡ all_over
+        (body_trees (names_of (contents_of base.now) walked.old.declared)
+        (body_at (contents_of base.now) body))) }
 {
     match body {
         Body::Axiom | Body::Quotient => Ok(true),
@@ -243,7 +252,8 @@ fn declaration_over(
     declaration: &Declaration,
 ) -> Result<bool, NoMemory>
     requires { IsUnitIn (contents_of base.now) (Unit.Declaration declaration.now) }
-    ensures { IfOk result (λ r. r ≡ all_over (trees_of (unit_at (contents_of base.now) (Unit.Declaration declaration.now)))) }
+    ensures { IfOk result (λ r. r ≡ all_over (trees_of
+        (unit_at (contents_of base.now) (Unit.Declaration declaration.now)))) }
 {
     let mut walked = start(alloc, base, &declaration.levels)?;
     if !is_over(

@@ -7,7 +7,7 @@ ghost use Rattle.lk_store.specs.Contents.{tree_at, Extends, IsTree};
 ghost use Rattle.lk_spine.specs.Telescope.{domains, under_pis};
 ghost use Rattle.lk_spine.specs.Reading.{AreTrees};
 
-use lk_rows::memory::NoMemory;
+use lk_store::memory::NoMemory;
 use lk_store::node::Node;
 use lk_store::terms::Terms;
 use std::alloc::Global;
@@ -28,7 +28,8 @@ pub fn head<T: Terms>(terms: &T, e: u64) -> u64
 /// The arguments of a head, in order.
 pub fn args<T: Terms>(alloc: Global, terms: &T, e: u64) -> Result<Vec<u64>, NoMemory>
     requires { e < length (T.contents terms.now).trees }
-    ensures { IfOk result (λ es. AreTrees (T.contents terms.now) es.items (spine.args (tree_at (T.contents terms.now) e))) }
+    ensures { IfOk result (λ es. AreTrees (T.contents terms.now) es.items
+        (spine.args (tree_at (T.contents terms.now) e))) }
 {
     let mut found = Vec::new(alloc);
     let mut at = e;
@@ -46,7 +47,9 @@ pub fn apply<T: Terms>(terms: &mut T, f: u64, args: &[u64]) -> Result<u64, NoMem
     requires args_in { All (λ e. e < length (T.contents terms.old).trees) args.now }
     ensures keeps { Extends (T.contents terms.old) (T.contents terms.new) }
     ensures rest { T.rest terms.new ≡ T.rest terms.old }
-    ensures ok { IfOk result (λ e. IsTree (T.contents terms.new) e (spine.apply (tree_at (T.contents terms.old) f) (map (tree_at (T.contents terms.old)) args.now))) }
+    ensures ok { IfOk result (λ e. IsTree (T.contents terms.new) e
+        (spine.apply (tree_at (T.contents terms.old) f)
+        (map (tree_at (T.contents terms.old)) args.now))) }
 {
     let mut e = f;
     for a in args {
@@ -58,7 +61,9 @@ pub fn apply<T: Terms>(terms: &mut T, f: u64, args: &[u64]) -> Result<u64, NoMem
 /// The domains of the Pis at the head of a type, in order, and what is under them.
 pub fn telescope<T: Terms>(alloc: Global, terms: &T, e: u64) -> Result<(Vec<u64>, u64), NoMemory>
     requires { e < length (T.contents terms.now).trees }
-    ensures { IfOk result (λ t. AreTrees (T.contents terms.now) t.0.items (domains (tree_at (T.contents terms.now) e)) × IsTree (T.contents terms.now) t.1 (under_pis (tree_at (T.contents terms.now) e))) }
+    ensures { IfOk result (λ t.
+        AreTrees (T.contents terms.now) t.0.items (domains (tree_at (T.contents terms.now) e))
+        × IsTree (T.contents terms.now) t.1 (under_pis (tree_at (T.contents terms.now) e))) }
 {
     let mut found = Vec::new(alloc);
     let mut at = e;

@@ -28,12 +28,5 @@ popped_less c stack stack' v popped =
     let q = cost_where_positive v.opened (level_at c v.level) in
     omega arith
 
-pub opened_less : (c : Contents) (stack stack' more : List Visit) (v : Visit) → stack ≡ stack' ++ v ∷ [] → v.opened ≡ false
-    → visits_cost c more < visits_cost c stack' + cost (level_at c v.level) → visits_cost c more < visits_cost c stack
-opened_less c stack stack' more v popped closed h =
-    let p = popped_cost c stack stack' v popped in
-    let q : visit_cost c v ≡ cost (level_at c v.level) = rw closed (let e : cost_where false (level_at c v.level) ≡ cost (level_at c v.level) = omega arith in e) in
-    omega arith
-
 pub popped_known : (c : Contents) (stack stack' : List Visit) (v : Visit) → stack ≡ stack' ++ v ∷ [] → AreVisits c stack → AreVisits c stack' × (v.level < length c.levels)
 popped_known c stack stack' v popped h = All-pop (λ (v : Visit). v.level < length c.levels) stack stack' (Some v) popped h

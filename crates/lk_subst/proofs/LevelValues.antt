@@ -7,11 +7,11 @@ use Rattle.std.proofs.lemmas.List.Elements.{All-weaker}
 use Rattle.lk_tree.specs.Tree.{Name, name_discrete, Level, zero_level, succ_level, max_level, imax_level, param}
 use Rattle.lk_tree.specs.Levels.{level_for, put_in_level}
 use Rattle.lk_store.specs.Measures.{level_has_params, list_has_params}
-use Rattle.lk_store.specs.Contents.{Contents, name_at, level_at, list_at, Extends, IsLevel}
+use Rattle.lk_store.specs.Contents.{Contents, name_at, level_at, list_at, Extends, IsLevel, IsList}
 use Rattle.lk_subst.specs.declared.parts.Met.{Met}
 use Rattle.lk_subst.specs.Numbers.{values-steady, values-known}
 use Rattle.lk_subst.specs.Parts.{AreMet}
-use Rattle.lk_subst.specs.Parameters.{putting, ArePut}
+use Rattle.lk_subst.specs.Parameters.{putting, ArePut, IsPut, ArePutIn}
 
 pub no_left : (a b : Bool) → (a || b) ≡ false → a ≡ false
 no_left true b h = h
@@ -121,6 +121,38 @@ module _ (c d : Contents) (x : Extends c d) where
             rw read here)
             k (rw longer at l) m;
       }
+
+module _ (c d : Contents) (ps vs : List ℕ) (x : Extends c d) (h : All (λ p. p < length c.names) ps) (k : All (λ v. v < length c.levels) vs) where
+  -- what is put once the store has grown is what would have been put before
+  pub later_put : (e : Contents) (l r : ℕ) → l < length c.levels → IsPut d ps vs l e r → IsPut c ps vs l e r
+  later_put e l r in_l put = record {
+    known = put.known;
+    is = put.is ∙ ap (λ (f : Level → Level). f (level_at d l)) (putting-steady c d x ps vs h k) ∙ ap (putting c ps vs) (x.levels.same l in_l);
+  }
+
+  pub later_put_all : (e : Contents) (ls r : ℕ) → ls < length c.lists → ArePutIn d ps vs ls e r → ArePutIn c ps vs ls e r
+  later_put_all e ls r in_ls put = record {
+    known = put.known;
+    is = put.is ∙ ap (λ (f : Level → Level). map f (list_at d ls)) (putting-steady c d x ps vs h k) ∙ ap (map (putting c ps vs)) (x.lists.same ls in_ls);
+  }
+
+  -- two parts are put, the second once the first is
+  pub both_put : (e : Contents) (make : Level → Level → Level) (a b p q : ℕ) → Extends d e → b < length c.levels
+      → IsPut c ps vs a d p → IsPut d ps vs b e q
+      → make (level_at e p) (level_at e q) ≡ make (putting c ps vs (level_at c a)) (putting c ps vs (level_at c b))
+  both_put e make a b p q y in_b first second =
+      let left = y.levels.same p first.known ∙ first.is in
+      let right = later_put e b q in_b second in
+      ap (λ l. make l (level_at e q)) left ∙ ap (make (putting c ps vs (level_at c a))) right.is
+
+  -- the others of a list are put, and then the first
+  pub first_put : (e f : Contents) (first others l ls r : ℕ) → Extends d e → first < length c.levels
+      → ArePutIn c ps vs others d ls → IsPut d ps vs first e l → IsList f r (level_at e l ∷ list_at e ls)
+      → IsList f r (putting c ps vs (level_at c first) ∷ map (putting c ps vs) (list_at c others))
+  first_put e f first others l ls r y in_first rest put whole =
+      let tail = y.lists.same ls rest.known ∙ rest.is in
+      let head = later_put e first l in_first put in
+      record { known = whole.known; is = whole.is ∙ ap (λ m. m ∷ list_at e ls) head.is ∙ ap (λ ms. putting c ps vs (level_at c first) ∷ ms) tail }
 
 -- one level more of the list is put
 pub put_more : (f : Level → Level) (c0 c c1 c2 : Contents) (found found' : List ℕ) (level at r made : ℕ) (whole : List Level)

@@ -5,13 +5,13 @@ ghost use Rattle.lk_tree.specs.Bind.{close as closed};
 ghost use Rattle.lk_store.specs.Contents.{tree_at, Extends, IsTree};
 
 use crate::walk::{Rewrite, rewritten};
-use lk_rows::memory::NoMemory;
+use lk_store::memory::NoMemory;
 use lk_store::node::Node;
 use lk_store::terms::Terms;
 use std::alloc::Global;
 
 /// Puts the outermost variable in place of the Locals of a number.
-#[derive(Clone, Copy, Debug, PartialEq, Eq)]
+#[derive(Clone, Copy)]
 pub struct Closing {
     pub number: u64,
 }
@@ -62,7 +62,8 @@ pub fn close<T: Terms>(alloc: Global, terms: &mut T, e: u64, k: u64) -> Result<u
     requires { e < length (T.contents terms.old).trees }
     ensures keeps { Extends (T.contents terms.old) (T.contents terms.new) }
     ensures rest { T.rest terms.new ≡ T.rest terms.old }
-    ensures ok { IfOk result (λ r. IsTree (T.contents terms.new) r (closed k (tree_at (T.contents terms.old) e))) }
+    ensures ok { IfOk result (λ r. IsTree (T.contents terms.new) r
+        (closed k (tree_at (T.contents terms.old) e))) }
 {
     rewritten(alloc, terms, &Closing { number: k }, e)
 }

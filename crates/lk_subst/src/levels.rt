@@ -1,13 +1,13 @@
 //! Levels in place of the parameters of a tree.
 
-ghost use Rattle.std.specs.Prelude.{◌≡◌, ◌<◌, length, IfOk, All, map};
+ghost use Rattle.std.specs.Prelude.{◌≡◌, ◌<◌, length, IfOk, All};
 ghost use Rattle.lk_tree.specs.Tree.{sort, const};
-ghost use Rattle.lk_tree.specs.Levels.{put_levels as tree_put};
 ghost use Rattle.lk_store.specs.Contents.{name_at, level_at, list_at, tree_at, Extends, IsTree};
+ghost use Rattle.lk_subst.specs.Levels.{put_in_tree};
 
 use crate::parameters::{put_in_level, put_levels};
 use crate::walk::{Rewrite, rewritten};
-use lk_rows::memory::NoMemory;
+use lk_store::memory::NoMemory;
 use lk_store::node::Node;
 use lk_store::terms::Terms;
 use std::alloc::Global;
@@ -25,9 +25,11 @@ impl<'a, T: Terms> Rewrite<T> for PuttingLevels<'a> {
     ghost use Rattle.lk_store.specs.Contents.{name_at, level_at};
     ghost use Rattle.lk_subst.specs.Levels.{levels_for, levels-steady, parts-known};
 
-    ghost change = { λ s c. levels_for (map (name_at c) s.params.now) (map (level_at c) s.levels.now) };
+    ghost change = { λ s c. levels_for (map (name_at c) s.params.now)
+        (map (level_at c) s.levels.now) };
 
-    ghost is_known = { λ s c. All (λ p. p < length c.names) s.params.now × All (λ l. l < length c.levels) s.levels.now };
+    ghost is_known = { λ s c. All (λ p. p < length c.names) s.params.now
+        × All (λ l. l < length c.levels) s.levels.now };
 
     ghost more = { λ s c d x h. parts-known c d s.params.now s.levels.now x h };
 
@@ -73,7 +75,9 @@ fn put_sort<T: Terms>(
     requires levels_in { All (λ l. l < length (T.contents terms.old).levels) levels.now }
     ensures keeps { Extends (T.contents terms.old) (T.contents terms.new) }
     ensures rest { T.rest terms.new ≡ T.rest terms.old }
-    ensures ok { IfOk result (λ e. IsTree (T.contents terms.new) e (tree_put (map (name_at (T.contents terms.old)) params.now) (map (level_at (T.contents terms.old)) levels.now) (sort (level_at (T.contents terms.old) level)))) }
+    ensures ok { IfOk result (λ e. IsTree (T.contents terms.new) e
+        (put_in_tree (T.contents terms.old) params.now levels.now
+        (sort (level_at (T.contents terms.old) level)))) }
 {
     let l = put_in_level(alloc, terms, params, levels, level)?;
     let r = terms.make(Node::Sort(l))?;
@@ -96,7 +100,9 @@ fn put_const<T: Terms>(
     requires levels_in { All (λ l. l < length (T.contents terms.old).levels) levels.now }
     ensures keeps { Extends (T.contents terms.old) (T.contents terms.new) }
     ensures rest { T.rest terms.new ≡ T.rest terms.old }
-    ensures ok { IfOk result (λ e. IsTree (T.contents terms.new) e (tree_put (map (name_at (T.contents terms.old)) params.now) (map (level_at (T.contents terms.old)) levels.now) (const (name_at (T.contents terms.old) name) (list_at (T.contents terms.old) list)))) }
+    ensures ok { IfOk result (λ e. IsTree (T.contents terms.new) e
+        (put_in_tree (T.contents terms.old) params.now levels.now
+        (const (name_at (T.contents terms.old) name) (list_at (T.contents terms.old) list)))) }
 {
     let ls = put_levels(alloc, terms, params, levels, list)?;
     let r = terms.make(Node::Const(name, ls))?;
@@ -116,7 +122,9 @@ pub fn put_levels_in<T: Terms>(
     requires levels_in { All (λ l. l < length (T.contents terms.old).levels) levels.now }
     ensures keeps { Extends (T.contents terms.old) (T.contents terms.new) }
     ensures rest { T.rest terms.new ≡ T.rest terms.old }
-    ensures ok { IfOk result (λ r. IsTree (T.contents terms.new) r (tree_put (map (name_at (T.contents terms.old)) params.now) (map (level_at (T.contents terms.old)) levels.now) (tree_at (T.contents terms.old) e))) }
+    ensures ok { IfOk result (λ r. IsTree (T.contents terms.new) r
+        (put_in_tree (T.contents terms.old) params.now levels.now
+        (tree_at (T.contents terms.old) e))) }
 {
     rewritten(
         alloc,

@@ -1,10 +1,13 @@
-//! Opening, closing and putting, over any store: instances of one walk that takes a stack of its own.
+//! Opening, closing and putting, over any store: instances of one walk that takes a stack of its
+//! own. Small levels and short lists of them are put without a walk.
 #![tactic(auto)]
 
+mod by_parts;
 pub mod closing;
 pub mod levels;
 pub mod opening;
 pub mod parameters;
 pub mod parts;
 pub mod putting;
+mod small;
 pub mod walk;

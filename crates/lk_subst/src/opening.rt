@@ -5,13 +5,13 @@ ghost use Rattle.lk_tree.specs.Bind.{opened};
 ghost use Rattle.lk_store.specs.Contents.{tree_at, Extends, IsTree};
 
 use crate::walk::{Rewrite, rewritten};
-use lk_rows::memory::NoMemory;
+use lk_store::memory::NoMemory;
 use lk_store::node::Node;
 use lk_store::terms::Terms;
 use std::alloc::Global;
 
 /// Puts a value in place of the outermost variable.
-#[derive(Clone, Copy, Debug, PartialEq, Eq)]
+#[derive(Clone, Copy)]
 pub struct Opening {
     pub value: u64,
 }
@@ -67,7 +67,8 @@ pub fn open_with<T: Terms>(alloc: Global, terms: &mut T, body: u64, v: u64) -> R
     requires v_in { v < length (T.contents terms.old).trees }
     ensures keeps { Extends (T.contents terms.old) (T.contents terms.new) }
     ensures rest { T.rest terms.new ≡ T.rest terms.old }
-    ensures ok { IfOk result (λ e. IsTree (T.contents terms.new) e (opened (tree_at (T.contents terms.old) body) (tree_at (T.contents terms.old) v))) }
+    ensures ok { IfOk result (λ e. IsTree (T.contents terms.new) e
+        (opened (tree_at (T.contents terms.old) body) (tree_at (T.contents terms.old) v))) }
 {
     rewritten(alloc, terms, &Opening { value: v }, body)
 }

@@ -4,16 +4,16 @@ ghost use Rattle.std.specs.Prelude.{◌≡◌, ◌<◌, ◌+◌, length, All, If
 ghost use Rattle.lk_store.specs.Contents.{level_at};
 ghost use Rattle.lk_subst.specs.Parts.{AreMet, AreVisits, visits_cost, cost};
 
-use lk_rows::memory::NoMemory;
 use lk_rows::row::Row;
 use lk_rows::table::Table;
 use lk_store::hashing::mix;
+use lk_store::memory::NoMemory;
 use lk_store::node::LevelNode;
 use lk_store::terms::Terms;
 use std::alloc::Global;
 
 /// A level that was met.
-#[derive(Clone, Copy, Debug, PartialEq, Eq)]
+#[derive(Clone, Copy)]
 pub struct Met {
     pub level: u64,
 }
@@ -41,7 +41,7 @@ impl Row for Met {
 }
 
 /// A level on the stack. An opened one has its parts above it.
-#[derive(Clone, Copy, Debug, PartialEq, Eq)]
+#[derive(Clone, Copy)]
 pub struct Visit {
     pub level: u64,
     pub opened: bool,
@@ -52,7 +52,9 @@ pub fn open<T: Terms>(terms: &T, stack: &mut Vec<Visit>, level: u64) -> Result<(
     requires level_in { level < length (T.contents terms.now).levels }
     requires visits { AreVisits (T.contents terms.now) stack.old.items }
     ensures visits { OnOk result (AreVisits (T.contents terms.now) stack.new.items) }
-    ensures less { OnOk result (visits_cost (T.contents terms.now) stack.new.items < visits_cost (T.contents terms.now) stack.old.items + cost (level_at (T.contents terms.now) level)) }
+    ensures less { OnOk result (visits_cost (T.contents terms.now) stack.new.items
+        < visits_cost (T.contents terms.now) stack.old.items
+        + cost (level_at (T.contents terms.now) level)) }
 {
     stack.push(Visit {
         level,
@@ -78,7 +80,8 @@ pub fn open<T: Terms>(terms: &T, stack: &mut Vec<Visit>, level: u64) -> Result<(
     Ok(())
 }
 
-/// The levels with parameters that a level is made of, each once and after its own parts; the last is the level itself.
+/// The levels with parameters that a level is made of, each once and after its own parts; the last
+/// is the level itself.
 pub fn level_parts<T: Terms>(alloc: Global, terms: &T, level: u64) -> Result<Table<Met>, NoMemory>
     requires { level < length (T.contents terms.now).levels }
     ensures { IfOk result (λ met. AreMet (T.contents terms.now) met) }

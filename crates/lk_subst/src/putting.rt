@@ -5,13 +5,13 @@ ghost use Rattle.lk_store.specs.Contents.{tree_at, Extends, IsTree};
 ghost use Rattle.lk_tree.specs.Putting.{put as put_values};
 
 use crate::walk::{Rewrite, rewritten};
-use lk_rows::memory::NoMemory;
+use lk_store::memory::NoMemory;
 use lk_store::node::Node;
 use lk_store::terms::Terms;
 use std::alloc::Global;
 
 /// Puts values in place of the outermost variables, the first in place of the outermost one.
-#[derive(Clone, Copy, Debug)]
+#[derive(Clone, Copy)]
 pub struct Putting<'a> {
     pub values: &'a [u64],
 }
@@ -63,7 +63,7 @@ impl<'a, T: Terms> Rewrite<T> for Putting<'a> {
     }
 }
 
-/// The body with values in place of its outermost variables, the first in place of the outermost one.
+/// The body with values in place of its outermost variables, the first in place of the outermost.
 pub fn put<T: Terms>(
     alloc: Global,
     terms: &mut T,
@@ -74,7 +74,9 @@ pub fn put<T: Terms>(
     requires values_in { All (λ v. v < length (T.contents terms.old).trees) values.now }
     ensures keeps { Extends (T.contents terms.old) (T.contents terms.new) }
     ensures rest { T.rest terms.new ≡ T.rest terms.old }
-    ensures ok { IfOk result (λ e. IsTree (T.contents terms.new) e (put_values (map (tree_at (T.contents terms.old)) values.now) (tree_at (T.contents terms.old) body))) }
+    ensures ok { IfOk result (λ e. IsTree (T.contents terms.new) e
+        (put_values (map (tree_at (T.contents terms.old)) values.now)
+        (tree_at (T.contents terms.old) body))) }
 {
     rewritten(alloc, terms, &Putting { values }, body)
 }

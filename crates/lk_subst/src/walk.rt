@@ -1,27 +1,29 @@
-//! Walks that build a tree anew. A walk keeps a stack of its own, and builds each pair of a number and a depth once.
+//! Walks that build a tree anew. A walk keeps a stack of its own, and builds each pair of a number
+//! and a depth once.
 
-ghost use Rattle.std.specs.Prelude.{◌≡◌, ◌<◌, ℕ, length, IfOk, MatchOption, IfSome, IfNone};
+ghost use Rattle.std.specs.Prelude.{◌≡◌, ◌<◌, ℕ, length, IfOk};
 ghost use Rattle.lk_tree.specs.Tree.{Tree};
-ghost use Rattle.lk_store.specs.Contents.{Contents, tree_at, tree_of, IsIn, Extends, IsTree};
-ghost use Rattle.lk_subst.specs.Walks.{Change, Descends, finished, work, work_after, wait_of, IsWaiting, IsTurn, own, joined, Leads, wait_work, turn_work, AreMade, hash_of_place, GoesOn, first_of, next_of, with_child, inside};
+ghost use Rattle.lk_store.specs.Contents.{Contents, tree_at, Extends};
+ghost use Rattle.lk_subst.specs.Walks.{Change, Descends, IsStep, IsMade, AreMade, IsWaiting};
+ghost use Rattle.lk_subst.specs.Walks.{Begins, Resumes, IsOwn, first_of, next_of, with_child, inside};
 
-use lk_rows::memory::NoMemory;
 use lk_rows::row::Row;
 use lk_rows::table::Table;
 use lk_store::hashing::mix;
+use lk_store::memory::NoMemory;
 use lk_store::node::Node;
 use lk_store::terms::Terms;
 use std::alloc::Global;
 
 /// A number under some binders.
-#[derive(Clone, Copy, Debug, PartialEq, Eq)]
+#[derive(Clone, Copy, PartialEq, Eq)]
 pub struct Place {
     pub e: u64,
     pub depth: u64,
 }
 
 /// What was made at a place.
-#[derive(Clone, Copy, Debug, PartialEq, Eq)]
+#[derive(Clone, Copy)]
 pub struct Made {
     pub place: Place,
     pub made: u64,
@@ -50,15 +52,16 @@ impl Row for Made {
 }
 
 /// A child of a node.
-#[derive(Clone, Copy, Debug, PartialEq, Eq)]
+#[derive(Clone, Copy)]
 pub enum Child {
     First,
     Second,
     Third,
 }
 
-/// A node that waits for a child. The children before that one are built, and stand in the node in place of those that it had.
-#[derive(Clone, Copy, Debug, PartialEq, Eq)]
+/// A node that waits for a child. The children before that one are built, and stand in the node in
+/// place of those that it had.
+#[derive(Clone, Copy)]
 pub struct Waiting {
     pub place: Place,
     pub node: Node,
@@ -66,7 +69,7 @@ pub struct Waiting {
 }
 
 /// What a walk does next.
-#[derive(Clone, Copy, Debug, PartialEq, Eq)]
+#[derive(Clone, Copy)]
 pub enum Turn {
     /// The node waits for what is made of `e`.
     Down {
@@ -94,13 +97,15 @@ pub trait Rewrite<T: Terms> {
         requires e_in { e < length (T.contents terms.old).trees }
         ensures keeps { Extends (T.contents terms.old) (T.contents terms.new) }
         ensures rest { T.rest terms.new ≡ T.rest terms.old }
-        ensures made { IfOk result (λ made. MatchOption made (Descends (change self.now (T.contents terms.old)) depth (tree_at (T.contents terms.old) e)) (λ r. IsTree (T.contents terms.new) r (change self.now (T.contents terms.old) depth (tree_at (T.contents terms.old) e)))) };
+        ensures made { IfOk result (IsStep (change self.now (T.contents terms.old))
+            (T.contents terms.old) e depth (T.contents terms.new)) };
 
     /// What is known stays known.
     ghost more: { (s : Self) (c d : Contents) → Extends c d → is_known s c → is_known s d };
 
     /// More contents change nothing.
-    ghost steady: { (s : Self) (c d : Contents) → Extends c d → is_known s c → change s d ≡ change s c };
+    ghost steady: { (s : Self) (c d : Contents) → Extends c d → is_known s c
+        → change s d ≡ change s c };
 }
 
 /// The first child.
@@ -176,6 +181,32 @@ fn depth_inside(depth: u64, under_binder: bool) -> Result<u64, NoMemory>
     }
 }
 
+/// Goes down to the first child of a tree, which waits for what is made of it.
+fn enter<T: Terms, R: Rewrite<T>>(terms: &T, rewrite: &R, e: u64, depth: u64) -> Turn
+    requires e_in { e < length (T.contents terms.now).trees }
+    requires descends { Descends (R.change rewrite.now (T.contents terms.now)) depth
+        (tree_at (T.contents terms.now) e) }
+    ensures { Begins (R.change rewrite.now (T.contents terms.now)) (T.contents terms.now) e depth
+        (T.contents terms.now) result }
+{
+    let _rewrite = rewrite;
+    let place = Place { e, depth };
+    let node = terms.view(e);
+    match first_child(node) {
+        Some(first) => Turn::Down {
+            waiting: Waiting {
+                place,
+                node,
+                child: Child::First,
+            },
+            e: first,
+            depth,
+        },
+        // A step makes something of each leaf at once.
+        None => unreachable!(),
+    }
+}
+
 /// Begins the tree under a number.
 fn begin<T: Terms, R: Rewrite<T>>(
     terms: &mut T,
@@ -185,35 +216,23 @@ fn begin<T: Terms, R: Rewrite<T>>(
     depth: u64,
 ) -> Result<Turn, NoMemory>
     requires known { R.is_known rewrite.now (T.contents terms.old) }
-    requires made { AreMade (R.change rewrite.now (T.contents terms.old)) (T.contents terms.old) made.now }
+    requires made { AreMade (R.change rewrite.now (T.contents terms.old)) (T.contents terms.old)
+        made.now }
     requires e_in { e < length (T.contents terms.old).trees }
     ensures keeps { Extends (T.contents terms.old) (T.contents terms.new) }
     ensures rest { T.rest terms.new ≡ T.rest terms.old }
-    ensures goes_on { IfOk result (λ turn. GoesOn (R.change rewrite.now (T.contents terms.old)) (T.contents terms.new) turn (R.change rewrite.now (T.contents terms.old) depth (tree_at (T.contents terms.old) e)) (work (tree_at (T.contents terms.old) e))) }
+    ensures goes_on { IfOk result (Begins (R.change rewrite.now (T.contents terms.old))
+        (T.contents terms.old) e depth (T.contents terms.new)) }
 {
-    let place = Place { e, depth };
     if let Some(r) = rewrite.step(terms, e, depth)? {
         return Ok(Turn::Up { e: r });
     }
-    if let Some(i) = made.find(&place) {
+    if let Some(i) = made.find(&Place { e, depth }) {
         return Ok(Turn::Up {
             e: made.get(i).made,
         });
     }
-    let node = terms.view(e);
-    match first_child(node) {
-        Some(first) => Ok(Turn::Down {
-            waiting: Waiting {
-                place,
-                node,
-                child: Child::First,
-            },
-            e: first,
-            depth,
-        }),
-        // A step makes something of each leaf at once.
-        None => unreachable!(),
-    }
+    Ok(enter(terms, rewrite, e, depth))
 }
 
 /// Goes on once the child is built that the node waits for.
@@ -227,8 +246,10 @@ fn resume<T: Terms>(
     requires e_in { e < length (T.contents terms.old).trees }
     ensures keeps { Extends (T.contents terms.old) (T.contents terms.new) }
     ensures rest { T.rest terms.new ≡ T.rest terms.old }
-    ensures made { (f : Change) → AreMade f (T.contents terms.old) made.old → joined f (wait_of (T.contents terms.old) waiting) (tree_at (T.contents terms.old) e) ≡ own f (wait_of (T.contents terms.old) waiting) → AreMade f (T.contents terms.new) made.new }
-    ensures goes_on { IfOk result (λ turn. (f : Change) (s : Tree) → own f (wait_of (T.contents terms.old) waiting) ≡ s → joined f (wait_of (T.contents terms.old) waiting) (tree_at (T.contents terms.old) e) ≡ s → GoesOn f (T.contents terms.new) turn s (wait_work (wait_of (T.contents terms.old) waiting))) }
+    ensures made { (f : Change) → AreMade f (T.contents terms.old) made.old
+        → IsOwn f (T.contents terms.old) waiting e → AreMade f (T.contents terms.new) made.new }
+    ensures goes_on { IfOk result
+        (Resumes (T.contents terms.old) waiting e (T.contents terms.new)) }
 {
     let place = waiting.place;
     let node = replaced(waiting.node, waiting.child, e);
@@ -249,8 +270,8 @@ fn resume<T: Terms>(
     }
 }
 
-/// What the change makes of a tree.
-pub fn rewritten<T: Terms, R: Rewrite<T>>(
+/// What the change makes of a tree whose children are to be walked.
+fn walk<T: Terms, R: Rewrite<T>>(
     alloc: Global,
     terms: &mut T,
     rewrite: &R,
@@ -258,13 +279,16 @@ pub fn rewritten<T: Terms, R: Rewrite<T>>(
 ) -> Result<u64, NoMemory>
     requires known { R.is_known rewrite.now (T.contents terms.old) }
     requires e_in { e < length (T.contents terms.old).trees }
+    requires descends { Descends (R.change rewrite.now (T.contents terms.old)) 0
+        (tree_at (T.contents terms.old) e) }
     ensures keeps { Extends (T.contents terms.old) (T.contents terms.new) }
     ensures rest { T.rest terms.new ≡ T.rest terms.old }
-    ensures ok { IfOk result (λ r. IsTree (T.contents terms.new) r (R.change rewrite.now (T.contents terms.old) 0 (tree_at (T.contents terms.old) e))) }
+    ensures ok { IfOk result (IsMade (R.change rewrite.now (T.contents terms.old))
+        (T.contents terms.old) e 0 (T.contents terms.new)) }
 {
     let mut made: Table<Made> = Table::new(alloc);
     let mut stack: Vec<Waiting> = Vec::new(alloc);
-    let mut turn = begin(terms, rewrite, &made, e, 0)?;
+    let mut turn = enter(terms, rewrite, e, 0);
     'walk: loop {
         match turn {
             Turn::Down { waiting, e, depth } => {
@@ -277,4 +301,26 @@ pub fn rewritten<T: Terms, R: Rewrite<T>>(
             },
         }
     }
+}
+
+/// What the change makes of a tree. Where it makes something at once, as it does where the tree's
+/// bounds say that nothing changes, no walk begins.
+pub fn rewritten<T: Terms, R: Rewrite<T>>(
+    alloc: Global,
+    terms: &mut T,
+    rewrite: &R,
+    e: u64,
+) -> Result<u64, NoMemory>
+    requires known { R.is_known rewrite.now (T.contents terms.old) }
+    requires e_in { e < length (T.contents terms.old).trees }
+    ensures keeps { Extends (T.contents terms.old) (T.contents terms.new) }
+    ensures rest { T.rest terms.new ≡ T.rest terms.old }
+    ensures ok { IfOk result (IsMade (R.change rewrite.now (T.contents terms.old))
+        (T.contents terms.old) e 0 (T.contents terms.new)) }
+{
+    if let Some(r) = rewrite.step(terms, e, 0)? {
+        return Ok(r);
+    }
+    let r = walk(alloc, terms, rewrite, e)?;
+    Ok(r)
 }

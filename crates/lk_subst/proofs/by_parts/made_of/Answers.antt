@@ -1,5 +1,5 @@
 use Rattle.lk_subst.specs.declared.parts.Met.{Met}
-use Rattle.lk_subst.proofs.parameters.made_of.Goals as goal
+use Rattle.lk_subst.proofs.by_parts.made_of.Goals as goal
 
 pub returns-in-Some : goal.returns-in-Some
 returns-in-Some g c =

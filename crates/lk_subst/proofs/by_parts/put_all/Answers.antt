@@ -4,7 +4,7 @@ use Rattle.lk_store.specs.Contents.{level_at, IsLevel}
 use Rattle.lk_store.proofs.Extending.{Extends-trans}
 use Rattle.lk_subst.specs.Parameters.{putting}
 use Rattle.lk_subst.proofs.LevelValues.{putting-steady, names-known, levels-known, met-known, ArePut-push}
-use Rattle.lk_subst.proofs.parameters.put_all.Goals as goal
+use Rattle.lk_subst.proofs.by_parts.put_all.Goals as goal
 
 pub put_one-requires-clause-level_in : goal.put_one-requires-clause-level_in
 put_one-requires-clause-level_in g c =

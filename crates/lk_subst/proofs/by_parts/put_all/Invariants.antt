@@ -1,7 +1,7 @@
 use Rattle.std.proofs.Common.{◌≡◌, length}
 use Rattle.lk_store.specs.Contents.{Extends}
 use Rattle.lk_subst.specs.Parameters.{putting, ArePut}
-use Rattle.lk_subst.proofs.parameters.put_all.Given as goal
+use Rattle.lk_subst.proofs.by_parts.put_all.Given as goal
 
 abbrev pub invariant-each : goal.invariant-each
 invariant-each g l =

@@ -2,7 +2,7 @@ use Rattle.std.proofs.Common.{◌≡◌, ◌<◌, ◌++◌, length, map}
 use Rattle.std.specs.Prelude.{All}
 use Rattle.lk_store.specs.Contents.{level_at, list_at, Extends}
 use Rattle.lk_subst.specs.Parameters.{putting}
-use Rattle.lk_subst.proofs.parameters.put_levels.Given as goal
+use Rattle.lk_subst.proofs.parameters.put_each.Given as goal
 
 abbrev pub invariant-down : goal.invariant-down
 invariant-down g l =
