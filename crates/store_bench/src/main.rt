@@ -6,11 +6,12 @@
 //! the last term is printed.
 #![tactic(auto)]
 
+mod list_store;
 #[cfg(test)]
 mod tests;
 
-use lk_rows::memory::NoMemory;
 use lk_store::base_store::BaseStore;
+use lk_store::memory::NoMemory;
 use lk_store::node::{LevelNode, Node};
 use lk_store::overlay::Overlay;
 use lk_store::terms::Terms;
@@ -128,7 +129,7 @@ fn overlays(alloc: Global, base: &BaseStore, units: u64) -> Result<u64, NoMemory
 }
 
 /// What is done.
-#[derive(Clone, Copy, Debug, PartialEq, Eq)]
+#[derive(Clone, Copy)]
 enum Work {
     Make,
     Repeat,

@@ -1,6 +1,6 @@
 //! Calls that look first whether the numbers are there. Where one is not, they answer as if memory were wanting.
 
-use lk_rows::memory::NoMemory;
+use lk_store::memory::NoMemory;
 use lk_store::node::Node;
 use lk_store::terms::Terms;
 

@@ -1,8 +1,8 @@
 //! Names, texts and levels in each store.
 
-use lk_list::list_store::ListStore;
-use lk_rows::memory::NoMemory;
+use crate::list_store::ListStore;
 use lk_store::base_store::BaseStore;
+use lk_store::memory::NoMemory;
 use lk_store::node::{LevelNode, ListNode, NameNode};
 use lk_store::overlay::Overlay;
 use lk_store::terms::Terms;

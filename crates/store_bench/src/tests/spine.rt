@@ -2,9 +2,9 @@
 
 use crate::tests::guarded::{applies, are_same, pi};
 use crate::{prop, put};
-use lk_rows::memory::NoMemory;
 use lk_spine::{apply, args, head, telescope};
 use lk_store::base_store::BaseStore;
+use lk_store::memory::NoMemory;
 use lk_store::node::Node;
 use lk_store::terms::Terms;
 use std::alloc::Global;

@@ -1,10 +1,10 @@
 //! Trees in each store.
 
+use crate::list_store::ListStore;
 use crate::tests::guarded::{applies, are_same, view};
 use crate::{prop, put};
-use lk_list::list_store::ListStore;
-use lk_rows::memory::NoMemory;
 use lk_store::base_store::BaseStore;
+use lk_store::memory::NoMemory;
 use lk_store::node::Node;
 use lk_store::overlay::Overlay;
 use lk_store::terms::Terms;

@@ -4,8 +4,8 @@ ghost use Rattle.std.specs.Prelude.{◌<◌, length};
 
 use crate::tests::guarded::{applies, are_same, view};
 use crate::{binders, opened, opened_and_closed, prop, put};
-use lk_rows::memory::NoMemory;
 use lk_store::base_store::BaseStore;
+use lk_store::memory::NoMemory;
 use lk_store::node::{LevelNode, NameNode, Node};
 use lk_store::terms::Terms;
 use lk_subst::closing::close;

@@ -2,9 +2,9 @@
 
 ghost use Rattle.std.specs.Prelude.{◌≡◌, ◌<◌, ◌↔◌, [], length, IfOk, OnErr, IsTrue};
 ghost use Rattle.lk_store.specs.Contents.{tree_at, tree_of, IsIn, Extends, IsTree};
-ghost use Rattle.lk_list.specs.Listing.{listed, inside, number_of, AreListed};
+ghost use Rattle.store_bench.specs.Listing.{listed, inside, number_of, AreListed};
 
-use lk_rows::memory::NoMemory;
+use lk_store::memory::NoMemory;
 use lk_store::node::{LevelNode, ListNode, NameNode, Node};
 use lk_store::terms::Terms;
 use lk_store::text::Text;
@@ -12,7 +12,7 @@ use std::alloc::Global;
 use std::marker::Model;
 
 /// A tree as it was made, and its number in the store below.
-#[derive(Clone, Copy, Debug, PartialEq, Eq)]
+#[derive(Clone, Copy)]
 pub struct Listed {
     pub node: Node,
     pub number: u64,
@@ -27,11 +27,11 @@ pub struct ListStore<T: Terms + Drop> {
 
 impl<T: Terms + Drop> Model for ListStore<T> {
     ghost use Rattle.std.specs.Prelude.{List};
-    ghost use Rattle.lk_list.specs.declared.list_store.Listed.{Listed};
+    ghost use Rattle.store_bench.specs.declared.list_store.Listed.{Listed};
 
     ghost Value = { T × List Listed };
 
-    ghost use Rattle.lk_list.specs.Listing.{AreListed};
+    ghost use Rattle.store_bench.specs.Listing.{AreListed};
 
     ghost view = { λ s. (s.store, s.rows.items) };
 
@@ -72,10 +72,13 @@ fn make_listed<T: Terms>(store: &mut T, rows: &mut Vec<Listed>, node: Node) -> R
     requires listed { AreListed (T.contents store.old) rows.old.items }
     requires node_in { IsIn (listed (T.contents store.old) rows.old.items) node }
     ensures listed { AreListed (T.contents store.new) rows.new.items }
-    ensures keeps { Extends (listed (T.contents store.old) rows.old.items) (listed (T.contents store.new) rows.new.items) }
+    ensures keeps { Extends (listed (T.contents store.old) rows.old.items)
+        (listed (T.contents store.new) rows.new.items) }
     ensures rest { T.rest store.new ≡ T.rest store.old }
-    ensures ok { IfOk result (λ e. IsTree (listed (T.contents store.new) rows.new.items) e (tree_of (listed (T.contents store.old) rows.old.items) node)) }
-    ensures err { OnErr result (listed (T.contents store.new) rows.new.items ≡ listed (T.contents store.old) rows.old.items) }
+    ensures ok { IfOk result (λ e. IsTree (listed (T.contents store.new) rows.new.items) e
+        (tree_of (listed (T.contents store.old) rows.old.items) node)) }
+    ensures err { OnErr result (listed (T.contents store.new) rows.new.items
+        ≡ listed (T.contents store.old) rows.old.items) }
 {
     rows.reserve(1)?;
     let below = node_below(store, rows, node);
@@ -100,7 +103,7 @@ impl<T: Terms + Drop> ListStore<T> {
 }
 
 impl<T: Terms + Drop> Terms for ListStore<T> {
-    ghost use Rattle.lk_list.specs.Listing.{listed};
+    ghost use Rattle.store_bench.specs.Listing.{listed};
 
     type Rest = T::Rest;
 
