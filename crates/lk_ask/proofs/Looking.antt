@@ -1,9 +1,10 @@
 -- Look-ups that were made.
 use Rattle.std.proofs.Common.{◌≡◌, ℕ, true, false, List, Option, Some, None, refl, ap, sym, ◌∙◌, if◌then◌else◌}
-use Rattle.std.specs.Prelude.{IsSome}
+use Rattle.std.specs.Prelude.{IsSome, IfErr, Result, Ok, Err, option_and_then}
 use Rattle.lk_tree.specs.Tree.{Name}
 use Rattle.lk_tree.specs.RuleNo.{RuleNo, unknown_constant, builtin_shape}
 use Rattle.lk_rulebook.specs.Place.{Place, Entry as PlainEntry}
+use Rattle.lk_rulebook.specs.Units.{Found, flawless}
 use Rattle.lk_plain.specs.Answer.{later}
 use Rattle.lk_plain.specs.Program.{Program, refuse, look}
 use Rattle.lk_plain.specs.Parts.{is_built_kind, where_built}
@@ -11,8 +12,12 @@ use Rattle.lk_plain.specs.Erased.{Value, refuses, looked, erased}
 use Rattle.lk_store.specs.Store.{contents_of}
 use Rattle.lk_store.specs.declared.tables.Tables.{Tables}
 use Rattle.lk_env.specs.declared.entry.Entry.{Entry}
+use Rattle.lk_env.specs.declared.entry.Refused.{Refused}
+use Rattle.lk_env.specs.declared.entry.Refused.TheVariants as refused
+use Rattle.lk_env.specs.declared.entry.Site.{Site}
 use Rattle.lk_env.specs.declared.unit.Unit.{Unit as StoredUnit}
-use Rattle.lk_env.specs.Entries.{IsMeaning}
+use Rattle.lk_env.specs.Entries.{IsMeaning, IsAnswer}
+use Rattle.lk_env.specs.Places.{place_at}
 use Rattle.lk_ask.specs.declared.rule.Rule.{Rule}
 use Rattle.lk_ask.specs.Questions.{rule_no}
 use Rattle.lk_ask.specs.Constants.{IsFound, IsRefused}
@@ -50,3 +55,15 @@ module _ {A : Type 0} (w : Place) (f : A → Value) (x : Name) where
   pub refused_goes : (k : PlainEntry → Program A) (before : Option ℕ) (rule : Rule) → IsRefused w x rule → erased w f before (look unknown_constant x k) ≡ refuses (rule_no rule)
   refused_goes k before rule h =
       ap (λ o. looked unknown_constant before o (w.origin x) (w.flaw x) (λ u e. erased w f u (k e))) h.means ∙ ap refuses (sym h.rule)
+
+-- what is found means nothing where its unit has a flaw
+flawed : (o : Option Found) (r : RuleNo) → option_and_then (λ (f : Found). f.flaw) o ≡ Some r → option_and_then flawless o ≡ None
+flawed None r h = refl
+flawed (Some f) r h = ap (λ x. elim x [ None ↦ Some f.entry | Some n ↦ None ]) h
+
+-- a name that is refused at a site means nothing there
+pub refused_means : (l : Tables × List StoredUnit) (s : Site) (x : Name) (o : Result Entry Refused) → IsAnswer (contents_of l.0) l.1 (place_at l s) x o → IfErr o (λ r. (place_at l s).means x ≡ None)
+refused_means l s x (Ok e) h = tt
+refused_means l s x (Err refused.UnknownConstant) h = h.0
+refused_means l s x (Err refused.LooseVariable) h = flawed _ _ h
+refused_means l s x (Err refused.WideLiteral) h = flawed _ _ h

@@ -1,6 +1,7 @@
 pub mod Constants
-pub mod Members
 pub mod Nexts
 pub mod Outcomes
 pub mod Questions
 pub mod Sheets
+pub mod Gives
+pub mod Looks

@@ -9,7 +9,7 @@ ghost use Rattle.lk_env.specs.declared.entry.Partial.{Partial as GivenMembers};
 ghost use Rattle.lk_ask.specs.Questions.{query_of, IsKnownQuery, IsKnownAnswer};
 ghost use Rattle.lk_ask.specs.Outcomes.{IsOutcome};
 ghost use Rattle.lk_ask.specs.Constants.{IsRefused};
-ghost use Rattle.lk_ask.specs.Members.{HasParameters};
+ghost use Rattle.lk_env.specs.Lent.{HasParameters};
 
 use crate::query::{Answer, Query};
 use crate::rule::Rule;
@@ -45,14 +45,19 @@ pub trait Asks: Terms {
         ensures table { table self.new ≡ table self.old }
         ensures place { place self.new ≡ place self.old }
         ensures known { IfOk result (IsKnownAnswer (length (Self.contents self.new).trees)) }
-        ensures outcome { IsOutcome (Self.contents self.new) (out_of (table self.old) (place self.old) (query_of (tree_at (Self.contents self.old)) query) (left self.old)) (left self.new) result };
+        ensures outcome { IsOutcome (Self.contents self.new)
+            (out_of (table self.old) (place self.old)
+            (query_of (tree_at (Self.contents self.old)) query) (left self.old))
+            (left self.new) result };
 
     /// The number of parameters of the type of a block that a name means; none where it means something else. It takes no
     /// memory and no step.
-    fn parameters_of(&self, name: u64) -> Result<Option<u64>, Rule>
+    fn parameter_count(&self, name: u64) -> Result<Option<u64>, Rule>
         requires { name < length (Self.contents self.now).names }
-        ensures found { IfOk result (HasParameters (place self.now) (name_at (Self.contents self.now) name)) }
-        ensures refused { IfErr result (IsRefused (place self.now) (name_at (Self.contents self.now) name)) };
+        ensures found { IfOk result (HasParameters (place self.now)
+            (name_at (Self.contents self.now) name)) }
+        ensures refused { IfErr result (IsRefused (place self.now)
+            (name_at (Self.contents self.now) name)) };
 
     /// From here on so much of the unit at work is partial. It takes no memory and no step.
     fn give(&mut self, partial: Partial)
@@ -63,5 +68,6 @@ pub trait Asks: Terms {
         ensures place { place self.new ≡ places (basis self.old) partial };
 
     /// Whoever changes terms alone changes nothing of how questions are answered.
-    ghost decided: { (a b : Self) → Self.rest a ≡ Self.rest b → (basis a ≡ basis b) × (table a ≡ table b) × (place a ≡ place b) × (left a ≡ left b) };
+    ghost decided: { (a b : Self) → Self.rest a ≡ Self.rest b → (basis a ≡ basis b)
+        × (table a ≡ table b) × (place a ≡ place b) × (left a ≡ left b) };
 }

@@ -5,7 +5,7 @@ ghost use Rattle.lk_tree.specs.Bind.{opened};
 ghost use Rattle.lk_store.specs.Contents.{tree_at, tree_of, IsIn, Extends, IsTree};
 
 use crate::asks::Asks;
-use lk_rows::memory::NoMemory;
+use lk_store::memory::NoMemory;
 use lk_store::node::Node;
 use lk_subst::opening::open_with;
 use std::alloc::Global;
@@ -18,7 +18,8 @@ pub fn build<A: Asks>(asks: &mut A, node: Node) -> Result<u64, NoMemory>
     ensures table { A.table asks.new ≡ A.table asks.old }
     ensures place { A.place asks.new ≡ A.place asks.old }
     ensures left { A.left asks.new ≡ A.left asks.old }
-    ensures ok { IfOk result (λ e. IsTree (A.contents asks.new) e (tree_of (A.contents asks.old) node)) }
+    ensures ok { IfOk result (λ e. IsTree (A.contents asks.new) e
+        (tree_of (A.contents asks.old) node)) }
 {
     asks.make(node)
 }
@@ -32,7 +33,8 @@ pub fn open<A: Asks>(alloc: Global, asks: &mut A, body: u64, value: u64) -> Resu
     ensures table { A.table asks.new ≡ A.table asks.old }
     ensures place { A.place asks.new ≡ A.place asks.old }
     ensures left { A.left asks.new ≡ A.left asks.old }
-    ensures ok { IfOk result (λ e. IsTree (A.contents asks.new) e (opened (tree_at (A.contents asks.old) body) (tree_at (A.contents asks.old) value))) }
+    ensures ok { IfOk result (λ e. IsTree (A.contents asks.new) e
+        (opened (tree_at (A.contents asks.old) body) (tree_at (A.contents asks.old) value))) }
 {
     open_with(alloc, asks, body, value)
 }

@@ -15,14 +15,14 @@ use lk_env::entry::{Entry, Kind, Refused, Site};
 use lk_env::library::Library;
 use lk_env::unit::Body;
 use lk_meter::meter::Meter;
-use lk_rows::memory::NoMemory;
+use lk_store::memory::NoMemory;
 use lk_store::node::ListNode;
 use lk_store::terms::Terms;
 use lk_subst::levels::put_levels_in;
 use std::alloc::Global;
 
 /// Looks a constant up: what its name means at the site. That its unit was looked at is noted.
-pub fn look_up<T: Terms>(
+pub(crate) fn look_up<T: Terms>(
     library: &Library,
     site: &Site,
     terms: &T,
@@ -33,8 +33,10 @@ pub fn look_up<T: Terms>(
     requires name_in { name < length (T.contents terms.now).names }
     ensures known { IfOk result (IsEntryIn (contents_of library.now.0)) }
     ensures left { meter.new.left ≡ meter.old.left }
-    ensures found { IfOk result (λ e. IsFound library.now (place_at library.now site.now) (name_at (T.contents terms.now) name) meter.old.last e meter.new.last) }
-    ensures refused { IfErr result (IsRefused (place_at library.now site.now) (name_at (T.contents terms.now) name)) }
+    ensures found { IfOk result (λ e. IsFound library.now (place_at library.now site.now)
+        (name_at (T.contents terms.now) name) meter.old.last e meter.new.last) }
+    ensures refused { IfErr result (IsRefused (place_at library.now site.now)
+        (name_at (T.contents terms.now) name)) }
 {
     match library.means(site, terms, name) {
         Ok(entry) => {
@@ -49,7 +51,8 @@ pub fn look_up<T: Terms>(
 
 /// Whether constants of this kind are built.
 pub fn is_built(kind: Kind) -> bool
-    ensures { (c : Contents) (us : List StoredUnit) (e : Entry) (g : PlainEntry) → e.kind ≡ kind → plain_entry c us e ≡ Some g → result ≡ is_built_kind g.kind }
+    ensures { (c : Contents) (us : List StoredUnit) (e : Entry) (g : PlainEntry) → e.kind ≡ kind
+        → plain_entry c us e ≡ Some g → result ≡ is_built_kind g.kind }
 {
     match kind {
         Kind::Declared(body) => match body {
@@ -66,7 +69,8 @@ pub fn is_built(kind: Kind) -> bool
 /// The levels of a list, in order.
 fn levels_of<T: Terms>(alloc: Global, terms: &T, levels: u64) -> Result<Vec<u64>, NoMemory>
     requires { levels < length (T.contents terms.now).lists }
-    ensures { IfOk result (λ found. IsLevels (T.contents terms.now) found.items (list_at (T.contents terms.now) levels)) }
+    ensures { IfOk result (λ found. IsLevels (T.contents terms.now) found.items
+        (list_at (T.contents terms.now) levels)) }
 {
     let mut found = Vec::new(alloc);
     let mut rest = levels;
@@ -79,7 +83,7 @@ fn levels_of<T: Terms>(alloc: Global, terms: &T, levels: u64) -> Result<Vec<u64>
 
 /// A tree of a constant's unit at the levels that the constant has. There is none where they are not as many as the
 /// unit has level parameters.
-pub fn at_levels<T: Terms>(
+pub(crate) fn at_levels<T: Terms>(
     alloc: Global,
     library: &Library,
     terms: &mut T,
@@ -93,8 +97,10 @@ pub fn at_levels<T: Terms>(
     ensures keeps { Extends (T.contents terms.old) (T.contents terms.new) }
     ensures rest { T.rest terms.new ≡ T.rest terms.old }
     ensures known { IfOk result (λ r. IfSome r (λ t. t < length (T.contents terms.new).trees)) }
-    ensures ok { IfOk result (λ r. (g : PlainEntry) → plain_entry (contents_of library.now.0) library.now.1 entry ≡ Some g
-        → IsAtLevels (T.contents terms.new) g.levels (list_at (T.contents terms.old) levels) (tree_at (T.contents terms.old) e) r) }
+    ensures ok { IfOk result (λ r. (g : PlainEntry)
+        → plain_entry (contents_of library.now.0) library.now.1 entry ≡ Some g
+        → IsAtLevels (T.contents terms.new) g.levels (list_at (T.contents terms.old) levels)
+        (tree_at (T.contents terms.old) e) r) }
 {
     let params = library.levels(entry);
     let values = levels_of(alloc, terms, levels)?;

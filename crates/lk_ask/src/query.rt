@@ -1,7 +1,7 @@
 //! Questions and answers.
 
 /// A question on terms.
-#[derive(Clone, Copy, Debug, PartialEq, Eq)]
+#[derive(Clone, Copy)]
 pub enum Query<X> {
     /// The weak head form without unfolding.
     Core(X),
@@ -14,7 +14,7 @@ pub enum Query<X> {
 }
 
 /// An answer.
-#[derive(Clone, Copy, Debug, PartialEq, Eq)]
+#[derive(Clone, Copy)]
 pub enum Answer<X> {
     Term(X),
     Truth(bool),

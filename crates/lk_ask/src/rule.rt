@@ -1,7 +1,7 @@
 //! Why something is refused.
 
 /// Why a unit or a question is refused.
-#[derive(Clone, Copy, Debug, PartialEq, Eq)]
+#[derive(Clone, Copy)]
 pub enum Rule {
     UnknownConstant,
     LevelCount,

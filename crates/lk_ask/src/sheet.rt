@@ -1,9 +1,11 @@
 //! What a question keeps while another one is asked.
 
+ghost use Rattle.std.specs.Prelude.{◌≡◌, ⊤};
+
 use crate::stack::Stack;
+use std::alloc::AllocError;
 
 /// What `Core` of a recursor that is applied keeps. `application` is the whole term.
-#[derive(Clone, Copy, Debug, PartialEq, Eq)]
 pub enum IotaSheet<X> {
     /// The answer is that of the question too.
     Passed,
@@ -33,7 +35,6 @@ pub enum IotaSheet<X> {
 }
 
 /// What the weak head forms keep.
-#[derive(Clone, Copy, Debug, PartialEq, Eq)]
 pub enum CoreSheet<X> {
     /// The answer is that of the question too.
     Passed,
@@ -46,7 +47,6 @@ pub enum CoreSheet<X> {
 }
 
 /// What `Infer` keeps.
-#[derive(Clone, Copy, Debug, PartialEq, Eq)]
 pub enum TypeSheet<X> {
     /// The answer is that of the question too.
     Passed,
@@ -83,7 +83,6 @@ pub enum TypeSheet<X> {
 }
 
 /// Two that are compared.
-#[derive(Clone, Copy, Debug, PartialEq, Eq)]
 pub struct Pair<X> {
     pub left: X,
     pub right: X,
@@ -158,3 +157,51 @@ pub enum Sheet<X: Drop> {
     Type(TypeSheet<X>),
     Same(SameSheet<X>),
 }
+
+impl<X: Copy> Clone for IotaSheet<X> {
+    ghost is_clone = { λ x y. y ≡ x };
+
+    ghost is_infallible = { λ _. ⊤ };
+
+    fn clone(&self) -> Result<IotaSheet<X>, AllocError> {
+        Ok(*self)
+    }
+}
+
+impl<X: Copy> Copy for IotaSheet<X> {}
+
+impl<X: Copy> Clone for CoreSheet<X> {
+    ghost is_clone = { λ x y. y ≡ x };
+
+    ghost is_infallible = { λ _. ⊤ };
+
+    fn clone(&self) -> Result<CoreSheet<X>, AllocError> {
+        Ok(*self)
+    }
+}
+
+impl<X: Copy> Copy for CoreSheet<X> {}
+
+impl<X: Copy> Clone for TypeSheet<X> {
+    ghost is_clone = { λ x y. y ≡ x };
+
+    ghost is_infallible = { λ _. ⊤ };
+
+    fn clone(&self) -> Result<TypeSheet<X>, AllocError> {
+        Ok(*self)
+    }
+}
+
+impl<X: Copy> Copy for TypeSheet<X> {}
+
+impl<X: Copy> Clone for Pair<X> {
+    ghost is_clone = { λ x y. y ≡ x };
+
+    ghost is_infallible = { λ _. ⊤ };
+
+    fn clone(&self) -> Result<Pair<X>, AllocError> {
+        Ok(*self)
+    }
+}
+
+impl<X: Copy> Copy for Pair<X> {}

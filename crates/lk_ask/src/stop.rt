@@ -2,10 +2,11 @@
 
 use crate::rule::Rule;
 use lk_meter::meter::Spent;
-use lk_rows::memory::NoMemory;
+use lk_store::memory::NoMemory;
+use std::alloc::AllocError;
 
 /// Why a question has no answer.
-#[derive(Clone, Copy, Debug, PartialEq, Eq)]
+#[derive(Clone, Copy)]
 pub enum Stop {
     /// It is refused.
     Rule(Rule),
@@ -22,6 +23,17 @@ impl From<NoMemory> for Stop {
     ghost from_gives = { λ _ e. e ≡ NoMemory };
 
     fn from(_e: NoMemory) -> Stop {
+        Stop::NoMemory
+    }
+}
+
+impl From<AllocError> for Stop {
+    ghost use Rattle.std.specs.Prelude.{◌≡◌};
+    ghost use Rattle.lk_ask.specs.declared.stop.Stop.TheVariants.{NoMemory};
+
+    ghost from_gives = { λ _ e. e ≡ NoMemory };
+
+    fn from(_e: AllocError) -> Stop {
         Stop::NoMemory
     }
 }

@@ -5,7 +5,7 @@ use Rattle.std.proofs.lemmas.Bool.Decides.{nat_tests}
 use Rattle.std.proofs.lemmas.List.Elements.{All-get_or}
 use Rattle.std.proofs.lemmas.Option.{slice_get-map, slice_get-get_or, slice_get_read}
 use Rattle.lk_tree.specs.Tree.{Name}
-use Rattle.lk_rulebook.specs.Units.{Members, Library, Found, flaw_of, given_by, first_of_two, at_unit, at_half, first_giving, place_by, place_of}
+use Rattle.lk_rulebook.specs.Units.{Members, Library, Found, flaw_of, given_by, first_of_two, at_unit, at_partial, first_giving, place_by, place_of}
 use Rattle.lk_rulebook.specs.Place.{Entry as PlainEntry}
 use Rattle.lk_store.specs.Contents.{Contents, tree_at}
 use Rattle.lk_env.specs.declared.entry.Entry.{Entry}
@@ -103,16 +103,16 @@ given_before us n x o h =
     ∙ ap (option_and_then (found_at us)) (sym (place_before_is x us n) ∙ sym h)
 
 -- the answer at a place that has what o has
-pub answered_at : (c : Contents) (us : List StoredUnit) (lib : Library) (n : ℕ) (half : Members) (x : Name) (o : Option Found) (r : Result Entry Refused)
-    → first_of_two (at_half n (given_by half x)) (first_giving 0 (take n lib) x) ≡ o → IsAnswer c us (place_by n (λ y. o)) x r → IsAnswer c us (place_of lib n half) x r
-answered_at c us lib n half x o (Ok e) h answer = record { given = rw h answer.given; means = rw h answer.means; unit = rw h answer.unit }
-answered_at c us lib n half x o (Err refused.UnknownConstant) h answer = (rw h answer.0, rw h answer.1)
-answered_at c us lib n half x o (Err refused.LooseVariable) h answer = rw h answer
-answered_at c us lib n half x o (Err refused.WideLiteral) h answer = rw h answer
+pub answered_at : (c : Contents) (us : List StoredUnit) (lib : Library) (n : ℕ) (partial : Members) (x : Name) (o : Option Found) (r : Result Entry Refused)
+    → first_of_two (at_partial n (given_by partial x)) (first_giving 0 (take n lib) x) ≡ o → IsAnswer c us (place_by n (λ y. o)) x r → IsAnswer c us (place_of lib n partial) x r
+answered_at c us lib n partial x o (Ok e) h answer = record { given = rw h answer.given; means = rw h answer.means; unit = rw h answer.unit }
+answered_at c us lib n partial x o (Err refused.UnknownConstant) h answer = (rw h answer.0, rw h answer.1)
+answered_at c us lib n partial x o (Err refused.LooseVariable) h answer = rw h answer
+answered_at c us lib n partial x o (Err refused.WideLiteral) h answer = rw h answer
 
 -- what stands for the partial entry of a member answers for it
 pub partial_answered : (c : Contents) (us : List StoredUnit) (u : StoredUnit) (n : ℕ) (x : Name) (o : Option PlainEntry) (e : Entry)
-    → slice_get us n ≡ Some u → e.unit ≡ n → Stands c u o e → IsAnswer c us (place_by n (λ y. at_half n o)) x (Ok e)
+    → slice_get us n ≡ Some u → e.unit ≡ n → Stands c u o e → IsAnswer c us (place_by n (λ y. at_partial n o)) x (Ok e)
 partial_answered c us u n x o e at unit s = go o s.given s.member
   where
     stands : plain_entry c us e ≡ entry_of c (unit_at c u) e.kind (tree_at c e.stated)
@@ -120,6 +120,6 @@ partial_answered c us u n x o e at unit s = go o s.given s.member
         ap (λ k. option_and_then (λ v. entry_of c v e.kind (tree_at c e.stated)) (slice_get (library_at c us) k)) unit
         ∙ ap (option_and_then (λ v. entry_of c v e.kind (tree_at c e.stated))) (slice_get-map (unit_at c) us n ∙ ap (option_map (unit_at c)) at)
 
-    go : (o : Option PlainEntry) → IsSome o → o ≡ entry_of c (unit_at c u) e.kind (tree_at c e.stated) → IsAnswer c us (place_by n (λ y. at_half n o)) x (Ok e)
+    go : (o : Option PlainEntry) → IsSome o → o ≡ entry_of c (unit_at c u) e.kind (tree_at c e.stated) → IsAnswer c us (place_by n (λ y. at_partial n o)) x (Ok e)
     go None given is = absurd cc
     go (Some y) given is = record { given = refl; means = is ∙ sym stands; unit = sym unit }

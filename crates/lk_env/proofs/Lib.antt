@@ -8,3 +8,4 @@ pub mod Standing
 pub mod Answered
 pub mod Partial
 pub mod Bare
+pub mod Found

@@ -4,7 +4,7 @@ use Rattle.std.specs.Prelude.{◌&&◌, option_map, option_and_then, slice_get, 
 use Rattle.std.proofs.lemmas.Bool.Decides.{nat_tests}
 use Rattle.lk_tree.specs.Tree.{Name, name_discrete}
 use Rattle.lk_rulebook.specs.Place.{Entry, Rec}
-use Rattle.lk_rulebook.specs.Units.{Members, LibraryUnit, of_decl, of_block, members_of, type_entries, all_ctor_entries, rec_members, rec_entries, Library, Found, given_by, first_of_two, at_half, first_giving}
+use Rattle.lk_rulebook.specs.Units.{Members, LibraryUnit, of_decl, of_block, members_of, type_entries, all_ctor_entries, rec_members, rec_entries, Library, Found, given_by, first_of_two, at_partial, first_giving}
 use Rattle.lk_rulebook.specs.Scan.{is_none, are_new}
 use Rattle.lk_env.specs.declared.entry.Partial.{Partial}
 use Rattle.lk_env.specs.declared.entry.Partial.TheVariants.{Nothing, Types, Members as AllMembers}
@@ -141,7 +141,7 @@ own_from c (v ∷ us) i (suc n) u at h = go (λ k. own_from c us (suc i) n u at 
 
 module _ (us : Library) (s : Site) (x : Name) where
   abbrev pub found_at_site : Option Found
-  found_at_site = first_of_two (at_half s.unit (given_by (partial_at us s) x)) (first_giving 0 (take s.unit us) x)
+  found_at_site = first_of_two (at_partial s.unit (given_by (partial_at us s) x)) (first_giving 0 (take s.unit us) x)
 
   -- what an earlier unit gives is not partial
   pub found_before : (p : ℕ × ℕ) → Some p ≡ place_in 0 (take s.unit us) x → found_at_site ≡ found_at us p
@@ -155,14 +155,14 @@ module _ (us : Library) (s : Site) (x : Name) where
       go : (o : Option Found) → first_giving 0 (take s.unit us) x ≡ o → found_at_site ≡ first_giving 0 (take s.unit us) x
       go None is =
           absurd (none_is_some p.0 (sym (ap (option_map (λ (f : Found). f.unit)) is) ∙ unit_is (take s.unit us) x ∙ ap (option_map (λ (q : ℕ × ℕ). q.0)) (sym h)))
-      go (Some f) is = ap (λ e. first_of_two (at_half s.unit e) (first_giving 0 (take s.unit us) x)) (none f is (slice_get us s.unit))
+      go (Some f) is = ap (λ e. first_of_two (at_partial s.unit e) (first_giving 0 (take s.unit us) x)) (none f is (slice_get us s.unit))
 
   -- what none gives is found among the members of the unit itself
-  pub found_own : place_in 0 (take s.unit us) x ≡ None → found_at_site ≡ at_half s.unit (option_and_then (partial_entry_in us s) (own_member s.unit (place_in 0 us x)))
+  pub found_own : place_in 0 (take s.unit us) x ≡ None → found_at_site ≡ at_partial s.unit (option_and_then (partial_entry_in us s) (own_member s.unit (place_in 0 us x)))
   found_own h =
-      ap (first_of_two (at_half s.unit (given_by (partial_at us s) x))) first
-      ∙ alone (at_half s.unit (given_by (partial_at us s) x))
-      ∙ ap (at_half s.unit) (go (slice_get us s.unit) refl)
+      ap (first_of_two (at_partial s.unit (given_by (partial_at us s) x))) first
+      ∙ alone (at_partial s.unit (given_by (partial_at us s) x))
+      ∙ ap (at_partial s.unit) (go (slice_get us s.unit) refl)
     where
       first : first_giving 0 (take s.unit us) x ≡ None
       first = given_before us s.unit x None (sym h)
@@ -194,7 +194,7 @@ module _ (us : Library) (s : Site) (x : Name) where
   pub found_nowhere : place_in 0 us x ≡ None → found_at_site ≡ None
   found_nowhere h =
       found_own (place_before_is x us s.unit ∙ ap (place_below s.unit) h)
-      ∙ ap (λ o. at_half s.unit (option_and_then (partial_entry_in us s) (own_member s.unit o))) h
+      ∙ ap (λ o. at_partial s.unit (option_and_then (partial_entry_in us s) (own_member s.unit o))) h
 
 -- Where all names of a unit are new, all that is partial of it is.
 all_new : (us : Library) (n : ℕ) (ps ms : Members) → Leads ps ms → are_new us n ms ≡ true → new_among us n ps ≡ ps

@@ -4,3 +4,4 @@ pub mod Index
 pub mod Entries
 pub mod Scan
 pub mod Member
+pub mod Lent

@@ -4,7 +4,7 @@ use crate::unit::Body;
 
 /// Which member of its unit it is: a declaration, with its body, or by number a type of a block, a constructor of a
 /// type of a block, or a recursor of a block. A recursor that is partial is bare: its rules are not given yet.
-#[derive(Clone, Copy, Debug, PartialEq, Eq)]
+#[derive(Clone, Copy)]
 pub enum Kind {
     Declared(Body),
     Type(usize),
@@ -15,7 +15,7 @@ pub enum Kind {
 
 /// A member of a unit, by numbers: which it is, its type, and the number of its unit, which has its level parameters
 /// and all else that its line states.
-#[derive(Clone, Copy, Debug, PartialEq, Eq)]
+#[derive(Clone, Copy)]
 pub struct Entry {
     pub kind: Kind,
     pub stated: u64,
@@ -23,14 +23,14 @@ pub struct Entry {
 }
 
 /// Why look-ups of a unit's members are refused.
-#[derive(Clone, Copy, Debug, PartialEq, Eq)]
+#[derive(Clone, Copy, PartialEq, Eq)]
 pub enum Flaw {
     LooseVariable,
     WideLiteral,
 }
 
 /// Why a look-up is refused.
-#[derive(Clone, Copy, Debug, PartialEq, Eq)]
+#[derive(Clone, Copy)]
 pub enum Refused {
     UnknownConstant,
     LooseVariable,
@@ -38,7 +38,7 @@ pub enum Refused {
 }
 
 /// Which members of a unit are partial: given while the unit itself is checked.
-#[derive(Clone, Copy, Debug, PartialEq, Eq)]
+#[derive(Clone, Copy)]
 pub enum Partial {
     Nothing,
     /// The types of a block.
@@ -48,7 +48,7 @@ pub enum Partial {
 }
 
 /// From where names are looked up: the units below this one are seen, and what is partial of this one.
-#[derive(Clone, Copy, Debug, PartialEq, Eq)]
+#[derive(Clone, Copy)]
 pub struct Site {
     pub unit: u32,
     pub partial: Partial,

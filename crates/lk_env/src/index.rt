@@ -8,8 +8,8 @@ ghost use Rattle.lk_env.specs.Index.{constructor_names, member_names, cell_at, A
 
 use crate::place::Place;
 use crate::unit::{Block, BlockType, Constructor, Recursor, Unit};
-use lk_rows::memory::NoMemory;
 use lk_store::base_store::BaseStore;
+use lk_store::memory::NoMemory;
 use lk_store::terms::Terms;
 use std::alloc::Global;
 
@@ -23,7 +23,8 @@ fn push_types(names: &mut Vec<u64>, types: &[BlockType]) -> Result<(), NoMemory>
 }
 
 fn push_constructors(names: &mut Vec<u64>, constructors: &[Constructor]) -> Result<(), NoMemory>
-    ensures { OnOk result (names.new.items ≡ names.old.items ++ map (λ k. k.name) constructors.now) }
+    ensures { OnOk result (names.new.items ≡ names.old.items
+        ++ map (λ k. k.name) constructors.now) }
 {
     for k in constructors {
         names.push(k.name)?;
@@ -32,7 +33,8 @@ fn push_constructors(names: &mut Vec<u64>, constructors: &[Constructor]) -> Resu
 }
 
 fn push_constructors_of_all(names: &mut Vec<u64>, types: &[BlockType]) -> Result<(), NoMemory>
-    ensures { OnOk result (names.new.items ≡ names.old.items ++ flat_map constructor_names types.now) }
+    ensures { OnOk result (names.new.items ≡ names.old.items
+        ++ flat_map constructor_names types.now) }
 {
     for t in types {
         push_constructors(names, &t.constructors)?;

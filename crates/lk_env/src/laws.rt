@@ -15,13 +15,17 @@ use crate::unit::Unit;
 pub fn places_are_given()
     ensures units { (us : Library) (c : Name)
         → option_map (λ f. f.unit) (first_giving 0 us c) ≡ option_map (λ p. p.0) (place_in 0 us c) }
-    ensures entries { (us : Library) (c : Name) → first_giving 0 us c ≡ option_and_then (found_at us) (place_in 0 us c) }
+    ensures entries { (us : Library) (c : Name) → first_giving 0 us c
+        ≡ option_and_then (found_at us) (place_in 0 us c) }
 {}
 
 /// Where the names of a unit are new, all that is partial of it is seen; and where nothing is partial, the units before
 /// are seen alone.
 pub fn new_members_are_partial()
-    ensures new { (us : Library) (s : Site) (u : LibraryUnit) → slice_get us s.unit ≡ Some u → are_new us s.unit (members_of u) ≡ true
+    ensures new { (us : Library) (s : Site) (u : LibraryUnit) → slice_get us s.unit ≡ Some u
+        → are_new us s.unit (members_of u) ≡ true
         → partial_at us s ≡ partial_of u s.partial }
-    ensures nothing { (l : Tables × List Unit) (n : ℕ) → place_at l (record { unit = n; partial = Partial.Nothing }) ≡ place_of (library_of l) n [] }
+    ensures nothing { (l : Tables × List Unit) (n : ℕ)
+        → place_at l (record { unit = n; partial = Partial.Nothing })
+        ≡ place_of (library_of l) n [] }
 {}

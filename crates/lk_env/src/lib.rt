@@ -5,11 +5,10 @@ pub mod closed;
 pub mod entry;
 pub mod index;
 pub mod laws;
+pub mod lent;
 pub mod library;
 mod member;
 mod parameters;
 pub mod place;
 pub mod scan;
-#[cfg(test)]
-mod tests;
 pub mod unit;

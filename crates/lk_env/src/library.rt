@@ -1,4 +1,5 @@
-//! A library: a store, units whose names and trees are numbers of it, and an index over their names.
+//! A library: a store, units whose names and trees are numbers of it, and an index over their
+//! names.
 
 use crate::entry::{Entry, Flaw, Refused, Site};
 use crate::index::index_of;
@@ -7,8 +8,8 @@ use crate::parameters::parameters_in;
 use crate::place::Place;
 use crate::scan::flaws_of;
 use crate::unit::Unit;
-use lk_rows::memory::NoMemory;
 use lk_store::base_store::BaseStore;
+use lk_store::memory::NoMemory;
 use lk_store::node::NameNode;
 use lk_store::terms::Terms;
 use std::alloc::Global;
@@ -46,7 +47,7 @@ impl Model for Library {
 
 ghost use Rattle.std.specs.Prelude.{◌≡◌, ℕ, ◌<◌, length, map, option_map, All, IfOk, IfSome};
 ghost use Rattle.lk_tree.specs.Tree.{Name as PlainName};
-ghost use Rattle.lk_rulebook.specs.Units.{at_half, place_by};
+ghost use Rattle.lk_rulebook.specs.Units.{at_partial, place_by};
 ghost use Rattle.lk_store.specs.Contents.{Contents, name_at, name_of, IsNameIn};
 ghost use Rattle.lk_env.specs.Units.{library_at, AreUnitsIn};
 ghost use Rattle.lk_env.specs.Places.{place_below, own_member, found_at, partial_entry_in};
@@ -80,7 +81,8 @@ fn entry_in(units: &[Unit], flaws: &[Option<Flaw>], place: Place) -> Result<Entr
     requires { length flaws.now ≡ length units.now }
     ensures known { (c : Contents) → AreUnitsIn c units.now → IfOk result (IsEntryIn c) }
     ensures answer { (c : Contents) → AreFlaws c units.now flaws.now → (n : ℕ) (x : PlainName)
-        → IsAnswer c units.now (place_by n (λ y. found_at (library_at c units.now) (pair_of place))) x result }
+        → IsAnswer c units.now (place_by n
+        (λ y. found_at (library_at c units.now) (pair_of place))) x result }
 {
     let i = place.unit as usize;
     if i >= units.len() {
@@ -102,11 +104,13 @@ fn member_of(place: Option<Place>, unit: u32) -> Option<u32>
     }
 }
 
-/// The entry of a member of the site's own unit, where it is partial. Nothing is wrong with a unit that is partial.
+/// The entry of a member of the site's own unit, where it is partial. Nothing is wrong with a unit
+/// that is partial.
 fn partial_in(units: &[Unit], site: &Site, member: usize) -> Result<Entry, Refused>
     ensures known { (c : Contents) → AreUnitsIn c units.now → IfOk result (IsEntryIn c) }
     ensures answer { (c : Contents) (x : PlainName)
-        → IsAnswer c units.now (place_by site.now.unit (λ y. at_half site.now.unit (partial_entry_in (library_at c units.now) site.now member))) x result }
+        → IsAnswer c units.now (place_by site.now.unit (λ y. at_partial site.now.unit
+        (partial_entry_in (library_at c units.now) site.now member))) x result }
 {
     match units.get(site.unit as usize) {
         Some(unit) => match partial_entry(site.unit, unit, site.partial, member) {
@@ -117,10 +121,11 @@ fn partial_in(units: &[Unit], site: &Site, member: usize) -> Result<Entry, Refus
     }
 }
 
-fn parameters_of(units: &[Unit], entry: Entry) -> &[u64]
+fn level_parameters(units: &[Unit], entry: Entry) -> &[u64]
     ensures value { (c : Contents)
         → IfSome (plain_entry c units.now entry) (λ e. e.levels ≡ map (name_at c) result.now) }
-    ensures known { (c : Contents) → AreUnitsIn c units.now → All (λ n. n < length c.names) result.now }
+    ensures known { (c : Contents) → AreUnitsIn c units.now
+        → All (λ n. n < length c.names) result.now }
 {
     match units.get(entry.unit as usize) {
         Some(unit) => parameters_in(unit, entry.kind),
@@ -183,24 +188,29 @@ impl Library {
     /// The first unit that gives the name, and which of its members. It takes no memory.
     pub fn place_of(&self, name: u64) -> Option<Place>
         requires { name < length (contents_of self.now.0).names }
-        ensures { option_map pair_of result ≡ place_in 0 (library_of self.now) (name_at (contents_of self.now.0) name) }
+        ensures { option_map pair_of result
+            ≡ place_in 0 (library_of self.now) (name_at (contents_of self.now.0) name) }
     {
         self.cells[name as usize]
     }
 
-    /// The first of so many units that gives the name, and which of its members. It takes no memory.
+    /// The first of so many units that gives the name, and which of its members. It takes no
+    /// memory.
     pub fn place_before(&self, units: u32, name: u64) -> Option<Place>
         requires { name < length (contents_of self.now.0).names }
         ensures { option_map pair_of result
-            ≡ place_in 0 (take units (library_of self.now)) (name_at (contents_of self.now.0) name) }
+            ≡ place_in 0 (take units (library_of self.now))
+            (name_at (contents_of self.now.0) name) }
     {
         place_among(self.place_of(name), units)
     }
 
-    /// What the name means among the partial members of the site's unit, where no unit before gives it.
+    /// What the name means among the partial members of the site's unit, where no unit before gives
+    /// it.
     fn among_partial(&self, site: &Site, name: u64) -> Result<Entry, Refused>
         requires name_in { name < length (contents_of self.now.0).names }
-        requires new { place_in 0 (take site.now.unit (library_of self.now)) (name_at (contents_of self.now.0) name) ≡ None }
+        requires new { place_in 0 (take site.now.unit (library_of self.now))
+            (name_at (contents_of self.now.0) name) ≡ None }
         ensures known { IfOk result (IsEntryIn (contents_of self.now.0)) }
         ensures answer { IsAnswer (contents_of self.now.0) self.now.1
             (place_at self.now site.now) (name_at (contents_of self.now.0) name) result }
@@ -224,8 +234,9 @@ impl Library {
         }
     }
 
-    /// What the name means at the site, where the number is one of a store that has what the library has, under the same
-    /// numbers: an overlay over the library's store is such a store. Names that the library does not have mean nothing.
+    /// What the name means at the site, where the number is one of a store that has what the
+    /// library has, under the same numbers: an overlay over the library's store is such a store.
+    /// Names that the library does not have mean nothing.
     pub fn means<T: Terms>(&self, site: &Site, terms: &T, name: u64) -> Result<Entry, Refused>
         requires over { Extends (contents_of self.now.0) (T.contents terms.now) }
         requires name_in { name < length (T.contents terms.now).names }
@@ -236,7 +247,8 @@ impl Library {
         if name < self.base.count_names() {
             return self.at(site, name);
         }
-        // The names of the store are apart, so that a number beyond the library's is a name that the library does not have.
+        // The names of the store are apart, so that a number beyond the library's is a name that
+        // the library does not have.
         let _names = terms.count_names();
         Err(Refused::UnknownConstant)
     }
@@ -247,13 +259,15 @@ impl Library {
             (λ e. e.levels ≡ map (name_at (contents_of self.now.0)) result.now) }
         ensures known { All (λ n. n < length (contents_of self.now.0).names) result.now }
     {
-        parameters_of(&self.units, entry)
+        level_parameters(&self.units, entry)
     }
 
-    /// What `place_of` says, of the name that a node makes of its parts. It need not be in the store.
+    /// What `place_of` says, of the name that a node makes of its parts. It need not be in the
+    /// store.
     pub fn find(&self, node: NameNode) -> Option<Place>
         requires { IsNameIn (contents_of self.now.0) node }
-        ensures { option_map pair_of result ≡ place_in 0 (library_of self.now) (name_of (contents_of self.now.0) node) }
+        ensures { option_map pair_of result
+            ≡ place_in 0 (library_of self.now) (name_of (contents_of self.now.0) node) }
     {
         match self.base.find_name(node) {
             Some(n) => self.place_of(n),

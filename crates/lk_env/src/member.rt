@@ -25,7 +25,8 @@ fn declaration_entry(unit: u32, declaration: &Declaration) -> Entry
 fn constructor_entry(unit: u32, types: &[BlockType], place: usize) -> Result<Entry, usize>
     ensures unit { IfOk result (λ e. e.unit ≡ unit) }
     ensures found { IfOk result (IsConstructorAt types.now place) }
-    ensures past { IfErr result (λ rest. length (flat_map constructor_names types.now) + rest ≡ place) }
+    ensures past { IfErr result (λ rest. length (flat_map constructor_names types.now) + rest
+        ≡ place) }
 {
     let mut rest = place;
     for (i, t) in types.iter().enumerate() {
@@ -124,7 +125,8 @@ fn is_type(kind: Kind) -> bool
 /// The entry as it is partial, if it is.
 fn as_partial(partial: Partial, entry: Entry) -> Option<Entry>
     ensures unit { IfSome result (λ e. e.unit ≡ entry.unit) }
-    ensures member { (c : Contents) (b : Block) (j : ℕ) → IsMember c (Unit.Block b) j entry → IsPartialIfAny c (Unit.Block b) partial j result }
+    ensures member { (c : Contents) (b : Block) (j : ℕ) → IsMember c (Unit.Block b) j entry
+        → IsPartialIfAny c (Unit.Block b) partial j result }
 {
     match partial {
         Partial::Nothing => None,

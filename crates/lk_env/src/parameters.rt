@@ -10,8 +10,10 @@ use crate::entry::Kind;
 use crate::unit::{Block, Unit};
 
 fn block_parameters(block: &Block, kind: Kind) -> &[u64]
-    ensures levels { (c : Contents) (T : Tree) → HasLevels c (Unit.Block block.now) kind T result.now }
-    ensures known { (c : Contents) → IsUnitIn c (Unit.Block block.now) → All (λ n. n < length c.names) result.now }
+    ensures levels { (c : Contents) (T : Tree)
+        → HasLevels c (Unit.Block block.now) kind T result.now }
+    ensures known { (c : Contents) → IsUnitIn c (Unit.Block block.now)
+        → All (λ n. n < length c.names) result.now }
 {
     match kind {
         Kind::Declared(_) => &[],
@@ -36,7 +38,8 @@ fn block_parameters(block: &Block, kind: Kind) -> &[u64]
 /// The level parameters of the member that a kind says of a unit.
 pub(crate) fn parameters_in(unit: &Unit, kind: Kind) -> &[u64]
     ensures levels { (c : Contents) (T : Tree) → HasLevels c unit.now kind T result.now }
-    ensures known { (c : Contents) → IsUnitIn c unit.now → All (λ n. n < length c.names) result.now }
+    ensures known { (c : Contents) → IsUnitIn c unit.now
+        → All (λ n. n < length c.names) result.now }
 {
     match unit {
         Unit::Declaration(declaration) => &declaration.levels,

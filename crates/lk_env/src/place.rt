@@ -1,7 +1,7 @@
 //! Where a library gives a name.
 
 /// A member of a unit. Of a block the types come first, then their constructors, then the recursors.
-#[derive(Clone, Copy, Debug, PartialEq, Eq)]
+#[derive(Clone, Copy)]
 pub struct Place {
     pub unit: u32,
     pub member: u32,

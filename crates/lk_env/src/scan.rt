@@ -14,13 +14,13 @@ ghost use Rattle.lk_env.specs.Scan.{passes, constructors_test, recursor_test, Ar
 use crate::closed::is_closed;
 use crate::entry::Flaw;
 use crate::unit::{Block, BlockType, Body, Constructor, Recursor, RecursorRule, Unit};
-use lk_rows::memory::NoMemory;
 use lk_store::base_store::BaseStore;
+use lk_store::memory::NoMemory;
 use lk_store::terms::Terms;
 use std::alloc::Global;
 
 /// What each tree of a unit has to be.
-#[derive(Clone, Copy, Debug, PartialEq, Eq)]
+#[derive(Clone, Copy)]
 pub(crate) enum Test {
     Closed,
     Narrow,
@@ -38,7 +38,8 @@ fn tree_passes(base: &BaseStore, test: Test, e: u64) -> bool
 
 fn body_passes(base: &BaseStore, test: Test, body: Body) -> bool
     requires { IsBodyIn (contents_of base.now) body }
-    ensures { result ≡ list_all (λ e. passes test e.1) (body_trees [] (body_at (contents_of base.now) body)) }
+    ensures { result ≡ list_all (λ e. passes test e.1)
+        (body_trees [] (body_at (contents_of base.now) body)) }
 {
     match body {
         Body::Axiom | Body::Quotient => true,
@@ -49,14 +50,16 @@ fn body_passes(base: &BaseStore, test: Test, body: Body) -> bool
 
 fn types_pass(base: &BaseStore, test: Test, types: &[BlockType]) -> bool
     requires { All (IsTypeIn (contents_of base.now)) types.now }
-    ensures { result ≡ list_all (λ t. passes test (tree_at (contents_of base.now) t.kind)) types.now }
+    ensures { result ≡ list_all (λ t. passes test
+        (tree_at (contents_of base.now) t.kind)) types.now }
 {
     types.iter().all(|t| tree_passes(base, test, t.kind))
 }
 
 fn constructors_pass(base: &BaseStore, test: Test, constructors: &[Constructor]) -> bool
     requires { All (IsConstructorIn (contents_of base.now)) constructors.now }
-    ensures { result ≡ list_all (λ k. passes test (tree_at (contents_of base.now) k.kind)) constructors.now }
+    ensures { result ≡ list_all (λ k. passes test
+        (tree_at (contents_of base.now) k.kind)) constructors.now }
 {
     constructors.iter().all(|k| tree_passes(base, test, k.kind))
 }
@@ -72,7 +75,8 @@ fn all_constructors_pass(base: &BaseStore, test: Test, types: &[BlockType]) -> b
 
 fn rules_pass(base: &BaseStore, test: Test, rules: &[RecursorRule]) -> bool
     requires { All (IsRuleIn (contents_of base.now)) rules.now }
-    ensures { result ≡ list_all (λ r. passes test (tree_at (contents_of base.now) r.value)) rules.now }
+    ensures { result ≡ list_all (λ r. passes test
+        (tree_at (contents_of base.now) r.value)) rules.now }
 {
     rules.iter().all(|r| tree_passes(base, test, r.value))
 }
@@ -94,7 +98,8 @@ fn recursors_pass(base: &BaseStore, test: Test, recursors: &[Recursor]) -> bool
 fn block_passes(base: &BaseStore, test: Test, block: &Block) -> bool
     requires { IsUnitIn (contents_of base.now) (Unit.Block block.now) }
     ensures { result
-        ≡ list_all (λ e. passes test e.1) (trees_of (unit_at (contents_of base.now) (Unit.Block block.now))) }
+        ≡ list_all (λ e. passes test e.1)
+        (trees_of (unit_at (contents_of base.now) (Unit.Block block.now))) }
 {
     if !types_pass(base, test, &block.types) {
         return false;
@@ -107,7 +112,8 @@ fn block_passes(base: &BaseStore, test: Test, block: &Block) -> bool
 
 fn unit_passes(base: &BaseStore, test: Test, unit: &Unit) -> bool
     requires { IsUnitIn (contents_of base.now) unit.now }
-    ensures { result ≡ list_all (λ e. passes test e.1) (trees_of (unit_at (contents_of base.now) unit.now)) }
+    ensures { result ≡ list_all (λ e. passes test e.1)
+        (trees_of (unit_at (contents_of base.now) unit.now)) }
 {
     match unit {
         Unit::Declaration(d) => {

@@ -1,7 +1,7 @@
 //! The units of a library. Names and trees are numbers of a store.
 
 /// How a definition is unfolded, as its line states it.
-#[derive(Clone, Copy, Debug, PartialEq, Eq)]
+#[derive(Clone, Copy)]
 pub enum Hint {
     Opaque,
     Abbreviation,
@@ -10,7 +10,7 @@ pub enum Hint {
 }
 
 /// What a declaration states beside its name, its level parameters and its type.
-#[derive(Clone, Copy, Debug, PartialEq, Eq)]
+#[derive(Clone, Copy)]
 pub enum Body {
     Axiom,
     Definition { hint: Hint, value: u64 },
@@ -54,7 +54,7 @@ pub struct BlockType {
 }
 
 /// A rule of a recursor: the name of a constructor, how many fields it has, and the right side.
-#[derive(Clone, Copy, Debug, PartialEq, Eq)]
+#[derive(Clone, Copy)]
 pub struct RecursorRule {
     pub constructor: u64,
     pub fields: u64,

@@ -9,12 +9,12 @@ ghost use Rattle.lk_level_order.specs.Cases.{asked_where, IsTestedOf, IsRefutedO
 use crate::placing::Part;
 use crate::relation::{Relation, relates};
 use crate::values::{Pair, above, pair_values};
-use lk_rows::memory::NoMemory;
 use lk_rows::table::Table;
+use lk_store::memory::NoMemory;
 use std::alloc::Global;
 
 /// What is asked of the levels at two places of an order.
-#[derive(Clone, Copy, Debug, PartialEq, Eq)]
+#[derive(Clone, Copy)]
 pub struct Question {
     pub relation: Relation,
     pub places: Pair,
@@ -31,7 +31,8 @@ fn far_relates(
 ) -> Result<bool, NoMemory>
     requires { p < length assignment.old }
     ensures keeps { OnOk result (assignment.new ≡ assignment.old) }
-    ensures related { IfOk result (λ r. OverOrders parts.now assignment.old (λ d. r ≡ asked_where d question (slice_set assignment.old p far))) }
+    ensures related { IfOk result (λ r. OverOrders parts.now assignment.old
+        (λ d. r ≡ asked_where d question (slice_set assignment.old p far))) }
 {
     let least = assignment[p];
     assignment[p] = far;
@@ -52,8 +53,12 @@ fn far_holds(
 ) -> Result<bool, NoMemory>
     requires { p < length assignment.old }
     ensures keeps { OnOk result (assignment.new ≡ assignment.old) }
-    ensures yes { IfOk result (λ r. r ≡ true → (p < rights → slice_index assignment.old p ≢ 0) → OverOrders parts.now assignment.old (λ d. asked_where d question (slice_set assignment.old p far) ≡ true)) }
-    ensures no { IfOk result (λ r. r ≡ false → OverOrders parts.now assignment.old (λ d. asked_where d question (slice_set assignment.old p far) ≡ false)) }
+    ensures yes { IfOk result (λ r. r ≡ true → (p < rights → slice_index assignment.old p ≢ 0)
+        → OverOrders parts.now assignment.old
+        (λ d. asked_where d question (slice_set assignment.old p far) ≡ true)) }
+    ensures no { IfOk result (λ r. r ≡ false
+        → OverOrders parts.now assignment.old
+        (λ d. asked_where d question (slice_set assignment.old p far) ≡ false)) }
 {
     if p < rights && assignment[p] == 0 {
         return Ok(true);
@@ -69,8 +74,10 @@ fn case_holds(
     assignment: &mut [u64],
     values: &mut Vec<u64>,
 ) -> Result<bool, NoMemory>
-    ensures yes { IfOk result (λ r. r ≡ true → OverOrders parts.now assignment.old (λ d. IsTestedOf d question rights assignment.old)) }
-    ensures no { IfOk result (λ r. r ≡ false → OverOrders parts.now assignment.old (λ d. IsRefutedOf d question)) }
+    ensures yes { IfOk result (λ r. r ≡ true
+        → OverOrders parts.now assignment.old (λ d. IsTestedOf d question rights assignment.old)) }
+    ensures no { IfOk result (λ r. r ≡ false
+        → OverOrders parts.now assignment.old (λ d. IsRefutedOf d question)) }
 {
     let least = pair_values(parts, assignment, values, question.places)?;
     let related = relates(question.relation, least.left, least.right);
@@ -109,8 +116,11 @@ pub fn cases_hold(
     count: u64,
 ) -> Result<bool, NoMemory>
     requires { rights ≤ 20 }
-    ensures yes { IfOk result (λ r. r ≡ true → (d : Contents) → IsOrder d parts.now → count ≡ length d.names → (case : ℕ) → case < 2 ^ rights → IsTestedOf d question rights (digits count case)) }
-    ensures no { IfOk result (λ r. r ≡ false → (d : Contents) → IsOrder d parts.now → count ≡ length d.names → IsRefutedOf d question) }
+    ensures yes { IfOk result (λ r. r ≡ true → (d : Contents) → IsOrder d parts.now → count
+        ≡ length d.names → (case : ℕ) → case < 2 ^ rights
+        → IsTestedOf d question rights (digits count case)) }
+    ensures no { IfOk result (λ r. r ≡ false → (d : Contents) → IsOrder d parts.now → count
+        ≡ length d.names → IsRefutedOf d question) }
 {
     let mut assignment: Vec<u64> = Vec::new(alloc);
     let mut values: Vec<u64> = Vec::new(alloc);

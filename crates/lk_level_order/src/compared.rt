@@ -12,8 +12,8 @@ use crate::parameters::Parameter;
 use crate::placing::{Part, place, place_of};
 use crate::relation::Relation;
 use crate::values::Pair;
-use lk_rows::memory::NoMemory;
 use lk_rows::table::Table;
+use lk_store::memory::NoMemory;
 use lk_store::terms::Terms;
 use std::alloc::Global;
 
@@ -21,7 +21,7 @@ use std::alloc::Global;
 const MOST: u64 = 20;
 
 /// Why two levels are not compared.
-#[derive(Clone, Copy, Debug, PartialEq, Eq)]
+#[derive(Clone, Copy)]
 pub enum LevelError {
     /// More than 20 different parameters stand inside right sides of `imax` in the two together.
     Width,
@@ -50,7 +50,8 @@ fn gather_some<T: Terms>(
     requires a_in { a < length (T.contents terms.now).levels }
     requires b_in { b < length (T.contents terms.now).levels }
     requires none { names.old ≡ [] }
-    ensures { IfOk result (λ k. HasParameters (names_of (T.contents terms.now) names.new) k (level_at (T.contents terms.now) a) (level_at (T.contents terms.now) b)) }
+    ensures { IfOk result (λ k. HasParameters (names_of (T.contents terms.now) names.new) k
+        (level_at (T.contents terms.now) a) (level_at (T.contents terms.now) b)) }
 {
     gather(
         alloc,
@@ -103,7 +104,8 @@ fn gather_both<T: Terms>(
     requires a_in { a < length (T.contents terms.now).levels }
     requires b_in { b < length (T.contents terms.now).levels }
     requires none { names.old ≡ [] }
-    ensures { IfOk result (λ k. HasParameters (names_of (T.contents terms.now) names.new) k (level_at (T.contents terms.now) a) (level_at (T.contents terms.now) b)) }
+    ensures { IfOk result (λ k. HasParameters (names_of (T.contents terms.now) names.new) k
+        (level_at (T.contents terms.now) a) (level_at (T.contents terms.now) b)) }
 {
     if terms.level_has_params(a) || terms.level_has_params(b) {
         return gather_some(alloc, terms, names, a, b);
@@ -123,9 +125,11 @@ fn related<T: Terms>(
 ) -> Result<bool, NoMemory>
     requires a_in { a < length (T.contents terms.now).levels }
     requires b_in { b < length (T.contents terms.now).levels }
-    requires gathered { HasParameters (names_of (T.contents terms.now) names.now) rights (level_at (T.contents terms.now) a) (level_at (T.contents terms.now) b) }
+    requires gathered { HasParameters (names_of (T.contents terms.now) names.now) rights
+        (level_at (T.contents terms.now) a) (level_at (T.contents terms.now) b) }
     requires few { rights ≤ 20 }
-    ensures { IfOk result (λ r. compared_by relation (level_at (T.contents terms.now) a) (level_at (T.contents terms.now) b) ≡ Some r) }
+    ensures { IfOk result (λ r. compared_by relation (level_at (T.contents terms.now) a)
+        (level_at (T.contents terms.now) b) ≡ Some r) }
 {
     let mut parts: Table<Part> = Table::new(alloc);
     place(alloc, terms, names, &mut parts, a)?;
@@ -149,8 +153,11 @@ fn compared<T: Terms>(
 ) -> Result<bool, LevelError>
     requires a_in { a < length (T.contents terms.now).levels }
     requires b_in { b < length (T.contents terms.now).levels }
-    ensures ok { IfOk result (λ r. compared_by relation (level_at (T.contents terms.now) a) (level_at (T.contents terms.now) b) ≡ Some r) }
-    ensures width { IfErr result (λ e. OnWidth e (compared_by relation (level_at (T.contents terms.now) a) (level_at (T.contents terms.now) b) ≡ None)) }
+    ensures ok { IfOk result (λ r. compared_by relation (level_at (T.contents terms.now) a)
+        (level_at (T.contents terms.now) b) ≡ Some r) }
+    ensures width { IfErr result (λ e. OnWidth e
+        (compared_by relation (level_at (T.contents terms.now) a)
+        (level_at (T.contents terms.now) b) ≡ None)) }
 {
     let mut names: Table<Parameter> = Table::new(alloc);
     let rights = gather_both(alloc, terms, &mut names, a, b)?;
@@ -168,8 +175,11 @@ fn compared<T: Terms>(
 pub fn equal<T: Terms>(alloc: Global, terms: &T, a: u64, b: u64) -> Result<bool, LevelError>
     requires a_in { a < length (T.contents terms.now).levels }
     requires b_in { b < length (T.contents terms.now).levels }
-    ensures ok { IfOk result (λ r. level_test (level_at (T.contents terms.now) a) (level_at (T.contents terms.now) b) ≡ Some r) }
-    ensures width { IfErr result (λ e. OnWidth e (level_test (level_at (T.contents terms.now) a) (level_at (T.contents terms.now) b) ≡ None)) }
+    ensures ok { IfOk result (λ r. level_test (level_at (T.contents terms.now) a)
+        (level_at (T.contents terms.now) b) ≡ Some r) }
+    ensures width { IfErr result (λ e. OnWidth e
+        (level_test (level_at (T.contents terms.now) a) (level_at (T.contents terms.now) b)
+        ≡ None)) }
 {
     compared(alloc, terms, Relation::Equal, a, b)
 }
@@ -178,8 +188,11 @@ pub fn equal<T: Terms>(alloc: Global, terms: &T, a: u64, b: u64) -> Result<bool,
 pub fn leq<T: Terms>(alloc: Global, terms: &T, a: u64, b: u64) -> Result<bool, LevelError>
     requires a_in { a < length (T.contents terms.now).levels }
     requires b_in { b < length (T.contents terms.now).levels }
-    ensures ok { IfOk result (λ r. level_le_test (level_at (T.contents terms.now) a) (level_at (T.contents terms.now) b) ≡ Some r) }
-    ensures width { IfErr result (λ e. OnWidth e (level_le_test (level_at (T.contents terms.now) a) (level_at (T.contents terms.now) b) ≡ None)) }
+    ensures ok { IfOk result (λ r. level_le_test (level_at (T.contents terms.now) a)
+        (level_at (T.contents terms.now) b) ≡ Some r) }
+    ensures width { IfErr result (λ e. OnWidth e
+        (level_le_test (level_at (T.contents terms.now) a) (level_at (T.contents terms.now) b)
+        ≡ None)) }
 {
     compared(alloc, terms, Relation::AtMost, a, b)
 }

@@ -9,16 +9,16 @@ ghost use Rattle.lk_level_order.specs.Parameters.{names_of, IsWithin, AreParamet
 ghost use Rattle.lk_level_order.specs.Gathering.{wanted_of, AreGathered, AreTurns, turns_cost, IsMet, own_param, turns_wanted};
 
 use crate::parameters::{Parameter, add};
-use lk_rows::memory::NoMemory;
 use lk_rows::row::Row;
 use lk_rows::table::Table;
 use lk_store::hashing::mix;
+use lk_store::memory::NoMemory;
 use lk_store::node::LevelNode;
 use lk_store::terms::Terms;
 use std::alloc::Global;
 
 /// A level, and whether it stands inside a right side.
-#[derive(Clone, Copy, Debug, PartialEq, Eq)]
+#[derive(Clone, Copy, PartialEq, Eq)]
 pub struct Side {
     pub level: u64,
     pub inside: bool,
@@ -47,7 +47,7 @@ impl Row for Side {
 }
 
 /// A side on the stack. An opened one has its parts above it.
-#[derive(Clone, Copy, Debug, PartialEq, Eq)]
+#[derive(Clone, Copy)]
 pub struct Turn {
     pub side: Side,
     pub opened: bool,
@@ -56,9 +56,15 @@ pub struct Turn {
 /// Puts a side on the stack again, and its parts above it, the left one on top.
 fn open<T: Terms>(terms: &T, stack: &mut Vec<Turn>, side: Side) -> Result<(), NoMemory>
     requires { side.level < length (T.contents terms.now).levels }
-    ensures turns { OnOk result ((s : List Name) → AreTurns (T.contents terms.now) s stack.old.items → IsWithin (wanted_of (T.contents terms.now) side) s → AreTurns (T.contents terms.now) s stack.new.items) }
-    ensures less { OnOk result (turns_cost (T.contents terms.now) stack.new.items < turns_cost (T.contents terms.now) stack.old.items + cost (level_at (T.contents terms.now) side.level)) }
-    ensures order { OnOk result (turns_wanted (T.contents terms.now) stack.new.items ≡ wanted_of (T.contents terms.now) side ++ turns_wanted (T.contents terms.now) stack.old.items) }
+    ensures turns { OnOk result ((s : List Name) → AreTurns (T.contents terms.now) s stack.old.items
+        → IsWithin (wanted_of (T.contents terms.now) side) s
+        → AreTurns (T.contents terms.now) s stack.new.items) }
+    ensures less { OnOk result (turns_cost (T.contents terms.now) stack.new.items < turns_cost
+        (T.contents terms.now) stack.old.items + cost
+        (level_at (T.contents terms.now) side.level)) }
+    ensures order { OnOk result (turns_wanted (T.contents terms.now) stack.new.items
+        ≡ wanted_of (T.contents terms.now) side
+        ++ turns_wanted (T.contents terms.now) stack.old.items) }
 {
     let inside = side.inside;
     stack.push(Turn { side, opened: true })?;
@@ -134,9 +140,15 @@ fn close<T: Terms>(
     side: Side,
 ) -> Result<(), NoMemory>
     requires { side.level < length (T.contents terms.now).levels }
-    ensures gathers { OnOk result (Gathers (T.contents terms.now) (wanted_of (T.contents terms.now) side) names.old names.new) }
-    ensures complete { OnOk result (AreGathered (T.contents terms.now) names.old met.now → IsWithin (wanted_of (T.contents terms.now) side) (names_of (T.contents terms.now) names.new)) }
-    ensures order { OnOk result (AreParameters (T.contents terms.now) names.old → names_of (T.contents terms.now) names.new ≡ with_names (names_of (T.contents terms.now) names.old) (own_param side.inside (level_at (T.contents terms.now) side.level))) }
+    ensures gathers { OnOk result (Gathers (T.contents terms.now)
+        (wanted_of (T.contents terms.now) side) names.old names.new) }
+    ensures complete { OnOk result (AreGathered (T.contents terms.now) names.old met.now
+        → IsWithin (wanted_of (T.contents terms.now) side)
+        (names_of (T.contents terms.now) names.new)) }
+    ensures order { OnOk result (AreParameters (T.contents terms.now) names.old
+        → names_of (T.contents terms.now) names.new
+        ≡ with_names (names_of (T.contents terms.now) names.old)
+        (own_param side.inside (level_at (T.contents terms.now) side.level))) }
 {
     let inside = side.inside;
     match terms.level(side.level) {
@@ -192,9 +204,14 @@ pub fn gather<T: Terms>(
     root: Side,
 ) -> Result<(), NoMemory>
     requires { root.level < length (T.contents terms.now).levels }
-    ensures gathers { OnOk result (Gathers (T.contents terms.now) (wanted_of (T.contents terms.now) root) names.old names.new) }
-    ensures complete { OnOk result (IsWithin (wanted_of (T.contents terms.now) root) (names_of (T.contents terms.now) names.new)) }
-    ensures order { OnOk result (AreParameters (T.contents terms.now) names.old → names_of (T.contents terms.now) names.new ≡ with_names (names_of (T.contents terms.now) names.old) (wanted_of (T.contents terms.now) root)) }
+    ensures gathers { OnOk result (Gathers (T.contents terms.now)
+        (wanted_of (T.contents terms.now) root) names.old names.new) }
+    ensures complete { OnOk result (IsWithin (wanted_of (T.contents terms.now) root)
+        (names_of (T.contents terms.now) names.new)) }
+    ensures order { OnOk result (AreParameters (T.contents terms.now) names.old
+        → names_of (T.contents terms.now) names.new
+        ≡ with_names (names_of (T.contents terms.now) names.old)
+        (wanted_of (T.contents terms.now) root)) }
 {
     let mut met: Table<Side> = Table::new(alloc);
     let mut stack: Vec<Turn> = Vec::new(alloc);
@@ -227,8 +244,10 @@ fn numbers_of(alloc: Global, names: &Table<Parameter>) -> Result<Vec<u64>, NoMem
 /// The names of the parameters of a level, each once, in the order in which they first stand.
 pub fn params_of<T: Terms>(alloc: Global, terms: &T, level: u64) -> Result<Vec<u64>, NoMemory>
     requires { level < length (T.contents terms.now).levels }
-    ensures known { IfOk result (λ names. All (λ n. n < length (T.contents terms.now).names) names.items) }
-    ensures names { IfOk result (λ names. map (name_at (T.contents terms.now)) names.items ≡ with_names [] (plain_params (level_at (T.contents terms.now) level))) }
+    ensures known { IfOk result (λ names. All
+        (λ n. n < length (T.contents terms.now).names) names.items) }
+    ensures names { IfOk result (λ names. map (name_at (T.contents terms.now)) names.items
+        ≡ with_names [] (plain_params (level_at (T.contents terms.now) level))) }
 {
     let mut names: Table<Parameter> = Table::new(alloc);
     gather(

@@ -12,7 +12,5 @@ pub mod gathering;
 pub mod parameters;
 pub mod placing;
 pub mod relation;
-#[cfg(test)]
-mod tests;
 pub mod values;
 pub mod zero;

@@ -4,14 +4,14 @@ ghost use Rattle.std.specs.Prelude.{◌≡◌, ◌<◌, [], ◌∷◌, length, O
 ghost use Rattle.lk_store.specs.Contents.{name_at};
 ghost use Rattle.lk_level_order.specs.Parameters.{names_of, IsWithin, AreParameters, Gathers, with_name};
 
-use lk_rows::memory::NoMemory;
 use lk_rows::row::Row;
 use lk_rows::table::Table;
 use lk_store::hashing::mix;
+use lk_store::memory::NoMemory;
 use lk_store::terms::Terms;
 
 /// A parameter, by the number of its name.
-#[derive(Clone, Copy, Debug, PartialEq, Eq)]
+#[derive(Clone, Copy)]
 pub struct Parameter {
     pub name: u64,
 }
@@ -41,13 +41,21 @@ impl Row for Parameter {
 /// Adds a parameter where it is not there yet.
 pub fn add<T: Terms>(terms: &T, names: &mut Table<Parameter>, name: u64) -> Result<(), NoMemory>
     requires { name < length (T.contents terms.now).names }
-    ensures gathers { OnOk result (Gathers (T.contents terms.now) (name_at (T.contents terms.now) name ∷ []) names.old names.new) }
-    ensures complete { OnOk result (IsWithin (name_at (T.contents terms.now) name ∷ []) (names_of (T.contents terms.now) names.new)) }
-    ensures order { OnOk result (AreParameters (T.contents terms.now) names.old → names_of (T.contents terms.now) names.new ≡ with_name (names_of (T.contents terms.now) names.old) (name_at (T.contents terms.now) name)) }
+    ensures gathers { OnOk result (Gathers (T.contents terms.now)
+        (name_at (T.contents terms.now) name ∷ []) names.old names.new) }
+    ensures complete { OnOk result (IsWithin (name_at (T.contents terms.now) name ∷ [])
+        (names_of (T.contents terms.now) names.new)) }
+    ensures order { OnOk result (AreParameters (T.contents terms.now) names.old
+        → names_of (T.contents terms.now) names.new
+        ≡ with_name (names_of (T.contents terms.now) names.old)
+        (name_at (T.contents terms.now) name)) }
 {
     let _names = terms.count_names();
     match names.find(&name) {
         Some(_) => Ok(()),
-        None => names.push(Parameter { name }),
+        None => {
+            names.push(Parameter { name })?;
+            Ok(())
+        }
     }
 }

@@ -5,17 +5,17 @@ ghost use Rattle.lk_store.specs.Contents.{level_at, level_of, IsLevelIn};
 ghost use Rattle.lk_level_order.specs.Placing.{gathered, ArePlaced, IsPlaceOf};
 
 use crate::parameters::Parameter;
-use lk_rows::memory::NoMemory;
 use lk_rows::row::Row;
 use lk_rows::table::Table;
 use lk_store::hashing::mix;
+use lk_store::memory::NoMemory;
 use lk_store::node::LevelNode;
 use lk_store::terms::Terms;
 use lk_subst::parts::{Visit, open};
 use std::alloc::Global;
 
 /// A level of the store, and its node: the parts are numbers of the order, and of the parameters.
-#[derive(Clone, Copy, Debug, PartialEq, Eq)]
+#[derive(Clone, Copy)]
 pub struct Part {
     pub level: u64,
     pub node: LevelNode,
@@ -61,8 +61,11 @@ fn placed_node<T: Terms>(
     level: u64,
 ) -> Result<LevelNode, NoMemory>
     requires { level < length (T.contents terms.now).levels }
-    ensures known { IfOk result (λ node. IsLevelIn (gathered (T.contents terms.now) names.now parts.now) node) }
-    ensures level { IfOk result (λ node. level_of (gathered (T.contents terms.now) names.now parts.now) node ≡ level_at (T.contents terms.now) level) }
+    ensures known { IfOk result (λ node. IsLevelIn
+        (gathered (T.contents terms.now) names.now parts.now) node) }
+    ensures level { IfOk result (λ node. level_of
+        (gathered (T.contents terms.now) names.now parts.now) node
+        ≡ level_at (T.contents terms.now) level) }
 {
     match terms.level(level) {
         LevelNode::Zero => Ok(LevelNode::Zero),

@@ -7,12 +7,12 @@ ghost use Rattle.lk_level_order.specs.Placing.{IsOrder};
 ghost use Rattle.lk_level_order.specs.Values.{value_at, AreValues, OverOrders};
 
 use crate::placing::Part;
-use lk_rows::memory::NoMemory;
 use lk_rows::table::Table;
+use lk_store::memory::NoMemory;
 use lk_store::node::LevelNode;
 
 /// Two numbers: the places of two levels, or their values.
-#[derive(Clone, Copy, Debug, PartialEq, Eq)]
+#[derive(Clone, Copy)]
 pub struct Pair {
     pub left: u64,
     pub right: u64,
@@ -40,7 +40,9 @@ fn value_of(values: &[u64], place: u64) -> Result<u64, NoMemory>
 
 /// The value of a level whose parts have theirs.
 fn node_value(node: LevelNode, assignment: &[u64], values: &[u64]) -> Result<u64, NoMemory>
-    ensures { IfOk result (λ v. (d : Contents) → AreDifferent d.names → length assignment.now ≡ length d.names → AreValues d assignment.now values.now → v ≡ value_at d.names assignment.now (level_of d node)) }
+    ensures { IfOk result (λ v. (d : Contents) → AreDifferent d.names → length assignment.now
+        ≡ length d.names → AreValues d assignment.now values.now → v
+        ≡ value_at d.names assignment.now (level_of d node)) }
 {
     match node {
         LevelNode::Zero => Ok(0),
@@ -69,7 +71,8 @@ fn node_value(node: LevelNode, assignment: &[u64], values: &[u64]) -> Result<u64
 
 /// Computes all levels of an order, one after another.
 fn evaluate(parts: &Table<Part>, assignment: &[u64], values: &mut Vec<u64>) -> Result<(), NoMemory>
-    ensures { OnOk result (OverOrders parts.now assignment.now (λ d. AreValues d assignment.now values.new.items)) }
+    ensures { OnOk result (OverOrders parts.now assignment.now
+        (λ d. AreValues d assignment.now values.new.items)) }
 {
     values.clear();
     for place in 0..parts.len() {
@@ -86,8 +89,10 @@ pub fn pair_values(
     values: &mut Vec<u64>,
     places: Pair,
 ) -> Result<Pair, NoMemory>
-    ensures left { IfOk result (λ v. OverOrders parts.now assignment.now (λ d. v.left ≡ value_at d.names assignment.now (level_at d places.left))) }
-    ensures right { IfOk result (λ v. OverOrders parts.now assignment.now (λ d. v.right ≡ value_at d.names assignment.now (level_at d places.right))) }
+    ensures left { IfOk result (λ v. OverOrders parts.now assignment.now
+        (λ d. v.left ≡ value_at d.names assignment.now (level_at d places.left))) }
+    ensures right { IfOk result (λ v. OverOrders parts.now assignment.now
+        (λ d. v.right ≡ value_at d.names assignment.now (level_at d places.right))) }
 {
     evaluate(parts, assignment, values)?;
     let left = value_of(values, places.left)?;

@@ -6,8 +6,8 @@ ghost use Rattle.lk_store.specs.Contents.{level_at};
 ghost use Rattle.lk_subst.specs.Parts.{visits_cost};
 ghost use Rattle.lk_level_order.specs.Zeros.{IsZeroWalk};
 
-use lk_rows::memory::NoMemory;
 use lk_rows::table::Table;
+use lk_store::memory::NoMemory;
 use lk_store::node::LevelNode;
 use lk_store::terms::Terms;
 use lk_subst::parts::{Met, Visit};
@@ -22,9 +22,14 @@ fn may_be_zero<T: Terms>(
     visit: Visit,
 ) -> Result<bool, NoMemory>
     requires { visit.level < length (T.contents terms.now).levels }
-    ensures yes { IfOk result (λ r. r ≡ true → (root : ℕ) → IsZeroWalk (T.contents terms.now) root (stack.old.items ++ visit ∷ []) met.old → IsZeroWalk (T.contents terms.now) root stack.new.items met.new) }
-    ensures no { IfOk result (λ r. r ≡ false → is_zero_level (level_at (T.contents terms.now) visit.level) ≡ false) }
-    ensures less { IfOk result (λ r. visits_cost (T.contents terms.now) stack.new.items < visits_cost (T.contents terms.now) (stack.old.items ++ visit ∷ [])) }
+    ensures yes { IfOk result (λ r. r ≡ true → (root : ℕ)
+        → IsZeroWalk (T.contents terms.now) root (stack.old.items ++ visit ∷ []) met.old
+        → IsZeroWalk (T.contents terms.now) root stack.new.items met.new) }
+    ensures no { IfOk result (λ r. r ≡ false
+        → is_zero_level (level_at (T.contents terms.now) visit.level) ≡ false) }
+    ensures less { IfOk result (λ r. visits_cost
+        (T.contents terms.now) stack.new.items < visits_cost (T.contents terms.now)
+        (stack.old.items ++ visit ∷ [])) }
 {
     let level = visit.level;
     if visit.opened {

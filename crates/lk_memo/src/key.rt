@@ -6,7 +6,7 @@ ghost use Rattle.lk_memo.specs.Keys.{key_of};
 use lk_ask::query::Query;
 
 /// What is asked.
-#[derive(Clone, Copy, Debug, PartialEq, Eq, Hash)]
+#[derive(Clone, Copy, PartialEq, Eq, Hash)]
 pub enum Kind {
     Core,
     Whnf,
@@ -15,7 +15,7 @@ pub enum Kind {
 }
 
 /// A question: what is asked, and of which terms. Where it is of one, that stands twice.
-#[derive(Clone, Copy, Debug, PartialEq, Eq, Hash)]
+#[derive(Clone, Copy, PartialEq, Eq, Hash)]
 pub struct Key {
     pub kind: Kind,
     pub first: u64,

@@ -3,5 +3,3 @@
 
 pub mod key;
 pub mod memo;
-#[cfg(test)]
-mod tests;

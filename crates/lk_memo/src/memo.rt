@@ -9,7 +9,7 @@ ghost use Rattle.lk_memo.specs.Entries.{IsKept};
 use crate::key::{Key, key_of};
 use lk_ask::kept::Kept;
 use lk_ask::query::Query;
-use lk_rows::memory::NoMemory;
+use lk_store::memory::NoMemory;
 use lru::LruCache;
 use std::alloc::Global;
 use std::num::NonZeroUsize;
@@ -55,10 +55,13 @@ impl PrivateMemo {
 
     /// What is kept of a question, where only units below this one were looked at for it. It takes no memory.
     pub fn find(&mut self, query: Query<u64>, unit: u32) -> Option<Kept>
-        ensures found { IfSome result (λ kept. Contains self.old.cache.entries (key_of query, kept)) }
+        ensures found { IfSome result (λ kept. Contains self.old.cache.entries
+            (key_of query, kept)) }
         ensures kept { IfSome result (λ kept. IsKept self.old.cache.entries query unit kept) }
-        ensures none { result ≡ None → (kept : Answered) → IsKept self.old.cache.entries query unit kept → ⊥ }
-        ensures entries { (e : _) → Contains self.new.cache.entries e → Contains self.old.cache.entries e }
+        ensures none { result ≡ None → (kept : Answered)
+            → IsKept self.old.cache.entries query unit kept → ⊥ }
+        ensures entries { (e : _) → Contains self.new.cache.entries e
+            → Contains self.old.cache.entries e }
     {
         let kept = match self.cache.get(&key_of(query)) {
             Some(kept) => *kept,
@@ -73,8 +76,10 @@ impl PrivateMemo {
 
     /// Keeps an answer. Where memory is wanting the memo is as before.
     pub fn keep(&mut self, query: Query<u64>, kept: Kept) -> Result<(), NoMemory>
-        ensures entries { (e : _) → Contains self.new.cache.entries e → Contains self.old.cache.entries e ⊎ (e ≡ (key_of query, kept)) }
-        ensures kept { OnOk result ((unit : ℕ) → IsBelow kept.top unit → IsKept self.new.cache.entries query unit kept) }
+        ensures entries { (e : _) → Contains self.new.cache.entries e
+            → Contains self.old.cache.entries e ⊎ (e ≡ (key_of query, kept)) }
+        ensures kept { OnOk result ((unit : ℕ) → IsBelow kept.top unit
+            → IsKept self.new.cache.entries query unit kept) }
         ensures refused { OnErr result (self.new.cache ≡ self.old.cache) }
     {
         match self.cache.put(key_of(query), kept) {

@@ -5,7 +5,7 @@ ghost use Rattle.lk_rulebook.specs.Units.{later};
 
 /// What is left of a budget of steps, how many turns were taken, and the last unit that was looked at (the greatest
 /// number).
-#[derive(Clone, Copy, Debug, PartialEq, Eq)]
+#[derive(Clone, Copy)]
 pub struct Meter {
     pub left: u128,
     pub turns: u64,
@@ -13,7 +13,7 @@ pub struct Meter {
 }
 
 /// The budget is used up.
-#[derive(Clone, Copy, Debug, PartialEq, Eq)]
+#[derive(Clone, Copy)]
 pub struct Spent;
 
 impl Meter {
@@ -32,7 +32,8 @@ impl Meter {
 
     /// Spends so many steps. Where fewer are left, nothing is left.
     pub fn spend(&mut self, amount: u128) -> Result<(), Spent>
-        ensures paid { IfOk result (λ u. (amount ≤ self.old.left) × (self.new.left ≡ self.old.left - amount)) }
+        ensures paid { IfOk result (λ u. (amount ≤ self.old.left)
+            × (self.new.left ≡ self.old.left - amount)) }
         ensures spent { IfErr result (λ e. (self.old.left < amount) × (self.new.left ≡ 0)) }
         ensures turns { self.new.turns ≡ self.old.turns }
         ensures last { self.new.last ≡ self.old.last }

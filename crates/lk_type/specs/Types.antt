@@ -1,5 +1,5 @@
 -- What Infer goes on with, once the answer is there that it waits for.
-use Rattle.std.specs.Prelude.{ℕ, Bool, Option, None}
+use Rattle.std.specs.Prelude.{ℕ, Bool, Option, None, Result}
 use Rattle.lk_tree.specs.Tree.{Tree, Level, zero_level, imax_level, sort, lam, pi, local}
 use Rattle.lk_tree.specs.Bind.{opened, close, bound}
 use Rattle.lk_tree.specs.RuleNo.{not_a_function, argument_type, let_type}
@@ -8,11 +8,15 @@ use Rattle.lk_plain.specs.Query.{whnf, infer, same}
 use Rattle.lk_plain.specs.Program.{Program, done, ask, asked, ◌>>=◌}
 use Rattle.lk_plain.specs.Erased.{Value, a_tree, Steps, gives, with_tree, with_truth, erased}
 use Rattle.lk_questions.specs.Steps.{given, as_sort, as_pi, sort_of}
+use Rattle.lk_store.specs.declared.memory.NoMemory.{NoMemory}
+use Rattle.lk_store.specs.Contents.{Contents, tree_at}
 use Rattle.lk_ask.specs.declared.next.Next.{Next}
 use Rattle.lk_ask.specs.declared.sheet.TypeSheet.{TypeSheet}
 use Rattle.lk_ask.specs.declared.sheet.TypeSheet.TheVariants.{Passed, LamDomain, LamDomainSort, LamBody, PiDomain, PiDomainSort, PiBody, PiBodySort, Function, FunctionForm, Argument, ArgumentSame, LetType, LetTypeSort, LetValue, LetValueSame}
+use Rattle.lk_ask.specs.Looks.{Sight}
+use Rattle.lk_ask.specs.Gives.{Gives}
 use Rattle.lk_ask.specs.Nexts.{next_steps}
-use Rattle.lk_ask.specs.Sheets.{map_type}
+use Rattle.lk_ask.specs.Sheets.{map_type, IsKnownType}
 
 -- the level of a sort
 abbrev pub level_in : Tree → Level
@@ -91,3 +95,15 @@ type_rest w last (LetValueSame v b) = with_truth (λ equal. erased w a_tree last
 -- what Infer does next; t is what numbers stand for
 abbrev pub type_next : Place → (ℕ → Tree) → Option ℕ → Next ℕ (TypeSheet ℕ) → Steps
 type_next w t last next = next_steps (λ s. type_rest w None (map_type t s)) t last next
+
+-- a step of Infer does what the program does; t is what numbers stood for
+abbrev pub Infers : {S R B : Type 0} → (S → Contents) → (S → R) → (R → Sight B) → S → S → Result (Next ℕ (TypeSheet ℕ)) NoMemory → ((ℕ → Tree) → Program Tree) → Type 0
+Infers contents rest sight old new result program =
+    Gives IsKnownType type_next contents rest sight old new result
+    (erased (sight (rest old)).basis.place a_tree (sight (rest old)).last (program (tree_at (contents old))))
+
+-- it does what the sheet goes on with
+abbrev pub Resumes : {S R B : Type 0} → (S → Contents) → (S → R) → (R → Sight B) → S → S → Result (Next ℕ (TypeSheet ℕ)) NoMemory → TypeSheet ℕ → ((ℕ → Tree) → Value) → Type 0
+Resumes contents rest sight old new result sheet value =
+    Gives IsKnownType type_next contents rest sight old new result
+    (type_rest (sight (rest old)).basis.place (sight (rest old)).last (map_type (tree_at (contents old)) sheet) (value (tree_at (contents old))))

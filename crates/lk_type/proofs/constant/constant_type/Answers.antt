@@ -1,29 +1,53 @@
-use Rattle.std.proofs.Common.{rules, refl}
+use Rattle.std.proofs.Common.{◌≡◌, Some, rules, refl, ap, sym, subst, ◌∙◌}
+use Rattle.lk_plain.specs.Erased.{a_tree, gives}
 use Rattle.lk_store.specs.Contents.{list_at, tree_at}
 use Rattle.lk_store.specs.Store.{contents_of}
+use Rattle.lk_env.specs.Entries.{plain_entry}
+use Rattle.lk_ask.specs.Looks.{Basis}
 use Rattle.lk_type.proofs.Types.{unbuilt_row, typed_row, counted_row}
 use Rattle.lk_type.proofs.constant.constant_type.Goals as goal
 
-pub returns-then-not-is_built-clause-steps : goal.returns-then-not-is_built-clause-steps
-returns-then-not-is_built-clause-steps g c =
+pub returns-then-not-is_built : goal.returns-then-not-is_built
+returns-then-not-is_built g c =
     let h = c.in-Ok.ensures.found in
-    unbuilt_row c.args.library.now _ _ _ _ c.in-Ok.entry h (list_at (g.T.Terms.contents c.args.terms.now) c.args.levels) c.is_built.result
-    (c.is_built.ensures (contents_of c.args.library.now.0) c.args.library.now.1 c.in-Ok.entry h.entry refl h.is) (search rules)
+    let library = (g.L.Looks.sight (g.L.Terms.rest c.args.looks.now)).basis.library in
+    record {
+      keeps = search rules;
+      stays = search rules;
+      known = search rules;
+      steps = unbuilt_row library _ _ _ _ c.in-Ok.entry h (list_at (g.L.Terms.contents c.args.looks.now) c.args.levels) c.is_built.result
+          (c.is_built.ensures (contents_of library.0) library.1 c.in-Ok.entry h.entry refl h.is) (search rules);
+    }
 
-pub returns-in-Some-clause-steps : goal.returns-in-Some-clause-steps
-returns-in-Some-clause-steps g c =
+pub returns-in-Some : goal.returns-in-Some
+returns-in-Some g c =
     let h = c.in-Ok.ensures.found in
-    let base = contents_of c.args.library.now.0 in
-    let before = g.T.Terms.contents c.args.terms.now in
-    let same = c.requires.over.trees.same c.in-Ok.entry.stated c.in-Ok.ensures.known.stated_in in
-    typed_row c.args.library.now _ _ _ _ c.in-Ok.entry h (list_at before c.args.levels) (g.T.Terms.contents c.at_levels.new.terms) (tree_at before c.in-Ok.entry.stated) same
-    c.is_built.result (c.is_built.ensures base c.args.library.now.1 c.in-Ok.entry h.entry refl h.is) (search rules) c.in-Some.e (rw c.in-Some.is at (c.in_ok-e.ensures.ok h.entry h.is))
+    let library = (g.L.Looks.sight (g.L.Terms.rest c.args.looks.now)).basis.library in
+    let before = g.L.Terms.contents c.args.looks.now in
+    let same = c.look.ensures.over.trees.same c.in-Ok.entry.stated c.in-Ok.ensures.known.stated_in in
+    let there = subst (λ (b : Basis _). plain_entry (contents_of b.library.0) b.library.1 c.in-Ok.entry ≡ Some h.entry) (sym c.look.ensures.stays) h.is in
+    let at = rw (c.look.ensures.contents, c.in-Some.is) at (c.in_ok-e.ensures.ok h.entry there) in
+    record {
+      keeps = search rules;
+      stays = search rules;
+      known = search rules;
+      steps = ap (λ r. gives (g.L.Looks.sight r).last (a_tree (tree_at (g.L.Terms.contents c.at_levels.new.self) c.in-Some.e))) c.at_levels.ensures.rest
+          ∙ typed_row library _ _ _ _ c.in-Ok.entry h (list_at before c.args.levels) (g.L.Terms.contents c.at_levels.new.self) (tree_at before c.in-Ok.entry.stated) same
+          c.is_built.result (c.is_built.ensures (contents_of library.0) library.1 c.in-Ok.entry h.entry refl h.is) (search rules) c.in-Some.e at;
+    }
 
-pub returns-in-None-clause-steps : goal.returns-in-None-clause-steps
-returns-in-None-clause-steps g c =
+pub returns-in-None : goal.returns-in-None
+returns-in-None g c =
     let h = c.in-Ok.ensures.found in
-    let base = contents_of c.args.library.now.0 in
-    let before = g.T.Terms.contents c.args.terms.now in
-    let same = c.requires.over.trees.same c.in-Ok.entry.stated c.in-Ok.ensures.known.stated_in in
-    counted_row c.args.library.now _ _ _ _ c.in-Ok.entry h (list_at before c.args.levels) (g.T.Terms.contents c.at_levels.new.terms) (tree_at before c.in-Ok.entry.stated) same
-    c.is_built.result (c.is_built.ensures base c.args.library.now.1 c.in-Ok.entry h.entry refl h.is) (search rules) (rw c.in-None.is at (c.in_ok-e.ensures.ok h.entry h.is))
+    let library = (g.L.Looks.sight (g.L.Terms.rest c.args.looks.now)).basis.library in
+    let before = g.L.Terms.contents c.args.looks.now in
+    let same = c.look.ensures.over.trees.same c.in-Ok.entry.stated c.in-Ok.ensures.known.stated_in in
+    let there = subst (λ (b : Basis _). plain_entry (contents_of b.library.0) b.library.1 c.in-Ok.entry ≡ Some h.entry) (sym c.look.ensures.stays) h.is in
+    let at = rw (c.look.ensures.contents, c.in-None.is) at (c.in_ok-e.ensures.ok h.entry there) in
+    record {
+      keeps = search rules;
+      stays = search rules;
+      known = search rules;
+      steps = counted_row library _ _ _ _ c.in-Ok.entry h (list_at before c.args.levels) (g.L.Terms.contents c.at_levels.new.self) (tree_at before c.in-Ok.entry.stated) same
+          c.is_built.result (c.is_built.ensures (contents_of library.0) library.1 c.in-Ok.entry h.entry refl h.is) (search rules) at;
+    }

@@ -1,6 +1,6 @@
 use Rattle.std.proofs.Common.{refl, ap, sym, ◌∙◌}
 use Rattle.std.specs.Prelude.{option_and_then}
-use Rattle.lk_rulebook.specs.Units.{at_half}
+use Rattle.lk_rulebook.specs.Units.{at_partial}
 use Rattle.lk_store.specs.Contents.{name_at}
 use Rattle.lk_store.specs.Store.{contents_of}
 use Rattle.lk_env.specs.Units.{library_of}
@@ -15,8 +15,8 @@ returns-in-Some-clause-answer c =
     let s = c.args.site.now in
     let x = name_at (contents_of c.args.self.now.0) c.args.name in
     let own = c.in-Some.ensures ∙ ap (own_member s.unit) c.place_of.ensures in
-    answered_at (contents_of c.args.self.now.0) c.args.self.now.1 us s.unit (partial_at us s) x (at_half s.unit (partial_entry_in us s c.in-Some.member)) c.partial_in.result
-    (found_own us s x c.requires.new ∙ ap (λ o. at_half s.unit (option_and_then (partial_entry_in us s) o)) (sym own))
+    answered_at (contents_of c.args.self.now.0) c.args.self.now.1 us s.unit (partial_at us s) x (at_partial s.unit (partial_entry_in us s c.in-Some.member)) c.partial_in.result
+    (found_own us s x c.requires.new ∙ ap (λ o. at_partial s.unit (option_and_then (partial_entry_in us s) o)) (sym own))
     (rw (← c.self.view_is, ← c.deref.ensures.value)
     (c.partial_in.ensures.answer (contents_of c.self.inside.base) (name_at (contents_of c.self.inside.base) c.args.name)))
 
@@ -26,4 +26,4 @@ returns-in-None-clause-answer c =
     let s = c.args.site.now in
     let x = name_at (contents_of c.args.self.now.0) c.args.name in
     let own = c.in-None.ensures ∙ ap (own_member s.unit) c.place_of.ensures in
-    rw (found_own us s x c.requires.new ∙ ap (λ o. at_half s.unit (option_and_then (partial_entry_in us s) o)) (sym own)) (refl, refl)
+    rw (found_own us s x c.requires.new ∙ ap (λ o. at_partial s.unit (option_and_then (partial_entry_in us s) o)) (sym own)) (refl, refl)

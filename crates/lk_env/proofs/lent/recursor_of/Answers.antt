@@ -3,9 +3,9 @@ use Rattle.std.specs.Prelude.{option_map}
 use Rattle.lk_rulebook.specs.Place.{Entry as PlainEntry}
 use Rattle.lk_store.specs.Store.{contents_of}
 use Rattle.lk_env.specs.Entries.{plain_entry}
-use Rattle.lk_ask.specs.Members.{recursor_in, given_recursor}
-use Rattle.lk_ask.proofs.Lent.{of_some}
-use Rattle.lk_ask.proofs.members.recursor_of.Goals as goal
+use Rattle.lk_env.specs.Lent.{recursor_in, given_recursor}
+use Rattle.lk_env.proofs.Found.{of_some}
+use Rattle.lk_env.proofs.lent.recursor_of.Goals as goal
 
 pub returns-clause-value : goal.returns-clause-value
 returns-clause-value c g h =

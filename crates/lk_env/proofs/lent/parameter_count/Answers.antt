@@ -2,9 +2,9 @@ use Rattle.std.proofs.Common.{◌≡◌, sym}
 use Rattle.lk_rulebook.specs.Place.{Entry as PlainEntry}
 use Rattle.lk_store.specs.Store.{contents_of}
 use Rattle.lk_env.specs.Entries.{plain_entry}
-use Rattle.lk_ask.specs.Members.{parameters_in}
-use Rattle.lk_ask.proofs.Lent.{of_some}
-use Rattle.lk_ask.proofs.members.parameters_of.Goals as goal
+use Rattle.lk_env.specs.Lent.{parameters_in}
+use Rattle.lk_env.proofs.Found.{of_some}
+use Rattle.lk_env.proofs.lent.parameter_count.Goals as goal
 
 pub returns : goal.returns
 returns c g h =

@@ -4,9 +4,9 @@ use Rattle.lk_rulebook.specs.Place.{Entry as PlainEntry}
 use Rattle.lk_store.specs.Store.{contents_of}
 use Rattle.lk_env.specs.Units.{type_at, constructor_at}
 use Rattle.lk_env.specs.Entries.{plain_entry}
-use Rattle.lk_ask.specs.Members.{constructor_in}
-use Rattle.lk_ask.proofs.Lent.{of_some}
-use Rattle.lk_ask.proofs.members.constructor_of.Goals as goal
+use Rattle.lk_env.specs.Lent.{constructor_in}
+use Rattle.lk_env.proofs.Found.{of_some}
+use Rattle.lk_env.proofs.lent.constructor_of.Goals as goal
 
 pub returns-clause-value : goal.returns-clause-value
 returns-clause-value c g h =

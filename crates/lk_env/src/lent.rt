@@ -7,15 +7,18 @@ ghost use Rattle.lk_store.specs.Contents.{Contents};
 ghost use Rattle.lk_store.specs.Store.{contents_of};
 ghost use Rattle.lk_env.specs.Units.{type_at, constructor_at, IsUnitIn, AreUnitsIn, IsTypeIn, IsConstructorIn, IsRecursorIn, IsRuleIn};
 ghost use Rattle.lk_env.specs.Entries.{plain_entry};
-ghost use Rattle.lk_ask.specs.Members.{recursor_in, constructor_in, parameters_in, given_recursor, HasRecursor, HasConstructor, HasCount};
+ghost use Rattle.lk_env.specs.Lent.{recursor_in, constructor_in, parameters_in, given_recursor, HasRecursor, HasConstructor, HasCount};
 
-use lk_env::entry::{Entry, Kind};
-use lk_env::library::Library;
-use lk_env::unit::{Block, BlockType, Constructor, Recursor, RecursorRule, Unit};
+use crate::entry::{Entry, Kind};
+use crate::library::Library;
+use crate::unit::{Block, BlockType, Constructor, Recursor, RecursorRule, Unit};
 
 fn block_recursor(block: &Block, kind: Kind) -> Option<(&Recursor, &[RecursorRule])>
-    ensures value { (c : Contents) (T : Tree) → HasRecursor c (Unit.Block block.now) kind T (option_map (λ p. given_recursor c p.0.now p.1.now) result) }
-    ensures known { (c : Contents) → IsUnitIn c (Unit.Block block.now) → IfSome result (λ p. IsRecursorIn c p.0.now × All (IsRuleIn c) p.1.now) }
+    ensures value { (c : Contents) (T : Tree)
+        → HasRecursor c (Unit.Block block.now) kind T
+        (option_map (λ p. given_recursor c p.0.now p.1.now) result) }
+    ensures known { (c : Contents) → IsUnitIn c (Unit.Block block.now)
+        → IfSome result (λ p. IsRecursorIn c p.0.now × All (IsRuleIn c) p.1.now) }
 {
     match kind {
         Kind::Recursor(i) => match block.recursors.get(i) {
@@ -31,8 +34,11 @@ fn block_recursor(block: &Block, kind: Kind) -> Option<(&Recursor, &[RecursorRul
 }
 
 fn unit_recursor(unit: &Unit, kind: Kind) -> Option<(&Recursor, &[RecursorRule])>
-    ensures value { (c : Contents) (T : Tree) → HasRecursor c unit.now kind T (option_map (λ p. given_recursor c p.0.now p.1.now) result) }
-    ensures known { (c : Contents) → IsUnitIn c unit.now → IfSome result (λ p. IsRecursorIn c p.0.now × All (IsRuleIn c) p.1.now) }
+    ensures value { (c : Contents) (T : Tree)
+        → HasRecursor c unit.now kind T (option_map
+        (λ p. given_recursor c p.0.now p.1.now) result) }
+    ensures known { (c : Contents) → IsUnitIn c unit.now
+        → IfSome result (λ p. IsRecursorIn c p.0.now × All (IsRuleIn c) p.1.now) }
 {
     match unit {
         Unit::Declaration(_) => None,
@@ -41,8 +47,10 @@ fn unit_recursor(unit: &Unit, kind: Kind) -> Option<(&Recursor, &[RecursorRule])
 }
 
 fn recursor_among(units: &[Unit], entry: Entry) -> Option<(&Recursor, &[RecursorRule])>
-    ensures value { (c : Contents) → IfSome (plain_entry c units.now entry) (λ e. recursor_in e.kind ≡ option_map (λ p. given_recursor c p.0.now p.1.now) result) }
-    ensures known { (c : Contents) → AreUnitsIn c units.now → IfSome result (λ p. IsRecursorIn c p.0.now × All (IsRuleIn c) p.1.now) }
+    ensures value { (c : Contents) → IfSome (plain_entry c units.now entry)
+        (λ e. recursor_in e.kind ≡ option_map (λ p. given_recursor c p.0.now p.1.now) result) }
+    ensures known { (c : Contents) → AreUnitsIn c units.now
+        → IfSome result (λ p. IsRecursorIn c p.0.now × All (IsRuleIn c) p.1.now) }
 {
     match units.get(entry.unit as usize) {
         Some(unit) => unit_recursor(unit, entry.kind),
@@ -52,16 +60,22 @@ fn recursor_among(units: &[Unit], entry: Entry) -> Option<(&Recursor, &[Recursor
 
 /// The recursor of an entry, where it is one, with the rules that are given: none while it is partial. It takes no memory.
 pub fn recursor_of(library: &Library, entry: Entry) -> Option<(&Recursor, &[RecursorRule])>
-    ensures value { (g : PlainEntry) → plain_entry (contents_of library.now.0) library.now.1 entry ≡ Some g
-        → recursor_in g.kind ≡ option_map (λ p. given_recursor (contents_of library.now.0) p.0.now p.1.now) result }
-    ensures known { IfSome result (λ p. IsRecursorIn (contents_of library.now.0) p.0.now × All (IsRuleIn (contents_of library.now.0)) p.1.now) }
+    ensures value { (g : PlainEntry) → plain_entry (contents_of library.now.0) library.now.1 entry
+        ≡ Some g
+        → recursor_in g.kind ≡ option_map
+        (λ p. given_recursor (contents_of library.now.0) p.0.now p.1.now) result }
+    ensures known { IfSome result (λ p. IsRecursorIn (contents_of library.now.0) p.0.now
+        × All (IsRuleIn (contents_of library.now.0)) p.1.now) }
 {
     recursor_among(library.units(), entry)
 }
 
 fn block_constructor(block: &Block, kind: Kind) -> Option<(&BlockType, &Constructor)>
-    ensures value { (c : Contents) (T : Tree) → HasConstructor c (Unit.Block block.now) kind T (option_map (λ p. (type_at c p.0.now, constructor_at c p.1.now)) result) }
-    ensures known { (c : Contents) → IsUnitIn c (Unit.Block block.now) → IfSome result (λ p. IsTypeIn c p.0.now × IsConstructorIn c p.1.now) }
+    ensures value { (c : Contents) (T : Tree)
+        → HasConstructor c (Unit.Block block.now) kind T
+        (option_map (λ p. (type_at c p.0.now, constructor_at c p.1.now)) result) }
+    ensures known { (c : Contents) → IsUnitIn c (Unit.Block block.now)
+        → IfSome result (λ p. IsTypeIn c p.0.now × IsConstructorIn c p.1.now) }
 {
     match kind {
         Kind::Constructor { parent, number } => match block.types.get(parent) {
@@ -76,8 +90,11 @@ fn block_constructor(block: &Block, kind: Kind) -> Option<(&BlockType, &Construc
 }
 
 fn unit_constructor(unit: &Unit, kind: Kind) -> Option<(&BlockType, &Constructor)>
-    ensures value { (c : Contents) (T : Tree) → HasConstructor c unit.now kind T (option_map (λ p. (type_at c p.0.now, constructor_at c p.1.now)) result) }
-    ensures known { (c : Contents) → IsUnitIn c unit.now → IfSome result (λ p. IsTypeIn c p.0.now × IsConstructorIn c p.1.now) }
+    ensures value { (c : Contents) (T : Tree)
+        → HasConstructor c unit.now kind T
+        (option_map (λ p. (type_at c p.0.now, constructor_at c p.1.now)) result) }
+    ensures known { (c : Contents) → IsUnitIn c unit.now
+        → IfSome result (λ p. IsTypeIn c p.0.now × IsConstructorIn c p.1.now) }
 {
     match unit {
         Unit::Declaration(_) => None,
@@ -86,8 +103,11 @@ fn unit_constructor(unit: &Unit, kind: Kind) -> Option<(&BlockType, &Constructor
 }
 
 fn constructor_among(units: &[Unit], entry: Entry) -> Option<(&BlockType, &Constructor)>
-    ensures value { (c : Contents) → IfSome (plain_entry c units.now entry) (λ e. constructor_in e.kind ≡ option_map (λ p. (type_at c p.0.now, constructor_at c p.1.now)) result) }
-    ensures known { (c : Contents) → AreUnitsIn c units.now → IfSome result (λ p. IsTypeIn c p.0.now × IsConstructorIn c p.1.now) }
+    ensures value { (c : Contents) → IfSome (plain_entry c units.now entry)
+        (λ e. constructor_in e.kind ≡ option_map
+        (λ p. (type_at c p.0.now, constructor_at c p.1.now)) result) }
+    ensures known { (c : Contents) → AreUnitsIn c units.now
+        → IfSome result (λ p. IsTypeIn c p.0.now × IsConstructorIn c p.1.now) }
 {
     match units.get(entry.unit as usize) {
         Some(unit) => unit_constructor(unit, entry.kind),
@@ -97,9 +117,16 @@ fn constructor_among(units: &[Unit], entry: Entry) -> Option<(&BlockType, &Const
 
 /// The constructor of an entry, with its type, where it is one. It takes no memory.
 pub fn constructor_of(library: &Library, entry: Entry) -> Option<(&BlockType, &Constructor)>
-    ensures value { (g : PlainEntry) → plain_entry (contents_of library.now.0) library.now.1 entry ≡ Some g
-        → constructor_in g.kind ≡ option_map (λ p. (type_at (contents_of library.now.0) p.0.now, constructor_at (contents_of library.now.0) p.1.now)) result }
-    ensures known { IfSome result (λ p. IsTypeIn (contents_of library.now.0) p.0.now × IsConstructorIn (contents_of library.now.0) p.1.now) }
+    ensures value { (g : PlainEntry) → plain_entry (contents_of library.now.0) library.now.1 entry
+        ≡ Some g
+        → constructor_in g.kind ≡ option_map
+        (λ p. (
+          type_at (contents_of library.now.0) p.0.now,
+          constructor_at
+              (contents_of library.now.0) p.1.now,
+        )) result }
+    ensures known { IfSome result (λ p. IsTypeIn (contents_of library.now.0) p.0.now
+        × IsConstructorIn (contents_of library.now.0) p.1.now) }
 {
     constructor_among(library.units(), entry)
 }
@@ -127,7 +154,8 @@ fn unit_parameters(unit: &Unit, kind: Kind) -> Option<u64>
 }
 
 fn parameters_among(units: &[Unit], entry: Entry) -> Option<u64>
-    ensures { (c : Contents) → IfSome (plain_entry c units.now entry) (λ e. parameters_in e.kind ≡ result) }
+    ensures { (c : Contents) → IfSome (plain_entry c units.now entry)
+        (λ e. parameters_in e.kind ≡ result) }
 {
     match units.get(entry.unit as usize) {
         Some(unit) => unit_parameters(unit, entry.kind),
@@ -136,8 +164,9 @@ fn parameters_among(units: &[Unit], entry: Entry) -> Option<u64>
 }
 
 /// The number of parameters of an entry that is a type of a block. It takes no memory.
-pub fn parameters_of(library: &Library, entry: Entry) -> Option<u64>
-    ensures { (g : PlainEntry) → plain_entry (contents_of library.now.0) library.now.1 entry ≡ Some g → result ≡ parameters_in g.kind }
+pub fn parameter_count(library: &Library, entry: Entry) -> Option<u64>
+    ensures { (g : PlainEntry) → plain_entry (contents_of library.now.0) library.now.1 entry
+        ≡ Some g → result ≡ parameters_in g.kind }
 {
     parameters_among(library.units(), entry)
 }

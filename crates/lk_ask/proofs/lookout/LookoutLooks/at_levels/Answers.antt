@@ -1,0 +1,15 @@
+use Rattle.std.proofs.Common.{◌≡◌, Some, subst}
+use Rattle.std.specs.Prelude.{IfOk}
+use Rattle.lk_rulebook.specs.Place.{Entry as PlainEntry}
+use Rattle.lk_store.specs.Contents.{list_at, tree_at}
+use Rattle.lk_store.specs.Store.{contents_of}
+use Rattle.lk_env.specs.Entries.{plain_entry}
+use Rattle.lk_ask.specs.Constants.{IsAtLevels}
+use Rattle.lk_ask.proofs.lookout.LookoutLooks.at_levels.Goals as goal
+
+pub returns-clause-ok : goal.returns-clause-ok
+returns-clause-ok g c =
+    let after = g.T.Terms.contents c.at_levels.new.terms in
+    subst (λ s. IfOk c.at_levels.result (λ r. (x : PlainEntry) → plain_entry (contents_of s.0.0) s.0.1 c.args.entry ≡ Some x
+    → IsAtLevels after x.levels (list_at (g.T.Terms.contents s.2) c.args.levels) (tree_at (g.T.Terms.contents s.2) c.args.e) r))
+    c.self.view_is c.at_levels.ensures.ok

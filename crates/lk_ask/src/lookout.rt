@@ -1,0 +1,167 @@
+//! A lookout: a store at a library, seen from a site, under a budget.
+
+use crate::constants::{at_levels, look_up};
+use crate::looks::Looks;
+use crate::rule::Rule;
+use lk_env::entry::{Entry, Refused, Site};
+use lk_env::library::Library;
+use lk_meter::meter::Meter;
+use lk_store::memory::NoMemory;
+use lk_store::node::{LevelNode, ListNode, NameNode, Node};
+use lk_store::terms::Terms;
+use lk_store::text::Text;
+use std::alloc::Global;
+use std::marker::Model;
+
+/// A store that has what the library has, from where the library is seen, and what is left of a budget.
+#[derive(Drop)]
+pub struct Lookout<'a, T: Terms> {
+    pub alloc: Global,
+    pub library: &'a Library,
+    pub site: Site,
+    pub terms: T,
+    pub meter: Meter,
+}
+
+impl<'a, T: Terms> Model for Lookout<'a, T> {
+    ghost use Rattle.std.specs.Prelude.{List};
+    ghost use Rattle.lk_store.specs.declared.tables.Tables.{Tables};
+    ghost use Rattle.lk_store.specs.Contents.{Extends};
+    ghost use Rattle.lk_store.specs.Store.{contents_of};
+    ghost use Rattle.lk_env.specs.declared.entry.Site.{Site as LookedFrom};
+    ghost use Rattle.lk_env.specs.declared.unit.Unit.{Unit as StoredUnit};
+    ghost use Rattle.lk_meter.specs.declared.meter.Meter.{Meter as Metered};
+
+    ghost Value = { (Tables × List StoredUnit) × LookedFrom × T × Metered };
+
+    ghost view = { λ s. (s.library.now, s.site, s.terms, s.meter) };
+
+    ghost invariant = { λ s. Extends (contents_of s.library.now.0) (T.contents s.terms) };
+}
+
+impl<'a, T: Terms> Terms for Lookout<'a, T> {
+    /// All but the terms: the library, from where it is seen, what is left of the budget, and what the store has beside them.
+    type Rest = (Library, Site, Meter, T::Rest);
+
+    ghost rest = { λ s. (s.0, s.1, s.3, T.rest s.2) };
+
+    ghost contents = { λ s. T.contents s.2 };
+
+    fn len(&self) -> u64 {
+        self.terms.len()
+    }
+
+    fn view(&self, e: u64) -> Node {
+        self.terms.view(e)
+    }
+
+    fn make(&mut self, node: Node) -> Result<u64, NoMemory> {
+        self.terms.make(node)
+    }
+
+    fn same(&self, a: u64, b: u64) -> bool {
+        self.terms.same(a, b)
+    }
+
+    fn loose_bound(&self, e: u64) -> u128 {
+        self.terms.loose_bound(e)
+    }
+
+    fn local_bound(&self, e: u64) -> u128 {
+        self.terms.local_bound(e)
+    }
+
+    fn has_params(&self, e: u64) -> bool {
+        self.terms.has_params(e)
+    }
+
+    fn is_narrow(&self, e: u64) -> bool {
+        self.terms.is_narrow(e)
+    }
+
+    fn level(&self, l: u64) -> LevelNode {
+        self.terms.level(l)
+    }
+
+    fn make_level(&mut self, node: LevelNode) -> Result<u64, NoMemory> {
+        self.terms.make_level(node)
+    }
+
+    fn level_has_params(&self, l: u64) -> bool {
+        self.terms.level_has_params(l)
+    }
+
+    fn levels(&self, ls: u64) -> ListNode {
+        self.terms.levels(ls)
+    }
+
+    fn make_levels(&mut self, node: ListNode) -> Result<u64, NoMemory> {
+        self.terms.make_levels(node)
+    }
+
+    fn levels_have_params(&self, ls: u64) -> bool {
+        self.terms.levels_have_params(ls)
+    }
+
+    fn count_names(&self) -> u64 {
+        self.terms.count_names()
+    }
+
+    fn name(&self, n: u64) -> NameNode {
+        self.terms.name(n)
+    }
+
+    fn make_name(&mut self, node: NameNode) -> Result<u64, NoMemory> {
+        self.terms.make_name(node)
+    }
+
+    fn same_name(&self, m: u64, n: u64) -> bool {
+        self.terms.same_name(m, n)
+    }
+
+    fn text(&self, s: u64) -> &Text {
+        self.terms.text(s)
+    }
+
+    fn make_text(&mut self, text: Text) -> Result<u64, NoMemory> {
+        self.terms.make_text(text)
+    }
+}
+
+impl<'a, T: Terms> Looks for Lookout<'a, T> {
+    /// From where the library is seen, and what the store has beside its terms.
+    type Beside = (Site, T::Rest);
+
+    ghost use Rattle.lk_env.specs.Places.{place_at};
+
+    ghost sight = { λ r. record {
+      basis = record {
+        library = r.0;
+        place = place_at r.0 r.1;
+        left = r.2.left;
+        beside =
+            (r.1, r.3);
+      };
+      last = r.2.last;
+    } };
+
+    fn alloc(&self) -> Global {
+        self.alloc
+    }
+
+    fn library(&self) -> &Library {
+        self.library
+    }
+
+    fn means(&self, name: u64) -> Result<Entry, Refused> {
+        self.library.means(&self.site, &self.terms, name)
+    }
+
+    fn look(&mut self, name: u64) -> Result<Entry, Rule> {
+        look_up(self.library, &self.site, &self.terms, name, &mut self.meter)
+    }
+
+    fn at_levels(&mut self, entry: Entry, levels: u64, e: u64) -> Result<Option<u64>, NoMemory> {
+        at_levels(self.alloc, self.library, &mut self.terms, entry, levels, e)
+    }
+}

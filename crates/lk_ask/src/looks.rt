@@ -1,0 +1,73 @@
+//! Who looks names up between questions.
+
+ghost use Rattle.std.specs.Prelude.{◌≡◌, ◌<◌, Some, None, length, IfOk, IfErr, IfSome};
+ghost use Rattle.lk_rulebook.specs.Place.{Entry as PlainEntry};
+ghost use Rattle.lk_store.specs.Contents.{name_at, list_at, tree_at, Extends};
+ghost use Rattle.lk_store.specs.Store.{contents_of};
+ghost use Rattle.lk_env.specs.Entries.{IsAnswer, IsEntryIn};
+ghost use Rattle.lk_ask.specs.Constants.{IsFound, IsRefused, IsAtLevels};
+ghost use Rattle.lk_ask.specs.Looks.{Sight, entry_at, IsOver};
+
+use crate::rule::Rule;
+use lk_env::entry::{Entry, Refused};
+use lk_env::library::Library;
+use lk_store::memory::NoMemory;
+use lk_store::terms::Terms;
+use std::alloc::Global;
+
+/// A store at a library: what a question has while it takes a step.
+pub trait Looks: Terms {
+    /// What it has beside the library and the budget, which no step changes.
+    type Beside;
+
+    /// The library, from where it is seen, what is left of the budget, and the last unit that was looked at.
+    ghost sight: { Self.Rest → Sight Self.Beside };
+
+    /// Where memory comes from.
+    fn alloc(&self) -> Global;
+
+    /// The library.
+    fn library(&self) -> &Library
+        ensures is { result.now ≡ (sight (Self.rest self.now)).basis.library }
+        ensures over { IsOver Self.contents Self.rest sight self.now };
+
+    /// What a name means that was looked up before: nothing is noted. It takes no memory.
+    fn means(&self, name: u64) -> Result<Entry, Refused>
+        requires { name < length (Self.contents self.now).names }
+        ensures over { IsOver Self.contents Self.rest sight self.now }
+        ensures known { IfOk result
+            (IsEntryIn (contents_of (sight (Self.rest self.now)).basis.library.0)) }
+        ensures answer { IsAnswer (contents_of (sight (Self.rest self.now)).basis.library.0)
+            (sight (Self.rest self.now)).basis.library.1 (sight (Self.rest self.now)).basis.place
+            (name_at (Self.contents self.now) name) result }
+        ensures refused { IfErr result (λ r. (sight (Self.rest self.now)).basis.place.means
+            (name_at (Self.contents self.now) name) ≡ None) };
+
+    /// Looks a constant up: what its name means. That its unit was looked at is noted. It takes no memory.
+    fn look(&mut self, name: u64) -> Result<Entry, Rule>
+        requires { name < length (Self.contents self.old).names }
+        ensures contents { Self.contents self.new ≡ Self.contents self.old }
+        ensures stays { (sight (Self.rest self.new)).basis ≡ (sight (Self.rest self.old)).basis }
+        ensures over { IsOver Self.contents Self.rest sight self.old }
+        ensures known { IfOk result
+            (IsEntryIn (contents_of (sight (Self.rest self.old)).basis.library.0)) }
+        ensures found { IfOk result (λ e. IsFound (sight (Self.rest self.old)).basis.library
+            (sight (Self.rest self.old)).basis.place (name_at (Self.contents self.old) name)
+            (sight (Self.rest self.old)).last e (sight (Self.rest self.new)).last) }
+        ensures refused { IfErr result (IsRefused (sight (Self.rest self.old)).basis.place
+            (name_at (Self.contents self.old) name)) };
+
+    /// A tree of a constant's unit at the levels that the constant has. There is none where they are not as many as the
+    /// unit has level parameters.
+    fn at_levels(&mut self, entry: Entry, levels: u64, e: u64) -> Result<Option<u64>, NoMemory>
+        requires levels_in { levels < length (Self.contents self.old).lists }
+        requires e_in { e < length (Self.contents self.old).trees }
+        ensures keeps { Extends (Self.contents self.old) (Self.contents self.new) }
+        ensures rest { Self.rest self.new ≡ Self.rest self.old }
+        ensures known { IfOk result (λ r. IfSome r
+            (λ t. t < length (Self.contents self.new).trees)) }
+        ensures ok { IfOk result (λ r. (g : PlainEntry)
+            → entry_at (sight (Self.rest self.old)).basis entry ≡ Some g
+            → IsAtLevels (Self.contents self.new) g.levels (list_at (Self.contents self.old) levels)
+            (tree_at (Self.contents self.old) e) r) };
+}
