@@ -3,23 +3,26 @@
 ghost use Rattle.std.specs.Prelude.{◌≡◌, ◌<◌, ◌≤◌, ℕ, true, length, map, min, take, All, IfOk};
 ghost use Rattle.lk_tree.specs.Tree.{Tree};
 ghost use Rattle.lk_tree.specs.Loose.{loose};
-ghost use Rattle.lk_store.specs.Contents.{tree_at, Extends, IsTree};
+ghost use Rattle.lk_store.specs.Contents.{tree_at, IsTree};
 ghost use Rattle.lk_questions.specs.Core.{beta, lambdas};
+ghost use Rattle.lk_ask.specs.Looks.{MakesTree};
 ghost use Rattle.lk_core.specs.Lambdas.{under};
 
-use lk_rows::memory::NoMemory;
+use lk_ask::looks::Looks;
 use lk_spine::apply;
+use lk_store::memory::NoMemory;
 use lk_store::node::Node;
 use lk_store::terms::Terms;
 use lk_subst::opening::open_with;
 use lk_subst::putting::put;
-use std::alloc::Global;
 
-/// What stands under the leading lambdas of a term, at most so many of them, and under how many it stands.
+/// What stands under the leading lambdas of a term, at most so many of them, and under how many it
+/// stands.
 fn body_under<T: Terms>(terms: &T, head: u64, most: usize) -> (u64, usize)
     requires { head < length (T.contents terms.now).trees }
     ensures count { result.1 ≡ min (lambdas (tree_at (T.contents terms.now) head)) most }
-    ensures body { IsTree (T.contents terms.now) result.0 (under result.1 (tree_at (T.contents terms.now) head)) }
+    ensures body { let c = T.contents terms.now in
+        IsTree c result.0 (under result.1 (tree_at c head)) }
 {
     let mut body = head;
     let mut count = 0;
@@ -48,79 +51,70 @@ fn are_closed<T: Terms>(terms: &T, values: &[u64]) -> bool
     true
 }
 
-/// A term applied to arguments, where so many of its leading lambdas are opened with the first ones, one after another.
-/// Where it has fewer lambdas, those are opened.
-fn open_in_turn<T: Terms>(
-    alloc: Global,
-    terms: &mut T,
+/// A term applied to arguments, where so many of its leading lambdas are opened with the first
+/// ones, one after another. Where it has fewer lambdas, those are opened.
+fn open_in_turn<L: Looks>(
+    looks: &mut L,
     head: u64,
     count: usize,
     args: &[u64],
 ) -> Result<u64, NoMemory>
-    requires head_in { head < length (T.contents terms.old).trees }
-    requires args_in { All (λ e. e < length (T.contents terms.old).trees) args.now }
-    ensures keeps { Extends (T.contents terms.old) (T.contents terms.new) }
-    ensures rest { T.rest terms.new ≡ T.rest terms.old }
-    ensures ok { IfOk result (λ e. IsTree (T.contents terms.new) e (beta count (tree_at (T.contents terms.old) head) (map (tree_at (T.contents terms.old)) args.now))) }
+    requires head_in { head < length (L.contents looks.old).trees }
+    requires args_in { All (λ e. e < length (L.contents looks.old).trees) args.now }
+    ensures { MakesTree L.contents L.rest looks.old looks.new result
+        (λ t. beta count (t head) (map t args.now)) }
 {
     let mut e = head;
     let mut left = count;
     let mut rest = args;
     'open: while let Some((a, more)) = rest.split_first() {
-        match terms.view(e) {
+        match looks.view(e) {
             Node::Lam(_, body) if left > 0 => {
-                e = open_with(alloc, terms, body, *a)?;
+                e = open_with(looks.alloc(), looks, body, *a)?;
                 left -= 1;
                 rest = more;
             }
-            _ => return apply(terms, e, rest),
+            _ => return apply(looks, e, rest),
         }
     }
     Ok(e)
 }
 
-/// The body under so many leading lambdas, with the first arguments in place of their variables, all at once, applied
-/// to the other arguments.
-fn put_at_once<T: Terms>(
-    alloc: Global,
-    terms: &mut T,
+/// The body under so many leading lambdas, with the first arguments in place of their variables,
+/// all at once, applied to the other arguments.
+fn put_at_once<L: Looks>(
+    looks: &mut L,
     body: u64,
     count: usize,
     args: &[u64],
 ) -> Result<u64, NoMemory>
-    requires body_in { body < length (T.contents terms.old).trees }
+    requires body_in { body < length (L.contents looks.old).trees }
     requires few { count ≤ length args.now }
-    requires args_in { All (λ e. e < length (T.contents terms.old).trees) args.now }
-    ensures keeps { Extends (T.contents terms.old) (T.contents terms.new) }
-    ensures rest { T.rest terms.new ≡ T.rest terms.old }
-    ensures ok { (h : Tree) → tree_at (T.contents terms.old) body ≡ under count h → count ≤ lambdas h
-        → All (λ v. loose (tree_at (T.contents terms.old) v) ≡ 0) (take count args.now)
-        → IfOk result (λ e. IsTree (T.contents terms.new) e (beta count h (map (tree_at (T.contents terms.old)) args.now))) }
+    requires args_in { All (λ e. e < length (L.contents looks.old).trees) args.now }
+    ensures { (h : Tree) → tree_at (L.contents looks.old) body ≡ under count h → count ≤ lambdas h
+        → All (λ v. loose (tree_at (L.contents looks.old) v) ≡ 0) (take count args.now)
+        → MakesTree L.contents L.rest looks.old looks.new result
+        (λ t. beta count h (map t args.now)) }
 {
     let (values, others) = args.split_at(count);
-    let e = put(alloc, terms, body, values)?;
-    apply(terms, e, others)
+    let e = put(looks.alloc(), looks, body, values)?;
+    apply(looks, e, others)
 }
 
-/// A term applied to arguments, where as many of its leading lambdas as there are arguments are opened with them.
+/// A term applied to arguments, where as many of its leading lambdas as there are arguments are
+/// opened with them.
 ///
 /// Closed arguments are put for all those variables at once.
-pub(crate) fn beta<T: Terms>(
-    alloc: Global,
-    terms: &mut T,
-    head: u64,
-    args: &[u64],
-) -> Result<u64, NoMemory>
-    requires head_in { head < length (T.contents terms.old).trees }
-    requires args_in { All (λ e. e < length (T.contents terms.old).trees) args.now }
-    ensures keeps { Extends (T.contents terms.old) (T.contents terms.new) }
-    ensures rest { T.rest terms.new ≡ T.rest terms.old }
-    ensures ok { IfOk result (λ e. IsTree (T.contents terms.new) e (beta (lambdas (tree_at (T.contents terms.old) head)) (tree_at (T.contents terms.old) head) (map (tree_at (T.contents terms.old)) args.now))) }
+pub(crate) fn beta<L: Looks>(looks: &mut L, head: u64, args: &[u64]) -> Result<u64, NoMemory>
+    requires head_in { head < length (L.contents looks.old).trees }
+    requires args_in { All (λ e. e < length (L.contents looks.old).trees) args.now }
+    ensures { MakesTree L.contents L.rest looks.old looks.new result
+        (λ t. beta (lambdas (t head)) (t head) (map t args.now)) }
 {
-    let (body, count) = body_under(terms, head, args.len());
-    if are_closed(terms, &args[..count]) {
-        put_at_once(alloc, terms, body, count, args)
+    let (body, count) = body_under(looks, head, args.len());
+    if are_closed(looks, &args[..count]) {
+        put_at_once(looks, body, count, args)
     } else {
-        open_in_turn(alloc, terms, head, count, args)
+        open_in_turn(looks, head, count, args)
     }
 }

@@ -1,3 +1,4 @@
+pub mod Giving
 pub mod Splits
 pub mod Forms
 pub mod RightSides

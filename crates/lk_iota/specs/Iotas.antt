@@ -1,5 +1,5 @@
 -- What Core of a recursor that is applied goes on with, once the answer is there that it waits for.
-use Rattle.std.specs.Prelude.{ℕ, Bool, List, Option, Some, None, if◌then◌else◌}
+use Rattle.std.specs.Prelude.{ℕ, Bool, List, Option, Some, None, Result, if◌then◌else◌}
 use Rattle.lk_tree.specs.Tree.{Level, Tree}
 use Rattle.lk_tree.specs.Spine.{head}
 use Rattle.lk_tree.specs.RuleNo.{loose_variable}
@@ -7,13 +7,20 @@ use Rattle.lk_rulebook.specs.Place.{Place}
 use Rattle.lk_plain.specs.Query.{whnf, same}
 use Rattle.lk_plain.specs.Program.{Program, done, refuse, ask, ◌>>=◌}
 use Rattle.lk_plain.specs.Erased.{Value, a_tree, Steps, gives, with_tree, with_truth, erased}
-use Rattle.lk_questions.specs.Iota.{CtorApp, only_ctor, to_ctor_when_k, levels_at, k_from, iota_at_ctor}
-use Rattle.lk_questions.specs.BuiltIota.{no_structure, as_ctor_app_built, iota_of_built, no_literal, iota_after_k_built, iota_built}
+use Rattle.lk_questions.specs.Iota.{CtorApp, only_ctor, to_ctor_when_k, levels_at, k_from}
+use Rattle.lk_questions.specs.Iota.{iota_at_ctor}
+use Rattle.lk_questions.specs.BuiltIota.{no_structure, as_ctor_app_built, iota_of_built, no_literal}
+use Rattle.lk_questions.specs.BuiltIota.{iota_after_k_built, iota_built}
+use Rattle.lk_store.specs.declared.memory.NoMemory.{NoMemory}
+use Rattle.lk_store.specs.Contents.{Contents, tree_at}
 use Rattle.lk_ask.specs.declared.next.Next.{Next}
 use Rattle.lk_ask.specs.declared.sheet.IotaSheet.{IotaSheet}
-use Rattle.lk_ask.specs.declared.sheet.IotaSheet.TheVariants.{Passed, MajorType, MajorTypeForm, Candidate, CandidateSame, Major}
+use Rattle.lk_ask.specs.declared.sheet.IotaSheet.TheVariants.{Passed, MajorType, MajorTypeForm}
+use Rattle.lk_ask.specs.declared.sheet.IotaSheet.TheVariants.{Candidate, CandidateSame, Major}
+use Rattle.lk_ask.specs.Looks.{Sight}
+use Rattle.lk_ask.specs.Gives.{Gives}
 use Rattle.lk_ask.specs.Nexts.{next_steps}
-use Rattle.lk_ask.specs.Sheets.{map_iota}
+use Rattle.lk_ask.specs.Sheets.{map_iota, IsKnownIota}
 use Rattle.lk_iota.specs.Redexes.{PlainRedex, redex_at}
 use Rattle.lk_iota.specs.Shapes.{only_at}
 
@@ -93,12 +100,33 @@ compared_rest e (Some p) d equal = do
 -- what a sheet waits for, and goes on with; last is the last unit that was looked at before
 abbrev pub iota_rest : Place → Option ℕ → IotaSheet Tree → Value → Steps
 iota_rest w last Passed = with_tree (λ v. gives last (a_tree v))
-iota_rest w last (MajorType e) = with_tree (λ T₀. erased w a_tree last (ask (whnf T₀) (λ T. type_rest w e (redex_at w e) T)))
-iota_rest w last (MajorTypeForm e) = with_tree (λ T. erased w a_tree last (type_rest w e (redex_at w e) T))
-iota_rest w last (Candidate e T d) = with_tree (λ D. erased w a_tree last (ask (same T D) (λ equal. compared_rest e (redex_at w e) d equal)))
-iota_rest w last (CandidateSame e d) = with_truth (λ equal. erased w a_tree last (compared_rest e (redex_at w e) d equal))
+iota_rest w last (MajorType e) =
+    with_tree (λ T₀. erased w a_tree last (ask (whnf T₀) (λ T. type_rest w e (redex_at w e) T)))
+iota_rest w last (MajorTypeForm e) =
+    with_tree (λ T. erased w a_tree last (type_rest w e (redex_at w e) T))
+iota_rest w last (Candidate e T d) =
+    with_tree (λ D. erased w a_tree last
+    (ask (same T D) (λ equal. compared_rest e (redex_at w e) d equal)))
+iota_rest w last (CandidateSame e d) =
+    with_truth (λ equal. erased w a_tree last (compared_rest e (redex_at w e) d equal))
 iota_rest w last (Major e) = with_tree (λ m. erased w a_tree last (form_rest e (redex_at w e) m))
 
 -- what Core of a recursor does next; t is what numbers stand for
 abbrev pub iota_next : Place → (ℕ → Tree) → Option ℕ → Next ℕ (IotaSheet ℕ) → Steps
 iota_next w t last next = next_steps (λ s. iota_rest w None (map_iota t s)) t last next
+
+-- a step of Core of a recursor does what the program does; t is what numbers stood for
+abbrev pub Reduces : {S R B : Type 0} → (S → Contents) → (S → R) → (R → Sight B) → S → S
+    → Result (Next ℕ (IotaSheet ℕ)) NoMemory → ((ℕ → Tree) → Program Tree) → Type 0
+Reduces contents rest sight old new result program =
+    Gives IsKnownIota iota_next contents rest sight old new result
+    (erased (sight (rest old)).basis.place a_tree (sight (rest old)).last
+    (program (tree_at (contents old))))
+
+-- it does what the sheet goes on with
+abbrev pub Resumes : {S R B : Type 0} → (S → Contents) → (S → R) → (R → Sight B) → S → S
+    → Result (Next ℕ (IotaSheet ℕ)) NoMemory → IotaSheet ℕ → ((ℕ → Tree) → Value) → Type 0
+Resumes contents rest sight old new result sheet value =
+    Gives IsKnownIota iota_next contents rest sight old new result
+    (iota_rest (sight (rest old)).basis.place (sight (rest old)).last
+    (map_iota (tree_at (contents old)) sheet) (value (tree_at (contents old))))

@@ -1,5 +1,6 @@
 -- A recursor that is applied to its major premise: what it is at a place, and by numbers.
-use Rattle.std.specs.Prelude.{◌≡◌, ◌<◌, ◌+◌, suc, List, length, map, take, drop, All, slice_get, Option, Some, None}
+use Rattle.std.specs.Prelude.{◌≡◌, ◌<◌, ◌+◌, ℕ, suc, List, length, map, take, drop, All, slice_get}
+use Rattle.std.specs.Prelude.{Option, Some, None}
 use Rattle.lk_tree.specs.Tree.{Level, Tree, const}
 use Rattle.lk_tree.specs.Spine.{head, args}
 use Rattle.lk_rulebook.specs.Place.{Place, Entry, Kind, Recursor, a_rec}
@@ -9,6 +10,7 @@ use Rattle.lk_store.specs.Store.{contents_of}
 use Rattle.lk_store.specs.declared.tables.Tables.{Tables}
 use Rattle.lk_env.specs.declared.unit.Unit.{Unit as StoredUnit}
 use Rattle.lk_env.specs.Entries.{plain_entry}
+use Rattle.lk_ask.specs.Looks.{Sight}
 use Rattle.lk_iota.specs.declared.major.Redex.{Redex}
 
 -- R ls front major rest, where R means this entry of a recursor
@@ -20,13 +22,16 @@ pub record PlainRedex : Type 0 where
   pub major : Tree
   pub rest : List Tree
 
-abbrev pub at_major : List Level → Entry → Recursor → List Tree → Option Tree → List Tree → Option PlainRedex
+abbrev pub at_major : List Level → Entry → Recursor → List Tree → Option Tree → List Tree
+    → Option PlainRedex
 at_major ls g r front None rest = None
-at_major ls g r front (Some m) rest = Some (record { levels = ls; entry = g; recursor = r; front = front; major = m; rest = rest })
+at_major ls g r front (Some m) rest =
+    Some (record { levels = ls; entry = g; recursor = r; front = front; major = m; rest = rest })
 
 -- these arguments are split at the major premise, where there is one
 abbrev pub split_at : List Level → Entry → Recursor → List Tree → Option PlainRedex
-split_at ls g r xs = at_major ls g r (take (before_major r) xs) (slice_get xs (before_major r)) (drop (suc (before_major r)) xs)
+split_at ls g r xs = at_major ls g r (take (before_major r) xs) (slice_get xs (before_major r))
+    (drop (suc (before_major r)) xs)
 
 abbrev pub redex_by : List Level → List Tree → Entry → Kind → Option PlainRedex
 redex_by ls xs g (a_rec r) = split_at ls g r xs
@@ -40,7 +45,7 @@ redex_of w _ xs = None
 abbrev pub redex_at : Place → Tree → Option PlainRedex
 redex_at w e = redex_of w (head e) (args e)
 
--- its numbers are those of the store, and one of its arguments stands where the major premise is due
+-- its numbers are those of the store, and one of its arguments is the major premise
 pub record IsKnownRedex (c : Contents) (u : Redex) : Type 0 where
   pub levels_in : u.levels < length c.lists
   pub arguments_in : All (λ x. x < length c.trees) u.arguments.items
@@ -49,7 +54,8 @@ pub record IsKnownRedex (c : Contents) (u : Redex) : Type 0 where
   pub major_in : u.major < length c.trees
 
 -- the numbers stand for it
-pub record IsRedex (c : Contents) (l : Tables × List StoredUnit) (u : Redex) (p : PlainRedex) : Type 0 where
+pub record IsRedex (c : Contents) (l : Tables × List StoredUnit) (u : Redex) (p : PlainRedex)
+    : Type 0 where
   pub levels_are : list_at c u.levels ≡ p.levels
   pub entry_is : plain_entry (contents_of l.0) l.1 u.entry ≡ Some p.entry
   pub kind_is : p.entry.kind ≡ a_rec p.recursor
@@ -60,8 +66,20 @@ pub record IsRedex (c : Contents) (l : Tables × List StoredUnit) (u : Redex) (p
   pub rest_is : map (tree_at c) (drop (suc u.before) u.arguments.items) ≡ p.rest
 
 -- the one is there exactly where the other is
-abbrev pub IsRedexIf : Contents → Tables × List StoredUnit → Option Redex → Option PlainRedex → Type 0
+abbrev pub IsRedexIf : Contents → Tables × List StoredUnit → Option Redex → Option PlainRedex
+    → Type 0
 IsRedexIf c l None None = Unit {0}
 IsRedexIf c l (Some u) (Some p) = IsRedex c l u p
 IsRedexIf c l (Some u) None = ⊥
 IsRedexIf c l None (Some p) = ⊥
+
+-- the numbers stand for it over the library of whoever looks names up
+abbrev pub StandsFor : {S R B : Type 0} → (S → Contents) → (S → R) → (R → Sight B) → S → Redex
+    → PlainRedex → Type 0
+StandsFor contents rest sight s u p = IsRedex (contents s) (sight (rest s)).basis.library u p
+
+-- the term of this number is it, at the place from where names are looked up
+abbrev pub IsAt : {S R B : Type 0} → (S → Contents) → (S → R) → (R → Sight B) → S → ℕ → PlainRedex
+    → Type 0
+IsAt contents rest sight s e p =
+    redex_at (sight (rest s)).basis.place (tree_at (contents s) e) ≡ Some p

@@ -7,7 +7,8 @@ use Rattle.lk_plain.specs.Query.{core}
 use Rattle.lk_plain.specs.Program.{Program, asked, ◌>>=◌}
 use Rattle.lk_questions.specs.Steps.{with_levels}
 
--- v at levels, applied to what the rules share, to the fields, and to what came behind the major premise
+-- v at levels, applied to what the rules share, to the fields, and to what came behind the major
+-- premise
 abbrev pub right_side : Entry → List Level → Tree → List Tree → List Tree → List Tree → Program Tree
 right_side g ls v shared fields rest = do
   u ← with_levels g ls v

@@ -1,13 +1,18 @@
 -- What is asked of a constructor, by numbers, and what a name or a term means as a constructor.
-use Rattle.std.specs.Prelude.{◌≡◌, ◌<◌, List, [], ◌∷◌, length, Option, Some, None}
+use Rattle.std.specs.Prelude.{◌≡◌, ◌<◌, List, [], ◌∷◌, length, Option, Some, None, Result, IfOk}
+use Rattle.std.specs.Prelude.{IfErr}
 use Rattle.lk_tree.specs.Tree.{Name, Level, Tree, const}
 use Rattle.lk_tree.specs.RuleNo.{unknown_constant}
 use Rattle.lk_rulebook.specs.Place.{Place, RecRule}
 use Rattle.lk_plain.specs.Program.{Program, look, ◌>>=◌}
+use Rattle.lk_plain.specs.Erased.{a_tree, refuses, erased}
 use Rattle.lk_questions.specs.Iota.{CtorApp, ctor_app_by, ctor_app_of, only_ctor}
 use Rattle.lk_questions.specs.BuiltIota.{may_be_structure}
 use Rattle.lk_store.specs.Contents.{Contents, name_at}
 use Rattle.lk_env.specs.declared.unit.RecursorRule.{RecursorRule}
+use Rattle.lk_ask.specs.declared.rule.Rule.{Rule}
+use Rattle.lk_ask.specs.Questions.{rule_no}
+use Rattle.lk_ask.specs.Looks.{Sight}
 use Rattle.lk_iota.specs.declared.shape.Shape.{Shape}
 
 -- the constructor that a name means at a place, at these levels, applied
@@ -31,7 +36,8 @@ IsOnly rules None = length rules ≡ 1 → ⊥
 IsOnly rules (Some rule) = rules ≡ rule ∷ []
 
 -- each of these is looked up, and k goes on with it
-abbrev pub name_looked : Name → List Level → List Tree → (Option CtorApp → Program Tree) → Program Tree
+abbrev pub name_looked : Name → List Level → List Tree → (Option CtorApp → Program Tree)
+    → Program Tree
 name_looked x ks xs k = look unknown_constant x λ g. k (ctor_app_by x ks xs g g.kind)
 
 abbrev pub app_looked : Tree → List Tree → (Option CtorApp → Program Tree) → Program Tree
@@ -59,3 +65,16 @@ IsShapeIf c xs None None = Unit {0}
 IsShapeIf c xs (Some u) (Some b) = IsShape c xs u b
 IsShapeIf c xs (Some u) None = ⊥
 IsShapeIf c xs None (Some b) = ⊥
+
+-- a look-up finds this constructor, or none: a program that looks it up and goes on with k has come
+-- to k of it; where the look-up is refused, so is each such program
+pub record Finds {S R B : Type 0} (contents : S → Contents) (rest : S → R) (sight : R → Sight B)
+    (old new : S) (result : Result (Option Shape) Rule) (xs : List Tree) (ctor : Option CtorApp)
+    (looked : (Option CtorApp → Program Tree) → Program Tree) : Type 0 where
+  pub found : IfOk result (λ u. IsShapeIf (contents old) xs u ctor)
+  pub goes : IfOk result (λ u. (k : Option CtorApp → Program Tree)
+      → erased (sight (rest old)).basis.place a_tree (sight (rest old)).last (looked k)
+      ≡ erased (sight (rest old)).basis.place a_tree (sight (rest new)).last (k ctor))
+  pub refused : IfErr result (λ r. (k : Option CtorApp → Program Tree)
+      → erased (sight (rest old)).basis.place a_tree (sight (rest old)).last (looked k)
+      ≡ refuses (rule_no r))

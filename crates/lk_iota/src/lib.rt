@@ -1,4 +1,5 @@
-//! `Core` of a recursor that is applied: what is asked, step by step, as the table says it.
+//! `Core` of a recursor that is applied, which is iota reduction: what is asked, step by step, as
+//! the table says it.
 #![tactic(auto)]
 
 mod candidate;
@@ -6,4 +7,5 @@ pub mod iota;
 mod major;
 mod rule;
 mod shape;
+mod start;
 mod subject;

@@ -3,25 +3,24 @@
 ghost use Rattle.std.specs.Prelude.{◌≡◌, ◌<◌, ◌+◌, List, Some, IfOk, IfSome, length, map, All};
 ghost use Rattle.lk_tree.specs.Spine.{args as args_of};
 ghost use Rattle.lk_rulebook.specs.Place.{Entry as PlainEntry, a_rec};
-ghost use Rattle.lk_store.specs.Contents.{Contents, list_at, tree_at, Extends};
+ghost use Rattle.lk_store.specs.Contents.{Contents, list_at, tree_at};
 ghost use Rattle.lk_store.specs.Store.{contents_of};
 ghost use Rattle.lk_store.specs.declared.tables.Tables.{Tables};
 ghost use Rattle.lk_env.specs.declared.unit.RecursorRule.{RecursorRule};
 ghost use Rattle.lk_env.specs.declared.unit.Unit.{Unit as StoredUnit};
 ghost use Rattle.lk_env.specs.Entries.{plain_entry};
-ghost use Rattle.lk_env.specs.Places.{place_at};
-ghost use Rattle.lk_ask.specs.Members.{given_recursor};
-ghost use Rattle.lk_iota.specs.Redexes.{split_at, redex_by as plain_redex_by, redex_at, IsKnownRedex, IsRedexIf};
+ghost use Rattle.lk_env.specs.Lent.{given_recursor};
+ghost use Rattle.lk_ask.specs.Looks.{entry_at};
+ghost use Rattle.lk_iota.specs.Redexes.{split_at, redex_by as plain_redex_by, redex_at};
+ghost use Rattle.lk_iota.specs.Redexes.{IsKnownRedex, IsRedexIf};
 
-use lk_ask::members::recursor_of;
-use lk_env::entry::{Entry, Site};
-use lk_env::library::Library;
+use lk_ask::looks::Looks;
+use lk_env::entry::Entry;
+use lk_env::lent::recursor_of;
 use lk_env::unit::Recursor;
-use lk_rows::memory::NoMemory;
 use lk_spine::{args, head};
+use lk_store::memory::NoMemory;
 use lk_store::node::Node;
-use lk_store::terms::Terms;
-use std::alloc::Global;
 
 /// A recursor that is applied to its major premise.
 #[derive(Drop)]
@@ -30,7 +29,8 @@ pub struct Redex {
     pub levels: u64,
     /// All its arguments.
     pub arguments: Vec<u64>,
-    /// How many of them come in front of a rule's fields: the parameters, the motives and the minor premises.
+    /// How many of them come in front of a rule's fields: the parameters, the motives and the minor
+    /// premises.
     pub shared: usize,
     /// How many of them stand before the major premise.
     pub before: usize,
@@ -51,10 +51,13 @@ fn counts(parameters: u64, motives: u64, minors: u64, indices: u64) -> (u128, u1
 
 /// The arguments of a recursor, split at the major premise. There is none where they are too few.
 fn split(entry: Entry, levels: u64, recursor: &Recursor, arguments: Vec<u64>) -> Option<Redex>
-    ensures known { (c : Contents) → levels < length c.lists → All (λ x. x < length c.trees) arguments.items → IfSome result (IsKnownRedex c) }
-    ensures is { (c : Contents) (l : Tables × List StoredUnit) (g : PlainEntry) (rules : List RecursorRule) → plain_entry (contents_of l.0) l.1 entry ≡ Some g
+    ensures known { (c : Contents) → levels < length c.lists
+        → All (λ x. x < length c.trees) arguments.items → IfSome result (IsKnownRedex c) }
+    ensures is { (c : Contents) (l : Tables × List StoredUnit) (g : PlainEntry)
+        (rules : List RecursorRule) → plain_entry (contents_of l.0) l.1 entry ≡ Some g
         → g.kind ≡ a_rec (given_recursor (contents_of l.0) recursor.now rules)
-        → IsRedexIf c l result (split_at (list_at c levels) g (given_recursor (contents_of l.0) recursor.now rules) (map (tree_at c) arguments.items)) }
+        → IsRedexIf c l result (split_at (list_at c levels) g
+        (given_recursor (contents_of l.0) recursor.now rules) (map (tree_at c) arguments.items)) }
 {
     let (shared, before) = counts(
         recursor.parameters,
@@ -77,48 +80,44 @@ fn split(entry: Entry, levels: u64, recursor: &Recursor, arguments: Vec<u64>) ->
     })
 }
 
-/// What a term is whose head is a constant of this entry and these levels: a recursor that is applied to its major
-/// premise, or none.
-pub(crate) fn redex_by<T: Terms>(
-    alloc: Global,
-    library: &Library,
-    terms: &T,
+/// What a term is whose head is a constant of this entry and these levels: a recursor that is
+/// applied to its major premise, or none.
+pub(crate) fn redex_by<L: Looks>(
+    looks: &L,
     entry: Entry,
     levels: u64,
     e: u64,
 ) -> Result<Option<Redex>, NoMemory>
-    requires levels_in { levels < length (T.contents terms.now).lists }
-    requires e_in { e < length (T.contents terms.now).trees }
-    ensures known { IfOk result (λ u. IfSome u (IsKnownRedex (T.contents terms.now))) }
-    ensures is { IfOk result (λ u. (g : PlainEntry) → plain_entry (contents_of library.now.0) library.now.1 entry ≡ Some g
-        → IsRedexIf (T.contents terms.now) library.now u (plain_redex_by (list_at (T.contents terms.now) levels) (args_of (tree_at (T.contents terms.now) e)) g g.kind)) }
+    requires levels_in { levels < length (L.contents looks.now).lists }
+    requires e_in { e < length (L.contents looks.now).trees }
+    ensures known { IfOk result (λ u. IfSome u (IsKnownRedex (L.contents looks.now))) }
+    ensures is { IfOk result (λ u. (g : PlainEntry)
+        → entry_at (L.sight (L.rest looks.now)).basis entry ≡ Some g
+        → IsRedexIf (L.contents looks.now) (L.sight (L.rest looks.now)).basis.library u
+        (plain_redex_by (list_at (L.contents looks.now) levels)
+        (args_of (tree_at (L.contents looks.now) e)) g g.kind)) }
 {
-    match recursor_of(library, entry) {
+    match recursor_of(looks.library(), entry) {
         Some((recursor, _)) => {
-            let arguments = args(alloc, terms, e)?;
+            let arguments = args(looks.alloc(), looks, e)?;
             Ok(split(entry, levels, recursor, arguments))
         }
         None => Ok(None),
     }
 }
 
-/// What a term is whose head was looked up before.
-pub(crate) fn redex_again<T: Terms>(
-    alloc: Global,
-    library: &Library,
-    site: &Site,
-    terms: &T,
-    e: u64,
-) -> Result<Option<Redex>, NoMemory>
-    requires over { Extends (contents_of library.now.0) (T.contents terms.now) }
-    requires e_in { e < length (T.contents terms.now).trees }
-    ensures known { IfOk result (λ u. IfSome u (IsKnownRedex (T.contents terms.now))) }
-    ensures is { IfOk result (λ u. IsRedexIf (T.contents terms.now) library.now u (redex_at (place_at library.now site.now) (tree_at (T.contents terms.now) e))) }
+/// The recursor that a term is, applied to its major premise, where its head was looked up before.
+pub(crate) fn applied_recursor<L: Looks>(looks: &L, e: u64) -> Result<Option<Redex>, NoMemory>
+    requires e_in { e < length (L.contents looks.now).trees }
+    ensures known { IfOk result (λ u. IfSome u (IsKnownRedex (L.contents looks.now))) }
+    ensures is { IfOk result (λ u. IsRedexIf (L.contents looks.now)
+        (L.sight (L.rest looks.now)).basis.library u
+        (redex_at (L.sight (L.rest looks.now)).basis.place (tree_at (L.contents looks.now) e))) }
 {
-    let front = head(terms, e);
-    match terms.view(front) {
-        Node::Const(name, levels) => match library.means(site, terms, name) {
-            Ok(entry) => redex_by(alloc, library, terms, entry, levels, e),
+    let front = head(looks, e);
+    match looks.view(front) {
+        Node::Const(name, levels) => match looks.means(name) {
+            Ok(entry) => redex_by(looks, entry, levels, e),
             Err(_) => Ok(None),
         },
         _ => Ok(None),

@@ -4,17 +4,31 @@ use Rattle.lk_store.specs.Contents.{tree_at, IsTree}
 use Rattle.lk_core.proofs.Opened.{most_opened}
 use Rattle.lk_core.proofs.beta.beta.Goals as goal
 
-pub returns-then-are_closed-clause-ok : goal.returns-then-are_closed-clause-ok
-returns-then-are_closed-clause-ok g c =
-    let before = g.T.Terms.contents c.args.terms.now in
-    let count = c.body_under-body.ensures.count in
-    subst (λ t. IfOk c.put_at_once.result (λ e. IsTree (g.T.Terms.contents c.put_at_once.new.terms) e t))
-    (most_opened before c.body_under-body.result.1 (tree_at before c.args.head) c.args.args.now count)
-    (c.put_at_once.ensures.ok (tree_at before c.args.head) c.body_under-body.ensures.body.is (omega arith) (c.are_closed.ensures c.if-are_closed.true))
+pub returns-then-are_closed : goal.returns-then-are_closed
+returns-then-are_closed g c =
+    let before = g.L.Terms.contents c.args.looks.now in
+    let after = g.L.Terms.contents c.put_at_once.new.looks in
+    let under = c.body_under-body in
+    let h = tree_at before c.args.head in
+    let made = c.put_at_once.ensures h under.ensures.body.is (omega arith)
+    (c.are_closed.ensures c.if-are_closed.true) in
+    record {
+      keeps = made.keeps;
+      stays = made.stays;
+      ok = subst (λ t. IfOk c.put_at_once.result (λ e. IsTree after e t))
+          (most_opened before under.result.1 h c.args.args.now under.ensures.count) made.ok;
+    }
 
-pub returns-else-are_closed-clause-ok : goal.returns-else-are_closed-clause-ok
-returns-else-are_closed-clause-ok g c =
-    let before = g.T.Terms.contents c.args.terms.now in
-    subst (λ t. IfOk c.open_in_turn.result (λ e. IsTree (g.T.Terms.contents c.open_in_turn.new.terms) e t))
-    (most_opened before c.body_under-body.result.1 (tree_at before c.args.head) c.args.args.now c.body_under-body.ensures.count)
-    c.open_in_turn.ensures.ok
+pub returns-else-are_closed : goal.returns-else-are_closed
+returns-else-are_closed g c =
+    let before = g.L.Terms.contents c.args.looks.now in
+    let after = g.L.Terms.contents c.open_in_turn.new.looks in
+    let under = c.body_under-body in
+    let h = tree_at before c.args.head in
+    let made = c.open_in_turn.ensures in
+    record {
+      keeps = made.keeps;
+      stays = made.stays;
+      ok = subst (λ t. IfOk c.open_in_turn.result (λ e. IsTree after e t))
+          (most_opened before under.result.1 h c.args.args.now under.ensures.count) made.ok;
+    }

@@ -1,4 +1,4 @@
-use Rattle.std.proofs.Common.{◌≡◌, ℕ, ◌<◌, ◌∷◌, length, map, sym, ap, subst, ◌∙◌, arith, rules}
+use Rattle.std.proofs.Common.{◌≡◌, ℕ, ◌<◌, ◌∷◌, length, map, sym, subst, ◌∙◌, arith, rules}
 use Rattle.std.specs.Prelude.{IfOk}
 use Rattle.std.proofs.lemmas.Bool.Decides.{nat_tests}
 use Rattle.std.proofs.lemmas.List.Elements.{All-same, All-head, All-rest}
@@ -12,41 +12,67 @@ use Rattle.lk_core.proofs.beta.open_in_turn.Goals.{in_default-view-via-in-Lam+el
 
 pub open-preserved : goal.open-preserved
 open-preserved g c =
-    let before = g.T.Terms.contents c.args.terms.now in
-    let now = g.T.Terms.contents c.open.terms in
+    let before = g.L.Terms.contents c.args.looks.now in
+    let now = g.L.Terms.contents c.open.looks in
     let was = c.open.invariant in
     let made = c.in_ok-e-in-Lam.ensures in
-    let rest : c.open.rest.now ≡ c.in-Some.a.now ∷ c.in-Some.more.now = c.in-Some.ensures.cases.0 in
+    let left = c.open.left in
+    let a = c.in-Some.a.now in
+    let more = c.in-Some.more.now in
+    let rest : c.open.rest.now ≡ a ∷ more = c.in-Some.ensures.cases.0 in
     let P : ℕ → Type 0 = λ e. e < length before.trees in
-    let a_in : c.in-Some.a.now < length before.trees = All-head P c.in-Some.a.now c.in-Some.more.now (All-same P _ _ (sym rest) was.args_known) in
+    let a_in : P a = All-head P a more (All-same P _ _ (sym rest) was.args_known) in
+    let e = tree_at now c.open.e in
+    let whole = beta c.args.count (tree_at before c.args.head)
+    (map (tree_at before) c.args.args.now) in
+    let stands : beta left e (map (tree_at before) (a ∷ more)) ≡ whole =
+    subst (λ xs. beta left e (map (tree_at before) xs) ≡ whole) rest was.stands in
     record {
       grown = Extends-trans _ _ _ was.grown made.keeps;
       same_rest = made.rest ∙ was.same_rest;
       known = made.ok.known;
-      args_known = All-rest P c.in-Some.a.now c.in-Some.more.now c.open.rest.now rest was.args_known;
-      stands = one_opened c.open.left (tree_at now c.open.e) _ _ (tree_at now c.in-Lam.body) (tree_at before c.in-Some.a.now) (tree_at now c.in-Some.a.now) _ _
-          (grind (arith, nat_tests, c.if-left-gt0.true)) c.in-Lam.ensures.tree made.ok.is (was.grown.trees.same c.in-Some.a.now a_in)
-          (ap (λ xs. beta c.open.left (tree_at now c.open.e) (map (tree_at before) xs)) (sym rest) ∙ was.stands);
+      args_known = All-rest P a more c.open.rest.now rest was.args_known;
+      stands = one_opened left e _ _ (tree_at now c.in-Lam.body) (tree_at before a) (tree_at now a)
+          (map (tree_at before) more) whole (grind (arith, nat_tests, c.if-left-gt0.true))
+          c.in-Lam.ensures.tree made.ok.is (was.grown.trees.same a a_in) stands;
     }
 
-pub returns-in_default-view-clause-ok : goal.returns-in_default-view-clause-ok
-returns-in_default-view-clause-ok g c =
-    let before = g.T.Terms.contents c.args.terms.now in
-    let now = g.T.Terms.contents c.open.terms in
+pub returns-in_default-view : goal.returns-in_default-view
+returns-in_default-view g c =
+    let before = g.L.Terms.contents c.args.looks.now in
+    let now = g.L.Terms.contents c.open.looks in
+    let after = g.L.Terms.contents c.apply.new.terms in
     let was = c.open.invariant in
+    let left = c.open.left in
     let e = tree_at now c.open.e in
     let xs = map (tree_at before) c.open.rest.now in
-    let stop : beta c.open.left e xs ≡ apply e xs = elim c.in_default-view.branch [
-      | in_default-view-via-in-Lam+else-left-gt0 w ↦ none_left e xs c.open.left (grind (arith, nat_tests, w.if-left-gt0.false))
-      | in_default-view-via-in_default-view w ↦ no_lambda now c.view.result e xs c.open.left c.view.ensures.tree w.in_default-view.not-Lam
+    let whole = beta c.args.count (tree_at before c.args.head)
+    (map (tree_at before) c.args.args.now) in
+    let stop : beta left e xs ≡ apply e xs = elim c.in_default-view.branch [
+      | in_default-view-via-in-Lam+else-left-gt0 w ↦
+          none_left e xs left (grind (arith, nat_tests, w.if-left-gt0.false))
+      | in_default-view-via-in_default-view w ↦
+          no_lambda now c.view.result e xs left c.view.ensures.tree w.in_default-view.not-Lam
     ] in
-    subst (λ t. IfOk c.apply.result (λ r. IsTree (g.T.Terms.contents c.apply.new.terms) r t))
-    (rest_applied before now e (beta c.args.count (tree_at before c.args.head) (map (tree_at before) c.args.args.now)) c.open.rest.now c.open.left was.grown was.args_known stop was.stands) c.apply.ensures.ok
+    record {
+      keeps = Extends-trans _ _ _ was.grown c.apply.ensures.keeps;
+      stays = c.apply.ensures.rest ∙ was.same_rest;
+      ok = subst (λ t. IfOk c.apply.result (λ r. IsTree after r t))
+          (rest_applied before now e whole c.open.rest.now left was.grown was.args_known
+          stop was.stands)
+          c.apply.ensures.ok;
+    }
 
-pub returns-clause-ok : goal.returns-clause-ok
-returns-clause-ok g c =
-    let before = g.T.Terms.contents c.args.terms.now in
-    let now = g.T.Terms.contents c.open.terms in
+pub returns : goal.returns
+returns g c =
+    let before = g.L.Terms.contents c.args.looks.now in
+    let now = g.L.Terms.contents c.open.looks in
     let was = c.open.invariant in
     let none : length c.open.rest.now ≡ 0 = search rules in
-    record { known = was.known; is = all_taken c.open.left (tree_at now c.open.e) (tree_at before) c.open.rest.now none ∙ was.stands }
+    let e = tree_at now c.open.e in
+    let taken = all_taken c.open.left e (tree_at before) c.open.rest.now none in
+    record {
+      keeps = was.grown;
+      stays = was.same_rest;
+      ok = record { known = was.known; is = taken ∙ was.stands };
+    }

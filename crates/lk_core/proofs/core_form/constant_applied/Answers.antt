@@ -1,32 +1,55 @@
-use Rattle.std.proofs.Common.{◌≡◌, ◌∙◌, true, refl, sym}
+use Rattle.std.proofs.Common.{◌∙◌, refl, sym, rules}
 use Rattle.lk_tree.specs.RuleNo.{unknown_constant}
 use Rattle.lk_tree.specs.Spine.{args}
-use Rattle.lk_plain.specs.Parts.{is_built_kind}
 use Rattle.lk_plain.specs.Erased.{a_tree}
 use Rattle.lk_questions.specs.BuiltIota.{core_constant_built}
 use Rattle.lk_store.specs.Store.{contents_of}
 use Rattle.lk_store.specs.Contents.{name_at, list_at, tree_at}
-use Rattle.lk_env.specs.Places.{place_at}
 use Rattle.lk_ask.proofs.Looking.{found_unbuilt}
 use Rattle.lk_core.proofs.Constants.{core_goes}
+use Rattle.lk_core.proofs.Reducing.{iota_gives}
 use Rattle.lk_core.proofs.core_form.constant_applied.Goals as goal
 
-pub returns-then-not-is_built-clause-steps : goal.returns-then-not-is_built-clause-steps
-returns-then-not-is_built-clause-steps g c is =
-    let t = g.T.Terms.contents c.args.terms.now in
-    let h = c.in-Ok.ensures.found in
+pub returns-then-not-is_built : goal.returns-then-not-is_built
+returns-then-not-is_built g c is =
+    let t = g.L.Terms.contents c.args.looks.now in
+    let b = (g.L.Looks.sight (g.L.Terms.rest c.args.looks.now)).basis in
     let e = tree_at t c.args.e in
-    sym (found_unbuilt _ a_tree (name_at t c.args.name) unknown_constant (λ d. core_constant_built e (list_at t c.args.levels) (args e) d d.kind) c.args.library.now c.args.meter.now.last c.look_up.new.meter.last c.in-Ok.entry h
-    (sym (c.is_built.ensures (contents_of c.args.library.now.0) c.args.library.now.1 c.in-Ok.entry h.entry refl h.is) ∙ c.if-not-is_built.true))
-
-pub returns-clause-known : goal.returns-clause-known
-returns-clause-known g c = c.of_iota.ensures.known _ c.in_ok-next.ensures.known
-
-pub returns-clause-steps : goal.returns-clause-steps
-returns-clause-steps g c is =
-    let t = g.T.Terms.contents c.args.terms.now in
-    let w = place_at c.args.library.now c.args.site.now in
+    let ls = list_at t c.args.levels in
+    let entry = c.in-Ok.entry in
     let h = c.in-Ok.ensures.found in
-    let built : is_built_kind h.entry.kind ≡ true = sym (c.is_built.ensures (contents_of c.args.library.now.0) c.args.library.now.1 c.in-Ok.entry h.entry refl h.is) ∙ c.if-not-is_built.false in
-    c.of_iota.ensures.steps w (tree_at t) c.begin.new.meter.last
-    ∙ core_goes w (tree_at t c.args.e) c.args.library.now (name_at t c.args.name) (list_at t c.args.levels) c.args.meter.now.last c.look_up.new.meter.last c.begin.new.meter.last c.in-Ok.entry h _ built is c.in_ok-next.ensures.steps
+    let kind = c.is_built.ensures (contents_of b.library.0) b.library.1 entry h.entry refl h.is in
+    record {
+      keeps = search rules;
+      stays = search rules;
+      known = tt;
+      steps = sym (found_unbuilt b.place a_tree (name_at t c.args.name) unknown_constant
+          (λ d. core_constant_built e ls (args e) d d.kind) b.library _ _ entry h
+          (sym kind ∙ c.if-not-is_built.true));
+    }
+
+pub returns-in_err-next : goal.returns-in_err-next
+returns-in_err-next g c is =
+    let look = c.look.ensures in
+    let t = g.L.Terms.contents c.args.looks.now in
+    let b = (g.L.Looks.sight (g.L.Terms.rest c.args.looks.now)).basis in
+    let entry = c.in-Ok.entry in
+    let h = c.in-Ok.ensures.found in
+    let kind = c.is_built.ensures (contents_of b.library.0) b.library.1 entry h.entry refl h.is in
+    let x = name_at t c.args.name in
+    let made = core_goes look.contents look.stays x c.args.levels c.args.e entry h
+    (sym kind ∙ c.if-not-is_built.false) is c.begin.ensures in
+    record { keeps = made.keeps; stays = made.stays; known = search rules; steps = search rules }
+
+pub returns : goal.returns
+returns g c is =
+    let look = c.look.ensures in
+    let t = g.L.Terms.contents c.args.looks.now in
+    let b = (g.L.Looks.sight (g.L.Terms.rest c.args.looks.now)).basis in
+    let entry = c.in-Ok.entry in
+    let h = c.in-Ok.ensures.found in
+    let kind = c.is_built.ensures (contents_of b.library.0) b.library.1 entry h.entry refl h.is in
+    let x = name_at t c.args.name in
+    iota_gives c.of_iota.ensures.known c.of_iota.ensures.steps
+    (core_goes look.contents look.stays x c.args.levels c.args.e entry h
+    (sym kind ∙ c.if-not-is_built.false) is c.in_ok-next.ensures)

@@ -1,4 +1,10 @@
+use Rattle.std.proofs.Common.{rules}
 use Rattle.lk_core.proofs.whnf.resume_term.Goals as goal
 
-pub returns-in_ok-next-in-Iota-clause-known : goal.returns-in_ok-next-in-Iota-clause-known
-returns-in_ok-next-in-Iota-clause-known g c = c.of_iota.ensures.known _ c.in_ok-next-in-Iota.ensures.known
+pub returns-in_ok-next-in-Iota : goal.returns-in_ok-next-in-Iota
+returns-in_ok-next-in-Iota g c = record {
+  keeps = search rules;
+  stays = search rules;
+  known = c.of_iota.ensures.known _ c.in_ok-next-in-Iota.ensures.known;
+  steps = search rules;
+}

@@ -2,7 +2,7 @@ use Rattle.std.proofs.Common.{◌≤◌, length, refl, arith, rules}
 use Rattle.lk_rulebook.specs.Structures.{before_major}
 use Rattle.lk_store.specs.Store.{contents_of}
 use Rattle.lk_store.specs.Contents.{list_at}
-use Rattle.lk_ask.specs.Members.{given_recursor}
+use Rattle.lk_env.specs.Lent.{given_recursor}
 use Rattle.lk_iota.proofs.Splits.{split_found, split_missing}
 use Rattle.lk_iota.proofs.major.split.Goals as goal
 

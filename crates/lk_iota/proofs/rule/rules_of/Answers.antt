@@ -1,10 +1,22 @@
+use Rattle.std.proofs.Common.{sym, ◌∙◌}
 use Rattle.lk_store.specs.Store.{contents_of}
-use Rattle.lk_iota.proofs.RightSides.{rules_are, no_rules}
+use Rattle.lk_iota.proofs.Giving.{entry_there, over_there}
+use Rattle.lk_iota.proofs.RightSides.{rules_are, no_rules, rules_steady}
 use Rattle.lk_iota.proofs.rule.rules_of.Goals as goal
 
 pub returns-in-Some-clause-value : goal.returns-in-Some-clause-value
-returns-in-Some-clause-value c g r h kind =
-    rules_are (contents_of c.args.library.now.0) g.kind r c.in-Some.field-0-0.now c.in-Some.rules.now (c.in-Some.ensures.value g h) kind
+returns-in-Some-clause-value g c p r h kind =
+    let basis = (g.L.Looks.sight (g.L.Terms.rest c.args.looks.now)).basis in
+    let l = c.library.result.now in
+    let d = g.L.Terms.contents c.args.looks.now in
+    let rules = c.in-Some.rules.now in
+    rules_are (contents_of l.0) p.kind r c.in-Some.field-0-0.now rules
+    (c.in-Some.ensures.value p (entry_there basis l c.args.entry p c.library.ensures.is h)) kind
+    ∙ sym (rules_steady (contents_of l.0) d rules
+    (over_there basis l d c.library.ensures.is c.library.ensures.over) c.in-Some.ensures.known.1)
 
 pub returns-in-None-clause-value : goal.returns-in-None-clause-value
-returns-in-None-clause-value c g r h kind = absurd (no_rules g.kind r (c.in-None.ensures.value g h) kind)
+returns-in-None-clause-value g c p r h kind =
+    let basis = (g.L.Looks.sight (g.L.Terms.rest c.args.looks.now)).basis in
+    absurd (no_rules p.kind r (c.in-None.ensures.value p
+    (entry_there basis c.library.result.now c.args.entry p c.library.ensures.is h)) kind)
