@@ -1,3 +1,5 @@
 pub mod Walks
 pub mod Programs
+pub mod Giving
 pub mod Ranks
+pub mod Lines

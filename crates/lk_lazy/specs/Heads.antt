@@ -1,14 +1,20 @@
 -- What the head of a term unfolds by, by numbers, and what it means.
-use Rattle.std.specs.Prelude.{◌≡◌, ◌<◌, Bool, List, length, Option, Some, None}
+use Rattle.std.specs.Prelude.{◌≡◌, ◌<◌, ℕ, Bool, List, length, Option, Some, None}
+use Rattle.std.specs.Prelude.{IfOk, IfErr, Result}
 use Rattle.lk_tree.specs.Tree.{Tree, const}
+use Rattle.lk_tree.specs.Spine.{head}
 use Rattle.lk_rulebook.specs.Place.{Place}
 use Rattle.lk_plain.specs.Program.{Program, ◌>>=◌}
+use Rattle.lk_plain.specs.Erased.{truth, Steps, refuses, erased}
 use Rattle.lk_questions.specs.Unfolding.{Unfolding as PlainUnfolding, Rank as PlainRank, lowest, height, highest, unfolding_by, unfolding_of}
 use Rattle.lk_store.specs.Contents.{Contents, name_at, list_at, tree_at}
 use Rattle.lk_store.specs.Store.{contents_of}
 use Rattle.lk_store.specs.declared.tables.Tables.{Tables}
 use Rattle.lk_env.specs.declared.unit.Unit.{Unit as StoredUnit}
 use Rattle.lk_env.specs.Entries.{plain_entry}
+use Rattle.lk_ask.specs.declared.rule.Rule.{Rule}
+use Rattle.lk_ask.specs.Questions.{rule_no}
+use Rattle.lk_ask.specs.Looks.{Basis, Sight}
 use Rattle.lk_lazy.specs.declared.rank.Rank.{Rank}
 use Rattle.lk_lazy.specs.declared.rank.Rank.TheVariants.{Lowest, Height, Highest}
 use Rattle.lk_lazy.specs.declared.heads.Unfolding.{Unfolding}
@@ -48,3 +54,36 @@ IsUnfoldingIf c l None None = Unit {0}
 IsUnfoldingIf c l (Some u) (Some p) = IsUnfolding c l u p
 IsUnfoldingIf c l (Some u) None = ⊥
 IsUnfoldingIf c l None (Some p) = ⊥
+
+-- it is what the head of e unfolds by
+pub record UnfoldsBy {B : Type 0} (c : Contents) (b : Basis B) (e : ℕ) (u : Unfolding)
+    (p : PlainUnfolding) : Type 0 where
+  pub means : unfolding_at b.place (head (tree_at c e)) ≡ Some p
+  pub is : IsUnfolding c b.library u p
+
+-- the same, where the head may unfold by nothing
+abbrev pub IsHeadUnfolding : {B : Type 0} → Contents → Basis B → ℕ → Option Unfolding → Type 0
+IsHeadUnfolding c b e u = IsUnfoldingIf c b.library u (unfolding_at b.place (head (tree_at c e)))
+
+-- whatever goes on with what the head h unfolds by, once it is looked up, has these steps
+abbrev pub HasLooked : Place → Option ℕ → Tree → ((Option PlainUnfolding → Program Bool) → Steps)
+    → Type 0
+HasLooked w before h steps =
+    (k : Option PlainUnfolding → Program Bool) → erased w truth before (looked_up h k) ≡ steps k
+
+-- the head of e is looked up
+pub record IsLookedUp {B : Type 0} (c : Contents) (b : Basis B) (before last : Option ℕ) (e : ℕ)
+    (result : Result (Option Unfolding) Rule) : Type 0 where
+  pub found : IfOk result (IsHeadUnfolding c b e)
+  pub goes : IfOk result (λ u. HasLooked b.place before (head (tree_at c e))
+      (λ k. erased b.place truth last (k (unfolding_at b.place (head (tree_at c e))))))
+  pub refused : IfErr result (λ r. HasLooked b.place before (head (tree_at c e))
+      (λ k. refuses (rule_no r)))
+
+-- the same, where no more than the last unit that was looked at is another one
+pub record LooksUp {S R B : Type 0} (contents : S → Contents) (rest : S → R) (sight : R → Sight B)
+    (old new : S) (e : ℕ) (result : Result (Option Unfolding) Rule) : Type 0 where
+  pub same : contents new ≡ contents old
+  pub stays : (sight (rest new)).basis ≡ (sight (rest old)).basis
+  pub looked : IsLookedUp (contents old) (sight (rest old)).basis
+      (sight (rest old)).last (sight (rest new)).last e result

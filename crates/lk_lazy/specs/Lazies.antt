@@ -1,5 +1,6 @@
 -- What unfolding goes on with, once the answer is there that it waits for.
-use Rattle.std.specs.Prelude.{ℕ, ◌≡◌, Bool, false, nat_eq, List, length, Option, Some, None, if◌then◌else◌}
+use Rattle.std.specs.Prelude.{ℕ, ◌≡◌, Bool, false, nat_eq, List, length, if◌then◌else◌}
+use Rattle.std.specs.Prelude.{Option, Some, None, IfOk, IfSome, Result}
 use Rattle.lk_tree.specs.Tree.{Tree}
 use Rattle.lk_tree.specs.Spine.{head, args}
 use Rattle.lk_tree.specs.RuleNo.{loose_variable}
@@ -8,12 +9,16 @@ use Rattle.lk_plain.specs.Program.{Program, done, refuse}
 use Rattle.lk_plain.specs.Erased.{Value, truth, Steps, gives, with_truth, erased}
 use Rattle.lk_questions.specs.Pairs.{same_all, Line, answers_yes, ◌or_else◌}
 use Rattle.lk_questions.specs.Unfolding.{Unfolding as PlainUnfolding, is_less, unfold_first, unfold_second, unfold_both, same_by_arguments}
+use Rattle.lk_store.specs.declared.memory.NoMemory.{NoMemory}
+use Rattle.lk_store.specs.Contents.{Contents, tree_at, Extends}
 use Rattle.lk_ask.specs.declared.next.Next.{Next}
 use Rattle.lk_ask.specs.declared.sheet.Pair.{Pair}
 use Rattle.lk_ask.specs.declared.sheet.LazySheet.{LazySheet}
 use Rattle.lk_ask.specs.declared.sheet.LazySheet.TheVariants.{Passed, Arguments}
-use Rattle.lk_ask.specs.Nexts.{next_steps}
-use Rattle.lk_ask.specs.Sheets.{map_lazy}
+use Rattle.lk_ask.specs.Looks.{Sight}
+use Rattle.lk_ask.specs.Gives.{Gives}
+use Rattle.lk_ask.specs.Nexts.{next_steps, IsKnownNext}
+use Rattle.lk_ask.specs.Sheets.{map_lazy, IsKnownLazy}
 use Rattle.lk_lazy.specs.Heads.{unfolding_at}
 use Rattle.lk_lazy.specs.Spines.{lefts, rights}
 
@@ -59,3 +64,29 @@ lazy_next w t last next = next_steps (λ s. lazy_rest w None (map_lazy t s)) t l
 abbrev pub GoesLine : Place → (ℕ → Tree) → Option ℕ → Option ℕ → Line → Option (Next ℕ (LazySheet ℕ)) → Type 0
 GoesLine w t before last line (Some next) = (p : Program Bool) → lazy_next w t last next ≡ erased w truth before (line or_else p)
 GoesLine w t before last line None = (p : Program Bool) → erased w truth last p ≡ erased w truth before (line or_else p)
+
+-- a step of unfolding does what the program does; t is what numbers stood for
+abbrev pub Unfolds : {S R B : Type 0} → (S → Contents) → (S → R) → (R → Sight B) → S → S
+    → Result (Next ℕ (LazySheet ℕ)) NoMemory → ((ℕ → Tree) → Program Bool) → Type 0
+Unfolds contents rest sight old new result program =
+    Gives IsKnownLazy lazy_next contents rest sight old new result
+    (erased (sight (rest old)).basis.place truth (sight (rest old)).last
+    (program (tree_at (contents old))))
+
+-- it does what the sheet goes on with
+abbrev pub Resumes : {S R B : Type 0} → (S → Contents) → (S → R) → (R → Sight B) → S → S
+    → Result (Next ℕ (LazySheet ℕ)) NoMemory → LazySheet ℕ → ((ℕ → Tree) → Value) → Type 0
+Resumes contents rest sight old new result sheet value =
+    Gives IsKnownLazy lazy_next contents rest sight old new result
+    (lazy_rest (sight (rest old)).basis.place (sight (rest old)).last
+    (map_lazy (tree_at (contents old)) sheet) (value (tree_at (contents old))))
+
+-- what Gives says, of a line: where it gives no answer, what comes behind it goes on
+pub record GivesLine {S R B : Type 0} (contents : S → Contents) (rest : S → R) (sight : R → Sight B)
+    (old new : S) (result : Result (Option (Next ℕ (LazySheet ℕ))) NoMemory) (line : Line)
+    : Type 0 where
+  pub keeps : Extends (contents old) (contents new)
+  pub stays : (sight (rest new)).basis ≡ (sight (rest old)).basis
+  pub known : IfOk result (λ r. IfSome r (IsKnownNext IsKnownLazy (length (contents new).trees)))
+  pub goes : IfOk result (GoesLine (sight (rest old)).basis.place (tree_at (contents new))
+      (sight (rest old)).last (sight (rest new)).last line)

@@ -5,7 +5,7 @@ ghost use Rattle.lk_questions.specs.Levels.{complete_test as plain_test, tested 
 ghost use Rattle.lk_store.specs.Contents.{level_at, list_at};
 
 use lk_level_order::compared::{LevelError, equal};
-use lk_rows::memory::NoMemory;
+use lk_store::memory::NoMemory;
 use lk_store::node::ListNode;
 use lk_store::terms::Terms;
 use std::alloc::Global;
@@ -19,7 +19,8 @@ pub fn are_equal<T: Terms>(
 ) -> Result<Option<bool>, NoMemory>
     requires a_in { a < length (T.contents terms.now).levels }
     requires b_in { b < length (T.contents terms.now).levels }
-    ensures { IfOk result (λ r. plain_answer r ≡ plain_test (level_at (T.contents terms.now) a) (level_at (T.contents terms.now) b)) }
+    ensures { IfOk result (λ r. plain_answer r
+        ≡ plain_test (level_at (T.contents terms.now) a) (level_at (T.contents terms.now) b)) }
 {
     match equal(alloc, terms, a, b) {
         Ok(same) => Ok(Some(same)),
@@ -34,7 +35,8 @@ pub fn are_equal<T: Terms>(
 fn same_length<T: Terms>(terms: &T, a: u64, b: u64) -> bool
     requires a_in { a < length (T.contents terms.now).lists }
     requires b_in { b < length (T.contents terms.now).lists }
-    ensures { result ≡ nat_eq (length (list_at (T.contents terms.now) a)) (length (list_at (T.contents terms.now) b)) }
+    ensures { let ls = list_at (T.contents terms.now) in
+        result ≡ nat_eq (length (ls a)) (length (ls b)) }
 {
     let mut left = a;
     let mut right = b;
@@ -57,7 +59,8 @@ fn same_length<T: Terms>(terms: &T, a: u64, b: u64) -> bool
 fn pairs_equal<T: Terms>(alloc: Global, terms: &T, a: u64, b: u64) -> Result<Option<bool>, NoMemory>
     requires a_in { a < length (T.contents terms.now).lists }
     requires b_in { b < length (T.contents terms.now).lists }
-    ensures { IfOk result (λ r. plain_answer r ≡ level_pairs_equal plain_test (list_at (T.contents terms.now) a) (list_at (T.contents terms.now) b)) }
+    ensures { let ls = list_at (T.contents terms.now) in
+        IfOk result (λ r. plain_answer r ≡ level_pairs_equal plain_test (ls a) (ls b)) }
 {
     let mut left = a;
     let mut right = b;
@@ -90,7 +93,8 @@ pub fn levels_equal<T: Terms>(
 ) -> Result<Option<bool>, NoMemory>
     requires a_in { a < length (T.contents terms.now).lists }
     requires b_in { b < length (T.contents terms.now).lists }
-    ensures { IfOk result (λ r. plain_answer r ≡ plain_equal plain_test (list_at (T.contents terms.now) a) (list_at (T.contents terms.now) b)) }
+    ensures { let ls = list_at (T.contents terms.now) in
+        IfOk result (λ r. plain_answer r ≡ plain_equal plain_test (ls a) (ls b)) }
 {
     if !same_length(terms, a, b) {
         return Ok(Some(false));

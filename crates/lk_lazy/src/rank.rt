@@ -9,7 +9,7 @@ use lk_env::unit::Hint;
 
 /// The rank of a constant that unfolds: opaque hints and theorems, then regular hints by their heights, then
 /// abbreviations.
-#[derive(Clone, Copy, Debug, PartialEq, Eq)]
+#[derive(Clone, Copy)]
 pub enum Rank {
     Lowest,
     Height(u64),

@@ -2,14 +2,14 @@
 use Rattle.std.proofs.Common.{◌≡◌, ℕ, refl, subst}
 use Rattle.lk_tree.specs.Tree.{Level, Tree, sort, lam, pi}
 use Rattle.lk_questions.specs.Levels.{complete_test}
-use Rattle.lk_questions.specs.Built.{same_reduced, same_shape}
+use Rattle.lk_questions.specs.Built.{built_by_reduction, same_shape}
 use Rattle.lk_store.specs.Contents.{Contents, tree_of}
 use Rattle.lk_store.specs.declared.node.Node.{Node}
 use Rattle.lk_store.specs.declared.node.Node.TheVariants.{Var, Sort, Const, App, Lam, Pi, Let, Proj, Lit, Wide, Str, Local}
 
 -- their shapes are no case of their own
 abbrev pub AreUnlike : Tree → Tree → Type 0
-AreUnlike a b = same_reduced complete_test a b ≡ same_shape complete_test a b
+AreUnlike a b = built_by_reduction complete_test a b ≡ same_shape complete_test a b
 
 sort_unlike : (c : Contents) (l : Level) (node : Node) → ((m : ℕ) → node ≡ Sort m → ⊥) → AreUnlike (sort l) (tree_of c node)
 sort_unlike c l (Var i) h = refl

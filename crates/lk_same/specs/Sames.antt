@@ -1,5 +1,5 @@
 -- What Same goes on with, once the answer is there that it waits for.
-use Rattle.std.specs.Prelude.{ℕ, Bool, false, ◌&&◌, List, Option, None, if◌then◌else◌}
+use Rattle.std.specs.Prelude.{ℕ, Bool, false, ◌&&◌, List, Option, None, Result, if◌then◌else◌}
 use Rattle.lk_tree.specs.Tree.{Tree, Level, local}
 use Rattle.lk_tree.specs.Bind.{opened}
 use Rattle.lk_rulebook.specs.Place.{Place}
@@ -11,14 +11,18 @@ use Rattle.lk_tree.specs.Level.{is_zero_level}
 use Rattle.lk_questions.specs.Steps.{is_same_tree, as_sort}
 use Rattle.lk_questions.specs.Pairs.{Line, otherwise, yes_alone, answers_yes, ◌or_else◌, goes_on}
 use Rattle.lk_questions.specs.Built.{same_unfolded, same_headed}
+use Rattle.lk_store.specs.declared.memory.NoMemory.{NoMemory}
+use Rattle.lk_store.specs.Contents.{Contents, tree_at}
 use Rattle.lk_ask.specs.declared.next.Next.{Next}
 use Rattle.lk_ask.specs.declared.sheet.Pair.{Pair}
 use Rattle.lk_ask.specs.declared.sheet.SameSheet.{SameSheet}
 use Rattle.lk_ask.specs.declared.sheet.SameSheet.TheVariants.{Passed, Domains, CoreLeft, CoreRight, Parts, Proof, Lazy}
 use Rattle.lk_ask.specs.declared.sheet.ProofSheet.{ProofSheet}
 use Rattle.lk_ask.specs.declared.sheet.ProofSheet.TheVariants as proof
+use Rattle.lk_ask.specs.Looks.{Sight}
+use Rattle.lk_ask.specs.Gives.{Gives}
 use Rattle.lk_ask.specs.Nexts.{next_steps}
-use Rattle.lk_ask.specs.Sheets.{map_same}
+use Rattle.lk_ask.specs.Sheets.{map_same, IsKnownSame}
 use Rattle.lk_lazy.specs.Lazies.{others_same, lazy_rest}
 
 -- two binders, once their domains were compared: the bodies are opened with the Local k of the first domain
@@ -72,3 +76,19 @@ same_rest w last (Lazy s) = lazy_rest w last s
 -- what Same does next; t is what numbers stand for
 abbrev pub same_next : Place → (ℕ → Tree) → Option ℕ → Next ℕ (SameSheet ℕ) → Steps
 same_next w t last next = next_steps (λ s. same_rest w None (map_same t s)) t last next
+
+-- a step of Same does what the program does; t is what numbers stood for
+abbrev pub Compares : {S R B : Type 0} → (S → Contents) → (S → R) → (R → Sight B) → S → S
+    → Result (Next ℕ (SameSheet ℕ)) NoMemory → ((ℕ → Tree) → Program Bool) → Type 0
+Compares contents rest sight old new result program =
+    Gives IsKnownSame same_next contents rest sight old new result
+    (erased (sight (rest old)).basis.place truth (sight (rest old)).last
+    (program (tree_at (contents old))))
+
+-- it does what the sheet goes on with
+abbrev pub Resumes : {S R B : Type 0} → (S → Contents) → (S → R) → (R → Sight B) → S → S
+    → Result (Next ℕ (SameSheet ℕ)) NoMemory → SameSheet ℕ → ((ℕ → Tree) → Value) → Type 0
+Resumes contents rest sight old new result sheet value =
+    Gives IsKnownSame same_next contents rest sight old new result
+    (same_rest (sight (rest old)).basis.place (sight (rest old)).last
+    (map_same (tree_at (contents old)) sheet) (value (tree_at (contents old))))

@@ -6,14 +6,15 @@ ghost use Rattle.lk_rulebook.specs.Place.{Place};
 ghost use Rattle.lk_plain.specs.Erased.{truth, erased};
 ghost use Rattle.lk_questions.specs.Levels.{complete_test, tested as plain_answer};
 ghost use Rattle.lk_questions.specs.Built.{same_parts};
-ghost use Rattle.lk_store.specs.Contents.{name_at, list_at, tree_at};
+ghost use Rattle.lk_store.specs.Contents.{name_at, list_at};
 ghost use Rattle.lk_ask.specs.Nexts.{IsKnownNext};
 ghost use Rattle.lk_ask.specs.Sheets.{map_pair, IsKnownPair, IsKnownSame};
 ghost use Rattle.lk_lazy.specs.Lazies.{others_same};
-ghost use Rattle.lk_same.specs.Sames.{parts_rest, same_next};
+ghost use Rattle.lk_same.specs.Sames.{parts_rest, same_next, Compares};
 ghost use Rattle.lk_same.specs.Spines.{spines_same};
 
 use crate::same::SameNext;
+use lk_ask::looks::Looks;
 use lk_ask::next::Next;
 use lk_ask::query::{Answer, Query};
 use lk_ask::rule::Rule;
@@ -21,15 +22,14 @@ use lk_ask::sheet::{Pair, SameSheet};
 use lk_ask::stack::Stack;
 use lk_lazy::levels::levels_equal;
 use lk_lazy::spines::pair_up;
-use lk_rows::memory::NoMemory;
+use lk_store::memory::NoMemory;
 use lk_store::node::Node;
-use lk_store::terms::Terms;
-use std::alloc::Global;
 
 /// What a test of levels answers.
 pub(crate) fn tested(answer: Option<bool>) -> SameNext
     ensures known { (n : ℕ) → IsKnownNext IsKnownSame n result }
-    ensures steps { (w : Place) (t : ℕ → Tree) (last : Option ℕ) → same_next w t last result ≡ erased w truth last (plain_answer answer) }
+    ensures steps { (w : Place) (t : ℕ → Tree) (last : Option ℕ)
+        → same_next w t last result ≡ erased w truth last (plain_answer answer) }
 {
     match answer {
         Some(equal) => Next::Done(Answer::Truth(equal)),
@@ -38,61 +38,52 @@ pub(crate) fn tested(answer: Option<bool>) -> SameNext
 }
 
 /// Two constants: their names, then their levels.
-fn constants<T: Terms>(
-    alloc: Global,
-    terms: &T,
+fn constants<L: Looks>(
+    looks: &L,
     left: u64,
     left_levels: u64,
     right: u64,
     right_levels: u64,
 ) -> Result<SameNext, NoMemory>
-    requires left_in { left < length (T.contents terms.now).names }
-    requires right_in { right < length (T.contents terms.now).names }
-    requires left_levels_in { left_levels < length (T.contents terms.now).lists }
-    requires right_levels_in { right_levels < length (T.contents terms.now).lists }
-    ensures known { IfOk result (IsKnownNext IsKnownSame (length (T.contents terms.now).trees)) }
-    ensures steps { IfOk result (λ next. (w : Place) (last : Option ℕ) → same_next w (tree_at (T.contents terms.now)) last next ≡ erased w truth last (same_parts complete_test
-        (const (name_at (T.contents terms.now) left) (list_at (T.contents terms.now) left_levels))
-        (const (name_at (T.contents terms.now) right) (list_at (T.contents terms.now) right_levels)))) }
+    requires left_in { left < length (L.contents looks.now).names }
+    requires right_in { right < length (L.contents looks.now).names }
+    requires left_levels_in { left_levels < length (L.contents looks.now).lists }
+    requires right_levels_in { right_levels < length (L.contents looks.now).lists }
+    ensures { let c = L.contents looks.now in
+        Compares L.contents L.rest L.sight looks.now looks.now result
+        (λ t. same_parts complete_test (const (name_at c left) (list_at c left_levels))
+        (const (name_at c right) (list_at c right_levels))) }
 {
-    if !terms.same_name(left, right) {
+    if !looks.same_name(left, right) {
         return Ok(Next::Done(Answer::Truth(false)));
     }
-    let equal = levels_equal(alloc, terms, left_levels, right_levels)?;
+    let equal = levels_equal(looks.alloc(), looks, left_levels, right_levels)?;
     Ok(tested(equal))
 }
 
 /// A constant and another term.
-fn constant_and<T: Terms>(
-    alloc: Global,
-    terms: &T,
-    name: u64,
-    levels: u64,
-    b: u64,
-) -> Result<SameNext, NoMemory>
-    requires name_in { name < length (T.contents terms.now).names }
-    requires levels_in { levels < length (T.contents terms.now).lists }
-    requires b_in { b < length (T.contents terms.now).trees }
-    ensures known { IfOk result (IsKnownNext IsKnownSame (length (T.contents terms.now).trees)) }
-    ensures steps { IfOk result (λ next. (w : Place) (last : Option ℕ) → same_next w (tree_at (T.contents terms.now)) last next ≡ erased w truth last (same_parts complete_test
-        (const (name_at (T.contents terms.now) name) (list_at (T.contents terms.now) levels)) (tree_at (T.contents terms.now) b))) }
+fn constant_and<L: Looks>(looks: &L, name: u64, levels: u64, b: u64) -> Result<SameNext, NoMemory>
+    requires name_in { name < length (L.contents looks.now).names }
+    requires levels_in { levels < length (L.contents looks.now).lists }
+    requires b_in { b < length (L.contents looks.now).trees }
+    ensures { let c = L.contents looks.now in
+        Compares L.contents L.rest L.sight looks.now looks.now result
+        (λ t. same_parts complete_test (const (name_at c name) (list_at c levels)) (t b)) }
 {
-    match terms.view(b) {
-        Node::Const(other, other_levels) => {
-            constants(alloc, terms, name, levels, other, other_levels)
-        }
+    match looks.view(b) {
+        Node::Const(other, other_levels) => constants(looks, name, levels, other, other_levels),
         _ => Ok(Next::Done(Answer::Truth(false))),
     }
 }
 
 /// Two spines: their heads are asked for, and the pairs of arguments are kept.
-fn spines<T: Terms>(alloc: Global, terms: &T, a: u64, b: u64) -> Result<SameNext, NoMemory>
-    requires a_in { a < length (T.contents terms.now).trees }
-    requires b_in { b < length (T.contents terms.now).trees }
-    ensures known { IfOk result (IsKnownNext IsKnownSame (length (T.contents terms.now).trees)) }
-    ensures steps { IfOk result (λ next. (w : Place) (last : Option ℕ) → same_next w (tree_at (T.contents terms.now)) last next ≡ erased w truth last (spines_same (tree_at (T.contents terms.now) a) (tree_at (T.contents terms.now) b))) }
+fn spines<L: Looks>(looks: &L, a: u64, b: u64) -> Result<SameNext, NoMemory>
+    requires a_in { a < length (L.contents looks.now).trees }
+    requires b_in { b < length (L.contents looks.now).trees }
+    ensures { Compares L.contents L.rest L.sight looks.now looks.now result
+        (λ t. spines_same (t a) (t b)) }
 {
-    match pair_up(alloc, terms, a, b)? {
+    match pair_up(looks.alloc(), looks, a, b)? {
         Some(found) => Ok(Next::Ask(
             Query::Same(found.left, found.right),
             SameSheet::Parts {
@@ -104,20 +95,15 @@ fn spines<T: Terms>(alloc: Global, terms: &T, a: u64, b: u64) -> Result<SameNext
 }
 
 /// Two terms that `Core` leaves as they are, part by part.
-pub(crate) fn parts<T: Terms>(
-    alloc: Global,
-    terms: &T,
-    a: u64,
-    b: u64,
-) -> Result<SameNext, NoMemory>
-    requires a_in { a < length (T.contents terms.now).trees }
-    requires b_in { b < length (T.contents terms.now).trees }
-    ensures known { IfOk result (IsKnownNext IsKnownSame (length (T.contents terms.now).trees)) }
-    ensures steps { IfOk result (λ next. (w : Place) (last : Option ℕ) → same_next w (tree_at (T.contents terms.now)) last next ≡ erased w truth last (same_parts complete_test (tree_at (T.contents terms.now) a) (tree_at (T.contents terms.now) b))) }
+pub(crate) fn parts<L: Looks>(looks: &L, a: u64, b: u64) -> Result<SameNext, NoMemory>
+    requires a_in { a < length (L.contents looks.now).trees }
+    requires b_in { b < length (L.contents looks.now).trees }
+    ensures { Compares L.contents L.rest L.sight looks.now looks.now result
+        (λ t. same_parts complete_test (t a) (t b)) }
 {
-    match terms.view(a) {
-        Node::Const(name, levels) => constant_and(alloc, terms, name, levels, b),
-        Node::App(_, _) => spines(alloc, terms, a, b),
+    match looks.view(a) {
+        Node::Const(name, levels) => constant_and(looks, name, levels, b),
+        Node::App(_, _) => spines(looks, a, b),
         _ => Ok(Next::Done(Answer::Truth(false))),
     }
 }
@@ -125,7 +111,8 @@ pub(crate) fn parts<T: Terms>(
 /// Goes on with the pairs that are left.
 fn next_pair(others: Stack<Pair<u64>>) -> SameNext
     ensures known { (n : ℕ) → All (IsKnownPair n) others → IsKnownNext IsKnownSame n result }
-    ensures steps { (w : Place) (t : ℕ → Tree) (last : Option ℕ) → same_next w t last result ≡ erased w truth last (others_same (map (map_pair t) others)) }
+    ensures steps { (w : Place) (t : ℕ → Tree) (last : Option ℕ) → same_next w t last result
+        ≡ erased w truth last (others_same (map (map_pair t) others)) }
 {
     let mut items = others.items;
     match items.pop() {
@@ -142,7 +129,8 @@ fn next_pair(others: Stack<Pair<u64>>) -> SameNext
 /// Goes on with the pairs that are left, once the one before them was compared.
 pub(crate) fn after_pair(others: Stack<Pair<u64>>, equal: bool) -> SameNext
     ensures known { (n : ℕ) → All (IsKnownPair n) others → IsKnownNext IsKnownSame n result }
-    ensures steps { (w : Place) (t : ℕ → Tree) (last : Option ℕ) → same_next w t last result ≡ erased w truth last (parts_rest (map (map_pair t) others) equal) }
+    ensures steps { (w : Place) (t : ℕ → Tree) (last : Option ℕ) → same_next w t last result
+        ≡ erased w truth last (parts_rest (map (map_pair t) others) equal) }
 {
     if equal {
         next_pair(others)

@@ -1,4 +1,25 @@
+use Rattle.std.proofs.Common.{◌∙◌}
+use Rattle.lk_questions.specs.Levels.{complete_test}
+use Rattle.lk_questions.specs.Built.{same_parts}
+use Rattle.lk_store.specs.Contents.{tree_at}
+use Rattle.lk_same.proofs.Giving.{gives_behind}
 use Rattle.lk_same.proofs.headed.unfolded.Goals as goal
 
-pub returns-in-Some-clause-known : goal.returns-in-Some-clause-known
-returns-in-Some-clause-known g c = c.of_lazy.ensures.known _ (rw c.in-Some.is at c.in_ok-next.ensures.known)
+pub returns-in-Some : goal.returns-in-Some
+returns-in-Some g c =
+    let t = tree_at (g.L.Terms.contents c.args.looks.now) in
+    let h = rw c.in-Some.is at c.in_ok-next.ensures in
+    record {
+      keeps = h.keeps;
+      stays = h.stays;
+      known = c.of_lazy.ensures.known _ h.known;
+      steps = c.of_lazy.ensures.steps _ _ _
+          ∙ h.goes (same_parts complete_test (t c.args.a) (t c.args.b));
+    }
+
+pub returns-in-None : goal.returns-in-None
+returns-in-None g c =
+    let h = rw c.in-None.is at c.in_ok-next.ensures in
+    let a = h.keeps.trees.same c.args.a c.requires.a_in in
+    let b = h.keeps.trees.same c.args.b c.requires.b_in in
+    gives_behind _ _ _ _ _ _ h (rw (a, b) at c.parts.ensures)

@@ -1,4 +1,6 @@
+use Rattle.std.proofs.Common.{rules}
+use Rattle.lk_same.proofs.Giving.{gives_now}
 use Rattle.lk_same.proofs.parts.constants.Goals as goal
 
-pub returns-clause-known : goal.returns-clause-known
-returns-clause-known g c = c.tested.ensures.known _
+pub returns : goal.returns
+returns g c = gives_now _ _ _ (c.tested.ensures.known _) (search rules)

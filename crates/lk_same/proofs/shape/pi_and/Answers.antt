@@ -1,15 +1,16 @@
 use Rattle.std.proofs.Common.{◌∙◌, ap}
 use Rattle.lk_plain.specs.Erased.{truth, erased}
 use Rattle.lk_store.specs.Contents.{tree_at}
+use Rattle.lk_same.proofs.Giving.{gives_now}
 use Rattle.lk_same.proofs.Shapes.{pi_and_other}
 use Rattle.lk_same.proofs.shape.pi_and.Goals as goal
 
 pub returns-in_default : goal.returns-in_default
 returns-in_default g c =
-    let t = g.T.Terms.contents c.args.terms.now in
-    let at = tree_at t in
-    let unlike = pi_and_other t (at c.args.domain) (at c.args.body) c.view.result (at c.args.a) (at c.args.b) c.in_default.not-Pi c.requires.a_is c.view.ensures.tree in
-    record {
-      known = c.reduced.ensures.known _ c.requires.a_in c.requires.b_in;
-      steps = λ w last. c.reduced.ensures.steps w at last ∙ ap (erased w truth last) unlike;
-    }
+    let d = g.L.Terms.contents c.args.looks.now in
+    let t = tree_at d in
+    let unlike = pi_and_other d (t c.args.domain) (t c.args.body) c.view.result
+    (t c.args.a) (t c.args.b)
+    c.in_default.not-Pi c.requires.a_is c.view.ensures.tree in
+    gives_now _ _ _ (c.reduced.ensures.known _ c.requires.a_in c.requires.b_in)
+    (c.reduced.ensures.steps _ _ _ ∙ ap (erased _ truth _) unlike)

@@ -1,0 +1,22 @@
+use Rattle.std.proofs.Common.{sym, subst}
+use Rattle.lk_store.specs.Contents.{tree_at}
+use Rattle.lk_lazy.specs.Heads.{IsUnfolding}
+use Rattle.lk_lazy.proofs.Giving.{gives_as, gives_after}
+use Rattle.lk_lazy.proofs.Ranks.{still_unfolds, first_unfolds}
+use Rattle.lk_lazy.proofs.lazy.unfold_both.Goals as goal
+
+pub returns : goal.returns
+returns g c p q i j =
+    let rest = g.L.Terms.rest in
+    let old = g.L.Terms.contents c.args.looks.now in
+    let middle = g.L.Terms.contents c.unfold.new.looks in
+    let made = c.in_ok-left.ensures in
+    let unfolded = rw (i.levels_are, i.value_is, c.in-Some.is) at made.ok p.entry i.entry_is in
+    let first = first_unfolds (tree_at old c.args.a) (tree_at old c.args.b) p q
+    middle c.in-Some.left unfolded in
+    let l = (g.L.Looks.sight (rest c.args.looks.now)).basis.library in
+    let still = subst (λ r. IsUnfolding middle (g.L.Looks.sight r).basis.library c.args.v q)
+    (sym made.rest) (still_unfolds old middle l c.args.v q made.keeps j) in
+    let second = gives_after c.args.looks.now _ made.keeps made.rest
+    (c.unfold_right.ensures q still) in
+    gives_as _ _ _ _ first (rw (made.keeps.trees.same c.args.b c.requires.b_in) at second)
