@@ -1,4 +1,5 @@
 pub mod Asking
 pub mod Frames
 pub mod Links
+pub mod Lookouts
 pub mod Outcomes

@@ -10,12 +10,15 @@ use Rattle.lk_ask.specs.Questions.{query_of, value_at, IsKnownQuery, IsKnownAnsw
 use Rattle.lk_memo.specs.declared.key.Key.{Key}
 use Rattle.lk_memo.specs.Keys.{key_of}
 
--- at the place the question has this answer, at just this cost, and this is the last unit that was looked at
+-- at the place the question has this answer, at just this cost, and this is the last unit that was
+-- looked at
 pub record IsTrueAt (w : Place) (c : Contents) (q : Query ℕ) (kept : Kept) : Type 0 where
   pub query : IsKnownQuery (length c.trees) q
   pub answer : IsKnownAnswer (length c.trees) kept.answer
-  pub is : IsAnsweredAt (out_of rows w (query_of (tree_at c) q)) (value_at (tree_at c) kept.answer) kept.cost kept.top
+  pub is : IsAnsweredAt (out_of rows w (query_of (tree_at c) q)) (value_at (tree_at c) kept.answer)
+      kept.cost kept.top
 
 -- each entry is true of its question
 pub record AreTrue (w : Place) (c : Contents) (entries : List (Key × Kept)) : Type 0 where
-  pub each : (e : Key × Kept) → Contains entries e → (q : Query ℕ) → key_of q ≡ e.0 → IsTrueAt w c q e.1
+  pub each : (e : Key × Kept) → Contains entries e → (q : Query ℕ) → key_of q ≡ e.0
+      → IsTrueAt w c q e.1

@@ -1,3 +1,4 @@
 pub mod Entries
+pub mod Lookouts
 pub mod Outcomes
 pub mod Rests

@@ -1,35 +1,26 @@
 //! The loop that answers a question, by a stack of what waits for answers.
 
-ghost use Rattle.std.specs.Prelude.{◌≡◌, ◌≢◌, ◌<◌, ◌≤◌, ◌+◌, ◌-◌, ◌^◌, ◌⊎◌, length, Contains, IfOk, OnOk, IfErr, Err, ℕ};
-ghost use Rattle.lk_plain.specs.Erased.{Out, IsAnsweredAt, run_steps, out_of};
-ghost use Rattle.lk_questions.specs.Built.{rows};
-ghost use Rattle.lk_store.specs.Contents.{Contents, tree_at, Extends};
-ghost use Rattle.lk_store.specs.Store.{contents_of};
-ghost use Rattle.lk_env.specs.Places.{place_at};
-ghost use Rattle.lk_ask.specs.Questions.{query_of, value_at, IsKnownQuery, IsKnownAnswer};
-ghost use Rattle.lk_ask.specs.Nexts.{IsKnownNext};
-ghost use Rattle.lk_ask.specs.Outcomes.{IsExactly, IsStop};
-ghost use Rattle.lk_ask.specs.Sheets.{IsKnownSheet};
-ghost use Rattle.lk_ask.specs.declared.kept.Kept.{Kept as Answered};
+ghost use Rattle.std.specs.Prelude.{◌≡◌, ◌≢◌, ◌≤◌, ◌-◌, ◌⊎◌, length, Contains, Err};
+ghost use Rattle.lk_ask.specs.Questions.{IsKnownQuery};
 ghost use Rattle.lk_memo.specs.Keys.{key_of};
-ghost use Rattle.lk_memo.specs.Entries.{IsKept};
 ghost use Rattle.lk_engine.specs.Entries.{AreTrue};
-ghost use Rattle.lk_engine.specs.Rests.{next_of};
+ghost use Rattle.lk_engine.specs.Lookouts.{place_of, Repeats, Opens, Answers, AnswersKept};
 
+use crate::paying::{last, left, note_before, pay, site};
 use crate::steps::{AnyNext, begin, resume};
 use lk_ask::kept::Kept;
+use lk_ask::lookout::Lookout;
+use lk_ask::looks::Looks;
 use lk_ask::next::Next;
 use lk_ask::query::{Answer, Query};
 use lk_ask::sheet::Sheet;
 use lk_ask::stop::Stop;
-use lk_env::entry::{Partial, Site};
-use lk_env::library::Library;
+use lk_env::entry::Partial;
 use lk_memo::memo::PrivateMemo;
-use lk_meter::meter::Meter;
 use lk_store::terms::Terms;
-use std::alloc::Global;
 
-/// A question that waits: what was asked under which budget, its sheet, and the last unit that was looked at for it so far.
+/// A question that waits: what was asked under which budget, its sheet, and the last unit that was
+/// looked at for it so far.
 #[derive(Drop)]
 pub struct Frame {
     pub asker: Query<u64>,
@@ -39,96 +30,73 @@ pub struct Frame {
 }
 
 /// The first step of a question, which costs one step. It is a turn.
-fn first_step<T: Terms>(
-    alloc: Global,
-    library: &Library,
-    site: &Site,
-    terms: &mut T,
-    meter: &mut Meter,
-    query: Query<u64>,
-) -> Result<AnyNext, Stop>
-    requires over { Extends (contents_of library.now.0) (T.contents terms.old) }
-    requires query_in { IsKnownQuery (length (T.contents terms.old).trees) query }
-    ensures keeps { Extends (T.contents terms.old) (T.contents terms.new) }
-    ensures rest { T.rest terms.new ≡ T.rest terms.old }
-    ensures known { IfOk result (IsKnownNext IsKnownSheet (length (T.contents terms.new).trees)) }
-    ensures next { IfOk result (λ next. run_steps (out_of rows (place_at library.now site.now)) (next_of (place_at library.now site.now) (tree_at (T.contents terms.new)) meter.new.last next) meter.new.left
-        ≡ out_of rows (place_at library.now site.now) (query_of (tree_at (T.contents terms.old)) query) meter.old.left) }
-    ensures less { OnOk result (meter.new.left < meter.old.left) }
-    ensures err { IfErr result (IsStop (out_of rows (place_at library.now site.now) (query_of (tree_at (T.contents terms.old)) query) meter.old.left)) }
-    ensures nothing_left { meter.old.left ≡ 0 → result ≡ Err Stop.Spent }
+fn first_step<T: Terms>(lookout: &mut Lookout<'_, T>, query: Query<u64>) -> Result<AnyNext, Stop>
+    requires query_in { IsKnownQuery (length (T.contents lookout.old.2).trees) query }
+    ensures opens { Opens T.contents T.rest lookout.old lookout.new result query }
+    ensures nothing_left { lookout.old.3.left ≡ 0 → result ≡ Err Stop.Spent }
 {
-    meter.turn();
-    match meter.spend(1) {
-        Ok(()) => {
-            meter.last = None;
-            let next = begin(alloc, library, site, terms, meter, query)?;
-            Ok(next)
-        }
-        Err(_) => Err(Stop::Spent),
-    }
+    pay(lookout, 1, None)?;
+    Ok(begin(lookout, query)?)
 }
 
 /// An answer that is kept. It costs what it cost before, and is one turn.
-fn again(meter: &mut Meter, kept: Kept) -> Result<Answer<u64>, Stop>
-    ensures answer { IfOk result (λ answer. answer ≡ kept.answer) }
-    ensures paid { OnOk result ((kept.cost ≤ meter.old.left) × (meter.new.left ≡ meter.old.left - kept.cost)) }
-    ensures spent { IfErr result (λ e. (e ≡ Stop.Spent) × (meter.old.left < kept.cost)) }
-    ensures exact { (c : Contents) (o : ℕ → Out) → IsAnsweredAt o (value_at (tree_at c) kept.answer) kept.cost kept.top → IsExactly c (o meter.old.left) meter.new.left meter.new.last result }
-    ensures turns { meter.old.turns < 2 ^ 64 - 1 → meter.new.turns ≡ meter.old.turns + 1 }
+fn repeat<T: Terms>(lookout: &mut Lookout<'_, T>, kept: Kept) -> Result<Answer<u64>, Stop>
+    ensures { Repeats lookout.old lookout.new result kept }
 {
-    meter.turn();
-    match meter.spend(kept.cost) {
-        Ok(()) => {
-            meter.last = kept.top;
-            Ok(kept.answer)
-        }
-        Err(_) => Err(Stop::Spent),
-    }
+    pay(lookout, kept.cost, kept.top)?;
+    Ok(kept.answer)
 }
 
 /// The first step of a question, or the answer that the memo has of it.
 fn open<T: Terms>(
-    alloc: Global,
-    library: &Library,
-    site: &Site,
-    terms: &mut T,
-    meter: &mut Meter,
+    lookout: &mut Lookout<'_, T>,
     memo: &mut PrivateMemo,
     query: Query<u64>,
 ) -> Result<AnyNext, Stop>
-    requires over { Extends (contents_of library.now.0) (T.contents terms.old) }
-    requires query_in { IsKnownQuery (length (T.contents terms.old).trees) query }
-    requires entries { AreTrue (place_at library.now site.now) (T.contents terms.old) memo.old.cache.entries }
-    ensures keeps { Extends (T.contents terms.old) (T.contents terms.new) }
-    ensures rest { T.rest terms.new ≡ T.rest terms.old }
-    ensures entries { AreTrue (place_at library.now site.now) (T.contents terms.new) memo.new.cache.entries }
-    ensures unkept { (e : _) → Contains memo.new.cache.entries e → Contains memo.old.cache.entries e }
-    ensures known { IfOk result (IsKnownNext IsKnownSheet (length (T.contents terms.new).trees)) }
-    ensures next { IfOk result (λ next. run_steps (out_of rows (place_at library.now site.now)) (next_of (place_at library.now site.now) (tree_at (T.contents terms.new)) meter.new.last next) meter.new.left
-        ≡ out_of rows (place_at library.now site.now) (query_of (tree_at (T.contents terms.old)) query) meter.old.left) }
-    ensures less { OnOk result (meter.new.left < meter.old.left) }
-    ensures err { IfErr result (IsStop (out_of rows (place_at library.now site.now) (query_of (tree_at (T.contents terms.old)) query) meter.old.left)) }
+    requires query_in { IsKnownQuery (length (T.contents lookout.old.2).trees) query }
+    requires entries { AreTrue (place_of lookout.old) (T.contents lookout.old.2)
+        memo.old.cache.entries }
+    ensures opens { Opens T.contents T.rest lookout.old lookout.new result query }
+    ensures entries { AreTrue (place_of lookout.old) (T.contents lookout.new.2)
+        memo.new.cache.entries }
+    ensures unkept { (e : _) → Contains memo.new.cache.entries e
+        → Contains memo.old.cache.entries e }
 {
-    match memo.find(query, site.unit) {
-        Some(kept) => match again(meter, kept) {
-            Ok(answer) => Ok(Next::Done(answer)),
-            Err(stop) => Err(stop),
-        },
-        None => first_step(alloc, library, site, terms, meter, query),
+    match memo.find(query, site(lookout).unit) {
+        Some(kept) => Ok(Next::Done(repeat(lookout, kept)?)),
+        None => first_step(lookout, query),
     }
 }
 
-/// Keeps an answer, where finding it is less than asking anew. While members are partial none is kept: it may rest on them,
-/// and would be true at that place alone. Where there is no room the memo stays as it is.
-fn keep(memo: &mut PrivateMemo, partial: Partial, query: Query<u64>, kept: Kept)
-    ensures entries { (e : _) → Contains memo.new.cache.entries e → Contains memo.old.cache.entries e ⊎ (e ≡ (key_of query, kept)) }
-    ensures unkept { partial ≢ Partial.Nothing → (e : _) → Contains memo.new.cache.entries e → Contains memo.old.cache.entries e }
+/// Keeps an answer, where finding it is less than asking anew. While members are partial none is
+/// kept: it may rest on them, and would be true at that place alone. Where there is no room the
+/// memo stays as it is.
+fn keep<T: Terms>(
+    memo: &mut PrivateMemo,
+    lookout: &Lookout<'_, T>,
+    query: Query<u64>,
+    budget: u128,
+    answer: Answer<u64>,
+)
+    requires { lookout.now.3.left ≤ budget }
+    ensures entries { (e : _) → Contains memo.new.cache.entries e
+        → Contains memo.old.cache.entries e ⊎ (e ≡ (
+          key_of query,
+          record {
+            answer = answer;
+            cost = budget - lookout.now.3.left;
+            top = lookout.now.3.last;
+          },
+        )) }
+    ensures unkept { lookout.now.1.partial ≢ Partial.Nothing → (e : _)
+        → Contains memo.new.cache.entries e → Contains memo.old.cache.entries e }
 {
-    match partial {
+    match site(lookout).partial {
         Partial::Nothing => {
-            if kept.cost > 1 {
-                let _kept = memo.keep(query, kept);
+            let cost = budget - left(lookout);
+            let top = last(lookout);
+            if cost > 1 {
+                let _kept = memo.keep(query, Kept { answer, cost, top });
             }
         }
         Partial::Types | Partial::Members => {}
@@ -137,36 +105,24 @@ fn keep(memo: &mut PrivateMemo, partial: Partial, query: Query<u64>, kept: Kept)
 
 /// The answer of a question that is not kept.
 fn work<T: Terms>(
-    alloc: Global,
-    library: &Library,
-    site: &Site,
-    terms: &mut T,
-    meter: &mut Meter,
+    lookout: &mut Lookout<'_, T>,
     memo: &mut PrivateMemo,
     query: Query<u64>,
 ) -> Result<Answer<u64>, Stop>
-    requires over { Extends (contents_of library.now.0) (T.contents terms.old) }
-    requires query_in { IsKnownQuery (length (T.contents terms.old).trees) query }
-    requires entries { AreTrue (place_at library.now site.now) (T.contents terms.old) memo.old.cache.entries }
-    ensures keeps { Extends (T.contents terms.old) (T.contents terms.new) }
-    ensures rest { T.rest terms.new ≡ T.rest terms.old }
-    ensures entries { AreTrue (place_at library.now site.now) (T.contents terms.new) memo.new.cache.entries }
-    ensures unkept { site.now.partial ≢ Partial.Nothing → (e : _) → Contains memo.new.cache.entries e → Contains memo.old.cache.entries e }
-    ensures known { IfOk result (IsKnownAnswer (length (T.contents terms.new).trees)) }
-    ensures outcome { IsExactly (T.contents terms.new) (out_of rows (place_at library.now site.now) (query_of (tree_at (T.contents terms.old)) query) meter.old.left) meter.new.left meter.new.last result }
-    ensures nothing_left { meter.old.left ≡ 0 → result ≡ Err Stop.Spent }
+    requires query_in { IsKnownQuery (length (T.contents lookout.old.2).trees) query }
+    requires entries { AreTrue (place_of lookout.old) (T.contents lookout.old.2)
+        memo.old.cache.entries }
+    ensures { Answers T.contents T.rest lookout.old lookout.new memo.old.cache.entries
+        memo.new.cache.entries result query }
 {
-    let mut stack: Vec<Frame> = Vec::new(alloc);
+    let mut stack: Vec<Frame> = Vec::new(lookout.alloc());
     let mut asked = query;
-    let mut budget = meter.left;
-    let mut next = match first_step(alloc, library, site, terms, meter, query) {
-        Ok(opened) => opened,
-        Err(stop) => return Err(stop),
-    };
+    let mut budget = left(lookout);
+    let mut next = first_step(lookout, query)?;
     'work: loop {
         match next {
             Next::Ask(other, sheet) => {
-                let last = meter.last;
+                let last = last(lookout);
                 stack
                     .push(Frame {
                         asker: asked,
@@ -176,23 +132,18 @@ fn work<T: Terms>(
                     })
                     .map_err(|_| Stop::NoMemory)?;
                 asked = other;
-                budget = meter.left;
-                next = match open(alloc, library, site, terms, meter, memo, other) {
-                    Ok(opened) => opened,
-                    Err(stop) => return Err(stop),
-                };
+                budget = left(lookout);
+                next = open(lookout, memo, other)?;
             }
             Next::Done(answer) => {
-                let cost = budget - meter.left;
-                let top = meter.last;
-                keep(memo, site.partial, asked, Kept { answer, cost, top });
+                keep(memo, lookout, asked, budget, answer);
                 match stack.pop() {
                     None => return Ok(answer),
                     Some(frame) => {
                         asked = frame.asker;
                         budget = frame.budget;
-                        meter.note_before(frame.last);
-                        next = resume(alloc, library, site, terms, meter, frame.sheet, answer)?;
+                        note_before(lookout, frame.last);
+                        next = resume(lookout, frame.sheet, answer)?;
                     }
                 }
             }
@@ -201,34 +152,25 @@ fn work<T: Terms>(
     }
 }
 
-/// The plain answer of a question at a site, with what is left of a budget. What is left afterwards is left, and the meter
-/// has the last unit that was looked at for this question. What the memo keeps of earlier questions costs the same as
-/// without it. Each question that is opened on the way takes a turn: a question that is kept takes one, and no memory. Where
-/// nothing is left, none is taken either.
+/// The plain answer of a question at a site, with what is left of a budget. What is left afterwards
+/// is left, and the meter has the last unit that was looked at for this question. What the memo
+/// keeps of earlier questions costs the same as without it. Each question that is opened on the way
+/// takes a turn: a question that is kept takes one, and no memory. Where nothing is left, none is
+/// taken either.
 pub fn answer<T: Terms>(
-    alloc: Global,
-    library: &Library,
-    site: &Site,
-    terms: &mut T,
-    meter: &mut Meter,
+    lookout: &mut Lookout<'_, T>,
     memo: &mut PrivateMemo,
     query: Query<u64>,
 ) -> Result<Answer<u64>, Stop>
-    requires over { Extends (contents_of library.now.0) (T.contents terms.old) }
-    requires query_in { IsKnownQuery (length (T.contents terms.old).trees) query }
-    requires entries { AreTrue (place_at library.now site.now) (T.contents terms.old) memo.old.cache.entries }
-    ensures keeps { Extends (T.contents terms.old) (T.contents terms.new) }
-    ensures rest { T.rest terms.new ≡ T.rest terms.old }
-    ensures entries { AreTrue (place_at library.now site.now) (T.contents terms.new) memo.new.cache.entries }
-    ensures unkept { site.now.partial ≢ Partial.Nothing → (e : _) → Contains memo.new.cache.entries e → Contains memo.old.cache.entries e }
-    ensures known { IfOk result (IsKnownAnswer (length (T.contents terms.new).trees)) }
-    ensures outcome { IsExactly (T.contents terms.new) (out_of rows (place_at library.now site.now) (query_of (tree_at (T.contents terms.old)) query) meter.old.left) meter.new.left meter.new.last result }
-    ensures turns { (kept : Answered) → IsKept memo.old.cache.entries query site.now.unit kept → meter.old.turns < 2 ^ 64 - 1 → meter.new.turns ≡ meter.old.turns + 1 }
-    ensures kept { (kept : Answered) → IsKept memo.old.cache.entries query site.now.unit kept → result ≢ Err Stop.NoMemory }
-    ensures nothing_left { meter.old.left ≡ 0 → result ≢ Err Stop.NoMemory }
+    requires query_in { IsKnownQuery (length (T.contents lookout.old.2).trees) query }
+    requires entries { AreTrue (place_of lookout.old) (T.contents lookout.old.2)
+        memo.old.cache.entries }
+    ensures answers { Answers T.contents T.rest lookout.old lookout.new memo.old.cache.entries
+        memo.new.cache.entries result query }
+    ensures kept { AnswersKept lookout.old lookout.new memo.old.cache.entries result query }
 {
-    match memo.find(query, site.unit) {
-        Some(kept) => again(meter, kept),
-        None => work(alloc, library, site, terms, meter, memo, query),
+    match memo.find(query, site(lookout).unit) {
+        Some(kept) => repeat(lookout, kept),
+        None => work(lookout, memo, query),
     }
 }

@@ -1,8 +1,14 @@
-//! The engine: a store over that of a library in which questions are answered, as a unit of the library may ask them.
+//! The engine: a store over that of a library in which questions are answered, as a unit of the
+//! library may ask them.
+
+ghost use Rattle.std.specs.Prelude.{◌≡◌};
+ghost use Rattle.lk_store.specs.Store.{over, contents_of};
+ghost use Rattle.lk_engine.specs.Lookouts.{Restarts};
 
 use crate::answering::answer;
 use crate::parameters::parameters_at;
 use lk_ask::asks::Asks;
+use lk_ask::lookout::Lookout;
 use lk_ask::query::{Answer, Query};
 use lk_ask::rule::Rule;
 use lk_ask::stop::Stop;
@@ -10,50 +16,80 @@ use lk_env::entry::{Partial, Site};
 use lk_env::library::Library;
 use lk_memo::memo::PrivateMemo;
 use lk_meter::meter::Meter;
-use lk_rows::memory::NoMemory;
+use lk_store::memory::NoMemory;
 use lk_store::node::{LevelNode, ListNode, NameNode, Node};
 use lk_store::overlay::Overlay;
+use lk_store::tables::Tables;
 use lk_store::terms::Terms;
 use lk_store::text::Text;
 use std::alloc::Global;
 use std::marker::Model;
+use std::mem::drop;
 
-/// An engine over a library. What a unit makes stands over the library's store, and goes when the next unit is started, and
-/// with it what the memo keeps, which is lent.
-#[derive(Drop)]
+/// An engine over a library. What a unit makes stands over the library's store, and goes when the
+/// next unit is started, and with it what the memo keeps, which is lent.
 pub struct Engine<'a> {
-    alloc: Global,
-    library: &'a Library,
-    site: Site,
-    terms: Overlay<'a>,
-    meter: Meter,
+    lookout: Lookout<'a, Overlay<'a>>,
     memo: &'a mut PrivateMemo,
 }
 
 impl<'a> Model for Engine<'a> {
-    ghost use Rattle.std.specs.Prelude.{◌≡◌, List};
+    ghost use Rattle.std.specs.Prelude.{List};
     ghost use Rattle.lk_store.specs.declared.tables.Tables.{Tables};
-    ghost use Rattle.lk_store.specs.Contents.{Extends};
-    ghost use Rattle.lk_store.specs.Store.{over, contents_of};
-    ghost use Rattle.lk_env.specs.Places.{place_at};
-    ghost use Rattle.lk_engine.specs.Entries.{AreTrue};
     ghost use Rattle.lk_env.specs.declared.entry.Site.{Site as LookedFrom};
     ghost use Rattle.lk_env.specs.declared.unit.Unit.{Unit as StoredUnit};
     ghost use Rattle.lk_meter.specs.declared.meter.Meter.{Meter as Metered};
+    ghost use Rattle.lk_engine.specs.Lookouts.{Stands};
 
     ghost Value = { (Tables × List StoredUnit) × LookedFrom × (Tables × Tables) × Metered };
 
-    ghost view = { λ s. (s.library.now, s.site, s.terms, s.meter) };
+    ghost view = { λ s. s.lookout };
 
-    ghost invariant = { λ s. (s.terms.0 ≡ s.library.now.0)
-        × Extends (contents_of s.library.now.0) (contents_of (over s.terms.0 s.terms.1))
-        × AreTrue (place_at s.library.now s.site) (contents_of (over s.terms.0 s.terms.1)) s.memo.now.cache.entries };
+    ghost invariant = { λ s. Stands s.lookout s.memo.now.cache.entries };
+}
+
+impl Drop for Engine<'_> {
+    fn drop(self) {
+        let Engine { lookout, memo: _ } = self;
+        drop(lookout);
+    }
+}
+
+/// Looks from this unit, of which nothing is partial, with an empty store over the library's and
+/// this budget.
+fn restart(lookout: &mut Lookout<'_, Overlay<'_>>, unit: u32, budget: u128)
+    requires { lookout.old.2.0 ≡ lookout.old.0.0 }
+    ensures { Restarts lookout.old lookout.new unit budget }
+{
+    let partial = Partial::Nothing;
+    lookout.site = Site { unit, partial };
+    lookout.terms.clear();
+    lookout.meter = Meter::new(budget);
+}
+
+/// From here on so much of the unit at work is partial.
+fn give_in(lookout: &mut Lookout<'_, Overlay<'_>>, partial: Partial)
+    ensures { lookout.new ≡ (
+      lookout.old.0,
+      record {
+        unit = lookout.old.1.unit;
+        partial = partial;
+      },
+      lookout.old.2,
+      lookout.old.3,
+    ) }
+{
+    lookout.site.partial = partial;
+}
+
+/// How many turns were taken.
+fn turns_of(lookout: &Lookout<'_, Overlay<'_>>) -> u64
+    ensures { result ≡ lookout.now.3.turns }
+{
+    lookout.meter.turns
 }
 
 impl<'a> Engine<'a> {
-    ghost use Rattle.std.specs.Prelude.{◌≡◌};
-    ghost use Rattle.lk_store.specs.Store.{over, contents_of};
-
     /// An engine at the first unit, with nothing to spend. The memo is emptied. It takes no memory.
     #[tactic(auto, using(crate::proofs::Frames::nothing_kept))]
     pub fn new(alloc: Global, library: &'a Library, memo: &'a mut PrivateMemo) -> Self
@@ -65,7 +101,7 @@ impl<'a> Engine<'a> {
         ensures turns { result.3.turns ≡ 0 }
     {
         memo.clear();
-        Engine {
+        let lookout = Lookout {
             alloc,
             library,
             site: Site {
@@ -74,125 +110,125 @@ impl<'a> Engine<'a> {
             },
             terms: Overlay::new(alloc, library.base()),
             meter: Meter::new(0),
-            memo,
-        }
+        };
+        Engine { lookout, memo }
     }
 
-    /// Begins a unit: the names below it are seen, nothing of it is partial, so many steps may be taken, and what earlier
-    /// units made, and what is kept of their questions, is gone. It costs nothing that grows with the library.
+    /// Begins a unit: the names below it are seen, nothing of it is partial, so many steps may be
+    /// taken, and what earlier units made, and what is kept of their questions, is gone. It costs
+    /// nothing that grows with the library.
     #[tactic(auto, using(crate::proofs::Frames::nothing_kept))]
     pub fn start(&mut self, unit: u32, budget: u128)
         ensures library { self.new.0 ≡ self.old.0 }
         ensures unit { self.new.1.unit ≡ unit }
         ensures partial { self.new.1.partial ≡ Partial.Nothing }
-        ensures contents { contents_of (over self.new.2.0 self.new.2.1) ≡ contents_of self.old.0.0 }
+        ensures contents { contents_of (over self.new.2.0 self.new.2.1)
+            ≡ contents_of self.old.0.0 }
         ensures left { self.new.3.left ≡ budget }
         ensures turns { self.new.3.turns ≡ 0 }
     {
-        let partial = Partial::Nothing;
-        self.site = Site { unit, partial };
-        self.terms.clear();
+        restart(&mut self.lookout, unit, budget);
         self.memo.clear();
-        self.meter = Meter::new(budget);
     }
 
-    /// How many questions were opened for the unit that was begun last, those of which an answer was kept among them. At
-    /// the greatest number it stays.
+    /// How many questions were opened for the unit that was begun last, those of which an answer
+    /// was kept among them. At the greatest number it stays.
     pub fn turns(&self) -> u64
         ensures { result ≡ self.now.3.turns }
     {
-        self.meter.turns
+        turns_of(&self.lookout)
     }
 }
 
 impl<'a> Terms for Engine<'a> {
     ghost use Rattle.lk_store.specs.Store.{over, contents_of};
 
-    /// All but the terms: the library, from where it is seen, and what is left of the budget.
-    type Rest = (Library, Site, Meter);
+    /// All but the terms: the library, from where it is seen, what is left of the budget, and the
+    /// library's tables.
+    type Rest = (Library, Site, Meter, Tables);
 
-    ghost rest = { λ s. (s.0, s.1, s.3) };
+    ghost rest = { λ s. (s.0, s.1, s.3, s.2.0) };
 
     ghost contents = { λ s. contents_of (over s.2.0 s.2.1) };
 
     fn len(&self) -> u64 {
-        self.terms.len()
+        self.lookout.len()
     }
 
     fn view(&self, e: u64) -> Node {
-        self.terms.view(e)
+        self.lookout.view(e)
     }
 
     fn make(&mut self, node: Node) -> Result<u64, NoMemory> {
-        self.terms.make(node)
+        self.lookout.make(node)
     }
 
     fn same(&self, a: u64, b: u64) -> bool {
-        self.terms.same(a, b)
+        self.lookout.same(a, b)
     }
 
     fn loose_bound(&self, e: u64) -> u128 {
-        self.terms.loose_bound(e)
+        self.lookout.loose_bound(e)
     }
 
     fn local_bound(&self, e: u64) -> u128 {
-        self.terms.local_bound(e)
+        self.lookout.local_bound(e)
     }
 
     fn has_params(&self, e: u64) -> bool {
-        self.terms.has_params(e)
+        self.lookout.has_params(e)
     }
 
     fn is_narrow(&self, e: u64) -> bool {
-        self.terms.is_narrow(e)
+        self.lookout.is_narrow(e)
     }
 
     fn level(&self, l: u64) -> LevelNode {
-        self.terms.level(l)
+        self.lookout.level(l)
     }
 
     fn make_level(&mut self, node: LevelNode) -> Result<u64, NoMemory> {
-        self.terms.make_level(node)
+        self.lookout.make_level(node)
     }
 
     fn level_has_params(&self, l: u64) -> bool {
-        self.terms.level_has_params(l)
+        self.lookout.level_has_params(l)
     }
 
     fn levels(&self, ls: u64) -> ListNode {
-        self.terms.levels(ls)
+        self.lookout.levels(ls)
     }
 
     fn make_levels(&mut self, node: ListNode) -> Result<u64, NoMemory> {
-        self.terms.make_levels(node)
+        self.lookout.make_levels(node)
     }
 
     fn levels_have_params(&self, ls: u64) -> bool {
-        self.terms.levels_have_params(ls)
+        self.lookout.levels_have_params(ls)
     }
 
     fn count_names(&self) -> u64 {
-        self.terms.count_names()
+        self.lookout.count_names()
     }
 
     fn name(&self, n: u64) -> NameNode {
-        self.terms.name(n)
+        self.lookout.name(n)
     }
 
     fn make_name(&mut self, node: NameNode) -> Result<u64, NoMemory> {
-        self.terms.make_name(node)
+        self.lookout.make_name(node)
     }
 
     fn same_name(&self, m: u64, n: u64) -> bool {
-        self.terms.same_name(m, n)
+        self.lookout.same_name(m, n)
     }
 
     fn text(&self, s: u64) -> &Text {
-        self.terms.text(s)
+        self.lookout.text(s)
     }
 
     fn make_text(&mut self, text: Text) -> Result<u64, NoMemory> {
-        self.terms.make_text(text)
+        self.lookout.make_text(text)
     }
 }
 
@@ -216,26 +252,23 @@ impl<'a> Asks for Engine<'a> {
 
     fn ask(&mut self, query: Query<u64>) -> Result<Answer<u64>, Stop> {
         let memo = &mut *self.memo;
-        answer(
-            self.alloc,
-            self.library,
-            &self.site,
-            &mut self.terms,
-            &mut self.meter,
-            memo,
-            query,
-        )
+        answer(&mut self.lookout, memo, query)
     }
 
-    fn parameters_of(&self, name: u64) -> Result<Option<u64>, Rule> {
-        parameters_at(self.library, &self.site, &self.terms, name)
+    fn parameter_count(&self, name: u64) -> Result<Option<u64>, Rule> {
+        parameters_at(&self.lookout, name)
     }
 
     #[tactic(auto, using(crate::proofs::Frames::nothing_kept))]
     fn give(&mut self, partial: Partial) {
-        self.site.partial = partial;
+        give_in(&mut self.lookout, partial);
         self.memo.clear();
     }
 
-    ghost decided = { λ a b h. (ap (λ r. (r.0, r.1.unit)) h, refl, ap (λ r. place_at r.0 r.1) h, ap (λ r. r.2.left) h) };
+    ghost decided = { λ a b h. (
+      ap (λ r. (r.0, r.1.unit)) h,
+      refl,
+      ap (λ r. place_at r.0 r.1) h,
+      ap (λ r. r.2.left) h,
+    ) };
 }

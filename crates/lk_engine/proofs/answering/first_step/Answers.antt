@@ -1,11 +1,11 @@
-use Rattle.std.proofs.Common.{arith, ◌∙◌}
-use Rattle.lk_engine.proofs.Links.{opened, not_opened}
+use Rattle.std.proofs.lemmas.Result.{err_from_is_err_and}
+use Rattle.lk_engine.proofs.Lookouts.{first_opens, not_paid}
 use Rattle.lk_engine.proofs.answering.first_step.Goals as goal
 
-pub returns-in_ok-next-in-Ok-clause-next : goal.returns-in_ok-next-in-Ok-clause-next
-returns-in_ok-next-in-Ok-clause-next g c =
-    let paid = rw c.turn.ensures.left at c.in-Ok.ensures.paid in
-    opened _ _ _ c.args.query _ _ _ _ (omega (arith, paid.0)) (c.begin.ensures.left ∙ paid.1) c.in_ok-next-in-Ok.ensures.steps
+pub returns-in_err-pay-clause-opens : goal.returns-in_err-pay-clause-opens
+returns-in_err-pay-clause-opens g c =
+    let p = err_from_is_err_and c.from_residual.result c.from_residual.ensures.1 in
+    rw (p.1, p.2) (not_paid c.in_err-pay.ensures)
 
-pub returns-in-Err-clause-err : goal.returns-in-Err-clause-err
-returns-in-Err-clause-err g c = let spent = rw c.turn.ensures.left at c.in-Err.ensures.spent in not_opened _ _ c.args.query _ spent.0
+pub returns-clause-opens : goal.returns-clause-opens
+returns-clause-opens g c = first_opens c.in_ok-pay.ensures c.in_ok-begin.ensures

@@ -6,5 +6,8 @@ use Rattle.lk_engine.proofs.declaration.check_definition.Goals as goal
 pub returns-clause-outcome : goal.returns-clause-outcome
 returns-clause-outcome g c d h e f =
     let before = g.A.Terms.contents c.args.asks.now in
-    definition_is (out_of (g.A.Asks.table c.args.asks.now) (g.A.Asks.place c.args.asks.now)) (g.A.Asks.place c.args.asks.now) d h (tree_at before c.args.kind) (tree_at before c.args.value)
-    (g.A.Asks.left c.args.asks.now) (g.A.Asks.left c.check_typed.new.asks) c.check_typed.result e f c.check_typed.ensures.outcome
+    definition_is (out_of (g.A.Asks.table c.args.asks.now) (g.A.Asks.place c.args.asks.now))
+    (g.A.Asks.place c.args.asks.now) d h (tree_at before c.args.ty)
+    (tree_at before c.args.value)
+    (g.A.Asks.left c.args.asks.now) (g.A.Asks.left c.check_typed.new.asks) c.check_typed.result e f
+    c.check_typed.ensures.outcome

@@ -1,18 +1,20 @@
-use Rattle.std.proofs.Common.{◌≡◌, ℕ, Option, Some, None, refl, sym, ◌∙◌}
+use Rattle.std.proofs.Common.{◌≡◌, ℕ, List, Option, Some, None, refl, sym, ◌∙◌}
 use Rattle.std.specs.Prelude.{IsSome}
 use Rattle.lk_tree.specs.Tree.{Name}
 use Rattle.lk_rulebook.specs.Place.{Place, Entry as PlainEntry}
-use Rattle.lk_store.specs.Store.{contents_of}
 use Rattle.lk_store.specs.Contents.{Contents}
-use Rattle.std.specs.Prelude.{List}
+use Rattle.lk_store.specs.Store.{contents_of}
 use Rattle.lk_env.specs.declared.entry.Entry.{Entry}
 use Rattle.lk_env.specs.declared.unit.Unit.{Unit as StoredUnit}
 use Rattle.lk_env.specs.Entries.{plain_entry, IsMeaning}
-use Rattle.lk_ask.specs.Members.{parameters_in, HasParameters}
+use Rattle.lk_env.specs.Places.{place_at}
+use Rattle.lk_env.specs.Lent.{parameters_in, HasParameters}
 use Rattle.lk_engine.proofs.parameters.parameters_at.Goals as goal
 
-has_parameters : (c : Contents) (us : List StoredUnit) (w : Place) (x : Name) (e : Entry) (count : Option ℕ) → IsMeaning c us w x e
-    → ((y : PlainEntry) → plain_entry c us e ≡ Some y → count ≡ parameters_in y.kind) → HasParameters w x count
+has_parameters : (c : Contents) (us : List StoredUnit) (w : Place) (x : Name) (e : Entry)
+    (count : Option ℕ) → IsMeaning c us w x e
+    → ((y : PlainEntry) → plain_entry c us e ≡ Some y → count ≡ parameters_in y.kind)
+    → HasParameters w x count
 has_parameters c us w x e count m is = go (w.means x) refl m.given
   where
     go : (o : Option PlainEntry) → w.means x ≡ o → IsSome o → HasParameters w x count
@@ -20,4 +22,8 @@ has_parameters c us w x e count m is = go (w.means x) refl m.given
     go (Some y) h s = record { entry = y; means = h; count_is = is y (sym m.means ∙ h) }
 
 pub returns-in-Ok-clause-found : goal.returns-in-Ok-clause-found
-returns-in-Ok-clause-found g c = has_parameters (contents_of c.args.library.now.0) c.args.library.now.1 _ _ c.in-Ok.entry c.parameters_of.result c.in-Ok.ensures.answer c.parameters_of.ensures
+returns-in-Ok-clause-found g c =
+    let l = c.args.lookout.now.0 in
+    has_parameters (contents_of l.0) l.1 (place_at l c.args.lookout.now.1) _ c.in-Ok.entry
+    c.parameter_count.result
+    c.in-Ok.ensures.answer (rw c.library.ensures.is at c.parameter_count.ensures)

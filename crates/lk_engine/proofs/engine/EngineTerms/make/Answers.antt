@@ -1,7 +1,5 @@
-use Rattle.std.proofs.Common.{◌∙◌}
-use Rattle.lk_store.proofs.Extending.{Extends-trans}
-use Rattle.lk_engine.proofs.Frames.{entries_steady}
+use Rattle.lk_engine.proofs.Lookouts.{made_stands}
 use Rattle.lk_engine.proofs.engine.EngineTerms.make.Goals as goal
 
 pub invariant_of-self : goal.invariant_of-self
-invariant_of-self c = (c.make.ensures.rest ∙ c.self.invariant.0, Extends-trans _ _ _ c.self.invariant.1 c.make.ensures.keeps, entries_steady c.make.ensures.keeps _ _ c.self.invariant.2)
+invariant_of-self c = made_stands c.make.ensures.rest c.make.ensures.keeps c.self.invariant

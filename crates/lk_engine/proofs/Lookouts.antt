@@ -1,0 +1,238 @@
+-- What a step, an answer that is kept, and a question leave of a lookout, and what they come to.
+use Rattle.std.proofs.Common.{◌≡◌, ◌≢◌, ℕ, ◌<◌, List, Option, None, Ok, Err, Result, ap, sym, ◌∙◌, arith}
+use Rattle.std.specs.Prelude.{IfOk, IfErr, Contains}
+use Rattle.lk_tree.specs.Tree.{Tree}
+use Rattle.lk_rulebook.specs.Place.{Place}
+use Rattle.lk_plain.specs.Erased.{Steps}
+use Rattle.lk_store.specs.declared.tables.Tables.{Tables}
+use Rattle.lk_store.specs.declared.memory.NoMemory.{NoMemory as Wanting}
+use Rattle.lk_store.specs.Contents.{Contents, tree_at, Extends}
+use Rattle.lk_store.specs.Store.{over, contents_of}
+use Rattle.lk_store.proofs.Extending.{Extends-trans}
+use Rattle.lk_store.proofs.Made.{Extends-self}
+use Rattle.lk_env.specs.declared.entry.Partial.TheVariants.{Nothing}
+use Rattle.lk_env.specs.declared.entry.Site.{Site}
+use Rattle.lk_env.specs.declared.unit.Unit.{Unit as StoredUnit}
+use Rattle.lk_env.specs.Places.{place_at}
+use Rattle.lk_meter.specs.declared.meter.Meter.{Meter}
+use Rattle.lk_ask.specs.declared.kept.Kept.{Kept}
+use Rattle.lk_ask.specs.declared.next.Next.{Next}
+use Rattle.lk_ask.specs.declared.next.Next.TheVariants.{Done}
+use Rattle.lk_ask.specs.declared.query.Query.{Query}
+use Rattle.lk_ask.specs.declared.query.Answer.{Answer}
+use Rattle.lk_ask.specs.declared.sheet.Sheet.{Sheet}
+use Rattle.lk_ask.specs.declared.stop.Stop.{Stop}
+use Rattle.lk_ask.specs.declared.stop.Stop.TheVariants.{Spent, NoMemory}
+use Rattle.lk_ask.specs.Questions.{IsKnownAnswer}
+use Rattle.lk_ask.specs.Gives.{Gives}
+use Rattle.lk_ask.specs.Looks.{Sight}
+use Rattle.lk_ask.specs.Outcomes.{IsStop}
+use Rattle.lk_ask.specs.Sheets.{IsKnownSheet}
+use Rattle.lk_memo.specs.declared.key.Key.{Key}
+use Rattle.lk_engine.specs.Entries.{IsTrueAt, AreTrue}
+use Rattle.lk_engine.specs.Lookouts.{Seen, place_of, out_at, Stays, Metered, Pays, Repeats, Opens, Answers, Stands}
+use Rattle.lk_engine.specs.Rests.{next_of, query_steps, Wraps}
+use Rattle.lk_engine.proofs.Frames.{entries_steady}
+use Rattle.lk_engine.proofs.Links.{opened, not_opened}
+
+-- what a crate's step gives, any question's step gives
+pub wrapped : {S R B X : Type 0} {known_sheet : ℕ → X → Type 0} {next_in : Place → (ℕ → Tree)
+    → Option ℕ → Next ℕ X → Steps} {contents : S → Contents} {rest : S → R} {sight : R → Sight B}
+    {old new : S} {next : Next ℕ X} {any : Next ℕ (Sheet ℕ)} {does : Steps}
+    → Wraps known_sheet next_in next any
+    → Gives known_sheet next_in contents rest sight old new (Ok next) does
+    → Gives IsKnownSheet next_of contents rest sight old new (Ok any) does
+wrapped w g = record {
+  keeps = g.keeps;
+  stays = g.stays;
+  known = w.known _ g.known;
+  steps = w.steps
+      _ _ _ ∙ g.steps;
+}
+
+-- what a lookout sees, by all but its terms
+abbrev pub sight_at : {R : Type 0} → (Tables × List StoredUnit) × Site × Meter × R
+    → Sight (Site × R)
+sight_at r = record {
+  basis = record {
+    library = r.0;
+    place = place_at r.0 r.1;
+    left = r.2.left;
+    beside = (r.1, r.3);
+  };
+  last = r.2.last;
+}
+
+-- a step over a lookout
+abbrev IsStep : {T R : Type 0} → (T → Contents) → (T → R) → Seen T → Seen T
+    → Result (Next ℕ (Sheet ℕ)) Wanting → Steps → Type 0
+IsStep contents rest old new result does = Gives IsKnownSheet next_of (λ s. contents s.2)
+    (λ s. (s.0, s.1, s.3, rest s.2)) sight_at old new result does
+
+-- what is answered is what was kept
+kept_known : (n : ℕ) (kept : Answer ℕ) (r : Result (Answer ℕ) Stop)
+    → IfOk r (λ answer. answer ≡ kept) → IsKnownAnswer n kept → IfOk r (IsKnownAnswer n)
+kept_known n kept (Ok answer) is h = rw is h
+kept_known n kept (Err stop) is h = tt
+
+spent_only : (left cost : ℕ) (r : Result (Answer ℕ) Stop)
+    → IfErr r (λ e. (e ≡ Spent) × (left < cost)) → r ≢ Err NoMemory
+spent_only left cost (Ok answer) h e = absurd cc
+spent_only left cost (Err stop) h e = let p = h.0 in absurd cc
+
+pub repeat_has_memory : {T : Type 0} {old new : Seen T} {kept : Kept}
+    {result : Result (Answer ℕ) Stop} → Repeats old new result kept → result ≢ Err NoMemory
+repeat_has_memory {T} {old} {new} {kept} {result} r = spent_only old.3.left kept.cost
+    result r.spent
+
+module _ {T R : Type 0} {contents : T → Contents} {rest : T → R} where
+  pub place_stays : {old new : Seen T} → Stays contents rest old new → place_of new ≡ place_of old
+  place_stays {old} {new} h = ap (λ l. place_at l new.1) h.library ∙ ap (place_at old.0) h.site
+
+  pub stays_on : {old between new : Seen T} → Stays contents rest old between
+      → Stays contents rest between new → Stays contents rest old new
+  stays_on g h = record {
+    library = h.library ∙ g.library;
+    site = h.site ∙ g.site;
+    keeps =
+        Extends-trans _ _ _ g.keeps h.keeps;
+    others = h.others ∙ g.others;
+  }
+
+  pub metered_stays : {old new : Seen T} → Metered old new → Stays contents rest old new
+  metered_stays {old} {new} h = record {
+    library = h.library;
+    site = h.site;
+    keeps = rw h.terms
+        (Extends-self (contents old.2));
+    others = ap rest h.terms;
+  }
+
+  pub step_stays : {old new : Seen T} {result : Result (Next ℕ (Sheet ℕ)) Wanting} {does : Steps}
+      → IsStep contents rest old new result does → Stays contents rest old new
+  step_stays h = record {
+    library = ap (λ b. b.library) h.stays;
+    site = ap (λ b. b.beside.0)
+        h.stays;
+    keeps = h.keeps;
+    others = ap (λ b. b.beside.1) h.stays;
+  }
+
+  -- a question is opened
+  pub first_opens : {old between new : Seen T} {query : Query ℕ} {next : Next ℕ (Sheet ℕ)}
+      → Pays old between (Ok tt) 1 None
+      → IsStep contents rest between new (Ok next)
+      (query_steps (place_of between) (tree_at (contents between.2)) between.3.last query)
+      → Opens contents rest old new (Ok next) query
+  first_opens {old} {between} {new} {query} {next} p h =
+      let left : new.3.left ≡ between.3.left = ap (λ b. b.left) h.stays in
+      let place : place_of between ≡ place_of old = place_stays (metered_stays p.stays) in
+      let steps = rw (place, p.stays.terms, p.last) at h.steps in
+      record {
+        stays = stays_on (metered_stays p.stays) (step_stays h);
+        known = h.known;
+        runs = opened (place_of old) (tree_at (contents old.2)) (tree_at (contents new.2)) query
+            next old.3.left new.3.left new.3.last (omega (arith, p.paid.0)) (left ∙ p.paid.1) steps;
+        less = omega (arith, p.paid, left);
+        err = tt;
+      }
+
+  -- nothing is left for it
+  pub not_paid : {old new : Seen T} {query : Query ℕ} {stop : Stop} → Pays old new (Err stop) 1 None
+      → Opens contents rest old new (Err stop) query
+  not_paid {old} {new} {query} p = record {
+    stays = metered_stays p.stays;
+    known = tt;
+    runs = tt;
+    less = tt;
+    err = rw p.spent.0 (not_opened (place_of old) (tree_at (contents old.2)) query old.3.left
+        p.spent.1);
+  }
+
+  -- its answer is kept
+  pub repeat_opens : {old new : Seen T} {query : Query ℕ} {kept : Kept} {answer : Answer ℕ}
+      → Repeats old new (Ok answer) kept
+      → IsTrueAt (place_of old) (contents old.2) query kept
+      → Opens contents rest old new (Ok (Done answer)) query
+  repeat_opens {old} {new} {query} {kept} r h = record {
+    stays = metered_stays r.stays;
+    known = rw (r.answer, r.stays.terms) h.answer;
+    runs = rw r.stays.terms (sym (r.exact (contents old.2) _ h.is));
+    less = omega (arith, r.paid, h.is.some);
+    err = tt;
+  }
+
+  pub repeat_stops : {old new : Seen T} {query : Query ℕ} {kept : Kept} {stop : Stop}
+      → Repeats old new (Err stop) kept
+      → IsTrueAt (place_of old) (contents old.2) query kept
+      → Opens contents rest old new (Err stop) query
+  repeat_stops {old} r h = record {
+    stays = metered_stays r.stays;
+    known = tt;
+    runs = tt;
+    less = tt;
+    err =
+        r.exact (contents old.2) _ h.is;
+  }
+
+  pub repeat_answers : {old new : Seen T} {query : Query ℕ} {kept : Kept}
+      {result : Result (Answer ℕ) Stop} {entries later : List (Key × Kept)}
+      → Repeats old new result kept → IsTrueAt (place_of old) (contents old.2) query kept
+      → AreTrue (place_of old) (contents old.2) later
+      → ((e : Key × Kept) → Contains later e → Contains entries e)
+      → Answers contents rest old new entries later result query
+  repeat_answers {old} {new} {query} {kept} {result} r h true_later fewer = record {
+    stays = metered_stays r.stays;
+    entries_true = rw r.stays.terms true_later;
+    unkept = λ p. fewer;
+    known = kept_known _ kept.answer result r.answer (rw r.stays.terms h.answer);
+    outcome = rw r.stays.terms (r.exact (contents old.2) _ h.is);
+    nothing_left = λ l. repeat_has_memory r;
+  }
+
+  -- a question has no answer
+  pub halts : {old new : Seen T} {query : Query ℕ} {stop : Stop} {entries later : List (Key × Kept)}
+      → Stays contents rest old new → AreTrue (place_of old) (contents new.2) later
+      → (old.1.partial ≢ Nothing → (e : Key × Kept) → Contains later e → Contains entries e)
+      → IsStop (out_at contents old query) stop → (old.3.left ≡ 0 → stop ≢ NoMemory)
+      → Answers contents rest old new entries later (Err stop) query
+  halts s e u h n = record {
+    stays = s;
+    entries_true = e;
+    unkept = u;
+    known = tt;
+    outcome = h;
+    nothing_left = λ l same. n l (cc);
+  }
+
+-- a question that was opened, and one for which nothing is left
+pub not_spent : {A : Type 0} (r : Result A Stop) (x : A) → r ≡ Ok x → r ≡ Err Spent → ⊥
+not_spent r x p q = absurd cc
+
+pub has_memory : {A : Type 0} (r : Result A Stop) (stop : Stop) → r ≡ Err stop → r ≡ Err Spent
+    → stop ≢ NoMemory
+has_memory r stop p q e = absurd cc
+
+-- an engine goes on
+pub still_stands : {old new : Seen (Tables × Tables)} {entries later : List (Key × Kept)}
+    → Stays (λ t. contents_of (over t.0 t.1)) (λ t. t.0) old new → Stands old entries
+    → AreTrue (place_of old) (contents_of (over new.2.0 new.2.1)) later → Stands new later
+still_stands h s e = record {
+  base = h.others ∙ s.base ∙ ap (λ l. l.0) (sym h.library);
+  entries_true = rw (place_stays h) e;
+}
+
+-- the same, after terms were made
+pub made_stands : {old new : Seen (Tables × Tables)} {entries : List (Key × Kept)}
+    → ◌≡◌ {A = (Tables × List StoredUnit) × Site × Meter × Tables} (new.0, new.1, new.3, new.2.0)
+    (old.0, old.1, old.3, old.2.0)
+    → Extends (contents_of (over old.2.0 old.2.1)) (contents_of (over new.2.0 new.2.1))
+    → Stands old entries → Stands new entries
+made_stands {old} {new} {entries} h x s =
+    still_stands (record {
+      library = ap (λ r. r.0) h;
+      site = ap (λ r. r.1) h;
+      keeps = x;
+      others = ap
+          (λ r. r.3) h;
+    }) s (entries_steady x (place_of old) entries s.entries_true)

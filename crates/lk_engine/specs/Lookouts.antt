@@ -1,0 +1,124 @@
+-- Questions over a lookout: what they leave as it was, and what they come to.
+use Rattle.std.specs.Prelude.{◌≡◌, ◌≢◌, ◌<◌, ◌≤◌, ◌+◌, ◌-◌, ◌^◌, ℕ, List, Option, Result, Err, IfOk, OnOk, IfErr, length, Contains}
+use Rattle.lk_rulebook.specs.Place.{Place}
+use Rattle.lk_plain.specs.Erased.{Out, IsAnsweredAt, run_steps, out_of}
+use Rattle.lk_questions.specs.Built.{rows}
+use Rattle.lk_store.specs.declared.tables.Tables.{Tables}
+use Rattle.lk_store.specs.Contents.{Contents, tree_at, Extends}
+use Rattle.lk_store.specs.Store.{over, contents_of}
+use Rattle.lk_env.specs.declared.entry.Partial.TheVariants.{Nothing}
+use Rattle.lk_env.specs.declared.entry.Site.{Site}
+use Rattle.lk_env.specs.declared.unit.Unit.{Unit as StoredUnit}
+use Rattle.lk_env.specs.Places.{place_at}
+use Rattle.lk_meter.specs.declared.meter.Meter.{Meter}
+use Rattle.lk_ask.specs.declared.kept.Kept.{Kept}
+use Rattle.lk_ask.specs.declared.next.Next.{Next}
+use Rattle.lk_ask.specs.declared.query.Query.{Query}
+use Rattle.lk_ask.specs.declared.query.Answer.{Answer}
+use Rattle.lk_ask.specs.declared.sheet.Sheet.{Sheet}
+use Rattle.lk_ask.specs.declared.stop.Stop.{Stop}
+use Rattle.lk_ask.specs.declared.stop.Stop.TheVariants.{Spent, NoMemory}
+use Rattle.lk_ask.specs.Questions.{query_of, value_at, IsKnownAnswer}
+use Rattle.lk_ask.specs.Nexts.{IsKnownNext}
+use Rattle.lk_ask.specs.Outcomes.{IsExactly, IsStop}
+use Rattle.lk_ask.specs.Sheets.{IsKnownSheet}
+use Rattle.lk_memo.specs.declared.key.Key.{Key}
+use Rattle.lk_memo.specs.Entries.{IsKept}
+use Rattle.lk_engine.specs.Entries.{AreTrue}
+use Rattle.lk_engine.specs.Rests.{next_of}
+
+-- what a lookout over a store stands for: the library, from where it is seen, the store, and what
+-- is left of a budget
+abbrev pub Seen : Type 0 → Type 0
+Seen T = (Tables × List StoredUnit) × Site × T × Meter
+
+-- what names mean from there
+abbrev pub place_of : {T : Type 0} → Seen T → Place
+place_of s = place_at s.0 s.1
+
+-- the plain answer of a question there
+abbrev pub out_at : {T : Type 0} → (T → Contents) → Seen T → Query ℕ → Out
+out_at contents s query =
+    out_of rows (place_of s) (query_of (tree_at (contents s.2)) query) s.3.left
+
+-- numbers stand for what they stood for, and of all else no more than the meter is another one
+pub record Stays {T R : Type 0} (contents : T → Contents) (rest : T → R)
+    (old new : Seen T) : Type 0 where
+  pub library : new.0 ≡ old.0
+  pub site : new.1 ≡ old.1
+  pub keeps : Extends (contents old.2) (contents new.2)
+  pub others : rest new.2 ≡ rest old.2
+
+-- only the meter is another one
+pub record Metered {T : Type 0} (old new : Seen T) : Type 0 where
+  pub library : new.0 ≡ old.0
+  pub site : new.1 ≡ old.1
+  pub terms : new.2 ≡ old.2
+
+-- a question is opened, which is a turn and costs so much: that is paid, and the last unit that was
+-- looked at is this one
+pub record Pays {T : Type 0} (old new : Seen T) (result : Result (Unit {0}) Stop) (cost : ℕ)
+    (top : Option ℕ) : Type 0 where
+  pub stays : Metered old new
+  pub paid : OnOk result ((cost ≤ old.3.left) × (new.3.left ≡ old.3.left - cost))
+  pub last : OnOk result (new.3.last ≡ top)
+  pub spent : IfErr result (λ e. (e ≡ Spent) × (old.3.left < cost))
+  pub turns : old.3.turns < 2 ^ 64 - 1 → new.3.turns ≡ old.3.turns + 1
+
+-- an answer that is kept costs what it cost before, and is one turn
+pub record Repeats {T : Type 0} (old new : Seen T) (result : Result (Answer ℕ) Stop)
+    (kept : Kept) : Type 0 where
+  pub stays : Metered old new
+  pub answer : IfOk result (λ a. a ≡ kept.answer)
+  pub paid : OnOk result ((kept.cost ≤ old.3.left) × (new.3.left ≡ old.3.left - kept.cost))
+  pub exact : (c : Contents) (o : ℕ → Out)
+      → IsAnsweredAt o (value_at (tree_at c) kept.answer) kept.cost kept.top
+      → IsExactly c (o old.3.left) new.3.left new.3.last result
+  pub spent : IfErr result (λ e. (e ≡ Spent) × (old.3.left < kept.cost))
+  pub turns : old.3.turns < 2 ^ 64 - 1 → new.3.turns ≡ old.3.turns + 1
+
+-- a question was opened: what comes next comes to its plain answer
+pub record Opens {T R : Type 0} (contents : T → Contents) (rest : T → R) (old new : Seen T)
+    (result : Result (Next ℕ (Sheet ℕ)) Stop) (query : Query ℕ) : Type 0 where
+  pub stays : Stays contents rest old new
+  pub known : IfOk result (IsKnownNext IsKnownSheet (length (contents new.2).trees))
+  pub runs : IfOk result
+      (λ next. run_steps (out_of rows (place_of old))
+      (next_of (place_of old) (tree_at (contents new.2)) new.3.last next) new.3.left
+      ≡ out_at contents old query)
+  pub less : OnOk result (new.3.left < old.3.left)
+  pub err : IfErr result (IsStop (out_at contents old query))
+
+-- a question is answered by its plain answer, and exactly its cost is spent; what is kept is true,
+-- and while members are partial nothing is kept anew
+pub record Answers {T R : Type 0} (contents : T → Contents) (rest : T → R) (old new : Seen T)
+    (entries later : List (Key × Kept)) (result : Result (Answer ℕ) Stop)
+    (query : Query ℕ) : Type 0 where
+  pub stays : Stays contents rest old new
+  pub entries_true : AreTrue (place_of old) (contents new.2) later
+  pub unkept : old.1.partial ≢ Nothing → (e : Key × Kept) → Contains later e → Contains entries e
+  pub known : IfOk result (IsKnownAnswer (length (contents new.2).trees))
+  pub outcome : IsExactly (contents new.2) (out_at contents old query) new.3.left new.3.last result
+  pub nothing_left : old.3.left ≡ 0 → result ≢ Err NoMemory
+
+-- a question whose answer is kept takes one turn, and no memory
+pub record AnswersKept {T : Type 0} (old new : Seen T) (entries : List (Key × Kept))
+    (result : Result (Answer ℕ) Stop) (query : Query ℕ) : Type 0 where
+  pub turns : (kept : Kept) → IsKept entries query old.1.unit kept → old.3.turns < 2 ^ 64 - 1
+      → new.3.turns ≡ old.3.turns + 1
+  pub memory : (kept : Kept) → IsKept entries query old.1.unit kept → result ≢ Err NoMemory
+
+-- a lookout over the library's store looks from this unit, of which nothing is partial; its store
+-- has what the library has, and this budget is left
+pub record Restarts (old new : Seen (Tables × Tables)) (unit budget : ℕ) : Type 0 where
+  pub library : new.0 ≡ old.0
+  pub site : new.1 ≡ record { unit = unit; partial = Nothing }
+  pub base : new.2.0 ≡ old.2.0
+  pub contents : contents_of (over new.2.0 new.2.1) ≡ contents_of old.2.0
+  pub left : new.3.left ≡ budget
+  pub turns : new.3.turns ≡ 0
+
+-- a lookout over the library's store, and what is kept of its questions, which is true
+pub record Stands (s : Seen (Tables × Tables)) (entries : List (Key × Kept)) : Type 0 where
+  pub base : s.2.0 ≡ s.0.0
+  pub entries_true : AreTrue (place_of s) (contents_of (over s.2.0 s.2.1)) entries
