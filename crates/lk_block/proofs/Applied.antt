@@ -20,7 +20,7 @@ use Rattle.lk_ask.specs.declared.rule.Rule.{Rule as Refusal}
 use Rattle.lk_ask.specs.declared.stop.Stop.{Stop}
 use Rattle.lk_ask.specs.declared.stop.Stop.TheVariants.{Rule}
 use Rattle.lk_ask.specs.Constants.{IsRefused}
-use Rattle.lk_ask.specs.Members.{parameters_in, HasParameters}
+use Rattle.lk_env.specs.Lent.{parameters_in, HasParameters}
 use Rattle.lk_block.specs.declared.spines.Spine.{Spine}
 use Rattle.lk_block.specs.Findings.{refused, looked, finding, then_held}
 use Rattle.lk_block.specs.Members.{named_at}

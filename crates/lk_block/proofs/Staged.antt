@@ -15,7 +15,7 @@ use Rattle.lk_inductive.specs.Recursors.{recursors}
 use Rattle.lk_inductive.specs.Compare.{compare_steps}
 use Rattle.lk_inductive.specs.Flat.{flat_types}
 use Rattle.lk_inductive.specs.FlatTask.{flat_recs}
-use Rattle.lk_inductive.specs.Task.{Task, done_with, here, half_there, ◌>>=◌, run_task}
+use Rattle.lk_inductive.specs.Task.{Task, done_with, here, give_partial, ◌>>=◌, run_task}
 use Rattle.lk_block.specs.Stages.{recursors_stage, shape_stage, flat_stage, sorts_stage, types_stage}
 use Rattle.lk_block.specs.Courses.{answer_then, look_then, run_then}
 use Rattle.lk_block.specs.Agreeing.{Agrees, FlatGoesByStages}
@@ -91,7 +91,7 @@ goes_by_stages table us n b rs budget =
     sorts_rest b rs fuel ts = here (flat_types (type_names b.types) b.types) >>= λ z. flat_rest b rs fuel ts
 
     types_rest : Block → List Rec → ℕ → TypeParts → Task Shape
-    types_rest b rs fuel ts = half_there (partial_types b) >>= λ h. here (all_ctor_sorts b.types) >>= λ ls. sorts_rest b rs fuel ts
+    types_rest b rs fuel ts = give_partial (partial_types b) >>= λ h. here (all_ctor_sorts b.types) >>= λ ls. sorts_rest b rs fuel ts
 
     whole_rest : Block → List Rec → ℕ → Task Shape
     whole_rest b rs fuel = here (types_steps (parameters_of b) b.types) >>= types_rest b rs fuel

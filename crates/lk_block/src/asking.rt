@@ -29,7 +29,9 @@ pub(crate) fn form_of<A: Asks>(asks: &mut A, e: u64) -> Result<u64, Stop>
     ensures table { A.table asks.new ≡ A.table asks.old }
     ensures place { A.place asks.new ≡ A.place asks.old }
     ensures known { IfOk result (λ f. f < length (A.contents asks.new).trees) }
-    ensures outcome { Gives (A.table asks.old) (A.place asks.old) (asked (whnf (tree_at (A.contents asks.old) e))) (A.left asks.old) (tree_at (A.contents asks.new)) (A.left asks.new) result }
+    ensures outcome { Gives (A.table asks.old) (A.place asks.old)
+        (asked (whnf (tree_at (A.contents asks.old) e))) (A.left asks.old)
+        (tree_at (A.contents asks.new)) (A.left asks.new) result }
 {
     match asks.ask(Query::Whnf(e)) {
         Ok(Answer::Term(form)) => Ok(form),
@@ -46,7 +48,9 @@ pub fn type_of<A: Asks>(asks: &mut A, e: u64) -> Result<u64, Stop>
     ensures table { A.table asks.new ≡ A.table asks.old }
     ensures place { A.place asks.new ≡ A.place asks.old }
     ensures known { IfOk result (λ f. f < length (A.contents asks.new).trees) }
-    ensures outcome { Gives (A.table asks.old) (A.place asks.old) (asked (infer (tree_at (A.contents asks.old) e))) (A.left asks.old) (tree_at (A.contents asks.new)) (A.left asks.new) result }
+    ensures outcome { Gives (A.table asks.old) (A.place asks.old)
+        (asked (infer (tree_at (A.contents asks.old) e))) (A.left asks.old)
+        (tree_at (A.contents asks.new)) (A.left asks.new) result }
 {
     match asks.ask(Query::Infer(e)) {
         Ok(Answer::Term(kind)) => Ok(kind),
@@ -63,7 +67,9 @@ pub fn are_same<A: Asks>(asks: &mut A, a: u64, b: u64) -> Result<bool, Stop>
     ensures basis { A.basis asks.new ≡ A.basis asks.old }
     ensures table { A.table asks.new ≡ A.table asks.old }
     ensures place { A.place asks.new ≡ A.place asks.old }
-    ensures outcome { Gives (A.table asks.old) (A.place asks.old) (asked (same (tree_at (A.contents asks.old) a) (tree_at (A.contents asks.old) b))) (A.left asks.old) (λ r. r) (A.left asks.new) result }
+    ensures outcome { Gives (A.table asks.old) (A.place asks.old)
+        (asked (same (tree_at (A.contents asks.old) a) (tree_at (A.contents asks.old) b)))
+        (A.left asks.old) (λ r. r) (A.left asks.new) result }
 {
     match asks.ask(Query::Same(a, b)) {
         Ok(Answer::Truth(equal)) => Ok(equal),
@@ -75,8 +81,10 @@ pub fn are_same<A: Asks>(asks: &mut A, a: u64, b: u64) -> Result<bool, Stop>
 /// The domain and the body of a weak head form, which is to be a Pi (`BlockShape`).
 fn pi_in<T: Terms>(terms: &T, form: u64) -> Result<(u64, u64), Stop>
     requires { form < length (T.contents terms.now).trees }
-    ensures known { IfOk result (λ p. (p.0 < length (T.contents terms.now).trees) × (p.1 < length (T.contents terms.now).trees)) }
-    ensures pi { Settles (as_pi block_shape (tree_at (T.contents terms.now) form)) (λ p. (tree_at (T.contents terms.now) p.0, tree_at (T.contents terms.now) p.1)) result }
+    ensures known { IfOk result (λ p. (p.0 < length (T.contents terms.now).trees)
+        × (p.1 < length (T.contents terms.now).trees)) }
+    ensures pi { Settles (as_pi block_shape (tree_at (T.contents terms.now) form))
+        (λ p. (tree_at (T.contents terms.now) p.0, tree_at (T.contents terms.now) p.1)) result }
 {
     match terms.view(form) {
         Node::Pi(domain, body) => Ok((domain, body)),
@@ -91,8 +99,12 @@ pub(crate) fn pi_of<A: Asks>(asks: &mut A, e: u64) -> Result<(u64, u64), Stop>
     ensures basis { A.basis asks.new ≡ A.basis asks.old }
     ensures table { A.table asks.new ≡ A.table asks.old }
     ensures place { A.place asks.new ≡ A.place asks.old }
-    ensures known { IfOk result (λ p. (p.0 < length (A.contents asks.new).trees) × (p.1 < length (A.contents asks.new).trees)) }
-    ensures outcome { Gives (A.table asks.old) (A.place asks.old) (pi_form (tree_at (A.contents asks.old) e)) (A.left asks.old) (λ p. (tree_at (A.contents asks.new) p.0, tree_at (A.contents asks.new) p.1)) (A.left asks.new) result }
+    ensures known { IfOk result (λ p. (p.0 < length (A.contents asks.new).trees)
+        × (p.1 < length (A.contents asks.new).trees)) }
+    ensures outcome { Gives (A.table asks.old) (A.place asks.old)
+        (pi_form (tree_at (A.contents asks.old) e)) (A.left asks.old)
+        (λ p. (tree_at (A.contents asks.new) p.0, tree_at (A.contents asks.new) p.1))
+        (A.left asks.new) result }
 {
     match form_of(asks, e) {
         Ok(form) => pi_in(asks, form),
@@ -104,7 +116,8 @@ pub(crate) fn pi_of<A: Asks>(asks: &mut A, e: u64) -> Result<(u64, u64), Stop>
 fn sort_in<T: Terms>(terms: &T, form: u64) -> Result<u64, Stop>
     requires { form < length (T.contents terms.now).trees }
     ensures known { IfOk result (λ l. l < length (T.contents terms.now).levels) }
-    ensures sort { Settles (as_sort (tree_at (T.contents terms.now) form)) (level_at (T.contents terms.now)) result }
+    ensures sort { Settles (as_sort (tree_at (T.contents terms.now) form))
+        (level_at (T.contents terms.now)) result }
 {
     match terms.view(form) {
         Node::Sort(level) => Ok(level),
@@ -120,7 +133,9 @@ fn sort_of_kind<A: Asks>(asks: &mut A, kind: u64) -> Result<u64, Stop>
     ensures table { A.table asks.new ≡ A.table asks.old }
     ensures place { A.place asks.new ≡ A.place asks.old }
     ensures known { IfOk result (λ l. l < length (A.contents asks.new).levels) }
-    ensures outcome { Gives (A.table asks.old) (A.place asks.old) (sort_form (tree_at (A.contents asks.old) kind)) (A.left asks.old) (level_at (A.contents asks.new)) (A.left asks.new) result }
+    ensures outcome { Gives (A.table asks.old) (A.place asks.old)
+        (sort_form (tree_at (A.contents asks.old) kind)) (A.left asks.old)
+        (level_at (A.contents asks.new)) (A.left asks.new) result }
 {
     match form_of(asks, kind) {
         Ok(form) => sort_in(asks, form),
@@ -136,7 +151,9 @@ pub fn sort_of<A: Asks>(asks: &mut A, e: u64) -> Result<u64, Stop>
     ensures table { A.table asks.new ≡ A.table asks.old }
     ensures place { A.place asks.new ≡ A.place asks.old }
     ensures known { IfOk result (λ l. l < length (A.contents asks.new).levels) }
-    ensures outcome { Gives (A.table asks.old) (A.place asks.old) (sort_of (tree_at (A.contents asks.old) e)) (A.left asks.old) (level_at (A.contents asks.new)) (A.left asks.new) result }
+    ensures outcome { Gives (A.table asks.old) (A.place asks.old)
+        (sort_of (tree_at (A.contents asks.old) e)) (A.left asks.old)
+        (level_at (A.contents asks.new)) (A.left asks.new) result }
 {
     match type_of(asks, e) {
         Ok(kind) => sort_of_kind(asks, kind),
@@ -148,7 +165,8 @@ pub fn sort_of<A: Asks>(asks: &mut A, e: u64) -> Result<u64, Stop>
 fn level_in<T: Terms>(terms: &T, form: u64) -> Result<u64, Stop>
     requires { form < length (T.contents terms.now).trees }
     ensures known { IfOk result (λ l. l < length (T.contents terms.now).levels) }
-    ensures level { Settles (as_level (tree_at (T.contents terms.now) form)) (level_at (T.contents terms.now)) result }
+    ensures level { Settles (as_level (tree_at (T.contents terms.now) form))
+        (level_at (T.contents terms.now)) result }
 {
     match terms.view(form) {
         Node::Sort(level) => Ok(level),
@@ -164,7 +182,9 @@ pub(crate) fn level_of<A: Asks>(asks: &mut A, e: u64) -> Result<u64, Stop>
     ensures table { A.table asks.new ≡ A.table asks.old }
     ensures place { A.place asks.new ≡ A.place asks.old }
     ensures known { IfOk result (λ l. l < length (A.contents asks.new).levels) }
-    ensures outcome { Gives (A.table asks.old) (A.place asks.old) (level_form (tree_at (A.contents asks.old) e)) (A.left asks.old) (level_at (A.contents asks.new)) (A.left asks.new) result }
+    ensures outcome { Gives (A.table asks.old) (A.place asks.old)
+        (level_form (tree_at (A.contents asks.old) e)) (A.left asks.old)
+        (level_at (A.contents asks.new)) (A.left asks.new) result }
 {
     match form_of(asks, e) {
         Ok(form) => level_in(asks, form),
@@ -176,7 +196,8 @@ pub(crate) fn level_of<A: Asks>(asks: &mut A, e: u64) -> Result<u64, Stop>
 pub(crate) fn levels_equal<T: Terms>(alloc: Global, terms: &T, a: u64, b: u64) -> Result<bool, Stop>
     requires a_in { a < length (T.contents terms.now).levels }
     requires b_in { b < length (T.contents terms.now).levels }
-    ensures { Settles (tested (level_test (level_at (T.contents terms.now) a) (level_at (T.contents terms.now) b))) (λ r. r) result }
+    ensures { Settles (tested (level_test (level_at (T.contents terms.now) a)
+        (level_at (T.contents terms.now) b))) (λ r. r) result }
 {
     match equal(alloc, terms, a, b) {
         Ok(same) => Ok(same),
@@ -191,7 +212,8 @@ pub(crate) fn levels_equal<T: Terms>(alloc: Global, terms: &T, a: u64, b: u64) -
 pub(crate) fn is_at_most<T: Terms>(alloc: Global, terms: &T, a: u64, b: u64) -> Result<bool, Stop>
     requires a_in { a < length (T.contents terms.now).levels }
     requires b_in { b < length (T.contents terms.now).levels }
-    ensures { Settles (tested (level_le_test (level_at (T.contents terms.now) a) (level_at (T.contents terms.now) b))) (λ r. r) result }
+    ensures { Settles (tested (level_le_test (level_at (T.contents terms.now) a)
+        (level_at (T.contents terms.now) b))) (λ r. r) result }
 {
     match leq(alloc, terms, a, b) {
         Ok(at_most) => Ok(at_most),

@@ -22,13 +22,15 @@ use lk_ask::asks::Asks;
 use lk_ask::stop::Stop;
 use lk_env::unit::BlockType;
 use lk_mentions::names::Names;
-use lk_rows::memory::NoMemory;
+use lk_store::memory::NoMemory;
 use std::alloc::Global;
 
 /// The names of the level parameters that the first type of a block states.
 fn level_names(types: &[BlockType]) -> &[u64]
-    ensures names { (c : Contents) → map (name_at c) result.now ≡ levels_of (block_of (map (type_at c) types.now)) }
-    ensures known { (c : Contents) → All (IsTypeIn c) types.now → All (λ n. n < length c.names) result.now }
+    ensures names { (c : Contents) → map (name_at c) result.now
+        ≡ levels_of (block_of (map (type_at c) types.now)) }
+    ensures known { (c : Contents) → All (IsTypeIn c) types.now
+        → All (λ n. n < length c.names) result.now }
 {
     match types.first() {
         Some(first) => &first.levels,
@@ -62,7 +64,8 @@ fn own_levels<A: Asks>(asks: &mut A, types: &[BlockType]) -> Result<u64, NoMemor
     ensures table { A.table asks.new ≡ A.table asks.old }
     ensures place { A.place asks.new ≡ A.place asks.old }
     ensures left { A.left asks.new ≡ A.left asks.old }
-    ensures ok { IfOk result (λ ls. IsList (A.contents asks.new) ls (map param (levels_of (block_of (map (type_at (A.contents asks.old)) types.now))))) }
+    ensures ok { IfOk result (λ ls. IsList (A.contents asks.new) ls
+        (map param (levels_of (block_of (map (type_at (A.contents asks.old)) types.now))))) }
 {
     parameter_levels(asks, level_names(types))
 }
@@ -84,7 +87,10 @@ fn frame_of<'a, A: Asks>(
     ensures place { A.place asks.new ≡ A.place asks.old }
     ensures left { A.left asks.new ≡ A.left asks.old }
     ensures known { IfOk result (IsFrameIn (A.contents asks.new)) }
-    ensures frame { IfOk result (λ f. frame_at (A.contents asks.new) f ≡ frame_of (block_of (map (type_at (A.contents asks.old)) types.now)) (map (tree_at (A.contents asks.old)) parameters.now) (level_at (A.contents asks.old) sort)) }
+    ensures frame { IfOk result (λ f. frame_at (A.contents asks.new) f
+        ≡ frame_of (block_of (map (type_at (A.contents asks.old)) types.now))
+        (map (tree_at (A.contents asks.old)) parameters.now)
+        (level_at (A.contents asks.old) sort)) }
 {
     let levels = own_levels(asks, types)?;
     let names = names_of(alloc, types)?;
@@ -115,7 +121,12 @@ fn types_of<A: Asks>(
     ensures table { A.table asks.new ≡ A.table asks.old }
     ensures place { A.place asks.new ≡ A.place asks.old }
     ensures known { IfOk result (λ v. All (IsTypeShapeIn (A.contents asks.new)) v.items) }
-    ensures outcome { (fuel : ℕ) → A.left asks.old < fuel → Gives (A.table asks.old) (A.place asks.old) (shapes_form fuel (map (type_at (A.contents asks.old)) types.now) (map (tree_at (A.contents asks.old)) parameters.now) (level_at (A.contents asks.old) sort) (lists_at (A.contents asks.old) indices.items)) (A.left asks.old) (λ v. map (type_shape_at (A.contents asks.new)) v.items) (A.left asks.new) result }
+    ensures outcome { (fuel : ℕ) → A.left asks.old < fuel
+        → Gives (A.table asks.old) (A.place asks.old)
+        (shapes_form fuel (map (type_at (A.contents asks.old)) types.now)
+        (map (tree_at (A.contents asks.old)) parameters.now) (level_at (A.contents asks.old) sort)
+        (lists_at (A.contents asks.old) indices.items)) (A.left asks.old)
+        (λ v. map (type_shape_at (A.contents asks.new)) v.items) (A.left asks.new) result }
 {
     let frame = match frame_of(alloc, asks, types, parameters, sort) {
         Ok(frame) => frame,
@@ -133,8 +144,12 @@ fn shape_of(
     shapes: Vec<TypeShape>,
     large: bool,
 ) -> Result<Shape, NoMemory>
-    ensures known { IfOk result (λ s. (c : Contents) → All (IsTypeIn c) types.now → AreTreesIn c parameters.items → sort < length c.levels → All (IsTypeShapeIn c) shapes.items → IsShapeIn c s) }
-    ensures shape { IfOk result (λ s. (c : Contents) → shape_at c s ≡ shape_with (map (type_at c) types.now) (map (tree_at c) parameters.items) (level_at c sort) (map (type_shape_at c) shapes.items) large) }
+    ensures known { IfOk result (λ s. (c : Contents) → All (IsTypeIn c) types.now
+        → AreTreesIn c parameters.items → sort < length c.levels
+        → All (IsTypeShapeIn c) shapes.items → IsShapeIn c s) }
+    ensures shape { IfOk result (λ s. (c : Contents) → shape_at c s
+        ≡ shape_with (map (type_at c) types.now) (map (tree_at c) parameters.items)
+        (level_at c sort) (map (type_shape_at c) shapes.items) large) }
 {
     let levels = Vec::from_slice(alloc, level_names(types))?;
     Ok(Shape {
@@ -165,7 +180,11 @@ pub fn check_shape<A: Asks>(
     ensures table { A.table asks.new ≡ A.table asks.old }
     ensures place { A.place asks.new ≡ A.place asks.old }
     ensures known { IfOk result (IsShapeIn (A.contents asks.new)) }
-    ensures outcome { (fuel : ℕ) → A.left asks.old < fuel → Gives (A.table asks.old) (A.place asks.old) (shape_steps fuel (block_of (map (type_at (A.contents asks.old)) types.now)) (parts_at (A.contents asks.old) parts)) (A.left asks.old) (shape_at (A.contents asks.new)) (A.left asks.new) result }
+    ensures outcome { (fuel : ℕ) → A.left asks.old < fuel
+        → Gives (A.table asks.old) (A.place asks.old)
+        (shape_steps fuel (block_of (map (type_at (A.contents asks.old)) types.now))
+        (parts_at (A.contents asks.old) parts)) (A.left asks.old) (shape_at (A.contents asks.new))
+        (A.left asks.new) result }
 {
     let TypeParts {
         parameters,

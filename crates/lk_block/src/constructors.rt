@@ -31,7 +31,9 @@ fn indices_of<T: Terms>(terms: &T, parent: u64, member: Member) -> Result<Vec<u6
     requires parent_in { parent < length (T.contents terms.now).names }
     requires member_in { IsMemberIn (T.contents terms.now) member }
     ensures known { IfOk result (λ v. AreTreesIn (T.contents terms.now) v.items) }
-    ensures indices { Settles (own_indices (name_at (T.contents terms.now) parent) (member_at (T.contents terms.now) (Some member))) (λ v. map (tree_at (T.contents terms.now)) v.items) result }
+    ensures indices { Settles (own_indices (name_at (T.contents terms.now) parent)
+        (member_at (T.contents terms.now) (Some member)))
+        (λ v. map (tree_at (T.contents terms.now)) v.items) result }
 {
     if names_equal(terms, member.name, parent) {
         Ok(member.indices)
@@ -57,7 +59,10 @@ fn indices_in<A: Asks>(
     ensures place { A.place asks.new ≡ A.place asks.old }
     ensures left { A.left asks.new ≡ A.left asks.old }
     ensures known { IfOk result (λ v. AreTreesIn (A.contents asks.new) v.items) }
-    ensures indices { Settles (own_indices (name_at (A.contents asks.old) parent) (as_member (frame_at (A.contents asks.old) frame.now) (head (tree_at (A.contents asks.old) form)) (args (tree_at (A.contents asks.old) form)))) (λ v. map (tree_at (A.contents asks.new)) v.items) result }
+    ensures indices { Settles (own_indices (name_at (A.contents asks.old) parent)
+        (as_member (frame_at (A.contents asks.old) frame.now)
+        (head (tree_at (A.contents asks.old) form)) (args (tree_at (A.contents asks.old) form))))
+        (λ v. map (tree_at (A.contents asks.new)) v.items) result }
 {
     match as_member(alloc, asks, frame, form) {
         Ok(Some(member)) => indices_of(asks, parent, member),
@@ -82,7 +87,10 @@ fn result_of<A: Asks>(
     ensures table { A.table asks.new ≡ A.table asks.old }
     ensures place { A.place asks.new ≡ A.place asks.old }
     ensures known { IfOk result (λ v. AreTreesIn (A.contents asks.new) v.items) }
-    ensures outcome { Gives (A.table asks.old) (A.place asks.old) (result_form (frame_at (A.contents asks.old) frame.now) (name_at (A.contents asks.old) parent) (tree_at (A.contents asks.old) e)) (A.left asks.old) (λ v. map (tree_at (A.contents asks.new)) v.items) (A.left asks.new) result }
+    ensures outcome { Gives (A.table asks.old) (A.place asks.old)
+        (result_form (frame_at (A.contents asks.old) frame.now)
+        (name_at (A.contents asks.old) parent) (tree_at (A.contents asks.old) e)) (A.left asks.old)
+        (λ v. map (tree_at (A.contents asks.new)) v.items) (A.left asks.new) result }
 {
     match form_of(asks, e) {
         Ok(form) => indices_in(alloc, asks, frame, parent, form),
@@ -109,7 +117,12 @@ fn rest_of<A: Asks>(
     ensures table { A.table asks.new ≡ A.table asks.old }
     ensures place { A.place asks.new ≡ A.place asks.old }
     ensures known { IfOk result (IsConstructorShapeIn (A.contents asks.new)) }
-    ensures outcome { (fuel : ℕ) → A.left asks.old < fuel → Gives (A.table asks.old) (A.place asks.old) (rest_form fuel (frame_at (A.contents asks.old) frame.now) (name_at (A.contents asks.old) parent) (name_at (A.contents asks.old) name) count (tree_at (A.contents asks.old) e)) (A.left asks.old) (constructor_shape_at (A.contents asks.new)) (A.left asks.new) result }
+    ensures outcome { (fuel : ℕ) → A.left asks.old < fuel
+        → Gives (A.table asks.old) (A.place asks.old)
+        (rest_form fuel (frame_at (A.contents asks.old) frame.now)
+        (name_at (A.contents asks.old) parent) (name_at (A.contents asks.old) name) count
+        (tree_at (A.contents asks.old) e)) (A.left asks.old)
+        (constructor_shape_at (A.contents asks.new)) (A.left asks.new) result }
 {
     let first = frame.parameters.len() as u64;
     let opened = match fields(alloc, asks, frame, first, count, e) {
@@ -146,7 +159,12 @@ fn constructor_of<A: Asks>(
     ensures table { A.table asks.new ≡ A.table asks.old }
     ensures place { A.place asks.new ≡ A.place asks.old }
     ensures known { IfOk result (IsConstructorShapeIn (A.contents asks.new)) }
-    ensures outcome { (fuel : ℕ) → A.left asks.old < fuel → Gives (A.table asks.old) (A.place asks.old) (constructor_form fuel (frame_at (A.contents asks.old) frame.now) (name_at (A.contents asks.old) parent) (name_at (A.contents asks.old) name) count (tree_at (A.contents asks.old) kind)) (A.left asks.old) (constructor_shape_at (A.contents asks.new)) (A.left asks.new) result }
+    ensures outcome { (fuel : ℕ) → A.left asks.old < fuel
+        → Gives (A.table asks.old) (A.place asks.old)
+        (constructor_form fuel (frame_at (A.contents asks.old) frame.now)
+        (name_at (A.contents asks.old) parent) (name_at (A.contents asks.old) name) count
+        (tree_at (A.contents asks.old) kind)) (A.left asks.old)
+        (constructor_shape_at (A.contents asks.new)) (A.left asks.new) result }
 {
     match over(alloc, asks, frame.parameters, kind) {
         Ok(rest) => rest_of(alloc, asks, frame, parent, name, count, rest),
@@ -170,7 +188,12 @@ fn constructors_of<A: Asks>(
     ensures table { A.table asks.new ≡ A.table asks.old }
     ensures place { A.place asks.new ≡ A.place asks.old }
     ensures known { IfOk result (λ v. All (IsConstructorShapeIn (A.contents asks.new)) v.items) }
-    ensures outcome { (fuel : ℕ) → A.left asks.old < fuel → Gives (A.table asks.old) (A.place asks.old) (ctors_steps fuel (frame_at (A.contents asks.old) frame.now) (name_at (A.contents asks.old) parent) (map (constructor_at (A.contents asks.old)) constructors.now)) (A.left asks.old) (λ v. map (constructor_shape_at (A.contents asks.new)) v.items) (A.left asks.new) result }
+    ensures outcome { (fuel : ℕ) → A.left asks.old < fuel
+        → Gives (A.table asks.old) (A.place asks.old)
+        (ctors_steps fuel (frame_at (A.contents asks.old) frame.now)
+        (name_at (A.contents asks.old) parent)
+        (map (constructor_at (A.contents asks.old)) constructors.now)) (A.left asks.old)
+        (λ v. map (constructor_shape_at (A.contents asks.new)) v.items) (A.left asks.new) result }
 {
     let mut shapes: Vec<ConstructorShape> = Vec::new(alloc);
     let mut rest = constructors;
@@ -212,7 +235,13 @@ fn type_of<A: Asks>(
     ensures table { A.table asks.new ≡ A.table asks.old }
     ensures place { A.place asks.new ≡ A.place asks.old }
     ensures known { IfOk result (IsTypeShapeIn (A.contents asks.new)) }
-    ensures outcome { (fuel : ℕ) → A.left asks.old < fuel → Gives (A.table asks.old) (A.place asks.old) (type_form fuel (frame_at (A.contents asks.old) frame.now) (name_at (A.contents asks.old) stated.now.name) (map (constructor_at (A.contents asks.old)) stated.now.constructors.items) (map (tree_at (A.contents asks.old)) indices.items)) (A.left asks.old) (type_shape_at (A.contents asks.new)) (A.left asks.new) result }
+    ensures outcome { (fuel : ℕ) → A.left asks.old < fuel
+        → Gives (A.table asks.old) (A.place asks.old)
+        (type_form fuel (frame_at (A.contents asks.old) frame.now)
+        (name_at (A.contents asks.old) stated.now.name)
+        (map (constructor_at (A.contents asks.old)) stated.now.constructors.items)
+        (map (tree_at (A.contents asks.old)) indices.items)) (A.left asks.old)
+        (type_shape_at (A.contents asks.new)) (A.left asks.new) result }
 {
     match constructors_of(alloc, asks, frame, stated.name, &stated.constructors) {
         Ok(constructors) => Ok(TypeShape {
@@ -240,7 +269,12 @@ pub fn check_constructors<A: Asks>(
     ensures table { A.table asks.new ≡ A.table asks.old }
     ensures place { A.place asks.new ≡ A.place asks.old }
     ensures known { IfOk result (λ v. All (IsTypeShapeIn (A.contents asks.new)) v.items) }
-    ensures outcome { (fuel : ℕ) → A.left asks.old < fuel → Gives (A.table asks.old) (A.place asks.old) (shapes_steps fuel (frame_at (A.contents asks.old) frame.now) (map (type_at (A.contents asks.old)) types.now) (lists_at (A.contents asks.old) indices.items)) (A.left asks.old) (λ v. map (type_shape_at (A.contents asks.new)) v.items) (A.left asks.new) result }
+    ensures outcome { (fuel : ℕ) → A.left asks.old < fuel
+        → Gives (A.table asks.old) (A.place asks.old)
+        (shapes_steps fuel (frame_at (A.contents asks.old) frame.now)
+        (map (type_at (A.contents asks.old)) types.now)
+        (lists_at (A.contents asks.old) indices.items)) (A.left asks.old)
+        (λ v. map (type_shape_at (A.contents asks.new)) v.items) (A.left asks.new) result }
 {
     let mut shapes: Vec<TypeShape> = Vec::new(alloc);
     let mut waiting = indices;

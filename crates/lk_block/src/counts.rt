@@ -17,7 +17,8 @@ use lk_store::terms::Terms;
 pub fn names_equal<T: Terms>(terms: &T, name: u64, other: u64) -> bool
     requires name_in { name < length (T.contents terms.now).names }
     requires other_in { other < length (T.contents terms.now).names }
-    ensures { result ≡ same_name (name_at (T.contents terms.now) name) (name_at (T.contents terms.now) other) }
+    ensures { result ≡ same_name (name_at (T.contents terms.now) name)
+        (name_at (T.contents terms.now) other) }
 {
     terms.same_name(name, other)
 }
@@ -26,7 +27,8 @@ pub fn names_equal<T: Terms>(terms: &T, name: u64, other: u64) -> bool
 fn names_agree<T: Terms>(terms: &T, first: &[u64], second: &[u64]) -> bool
     requires first_in { All (λ n. n < length (T.contents terms.now).names) first.now }
     requires second_in { All (λ n. n < length (T.contents terms.now).names) second.now }
-    ensures { result ≡ same_names (map (name_at (T.contents terms.now)) first.now) (map (name_at (T.contents terms.now)) second.now) }
+    ensures { result ≡ same_names (map (name_at (T.contents terms.now)) first.now)
+        (map (name_at (T.contents terms.now)) second.now) }
 {
     let mut left = first;
     let mut right = second;
@@ -57,7 +59,9 @@ fn constructor_agrees<T: Terms>(
     requires levels_in { All (λ n. n < length (T.contents terms.now).names) levels.now }
     requires parent_in { parent < length (T.contents terms.now).names }
     requires constructor_in { IsConstructorIn (T.contents terms.now) constructor.now }
-    ensures { result ≡ ctor_agrees parameters (map (name_at (T.contents terms.now)) levels.now) (name_at (T.contents terms.now) parent) place (constructor_at (T.contents terms.now) constructor.now) }
+    ensures { result ≡ ctor_agrees parameters (map (name_at (T.contents terms.now)) levels.now)
+        (name_at (T.contents terms.now) parent) place
+        (constructor_at (T.contents terms.now) constructor.now) }
 {
     if !names_agree(terms, &constructor.levels, levels) {
         return false;
@@ -82,7 +86,9 @@ fn constructors_agree<T: Terms>(
     requires levels_in { All (λ n. n < length (T.contents terms.now).names) levels.now }
     requires parent_in { parent < length (T.contents terms.now).names }
     requires constructors_in { All (IsConstructorIn (T.contents terms.now)) constructors.now }
-    ensures { result ≡ ctors_agree parameters (map (name_at (T.contents terms.now)) levels.now) (name_at (T.contents terms.now) parent) 0 (map (constructor_at (T.contents terms.now)) constructors.now) }
+    ensures { result ≡ ctors_agree parameters (map (name_at (T.contents terms.now)) levels.now)
+        (name_at (T.contents terms.now) parent) 0
+        (map (constructor_at (T.contents terms.now)) constructors.now) }
 {
     let mut place = 0;
     let mut rest = constructors;
@@ -100,7 +106,8 @@ fn constructors_agree<T: Terms>(
 fn type_agrees<T: Terms>(terms: &T, parameters: u64, levels: &[u64], stated: &BlockType) -> bool
     requires levels_in { All (λ n. n < length (T.contents terms.now).names) levels.now }
     requires stated_in { IsTypeIn (T.contents terms.now) stated.now }
-    ensures { result ≡ type_agrees parameters (map (name_at (T.contents terms.now)) levels.now) (type_at (T.contents terms.now) stated.now) }
+    ensures { result ≡ type_agrees parameters (map (name_at (T.contents terms.now)) levels.now)
+        (type_at (T.contents terms.now) stated.now) }
 {
     if !names_agree(terms, &stated.levels, levels) {
         return false;
@@ -115,7 +122,8 @@ fn type_agrees<T: Terms>(terms: &T, parameters: u64, levels: &[u64], stated: &Bl
 fn types_agree<T: Terms>(terms: &T, parameters: u64, levels: &[u64], types: &[BlockType]) -> bool
     requires levels_in { All (λ n. n < length (T.contents terms.now).names) levels.now }
     requires types_in { All (IsTypeIn (T.contents terms.now)) types.now }
-    ensures { result ≡ types_agree parameters (map (name_at (T.contents terms.now)) levels.now) (map (type_at (T.contents terms.now)) types.now) }
+    ensures { result ≡ types_agree parameters (map (name_at (T.contents terms.now)) levels.now)
+        (map (type_at (T.contents terms.now)) types.now) }
 {
     let mut rest = types;
     'types: while let Some((stated, more)) = rest.split_first() {
@@ -131,7 +139,9 @@ fn types_agree<T: Terms>(terms: &T, parameters: u64, levels: &[u64], types: &[Bl
 /// each constructor its parent and its place in the parent's list.
 pub fn counts_agree<T: Terms>(terms: &T, block: &Block) -> bool
     requires { All (IsTypeIn (T.contents terms.now)) block.now.types.items }
-    ensures { result ≡ types_agree (stated_parameters (block_at (T.contents terms.now) block.now)) (levels_of (block_at (T.contents terms.now) block.now)) (block_at (T.contents terms.now) block.now).types }
+    ensures { result ≡ types_agree (stated_parameters (block_at (T.contents terms.now) block.now))
+        (levels_of (block_at (T.contents terms.now) block.now))
+        (block_at (T.contents terms.now) block.now).types }
 {
     let types = block.types.as_slice();
     match types.first() {

@@ -14,7 +14,7 @@ use crate::shape::{ConstructorShape, Field, TypeShape};
 use lk_ask::asks::Asks;
 use lk_ask::stop::Stop;
 use lk_level_order::zero::is_zero;
-use lk_rows::memory::NoMemory;
+use lk_store::memory::NoMemory;
 use lk_store::node::LevelNode;
 use lk_store::terms::Terms;
 use std::alloc::Global;
@@ -27,7 +27,8 @@ fn build_level<A: Asks>(asks: &mut A, node: LevelNode) -> Result<u64, NoMemory>
     ensures table { A.table asks.new ≡ A.table asks.old }
     ensures place { A.place asks.new ≡ A.place asks.old }
     ensures left { A.left asks.new ≡ A.left asks.old }
-    ensures ok { IfOk result (λ l. IsLevel (A.contents asks.new) l (level_of (A.contents asks.old) node)) }
+    ensures ok { IfOk result (λ l. IsLevel (A.contents asks.new) l
+        (level_of (A.contents asks.old) node)) }
 {
     asks.make_level(node)
 }
@@ -65,7 +66,8 @@ fn is_above_zero<A: Asks>(alloc: Global, asks: &mut A, level: u64) -> Result<boo
 fn is_among<T: Terms>(terms: &T, e: u64, others: &[u64]) -> bool
     requires e_in { e < length (T.contents terms.now).trees }
     requires others_in { AreTreesIn (T.contents terms.now) others.now }
-    ensures { result ≡ is_among (tree_at (T.contents terms.now) e) (map (tree_at (T.contents terms.now)) others.now) }
+    ensures { result ≡ is_among (tree_at (T.contents terms.now) e)
+        (map (tree_at (T.contents terms.now)) others.now) }
 {
     let mut rest = others;
     'others: while let Some((other, more)) = rest.split_first() {
@@ -90,7 +92,10 @@ fn is_small<A: Asks>(
     ensures basis { A.basis asks.new ≡ A.basis asks.old }
     ensures table { A.table asks.new ≡ A.table asks.old }
     ensures place { A.place asks.new ≡ A.place asks.old }
-    ensures outcome { Gives (A.table asks.old) (A.place asks.old) (small_form (map (tree_at (A.contents asks.old)) indices.now) (tree_at (A.contents asks.old) variable)) (A.left asks.old) (λ r. r) (A.left asks.new) result }
+    ensures outcome { Gives (A.table asks.old) (A.place asks.old)
+        (small_form (map (tree_at (A.contents asks.old)) indices.now)
+        (tree_at (A.contents asks.old) variable)) (A.left asks.old) (λ r. r)
+        (A.left asks.new) result }
 {
     let kind = domain_of(asks, variable);
     let level = match sort_of(asks, kind) {
@@ -117,7 +122,10 @@ fn are_small<A: Asks>(
     ensures basis { A.basis asks.new ≡ A.basis asks.old }
     ensures table { A.table asks.new ≡ A.table asks.old }
     ensures place { A.place asks.new ≡ A.place asks.old }
-    ensures outcome { Gives (A.table asks.old) (A.place asks.old) (small_steps (map (tree_at (A.contents asks.old)) indices.now) (map (field_at (A.contents asks.old)) fields.now)) (A.left asks.old) (λ r. r) (A.left asks.new) result }
+    ensures outcome { Gives (A.table asks.old) (A.place asks.old)
+        (small_steps (map (tree_at (A.contents asks.old)) indices.now)
+        (map (field_at (A.contents asks.old)) fields.now)) (A.left asks.old) (λ r. r)
+        (A.left asks.new) result }
 {
     let mut rest = fields;
     'fields: while let Some((field, more)) = rest.split_first() {
@@ -144,7 +152,9 @@ fn has_small_constructor<A: Asks>(
     ensures basis { A.basis asks.new ≡ A.basis asks.old }
     ensures table { A.table asks.new ≡ A.table asks.old }
     ensures place { A.place asks.new ≡ A.place asks.old }
-    ensures outcome { Gives (A.table asks.old) (A.place asks.old) (one_ctor_steps (map (constructor_shape_at (A.contents asks.old)) constructors.now)) (A.left asks.old) (λ r. r) (A.left asks.new) result }
+    ensures outcome { Gives (A.table asks.old) (A.place asks.old)
+        (one_ctor_steps (map (constructor_shape_at (A.contents asks.old)) constructors.now))
+        (A.left asks.old) (λ r. r) (A.left asks.new) result }
 {
     match constructors.split_first() {
         None => Ok(true),
@@ -165,7 +175,9 @@ fn has_small_type<A: Asks>(alloc: Global, asks: &mut A, types: &[TypeShape]) -> 
     ensures basis { A.basis asks.new ≡ A.basis asks.old }
     ensures table { A.table asks.new ≡ A.table asks.old }
     ensures place { A.place asks.new ≡ A.place asks.old }
-    ensures outcome { Gives (A.table asks.old) (A.place asks.old) (one_type_steps (map (type_shape_at (A.contents asks.old)) types.now)) (A.left asks.old) (λ r. r) (A.left asks.new) result }
+    ensures outcome { Gives (A.table asks.old) (A.place asks.old)
+        (one_type_steps (map (type_shape_at (A.contents asks.old)) types.now)) (A.left asks.old)
+        (λ r. r) (A.left asks.new) result }
 {
     match types.split_first() {
         None => Ok(false),
@@ -193,7 +205,10 @@ pub fn may_be_large<A: Asks>(
     ensures basis { A.basis asks.new ≡ A.basis asks.old }
     ensures table { A.table asks.new ≡ A.table asks.old }
     ensures place { A.place asks.new ≡ A.place asks.old }
-    ensures outcome { Gives (A.table asks.old) (A.place asks.old) (large_steps (level_at (A.contents asks.old) sort) (map (type_shape_at (A.contents asks.old)) types.now)) (A.left asks.old) (λ r. r) (A.left asks.new) result }
+    ensures outcome { Gives (A.table asks.old) (A.place asks.old)
+        (large_steps (level_at (A.contents asks.old) sort)
+        (map (type_shape_at (A.contents asks.old)) types.now)) (A.left asks.old) (λ r. r)
+        (A.left asks.new) result }
 {
     match is_above_zero(alloc, asks, sort) {
         Ok(true) => Ok(true),

@@ -28,7 +28,9 @@ fn fits<A: Asks>(alloc: Global, asks: &mut A, level: u64, domain: u64) -> Result
     ensures basis { A.basis asks.new ≡ A.basis asks.old }
     ensures table { A.table asks.new ≡ A.table asks.old }
     ensures place { A.place asks.new ≡ A.place asks.old }
-    ensures outcome { Gives (A.table asks.old) (A.place asks.old) (fits (level_at (A.contents asks.old) level) (tree_at (A.contents asks.old) domain)) (A.left asks.old) (λ r. r) (A.left asks.new) result }
+    ensures outcome { Gives (A.table asks.old) (A.place asks.old)
+        (fits (level_at (A.contents asks.old) level) (tree_at (A.contents asks.old) domain))
+        (A.left asks.old) (λ r. r) (A.left asks.new) result }
 {
     match sort_of(asks, domain) {
         Ok(own) => is_at_most(alloc, asks, own, level),
@@ -44,7 +46,9 @@ fn fits_in<A: Asks>(alloc: Global, asks: &mut A, level: u64, domain: u64) -> Res
     ensures basis { A.basis asks.new ≡ A.basis asks.old }
     ensures table { A.table asks.new ≡ A.table asks.old }
     ensures place { A.place asks.new ≡ A.place asks.old }
-    ensures outcome { Gives (A.table asks.old) (A.place asks.old) (fits_in (level_at (A.contents asks.old) level) (tree_at (A.contents asks.old) domain)) (A.left asks.old) (λ r. r) (A.left asks.new) result }
+    ensures outcome { Gives (A.table asks.old) (A.place asks.old)
+        (fits_in (level_at (A.contents asks.old) level) (tree_at (A.contents asks.old) domain))
+        (A.left asks.old) (λ r. r) (A.left asks.new) result }
 {
     match is_zero(alloc, asks, level) {
         Ok(true) => Ok(true),
@@ -68,7 +72,11 @@ fn kind_of_field<A: Asks>(
     ensures table { A.table asks.new ≡ A.table asks.old }
     ensures place { A.place asks.new ≡ A.place asks.old }
     ensures known { IfOk result (IsKindIn (A.contents asks.new)) }
-    ensures outcome { (fuel : ℕ) → A.left asks.old < fuel → Gives (A.table asks.old) (A.place asks.old) (kind_form fuel (frame_at (A.contents asks.old) frame.now) number (tree_at (A.contents asks.old) domain)) (A.left asks.old) (kind_at (A.contents asks.new)) (A.left asks.new) result }
+    ensures outcome { (fuel : ℕ) → A.left asks.old < fuel
+        → Gives (A.table asks.old) (A.place asks.old)
+        (kind_form fuel (frame_at (A.contents asks.old) frame.now) number
+        (tree_at (A.contents asks.old) domain)) (A.left asks.old) (kind_at (A.contents asks.new))
+        (A.left asks.new) result }
 {
     match fits_in(alloc, asks, frame.sort, domain) {
         Ok(true) => walk(alloc, asks, frame, number, domain),
@@ -94,7 +102,11 @@ fn field_of<A: Asks>(
     ensures table { A.table asks.new ≡ A.table asks.old }
     ensures place { A.place asks.new ≡ A.place asks.old }
     ensures known { IfOk result (IsFieldIn (A.contents asks.new)) }
-    ensures outcome { (fuel : ℕ) → A.left asks.old < fuel → Gives (A.table asks.old) (A.place asks.old) (field_form fuel (frame_at (A.contents asks.old) frame.now) number (tree_at (A.contents asks.old) domain) (tree_at (A.contents asks.old) variable)) (A.left asks.old) (field_at (A.contents asks.new)) (A.left asks.new) result }
+    ensures outcome { (fuel : ℕ) → A.left asks.old < fuel
+        → Gives (A.table asks.old) (A.place asks.old)
+        (field_form fuel (frame_at (A.contents asks.old) frame.now) number
+        (tree_at (A.contents asks.old) domain) (tree_at (A.contents asks.old) variable))
+        (A.left asks.old) (field_at (A.contents asks.new)) (A.left asks.new) result }
 {
     let next = match number_after(number) {
         Ok(next) => next,
@@ -122,7 +134,12 @@ fn next_field<A: Asks>(
     ensures place { A.place asks.new ≡ A.place asks.old }
     ensures field_known { IfOk result (λ p. IsFieldIn (A.contents asks.new) p.0) }
     ensures rest_known { IfOk result (λ p. p.1 < length (A.contents asks.new).trees) }
-    ensures outcome { (fuel : ℕ) → A.left asks.old < fuel → Gives (A.table asks.old) (A.place asks.old) (next_field fuel (frame_at (A.contents asks.old) frame.now) number (tree_at (A.contents asks.old) e)) (A.left asks.old) (λ p. (field_at (A.contents asks.new) p.0, tree_at (A.contents asks.new) p.1)) (A.left asks.new) result }
+    ensures outcome { (fuel : ℕ) → A.left asks.old < fuel
+        → Gives (A.table asks.old) (A.place asks.old)
+        (next_field fuel (frame_at (A.contents asks.old) frame.now) number
+        (tree_at (A.contents asks.old) e)) (A.left asks.old)
+        (λ p. (field_at (A.contents asks.new) p.0, tree_at (A.contents asks.new) p.1))
+        (A.left asks.new) result }
 {
     let parts = match pi_of(asks, e) {
         Ok(parts) => parts,
@@ -155,7 +172,12 @@ pub fn fields<A: Asks>(
     ensures place { A.place asks.new ≡ A.place asks.old }
     ensures fields_known { IfOk result (λ t. All (IsFieldIn (A.contents asks.new)) t.0.items) }
     ensures rest_known { IfOk result (λ t. t.1 < length (A.contents asks.new).trees) }
-    ensures outcome { (fuel : ℕ) → A.left asks.old < fuel → Gives (A.table asks.old) (A.place asks.old) (fields_steps fuel (frame_at (A.contents asks.old) frame.now) first count (tree_at (A.contents asks.old) e)) (A.left asks.old) (λ t. (map (field_at (A.contents asks.new)) t.0.items, tree_at (A.contents asks.new) t.1)) (A.left asks.new) result }
+    ensures outcome { (fuel : ℕ) → A.left asks.old < fuel
+        → Gives (A.table asks.old) (A.place asks.old)
+        (fields_steps fuel (frame_at (A.contents asks.old) frame.now) first count
+        (tree_at (A.contents asks.old) e)) (A.left asks.old)
+        (λ t. (map (field_at (A.contents asks.new)) t.0.items, tree_at (A.contents asks.new) t.1))
+        (A.left asks.new) result }
 {
     let mut found: Vec<Field> = Vec::new(alloc);
     let mut number = first;

@@ -20,6 +20,4 @@ pub mod shape;
 pub mod sorts;
 mod spines;
 mod telescope;
-#[cfg(test)]
-mod tests;
 pub mod types;

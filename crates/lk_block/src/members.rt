@@ -18,9 +18,9 @@ use lk_env::unit::BlockType;
 use lk_mentions::names::Names;
 use lk_mentions::part::Met;
 use lk_mentions::walk::is_clear;
-use lk_rows::memory::NoMemory;
 use lk_rows::table::Table;
 use lk_spine::{args, head};
+use lk_store::memory::NoMemory;
 use lk_store::node::Node;
 use lk_store::terms::Terms;
 use std::alloc::Global;
@@ -36,7 +36,8 @@ pub struct Member {
 fn is_listing<T: Terms>(terms: &T, listed: &BlockType, name: u64, count: u64) -> bool
     requires listed_in { IsTypeIn (T.contents terms.now) listed.now }
     requires name_in { name < length (T.contents terms.now).names }
-    ensures { result ≡ (same_name (name_at (T.contents terms.now) listed.now.name) (name_at (T.contents terms.now) name) && nat_eq listed.now.indices count) }
+    ensures { result ≡ (same_name (name_at (T.contents terms.now) listed.now.name)
+        (name_at (T.contents terms.now) name) && nat_eq listed.now.indices count) }
 {
     if !names_equal(terms, listed.name, name) {
         return false;
@@ -48,7 +49,8 @@ fn is_listing<T: Terms>(terms: &T, listed: &BlockType, name: u64, count: u64) ->
 fn is_listed<T: Terms>(terms: &T, types: &[BlockType], name: u64, count: u64) -> bool
     requires types_in { All (IsTypeIn (T.contents terms.now)) types.now }
     requires name_in { name < length (T.contents terms.now).names }
-    ensures { result ≡ is_listed (listed_at (T.contents terms.now) types.now) (name_at (T.contents terms.now) name) count }
+    ensures { result ≡ is_listed (listed_at (T.contents terms.now) types.now)
+        (name_at (T.contents terms.now) name) count }
 {
     let mut rest = types;
     'types: while let Some((listed, more)) = rest.split_first() {
@@ -69,7 +71,8 @@ fn mention_none<T: Terms>(
 ) -> Result<bool, NoMemory>
     requires names_in { All (λ n. n < length (T.contents terms.now).names) names.now }
     requires trees_in { All (λ x. x < length (T.contents terms.now).trees) trees.now }
-    ensures { IfOk result (λ r. r ≡ mention_none (names_at (T.contents terms.now) names.now) (map (tree_at (T.contents terms.now)) trees.now)) }
+    ensures { IfOk result (λ r. r ≡ mention_none (names_at (T.contents terms.now) names.now)
+        (map (tree_at (T.contents terms.now)) trees.now)) }
 {
     let mut met: Table<Met> = Table::new(alloc);
     let mut rest = trees;
@@ -91,8 +94,12 @@ fn after_parameters<'a, T: Terms>(
     requires parameters_in { All (λ x. x < length (T.contents terms.now).trees) parameters.now }
     requires arguments_in { All (λ x. x < length (T.contents terms.now).trees) arguments.now }
     ensures known { IfSome result (λ r. All (λ x. x < length (T.contents terms.now).trees) r.now) }
-    ensures none { IfNone result (after_params (map (tree_at (T.contents terms.now)) parameters.now) (map (tree_at (T.contents terms.now)) arguments.now) ≡ None) }
-    ensures rest { IfSome result (λ r. after_params (map (tree_at (T.contents terms.now)) parameters.now) (map (tree_at (T.contents terms.now)) arguments.now) ≡ Some (map (tree_at (T.contents terms.now)) r.now)) }
+    ensures none { IfNone result (after_params (map (tree_at (T.contents terms.now)) parameters.now)
+        (map (tree_at (T.contents terms.now)) arguments.now) ≡ None) }
+    ensures rest { IfSome result (λ r. after_params
+        (map (tree_at (T.contents terms.now)) parameters.now)
+        (map (tree_at (T.contents terms.now)) arguments.now)
+        ≡ Some (map (tree_at (T.contents terms.now)) r.now)) }
 {
     let mut left = parameters;
     let mut right = arguments;
@@ -123,7 +130,10 @@ fn are_indices<T: Terms>(
     requires frame_in { IsFrameIn (T.contents terms.now) frame.now }
     requires name_in { name < length (T.contents terms.now).names }
     requires indices_in { All (λ x. x < length (T.contents terms.now).trees) indices.now }
-    ensures { IfOk result (λ r. r ≡ (is_listed (listed_at (T.contents terms.now) frame.now.types.now) (name_at (T.contents terms.now) name) (length indices.now) && mention_none (names_at (T.contents terms.now) frame.now.names) (map (tree_at (T.contents terms.now)) indices.now))) }
+    ensures { IfOk result (λ r. r ≡ (is_listed
+        (listed_at (T.contents terms.now) frame.now.types.now) (name_at (T.contents terms.now) name)
+        (length indices.now) && mention_none (names_at (T.contents terms.now) frame.now.names)
+        (map (tree_at (T.contents terms.now)) indices.now))) }
 {
     if !is_listed(terms, frame.types, name, indices.len() as u64) {
         return Ok(false);
@@ -156,7 +166,11 @@ fn member_with<T: Terms>(
     requires name_in { name < length (T.contents terms.now).names }
     requires arguments_in { All (λ x. x < length (T.contents terms.now).trees) arguments.now }
     ensures known { IfOk result (λ o. IfSome o (IsMemberIn (T.contents terms.now))) }
-    ensures member { IfOk result (λ o. member_at (T.contents terms.now) o ≡ plain_indices (frame_at (T.contents terms.now) frame.now) (name_at (T.contents terms.now) name) (after_params (map (tree_at (T.contents terms.now)) frame.now.parameters.now) (map (tree_at (T.contents terms.now)) arguments.now))) }
+    ensures member { IfOk result (λ o. member_at (T.contents terms.now) o
+        ≡ plain_indices (frame_at (T.contents terms.now) frame.now)
+        (name_at (T.contents terms.now) name)
+        (after_params (map (tree_at (T.contents terms.now)) frame.now.parameters.now)
+        (map (tree_at (T.contents terms.now)) arguments.now))) }
 {
     let indices = match after_parameters(terms, frame.parameters, arguments) {
         None => return Ok(None),
@@ -182,7 +196,11 @@ fn member_in<T: Terms>(
     requires name_in { name < length (T.contents terms.now).names }
     requires e_in { e < length (T.contents terms.now).trees }
     ensures known { IfOk result (λ o. IfSome o (IsMemberIn (T.contents terms.now))) }
-    ensures member { IfOk result (λ o. member_at (T.contents terms.now) o ≡ plain_indices (frame_at (T.contents terms.now) frame.now) (name_at (T.contents terms.now) name) (after_params (map (tree_at (T.contents terms.now)) frame.now.parameters.now) (args (tree_at (T.contents terms.now) e)))) }
+    ensures member { IfOk result (λ o. member_at (T.contents terms.now) o
+        ≡ plain_indices (frame_at (T.contents terms.now) frame.now)
+        (name_at (T.contents terms.now) name)
+        (after_params (map (tree_at (T.contents terms.now)) frame.now.parameters.now)
+        (args (tree_at (T.contents terms.now) e)))) }
 {
     let arguments = args(alloc, terms, e)?;
     member_with(alloc, terms, frame, name, &arguments)
@@ -198,7 +216,8 @@ fn own_name<A: Asks>(asks: &mut A, levels: u64, head: u64) -> Result<Option<u64>
     ensures place { A.place asks.new ≡ A.place asks.old }
     ensures left { A.left asks.new ≡ A.left asks.old }
     ensures known { IfOk result (λ o. IfSome o (λ n. n < length (A.contents asks.new).names)) }
-    ensures name { IfOk result (λ o. named_at (A.contents asks.new) o ≡ own_name (list_at (A.contents asks.old) levels) (tree_at (A.contents asks.old) head)) }
+    ensures name { IfOk result (λ o. named_at (A.contents asks.new) o
+        ≡ own_name (list_at (A.contents asks.old) levels) (tree_at (A.contents asks.old) head)) }
 {
     let name = match asks.view(head) {
         Node::Const(name, _) => name,
@@ -228,7 +247,9 @@ pub(crate) fn as_member<A: Asks>(
     ensures place { A.place asks.new ≡ A.place asks.old }
     ensures left { A.left asks.new ≡ A.left asks.old }
     ensures known { IfOk result (λ o. IfSome o (IsMemberIn (A.contents asks.new))) }
-    ensures member { IfOk result (λ o. member_at (A.contents asks.new) o ≡ as_member (frame_at (A.contents asks.old) frame.now) (head (tree_at (A.contents asks.old) e)) (args (tree_at (A.contents asks.old) e))) }
+    ensures member { IfOk result (λ o. member_at (A.contents asks.new) o
+        ≡ as_member (frame_at (A.contents asks.old) frame.now)
+        (head (tree_at (A.contents asks.old) e)) (args (tree_at (A.contents asks.old) e))) }
 {
     let start = head(asks, e);
     let name = match own_name(asks, frame.levels, start)? {

@@ -25,8 +25,8 @@ use lk_env::unit::{BlockType, Constructor};
 use lk_mentions::names::Names;
 use lk_mentions::part::{Met, Visit, is_leaf, push, push_opened};
 use lk_mentions::walk::is_clear;
-use lk_rows::memory::NoMemory;
 use lk_rows::table::Table;
+use lk_store::memory::NoMemory;
 use lk_store::node::Node;
 use lk_store::terms::Terms;
 use std::alloc::Global;
@@ -56,7 +56,8 @@ fn constant_in(node: Node) -> Option<u64>
 fn constant_name<T: Terms>(terms: &T, e: u64) -> Option<u64>
     requires { e < length (T.contents terms.now).trees }
     ensures known { IfSome result (λ n. n < length (T.contents terms.now).names) }
-    ensures name { named_at (T.contents terms.now) result ≡ constant_name (tree_at (T.contents terms.now) e) }
+    ensures name { named_at (T.contents terms.now) result
+        ≡ constant_name (tree_at (T.contents terms.now) e) }
 {
     constant_in(terms.view(e))
 }
@@ -65,7 +66,8 @@ fn constant_name<T: Terms>(terms: &T, e: u64) -> Option<u64>
 fn is_one_of<T: Terms>(terms: &T, names: &Names, name: u64) -> bool
     requires names_in { All (λ n. n < length (T.contents terms.now).names) names.now }
     requires name_in { name < length (T.contents terms.now).names }
-    ensures { result ≡ is_one_of (names_at (T.contents terms.now) names.now) (name_at (T.contents terms.now) name) }
+    ensures { result ≡ is_one_of (names_at (T.contents terms.now) names.now)
+        (name_at (T.contents terms.now) name) }
 {
     let _names = terms.count_names();
     names.has(name)
@@ -85,13 +87,17 @@ fn is_nested_type<A: Asks>(
     requires name_in { name < length (A.contents asks.now).names }
     requires tree_in { spine.tree < length (A.contents asks.now).trees }
     requires spine { IsSpine (A.contents asks.now) spine.tree spine }
-    requires named { constant_name (head (tree_at (A.contents asks.now) spine.tree)) ≡ Some (name_at (A.contents asks.now) name) }
-    requires other { is_one_of (names_at (A.contents asks.now) names.now) (name_at (A.contents asks.now) name) ≡ false }
+    requires named { constant_name (head (tree_at (A.contents asks.now) spine.tree))
+        ≡ Some (name_at (A.contents asks.now) name) }
+    requires other { is_one_of (names_at (A.contents asks.now) names.now)
+        (name_at (A.contents asks.now) name) ≡ false }
     requires clear { AreClear (A.contents asks.now) names.now clear.old }
     ensures clear { IfOk result (λ r. AreClear (A.contents asks.now) names.now clear.new) }
-    ensures test { IsHeadTest (A.place asks.now) (names_at (A.contents asks.now) names.now) (head (tree_at (A.contents asks.now) spine.tree)) (args (tree_at (A.contents asks.now) spine.tree)) result }
+    ensures test { IsHeadTest (A.place asks.now) (names_at (A.contents asks.now) names.now)
+        (head (tree_at (A.contents asks.now) spine.tree))
+        (args (tree_at (A.contents asks.now) spine.tree)) result }
 {
-    match asks.parameters_of(name) {
+    match asks.parameter_count(name) {
         Ok(None) => Ok(false),
         Ok(Some(parameters)) => {
             if parameters != spine.count {
@@ -124,7 +130,9 @@ fn is_nested_application<A: Asks>(
     requires spine { IsSpine (A.contents asks.now) spine.tree spine }
     requires clear { AreClear (A.contents asks.now) names.now clear.old }
     ensures clear { IfOk result (λ r. AreClear (A.contents asks.now) names.now clear.new) }
-    ensures test { IsHeadTest (A.place asks.now) (names_at (A.contents asks.now) names.now) (head (tree_at (A.contents asks.now) spine.tree)) (args (tree_at (A.contents asks.now) spine.tree)) result }
+    ensures test { IsHeadTest (A.place asks.now) (names_at (A.contents asks.now) names.now)
+        (head (tree_at (A.contents asks.now) spine.tree))
+        (args (tree_at (A.contents asks.now) spine.tree)) result }
 {
     match constant_name(asks, spine.head) {
         None => Ok(false),
@@ -148,8 +156,10 @@ fn is_nested<A: Asks>(
     requires names_in { All (λ n. n < length (A.contents asks.now).names) names.now }
     requires tree_in { e < length (A.contents asks.now).trees }
     requires walked { AreWalked (A.place asks.now) (A.contents asks.now) names.now walked.old }
-    ensures walked { IfOk result (λ r. AreWalked (A.place asks.now) (A.contents asks.now) names.now walked.new) }
-    ensures test { IsTreeTest (A.place asks.now) (names_at (A.contents asks.now) names.now) (tree_at (A.contents asks.now) e) result }
+    ensures walked { IfOk result (λ r. AreWalked (A.place asks.now)
+        (A.contents asks.now) names.now walked.new) }
+    ensures test { IsTreeTest (A.place asks.now) (names_at (A.contents asks.now) names.now)
+        (tree_at (A.contents asks.now) e) result }
 {
     match function_of(asks, e) {
         None => Ok(false),
@@ -185,7 +195,10 @@ fn push_parts(stack: &mut Vec<Visit>, node: Node) -> Result<(), NoMemory>
 /// Puts a term on the stack again, and its parts above it.
 fn open<A: Asks>(asks: &A, stack: &mut Vec<Visit>, e: u64) -> Result<(), NoMemory>
     requires { e < length (A.contents asks.now).trees }
-    ensures { OnOk result ((ns : List Name) → nested_in (A.place asks.now) ns (tree_at (A.contents asks.now) e) ≡ nested_below (A.place asks.now) ns (tree_at (A.contents asks.now) e) → IsOpened (A.place asks.now) ns (A.contents asks.now) e stack.old.items stack.new.items) }
+    ensures { OnOk result ((ns : List Name)
+        → nested_in (A.place asks.now) ns (tree_at (A.contents asks.now) e)
+        ≡ nested_below (A.place asks.now) ns (tree_at (A.contents asks.now) e)
+        → IsOpened (A.place asks.now) ns (A.contents asks.now) e stack.old.items stack.new.items) }
 {
     push_opened(stack, e)?;
     push_parts(stack, asks.view(e))?;
@@ -205,8 +218,10 @@ fn look<A: Asks>(
     requires names_in { All (λ n. n < length (A.contents asks.now).names) names.now }
     requires tree_in { e < length (A.contents asks.now).trees }
     requires walked { AreWalked (A.place asks.now) (A.contents asks.now) names.now walked.old }
-    ensures walked { IfOk result (λ r. AreWalked (A.place asks.now) (A.contents asks.now) names.now walked.new) }
-    ensures looked { IsLooked (A.place asks.now) (names_at (A.contents asks.now) names.now) (A.contents asks.now) e stack.old.items stack.new.items result }
+    ensures walked { IfOk result (λ r. AreWalked (A.place asks.now)
+        (A.contents asks.now) names.now walked.new) }
+    ensures looked { IsLooked (A.place asks.now) (names_at (A.contents asks.now) names.now)
+        (A.contents asks.now) e stack.old.items stack.new.items result }
 {
     if is_leaf(asks.view(e)) {
         return Ok(false);
@@ -232,8 +247,10 @@ fn holds_nested<A: Asks>(
     requires names_in { All (λ n. n < length (A.contents asks.now).names) names.now }
     requires tree_in { e < length (A.contents asks.now).trees }
     requires walked { AreWalked (A.place asks.now) (A.contents asks.now) names.now walked.old }
-    ensures walked { IfOk result (λ r. AreWalked (A.place asks.now) (A.contents asks.now) names.now walked.new) }
-    ensures found { Finds (nested_in (A.place asks.now) (names_at (A.contents asks.now) names.now) (tree_at (A.contents asks.now) e)) (λ r. r) result }
+    ensures walked { IfOk result (λ r. AreWalked (A.place asks.now)
+        (A.contents asks.now) names.now walked.new) }
+    ensures found { Finds (nested_in (A.place asks.now) (names_at (A.contents asks.now) names.now)
+        (tree_at (A.contents asks.now) e)) (λ r. r) result }
 {
     let mut stack: Vec<Visit> = Vec::new(alloc);
     push(&mut stack, e)?;
@@ -264,8 +281,11 @@ fn check_constructors<A: Asks>(
     requires names_in { All (λ n. n < length (A.contents asks.now).names) names.now }
     requires constructors_in { All (IsConstructorIn (A.contents asks.now)) constructors.now }
     requires walked { AreWalked (A.place asks.now) (A.contents asks.now) names.now walked.old }
-    ensures walked { IfOk result (λ r. AreWalked (A.place asks.now) (A.contents asks.now) names.now walked.new) }
-    ensures found { Finds (finding (A.place asks.now) (flat_ctors (names_at (A.contents asks.now) names.now) (map (constructor_at (A.contents asks.now)) constructors.now))) (λ u. checked) result }
+    ensures walked { IfOk result (λ r. AreWalked (A.place asks.now)
+        (A.contents asks.now) names.now walked.new) }
+    ensures found { Finds (finding (A.place asks.now)
+        (flat_ctors (names_at (A.contents asks.now) names.now)
+        (map (constructor_at (A.contents asks.now)) constructors.now))) (λ u. checked) result }
 {
     let mut rest = constructors;
     'constructors: while let Some((constructor, more)) = rest.split_first() {
@@ -290,7 +310,9 @@ fn check_types<A: Asks>(
 ) -> Result<(), Stop>
     requires names_in { All (λ n. n < length (A.contents asks.now).names) names.now }
     requires types_in { All (IsTypeIn (A.contents asks.now)) types.now }
-    ensures { Finds (finding (A.place asks.now) (flat_types (names_at (A.contents asks.now) names.now) (map (type_at (A.contents asks.now)) types.now))) (λ u. checked) result }
+    ensures { Finds (finding (A.place asks.now)
+        (flat_types (names_at (A.contents asks.now) names.now)
+        (map (type_at (A.contents asks.now)) types.now))) (λ u. checked) result }
 {
     let mut walked = Walked {
         clear: Table::new(alloc),
@@ -318,7 +340,10 @@ pub fn check_flat<A: Asks>(
 ) -> Result<(), Stop>
     requires names_in { All (λ n. n < length (A.contents asks.now).names) names.now }
     requires types_in { All (IsTypeIn (A.contents asks.now)) types.now }
-    ensures outcome { Gives (A.table asks.now) (A.place asks.now) (flat_types (names_at (A.contents asks.now) names.now) (map (type_at (A.contents asks.now)) types.now)) (A.left asks.now) (λ u. checked) (A.left asks.now) result }
+    ensures outcome { Gives (A.table asks.now) (A.place asks.now)
+        (flat_types (names_at (A.contents asks.now) names.now)
+        (map (type_at (A.contents asks.now)) types.now)) (A.left asks.now) (λ u. checked)
+        (A.left asks.now) result }
 {
     check_types(alloc, asks, names, types)
 }

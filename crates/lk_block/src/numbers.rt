@@ -2,7 +2,7 @@
 
 ghost use Rattle.std.specs.Prelude.{◌≡◌, suc, ◌++◌, ◌∷◌, [], IfOk, OnOk};
 
-use lk_rows::memory::NoMemory;
+use lk_store::memory::NoMemory;
 
 /// The number after this one. No Local in memory has the greatest number.
 pub fn number_after(number: u64) -> Result<u64, NoMemory>

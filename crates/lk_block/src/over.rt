@@ -20,7 +20,8 @@ use std::alloc::Global;
 pub(crate) fn domain_of<T: Terms>(terms: &T, e: u64) -> u64
     requires { e < length (T.contents terms.now).trees }
     ensures known { result < length (T.contents terms.now).trees }
-    ensures domain { tree_at (T.contents terms.now) result ≡ domain (tree_at (T.contents terms.now) e) }
+    ensures domain { tree_at (T.contents terms.now) result
+        ≡ domain (tree_at (T.contents terms.now) e) }
 {
     match terms.view(e) {
         Node::Local(_, domain) => domain,
@@ -44,7 +45,10 @@ fn put_in<A: Asks>(
     ensures table { A.table asks.new ≡ A.table asks.old }
     ensures place { A.place asks.new ≡ A.place asks.old }
     ensures known { IfOk result (λ e. e < length (A.contents asks.new).trees) }
-    ensures outcome { Gives (A.table asks.old) (A.place asks.old) (put_form (tree_at (A.contents asks.old) parameter) (tree_at (A.contents asks.old) domain) (tree_at (A.contents asks.old) body)) (A.left asks.old) (tree_at (A.contents asks.new)) (A.left asks.new) result }
+    ensures outcome { Gives (A.table asks.old) (A.place asks.old)
+        (put_form (tree_at (A.contents asks.old) parameter) (tree_at (A.contents asks.old) domain)
+        (tree_at (A.contents asks.old) body)) (A.left asks.old) (tree_at (A.contents asks.new))
+        (A.left asks.new) result }
 {
     let own = domain_of(asks, parameter);
     let equal = match are_same(asks, domain, own) {
@@ -69,7 +73,9 @@ fn put_parameter<A: Asks>(alloc: Global, asks: &mut A, parameter: u64, e: u64) -
     ensures table { A.table asks.new ≡ A.table asks.old }
     ensures place { A.place asks.new ≡ A.place asks.old }
     ensures known { IfOk result (λ e. e < length (A.contents asks.new).trees) }
-    ensures outcome { Gives (A.table asks.old) (A.place asks.old) (over_form (tree_at (A.contents asks.old) parameter) (tree_at (A.contents asks.old) e)) (A.left asks.old) (tree_at (A.contents asks.new)) (A.left asks.new) result }
+    ensures outcome { Gives (A.table asks.old) (A.place asks.old)
+        (over_form (tree_at (A.contents asks.old) parameter) (tree_at (A.contents asks.old) e))
+        (A.left asks.old) (tree_at (A.contents asks.new)) (A.left asks.new) result }
 {
     let parts = match pi_of(asks, e) {
         Ok(parts) => parts,
@@ -87,7 +93,10 @@ pub fn over<A: Asks>(alloc: Global, asks: &mut A, parameters: &[u64], e: u64) ->
     ensures table { A.table asks.new ≡ A.table asks.old }
     ensures place { A.place asks.new ≡ A.place asks.old }
     ensures known { IfOk result (λ e. e < length (A.contents asks.new).trees) }
-    ensures outcome { Gives (A.table asks.old) (A.place asks.old) (over (map (tree_at (A.contents asks.old)) parameters.now) (tree_at (A.contents asks.old) e)) (A.left asks.old) (tree_at (A.contents asks.new)) (A.left asks.new) result }
+    ensures outcome { Gives (A.table asks.old) (A.place asks.old)
+        (over (map (tree_at (A.contents asks.old)) parameters.now)
+        (tree_at (A.contents asks.old) e)) (A.left asks.old) (tree_at (A.contents asks.new))
+        (A.left asks.new) result }
 {
     let mut more = parameters;
     let mut rest = e;

@@ -24,7 +24,7 @@ use lk_ask::rule::Rule;
 use lk_ask::stop::Stop;
 use lk_mentions::names::Names;
 use lk_mentions::walk::mentions;
-use lk_rows::memory::NoMemory;
+use lk_store::memory::NoMemory;
 use lk_store::node::Node;
 use lk_store::terms::Terms;
 use std::alloc::Global;
@@ -48,8 +48,10 @@ fn form_mentions<T: Terms>(
 ) -> Result<bool, NoMemory>
     requires names_in { All (λ n. n < length (T.contents terms.now).names) names.now }
     requires form_in { form < length (T.contents terms.now).trees }
-    requires known { IfSome known (λ k. mentions (names_at (T.contents terms.now) names.now) (tree_at (T.contents terms.now) k) ≡ true) }
-    ensures { IfOk result (λ r. r ≡ mentions (names_at (T.contents terms.now) names.now) (tree_at (T.contents terms.now) form)) }
+    requires known { IfSome known (λ k. mentions (names_at (T.contents terms.now) names.now)
+        (tree_at (T.contents terms.now) k) ≡ true) }
+    ensures { IfOk result (λ r. r ≡ mentions (names_at (T.contents terms.now) names.now)
+        (tree_at (T.contents terms.now) form)) }
 {
     match known {
         Some(found) => {
@@ -74,15 +76,19 @@ fn step_under<A: Asks>(
     requires frame_in { IsFrameIn (A.contents asks.old) frame.now }
     requires domain_in { domain < length (A.contents asks.old).trees }
     requires body_in { body < length (A.contents asks.old).trees }
-    requires mentioning { mentions (names_at (A.contents asks.old) frame.now.names) (pi (tree_at (A.contents asks.old) domain) (tree_at (A.contents asks.old) body)) ≡ true }
+    requires mentioning { mentions (names_at (A.contents asks.old) frame.now.names)
+        (pi (tree_at (A.contents asks.old) domain) (tree_at (A.contents asks.old) body)) ≡ true }
     ensures keeps { Extends (A.contents asks.old) (A.contents asks.new) }
     ensures basis { A.basis asks.new ≡ A.basis asks.old }
     ensures table { A.table asks.new ≡ A.table asks.old }
     ensures place { A.place asks.new ≡ A.place asks.old }
     ensures left { A.left asks.new ≡ A.left asks.old }
     ensures known { IfOk result (IsStepIn (A.contents asks.new)) }
-    ensures under { IfOk result (GoesUnderMention (names_at (A.contents asks.new) frame.now.names) (A.contents asks.new)) }
-    ensures step { Settles (under_step (frame_at (A.contents asks.old) frame.now) number (tree_at (A.contents asks.old) domain) (tree_at (A.contents asks.old) body)) (step_at (A.contents asks.new)) result }
+    ensures under { IfOk result (GoesUnderMention (names_at (A.contents asks.new) frame.now.names)
+        (A.contents asks.new)) }
+    ensures step { Settles (under_step (frame_at (A.contents asks.old) frame.now) number
+        (tree_at (A.contents asks.old) domain) (tree_at (A.contents asks.old) body))
+        (step_at (A.contents asks.new)) result }
 {
     match mentions(alloc, asks, &frame.names, domain) {
         Ok(true) => return Err(Stop::Rule(Rule::NotPositive)),
@@ -105,8 +111,11 @@ fn step_ending<A: Asks>(alloc: Global, asks: &mut A, frame: &Frame, form: u64) -
     ensures place { A.place asks.new ≡ A.place asks.old }
     ensures left { A.left asks.new ≡ A.left asks.old }
     ensures known { IfOk result (IsStepIn (A.contents asks.new)) }
-    ensures under { IfOk result (GoesUnderMention (names_at (A.contents asks.new) frame.now.names) (A.contents asks.new)) }
-    ensures step { Settles (member_step (as_member (frame_at (A.contents asks.old) frame.now) (head (tree_at (A.contents asks.old) form)) (args (tree_at (A.contents asks.old) form)))) (step_at (A.contents asks.new)) result }
+    ensures under { IfOk result (GoesUnderMention (names_at (A.contents asks.new) frame.now.names)
+        (A.contents asks.new)) }
+    ensures step { Settles (member_step (as_member (frame_at (A.contents asks.old) frame.now)
+        (head (tree_at (A.contents asks.old) form)) (args (tree_at (A.contents asks.old) form))))
+        (step_at (A.contents asks.new)) result }
 {
     match as_member(alloc, asks, frame, form) {
         Ok(Some(member)) => Ok(Step::Ends(Some(member))),
@@ -125,15 +134,18 @@ fn inner_step<A: Asks>(
 ) -> Result<Step, Stop>
     requires frame_in { IsFrameIn (A.contents asks.old) frame.now }
     requires form_in { form < length (A.contents asks.old).trees }
-    requires mentioning { mentions (names_at (A.contents asks.old) frame.now.names) (tree_at (A.contents asks.old) form) ≡ true }
+    requires mentioning { mentions (names_at (A.contents asks.old) frame.now.names)
+        (tree_at (A.contents asks.old) form) ≡ true }
     ensures keeps { Extends (A.contents asks.old) (A.contents asks.new) }
     ensures basis { A.basis asks.new ≡ A.basis asks.old }
     ensures table { A.table asks.new ≡ A.table asks.old }
     ensures place { A.place asks.new ≡ A.place asks.old }
     ensures left { A.left asks.new ≡ A.left asks.old }
     ensures known { IfOk result (IsStepIn (A.contents asks.new)) }
-    ensures under { IfOk result (GoesUnderMention (names_at (A.contents asks.new) frame.now.names) (A.contents asks.new)) }
-    ensures step { Settles (inner_step (frame_at (A.contents asks.old) frame.now) number (tree_at (A.contents asks.old) form)) (step_at (A.contents asks.new)) result }
+    ensures under { IfOk result (GoesUnderMention (names_at (A.contents asks.new) frame.now.names)
+        (A.contents asks.new)) }
+    ensures step { Settles (inner_step (frame_at (A.contents asks.old) frame.now) number
+        (tree_at (A.contents asks.old) form)) (step_at (A.contents asks.new)) result }
 {
     match asks.view(form) {
         Node::Pi(domain, body) => step_under(alloc, asks, frame, number, domain, body),
@@ -152,7 +164,8 @@ fn form_step<A: Asks>(
 ) -> Result<Step, Stop>
     requires frame_in { IsFrameIn (A.contents asks.old) frame.now }
     requires form_in { form < length (A.contents asks.old).trees }
-    requires known { IfSome known (λ k. mentions (names_at (A.contents asks.old) frame.now.names) (tree_at (A.contents asks.old) k) ≡ true) }
+    requires known { IfSome known (λ k. mentions (names_at (A.contents asks.old) frame.now.names)
+        (tree_at (A.contents asks.old) k) ≡ true) }
     requires known_in { IfSome known (λ k. k < length (A.contents asks.old).trees) }
     ensures keeps { Extends (A.contents asks.old) (A.contents asks.new) }
     ensures basis { A.basis asks.new ≡ A.basis asks.old }
@@ -160,8 +173,10 @@ fn form_step<A: Asks>(
     ensures place { A.place asks.new ≡ A.place asks.old }
     ensures left { A.left asks.new ≡ A.left asks.old }
     ensures known { IfOk result (IsStepIn (A.contents asks.new)) }
-    ensures under { IfOk result (GoesUnderMention (names_at (A.contents asks.new) frame.now.names) (A.contents asks.new)) }
-    ensures step { Settles (form_step (frame_at (A.contents asks.old) frame.now) number (tree_at (A.contents asks.old) form)) (step_at (A.contents asks.new)) result }
+    ensures under { IfOk result (GoesUnderMention (names_at (A.contents asks.new) frame.now.names)
+        (A.contents asks.new)) }
+    ensures step { Settles (form_step (frame_at (A.contents asks.old) frame.now) number
+        (tree_at (A.contents asks.old) form)) (step_at (A.contents asks.new)) result }
 {
     match form_mentions(alloc, asks, &frame.names, known, form) {
         Ok(true) => inner_step(alloc, asks, frame, number, form),
@@ -181,7 +196,8 @@ fn walk_step<A: Asks>(
 ) -> Result<Step, Stop>
     requires frame_in { IsFrameIn (A.contents asks.old) frame.now }
     requires e_in { e < length (A.contents asks.old).trees }
-    requires known { IfSome known (λ k. mentions (names_at (A.contents asks.old) frame.now.names) (tree_at (A.contents asks.old) k) ≡ true) }
+    requires known { IfSome known (λ k. mentions (names_at (A.contents asks.old) frame.now.names)
+        (tree_at (A.contents asks.old) k) ≡ true) }
     requires known_in { IfSome known (λ k. k < length (A.contents asks.old).trees) }
     ensures keeps { Extends (A.contents asks.old) (A.contents asks.new) }
     ensures basis { A.basis asks.new ≡ A.basis asks.old }
@@ -189,8 +205,12 @@ fn walk_step<A: Asks>(
     ensures place { A.place asks.new ≡ A.place asks.old }
     ensures paid { IfOk result (λ s. A.left asks.new < A.left asks.old) }
     ensures known { IfOk result (IsStepIn (A.contents asks.new)) }
-    ensures under { IfOk result (GoesUnderMention (names_at (A.contents asks.new) frame.now.names) (A.contents asks.new)) }
-    ensures outcome { Gives (A.table asks.old) (A.place asks.old) (walk_step (frame_at (A.contents asks.old) frame.now) number (tree_at (A.contents asks.old) e)) (A.left asks.old) (step_at (A.contents asks.new)) (A.left asks.new) result }
+    ensures under { IfOk result (GoesUnderMention (names_at (A.contents asks.new) frame.now.names)
+        (A.contents asks.new)) }
+    ensures outcome { Gives (A.table asks.old) (A.place asks.old)
+        (walk_step (frame_at (A.contents asks.old) frame.now) number
+        (tree_at (A.contents asks.old) e)) (A.left asks.old) (step_at (A.contents asks.new))
+        (A.left asks.new) result }
 {
     match form_of(asks, e) {
         Ok(form) => form_step(alloc, asks, frame, number, known, form),
@@ -215,9 +235,15 @@ fn walk_pis<A: Asks>(
     ensures basis { A.basis asks.new ≡ A.basis asks.old }
     ensures table { A.table asks.new ≡ A.table asks.old }
     ensures place { A.place asks.new ≡ A.place asks.old }
-    ensures arguments_known { IfOk result (λ o. AreTreesIn (A.contents asks.new) arguments.new.items) }
+    ensures arguments_known { IfOk result
+        (λ o. AreTreesIn (A.contents asks.new) arguments.new.items) }
     ensures known { IfOk result (λ o. IfSome o (IsMemberIn (A.contents asks.new))) }
-    ensures outcome { (fuel : ℕ) → A.left asks.old < fuel → Gives (A.table asks.old) (A.place asks.old) (walk fuel (frame_at (A.contents asks.old) frame.now) first (tree_at (A.contents asks.old) e)) (A.left asks.old) (λ o. kind_with (map (tree_at (A.contents asks.new)) arguments.new.items) (member_at (A.contents asks.new) o)) (A.left asks.new) result }
+    ensures outcome { (fuel : ℕ) → A.left asks.old < fuel
+        → Gives (A.table asks.old) (A.place asks.old)
+        (walk fuel (frame_at (A.contents asks.old) frame.now) first
+        (tree_at (A.contents asks.old) e)) (A.left asks.old)
+        (λ o. kind_with (map (tree_at (A.contents asks.new)) arguments.new.items)
+        (member_at (A.contents asks.new) o)) (A.left asks.new) result }
 {
     let mut number = first;
     let mut rest = e;
@@ -243,8 +269,10 @@ fn walk_pis<A: Asks>(
 
 /// The kind of a field whose walk comes to this type of the block, or to none, under these Locals.
 fn kind_of(arguments: Vec<u64>, found: Option<Member>) -> FieldKind
-    ensures known { (c : Contents) → AreTreesIn c arguments.items → IfSome found (IsMemberIn c) → IsKindIn c result }
-    ensures kind { (c : Contents) → kind_at c result ≡ kind_with (map (tree_at c) arguments.items) (member_at c found) }
+    ensures known { (c : Contents) → AreTreesIn c arguments.items → IfSome found (IsMemberIn c)
+        → IsKindIn c result }
+    ensures kind { (c : Contents) → kind_at c result
+        ≡ kind_with (map (tree_at c) arguments.items) (member_at c found) }
 {
     match found {
         None => FieldKind::Plain,
@@ -272,7 +300,11 @@ pub fn walk<A: Asks>(
     ensures table { A.table asks.new ≡ A.table asks.old }
     ensures place { A.place asks.new ≡ A.place asks.old }
     ensures known { IfOk result (IsKindIn (A.contents asks.new)) }
-    ensures outcome { (fuel : ℕ) → A.left asks.old < fuel → Gives (A.table asks.old) (A.place asks.old) (walk fuel (frame_at (A.contents asks.old) frame.now) first (tree_at (A.contents asks.old) e)) (A.left asks.old) (kind_at (A.contents asks.new)) (A.left asks.new) result }
+    ensures outcome { (fuel : ℕ) → A.left asks.old < fuel
+        → Gives (A.table asks.old) (A.place asks.old)
+        (walk fuel (frame_at (A.contents asks.old) frame.now) first
+        (tree_at (A.contents asks.old) e)) (A.left asks.old) (kind_at (A.contents asks.new))
+        (A.left asks.new) result }
 {
     let mut arguments: Vec<u64> = Vec::new(alloc);
     match walk_pis(alloc, asks, frame, first, e, &mut arguments) {

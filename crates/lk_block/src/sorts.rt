@@ -19,7 +19,9 @@ fn check_constructors<A: Asks>(asks: &mut A, constructors: &[Constructor]) -> Re
     ensures basis { A.basis asks.new ≡ A.basis asks.old }
     ensures table { A.table asks.new ≡ A.table asks.old }
     ensures place { A.place asks.new ≡ A.place asks.old }
-    ensures outcome { Gives (A.table asks.old) (A.place asks.old) (constructors_form (map (constructor_at (A.contents asks.old)) constructors.now)) (A.left asks.old) (λ u. checked) (A.left asks.new) result }
+    ensures outcome { Gives (A.table asks.old) (A.place asks.old)
+        (constructors_form (map (constructor_at (A.contents asks.old)) constructors.now))
+        (A.left asks.old) (λ u. checked) (A.left asks.new) result }
 {
     let mut rest = constructors;
     'constructors: while let Some((constructor, more)) = rest.split_first() {
@@ -39,7 +41,9 @@ pub fn check_sorts<A: Asks>(asks: &mut A, types: &[BlockType]) -> Result<(), Sto
     ensures basis { A.basis asks.new ≡ A.basis asks.old }
     ensures table { A.table asks.new ≡ A.table asks.old }
     ensures place { A.place asks.new ≡ A.place asks.old }
-    ensures outcome { Gives (A.table asks.old) (A.place asks.old) (sorts_form (map (type_at (A.contents asks.old)) types.now)) (A.left asks.old) (λ u. checked) (A.left asks.new) result }
+    ensures outcome { Gives (A.table asks.old) (A.place asks.old)
+        (sorts_form (map (type_at (A.contents asks.old)) types.now)) (A.left asks.old)
+        (λ u. checked) (A.left asks.new) result }
 {
     let mut rest = types;
     'types: while let Some((stated, more)) = rest.split_first() {

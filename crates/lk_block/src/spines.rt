@@ -4,15 +4,15 @@ ghost use Rattle.std.specs.Prelude.{◌≡◌, ◌<◌, ◌+◌, length, Some, I
 ghost use Rattle.lk_store.specs.Contents.{tree_at};
 ghost use Rattle.lk_block.specs.Nestings.{function_of, function_at, function_in, IsSpine, AreSpines};
 
-use lk_rows::memory::NoMemory;
 use lk_rows::row::Row;
 use lk_rows::table::Table;
 use lk_store::hashing::mix;
+use lk_store::memory::NoMemory;
 use lk_store::node::Node;
 use lk_store::terms::Terms;
 
 /// A term, what stands at its head, and how many arguments that has.
-#[derive(Clone, Copy, Debug, PartialEq, Eq)]
+#[derive(Clone, Copy)]
 pub struct Spine {
     pub tree: u64,
     pub head: u64,
@@ -55,7 +55,8 @@ fn function_in(node: Node) -> Option<u64>
 pub(crate) fn function_of<T: Terms>(terms: &T, e: u64) -> Option<u64>
     requires { e < length (T.contents terms.now).trees }
     ensures known { IfSome result (λ f. f < length (T.contents terms.now).trees) }
-    ensures function { function_at (T.contents terms.now) result ≡ function_of (tree_at (T.contents terms.now) e) }
+    ensures function { function_at (T.contents terms.now) result
+        ≡ function_of (tree_at (T.contents terms.now) e) }
 {
     function_in(terms.view(e))
 }
@@ -106,7 +107,8 @@ pub fn keep_function<T: Terms>(
     f: u64,
 ) -> Result<(), NoMemory>
     requires spine { IsSpine (T.contents terms.now) spine.tree spine }
-    requires function { function_of (tree_at (T.contents terms.now) spine.tree) ≡ Some (tree_at (T.contents terms.now) f) }
+    requires function { function_of (tree_at (T.contents terms.now) spine.tree)
+        ≡ Some (tree_at (T.contents terms.now) f) }
     requires spines { AreSpines (T.contents terms.now) spines.old }
     ensures spines { OnOk result (AreSpines (T.contents terms.now) spines.new) }
 {

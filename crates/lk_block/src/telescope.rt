@@ -13,7 +13,7 @@ use crate::numbers::keep;
 use lk_ask::asks::Asks;
 use lk_ask::building::{build, open};
 use lk_ask::stop::Stop;
-use lk_rows::memory::NoMemory;
+use lk_store::memory::NoMemory;
 use lk_store::node::Node;
 use std::alloc::Global;
 
@@ -32,8 +32,11 @@ pub(crate) fn open_local<A: Asks>(
     ensures table { A.table asks.new ≡ A.table asks.old }
     ensures place { A.place asks.new ≡ A.place asks.old }
     ensures left { A.left asks.new ≡ A.left asks.old }
-    ensures made { IfOk result (λ p. IsTree (A.contents asks.new) p.0 (local number (tree_at (A.contents asks.old) domain))) }
-    ensures opened { IfOk result (λ p. IsTree (A.contents asks.new) p.1 (opened (tree_at (A.contents asks.old) body) (local number (tree_at (A.contents asks.old) domain)))) }
+    ensures made { IfOk result (λ p. IsTree (A.contents asks.new) p.0
+        (local number (tree_at (A.contents asks.old) domain))) }
+    ensures opened { IfOk result (λ p. IsTree (A.contents asks.new) p.1
+        (opened (tree_at (A.contents asks.old) body)
+        (local number (tree_at (A.contents asks.old) domain)))) }
 {
     let local = build(asks, Node::Local(number, domain))?;
     let rest = open(alloc, asks, body, local)?;
@@ -47,8 +50,12 @@ fn next_local<A: Asks>(alloc: Global, asks: &mut A, number: u64, e: u64) -> Resu
     ensures basis { A.basis asks.new ≡ A.basis asks.old }
     ensures table { A.table asks.new ≡ A.table asks.old }
     ensures place { A.place asks.new ≡ A.place asks.old }
-    ensures known { IfOk result (λ p. (p.0 < length (A.contents asks.new).trees) × (p.1 < length (A.contents asks.new).trees)) }
-    ensures outcome { Gives (A.table asks.old) (A.place asks.old) (local_form number (tree_at (A.contents asks.old) e)) (A.left asks.old) (λ p. (tree_at (A.contents asks.new) p.0, tree_at (A.contents asks.new) p.1)) (A.left asks.new) result }
+    ensures known { IfOk result (λ p. (p.0 < length (A.contents asks.new).trees)
+        × (p.1 < length (A.contents asks.new).trees)) }
+    ensures outcome { Gives (A.table asks.old) (A.place asks.old)
+        (local_form number (tree_at (A.contents asks.old) e)) (A.left asks.old)
+        (λ p. (tree_at (A.contents asks.new) p.0, tree_at (A.contents asks.new) p.1))
+        (A.left asks.new) result }
 {
     let parts = match pi_of(asks, e) {
         Ok(parts) => parts,
@@ -73,9 +80,13 @@ pub fn telescope<A: Asks>(
     ensures basis { A.basis asks.new ≡ A.basis asks.old }
     ensures table { A.table asks.new ≡ A.table asks.old }
     ensures place { A.place asks.new ≡ A.place asks.old }
-    ensures locals_known { IfOk result (λ t. All (λ x. x < length (A.contents asks.new).trees) t.0.items) }
+    ensures locals_known { IfOk result (λ t. All
+        (λ x. x < length (A.contents asks.new).trees) t.0.items) }
     ensures rest_known { IfOk result (λ t. t.1 < length (A.contents asks.new).trees) }
-    ensures outcome { Gives (A.table asks.old) (A.place asks.old) (telescope first count (tree_at (A.contents asks.old) e)) (A.left asks.old) (λ t. (map (tree_at (A.contents asks.new)) t.0.items, tree_at (A.contents asks.new) t.1)) (A.left asks.new) result }
+    ensures outcome { Gives (A.table asks.old) (A.place asks.old)
+        (telescope first count (tree_at (A.contents asks.old) e)) (A.left asks.old)
+        (λ t. (map (tree_at (A.contents asks.new)) t.0.items, tree_at (A.contents asks.new) t.1))
+        (A.left asks.new) result }
 {
     let mut locals: Vec<u64> = Vec::new(alloc);
     let mut number = first;

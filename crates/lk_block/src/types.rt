@@ -15,7 +15,7 @@ use lk_ask::asks::Asks;
 use lk_ask::rule::Rule;
 use lk_ask::stop::Stop;
 use lk_env::unit::BlockType;
-use lk_rows::memory::NoMemory;
+use lk_store::memory::NoMemory;
 use std::alloc::Global;
 
 /// The indices of a type past its parameters, and the level of its sort.
@@ -31,9 +31,13 @@ fn type_end<A: Asks>(
     ensures basis { A.basis asks.new ≡ A.basis asks.old }
     ensures table { A.table asks.new ≡ A.table asks.old }
     ensures place { A.place asks.new ≡ A.place asks.old }
-    ensures indices_known { IfOk result (λ t. All (λ x. x < length (A.contents asks.new).trees) t.0.items) }
+    ensures indices_known { IfOk result (λ t. All
+        (λ x. x < length (A.contents asks.new).trees) t.0.items) }
     ensures level_known { IfOk result (λ t. t.1 < length (A.contents asks.new).levels) }
-    ensures outcome { Gives (A.table asks.old) (A.place asks.old) (type_end first count (tree_at (A.contents asks.old) e)) (A.left asks.old) (λ t. (map (tree_at (A.contents asks.new)) t.0.items, level_at (A.contents asks.new) t.1)) (A.left asks.new) result }
+    ensures outcome { Gives (A.table asks.old) (A.place asks.old)
+        (type_end first count (tree_at (A.contents asks.old) e)) (A.left asks.old)
+        (λ t. (map (tree_at (A.contents asks.new)) t.0.items, level_at (A.contents asks.new) t.1))
+        (A.left asks.new) result }
 {
     let opened = match telescope(alloc, asks, first, count, e) {
         Ok(opened) => opened,
@@ -61,7 +65,10 @@ fn end_at_level<A: Asks>(
     ensures table { A.table asks.new ≡ A.table asks.old }
     ensures place { A.place asks.new ≡ A.place asks.old }
     ensures known { IfOk result (λ t. All (λ x. x < length (A.contents asks.new).trees) t.items) }
-    ensures outcome { Gives (A.table asks.old) (A.place asks.old) (end_form first count (level_at (A.contents asks.old) level) (tree_at (A.contents asks.old) e)) (A.left asks.old) (λ t. map (tree_at (A.contents asks.new)) t.items) (A.left asks.new) result }
+    ensures outcome { Gives (A.table asks.old) (A.place asks.old)
+        (end_form first count (level_at (A.contents asks.old) level)
+        (tree_at (A.contents asks.old) e)) (A.left asks.old)
+        (λ t. map (tree_at (A.contents asks.new)) t.items) (A.left asks.new) result }
 {
     let end = match type_end(alloc, asks, first, count, e) {
         Ok(end) => end,
@@ -91,7 +98,11 @@ fn next_type<A: Asks>(
     ensures table { A.table asks.new ≡ A.table asks.old }
     ensures place { A.place asks.new ≡ A.place asks.old }
     ensures known { IfOk result (λ t. All (λ x. x < length (A.contents asks.new).trees) t.items) }
-    ensures outcome { Gives (A.table asks.old) (A.place asks.old) (next_form (map (tree_at (A.contents asks.old)) parameters.now) (level_at (A.contents asks.old) level) indices (tree_at (A.contents asks.old) kind)) (A.left asks.old) (λ t. map (tree_at (A.contents asks.new)) t.items) (A.left asks.new) result }
+    ensures outcome { Gives (A.table asks.old) (A.place asks.old)
+        (next_form (map (tree_at (A.contents asks.old)) parameters.now)
+        (level_at (A.contents asks.old) level) indices (tree_at (A.contents asks.old) kind))
+        (A.left asks.old) (λ t. map (tree_at (A.contents asks.new)) t.items)
+        (A.left asks.new) result }
 {
     match sort_of(asks, kind) {
         Ok(_) => {}
@@ -117,9 +128,13 @@ fn end_with_itself<A: Asks>(
     ensures basis { A.basis asks.new ≡ A.basis asks.old }
     ensures table { A.table asks.new ≡ A.table asks.old }
     ensures place { A.place asks.new ≡ A.place asks.old }
-    ensures indices_known { IfOk result (λ t. All (λ x. x < length (A.contents asks.new).trees) t.0.items) }
+    ensures indices_known { IfOk result (λ t. All
+        (λ x. x < length (A.contents asks.new).trees) t.0.items) }
     ensures level_known { IfOk result (λ t. t.1 < length (A.contents asks.new).levels) }
-    ensures outcome { Gives (A.table asks.old) (A.place asks.old) (self_form first count (tree_at (A.contents asks.old) e)) (A.left asks.old) (λ t. (map (tree_at (A.contents asks.new)) t.0.items, level_at (A.contents asks.new) t.1)) (A.left asks.new) result }
+    ensures outcome { Gives (A.table asks.old) (A.place asks.old)
+        (self_form first count (tree_at (A.contents asks.old) e)) (A.left asks.old)
+        (λ t. (map (tree_at (A.contents asks.new)) t.0.items, level_at (A.contents asks.new) t.1))
+        (A.left asks.new) result }
 {
     let end = match type_end(alloc, asks, first, count, e) {
         Ok(end) => end,
@@ -159,7 +174,11 @@ fn more_types<A: Asks>(
     ensures table { A.table asks.new ≡ A.table asks.old }
     ensures place { A.place asks.new ≡ A.place asks.old }
     ensures known { AreListsIn (A.contents asks.new) indices.new.items }
-    ensures outcome { Gives (A.table asks.old) (A.place asks.old) (more_form (lists_at (A.contents asks.old) indices.old.items) (map (tree_at (A.contents asks.old)) parameters.now) (level_at (A.contents asks.old) level) (map (type_at (A.contents asks.old)) types.now)) (A.left asks.old) (λ u. lists_at (A.contents asks.new) indices.new.items) (A.left asks.new) result }
+    ensures outcome { Gives (A.table asks.old) (A.place asks.old)
+        (more_form (lists_at (A.contents asks.old) indices.old.items)
+        (map (tree_at (A.contents asks.old)) parameters.now) (level_at (A.contents asks.old) level)
+        (map (type_at (A.contents asks.old)) types.now)) (A.left asks.old)
+        (λ u. lists_at (A.contents asks.new) indices.new.items) (A.left asks.new) result }
 {
     let mut rest = types;
     'types: while let Some((stated, more)) = rest.split_first() {
@@ -210,7 +229,9 @@ fn open_parameters<A: Asks>(
     ensures table { A.table asks.new ≡ A.table asks.old }
     ensures place { A.place asks.new ≡ A.place asks.old }
     ensures known { IfOk result (ArePartsIn (A.contents asks.new)) }
-    ensures outcome { Gives (A.table asks.old) (A.place asks.old) (open_form parameters indices (tree_at (A.contents asks.old) kind)) (A.left asks.old) (parts_at (A.contents asks.new)) (A.left asks.new) result }
+    ensures outcome { Gives (A.table asks.old) (A.place asks.old)
+        (open_form parameters indices (tree_at (A.contents asks.old) kind)) (A.left asks.old)
+        (parts_at (A.contents asks.new)) (A.left asks.new) result }
 {
     let opened = match telescope(alloc, asks, 0, parameters, kind) {
         Ok(opened) => opened,
@@ -240,7 +261,9 @@ fn first_type<A: Asks>(
     ensures table { A.table asks.new ≡ A.table asks.old }
     ensures place { A.place asks.new ≡ A.place asks.old }
     ensures known { IfOk result (ArePartsIn (A.contents asks.new)) }
-    ensures outcome { Gives (A.table asks.old) (A.place asks.old) (first_form parameters indices (tree_at (A.contents asks.old) kind)) (A.left asks.old) (parts_at (A.contents asks.new)) (A.left asks.new) result }
+    ensures outcome { Gives (A.table asks.old) (A.place asks.old)
+        (first_form parameters indices (tree_at (A.contents asks.old) kind)) (A.left asks.old)
+        (parts_at (A.contents asks.new)) (A.left asks.new) result }
 {
     match sort_of(asks, kind) {
         Ok(_) => open_parameters(alloc, asks, parameters, kind, indices),
@@ -262,7 +285,10 @@ fn add_others<A: Asks>(
     ensures table { A.table asks.new ≡ A.table asks.old }
     ensures place { A.place asks.new ≡ A.place asks.old }
     ensures known { IfOk result (ArePartsIn (A.contents asks.new)) }
-    ensures outcome { Gives (A.table asks.old) (A.place asks.old) (others_form (parts_at (A.contents asks.old) parts) (map (type_at (A.contents asks.old)) others.now)) (A.left asks.old) (parts_at (A.contents asks.new)) (A.left asks.new) result }
+    ensures outcome { Gives (A.table asks.old) (A.place asks.old)
+        (others_form (parts_at (A.contents asks.old) parts)
+        (map (type_at (A.contents asks.old)) others.now)) (A.left asks.old)
+        (parts_at (A.contents asks.new)) (A.left asks.new) result }
 {
     let TypeParts {
         parameters,
@@ -295,7 +321,9 @@ pub fn check_types<A: Asks>(
     ensures table { A.table asks.new ≡ A.table asks.old }
     ensures place { A.place asks.new ≡ A.place asks.old }
     ensures known { IfOk result (ArePartsIn (A.contents asks.new)) }
-    ensures outcome { Gives (A.table asks.old) (A.place asks.old) (types_steps parameters (map (type_at (A.contents asks.old)) types.now)) (A.left asks.old) (parts_at (A.contents asks.new)) (A.left asks.new) result }
+    ensures outcome { Gives (A.table asks.old) (A.place asks.old)
+        (types_steps parameters (map (type_at (A.contents asks.old)) types.now)) (A.left asks.old)
+        (parts_at (A.contents asks.new)) (A.left asks.new) result }
 {
     match types.split_first() {
         None => Err(Stop::Rule(Rule::BlockShape)),

@@ -12,7 +12,7 @@ use crate::own::{Comparison, names_of};
 use crate::renaming::{levels_of, renamed_rule, renamed_type};
 use lk_ask::asks::Asks;
 use lk_block::shape::{ConstructorShape, Shape, TypeShape};
-use lk_rows::memory::NoMemory;
+use lk_store::memory::NoMemory;
 use std::alloc::Global;
 
 /// What all recursors of a block share, made between questions.
@@ -61,8 +61,10 @@ pub(crate) fn levels_between<A: Asks>(
     ensures table { A.table asks.new ≡ A.table asks.old }
     ensures place { A.place asks.new ≡ A.place asks.old }
     ensures left { A.left asks.new ≡ A.left asks.old }
-    ensures known { IfOk result (λ ls. All (λ l. l < length (A.contents asks.new).levels) ls.items) }
-    ensures ok { IfOk result (λ ls. map (level_at (A.contents asks.new)) ls.items ≡ map param (map (name_at (A.contents asks.old)) names.now)) }
+    ensures known { IfOk result (λ ls. All
+        (λ l. l < length (A.contents asks.new).levels) ls.items) }
+    ensures ok { IfOk result (λ ls. map (level_at (A.contents asks.new)) ls.items
+        ≡ map param (map (name_at (A.contents asks.old)) names.now)) }
 {
     levels_of(alloc, asks, names)
 }
@@ -79,7 +81,8 @@ pub(crate) fn type_between<A: Asks>(
     ensures table { A.table asks.new ≡ A.table asks.old }
     ensures place { A.place asks.new ≡ A.place asks.old }
     ensures left { A.left asks.new ≡ A.left asks.old }
-    ensures ok { IfOk result (λ e. IsTree (A.contents asks.new) e (renamed_type (A.contents asks.old) pair.now)) }
+    ensures ok { IfOk result (λ e. IsTree (A.contents asks.new) e
+        (renamed_type (A.contents asks.old) pair.now)) }
 {
     renamed_type(alloc, asks, pair)
 }
@@ -100,7 +103,8 @@ pub(crate) fn rule_between<A: Asks>(
     ensures table { A.table asks.new ≡ A.table asks.old }
     ensures place { A.place asks.new ≡ A.place asks.old }
     ensures left { A.left asks.new ≡ A.left asks.old }
-    ensures ok { IfOk result (λ e. IsTree (A.contents asks.new) e (renamed_value (A.contents asks.old) pair.now minor constructor.now)) }
+    ensures ok { IfOk result (λ e. IsTree (A.contents asks.new) e
+        (renamed_value (A.contents asks.old) pair.now minor constructor.now)) }
 {
     renamed_rule(alloc, asks, pair, minor, constructor)
 }

@@ -12,14 +12,14 @@ ghost use Rattle.lk_recursor.specs.Runs.{close_run_at};
 
 use crate::runs::{Run, close_run};
 use lk_block::numbers::number_after;
-use lk_rows::memory::NoMemory;
+use lk_store::memory::NoMemory;
 use lk_store::node::Node;
 use lk_store::terms::Terms;
 use lk_subst::closing::close;
 use std::alloc::Global;
 
 /// What binds a variable.
-#[derive(Clone, Copy, Debug, PartialEq, Eq)]
+#[derive(Clone, Copy)]
 pub enum Binder {
     Pi,
     Lam,
@@ -27,8 +27,10 @@ pub enum Binder {
 
 /// The node of a binder over a body.
 fn node_of(binder: Binder, domain: u64, body: u64) -> Node
-    ensures known { (c : Contents) → domain < length c.trees → body < length c.trees → IsIn c result }
-    ensures tree { (c : Contents) → tree_of c result ≡ bind binder (tree_at c domain) (tree_at c body) }
+    ensures known { (c : Contents) → domain < length c.trees → body < length c.trees
+        → IsIn c result }
+    ensures tree { (c : Contents) → tree_of c result
+        ≡ bind binder (tree_at c domain) (tree_at c body) }
 {
     match binder {
         Binder::Pi => Node::Pi(domain, body),
@@ -40,7 +42,8 @@ fn node_of(binder: Binder, domain: u64, body: u64) -> Node
 fn parts_of<T: Terms>(terms: &T, e: u64) -> (u64, u64)
     requires { e < length (T.contents terms.now).trees }
     ensures number { result.0 ≡ number (tree_at (T.contents terms.now) e) }
-    ensures domain { IsTree (T.contents terms.now) result.1 (domain (tree_at (T.contents terms.now) e)) }
+    ensures domain { IsTree (T.contents terms.now) result.1
+        (domain (tree_at (T.contents terms.now) e)) }
 {
     match terms.view(e) {
         Node::Local(number, domain) => (number, domain),
@@ -60,7 +63,10 @@ pub(crate) fn over_local<T: Terms>(
     requires e_in { e < length (T.contents terms.old).trees }
     ensures keeps { Extends (T.contents terms.old) (T.contents terms.new) }
     ensures rest { T.rest terms.new ≡ T.rest terms.old }
-    ensures ok { IfOk result (λ r. IsTree (T.contents terms.new) r (bind binder (domain (tree_at (T.contents terms.old) local)) (closed (number (tree_at (T.contents terms.old) local)) (tree_at (T.contents terms.old) e)))) }
+    ensures ok { IfOk result (λ r. IsTree (T.contents terms.new) r
+        (bind binder (domain (tree_at (T.contents terms.old) local))
+        (closed (number (tree_at (T.contents terms.old) local))
+        (tree_at (T.contents terms.old) e)))) }
 {
     let parts = parts_of(terms, local);
     let body = close(alloc, terms, e, parts.0)?;
@@ -80,7 +86,9 @@ fn over_each<T: Terms>(
     requires e_in { e < length (T.contents terms.old).trees }
     ensures keeps { Extends (T.contents terms.old) (T.contents terms.new) }
     ensures rest { T.rest terms.new ≡ T.rest terms.old }
-    ensures ok { IfOk result (λ r. IsTree (T.contents terms.new) r (bound_by binder (map (tree_at (T.contents terms.old)) locals.now) (tree_at (T.contents terms.old) e))) }
+    ensures ok { IfOk result (λ r. IsTree (T.contents terms.new) r
+        (bound_by binder (map (tree_at (T.contents terms.old)) locals.now)
+        (tree_at (T.contents terms.old) e))) }
 {
     let mut left = locals;
     let mut made = e;
@@ -121,7 +129,9 @@ fn over_last<T: Terms>(
     requires e_in { e < length (T.contents terms.old).trees }
     ensures keeps { Extends (T.contents terms.old) (T.contents terms.new) }
     ensures rest { T.rest terms.new ≡ T.rest terms.old }
-    ensures ok { IfOk result (λ r. IsTree (T.contents terms.new) r (bind binder (close_run_at 0 run.first run.count (domain (tree_at (T.contents terms.old) local))) (tree_at (T.contents terms.old) e))) }
+    ensures ok { IfOk result (λ r. IsTree (T.contents terms.new) r
+        (bind binder (close_run_at 0 run.first run.count
+        (domain (tree_at (T.contents terms.old) local))) (tree_at (T.contents terms.old) e))) }
 {
     let parts = parts_of(terms, local);
     let domain = close_run(alloc, terms, run.first, run.count, parts.1)?;
@@ -143,7 +153,9 @@ fn over_run<T: Terms>(
     requires e_in { e < length (T.contents terms.old).trees }
     ensures keeps { Extends (T.contents terms.old) (T.contents terms.new) }
     ensures rest { T.rest terms.new ≡ T.rest terms.old }
-    ensures ok { IfOk result (λ r. IsTree (T.contents terms.new) r (bound_by binder (map (tree_at (T.contents terms.old)) locals.now) (tree_at (T.contents terms.old) e))) }
+    ensures ok { IfOk result (λ r. IsTree (T.contents terms.new) r
+        (bound_by binder (map (tree_at (T.contents terms.old)) locals.now)
+        (tree_at (T.contents terms.old) e))) }
 {
     let mut left = locals;
     let mut made = close_run(alloc, terms, first, locals.len() as u64, e)?;
@@ -171,7 +183,9 @@ pub fn over_locals<T: Terms>(
     requires e_in { e < length (T.contents terms.old).trees }
     ensures keeps { Extends (T.contents terms.old) (T.contents terms.new) }
     ensures rest { T.rest terms.new ≡ T.rest terms.old }
-    ensures ok { IfOk result (λ r. IsTree (T.contents terms.new) r (bound_by binder (map (tree_at (T.contents terms.old)) locals.now) (tree_at (T.contents terms.old) e))) }
+    ensures ok { IfOk result (λ r. IsTree (T.contents terms.new) r
+        (bound_by binder (map (tree_at (T.contents terms.old)) locals.now)
+        (tree_at (T.contents terms.old) e))) }
 {
     let first = match locals.first() {
         Some(local) => parts_of(terms, *local).0,
@@ -190,7 +204,9 @@ pub fn arrows_to<T: Terms>(terms: &mut T, domains: &[u64], e: u64) -> Result<u64
     requires e_in { e < length (T.contents terms.old).trees }
     ensures keeps { Extends (T.contents terms.old) (T.contents terms.new) }
     ensures rest { T.rest terms.new ≡ T.rest terms.old }
-    ensures ok { IfOk result (λ r. IsTree (T.contents terms.new) r (arrows (map (tree_at (T.contents terms.old)) domains.now) (tree_at (T.contents terms.old) e))) }
+    ensures ok { IfOk result (λ r. IsTree (T.contents terms.new) r
+        (arrows (map (tree_at (T.contents terms.old)) domains.now)
+        (tree_at (T.contents terms.old) e))) }
 {
     let mut left = domains;
     let mut made = e;
@@ -211,7 +227,8 @@ pub fn locals_of<T: Terms>(
     requires { All (λ x. x < length (T.contents terms.old).trees) domains.now }
     ensures keeps { Extends (T.contents terms.old) (T.contents terms.new) }
     ensures rest { T.rest terms.new ≡ T.rest terms.old }
-    ensures ok { IfOk result (λ xs. AreTrees (T.contents terms.new) xs.items (locals_from first (map (tree_at (T.contents terms.old)) domains.now))) }
+    ensures ok { IfOk result (λ xs. AreTrees (T.contents terms.new) xs.items
+        (locals_from first (map (tree_at (T.contents terms.old)) domains.now))) }
 {
     let mut locals = Vec::new(alloc);
     let mut left = domains;

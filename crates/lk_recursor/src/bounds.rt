@@ -6,7 +6,7 @@ ghost use Rattle.lk_inductive.specs.Recursors.{bounds, kind_bound, fields_bound,
 ghost use Rattle.lk_block.specs.Shapes.{kind_at, field_at, constructor_shape_at, type_shape_at, shape_at, IsKindIn, IsFieldIn, IsConstructorShapeIn, IsTypeShapeIn, IsShapeIn};
 
 use lk_block::shape::{ConstructorShape, Field, FieldKind, Shape, TypeShape};
-use lk_rows::memory::NoMemory;
+use lk_store::memory::NoMemory;
 use lk_store::terms::Terms;
 
 /// The larger of two numbers.
@@ -62,7 +62,8 @@ fn bound_of_fields<T: Terms>(terms: &T, fields: &[Field]) -> u128
 /// The least number above every Local of constructors.
 fn bound_of_constructors<T: Terms>(terms: &T, constructors: &[ConstructorShape]) -> u128
     requires { All (IsConstructorShapeIn (T.contents terms.now)) constructors.now }
-    ensures { result ≡ ctors_bound (map (constructor_shape_at (T.contents terms.now)) constructors.now) }
+    ensures { result ≡ ctors_bound (map (constructor_shape_at
+        (T.contents terms.now)) constructors.now) }
 {
     let mut left = constructors;
     let mut most = 0;

@@ -32,7 +32,9 @@ fn check_same<A: Asks>(asks: &mut A, stated: u64, made: u64) -> Result<(), Stop>
     ensures basis { A.basis asks.new ≡ A.basis asks.old }
     ensures table { A.table asks.new ≡ A.table asks.old }
     ensures place { A.place asks.new ≡ A.place asks.old }
-    ensures outcome { Gives (A.table asks.old) (A.place asks.old) (same_form (tree_at (A.contents asks.old) stated) (tree_at (A.contents asks.old) made)) (A.left asks.old) (λ u. checked) (A.left asks.new) result }
+    ensures outcome { Gives (A.table asks.old) (A.place asks.old)
+        (same_form (tree_at (A.contents asks.old) stated) (tree_at (A.contents asks.old) made))
+        (A.left asks.old) (λ u. checked) (A.left asks.new) result }
 {
     match are_same(asks, stated, made) {
         Ok(true) => Ok(()),
@@ -48,7 +50,10 @@ fn check_type<A: Asks>(alloc: Global, asks: &mut A, pair: &Comparison) -> Result
     ensures basis { A.basis asks.new ≡ A.basis asks.old }
     ensures table { A.table asks.new ≡ A.table asks.old }
     ensures place { A.place asks.new ≡ A.place asks.old }
-    ensures outcome { Gives (A.table asks.old) (A.place asks.old) (same_form (stated_of (A.contents asks.old) pair.now).type (renamed_type (A.contents asks.old) pair.now)) (A.left asks.old) (λ u. checked) (A.left asks.new) result }
+    ensures outcome { Gives (A.table asks.old) (A.place asks.old)
+        (same_form (stated_of (A.contents asks.old) pair.now).type
+        (renamed_type (A.contents asks.old) pair.now)) (A.left asks.old) (λ u. checked)
+        (A.left asks.new) result }
 {
     match type_between(alloc, asks, pair) {
         Ok(made) => check_same(asks, pair.stated.kind, made),
@@ -73,7 +78,10 @@ fn check_value<A: Asks>(
     ensures basis { A.basis asks.new ≡ A.basis asks.old }
     ensures table { A.table asks.new ≡ A.table asks.old }
     ensures place { A.place asks.new ≡ A.place asks.old }
-    ensures outcome { Gives (A.table asks.old) (A.place asks.old) (same_form (tree_at (A.contents asks.old) value) (renamed_value (A.contents asks.old) pair.now minor constructor.now)) (A.left asks.old) (λ u. checked) (A.left asks.new) result }
+    ensures outcome { Gives (A.table asks.old) (A.place asks.old)
+        (same_form (tree_at (A.contents asks.old) value)
+        (renamed_value (A.contents asks.old) pair.now minor constructor.now)) (A.left asks.old)
+        (λ u. checked) (A.left asks.new) result }
 {
     match rule_between(alloc, asks, pair, minor, constructor) {
         Ok(made) => check_same(asks, value, made),
@@ -98,7 +106,10 @@ fn check_rule<A: Asks>(
     ensures basis { A.basis asks.new ≡ A.basis asks.old }
     ensures table { A.table asks.new ≡ A.table asks.old }
     ensures place { A.place asks.new ≡ A.place asks.old }
-    ensures outcome { Gives (A.table asks.old) (A.place asks.old) (rule_form (tree_at (A.contents asks.old) value) (renamed_value (A.contents asks.old) pair.now minor constructor.now)) (A.left asks.old) (λ u. checked) (A.left asks.new) result }
+    ensures outcome { Gives (A.table asks.old) (A.place asks.old)
+        (rule_form (tree_at (A.contents asks.old) value)
+        (renamed_value (A.contents asks.old) pair.now minor constructor.now)) (A.left asks.old)
+        (λ u. checked) (A.left asks.new) result }
 {
     match type_of(asks, value) {
         Ok(_) => check_value(alloc, asks, pair, minor, constructor, value),
@@ -113,7 +124,12 @@ fn check_rules<A: Asks>(alloc: Global, asks: &mut A, pair: &Comparison) -> Resul
     ensures basis { A.basis asks.new ≡ A.basis asks.old }
     ensures table { A.table asks.new ≡ A.table asks.old }
     ensures place { A.place asks.new ≡ A.place asks.old }
-    ensures outcome { Gives (A.table asks.old) (A.place asks.old) (rules_steps (stated_of (A.contents asks.old) pair.now) (own_of (A.contents asks.old) pair.now) (stated_of (A.contents asks.old) pair.now).recursor.rules (own_of (A.contents asks.old) pair.now).recursor.rules) (A.left asks.old) (λ u. checked) (A.left asks.new) result }
+    ensures outcome { Gives (A.table asks.old) (A.place asks.old)
+        (rules_steps (stated_of (A.contents asks.old) pair.now)
+        (own_of (A.contents asks.old) pair.now)
+        (stated_of (A.contents asks.old) pair.now).recursor.rules
+        (own_of (A.contents asks.old) pair.now).recursor.rules) (A.left asks.old) (λ u. checked)
+        (A.left asks.new) result }
 {
     let mut rules = pair.stated.rules.as_slice();
     let mut minors = pair.own.minors;
@@ -145,7 +161,10 @@ fn check_parts<A: Asks>(alloc: Global, asks: &mut A, pair: &Comparison) -> Resul
     ensures basis { A.basis asks.new ≡ A.basis asks.old }
     ensures table { A.table asks.new ≡ A.table asks.old }
     ensures place { A.place asks.new ≡ A.place asks.old }
-    ensures outcome { Gives (A.table asks.old) (A.place asks.old) (parts_form (stated_of (A.contents asks.old) pair.now) (own_of (A.contents asks.old) pair.now)) (A.left asks.old) (λ u. checked) (A.left asks.new) result }
+    ensures outcome { Gives (A.table asks.old) (A.place asks.old)
+        (parts_form (stated_of (A.contents asks.old) pair.now)
+        (own_of (A.contents asks.old) pair.now)) (A.left asks.old) (λ u. checked)
+        (A.left asks.new) result }
 {
     match check_type(alloc, asks, pair) {
         Ok(_) => check_rules(alloc, asks, pair),
@@ -160,7 +179,10 @@ fn check_trees<A: Asks>(alloc: Global, asks: &mut A, pair: &Comparison) -> Resul
     ensures basis { A.basis asks.new ≡ A.basis asks.old }
     ensures table { A.table asks.new ≡ A.table asks.old }
     ensures place { A.place asks.new ≡ A.place asks.old }
-    ensures outcome { Gives (A.table asks.old) (A.place asks.old) (trees_form (stated_of (A.contents asks.old) pair.now) (own_of (A.contents asks.old) pair.now)) (A.left asks.old) (λ u. checked) (A.left asks.new) result }
+    ensures outcome { Gives (A.table asks.old) (A.place asks.old)
+        (trees_form (stated_of (A.contents asks.old) pair.now)
+        (own_of (A.contents asks.old) pair.now)) (A.left asks.old) (λ u. checked)
+        (A.left asks.new) result }
 {
     match sort_of(asks, pair.stated.kind) {
         Ok(_) => check_parts(alloc, asks, pair),
@@ -175,7 +197,10 @@ fn check_pair<A: Asks>(alloc: Global, asks: &mut A, pair: &Comparison) -> Result
     ensures basis { A.basis asks.new ≡ A.basis asks.old }
     ensures table { A.table asks.new ≡ A.table asks.old }
     ensures place { A.place asks.new ≡ A.place asks.old }
-    ensures outcome { Gives (A.table asks.old) (A.place asks.old) (rec_steps (stated_of (A.contents asks.old) pair.now) (own_of (A.contents asks.old) pair.now)) (A.left asks.old) (λ u. checked) (A.left asks.new) result }
+    ensures outcome { Gives (A.table asks.old) (A.place asks.old)
+        (rec_steps (stated_of (A.contents asks.old) pair.now)
+        (own_of (A.contents asks.old) pair.now)) (A.left asks.old) (λ u. checked)
+        (A.left asks.new) result }
 {
     if !counts_agree(asks, pair) {
         return Err(Stop::Rule(Rule::RecursorDiffers));
@@ -198,7 +223,11 @@ fn check_found<A: Asks>(
     ensures basis { A.basis asks.new ≡ A.basis asks.old }
     ensures table { A.table asks.new ≡ A.table asks.old }
     ensures place { A.place asks.new ≡ A.place asks.old }
-    ensures outcome { Gives (A.table asks.old) (A.place asks.old) (rec_steps (recursor_at (A.contents asks.old) stated.now) (own_at (A.contents asks.old) (shape_at (A.contents asks.old) shared.now.shape.now) own.entry)) (A.left asks.old) (λ u. checked) (A.left asks.new) result }
+    ensures outcome { Gives (A.table asks.old) (A.place asks.old)
+        (rec_steps (recursor_at (A.contents asks.old) stated.now)
+        (own_at (A.contents asks.old) (shape_at
+        (A.contents asks.old) shared.now.shape.now) own.entry)) (A.left asks.old) (λ u. checked)
+        (A.left asks.new) result }
 {
     let levels = match levels_between(alloc, asks, &stated.levels) {
         Ok(levels) => levels,
@@ -226,7 +255,11 @@ fn check_recursor<A: Asks>(
     ensures basis { A.basis asks.new ≡ A.basis asks.old }
     ensures table { A.table asks.new ≡ A.table asks.old }
     ensures place { A.place asks.new ≡ A.place asks.old }
-    ensures outcome { Gives (A.table asks.old) (A.place asks.old) (compare_found (recursor_at (A.contents asks.old) stated.now) (rec_named (recursors (shape_at (A.contents asks.old) shared.now.shape.now)) (name_at (A.contents asks.old) stated.now.name))) (A.left asks.old) (λ u. checked) (A.left asks.new) result }
+    ensures outcome { Gives (A.table asks.old) (A.place asks.old)
+        (compare_found (recursor_at (A.contents asks.old) stated.now)
+        (rec_named (recursors (shape_at (A.contents asks.old) shared.now.shape.now))
+        (name_at (A.contents asks.old) stated.now.name))) (A.left asks.old) (λ u. checked)
+        (A.left asks.new) result }
 {
     match named(
         asks,
@@ -253,7 +286,10 @@ fn check_all<A: Asks>(
     ensures basis { A.basis asks.new ≡ A.basis asks.old }
     ensures table { A.table asks.new ≡ A.table asks.old }
     ensures place { A.place asks.new ≡ A.place asks.old }
-    ensures outcome { Gives (A.table asks.old) (A.place asks.old) (compare_steps (recursors (shape_at (A.contents asks.old) shared.now.shape.now)) (map (recursor_at (A.contents asks.old)) stated.now)) (A.left asks.old) (λ u. checked) (A.left asks.new) result }
+    ensures outcome { Gives (A.table asks.old) (A.place asks.old)
+        (compare_steps (recursors (shape_at (A.contents asks.old) shared.now.shape.now))
+        (map (recursor_at (A.contents asks.old)) stated.now)) (A.left asks.old) (λ u. checked)
+        (A.left asks.new) result }
 {
     let mut rest = stated;
     'stated: while let Some((recursor, more)) = rest.split_first() {
@@ -281,7 +317,10 @@ fn compare_with<A: Asks>(
     ensures basis { A.basis asks.new ≡ A.basis asks.old }
     ensures table { A.table asks.new ≡ A.table asks.old }
     ensures place { A.place asks.new ≡ A.place asks.old }
-    ensures outcome { Gives (A.table asks.old) (A.place asks.old) (compare_steps (recursors (shape_at (A.contents asks.old) shape.now)) (map (recursor_at (A.contents asks.old)) stated.now)) (A.left asks.old) (λ u. checked) (A.left asks.new) result }
+    ensures outcome { Gives (A.table asks.old) (A.place asks.old)
+        (compare_steps (recursors (shape_at (A.contents asks.old) shape.now))
+        (map (recursor_at (A.contents asks.old)) stated.now)) (A.left asks.old) (λ u. checked)
+        (A.left asks.new) result }
 {
     let names = match names_between(alloc, asks, &shape.types) {
         Ok(names) => names,
@@ -318,7 +357,10 @@ pub fn compare<A: Asks>(
     ensures basis { A.basis asks.new ≡ A.basis asks.old }
     ensures table { A.table asks.new ≡ A.table asks.old }
     ensures place { A.place asks.new ≡ A.place asks.old }
-    ensures outcome { Gives (A.table asks.old) (A.place asks.old) (compare_steps (recursors (shape_at (A.contents asks.old) shape.now)) (map (recursor_at (A.contents asks.old)) stated.now)) (A.left asks.old) (λ u. checked) (A.left asks.new) result }
+    ensures outcome { Gives (A.table asks.old) (A.place asks.old)
+        (compare_steps (recursors (shape_at (A.contents asks.old) shape.now))
+        (map (recursor_at (A.contents asks.old)) stated.now)) (A.left asks.old) (λ u. checked)
+        (A.left asks.new) result }
 {
     if stated.is_empty() {
         return Ok(());

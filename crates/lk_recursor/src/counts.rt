@@ -20,7 +20,9 @@ use lk_store::terms::Terms;
 fn rule_agrees<T: Terms>(terms: &T, rule: &RecursorRule, constructor: &ConstructorShape) -> bool
     requires rule_in { IsRuleIn (T.contents terms.now) rule.now }
     requires constructor_in { IsConstructorShapeIn (T.contents terms.now) constructor.now }
-    ensures { result ≡ (same_name (name_at (T.contents terms.now) rule.now.constructor) (name_at (T.contents terms.now) constructor.now.name) && nat_eq rule.now.fields (length constructor.now.fields.items)) }
+    ensures { result ≡ (same_name (name_at (T.contents terms.now) rule.now.constructor)
+        (name_at (T.contents terms.now) constructor.now.name) && nat_eq rule.now.fields
+        (length constructor.now.fields.items)) }
 {
     names_equal(terms, rule.constructor, constructor.name)
         && rule.fields == constructor.fields.len() as u64
@@ -35,7 +37,10 @@ fn rules_agree<T: Terms>(
 ) -> bool
     requires rules_in { All (IsRuleIn (T.contents terms.now)) rules.now }
     requires constructors_in { All (IsConstructorShapeIn (T.contents terms.now)) constructors.now }
-    ensures { (s : PlainShape) → result ≡ same_rules (map (rule_at (T.contents terms.now)) rules.now) (rules_of as_they_are s (map (tree_at (T.contents terms.now)) minors.now) (map (constructor_shape_at (T.contents terms.now)) constructors.now)) }
+    ensures { (s : PlainShape) → result ≡ same_rules
+        (map (rule_at (T.contents terms.now)) rules.now)
+        (rules_of as_they_are s (map (tree_at (T.contents terms.now)) minors.now)
+        (map (constructor_shape_at (T.contents terms.now)) constructors.now)) }
 {
     let mut left = rules;
     let mut premises = minors;
@@ -63,7 +68,8 @@ fn rules_agree<T: Terms>(
 #[tactic(auto, using(crate::proofs::Agreeing::counts_are))]
 pub fn counts_agree<T: Terms>(terms: &T, pair: &Comparison) -> bool
     requires { IsComparison (T.contents terms.now) pair.now }
-    ensures { result ≡ same_counts (stated_of (T.contents terms.now) pair.now) (own_of (T.contents terms.now) pair.now) }
+    ensures { result ≡ same_counts (stated_of (T.contents terms.now) pair.now)
+        (own_of (T.contents terms.now) pair.now) }
 {
     let stated = pair.stated;
     let shape = pair.shared.shape;

@@ -15,8 +15,8 @@ use crate::levels::{elimination_level, level_names};
 use crate::minors::minors_of;
 use lk_block::parameters::parameter_levels;
 use lk_block::shape::Shape;
-use lk_rows::memory::NoMemory;
 use lk_spine::apply;
+use lk_store::memory::NoMemory;
 use lk_store::terms::Terms;
 use std::alloc::Global;
 
@@ -104,7 +104,11 @@ pub(crate) fn over_front<T: Terms>(
     requires e_in { e < length (T.contents terms.old).trees }
     ensures keeps { Extends (T.contents terms.old) (T.contents terms.new) }
     ensures rest { T.rest terms.new ≡ T.rest terms.old }
-    ensures ok { IfOk result (λ r. IsTree (T.contents terms.new) r (bound_by binder (shape_at (T.contents terms.old) shape.now).params (bound_by binder (motives (shape_at (T.contents terms.old) shape.now) ++ minors (shape_at (T.contents terms.old) shape.now)) (tree_at (T.contents terms.old) e)))) }
+    ensures ok { IfOk result (λ r. IsTree (T.contents terms.new) r
+        (bound_by binder (shape_at (T.contents terms.old) shape.now).params
+        (bound_by binder (motives (shape_at (T.contents terms.old) shape.now)
+        ++ minors (shape_at (T.contents terms.old) shape.now))
+        (tree_at (T.contents terms.old) e)))) }
 {
     let inner = over_locals(alloc, terms, binder, &front.minors, e)?;
     let middle = over_locals(alloc, terms, binder, &front.heads.motives, inner)?;
@@ -124,7 +128,9 @@ pub(crate) fn at_front<T: Terms>(
     requires head_in { head < length (T.contents terms.old).trees }
     ensures keeps { Extends (T.contents terms.old) (T.contents terms.new) }
     ensures rest { T.rest terms.new ≡ T.rest terms.old }
-    ensures ok { IfOk result (λ r. IsTree (T.contents terms.new) r (applied (tree_at (T.contents terms.old) head) (front_locals (shape_at (T.contents terms.old) shape.now)))) }
+    ensures ok { IfOk result (λ r. IsTree (T.contents terms.new) r
+        (applied (tree_at (T.contents terms.old) head)
+        (front_locals (shape_at (T.contents terms.old) shape.now)))) }
 {
     let first = apply(terms, head, &shape.parameters)?;
     let second = apply(terms, first, &front.heads.motives)?;

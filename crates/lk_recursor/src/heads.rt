@@ -12,8 +12,8 @@ ghost use Rattle.lk_recursor.specs.Fronts.{AreHeads};
 use crate::binders::{Binder, locals_of, over_locals};
 use lk_block::counts::names_equal;
 use lk_block::shape::{Shape, TypeShape};
-use lk_rows::memory::NoMemory;
 use lk_spine::apply;
+use lk_store::memory::NoMemory;
 use lk_store::node::{ListNode, Node};
 use lk_store::terms::Terms;
 use std::alloc::Global;
@@ -36,12 +36,16 @@ pub fn at_parameters<T: Terms>(
     arguments: &[u64],
 ) -> Result<u64, NoMemory>
     requires shape_in { IsShapeIn (T.contents terms.old) shape.now }
-    requires levels_are { IsList (T.contents terms.old) own_levels (map param (shape_at (T.contents terms.old) shape.now).levels) }
+    requires levels_are { IsList (T.contents terms.old) own_levels
+        (map param (shape_at (T.contents terms.old) shape.now).levels) }
     requires name_in { name < length (T.contents terms.old).names }
     requires arguments_in { All (λ x. x < length (T.contents terms.old).trees) arguments.now }
     ensures keeps { Extends (T.contents terms.old) (T.contents terms.new) }
     ensures rest { T.rest terms.new ≡ T.rest terms.old }
-    ensures ok { IfOk result (λ e. IsTree (T.contents terms.new) e (applied (at_params (shape_at (T.contents terms.old) shape.now) (name_at (T.contents terms.old) name)) (map (tree_at (T.contents terms.old)) arguments.now))) }
+    ensures ok { IfOk result (λ e. IsTree (T.contents terms.new) e
+        (applied (at_params (shape_at (T.contents terms.old) shape.now)
+        (name_at (T.contents terms.old) name))
+        (map (tree_at (T.contents terms.old)) arguments.now))) }
 {
     let constant = terms.make(Node::Const(name, own_levels))?;
     let front = apply(terms, constant, &shape.parameters)?;
@@ -59,13 +63,17 @@ fn type_of_motive<T: Terms>(
     of: &TypeShape,
 ) -> Result<u64, NoMemory>
     requires shape_in { IsShapeIn (T.contents terms.old) shape.now }
-    requires levels_are { IsList (T.contents terms.old) own_levels (map param (shape_at (T.contents terms.old) shape.now).levels) }
+    requires levels_are { IsList (T.contents terms.old) own_levels
+        (map param (shape_at (T.contents terms.old) shape.now).levels) }
     requires level_in { level < length (T.contents terms.old).levels }
-    requires level_is { level_at (T.contents terms.old) level ≡ elim_level (shape_at (T.contents terms.old) shape.now) }
+    requires level_is { level_at (T.contents terms.old) level
+        ≡ elim_level (shape_at (T.contents terms.old) shape.now) }
     requires type_in { IsTypeShapeIn (T.contents terms.old) of.now }
     ensures keeps { Extends (T.contents terms.old) (T.contents terms.new) }
     ensures rest { T.rest terms.new ≡ T.rest terms.old }
-    ensures ok { IfOk result (λ e. IsTree (T.contents terms.new) e (motive_type (shape_at (T.contents terms.old) shape.now) (type_shape_at (T.contents terms.old) of.now))) }
+    ensures ok { IfOk result (λ e. IsTree (T.contents terms.new) e
+        (motive_type (shape_at (T.contents terms.old) shape.now)
+        (type_shape_at (T.contents terms.old) of.now))) }
 {
     let domain = at_parameters(terms, shape, own_levels, of.name, &of.indices)?;
     let sort = terms.make(Node::Sort(level))?;
@@ -83,12 +91,16 @@ fn types_of_motives<T: Terms>(
     level: u64,
 ) -> Result<Vec<u64>, NoMemory>
     requires shape_in { IsShapeIn (T.contents terms.old) shape.now }
-    requires levels_are { IsList (T.contents terms.old) own_levels (map param (shape_at (T.contents terms.old) shape.now).levels) }
+    requires levels_are { IsList (T.contents terms.old) own_levels
+        (map param (shape_at (T.contents terms.old) shape.now).levels) }
     requires level_in { level < length (T.contents terms.old).levels }
-    requires level_is { level_at (T.contents terms.old) level ≡ elim_level (shape_at (T.contents terms.old) shape.now) }
+    requires level_is { level_at (T.contents terms.old) level
+        ≡ elim_level (shape_at (T.contents terms.old) shape.now) }
     ensures keeps { Extends (T.contents terms.old) (T.contents terms.new) }
     ensures rest { T.rest terms.new ≡ T.rest terms.old }
-    ensures ok { IfOk result (λ ts. AreTrees (T.contents terms.new) ts.items (map (motive_type (shape_at (T.contents terms.old) shape.now)) (shape_at (T.contents terms.old) shape.now).types)) }
+    ensures ok { IfOk result (λ ts. AreTrees (T.contents terms.new) ts.items
+        (map (motive_type (shape_at (T.contents terms.old) shape.now))
+        (shape_at (T.contents terms.old) shape.now).types)) }
 {
     let mut found = Vec::new(alloc);
     let mut left: &[TypeShape] = &shape.types;
@@ -110,13 +122,16 @@ pub fn motives_of<T: Terms>(
     first: u64,
 ) -> Result<Vec<u64>, NoMemory>
     requires shape_in { IsShapeIn (T.contents terms.old) shape.now }
-    requires levels_are { IsList (T.contents terms.old) own_levels (map param (shape_at (T.contents terms.old) shape.now).levels) }
+    requires levels_are { IsList (T.contents terms.old) own_levels
+        (map param (shape_at (T.contents terms.old) shape.now).levels) }
     requires level_in { level < length (T.contents terms.old).levels }
-    requires level_is { level_at (T.contents terms.old) level ≡ elim_level (shape_at (T.contents terms.old) shape.now) }
+    requires level_is { level_at (T.contents terms.old) level
+        ≡ elim_level (shape_at (T.contents terms.old) shape.now) }
     requires first_is { first ≡ shape_bound (shape_at (T.contents terms.old) shape.now) }
     ensures keeps { Extends (T.contents terms.old) (T.contents terms.new) }
     ensures rest { T.rest terms.new ≡ T.rest terms.old }
-    ensures ok { IfOk result (λ ms. AreTrees (T.contents terms.new) ms.items (motives (shape_at (T.contents terms.old) shape.now))) }
+    ensures ok { IfOk result (λ ms. AreTrees (T.contents terms.new) ms.items
+        (motives (shape_at (T.contents terms.old) shape.now))) }
 {
     let types = types_of_motives(alloc, terms, shape, own_levels, level)?;
     let motives = locals_of(alloc, terms, first, &types)?;
@@ -129,8 +144,13 @@ fn find_motive<T: Terms>(terms: &T, types: &[TypeShape], motives: &[u64], name: 
     requires motives_in { All (λ x. x < length (T.contents terms.now).trees) motives.now }
     requires name_in { name < length (T.contents terms.now).names }
     ensures { MatchOption result
-        (motive_in (map (type_shape_at (T.contents terms.now)) types.now) (map (tree_at (T.contents terms.now)) motives.now) (name_at (T.contents terms.now) name) ≡ const (name_at (T.contents terms.now) name) [])
-        (λ m. IsTree (T.contents terms.now) m (motive_in (map (type_shape_at (T.contents terms.now)) types.now) (map (tree_at (T.contents terms.now)) motives.now) (name_at (T.contents terms.now) name))) }
+        (motive_in (map (type_shape_at (T.contents terms.now)) types.now)
+        (map (tree_at (T.contents terms.now)) motives.now) (name_at (T.contents terms.now) name)
+        ≡ const (name_at (T.contents terms.now) name) [])
+        (λ m. IsTree (T.contents terms.now) m
+        (motive_in (map (type_shape_at (T.contents terms.now)) types.now)
+        (map (tree_at (T.contents terms.now)) motives.now)
+        (name_at (T.contents terms.now) name))) }
 {
     let mut types_left = types;
     let mut motives_left = motives;
@@ -161,7 +181,9 @@ fn motive_for<T: Terms>(
     requires name_in { name < length (T.contents terms.old).names }
     ensures keeps { Extends (T.contents terms.old) (T.contents terms.new) }
     ensures rest { T.rest terms.new ≡ T.rest terms.old }
-    ensures ok { IfOk result (λ e. IsTree (T.contents terms.new) e (motive_of (shape_at (T.contents terms.old) shape.now) (name_at (T.contents terms.old) name))) }
+    ensures ok { IfOk result (λ e. IsTree (T.contents terms.new) e
+        (motive_of (shape_at (T.contents terms.old) shape.now)
+        (name_at (T.contents terms.old) name))) }
 {
     if let Some(motive) = find_motive(terms, &shape.types, &heads.motives, name) {
         return Ok(motive);
@@ -187,7 +209,10 @@ pub fn motive_at<T: Terms>(
     requires subject_in { subject < length (T.contents terms.old).trees }
     ensures keeps { Extends (T.contents terms.old) (T.contents terms.new) }
     ensures rest { T.rest terms.new ≡ T.rest terms.old }
-    ensures ok { IfOk result (λ e. IsTree (T.contents terms.new) e (app (applied (motive_of (shape_at (T.contents terms.old) shape.now) (name_at (T.contents terms.old) name)) (map (tree_at (T.contents terms.old)) indices.now)) (tree_at (T.contents terms.old) subject))) }
+    ensures ok { IfOk result (λ e. IsTree (T.contents terms.new) e
+        (app (applied (motive_of (shape_at (T.contents terms.old) shape.now)
+        (name_at (T.contents terms.old) name)) (map (tree_at (T.contents terms.old)) indices.now))
+        (tree_at (T.contents terms.old) subject))) }
 {
     let motive = motive_for(terms, shape, heads, name)?;
     let front = apply(terms, motive, indices)?;

@@ -7,7 +7,7 @@ ghost use Rattle.lk_inductive.specs.Recursors.{motive_level, elim_level, rec_par
 ghost use Rattle.lk_block.specs.Shapes.{shape_at, IsShapeIn};
 
 use lk_block::shape::Shape;
-use lk_rows::memory::NoMemory;
+use lk_store::memory::NoMemory;
 use lk_store::node::{LevelNode, NameNode};
 use lk_store::terms::Terms;
 use lk_store::text::Text;
@@ -18,7 +18,8 @@ fn text_after<T: Terms>(terms: &mut T, name: u64, bytes: Vec<u8>) -> Result<u64,
     requires { name < length (T.contents terms.old).names }
     ensures keeps { Extends (T.contents terms.old) (T.contents terms.new) }
     ensures rest { T.rest terms.new ≡ T.rest terms.old }
-    ensures ok { IfOk result (λ n. IsName (T.contents terms.new) n (name_at (T.contents terms.old) name ++ text bytes.items ∷ [])) }
+    ensures ok { IfOk result (λ n. IsName (T.contents terms.new) n
+        (name_at (T.contents terms.old) name ++ text bytes.items ∷ [])) }
 {
     let component = terms.make_text(Text::new(bytes))?;
     let made = terms.make_name(NameNode::Text(name, component))?;
@@ -30,7 +31,8 @@ pub fn recursor_name<T: Terms>(alloc: Global, terms: &mut T, name: u64) -> Resul
     requires { name < length (T.contents terms.old).names }
     ensures keeps { Extends (T.contents terms.old) (T.contents terms.new) }
     ensures rest { T.rest terms.new ≡ T.rest terms.old }
-    ensures ok { IfOk result (λ n. IsName (T.contents terms.new) n (rec_name (name_at (T.contents terms.old) name))) }
+    ensures ok { IfOk result (λ n. IsName (T.contents terms.new) n
+        (rec_name (name_at (T.contents terms.old) name))) }
 {
     let bytes = Vec::from_slice(alloc, b"rec")?;
     text_after(terms, name, bytes)
@@ -55,7 +57,8 @@ pub fn elimination_level<T: Terms>(
 ) -> Result<u64, NoMemory>
     ensures keeps { Extends (T.contents terms.old) (T.contents terms.new) }
     ensures rest { T.rest terms.new ≡ T.rest terms.old }
-    ensures ok { IfOk result (λ l. IsLevel (T.contents terms.new) l (elim_level (shape_at (T.contents terms.old) shape.now))) }
+    ensures ok { IfOk result (λ l. IsLevel (T.contents terms.new) l
+        (elim_level (shape_at (T.contents terms.old) shape.now))) }
 {
     if !shape.large {
         return terms.make_level(LevelNode::Zero);
@@ -83,8 +86,10 @@ pub fn level_names<T: Terms>(
     requires { IsShapeIn (T.contents terms.old) shape.now }
     ensures keeps { Extends (T.contents terms.old) (T.contents terms.new) }
     ensures rest { T.rest terms.new ≡ T.rest terms.old }
-    ensures known { IfOk result (λ ns. All (λ n. n < length (T.contents terms.new).names) ns.items) }
-    ensures ok { IfOk result (λ ns. map (name_at (T.contents terms.new)) ns.items ≡ rec_params (shape_at (T.contents terms.old) shape.now)) }
+    ensures known { IfOk result (λ ns. All
+        (λ n. n < length (T.contents terms.new).names) ns.items) }
+    ensures ok { IfOk result (λ ns. map (name_at (T.contents terms.new)) ns.items
+        ≡ rec_params (shape_at (T.contents terms.old) shape.now)) }
 {
     if !shape.large {
         let own = Vec::from_slice(alloc, &shape.levels)?;

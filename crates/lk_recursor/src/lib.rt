@@ -16,5 +16,3 @@ pub mod recursor;
 mod renaming;
 pub mod rules;
 mod runs;
-#[cfg(test)]
-mod tests;

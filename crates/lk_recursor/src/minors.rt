@@ -11,8 +11,8 @@ ghost use Rattle.lk_recursor.specs.Hypotheses.{hypothesis, minor_body};
 use crate::binders::{Binder, arrows_to, locals_of, over_locals};
 use crate::heads::{Heads, at_parameters, motive_at};
 use lk_block::shape::{ConstructorShape, Field, FieldKind, Recursion, Shape, TypeShape};
-use lk_rows::memory::NoMemory;
 use lk_spine::apply;
+use lk_store::memory::NoMemory;
 use lk_store::terms::Terms;
 use std::alloc::Global;
 
@@ -42,7 +42,12 @@ fn hypothesis_of<T: Terms>(
     requires recursion_in { IsRecursionIn (T.contents terms.old) recursion.now }
     ensures keeps { Extends (T.contents terms.old) (T.contents terms.new) }
     ensures rest { T.rest terms.new ≡ T.rest terms.old }
-    ensures ok { IfOk result (λ e. IsTree (T.contents terms.new) e (hypothesis (shape_at (T.contents terms.old) shape.now) (tree_at (T.contents terms.old) variable) (map (tree_at (T.contents terms.old)) recursion.now.arguments.items) (name_at (T.contents terms.old) recursion.now.name) (map (tree_at (T.contents terms.old)) recursion.now.indices.items))) }
+    ensures ok { IfOk result (λ e. IsTree (T.contents terms.new) e
+        (hypothesis (shape_at (T.contents terms.old) shape.now)
+        (tree_at (T.contents terms.old) variable)
+        (map (tree_at (T.contents terms.old)) recursion.now.arguments.items)
+        (name_at (T.contents terms.old) recursion.now.name)
+        (map (tree_at (T.contents terms.old)) recursion.now.indices.items))) }
 {
     let subject = apply(terms, variable, &recursion.arguments)?;
     let body = motive_at(
@@ -73,7 +78,10 @@ fn add_hypothesis<T: Terms>(
     ensures keeps { Extends (T.contents terms.old) (T.contents terms.new) }
     ensures rest { T.rest terms.new ≡ T.rest terms.old }
     ensures known { OnOk result (AreTreesIn (T.contents terms.new) found.new.items) }
-    ensures ok { OnOk result (map (tree_at (T.contents terms.new)) found.new.items ≡ map (tree_at (T.contents terms.old)) found.old.items ++ hypotheses (shape_at (T.contents terms.old) shape.now) (field_at (T.contents terms.old) field.now ∷ [])) }
+    ensures ok { OnOk result (map (tree_at (T.contents terms.new)) found.new.items
+        ≡ map (tree_at (T.contents terms.old)) found.old.items
+        ++ hypotheses (shape_at (T.contents terms.old) shape.now)
+        (field_at (T.contents terms.old) field.now ∷ [])) }
 {
     match &field.kind {
         FieldKind::Plain => Ok(()),
@@ -98,7 +106,9 @@ fn hypotheses_of<T: Terms>(
     requires fields_in { All (IsFieldIn (T.contents terms.old)) fields.now }
     ensures keeps { Extends (T.contents terms.old) (T.contents terms.new) }
     ensures rest { T.rest terms.new ≡ T.rest terms.old }
-    ensures ok { IfOk result (λ es. AreTrees (T.contents terms.new) es.items (hypotheses (shape_at (T.contents terms.old) shape.now) (map (field_at (T.contents terms.old)) fields.now))) }
+    ensures ok { IfOk result (λ es. AreTrees (T.contents terms.new) es.items
+        (hypotheses (shape_at (T.contents terms.old) shape.now)
+        (map (field_at (T.contents terms.old)) fields.now))) }
 {
     let mut found = Vec::new(alloc);
     let mut left = fields;
@@ -126,7 +136,11 @@ fn body_of_minor<T: Terms>(
     requires variables_in { AreTreesIn (T.contents terms.old) variables.now }
     ensures keeps { Extends (T.contents terms.old) (T.contents terms.new) }
     ensures rest { T.rest terms.new ≡ T.rest terms.old }
-    ensures ok { IfOk result (λ e. IsTree (T.contents terms.new) e (minor_body (shape_at (T.contents terms.old) shape.now) (type_shape_at (T.contents terms.old) of.now) (constructor_shape_at (T.contents terms.old) constructor.now) (map (tree_at (T.contents terms.old)) variables.now))) }
+    ensures ok { IfOk result (λ e. IsTree (T.contents terms.new) e
+        (minor_body (shape_at (T.contents terms.old) shape.now)
+        (type_shape_at (T.contents terms.old) of.now)
+        (constructor_shape_at (T.contents terms.old) constructor.now)
+        (map (tree_at (T.contents terms.old)) variables.now))) }
 {
     let hypotheses = hypotheses_of(alloc, terms, shape, heads, &constructor.fields)?;
     let own = heads.own_levels;
@@ -151,7 +165,10 @@ fn type_of_minor<T: Terms>(
     requires constructor_in { IsConstructorShapeIn (T.contents terms.old) constructor.now }
     ensures keeps { Extends (T.contents terms.old) (T.contents terms.new) }
     ensures rest { T.rest terms.new ≡ T.rest terms.old }
-    ensures ok { IfOk result (λ e. IsTree (T.contents terms.new) e (minor_type (shape_at (T.contents terms.old) shape.now) (type_shape_at (T.contents terms.old) of.now) (constructor_shape_at (T.contents terms.old) constructor.now))) }
+    ensures ok { IfOk result (λ e. IsTree (T.contents terms.new) e
+        (minor_type (shape_at (T.contents terms.old) shape.now)
+        (type_shape_at (T.contents terms.old) of.now)
+        (constructor_shape_at (T.contents terms.old) constructor.now))) }
 {
     let variables = variables_of(alloc, &constructor.fields)?;
     let body = body_of_minor(alloc, terms, shape, heads, of, constructor, &variables)?;
@@ -175,7 +192,11 @@ fn add_minors<T: Terms>(
     ensures keeps { Extends (T.contents terms.old) (T.contents terms.new) }
     ensures rest { T.rest terms.new ≡ T.rest terms.old }
     ensures known { OnOk result (AreTreesIn (T.contents terms.new) found.new.items) }
-    ensures ok { OnOk result (map (tree_at (T.contents terms.new)) found.new.items ≡ map (tree_at (T.contents terms.old)) found.old.items ++ map (minor_type (shape_at (T.contents terms.old) shape.now) (type_shape_at (T.contents terms.old) of.now)) (type_shape_at (T.contents terms.old) of.now).ctors) }
+    ensures ok { OnOk result (map (tree_at (T.contents terms.new)) found.new.items
+        ≡ map (tree_at (T.contents terms.old)) found.old.items
+        ++ map (minor_type (shape_at (T.contents terms.old) shape.now)
+        (type_shape_at (T.contents terms.old) of.now))
+        (type_shape_at (T.contents terms.old) of.now).ctors) }
 {
     let mut left: &[ConstructorShape] = &of.constructors;
     'constructors: while let Some((constructor, others)) = left.split_first() {
@@ -197,7 +218,9 @@ fn types_of_minors<T: Terms>(
     requires heads_are { AreHeads (T.contents terms.old) shape.now heads.now }
     ensures keeps { Extends (T.contents terms.old) (T.contents terms.new) }
     ensures rest { T.rest terms.new ≡ T.rest terms.old }
-    ensures ok { IfOk result (λ es. AreTrees (T.contents terms.new) es.items (minor_types (shape_at (T.contents terms.old) shape.now) (shape_at (T.contents terms.old) shape.now).types)) }
+    ensures ok { IfOk result (λ es. AreTrees (T.contents terms.new) es.items
+        (minor_types (shape_at (T.contents terms.old) shape.now)
+        (shape_at (T.contents terms.old) shape.now).types)) }
 {
     let mut found = Vec::new(alloc);
     let mut left: &[TypeShape] = &shape.types;
@@ -218,10 +241,12 @@ pub fn minors_of<T: Terms>(
 ) -> Result<Vec<u64>, NoMemory>
     requires shape_in { IsShapeIn (T.contents terms.old) shape.now }
     requires heads_are { AreHeads (T.contents terms.old) shape.now heads.now }
-    requires first_is { first ≡ shape_bound (shape_at (T.contents terms.old) shape.now) + length (shape_at (T.contents terms.old) shape.now).types }
+    requires first_is { first ≡ shape_bound (shape_at (T.contents terms.old) shape.now) + length
+        (shape_at (T.contents terms.old) shape.now).types }
     ensures keeps { Extends (T.contents terms.old) (T.contents terms.new) }
     ensures rest { T.rest terms.new ≡ T.rest terms.old }
-    ensures ok { IfOk result (λ ms. AreTrees (T.contents terms.new) ms.items (minors (shape_at (T.contents terms.old) shape.now))) }
+    ensures ok { IfOk result (λ ms. AreTrees (T.contents terms.new) ms.items
+        (minors (shape_at (T.contents terms.old) shape.now))) }
 {
     let types = types_of_minors(alloc, terms, shape, heads)?;
     let minors = locals_of(alloc, terms, first, &types)?;

@@ -13,7 +13,7 @@ use crate::levels::recursor_name;
 use lk_block::counts::names_equal;
 use lk_block::shape::{ConstructorShape, Shape, TypeShape};
 use lk_env::unit::Recursor;
-use lk_rows::memory::NoMemory;
+use lk_store::memory::NoMemory;
 use lk_store::terms::Terms;
 use std::alloc::Global;
 
@@ -90,7 +90,11 @@ pub fn named<'a, T: Terms>(
     requires minors_in { AreTreesIn (T.contents terms.now) minors.now }
     requires name_in { name < length (T.contents terms.now).names }
     ensures known { IfSome result (IsOwnRecursor (T.contents terms.now)) }
-    ensures found { (s : PlainShape) → rec_named (recs_from as_they_are s (map (tree_at (T.contents terms.now)) minors.now) (map (type_shape_at (T.contents terms.now)) types.now)) (name_at (T.contents terms.now) name) ≡ option_map (own_at (T.contents terms.now) s) result }
+    ensures found { (s : PlainShape) → rec_named
+        (recs_from as_they_are s (map (tree_at (T.contents terms.now)) minors.now)
+        (map (type_shape_at (T.contents terms.now)) types.now))
+        (name_at (T.contents terms.now) name)
+        ≡ option_map (own_at (T.contents terms.now) s) result }
 {
     let mut names = names;
     let mut types = types;

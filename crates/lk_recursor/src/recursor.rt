@@ -12,7 +12,7 @@ use crate::front::{Front, over_front};
 use crate::heads::{at_parameters, motive_at};
 use lk_block::shape::{Shape, TypeShape};
 use lk_level_order::zero::is_zero;
-use lk_rows::memory::NoMemory;
+use lk_store::memory::NoMemory;
 use lk_store::node::Node;
 use lk_store::terms::Terms;
 use std::alloc::Global;
@@ -29,7 +29,9 @@ fn major_of<T: Terms>(
     requires type_in { IsTypeShapeIn (T.contents terms.old) of.now }
     ensures keeps { Extends (T.contents terms.old) (T.contents terms.new) }
     ensures rest { T.rest terms.new ≡ T.rest terms.old }
-    ensures ok { IfOk result (λ e. IsTree (T.contents terms.new) e (major (shape_at (T.contents terms.old) shape.now) (type_shape_at (T.contents terms.old) of.now))) }
+    ensures ok { IfOk result (λ e. IsTree (T.contents terms.new) e
+        (major (shape_at (T.contents terms.old) shape.now)
+        (type_shape_at (T.contents terms.old) of.now))) }
 {
     let own = front.heads.own_levels;
     let domain = at_parameters(terms, shape, own, of.name, &of.indices)?;
@@ -50,7 +52,9 @@ fn end_of<T: Terms>(
     requires type_in { IsTypeShapeIn (T.contents terms.old) of.now }
     ensures keeps { Extends (T.contents terms.old) (T.contents terms.new) }
     ensures rest { T.rest terms.new ≡ T.rest terms.old }
-    ensures ok { IfOk result (λ e. IsTree (T.contents terms.new) e (major_end (shape_at (T.contents terms.old) shape.now) (type_shape_at (T.contents terms.old) of.now))) }
+    ensures ok { IfOk result (λ e. IsTree (T.contents terms.new) e
+        (major_end (shape_at (T.contents terms.old) shape.now)
+        (type_shape_at (T.contents terms.old) of.now))) }
 {
     let major = major_of(terms, shape, front, of)?;
     let end = motive_at(terms, shape, &front.heads, of.name, &of.indices, major)?;
@@ -71,7 +75,9 @@ pub fn recursor_type<T: Terms>(
     requires type_in { IsTypeShapeIn (T.contents terms.old) of.now }
     ensures keeps { Extends (T.contents terms.old) (T.contents terms.new) }
     ensures rest { T.rest terms.new ≡ T.rest terms.old }
-    ensures ok { IfOk result (λ e. IsTree (T.contents terms.new) e (rec_type as_they_are (shape_at (T.contents terms.old) shape.now) (type_shape_at (T.contents terms.old) of.now))) }
+    ensures ok { IfOk result (λ e. IsTree (T.contents terms.new) e
+        (rec_type as_they_are (shape_at (T.contents terms.old) shape.now)
+        (type_shape_at (T.contents terms.old) of.now))) }
 {
     let end = end_of(alloc, terms, shape, front, of)?;
     let body = over_locals(alloc, terms, Binder::Pi, &of.indices, end)?;

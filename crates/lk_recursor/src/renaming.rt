@@ -11,7 +11,7 @@ use crate::own::Comparison;
 use crate::recursor::recursor_type;
 use crate::rules::rule_value;
 use lk_block::shape::ConstructorShape;
-use lk_rows::memory::NoMemory;
+use lk_store::memory::NoMemory;
 use lk_store::node::LevelNode;
 use lk_store::terms::Terms;
 use lk_subst::levels::put_levels_in;
@@ -26,8 +26,10 @@ pub fn levels_of<T: Terms>(
     requires { All (λ n. n < length (T.contents terms.old).names) names.now }
     ensures keeps { Extends (T.contents terms.old) (T.contents terms.new) }
     ensures rest { T.rest terms.new ≡ T.rest terms.old }
-    ensures known { IfOk result (λ ls. All (λ l. l < length (T.contents terms.new).levels) ls.items) }
-    ensures ok { IfOk result (λ ls. map (level_at (T.contents terms.new)) ls.items ≡ map param (map (name_at (T.contents terms.old)) names.now)) }
+    ensures known { IfOk result (λ ls. All
+        (λ l. l < length (T.contents terms.new).levels) ls.items) }
+    ensures ok { IfOk result (λ ls. map (level_at (T.contents terms.new)) ls.items
+        ≡ map param (map (name_at (T.contents terms.old)) names.now)) }
 {
     let mut levels: Vec<u64> = Vec::new(alloc);
     let mut rest = names;
@@ -53,7 +55,9 @@ fn renamed<T: Terms>(
     requires e_in { e < length (T.contents terms.old).trees }
     ensures keeps { Extends (T.contents terms.old) (T.contents terms.new) }
     ensures rest { T.rest terms.new ≡ T.rest terms.old }
-    ensures ok { IfOk result (λ r. IsTree (T.contents terms.new) r (renamed (stated_of (T.contents terms.old) pair.now) (own_of (T.contents terms.old) pair.now) (tree_at (T.contents terms.old) e))) }
+    ensures ok { IfOk result (λ r. IsTree (T.contents terms.new) r
+        (renamed (stated_of (T.contents terms.old) pair.now)
+        (own_of (T.contents terms.old) pair.now) (tree_at (T.contents terms.old) e))) }
 {
     put_levels_in(alloc, terms, &pair.shared.front.names, pair.levels, e)
 }
@@ -67,7 +71,8 @@ pub fn renamed_type<T: Terms>(
     requires { IsComparison (T.contents terms.old) pair.now }
     ensures keeps { Extends (T.contents terms.old) (T.contents terms.new) }
     ensures rest { T.rest terms.new ≡ T.rest terms.old }
-    ensures ok { IfOk result (λ e. IsTree (T.contents terms.new) e (renamed_type (T.contents terms.old) pair.now)) }
+    ensures ok { IfOk result (λ e. IsTree (T.contents terms.new) e
+        (renamed_type (T.contents terms.old) pair.now)) }
 {
     let made = recursor_type(
         alloc,
@@ -92,7 +97,8 @@ pub fn renamed_rule<T: Terms>(
     requires constructor_in { IsConstructorShapeIn (T.contents terms.old) constructor.now }
     ensures keeps { Extends (T.contents terms.old) (T.contents terms.new) }
     ensures rest { T.rest terms.new ≡ T.rest terms.old }
-    ensures ok { IfOk result (λ e. IsTree (T.contents terms.new) e (renamed_value (T.contents terms.old) pair.now minor constructor.now)) }
+    ensures ok { IfOk result (λ e. IsTree (T.contents terms.new) e
+        (renamed_value (T.contents terms.old) pair.now minor constructor.now)) }
 {
     let made = rule_value(
         alloc,

@@ -15,8 +15,8 @@ use crate::front::{Front, at_front, over_front};
 use crate::levels::recursor_name;
 use crate::minors::variables_of;
 use lk_block::shape::{ConstructorShape, Field, FieldKind, Recursion, Shape};
-use lk_rows::memory::NoMemory;
 use lk_spine::apply;
+use lk_store::memory::NoMemory;
 use lk_store::node::Node;
 use lk_store::terms::Terms;
 use std::alloc::Global;
@@ -34,7 +34,9 @@ fn recursor_at_front<T: Terms>(
     requires name_in { name < length (T.contents terms.old).names }
     ensures keeps { Extends (T.contents terms.old) (T.contents terms.new) }
     ensures rest { T.rest terms.new ≡ T.rest terms.old }
-    ensures ok { IfOk result (λ e. IsTree (T.contents terms.new) e (recursor_at (shape_at (T.contents terms.old) shape.now) (name_at (T.contents terms.old) name))) }
+    ensures ok { IfOk result (λ e. IsTree (T.contents terms.new) e
+        (recursor_at (shape_at (T.contents terms.old) shape.now)
+        (name_at (T.contents terms.old) name))) }
 {
     let recursor = recursor_name(alloc, terms, name)?;
     let head = terms.make(Node::Const(recursor, front.levels))?;
@@ -59,7 +61,10 @@ fn recursor_applied<T: Terms>(
     requires subject_in { subject < length (T.contents terms.old).trees }
     ensures keeps { Extends (T.contents terms.old) (T.contents terms.new) }
     ensures rest { T.rest terms.new ≡ T.rest terms.old }
-    ensures ok { IfOk result (λ e. IsTree (T.contents terms.new) e (app (applied (recursor_at (shape_at (T.contents terms.old) shape.now) (name_at (T.contents terms.old) name)) (map (tree_at (T.contents terms.old)) indices.now)) (tree_at (T.contents terms.old) subject))) }
+    ensures ok { IfOk result (λ e. IsTree (T.contents terms.new) e
+        (app (applied (recursor_at (shape_at (T.contents terms.old) shape.now)
+        (name_at (T.contents terms.old) name)) (map (tree_at (T.contents terms.old)) indices.now))
+        (tree_at (T.contents terms.old) subject))) }
 {
     let recursor = recursor_at_front(alloc, terms, shape, front, name)?;
     let at_indices = apply(terms, recursor, indices)?;
@@ -82,7 +87,12 @@ fn induction_of<T: Terms>(
     requires recursion_in { IsRecursionIn (T.contents terms.old) recursion.now }
     ensures keeps { Extends (T.contents terms.old) (T.contents terms.new) }
     ensures rest { T.rest terms.new ≡ T.rest terms.old }
-    ensures ok { IfOk result (λ e. IsTree (T.contents terms.new) e (induction (shape_at (T.contents terms.old) shape.now) (tree_at (T.contents terms.old) variable) (map (tree_at (T.contents terms.old)) recursion.now.arguments.items) (name_at (T.contents terms.old) recursion.now.name) (map (tree_at (T.contents terms.old)) recursion.now.indices.items))) }
+    ensures ok { IfOk result (λ e. IsTree (T.contents terms.new) e
+        (induction (shape_at (T.contents terms.old) shape.now)
+        (tree_at (T.contents terms.old) variable)
+        (map (tree_at (T.contents terms.old)) recursion.now.arguments.items)
+        (name_at (T.contents terms.old) recursion.now.name)
+        (map (tree_at (T.contents terms.old)) recursion.now.indices.items))) }
 {
     let subject = apply(terms, variable, &recursion.arguments)?;
     let body = recursor_applied(
@@ -114,7 +124,10 @@ fn add_induction<T: Terms>(
     ensures keeps { Extends (T.contents terms.old) (T.contents terms.new) }
     ensures rest { T.rest terms.new ≡ T.rest terms.old }
     ensures known { OnOk result (AreTreesIn (T.contents terms.new) found.new.items) }
-    ensures ok { OnOk result (map (tree_at (T.contents terms.new)) found.new.items ≡ map (tree_at (T.contents terms.old)) found.old.items ++ inductions (shape_at (T.contents terms.old) shape.now) (field_at (T.contents terms.old) field.now ∷ [])) }
+    ensures ok { OnOk result (map (tree_at (T.contents terms.new)) found.new.items
+        ≡ map (tree_at (T.contents terms.old)) found.old.items
+        ++ inductions (shape_at (T.contents terms.old) shape.now)
+        (field_at (T.contents terms.old) field.now ∷ [])) }
 {
     match &field.kind {
         FieldKind::Plain => Ok(()),
@@ -139,7 +152,9 @@ fn inductions_of<T: Terms>(
     requires fields_in { All (IsFieldIn (T.contents terms.old)) fields.now }
     ensures keeps { Extends (T.contents terms.old) (T.contents terms.new) }
     ensures rest { T.rest terms.new ≡ T.rest terms.old }
-    ensures ok { IfOk result (λ es. AreTrees (T.contents terms.new) es.items (inductions (shape_at (T.contents terms.old) shape.now) (map (field_at (T.contents terms.old)) fields.now))) }
+    ensures ok { IfOk result (λ es. AreTrees (T.contents terms.new) es.items
+        (inductions (shape_at (T.contents terms.old) shape.now)
+        (map (field_at (T.contents terms.old)) fields.now))) }
 {
     let mut found = Vec::new(alloc);
     let mut left = fields;
@@ -167,7 +182,10 @@ fn minor_applied<T: Terms>(
     requires variables_in { AreTreesIn (T.contents terms.old) variables.now }
     ensures keeps { Extends (T.contents terms.old) (T.contents terms.new) }
     ensures rest { T.rest terms.new ≡ T.rest terms.old }
-    ensures ok { IfOk result (λ e. IsTree (T.contents terms.new) e (rule_end (shape_at (T.contents terms.old) shape.now) (tree_at (T.contents terms.old) minor) (constructor_shape_at (T.contents terms.old) constructor.now) (map (tree_at (T.contents terms.old)) variables.now))) }
+    ensures ok { IfOk result (λ e. IsTree (T.contents terms.new) e
+        (rule_end (shape_at (T.contents terms.old) shape.now) (tree_at (T.contents terms.old) minor)
+        (constructor_shape_at (T.contents terms.old) constructor.now)
+        (map (tree_at (T.contents terms.old)) variables.now))) }
 {
     let inductions = inductions_of(alloc, terms, shape, front, &constructor.fields)?;
     let at_fields = apply(terms, minor, variables)?;
@@ -190,7 +208,10 @@ pub fn rule_value<T: Terms>(
     requires constructor_in { IsConstructorShapeIn (T.contents terms.old) constructor.now }
     ensures keeps { Extends (T.contents terms.old) (T.contents terms.new) }
     ensures rest { T.rest terms.new ≡ T.rest terms.old }
-    ensures ok { IfOk result (λ e. IsTree (T.contents terms.new) e (rule_value as_they_are (shape_at (T.contents terms.old) shape.now) (tree_at (T.contents terms.old) minor) (constructor_shape_at (T.contents terms.old) constructor.now))) }
+    ensures ok { IfOk result (λ e. IsTree (T.contents terms.new) e
+        (rule_value as_they_are (shape_at (T.contents terms.old) shape.now)
+        (tree_at (T.contents terms.old) minor)
+        (constructor_shape_at (T.contents terms.old) constructor.now))) }
 {
     let variables = variables_of(alloc, &constructor.fields)?;
     let end = minor_applied(alloc, terms, shape, front, minor, constructor, &variables)?;

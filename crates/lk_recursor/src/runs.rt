@@ -5,14 +5,14 @@ ghost use Rattle.lk_tree.specs.Tree.{Tree, local, var};
 ghost use Rattle.lk_store.specs.Contents.{tree_at, Extends, IsTree};
 ghost use Rattle.lk_recursor.specs.Runs.{close_run_at, run_var};
 
-use lk_rows::memory::NoMemory;
+use lk_store::memory::NoMemory;
 use lk_store::node::Node;
 use lk_store::terms::Terms;
 use lk_subst::walk::{Rewrite, rewritten};
 use std::alloc::Global;
 
 /// Puts the outermost variables in place of so many Locals from a number on, the innermost of them for the last.
-#[derive(Clone, Copy, Debug, PartialEq, Eq)]
+#[derive(Clone, Copy)]
 pub struct Run {
     pub first: u64,
     pub count: u64,
@@ -20,7 +20,9 @@ pub struct Run {
 
 /// The variable for the Local of a number under binders, if it is one of the run.
 fn variable_for(run: Run, depth: u64, number: u64) -> Result<Option<u64>, NoMemory>
-    ensures { IfOk result (λ r. (T : Tree) → MatchOption r (run_var depth run.first run.count number T ≡ local number T) (λ i. run_var depth run.first run.count number T ≡ var i)) }
+    ensures { IfOk result (λ r. (T : Tree)
+        → MatchOption r (run_var depth run.first run.count number T ≡ local number T)
+        (λ i. run_var depth run.first run.count number T ≡ var i)) }
 {
     if number < run.first {
         return Ok(None);
@@ -87,7 +89,8 @@ pub fn close_run<T: Terms>(
     requires { e < length (T.contents terms.old).trees }
     ensures keeps { Extends (T.contents terms.old) (T.contents terms.new) }
     ensures rest { T.rest terms.new ≡ T.rest terms.old }
-    ensures ok { IfOk result (λ r. IsTree (T.contents terms.new) r (close_run_at 0 first count (tree_at (T.contents terms.old) e))) }
+    ensures ok { IfOk result (λ r. IsTree (T.contents terms.new) r
+        (close_run_at 0 first count (tree_at (T.contents terms.old) e))) }
 {
     rewritten(alloc, terms, &Run { first, count }, e)
 }

@@ -1,6 +1,6 @@
 use Rattle.std.proofs.Common.{sym, subst, ◌∙◌}
 use Rattle.lk_store.specs.Contents.{name_at, tree_at}
-use Rattle.lk_ask.specs.Members.{HasParameters}
+use Rattle.lk_env.specs.Lent.{HasParameters}
 use Rattle.lk_mentions.specs.Names.{names_at}
 use Rattle.lk_block.proofs.Applied.{test_exact, test_unmentioned, test_missing}
 use Rattle.lk_block.proofs.nested.is_nested_type.Goals as goal
