@@ -2,7 +2,7 @@ use lk_lines::{Fault, LineError};
 use lk_port::Failed;
 
 /// Why a file is not read.
-#[derive(Clone, Copy, Debug, PartialEq, Eq)]
+#[derive(Clone, Copy)]
 pub enum ReadError {
     /// Memory ran out.
     NoMemory,

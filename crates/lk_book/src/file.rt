@@ -48,17 +48,23 @@ fn read_piece<T: Terms, S: Source>(
     ensures counted { OnOk result (IsCounted reader.new) }
     ensures unfinished { OnOk result (HasNoLineFeed held.new.items) }
     ensures short { OnOk result (length held.new.items ≤ 2 ^ 24) }
-    ensures progress { IfOk result (λ more. more ≡ true → reader.old.before + length held.old.items < reader.new.before + length held.new.items) }
+    ensures progress { IfOk result (λ more. more ≡ true
+        → reader.old.before + length held.old.items < reader.new.before + length held.new.items) }
 
-    ensures remains { (old : Option (List ℕ)) → Remains reader.old (T.contents store.old) held.old.items old (S.left source.old)
-        → OnOk result (Remains reader.new (T.contents store.new) held.new.items old (S.left source.new)) }
-    ensures tells { (old : Option (List ℕ)) → Remains reader.old (T.contents store.old) held.old.items old (S.left source.old)
+    ensures remains { (old : Option (List ℕ))
+        → Remains reader.old (T.contents store.old) held.old.items old (S.left source.old)
+        → OnOk result (Remains reader.new (T.contents store.new) held.new.items old
+        (S.left source.new)) }
+    ensures tells { (old : Option (List ℕ))
+        → Remains reader.old (T.contents store.old) held.old.items old (S.left source.old)
         → IfErr result (λ e. TellsFault e old) }
 
     ensures front { ConsumesSome (S.left source.old) (S.left source.new) }
     ensures end { IfOk result (λ more. more ≡ false → IsAtEnd (S.left source.new)) }
-    ensures fault { result ≡ Err ReadError.ReadFault → Rose (S.faults source.old) (S.faults source.new) }
-    ensures no_fault { result ≢ Err ReadError.ReadFault → S.faults source.new ≡ S.faults source.old }
+    ensures fault { result ≡ Err ReadError.ReadFault
+        → Rose (S.faults source.old) (S.faults source.new) }
+    ensures no_fault { result ≢ Err ReadError.ReadFault → S.faults source.new
+        ≡ S.faults source.old }
 {
     let read = source.read(piece)?;
     if read == 0 {
@@ -94,15 +100,20 @@ fn read_pieces<T: Terms, S: Source>(
     ensures counted { OnOk result (IsCounted reader.new) }
     ensures unfinished { OnOk result (HasNoLineFeed held.new.items) }
 
-    ensures remains { (old : Option (List ℕ)) → Remains reader.old (T.contents store.old) held.old.items old (S.left source.old)
-        → OnOk result (Remains reader.new (T.contents store.new) held.new.items old (S.left source.new)) }
-    ensures tells { (old : Option (List ℕ)) → Remains reader.old (T.contents store.old) held.old.items old (S.left source.old)
+    ensures remains { (old : Option (List ℕ))
+        → Remains reader.old (T.contents store.old) held.old.items old (S.left source.old)
+        → OnOk result (Remains reader.new (T.contents store.new) held.new.items old
+        (S.left source.new)) }
+    ensures tells { (old : Option (List ℕ))
+        → Remains reader.old (T.contents store.old) held.old.items old (S.left source.old)
         → IfErr result (λ e. TellsFault e old) }
 
     ensures front { ConsumesSome (S.left source.old) (S.left source.new) }
     ensures end { OnOk result (IsAtEnd (S.left source.new)) }
-    ensures fault { result ≡ Err ReadError.ReadFault → Rose (S.faults source.old) (S.faults source.new) }
-    ensures no_fault { result ≢ Err ReadError.ReadFault → S.faults source.new ≡ S.faults source.old }
+    ensures fault { result ≡ Err ReadError.ReadFault
+        → Rose (S.faults source.old) (S.faults source.new) }
+    ensures no_fault { result ≢ Err ReadError.ReadFault → S.faults source.new
+        ≡ S.faults source.old }
 {
     let mut piece = [0; PIECE];
     loop {
@@ -126,7 +137,8 @@ fn take_last<T: Terms>(
     ensures keeps { Extends (T.contents store.old) (T.contents store.new) }
     ensures rest { T.rest store.new ≡ T.rest store.old }
     ensures known { IfOk result (λ a. IsKnown a (T.contents store.new)) }
-    ensures ends { (c : Course) → Stands reader (T.contents store.old) c → Ends (T.contents store.new) result (step c false line.now) }
+    ensures ends { (c : Course) → Stands reader (T.contents store.old) c
+        → Ends (T.contents store.new) result (step c false line.now) }
 {
     reader.take_line(alloc, store, false, line)?;
     Ok(reader.assembler)
@@ -143,12 +155,15 @@ fn read_all_lines<T: Terms, S: Source>(
     ensures known { IfOk result (λ a. IsKnown a (T.contents store.new)) }
 
     // Where the source tells its bytes, the answer is what they state.
-    ensures reads { (bytes : List ℕ) → S.left source.old ≡ Some bytes → Reads (T.contents store.new) (course_of bytes) result }
+    ensures reads { (bytes : List ℕ) → S.left source.old ≡ Some bytes
+        → Reads (T.contents store.new) (course_of bytes) result }
 
     ensures front { ConsumesSome (S.left source.old) (S.left source.new) }
     ensures end { OnOk result (IsAtEnd (S.left source.new)) }
-    ensures fault { result ≡ Err ReadError.ReadFault → Rose (S.faults source.old) (S.faults source.new) }
-    ensures no_fault { result ≢ Err ReadError.ReadFault → S.faults source.new ≡ S.faults source.old }
+    ensures fault { result ≡ Err ReadError.ReadFault
+        → Rose (S.faults source.old) (S.faults source.new) }
+    ensures no_fault { result ≢ Err ReadError.ReadFault → S.faults source.new
+        ≡ S.faults source.old }
 {
     let assembler = match Assembler::new(alloc, store) {
         Ok(assembler) => assembler,
@@ -170,8 +185,11 @@ fn read_all_lines<T: Terms, S: Source>(
 fn units_of(alloc: Global, store: &BaseStore, assembler: Assembler) -> Result<Vec<Unit>, ReadError>
     requires { IsKnown assembler (contents_of store.now) }
     ensures known { IfOk result (λ us. AreUnitsIn (contents_of store.now) us.items) }
-    ensures units { IfOk result (λ us. units_stated (lines_at (contents_of store.now) assembler.members.lines.items) ≡ Ok (library_at (contents_of store.now) us.items)) }
-    ensures fault { IfErr result (λ e. TellsOpen e (units_stated (lines_at (contents_of store.now) assembler.members.lines.items))) }
+    ensures units { IfOk result (λ us. units_stated
+        (lines_at (contents_of store.now) assembler.members.lines.items)
+        ≡ Ok (library_at (contents_of store.now) us.items)) }
+    ensures fault { IfErr result (λ e. TellsOpen e
+        (units_stated (lines_at (contents_of store.now) assembler.members.lines.items))) }
 {
     // The names of the store are apart, so that their numbers tell.
     let _names = store.count_names();
@@ -192,7 +210,8 @@ fn library_of(
     assembler: Assembler,
 ) -> Result<Library, ReadError>
     requires { IsKnown assembler (contents_of store) }
-    ensures library { ReadsLibrary (units_stated (lines_at (contents_of store) assembler.members.lines.items)) result }
+    ensures library { ReadsLibrary (units_stated
+        (lines_at (contents_of store) assembler.members.lines.items)) result }
     ensures read { result ≢ Err ReadError.ReadFault }
 {
     store.freeze();
@@ -213,12 +232,15 @@ fn library_of(
 /// end it at once. Behind any error the source has lost some bytes from its front.
 pub fn read_library<S: Source>(alloc: Global, source: &mut S) -> Result<Library, ReadError>
     // Where the source tells its bytes, the answer is what they state.
-    ensures reads { (bytes : List ℕ) → S.left source.old ≡ Some bytes → ReadsLibrary (library_of bytes) result }
+    ensures reads { (bytes : List ℕ) → S.left source.old ≡ Some bytes
+        → ReadsLibrary (library_of bytes) result }
 
     ensures front { ConsumesSome (S.left source.old) (S.left source.new) }
     ensures end { OnOk result (IsAtEnd (S.left source.new)) }
-    ensures fault { result ≡ Err ReadError.ReadFault → Rose (S.faults source.old) (S.faults source.new) }
-    ensures no_fault { result ≢ Err ReadError.ReadFault → S.faults source.new ≡ S.faults source.old }
+    ensures fault { result ≡ Err ReadError.ReadFault
+        → Rose (S.faults source.old) (S.faults source.new) }
+    ensures no_fault { result ≢ Err ReadError.ReadFault → S.faults source.new
+        ≡ S.faults source.old }
 {
     let mut store = BaseStore::new(alloc);
     match read_all_lines(alloc, &mut store, source) {
@@ -226,6 +248,3 @@ pub fn read_library<S: Source>(alloc: Global, source: &mut S) -> Result<Library,
         Err(error) => Err(error),
     }
 }
-
-#[cfg(test)]
-mod tests;

@@ -10,5 +10,6 @@ ghost use Rattle.lk_book.specs.File.{library_of};
 /// only auxiliary types have.
 pub fn files_are_built()
     ensures built { (bytes : List ℕ) (us : Library) → library_of bytes ≡ Ok us → AllBuilt us }
-    ensures spelled { (bytes : List ℕ) (us : Library) → library_of bytes ≡ Ok us → library_spelled us ≡ true }
+    ensures spelled { (bytes : List ℕ) (us : Library) → library_of bytes ≡ Ok us
+        → library_spelled us ≡ true }
 {}

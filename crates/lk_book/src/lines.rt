@@ -15,7 +15,8 @@ use std::alloc::Global;
 /// The first line of bytes, and what stands behind its line feed.
 #[tactic(auto, using(crate::proofs::FirstLines::cut_lem, crate::proofs::FirstLines::none_lem))]
 pub fn cut(bytes: &[u8]) -> Option<(&[u8], &[u8])>
-    ensures { MatchOption result (HasNoLineFeed bytes.now) (λ r. HasNoLineFeed r.0.now × (bytes.now ≡ r.0.now ++ 10 ∷ r.1.now)) }
+    ensures { MatchOption result (HasNoLineFeed bytes.now)
+        (λ r. HasNoLineFeed r.0.now × (bytes.now ≡ r.0.now ++ 10 ∷ r.1.now)) }
 {
     let end = bytes.find_byte(b'\n')?;
     Some((&bytes[..end], &bytes[end + 1..]))
@@ -36,7 +37,8 @@ fn take_lines<'p, T: Terms>(
     ensures known { OnOk result (IsKnown reader.new.assembler (T.contents store.new)) }
     ensures counted { OnOk result (IsCounted reader.new) }
     ensures unfinished { IfOk result (λ rest. HasNoLineFeed rest.now) }
-    ensures length { IfOk result (λ rest. reader.new.before + length rest.now ≡ reader.old.before + length bytes.now) }
+    ensures length { IfOk result (λ rest. reader.new.before + length rest.now
+        ≡ reader.old.before + length bytes.now) }
     ensures passes { (c : Course) → Stands reader.old (T.contents store.old) c
         → IfOk result (λ rest. Passes reader.new (T.contents store.new) c bytes.now rest.now) }
     ensures stops { (c : Course) → Stands reader.old (T.contents store.old) c
@@ -81,9 +83,11 @@ fn take_held<T: Terms>(
     ensures known { OnOk result (IsKnown reader.new.assembler (T.contents store.new)) }
     ensures counted { OnOk result (IsCounted reader.new) }
     ensures unfinished { OnOk result (HasNoLineFeed held.new.items) }
-    ensures length { OnOk result (reader.new.before + length held.new.items ≡ reader.old.before + length held.old.items + length line.now + 1 + length more.now) }
+    ensures length { OnOk result (reader.new.before + length held.new.items
+        ≡ reader.old.before + length held.old.items + length line.now + 1 + length more.now) }
     ensures passes { (c : Course) → Stands reader.old (T.contents store.old) c
-        → OnOk result (Passes reader.new (T.contents store.new) c (held.old.items ++ line.now ++ 10 ∷ more.now) held.new.items) }
+        → OnOk result (Passes reader.new (T.contents store.new) c
+        (held.old.items ++ line.now ++ 10 ∷ more.now) held.new.items) }
     ensures stops { (c : Course) → Stands reader.old (T.contents store.old) c
         → IfErr result (λ e. Stops e c (held.old.items ++ line.now ++ 10 ∷ more.now)) }
 {
@@ -112,9 +116,11 @@ pub fn take_piece<T: Terms>(
     ensures known { OnOk result (IsKnown reader.new.assembler (T.contents store.new)) }
     ensures counted { OnOk result (IsCounted reader.new) }
     ensures unfinished { OnOk result (HasNoLineFeed held.new.items) }
-    ensures length { OnOk result (reader.new.before + length held.new.items ≡ reader.old.before + length held.old.items + length piece.now) }
+    ensures length { OnOk result (reader.new.before + length held.new.items
+        ≡ reader.old.before + length held.old.items + length piece.now) }
     ensures passes { (c : Course) → Stands reader.old (T.contents store.old) c
-        → OnOk result (Passes reader.new (T.contents store.new) c (held.old.items ++ piece.now) held.new.items) }
+        → OnOk result (Passes reader.new (T.contents store.new) c
+        (held.old.items ++ piece.now) held.new.items) }
     ensures stops { (c : Course) → Stands reader.old (T.contents store.old) c
         → IfErr result (λ e. Stops e c (held.old.items ++ piece.now)) }
 {

@@ -31,7 +31,8 @@ fn count_piece(before: u64, count: u64, piece: &[u8]) -> Result<u64, Word>
     ensures on { IfOk result (λ n. (n ≡ count + length piece.now) × (before + n ≤ 2 ^ 40)) }
     ensures unfinished { IfOk result (λ n. HasNoLineFeed piece.now) }
     ensures word { (begun rest : List ℕ) → HasNoLineFeed begun → length begun ≡ count
-        → IfErr result (λ w. first_limits before (lines_of (begun ++ (piece.now ++ rest))) ≡ Some w) }
+        → IfErr result (λ w. first_limits before (lines_of (begun ++ (piece.now ++ rest)))
+        ≡ Some w) }
 {
     match cut(piece) {
         Some((line, _)) => Err(word_of(before, count + line.len() as u64, true)),
@@ -51,7 +52,8 @@ fn count_piece(before: u64, count: u64, piece: &[u8]) -> Result<u64, Word>
 pub fn long_line<S: Source>(source: &mut S, before: u64, held: u64) -> Result<Word, Failed>
     requires long { 2 ^ 24 < held }
     requires room { before + held < 2 ^ 41 }
-    ensures word { (begun bytes : List ℕ) → HasNoLineFeed begun → length begun ≡ held → S.left source.old ≡ Some bytes
+    ensures word { (begun bytes : List ℕ) → HasNoLineFeed begun → length begun ≡ held
+        → S.left source.old ≡ Some bytes
         → IfOk result (λ w. first_limits before (lines_of (begun ++ bytes)) ≡ Some w) }
     ensures front { ConsumesSome (S.left source.old) (S.left source.new) }
     ensures count { CountsFailure (S.faults source.old) (S.faults source.new) result }

@@ -60,7 +60,8 @@ impl Reader {
         ensures known { OnOk result (IsKnown self.new.assembler (T.contents store.new)) }
         ensures counts { (self.new.number ≡ self.old.number) × (self.new.before ≡ self.old.before) }
         ensures follows { (c : Course) → Stands self.old (T.contents store.old) c
-            → Goes self.new (T.contents store.new) result (at_line number (taken c (says_of said.entry))) }
+            → Goes self.new (T.contents store.new) result
+            (at_line number (taken c (says_of said.entry))) }
     {
         match said {
             Said::Blank => Ok(()),
@@ -104,7 +105,8 @@ impl Reader {
         ensures rest { T.rest store.new ≡ T.rest store.old }
         ensures known { OnOk result (IsKnown self.new.assembler (T.contents store.new)) }
         ensures counted { OnOk result (feed ≡ true → IsCounted self.new) }
-        ensures length { OnOk result (self.new.before ≡ self.old.before + length line.now + feed_count feed) }
+        ensures length { OnOk result (self.new.before
+            ≡ self.old.before + length line.now + feed_count feed) }
         ensures step { (c : Course) → Stands self.old (T.contents store.old) c
             → Goes self.new (T.contents store.new) result (step c feed line.now) }
     {

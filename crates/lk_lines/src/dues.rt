@@ -1,5 +1,5 @@
 /// The numberings of a file. Numbers of one mean nothing in another.
-#[derive(Clone, Copy, Debug, PartialEq, Eq)]
+#[derive(Clone, Copy)]
 pub enum Numbering {
     Names,
     Levels,
@@ -9,7 +9,7 @@ pub enum Numbering {
 }
 
 /// What a field is to be, or what all fields from it on are to be.
-#[derive(Clone, Copy, Debug, PartialEq, Eq)]
+#[derive(Clone, Copy)]
 pub enum Due {
     /// The number of something defined before, at most 2^32 - 1.
     Known(Numbering),

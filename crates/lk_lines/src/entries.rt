@@ -10,7 +10,8 @@ use lk_token::text_behind;
 use std::alloc::Global;
 
 fn name_text<'b>(raw: &'b [u8], line: &[u8]) -> Result<Entry<'b>, FieldError>
-    ensures values { GivesEntry EntryTag.NameText (text_behind raw.now) (fields_of line.now) result }
+    ensures values { GivesEntry EntryTag.NameText (text_behind raw.now)
+        (fields_of line.now) result }
     ensures tag { IfOk result (λ e. entry_tag e ≡ EntryTag.NameText) }
 {
     let (parent, _) = number(line)?;

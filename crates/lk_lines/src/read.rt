@@ -111,6 +111,3 @@ pub fn read_line(
         Err(FieldError::Fault(word)) => Err(LineError::Fault(Fault { line: number, word })),
     }
 }
-
-#[cfg(test)]
-mod tests;

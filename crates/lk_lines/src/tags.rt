@@ -9,7 +9,7 @@ use crate::steps::{FieldError, is};
 use lk_token::next_field;
 
 /// The tags of lines that define a number, which stands in front of the tag.
-#[derive(Clone, Copy, Debug, PartialEq, Eq)]
+#[derive(Clone, Copy)]
 pub enum EntryTag {
     NameText,
     NameNumber,
@@ -31,7 +31,7 @@ pub enum EntryTag {
 }
 
 /// The tags of lines that declare something. They begin with their tag.
-#[derive(Clone, Copy, Debug, PartialEq, Eq)]
+#[derive(Clone, Copy)]
 pub enum DeclarationTag {
     Axiom,
     Definition,
@@ -44,7 +44,7 @@ pub enum DeclarationTag {
 }
 
 /// The kinds of line, by the tag that names each.
-#[derive(Clone, Copy, Debug, PartialEq, Eq)]
+#[derive(Clone, Copy)]
 pub enum Tag {
     Entry(EntryTag),
     Declaration(DeclarationTag),

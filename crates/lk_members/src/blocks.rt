@@ -12,7 +12,7 @@ use crate::line::{Said, TypeHead};
 use crate::members::{Key, Members};
 use crate::names::Names;
 use lk_env::unit::{Block, BlockType, Constructor, Recursor};
-use lk_rows::memory::NoMemory;
+use lk_store::memory::NoMemory;
 use std::alloc::Global;
 
 /// Numbers in memory of their own.
@@ -79,7 +79,8 @@ fn copy_type(
 
 /// The recursor of a line, where it is one of the block with just these types.
 fn recursor_made(alloc: Global, said: &Said, types: &[u64]) -> Result<Option<Recursor>, NoMemory>
-    ensures { IfOk result (λ o. IsRecursorMade said.now (recursor_here nat_eq (said_of said.now) types.now) (if_any o)) }
+    ensures { IfOk result (λ o. IsRecursorMade said.now
+        (recursor_here nat_eq (said_of said.now) types.now) (if_any o)) }
 {
     match said {
         Said::Recursor {
@@ -115,7 +116,8 @@ impl Members {
         name: u64,
     ) -> Result<Option<Constructor>, NoMemory>
         requires { IsIndexed self.now }
-        ensures { IfOk result (λ o. AreConstructorsMade self.now.lines.items (if_any (ctor_of nat_eq (lines_of self.now.lines.items) under name)) (if_any o)) }
+        ensures { IfOk result (λ o. AreConstructorsMade self.now.lines.items
+            (if_any (ctor_of nat_eq (lines_of self.now.lines.items) under name)) (if_any o)) }
     {
         let key = Key { under, name };
         let Some(place) = self.constructors.get(&key) else {
@@ -138,7 +140,8 @@ impl Members {
         names: &[u64],
     ) -> Result<Vec<Constructor>, NoMemory>
         requires { IsIndexed self.now }
-        ensures { IfOk result (λ v. AreConstructorsMade self.now.lines.items (ctors_listed nat_eq (lines_of self.now.lines.items) under names.now) v.items) }
+        ensures { IfOk result (λ v. AreConstructorsMade self.now.lines.items
+            (ctors_listed nat_eq (lines_of self.now.lines.items) under names.now) v.items) }
     {
         let mut made = Vec::new(alloc);
         let mut rest = names;
@@ -153,7 +156,9 @@ impl Members {
     /// What the lines of a type and of its constructors state.
     fn type_made(&self, alloc: Global, name: u64) -> Result<Option<BlockType>, NoMemory>
         requires { IsIndexed self.now }
-        ensures { IfOk result (λ o. AreTypesMade self.now.lines.items (with_ctors nat_eq (lines_of self.now.lines.items) name (type_of nat_eq (lines_of self.now.lines.items) name)) (if_any o)) }
+        ensures { IfOk result (λ o. AreTypesMade self.now.lines.items
+            (with_ctors nat_eq (lines_of self.now.lines.items) name
+            (type_of nat_eq (lines_of self.now.lines.items) name)) (if_any o)) }
     {
         let Some(place) = self.types.get(&name) else {
             return Ok(None);
@@ -175,7 +180,8 @@ impl Members {
     /// What the lines of these types and of their constructors state.
     fn types_made(&self, alloc: Global, names: &[u64]) -> Result<Vec<BlockType>, NoMemory>
         requires { IsIndexed self.now }
-        ensures { IfOk result (λ v. AreTypesMade self.now.lines.items (types_listed (lines_of self.now.lines.items) names.now) v.items) }
+        ensures { IfOk result (λ v. AreTypesMade self.now.lines.items
+            (types_listed (lines_of self.now.lines.items) names.now) v.items) }
     {
         let mut made = Vec::new(alloc);
         let mut rest = names;
@@ -194,7 +200,8 @@ impl Members {
         types: &[u64],
         place: u32,
     ) -> Result<Option<Recursor>, NoMemory>
-        ensures { IfOk result (λ o. AreRecursorsMade self.now.lines.items (recursor_at (lines_of self.now.lines.items) types.now place) (if_any o)) }
+        ensures { IfOk result (λ o. AreRecursorsMade self.now.lines.items
+            (recursor_at (lines_of self.now.lines.items) types.now place) (if_any o)) }
     {
         match self.lines.get(place as usize) {
             Some(line) => {
@@ -212,7 +219,8 @@ impl Members {
         types: &[u64],
         places: &[u32],
     ) -> Result<Vec<Recursor>, NoMemory>
-        ensures { IfOk result (λ v. AreRecursorsMade self.now.lines.items (flat_map (recursor_at (lines_of self.now.lines.items) types.now) places.now) v.items) }
+        ensures { IfOk result (λ v. AreRecursorsMade self.now.lines.items
+            (flat_map (recursor_at (lines_of self.now.lines.items) types.now) places.now) v.items) }
     {
         let mut made = Vec::new(alloc);
         let mut rest = places;
@@ -227,7 +235,8 @@ impl Members {
     /// What the lines of the recursors of these types state.
     fn recursors_made(&self, alloc: Global, types: &[u64]) -> Result<Vec<Recursor>, NoMemory>
         requires { IsIndexed self.now }
-        ensures { IfOk result (λ v. AreRecursorsMade self.now.lines.items (recursors_of nat_eq (lines_of self.now.lines.items) types.now) v.items) }
+        ensures { IfOk result (λ v. AreRecursorsMade self.now.lines.items
+            (recursors_of nat_eq (lines_of self.now.lines.items) types.now) v.items) }
     {
         let wanted = Names::new(copy_numbers(alloc, types)?);
         let Some(number) = self.lists.find(&wanted) else {
@@ -240,7 +249,8 @@ impl Members {
     /// The block of these types.
     pub(crate) fn block_made(&self, alloc: Global, types: &[u64]) -> Result<Block, NoMemory>
         requires { IsIndexed self.now }
-        ensures { IfOk result (λ b. AreBlocksMade self.now.lines.items (block_with nat_eq (lines_of self.now.lines.items) types.now ∷ []) (b ∷ [])) }
+        ensures { IfOk result (λ b. AreBlocksMade self.now.lines.items
+            (block_with nat_eq (lines_of self.now.lines.items) types.now ∷ []) (b ∷ [])) }
     {
         let made = self.types_made(alloc, types)?;
         let recursors = self.recursors_made(alloc, types)?;

@@ -5,7 +5,7 @@ ghost use Rattle.lk_members.specs.Finishing.{IsNext, blocks_at};
 
 use crate::blocks::push_any;
 use lk_env::unit::Block;
-use lk_rows::memory::NoMemory;
+use lk_store::memory::NoMemory;
 use std::alloc::Global;
 
 /// For each of the lines, from the last to the first, the block that ends there, where there is one. A line takes one mark,

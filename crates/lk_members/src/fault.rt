@@ -1,9 +1,9 @@
 //! What is wrong with a line among those before it.
 
-use lk_rows::memory::NoMemory;
+use lk_store::memory::NoMemory;
 
 /// What is wrong with a line of a block's member among the lines before it.
-#[derive(Clone, Copy, Debug, PartialEq, Eq)]
+#[derive(Clone, Copy)]
 pub enum MemberFault {
     /// The lists of a type lack its own name, share one with the list of another block, or hold one twice.
     BadCount,
@@ -12,7 +12,7 @@ pub enum MemberFault {
 }
 
 /// Why a line is not taken.
-#[derive(Clone, Copy, Debug, PartialEq, Eq)]
+#[derive(Clone, Copy)]
 pub enum TakeError {
     /// Memory ran out.
     NoMemory,

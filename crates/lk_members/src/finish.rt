@@ -14,12 +14,12 @@ use crate::ends::Ends;
 use crate::line::{Line, Said};
 use crate::members::Members;
 use lk_env::unit::{Block, Unit};
-use lk_rows::memory::NoMemory;
+use lk_store::memory::NoMemory;
 use std::alloc::Global;
 use std::collections::HashSet;
 
 /// Why there are no units.
-#[derive(Clone, Copy, Debug, PartialEq, Eq)]
+#[derive(Clone, Copy)]
 pub enum FinishError {
     /// There is not enough memory for them.
     NoMemory,
@@ -53,7 +53,8 @@ fn unit_here(said: Said, block: Option<Block>) -> Option<Unit>
 /// The units of the lines: the declarations alone, and the blocks that end at a line.
 fn gather(alloc: Global, mut lines: Vec<Line>, mut ends: Ends) -> Result<Vec<Unit>, NoMemory>
     requires { AreEnded lines.items (lines_of lines.items) (blocks_at ends) }
-    ensures { IfOk result (λ us. AreUnitsMade lines.items (units_of nat_eq (lines_of lines.items)) us.items) }
+    ensures { IfOk result (λ us. AreUnitsMade lines.items
+        (units_of nat_eq (lines_of lines.items)) us.items) }
 {
     lines.reverse();
     let mut units = Vec::with_capacity(alloc, lines.len())?;
@@ -69,7 +70,8 @@ impl Members {
     /// The types of the block that a line of a type or a constructor is of.
     fn block_types<'a>(&'a self, said: &'a Said) -> Option<&'a [u64]>
         requires { IsIndexed self.now }
-        ensures { option_copied result ≡ block_at nat_eq (lines_of self.now.lines.items) (said_of said.now) }
+        ensures { option_copied result ≡ block_at nat_eq (lines_of self.now.lines.items)
+            (said_of said.now) }
     {
         match said {
             Said::Type { types, .. } => Some(types.as_slice()),
@@ -92,8 +94,12 @@ impl Members {
         said: &Said,
     ) -> Result<Option<Block>, NoMemory>
         requires { IsIndexed self.now }
-        ensures met { OnOk result ((q : ℕ) → contains nat_eq met.new q ≡ (begins_with q (block_at nat_eq (lines_of self.now.lines.items) (said_of said.now)) || contains nat_eq met.old q)) }
-        ensures made { IfOk result (λ o. AreBlocksMade self.now.lines.items (ended_unless (contains nat_eq met.old) (lines_of self.now.lines.items) (block_at nat_eq (lines_of self.now.lines.items) (said_of said.now))) (if_any o)) }
+        ensures met { OnOk result ((q : ℕ) → contains nat_eq met.new q
+            ≡ (begins_with q (block_at nat_eq (lines_of self.now.lines.items)
+            (said_of said.now)) || contains nat_eq met.old q)) }
+        ensures made { IfOk result (λ o. AreBlocksMade self.now.lines.items
+            (ended_unless (contains nat_eq met.old) (lines_of self.now.lines.items)
+            (block_at nat_eq (lines_of self.now.lines.items) (said_of said.now))) (if_any o)) }
     {
         let Some(types) = self.block_types(said) else {
             return Ok(None);
@@ -117,7 +123,8 @@ impl Members {
     fn blocks_ended(&self, alloc: Global) -> Result<Ends, NoMemory>
         requires indexed { IsIndexed self.now }
         requires faultless { IsFaultless (lines_of self.now.lines.items) }
-        ensures { IfOk result (λ ends. AreEnded self.now.lines.items (lines_of self.now.lines.items) (blocks_at ends)) }
+        ensures { IfOk result (λ ends. AreEnded self.now.lines.items (lines_of self.now.lines.items)
+            (blocks_at ends)) }
     {
         let mut met = HashSet::new(alloc);
         let mut ends = Ends::new(alloc);
@@ -134,9 +141,12 @@ impl Members {
     pub fn finish(self, alloc: Global) -> Result<Vec<Unit>, FinishError>
         requires indexed { IsIndexed self }
         requires faultless { IsFaultless (lines_of self.lines.items) }
-        ensures open { Finishes result (first_open nat_eq (lines_of self.lines.items) (lines_of self.lines.items)) }
-        ensures units { IfOk result (λ us. (c : Contents) → library_at c us.items ≡ map (unit_stated c) (units_of nat_eq (lines_of self.lines.items))) }
-        ensures known { IfOk result (λ us. (c : Contents) → AreLinesIn c self.lines.items → AreUnitsIn c us.items) }
+        ensures open { Finishes result (first_open nat_eq (lines_of self.lines.items)
+            (lines_of self.lines.items)) }
+        ensures units { IfOk result (λ us. (c : Contents) → library_at c us.items
+            ≡ map (unit_stated c) (units_of nat_eq (lines_of self.lines.items))) }
+        ensures known { IfOk result (λ us. (c : Contents) → AreLinesIn c self.lines.items
+            → AreUnitsIn c us.items) }
     {
         let open = self.first_open(alloc)?;
         if let Some(number) = open {

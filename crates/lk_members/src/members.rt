@@ -11,7 +11,7 @@ use std::collections::{HashMap, HashSet};
 
 /// A member under another name or number: a constructor under the name of its type, a recursor under the number of its
 /// list.
-#[derive(Clone, Copy, Debug, PartialEq, Eq, Hash)]
+#[derive(Clone, Copy, PartialEq, Eq, Hash)]
 pub struct Key {
     pub under: u64,
     pub name: u64,

@@ -11,13 +11,14 @@ ghost use Rattle.lk_members.specs.Finishing.{IsFaultless, Listed, is_listed_by, 
 
 use crate::line::{Line, Said};
 use crate::members::{Key, Members};
-use lk_rows::memory::NoMemory;
+use lk_store::memory::NoMemory;
 use std::alloc::Global;
 use std::collections::HashSet;
 
 /// Adds the constructors of a type's list.
 fn list_all(listed: &mut HashSet<Key>, under: u64, names: &[u64]) -> Result<(), NoMemory>
-    ensures { OnOk result ((q : Key) → contains key_eq listed.new q ≡ (is_listed_by under names.now q || contains key_eq listed.old q)) }
+    ensures { OnOk result ((q : Key) → contains key_eq listed.new q
+        ≡ (is_listed_by under names.now q || contains key_eq listed.old q)) }
 {
     let mut rest = names;
     while let Some((name, more)) = rest.split_first() {
@@ -141,7 +142,8 @@ impl Members {
     pub(crate) fn first_open(&self, alloc: Global) -> Result<Option<u64>, NoMemory>
         requires indexed { IsIndexed self.now }
         requires faultless { IsFaultless (lines_of self.now.lines.items) }
-        ensures { IfOk result (λ r. r ≡ first_open nat_eq (lines_of self.now.lines.items) (lines_of self.now.lines.items)) }
+        ensures { IfOk result (λ r. r ≡ first_open nat_eq (lines_of self.now.lines.items)
+            (lines_of self.now.lines.items)) }
     {
         let listed = listed_in(alloc, &self.lines)?;
         let mut rest = self.lines.as_slice();

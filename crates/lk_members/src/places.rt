@@ -9,7 +9,7 @@ ghost use Rattle.lk_members.specs.Indices.{key_eq};
 ghost use Rattle.lk_members.specs.Taking.{with_place};
 
 use crate::members::Key;
-use lk_rows::memory::NoMemory;
+use lk_store::memory::NoMemory;
 use std::collections::{HashMap, HashSet};
 
 /// Gives the name this place, where it has none.
@@ -18,7 +18,8 @@ pub(crate) fn put_first(
     name: u64,
     place: u32,
 ) -> Result<(), NoMemory>
-    ensures { OnOk result ((q : ℕ) → hash_map.get nat_eq places.new q ≡ or_next (hash_map.get nat_eq places.old q) (if nat_eq name q then Some place else None)) }
+    ensures { OnOk result ((q : ℕ) → hash_map.get nat_eq places.new q
+        ≡ or_next (hash_map.get nat_eq places.old q) (if nat_eq name q then Some place else None)) }
 {
     if places.contains_key(&name) {
         return Ok(());
@@ -35,7 +36,9 @@ pub(crate) fn put_each(
     names: &[u64],
     place: u32,
 ) -> Result<(), NoMemory>
-    ensures { OnOk result ((q : ℕ) → hash_map.get nat_eq places.new q ≡ or_next (hash_map.get nat_eq places.old q) (if has nat_eq names.now q then Some place else None)) }
+    ensures { OnOk result ((q : ℕ) → hash_map.get nat_eq places.new q
+        ≡ or_next (hash_map.get nat_eq places.old q)
+        (if has nat_eq names.now q then Some place else None)) }
 {
     for name in names {
         put_first(places, *name, place)?;
@@ -49,7 +52,9 @@ pub(crate) fn put_member(
     member: Key,
     place: u32,
 ) -> Result<(), NoMemory>
-    ensures { OnOk result ((q : Key) → hash_map.get key_eq places.new q ≡ or_next (hash_map.get key_eq places.old q) (if key_eq member q then Some place else None)) }
+    ensures { OnOk result ((q : Key) → hash_map.get key_eq places.new q
+        ≡ or_next (hash_map.get key_eq places.old q)
+        (if key_eq member q then Some place else None)) }
 {
     if places.contains_key(&member) {
         return Ok(());
@@ -62,7 +67,8 @@ pub(crate) fn put_member(
 
 /// Adds the member.
 pub(crate) fn add_member(members: &mut HashSet<Key>, member: Key) -> Result<(), NoMemory>
-    ensures { OnOk result ((q : Key) → hash_set.contains key_eq members.new q ≡ (if key_eq member q then true else hash_set.contains key_eq members.old q)) }
+    ensures { OnOk result ((q : Key) → hash_set.contains key_eq members.new q
+        ≡ (if key_eq member q then true else hash_set.contains key_eq members.old q)) }
 {
     match members.insert(member) {
         Ok(_) => Ok(()),
@@ -73,7 +79,8 @@ pub(crate) fn add_member(members: &mut HashSet<Key>, member: Key) -> Result<(), 
 /// Adds a place to one of the groups.
 pub(crate) fn add_place(groups: &mut Vec<Vec<u32>>, group: u64, place: u32) -> Result<(), NoMemory>
     requires { group < length groups.old.items }
-    ensures { OnOk result (map (λ g. g.items) groups.new.items ≡ with_place (map (λ g. g.items) groups.old.items) group place) }
+    ensures { OnOk result (map (λ g. g.items) groups.new.items
+        ≡ with_place (map (λ g. g.items) groups.old.items) group place) }
 {
     groups[group as usize].push(place)?;
     Ok(())

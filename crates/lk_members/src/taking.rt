@@ -16,7 +16,7 @@ use crate::lists::{are_distinct, has_name};
 use crate::members::{Key, Members};
 use crate::names::Names;
 use crate::places::{add_member, add_place, put_each, put_first, put_member};
-use lk_rows::memory::NoMemory;
+use lk_store::memory::NoMemory;
 use std::alloc::Global;
 
 /// Puts the line behind the others.
@@ -41,9 +41,12 @@ impl Members {
     /// Whether the name stands in the list of another block. A line whose list was found equal is not looked at again.
     fn is_elsewhere(&self, name: u64, types: &[u64], equal: &mut Option<u32>) -> bool
         requires indexed { IsIndexed self.now }
-        requires equal { IfSome equal.old (λ i. list_at (lines_of self.now.lines.items) i types.now ≡ true) }
-        ensures value { result ≡ is_other nat_eq (block_of nat_eq (lines_of self.now.lines.items) name) types.now }
-        ensures equal { IfSome equal.new (λ i. list_at (lines_of self.now.lines.items) i types.now ≡ true) }
+        requires equal { IfSome equal.old
+            (λ i. list_at (lines_of self.now.lines.items) i types.now ≡ true) }
+        ensures value { result ≡ is_other nat_eq
+            (block_of nat_eq (lines_of self.now.lines.items) name) types.now }
+        ensures equal { IfSome equal.new
+            (λ i. list_at (lines_of self.now.lines.items) i types.now ≡ true) }
     {
         let Some(place) = self.blocks.get(&name) else {
             return false;
@@ -82,7 +85,8 @@ impl Members {
         constructors: &[u64],
     ) -> Result<bool, NoMemory>
         requires { IsIndexed self.now }
-        ensures { IfOk result (λ r. r ≡ bad_lists nat_eq (lines_of self.now.lines.items) name types.now constructors.now) }
+        ensures { IfOk result (λ r. r ≡ bad_lists nat_eq
+            (lines_of self.now.lines.items) name types.now constructors.now) }
     {
         if !has_name(types, name) || self.crosses(types) {
             return Ok(true);
@@ -105,8 +109,12 @@ impl Members {
         requires indexed { IsIndexed self.old }
         requires room { length self.old.lines.items + 1 < 2 ^ 32 }
         ensures lines { OnOk result (self.new.lines ≡ self.old.lines) }
-        ensures indexed { OnOk result ((number : ℕ) (t : AHead) → IsIndexOf self.new (with_line (lines_of self.old.lines.items) number (a_type name types.now constructors.now t))) }
-        ensures fault { (t : AHead) → Takes result (fault_of nat_eq (lines_of self.old.lines.items) (a_type name types.now constructors.now t)) }
+        ensures indexed { OnOk result ((number : ℕ) (t : AHead)
+            → IsIndexOf self.new (with_line (lines_of self.old.lines.items) number
+            (a_type name types.now constructors.now t))) }
+        ensures fault { (t : AHead) → Takes result
+            (fault_of nat_eq (lines_of self.old.lines.items)
+            (a_type name types.now constructors.now t)) }
     {
         if self.has_bad_lists(alloc, name, types, constructors)? {
             return Err(TakeError::Fault(MemberFault::BadCount));
@@ -125,8 +133,12 @@ impl Members {
         requires indexed { IsIndexed self.old }
         requires room { length self.old.lines.items + 1 < 2 ^ 32 }
         ensures lines { OnOk result (self.new.lines ≡ self.old.lines) }
-        ensures indexed { OnOk result ((number : ℕ) (k : AConstructor) → IsIndexOf self.new (with_line (lines_of self.old.lines.items) number (a_ctor parent name k))) }
-        ensures fault { (k : AConstructor) → Takes result (fault_of nat_eq (lines_of self.old.lines.items) (a_ctor parent name k)) }
+        ensures indexed { OnOk result ((number : ℕ) (k : AConstructor)
+            → IsIndexOf self.new (with_line (lines_of self.old.lines.items) number
+            (a_ctor parent name k))) }
+        ensures fault { (k : AConstructor)
+            → Takes result (fault_of nat_eq (lines_of self.old.lines.items)
+            (a_ctor parent name k)) }
     {
         let member = Key {
             under: parent,
@@ -162,8 +174,11 @@ impl Members {
         requires indexed { IsIndexed self.old }
         requires room { length self.old.lines.items + 1 < 2 ^ 32 }
         ensures lines { OnOk result (self.new.lines ≡ self.old.lines) }
-        ensures indexed { OnOk result ((number : ℕ) (r : ARecursor) → IsIndexOf self.new (with_line (lines_of self.old.lines.items) number (a_recursor types.now name r))) }
-        ensures fault { (r : ARecursor) → Takes result (fault_of nat_eq (lines_of self.old.lines.items) (a_recursor types.now name r)) }
+        ensures indexed { OnOk result ((number : ℕ) (r : ARecursor)
+            → IsIndexOf self.new (with_line (lines_of self.old.lines.items) number
+            (a_recursor types.now name r))) }
+        ensures fault { (r : ARecursor) → Takes result
+            (fault_of nat_eq (lines_of self.old.lines.items) (a_recursor types.now name r)) }
     {
         let list = self.list_number(alloc, types)?;
         let member = Key { under: list, name };
@@ -181,8 +196,11 @@ impl Members {
         requires indexed { IsIndexed self.old }
         requires room { length self.old.lines.items + 1 < 2 ^ 32 }
         ensures lines { OnOk result (self.new.lines ≡ self.old.lines) }
-        ensures indexed { OnOk result ((number : ℕ) → IsIndexOf self.new (with_line (lines_of self.old.lines.items) number (said_of said.now))) }
-        ensures fault { Takes result (fault_of nat_eq (lines_of self.old.lines.items) (said_of said.now)) }
+        ensures indexed { OnOk result ((number : ℕ)
+            → IsIndexOf self.new (with_line (lines_of self.old.lines.items) number
+            (said_of said.now))) }
+        ensures fault { Takes result (fault_of nat_eq (lines_of self.old.lines.items)
+            (said_of said.now)) }
     {
         match said {
             Said::Alone(_) => Ok(()),
@@ -203,9 +221,12 @@ impl Members {
     pub fn take(&mut self, alloc: Global, number: u64, said: Said) -> Result<(), TakeError>
         requires indexed { IsIndexed self.old }
         ensures indexed { OnOk result (IsIndexed self.new) }
-        ensures lines { OnOk result (self.new.lines.items ≡ self.old.lines.items ++ record { number = number; said = said } ∷ []) }
-        ensures stated { OnOk result (lines_of self.new.lines.items ≡ with_line (lines_of self.old.lines.items) number (said_of said)) }
-        ensures fault { Takes result (fault_of nat_eq (lines_of self.old.lines.items) (said_of said)) }
+        ensures lines { OnOk result (self.new.lines.items ≡ self.old.lines.items
+            ++ record { number = number; said = said } ∷ []) }
+        ensures stated { OnOk result (lines_of self.new.lines.items
+            ≡ with_line (lines_of self.old.lines.items) number (said_of said)) }
+        ensures fault { Takes result (fault_of nat_eq (lines_of self.old.lines.items)
+            (said_of said)) }
     {
         if self.lines.len() >= u32::MAX as usize {
             return Err(TakeError::NoMemory);

@@ -7,7 +7,7 @@ use crate::split::next_field;
 use std::alloc::Global;
 
 /// Why fields give no bytes.
-#[derive(Clone, Copy, Debug, PartialEq, Eq)]
+#[derive(Clone, Copy, Debug)]
 pub enum HexError {
     /// Memory ran out.
     NoMemory,

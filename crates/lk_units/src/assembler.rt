@@ -8,7 +8,7 @@ use crate::numbering::Numbering;
 use lk_env::unit::{Hint, RecursorRule};
 use lk_lines::Word;
 use lk_members::members::Members;
-use lk_rows::memory::NoMemory;
+use lk_store::memory::NoMemory;
 use lk_store::node::{LevelNode, NameNode};
 use lk_store::terms::Terms;
 use std::alloc::Global;
@@ -30,7 +30,7 @@ pub struct Assembler {
 }
 
 /// Why an item is not taken.
-#[derive(Clone, Copy, Debug, PartialEq, Eq)]
+#[derive(Clone, Copy)]
 pub enum TakeError {
     /// Memory ran out.
     NoMemory,
@@ -50,14 +50,14 @@ impl From<NoMemory> for TakeError {
 }
 
 /// What a binder is.
-#[derive(Clone, Copy, Debug, PartialEq, Eq)]
+#[derive(Clone, Copy)]
 pub enum Binder {
     Lambda,
     Pi,
 }
 
 /// What a value is to its declaration.
-#[derive(Clone, Copy, Debug, PartialEq, Eq)]
+#[derive(Clone, Copy)]
 pub enum ValueUse {
     Definition(Hint),
     Theorem,
@@ -65,7 +65,7 @@ pub enum ValueUse {
 }
 
 /// How a level is made of two.
-#[derive(Clone, Copy, Debug, PartialEq, Eq)]
+#[derive(Clone, Copy)]
 pub enum LevelPair {
     Max,
     Imax,
@@ -73,8 +73,10 @@ pub enum LevelPair {
 
 /// An assembler with these numberings of names and levels, and nothing else.
 fn over(alloc: Global, by_name: Numbering, by_level: Numbering) -> Assembler
-    ensures known { (c : Contents) → Below by_name (length c.names) → Below by_level (length c.levels) → IsKnown result c }
-    ensures holds { (c : Contents) → Numbered by_name (name_at c) begin.names → Numbered by_level (level_at c) begin.levels → Holds result c begin }
+    ensures known { (c : Contents) → Below by_name (length c.names)
+        → Below by_level (length c.levels) → IsKnown result c }
+    ensures holds { (c : Contents) → Numbered by_name (name_at c) begin.names
+        → Numbered by_level (level_at c) begin.levels → Holds result c begin }
 {
     Assembler {
         by_name,
@@ -108,7 +110,8 @@ impl Assembler {
     /// Counts an item that was taken.
     pub(crate) fn counts(&mut self) -> Result<(), TakeError>
         ensures known { (c : Contents) → IsKnown self.old c → IsKnown self.new c }
-        ensures follows { (c : Contents) (s : State) → Holds self.old c s → Follows self.new c result (counted s) }
+        ensures follows { (c : Contents) (s : State) → Holds self.old c s
+            → Follows self.new c result (counted s) }
     {
         if self.count >= MAX_ITEMS {
             return Err(TakeError::Fault(Word::TooManyItems));

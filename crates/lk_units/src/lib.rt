@@ -7,8 +7,6 @@ mod making;
 mod numbering;
 mod stating;
 mod taking;
-#[cfg(test)]
-mod tests;
 
 pub use assembler::{Assembler, Binder, LevelPair, TakeError, ValueUse};
 pub use numbering::Numbering;

@@ -14,7 +14,7 @@ use crate::{Assembler, Binder, LevelPair, TakeError, ValueUse};
 use lk_env::unit::{Body, Declaration, RecursorRule};
 use lk_lines::Word;
 use lk_members::line::Said;
-use lk_rows::memory::NoMemory;
+use lk_store::memory::NoMemory;
 use lk_store::node::{LevelNode, ListNode, NameNode, Node};
 use lk_store::terms::Terms;
 use lk_store::text::Text;
@@ -22,8 +22,10 @@ use std::alloc::Global;
 
 // The node of a binder.
 fn binder_node(binder: Binder, domain: u64, body: u64) -> Node
-    ensures tree { (c : Contents) → tree_of c result ≡ binder_of binder (tree_at c domain) (tree_at c body) }
-    ensures parts { (c : Contents) → domain < length c.trees → body < length c.trees → IsIn c result }
+    ensures tree { (c : Contents) → tree_of c result
+        ≡ binder_of binder (tree_at c domain) (tree_at c body) }
+    ensures parts { (c : Contents) → domain < length c.trees → body < length c.trees
+        → IsIn c result }
 {
     match binder {
         Binder::Lambda => Node::Lam(domain, body),
@@ -33,8 +35,10 @@ fn binder_node(binder: Binder, domain: u64, body: u64) -> Node
 
 // The node of a level that is made of two.
 fn pair_node(pair: LevelPair, left: u64, right: u64) -> LevelNode
-    ensures level { (c : Contents) → level_of c result ≡ pair_of pair (level_at c left) (level_at c right) }
-    ensures parts { (c : Contents) → left < length c.levels → right < length c.levels → IsLevelIn c result }
+    ensures level { (c : Contents) → level_of c result
+        ≡ pair_of pair (level_at c left) (level_at c right) }
+    ensures parts { (c : Contents) → left < length c.levels → right < length c.levels
+        → IsLevelIn c result }
 {
     match pair {
         LevelPair::Max => LevelNode::Max(left, right),
@@ -60,7 +64,8 @@ fn make_level<T: Terms>(store: &mut T, node: LevelNode) -> Result<u64, TakeError
     ensures keeps { Extends (T.contents store.old) (T.contents store.new) }
     ensures rest { T.rest store.new ≡ T.rest store.old }
     ensures known { IfOk result (λ l. l < length (T.contents store.new).levels) }
-    ensures made { Makes (level_at (T.contents store.new)) result (Ok (level_of (T.contents store.old) node)) }
+    ensures made { Makes (level_at (T.contents store.new)) result
+        (Ok (level_of (T.contents store.old) node)) }
 {
     match store.make_level(node) {
         Ok(l) => Ok(l),
@@ -74,7 +79,8 @@ fn make<T: Terms>(store: &mut T, node: Node) -> Result<u64, TakeError>
     ensures keeps { Extends (T.contents store.old) (T.contents store.new) }
     ensures rest { T.rest store.new ≡ T.rest store.old }
     ensures known { IfOk result (λ e. e < length (T.contents store.new).trees) }
-    ensures made { Makes (tree_at (T.contents store.new)) result (Ok (tree_of (T.contents store.old) node)) }
+    ensures made { Makes (tree_at (T.contents store.new)) result
+        (Ok (tree_of (T.contents store.old) node)) }
 {
     match store.make(node) {
         Ok(e) => Ok(e),
@@ -102,7 +108,8 @@ fn with_text<T: Terms>(
     requires { parent < length (T.contents store.old).names }
     ensures keeps { Extends (T.contents store.old) (T.contents store.new) }
     ensures rest { T.rest store.new ≡ T.rest store.old }
-    ensures ok { IfOk result (λ n. IsName (T.contents store.new) n (name_at (T.contents store.old) parent ++ text bytes.now ∷ [])) }
+    ensures ok { IfOk result (λ n. IsName (T.contents store.new) n
+        (name_at (T.contents store.old) parent ++ text bytes.now ∷ [])) }
 {
     let bytes = Vec::from_slice(alloc, bytes)?;
     let s = store.make_text(Text::new(bytes))?;
@@ -115,7 +122,8 @@ fn make_list<T: Terms>(store: &mut T, mut levels: Vec<u64>) -> Result<u64, NoMem
     requires { All (λ l. l < length (T.contents store.old).levels) levels.items }
     ensures keeps { Extends (T.contents store.old) (T.contents store.new) }
     ensures rest { T.rest store.new ≡ T.rest store.old }
-    ensures ok { IfOk result (λ ls. IsList (T.contents store.new) ls (map (level_at (T.contents store.old)) levels.items)) }
+    ensures ok { IfOk result (λ ls. IsList (T.contents store.new) ls
+        (map (level_at (T.contents store.old)) levels.items)) }
 {
     let mut list = store.make_levels(ListNode::Empty)?;
     'up: while let Some(level) = levels.pop() {
@@ -131,7 +139,9 @@ fn make_constant<T: Terms>(store: &mut T, name: u64, levels: Vec<u64>) -> Result
     ensures keeps { Extends (T.contents store.old) (T.contents store.new) }
     ensures rest { T.rest store.new ≡ T.rest store.old }
     ensures known { IfOk result (λ e. e < length (T.contents store.new).trees) }
-    ensures made { Makes (tree_at (T.contents store.new)) result (Ok (const (name_at (T.contents store.old) name) (map (level_at (T.contents store.old)) levels.items))) }
+    ensures made { Makes (tree_at (T.contents store.new)) result
+        (Ok (const (name_at (T.contents store.old) name)
+        (map (level_at (T.contents store.old)) levels.items))) }
 {
     match make_list(store, levels) {
         Ok(list) => make(store, Node::Const(name, list)),
@@ -147,7 +157,8 @@ impl Assembler {
         ensures keeps { Extends (T.contents store.old) (T.contents store.new) }
         ensures rest { T.rest store.new ≡ T.rest store.old }
         ensures known { IfOk result (λ e. e < length (T.contents store.new).trees) }
-        ensures made { (s : State) → Holds self.now (T.contents store.old) s → Makes (tree_at (T.contents store.new)) result (sort_tree s level) }
+        ensures made { (s : State) → Holds self.now (T.contents store.old) s
+            → Makes (tree_at (T.contents store.new)) result (sort_tree s level) }
     {
         let Some(level) = self.by_level.find(level) else {
             return Err(TakeError::Fault(Word::IndexUnknown));
@@ -168,7 +179,8 @@ impl Assembler {
         ensures keeps { Extends (T.contents store.old) (T.contents store.new) }
         ensures rest { T.rest store.new ≡ T.rest store.old }
         ensures known { IfOk result (λ e. e < length (T.contents store.new).trees) }
-        ensures made { (s : State) → Holds self.now (T.contents store.old) s → Makes (tree_at (T.contents store.new)) result (constant_tree s name levels.now) }
+        ensures made { (s : State) → Holds self.now (T.contents store.old) s
+            → Makes (tree_at (T.contents store.new)) result (constant_tree s name levels.now) }
     {
         let Some(name) = self.by_name.find(name) else {
             return Err(TakeError::Fault(Word::IndexUnknown));
@@ -191,7 +203,8 @@ impl Assembler {
         ensures keeps { Extends (T.contents store.old) (T.contents store.new) }
         ensures rest { T.rest store.new ≡ T.rest store.old }
         ensures known { IfOk result (λ e. e < length (T.contents store.new).trees) }
-        ensures made { (s : State) → Holds self.now (T.contents store.old) s → Makes (tree_at (T.contents store.new)) result (application_tree s function argument) }
+        ensures made { (s : State) → Holds self.now (T.contents store.old) s
+            → Makes (tree_at (T.contents store.new)) result (application_tree s function argument) }
     {
         let Some(function) = self.by_tree.find(function) else {
             return Err(TakeError::Fault(Word::IndexUnknown));
@@ -216,7 +229,9 @@ impl Assembler {
         ensures keeps { Extends (T.contents store.old) (T.contents store.new) }
         ensures rest { T.rest store.new ≡ T.rest store.old }
         ensures known { IfOk result (λ e. e < length (T.contents store.new).trees) }
-        ensures made { (s : State) → Holds self.now (T.contents store.old) s → Makes (tree_at (T.contents store.new)) result (binder_tree s (binder_of binder) name domain body) }
+        ensures made { (s : State) → Holds self.now (T.contents store.old) s
+            → Makes (tree_at (T.contents store.new)) result
+            (binder_tree s (binder_of binder) name domain body) }
     {
         let Some(_) = self.by_name.find(name) else {
             return Err(TakeError::Fault(Word::IndexUnknown));
@@ -244,7 +259,8 @@ impl Assembler {
         ensures keeps { Extends (T.contents store.old) (T.contents store.new) }
         ensures rest { T.rest store.new ≡ T.rest store.old }
         ensures known { IfOk result (λ e. e < length (T.contents store.new).trees) }
-        ensures made { (s : State) → Holds self.now (T.contents store.old) s → Makes (tree_at (T.contents store.new)) result (let_tree s name domain value body) }
+        ensures made { (s : State) → Holds self.now (T.contents store.old) s
+            → Makes (tree_at (T.contents store.new)) result (let_tree s name domain value body) }
     {
         let Some(_name) = self.by_name.find(name) else {
             return Err(TakeError::Fault(Word::IndexUnknown));
@@ -268,7 +284,8 @@ impl Assembler {
         ensures keeps { Extends (T.contents store.old) (T.contents store.new) }
         ensures rest { T.rest store.new ≡ T.rest store.old }
         ensures known { IfOk result (λ l. l < length (T.contents store.new).levels) }
-        ensures made { (s : State) → Holds self.now (T.contents store.old) s → Makes (level_at (T.contents store.new)) result (successor_level s level) }
+        ensures made { (s : State) → Holds self.now (T.contents store.old) s
+            → Makes (level_at (T.contents store.new)) result (successor_level s level) }
     {
         let Some(level) = self.by_level.find(level) else {
             return Err(TakeError::Fault(Word::IndexUnknown));
@@ -289,7 +306,9 @@ impl Assembler {
         ensures keeps { Extends (T.contents store.old) (T.contents store.new) }
         ensures rest { T.rest store.new ≡ T.rest store.old }
         ensures known { IfOk result (λ l. l < length (T.contents store.new).levels) }
-        ensures made { (s : State) → Holds self.now (T.contents store.old) s → Makes (level_at (T.contents store.new)) result (pair_level s (pair_of pair) left right) }
+        ensures made { (s : State) → Holds self.now (T.contents store.old) s
+            → Makes (level_at (T.contents store.new)) result
+            (pair_level s (pair_of pair) left right) }
     {
         let Some(left) = self.by_level.find(left) else {
             return Err(TakeError::Fault(Word::IndexUnknown));
@@ -307,7 +326,8 @@ impl Assembler {
         ensures keeps { Extends (T.contents store.old) (T.contents store.new) }
         ensures rest { T.rest store.new ≡ T.rest store.old }
         ensures known { IfOk result (λ l. l < length (T.contents store.new).levels) }
-        ensures made { (s : State) → Holds self.now (T.contents store.old) s → Makes (level_at (T.contents store.new)) result (parameter_level s name) }
+        ensures made { (s : State) → Holds self.now (T.contents store.old) s
+            → Makes (level_at (T.contents store.new)) result (parameter_level s name) }
     {
         let Some(name) = self.by_name.find(name) else {
             return Err(TakeError::Fault(Word::IndexUnknown));
@@ -328,7 +348,9 @@ impl Assembler {
         ensures keeps { Extends (T.contents store.old) (T.contents store.new) }
         ensures rest { T.rest store.new ≡ T.rest store.old }
         ensures known { IfOk result (λ n. n < length (T.contents store.new).names) }
-        ensures made { (s : State) → Holds self.now (T.contents store.old) s → Makes (name_at (T.contents store.new)) result (longer_name s parent (text bytes.now)) }
+        ensures made { (s : State) → Holds self.now (T.contents store.old) s
+            → Makes (name_at (T.contents store.new)) result
+            (longer_name s parent (text bytes.now)) }
     {
         let Some(parent) = self.by_name.find(parent) else {
             return Err(TakeError::Fault(Word::IndexUnknown));
@@ -351,7 +373,9 @@ impl Assembler {
         ensures keeps { Extends (T.contents store.old) (T.contents store.new) }
         ensures rest { T.rest store.new ≡ T.rest store.old }
         ensures known { IfOk result (λ n. n < length (T.contents store.new).names) }
-        ensures made { (s : State) → Holds self.now (T.contents store.old) s → Makes (name_at (T.contents store.new)) result (longer_name s parent (number component)) }
+        ensures made { (s : State) → Holds self.now (T.contents store.old) s
+            → Makes (name_at (T.contents store.new)) result
+            (longer_name s parent (number component)) }
     {
         let Some(parent) = self.by_name.find(parent) else {
             return Err(TakeError::Fault(Word::IndexUnknown));
@@ -371,7 +395,8 @@ impl Assembler {
         value: u32,
     ) -> Result<RecursorRule, TakeError>
         ensures known { (c : Contents) → IsKnown self.now c → IfOk result (IsRuleIn c) }
-        ensures made { (c : Contents) (s : State) → Holds self.now c s → Makes (rule_at c) result (rule_of s constructor fields value) }
+        ensures made { (c : Contents) (s : State) → Holds self.now c s
+            → Makes (rule_at c) result (rule_of s constructor fields value) }
     {
         let Some(constructor) = self.by_name.find(constructor) else {
             return Err(TakeError::Fault(Word::IndexUnknown));
@@ -396,8 +421,10 @@ impl Assembler {
         body: Result<Body, TakeError>,
         parameters: &[u32],
     ) -> Result<Said, TakeError>
-        ensures known { (c : Contents) → IsKnown self.now c → IfOk body (λ b. IsBodyIn c b) → IfOk result (IsSaidIn c) }
-        ensures made { (c : Contents) (s : State) (said : Result PlainBody LineWord) → Holds self.now c s → Makes (body_at c) body said
+        ensures known { (c : Contents) → IsKnown self.now c → IfOk body (λ b. IsBodyIn c b)
+            → IfOk result (IsSaidIn c) }
+        ensures made { (c : Contents) (s : State) (said : Result PlainBody LineWord)
+            → Holds self.now c s → Makes (body_at c) body said
             → Makes (said_at c) result (declaration_of s name kind said parameters.now) }
     {
         let Some(name) = self.by_name.find(name) else {
@@ -425,7 +452,8 @@ impl Assembler {
     #[tactic(auto, using(crate::proofs::Holding::found, crate::proofs::Holding::missing, crate::proofs::Holding::is_below))]
     fn body(&self, value_use: ValueUse, value: u32) -> Result<Body, TakeError>
         ensures known { (c : Contents) → IsKnown self.now c → IfOk result (λ b. IsBodyIn c b) }
-        ensures made { (c : Contents) (s : State) → Holds self.now c s → Makes (body_at c) result (value_body s (body_of value_use) value) }
+        ensures made { (c : Contents) (s : State) → Holds self.now c s
+            → Makes (body_at c) result (value_body s (body_of value_use) value) }
     {
         let Some(value) = self.by_tree.find(value) else {
             return Err(TakeError::Fault(Word::IndexUnknown));
@@ -444,7 +472,9 @@ impl Assembler {
         parameters: &[u32],
     ) -> Result<Said, TakeError>
         ensures known { (c : Contents) → IsKnown self.now c → IfOk result (IsSaidIn c) }
-        ensures made { (c : Contents) (s : State) → Holds self.now c s → Makes (said_at c) result (valued_of s (body_of value_use) name kind value parameters.now) }
+        ensures made { (c : Contents) (s : State) → Holds self.now c s
+            → Makes (said_at c) result (valued_of s
+            (body_of value_use) name kind value parameters.now) }
     {
         let body = self.body(value_use, value);
         self.declaration(alloc, name, kind, body, parameters)
@@ -459,7 +489,8 @@ impl Assembler {
         parameters: &[u32],
     ) -> Result<Said, TakeError>
         ensures known { (c : Contents) → IsKnown self.now c → IfOk result (IsSaidIn c) }
-        ensures made { (c : Contents) (s : State) → Holds self.now c s → Makes (said_at c) result (axiom_of s name kind parameters.now) }
+        ensures made { (c : Contents) (s : State) → Holds self.now c s
+            → Makes (said_at c) result (axiom_of s name kind parameters.now) }
     {
         self.declaration(alloc, name, kind, Ok(Body::Axiom), parameters)
     }

@@ -6,7 +6,7 @@ ghost use Rattle.lk_units.specs.Held.{Below, Makes, Puts};
 
 use crate::TakeError;
 use lk_lines::Word;
-use lk_rows::memory::NoMemory;
+use lk_store::memory::NoMemory;
 use std::alloc::Global;
 use std::collections::HashMap;
 
@@ -38,7 +38,8 @@ impl Numbering {
 
     /// The places of several numbers.
     pub(crate) fn find_all(&self, alloc: Global, numbers: &[u32]) -> Result<Vec<u64>, TakeError>
-        ensures known { (len : ℕ) → Below self.now len → IfOk result (λ v. All (λ i. i < len) v.items) }
+        ensures known { (len : ℕ) → Below self.now len
+            → IfOk result (λ v. All (λ i. i < len) v.items) }
         ensures found { Makes (λ v. v.items) result (all_known (entry self.now) numbers.now) }
     {
         let mut places = Vec::new(alloc);
@@ -58,7 +59,8 @@ impl Numbering {
 
     /// Gives a number its place.
     pub fn add(&mut self, number: u32, place: u64) -> Result<(), NoMemory>
-        ensures ok { OnOk result ((q : ℕ) → entry self.new q ≡ (if q == number then Some place else entry self.old q)) }
+        ensures ok { OnOk result ((q : ℕ) → entry self.new q
+            ≡ (if q == number then Some place else entry self.old q)) }
         ensures err { OnErr result ((q : ℕ) → entry self.new q ≡ entry self.old q) }
     {
         let Ok(place) = u32::try_from(place) else {

@@ -12,18 +12,18 @@ use crate::{Assembler, TakeError};
 use lk_env::unit::{Constructor, Recursor, RecursorRule};
 use lk_lines::{Declaration, DeclarationTag, Word};
 use lk_members::line::{Said, TypeHead};
-use lk_rows::memory::NoMemory;
+use lk_store::memory::NoMemory;
 use std::alloc::Global;
 
 /// How a type counts its arguments, as its line states it.
-#[derive(Clone, Copy, Debug, PartialEq, Eq)]
+#[derive(Clone, Copy)]
 pub struct TypeCounts {
     pub parameters: u32,
     pub indices: u32,
 }
 
 /// The place of a constructor in its type's list, and how it counts its arguments, as its line states it.
-#[derive(Clone, Copy, Debug, PartialEq, Eq)]
+#[derive(Clone, Copy)]
 pub struct ConstructorCounts {
     pub place: u32,
     pub parameters: u32,
@@ -31,7 +31,7 @@ pub struct ConstructorCounts {
 }
 
 /// How a recursor counts its arguments, and whether it has K, as its line states it.
-#[derive(Clone, Copy, Debug, PartialEq, Eq)]
+#[derive(Clone, Copy)]
 pub struct RecursorCounts {
     pub parameters: u32,
     pub indices: u32,
@@ -69,8 +69,10 @@ fn rules_at(
 impl Assembler {
     /// The names that these numbers stand for.
     pub(crate) fn names_of(&self, alloc: Global, names: &[u32]) -> Result<Vec<u64>, TakeError>
-        ensures known { (c : Contents) → IsKnown self.now c → IfOk result (λ v. All (λ n. n < length c.names) v.items) }
-        ensures made { (c : Contents) (s : State) → Holds self.now c s → Makes (λ v. map (name_at c) v.items) result (all_known s.names names.now) }
+        ensures known { (c : Contents) → IsKnown self.now c
+            → IfOk result (λ v. All (λ n. n < length c.names) v.items) }
+        ensures made { (c : Contents) (s : State) → Holds self.now c s
+            → Makes (λ v. map (name_at c) v.items) result (all_known s.names names.now) }
     {
         self.by_name.find_all(alloc, names)
     }
@@ -78,8 +80,10 @@ impl Assembler {
     /// The rules that these numbers stand for.
     fn rules_of(&self, alloc: Global, rules: &[u32]) -> Result<Vec<RecursorRule>, TakeError>
         requires { Below self.now.by_rule (length self.now.rules.items) }
-        ensures known { (c : Contents) → IsKnown self.now c → IfOk result (λ v. All (IsRuleIn c) v.items) }
-        ensures made { (c : Contents) (s : State) → Holds self.now c s → Makes (λ v. map (rule_at c) v.items) result (all_known s.rules rules.now) }
+        ensures known { (c : Contents) → IsKnown self.now c
+            → IfOk result (λ v. All (IsRuleIn c) v.items) }
+        ensures made { (c : Contents) (s : State) → Holds self.now c s
+            → Makes (λ v. map (rule_at c) v.items) result (all_known s.rules rules.now) }
     {
         let places = match self.by_rule.find_all(alloc, rules) {
             Ok(places) => places,
@@ -104,7 +108,8 @@ impl Assembler {
     ) -> Result<Said, TakeError>
         ensures known { (c : Contents) → IsKnown self.now c → IfOk result (IsSaidIn c) }
         ensures made { (c : Contents) (s : State) → Holds self.now c s
-            → Makes (said_at c) result (type_said s name kind counts.parameters counts.indices types.now constructors.now parameters.now) }
+            → Makes (said_at c) result (type_said s name kind counts.parameters counts.indices
+            types.now constructors.now parameters.now) }
     {
         let Some(name) = self.by_name.find(name) else {
             return Err(TakeError::Fault(Word::IndexUnknown));
@@ -142,7 +147,8 @@ impl Assembler {
     ) -> Result<Said, TakeError>
         ensures known { (c : Contents) → IsKnown self.now c → IfOk result (IsSaidIn c) }
         ensures made { (c : Contents) (s : State) → Holds self.now c s
-            → Makes (said_at c) result (ctor_said s name kind parent counts.place counts.parameters counts.fields parameters.now) }
+            → Makes (said_at c) result (ctor_said s name kind parent counts.place counts.parameters
+            counts.fields parameters.now) }
     {
         let Some(name) = self.by_name.find(name) else {
             return Err(TakeError::Fault(Word::IndexUnknown));
@@ -179,7 +185,8 @@ impl Assembler {
         requires { Below self.now.by_rule (length self.now.rules.items) }
         ensures known { (c : Contents) → IsKnown self.now c → IfOk result (IsSaidIn c) }
         ensures made { (c : Contents) (s : State) → Holds self.now c s
-            → Makes (said_at c) result (recursor_said s name kind types.now (counts_of counts) rules.now parameters.now) }
+            → Makes (said_at c) result (recursor_said s name kind types.now
+            (counts_of counts) rules.now parameters.now) }
     {
         let Some(name) = self.by_name.find(name) else {
             return Err(TakeError::Fault(Word::IndexUnknown));
@@ -212,7 +219,8 @@ impl Assembler {
         requires rules { Below self.now.by_rule (length self.now.rules.items) }
         ensures known { (c : Contents) → IsKnown self.now c → IfOk result (IsSaidIn c) }
         ensures made { (c : Contents) (s : State) → Holds self.now c s
-            → Makes (said_at c) result (member_said s DeclarationTag.Inductive (declaration_values declaration.now)) }
+            → Makes (said_at c) result (member_said s DeclarationTag.Inductive
+            (declaration_values declaration.now)) }
     {
         let Declaration::Inductive {
             name,
@@ -249,7 +257,8 @@ impl Assembler {
         requires rules { Below self.now.by_rule (length self.now.rules.items) }
         ensures known { (c : Contents) → IsKnown self.now c → IfOk result (IsSaidIn c) }
         ensures made { (c : Contents) (s : State) → Holds self.now c s
-            → Makes (said_at c) result (member_said s DeclarationTag.Constructor (declaration_values declaration.now)) }
+            → Makes (said_at c) result (member_said s DeclarationTag.Constructor
+            (declaration_values declaration.now)) }
     {
         let Declaration::Constructor {
             name,
@@ -278,7 +287,8 @@ impl Assembler {
         requires rules { Below self.now.by_rule (length self.now.rules.items) }
         ensures known { (c : Contents) → IsKnown self.now c → IfOk result (IsSaidIn c) }
         ensures made { (c : Contents) (s : State) → Holds self.now c s
-            → Makes (said_at c) result (member_said s DeclarationTag.Recursor (declaration_values declaration.now)) }
+            → Makes (said_at c) result (member_said s DeclarationTag.Recursor
+            (declaration_values declaration.now)) }
     {
         let Declaration::Recursor {
             name,
@@ -323,7 +333,8 @@ impl Assembler {
         requires { Below self.now.by_rule (length self.now.rules.items) }
         ensures known { (c : Contents) → IsKnown self.now c → IfOk result (IsSaidIn c) }
         ensures made { (c : Contents) (s : State) → Holds self.now c s
-            → Makes (said_at c) result (member_said s (declaration_tag declaration.now) (declaration_values declaration.now)) }
+            → Makes (said_at c) result (member_said s (declaration_tag declaration.now)
+            (declaration_values declaration.now)) }
     {
         match declaration {
             Declaration::Inductive { .. } => self.inductive_said(alloc, declaration),

@@ -62,7 +62,9 @@ impl Assembler {
         ensures keeps { Extends (T.contents store.old) (T.contents store.new) }
         ensures rest { T.rest store.new ≡ T.rest store.old }
         ensures known { OnOk result (IsKnown self.new (T.contents store.new)) }
-        ensures follows { (s : State) → Holds self.old (T.contents store.old) s → Follows self.new (T.contents store.new) result (with_name s own (longer_name s parent (text bytes.now))) }
+        ensures follows { (s : State) → Holds self.old (T.contents store.old) s
+            → Follows self.new (T.contents store.new) result
+            (with_name s own (longer_name s parent (text bytes.now))) }
     {
         let made = self.text_name(alloc, store, parent, bytes);
         self.by_name.put_new(own, made)
@@ -81,7 +83,9 @@ impl Assembler {
         ensures keeps { Extends (T.contents store.old) (T.contents store.new) }
         ensures rest { T.rest store.new ≡ T.rest store.old }
         ensures known { OnOk result (IsKnown self.new (T.contents store.new)) }
-        ensures follows { (s : State) → Holds self.old (T.contents store.old) s → Follows self.new (T.contents store.new) result (with_name s own (longer_name s parent (number component))) }
+        ensures follows { (s : State) → Holds self.old (T.contents store.old) s
+            → Follows self.new (T.contents store.new) result
+            (with_name s own (longer_name s parent (number component))) }
     {
         let made = self.number_name(store, parent, component);
         self.by_name.put_new(own, made)
@@ -99,7 +103,9 @@ impl Assembler {
         ensures keeps { Extends (T.contents store.old) (T.contents store.new) }
         ensures rest { T.rest store.new ≡ T.rest store.old }
         ensures known { OnOk result (IsKnown self.new (T.contents store.new)) }
-        ensures follows { (s : State) → Holds self.old (T.contents store.old) s → Follows self.new (T.contents store.new) result (with_level s own (successor_level s level)) }
+        ensures follows { (s : State) → Holds self.old (T.contents store.old) s
+            → Follows self.new (T.contents store.new) result
+            (with_level s own (successor_level s level)) }
     {
         let made = self.successor(store, level);
         self.by_level.put_new(own, made)
@@ -119,7 +125,9 @@ impl Assembler {
         ensures keeps { Extends (T.contents store.old) (T.contents store.new) }
         ensures rest { T.rest store.new ≡ T.rest store.old }
         ensures known { OnOk result (IsKnown self.new (T.contents store.new)) }
-        ensures follows { (s : State) → Holds self.old (T.contents store.old) s → Follows self.new (T.contents store.new) result (with_level s own (pair_level s (pair_of pair) left right)) }
+        ensures follows { (s : State) → Holds self.old (T.contents store.old) s
+            → Follows self.new (T.contents store.new) result
+            (with_level s own (pair_level s (pair_of pair) left right)) }
     {
         let made = self.level_pair(store, pair, left, right);
         self.by_level.put_new(own, made)
@@ -137,7 +145,9 @@ impl Assembler {
         ensures keeps { Extends (T.contents store.old) (T.contents store.new) }
         ensures rest { T.rest store.new ≡ T.rest store.old }
         ensures known { OnOk result (IsKnown self.new (T.contents store.new)) }
-        ensures follows { (s : State) → Holds self.old (T.contents store.old) s → Follows self.new (T.contents store.new) result (with_level s own (parameter_level s name)) }
+        ensures follows { (s : State) → Holds self.old (T.contents store.old) s
+            → Follows self.new (T.contents store.new) result
+            (with_level s own (parameter_level s name)) }
     {
         let made = self.parameter(store, name);
         self.by_level.put_new(own, made)
@@ -155,7 +165,8 @@ impl Assembler {
         ensures keeps { Extends (T.contents store.old) (T.contents store.new) }
         ensures rest { T.rest store.new ≡ T.rest store.old }
         ensures known { OnOk result (IsKnown self.new (T.contents store.new)) }
-        ensures follows { (s : State) → Holds self.old (T.contents store.old) s → Follows self.new (T.contents store.new) result (with_tree s own (Ok (var index))) }
+        ensures follows { (s : State) → Holds self.old (T.contents store.old) s
+            → Follows self.new (T.contents store.new) result (with_tree s own (Ok (var index))) }
     {
         let made = variable(store, index);
         self.by_tree.put_new(own, made)
@@ -168,7 +179,8 @@ impl Assembler {
         ensures keeps { Extends (T.contents store.old) (T.contents store.new) }
         ensures rest { T.rest store.new ≡ T.rest store.old }
         ensures known { OnOk result (IsKnown self.new (T.contents store.new)) }
-        ensures follows { (s : State) → Holds self.old (T.contents store.old) s → Follows self.new (T.contents store.new) result (with_tree s own (sort_tree s level)) }
+        ensures follows { (s : State) → Holds self.old (T.contents store.old) s
+            → Follows self.new (T.contents store.new) result (with_tree s own (sort_tree s level)) }
     {
         let made = self.sort(store, level);
         self.by_tree.put_new(own, made)
@@ -188,7 +200,9 @@ impl Assembler {
         ensures keeps { Extends (T.contents store.old) (T.contents store.new) }
         ensures rest { T.rest store.new ≡ T.rest store.old }
         ensures known { OnOk result (IsKnown self.new (T.contents store.new)) }
-        ensures follows { (s : State) → Holds self.old (T.contents store.old) s → Follows self.new (T.contents store.new) result (with_tree s own (constant_tree s name levels.now)) }
+        ensures follows { (s : State) → Holds self.old (T.contents store.old) s
+            → Follows self.new (T.contents store.new) result
+            (with_tree s own (constant_tree s name levels.now)) }
     {
         let made = self.constant(alloc, store, name, levels);
         self.by_tree.put_new(own, made)
@@ -207,7 +221,9 @@ impl Assembler {
         ensures keeps { Extends (T.contents store.old) (T.contents store.new) }
         ensures rest { T.rest store.new ≡ T.rest store.old }
         ensures known { OnOk result (IsKnown self.new (T.contents store.new)) }
-        ensures follows { (s : State) → Holds self.old (T.contents store.old) s → Follows self.new (T.contents store.new) result (with_tree s own (application_tree s function argument)) }
+        ensures follows { (s : State) → Holds self.old (T.contents store.old) s
+            → Follows self.new (T.contents store.new) result
+            (with_tree s own (application_tree s function argument)) }
     {
         let made = self.application(store, function, argument);
         self.by_tree.put_new(own, made)
@@ -228,7 +244,9 @@ impl Assembler {
         ensures keeps { Extends (T.contents store.old) (T.contents store.new) }
         ensures rest { T.rest store.new ≡ T.rest store.old }
         ensures known { OnOk result (IsKnown self.new (T.contents store.new)) }
-        ensures follows { (s : State) → Holds self.old (T.contents store.old) s → Follows self.new (T.contents store.new) result (with_tree s own (binder_tree s (binder_of binder) name domain body)) }
+        ensures follows { (s : State) → Holds self.old (T.contents store.old) s
+            → Follows self.new (T.contents store.new) result
+            (with_tree s own (binder_tree s (binder_of binder) name domain body)) }
     {
         let made = self.binder(store, binder, name, domain, body);
         self.by_tree.put_new(own, made)
@@ -249,7 +267,9 @@ impl Assembler {
         ensures keeps { Extends (T.contents store.old) (T.contents store.new) }
         ensures rest { T.rest store.new ≡ T.rest store.old }
         ensures known { OnOk result (IsKnown self.new (T.contents store.new)) }
-        ensures follows { (s : State) → Holds self.old (T.contents store.old) s → Follows self.new (T.contents store.new) result (with_tree s own (let_tree s name domain value body)) }
+        ensures follows { (s : State) → Holds self.old (T.contents store.old) s
+            → Follows self.new (T.contents store.new) result
+            (with_tree s own (let_tree s name domain value body)) }
     {
         let made = self.let_in(store, name, domain, value, body);
         self.by_tree.put_new(own, made)
@@ -257,10 +277,13 @@ impl Assembler {
 
     // Adds the rule that a line made.
     fn push_rule(&mut self, made: Result<RecursorRule, TakeError>) -> Result<u64, TakeError>
-        ensures known { OnOk result ((c : Contents) → IsKnown self.old c → IfOk made (IsRuleIn c) → IsKnown self.new c) }
+        ensures known { OnOk result ((c : Contents) → IsKnown self.old c → IfOk made (IsRuleIn c)
+            → IsKnown self.new c) }
         ensures below { IfOk result (λ i. i < length self.new.rules.items) }
-        ensures made { (c : Contents) (said : Result RecRule LineWord) → Makes (rule_at c) made said → Makes (rule_held c self.new.rules.items) result said }
-        ensures holds { (c : Contents) (s : State) → IsKnown self.old c → Holds self.old c s → Holds self.new c s }
+        ensures made { (c : Contents) (said : Result RecRule LineWord) → Makes (rule_at c) made said
+            → Makes (rule_held c self.new.rules.items) result said }
+        ensures holds { (c : Contents) (s : State) → IsKnown self.old c → Holds self.old c s
+            → Holds self.new c s }
         ensures same { self.new.by_rule ≡ self.old.by_rule }
     {
         let rule = match made {
@@ -283,7 +306,8 @@ impl Assembler {
         value: u32,
     ) -> Result<(), TakeError>
         ensures known { OnOk result ((c : Contents) → IsKnown self.old c → IsKnown self.new c) }
-        ensures follows { (c : Contents) (s : State) → IsKnown self.old c → Holds self.old c s → Follows self.new c result (with_rule s own (rule_of s constructor fields value)) }
+        ensures follows { (c : Contents) (s : State) → IsKnown self.old c → Holds self.old c s
+            → Follows self.new c result (with_rule s own (rule_of s constructor fields value)) }
     {
         let made = self.rule(constructor, fields, value);
         let place = self.push_rule(made);
@@ -304,7 +328,8 @@ impl Assembler {
         ensures rest { T.rest store.new ≡ T.rest store.old }
         ensures known { OnOk result (IsKnown self.new (T.contents store.new)) }
         ensures follows { (s : State) → Holds self.old (T.contents store.old) s
-            → Follows self.new (T.contents store.new) result (entry_added s own (entry_tag line.entry) (entry_values line.entry)) }
+            → Follows self.new (T.contents store.new) result
+            (entry_added s own (entry_tag line.entry) (entry_values line.entry)) }
     {
         match line {
             Entry::NameText { parent, text } => self.text_line(alloc, store, own, parent, text),
@@ -362,7 +387,8 @@ impl Assembler {
         requires { Below self.now.by_rule (length self.now.rules.items) }
         ensures known { (c : Contents) → IsKnown self.now c → IfOk result (IsSaidIn c) }
         ensures made { (c : Contents) (s : State) → Holds self.now c s
-            → Makes (said_at c) result (declaration_said s (declaration_tag declaration.now) (declaration_values declaration.now)) }
+            → Makes (said_at c) result (declaration_said s (declaration_tag declaration.now)
+            (declaration_values declaration.now)) }
     {
         match declaration {
             Declaration::Definition {
@@ -417,7 +443,8 @@ impl Assembler {
         requires said_in { IsSaidIn (T.contents store.now) said }
         ensures known { OnOk result (IsKnown self.new (T.contents store.now)) }
         ensures follows { (s : State) → Holds self.old (T.contents store.now) s
-            → Follows self.new (T.contents store.now) result (with_line number s (said_at (T.contents store.now) said)) }
+            → Follows self.new (T.contents store.now) result
+            (with_line number s (said_at (T.contents store.now) said)) }
     {
         // The names of the store are apart, so that their numbers tell.
         let _names = store.count_names();
@@ -442,7 +469,13 @@ impl Assembler {
         ensures rest { T.rest store.new ≡ T.rest store.old }
         ensures known { OnOk result (IsKnown self.new (T.contents store.new)) }
         ensures follows { (number : ℕ) (s : State) → Holds self.old (T.contents store.old) s
-            → Follows self.new (T.contents store.new) result (take_item number s (record { own = Some own; tag = tag.Entry (entry_tag line.entry); values = entry_values line.entry })) }
+            → Follows self.new (T.contents store.new) result
+            (take_item number s (record {
+              own = Some own;
+              tag = tag.Entry
+                  (entry_tag line.entry);
+              values = entry_values line.entry;
+            })) }
     {
         match self.add_entry(alloc, store, own, line) {
             Ok(()) => self.counts(),
@@ -465,7 +498,13 @@ impl Assembler {
         ensures rest { T.rest store.new ≡ T.rest store.old }
         ensures known { OnOk result (IsKnown self.new (T.contents store.new)) }
         ensures follows { (s : State) → Holds self.old (T.contents store.old) s
-            → Follows self.new (T.contents store.new) result (take_item number s (record { own = None; tag = tag.Declaration (declaration_tag declaration); values = declaration_values declaration })) }
+            → Follows self.new (T.contents store.new) result
+            (take_item number s (record {
+              own = None;
+              tag = tag.Declaration
+                  (declaration_tag declaration);
+              values = declaration_values declaration;
+            })) }
     {
         let said = match self.said(alloc, &declaration) {
             Ok(said) => said,
