@@ -12,7 +12,7 @@ use Rattle.leancheck.specs.declared.status.Status.TheVariants.{AllYes, SomeNo, U
 use Rattle.leancheck.specs.Text.{bad_line, report_text, count}
 use Rattle.leancheck.specs.declared.report.Kind.TheVariants.{No, Memory}
 use Rattle.lk_lines.specs.declared.line.Fault.{Fault}
-use Rattle.lk_rows.specs.declared.memory.NoMemory.{NoMemory as WantOfMemory}
+use Rattle.lk_store.specs.declared.memory.NoMemory.{NoMemory as WantOfMemory}
 
 -- a no before all, then want of memory
 abbrev pub status_of : List Verdict → Status

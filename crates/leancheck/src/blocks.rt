@@ -36,7 +36,9 @@ fn check_recursors<A: Asks>(
     requires shape_in { IsShapeIn (A.contents asks.old) shape.now }
     requires stated_in { All (IsRecursorIn (A.contents asks.old)) stated.now }
     ensures basis { A.basis asks.new ≡ A.basis asks.old }
-    ensures outcome { IsChecked (recursors_stage (A.table asks.old) (A.places (A.basis asks.old)) (map (recursor_at (A.contents asks.old)) stated.now) (shape_at (A.contents asks.old) shape.now) (A.left asks.old)) result }
+    ensures outcome { IsChecked (recursors_stage (A.table asks.old) (A.places (A.basis asks.old))
+        (map (recursor_at (A.contents asks.old)) stated.now)
+        (shape_at (A.contents asks.old) shape.now) (A.left asks.old)) result }
 {
     asks.give(Partial::Members);
     compare(alloc, asks, shape, stated)
@@ -54,7 +56,11 @@ fn check_from_shape<A: Asks>(
     requires parts_in { ArePartsIn (A.contents asks.old) parts }
     requires place { A.place asks.old ≡ A.places (A.basis asks.old) Partial.Types }
     ensures basis { A.basis asks.new ≡ A.basis asks.old }
-    ensures outcome { (fuel : ℕ) → A.left asks.old < fuel → IsChecked (shape_stage (A.table asks.old) (A.places (A.basis asks.old)) fuel (block_at (A.contents asks.old) block.now) (map (recursor_at (A.contents asks.old)) block.now.recursors.items) (parts_at (A.contents asks.old) parts) (A.left asks.old)) result }
+    ensures outcome { (fuel : ℕ) → A.left asks.old < fuel
+        → IsChecked (shape_stage (A.table asks.old) (A.places (A.basis asks.old)) fuel
+        (block_at (A.contents asks.old) block.now)
+        (map (recursor_at (A.contents asks.old)) block.now.recursors.items)
+        (parts_at (A.contents asks.old) parts) (A.left asks.old)) result }
 {
     let shape = match check_shape(alloc, asks, &block.types, parts) {
         Ok(shape) => shape,
@@ -66,7 +72,9 @@ fn check_from_shape<A: Asks>(
 /// That no occurrence is nested.
 fn check_occurrences<A: Asks>(alloc: Global, asks: &A, types: &[BlockType]) -> Result<(), Stop>
     requires { All (IsTypeIn (A.contents asks.now)) types.now }
-    ensures { Gives (A.table asks.now) (A.place asks.now) (flat_form (map (type_at (A.contents asks.now)) types.now)) (A.left asks.now) (λ u. checked) (A.left asks.now) result }
+    ensures { Gives (A.table asks.now) (A.place asks.now)
+        (flat_form (map (type_at (A.contents asks.now)) types.now)) (A.left asks.now) (λ u. checked)
+        (A.left asks.now) result }
 {
     let names = match names_of(alloc, types) {
         Ok(names) => names,
@@ -87,7 +95,11 @@ fn check_from_occurrences<A: Asks>(
     requires parts_in { ArePartsIn (A.contents asks.old) parts }
     requires place { A.place asks.old ≡ A.places (A.basis asks.old) Partial.Types }
     ensures basis { A.basis asks.new ≡ A.basis asks.old }
-    ensures outcome { (fuel : ℕ) → A.left asks.old < fuel → IsChecked (flat_stage (A.table asks.old) (A.places (A.basis asks.old)) fuel (block_at (A.contents asks.old) block.now) (map (recursor_at (A.contents asks.old)) block.now.recursors.items) (parts_at (A.contents asks.old) parts) (A.left asks.old)) result }
+    ensures outcome { (fuel : ℕ) → A.left asks.old < fuel
+        → IsChecked (flat_stage (A.table asks.old) (A.places (A.basis asks.old)) fuel
+        (block_at (A.contents asks.old) block.now)
+        (map (recursor_at (A.contents asks.old)) block.now.recursors.items)
+        (parts_at (A.contents asks.old) parts) (A.left asks.old)) result }
 {
     match check_occurrences(alloc, asks, &block.types) {
         Ok(()) => check_from_shape(alloc, asks, block, parts),
@@ -107,7 +119,11 @@ fn check_from_sorts<A: Asks>(
     requires parts_in { ArePartsIn (A.contents asks.old) parts }
     requires place { A.place asks.old ≡ A.places (A.basis asks.old) Partial.Types }
     ensures basis { A.basis asks.new ≡ A.basis asks.old }
-    ensures outcome { (fuel : ℕ) → A.left asks.old < fuel → IsChecked (sorts_stage (A.table asks.old) (A.places (A.basis asks.old)) fuel (block_at (A.contents asks.old) block.now) (map (recursor_at (A.contents asks.old)) block.now.recursors.items) (parts_at (A.contents asks.old) parts) (A.left asks.old)) result }
+    ensures outcome { (fuel : ℕ) → A.left asks.old < fuel
+        → IsChecked (sorts_stage (A.table asks.old) (A.places (A.basis asks.old)) fuel
+        (block_at (A.contents asks.old) block.now)
+        (map (recursor_at (A.contents asks.old)) block.now.recursors.items)
+        (parts_at (A.contents asks.old) parts) (A.left asks.old)) result }
 {
     match check_sorts(asks, &block.types) {
         Ok(()) => check_from_occurrences(alloc, asks, block, parts),
@@ -126,7 +142,11 @@ fn give_types<A: Asks>(
     requires stated_in { All (IsRecursorIn (A.contents asks.old)) block.now.recursors.items }
     requires parts_in { ArePartsIn (A.contents asks.old) parts }
     ensures basis { A.basis asks.new ≡ A.basis asks.old }
-    ensures outcome { (fuel : ℕ) → A.left asks.old < fuel → IsChecked (sorts_stage (A.table asks.old) (A.places (A.basis asks.old)) fuel (block_at (A.contents asks.old) block.now) (map (recursor_at (A.contents asks.old)) block.now.recursors.items) (parts_at (A.contents asks.old) parts) (A.left asks.old)) result }
+    ensures outcome { (fuel : ℕ) → A.left asks.old < fuel
+        → IsChecked (sorts_stage (A.table asks.old) (A.places (A.basis asks.old)) fuel
+        (block_at (A.contents asks.old) block.now)
+        (map (recursor_at (A.contents asks.old)) block.now.recursors.items)
+        (parts_at (A.contents asks.old) parts) (A.left asks.old)) result }
 {
     asks.give(Partial::Types);
     check_from_sorts(alloc, asks, block, parts)
@@ -134,7 +154,8 @@ fn give_types<A: Asks>(
 
 /// The number of parameters that the first type of a block states.
 fn stated_parameters(types: &[BlockType]) -> u64
-    ensures { (c : Contents) → result ≡ stated_parameters (record { types = map (type_at c) types.now }) }
+    ensures { (c : Contents) → result ≡ stated_parameters
+        (record { types = map (type_at c) types.now }) }
 {
     match types.first() {
         Some(first) => first.parameters,
@@ -148,7 +169,11 @@ fn check_from_types<A: Asks>(alloc: Global, asks: &mut A, block: &Block) -> Resu
     requires stated_in { All (IsRecursorIn (A.contents asks.old)) block.now.recursors.items }
     requires place { A.place asks.old ≡ A.places (A.basis asks.old) Partial.Nothing }
     ensures basis { A.basis asks.new ≡ A.basis asks.old }
-    ensures outcome { (fuel : ℕ) → A.left asks.old < fuel → IsChecked (types_stage (A.table asks.old) (A.places (A.basis asks.old)) fuel (block_at (A.contents asks.old) block.now) (map (recursor_at (A.contents asks.old)) block.now.recursors.items) (A.left asks.old)) result }
+    ensures outcome { (fuel : ℕ) → A.left asks.old < fuel
+        → IsChecked (types_stage (A.table asks.old) (A.places (A.basis asks.old)) fuel
+        (block_at (A.contents asks.old) block.now)
+        (map (recursor_at (A.contents asks.old)) block.now.recursors.items)
+        (A.left asks.old)) result }
 {
     let parameters = stated_parameters(&block.types);
     match check_types(alloc, asks, parameters, &block.types) {
@@ -165,7 +190,10 @@ pub fn check_block<A: Asks>(alloc: Global, asks: &mut A, block: &Block) -> Resul
     requires stated_in { All (IsRecursorIn (A.contents asks.old)) block.now.recursors.items }
     requires place { A.place asks.old ≡ A.places (A.basis asks.old) Partial.Nothing }
     ensures basis { A.basis asks.new ≡ A.basis asks.old }
-    ensures outcome { IsChecked (block_stages (A.table asks.old) (A.places (A.basis asks.old)) (suc (A.left asks.old)) (block_at (A.contents asks.old) block.now) (map (recursor_at (A.contents asks.old)) block.now.recursors.items) (A.left asks.old)) result }
+    ensures outcome { IsChecked (block_stages (A.table asks.old) (A.places (A.basis asks.old))
+        (suc (A.left asks.old)) (block_at (A.contents asks.old) block.now)
+        (map (recursor_at (A.contents asks.old)) block.now.recursors.items)
+        (A.left asks.old)) result }
 {
     if counts_agree(asks, block) {
         check_from_types(alloc, asks, block)

@@ -25,14 +25,15 @@ use lk_env::library::Library;
 use lk_env::unit::{Body, Unit};
 use lk_memo::memo::PrivateMemo;
 use lk_port::Gate;
-use lk_rows::memory::NoMemory;
 use lk_scan::names::are_new;
 use lk_scan::scan::{ScanError, scan};
 use lk_store::base_store::BaseStore;
+use lk_store::memory::NoMemory;
 use std::alloc::Global;
+use std::mem::drop;
 
 /// What is said of a unit.
-#[derive(Clone, Copy, Debug, PartialEq, Eq)]
+#[derive(Clone, Copy)]
 pub enum Verdict {
     Yes,
     No(Rule),
@@ -62,7 +63,8 @@ fn ask<A: Asks>(alloc: Global, asks: &mut A, kind: u64, body: Body) -> Verdict
     requires kind_in { kind < length (A.contents asks.old).trees }
     requires body_in { IsBodyIn (A.contents asks.old) body }
     ensures basis { A.basis asks.new ≡ A.basis asks.old }
-    ensures verdict { (d : Decl) → d.type ≡ tree_at (A.contents asks.old) kind → d.body ≡ body_at (A.contents asks.old) body
+    ensures verdict { (d : Decl) → d.type ≡ tree_at (A.contents asks.old) kind → d.body
+        ≡ body_at (A.contents asks.old) body
         → IsPlain (built_of (A.place asks.old) (A.left asks.old) d) result }
 {
     match body {
@@ -93,7 +95,8 @@ fn judge_scanned<A: Asks>(alloc: Global, asks: &mut A, unit: &Unit) -> Verdict
     requires place { A.place asks.old ≡ A.places (A.basis asks.old) Partial.Nothing }
     requires known { IsUnitIn (A.contents asks.old) unit.now }
     ensures basis { A.basis asks.new ≡ A.basis asks.old }
-    ensures verdict { IsPlain (asked_of (A.places (A.basis asks.old)) (A.left asks.old) (unit_at (A.contents asks.old) unit.now)) result }
+    ensures verdict { IsPlain (asked_of (A.places (A.basis asks.old)) (A.left asks.old)
+        (unit_at (A.contents asks.old) unit.now)) result }
 {
     match unit {
         Unit::Declaration(declaration) => ask(alloc, asks, declaration.kind, declaration.body),
@@ -108,7 +111,8 @@ fn judge_new<A: Asks>(alloc: Global, base: &BaseStore, asks: &mut A, unit: &Unit
     requires place { A.place asks.old ≡ A.places (A.basis asks.old) Partial.Nothing }
     requires known { IsUnitIn (contents_of base.now) unit.now }
     ensures basis { A.basis asks.new ≡ A.basis asks.old }
-    ensures verdict { IsPlain (scanned_of (A.places (A.basis asks.old)) (A.left asks.old) (unit_at (contents_of base.now) unit.now)) result }
+    ensures verdict { IsPlain (scanned_of (A.places (A.basis asks.old)) (A.left asks.old)
+        (unit_at (contents_of base.now) unit.now)) result }
 {
     match scan(alloc, base, unit) {
         Ok(()) => judge_scanned(alloc, asks, unit),
@@ -127,11 +131,14 @@ fn judge<A: Asks>(
     requires table { A.table asks.old ≡ rows }
     requires same { A.contents asks.old ≡ contents_of library.now.0 }
     requires place { A.place asks.old ≡ A.places (A.basis asks.old) Partial.Nothing }
-    requires places { are_new (library_of library.now) number (members_of (unit_at (contents_of library.now.0) unit.now)) ≡ true → (p : GivenMembers)
-        → A.places (A.basis asks.old) p ≡ place_of (library_of library.now) number (partial_of (unit_at (contents_of library.now.0) unit.now) p) }
+    requires places { are_new (library_of library.now) number
+        (members_of (unit_at (contents_of library.now.0) unit.now)) ≡ true → (p : GivenMembers)
+        → A.places (A.basis asks.old) p ≡ place_of (library_of library.now) number
+        (partial_of (unit_at (contents_of library.now.0) unit.now) p) }
     requires known { IsUnitIn (contents_of library.now.0) unit.now }
     ensures basis { A.basis asks.new ≡ A.basis asks.old }
-    ensures verdict { IsPlain (row_verdict (library_of library.now) (A.left asks.old) number (unit_at (contents_of library.now.0) unit.now)) result }
+    ensures verdict { IsPlain (row_verdict (library_of library.now) (A.left asks.old) number
+        (unit_at (contents_of library.now.0) unit.now)) result }
 {
     match are_new(alloc, library, number, unit) {
         Ok(true) => judge_new(alloc, library.base(), asks, unit),
@@ -140,22 +147,20 @@ fn judge<A: Asks>(
     }
 }
 
-/// The verdicts of the units, in their order; the questions of each may take so many steps, and so many of their answers are
-/// kept while the unit is at work.
-///
-/// One engine serves them all: it is started anew for each unit, and then knows nothing of the work of an earlier one.
-pub fn check_all<G: Gate>(
+/// The verdicts of the units, in their order, by an engine over their library. It is started anew for each unit, and then
+/// knows nothing of the work of an earlier one.
+fn judge_all<G: Gate>(
     alloc: Global,
     library: &Library,
+    engine: &mut Engine<'_>,
     steps: u128,
-    kept: u32,
     gate: &G,
 ) -> Result<Vec<Verdict>, NoMemory>
+    requires { engine.old.0 ≡ library.now }
     ensures { IfOk result (λ v. IsClearLibrary (library_of library.now)
-        → AreVerdicts (library_of library.now) steps 0 (library_of library.now) (map verdict v.items)) }
+        → AreVerdicts (library_of library.now) steps 0 (library_of library.now)
+        (map verdict v.items)) }
 {
-    let mut memo = PrivateMemo::new(alloc, kept)?;
-    let mut engine = Engine::new(alloc, library, &mut memo);
     let mut verdicts = Vec::new(alloc);
     let mut rest = library.units();
     while let Some((unit, more)) = rest.split_first() {
@@ -164,8 +169,28 @@ pub fn check_all<G: Gate>(
         };
         gate.before_unit(number);
         engine.start(number, steps);
-        verdicts.push(judge(alloc, library, &mut engine, number, unit))?;
+        verdicts.push(judge(alloc, library, engine, number, unit))?;
         rest = more;
     }
     Ok(verdicts)
+}
+
+/// The verdicts of the units, in their order; the questions of each may take so many steps, and so many of their answers are
+/// kept while the unit is at work.
+pub fn check_all<G: Gate>(
+    alloc: Global,
+    library: &Library,
+    steps: u128,
+    kept: u32,
+    gate: &G,
+) -> Result<Vec<Verdict>, NoMemory>
+    ensures { IfOk result (λ v. IsClearLibrary (library_of library.now)
+        → AreVerdicts (library_of library.now) steps 0 (library_of library.now)
+        (map verdict v.items)) }
+{
+    let mut memo = PrivateMemo::new(alloc, kept)?;
+    let mut engine = Engine::new(alloc, library, &mut memo);
+    let verdicts = judge_all(alloc, library, &mut engine, steps, gate);
+    drop(engine);
+    verdicts
 }

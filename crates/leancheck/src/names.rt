@@ -6,13 +6,13 @@ ghost use Rattle.leancheck.specs.Text.{part_text, dotted, name_text};
 ghost use Rattle.leancheck.specs.Names.{part_at, IsPartIn};
 
 use itoa::Buffer;
-use lk_rows::memory::NoMemory;
+use lk_store::memory::NoMemory;
 use lk_store::node::NameNode;
 use lk_store::terms::Terms;
 use std::alloc::Global;
 
 /// A component of a name: the number of a text, or a number.
-#[derive(Clone, Copy, Debug, PartialEq, Eq)]
+#[derive(Clone, Copy)]
 pub enum Component {
     Text(u64),
     Number(u64),
@@ -22,7 +22,8 @@ pub enum Component {
 fn components<T: Terms>(alloc: Global, store: &T, name: u64) -> Result<Vec<Component>, NoMemory>
     requires { name < length (T.contents store.now).names }
     ensures known { IfOk result (λ parts. All (IsPartIn (T.contents store.now)) parts.items) }
-    ensures name { IfOk result (λ parts. map (part_at (T.contents store.now)) parts.items ≡ name_at (T.contents store.now) name) }
+    ensures name { IfOk result (λ parts. map (part_at (T.contents store.now)) parts.items
+        ≡ name_at (T.contents store.now) name) }
 {
     let mut parts = Vec::new(alloc);
     let mut at = name;
@@ -56,7 +57,8 @@ pub fn add_number(out: &mut Vec<u8>, n: u64) -> Result<(), NoMemory>
 /// Appends a component of a name.
 fn add_part<T: Terms>(out: &mut Vec<u8>, store: &T, part: &Component) -> Result<(), NoMemory>
     requires { IsPartIn (T.contents store.now) part.now }
-    ensures { OnOk result (out.new.items ≡ out.old.items ++ part_text (part_at (T.contents store.now) part.now)) }
+    ensures { OnOk result (out.new.items ≡ out.old.items
+        ++ part_text (part_at (T.contents store.now) part.now)) }
 {
     match part {
         Component::Text(text) => {
@@ -70,7 +72,8 @@ fn add_part<T: Terms>(out: &mut Vec<u8>, store: &T, part: &Component) -> Result<
 /// Appends components, with a dot before each.
 fn add_parts<T: Terms>(out: &mut Vec<u8>, store: &T, parts: &[Component]) -> Result<(), NoMemory>
     requires { All (IsPartIn (T.contents store.now)) parts.now }
-    ensures { OnOk result (out.new.items ≡ out.old.items ++ dotted (map (part_at (T.contents store.now)) parts.now)) }
+    ensures { OnOk result (out.new.items ≡ out.old.items
+        ++ dotted (map (part_at (T.contents store.now)) parts.now)) }
 {
     let mut rest = parts;
     while let Some((part, more)) = rest.split_first() {
@@ -88,7 +91,8 @@ fn add_components<T: Terms>(
     parts: &[Component],
 ) -> Result<(), NoMemory>
     requires { All (IsPartIn (T.contents store.now)) parts.now }
-    ensures { OnOk result (out.new.items ≡ out.old.items ++ name_text (map (part_at (T.contents store.now)) parts.now)) }
+    ensures { OnOk result (out.new.items ≡ out.old.items
+        ++ name_text (map (part_at (T.contents store.now)) parts.now)) }
 {
     match parts.split_first() {
         None => {
@@ -110,7 +114,8 @@ pub fn add_name<T: Terms>(
     name: u64,
 ) -> Result<(), NoMemory>
     requires { name < length (T.contents store.now).names }
-    ensures { OnOk result (out.new.items ≡ out.old.items ++ name_text (name_at (T.contents store.now) name)) }
+    ensures { OnOk result (out.new.items ≡ out.old.items
+        ++ name_text (name_at (T.contents store.now) name)) }
 {
     let parts = components(alloc, store, name)?;
     add_components(out, store, &parts)

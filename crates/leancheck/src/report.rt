@@ -18,7 +18,7 @@ use lk_ask::rule::Rule;
 use lk_env::library::Library;
 use lk_env::unit::{BlockType, Body, Recursor, Unit};
 use lk_lines::Fault;
-use lk_rows::memory::NoMemory;
+use lk_store::memory::NoMemory;
 use std::alloc::Global;
 
 /// What a verdict is counted as.
@@ -115,7 +115,8 @@ fn add_head(
     unit: u64,
     name: &[u8],
 ) -> Result<(), NoMemory>
-    ensures { OnOk result (out.new.items ≡ out.old.items ++ head_text word.now kind.now unit name.now) }
+    ensures { OnOk result (out.new.items ≡ out.old.items
+        ++ head_text word.now kind.now unit name.now) }
 {
     out.extend_from_slice(word)?;
     out.push(b' ')?;
@@ -174,7 +175,8 @@ fn add_no(
     name: &[u8],
     why: &[u8],
 ) -> Result<(), NoMemory>
-    ensures { OnOk result (out.new.items ≡ out.old.items ++ (head_text (codes "no") kind.now unit name.now ++ why_text why.now)) }
+    ensures { OnOk result (out.new.items ≡ out.old.items
+        ++ (head_text (codes "no") kind.now unit name.now ++ why_text why.now)) }
 {
     add_head(out, b"no", kind, unit, name)?;
     add_why(out, why)
@@ -188,7 +190,8 @@ fn add_verdict(
     name: &[u8],
     said: Verdict,
 ) -> Result<(), NoMemory>
-    ensures { OnOk result (out.new.items ≡ out.old.items ++ verdict_text kind.now unit name.now (verdict said)) }
+    ensures { OnOk result (out.new.items ≡ out.old.items
+        ++ verdict_text kind.now unit name.now (verdict said)) }
 {
     match said {
         Verdict::Yes => add_head(out, b"yes", kind, unit, name),
@@ -242,7 +245,9 @@ fn add_lines(
     library: &Library,
     verdicts: &[Verdict],
 ) -> Result<(), NoMemory>
-    ensures { OnOk result (out.new.items ≡ out.old.items ++ lines_text 0 (library_at (contents_of library.now.0) library.now.1) (map verdict verdicts.now)) }
+    ensures { OnOk result (out.new.items ≡ out.old.items
+        ++ lines_text 0 (library_at (contents_of library.now.0) library.now.1)
+        (map verdict verdicts.now)) }
 {
     let mut left = library.units();
     let mut said = verdicts;
@@ -271,7 +276,8 @@ fn add_counted(out: &mut Vec<u8>, word: &[u8], n: u64) -> Result<(), NoMemory>
 
 /// Appends the last line.
 fn add_summary(out: &mut Vec<u8>, verdicts: &[Verdict]) -> Result<(), NoMemory>
-    ensures { OnOk result (out.new.items ≡ out.old.items ++ summary_text (map verdict verdicts.now)) }
+    ensures { OnOk result (out.new.items ≡ out.old.items
+        ++ summary_text (map verdict verdicts.now)) }
 {
     add_counted(out, b"units ", verdicts.len() as u64)?;
     add_counted(out, b" yes ", count(Kind::Yes, verdicts))?;
@@ -283,7 +289,8 @@ fn add_summary(out: &mut Vec<u8>, verdicts: &[Verdict]) -> Result<(), NoMemory>
 
 /// The lines of the units and the last line.
 pub fn report(alloc: Global, library: &Library, verdicts: &[Verdict]) -> Result<Vec<u8>, NoMemory>
-    ensures { IfOk result (λ v. v.items ≡ report_text (library_at (contents_of library.now.0) library.now.1) (map verdict verdicts.now)) }
+    ensures { IfOk result (λ v. v.items ≡ report_text
+        (library_at (contents_of library.now.0) library.now.1) (map verdict verdicts.now)) }
 {
     let mut out = Vec::new(alloc);
     add_lines(alloc, &mut out, library, verdicts)?;

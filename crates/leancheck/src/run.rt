@@ -20,7 +20,7 @@ use lk_book::{ReadError, read_library};
 use lk_env::library::Library;
 use lk_lines::Fault;
 use lk_port::{Gate, Sink, Source, write_all};
-use lk_rows::memory::NoMemory;
+use lk_store::memory::NoMemory;
 use std::alloc::Global;
 use std::sync::Wait;
 use std::thread::Threads;
@@ -33,7 +33,8 @@ fn checked<G: Gate>(
     kept: u32,
     gate: &G,
 ) -> Result<(Vec<u8>, Status), NoMemory>
-    ensures gives { (bytes : List ℕ) → library_of bytes ≡ Ok (library_at (contents_of library.now.0) library.now.1) → Gives steps bytes result }
+    ensures gives { (bytes : List ℕ) → library_of bytes
+        ≡ Ok (library_at (contents_of library.now.0) library.now.1) → Gives steps bytes result }
     ensures status { IfOk result (λ r. IsChecked r.1) }
 {
     let Ok(verdicts) = check_all(alloc, library, steps, kept, gate) else {
@@ -48,8 +49,12 @@ fn checked<G: Gate>(
 
 /// Writes the usage line.
 fn tell_usage<K: Sink>(sink: &mut K) -> Status
-    ensures told { result ≡ Status.Usage → Appends (K.written sink.old) (K.written sink.new) usage_line × (K.faults sink.new ≡ K.faults sink.old) }
-    ensures failed { result ≢ Status.Usage → (result ≡ Status.WriteFault) × AppendsSome (K.written sink.old) (K.written sink.new) usage_line × Rose (K.faults sink.old) (K.faults sink.new) }
+    ensures told { result ≡ Status.Usage
+        → Appends (K.written sink.old) (K.written sink.new) usage_line
+        × (K.faults sink.new ≡ K.faults sink.old) }
+    ensures failed { result ≢ Status.Usage → (result ≡ Status.WriteFault)
+        × AppendsSome (K.written sink.old) (K.written sink.new) usage_line
+        × Rose (K.faults sink.old) (K.faults sink.new) }
 {
     match write_all(
         sink,
@@ -62,10 +67,15 @@ fn tell_usage<K: Sink>(sink: &mut K) -> Status
 
 /// Writes the line of a file's fault.
 fn tell_fault<K: Sink>(alloc: Global, fault: Fault, sink: &mut K) -> Status
-    ensures told { result ≡ Status.BadFile → Appends (K.written sink.old) (K.written sink.new) (bad_line fault) × (K.faults sink.new ≡ K.faults sink.old) }
-    ensures failed { result ≡ Status.WriteFault → AppendsSome (K.written sink.old) (K.written sink.new) (bad_line fault) × Rose (K.faults sink.old) (K.faults sink.new) }
+    ensures told { result ≡ Status.BadFile
+        → Appends (K.written sink.old) (K.written sink.new) (bad_line fault)
+        × (K.faults sink.new ≡ K.faults sink.old) }
+    ensures failed { result ≡ Status.WriteFault
+        → AppendsSome (K.written sink.old) (K.written sink.new) (bad_line fault)
+        × Rose (K.faults sink.old) (K.faults sink.new) }
     ensures no_memory { result ≡ Status.NoMemory → sink.new ≡ sink.old }
-    ensures only { (result ≡ Status.BadFile) ⊎ (result ≡ Status.WriteFault) ⊎ (result ≡ Status.NoMemory) }
+    ensures only { (result ≡ Status.BadFile) ⊎ (result ≡ Status.WriteFault)
+        ⊎ (result ≡ Status.NoMemory) }
 {
     let Ok(line) = fault_line(alloc, fault) else {
         return Status::NoMemory;
@@ -85,8 +95,15 @@ fn tell_verdicts<K: Sink, G: Gate>(
     sink: &mut K,
     gate: &G,
 ) -> Status
-    ensures told { IsChecked result → ((bytes : List ℕ) → library_of bytes ≡ Ok (library_at (contents_of library.now.0) library.now.1) → Reports steps bytes result (K.written sink.old) (K.written sink.new)) × (K.faults sink.new ≡ K.faults sink.old) }
-    ensures failed { result ≡ Status.WriteFault → ((bytes : List ℕ) → library_of bytes ≡ Ok (library_at (contents_of library.now.0) library.now.1) → WritesPrefix steps bytes (K.written sink.old) (K.written sink.new)) × Rose (K.faults sink.old) (K.faults sink.new) }
+    ensures told { IsChecked result → ((bytes : List ℕ) → library_of bytes
+        ≡ Ok (library_at (contents_of library.now.0) library.now.1)
+        → Reports steps bytes result (K.written sink.old) (K.written sink.new))
+        × (K.faults sink.new ≡ K.faults sink.old) }
+    ensures failed { result ≡ Status.WriteFault
+        → ((bytes : List ℕ) → library_of bytes
+        ≡ Ok (library_at (contents_of library.now.0) library.now.1)
+        → WritesPrefix steps bytes (K.written sink.old) (K.written sink.new))
+        × Rose (K.faults sink.old) (K.faults sink.new) }
     ensures no_memory { result ≡ Status.NoMemory → sink.new ≡ sink.old }
     ensures only { IsChecked result ⊎ (result ≡ Status.WriteFault) ⊎ (result ≡ Status.NoMemory) }
 {
@@ -108,13 +125,19 @@ fn check<S: Source, K: Sink, G: Gate>(
     gate: &G,
 ) -> Status
     ensures no_usage { result ≢ Status.Usage }
-    ensures read { result ≡ Status.ReadFault → Rose (S.faults source.old) (S.faults source.new) × (K.written sink.new ≡ K.written sink.old) }
+    ensures read { result ≡ Status.ReadFault → Rose (S.faults source.old) (S.faults source.new)
+        × (K.written sink.new ≡ K.written sink.old) }
     ensures no_read { result ≢ Status.ReadFault → S.faults source.new ≡ S.faults source.old }
-    ensures bad { result ≡ Status.BadFile → ((f : LineFault) × IfSome (S.left source.old) (λ bytes. library_of bytes ≡ Err f) × Appends (K.written sink.old) (K.written sink.new) (bad_line f)) }
-    ensures verdicts { IsChecked result → IfSome (S.left source.old) (λ bytes. Reports options.steps bytes result (K.written sink.old) (K.written sink.new)) }
+    ensures bad { result ≡ Status.BadFile
+        → ((f : LineFault) × IfSome (S.left source.old) (λ bytes. library_of bytes ≡ Err f)
+        × Appends (K.written sink.old) (K.written sink.new) (bad_line f)) }
+    ensures verdicts { IsChecked result → IfSome (S.left source.old)
+        (λ bytes. Reports options.steps bytes result (K.written sink.old) (K.written sink.new)) }
     ensures write { result ≡ Status.WriteFault → Rose (K.faults sink.old) (K.faults sink.new) }
     ensures no_write { result ≢ Status.WriteFault → K.faults sink.new ≡ K.faults sink.old }
-    ensures prefix { result ≡ Status.WriteFault → IfSome (S.left source.old) (λ bytes. WritesPrefix options.steps bytes (K.written sink.old) (K.written sink.new)) }
+    ensures prefix { result ≡ Status.WriteFault
+        → IfSome (S.left source.old) (λ bytes. WritesPrefix options.steps bytes (K.written sink.old)
+        (K.written sink.new)) }
     ensures no_memory { result ≡ Status.NoMemory → K.written sink.new ≡ K.written sink.old }
 {
     match read_library(alloc, source) {
@@ -136,19 +159,28 @@ pub fn run<R: Threads + Wait + Sync, S: Source, K: Sink, G: Gate>(
     sink: &mut K,
     gate: &G,
 ) -> Status
-    ensures usage { result ≡ Status.Usage → IsMeaningless (texts_of words.now) × Appends (K.written sink.old) (K.written sink.new) usage_line × (source.new ≡ source.old) }
-    ensures usage_only { IsMeaningless (texts_of words.now) → (result ≡ Status.Usage) ⊎ (result ≡ Status.WriteFault) ⊎ (result ≡ Status.NoMemory) }
+    ensures usage { result ≡ Status.Usage → IsMeaningless (texts_of words.now)
+        × Appends (K.written sink.old) (K.written sink.new) usage_line × (source.new ≡ source.old) }
+    ensures usage_only { IsMeaningless (texts_of words.now) → (result ≡ Status.Usage)
+        ⊎ (result ≡ Status.WriteFault) ⊎ (result ≡ Status.NoMemory) }
     ensures unread { IsMeaningless (texts_of words.now) → source.new ≡ source.old }
-    ensures read { result ≡ Status.ReadFault → Rose (S.faults source.old) (S.faults source.new) × (K.written sink.new ≡ K.written sink.old) }
+    ensures read { result ≡ Status.ReadFault → Rose (S.faults source.old) (S.faults source.new)
+        × (K.written sink.new ≡ K.written sink.old) }
     ensures no_read { result ≢ Status.ReadFault → S.faults source.new ≡ S.faults source.old }
     ensures bad { result ≡ Status.BadFile → ((o : CheckOptions) × MeansCheck (texts_of words.now) o)
-        × ((f : LineFault) × IfSome (S.left source.old) (λ bytes. library_of bytes ≡ Err f) × Appends (K.written sink.old) (K.written sink.new) (bad_line f)) }
+        × ((f : LineFault) × IfSome (S.left source.old) (λ bytes. library_of bytes ≡ Err f)
+        × Appends (K.written sink.old) (K.written sink.new) (bad_line f)) }
     ensures verdicts { IsChecked result → ((o : CheckOptions) × MeansCheck (texts_of words.now) o
-        × IfSome (S.left source.old) (λ bytes. Reports o.steps bytes result (K.written sink.old) (K.written sink.new))) }
+        × IfSome (S.left source.old) (λ bytes. Reports o.steps bytes result (K.written sink.old)
+        (K.written sink.new))) }
     ensures write { result ≡ Status.WriteFault → Rose (K.faults sink.old) (K.faults sink.new) }
     ensures no_write { result ≢ Status.WriteFault → K.faults sink.new ≡ K.faults sink.old }
-    ensures prefix { result ≡ Status.WriteFault → (IsMeaningless (texts_of words.now) × AppendsSome (K.written sink.old) (K.written sink.new) usage_line)
-        ⊎ ((o : CheckOptions) × MeansCheck (texts_of words.now) o × IfSome (S.left source.old) (λ bytes. WritesPrefix o.steps bytes (K.written sink.old) (K.written sink.new))) }
+    ensures prefix { result ≡ Status.WriteFault
+        → (IsMeaningless (texts_of words.now)
+        × AppendsSome (K.written sink.old) (K.written sink.new) usage_line)
+        ⊎ ((o : CheckOptions) × MeansCheck (texts_of words.now) o
+        × IfSome (S.left source.old)
+        (λ bytes. WritesPrefix o.steps bytes (K.written sink.old) (K.written sink.new))) }
     ensures no_memory { result ≡ Status.NoMemory → K.written sink.new ≡ K.written sink.old }
 {
     match line_means(alloc, words) {

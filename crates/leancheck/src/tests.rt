@@ -62,7 +62,7 @@ fn is_row<R: Threads + Wait + Sync>(
         &mut sink,
         &OpenGate,
     );
-    Ok(end == status && sink.bytes.as_slice() == written)
+    Ok(end.code() == status.code() && sink.bytes.as_slice() == written)
 }
 
 // A definition whose value is a let.
@@ -357,6 +357,13 @@ fn meaning_of(alloc: Global, line: &str) -> Result<Result<Meaning, LineError>, A
     Ok(line_means(alloc, words.as_slice()))
 }
 
+fn means_check(meaning: Result<Meaning, LineError>, options: Options) -> bool {
+    let Ok(Meaning::Check(found)) = meaning else {
+        return false;
+    };
+    found.workers == options.workers && found.steps == options.steps && found.memo == options.memo
+}
+
 #[test]
 fn words_without_a_meaning(rt: HostRuntime) -> Result<(), Fail> {
     let alloc = rt.alloc();
@@ -378,7 +385,10 @@ fn words_without_a_meaning(rt: HostRuntime) -> Result<(), Fail> {
         "leancheck check --words 3",
         "leancheck check -- 3",
     ] {
-        assert_eq!(rt; meaning_of(alloc, line)?, Err(LineError::Usage), "{line}");
+        assert!(rt;
+            matches!(meaning_of(alloc, line)?, Err(LineError::Usage)),
+            "{line}"
+        );
     }
     Ok(())
 }
@@ -417,11 +427,7 @@ fn words_with_a_meaning(rt: HostRuntime) -> Result<(), Fail> {
             },
         ),
     ] {
-        assert_eq!(rt;
-            meaning_of(alloc, line)?,
-            Ok(Meaning::Check(options)),
-            "{line}"
-        );
+        assert!(rt; means_check(meaning_of(alloc, line)?, options), "{line}");
     }
     Ok(())
 }
@@ -449,7 +455,7 @@ fn a_read_fails(rt: HostRuntime) -> Result<(), Fail> {
         &mut sink,
         &OpenGate,
     );
-    assert_eq!(rt; end, Status::ReadFault);
+    assert!(rt; matches!(end, Status::ReadFault));
     assert_eq!(rt; sink.bytes.len(), 0);
     Ok(())
 }
@@ -477,7 +483,7 @@ fn a_write_fails(rt: HostRuntime) -> Result<(), Fail> {
         &mut sink,
         &OpenGate,
     );
-    assert_eq!(rt; end, Status::WriteFault);
+    assert!(rt; matches!(end, Status::WriteFault));
     assert!(rt; sink.inner.bytes.as_slice() == b"yes ".as_slice());
     Ok(())
 }

@@ -3,7 +3,7 @@ use Rattle.std.specs.Prelude.{All}
 use Rattle.lk_store.specs.Store.{contents_of}
 use Rattle.lk_env.specs.Units.{IsUnitIn}
 use Rattle.leancheck.proofs.Checks.{Progress}
-use Rattle.leancheck.proofs.checking.check_all.Given as goal
+use Rattle.leancheck.proofs.checking.judge_all.Given as goal
 
 abbrev pub invariant-loop-unit : goal.invariant-loop-unit
 invariant-loop-unit g l =

@@ -1,0 +1,46 @@
+//! An engine over an empty library.
+
+ghost use Rattle.std.specs.Prelude.{IfOk};
+ghost use Rattle.lk_store.specs.Contents.{Contents};
+ghost use Rattle.lk_ask.specs.Questions.{IsKnownQuery};
+
+use lk_ask::asks::Asks;
+use lk_ask::query::{Answer, Query};
+use lk_ask::stop::Stop;
+use lk_engine::engine::Engine;
+use lk_env::library::Library;
+use lk_memo::memo::PrivateMemo;
+use lk_store::base_store::BaseStore;
+use lk_store::memory::NoMemory;
+use lk_store::node::{LevelNode, Node};
+use std::alloc::Global;
+use std::test::Fail;
+
+/// Whether the sort of 0 is its own `Core` while a step is left, and the budget is used up then.
+fn is_answered_once<A: Asks>(asks: &mut A) -> Result<bool, NoMemory> {
+    let zero = asks.make_level(LevelNode::Zero)?;
+    let sort = asks.make(Node::Sort(zero))?;
+    let first = match asks.ask(Query::Core(sort)) {
+        Ok(Answer::Term(e)) => e == sort,
+        _ => false,
+    };
+    if sort >= asks.len() {
+        return Ok(false);
+    }
+    let second = matches!(asks.ask(Query::Core(sort)), Err(Stop::Spent));
+    Ok(first && second)
+}
+
+fn is_answered_under_one_step(alloc: Global) -> Result<bool, NoMemory> {
+    let library = Library::new(alloc, BaseStore::new(alloc), Vec::new(alloc))?;
+    let mut memo = PrivateMemo::new(alloc, 1)?;
+    let mut engine = Engine::new(alloc, &library, &mut memo);
+    engine.start(0, 1);
+    is_answered_once(&mut engine)
+}
+
+#[test]
+fn a_budget_of_one_step(rt: HostRuntime) -> Result<(), Fail> {
+    assert!(rt; is_answered_under_one_step(rt.alloc())?);
+    Ok(())
+}

@@ -1,0 +1,38 @@
+//! What a memo of one answer has.
+
+use lk_ask::kept::Kept;
+use lk_ask::query::{Answer, Query};
+use lk_memo::memo::PrivateMemo;
+use std::test::Fail;
+
+const KEPT: Kept = Kept {
+    answer: Answer::Term(7),
+    cost: 2,
+    top: Some(4),
+};
+
+fn is_kept(found: Option<Kept>) -> bool {
+    let Some(kept) = found else {
+        return false;
+    };
+    matches!(kept.answer, Answer::Term(7)) && kept.cost == 2 && kept.top == Some(4)
+}
+
+#[test]
+fn an_answer_is_found_above_its_last_unit(rt: HostRuntime) -> Result<(), Fail> {
+    let mut memo = PrivateMemo::new(rt.alloc(), 1)?;
+    memo.keep(Query::Core(3), KEPT)?;
+    assert!(rt; is_kept(memo.find(Query::Core(3), 5)));
+    assert!(rt; memo.find(Query::Core(3), 4).is_none());
+    Ok(())
+}
+
+#[test]
+fn the_last_answer_stays(rt: HostRuntime) -> Result<(), Fail> {
+    let mut memo = PrivateMemo::new(rt.alloc(), 1)?;
+    memo.keep(Query::Core(3), KEPT)?;
+    memo.keep(Query::Same(3, 4), KEPT)?;
+    assert!(rt; memo.find(Query::Core(3), 5).is_none());
+    assert!(rt; is_kept(memo.find(Query::Same(3, 4), 5)));
+    Ok(())
+}
