@@ -4,7 +4,8 @@ use Rattle.std.proofs.lemmas.Bool.Decides.{nat_tests}
 use Rattle.lk_tree.specs.Tree.{Name, Level, Tree, var, sort, const, app, lam, pi, let_in, proj, lit, wide, str, local}
 use Rattle.lk_tree.specs.Bind.{opened}
 use Rattle.lk_tree.specs.Spine.{head, args}
-use Rattle.lk_tree.specs.RuleNo.{RuleNo, block_shape, unknown_constant, nested_form}
+use Rattle.lk_tree.specs.declared.rule.Rule.{Rule}
+use Rattle.lk_tree.specs.declared.rule.Rule.TheVariants.{UnknownConstant, BlockShape, NestedForm}
 use Rattle.lk_rulebook.specs.Place.{Place, Entry, Kind, Block, BlockType, Ctor, a_type}
 use Rattle.lk_tree.specs.Mentions.{same_name, is_one_of}
 use Rattle.lk_plain.specs.Query.{Query, AnswerTo}
@@ -35,7 +36,7 @@ always_bind (refuse r) k Q P s h = tt
 always_bind (ask q f) k Q P s h = λ v. always_bind (f v) k Q P (s v) h
 always_bind (look r c f) k Q P s h = λ e. always_bind (f e) k Q P (s e) h
 
-always_given : {A : Type 0} (b : Bool) (r : RuleNo) (p : Program A) (P : A → Type 0) → (b ≡ true → Always p P) → Always (given b r p) P
+always_given : {A : Type 0} (b : Bool) (r : Rule) (p : Program A) (P : A → Type 0) → (b ≡ true → Always p P) → Always (given b r p) P
 always_given true r p P h = h refl
 always_given false r p P h = tt
 
@@ -96,7 +97,7 @@ family_count s ls bs J b t =
 met_grows : (s : Setting) (as_ : List Aux) (J : Name) (ls : List Level) (bs : List Tree) (b : Block) (t : BlockType) → length as_ ≤ 1024 → (o : Option ℕ) → Always (met s as_ J ls bs b t o) (Grows as_)
 met_grows s as_ J ls bs b t l (Some i) = (omega arith, l)
 met_grows s as_ J ls bs b t l None =
-    always_given (nat_le (length as_ + suc (other_count J b.types)) 1024) nested_form (family_of s ls bs J b t >>= λ ms. done (aux_applied s (length as_), as_ ++ ms)) (Grows as_)
+    always_given (nat_le (length as_ + suc (other_count J b.types)) 1024) NestedForm (family_of s ls bs J b t >>= λ ms. done (aux_applied s (length as_), as_ ++ ms)) (Grows as_)
     (λ y. always_bind (family_of s ls bs J b t) (λ ms. done (aux_applied s (length as_), as_ ++ ms)) (λ ms. length ms ≡ suc (other_count J b.types)) (Grows as_) (family_count s ls bs J b t)
     (λ ms e.
     let small : length as_ + suc (other_count J b.types) ≤ 1024 = grind (arith, nat_tests, y) in
@@ -104,11 +105,11 @@ met_grows s as_ J ls bs b t l None =
 
 head_grows : (s : Setting) (as_ : List Aux) (h : Tree) (xs : List Tree) (next : Program (Tree × List Aux)) → length as_ ≤ 1024 → Always next (Grows as_) → Always (at_head s as_ h xs next) (Grows as_)
 head_grows s as_ (const J ls) xs next l a =
-    always_if (is_one_of s.names J || mention_none s.names xs) next (look unknown_constant J λ g. at_kind s as_ J ls xs g.kind next) (Grows as_) a (λ g. kind g.kind)
+    always_if (is_one_of s.names J || mention_none s.names xs) next (look UnknownConstant J λ g. at_kind s as_ J ls xs g.kind next) (Grows as_) a (λ g. kind g.kind)
   where
     kind : (k : Kind) → Always (at_kind s as_ J ls xs k next) (Grows as_)
     kind (a_type b t) = always_if (nat_eq (length xs) t.parameters) (replaced s as_ J ls xs b t) next (Grows as_)
-        (always_given (may_nest s.params xs) nested_form (met s as_ J ls xs b t (aux_at 0 as_ J ls xs)) (Grows as_) (λ y. met_grows s as_ J ls xs b t l (aux_at 0 as_ J ls xs))) a
+        (always_given (may_nest s.params xs) NestedForm (met s as_ J ls xs b t (aux_at 0 as_ J ls xs)) (Grows as_) (λ y. met_grows s as_ J ls xs b t l (aux_at 0 as_ J ls xs))) a
     kind _ = a
 head_grows s as_ _ xs next l a = a
 
@@ -172,7 +173,7 @@ past_grows s (P ∷ ps) _ as_ l = tt
 held_grows : (s : Setting) (c : Ctor) (as_ : List Aux) → length as_ ≤ 1024 → (h : Bool) → Always (held_ctor s c as_ h) (Grows as_)
 held_grows s c as_ l false = (omega arith, l)
 held_grows s c as_ l true =
-    always_given (has_pis (length s.params) c.type) block_shape (nest_past s s.params c.type as_ >>= λ e. done (record c { type = e.0 }, e.1)) (Grows as_)
+    always_given (has_pis (length s.params) c.type) BlockShape (nest_past s s.params c.type as_ >>= λ e. done (record c { type = e.0 }, e.1)) (Grows as_)
     (λ y. always_bind (nest_past s s.params c.type as_) (λ e. done (record c { type = e.0 }, e.1)) (Grows as_) (Grows as_) (past_grows s s.params c.type as_ l) (λ e h. h))
 
 own_ctors_grow : (s : Setting) (cs : List Ctor) (as_ : List Aux) → length as_ ≤ 1024 → Always (own_ctors s cs as_) (Grows as_)

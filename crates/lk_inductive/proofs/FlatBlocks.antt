@@ -1,7 +1,7 @@
 -- What the check that refuses nested occurrences answers, the whole check answers too.
 use Rattle.std.proofs.Common.{ℕ, suc, ◌≡◌, ◌-◌, List, [], ◌++◌, refl, sym, ap, subst, ◌∙◌}
 use Rattle.std.proofs.lemmas.List.{append-nil}
-use Rattle.lk_rulebook.specs.Place.{Place, Block, Rec, type_names}
+use Rattle.lk_rulebook.specs.Place.{Place, Block, BlockRecursor, type_names}
 use Rattle.lk_rulebook.specs.Units.{Members, LibraryUnit, place_of}
 use Rattle.lk_plain.specs.Query.{Query, AnswerTo}
 use Rattle.lk_plain.specs.Program.{Program, Table, done, refuse, ask, look}
@@ -67,14 +67,14 @@ after_nothing : {A : Type 0} (places : Members → Place) (f : Place → (q : Qu
 after_nothing places f p q t = record { gives = λ h left. subst (λ x. Gives (run_task places f h left p) (run_task places f x left q)) (sym (append-nil h)) (t.gives h left) }
 
 -- the recursors of a block to which nothing is added
-flat_recs_given : (places : Members → Place) (f : Place → (q : Query) → ℕ → Outcome (AnswerTo q)) (b : Block) (stated : List Rec) (s : Setting) (shape : Shape) →
+flat_recs_given : (places : Members → Place) (f : Place → (q : Query) → ℕ → Outcome (AnswerTo q)) (b : Block) (stated : List BlockRecursor) (s : Setting) (shape : Shape) →
     GivesTask places f (flat_recs b stated shape) (nested_recs b stated s (nothing_added b.types) shape)
 flat_recs_given places f b stated s shape =
     subst (λ rs. GivesTask places f (flat_recs b stated shape) (give_partial (partial_members b stated) >>= λ h. here (compare_steps rs stated) >>= λ y. done_with shape))
     (sym (same_recs shape s (minors shape) shape.types)) (task_itself places f (flat_recs b stated shape))
 
 -- its constructors and all that follows
-shape_given : (places : Members → Place) (f : Place → (q : Query) → ℕ → Outcome (AnswerTo q)) (fuel : ℕ) (b : Block) (stated : List Rec) (ts : TypeParts) →
+shape_given : (places : Members → Place) (f : Place → (q : Query) → ℕ → Outcome (AnswerTo q)) (fuel : ℕ) (b : Block) (stated : List BlockRecursor) (ts : TypeParts) →
     GivesTask places f (here (shape_steps fuel b ts) >>= flat_recs b stated) (nested_shape fuel b stated ts (nothing_added b.types))
 shape_given places f fuel b stated ts =
     let s : Setting = setting_of b ts.params in
@@ -86,7 +86,7 @@ shape_given places f fuel b stated ts =
     (subst (λ p. GivesTask places f (here (shape_steps fuel b ts) >>= flat_recs b stated) (here p >>= nested_recs b stated s (nothing_added b.types))) same
     (same_then places f (here (shape_steps fuel b ts)) (flat_recs b stated) (nested_recs b stated s (nothing_added b.types)) (λ shape. flat_recs_given places f b stated s shape)))
 
-flat_given : (places : Members → Place) (f : Place → (q : Query) → ℕ → Outcome (AnswerTo q)) (fuel : ℕ) (b : Block) (stated : List Rec) → GivesTask places f (flat_task fuel b stated) (whole_task fuel b stated)
+flat_given : (places : Members → Place) (f : Place → (q : Query) → ℕ → Outcome (AnswerTo q)) (fuel : ℕ) (b : Block) (stated : List BlockRecursor) → GivesTask places f (flat_task fuel b stated) (whole_task fuel b stated)
 flat_given places f fuel b stated =
     same_then places f (here (counts_steps b)) _ _
     (λ y. same_then places f (here (types_steps (parameters_of b) b.types)) _ _
@@ -96,5 +96,5 @@ flat_given places f fuel b stated =
     (λ z. here (shape_steps fuel b ts) >>= flat_recs b stated) (λ lg. here (aux_sorts ts.sort lg.auxs) >>= λ z. nested_shape fuel b stated ts lg)
     (flat_enlarge (setting_of b ts.params) b.types) (λ z. shape_given places f fuel b stated ts)))))
 
-pub flat_is_whole : (table : Table) (us : List LibraryUnit) (n : ℕ) (b : Block) (stated : List Rec) (budget : ℕ) → Gives (plain_flat table us n b stated budget) (plain_whole table us n b stated budget)
+pub flat_is_whole : (table : Table) (us : List LibraryUnit) (n : ℕ) (b : Block) (stated : List BlockRecursor) (budget : ℕ) → Gives (plain_flat table us n b stated budget) (plain_whole table us n b stated budget)
 flat_is_whole table us n b stated budget = (flat_given (place_of us n) (λ w. plain_answer table w) (suc budget) b stated).gives [] budget

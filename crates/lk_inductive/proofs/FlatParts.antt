@@ -1,6 +1,6 @@
 -- The check that no occurrence is nested is a part of the walk that makes the larger block, which is then the stated block.
 use Rattle.std.proofs.Common.{Bool, true, false, not, List, [], ◌∷◌}
-use Rattle.lk_tree.specs.RuleNo.{nested_form}
+use Rattle.lk_tree.specs.declared.rule.Rule.TheVariants.{NestedForm}
 use Rattle.lk_rulebook.specs.Place.{BlockType, Ctor}
 use Rattle.lk_plain.specs.Program.{Program, done, refuse, ask, look, ◌>>=◌}
 use Rattle.lk_plain.specs.Parts.{IsPart, stops, ends, asks, looks}
@@ -30,7 +30,7 @@ flat_ctors_part : {C : Type 0} (s : Setting) (cs : List Ctor) (as_ : List Aux) (
     IsPart (k checked) (l (cs, as_)) → IsPart (flat_ctors s.names cs >>= k) (own_ctors s cs as_ >>= l)
 flat_ctors_part s [] as_ k l h = h
 flat_ctors_part s (c ∷ cs) as_ k l h =
-    left_first holds (λ nested. given (not nested) nested_form (flat_ctors s.names cs)) k _
+    left_first holds (λ nested. given (not nested) NestedForm (flat_ctors s.names cs)) k _
     (whole_first (holds >>= held_ctor s c as_) rest l _
     (whole_first holds (held_ctor s c as_) (λ d. rest d >>= l) _
     (part_bind holds holds _ _ (part_itself holds) (at_ctor (flat_ctors_part s cs as_ k (λ ds. l (c ∷ ds.0, ds.1)) h)))))
@@ -42,7 +42,7 @@ flat_ctors_part s (c ∷ cs) as_ k l h =
     rest d = own_ctors s cs d.1 >>= λ ds. done (d.0 ∷ ds.0, ds.1)
 
     at_ctor : IsPart (flat_ctors s.names cs >>= k) (own_ctors s cs as_ >>= λ ds. l (c ∷ ds.0, ds.1)) → (nested : Bool) →
-        IsPart (given (not nested) nested_form (flat_ctors s.names cs) >>= k) (held_ctor s c as_ nested >>= λ d. rest d >>= l)
+        IsPart (given (not nested) NestedForm (flat_ctors s.names cs) >>= k) (held_ctor s c as_ nested >>= λ d. rest d >>= l)
     at_ctor more true = stops
     at_ctor more false = whole_first (own_ctors s cs as_) (λ ds. done (c ∷ ds.0, ds.1)) l _ more
 

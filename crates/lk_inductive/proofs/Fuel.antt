@@ -2,7 +2,8 @@
 use Rattle.std.proofs.Common.{ℕ, zero, suc, ◌≡◌, ◌≤◌, ◌<◌, ◌+◌, ◌-◌, Bool, true, false, List, [], ◌∷◌, length, None, refl, ap, ◌∙◌, if◌then◌else◌, arith}
 use Rattle.lk_tree.specs.Tree.{Name, Tree, pi, local}
 use Rattle.lk_tree.specs.Bind.{opened}
-use Rattle.lk_tree.specs.RuleNo.{RuleNo, field_universe, block_shape, not_positive}
+use Rattle.lk_tree.specs.declared.rule.Rule.{Rule}
+use Rattle.lk_tree.specs.declared.rule.Rule.TheVariants.{BlockShape, NotPositive, FieldUniverse}
 use Rattle.lk_rulebook.specs.Place.{Place, Block, BlockType, Ctor}
 use Rattle.lk_tree.specs.Mentions.{mentions}
 use Rattle.lk_plain.specs.Query.{Query, AnswerTo, whnf}
@@ -48,7 +49,7 @@ same_bind w f most p q k l h i left small =
 same_refl : {A : Type 0} (w : Place) (f : (q : Query) → ℕ → Outcome (AnswerTo q)) (most : ℕ) (p : Program A) → Same w f most p p
 same_refl w f most p left small = refl
 
-same_given : {A : Type 0} (w : Place) (f : (q : Query) → ℕ → Outcome (AnswerTo q)) (most : ℕ) (b : Bool) (r : RuleNo) (p q : Program A) → Same w f most p q → Same w f most (given b r p) (given b r q)
+same_given : {A : Type 0} (w : Place) (f : (q : Query) → ℕ → Outcome (AnswerTo q)) (most : ℕ) (b : Bool) (r : Rule) (p q : Program A) → Same w f most p q → Same w f most (given b r p) (given b r q)
 same_given w f most true r p q h = h
 same_given w f most false r p q h = λ left small. refl
 
@@ -65,8 +66,8 @@ same_walk_on : (w : Place) (f : (q : Query) → ℕ → Outcome (AnswerTo q)) (m
     ((i : ℕ) (e : Tree) → Same w f most (x i e) (y i e)) → Same w f most (walk_on x F j A) (walk_on y F j A)
 same_walk_on w f most F j (pi D E) x y h = go (mentions F.names D)
   where
-    go : (b : Bool) → Same w f most (if b then refuse not_positive else (x (suc j) (opened E (local j D)) >>= λ k. done (under (local j D) k)))
-        (if b then refuse not_positive else (y (suc j) (opened E (local j D)) >>= λ k. done (under (local j D) k)))
+    go : (b : Bool) → Same w f most (if b then refuse NotPositive else (x (suc j) (opened E (local j D)) >>= λ k. done (under (local j D) k)))
+        (if b then refuse NotPositive else (y (suc j) (opened E (local j D)) >>= λ k. done (under (local j D) k)))
     go true = λ left small. refl
     go false = same_bind w f most (x (suc j) (opened E (local j D))) (y (suc j) (opened E (local j D))) (λ k. done (under (local j D) k)) (λ k. done (under (local j D) k)) (h (suc j) (opened E (local j D))) (λ k. same_refl w f most (done (under (local j D) k)))
 same_walk_on w f most F j A x y h = λ left small. refl
@@ -90,10 +91,10 @@ same_fields : (w : Place) (f : (q : Query) → ℕ → Outcome (AnswerTo q)) →
 same_fields w f cost most m n lm ln F j zero r = λ left small. refl
 same_fields w f cost most m n lm ln F j (suc k) r =
     same_bind w f most (asked (whnf r)) (asked (whnf r)) _ _ (same_refl w f most (asked (whnf r)))
-    (λ R. same_bind w f most (as_pi block_shape R) (as_pi block_shape R) _ _ (same_refl w f most (as_pi block_shape R))
+    (λ R. same_bind w f most (as_pi BlockShape R) (as_pi BlockShape R) _ _ (same_refl w f most (as_pi BlockShape R))
     (λ p. same_bind w f most (fits_in F.sort p.0) (fits_in F.sort p.0) _ _ (same_refl w f most (fits_in F.sort p.0))
-    (λ a. same_bind w f most (given a field_universe (walk m F (suc j) p.0)) (given a field_universe (walk n F (suc j) p.0)) _ _
-    (same_given w f most a field_universe (walk m F (suc j) p.0) (walk n F (suc j) p.0) (same_walk w f cost most m n lm ln F (suc j) p.0))
+    (λ a. same_bind w f most (given a FieldUniverse (walk m F (suc j) p.0)) (given a FieldUniverse (walk n F (suc j) p.0)) _ _
+    (same_given w f most a FieldUniverse (walk m F (suc j) p.0) (walk n F (suc j) p.0) (same_walk w f cost most m n lm ln F (suc j) p.0))
     (λ x. same_bind w f most (fields_steps m F (suc j) k (opened p.1 (local j p.0))) (fields_steps n F (suc j) k (opened p.1 (local j p.0))) _ _
     (same_fields w f cost most m n lm ln F (suc j) k (opened p.1 (local j p.0)))
     (λ fs left small. refl)))))

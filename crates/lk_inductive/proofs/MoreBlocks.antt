@@ -7,7 +7,7 @@ use Rattle.lk_rulebook.specs.Units.{Members, LibraryUnit, given_by, first_giving
 use Rattle.lk_inductive.specs.Grows.{IsWithin, Completes}
 use Rattle.lk_inductive.specs.Block.{Frame, FieldKind, Field, CtorShape, TypeShape, Shape}
 use Rattle.lk_inductive.specs.Relation.{Telescope, no_pi, a_pi, AreParams, of_first, Over, over_none, over_one, IsPositive, mentions_none, arrow, member, FitsIn, in_prop, in_universe, AreFields, no_field, a_field, IsCtor, IsTypeOver, AreCtors, no_ctor, a_ctor_more, AreTypes, no_type, a_type_more, AreSmall, MayBeLarge, not_prop, empty, small, IsBlock}
-use Rattle.lk_inductive.specs.Recursors.{Rec, recursors}
+use Rattle.lk_inductive.specs.Recursors.{BlockRecursor, recursors}
 use Rattle.lk_inductive.specs.Compare.{AreRules, no_rule, a_rule, IsRec, IsOneOf, AreRecs}
 use Rattle.lk_inductive.specs.Whole.{CtorsSorted, TypesSorted, AllCtorsSorted, partial_types, partial_members, BlockDerived}
 use Rattle.lk_inductive.proofs.After.{after_within}
@@ -88,11 +88,11 @@ more_block v v' w w' i j b s h = record {
   large = λ e. more_large w w' j (h.large e);
 }
 
-more_rules : (w w' : Place) → IsWithin w w' → {a b : Rec} {as_ bs : List RecRule} → AreRules w a b as_ bs → AreRules w' a b as_ bs
+more_rules : (w w' : Place) → IsWithin w w' → {a b : BlockRecursor} {as_ bs : List RecRule} → AreRules w a b as_ bs → AreRules w' a b as_ bs
 more_rules w w' i no_rule = no_rule
 more_rules w w' i (a_rule c f t e h) = a_rule c f (more_type w w' i t) (more_equal w w' i e) (more_rules w w' i h)
 
-more_rec : (w w' : Place) → IsWithin w w' → (a b : Rec) → IsRec w a b → IsRec w' a b
+more_rec : (w w' : Place) → IsWithin w w' → (a b : BlockRecursor) → IsRec w a b → IsRec w' a b
 more_rec w w' i a b h = record {
   name = h.name;
   parameters = h.parameters;
@@ -106,12 +106,12 @@ more_rec w w' i a b h = record {
   rules = more_rules w w' i h.rules;
 }
 
-more_one_of : (w w' : Place) → IsWithin w w' → (a : Rec) (rs : List Rec) → IsOneOf w a rs → IsOneOf w' a rs
+more_one_of : (w w' : Place) → IsWithin w w' → (a : BlockRecursor) (rs : List BlockRecursor) → IsOneOf w a rs → IsOneOf w' a rs
 more_one_of w w' i a [] h = h
 more_one_of w w' i a (r ∷ rs) (inl h) = inl (more_rec w w' i a r h)
 more_one_of w w' i a (r ∷ rs) (inr h) = inr (more_one_of w w' i a rs h)
 
-pub more_recs : (w w' : Place) → IsWithin w w' → (rs ss : List Rec) → AreRecs w rs ss → AreRecs w' rs ss
+pub more_recs : (w w' : Place) → IsWithin w w' → (rs ss : List BlockRecursor) → AreRecs w rs ss → AreRecs w' rs ss
 more_recs w w' i rs [] h = tt
 more_recs w w' i rs (s ∷ ss) h = (more_one_of w w' i s rs h.0, more_recs w w' i rs ss h.1)
 
@@ -128,7 +128,7 @@ more_all_sorted w w' i [] h = tt
 more_all_sorted w w' i (t ∷ ts) h = (more_ctors_sorted w w' i t.ctors h.0, more_all_sorted w w' i ts h.1)
 
 -- at places each of which gives all that the other's does
-pub more_good : (places later : Members → Place) (b : Block) (stated : List Rec) (s : Shape) →
+pub more_good : (places later : Members → Place) (b : Block) (stated : List BlockRecursor) (s : Shape) →
     IsWithin (places []) (later []) → IsWithin (places (partial_types b)) (later (partial_types b)) → IsWithin (places (partial_types b ++ partial_members b stated)) (later (partial_types b ++ partial_members b stated)) →
     BlockDerived places b stated s → BlockDerived later b stated s
 more_good places later b stated s i j k g = record {
@@ -147,7 +147,7 @@ complete_none : (ms : Members) → Completes [] ms
 complete_none ms c e g = absurd cc
 
 -- a block that is derived where it stands is derived where its unit has been given
-pub block_after : (us : List LibraryUnit) (n : ℕ) (u : LibraryUnit) (b : Block) (stated : List Rec) (s : Shape) → slice_get us n ≡ Some u → flaw_of u ≡ None → Completes (partial_types b ++ partial_members b stated) (members_of u) →
+pub block_after : (us : List LibraryUnit) (n : ℕ) (u : LibraryUnit) (b : Block) (stated : List BlockRecursor) (s : Shape) → slice_get us n ≡ Some u → flaw_of u ≡ None → Completes (partial_types b ++ partial_members b stated) (members_of u) →
     ((c : Name) (e : Entry) → given_by (members_of u) c ≡ Some e → first_giving 0 (take n us) c ≡ None) → BlockDerived (place_of us n) b stated s → BlockDerived (λ h. place_of us (suc n) []) b stated s
 block_after us n u b stated s at fine full fresh g =
     more_good (place_of us n) (λ h. place_of us (suc n) []) b stated s

@@ -10,7 +10,7 @@ use Rattle.lk_plain.proofs.Outcomes.{and_then_same, found_same, if_map, of_answe
 use Rattle.lk_plain.proofs.Budgets.{ans_steady}
 use Rattle.lk_inductive.specs.Block.{parameters_of}
 use Rattle.lk_inductive.specs.BlockSteps.{TypeParts, counts_steps, types_steps, all_ctor_sorts, shape_steps}
-use Rattle.lk_inductive.specs.Recursors.{Rec}
+use Rattle.lk_inductive.specs.Recursors.{BlockRecursor}
 use Rattle.lk_inductive.specs.Flat.{flat_types}
 use Rattle.lk_inductive.specs.FlatTask.{flat_recs, flat_task, plain_flat}
 use Rattle.lk_inductive.specs.Nested.{Larger, larger_block, enlarge, aux_sorts, aux_indices, bare_entries}
@@ -65,7 +65,7 @@ same_then places f most p q k l s t = record {
 
 -- the checks from the constructors on do not depend on fuel above the budget
 same_nested_shape : (places : Members → Place) (f : Place → (q : Query) → ℕ → Outcome (AnswerTo q)) → ((w : Place) → Costs (f w)) →
-    (most m n : ℕ) → most < m → most < n → (b : Block) (stated : List Rec) (ts : TypeParts) (lg : Larger) → SameTask places f most (nested_shape m b stated ts lg) (nested_shape n b stated ts lg)
+    (most m n : ℕ) → most < m → most < n → (b : Block) (stated : List BlockRecursor) (ts : TypeParts) (lg : Larger) → SameTask places f most (nested_shape m b stated ts lg) (nested_shape n b stated ts lg)
 same_nested_shape places f cost most m n lm ln b stated ts lg =
     let parts : TypeParts = record ts { indices = ts.indices ++ aux_indices lg.auxs } in
     same_then places f most (give_partial (bare_entries lg.aux)) (give_partial (bare_entries lg.aux)) _ _ (same_itself places f most (give_partial (bare_entries lg.aux)))
@@ -75,7 +75,7 @@ same_nested_shape places f cost most m n lm ln b stated ts lg =
 
 -- nor does the check of a block
 pub same_whole : (places : Members → Place) (f : Place → (q : Query) → ℕ → Outcome (AnswerTo q)) → ((w : Place) → Costs (f w)) →
-    (most m n : ℕ) → most < m → most < n → (b : Block) (stated : List Rec) → SameTask places f most (whole_task m b stated) (whole_task n b stated)
+    (most m n : ℕ) → most < m → most < n → (b : Block) (stated : List BlockRecursor) → SameTask places f most (whole_task m b stated) (whole_task n b stated)
 same_whole places f cost most m n lm ln b stated =
     same_then places f most (here (counts_steps b)) (here (counts_steps b)) _ _ (same_itself places f most (here (counts_steps b)))
     (λ y. same_then places f most (here (types_steps (parameters_of b) b.types)) (here (types_steps (parameters_of b) b.types)) _ _ (same_itself places f most (here (types_steps (parameters_of b) b.types)))
@@ -89,7 +89,7 @@ same_whole places f cost most m n lm ln b stated =
 pub record NeedsNoFuel {A : Type 0} (task : ℕ → Task A) : Type 0 where
   pub same : (places : Members → Place) (f : Place → (q : Query) → ℕ → Outcome (AnswerTo q)) → ((w : Place) → Costs (f w)) → (most m n : ℕ) → most < m → most < n → SameTask places f most (task m) (task n)
 
-pub whole_fuel : (b : Block) (stated : List Rec) → NeedsNoFuel (λ fuel. whole_task fuel b stated)
+pub whole_fuel : (b : Block) (stated : List BlockRecursor) → NeedsNoFuel (λ fuel. whole_task fuel b stated)
 whole_fuel b stated = record { same = λ places f cost most m n lm ln. same_whole places f cost most m n lm ln b stated }
 
 abbrev pub at_fuel : {A : Type 0} → Table → List LibraryUnit → ℕ → (ℕ → Task A) → ℕ → ℕ → Outcome (A × Members)
@@ -123,13 +123,13 @@ fueled_steady table us n task free budget =
     if_map (IsSteady (at_fuel table us n task (suc budget)) budget) (IsSteady (fueled table us n task) budget) (fueled table us n task budget)
     (λ v c t h. steady_from table us n task free budget v c t h) (fuel_steady table us n task (suc budget) budget)
 
-pub plain_steady : (table : Table) (us : List LibraryUnit) (n : ℕ) (b : Block) (stated : List Rec) (budget : ℕ) →
+pub plain_steady : (table : Table) (us : List LibraryUnit) (n : ℕ) (b : Block) (stated : List BlockRecursor) (budget : ℕ) →
     IfAnswered (plain_whole table us n b stated budget) (IsSteady (plain_whole table us n b stated) budget)
 plain_steady table us n b stated budget = fueled_steady table us n (λ fuel. whole_task fuel b stated) (whole_fuel b stated) budget
 
 -- where nested occurrences are refused
 same_flat : (places : Members → Place) (f : Place → (q : Query) → ℕ → Outcome (AnswerTo q)) → ((w : Place) → Costs (f w)) →
-    (most m n : ℕ) → most < m → most < n → (b : Block) (stated : List Rec) → SameTask places f most (flat_task m b stated) (flat_task n b stated)
+    (most m n : ℕ) → most < m → most < n → (b : Block) (stated : List BlockRecursor) → SameTask places f most (flat_task m b stated) (flat_task n b stated)
 same_flat places f cost most m n lm ln b stated =
     same_then places f most (here (counts_steps b)) (here (counts_steps b)) _ _ (same_itself places f most (here (counts_steps b)))
     (λ y. same_then places f most (here (types_steps (parameters_of b) b.types)) (here (types_steps (parameters_of b) b.types)) _ _ (same_itself places f most (here (types_steps (parameters_of b) b.types)))
@@ -140,9 +140,9 @@ same_flat places f cost most m n lm ln b stated =
     (same_here places f most (shape_steps m b ts) (shape_steps n b ts) (λ w. same_shape w (f w) (cost w) most m n lm ln b ts))
     (λ s. same_itself places f most (flat_recs b stated s)))))))
 
-pub flat_fuel : (b : Block) (stated : List Rec) → NeedsNoFuel (λ fuel. flat_task fuel b stated)
+pub flat_fuel : (b : Block) (stated : List BlockRecursor) → NeedsNoFuel (λ fuel. flat_task fuel b stated)
 flat_fuel b stated = record { same = λ places f cost most m n lm ln. same_flat places f cost most m n lm ln b stated }
 
-pub flat_steady : (table : Table) (us : List LibraryUnit) (n : ℕ) (b : Block) (stated : List Rec) (budget : ℕ) →
+pub flat_steady : (table : Table) (us : List LibraryUnit) (n : ℕ) (b : Block) (stated : List BlockRecursor) (budget : ℕ) →
     IfAnswered (plain_flat table us n b stated budget) (IsSteady (plain_flat table us n b stated) budget)
 flat_steady table us n b stated budget = fueled_steady table us n (λ fuel. flat_task fuel b stated) (flat_fuel b stated) budget

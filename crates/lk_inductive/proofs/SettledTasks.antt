@@ -1,6 +1,6 @@
 -- An outcome of a block's check but spent is the same under each greater budget.
 use Rattle.std.proofs.Common.{ℕ, suc, ◌≡◌, ◌-◌, inl, inr, List, [], ◌++◌, refl, ◌∙◌, arith}
-use Rattle.lk_rulebook.specs.Place.{Place, Block, Rec}
+use Rattle.lk_rulebook.specs.Place.{Place, Block, BlockRecursor}
 use Rattle.lk_rulebook.specs.Units.{Members, Library, place_of}
 use Rattle.lk_plain.specs.Query.{Query, AnswerTo}
 use Rattle.lk_plain.specs.Answer.{Outcome, plain_answer}
@@ -31,9 +31,9 @@ fueled_settled table us n task free i more l =
     moved_to (fueled table us n task i) (at_fuel table us n task (suc more) i) (fueled table us n task more) (same_fuel table us n task free (suc i) (suc more) i (omega arith) (omega arith))
     (task_settled (place_of us n) (λ w. plain_answer table w) (λ w q. ans_settled table w q) [] (task (suc more)) i more l)
 
-pub plain_settled : (table : Table) (us : Library) (n : ℕ) (b : Block) (stated : List Rec) → IsSettled (plain_whole table us n b stated)
+pub plain_settled : (table : Table) (us : Library) (n : ℕ) (b : Block) (stated : List BlockRecursor) → IsSettled (plain_whole table us n b stated)
 plain_settled table us n b stated = fueled_settled table us n (λ fuel. whole_task fuel b stated) (whole_fuel b stated)
 
 -- where nested occurrences are refused
-pub flat_settled : (table : Table) (us : Library) (n : ℕ) (b : Block) (stated : List Rec) → IsSettled (plain_flat table us n b stated)
+pub flat_settled : (table : Table) (us : Library) (n : ℕ) (b : Block) (stated : List BlockRecursor) → IsSettled (plain_flat table us n b stated)
 flat_settled table us n b stated = fueled_settled table us n (λ fuel. flat_task fuel b stated) (flat_fuel b stated)

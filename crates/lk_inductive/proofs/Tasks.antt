@@ -2,7 +2,7 @@
 use Rattle.std.proofs.Common.{ℕ, ◌≡◌, ◌+◌, ◌-◌, ◌++◌, Option, Some, None, refl, ap, ◌∙◌, arith}
 use Rattle.lk_rulebook.specs.Place.{Place, Entry}
 use Rattle.lk_rulebook.specs.Units.{Members}
-use Rattle.lk_tree.specs.RuleNo.{RuleNo}
+use Rattle.lk_tree.specs.declared.rule.Rule.{Rule}
 use Rattle.lk_plain.specs.Query.{Query, AnswerTo}
 use Rattle.lk_plain.specs.Program.{Program, done, refuse, ask, look}
 use Rattle.lk_plain.specs.Answer.{Outcome, answered, refused, spent, after, and_then, looked_up, later, IfAnswered}
@@ -92,7 +92,7 @@ then_looked n (answered v d u) k = ap (λ c. after 0 (Some n) (after d u (k v c)
 then_looked n (refused r) k = refl
 then_looked n spent k = refl
 
-pub then_found : {A B : Type 0} (r : RuleNo) (m : Option Entry) (n : ℕ) (fl : Option RuleNo) (f : Entry → Outcome A) (k : A → ℕ → Outcome B) →
+pub then_found : {A B : Type 0} (r : Rule) (m : Option Entry) (n : ℕ) (fl : Option Rule) (f : Entry → Outcome A) (k : A → ℕ → Outcome B) →
     looked_up r m n fl (λ e. and_then (f e) k) ≡ and_then (looked_up r m n fl f) k
 then_found r None n fl f k = refl
 then_found r (Some e) n fl f k = then_looked n (f e) k

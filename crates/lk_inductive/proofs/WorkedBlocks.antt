@@ -2,7 +2,7 @@
 use Rattle.std.proofs.Common.{◌≡◌, refl, true, false, [], ◌∷◌, ◌++◌, Some}
 use Rattle.lk_tree.specs.Tree.{Name, text, zero_level, succ_level, param, Tree, tree_discrete, level_discrete, name_discrete, part_discrete, var, sort, const, app, lam, pi, local}
 use Rattle.lk_tree.specs.Decide.{list_discrete, both_discrete}
-use Rattle.lk_tree.specs.RuleNo.{block_shape, not_positive, recursor_differs}
+use Rattle.lk_tree.specs.declared.rule.Rule.TheVariants.{BlockShape, NotPositive, RecursorDiffers}
 use Rattle.lk_tree.specs.Bind.{open_at, close_at, bound}
 use Rattle.lk_tree.specs.LevelTest.{level_le}
 use Rattle.lk_tree.specs.Levels.{put_levels, put_in_level, level_for}
@@ -14,7 +14,7 @@ use Rattle.lk_plain.specs.Answer.{answered, refused, spent, answer_to_depth, pla
 use Rattle.lk_questions.specs.Table.{steps}
 use native.Mathlib.Decide.{ℕ_discrete}
 use Rattle.lk_inductive.specs.Block.{recursive}
-use Rattle.lk_inductive.specs.Recursors.{rec_name, Rec}
+use Rattle.lk_inductive.specs.Recursors.{rec_name, BlockRecursor}
 use Rattle.lk_inductive.specs.Task.{run_task}
 use Rattle.lk_inductive.specs.Whole.{partial_types, partial_members}
 use Rattle.lk_inductive.specs.NestedTask.{whole_task}
@@ -32,7 +32,7 @@ z_type = app (var 0) (named nat_zero)
 abbrev pub s_type : Tree
 s_type = pi (named nat) (pi (app (var 2) (var 0)) (app (var 3) (app (named nat_succ) (var 1))))
 
-abbrev pub nat_rec_with : Tree → Rec
+abbrev pub nat_rec_with : Tree → BlockRecursor
 nat_rec_with minor = record {
   name = rec_name nat;
   levels = u ∷ [];
@@ -60,7 +60,7 @@ nat_yes = refl
 
 -- without its hypothesis
 nat_no : run_task (place_of [] 0) (λ w. plain_answer steps w) [] 1000 (whole_task 1001 nat_block (nat_rec_with (pi (named nat) (app (var 2) (app (named nat_succ) (var 0)))) ∷ []))
-    ≡ refused recursor_differs
+    ≡ refused RecursorDiffers
 unfolding answer_to_depth open_at close_at bound head args put_levels put_in_level level_for level_le tree_discrete level_discrete name_discrete list_discrete both_discrete part_discrete ℕ_discrete
 nat_no = refl
 
@@ -107,17 +107,17 @@ t_yes = refl
 
 -- mk : ((T -> N) -> T) -> T
 t_no : run_task (place_of (n_unit ∷ []) 1) (λ w. plain_answer steps w) [] 1000 (whole_task 1001 (t_block (pi (pi (pi (named t_name) (named u)) (named t_name)) (named t_name))) [])
-    ≡ refused not_positive
+    ≡ refused NotPositive
 unfolding answer_to_depth open_at close_at bound head args put_levels put_in_level level_for level_le tree_discrete level_discrete name_discrete list_discrete both_discrete part_discrete ℕ_discrete
 t_no = refl
 
 -- mk states another parent, or another place
 t_wrong_parent : run_task (place_of [] 0) (λ w. plain_answer steps w) [] 0 (whole_task 1 (record { types = record { name = t_name; levels = []; type = sort zero_level; parameters = 0; indices = 0; ctors = plain_ctor mk (named t_name) mk 0 0 ∷ [] } ∷ [] }) [])
-    ≡ refused block_shape
+    ≡ refused BlockShape
 unfolding name_discrete list_discrete both_discrete part_discrete ℕ_discrete
 t_wrong_parent = refl
 
 t_wrong_place : run_task (place_of [] 0) (λ w. plain_answer steps w) [] 0 (whole_task 1 (record { types = record { name = t_name; levels = []; type = sort zero_level; parameters = 0; indices = 0; ctors = plain_ctor mk (named t_name) t_name 1 0 ∷ [] } ∷ [] }) [])
-    ≡ refused block_shape
+    ≡ refused BlockShape
 unfolding name_discrete list_discrete both_discrete part_discrete ℕ_discrete
 t_wrong_place = refl

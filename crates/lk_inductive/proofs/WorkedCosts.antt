@@ -2,7 +2,7 @@
 use Rattle.std.proofs.Common.{◌≡◌, ℕ, refl, List, [], ◌∷◌, map, Option, None, Some}
 use Rattle.lk_tree.specs.Tree.{Name, text, zero_level, succ_level, param, Tree, tree_discrete, level_discrete, name_discrete, part_discrete, var, sort, const, app, lam, pi}
 use Rattle.lk_tree.specs.Decide.{list_discrete, both_discrete}
-use Rattle.lk_tree.specs.RuleNo.{unknown_constant, level_count, block_shape, not_positive, nested_form}
+use Rattle.lk_tree.specs.declared.rule.Rule.TheVariants.{UnknownConstant, LevelCount, BlockShape, NotPositive, NestedForm}
 use Rattle.lk_tree.specs.Bind.{open_at, close_at, bound}
 use Rattle.lk_tree.specs.LevelTest.{level_le}
 use Rattle.lk_tree.specs.Levels.{put_levels, put_in_level, level_for}
@@ -13,7 +13,7 @@ use Rattle.lk_plain.specs.Answer.{outcome_of, plain_answer, Outcome, answered, r
 use native.Mathlib.Decide.{ℕ_discrete}
 use Rattle.lk_questions.specs.Table.{steps}
 use Rattle.lk_inductive.specs.Block.{Shape}
-use Rattle.lk_inductive.specs.Recursors.{motive_level, Rec, recursors_by}
+use Rattle.lk_inductive.specs.Recursors.{motive_level, BlockRecursor, recursors_by}
 use Rattle.lk_inductive.specs.Nested.{Larger, enlarge}
 use Rattle.lk_inductive.specs.Whole.{partial_types}
 use Rattle.lk_inductive.specs.NestedTask.{setting_of, restoring_of, plain_whole}
@@ -122,7 +122,7 @@ box = name 66
 abbrev box_block : Block
 box_block = alone (one_type box (pi type type_1) 1 0 (ctor (part 66 109) (pi type (pi (var 0) (app (n box) (var 1)))) box 0 1 1 ∷ []))
 
-other_sort : plain_whole steps (unit box_block ∷ []) 1 (of_fields 1 (pi (app (n box) (n t)) (n t))) [] 200 ≡ refused block_shape
+other_sort : plain_whole steps (unit box_block ∷ []) 1 (of_fields 1 (pi (app (n box) (n t)) (n t))) [] 200 ≡ refused BlockShape
 unfolding answer_to_depth open_at close_at bound head args put_levels put_in_level level_for level_le tree_discrete level_discrete name_discrete list_discrete both_discrete part_discrete ℕ_discrete
 other_sort = refl
 
@@ -133,7 +133,7 @@ v = name 86
 abbrev v_block : Block
 v_block = alone (one_type v (pi type (pi type type)) 1 1 (ctor (part 86 109) (pi type (apply (n v) (var 0 ∷ var 0 ∷ []))) v 0 1 0 ∷ []))
 
-index_mentions : plain_whole steps (unit v_block ∷ []) 1 (of_fields 1 (pi (apply (n v) (n t ∷ n t ∷ [])) (n t))) [] 200 ≡ refused not_positive
+index_mentions : plain_whole steps (unit v_block ∷ []) 1 (of_fields 1 (pi (apply (n v) (n t ∷ n t ∷ [])) (n t))) [] 200 ≡ refused NotPositive
 unfolding answer_to_depth open_at close_at bound head args put_levels put_in_level level_for level_le tree_discrete level_discrete name_discrete list_discrete both_discrete part_discrete ℕ_discrete
 index_mentions = refl
 
@@ -156,15 +156,15 @@ u = name 117
 abbrev rule_at_u : RecRule → RecRule
 rule_at_u r = record r { value = put_levels (motive_level ∷ []) (param u ∷ []) r.value }
 
-abbrev rec_at_u : Rec → Rec
+abbrev rec_at_u : BlockRecursor → BlockRecursor
 rec_at_u r = record r { levels = u ∷ []; type = put_levels (motive_level ∷ []) (param u ∷ []) r.type; recursor = record r.recursor { rules = map rule_at_u (r.recursor).rules } }
 
-abbrev recs_by : Block → Shape → Outcome Larger → List Rec
+abbrev recs_by : Block → Shape → Outcome Larger → List BlockRecursor
 recs_by b s (answered lg c x) = map rec_at_u (recursors_by (restoring_of b (setting_of b s.params) lg) s)
 recs_by b s (refused r) = []
 recs_by b s spent = []
 
-abbrev recs_of : List LibraryUnit → ℕ → Block → Outcome (Shape × Members) → List Rec
+abbrev recs_of : List LibraryUnit → ℕ → Block → Outcome (Shape × Members) → List BlockRecursor
 recs_of us i b (answered v c x) = recs_by b v.0 (outcome_of (place_of us i (partial_types b)) (plain_answer steps (place_of us i (partial_types b))) 0 (enlarge (setting_of b (v.0).params) b.types))
 recs_of us i b (refused r) = []
 recs_of us i b spent = []
@@ -208,7 +208,7 @@ abbrev two_block : Block
 two_block = alone (one_type v (pi type (pi type type)) 2 0 (ctor (part 86 109) (pi type (pi type (apply (n v) (var 1 ∷ var 0 ∷ [])))) v 0 2 0 ∷ []))
 
 -- T.n : Box T -> (i : Type) -> V T i -> T: the walk is over before sorts are compared
-form_first : plain_whole steps (unit box_block ∷ unit two_block ∷ []) 2 (of_fields 3 (pi (app (n box) (n t)) (pi type (pi (apply (n v) (n t ∷ var 0 ∷ [])) (n t))))) [] 200 ≡ refused nested_form
+form_first : plain_whole steps (unit box_block ∷ unit two_block ∷ []) 2 (of_fields 3 (pi (app (n box) (n t)) (pi type (pi (apply (n v) (n t ∷ var 0 ∷ [])) (n t))))) [] 200 ≡ refused NestedForm
 unfolding answer_to_depth open_at close_at bound head args put_levels put_in_level level_for level_le tree_discrete level_discrete name_discrete list_discrete both_discrete part_discrete ℕ_discrete
 form_first = refl
 
@@ -219,21 +219,21 @@ f_type us cs = record { name = f; levels = us; type = pi type type; parameters =
 abbrev counted_block : Block
 counted_block = alone (f_type (u ∷ []) (ctor (part 70 122) (pi type (app (const f (zero_level ∷ [])) (var 0))) f 0 1 0 ∷ []))
 
-counted_refused : plain_whole steps [] 0 counted_block [] 200 ≡ refused block_shape
+counted_refused : plain_whole steps [] 0 counted_block [] 200 ≡ refused BlockShape
 unfolding answer_to_depth open_at close_at bound head args put_levels put_in_level level_for level_le tree_discrete level_discrete name_discrete list_discrete both_discrete part_discrete ℕ_discrete
 counted_refused = refl
 
-other_count : plain_whole steps (unit counted_block ∷ []) 1 (of_fields 1 (pi (app (const f (zero_level ∷ [])) (n t)) (n t))) [] 200 ≡ refused level_count
+other_count : plain_whole steps (unit counted_block ∷ []) 1 (of_fields 1 (pi (app (const f (zero_level ∷ [])) (n t)) (n t))) [] 200 ≡ refused LevelCount
 unfolding answer_to_depth open_at close_at bound head args put_levels put_in_level level_for level_le tree_discrete level_discrete name_discrete list_discrete both_discrete part_discrete ℕ_discrete
 other_count = refl
 
 -- F whose constructor's type is no Pi
-short_ctor : plain_whole steps (unit (alone (f_type [] (ctor (part 70 122) type f 0 1 0 ∷ []))) ∷ []) 1 (of_fields 1 (pi (app (n f) (n t)) (n t))) [] 200 ≡ refused block_shape
+short_ctor : plain_whole steps (unit (alone (f_type [] (ctor (part 70 122) type f 0 1 0 ∷ []))) ∷ []) 1 (of_fields 1 (pi (app (n f) (n t)) (n t))) [] 200 ≡ refused BlockShape
 unfolding answer_to_depth open_at close_at bound head args put_levels put_in_level level_for level_le tree_discrete level_discrete name_discrete list_discrete both_discrete part_discrete ℕ_discrete
 short_ctor = refl
 
 -- F whose constructor mentions a name that nothing gives, applied to what becomes T
-absent_head : plain_whole steps (unit (alone (f_type [] (ctor (part 70 122) (pi type (pi (app (n (name 71)) (var 0)) (app (n f) (var 1)))) f 0 1 1 ∷ []))) ∷ []) 1 (of_fields 1 (pi (app (n f) (n t)) (n t))) [] 200 ≡ refused unknown_constant
+absent_head : plain_whole steps (unit (alone (f_type [] (ctor (part 70 122) (pi type (pi (app (n (name 71)) (var 0)) (app (n f) (var 1)))) f 0 1 1 ∷ []))) ∷ []) 1 (of_fields 1 (pi (app (n f) (n t)) (n t))) [] 200 ≡ refused UnknownConstant
 unfolding answer_to_depth open_at close_at bound head args put_levels put_in_level level_for level_le tree_discrete level_discrete name_discrete list_discrete both_discrete part_discrete ℕ_discrete
 absent_head = refl
 

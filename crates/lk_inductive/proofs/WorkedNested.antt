@@ -9,12 +9,12 @@ use Rattle.lk_tree.specs.Spine.{head, args, apply}
 use Rattle.lk_rulebook.specs.Place.{Block, BlockType, RecRule}
 use Rattle.lk_rulebook.specs.Units.{LibraryUnit, of_block, place_of}
 use Rattle.lk_plain.specs.Answer.{answered, refused, answer_to_depth, plain_answer, outcome_of}
-use Rattle.lk_tree.specs.RuleNo.{nested_form}
+use Rattle.lk_tree.specs.declared.rule.Rule.TheVariants.{NestedForm}
 use Rattle.lk_questions.specs.Table.{steps}
 use native.Mathlib.Decide.{ℕ_discrete}
 use Rattle.lk_inductive.specs.Block.{Shape, recursive}
 use Rattle.lk_inductive.specs.BlockSteps.{shape_steps}
-use Rattle.lk_inductive.specs.Recursors.{rec_name, motive_level, Rec, recursors_by}
+use Rattle.lk_inductive.specs.Recursors.{rec_name, motive_level, BlockRecursor, recursors_by}
 use Rattle.lk_inductive.specs.Nested.{Aux, Setting, Larger, larger_block, aux_name, aux_ctor, enlarge, bare_entries}
 use Rattle.lk_inductive.specs.Restore.{rec_numbered, all_stand, restore, restoring}
 use Rattle.lk_inductive.specs.Whole.{partial_types, partial_members}
@@ -220,7 +220,7 @@ vec_unit = of_block (record { types = vec_type ∷ [] }) []
 abbrev pub bad_types : List BlockType
 bad_types = record { name = tree; levels = []; type = type; parameters = 0; indices = 0; ctors = plain_ctor node (pi type (pi (apply (n list) (n tree ∷ var 0 ∷ [])) (n tree))) tree 0 2 ∷ [] } ∷ []
 
-bad_form : outcome_of (place_of (vec_unit ∷ []) 1 []) (plain_answer steps (place_of (vec_unit ∷ []) 1 [])) 0 (enlarge setting bad_types) ≡ refused nested_form
+bad_form : outcome_of (place_of (vec_unit ∷ []) 1 []) (plain_answer steps (place_of (vec_unit ∷ []) 1 [])) 0 (enlarge setting bad_types) ≡ refused NestedForm
 unfolding open_at close_at bound head args put_levels put_in_level level_for tree_discrete level_discrete name_discrete list_discrete both_discrete part_discrete ℕ_discrete
 bad_form = refl
 
@@ -228,10 +228,10 @@ bad_form = refl
 abbrev pub rule_at_u : RecRule → RecRule
 rule_at_u r = record r { value = put_levels (motive_level ∷ []) (param u ∷ []) r.value }
 
-abbrev pub rec_at_u : Rec → Rec
+abbrev pub rec_at_u : BlockRecursor → BlockRecursor
 rec_at_u r = record r { levels = u ∷ []; type = put_levels (motive_level ∷ []) (param u ∷ []) r.type; recursor = record r.recursor { rules = map rule_at_u (r.recursor).rules } }
 
-abbrev pub tree_recs : List Rec
+abbrev pub tree_recs : List BlockRecursor
 tree_recs = map rec_at_u (recursors_by (restoring (all_stand tree 0 (aux ∷ [])) setting) shape)
 
 tree_yes : run_task (place_of (list_unit ∷ []) 1) (λ w. plain_answer steps w) [] 2000 (whole_task 2001 tree_block tree_recs)

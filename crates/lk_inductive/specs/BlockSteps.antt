@@ -5,7 +5,7 @@ use Rattle.lk_tree.specs.Level.{is_zero_level}
 use Rattle.lk_tree.specs.LevelTest.{level_test, level_le_test}
 use Rattle.lk_tree.specs.Bind.{opened}
 use Rattle.lk_tree.specs.Spine.{head, args}
-use Rattle.lk_tree.specs.RuleNo.{block_shape, parameter_differs, constructor_result, not_positive, field_universe}
+use Rattle.lk_tree.specs.declared.rule.Rule.TheVariants.{BlockShape, ParameterDiffers, ConstructorResult, NotPositive, FieldUniverse}
 use Rattle.lk_rulebook.specs.Place.{Block, BlockType, Ctor}
 use Rattle.lk_tree.specs.Mentions.{mentions, same_name}
 use Rattle.lk_plain.specs.Query.{whnf, same}
@@ -35,14 +35,14 @@ types_agree p us [] = true
 types_agree p us (t ∷ ts) = ((same_names t.levels us && nat_eq t.parameters p) && ctors_agree p us t.name 0 t.ctors) && types_agree p us ts
 
 abbrev pub counts_steps : Block → Program Yes
-counts_steps b = given (types_agree (parameters_of b) (levels_of b) b.types) block_shape (done checked)
+counts_steps b = given (types_agree (parameters_of b) (levels_of b) b.types) BlockShape (done checked)
 
 -- n Pis, opened with Locals from number j on
 abbrev pub telescope : ℕ → ℕ → Tree → Program (List Tree × Tree)
 telescope j zero r = done ([], r)
 telescope j (suc n) r = do
   R ← asked (whnf r)
-  p ← as_pi block_shape R
+  p ← as_pi BlockShape R
   t ← telescope (suc j) n (opened p.1 (local j p.0))
   done (local j p.0 ∷ t.0, t.1)
 
@@ -51,13 +51,13 @@ abbrev pub over : List Tree → Tree → Program Tree
 over [] r = done r
 over (P ∷ ps) r = do
   R ← asked (whnf r)
-  p ← as_pi block_shape R
+  p ← as_pi BlockShape R
   equal ← asked (same p.0 (domain P))
-  given equal parameter_differs (over ps (opened p.1 P))
+  given equal ParameterDiffers (over ps (opened p.1 P))
 
 abbrev pub as_level : Tree → Program Level
 as_level (sort l) = done l
-as_level _ = refuse block_shape
+as_level _ = refuse BlockShape
 
 -- the indices of a type past its parameters, and the level of its Sort
 abbrev pub type_end : ℕ → ℕ → Tree → Program (List Tree × Level)
@@ -74,7 +74,7 @@ next_type ps l t = do
   r ← over ps t.type
   e ← type_end (length ps) t.indices r
   equal ← tested (level_test e.1 l)
-  given equal block_shape (done e.0)
+  given equal BlockShape (done e.0)
 
 abbrev pub next_types : List Tree → Level → List BlockType → Program (List (List Tree))
 next_types ps l [] = done []
@@ -91,13 +91,13 @@ pub record TypeParts : Type 0 where
 
 -- the checks of the types
 abbrev pub types_steps : ℕ → List BlockType → Program TypeParts
-types_steps p [] = refuse block_shape
+types_steps p [] = refuse BlockShape
 types_steps p (t ∷ ts) = do
   s ← sort_of t.type
   ps ← telescope 0 p t.type
   e ← type_end p t.indices ps.1
   equal ← tested (level_test e.1 e.1)
-  xs ← given equal block_shape (next_types ps.0 e.1 ts)
+  xs ← given equal BlockShape (next_types ps.0 e.1 ts)
   done (record { params = ps.0; sort = e.1; indices = e.0 ∷ xs })
 
 -- each constructor's type has a sort
@@ -142,17 +142,17 @@ as_member F _ xs = None
 -- the walk of A, Locals from number j on; fuel: each step asks a question, so more than the budget is never used up
 abbrev pub last_kind : Option (Name × List Tree) → Program FieldKind
 last_kind (Some t) = done (recursive [] t.0 t.1)
-last_kind None = refuse not_positive
+last_kind None = refuse NotPositive
 
 abbrev pub walk_on : (ℕ → Tree → Program FieldKind) → Frame → ℕ → Tree → Program FieldKind
 walk_on next F j (pi D E) =
-    if mentions F.names D then refuse not_positive else (do
+    if mentions F.names D then refuse NotPositive else (do
       k ← next (suc j) (opened E (local j D))
       done (under (local j D) k))
 walk_on next F j A = last_kind (as_member F (head A) (args A))
 
 abbrev pub walk : ℕ → Frame → ℕ → Tree → Program FieldKind
-walk zero F j A = refuse not_positive
+walk zero F j A = refuse NotPositive
 walk (suc fuel) F j A = do
   A' ← asked (whnf A)
   if mentions F.names A' then walk_on (walk fuel F) F j A' else done plain
@@ -169,15 +169,15 @@ abbrev pub fields_steps : ℕ → Frame → ℕ → ℕ → Tree → Program (Li
 fields_steps fuel F j zero r = done ([], r)
 fields_steps fuel F j (suc n) r = do
   R ← asked (whnf r)
-  p ← as_pi block_shape R
+  p ← as_pi BlockShape R
   allowed ← fits_in F.sort p.0
-  k ← given allowed field_universe (walk fuel F (suc j) p.0)
+  k ← given allowed FieldUniverse (walk fuel F (suc j) p.0)
   fs ← fields_steps fuel F (suc j) n (opened p.1 (local j p.0))
   done (record { variable = local j p.0; kind = k } ∷ fs.0, fs.1)
 
 abbrev pub own_indices : Name → Option (Name × List Tree) → Program (List Tree)
-own_indices T (Some t) = given (same_name t.0 T) constructor_result (done t.1)
-own_indices T None = refuse constructor_result
+own_indices T (Some t) = given (same_name t.0 T) ConstructorResult (done t.1)
+own_indices T None = refuse ConstructorResult
 
 -- the check of one constructor of T
 abbrev pub ctor_steps : ℕ → Frame → Name → Ctor → Program CtorShape
@@ -197,7 +197,7 @@ ctors_steps fuel F T (c ∷ cs) = do
 
 abbrev pub shapes_steps : ℕ → Frame → List BlockType → List (List Tree) → Program (List TypeShape)
 shapes_steps fuel F [] xs = done []
-shapes_steps fuel F (t ∷ ts) [] = refuse block_shape
+shapes_steps fuel F (t ∷ ts) [] = refuse BlockShape
 shapes_steps fuel F (t ∷ ts) (x ∷ xs) = do
   cs ← ctors_steps fuel F t.name t.ctors
   ss ← shapes_steps fuel F ts xs

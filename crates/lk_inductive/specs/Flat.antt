@@ -1,7 +1,7 @@
 -- No occurrence is nested: while the larger block is not built, a nested one is refused.
 use Rattle.std.specs.Prelude.{not, List, [], ◌∷◌}
 use Rattle.lk_tree.specs.Tree.{Name}
-use Rattle.lk_tree.specs.RuleNo.{nested_form}
+use Rattle.lk_tree.specs.declared.rule.Rule.TheVariants.{NestedForm}
 use Rattle.lk_rulebook.specs.Place.{BlockType, Ctor}
 use Rattle.lk_plain.specs.Program.{Program, done, ◌>>=◌}
 use Rattle.lk_questions.specs.Steps.{given}
@@ -13,7 +13,7 @@ abbrev pub flat_ctors : List Name → List Ctor → Program Yes
 flat_ctors ns [] = done checked
 flat_ctors ns (c ∷ cs) = do
   nested ← holds_nested ns c.type
-  given (not nested) nested_form (flat_ctors ns cs)
+  given (not nested) NestedForm (flat_ctors ns cs)
 
 -- each type's constructors, in order
 abbrev pub flat_types : List Name → List BlockType → Program Yes

@@ -5,7 +5,7 @@ use Rattle.lk_tree.specs.LevelTest.{level_test}
 use Rattle.lk_tree.specs.Bind.{opened, close}
 use Rattle.lk_tree.specs.Levels.{put_levels}
 use Rattle.lk_tree.specs.Spine.{apply, head, args}
-use Rattle.lk_tree.specs.RuleNo.{unknown_constant, level_count, block_shape, nested_form}
+use Rattle.lk_tree.specs.declared.rule.Rule.TheVariants.{UnknownConstant, LevelCount, BlockShape, NestedForm}
 use Rattle.lk_rulebook.specs.Place.{Kind, Block, BlockType, Ctor, a_type}
 use Rattle.lk_rulebook.specs.Units.{Members}
 use Rattle.lk_tree.specs.Mentions.{same_name, is_one_of}
@@ -84,13 +84,13 @@ has_pis (suc n) _ = false
 abbrev pub past_pis : List Tree → Tree → Program Tree
 past_pis [] e = done e
 past_pis (x ∷ xs) (pi A B) = past_pis xs (opened B x)
-past_pis (x ∷ xs) _ = refuse block_shape
+past_pis (x ∷ xs) _ = refuse BlockShape
 
 -- a tree of J's block at ls and b1 .., where us are its level parameters
 abbrev pub at_args : List Level → List Tree → List Name → Tree → Program Tree
 at_args ls bs us e =
-    given (nat_eq (length ls) (length us)) level_count
-    (given (has_pis (length bs) e) block_shape (past_pis bs (put_levels us ls e)))
+    given (nat_eq (length ls) (length us)) LevelCount
+    (given (has_pis (length bs) e) BlockShape (past_pis bs (put_levels us ls e)))
 
 -- n Pis that stand at the head, opened with Locals from number j on
 abbrev pub stated_pis : ℕ → ℕ → Tree → Program (List Tree × Tree)
@@ -98,7 +98,7 @@ stated_pis j zero r = done ([], r)
 stated_pis j (suc n) (pi A B) = do
   t ← stated_pis (suc j) n (opened B (local j A))
   done (local j A ∷ t.0, t.1)
-stated_pis j (suc n) _ = refuse block_shape
+stated_pis j (suc n) _ = refuse BlockShape
 
 abbrev pub ctors_at : List Level → List Tree → List Ctor → Program (List Tree)
 ctors_at ls bs [] = done []
@@ -143,12 +143,12 @@ aux_applied s i = apply (const (aux_name i) (map param s.levels)) s.params
 abbrev pub met : Setting → List Aux → Name → List Level → List Tree → Block → BlockType → Option ℕ → Program (Tree × List Aux)
 met s as_ J ls bs b t (Some i) = done (aux_applied s i, as_)
 met s as_ J ls bs b t None =
-    given (nat_le (length as_ + suc (other_count J b.types)) 1024) nested_form (do
+    given (nat_le (length as_ + suc (other_count J b.types)) 1024) NestedForm (do
       ms ← family_of s ls bs J b t
       done (aux_applied s (length as_), as_ ++ ms))
 
 abbrev pub replaced : Setting → List Aux → Name → List Level → List Tree → Block → BlockType → Program (Tree × List Aux)
-replaced s as_ J ls bs b t = given (may_nest s.params bs) nested_form (met s as_ J ls bs b t (aux_at 0 as_ J ls bs))
+replaced s as_ J ls bs b t = given (may_nest s.params bs) NestedForm (met s as_ J ls bs b t (aux_at 0 as_ J ls bs))
 
 -- J is a type with as many parameters as there are arguments; what is applied to more holds such an application
 abbrev pub at_kind : Setting → List Aux → Name → List Level → List Tree → Kind → Program (Tree × List Aux) → Program (Tree × List Aux)
@@ -157,7 +157,7 @@ at_kind s as_ J ls xs _ next = next
 
 -- a head is looked up where it is no type of the block, and an argument mentions one
 abbrev pub at_head : Setting → List Aux → Tree → List Tree → Program (Tree × List Aux) → Program (Tree × List Aux)
-at_head s as_ (const J ls) xs next = if is_one_of s.names J || mention_none s.names xs then next else look unknown_constant J λ g. at_kind s as_ J ls xs g.kind next
+at_head s as_ (const J ls) xs next = if is_one_of s.names J || mention_none s.names xs then next else look UnknownConstant J λ g. at_kind s as_ J ls xs g.kind next
 at_head s as_ _ xs next = next
 
 -- each occurrence becomes its auxiliary type, from left to right, outermost first
@@ -190,7 +190,7 @@ holds_kind xs (a_type b t) next = if nat_eq (length xs) t.parameters then done t
 holds_kind xs _ next = next
 
 abbrev pub holds_head : List Name → Tree → List Tree → Program Bool → Program Bool
-holds_head ns (const J ls) xs next = if is_one_of ns J || mention_none ns xs then next else look unknown_constant J λ g. holds_kind xs g.kind next
+holds_head ns (const J ls) xs next = if is_one_of ns J || mention_none ns xs then next else look UnknownConstant J λ g. holds_kind xs g.kind next
 holds_head ns _ xs next = next
 
 abbrev pub either_holds : Program Bool → Program Bool → Program Bool
@@ -212,12 +212,12 @@ nest_past s [] e as_ = nest s e as_
 nest_past s (P ∷ ps) (pi A B) as_ = do
   e ← nest_past s ps (opened B P) as_
   done (pi A (close (number P) e.0), e.1)
-nest_past s (P ∷ ps) _ as_ = refuse block_shape
+nest_past s (P ∷ ps) _ as_ = refuse BlockShape
 
 -- only where it holds an occurrence
 abbrev pub held_ctor : Setting → Ctor → List Aux → Bool → Program (Ctor × List Aux)
 held_ctor s c as_ false = done (c, as_)
-held_ctor s c as_ true = given (has_pis (length s.params) c.type) block_shape (do
+held_ctor s c as_ true = given (has_pis (length s.params) c.type) BlockShape (do
   e ← nest_past s s.params c.type as_
   done (record c { type = e.0 }, e.1))
 
@@ -266,7 +266,7 @@ next_aux next s i as_ (Some a) = do
   done (aux_type s i a cs.0 ∷ ts.0, ts.1)
 
 abbrev pub aux_types : ℕ → Setting → ℕ → List Aux → Program (List BlockType × List Aux)
-aux_types zero s i as_ = refuse nested_form
+aux_types zero s i as_ = refuse NestedForm
 aux_types (suc n) s i as_ = next_aux (aux_types n s) s i as_ (aux_from as_ i)
 
 -- the block's own types, the auxiliary ones, and what each of these stands for
@@ -290,7 +290,7 @@ abbrev pub aux_sorts : Level → List Aux → Program Yes
 aux_sorts l [] = done checked
 aux_sorts l (a ∷ as_) = do
   equal ← tested (level_test a.sort l)
-  given equal block_shape (aux_sorts l as_)
+  given equal BlockShape (aux_sorts l as_)
 
 abbrev pub aux_indices : List Aux → List (List Tree)
 aux_indices [] = []

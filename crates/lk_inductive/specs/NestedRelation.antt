@@ -9,7 +9,7 @@ use Rattle.lk_tree.specs.Mentions.{is_one_of}
 use Rattle.lk_rulebook.specs.Units.{Members}
 use Rattle.lk_inductive.specs.Block.{Shape}
 use Rattle.lk_inductive.specs.Relation.{IsAmong, IsBlock, CountsAgree}
-use Rattle.lk_inductive.specs.Recursors.{number, pis, Rec, recursors_by}
+use Rattle.lk_inductive.specs.Recursors.{number, pis, BlockRecursor, recursors_by}
 use Rattle.lk_inductive.specs.Compare.{AreRecs}
 use Rattle.lk_inductive.specs.Nested.{Aux, Setting, Larger, larger_block, aux_name, aux_ctor, aux_from, bare_entries}
 use Rattle.lk_inductive.specs.Restore.{Original, first_name, all_stand, restore}
@@ -123,11 +123,11 @@ pub record IsEnlarged (w : Place) (s : Setting) (b : Block) (lg : Larger) : Type
 abbrev pub middle_half : Block → Larger → Members
 middle_half b lg = partial_types b ++ bare_entries lg.aux
 
-abbrev pub last_half : Block → List Rec → Larger → Members
+abbrev pub last_half : Block → List BlockRecursor → Larger → Members
 last_half b stated lg = middle_half b lg ++ partial_members b stated
 
 -- the block is derived: before it, among its types, and among the auxiliary ones too
-pub record NestedDerived (places : Members → Place) (b : Block) (stated : List Rec) (shape : Shape) : Type 0 where
+pub record NestedDerived (places : Members → Place) (b : Block) (stated : List BlockRecursor) (shape : Shape) : Type 0 where
   pub counts : CountsAgree b
   pub types_sorted : TypesSorted (places []) b.types
   pub ctors_sorted : AllCtorsSorted (places (partial_types b)) b.types

@@ -8,7 +8,7 @@ use Rattle.lk_plain.specs.Answer.{Outcome, plain_answer}
 use Rattle.lk_plain.specs.Program.{Table}
 use Rattle.lk_inductive.specs.Block.{levels_of, parameters_of, Shape}
 use Rattle.lk_inductive.specs.BlockSteps.{TypeParts, counts_steps, types_steps, all_ctor_sorts, shape_steps}
-use Rattle.lk_inductive.specs.Recursors.{Rec, Restoring, recursors_by}
+use Rattle.lk_inductive.specs.Recursors.{BlockRecursor, Restoring, recursors_by}
 use Rattle.lk_inductive.specs.Compare.{compare_steps}
 use Rattle.lk_inductive.specs.Nested.{Setting, Larger, larger_block, enlarge, aux_sorts, aux_indices, bare_entries}
 use Rattle.lk_inductive.specs.Restore.{first_name, all_stand, restoring}
@@ -22,21 +22,21 @@ abbrev pub restoring_of : Block → Setting → Larger → Restoring
 restoring_of b s lg = restoring (all_stand (first_name b.types) 0 lg.auxs) s
 
 -- the recursors
-abbrev pub nested_recs : Block → List Rec → Setting → Larger → Shape → Task Shape
+abbrev pub nested_recs : Block → List BlockRecursor → Setting → Larger → Shape → Task Shape
 nested_recs b stated s lg shape = do
   h ← give_partial (partial_members b stated)
   y ← here (compare_steps (recursors_by (restoring_of b s lg) shape) stated)
   done_with shape
 
 -- constructors, large elimination, recursors
-abbrev pub nested_shape : ℕ → Block → List Rec → TypeParts → Larger → Task Shape
+abbrev pub nested_shape : ℕ → Block → List BlockRecursor → TypeParts → Larger → Task Shape
 nested_shape fuel b stated ts lg = do
   k ← give_partial (bare_entries lg.aux)
   shape ← here (shape_steps fuel (larger_block lg) (record ts { indices = ts.indices ++ aux_indices lg.auxs }))
   nested_recs b stated (setting_of b ts.params) lg shape
 
 -- the number is above the budget
-abbrev pub whole_task : ℕ → Block → List Rec → Task Shape
+abbrev pub whole_task : ℕ → Block → List BlockRecursor → Task Shape
 whole_task fuel b stated = do
   y ← here (counts_steps b)
   ts ← here (types_steps (parameters_of b) b.types)
@@ -47,5 +47,5 @@ whole_task fuel b stated = do
   nested_shape fuel b stated ts lg
 
 -- the plain verdict of unit n, a block that has passed the scans, by this table
-abbrev pub plain_whole : Table → Library → ℕ → Block → List Rec → ℕ → Outcome (Shape × Members)
+abbrev pub plain_whole : Table → Library → ℕ → Block → List BlockRecursor → ℕ → Outcome (Shape × Members)
 plain_whole table us n b stated budget = run_task (place_of us n) (λ w. plain_answer table w) [] budget (whole_task (suc budget) b stated)

@@ -5,7 +5,7 @@ use Rattle.lk_tree.specs.Level.{is_zero_level}
 use Rattle.lk_tree.specs.Bind.{close, bound}
 use Rattle.lk_tree.specs.Spine.{apply}
 use Rattle.lk_rulebook.specs.Place.{RecRule}
-pub use Rattle.lk_rulebook.specs.Place.{Rec}
+pub use Rattle.lk_rulebook.specs.Place.{BlockRecursor}
 use Rattle.lk_tree.specs.Mentions.{same_name}
 use Rattle.lk_inductive.specs.Block.{FieldKind, plain, recursive, Field, CtorShape, TypeShape, Shape, domain}
 
@@ -174,7 +174,7 @@ is_k s = elim s.types [
   ]
 ]
 
-abbrev pub rec_of : Restoring → Shape → List Tree → TypeShape → Rec
+abbrev pub rec_of : Restoring → Shape → List Tree → TypeShape → BlockRecursor
 rec_of w s ms t = record {
   name = w.named (rec_name t.name);
   levels = rec_params s;
@@ -189,13 +189,13 @@ rec_of w s ms t = record {
   };
 }
 
-abbrev pub recs_from : Restoring → Shape → List Tree → List TypeShape → List Rec
+abbrev pub recs_from : Restoring → Shape → List Tree → List TypeShape → List BlockRecursor
 recs_from w s ms [] = []
 recs_from w s ms (t ∷ ts) = rec_of w s ms t ∷ recs_from w s (past_minors t.ctors ms) ts
 
 -- the recursors of a block
-abbrev pub recursors_by : Restoring → Shape → List Rec
+abbrev pub recursors_by : Restoring → Shape → List BlockRecursor
 recursors_by w s = recs_from w s (minors s) s.types
 
-abbrev pub recursors : Shape → List Rec
+abbrev pub recursors : Shape → List BlockRecursor
 recursors s = recursors_by as_they_are s

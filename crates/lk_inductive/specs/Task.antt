@@ -1,7 +1,7 @@
 -- Checks that change their place on the way: names become partial between questions, under one budget.
 use Rattle.std.specs.Prelude.{ℕ, ◌-◌, ◌≡◌, ◌++◌, Some, None}
 use Rattle.lk_tree.specs.Tree.{Name}
-use Rattle.lk_tree.specs.RuleNo.{RuleNo}
+use Rattle.lk_tree.specs.declared.rule.Rule.{Rule}
 use Rattle.lk_rulebook.specs.Place.{Place, Entry}
 use Rattle.lk_rulebook.specs.Units.{Members}
 use Rattle.lk_plain.specs.Query.{Query, AnswerTo}
@@ -12,9 +12,9 @@ use Rattle.lk_plain.specs.Sound.{IsAskable, IsJustified, WellStated}
 -- with_partial ms t: from here on these names are partial too
 pub data Task (A : Type 0) : Type 0 where
   done_with : A → Task A
-  stopped : RuleNo → Task A
+  stopped : Rule → Task A
   asking : (q : Query) → (AnswerTo q → Task A) → Task A
-  looking : RuleNo → Name → (Entry → Task A) → Task A
+  looking : Rule → Name → (Entry → Task A) → Task A
   with_partial : Members → Task A → Task A
 
 -- a question's kind of program, at the place that stands

@@ -8,7 +8,7 @@ use Rattle.lk_rulebook.specs.Rules.{HasSort}
 use Rattle.lk_plain.specs.Sound.{IsStated, TypesStated, RulesStated}
 use Rattle.lk_inductive.specs.Block.{Shape}
 use Rattle.lk_inductive.specs.Relation.{IsBlock, CountsAgree}
-use Rattle.lk_inductive.specs.Recursors.{Rec, recursors}
+use Rattle.lk_inductive.specs.Recursors.{BlockRecursor, recursors}
 use Rattle.lk_inductive.specs.Compare.{AreRecs}
 
 abbrev pub CtorsSorted : Place → List Ctor → Type 0
@@ -24,18 +24,18 @@ AllCtorsSorted w [] = Unit {0}
 AllCtorsSorted w (t ∷ ts) = CtorsSorted w t.ctors × AllCtorsSorted w ts
 
 -- the block is derived: places gives the place for what is partial
-pub record BlockDerived (places : Members → Place) (b : Block) (stated : List Rec) (s : Shape) : Type 0 where
+pub record BlockDerived (places : Members → Place) (b : Block) (stated : List BlockRecursor) (s : Shape) : Type 0 where
   pub counts : CountsAgree b
   pub types_sorted : TypesSorted (places []) b.types
   pub ctors_sorted : AllCtorsSorted (places (partial_types b)) b.types
   pub block : IsBlock (places []) (places (partial_types b)) b s
   pub recs : AreRecs (places (partial_types b ++ partial_members b stated)) (recursors s) stated
 
-abbrev pub RecsStated : List Rec → Type 0
+abbrev pub RecsStated : List BlockRecursor → Type 0
 RecsStated [] = Unit {0}
 RecsStated (r ∷ rs) = (IsStated r.type × RulesStated r.recursor.rules) × RecsStated rs
 
 -- the scans hold
-pub record BlockStated (b : Block) (stated : List Rec) : Type 0 where
+pub record BlockStated (b : Block) (stated : List BlockRecursor) : Type 0 where
   pub types : TypesStated b.types
   pub recs : RecsStated stated

@@ -6,13 +6,13 @@ ghost use Rattle.lk_inductive.specs.Block.{Shape};
 ghost use Rattle.lk_inductive.specs.FlatTask.{plain_flat};
 ghost use Rattle.lk_inductive.specs.Grows.{IsWithin, Completes};
 ghost use Rattle.lk_inductive.specs.NestedTask.{plain_whole};
-ghost use Rattle.lk_inductive.specs.Recursors.{Rec};
+ghost use Rattle.lk_inductive.specs.Recursors.{BlockRecursor};
 ghost use Rattle.lk_inductive.specs.Whole.{partial_types, partial_members, BlockDerived};
 ghost use Rattle.lk_plain.specs.Answer.{answered, IfAnswered};
 ghost use Rattle.lk_plain.specs.Laws.{IsSteady};
-ghost use Rattle.lk_plain.specs.Parts.{IsStageOf};
+ghost use Rattle.lk_plain.specs.Parts.{IsPartOf};
 ghost use Rattle.lk_plain.specs.Program.{Table};
-ghost use Rattle.lk_rulebook.specs.Place.{Place, Entry, Block, Rec};
+ghost use Rattle.lk_rulebook.specs.Place.{Place, Entry, Block, BlockRecursor};
 ghost use Rattle.lk_rulebook.specs.Rules.{HasType, Reduces, IsDefEq};
 ghost use Rattle.lk_rulebook.specs.Units.{LibraryUnit, members_of, flaw_of, given_by, first_giving, place_of};
 ghost use Rattle.lk_tree.specs.Tree.{Name, Tree};
@@ -27,7 +27,8 @@ pub fn derivations_stay()
 
 /// A block that is derived at its unit's place, with its names partial, is derived at the next unit's, where they are given.
 pub fn derived_block_stays()
-    ensures { (us : List LibraryUnit) (n : ℕ) (u : LibraryUnit) (b : Block) (stated : List Rec)
+    ensures { (us : List LibraryUnit) (n : ℕ) (u : LibraryUnit) (b : Block)
+        (stated : List BlockRecursor)
         (s : Shape) → slice_get us n ≡ Some u → flaw_of u ≡ None
         → Completes (partial_types b ++ partial_members b stated) (members_of u) →
         ((c : Name) (e : Entry) → given_by (members_of u) c ≡ Some e → first_giving 0 (take n us) c
@@ -35,40 +36,45 @@ pub fn derived_block_stays()
         → BlockDerived (λ h. place_of us (suc n) []) b stated s }
 {}
 
-/// What a stage answers of a block its table answers too, at the same cost.
-pub fn block_stages_agree()
-    ensures { (stage table : Table) (us : List LibraryUnit) (n : ℕ) (b : Block) (stated : List Rec)
-        (budget : ℕ) → IsStageOf stage table
-        → IfAnswered (plain_whole stage us n b stated budget)
+/// What a part answers of a block its table answers too, at the same cost.
+pub fn block_parts_agree()
+    ensures { (part table : Table) (us : List LibraryUnit) (n : ℕ) (b : Block)
+        (stated : List BlockRecursor)
+        (budget : ℕ) → IsPartOf part table
+        → IfAnswered (plain_whole part us n b stated budget)
         (λ v c t. plain_whole table us n b stated budget ≡ answered v c t) }
 {}
 
 /// The plain verdict of a block comes exactly where the budget is at least its cost, and is the same under each such budget.
 pub fn plain_block_is_steady()
-    ensures { (table : Table) (us : List LibraryUnit) (n : ℕ) (b : Block) (stated : List Rec)
+    ensures { (table : Table) (us : List LibraryUnit) (n : ℕ) (b : Block)
+        (stated : List BlockRecursor)
         (budget : ℕ) → IfAnswered (plain_whole table us n b stated budget)
         (IsSteady (plain_whole table us n b stated) budget) }
 {}
 
 /// What is answered of a block where nested occurrences are refused, the whole check answers too, at the same cost.
 pub fn flat_block_is_whole()
-    ensures { (table : Table) (us : List LibraryUnit) (n : ℕ) (b : Block) (stated : List Rec)
+    ensures { (table : Table) (us : List LibraryUnit) (n : ℕ) (b : Block)
+        (stated : List BlockRecursor)
         (budget : ℕ) → IfAnswered (plain_flat table us n b stated budget)
         (λ v c t. plain_whole table us n b stated budget ≡ answered v c t) }
 {}
 
-/// Where nested occurrences are refused, what a stage answers of a block its table answers too, at the same cost.
-pub fn flat_stages_agree()
-    ensures { (stage table : Table) (us : List LibraryUnit) (n : ℕ) (b : Block) (stated : List Rec)
-        (budget : ℕ) → IsStageOf stage table
-        → IfAnswered (plain_flat stage us n b stated budget)
+/// Where nested occurrences are refused, what a part answers of a block its table answers too, at the same cost.
+pub fn flat_parts_agree()
+    ensures { (part table : Table) (us : List LibraryUnit) (n : ℕ) (b : Block)
+        (stated : List BlockRecursor)
+        (budget : ℕ) → IsPartOf part table
+        → IfAnswered (plain_flat part us n b stated budget)
         (λ v c t. plain_flat table us n b stated budget ≡ answered v c t) }
 {}
 
 /// Where nested occurrences are refused, the plain verdict of a block comes exactly where the budget is at least its cost, and is
 /// the same under each such budget.
 pub fn plain_flat_is_steady()
-    ensures { (table : Table) (us : List LibraryUnit) (n : ℕ) (b : Block) (stated : List Rec)
+    ensures { (table : Table) (us : List LibraryUnit) (n : ℕ) (b : Block)
+        (stated : List BlockRecursor)
         (budget : ℕ) → IfAnswered (plain_flat table us n b stated budget)
         (IsSteady (plain_flat table us n b stated) budget) }
 {}

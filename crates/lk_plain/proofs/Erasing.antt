@@ -1,6 +1,6 @@
 -- A program's run by cost is its run by what is left, once types are forgotten.
 use Rattle.std.proofs.Common.{ℕ, zero, suc, ◌≡◌, ◌<◌, ◌+◌, ◌-◌, max, Option, Some, None, refl, ap, sym, ◌∙◌, arith}
-use Rattle.lk_tree.specs.RuleNo.{RuleNo}
+use Rattle.lk_tree.specs.declared.rule.Rule.{Rule}
 use Rattle.lk_rulebook.specs.Place.{Place, Entry}
 use Rattle.lk_plain.specs.Query.{Query, AnswerTo, core, whnf, infer, same}
 use Rattle.lk_plain.specs.Program.{Program, Table, done, refuse, ask, look}
@@ -53,7 +53,7 @@ left_and_then f g b (answered v c t) next k h = left_after g b c t (next v c) �
 left_and_then f g b (refused r) next k h = refl
 left_and_then f g b spent next k h = refl
 
-left_found : {A : Type 0} (f : A → Value) (b n : ℕ) (t : Option ℕ) (m : Option Entry) (fl : Option RuleNo) (next : Entry → Outcome A) (r : RuleNo) (p : Option ℕ → Entry → Steps) (a : Query → ℕ → Out)
+left_found : {A : Type 0} (f : A → Value) (b n : ℕ) (t : Option ℕ) (m : Option Entry) (fl : Option Rule) (next : Entry → Outcome A) (r : Rule) (p : Option ℕ → Entry → Steps) (a : Query → ℕ → Out)
     → ((u : Option ℕ) (e : Entry) → seen u (left_of f b (next e)) ≡ run_steps a (p u e) b) → seen t (left_of f b (looked_up r m n fl next)) ≡ run_steps a (looked r t m n fl p) b
 left_found f b n t None fl next r p a h = refl
 left_found f b n t (Some e) fl next r p a h =

@@ -1,6 +1,6 @@
 -- How what holds of an answer goes through after, and_then and looked_up.
 use Rattle.std.proofs.Common.{ℕ, ◌≡◌, ◌+◌, Option, Some, None, refl, ap, subst}
-use Rattle.lk_tree.specs.RuleNo.{RuleNo}
+use Rattle.lk_tree.specs.declared.rule.Rule.{Rule}
 use Rattle.lk_rulebook.specs.Place.{Entry}
 use Rattle.lk_plain.specs.Answer.{Outcome, answered, refused, spent, after, and_then, looked_up, later, IfAnswered}
 
@@ -18,7 +18,7 @@ if_and_then Q P (answered v c t) next q h = if_after P c t (next v c) (h v c t q
 if_and_then Q P (refused r) next q h = tt
 if_and_then Q P spent next q h = tt
 
-pub if_found : {A : Type 0} (P : A → ℕ → Option ℕ → Type 0) (r : RuleNo) (m : Option Entry) (n : ℕ) (f : Option RuleNo) (next : Entry → Outcome A) →
+pub if_found : {A : Type 0} (P : A → ℕ → Option ℕ → Type 0) (r : Rule) (m : Option Entry) (n : ℕ) (f : Option Rule) (next : Entry → Outcome A) →
     ((e : Entry) → m ≡ Some e → IfAnswered (next e) (λ v d u. P v (0 + d) (later (Some n) u))) →
     IfAnswered (looked_up r m n f next) P
 if_found P r None n f next h = tt
@@ -35,12 +35,12 @@ and_then_same (answered v c t) f g h = ap (after c t) (h v c)
 and_then_same (refused r) f g h = refl
 and_then_same spent f g h = refl
 
-pub found_same : {A : Type 0} (r : RuleNo) (m : Option Entry) (n : ℕ) (fl : Option RuleNo) (f g : Entry → Outcome A) → ((e : Entry) → f e ≡ g e) → looked_up r m n fl f ≡ looked_up r m n fl g
+pub found_same : {A : Type 0} (r : Rule) (m : Option Entry) (n : ℕ) (fl : Option Rule) (f g : Entry → Outcome A) → ((e : Entry) → f e ≡ g e) → looked_up r m n fl f ≡ looked_up r m n fl g
 found_same r None n fl f g h = refl
 found_same r (Some e) n fl f g h = ap (after 0 (Some n)) (h e)
 
 -- an entry that is there
-pub found_there : {A : Type 0} (r : RuleNo) (m : Option Entry) (n : ℕ) (fl : Option RuleNo) (e : Entry) (next : Entry → Outcome A) →
+pub found_there : {A : Type 0} (r : Rule) (m : Option Entry) (n : ℕ) (fl : Option Rule) (e : Entry) (next : Entry → Outcome A) →
     m ≡ Some e → looked_up r m n fl next ≡ after 0 (Some n) (next e)
 found_there r m n fl e next there = rw there refl
 

@@ -1,12 +1,12 @@
--- A stage of a sound table is sound, and what it answers the table answers.
+-- A part of a sound table is sound, and what it answers the table answers.
 use Rattle.std.proofs.Common.{ℕ, zero, suc, ◌≡◌, ◌-◌, Bool, true, false, Option, Some, None, refl, ap, if◌then◌else◌}
-use Rattle.lk_tree.specs.RuleNo.{RuleNo}
+use Rattle.lk_tree.specs.declared.rule.Rule.{Rule}
 use Rattle.lk_rulebook.specs.Place.{Place, Entry}
 use Rattle.lk_plain.specs.Query.{Query, AnswerTo}
 use Rattle.lk_plain.specs.Program.{Program, done, refuse, ask, look, Table, ◌>>=◌}
 use Rattle.lk_plain.specs.Answer.{Outcome, answered, refused, spent, after, and_then, looked_up, IfAnswered, outcome_of, answer_to_depth, plain_answer}
 use Rattle.lk_plain.specs.Sound.{IsJustified, IsSound, IsSoundTable}
-use Rattle.lk_plain.specs.Parts.{restricted, IsPart, stops, ends, asks, looks, IsStageOf}
+use Rattle.lk_plain.specs.Parts.{restricted, IsPart, stops, ends, asks, looks, IsPartOf}
 
 -- each program is a part of itself
 pub part_itself : {A : Type 0} (p : Program A) → IsPart p p
@@ -22,10 +22,10 @@ part_bind _ _ k l (ends {v = v}) h = h v
 part_bind _ _ k l (asks {k = f} {whole = g} i) h = asks (λ v. part_bind (f v) (g v) k l (i v) h)
 part_bind _ _ k l (looks {k = f} {whole = g} i) h = looks (λ e. part_bind (f e) (g e) k l (i e) h)
 
-pub part_restricted : (built : Query → Bool) (r : RuleNo) (stage table : Table) → IsStageOf stage table → IsStageOf (restricted built r stage) table
-part_restricted built r stage table h q = go (built q)
+pub part_restricted : (built : Query → Bool) (r : Rule) (part table : Table) → IsPartOf part table → IsPartOf (restricted built r part) table
+part_restricted built r part table h q = go (built q)
   where
-    go : (b : Bool) → IsPart (if b then stage q else refuse r) (table q)
+    go : (b : Bool) → IsPart (if b then part q else refuse r) (table q)
     go true = h q
     go false = stops
 
@@ -36,11 +36,11 @@ sound_part w _ _ P ends s = s
 sound_part w _ _ P (asks {k = k} {whole = l} h) s = (s.0, λ v m. sound_part w (k v) (l v) P (h v) (s.1 v m))
 sound_part w _ _ P (looks {k = k} {whole = l} h) s = λ e m. sound_part w (k e) (l e) P (h e) (s e m)
 
-pub sound_stage : (stage table : Table) → IsStageOf stage table → IsSoundTable table → IsSoundTable stage
-sound_stage stage table h s w ok q a = sound_part w (stage q) (table q) (IsJustified w q) (h q) (s w ok q a)
+pub sound_part_of : (part table : Table) → IsPartOf part table → IsSoundTable table → IsSoundTable part
+sound_part_of part table h s w ok q a = sound_part w (part q) (table q) (IsJustified w q) (h q) (s w ok q a)
 
-pub sound_restricted : (built : Query → Bool) (r : RuleNo) (table : Table) → IsSoundTable table → IsSoundTable (restricted built r table)
-sound_restricted built r table s = sound_stage (restricted built r table) table (part_restricted built r table table (λ q. part_itself (table q))) s
+pub sound_restricted : (built : Query → Bool) (r : Rule) (table : Table) → IsSoundTable table → IsSoundTable (restricted built r table)
+sound_restricted built r table s = sound_part_of (restricted built r table) table (part_restricted built r table table (λ q. part_itself (table q))) s
 
 -- what o answers o' answers too
 abbrev pub Gives : {A : Type 0} → Outcome A → Outcome A → Type 0
@@ -56,7 +56,7 @@ gives_then (answered v c t) o' k l h g = rw h (gives_after c t (k v c) (l v c) (
 gives_then (refused r) o' k l h g = tt
 gives_then spent o' k l h g = tt
 
-pub gives_found : {A : Type 0} (r : RuleNo) (m : Option Entry) (n : ℕ) (f : Option RuleNo) (k l : Entry → Outcome A) → ((e : Entry) → Gives (k e) (l e)) → Gives (looked_up r m n f k) (looked_up r m n f l)
+pub gives_found : {A : Type 0} (r : Rule) (m : Option Entry) (n : ℕ) (f : Option Rule) (k l : Entry → Outcome A) → ((e : Entry) → Gives (k e) (l e)) → Gives (looked_up r m n f k) (looked_up r m n f l)
 gives_found r None n f k l g = tt
 gives_found r (Some e) n f k l g = gives_after 0 (Some n) (k e) (l e) (g e)
 
@@ -69,13 +69,13 @@ run_gives w f g h _ _ b (asks {q = q} {k = k} {whole = l} i) =
 run_gives w f g h _ _ b (looks {r = r} {c = c} {k = k} {whole = l} i) =
     gives_found r (w.means c) (w.origin c) (w.flaw c) (λ e. outcome_of w f b (k e)) (λ e. outcome_of w g b (l e)) (λ e. run_gives w f g h (k e) (l e) b (i e))
 
-answer_gives : (stage table : Table) → IsStageOf stage table → (w : Place) (depth : ℕ) (q : Query) (b : ℕ) → Gives (answer_to_depth stage w depth q b) (answer_to_depth table w depth q b)
+answer_gives : (part table : Table) → IsPartOf part table → (w : Place) (depth : ℕ) (q : Query) (b : ℕ) → Gives (answer_to_depth part w depth q b) (answer_to_depth table w depth q b)
 unfolding answer_to_depth
-answer_gives stage table h w zero q b = tt
-answer_gives stage table h w (suc depth) q zero = tt
-answer_gives stage table h w (suc depth) q (suc b) =
-    gives_after 1 None (outcome_of w (answer_to_depth stage w depth) b (stage q)) (outcome_of w (answer_to_depth table w depth) b (table q))
-    (run_gives w (answer_to_depth stage w depth) (answer_to_depth table w depth) (λ x i. answer_gives stage table h w depth x i) (stage q) (table q) b (h q))
+answer_gives part table h w zero q b = tt
+answer_gives part table h w (suc depth) q zero = tt
+answer_gives part table h w (suc depth) q (suc b) =
+    gives_after 1 None (outcome_of w (answer_to_depth part w depth) b (part q)) (outcome_of w (answer_to_depth table w depth) b (table q))
+    (run_gives w (answer_to_depth part w depth) (answer_to_depth table w depth) (λ x i. answer_gives part table h w depth x i) (part q) (table q) b (h q))
 
-pub ans_gives : (stage table : Table) → IsStageOf stage table → (w : Place) (q : Query) (b : ℕ) → Gives (plain_answer stage w q b) (plain_answer table w q b)
-ans_gives stage table h w q b = answer_gives stage table h w b q b
+pub ans_gives : (part table : Table) → IsPartOf part table → (w : Place) (q : Query) (b : ℕ) → Gives (plain_answer part w q b) (plain_answer table w q b)
+ans_gives part table h w q b = answer_gives part table h w b q b

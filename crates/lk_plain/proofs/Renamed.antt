@@ -1,7 +1,7 @@
 -- Places that give the same contents for each name that may be read give one outcome, but for the units looked at.
 use Rattle.std.proofs.Common.{ℕ, zero, suc, ◌≡◌, ◌+◌, ◌-◌, Option, Some, None, refl, ap}
 use Rattle.lk_tree.specs.Tree.{Name}
-use Rattle.lk_tree.specs.RuleNo.{RuleNo}
+use Rattle.lk_tree.specs.declared.rule.Rule.{Rule}
 use Rattle.lk_rulebook.specs.Place.{Place, Entry}
 use Rattle.lk_plain.specs.Query.{Query, AnswerTo}
 use Rattle.lk_plain.specs.Program.{Program, done, refuse, ask, look}
@@ -60,7 +60,7 @@ alike_then R Q (refused n) spent f g h k = absurd h
 alike_then R Q spent (answered v c t) f g h k = absurd h
 alike_then R Q spent (refused n) f g h k = absurd h
 
-pub alike_found : {A : Type 0} (Q : A → Type 0) (n : RuleNo) (m m' : Option Entry) (i j : ℕ) (f f' : Option RuleNo) (x y : Entry → Outcome A) → m ≡ m' → f ≡ f' →
+pub alike_found : {A : Type 0} (Q : A → Type 0) (n : Rule) (m m' : Option Entry) (i j : ℕ) (f f' : Option Rule) (x y : Entry → Outcome A) → m ≡ m' → f ≡ f' →
     ((e : Entry) → m ≡ Some e → Alike Q (x e) (y e)) → Alike Q (looked_up n m i f x) (looked_up n m' j f' y)
 alike_found Q n None m' i j f f' x y em ef h = rw (← em, ← ef) refl
 alike_found Q n (Some e) m' i j f f' x y em ef h = rw (← em) (alike_after Q 0 (Some i) (Some j) (x e) (y e) (h e refl))

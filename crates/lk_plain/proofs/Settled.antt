@@ -1,6 +1,6 @@
 -- An outcome but spent is the same under each greater budget.
 use Rattle.std.proofs.Common.{ℕ, zero, suc, ◌≡◌, ◌-◌, ◌⊎◌, inl, inr, Option, Some, None, refl, ap, ◌∙◌, arith}
-use Rattle.lk_tree.specs.RuleNo.{RuleNo}
+use Rattle.lk_tree.specs.declared.rule.Rule.{Rule}
 use Rattle.lk_rulebook.specs.Place.{Place, Entry}
 use Rattle.lk_plain.specs.Query.{Query, AnswerTo}
 use Rattle.lk_plain.specs.Program.{Program, done, refuse, ask, look}
@@ -29,7 +29,7 @@ settled_then {A} {B} o o' f g (inr e) h = moved (go o)
     moved (inl x) = inl x
     moved (inr x) = inr (ap (λ y. and_then y g) e ∙ x)
 
-pub settled_found : {A : Type 0} (r : RuleNo) (m : Option Entry) (unit : ℕ) (flaw : Option RuleNo) (f g : Entry → Outcome A) → ((e : Entry) → Settles (f e) (g e)) → Settles (looked_up r m unit flaw f) (looked_up r m unit flaw g)
+pub settled_found : {A : Type 0} (r : Rule) (m : Option Entry) (unit : ℕ) (flaw : Option Rule) (f g : Entry → Outcome A) → ((e : Entry) → Settles (f e) (g e)) → Settles (looked_up r m unit flaw f) (looked_up r m unit flaw g)
 settled_found r None unit flaw f g h = inr refl
 settled_found r (Some e) unit flaw f g h = settled_after 0 (Some unit) (f e) (g e) (h e)
 

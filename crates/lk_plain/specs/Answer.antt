@@ -1,6 +1,7 @@
 -- The plain answer of a question at a place under a budget.
 use Rattle.std.specs.Prelude.{ℕ, zero, suc, ◌+◌, ◌-◌, Option, Some, None}
-use Rattle.lk_tree.specs.RuleNo.{RuleNo, quot_shape}
+use Rattle.lk_tree.specs.declared.rule.Rule.{Rule}
+use Rattle.lk_tree.specs.declared.rule.Rule.TheVariants.{QuotShape}
 use Rattle.lk_rulebook.specs.Place.{Place, Entry}
 pub use Rattle.lk_rulebook.specs.Units.{later}
 use Rattle.lk_plain.specs.Query.{Query, AnswerTo}
@@ -9,7 +10,7 @@ use Rattle.lk_plain.specs.Program.{Program, done, refuse, ask, look, Table}
 -- answered v c t: the value, its cost, and the greatest number of a unit that was looked at
 pub data Outcome (A : Type 0) : Type 0 where
   answered : A → ℕ → Option ℕ → Outcome A
-  refused : RuleNo → Outcome A
+  refused : Rule → Outcome A
   spent : Outcome A
 
 -- the outcome after c was paid and t was looked at
@@ -25,13 +26,13 @@ and_then spent next = spent
 
 -- why a look-up is refused: the flaw's rule where the giving unit has a flaw, else r; a look-up for QuotShape says QuotShape in
 -- both cases
-abbrev pub refusal : RuleNo → Option RuleNo → RuleNo
+abbrev pub refusal : Rule → Option Rule → Rule
 refusal r None = r
-refusal quot_shape (Some f) = quot_shape
+refusal QuotShape (Some f) = QuotShape
 refusal r (Some f) = f
 
 -- what a look-up gives
-abbrev pub looked_up : {A : Type 0} → RuleNo → Option Entry → ℕ → Option RuleNo → (Entry → Outcome A) → Outcome A
+abbrev pub looked_up : {A : Type 0} → Rule → Option Entry → ℕ → Option Rule → (Entry → Outcome A) → Outcome A
 looked_up r None unit flaw next = refused (refusal r flaw)
 looked_up r (Some e) unit flaw next = after 0 (Some unit) (next e)
 

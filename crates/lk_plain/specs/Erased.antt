@@ -2,7 +2,8 @@
 -- the last unit that was looked at for it: the greatest number, where there is one.
 use Rattle.std.specs.Prelude.{◌≡◌, ◌<◌, ◌≤◌, ℕ, ◌-◌, Bool, Option, Some, None}
 use Rattle.lk_tree.specs.Tree.{Tree}
-use Rattle.lk_tree.specs.RuleNo.{RuleNo, loose_variable}
+use Rattle.lk_tree.specs.declared.rule.Rule.{Rule}
+use Rattle.lk_tree.specs.declared.rule.Rule.TheVariants.{LooseVariable}
 use Rattle.lk_rulebook.specs.Place.{Place, Entry}
 use Rattle.lk_plain.specs.Query.{Query, AnswerTo, core, whnf, infer, same}
 use Rattle.lk_plain.specs.Program.{Program, Table, done, refuse, ask, look}
@@ -23,16 +24,16 @@ value_of (same a b) v = truth v
 pub data Steps : Type 0 where
   asks : Option ℕ → Query → (Value → Steps) → Steps
   gives : Option ℕ → Value → Steps
-  refuses : RuleNo → Steps
+  refuses : Rule → Steps
 
 -- an answer of the other kind never comes
 abbrev pub with_tree : (Tree → Steps) → Value → Steps
 with_tree k (a_tree t) = k t
-with_tree k (truth b) = refuses loose_variable
+with_tree k (truth b) = refuses LooseVariable
 
 abbrev pub with_truth : (Bool → Steps) → Value → Steps
 with_truth k (truth b) = k b
-with_truth k (a_tree t) = refuses loose_variable
+with_truth k (a_tree t) = refuses LooseVariable
 
 abbrev pub with_answer : (q : Query) → (AnswerTo q → Steps) → Value → Steps
 with_answer (core e) k = with_tree k
@@ -41,7 +42,7 @@ with_answer (infer e) k = with_tree k
 with_answer (same a b) k = with_truth k
 
 -- a look-up at this unit, after those that end at t
-abbrev pub looked : RuleNo → Option ℕ → Option Entry → ℕ → Option RuleNo → (Option ℕ → Entry → Steps) → Steps
+abbrev pub looked : Rule → Option ℕ → Option Entry → ℕ → Option Rule → (Option ℕ → Entry → Steps) → Steps
 looked r t None unit flaw next = refuses (refusal r flaw)
 looked r t (Some e) unit flaw next = next (later t (Some unit)) e
 
@@ -55,7 +56,7 @@ erased w f t (look r c k) = looked r t (w.means c) (w.origin c) (w.flaw c) (λ u
 -- an answer with what is left of the budget and the last unit that was looked at, a refusal, or the budget is used up
 pub data Out : Type 0 where
   finished : Value → ℕ → Option ℕ → Out
-  stopped : RuleNo → Out
+  stopped : Rule → Out
   used_up : Out
 
 -- the outcome after units were looked at of which t is the last

@@ -1,15 +1,15 @@
 -- What a question does once it is opened: it asks, looks names up, and is done or refused.
 use Rattle.lk_tree.specs.Tree.{Name}
-use Rattle.lk_tree.specs.RuleNo.{RuleNo}
+use Rattle.lk_tree.specs.declared.rule.Rule.{Rule}
 use Rattle.lk_rulebook.specs.Place.{Entry}
 use Rattle.lk_plain.specs.Query.{Query, AnswerTo}
 
 -- look r c k: c is looked up, and where nothing gives it the outcome is r
 pub data Program (A : Type 0) : Type 0 where
   done : A → Program A
-  refuse : RuleNo → Program A
+  refuse : Rule → Program A
   ask : (q : Query) → (AnswerTo q → Program A) → Program A
-  look : RuleNo → Name → (Entry → Program A) → Program A
+  look : Rule → Name → (Entry → Program A) → Program A
 
 infixl 20 ◌>>=◌
 -- first p, then k of what it gave

@@ -5,12 +5,12 @@
 ghost use Rattle.std.specs.Prelude.{◌≡◌, ℕ, suc, Bool, None};
 ghost use Rattle.lk_plain.specs.Answer.{answered, spent, after, outcome_of, plain_answer, IfAnswered};
 ghost use Rattle.lk_plain.specs.Laws.{IsSteady, IsBelow, Keeps, GivesTheSame, SameOutcome, IsSettled};
-ghost use Rattle.lk_plain.specs.Parts.{restricted, IsStageOf};
+ghost use Rattle.lk_plain.specs.Parts.{restricted, IsPartOf};
 ghost use Rattle.lk_plain.specs.Program.{Table};
 ghost use Rattle.lk_plain.specs.Query.{Query};
 ghost use Rattle.lk_plain.specs.Sound.{IsSoundTable};
 ghost use Rattle.lk_rulebook.specs.Place.{Place};
-ghost use Rattle.lk_tree.specs.RuleNo.{RuleNo};
+ghost use Rattle.lk_tree.specs.declared.rule.Rule.{Rule};
 
 /// With nothing left no question is answered. With one more than b left it is opened, and what it asks is answered with what is
 /// left.
@@ -46,15 +46,15 @@ pub fn plain_answers_agree()
         (λ v c t. IsBelow t n → plain_answer table other q b ≡ answered v c t) }
 {}
 
-/// What a stage answers its table answers too, at the same cost, and a stage of a sound table is sound. A table is a stage of
-/// itself, and a stage is one still where it is restricted to some questions.
-pub fn stages_are_sound()
-    ensures sound { (stage table : Table) → IsStageOf stage table → IsSoundTable table
-        → IsSoundTable stage }
-    ensures agree { (stage table : Table) (w : Place) (q : Query) (b : ℕ) → IsStageOf stage table
-        → IfAnswered (plain_answer stage w q b)
+/// What a part answers its table answers too, at the same cost, and a part of a sound table is sound. A table is a part of
+/// itself, and a part is one still where it is restricted to some questions.
+pub fn parts_are_sound()
+    ensures sound { (part table : Table) → IsPartOf part table → IsSoundTable table
+        → IsSoundTable part }
+    ensures agree { (part table : Table) (w : Place) (q : Query) (b : ℕ) → IsPartOf part table
+        → IfAnswered (plain_answer part w q b)
         (λ v c t. plain_answer table w q b ≡ answered v c t) }
-    ensures itself { (table : Table) → IsStageOf table table }
-    ensures restricts { (built : Query → Bool) (r : RuleNo) (stage table : Table)
-        → IsStageOf stage table → IsStageOf (restricted built r stage) table }
+    ensures itself { (table : Table) → IsPartOf table table }
+    ensures restricts { (built : Query → Bool) (r : Rule) (part table : Table)
+        → IsPartOf part table → IsPartOf (restricted built r part) table }
 {}

@@ -3,7 +3,7 @@ use Rattle.std.proofs.Common.{◌≡◌, ℕ, zero, suc, Bool, true, false, ◌&
 use Rattle.std.specs.Prelude.{take, drop, slice_get}
 use Rattle.lk_tree.specs.Tree.{Name, Level, Tree, var, sort, const, app, lam, pi, let_in, proj, lit, wide, str, local}
 use Rattle.lk_tree.specs.Spine.{head, args}
-use Rattle.lk_tree.specs.RuleNo.{builtin_shape}
+use Rattle.lk_tree.specs.declared.rule.Rule.TheVariants.{BuiltinShape}
 use Rattle.lk_rulebook.specs.Place.{Entry, Kind, type_names, Recursor, an_axiom, a_def, a_thm, an_opaque, a_quot, a_type, a_ctor, a_rec}
 use Rattle.lk_rulebook.specs.Structures.{has_plain_fields_after, before_major}
 use Rattle.lk_plain.specs.Program.{Program, done, refuse, asked, ◌>>=◌}
@@ -29,7 +29,7 @@ structure_part : (m : Tree) (k : Option CtorApp) → IsPart (no_structure k) (to
 structure_part m None = ends
 structure_part m (Some k) = go (may_be_structure k) refl
   where
-    go : (b : Bool) → may_be_structure k ≡ b → IsPart (if b then refuse builtin_shape else done None) (to_ctor_when_structure m (Some k))
+    go : (b : Bool) → may_be_structure k ≡ b → IsPart (if b then refuse BuiltinShape else done None) (to_ctor_when_structure m (Some k))
     go true e = stops
     go false e = rw (no_structure_none k e) ends
 

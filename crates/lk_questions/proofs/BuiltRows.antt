@@ -2,7 +2,7 @@
 use Rattle.std.proofs.Common.{◌≡◌, Bool, true, false, List, refl, ap, if◌then◌else◌}
 use Rattle.lk_tree.specs.Tree.{Name, Level, Tree, var, sort, const, app, lam, pi, let_in, proj, lit, wide, str, local}
 use Rattle.lk_tree.specs.Spine.{head, args}
-use Rattle.lk_tree.specs.RuleNo.{builtin_shape}
+use Rattle.lk_tree.specs.declared.rule.Rule.TheVariants.{BuiltinShape}
 use Rattle.lk_rulebook.specs.Place.{Entry}
 use Rattle.lk_plain.specs.Query.{same}
 use Rattle.lk_plain.specs.Program.{Program, done, refuse, ◌>>=◌}
@@ -23,7 +23,7 @@ use Rattle.lk_questions.proofs.BuiltIotas.{constant_part}
 part_where : {A : Type 0} (k whole : Entry → Program A) (g : Entry) → (is_built_kind g.kind ≡ true → IsPart (k g) (whole g)) → IsPart (where_built k g) (whole g)
 part_where k whole g part = go (is_built_kind g.kind) refl
   where
-    go : (b : Bool) → is_built_kind g.kind ≡ b → IsPart (if b then k g else refuse builtin_shape) (whole g)
+    go : (b : Bool) → is_built_kind g.kind ≡ b → IsPart (if b then k g else refuse BuiltinShape) (whole g)
     go true e = part e
     go false e = stops
 
@@ -63,7 +63,7 @@ part_unfolded : (c : Tree) (f : Name) (ls : List Level) (g : Entry) → IsPart (
 unfolding whole_constant
 part_unfolded c f ls g = go (may_compute c f g.kind) refl
   where
-    go : (o : Bool) → may_compute c f g.kind ≡ o → IsPart (if o then refuse builtin_shape else unfolded g (const f ls) c (value_of g.kind)) (whole_constant c f ls g)
+    go : (o : Bool) → may_compute c f g.kind ≡ o → IsPart (if o then refuse BuiltinShape else unfolded g (const f ls) c (value_of g.kind)) (whole_constant c f ls g)
     go true e = stops
     go false e = rw (no_literal_step c f ls g e) (part_itself _)
 

@@ -5,7 +5,7 @@ use Rattle.lk_tree.specs.Decide.{list_discrete, both_discrete}
 use Rattle.lk_tree.specs.Bind.{open_at, close_at, bound}
 use Rattle.lk_tree.specs.Levels.{put_levels, put_in_level, level_for}
 use Rattle.lk_tree.specs.LevelTest.{level_le}
-use Rattle.lk_tree.specs.RuleNo.{level_width}
+use Rattle.lk_tree.specs.declared.rule.Rule.TheVariants.{LevelWidth}
 use Rattle.lk_tree.specs.Spine.{head, args}
 use Rattle.lk_rulebook.specs.Place.{Entry, Block, BlockType, Ctor, RecRule, a_def, abbreviation}
 use Rattle.lk_rulebook.specs.Units.{place_of, LibraryUnit, of_decl, of_block, as_axiom}
@@ -75,7 +75,7 @@ abbrev wide_of : ℕ → Level
 wide_of zero = zero_level
 wide_of (suc n) = imax_level (wide_of n) (param (number n ∷ []))
 
-wide_refused : levels_equal complete_test (wide_of 21 ∷ []) (zero_level ∷ []) ≡ refuse level_width
+wide_refused : levels_equal complete_test (wide_of 21 ∷ []) (zero_level ∷ []) ≡ refuse LevelWidth
 unfolding level_le name_discrete part_discrete list_discrete both_discrete ℕ_discrete
 wide_refused = refl
 
@@ -89,7 +89,7 @@ abbrev unfolds_at : Level → Unfolding
 unfolds_at l = record { name = v; levels = l ∷ []; entry = entry; value = W_; rank = highest }
 
 -- unfolding compares levels before it counts arguments
-levels_first : same_by_arguments (app (const v (wide_of 21 ∷ [])) W_) (const v (zero_level ∷ [])) (unfolds_at (wide_of 21)) (unfolds_at zero_level) ≡ refuse level_width
+levels_first : same_by_arguments (app (const v (wide_of 21 ∷ [])) W_) (const v (zero_level ∷ [])) (unfolds_at (wide_of 21)) (unfolds_at zero_level) ≡ refuse LevelWidth
 unfolding level_le name_discrete part_discrete list_discrete both_discrete ℕ_discrete
 levels_first = refl
 

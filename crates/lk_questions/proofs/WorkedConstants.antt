@@ -7,7 +7,7 @@ use Rattle.lk_tree.specs.Bind.{open_at, close_at, bound}
 use Rattle.lk_tree.specs.Levels.{put_levels, put_in_level, level_for}
 use Rattle.lk_tree.specs.LevelTest.{level_le}
 use Rattle.lk_tree.specs.Spine.{head, args}
-use Rattle.lk_tree.specs.RuleNo.{unknown_constant, level_count, loose_variable, not_a_function, argument_type}
+use Rattle.lk_tree.specs.declared.rule.Rule.TheVariants.{UnknownConstant, LevelCount, LooseVariable, NotAFunction, ArgumentType}
 use Rattle.lk_rulebook.specs.Place.{Place, regular}
 use Rattle.lk_rulebook.specs.Names.{word, named}
 use Rattle.lk_rulebook.specs.Quotients.{prop}
@@ -111,59 +111,59 @@ applied_short_whole : plain_answer steps place (infer (app f a)) 5 ≡ spent
 unfolding answer_to_depth open_at close_at bound head args put_levels put_in_level level_for level_le tree_discrete level_discrete name_discrete part_discrete list_discrete both_discrete ℕ_discrete
 applied_short_whole = refl
 
-wrong_argument : plain_answer rows place (infer (app f b)) 100 ≡ refused argument_type
+wrong_argument : plain_answer rows place (infer (app f b)) 100 ≡ refused ArgumentType
 unfolding answer_to_depth open_at close_at bound head args put_levels put_in_level level_for level_le tree_discrete level_discrete name_discrete part_discrete list_discrete both_discrete ℕ_discrete
 wrong_argument = refl
 
-wrong_argument_whole : plain_answer steps place (infer (app f b)) 100 ≡ refused argument_type
+wrong_argument_whole : plain_answer steps place (infer (app f b)) 100 ≡ refused ArgumentType
 unfolding answer_to_depth open_at close_at bound head args put_levels put_in_level level_for level_le tree_discrete level_discrete name_discrete part_discrete list_discrete both_discrete ℕ_discrete
 wrong_argument_whole = refl
 
-no_function : plain_answer rows place (infer (app a b)) 100 ≡ refused not_a_function
+no_function : plain_answer rows place (infer (app a b)) 100 ≡ refused NotAFunction
 unfolding answer_to_depth open_at close_at bound head args put_levels put_in_level level_for level_le tree_discrete level_discrete name_discrete part_discrete list_discrete both_discrete ℕ_discrete
 no_function = refl
 
-no_function_whole : plain_answer steps place (infer (app a b)) 100 ≡ refused not_a_function
+no_function_whole : plain_answer steps place (infer (app a b)) 100 ≡ refused NotAFunction
 unfolding answer_to_depth open_at close_at bound head args put_levels put_in_level level_for level_le tree_discrete level_discrete name_discrete part_discrete list_discrete both_discrete ℕ_discrete
 no_function_whole = refl
 
-unknown : plain_answer rows place (infer (named (word "x"))) 100 ≡ refused unknown_constant
+unknown : plain_answer rows place (infer (named (word "x"))) 100 ≡ refused UnknownConstant
 unfolding answer_to_depth open_at close_at bound head args put_levels put_in_level level_for level_le tree_discrete level_discrete name_discrete part_discrete list_discrete both_discrete ℕ_discrete
 unknown = refl
 
-unknown_whole : plain_answer steps place (infer (named (word "x"))) 100 ≡ refused unknown_constant
+unknown_whole : plain_answer steps place (infer (named (word "x"))) 100 ≡ refused UnknownConstant
 unfolding answer_to_depth open_at close_at bound head args put_levels put_in_level level_for level_le tree_discrete level_discrete name_discrete part_discrete list_discrete both_discrete ℕ_discrete
 unknown_whole = refl
 
-flawed : plain_answer rows place (infer (named (word "w"))) 100 ≡ refused loose_variable
+flawed : plain_answer rows place (infer (named (word "w"))) 100 ≡ refused LooseVariable
 unfolding answer_to_depth open_at close_at bound head args put_levels put_in_level level_for level_le tree_discrete level_discrete name_discrete part_discrete list_discrete both_discrete ℕ_discrete
 flawed = refl
 
-flawed_whole : plain_answer steps place (infer (named (word "w"))) 100 ≡ refused loose_variable
+flawed_whole : plain_answer steps place (infer (named (word "w"))) 100 ≡ refused LooseVariable
 unfolding answer_to_depth open_at close_at bound head args put_levels put_in_level level_for level_le tree_discrete level_discrete name_discrete part_discrete list_discrete both_discrete ℕ_discrete
 flawed_whole = refl
 
-flawed_head : plain_answer rows place (core (app (named (word "w")) a)) 100 ≡ refused loose_variable
+flawed_head : plain_answer rows place (core (app (named (word "w")) a)) 100 ≡ refused LooseVariable
 unfolding answer_to_depth open_at close_at bound head args put_levels put_in_level level_for level_le tree_discrete level_discrete name_discrete part_discrete list_discrete both_discrete ℕ_discrete
 flawed_head = refl
 
-flawed_head_whole : plain_answer steps place (core (app (named (word "w")) a)) 100 ≡ refused loose_variable
+flawed_head_whole : plain_answer steps place (core (app (named (word "w")) a)) 100 ≡ refused LooseVariable
 unfolding answer_to_depth open_at close_at bound head args put_levels put_in_level level_for level_le tree_discrete level_discrete name_discrete part_discrete list_discrete both_discrete ℕ_discrete
 flawed_head_whole = refl
 
-no_levels : plain_answer rows place (infer (const (word "F") [])) 100 ≡ refused level_count
+no_levels : plain_answer rows place (infer (const (word "F") [])) 100 ≡ refused LevelCount
 unfolding answer_to_depth open_at close_at bound head args put_levels put_in_level level_for level_le tree_discrete level_discrete name_discrete part_discrete list_discrete both_discrete ℕ_discrete
 no_levels = refl
 
-no_levels_whole : plain_answer steps place (infer (const (word "F") [])) 100 ≡ refused level_count
+no_levels_whole : plain_answer steps place (infer (const (word "F") [])) 100 ≡ refused LevelCount
 unfolding answer_to_depth open_at close_at bound head args put_levels put_in_level level_for level_le tree_discrete level_discrete name_discrete part_discrete list_discrete both_discrete ℕ_discrete
 no_levels_whole = refl
 
-two_levels : plain_answer rows place (infer (const (word "F") (one ∷ one ∷ []))) 100 ≡ refused level_count
+two_levels : plain_answer rows place (infer (const (word "F") (one ∷ one ∷ []))) 100 ≡ refused LevelCount
 unfolding answer_to_depth open_at close_at bound head args put_levels put_in_level level_for level_le tree_discrete level_discrete name_discrete part_discrete list_discrete both_discrete ℕ_discrete
 two_levels = refl
 
-two_levels_whole : plain_answer steps place (infer (const (word "F") (one ∷ one ∷ []))) 100 ≡ refused level_count
+two_levels_whole : plain_answer steps place (infer (const (word "F") (one ∷ one ∷ []))) 100 ≡ refused LevelCount
 unfolding answer_to_depth open_at close_at bound head args put_levels put_in_level level_for level_le tree_discrete level_discrete name_discrete part_discrete list_discrete both_discrete ℕ_discrete
 two_levels_whole = refl
 
@@ -346,10 +346,10 @@ theorem_applied_twice_whole : outcome_of place (plain_answer steps place) 25 (un
 unfolding answer_to_depth open_at close_at bound head args put_levels put_in_level level_for level_le tree_discrete level_discrete name_discrete part_discrete list_discrete both_discrete ℕ_discrete
 theorem_applied_twice_whole = refl
 
-theorem_refused : outcome_of place (plain_answer rows place) 100 (unit_steps (theorem_of Q (app t a))) ≡ refused argument_type
+theorem_refused : outcome_of place (plain_answer rows place) 100 (unit_steps (theorem_of Q (app t a))) ≡ refused ArgumentType
 unfolding answer_to_depth open_at close_at bound head args put_levels put_in_level level_for level_le tree_discrete level_discrete name_discrete part_discrete list_discrete both_discrete ℕ_discrete
 theorem_refused = refl
 
-theorem_refused_whole : outcome_of place (plain_answer steps place) 100 (unit_steps (theorem_of Q (app t a))) ≡ refused argument_type
+theorem_refused_whole : outcome_of place (plain_answer steps place) 100 (unit_steps (theorem_of Q (app t a))) ≡ refused ArgumentType
 unfolding answer_to_depth open_at close_at bound head args put_levels put_in_level level_for level_le tree_discrete level_discrete name_discrete part_discrete list_discrete both_discrete ℕ_discrete
 theorem_refused_whole = refl

@@ -7,7 +7,7 @@ use Rattle.lk_tree.specs.Bind.{open_at, close_at, bound}
 use Rattle.lk_tree.specs.Levels.{put_levels, put_in_level, level_for}
 use Rattle.lk_tree.specs.LevelTest.{level_le}
 use Rattle.lk_tree.specs.Spine.{head, args}
-use Rattle.lk_tree.specs.RuleNo.{level_count, let_type, not_a_sort, value_type, builtin_shape}
+use Rattle.lk_tree.specs.declared.rule.Rule.TheVariants.{LevelCount, NotASort, LetType, ValueType, BuiltinShape}
 use Rattle.lk_rulebook.specs.Place.{Place, opaque_hint, abbreviation, regular}
 use Rattle.lk_rulebook.specs.Names.{word, dotted, named}
 use Rattle.lk_rulebook.specs.Quotients.{prop}
@@ -126,19 +126,19 @@ value_at_levels_whole : plain_answer steps place (whnf (g (succ_level zero_level
 unfolding answer_to_depth open_at close_at bound head args put_levels put_in_level level_for level_le tree_discrete level_discrete name_discrete part_discrete list_discrete both_discrete ℕ_discrete
 value_at_levels_whole = refl
 
-value_at_no_levels : plain_answer rows place (whnf (const (word "g") [])) 100 ≡ refused level_count
+value_at_no_levels : plain_answer rows place (whnf (const (word "g") [])) 100 ≡ refused LevelCount
 unfolding answer_to_depth open_at close_at bound head args put_levels put_in_level level_for level_le tree_discrete level_discrete name_discrete part_discrete list_discrete both_discrete ℕ_discrete
 value_at_no_levels = refl
 
-value_at_no_levels_whole : plain_answer steps place (whnf (const (word "g") [])) 100 ≡ refused level_count
+value_at_no_levels_whole : plain_answer steps place (whnf (const (word "g") [])) 100 ≡ refused LevelCount
 unfolding answer_to_depth open_at close_at bound head args put_levels put_in_level level_for level_le tree_discrete level_discrete name_discrete part_discrete list_discrete both_discrete ℕ_discrete
 value_at_no_levels_whole = refl
 
-type_at_no_levels : plain_answer rows place (infer (const (word "g") [])) 100 ≡ refused level_count
+type_at_no_levels : plain_answer rows place (infer (const (word "g") [])) 100 ≡ refused LevelCount
 unfolding answer_to_depth open_at close_at bound head args put_levels put_in_level level_for level_le tree_discrete level_discrete name_discrete part_discrete list_discrete both_discrete ℕ_discrete
 type_at_no_levels = refl
 
-type_at_no_levels_whole : plain_answer steps place (infer (const (word "g") [])) 100 ≡ refused level_count
+type_at_no_levels_whole : plain_answer steps place (infer (const (word "g") [])) 100 ≡ refused LevelCount
 unfolding answer_to_depth open_at close_at bound head args put_levels put_in_level level_for level_le tree_discrete level_discrete name_discrete part_discrete list_discrete both_discrete ℕ_discrete
 type_at_no_levels_whole = refl
 
@@ -160,7 +160,7 @@ opaque_applied_whole = refl
 
 -- that a def computes numbers is not built yet; with other arguments the table unfolds it
 
-operation_refused : plain_answer rows place (whnf (app (app addition a) a)) 100 ≡ refused builtin_shape
+operation_refused : plain_answer rows place (whnf (app (app addition a) a)) 100 ≡ refused BuiltinShape
 unfolding answer_to_depth open_at close_at bound head args put_levels put_in_level level_for level_le tree_discrete level_discrete name_discrete part_discrete list_discrete both_discrete ℕ_discrete
 operation_refused = refl
 
@@ -202,19 +202,19 @@ let_typed_short_whole : plain_answer steps place (infer (let_in A a (app f (var 
 unfolding answer_to_depth open_at close_at bound head args put_levels put_in_level level_for level_le tree_discrete level_discrete name_discrete part_discrete list_discrete both_discrete ℕ_discrete
 let_typed_short_whole = refl
 
-let_of_another_type : plain_answer rows place (infer (let_in A b (var 0))) 100 ≡ refused let_type
+let_of_another_type : plain_answer rows place (infer (let_in A b (var 0))) 100 ≡ refused LetType
 unfolding answer_to_depth open_at close_at bound head args put_levels put_in_level level_for level_le tree_discrete level_discrete name_discrete part_discrete list_discrete both_discrete ℕ_discrete
 let_of_another_type = refl
 
-let_of_another_type_whole : plain_answer steps place (infer (let_in A b (var 0))) 100 ≡ refused let_type
+let_of_another_type_whole : plain_answer steps place (infer (let_in A b (var 0))) 100 ≡ refused LetType
 unfolding answer_to_depth open_at close_at bound head args put_levels put_in_level level_for level_le tree_discrete level_discrete name_discrete part_discrete list_discrete both_discrete ℕ_discrete
 let_of_another_type_whole = refl
 
-let_of_no_type : plain_answer rows place (infer (let_in a a (var 0))) 100 ≡ refused not_a_sort
+let_of_no_type : plain_answer rows place (infer (let_in a a (var 0))) 100 ≡ refused NotASort
 unfolding answer_to_depth open_at close_at bound head args put_levels put_in_level level_for level_le tree_discrete level_discrete name_discrete part_discrete list_discrete both_discrete ℕ_discrete
 let_of_no_type = refl
 
-let_of_no_type_whole : plain_answer steps place (infer (let_in a a (var 0))) 100 ≡ refused not_a_sort
+let_of_no_type_whole : plain_answer steps place (infer (let_in a a (var 0))) 100 ≡ refused NotASort
 unfolding answer_to_depth open_at close_at bound head args put_levels put_in_level level_for level_le tree_discrete level_discrete name_discrete part_discrete list_discrete both_discrete ℕ_discrete
 let_of_no_type_whole = refl
 
@@ -296,11 +296,11 @@ def_of_a_let_short_whole : outcome_of place (plain_answer steps place) 10 (unit_
 unfolding answer_to_depth open_at close_at bound head args put_levels put_in_level level_for level_le tree_discrete level_discrete name_discrete part_discrete list_discrete both_discrete ℕ_discrete
 def_of_a_let_short_whole = refl
 
-def_of_a_wrong_let : outcome_of place (plain_answer rows place) 100 (unit_steps (record { name = word "c"; levels = []; type = sort (succ_level zero_level); body = as_def opaque_hint (let_in prop prop prop) })) ≡ refused let_type
+def_of_a_wrong_let : outcome_of place (plain_answer rows place) 100 (unit_steps (record { name = word "c"; levels = []; type = sort (succ_level zero_level); body = as_def opaque_hint (let_in prop prop prop) })) ≡ refused LetType
 unfolding answer_to_depth open_at close_at bound head args put_levels put_in_level level_for level_le tree_discrete level_discrete name_discrete part_discrete list_discrete both_discrete ℕ_discrete
 def_of_a_wrong_let = refl
 
-def_of_a_wrong_let_whole : outcome_of place (plain_answer steps place) 100 (unit_steps (record { name = word "c"; levels = []; type = sort (succ_level zero_level); body = as_def opaque_hint (let_in prop prop prop) })) ≡ refused let_type
+def_of_a_wrong_let_whole : outcome_of place (plain_answer steps place) 100 (unit_steps (record { name = word "c"; levels = []; type = sort (succ_level zero_level); body = as_def opaque_hint (let_in prop prop prop) })) ≡ refused LetType
 unfolding answer_to_depth open_at close_at bound head args put_levels put_in_level level_for level_le tree_discrete level_discrete name_discrete part_discrete list_discrete both_discrete ℕ_discrete
 def_of_a_wrong_let_whole = refl
 
@@ -312,18 +312,18 @@ opaque_checked_whole : outcome_of place (plain_answer steps place) 11 (unit_step
 unfolding answer_to_depth open_at close_at bound head args put_levels put_in_level level_for level_le tree_discrete level_discrete name_discrete part_discrete list_discrete both_discrete ℕ_discrete
 opaque_checked_whole = refl
 
-def_of_another_type : outcome_of place (plain_answer rows place) 100 (unit_steps (record { name = word "c"; levels = []; type = prop; body = as_def abbreviation prop })) ≡ refused value_type
+def_of_another_type : outcome_of place (plain_answer rows place) 100 (unit_steps (record { name = word "c"; levels = []; type = prop; body = as_def abbreviation prop })) ≡ refused ValueType
 unfolding answer_to_depth open_at close_at bound head args put_levels put_in_level level_for level_le tree_discrete level_discrete name_discrete part_discrete list_discrete both_discrete ℕ_discrete
 def_of_another_type = refl
 
-def_of_another_type_whole : outcome_of place (plain_answer steps place) 100 (unit_steps (record { name = word "c"; levels = []; type = prop; body = as_def abbreviation prop })) ≡ refused value_type
+def_of_another_type_whole : outcome_of place (plain_answer steps place) 100 (unit_steps (record { name = word "c"; levels = []; type = prop; body = as_def abbreviation prop })) ≡ refused ValueType
 unfolding answer_to_depth open_at close_at bound head args put_levels put_in_level level_for level_le tree_discrete level_discrete name_discrete part_discrete list_discrete both_discrete ℕ_discrete
 def_of_another_type_whole = refl
 
-opaque_of_another_type : outcome_of place (plain_answer rows place) 100 (unit_steps (record { name = word "c"; levels = []; type = prop; body = as_opaque prop })) ≡ refused value_type
+opaque_of_another_type : outcome_of place (plain_answer rows place) 100 (unit_steps (record { name = word "c"; levels = []; type = prop; body = as_opaque prop })) ≡ refused ValueType
 unfolding answer_to_depth open_at close_at bound head args put_levels put_in_level level_for level_le tree_discrete level_discrete name_discrete part_discrete list_discrete both_discrete ℕ_discrete
 opaque_of_another_type = refl
 
-opaque_of_another_type_whole : outcome_of place (plain_answer steps place) 100 (unit_steps (record { name = word "c"; levels = []; type = prop; body = as_opaque prop })) ≡ refused value_type
+opaque_of_another_type_whole : outcome_of place (plain_answer steps place) 100 (unit_steps (record { name = word "c"; levels = []; type = prop; body = as_opaque prop })) ≡ refused ValueType
 unfolding answer_to_depth open_at close_at bound head args put_levels put_in_level level_for level_le tree_discrete level_discrete name_discrete part_discrete list_discrete both_discrete ℕ_discrete
 opaque_of_another_type_whole = refl

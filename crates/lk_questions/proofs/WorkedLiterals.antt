@@ -9,7 +9,7 @@ use Rattle.lk_tree.specs.Bind.{open_at, close_at, bound}
 use Rattle.lk_tree.specs.Levels.{put_levels, put_in_level, level_for}
 use Rattle.lk_tree.specs.LevelTest.{level_le}
 use Rattle.lk_tree.specs.Spine.{head, args}
-use Rattle.lk_tree.specs.RuleNo.{quot_shape}
+use Rattle.lk_tree.specs.declared.rule.Rule.TheVariants.{QuotShape}
 use Rattle.lk_rulebook.specs.Place.{Place, Block, BlockType, Ctor, regular}
 use Rattle.lk_rulebook.specs.Names.{word, dotted, named, nat, nat_zero, nat_succ, string, string_mk, list_nil, list_cons, char, char_of_nat, eq, eq_refl, quot, quot_mk, quot_lift, quot_ind}
 use Rattle.lk_rulebook.specs.Quotients.{prop}
@@ -230,7 +230,7 @@ unfolding answer_to_depth open_at close_at bound head args put_levels put_in_lev
 quot_ind_checked = refl
 
 -- without Eq
-no_eq : outcome_of (place_of units 10 []) (plain_answer steps (place_of units 10 [])) 1000 (unit_steps quot_lift_unit) ≡ refused quot_shape
+no_eq : outcome_of (place_of units 10 []) (plain_answer steps (place_of units 10 [])) 1000 (unit_steps quot_lift_unit) ≡ refused QuotShape
 unfolding answer_to_depth open_at close_at bound head args put_levels put_in_level level_for level_le is_utf8 chars encode_utf8 tree_discrete level_discrete name_discrete part_discrete list_discrete both_discrete ℕ_discrete
 no_eq = refl
 
@@ -240,7 +240,7 @@ flawed = of_decl (record { name = quot; levels = []; type = prop; body = as_quot
     ∷ of_decl (record { name = eq; levels = []; type = var 0; body = as_axiom })
     ∷ []
 
-flawed_eq : outcome_of (place_of flawed 2 []) (plain_answer steps (place_of flawed 2 [])) 1000 (unit_steps quot_lift_unit) ≡ refused quot_shape
+flawed_eq : outcome_of (place_of flawed 2 []) (plain_answer steps (place_of flawed 2 [])) 1000 (unit_steps quot_lift_unit) ≡ refused QuotShape
 unfolding answer_to_depth open_at close_at bound head args put_levels put_in_level level_for level_le is_utf8 chars encode_utf8 tree_discrete level_discrete name_discrete part_discrete list_discrete both_discrete ℕ_discrete
 flawed_eq = refl
 
@@ -248,10 +248,10 @@ flawed_eq = refl
 abbrev other_quot : List LibraryUnit
 other_quot = of_decl (record { name = quot; levels = word "u" ∷ []; type = prop; body = as_axiom }) ∷ []
 
-mk_of_other : outcome_of (place_of other_quot 1 []) (plain_answer steps (place_of other_quot 1 [])) 1000 (unit_steps quot_mk_unit) ≡ refused quot_shape
+mk_of_other : outcome_of (place_of other_quot 1 []) (plain_answer steps (place_of other_quot 1 [])) 1000 (unit_steps quot_mk_unit) ≡ refused QuotShape
 unfolding answer_to_depth open_at close_at bound head args put_levels put_in_level level_for level_le is_utf8 chars encode_utf8 tree_discrete level_discrete name_discrete part_discrete list_discrete both_discrete ℕ_discrete
 mk_of_other = refl
 
-other_type : outcome_of (place_of other_quot 1 []) (plain_answer steps (place_of other_quot 1 [])) 1000 (unit_steps (record { name = quot_mk; levels = word "u" ∷ []; type = prop; body = as_quot })) ≡ refused quot_shape
+other_type : outcome_of (place_of other_quot 1 []) (plain_answer steps (place_of other_quot 1 [])) 1000 (unit_steps (record { name = quot_mk; levels = word "u" ∷ []; type = prop; body = as_quot })) ≡ refused QuotShape
 unfolding answer_to_depth open_at close_at bound head args put_levels put_in_level level_for level_le is_utf8 chars encode_utf8 tree_discrete level_discrete name_discrete part_discrete list_discrete both_discrete ℕ_discrete
 other_type = refl

@@ -6,7 +6,7 @@ use Rattle.std.specs.Prelude.{Bool, true, false, nat_eq, max, List, [], ◌∷�
 use Rattle.lk_tree.specs.Tree.{Name, name_discrete, Tree, sort, const, app, lam, pi, proj, lit, wide, str}
 use Rattle.lk_tree.specs.Bind.{bound}
 use Rattle.lk_tree.specs.Spine.{head, args}
-use Rattle.lk_tree.specs.RuleNo.{unknown_constant, builtin_shape}
+use Rattle.lk_tree.specs.declared.rule.Rule.TheVariants.{UnknownConstant, BuiltinShape}
 use Rattle.lk_tree.specs.Operations.{Op, succ, log2, add, sub, mul, div, modulo, gcd, beq, ble, land, lor, xor, shift_left, shift_right, pow}
 use Rattle.lk_rulebook.specs.Place.{Entry, Kind, a_def, a_ctor}
 use Rattle.lk_plain.specs.Query.{core, whnf, infer, same}
@@ -24,12 +24,12 @@ use Rattle.lk_questions.specs.Infer.{infer_steps}
 
 -- e is h applied to these arguments, of which there is at least one
 abbrev pub built_applied : Tree → Tree → List Tree → Program Tree
-built_applied e (proj S i s) xs = refuse builtin_shape
-built_applied e (const c ls) xs = look unknown_constant c (where_built λ g. core_constant_built e ls xs g g.kind)
+built_applied e (proj S i s) xs = refuse BuiltinShape
+built_applied e (const c ls) xs = look UnknownConstant c (where_built λ g. core_constant_built e ls xs g g.kind)
 built_applied e h xs = core_applied e h xs
 
 abbrev pub core_row : Tree → Program Tree
-core_row (proj S i s) = refuse builtin_shape
+core_row (proj S i s) = refuse BuiltinShape
 core_row (app f a) = built_applied (app f a) (head f) (args (app f a))
 core_row e = core_steps e
 
@@ -57,11 +57,11 @@ may_compute c f k = nat_eq (bound c) 0 && names_one_of (ops_of_kind k) f
 
 -- c, whose head is the constant f ls of this entry, is unfolded; that numbers are computed is not built
 abbrev pub unfolded_built : Tree → Name → Tree → Entry → Program Tree
-unfolded_built c f h g = if may_compute c f g.kind then refuse builtin_shape else unfolded g h c (value_of g.kind)
+unfolded_built c f h g = if may_compute c f g.kind then refuse BuiltinShape else unfolded g h c (value_of g.kind)
 
 -- what is left of Whnf once its Core is c, with this head
 abbrev pub whnf_built : Tree → Tree → Program Tree
-whnf_built c (const f ls) = look unknown_constant f (where_built (unfolded_built c f (const f ls)))
+whnf_built c (const f ls) = look UnknownConstant f (where_built (unfolded_built c f (const f ls)))
 whnf_built c _ = done c
 
 abbrev pub whnf_end : Tree → Program Tree
@@ -73,11 +73,11 @@ whnf_row e = do
   whnf_end c
 
 abbrev pub infer_row : Tree → Program Tree
-infer_row (const c ls) = look unknown_constant c (where_built λ g. with_levels g ls g.type)
-infer_row (proj S i s) = refuse builtin_shape
-infer_row (lit n) = refuse builtin_shape
-infer_row wide = refuse builtin_shape
-infer_row (str s) = refuse builtin_shape
+infer_row (const c ls) = look UnknownConstant c (where_built λ g. with_levels g ls g.type)
+infer_row (proj S i s) = refuse BuiltinShape
+infer_row (lit n) = refuse BuiltinShape
+infer_row wide = refuse BuiltinShape
+infer_row (str s) = refuse BuiltinShape
 infer_row e = infer_steps e
 
 -- constants and applications, part by part; no other two trees are the same. The tests of the table behind this one come

@@ -3,7 +3,7 @@
 use Rattle.std.specs.Prelude.{suc, Bool, nat_eq, ◌&&◌, List, take, drop, slice_get, Option, Some, None, if◌then◌else◌}
 use Rattle.lk_tree.specs.Tree.{Level, Tree, lit, str}
 use Rattle.lk_tree.specs.Spine.{head, args}
-use Rattle.lk_tree.specs.RuleNo.{builtin_shape}
+use Rattle.lk_tree.specs.declared.rule.Rule.TheVariants.{BuiltinShape}
 use Rattle.lk_rulebook.specs.Place.{Entry, Kind, a_rec, Recursor}
 use Rattle.lk_rulebook.specs.Structures.{before_major}
 use Rattle.lk_plain.specs.Query.{whnf}
@@ -17,7 +17,7 @@ may_be_structure k = has_one_ctor k.ind.ctors && nat_eq k.ind.indices 0
 -- the only constructor of a recursor is looked at where the major premise is none
 abbrev pub no_structure : Option CtorApp → Program (Option CtorApp)
 no_structure None = done None
-no_structure (Some k) = if may_be_structure k then refuse builtin_shape else done None
+no_structure (Some k) = if may_be_structure k then refuse BuiltinShape else done None
 
 abbrev pub as_ctor_app_built : Recursor → Option CtorApp → Program (Option CtorApp)
 as_ctor_app_built r (Some b) = done (Some b)
@@ -33,8 +33,8 @@ iota_of_built e g ls r front rest m = do
   iota_at_ctor e g ls r front rest c
 
 abbrev pub no_literal : Tree → Program Tree
-no_literal (lit n) = refuse builtin_shape
-no_literal (str s) = refuse builtin_shape
+no_literal (lit n) = refuse BuiltinShape
+no_literal (str s) = refuse BuiltinShape
 no_literal m = done m
 
 -- after K

@@ -3,7 +3,7 @@ use Rattle.std.specs.Prelude.{ℕ, zero, suc, List, ◌∷◌, Option, Some, Non
 use Rattle.lk_tree.specs.Tree.{Tree, const, app, lam, let_in, proj}
 use Rattle.lk_tree.specs.Bind.{opened}
 use Rattle.lk_tree.specs.Spine.{apply, head, args}
-use Rattle.lk_tree.specs.RuleNo.{unknown_constant}
+use Rattle.lk_tree.specs.declared.rule.Rule.TheVariants.{UnknownConstant}
 use Rattle.lk_rulebook.specs.Place.{Entry}
 use Rattle.lk_plain.specs.Query.{core, whnf}
 use Rattle.lk_plain.specs.Program.{Program, done, look, asked, ◌>>=◌}
@@ -30,7 +30,7 @@ core_applied e (let_in A v b) xs = do
 core_applied e (proj S i s) xs = do
   h ← asked (core (proj S i s))
   if is_same_tree h (proj S i s) then done e else asked (core (apply h xs))
-core_applied e (const c ls) xs = look unknown_constant c λ g. core_constant e c ls xs g g.kind
+core_applied e (const c ls) xs = look UnknownConstant c λ g. core_constant e c ls xs g g.kind
 core_applied e _ xs = done e
 
 abbrev pub core_steps : Tree → Program Tree
@@ -52,7 +52,7 @@ stepped (Some r) next = done r
 stepped None next = next
 
 abbrev pub whnf_headed : Tree → Tree → Program Tree
-whnf_headed c (const f ls) = look unknown_constant f λ g. do
+whnf_headed c (const f ls) = look UnknownConstant f λ g. do
   r ← literal_step c f ls g
   stepped r (unfolded g (const f ls) c (value_of g.kind))
 whnf_headed c _ = done c

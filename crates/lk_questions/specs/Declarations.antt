@@ -2,7 +2,7 @@
 use Rattle.std.specs.Prelude.{[], if◌then◌else◌}
 use Rattle.lk_tree.specs.Tree.{Tree}
 use Rattle.lk_tree.specs.Level.{is_zero_level}
-use Rattle.lk_tree.specs.RuleNo.{value_type, theorem_not_prop}
+use Rattle.lk_tree.specs.declared.rule.Rule.TheVariants.{ValueType, TheoremNotProp}
 use Rattle.lk_rulebook.specs.Units.{Body, as_axiom, as_def, as_thm, as_opaque, as_quot, Decl}
 use Rattle.lk_plain.specs.Query.{infer, same}
 use Rattle.lk_plain.specs.Program.{Program, done, refuse, asked, ◌>>=◌}
@@ -17,7 +17,7 @@ abbrev pub value_steps : Tree → Tree → Program Yes
 value_steps type value = do
   V ← asked (infer value)
   equal ← asked (same V type)
-  given equal value_type (done checked)
+  given equal ValueType (done checked)
 
 -- what a declaration's body asks, its type's sort too
 abbrev pub body_steps : Decl → Body → Program Yes
@@ -32,7 +32,7 @@ body_steps d (as_opaque value) = do
   value_steps d.type value
 body_steps d (as_thm value) = do
   l ← sort_of d.type
-  if is_zero_level l then value_steps d.type value else refuse theorem_not_prop
+  if is_zero_level l then value_steps d.type value else refuse TheoremNotProp
 body_steps d as_quot = do
   u ← quot_steps d.name d.levels d.type
   l ← sort_of d.type

@@ -2,7 +2,7 @@
 use Rattle.std.specs.Prelude.{ℕ, suc, ◌+◌, Bool, true, false, ◌&&◌, nat_eq, List, [], ◌∷◌, length, drop, Option, Some, None, if◌then◌else◌}
 use Rattle.lk_tree.specs.Tree.{Name, Tree, const, proj}
 use Rattle.lk_tree.specs.Spine.{head, args}
-use Rattle.lk_tree.specs.RuleNo.{unknown_constant}
+use Rattle.lk_tree.specs.declared.rule.Rule.TheVariants.{UnknownConstant}
 use Rattle.lk_rulebook.specs.Place.{Kind, Block, BlockType, Ctor, a_type}
 use Rattle.lk_rulebook.specs.Structures.{is_structure_like}
 use Rattle.lk_plain.specs.Query.{whnf, infer, same}
@@ -45,7 +45,7 @@ is_unit_like_at _ bs = false
 
 -- a has the type A, which is h bs in weak head form
 abbrev pub eta_unit : Tree → Tree → Tree → Tree → List Tree → Line
-eta_unit a b A (const J ls) bs = look unknown_constant J λ g.
+eta_unit a b A (const J ls) bs = look UnknownConstant J λ g.
     (if is_unit_like_at g.kind bs then (do
       B ← asked (infer b)
       answers (asked (same A B)))

@@ -3,7 +3,7 @@ use Rattle.std.specs.Prelude.{ℕ, suc, ◌+◌, Bool, true, false, nat_eq, nat_
 use Rattle.lk_tree.specs.Tree.{Name, Level, Tree, const, proj}
 use Rattle.lk_tree.specs.Level.{is_zero_level}
 use Rattle.lk_tree.specs.Spine.{apply, head, args}
-use Rattle.lk_tree.specs.RuleNo.{unknown_constant}
+use Rattle.lk_tree.specs.declared.rule.Rule.TheVariants.{UnknownConstant}
 use Rattle.lk_rulebook.specs.Place.{Entry, Kind, Block, BlockType, Ctor, Recursor, RecRule, a_quot, a_ctor, a_rec}
 use Rattle.lk_tree.specs.Mentions.{same_name}
 use Rattle.lk_rulebook.specs.Structures.{is_structure_like, projections, before_major}
@@ -28,13 +28,13 @@ ctor_app_by c ks xs g (a_ctor b i k) = Some (record { name = c; levels = ks; ent
 ctor_app_by c ks xs g _ = None
 
 abbrev pub ctor_app_of : Tree → List Tree → Program (Option CtorApp)
-ctor_app_of (const c ks) xs = look unknown_constant c λ g. done (ctor_app_by c ks xs g g.kind)
+ctor_app_of (const c ks) xs = look UnknownConstant c λ g. done (ctor_app_by c ks xs g g.kind)
 ctor_app_of _ xs = done None
 
 -- the constructor of a recursor that has exactly one rule
 abbrev pub only_ctor : List RecRule → Program (Option CtorApp)
 only_ctor [] = done None
-only_ctor (rule ∷ []) = look unknown_constant rule.ctor λ g. done (ctor_app_by rule.ctor [] [] g g.kind)
+only_ctor (rule ∷ []) = look UnknownConstant rule.ctor λ g. done (ctor_app_by rule.ctor [] [] g g.kind)
 only_ctor (r ∷ s ∷ rs) = done None
 
 -- the levels of T, where its head is the type J

@@ -3,7 +3,7 @@ use Rattle.std.specs.Prelude.{Bool, true, false, nat_eq, List, [], ◌∷◌, le
 use Rattle.lk_tree.specs.Tree.{Level}
 use Rattle.lk_tree.specs.Level.{SameLevel}
 use Rattle.lk_tree.specs.LevelTest.{level_test}
-use Rattle.lk_tree.specs.RuleNo.{level_width}
+use Rattle.lk_tree.specs.declared.rule.Rule.TheVariants.{LevelWidth}
 use Rattle.lk_rulebook.specs.Place.{Place}
 use Rattle.lk_plain.specs.Program.{Program, done, refuse, ◌>>=◌}
 use Rattle.lk_plain.specs.Sound.{IsSound, IfYes}
@@ -18,7 +18,7 @@ IsLevelTest test = (w : Place) (l m : Level) → IsSound w (test l m) (λ equal.
 
 abbrev pub tested : Option Bool → Program Bool
 tested (Some equal) = done equal
-tested None = refuse level_width
+tested None = refuse LevelWidth
 
 -- the complete test
 abbrev pub complete_test : LevelTest

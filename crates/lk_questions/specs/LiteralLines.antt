@@ -2,7 +2,7 @@
 use Rattle.std.specs.Prelude.{ℕ, zero, suc, Bool, true, false, List, [], ◌∷◌, Option, Some, None, if◌then◌else◌}
 use Rattle.lk_tree.specs.Tree.{Tree, const, app, lit, str}
 use Rattle.lk_tree.specs.Spine.{head, args}
-use Rattle.lk_tree.specs.RuleNo.{unknown_constant}
+use Rattle.lk_tree.specs.declared.rule.Rule.TheVariants.{UnknownConstant}
 use Rattle.lk_rulebook.specs.Names.{nat_zero, nat_succ, string_mk}
 use Rattle.lk_tree.specs.Mentions.{same_name}
 use Rattle.lk_plain.specs.Query.{same}
@@ -13,7 +13,7 @@ use Rattle.lk_questions.specs.Pairs.{Line, answers, goes_on, ◌or_line◌}
 
 -- the literal step on e
 abbrev pub step_of : Tree → Tree → Program (Option Tree)
-step_of e (const f ls) = look unknown_constant f λ g. literal_step e f ls g
+step_of e (const f ls) = look UnknownConstant f λ g. literal_step e f ls g
 step_of e _ = done None
 
 -- r stands for the first tree, or the second, where there is one

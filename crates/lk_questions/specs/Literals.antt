@@ -4,7 +4,7 @@ use Rattle.lk_tree.specs.Tree.{Name, Level, Tree, const, lit}
 use Rattle.lk_tree.specs.Bind.{bound}
 use Rattle.lk_tree.specs.Operations.{Op, succ, log2, add, sub, mul, div, modulo, gcd, beq, ble, land, lor, xor, shift_left, shift_right, pow, arity, Value, number, truth, op_value}
 use Rattle.lk_tree.specs.Spine.{args}
-use Rattle.lk_tree.specs.RuleNo.{no_builtin}
+use Rattle.lk_tree.specs.declared.rule.Rule.TheVariants.{NoBuiltin}
 use Rattle.lk_rulebook.specs.Place.{Entry, Kind}
 use Rattle.lk_rulebook.specs.Names.{named, nat_zero, bool_name, op_name}
 use Rattle.lk_tree.specs.Mentions.{same_name}
@@ -34,7 +34,7 @@ numerals (e ∷ es) = do
 -- the Lit, unless it would be too large; or Bool.true or Bool.false, which must be given
 abbrev pub result_of : Option Value → Program (Option Tree)
 result_of (Some (number n)) = done (if nat_lt n (2 ^ 128) then Some (lit n) else None)
-result_of (Some (truth b)) = look no_builtin (bool_name b) λ g. done (Some (named (bool_name b)))
+result_of (Some (truth b)) = look NoBuiltin (bool_name b) λ g. done (Some (named (bool_name b)))
 result_of None = done None
 
 abbrev pub computed : Op → Option (List ℕ) → Program (Option Tree)

@@ -1,7 +1,7 @@
 -- What a unit that gives a constant of quotient types has to meet.
 use Rattle.std.specs.Prelude.{Bool, false, ◌&&◌, nat_eq, List, [], ◌∷◌, length, Option, Some, None, if◌then◌else◌}
 use Rattle.lk_tree.specs.Tree.{Name, Tree}
-use Rattle.lk_tree.specs.RuleNo.{quot_shape}
+use Rattle.lk_tree.specs.declared.rule.Rule.TheVariants.{QuotShape}
 use Rattle.lk_rulebook.specs.Place.{Entry, Kind, Ctor, a_type}
 use Rattle.lk_rulebook.specs.Names.{eq, eq_refl, quot, quot_mk}
 use Rattle.lk_tree.specs.Mentions.{same_name}
@@ -19,7 +19,7 @@ quotient_named (q ∷ qs) c = if same_name (quot_name q) c then Some q else quot
 
 -- c must be given by a quot unit
 abbrev pub quot_given : Name → Program (Unit {0})
-quot_given c = look quot_shape c λ g. given (by_quot g.kind) quot_shape (done tt)
+quot_given c = look QuotShape c λ g. given (by_quot g.kind) QuotShape (done tt)
 
 abbrev pub is_eq_type : List Name → Tree → Bool
 is_eq_type (u ∷ []) type = is_same_tree type (eq_type u)
@@ -39,7 +39,7 @@ is_eq g _ = false
 
 -- Eq must have its shape
 abbrev pub eq_shape : Program (Unit {0})
-eq_shape = look quot_shape eq λ g. given (is_eq g g.kind) quot_shape (done tt)
+eq_shape = look QuotShape eq λ g. given (is_eq g g.kind) QuotShape (done tt)
 
 -- what the constant's type rests on must be there
 abbrev pub rests_steps : Quotient → Program (Unit {0})
@@ -57,8 +57,8 @@ is_this (Some t) type = is_same_tree t type
 is_this None type = false
 
 abbrev pub quotient_steps : Option Quotient → List Name → Tree → Program (Unit {0})
-quotient_steps None ps type = refuse quot_shape
-quotient_steps (Some q) ps type = given (is_this (quot_type q ps) type) quot_shape (rests_steps q)
+quotient_steps None ps type = refuse QuotShape
+quotient_steps (Some q) ps type = given (is_this (quot_type q ps) type) QuotShape (rests_steps q)
 
 -- c is one of the four and has its type
 abbrev pub quot_steps : Name → List Name → Tree → Program (Unit {0})

@@ -2,7 +2,7 @@
 use Rattle.std.specs.Prelude.{Bool, true, false, List, [], ◌∷◌, if◌then◌else◌}
 use Rattle.lk_tree.specs.Tree.{Name, Tree, const, app}
 use Rattle.lk_tree.specs.Spine.{apply, head, args}
-use Rattle.lk_tree.specs.RuleNo.{unknown_constant}
+use Rattle.lk_tree.specs.declared.rule.Rule.TheVariants.{UnknownConstant}
 use Rattle.lk_rulebook.specs.Place.{Kind, a_quot}
 use Rattle.lk_rulebook.specs.Names.{quot_mk, quot_lift, quot_ind}
 use Rattle.lk_tree.specs.Mentions.{same_name}
@@ -17,7 +17,7 @@ by_quot _ = false
 abbrev pub at_mk : Tree → Tree → List Tree → Tree → List Tree → Program Tree
 at_mk e f rest (const c ks) (A ∷ r ∷ a ∷ []) =
     if same_name c quot_mk
-    then (look unknown_constant quot_mk λ g. if by_quot g.kind then asked (core (apply (app f a) rest)) else done e)
+    then (look UnknownConstant quot_mk λ g. if by_quot g.kind then asked (core (apply (app f a) rest)) else done e)
     else done e
 at_mk e f rest _ _ = done e
 

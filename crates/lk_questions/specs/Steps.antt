@@ -1,7 +1,8 @@
 -- Pieces that several questions share.
 use Rattle.std.specs.Prelude.{Bool, true, false, nat_eq, List, length, Option, Some, None}
 use Rattle.lk_tree.specs.Tree.{Name, Level, Tree, tree_discrete, sort, pi}
-use Rattle.lk_tree.specs.RuleNo.{RuleNo, not_a_sort, level_count}
+use Rattle.lk_tree.specs.declared.rule.Rule.{Rule}
+use Rattle.lk_tree.specs.declared.rule.Rule.TheVariants.{LevelCount, NotASort}
 use Rattle.lk_tree.specs.Levels.{put_levels}
 use Rattle.lk_rulebook.specs.Place.{Entry, Kind, a_def, a_thm, an_axiom, an_opaque, a_quot, a_type, a_ctor, a_rec}
 use Rattle.lk_plain.specs.Query.{whnf, infer}
@@ -15,15 +16,15 @@ abbrev pub is_same_tree : Tree → Tree → Bool
 is_same_tree a b = decided (tree_discrete a b)
 
 -- p where the test holds, else refused by r
-abbrev pub given : {A : Type 0} → Bool → RuleNo → Program A → Program A
+abbrev pub given : {A : Type 0} → Bool → Rule → Program A → Program A
 given true r p = p
 given false r p = refuse r
 
 abbrev pub as_sort : Tree → Program Level
 as_sort (sort l) = done l
-as_sort _ = refuse not_a_sort
+as_sort _ = refuse NotASort
 
-abbrev pub as_pi : RuleNo → Tree → Program (Tree × Tree)
+abbrev pub as_pi : Rule → Tree → Program (Tree × Tree)
 as_pi r (pi A B) = done (A, B)
 as_pi r _ = refuse r
 
@@ -36,7 +37,7 @@ sort_of e = do
 
 -- t{ls}, with these level parameters
 abbrev pub with_params : List Name → List Level → Tree → Program Tree
-with_params ps ls t = given (nat_eq (length ls) (length ps)) level_count (done (put_levels ps ls t))
+with_params ps ls t = given (nat_eq (length ls) (length ps)) LevelCount (done (put_levels ps ls t))
 
 -- t{ls}, with the level parameters of the entry
 abbrev pub with_levels : Entry → List Level → Tree → Program Tree

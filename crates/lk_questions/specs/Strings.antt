@@ -2,7 +2,7 @@
 use Rattle.std.specs.Prelude.{ℕ, zero, suc, Bool, false, ◌&&◌, List, [], ◌∷◌, Option, Some, None, if◌then◌else◌}
 use Rattle.std.specs.Str.{is_utf8, chars}
 use Rattle.lk_tree.specs.Tree.{Name, Tree, app, lit, str}
-use Rattle.lk_tree.specs.RuleNo.{no_builtin}
+use Rattle.lk_tree.specs.declared.rule.Rule.TheVariants.{NoBuiltin}
 use Rattle.lk_rulebook.specs.Place.{Entry, Kind, Ctor, a_type}
 use Rattle.lk_rulebook.specs.Names.{named, nat_zero, nat_succ, string, string_mk}
 use Rattle.lk_tree.specs.Mentions.{same_name}
@@ -13,7 +13,7 @@ use Rattle.lk_questions.specs.Shapes.{has_string_shape}
 -- each of the names is given
 abbrev pub look_all : List Name → Program (Unit {0})
 look_all [] = done tt
-look_all (c ∷ cs) = look no_builtin c λ g. look_all cs
+look_all (c ∷ cs) = look NoBuiltin c λ g. look_all cs
 
 -- the only constructor is String.mk
 abbrev pub is_mk_alone : List Ctor → Bool
@@ -34,7 +34,7 @@ expansion_by s g k = do
 
 -- the expansion of a text, where it expands
 abbrev pub expansion_of : List ℕ → Program (Option Tree)
-expansion_of s = look no_builtin string λ g. expansion_by s g g.kind
+expansion_of s = look NoBuiltin string λ g. expansion_by s g g.kind
 
 -- a text that expands is expanded
 abbrev pub tree_or : Option Tree → Tree → Tree
@@ -49,6 +49,6 @@ text_to_ctor m = done m
 
 -- the same, and a number is zero or a successor
 abbrev pub literal_to_ctor : Tree → Program Tree
-literal_to_ctor (lit zero) = look no_builtin nat_zero λ g. done (named nat_zero)
-literal_to_ctor (lit (suc n)) = look no_builtin nat_succ λ g. done (app (named nat_succ) (lit n))
+literal_to_ctor (lit zero) = look NoBuiltin nat_zero λ g. done (named nat_zero)
+literal_to_ctor (lit (suc n)) = look NoBuiltin nat_succ λ g. done (app (named nat_succ) (lit n))
 literal_to_ctor m = text_to_ctor m

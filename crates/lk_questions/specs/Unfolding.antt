@@ -2,7 +2,7 @@
 use Rattle.std.specs.Prelude.{ℕ, Bool, true, false, nat_lt, nat_eq, ◌&&◌, List, length, Option, Some, None, if◌then◌else◌}
 use Rattle.lk_tree.specs.Tree.{Name, name_discrete, Level, Tree, const}
 use Rattle.lk_tree.specs.Spine.{apply, head, args}
-use Rattle.lk_tree.specs.RuleNo.{unknown_constant}
+use Rattle.lk_tree.specs.declared.rule.Rule.TheVariants.{UnknownConstant}
 use Rattle.lk_rulebook.specs.Place.{Entry, Kind, Hint, opaque_hint, abbreviation, regular, a_def, a_thm}
 use Rattle.lk_plain.specs.Query.{same}
 use Rattle.lk_plain.specs.Program.{Program, done, look, asked, ◌>>=◌}
@@ -44,7 +44,7 @@ unfolding_by c ls g (a_thm v) = Some (record { name = c; levels = ls; entry = g;
 unfolding_by c ls g _ = None
 
 abbrev pub unfolding_of : Tree → Program (Option Unfolding)
-unfolding_of (const c ls) = look unknown_constant c λ g. done (unfolding_by c ls g g.kind)
+unfolding_of (const c ls) = look UnknownConstant c λ g. done (unfolding_by c ls g g.kind)
 unfolding_of _ = done None
 
 abbrev pub unfold_with : Unfolding → Tree → Program Tree

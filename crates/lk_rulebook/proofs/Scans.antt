@@ -2,13 +2,14 @@
 use Rattle.std.proofs.Common.{ℕ, ◌≡◌, Bool, true, false, ◌&&◌, List, [], ◌∷◌, ◌++◌, take, Option, Some, None, refl}
 use Rattle.lk_tree.specs.WellFormed.{IsStated}
 use Rattle.lk_tree.specs.Scan.{is_bound, is_narrow, none_twice, tree_over}
-use Rattle.lk_tree.specs.RuleNo.{RuleNo, duplicate_name, duplicate_level, loose_variable, undeclared_level, wide_literal}
+use Rattle.lk_tree.specs.declared.rule.Rule.{Rule}
+use Rattle.lk_tree.specs.declared.rule.Rule.TheVariants.{UndeclaredLevel, DuplicateLevel, DuplicateName, LooseVariable, WideLiteral}
 use Rattle.lk_tree.proofs.Scans.{both_true, and_true, bound_closed, closed_passes, distinct_right, distinct_passes, tree_right, tree_passes}
 use Rattle.lk_rulebook.specs.Units.{Library, LibraryUnit, Members, members_of, Trees, trees_of, all_bound, all_narrow, first_broken, given_by, first_giving, flaw_of}
 use Rattle.lk_rulebook.specs.Scan.{AreNew, AreDistinct, AreScanned, IsScanned, is_none, are_new, are_distinct, all_over, scan_of}
 
 -- where no test fails each one holds
-pub first_holds : (b : Bool) (r : RuleNo) (ts : List (Bool × RuleNo)) → first_broken ((b, r) ∷ ts) ≡ None → (b ≡ true) × (first_broken ts ≡ None)
+pub first_holds : (b : Bool) (r : Rule) (ts : List (Bool × Rule)) → first_broken ((b, r) ∷ ts) ≡ None → (b ≡ true) × (first_broken ts ≡ None)
 first_holds true r ts h = (refl, h)
 first_holds false r ts h = absurd cc
 
@@ -39,15 +40,15 @@ pub scan_right : (us : Library) (n : ℕ) (u : LibraryUnit) → scan_of us n u �
 scan_right us n u h =
     let ms : Members = members_of u in
     let es : Trees = trees_of u in
-    let last : List (Bool × RuleNo) = (all_narrow es, wide_literal) ∷ [] in
-    let fourth : List (Bool × RuleNo) = (all_over es, undeclared_level) ∷ last in
-    let third : List (Bool × RuleNo) = (all_bound es, loose_variable) ∷ fourth in
-    let second : List (Bool × RuleNo) = (are_distinct ms, duplicate_level) ∷ third in
-    let a : (are_new us n ms ≡ true) × (first_broken second ≡ None) = first_holds (are_new us n ms) duplicate_name second h in
-    let b : (are_distinct ms ≡ true) × (first_broken third ≡ None) = first_holds (are_distinct ms) duplicate_level third a.1 in
-    let c : (all_bound es ≡ true) × (first_broken fourth ≡ None) = first_holds (all_bound es) loose_variable fourth b.1 in
-    let d : (all_over es ≡ true) × (first_broken last ≡ None) = first_holds (all_over es) undeclared_level last c.1 in
-    let e : (all_narrow es ≡ true) × (first_broken [] ≡ None) = first_holds (all_narrow es) wide_literal [] d.1 in
+    let last : List (Bool × Rule) = (all_narrow es, WideLiteral) ∷ [] in
+    let fourth : List (Bool × Rule) = (all_over es, UndeclaredLevel) ∷ last in
+    let third : List (Bool × Rule) = (all_bound es, LooseVariable) ∷ fourth in
+    let second : List (Bool × Rule) = (are_distinct ms, DuplicateLevel) ∷ third in
+    let a : (are_new us n ms ≡ true) × (first_broken second ≡ None) = first_holds (are_new us n ms) DuplicateName second h in
+    let b : (are_distinct ms ≡ true) × (first_broken third ≡ None) = first_holds (are_distinct ms) DuplicateLevel third a.1 in
+    let c : (all_bound es ≡ true) × (first_broken fourth ≡ None) = first_holds (all_bound es) LooseVariable fourth b.1 in
+    let d : (all_over es ≡ true) × (first_broken last ≡ None) = first_holds (all_over es) UndeclaredLevel last c.1 in
+    let e : (all_narrow es ≡ true) × (first_broken [] ≡ None) = first_holds (all_narrow es) WideLiteral [] d.1 in
     record { names = new_right us n ms a.0; levels = distinct_members ms b.0; trees = trees_right es c.0 d.0 e.0 }
 
 -- the trees of a unit without a flaw
@@ -65,9 +66,9 @@ trees_stated (e ∷ es) b r =
 pub unflawed_stated : (u : LibraryUnit) → flaw_of u ≡ None → AllStated (trees_of u)
 unflawed_stated u h =
     let es : Trees = trees_of u in
-    let last : List (Bool × RuleNo) = (all_narrow es, wide_literal) ∷ [] in
-    let c : (all_bound es ≡ true) × (first_broken last ≡ None) = first_holds (all_bound es) loose_variable last h in
-    let e : (all_narrow es ≡ true) × (first_broken [] ≡ None) = first_holds (all_narrow es) wide_literal [] c.1 in
+    let last : List (Bool × Rule) = (all_narrow es, WideLiteral) ∷ [] in
+    let c : (all_bound es ≡ true) × (first_broken last ≡ None) = first_holds (all_bound es) LooseVariable last h in
+    let e : (all_narrow es ≡ true) × (first_broken [] ≡ None) = first_holds (all_narrow es) WideLiteral [] c.1 in
     trees_stated es c.0 e.0
 
 pub scanned_stated : (es : Trees) → AreScanned es → AllStated es
@@ -105,7 +106,7 @@ stated_pass (e ∷ es) h =
     let y : (all_bound es ≡ true) × (all_narrow es ≡ true) = stated_pass es h.1 in
     (and_true (is_bound 0 e.1) (all_bound es) x.0 y.0, and_true (is_narrow e.1) (all_narrow es) x.1 y.1)
 
-none_broken : (b : Bool) (r : RuleNo) (ts : List (Bool × RuleNo)) → b ≡ true → first_broken ts ≡ None → first_broken ((b, r) ∷ ts) ≡ None
+none_broken : (b : Bool) (r : Rule) (ts : List (Bool × Rule)) → b ≡ true → first_broken ts ≡ None → first_broken ((b, r) ∷ ts) ≡ None
 none_broken true r ts h k = k
 none_broken false r ts h k = absurd cc
 
@@ -113,19 +114,19 @@ pub no_flaw : (u : LibraryUnit) → AllStated (trees_of u) → flaw_of u ≡ Non
 no_flaw u h =
     let es : Trees = trees_of u in
     let x : (all_bound es ≡ true) × (all_narrow es ≡ true) = stated_pass es h in
-    none_broken (all_bound es) loose_variable ((all_narrow es, wide_literal) ∷ []) x.0 (none_broken (all_narrow es) wide_literal [] x.1 refl)
+    none_broken (all_bound es) LooseVariable ((all_narrow es, WideLiteral) ∷ []) x.0 (none_broken (all_narrow es) WideLiteral [] x.1 refl)
 
 pub scan_passes : (us : Library) (n : ℕ) (u : LibraryUnit) → IsScanned us n u → scan_of us n u ≡ None
 scan_passes us n u h =
     let ms : Members = members_of u in
     let es : Trees = trees_of u in
     let x : (all_bound es ≡ true) × (all_narrow es ≡ true) = stated_pass es (scanned_stated es h.trees) in
-    let last : List (Bool × RuleNo) = (all_narrow es, wide_literal) ∷ [] in
-    let fourth : List (Bool × RuleNo) = (all_over es, undeclared_level) ∷ last in
-    let third : List (Bool × RuleNo) = (all_bound es, loose_variable) ∷ fourth in
-    let second : List (Bool × RuleNo) = (are_distinct ms, duplicate_level) ∷ third in
-    none_broken (are_new us n ms) duplicate_name second (new_passes us n ms h.names)
-    (none_broken (are_distinct ms) duplicate_level third (distinct_pass ms h.levels)
-    (none_broken (all_bound es) loose_variable fourth x.0
-    (none_broken (all_over es) undeclared_level last (over_pass es h.trees)
-    (none_broken (all_narrow es) wide_literal [] x.1 refl))))
+    let last : List (Bool × Rule) = (all_narrow es, WideLiteral) ∷ [] in
+    let fourth : List (Bool × Rule) = (all_over es, UndeclaredLevel) ∷ last in
+    let third : List (Bool × Rule) = (all_bound es, LooseVariable) ∷ fourth in
+    let second : List (Bool × Rule) = (are_distinct ms, DuplicateLevel) ∷ third in
+    none_broken (are_new us n ms) DuplicateName second (new_passes us n ms h.names)
+    (none_broken (are_distinct ms) DuplicateLevel third (distinct_pass ms h.levels)
+    (none_broken (all_bound es) LooseVariable fourth x.0
+    (none_broken (all_over es) UndeclaredLevel last (over_pass es h.trees)
+    (none_broken (all_narrow es) WideLiteral [] x.1 refl))))

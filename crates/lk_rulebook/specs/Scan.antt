@@ -2,7 +2,8 @@
 use Rattle.std.specs.Prelude.{ℕ, ◌≡◌, Bool, true, false, ◌&&◌, [], ◌∷◌, take, Option, Some, None, if◌then◌else◌}
 use Rattle.lk_tree.specs.WellFormed.{IsStated}
 use Rattle.lk_tree.specs.Scan.{NoneTwice, none_twice, TreeOver, tree_over}
-use Rattle.lk_tree.specs.RuleNo.{RuleNo, duplicate_name, duplicate_level, loose_variable, undeclared_level, wide_literal}
+use Rattle.lk_tree.specs.declared.rule.Rule.{Rule}
+use Rattle.lk_tree.specs.declared.rule.Rule.TheVariants.{UndeclaredLevel, DuplicateLevel, DuplicateName, LooseVariable, WideLiteral}
 use Rattle.lk_rulebook.specs.Units.{Library, LibraryUnit, Members, members_of, Trees, trees_of, all_bound, all_narrow, first_broken, given_by, first_giving}
 
 -- no unit before number n gives the name of a member, and no two members have one name
@@ -44,14 +45,14 @@ all_over [] = true
 all_over (e ∷ es) = tree_over e.0 e.1 && all_over es
 
 -- the rule that the unit's own lines break, the first in this order
-abbrev pub own_scan : LibraryUnit → Option RuleNo
+abbrev pub own_scan : LibraryUnit → Option Rule
 own_scan u = first_broken (
-    (are_distinct (members_of u), duplicate_level)
-    ∷ (all_bound (trees_of u), loose_variable)
-    ∷ (all_over (trees_of u), undeclared_level)
-    ∷ (all_narrow (trees_of u), wide_literal)
+    (are_distinct (members_of u), DuplicateLevel)
+    ∷ (all_bound (trees_of u), LooseVariable)
+    ∷ (all_over (trees_of u), UndeclaredLevel)
+    ∷ (all_narrow (trees_of u), WideLiteral)
     ∷ [])
 
 -- the rule that u breaks as unit n: that its names are new comes before these
-abbrev pub scan_of : Library → ℕ → LibraryUnit → Option RuleNo
-scan_of us n u = if are_new us n (members_of u) then own_scan u else Some duplicate_name
+abbrev pub scan_of : Library → ℕ → LibraryUnit → Option Rule
+scan_of us n u = if are_new us n (members_of u) then own_scan u else Some DuplicateName

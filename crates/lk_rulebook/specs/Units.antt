@@ -2,8 +2,9 @@
 use Rattle.std.specs.Prelude.{ℕ, suc, List, [], ◌∷◌, ◌++◌, take, Bool, true, ◌&&◌, Option, Some, None, option_and_then, max, if◌then◌else◌}
 use Rattle.lk_tree.specs.Tree.{Name, name_discrete, Tree}
 use Rattle.lk_tree.specs.Scan.{is_bound, is_narrow}
-use Rattle.lk_tree.specs.RuleNo.{RuleNo, loose_variable, wide_literal}
-use Rattle.lk_rulebook.specs.Place.{Place, Entry, Kind, an_axiom, a_def, a_thm, an_opaque, a_quot, a_type, a_ctor, a_rec, Hint, Ctor, BlockType, Block, RecRule, Rec}
+use Rattle.lk_tree.specs.declared.rule.Rule.{Rule}
+use Rattle.lk_tree.specs.declared.rule.Rule.TheVariants.{LooseVariable, WideLiteral}
+use Rattle.lk_rulebook.specs.Place.{Place, Entry, Kind, an_axiom, a_def, a_thm, an_opaque, a_quot, a_type, a_ctor, a_rec, Hint, Ctor, BlockType, Block, RecRule, BlockRecursor}
 
 -- what a declaration states beside its name, level parameters and type
 pub data Body : Type 0 where
@@ -22,7 +23,7 @@ pub record Decl : Type 0 where
 -- a declaration alone, or the types of a block with its recursors
 pub data LibraryUnit : Type 0 where
   of_decl : Decl → LibraryUnit
-  of_block : Block → List Rec → LibraryUnit
+  of_block : Block → List BlockRecursor → LibraryUnit
 
 abbrev pub Library : Type 0
 Library = List LibraryUnit
@@ -43,12 +44,12 @@ abbrev pub all_ctor_entries : Block → List BlockType → Members
 all_ctor_entries b [] = []
 all_ctor_entries b (t ∷ ts) = ctor_entries b t t.ctors ++ all_ctor_entries b ts
 
-abbrev pub rec_members : List Rec → Members
+abbrev pub rec_members : List BlockRecursor → Members
 rec_members [] = []
 rec_members (r ∷ rs) = (r.name, record { levels = r.levels; type = r.type; kind = a_rec r.recursor }) ∷ rec_members rs
 
 -- the recursors as they are partial, without rules
-abbrev pub rec_entries : List Rec → Members
+abbrev pub rec_entries : List BlockRecursor → Members
 rec_entries [] = []
 rec_entries (r ∷ rs) = (r.name, record { levels = r.levels; type = r.type; kind = a_rec (record r.recursor { rules = [] }) }) ∷ rec_entries rs
 
@@ -57,7 +58,7 @@ abbrev pub partial_types : Block → Members
 partial_types b = type_entries b b.types
 
 -- partial too once its constructors are checked, before the recursors
-abbrev pub partial_members : Block → List Rec → Members
+abbrev pub partial_members : Block → List BlockRecursor → Members
 partial_members b stated = all_ctor_entries b b.types ++ rec_entries stated
 
 abbrev pub kind_of : Body → Kind
@@ -99,7 +100,7 @@ abbrev pub rule_trees : List Name → List RecRule → Trees
 rule_trees ps [] = []
 rule_trees ps (r ∷ rs) = (ps, r.value) ∷ rule_trees ps rs
 
-abbrev pub rec_trees : List Rec → Trees
+abbrev pub rec_trees : List BlockRecursor → Trees
 rec_trees [] = []
 rec_trees (r ∷ rs) = (r.levels, r.type) ∷ (rule_trees r.levels r.recursor.rules ++ rec_trees rs)
 
@@ -117,17 +118,17 @@ all_narrow [] = true
 all_narrow (e ∷ es) = is_narrow e.1 && all_narrow es
 
 -- the rule of the first test that fails
-abbrev pub first_broken : List (Bool × RuleNo) → Option RuleNo
+abbrev pub first_broken : List (Bool × Rule) → Option Rule
 first_broken [] = None
 first_broken (t ∷ ts) = if t.0 then first_broken ts else Some t.1
 
 -- why a look-up of the unit's members is refused
-abbrev pub flaw_of : LibraryUnit → Option RuleNo
-flaw_of u = first_broken ((all_bound (trees_of u), loose_variable) ∷ (all_narrow (trees_of u), wide_literal) ∷ [])
+abbrev pub flaw_of : LibraryUnit → Option Rule
+flaw_of u = first_broken ((all_bound (trees_of u), LooseVariable) ∷ (all_narrow (trees_of u), WideLiteral) ∷ [])
 
 pub record Found : Type 0 where
   pub unit : ℕ
-  pub flaw : Option RuleNo
+  pub flaw : Option Rule
   pub entry : Entry
 
 abbrev pub given_by : Members → Name → Option Entry

@@ -2,7 +2,7 @@
 use Rattle.std.proofs.Common.{ℕ, ◌≡◌, ◌+◌, inl, inr, List, [], ◌∷◌, length, refl, sym, subst, arith}
 use Rattle.lk_tree.specs.Tree.{Level, Tree, local}
 use Rattle.lk_tree.specs.LevelTest.{level_test}
-use Rattle.lk_tree.specs.RuleNo.{block_shape}
+use Rattle.lk_tree.specs.declared.rule.Rule.TheVariants.{BlockShape}
 use Rattle.lk_tree.proofs.Lists.{AnyLocal}
 use Rattle.lk_tree.proofs.Locals.{below_bound}
 use Rattle.lk_rulebook.specs.Place.{Place, Block, BlockType}
@@ -45,7 +45,7 @@ sound_next_type w F t st ps =
     (λ r hr. sound_bind w (type_end (length F.params) t.indices r) _ (IsEnd w (length F.params) t.indices r) (IsFound w F t)
     (sound_type_end w (length F.params) t.indices r hr.1)
     (λ e he. sound_bind w (tested (level_test e.1 F.sort)) _ _ (IsFound w F t) (sound_tested w e.1 F.sort (level_test e.1 F.sort) refl)
-    (λ equal h. sound_given w equal block_shape (done e.0) (IsFound w F t)
+    (λ equal h. sound_given w equal BlockShape (done e.0) (IsFound w F t)
     (λ y. record {
       sorted = (s, hs);
       over = record { rest = r; last = he.last; level = e.1; over = hr.0; indices = he.indices; ends = he.ends; same = of_yes equal y h };
@@ -101,8 +101,8 @@ sound_typed w b (t ∷ ts) i st =
     let own : AllIn p ps.0 = all_in_more (0 + p) p ps.0 (omega arith) hps.locals in
     let own_too : AllIn (length ps.0) ps.0 = rw hps.count own in
     sound_bind w (tested (level_test e.1 e.1)) _ _ (IsTyped w b) (sound_tested w e.1 e.1 (level_test e.1 e.1) refl)
-    (λ equal h. sound_bind w (given equal block_shape (next_types ps.0 e.1 ts)) _ (AreFound w F ts) (IsTyped w b)
-    (sound_given w equal block_shape (next_types ps.0 e.1 ts) (AreFound w F ts) (λ y. sound_next_types w F ts st.1 own_too))
+    (λ equal h. sound_bind w (given equal BlockShape (next_types ps.0 e.1 ts)) _ (AreFound w F ts) (IsTyped w b)
+    (sound_given w equal BlockShape (next_types ps.0 e.1 ts) (AreFound w F ts) (λ y. sound_next_types w F ts st.1 own_too))
     (λ xs hxs. record {
       count = hps.count;
       params = own;

@@ -5,7 +5,7 @@ use Rattle.lk_tree.specs.Tree.{Name, param, Tree, const, local}
 use Rattle.lk_tree.specs.Bind.{opened, bound}
 use Rattle.lk_tree.specs.Spine.{apply}
 use Rattle.lk_tree.specs.WellFormed.{IsWellFormed, AllWellFormed}
-use Rattle.lk_tree.specs.RuleNo.{recursor_differs}
+use Rattle.lk_tree.specs.declared.rule.Rule.TheVariants.{RecursorDiffers}
 use Rattle.lk_tree.proofs.Within.{fine_put_levels}
 use Rattle.lk_tree.proofs.Spines.{well_formed_of_apply, all_fine_split}
 use Rattle.lk_rulebook.specs.Place.{Place, Block, BlockType, Ctor, RecRule}
@@ -19,7 +19,7 @@ use Rattle.lk_sound.proofs.Pieces.{sound_given, of_yes, sound_sort_of}
 use Rattle.lk_inductive.specs.Block.{Frame, frame_of, FieldKind, plain, recursive, under, Field, CtorShape, TypeShape, Shape, type_entries, ctor_entries, all_ctor_entries}
 use Rattle.lk_inductive.specs.Relation.{IsPositive, mentions_none, arrow, member, AreFields, no_field, a_field, IsCtor, AreCtors, no_ctor, a_ctor_more, AreTypes, no_type, a_type_more, AreNumbered, IsBlock}
 use Rattle.lk_inductive.specs.BlockSteps.{ctor_sorts, all_ctor_sorts}
-use Rattle.lk_inductive.specs.Recursors.{Rec}
+use Rattle.lk_inductive.specs.Recursors.{BlockRecursor}
 use Rattle.lk_inductive.specs.Compare.{renamed, same_rules, same_bool, same_counts, rules_steps, rec_steps, rec_named, compare_found, compare_steps, rec_entries, AreRules, no_rule, a_rule, IsRec, IsOneOf, AreRecs}
 use Rattle.lk_inductive.specs.Whole.{CtorsSorted, TypesSorted, AllCtorsSorted, RecsStated}
 use Rattle.lk_inductive.proofs.Partials.{MembersStated, stated_append}
@@ -85,10 +85,10 @@ bool_of true false h = absurd cc
 bool_of false true h = absurd cc
 bool_of false false h = refl
 
-renamed_fine : (stated r : Rec) (e : Tree) → IsWellFormed e → IsWellFormed (renamed stated r e)
+renamed_fine : (stated r : BlockRecursor) (e : Tree) → IsWellFormed e → IsWellFormed (renamed stated r e)
 renamed_fine stated r e f = fine_put_levels r.levels (map param stated.levels) 0 e f
 
-sound_rules : (w : Place) (stated r : Rec) (as_ bs : List RecRule) → same_rules as_ bs ≡ true → RulesStated as_ → ValuesWellFormed bs → IsSound w (rules_steps stated r as_ bs) (λ y. AreRules w stated r as_ bs)
+sound_rules : (w : Place) (stated r : BlockRecursor) (as_ bs : List RecRule) → same_rules as_ bs ≡ true → RulesStated as_ → ValuesWellFormed bs → IsSound w (rules_steps stated r as_ bs) (λ y. AreRules w stated r as_ bs)
 sound_rules w stated r [] [] e f g = no_rule
 sound_rules w stated r [] (b ∷ bs) e f g = absurd cc
 sound_rules w stated r (a ∷ as_) [] e f g = absurd cc
@@ -98,17 +98,17 @@ sound_rules w stated r (a ∷ as_) (b ∷ bs) e f g =
       f.0.0,
       λ V mV. (
         (f.0.0, renamed_fine stated r b.value g.0),
-        λ equal mE. sound_given w equal recursor_differs (rules_steps stated r as_ bs) (λ y. AreRules w stated r (a ∷ as_) (b ∷ bs))
+        λ equal mE. sound_given w equal RecursorDiffers (rules_steps stated r as_ bs) (λ y. AreRules w stated r (a ∷ as_) (b ∷ bs))
             (λ y. sound_map w (rules_steps stated r as_ bs) (λ z. AreRules w stated r as_ bs) (λ z. AreRules w stated r (a ∷ as_) (b ∷ bs))
             (λ z h. a_rule (name_of a.ctor b.ctor u.0) (number_of a.fields b.fields u.1) mV.0 (of_yes equal y mE) h)
             (sound_rules w stated r as_ bs t.1 f.1 g.1)),
       ),
     )
 
-sound_rec : (w : Place) (stated r : Rec) → stated.name ≡ r.name → IsStated stated.type → RulesStated stated.recursor.rules → IsWellFormed r.type → ValuesWellFormed r.recursor.rules →
+sound_rec : (w : Place) (stated r : BlockRecursor) → stated.name ≡ r.name → IsStated stated.type → RulesStated stated.recursor.rules → IsWellFormed r.type → ValuesWellFormed r.recursor.rules →
     IsSound w (rec_steps stated r) (λ y. IsRec w stated r)
 sound_rec w a b n sa ra fb vb =
-    sound_given w (same_counts a b) recursor_differs _ (λ y. IsRec w a b) (λ e.
+    sound_given w (same_counts a b) RecursorDiffers _ (λ y. IsRec w a b) (λ e.
     let c1 : _ = and_both (nat_eq a.recursor.parameters b.recursor.parameters && nat_eq a.recursor.indices b.recursor.indices) _ e in
     let c2 : _ = and_both (nat_eq a.recursor.parameters b.recursor.parameters) (nat_eq a.recursor.indices b.recursor.indices) c1.0 in
     let c3 : _ = and_both (nat_eq a.recursor.motives b.recursor.motives && nat_eq a.recursor.minors b.recursor.minors) _ c1.1 in
@@ -118,7 +118,7 @@ sound_rec w a b n sa ra fb vb =
     sound_bind w (sort_of a.type) _ (λ l. HasSort w a.type l) (λ y. IsRec w a b) (sound_sort_of w a.type sa.0)
     (λ l h. (
       (sa.0, renamed_fine a b b.type fb),
-      λ equal mE. sound_given w equal recursor_differs (rules_steps a b a.recursor.rules b.recursor.rules) (λ y. IsRec w a b)
+      λ equal mE. sound_given w equal RecursorDiffers (rules_steps a b a.recursor.rules b.recursor.rules) (λ y. IsRec w a b)
           (λ y. sound_map w (rules_steps a b a.recursor.rules b.recursor.rules) (λ z. AreRules w a b a.recursor.rules b.recursor.rules) (λ z. IsRec w a b)
           (λ z hr. record {
             name = n;
@@ -136,27 +136,27 @@ sound_rec w a b n sa ra fb vb =
     )))
 
 -- the recomputed recursor of a name
-abbrev IfNamed : Name → List Rec → Option Rec → Type 0
+abbrev IfNamed : Name → List BlockRecursor → Option BlockRecursor → Type 0
 IfNamed c rs None = Unit {0}
-IfNamed c rs (Some r) = (c ≡ r.name) × IsWellFormed r.type × ValuesWellFormed r.recursor.rules × ((w : Place) (s : Rec) → IsRec w s r → IsOneOf w s rs)
+IfNamed c rs (Some r) = (c ≡ r.name) × IsWellFormed r.type × ValuesWellFormed r.recursor.rules × ((w : Place) (s : BlockRecursor) → IsRec w s r → IsOneOf w s rs)
 
-if_named : (rs : List Rec) (c : Name) → RecsWellFormed rs → IfNamed c rs (rec_named rs c)
+if_named : (rs : List BlockRecursor) (c : Name) → RecsWellFormed rs → IfNamed c rs (rec_named rs c)
 if_named [] c f = tt
 if_named (r ∷ rs) c f = go (same_name r.name c) refl (if_named rs c f.1)
   where
-    more : (o : Option Rec) → IfNamed c rs o → IfNamed c (r ∷ rs) o
+    more : (o : Option BlockRecursor) → IfNamed c rs o → IfNamed c (r ∷ rs) o
     more None h = tt
     more (Some x) h = (h.0, h.1, h.2, λ w s i. inr (h.3 w s i))
 
-    go : (b : Bool) → same_name r.name c ≡ b → IfNamed c rs (rec_named rs c) → IfNamed c (r ∷ rs) (elim b as (λ y. Option Rec) [ true ↦ Some r | false ↦ rec_named rs c ])
+    go : (b : Bool) → same_name r.name c ≡ b → IfNamed c rs (rec_named rs c) → IfNamed c (r ∷ rs) (elim b as (λ y. Option BlockRecursor) [ true ↦ Some r | false ↦ rec_named rs c ])
     go true e h = let n : r.name ≡ c = name_of r.name c e in (rw n refl, f.0.0, f.0.1, λ w s i. inl i)
     go false e h = more (rec_named rs c) h
 
-sound_found : (w : Place) (rs : List Rec) (s : Rec) (o : Option Rec) → IfNamed s.name rs o → IsStated s.type → RulesStated s.recursor.rules → IsSound w (compare_found s o) (λ y. IsOneOf w s rs)
+sound_found : (w : Place) (rs : List BlockRecursor) (s : BlockRecursor) (o : Option BlockRecursor) → IfNamed s.name rs o → IsStated s.type → RulesStated s.recursor.rules → IsSound w (compare_found s o) (λ y. IsOneOf w s rs)
 sound_found w rs s (Some r) h st ru = sound_map w (rec_steps s r) (λ y. IsRec w s r) (λ y. IsOneOf w s rs) (λ y i. h.3 w s i) (sound_rec w s r h.0 st ru h.1 h.2)
 sound_found w rs s None h st ru = tt
 
-pub sound_compare : (w : Place) (rs ss : List Rec) → RecsWellFormed rs → RecsStated ss → IsSound w (compare_steps rs ss) (λ y. AreRecs w rs ss)
+pub sound_compare : (w : Place) (rs ss : List BlockRecursor) → RecsWellFormed rs → RecsStated ss → IsSound w (compare_steps rs ss) (λ y. AreRecs w rs ss)
 sound_compare w rs [] f st = tt
 sound_compare w rs (s ∷ ss) f st =
     sound_bind w (compare_found s (rec_named rs s.name)) _ (λ y. IsOneOf w s rs) (λ y. AreRecs w rs (s ∷ ss))
@@ -194,6 +194,6 @@ all_ctor_entries_stated b [] st = tt
 all_ctor_entries_stated b (t ∷ ts) st =
     stated_append (ctor_entries b t t.ctors) (all_ctor_entries b ts) (ctor_entries_stated b t t.ctors st.0.1 (λ c h. h)) (all_ctor_entries_stated b ts st.1)
 
-pub rec_entries_stated : (rs : List Rec) → RecsStated rs → MembersStated (rec_entries rs)
+pub rec_entries_stated : (rs : List BlockRecursor) → RecsStated rs → MembersStated (rec_entries rs)
 rec_entries_stated [] st = tt
 rec_entries_stated (r ∷ rs) st = ((st.0.0, tt), rec_entries_stated rs st.1)

@@ -9,7 +9,7 @@ use Rattle.lk_tree.proofs.Locals.{local_of_close, bound_within}
 use Rattle.lk_rulebook.specs.Place.{RecRule}
 use Rattle.lk_tree.specs.Mentions.{same_name}
 use Rattle.lk_inductive.specs.Block.{FieldKind, plain, recursive, Field, CtorShape, TypeShape, Shape, domain}
-use Rattle.lk_inductive.specs.Recursors.{number, pis, lams, arrows, locals_from, bounds, kind_bound, fields_bound, ctors_bound, types_bound, shape_bound, elim_level, rec_params, rec_name, at_params, motive_type, motives, motive_in, motive_of, variables, with_hypothesis, hypotheses, minor_type, minor_types, minors, front, major, Restoring, as_they_are, rec_body, rec_type, with_induction, inductions, rule_body, rule_value, rules_of, past_minors, Rec, recs_from, recursors_by, recursors}
+use Rattle.lk_inductive.specs.Recursors.{number, pis, lams, arrows, locals_from, bounds, kind_bound, fields_bound, ctors_bound, types_bound, shape_bound, elim_level, rec_params, rec_name, at_params, motive_type, motives, motive_in, motive_of, variables, with_hypothesis, hypotheses, minor_type, minor_types, minors, front, major, Restoring, as_they_are, rec_body, rec_type, with_induction, inductions, rule_body, rule_value, rules_of, past_minors, BlockRecursor, recs_from, recursors_by, recursors}
 use Rattle.lk_sound.proofs.Scoped.{In, AllIn, all_in_more, fine_domain}
 
 close_bound_same : (k : ℕ) (e : Tree) → bound (close k e) ≤ bound e
@@ -262,7 +262,7 @@ abbrev pub ValuesWellFormed : List RecRule → Type 0
 ValuesWellFormed [] = Unit {0}
 ValuesWellFormed (r ∷ rs) = IsWellFormed r.value × ValuesWellFormed rs
 
-abbrev pub RecsWellFormed : List Rec → Type 0
+abbrev pub RecsWellFormed : List BlockRecursor → Type 0
 RecsWellFormed [] = Unit {0}
 RecsWellFormed (r ∷ rs) = (IsWellFormed r.type × ValuesWellFormed r.recursor.rules) × RecsWellFormed rs
 

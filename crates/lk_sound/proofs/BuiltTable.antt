@@ -20,7 +20,7 @@ use Rattle.lk_questions.specs.Built.{core_row, whnf_row, infer_row, same_parts, 
 use Rattle.lk_questions.proofs.BuiltRows.{core_part, whnf_part, infer_part}
 use Rattle.lk_verdict.specs.GoodUnit.{IsGoodUnit, IsClearLibrary}
 use Rattle.lk_verdict.specs.Verdict.{says_yes, plain_verdict}
-use Rattle.lk_verdict.specs.Built.{stage}
+use Rattle.lk_verdict.specs.Built.{built_extent}
 use Rattle.lk_sound.proofs.Pieces.{same_tree, of_decided}
 use Rattle.lk_sound.proofs.Goes.{sound_if}
 use Rattle.lk_sound.proofs.LevelTests.{complete_is_a_test}
@@ -66,5 +66,5 @@ sound_rows_by test ok w s (same a b) f = sound_same_row test ok w s a b f.0 f.1
 pub sound_rows : IsSoundTable rows
 sound_rows = sound_rows_by complete_test complete_is_a_test
 
-pub good_of_stage : (us : Library) (n budget : ℕ) → IsClearLibrary us → plain_verdict stage us n budget ≡ says_yes → IsGoodUnit us n
-good_of_stage us n budget cl h = good_of_yes stage sound_rows us n budget cl h
+pub good_of_built : (us : Library) (n budget : ℕ) → IsClearLibrary us → plain_verdict built_extent us n budget ≡ says_yes → IsGoodUnit us n
+good_of_built us n budget cl h = good_of_yes built_extent sound_rows us n budget cl h

@@ -2,7 +2,7 @@
 use Rattle.std.proofs.Common.{ℕ, suc, ◌≡◌, true, ◌&&◌, nat_eq, List, [], ◌∷◌, refl, arith}
 use Rattle.std.proofs.lemmas.Bool.Decides.{nat_tests}
 use Rattle.lk_tree.specs.Tree.{Name}
-use Rattle.lk_tree.specs.RuleNo.{block_shape}
+use Rattle.lk_tree.specs.declared.rule.Rule.TheVariants.{BlockShape}
 use Rattle.lk_rulebook.specs.Place.{Place, Block, BlockType, Ctor}
 use Rattle.lk_tree.specs.Mentions.{same_name}
 use Rattle.lk_plain.specs.Program.{done}
@@ -55,4 +55,4 @@ types_right p us (t ∷ ts) h =
 
 pub sound_counts : (w : Place) (b : Block) → IsSound w (counts_steps b) (λ y. CountsAgree b)
 sound_counts w b =
-    sound_given w (types_agree (parameters_of b) (levels_of b) b.types) block_shape (done checked) (λ y. CountsAgree b) (λ h. types_right (parameters_of b) (levels_of b) b.types h)
+    sound_given w (types_agree (parameters_of b) (levels_of b) b.types) BlockShape (done checked) (λ y. CountsAgree b) (λ h. types_right (parameters_of b) (levels_of b) b.types h)

@@ -6,7 +6,7 @@ use Rattle.lk_tree.specs.LevelTest.{level_le, right_params, distinct}
 use Rattle.lk_tree.specs.Bind.{opened, bound}
 use Rattle.lk_tree.specs.Spine.{head, args}
 use Rattle.lk_tree.specs.WellFormed.{IsWellFormed}
-use Rattle.lk_tree.specs.RuleNo.{field_universe, block_shape, constructor_result}
+use Rattle.lk_tree.specs.declared.rule.Rule.TheVariants.{BlockShape, ConstructorResult, FieldUniverse}
 use Rattle.lk_tree.proofs.LevelTests.{level_le_right}
 use Rattle.lk_tree.proofs.Zero.{zero_level_same}
 use Rattle.lk_rulebook.specs.Place.{Place, Block, BlockType, Ctor}
@@ -58,13 +58,13 @@ pub sound_fields : (w : Place) (fuel : ℕ) (F : Frame) (j n : ℕ) (r : Tree) �
 sound_fields w fuel F j zero r h = record { fields = no_field; rest = in_more j (j + 0) r (omega arith) h }
 sound_fields w fuel F j (suc n) r h = (
   h.0,
-  λ R m. sound_pi w block_shape R _ _ (λ A B e.
+  λ R m. sound_pi w BlockShape R _ _ (λ A B e.
       let p : Reduces w r (pi A B) × In j (pi A B) = pi_of w j r R A B h m e in
       let a : In j A = pi_left j A B p.1 in
       let x : In (suc j) (local j A) = next_local j A B p.1 in
       sound_bind w (fits_in F.sort A) _ (λ b. b ≡ true → FitsIn w F.sort A) (AreOpened w F j (suc n) r) (sound_fits_in w F.sort A a.0)
-      (λ allowed ha. sound_bind w (given allowed field_universe (walk fuel F (suc j) A)) _ (λ k. FitsIn w F.sort A × IsPositive w F (suc j) A k) (AreOpened w F j (suc n) r)
-      (sound_given w allowed field_universe (walk fuel F (suc j) A) (λ k. FitsIn w F.sort A × IsPositive w F (suc j) A k)
+      (λ allowed ha. sound_bind w (given allowed FieldUniverse (walk fuel F (suc j) A)) _ (λ k. FitsIn w F.sort A × IsPositive w F (suc j) A k) (AreOpened w F j (suc n) r)
+      (sound_given w allowed FieldUniverse (walk fuel F (suc j) A) (λ k. FitsIn w F.sort A × IsPositive w F (suc j) A k)
       (λ y. sound_map w (walk fuel F (suc j) A) (IsPositive w F (suc j) A) (λ k. FitsIn w F.sort A × IsPositive w F (suc j) A k) (λ k q. (ha y, q)) (sound_walk w fuel F (suc j) A (in_more j (suc j) A (omega arith) a))))
       (λ k hk. sound_bind w (fields_steps fuel F (suc j) n (opened B (local j A))) _ (AreOpened w F (suc j) n (opened B (local j A))) (AreOpened w F j (suc n) r)
       (sound_fields w fuel F (suc j) n (opened B (local j A)) (open_in j (suc j) A B (local j A) (omega arith) p.1 x))
@@ -76,7 +76,7 @@ sound_fields w fuel F j (suc n) r h = (
 
 sound_own : (w : Place) (F : Frame) (T : Name) (e : Tree) (o : Option (Name × List Tree)) → IfMember F e o → IsSound w (own_indices T o) (λ is. IsMember F T is e)
 sound_own w F T e (Some t) m =
-    sound_given w (same_name t.0 T) constructor_result (done t.1) (λ is. IsMember F T is e) (λ y. let n : t.0 ≡ T = name_of t.0 T y in rw n at m)
+    sound_given w (same_name t.0 T) ConstructorResult (done t.1) (λ is. IsMember F T is e) (λ y. let n : t.0 ≡ T = name_of t.0 T y in rw n at m)
 sound_own w F T e None m = tt
 
 pub sound_ctor : (w : Place) (fuel : ℕ) (F : Frame) (T : Name) (c : Ctor) → IsStated c.type → AllIn (length F.params) F.params → IsSound w (ctor_steps fuel F T c) (IsCtor w F T c)

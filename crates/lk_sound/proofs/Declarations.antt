@@ -3,7 +3,7 @@ use Rattle.std.proofs.Common.{ℕ}
 use Rattle.lk_tree.specs.Tree.{Level, zero_level, Tree}
 use Rattle.lk_tree.specs.Level.{SameLevel, is_zero_level}
 use Rattle.lk_tree.specs.WellFormed.{IsWellFormed}
-use Rattle.lk_tree.specs.RuleNo.{value_type}
+use Rattle.lk_tree.specs.declared.rule.Rule.TheVariants.{ValueType}
 use Rattle.lk_tree.proofs.Zero.{zero_level_same}
 use Rattle.lk_rulebook.specs.Place.{Place}
 use Rattle.lk_rulebook.specs.Rules.{HasSort}
@@ -25,7 +25,7 @@ use Rattle.lk_sound.proofs.QuotChecks.{sound_quot_steps}
 
 sound_value : (w : Place) (type value : Tree) (P : Type 0) → IsWellFormed type → IsWellFormed value → (IsOf w value type → P) → IsSound w (value_steps type value) (λ y. P)
 sound_value w type value P ft fv h =
-    (fv, λ V mV. (((well_formed_of_type mV.0).1, ft), λ equal mE. sound_given w equal value_type (done checked) (λ y. P) (λ t. h (record { inferred = V; types = mV.0; equals = of_yes equal t mE }))))
+    (fv, λ V mV. (((well_formed_of_type mV.0).1, ft), λ equal mE. sound_given w equal ValueType (done checked) (λ y. P) (λ t. h (record { inferred = V; types = mV.0; equals = of_yes equal t mE }))))
 
 sound_body : (w : Place) (d : Decl) (b : Body) → IsWellFormed d.type → BodyWellFormed b → IsSound w (body_steps d b) (λ y. (l : Level) × HasSort w d.type l × BodyDerived w d l b)
 sound_body w d as_axiom f g =

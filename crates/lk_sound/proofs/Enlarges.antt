@@ -4,7 +4,7 @@ use Rattle.lk_tree.specs.Tree.{Name, Level, Tree, var, sort, const, app, lam, pi
 use Rattle.lk_tree.specs.Bind.{opened, close, bound}
 use Rattle.lk_tree.specs.Spine.{head, args}
 use Rattle.lk_tree.specs.WellFormed.{IsWellFormed}
-use Rattle.lk_tree.specs.RuleNo.{unknown_constant, block_shape}
+use Rattle.lk_tree.specs.declared.rule.Rule.TheVariants.{UnknownConstant, BlockShape}
 use Rattle.lk_tree.proofs.Binding.{close_fine, close_bound}
 use Rattle.lk_rulebook.specs.Place.{Place, Kind, Block, BlockType, Ctor, a_type}
 use Rattle.lk_tree.specs.Mentions.{is_one_of}
@@ -97,7 +97,7 @@ sound_holds_kind w xs _ next a = a
 
 sound_holds_head : (w : Place) (ns : List Name) (h : Tree) (xs : List Tree) (next : Program Bool) → IsSound w next (λ h. Unit {0}) → IsSound w (holds_head ns h xs next) (λ h. Unit {0})
 sound_holds_head w ns (const J ls) xs next a =
-    sound_if w (is_one_of ns J || mention_none ns xs) next (look unknown_constant J λ g. holds_kind xs g.kind next) (λ y. Unit {0}) (λ y. a) (λ n. λ g m. sound_holds_kind w xs g.kind next a)
+    sound_if w (is_one_of ns J || mention_none ns xs) next (look UnknownConstant J λ g. holds_kind xs g.kind next) (λ y. Unit {0}) (λ y. a) (λ n. λ g m. sound_holds_kind w xs g.kind next a)
 sound_holds_head w ns _ xs next a = a
 
 sound_holds : (w : Place) (ns : List Name) (e : Tree) → IsSound w (holds_nested ns e) (λ h. Unit {0})
@@ -130,7 +130,7 @@ sound_held w s T₁ g c as_ st cl all false = record {
   auxs = all;
 }
 sound_held w s T₁ g c as_ st cl all true =
-    sound_given w (has_pis (length s.params) c.type) block_shape (nest_past s s.params c.type as_ >>= λ e. done (record c { type = e.0 }, e.1)) (NestsCtor w s T₁ c as_)
+    sound_given w (has_pis (length s.params) c.type) BlockShape (nest_past s s.params c.type as_ >>= λ e. done (record c { type = e.0 }, e.1)) (NestsCtor w s T₁ c as_)
     (λ y. sound_bind w (nest_past s s.params c.type as_) (λ e. done (record c { type = e.0 }, e.1)) (NestsPast w s T₁ 0 s.params c.type as_) (NestsCtor w s T₁ c as_)
     (sound_nest_past w s T₁ g s.params 0 c.type as_ g.numbered (omega arith) g.held (held_stated s c.type st cl) (omega (arith, st.1)) all)
     (λ v x. record {

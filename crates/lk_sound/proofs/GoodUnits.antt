@@ -1,7 +1,7 @@
 -- A unit that is answered yes is good.
 use Rattle.std.proofs.Common.{ℕ, ◌≡◌, List, [], ◌∷◌, Some, None, refl}
 use Rattle.std.specs.Prelude.{slice_get}
-use Rattle.lk_rulebook.specs.Place.{Place, Block, Rec}
+use Rattle.lk_rulebook.specs.Place.{Place, Block, BlockRecursor}
 use Rattle.lk_rulebook.specs.Units.{Body, as_axiom, as_def, as_thm, as_opaque, as_quot, LibraryUnit, of_decl, of_block, Library, trees_of, body_trees, place_of}
 use Rattle.lk_rulebook.specs.Scan.{IsScanned, scan_of}
 use Rattle.lk_rulebook.specs.Derived.{BodyWellFormed, DeclDerived}
@@ -15,7 +15,7 @@ use Rattle.lk_inductive.specs.Nested.{Aux}
 use Rattle.lk_inductive.specs.NestedTask.{plain_whole}
 use Rattle.lk_inductive.specs.NestedRelation.{NestedDerived}
 use Rattle.lk_verdict.specs.GoodUnit.{UnitDerived, declaration, block, nested, IsGoodUnit, IsClearLibrary}
-use Rattle.lk_verdict.specs.Verdict.{says_yes, Stage, questions_of, refused_at_once, verdict_of, plain_verdict}
+use Rattle.lk_verdict.specs.Verdict.{says_yes, Extent, questions_of, refused_at_once, verdict_of, plain_verdict}
 use Rattle.lk_verdict.proofs.Clears.{all_clear, block_clear, clear_at}
 use Rattle.lk_verdict.proofs.Verdicts.{IsAnswer, yes_answer, first_none, scanned_yes, yes_of, yes_of_whole}
 use Rattle.lk_sound.proofs.Declarations.{yes_is_good}
@@ -30,25 +30,25 @@ body_fine ps (as_thm v) h = h.0.0
 body_fine ps (as_opaque v) h = h.0.0
 body_fine ps as_quot h = tt
 
-either_block : (us : Library) (n : ℕ) (b : Block) (rs : List Rec) (s : Shape) → BlockStated b rs → (g : NestedDerived (place_of us n) b rs s) → (auxs : List Aux) → g.larger.auxs ≡ auxs → UnitDerived us n (of_block b rs)
+either_block : (us : Library) (n : ℕ) (b : Block) (rs : List BlockRecursor) (s : Shape) → BlockStated b rs → (g : NestedDerived (place_of us n) b rs s) → (auxs : List Aux) → g.larger.auxs ≡ auxs → UnitDerived us n (of_block b rs)
 either_block us n b rs s st g [] e = block (nothing_nested (place_of us n) b rs s st g e)
 either_block us n b rs s st g (a ∷ as_) e = nested g
 
-derived : (stage : Stage) → IsSoundTable stage.table → (us : Library) (n budget : ℕ) (u : LibraryUnit) → IsClearLibrary us → slice_get us n ≡ Some u → IsScanned us n u → questions_of stage us n u budget ≡ says_yes → UnitDerived us n u
-derived stage sound us n budget (of_decl d) cl at sc e =
+derived : (extent : Extent) → IsSoundTable extent.table → (us : Library) (n budget : ℕ) (u : LibraryUnit) → IsClearLibrary us → slice_get us n ≡ Some u → IsScanned us n u → questions_of extent us n u budget ≡ says_yes → UnitDerived us n u
+derived extent sound us n budget (of_decl d) cl at sc e =
     let st : AllStated (trees_of (of_decl d)) = scanned_stated (trees_of (of_decl d)) sc.trees in
     let w : Place = place_of us n [] in
-    declaration (yes_answer (outcome_of w (plain_answer stage.table w) budget (unit_steps d)) (λ y c t. DeclDerived w d) (yes_is_good stage.table sound w (all_well_stated us n) d budget (st.0.0, body_fine d.levels d.body st.1)) e).has
-derived stage sound us n budget (of_block b rs) cl at sc e =
+    declaration (yes_answer (outcome_of w (plain_answer extent.table w) budget (unit_steps d)) (λ y c t. DeclDerived w d) (yes_is_good extent.table sound w (all_well_stated us n) d budget (st.0.0, body_fine d.levels d.body st.1)) e).has
+derived extent sound us n budget (of_block b rs) cl at sc e =
     let st : BlockStated b rs = block_stated b rs (scanned_stated (trees_of (of_block b rs)) sc.trees) in
-    let a : IsAnswer (plain_whole stage.table us n b rs budget) (λ v c t. NestedDerived (place_of us n) b rs v.0) =
-    yes_answer (plain_whole stage.table us n b rs budget) (λ v c t. NestedDerived (place_of us n) b rs v.0) (yes_whole stage.table sound us n b rs budget (all_well_stated us n) (all_clear us n cl) st (block_clear b rs (clear_at us n (of_block b rs) cl at).trees))
-    (yes_of_whole stage.nested stage.table us n b rs budget e) in
+    let a : IsAnswer (plain_whole extent.table us n b rs budget) (λ v c t. NestedDerived (place_of us n) b rs v.0) =
+    yes_answer (plain_whole extent.table us n b rs budget) (λ v c t. NestedDerived (place_of us n) b rs v.0) (yes_whole extent.table sound us n b rs budget (all_well_stated us n) (all_clear us n cl) st (block_clear b rs (clear_at us n (of_block b rs) cl at).trees))
+    (yes_of_whole extent.nested extent.table us n b rs budget e) in
     either_block us n b rs a.value.0 st a.has a.has.larger.auxs refl
 
-pub good_of_yes : (stage : Stage) → IsSoundTable stage.table → (us : Library) (n budget : ℕ) → IsClearLibrary us → plain_verdict stage us n budget ≡ says_yes → IsGoodUnit us n
-good_of_yes stage sound us n budget cl h =
-    let a : (u : LibraryUnit) × (slice_get us n ≡ Some u) × (verdict_of stage us n u budget ≡ says_yes) = yes_of stage us n budget (slice_get us n) h in
-    let s : (refused_at_once stage us n a.0 ≡ None) × (questions_of stage us n a.0 budget ≡ says_yes) = scanned_yes (refused_at_once stage us n a.0) (questions_of stage us n a.0 budget) a.2 in
-    let sc : IsScanned us n a.0 = scan_right us n a.0 (first_none (scan_of us n a.0) (stage.unbuilt a.0) s.0).0 in
-    record { unit = a.0; given = a.1; scanned = sc; clear = clear_at us n a.0 cl a.1; derived = derived stage sound us n budget a.0 cl a.1 sc s.1 }
+pub good_of_yes : (extent : Extent) → IsSoundTable extent.table → (us : Library) (n budget : ℕ) → IsClearLibrary us → plain_verdict extent us n budget ≡ says_yes → IsGoodUnit us n
+good_of_yes extent sound us n budget cl h =
+    let a : (u : LibraryUnit) × (slice_get us n ≡ Some u) × (verdict_of extent us n u budget ≡ says_yes) = yes_of extent us n budget (slice_get us n) h in
+    let s : (refused_at_once extent us n a.0 ≡ None) × (questions_of extent us n a.0 budget ≡ says_yes) = scanned_yes (refused_at_once extent us n a.0) (questions_of extent us n a.0 budget) a.2 in
+    let sc : IsScanned us n a.0 = scan_right us n a.0 (first_none (scan_of us n a.0) (extent.unbuilt a.0) s.0).0 in
+    record { unit = a.0; given = a.1; scanned = sc; clear = clear_at us n a.0 cl a.1; derived = derived extent sound us n budget a.0 cl a.1 sc s.1 }

@@ -5,7 +5,7 @@ use Rattle.lk_tree.specs.Tree.{Name, Level, zero_level, Tree, const, pi, proj}
 use Rattle.lk_tree.specs.Level.{SameLevel, is_zero_level}
 use Rattle.lk_tree.specs.Bind.{opened, has_var}
 use Rattle.lk_tree.specs.Levels.{put_levels}
-use Rattle.lk_tree.specs.RuleNo.{bad_projection, prop_projection}
+use Rattle.lk_tree.specs.declared.rule.Rule.TheVariants.{BadProjection, PropProjection}
 use Rattle.lk_tree.specs.Spine.{apply, head, args}
 use Rattle.lk_tree.specs.WellFormed.{IsWellFormed, AllWellFormed, LocalsWithin}
 use Rattle.lk_tree.proofs.Binding.{open_fine}
@@ -41,7 +41,7 @@ sound_past : (w : Place) (s : Tree) (bs : List Tree) (n : ℕ) (r : Tree) → Al
 sound_past w s bs zero r f l k = (no_more, k)
 sound_past w s (b ∷ bs) (suc n) r f l k = (
   k.0,
-  λ R m. sound_pi w bad_projection R (λ p. past_parameters bs n (opened p.1 b)) _ (λ A B e.
+  λ R m. sound_pi w BadProjection R (λ p. past_parameters bs n (opened p.1 b)) _ (λ A B e.
       sound_map w (past_parameters bs n (opened B b)) (λ t. PastParameters w bs n (opened B b) t × Kept s t) _
       (λ t h. (next (rw e at m.0) h.0, h.1))
       (sound_past w s bs n (opened B b) f.1 (λ j T x. l j T (inr x)) (kept_open s b A B R r w k m e (f.0, λ j T x. l j T (inl x))))),
@@ -73,20 +73,20 @@ sound_field : (w : Place) (S : Name) (s : Tree) → IsWellFormed s → (l : Leve
     IsSound w (field_type S s (is_zero_level l) j n r) (λ A. FieldOf w S s l j i r A × LocalsWithin s A)
 sound_field w S s fs l j i zero r e k = (
   k.0,
-  λ R m. sound_pi w bad_projection R _ _ (λ A B eR.
+  λ R m. sound_pi w BadProjection R _ _ (λ A B eR.
       let c : Reduces w r (pi A B) = rw eR at m.0 in
       let fA : IsWellFormed A = (well_formed_of_reduct c).1.0 in
       sound_bind w (is_prop_if (is_zero_level l) A) _ _ _ (sound_prop w (is_zero_level l) A fA)
-      (λ ok h. sound_given w ok prop_projection (done A) _
+      (λ ok h. sound_given w ok PropProjection (done A) _
       (λ y. (here_at w S s l j i r A B e c (λ z. h y (zero_then l z)), λ x T t. k.1 x T (m.1 x T (rw eR (inl t))))))),
 )
 sound_field w S s fs l j i (suc n) r e k = (
   k.0,
-  λ R m. sound_pi w bad_projection R _ _ (λ A B eR.
+  λ R m. sound_pi w BadProjection R _ _ (λ A B eR.
       let c : Reduces w r (pi A B) = rw eR at m.0 in
       let fA : IsWellFormed A = (well_formed_of_reduct c).1.0 in
       sound_bind w (is_prop_if (is_zero_level l && has_var 0 B) A) _ _ _ (sound_prop w (is_zero_level l && has_var 0 B) A fA)
-      (λ ok h. sound_given w ok prop_projection (field_type S s (is_zero_level l) (suc j) n (opened B (proj S j s))) _
+      (λ ok h. sound_given w ok PropProjection (field_type S s (is_zero_level l) (suc j) n (opened B (proj S j s))) _
       (λ y. sound_map w (field_type S s (is_zero_level l) (suc j) n (opened B (proj S j s))) (λ C. FieldOf w S s l (suc j) i (opened B (proj S j s)) C × LocalsWithin s C) _
       (λ C g. (past c (λ z v. h y (both (is_zero_level l) (has_var 0 B) (zero_then l z) v)) g.0, g.1))
       (sound_field w S s fs l (suc j) i n (opened B (proj S j s)) (omega (arith, e)) (kept_open s (proj S j s) A B R r w k m eR (fs, within_refl s)))))),
@@ -120,7 +120,7 @@ sound_struct w ok S i s T fs hT wT ls eT g mg block ind kg (c ∷ []) ec =
     let fargs : AllWellFormed (args T) = (well_formed_of_apply (const S ls) (args T) (rw eT fT)).1 in
     let st : IsStated c.type = first_stated ind.ctors c ec (ctors_of g block ind kg (ok S g mg).1) in
     let ty : Tree = put_levels c.levels ls c.type in
-    sound_given w counts bad_projection _ (IsJustified w (infer (proj S i s)))
+    sound_given w counts BadProjection _ (IsJustified w (infer (proj S i s)))
     (λ t. sound_bind w (sort_of T) _ (λ l. HasSort w T l) (IsJustified w (infer (proj S i s))) (sound_sort_of w T fT)
     (λ l hl. sound_bind w (with_params c.levels ls c.type) _ (λ r. (r ≡ ty) × (length ls ≡ length c.levels)) (IsJustified w (infer (proj S i s)))
     (sound_with_params w c.levels ls c.type (λ r. (r ≡ ty) × (length ls ≡ length c.levels)) (λ count. (refl, count)))

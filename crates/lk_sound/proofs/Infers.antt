@@ -2,7 +2,7 @@
 use Rattle.std.proofs.Common.{ℕ, ◌≡◌, ◌≤◌, inl, inr, List, arith}
 use Rattle.lk_tree.specs.Tree.{Name, Level, Tree, succ_level, sort, const, app, lam, pi, let_in, local, proj, lit, str}
 use Rattle.lk_tree.specs.Bind.{opened, close, bound}
-use Rattle.lk_tree.specs.RuleNo.{not_a_function, argument_type, let_type}
+use Rattle.lk_tree.specs.declared.rule.Rule.TheVariants.{NotAFunction, ArgumentType, LetType}
 use Rattle.lk_tree.specs.Levels.{put_levels}
 use Rattle.lk_tree.specs.WellFormed.{IsWellFormed, IsWellFormedUnder, LocalsWithin}
 use Rattle.lk_tree.proofs.Binding.{open_fine}
@@ -63,12 +63,12 @@ infer_app w f a ff fa = (
   ff,
   λ F mF. (
     (well_formed_of_type mF.0).1,
-    λ S mS. sound_pi w not_a_function S _ (IsJustified w (infer (app f a))) (λ A B e.
+    λ S mS. sound_pi w NotAFunction S _ (IsJustified w (infer (app f a))) (λ A B e.
         let r : Reduces w F (pi A B) = rw e at mS.0 in (
           fa,
           λ A' mA. (
             ((well_formed_of_type mA.0).1, (well_formed_of_reduct r).1.0),
-            λ equal mE. sound_given w equal argument_type (done (opened B a)) (IsJustified w (infer (app f a)))
+            λ equal mE. sound_given w equal ArgumentType (done (opened B a)) (IsJustified w (infer (app f a)))
                 (λ t. (t_app mF.0 r mA.0 (of_yes equal t mE), app_within f a F S A B mF.1 mS.1 e)),
           ),
         )),
@@ -111,7 +111,7 @@ infer_let w A v b fA fv fb =
       fv,
       λ V mV. (
         ((well_formed_of_type mV.0).1, fA),
-        λ equal mE. sound_given w equal let_type _ (IsJustified w (infer (let_in A v b)))
+        λ equal mE. sound_given w equal LetType _ (IsJustified w (infer (let_in A v b)))
             (λ t. (
               open_fine 0 v b fb fv,
               λ B m. (

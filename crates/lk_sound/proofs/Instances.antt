@@ -5,7 +5,7 @@ use Rattle.lk_tree.specs.Tree.{Name, Level, Tree, var, sort, const, app, lam, pi
 use Rattle.lk_tree.specs.Bind.{open_at, open_var, opened, bound}
 use Rattle.lk_tree.specs.Levels.{put_levels}
 use Rattle.lk_tree.specs.WellFormed.{IsWellFormed, IsWellFormedUnder, HasLocal, AllWellFormed}
-use Rattle.lk_tree.specs.RuleNo.{level_count, block_shape}
+use Rattle.lk_tree.specs.declared.rule.Rule.TheVariants.{LevelCount, BlockShape}
 use Rattle.lk_tree.proofs.Binding.{open_fine, Opening, opening, below, at, above}
 use Rattle.lk_tree.proofs.Locals.{local_of_open, below_bound, bound_least}
 use Rattle.lk_tree.proofs.Lists.{AnyLocal}
@@ -139,8 +139,8 @@ pub record IsPut (s : Setting) (ls : List Level) (bs : List Tree) (us : List Nam
 
 pub sound_at : (w : Place) (s : Setting) (ls : List Level) (bs : List Tree) (us : List Name) (e : Tree) → AllHeld 0 s bs → IsStated e → Clear e → IsSound w (at_args ls bs us e) (IsPut s ls bs us e)
 sound_at w s ls bs us e hb st c =
-    sound_given w (nat_eq (length ls) (length us)) level_count (given (has_pis (length bs) e) block_shape (past_pis bs (put_levels us ls e))) (IsPut s ls bs us e)
-    (λ n. sound_given w (has_pis (length bs) e) block_shape (past_pis bs (put_levels us ls e)) (IsPut s ls bs us e)
+    sound_given w (nat_eq (length ls) (length us)) LevelCount (given (has_pis (length bs) e) BlockShape (past_pis bs (put_levels us ls e))) (IsPut s ls bs us e)
+    (λ n. sound_given w (has_pis (length bs) e) BlockShape (past_pis bs (put_levels us ls e)) (IsPut s ls bs us e)
     (λ y. sound_map w (past_pis bs (put_levels us ls e)) (λ r. Instance bs (put_levels us ls e) r × HeldUnder 0 s r) (IsPut s ls bs us e)
     (λ r h. record { counts = grind (arith, nat_tests, n); instance = h.0; held = h.1 })
     (sound_past w s bs (put_levels us ls e) hb (held_put s us ls e st c))))

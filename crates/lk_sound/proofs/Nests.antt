@@ -4,7 +4,7 @@ use Rattle.std.proofs.lemmas.Bool.Decides.{nat_tests}
 use Rattle.lk_tree.specs.Tree.{Name, Level, param, Tree, var, sort, const, app, lam, pi, let_in, proj, lit, wide, str, local}
 use Rattle.lk_tree.specs.Spine.{apply, head, args}
 use Rattle.lk_tree.specs.WellFormed.{IsWellFormed, IsWellFormedUnder, HasLocal}
-use Rattle.lk_tree.specs.RuleNo.{unknown_constant, nested_form}
+use Rattle.lk_tree.specs.declared.rule.Rule.TheVariants.{UnknownConstant, NestedForm}
 use Rattle.lk_tree.proofs.Binding.{fine_more}
 use Rattle.lk_tree.proofs.Lists.{local_of_apply}
 use Rattle.lk_tree.proofs.Spines.{fine_apply}
@@ -116,7 +116,7 @@ sound_met w s T₁ d e as_ J ls bs b t ps ear h is all (Some i) f =
       auxs = all;
     }
 sound_met w s T₁ d e as_ J ls bs b t ps ear h is all None f =
-    sound_given w (nat_le (length as_ + suc (other_count J b.types)) 1024) nested_form (family_of s ls bs J b t >>= λ ms. done (aux_applied s (length as_), as_ ++ ms)) (Nests w s T₁ d e as_)
+    sound_given w (nat_le (length as_ + suc (other_count J b.types)) 1024) NestedForm (family_of s ls bs J b t >>= λ ms. done (aux_applied s (length as_), as_ ++ ms)) (Nests w s T₁ d e as_)
     (λ z. sound_bind w (family_of s ls bs J b t) (λ ms. done (aux_applied s (length as_), as_ ++ ms)) (IsFamily w s J ls bs) (Nests w s T₁ d e as_)
     (sound_family w s ls bs J b t ps h ear.type ear.ctors ear.types ear.clear.0.0 ear.clear.0.1 ear.clear.1)
     (λ ms hms.
@@ -173,7 +173,7 @@ earlier_of w s J g b t ok cl m k n =
 replaced_nests : (w : Place) (s : Setting) (T₁ : Name) (d : ℕ) (e : Tree) (as_ : List Aux) (J : Name) (ls : List Level) (xs : List Tree) (b : Block) (t : BlockType) → ParamsHeld s → IsEarlier w s J b t →
     length xs ≡ t.parameters → AllHeld d s xs → e ≡ apply (const J ls) xs → AllAux w s as_ → IsSound w (replaced s as_ J ls xs b t) (Nests w s T₁ d e as_)
 replaced_nests w s T₁ d e as_ J ls xs b t ps ear n hx is all =
-    sound_given w (may_nest s.params xs) nested_form (met s as_ J ls xs b t (aux_at 0 as_ J ls xs)) (Nests w s T₁ d e as_)
+    sound_given w (may_nest s.params xs) NestedForm (met s as_ J ls xs b t (aux_at 0 as_ J ls xs)) (Nests w s T₁ d e as_)
     (λ y.
     let c : AllHeld 0 s xs × AreOverParams s.params xs = closed_args d s xs hx y in
     sound_met w s T₁ d e as_ J ls xs b t ps ear (record { entry = ear.entry; given = ear.given; kind = ear.kind; earlier = ear.earlier; parameters = n; args = c.1; held = c.0 }) is all
@@ -194,7 +194,7 @@ not_either false b h = refl
 head_nests : (w : Place) (s : Setting) (T₁ : Name) (d : ℕ) (e : Tree) (as_ : List Aux) (xs : List Tree) (next : Program (Tree × List Aux)) → WellStated w → IsClear w → ParamsHeld s → AllHeld d s xs → AllAux w s as_ → IsSound w next (Nests w s T₁ d e as_) →
     (h : Tree) → e ≡ apply h xs → IsSound w (at_head s as_ h xs next) (Nests w s T₁ d e as_)
 head_nests w s T₁ d e as_ xs next ok cl ps hx all h (const J ls) is =
-    sound_if w (is_one_of s.names J || mention_none s.names xs) next (look unknown_constant J λ g. at_kind s as_ J ls xs g.kind next) (Nests w s T₁ d e as_)
+    sound_if w (is_one_of s.names J || mention_none s.names xs) next (look UnknownConstant J λ g. at_kind s as_ J ls xs g.kind next) (Nests w s T₁ d e as_)
     (λ y. h) (λ n. λ g m. kind_nests w s T₁ d e as_ J ls xs g next ok cl ps m (not_either (is_one_of s.names J) (mention_none s.names xs) n) hx is all h g.kind refl)
 head_nests w s T₁ d e as_ xs next ok cl ps hx all h _ is = h
 

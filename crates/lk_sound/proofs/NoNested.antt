@@ -10,7 +10,7 @@ use Rattle.lk_rulebook.specs.Units.{Members}
 use Rattle.lk_plain.specs.Sound.{IsStated, CtorsStated, TypesStated}
 use Rattle.lk_inductive.specs.Block.{Shape}
 use Rattle.lk_inductive.specs.Relation.{AreNumbered, IsBlock}
-use Rattle.lk_inductive.specs.Recursors.{number, Rec, minors, recursors_by}
+use Rattle.lk_inductive.specs.Recursors.{number, BlockRecursor, minors, recursors_by}
 use Rattle.lk_inductive.specs.Compare.{AreRecs}
 use Rattle.lk_inductive.specs.Whole.{partial_types, partial_members, BlockStated, BlockDerived}
 use Rattle.lk_inductive.specs.Nested.{Setting, Larger, larger_block, bare_entries}
@@ -107,7 +107,7 @@ no_types w s ms i (t ∷ ts) (aux_more e x h) = absurd cc
 larger_same : (lg : Larger) (b : Block) → lg.own ≡ b.types → lg.aux ≡ [] → larger_block lg ≡ b
 larger_same lg b e f = ap (λ ts. record { types = ts ++ lg.aux }) e ∙ (ap (λ us. record { types = b.types ++ us }) f ∙ ap (λ ts. record { types = ts }) (append-nil b.types))
 
-pub nothing_nested : (places : Members → Place) (b : Block) (stated : List Rec) (s : Shape) → BlockStated b stated → (g : NestedDerived places b stated s) → g.larger.auxs ≡ [] → BlockDerived places b stated s
+pub nothing_nested : (places : Members → Place) (b : Block) (stated : List BlockRecursor) (s : Shape) → BlockStated b stated → (g : NestedDerived places b stated s) → g.larger.auxs ≡ [] → BlockDerived places b stated s
 nothing_nested places b stated s st g none =
     let lg : Larger = g.larger in
     let set : Setting = setting_of b s.params in

@@ -5,7 +5,7 @@ use Rattle.lk_tree.specs.Level.{SameLevel}
 use Rattle.lk_tree.specs.LevelTest.{level_test}
 use Rattle.lk_tree.specs.Bind.{opened, close}
 use Rattle.lk_tree.specs.WellFormed.{IsWellFormed, HasLocal, AllWellFormed}
-use Rattle.lk_tree.specs.RuleNo.{block_shape}
+use Rattle.lk_tree.specs.declared.rule.Rule.TheVariants.{BlockShape}
 use Rattle.lk_tree.proofs.Binding.{close_fine}
 use Rattle.lk_tree.proofs.Locals.{local_of_close, reopens}
 use Rattle.lk_tree.proofs.Lists.{AnyLocal}
@@ -83,7 +83,7 @@ pub sound_aux_sorts : (w : Place) (l : Level) (as_ : List Aux) → IsSound w (au
 sound_aux_sorts w l [] = tt
 sound_aux_sorts w l (a ∷ as_) =
     sound_bind w (tested (level_test a.sort l)) _ _ (λ y. SortsAgree l (a ∷ as_)) (sound_tested w a.sort l (level_test a.sort l) refl)
-    (λ equal h. sound_given w equal block_shape (aux_sorts l as_) (λ y. SortsAgree l (a ∷ as_))
+    (λ equal h. sound_given w equal BlockShape (aux_sorts l as_) (λ y. SortsAgree l (a ∷ as_))
     (λ y. sound_map w (aux_sorts l as_) (λ z. SortsAgree l as_) (λ z. SortsAgree l (a ∷ as_)) (λ z k. (of_yes equal y h, k)) (sound_aux_sorts w l as_)))
 
 -- auxiliary type with this number

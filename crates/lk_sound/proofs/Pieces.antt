@@ -8,7 +8,7 @@ use Rattle.lk_tree.specs.LevelTest.{level_test}
 use Rattle.lk_tree.proofs.LevelTests.{level_test_right}
 use Rattle.lk_tree.specs.Mentions.{same_name}
 use Rattle.lk_questions.specs.Levels.{tested}
-use Rattle.lk_tree.specs.RuleNo.{RuleNo}
+use Rattle.lk_tree.specs.declared.rule.Rule.{Rule}
 use Rattle.lk_tree.specs.Levels.{put_levels}
 use Rattle.lk_tree.specs.WellFormed.{IsWellFormed}
 use Rattle.lk_rulebook.specs.Place.{Place, Entry, Kind, a_def, a_thm, an_axiom, an_opaque, a_quot, a_type, a_ctor, a_rec}
@@ -18,7 +18,7 @@ use Rattle.lk_plain.specs.Program.{Program, done, ◌>>=◌}
 use Rattle.lk_questions.specs.Steps.{given, as_sort, as_pi, sort_of, with_params, with_levels, value_of, decided, is_same_tree}
 use Rattle.lk_plain.specs.Sound.{IfYes, IsSound, IsStated, KindStated}
 
-pub sound_given : {A : Type 0} (w : Place) (b : Bool) (r : RuleNo) (p : Program A) (P : A → Type 0) → (b ≡ true → IsSound w p P) → IsSound w (given b r p) P
+pub sound_given : {A : Type 0} (w : Place) (b : Bool) (r : Rule) (p : Program A) (P : A → Type 0) → (b ≡ true → IsSound w p P) → IsSound w (given b r p) P
 sound_given w true r p P h = h refl
 sound_given w false r p P h = tt
 
@@ -41,7 +41,7 @@ as_sort_sound w e T _ h r = tt
 pub sound_sort_of : (w : Place) (e : Tree) → IsWellFormed e → IsSound w (sort_of e) (λ l. HasSort w e l)
 sound_sort_of w e f = (f, λ T m. ((well_formed_of_type m.0).1, λ S n. as_sort_sound w e T S m.0 n.0))
 
-pub sound_pi : {A : Type 0} (w : Place) (r : RuleNo) (S : Tree) (k : Tree × Tree → Program A) (P : A → Type 0) →
+pub sound_pi : {A : Type 0} (w : Place) (r : Rule) (S : Tree) (k : Tree × Tree → Program A) (P : A → Type 0) →
     ((A B : Tree) → S ≡ pi A B → IsSound w (k (A, B)) P) → IsSound w (as_pi r S >>= k) P
 sound_pi w r (pi A B) k P h = h A B refl
 sound_pi w r _ k P h = tt

@@ -4,7 +4,7 @@ use Rattle.std.proofs.lemmas.Bool.Decides.{nat_tests}
 use Rattle.lk_tree.specs.Tree.{Name, name_discrete, Tree, const, pi, local}
 use Rattle.lk_tree.specs.Bind.{opened, bound}
 use Rattle.lk_tree.specs.Spine.{apply, head, args}
-use Rattle.lk_tree.specs.RuleNo.{not_positive}
+use Rattle.lk_tree.specs.declared.rule.Rule.TheVariants.{NotPositive}
 use Rattle.lk_tree.proofs.Within.{apply_head_args}
 use Rattle.lk_rulebook.specs.Place.{Place}
 use Rattle.lk_tree.specs.Mentions.{mentions, same_name}
@@ -119,7 +119,7 @@ sound_walk_on : (w : Place) (F : Frame) (j : ℕ) (A A' : Tree) (next : ℕ → 
     Reduces w A A' → In j A' → IsSound w (walk_on next F j A') (IsPositive w F j A)
 sound_walk_on w F j A (pi D E) next f c h =
     let x : In (suc j) (local j D) = next_local j D E h in
-    sound_if w (mentions F.names D) (refuse not_positive) _ (IsPositive w F j A) (λ y. tt)
+    sound_if w (mentions F.names D) (refuse NotPositive) _ (IsPositive w F j A) (λ y. tt)
     (λ n. sound_bind w (next (suc j) (opened E (local j D))) (λ k. done (under (local j D) k)) (IsPositive w F (suc j) (opened E (local j D))) (IsPositive w F j A)
     (f (suc j) (opened E (local j D)) (open_in j (suc j) D E (local j D) (omega arith) h x))
     (λ k p. arrow c h.1 n p))

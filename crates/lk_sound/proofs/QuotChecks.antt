@@ -1,7 +1,7 @@
 -- The check of a constant of quotient types is right.
 use Rattle.std.proofs.Common.{◌≡◌, Bool, true, false, ◌&&◌, nat_eq, List, [], ◌∷◌, length, Option, Some, None, refl, if◌then◌else◌}
 use Rattle.lk_tree.specs.Tree.{Name, Tree}
-use Rattle.lk_tree.specs.RuleNo.{quot_shape}
+use Rattle.lk_tree.specs.declared.rule.Rule.TheVariants.{QuotShape}
 use Rattle.lk_rulebook.specs.Place.{Place, Entry, Kind, Ctor, a_type}
 use Rattle.lk_rulebook.specs.Names.{eq, eq_refl, quot, quot_mk}
 use Rattle.lk_tree.specs.Mentions.{same_name}
@@ -15,7 +15,7 @@ use Rattle.lk_sound.proofs.Pieces.{Some_inj, sound_given, halves, equal_numbers,
 use Rattle.lk_sound.proofs.Quots.{quot_kind}
 
 sound_quot_given : (w : Place) (c : Name) → IsSound w (quot_given c) (λ u. IsQuot w c)
-sound_quot_given w c = λ g m. sound_given w (by_quot g.kind) quot_shape (done tt) (λ u. IsQuot w c) (λ h. record { entry = g; given = m; kind = quot_kind g.kind h })
+sound_quot_given w c = λ g m. sound_given w (by_quot g.kind) QuotShape (done tt) (λ u. IsQuot w c) (λ h. record { entry = g; given = m; kind = quot_kind g.kind h })
 
 eq_level : (ps : List Name) (type : Tree) → is_eq_type ps type ≡ true → (u : Name) × (ps ≡ u ∷ []) × (type ≡ eq_type u)
 eq_level (u ∷ []) type h = (u, refl, same_tree type (eq_type u) h)
@@ -60,7 +60,7 @@ has_eq w g m (a_type block t) k h =
 has_eq w g m _ k h = absurd cc
 
 sound_eq_shape : (w : Place) → IsSound w eq_shape (λ u. HasEq w)
-sound_eq_shape w = λ g m. sound_given w (is_eq g g.kind) quot_shape (done tt) (λ u. HasEq w) (λ h. has_eq w g m g.kind refl h)
+sound_eq_shape w = λ g m. sound_given w (is_eq g g.kind) QuotShape (done tt) (λ u. HasEq w) (λ h. has_eq w g m g.kind refl h)
 
 sound_rests : (w : Place) (q : Quotient) → IsSound w (rests_steps q) (λ u. RestsOn w q)
 sound_rests w the_type = tt
@@ -86,7 +86,7 @@ named_right (q ∷ qs) c r e = named_at q qs c r (named_right qs c r) (same_name
 sound_quotient : (w : Place) (c : Name) (ps : List Name) (type : Tree) (o : Option Quotient) → quotient_named quotients c ≡ o → IsSound w (quotient_steps o ps type) (λ u. IsQuotient w c ps type)
 sound_quotient w c ps type None e = tt
 sound_quotient w c ps type (Some q) e =
-    sound_given w (is_this (quot_type q ps) type) quot_shape (rests_steps q) (λ u. IsQuotient w c ps type)
+    sound_given w (is_this (quot_type q ps) type) QuotShape (rests_steps q) (λ u. IsQuotient w c ps type)
     (λ h. sound_map w (rests_steps q) (λ u. RestsOn w q) (λ u. IsQuotient w c ps type)
     (λ u r. record { constant = q; name_is = named_right quotients c q e; type_is = this_right (quot_type q ps) type h; rests = r }) (sound_rests w q))
 

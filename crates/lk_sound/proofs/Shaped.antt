@@ -3,7 +3,7 @@ use Rattle.std.proofs.Common.{◌≡◌, Bool, true, false, ◌&&◌, nat_eq, Li
 use Rattle.lk_tree.specs.Tree.{Level, zero_level, succ_level, Tree, sort, pi}
 use Rattle.lk_tree.specs.Level.{SameLevel}
 use Rattle.lk_tree.specs.LevelTest.{level_test}
-use Rattle.lk_tree.specs.RuleNo.{builtin_shape}
+use Rattle.lk_tree.specs.declared.rule.Rule.TheVariants.{BuiltinShape}
 use Rattle.lk_rulebook.specs.Place.{Place, Entry, Kind, Block, BlockType, Ctor, a_type}
 use Rattle.lk_rulebook.specs.Names.{named, nat, nat_zero, nat_succ, string}
 use Rattle.lk_tree.specs.Mentions.{same_name}
@@ -84,9 +84,9 @@ has_nat w g m block t k h i c =
 
 sound_nat_by : (w : Place) (g : Entry) → w.means nat ≡ Some g → (k : Kind) → g.kind ≡ k → IsSound w (nat_shape_by g k) (λ u. HasNat w)
 sound_nat_by w g m (a_type block t) k =
-    sound_given w ((nat_eq (length block.types) 1 && nat_eq t.parameters 0) && (nat_eq t.indices 0 && nat_eq (length g.levels) 0)) builtin_shape _ (λ u. HasNat w)
+    sound_given w ((nat_eq (length block.types) 1 && nat_eq t.parameters 0) && (nat_eq t.indices 0 && nat_eq (length g.levels) 0)) BuiltinShape _ (λ u. HasNat w)
     (λ h. sound_bind w (is_sort_one g.type) _ (λ b. IfYes b (IsSortOne g.type)) (λ u. HasNat w) (sound_sort_one w g.type)
-    (λ b i. sound_given w (b && are_nat_ctors t.ctors) builtin_shape (done tt) (λ u. HasNat w)
+    (λ b i. sound_given w (b && are_nat_ctors t.ctors) BuiltinShape (done tt) (λ u. HasNat w)
     (λ y. let both : (b ≡ true) × (are_nat_ctors t.ctors ≡ true) = halves b (are_nat_ctors t.ctors) y in
     has_nat w g m block t k h (of_yes b both.0 i) (nat_ctors t.ctors both.1))))
 sound_nat_by w g m _ k = tt
@@ -132,4 +132,4 @@ string_of w _ h = absurd h
 
 pub sound_string_shape : (w : Place) → IsSound w string_shape (λ u. HasString w)
 sound_string_shape w = λ g m. sound_bind w (has_string_shape g g.kind) _ (λ b. IfYes b (IsStringKind w g.kind)) (λ u. HasString w) (sound_string_by w g m g.kind refl)
-    (λ b h. sound_given w b builtin_shape (done tt) (λ u. HasString w) (λ y. string_of w g.kind (of_yes b y h)))
+    (λ b h. sound_given w b BuiltinShape (done tt) (λ u. HasString w) (λ y. string_of w g.kind (of_yes b y h)))

@@ -3,9 +3,9 @@ use Rattle.std.proofs.Common.{ℕ, suc, ◌≡◌, List, [], ◌∷◌, ◌++◌
 use Rattle.std.specs.Prelude.{option_and_then}
 use Rattle.lk_tree.specs.Tree.{Name, Tree}
 use Rattle.lk_tree.specs.Bind.{bound}
-use Rattle.lk_tree.specs.RuleNo.{RuleNo}
+use Rattle.lk_tree.specs.declared.rule.Rule.{Rule}
 use Rattle.lk_tree.specs.WellFormed.{IsStated}
-use Rattle.lk_rulebook.specs.Place.{Entry, Hint, Kind, a_def, a_thm, a_type, a_rec, Ctor, BlockType, Block, RecRule, Recursor, Rec}
+use Rattle.lk_rulebook.specs.Place.{Entry, Hint, Kind, a_def, a_thm, a_type, a_rec, Ctor, BlockType, Block, RecRule, Recursor, BlockRecursor}
 use Rattle.lk_rulebook.specs.Units.{Body, as_axiom, as_def, as_thm, as_opaque, as_quot, LibraryUnit, of_decl, of_block, Library, members_of, kind_of, type_entries, all_ctor_entries, rec_members, trees_of, body_trees, type_trees, ctor_trees, all_ctor_trees, rule_trees, rec_trees, given_by, first_of_two, at_unit, flaw_of, flawless, first_giving, place_of}
 use Rattle.lk_rulebook.specs.Structures.{IsRuleOf}
 use Rattle.lk_rulebook.specs.Rules.{HasValue, of_def, of_thm}
@@ -37,20 +37,20 @@ rules_stated : (ps : List Name) (rs : List RecRule) → AllStated (rule_trees ps
 rules_stated ps [] h = tt
 rules_stated ps (r ∷ rs) h = (h.0, rules_stated ps rs h.1)
 
-recs_stated : (rs : List Rec) → AllStated (rec_trees rs) → RecsStated rs
+recs_stated : (rs : List BlockRecursor) → AllStated (rec_trees rs) → RecsStated rs
 recs_stated [] h = tt
 recs_stated (r ∷ rs) h =
     let s : AllStated (rule_trees r.levels r.recursor.rules) × AllStated (rec_trees rs) = stated_split (rule_trees r.levels r.recursor.rules) (rec_trees rs) h.1 in
     ((h.0, rules_stated r.levels r.recursor.rules s.0), recs_stated rs s.1)
 
 -- the trees of a block
-pub block_stated : (b : _) (rs : List Rec) → AllStated (trees_of (of_block b rs)) → BlockStated b rs
+pub block_stated : (b : _) (rs : List BlockRecursor) → AllStated (trees_of (of_block b rs)) → BlockStated b rs
 block_stated b rs h =
     let x : AllStated (type_trees b.types) × AllStated (all_ctor_trees b.types ++ rec_trees rs) = stated_split (type_trees b.types) (all_ctor_trees b.types ++ rec_trees rs) h in
     let y : AllStated (all_ctor_trees b.types) × AllStated (rec_trees rs) = stated_split (all_ctor_trees b.types) (rec_trees rs) x.1 in
     record { types = types_stated b.types x.0 y.0; recs = recs_stated rs y.1 }
 
-rec_members_stated : (rs : List Rec) → RecsStated rs → MembersStated (rec_members rs)
+rec_members_stated : (rs : List BlockRecursor) → RecsStated rs → MembersStated (rec_members rs)
 rec_members_stated [] h = tt
 rec_members_stated (r ∷ rs) h = ((h.0.0, h.0.1), rec_members_stated rs h.1)
 
@@ -68,7 +68,7 @@ found_stated i (u ∷ us) c e m = go (given_by (members_of u) c) refl (found_sta
     Some_is : {a b : Entry} → Some a ≡ Some b → a ≡ b
     Some_is e = cc
 
-    unflawed : (x : Entry) (o : Option RuleNo) → elim o as (λ y. Option Entry) [ None ↦ Some x | Some r ↦ None ] ≡ Some e → (o ≡ None) × (x ≡ e)
+    unflawed : (x : Entry) (o : Option Rule) → elim o as (λ y. Option Entry) [ None ↦ Some x | Some r ↦ None ] ≡ Some e → (o ≡ None) × (x ≡ e)
     unflawed x None k = (refl, Some_is k)
     unflawed x (Some r) k = absurd cc
 

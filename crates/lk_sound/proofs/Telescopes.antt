@@ -2,7 +2,7 @@
 use Rattle.std.proofs.Common.{ℕ, zero, suc, ◌≡◌, ◌+◌, ◌⊎◌, inl, inr, List, [], ◌∷◌, length, refl, ap, arith}
 use Rattle.lk_tree.specs.Tree.{Level, Tree, sort, pi, local}
 use Rattle.lk_tree.specs.Bind.{opened, bound}
-use Rattle.lk_tree.specs.RuleNo.{block_shape, parameter_differs}
+use Rattle.lk_tree.specs.declared.rule.Rule.TheVariants.{BlockShape, ParameterDiffers}
 use Rattle.lk_tree.specs.WellFormed.{HasLocal}
 use Rattle.lk_tree.proofs.Lists.{AnyLocal}
 use Rattle.lk_tree.proofs.Locals.{local_of_open}
@@ -53,7 +53,7 @@ pub sound_telescope : (w : Place) (j n : ℕ) (r : Tree) → In j r → IsSound 
 sound_telescope w j zero r h = record { telescope = no_pi; rest = in_more j (j + 0) r (omega arith) h; locals = tt; count = refl; only = only_none r }
 sound_telescope w j (suc n) r h = (
   h.0,
-  λ R m. sound_pi w block_shape R _ _ (λ A B e.
+  λ R m. sound_pi w BlockShape R _ _ (λ A B e.
       let p : Reduces w r (pi A B) × In j (pi A B) = pi_of w j r R A B h m e in
       let x : In (suc j) (local j A) = next_local j A B p.1 in
       sound_bind w (telescope (suc j) n (opened B (local j A))) (λ t. done (local j A ∷ t.0, t.1)) (IsOpened w (suc j) n (opened B (local j A))) (IsOpened w j (suc n) r)
@@ -71,10 +71,10 @@ pub sound_over : (w : Place) (k : ℕ) (ps : List Tree) (r : Tree) → AllIn k p
 sound_over w k [] r hs h = (over_none, h)
 sound_over w k (P ∷ ps) r hs h = (
   h.0,
-  λ R m. sound_pi w block_shape R _ _ (λ A B e.
+  λ R m. sound_pi w BlockShape R _ _ (λ A B e.
       let p : Reduces w r (pi A B) × In k (pi A B) = pi_of w k r R A B h m e in (
         (p.1.0.0, fine_domain P hs.0.0),
-        λ equal n. sound_given w equal parameter_differs (over ps (opened B P)) (λ t. Over w (P ∷ ps) r t × In k t)
+        λ equal n. sound_given w equal ParameterDiffers (over ps (opened B P)) (λ t. Over w (P ∷ ps) r t × In k t)
             (λ y. sound_map w (over ps (opened B P)) (λ t. Over w ps (opened B P) t × In k t) (λ t. Over w (P ∷ ps) r t × In k t)
             (λ t g. (over_one p.0 (of_yes equal y n) g.0, g.1))
             (sound_over w k ps (opened B P) hs.1 (open_in k k A B P (omega arith) p.1 hs.0))),

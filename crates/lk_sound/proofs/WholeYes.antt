@@ -13,7 +13,7 @@ use Rattle.lk_sound.proofs.WholeTable.{ans_sound}
 use Rattle.lk_inductive.specs.Block.{frame_of, parameters_of, type_entries, all_ctor_entries}
 use Rattle.lk_inductive.specs.Relation.{IsAmong, AreNumbered, IsBlock, CountsAgree}
 use Rattle.lk_inductive.specs.BlockSteps.{TypeParts, counts_steps, types_steps, all_ctor_sorts, shape_steps}
-use Rattle.lk_inductive.specs.Recursors.{Rec, recursors_by}
+use Rattle.lk_inductive.specs.Recursors.{BlockRecursor, recursors_by}
 use Rattle.lk_inductive.specs.Compare.{compare_steps, rec_entries, AreRecs}
 use Rattle.lk_inductive.specs.Whole.{partial_types, partial_members, AllCtorsSorted, BlockStated}
 use Rattle.lk_inductive.specs.Nested.{Setting, Larger, larger_block, enlarge, aux_sorts, aux_indices, bare_entries}
@@ -79,7 +79,7 @@ larger_headed before w b v lg t g e so = record {
   types = larger_over before w (setting_of b v.params) b lg v.sort v.indices g.params g.numbered e.stands_for_it e.auxs so t.types;
 }
 
-sound_nested_shape : (places : Members → Place) (fuel : ℕ) (b : Block) (stated : List Rec) (v : TypeParts) (lg : Larger) → BlockStated b stated → ((h : Members) → MembersStated h → WellStated (places h)) →
+sound_nested_shape : (places : Members → Place) (fuel : ℕ) (b : Block) (stated : List BlockRecursor) (v : TypeParts) (lg : Larger) → BlockStated b stated → ((h : Members) → MembersStated h → WellStated (places h)) →
     CountsAgree b → IsTyped (places []) b v → AllCtorsSorted (places (partial_types b)) b.types → Ground (places (partial_types b)) (setting_of b v.params) → Enlarging (places (partial_types b)) (setting_of b v.params) b lg → SortsAgree v.sort lg.auxs →
     IsSoundTask places (partial_types b) (nested_shape fuel b stated v lg) (λ s h. NestedDerived places b stated s)
 sound_nested_shape places fuel b stated v lg st ok counts t sorted g e so =
@@ -108,7 +108,7 @@ sound_nested_shape places fuel b stated v lg st ok counts t sorted g e so =
       recs = subst (λ ps. AreRecs (places last) (recursors_by (restoring_of b (setting_of b ps) lg) shape) stated) (sym block.0.1) recs;
     })))
 
-pub sound_whole : (places : Members → Place) (fuel : ℕ) (b : Block) (stated : List Rec) → BlockStated b stated → ClearTypes b.types → ((h : Members) → MembersStated h → WellStated (places h)) → IsClear (places (partial_types b)) →
+pub sound_whole : (places : Members → Place) (fuel : ℕ) (b : Block) (stated : List BlockRecursor) → BlockStated b stated → ClearTypes b.types → ((h : Members) → MembersStated h → WellStated (places h)) → IsClear (places (partial_types b)) →
     IsSoundTask places [] (whole_task fuel b stated) (λ s h. NestedDerived places b stated s)
 sound_whole places fuel b stated st clear ok cl =
     let before : Place = places [] in
@@ -160,7 +160,7 @@ half_clear us n b cl all c e d t = go (given_by (partial_types b) c) refl
     go (Some x) i m k = let q : x ≡ e = Some_is m in given_clear b b.types c e d t all all (i ∙ ap Some q) k
     go None i m k = cl c e d t m k
 
-pub yes_whole : (table : Table) → IsSoundTable table → (us : List LibraryUnit) (n : ℕ) (b : Block) (stated : List Rec) (budget : ℕ) → WellStated (place_of us n []) → IsClear (place_of us n []) → BlockStated b stated → ClearTypes b.types →
+pub yes_whole : (table : Table) → IsSoundTable table → (us : List LibraryUnit) (n : ℕ) (b : Block) (stated : List BlockRecursor) (budget : ℕ) → WellStated (place_of us n []) → IsClear (place_of us n []) → BlockStated b stated → ClearTypes b.types →
     IfAnswered (run_task (place_of us n) (λ w. plain_answer table w) [] budget (whole_task (suc budget) b stated)) (λ v c t. NestedDerived (place_of us n) b stated v.0)
 yes_whole table sound us n b stated budget ok cl st clear =
     sound_run_task (place_of us n) (λ w. plain_answer table w) (λ s h. NestedDerived (place_of us n) b stated s) (λ w wok q left a. ans_sound table sound w wok q left a) [] budget (whole_task (suc budget) b stated)

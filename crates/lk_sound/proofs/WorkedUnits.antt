@@ -6,7 +6,7 @@ use Rattle.lk_tree.specs.Bind.{open_at, close_at, bound}
 use Rattle.lk_tree.specs.Levels.{put_levels, put_in_level, level_for}
 use Rattle.lk_tree.specs.LevelTest.{level_le}
 use Rattle.lk_tree.specs.Spine.{head, args}
-use Rattle.lk_tree.specs.RuleNo.{not_positive, recursor_differs, duplicate_name}
+use Rattle.lk_tree.specs.declared.rule.Rule.TheVariants.{DuplicateName, NotPositive, RecursorDiffers}
 use Rattle.lk_rulebook.specs.Names.{nat, nat_succ, named}
 use Rattle.lk_rulebook.specs.Units.{of_block, Library}
 use Rattle.lk_plain.specs.Answer.{answer_to_depth}
@@ -17,7 +17,7 @@ use Rattle.lk_verdict.specs.GoodUnit.{IsGoodUnit}
 use Rattle.lk_verdict.proofs.Spelled.{spelled_clear}
 use Rattle.lk_sound.proofs.WholeTable.{sound_steps}
 use Rattle.lk_sound.proofs.GoodUnits.{good_of_yes}
-use Rattle.lk_verdict.specs.Built.{stage}
+use Rattle.lk_verdict.specs.Built.{built_extent}
 use Rattle.lk_verdict.specs.Verdict.{says_yes, says_no, says_steps, whole, plain_verdict}
 use native.Mathlib.Decide.{ℕ_discrete}
 
@@ -33,21 +33,21 @@ nat_short : plain_verdict whole (nats s_type) 0 236 ≡ says_steps
 unfolding answer_to_depth open_at close_at bound head args put_levels put_in_level level_for level_le tree_discrete level_discrete name_discrete list_discrete both_discrete part_discrete ℕ_discrete
 nat_short = refl
 
-nat_no : plain_verdict whole (nats (pi (named nat) (app (var 2) (app (named nat_succ) (var 0))))) 0 1000 ≡ says_no recursor_differs
+nat_no : plain_verdict whole (nats (pi (named nat) (app (var 2) (app (named nat_succ) (var 0))))) 0 1000 ≡ says_no RecursorDiffers
 unfolding answer_to_depth open_at close_at bound head args put_levels put_in_level level_for level_le tree_discrete level_discrete name_discrete list_discrete both_discrete part_discrete ℕ_discrete
 nat_no = refl
 
 -- by what the program checks today
-nat_built : plain_verdict stage (nats s_type) 0 237 ≡ says_yes
+nat_built : plain_verdict built_extent (nats s_type) 0 237 ≡ says_yes
 unfolding answer_to_depth open_at close_at bound head args put_levels put_in_level level_for level_le tree_discrete level_discrete name_discrete list_discrete both_discrete part_discrete ℕ_discrete
 nat_built = refl
 
-nat_built_short : plain_verdict stage (nats s_type) 0 236 ≡ says_steps
+nat_built_short : plain_verdict built_extent (nats s_type) 0 236 ≡ says_steps
 unfolding answer_to_depth open_at close_at bound head args put_levels put_in_level level_for level_le tree_discrete level_discrete name_discrete list_discrete both_discrete part_discrete ℕ_discrete
 nat_built_short = refl
 
 -- its recursor stated twice
-rec_twice : plain_verdict whole (of_block nat_block (nat_rec_with s_type ∷ nat_rec_with s_type ∷ []) ∷ []) 0 1000 ≡ says_no duplicate_name
+rec_twice : plain_verdict whole (of_block nat_block (nat_rec_with s_type ∷ nat_rec_with s_type ∷ []) ∷ []) 0 1000 ≡ says_no DuplicateName
 unfolding name_discrete list_discrete both_discrete part_discrete ℕ_discrete
 rec_twice = refl
 
@@ -56,7 +56,7 @@ functions_yes : plain_verdict whole (n_unit ∷ of_block of_functions [] ∷ [])
 unfolding answer_to_depth open_at close_at bound head args put_levels put_in_level level_for level_le tree_discrete level_discrete name_discrete list_discrete both_discrete part_discrete ℕ_discrete
 functions_yes = refl
 
-functions_no : plain_verdict whole (n_unit ∷ of_block (t_block (pi (pi (pi (named t_name) (named u)) (named t_name)) (named t_name))) [] ∷ []) 1 1000 ≡ says_no not_positive
+functions_no : plain_verdict whole (n_unit ∷ of_block (t_block (pi (pi (pi (named t_name) (named u)) (named t_name)) (named t_name))) [] ∷ []) 1 1000 ≡ says_no NotPositive
 unfolding answer_to_depth open_at close_at bound head args put_levels put_in_level level_for level_le tree_discrete level_discrete name_discrete list_discrete both_discrete part_discrete ℕ_discrete
 functions_no = refl
 

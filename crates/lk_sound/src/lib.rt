@@ -11,16 +11,16 @@ ghost use Rattle.lk_plain.specs.Program.{Table};
 ghost use Rattle.lk_plain.specs.Query.{Query};
 ghost use Rattle.lk_plain.specs.Sound.{IsAskable, IsJustified, WellStated, IsSoundTable};
 ghost use Rattle.lk_rulebook.specs.Derived.{DeclWellFormed, DeclDerived};
-ghost use Rattle.lk_rulebook.specs.Place.{Place, Block, Rec};
+ghost use Rattle.lk_rulebook.specs.Place.{Place, Block, BlockRecursor};
 ghost use Rattle.lk_rulebook.specs.Stated.{GivesNoLocal};
 ghost use Rattle.lk_rulebook.specs.Units.{Decl, Members, LibraryUnit, place_of, Library};
 ghost use Rattle.lk_questions.specs.Built.{rows_by, rows};
 ghost use Rattle.lk_questions.specs.Declarations.{unit_steps};
 ghost use Rattle.lk_questions.specs.Levels.{LevelTest, IsLevelTest, complete_test};
 ghost use Rattle.lk_questions.specs.Table.{steps};
-ghost use Rattle.lk_verdict.specs.Built.{stage};
+ghost use Rattle.lk_verdict.specs.Built.{built_extent};
 ghost use Rattle.lk_verdict.specs.GoodUnit.{IsGoodUnit, IsClearLibrary};
-ghost use Rattle.lk_verdict.specs.Verdict.{says_yes, Stage, whole, plain_verdict};
+ghost use Rattle.lk_verdict.specs.Verdict.{says_yes, Extent, whole, plain_verdict};
 
 /// The whole table is sound.
 pub fn whole_table_is_sound()
@@ -49,12 +49,14 @@ pub fn yes_is_a_derivation()
 
 /// A block that is answered yes under any budget, by a table that is sound, is derived, one with nested occurrences by a larger block, and its recursors too.
 pub fn yes_block_is_derived()
-    ensures each { (table : Table) (us : List LibraryUnit) (n : ℕ) (b : Block) (stated : List Rec)
+    ensures each { (table : Table) (us : List LibraryUnit) (n : ℕ) (b : Block)
+        (stated : List BlockRecursor)
         (budget : ℕ) → IsSoundTable table → WellStated (place_of us n [])
         → IsClear (place_of us n []) → BlockStated b stated → ClearTypes b.types →
         IfAnswered (plain_whole table us n b stated budget)
         (λ v c t. NestedDerived (place_of us n) b stated v.0) }
-    ensures whole { (us : List LibraryUnit) (n : ℕ) (b : Block) (stated : List Rec) (budget : ℕ)
+    ensures whole { (us : List LibraryUnit) (n : ℕ) (b : Block) (stated : List BlockRecursor)
+        (budget : ℕ)
         → WellStated (place_of us n []) → IsClear (place_of us n []) → BlockStated b stated
         → ClearTypes b.types →
         IfAnswered (plain_whole steps us n b stated budget)
@@ -63,7 +65,7 @@ pub fn yes_block_is_derived()
 
 /// Where no occurrence is nested, the block and its recursors are derived with no larger block.
 pub fn nothing_nested()
-    ensures { (places : Members → Place) (b : Block) (stated : List Rec) (s : Shape)
+    ensures { (places : Members → Place) (b : Block) (stated : List BlockRecursor) (s : Shape)
         → BlockStated b stated → (g : NestedDerived places b stated s) → g.larger.auxs ≡ []
         → BlockDerived places b stated s }
 {}
@@ -74,11 +76,11 @@ pub fn places_are_well_stated()
     ensures no_local { (us : Library) (n : ℕ) → GivesNoLocal (place_of us n []) }
 {}
 
-/// A unit that is answered yes under any budget, by a stage whose table is sound, is good: its names are new, its scan holds,
+/// A unit that is answered yes under any budget, by an extent whose table is sound, is good: its names are new, its scan holds,
 /// and it is derived from the units before it, as the file states them. The whole table is such.
 pub fn yes_unit_is_good()
-    ensures each { (stage : Stage) (us : Library) (n budget : ℕ) → IsSoundTable stage.table
-        → IsClearLibrary us → plain_verdict stage us n budget ≡ says_yes → IsGoodUnit us n }
+    ensures each { (extent : Extent) (us : Library) (n budget : ℕ) → IsSoundTable extent.table
+        → IsClearLibrary us → plain_verdict extent us n budget ≡ says_yes → IsGoodUnit us n }
     ensures whole { (us : Library) (n budget : ℕ) → IsClearLibrary us
         → plain_verdict whole us n budget ≡ says_yes → IsGoodUnit us n }
 {}
@@ -94,5 +96,5 @@ pub fn level_tests_are_sound()
 pub fn built_rows_are_sound()
     ensures sound { IsSoundTable rows }
     ensures good { (us : Library) (n budget : ℕ) → IsClearLibrary us
-        → plain_verdict stage us n budget ≡ says_yes → IsGoodUnit us n }
+        → plain_verdict built_extent us n budget ≡ says_yes → IsGoodUnit us n }
 {}

@@ -9,7 +9,6 @@ pub mod Loose
 pub mod Mentions
 pub mod Operations
 pub mod Putting
-pub mod RuleNo
 pub mod Scan
 pub mod Spine
 pub mod Tree

@@ -13,6 +13,8 @@ ghost use Rattle.lk_tree.specs.Putting.{put_at};
 ghost use Rattle.lk_tree.specs.WellFormed.{IsWellFormed, IsWellFormedUnder, IsStated};
 ghost use Rattle.lk_tree.specs.Scan.{is_bound, is_narrow, NoneTwice, none_twice, TreeOver, tree_over};
 
+pub mod rule;
+
 /// The test of whether one level is at most another holds exactly where it is so under every assignment.
 pub fn at_most_decides()
     ensures holds { (l m : Level) → level_le l m ≡ true → AtMost l m }

@@ -2,8 +2,8 @@
 use Rattle.std.proofs.Common.{ℕ, zero, suc, ◌≡◌, List, [], ◌∷◌, ◌++◌, take, Option, Some, None, refl}
 use Rattle.std.specs.Prelude.{option_and_then, slice_get}
 use Rattle.lk_tree.specs.Tree.{Name, name_discrete}
-use Rattle.lk_tree.specs.RuleNo.{RuleNo}
-use Rattle.lk_rulebook.specs.Place.{Entry, Kind, a_type, Ctor, BlockType, Block, Rec}
+use Rattle.lk_tree.specs.declared.rule.Rule.{Rule}
+use Rattle.lk_rulebook.specs.Place.{Entry, Kind, a_type, Ctor, BlockType, Block, BlockRecursor}
 use Rattle.lk_rulebook.specs.Units.{Body, as_axiom, as_def, as_thm, as_opaque, as_quot, LibraryUnit, of_decl, of_block, Library, Members, members_of, kind_of, type_entries, ctor_entries, all_ctor_entries, rec_members, Trees, trees_of, type_trees, ctor_trees, all_ctor_trees, rec_trees, given_by, first_of_two, at_unit, flaw_of, flawless, first_giving, place_of}
 use Rattle.lk_inductive.specs.NestedRelation.{Clear, ClearCtors, ClearTypes, IsClear}
 use Rattle.lk_verdict.specs.GoodUnit.{AllClear, IsClearUnit, IsClearLibrary}
@@ -22,7 +22,7 @@ clear_types (t ∷ ts) h k =
     let r : AllClear (ctor_trees t.ctors) × AllClear (all_ctor_trees ts) = clear_split (ctor_trees t.ctors) (all_ctor_trees ts) k in
     ((h.0, clear_ctors t.ctors r.0), clear_types ts h.1 r.1)
 
-pub block_clear : (b : Block) (rs : List Rec) → AllClear (trees_of (of_block b rs)) → ClearTypes b.types
+pub block_clear : (b : Block) (rs : List BlockRecursor) → AllClear (trees_of (of_block b rs)) → ClearTypes b.types
 block_clear b rs h =
     let x : AllClear (type_trees b.types) × AllClear (all_ctor_trees b.types ++ rec_trees rs) = clear_split (type_trees b.types) (all_ctor_trees b.types ++ rec_trees rs) h in
     let y : AllClear (all_ctor_trees b.types) × AllClear (rec_trees rs) = clear_split (all_ctor_trees b.types) (rec_trees rs) x.1 in
@@ -53,7 +53,7 @@ all_ctors_clear : (b : Block) (ts : List BlockType) → MembersClear (all_ctor_e
 all_ctors_clear b [] = tt
 all_ctors_clear b (t ∷ ts) = clear_append (ctor_entries b t t.ctors) (all_ctor_entries b ts) (ctors_clear b t t.ctors) (all_ctors_clear b ts)
 
-recs_clear : (rs : List Rec) → MembersClear (rec_members rs)
+recs_clear : (rs : List BlockRecursor) → MembersClear (rec_members rs)
 recs_clear [] = tt
 recs_clear (r ∷ rs) = (tt, recs_clear rs)
 
@@ -86,7 +86,7 @@ found_clear : (i : ℕ) (us : Library) (c : Name) (e : Entry) → IsClearLibrary
 found_clear i [] c e h m = absurd cc
 found_clear i (u ∷ us) c e h m = go (given_by (members_of u) c) refl (found_clear (suc i) us c e h.1) m
   where
-    unflawed : (x : Entry) (o : Option RuleNo) → elim o as (λ y. Option Entry) [ None ↦ Some x | Some r ↦ None ] ≡ Some e → x ≡ e
+    unflawed : (x : Entry) (o : Option Rule) → elim o as (λ y. Option Entry) [ None ↦ Some x | Some r ↦ None ] ≡ Some e → x ≡ e
     unflawed x None k = Some_is k
     unflawed x (Some r) k = absurd cc
 

@@ -5,7 +5,7 @@ use Rattle.lk_tree.specs.Tree.{number, name_discrete, part_discrete}
 use Rattle.lk_tree.specs.Decide.{list_discrete, both_discrete}
 use Rattle.lk_tree.specs.Bind.{bound}
 use native.Mathlib.Decide.{ℕ_discrete}
-use Rattle.lk_rulebook.specs.Place.{BlockType, Rec}
+use Rattle.lk_rulebook.specs.Place.{BlockType, BlockRecursor}
 use Rattle.lk_rulebook.specs.Units.{LibraryUnit, of_block, Library}
 use Rattle.lk_rulebook.specs.Scan.{IsScanned}
 use Rattle.lk_verdict.specs.GoodUnit.{IsGoodUnit, IsClearUnit}
@@ -32,7 +32,7 @@ pub no_local : (us : Library) (n : ℕ) → slice_get us n ≡ Some of_local →
 unfolding bound
 no_local us n at g = let s : IsScanned us n of_local = scanned_at us n of_local at g in let e : _ = s.trees.1.0.0.1 in absurd (omega (arith, e))
 
-pub no_hidden : (us : Library) (n : ℕ) (ts : List BlockType) (rs : List Rec) → slice_get us n ≡ Some (hidden ts rs) → IsGoodUnit us n → ⊥
+pub no_hidden : (us : Library) (n : ℕ) (ts : List BlockType) (rs : List BlockRecursor) → slice_get us n ≡ Some (hidden ts rs) → IsGoodUnit us n → ⊥
 no_hidden us n ts rs at g =
     let q : Some g.unit ≡ Some (hidden ts rs) = cc (g.given, at) in
     let r : g.unit ≡ hidden ts rs = unit_is q in

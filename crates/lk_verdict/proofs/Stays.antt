@@ -2,7 +2,7 @@
 use Rattle.std.proofs.Common.{ℕ, suc, ◌≡◌, ◌≤◌, ◌<◌, ◌⊎◌, inl, inr, List, [], ◌∷◌, ◌++◌, take, Option, Some, None, refl, sym, ap, ◌∙◌, arith}
 use Rattle.std.specs.Prelude.{option_and_then, slice_get}
 use Rattle.lk_tree.specs.Tree.{Name, name_discrete, Level, Tree}
-use Rattle.lk_rulebook.specs.Place.{Place, Entry, Block, Rec, a_rec}
+use Rattle.lk_rulebook.specs.Place.{Place, Entry, Block, BlockRecursor, a_rec}
 use Rattle.lk_rulebook.specs.Quotients.{IsQuot, HasEq, Quotient, the_type, the_mk, the_lift, the_ind, RestsOn}
 use Rattle.lk_rulebook.specs.Units.{Body, as_axiom, as_def, as_thm, as_opaque, as_quot, Decl, LibraryUnit, of_block, Library, Members, members_of, type_entries, all_ctor_entries, rec_members, trees_of, Found, flawless, given_by, first_giving, place_of}
 use Rattle.lk_rulebook.specs.Scan.{AreNew, IsScanned}
@@ -75,7 +75,7 @@ declaration_stays us n m d l h =
 Some_is : {a b : Entry} → Some a ≡ Some b → a ≡ b
 Some_is e = cc
 
-completes_recs : (rs : List Rec) → Completes (rec_entries rs) (rec_members rs)
+completes_recs : (rs : List BlockRecursor) → Completes (rec_entries rs) (rec_members rs)
 completes_recs [] c e g = absurd cc
 completes_recs (r ∷ rs) c e g = go (completes_recs rs c e) (name_discrete r.name c) g
   where
@@ -104,7 +104,7 @@ completes_after xs ys zs h c e g = go (given_by xs c) refl (sym (given_append xs
         let q : given_by ys c ≡ Some e = ap (λ y. first_entry y (given_by ys c)) (sym i) ∙ k in
         elim (h c e q) [ inl y ↦ inl (at None (Some e) i y) | inr y ↦ inr (y.0, at None (Some y.0) i y.1, y.2) ]
 
-completes_block : (b : Block) (rs : List Rec) → Completes (partial_types b ++ partial_members b rs) (members_of (of_block b rs))
+completes_block : (b : Block) (rs : List BlockRecursor) → Completes (partial_types b ++ partial_members b rs) (members_of (of_block b rs))
 completes_block b rs =
     completes_after (type_entries b b.types) (all_ctor_entries b b.types ++ rec_entries rs) (all_ctor_entries b b.types ++ rec_members rs)
     (completes_after (all_ctor_entries b b.types) (rec_entries rs) (rec_members rs) (completes_recs rs))
@@ -117,7 +117,7 @@ new_given us n (m ∷ ms) c e h g = go (new_given us n ms c e h.2) (name_discret
     go f (yes x) k = rw (← x) h.0
     go f (no x) k = f k
 
-pub block_stays : (us : Library) (n m : ℕ) (b : Block) (rs : List Rec) (s : Shape) → n < m → slice_get us n ≡ Some (of_block b rs) → IsScanned us n (of_block b rs) →
+pub block_stays : (us : Library) (n m : ℕ) (b : Block) (rs : List BlockRecursor) (s : Shape) → n < m → slice_get us n ≡ Some (of_block b rs) → IsScanned us n (of_block b rs) →
     BlockDerived (place_of us n) b rs s → BlockDerived (λ h. place_of us m []) b rs s
 block_stays us n m b rs s l at sc g =
     let u : LibraryUnit = of_block b rs in

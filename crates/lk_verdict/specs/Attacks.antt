@@ -1,7 +1,7 @@
 -- Units that are no good: from the first four falsehood follows where names, level parameters and trees are not scanned.
 use Rattle.std.specs.Prelude.{List, [], ◌∷◌}
 use Rattle.lk_tree.specs.Tree.{Name, text, number, Level, zero_level, succ_level, param, Tree, var, sort, const, pi, local}
-use Rattle.lk_rulebook.specs.Place.{Ctor, BlockType, Block, Rec, opaque_hint}
+use Rattle.lk_rulebook.specs.Place.{Ctor, BlockType, Block, BlockRecursor, opaque_hint}
 use Rattle.lk_inductive.specs.Nested.{aux_name}
 use Rattle.lk_rulebook.specs.Units.{Decl, as_def, LibraryUnit, of_decl, of_block, Library}
 
@@ -61,5 +61,5 @@ of_local = of_decl (record { name = t_name; levels = []; type = falsehood; body 
 abbrev pub hidden_type : BlockType
 hidden_type = record { name = aux_name 0; levels = []; type = prop; parameters = 0; indices = 0; ctors = [] }
 
-abbrev pub hidden : List BlockType → List Rec → LibraryUnit
+abbrev pub hidden : List BlockType → List BlockRecursor → LibraryUnit
 hidden ts rs = of_block (record { types = hidden_type ∷ ts }) rs

@@ -1,6 +1,6 @@
 -- What it is for a unit to be good: its scan holds, and it is derived at its own place, from the units before it.
 use Rattle.std.specs.Prelude.{ℕ, ◌≡◌, List, [], ◌∷◌, Some, slice_get}
-use Rattle.lk_rulebook.specs.Place.{Block, Rec}
+use Rattle.lk_rulebook.specs.Place.{Block, BlockRecursor}
 use Rattle.lk_rulebook.specs.Units.{Decl, LibraryUnit, of_decl, of_block, Library, place_of, Members, members_of, Trees, trees_of}
 use Rattle.lk_rulebook.specs.Scan.{IsScanned}
 use Rattle.lk_rulebook.specs.Derived.{DeclDerived}
@@ -12,8 +12,8 @@ use Rattle.lk_inductive.specs.NestedRelation.{NestedDerived, IsMarked, Clear}
 -- occurrences by those of a larger block
 pub data UnitDerived (us : Library) (n : ℕ) : LibraryUnit → Type 0 where
   declaration : {d : Decl} → DeclDerived (place_of us n []) d → UnitDerived us n (of_decl d)
-  block : {b : Block} {rs : List Rec} {s : Shape} → BlockDerived (place_of us n) b rs s → UnitDerived us n (of_block b rs)
-  nested : {b : Block} {rs : List Rec} {s : Shape} → NestedDerived (place_of us n) b rs s → UnitDerived us n (of_block b rs)
+  block : {b : Block} {rs : List BlockRecursor} {s : Shape} → BlockDerived (place_of us n) b rs s → UnitDerived us n (of_block b rs)
+  nested : {b : Block} {rs : List BlockRecursor} {s : Shape} → NestedDerived (place_of us n) b rs s → UnitDerived us n (of_block b rs)
 
 -- no member, and no constant of a tree, has a name that only auxiliary types and their constructors have
 abbrev pub NamesClear : Members → Type 0

@@ -3,41 +3,41 @@
 
 ghost use Rattle.std.specs.Prelude.{◌≡◌, ℕ, [], List, Some, take, slice_get, ◌≤◌, ◌<◌, ◌⊎◌, true};
 ghost use Rattle.lk_inductive.specs.Block.{Shape};
-ghost use Rattle.lk_inductive.specs.Recursors.{Rec};
+ghost use Rattle.lk_inductive.specs.Recursors.{BlockRecursor};
 ghost use Rattle.lk_inductive.specs.Whole.{BlockDerived};
 ghost use Rattle.lk_plain.specs.Answer.{answered};
 ghost use Rattle.lk_rulebook.specs.Derived.{DeclDerived};
-ghost use Rattle.lk_rulebook.specs.Place.{Block, BlockType, Rec};
+ghost use Rattle.lk_rulebook.specs.Place.{Block, BlockType, BlockRecursor};
 ghost use Rattle.lk_rulebook.specs.Scan.{IsScanned};
 ghost use Rattle.lk_rulebook.specs.Spelled.{library_spelled};
 ghost use Rattle.lk_rulebook.specs.Units.{Decl, place_of, of_block, Library};
 ghost use Rattle.lk_questions.specs.Table.{steps};
 ghost use Rattle.lk_verdict.specs.Attacks.{shadowed, doubled, undeclared, of_local, hidden};
-ghost use Rattle.lk_verdict.specs.Built.{stage};
+ghost use Rattle.lk_verdict.specs.Built.{built_extent};
 ghost use Rattle.lk_verdict.specs.GoodUnit.{IsGoodUnit, IsClearLibrary};
-ghost use Rattle.lk_verdict.specs.Verdict.{says_yes, says_steps, Stage, plain_verdict, IsYesFrom, IsWidened};
+ghost use Rattle.lk_verdict.specs.Verdict.{says_yes, says_steps, Extent, plain_verdict, IsYesFrom, IsWidened};
 
 /// A yes comes exactly where the budget is at least its cost, and below it the verdict is steps. No verdict but steps changes
 /// with a greater budget.
 pub fn plain_verdict_is_steady()
-    ensures yes { (stage : Stage) (us : Library) (n budget : ℕ) → plain_verdict stage us n budget
-        ≡ says_yes → (c : ℕ) × (c ≤ budget) × IsYesFrom (plain_verdict stage us n) c }
-    ensures settled { (stage : Stage) (us : Library) (n budget more : ℕ) → budget ≤ more
-        → (plain_verdict stage us n budget ≡ says_steps)
-        ⊎ (plain_verdict stage us n more ≡ plain_verdict stage us n budget) }
+    ensures yes { (extent : Extent) (us : Library) (n budget : ℕ) → plain_verdict extent us n budget
+        ≡ says_yes → (c : ℕ) × (c ≤ budget) × IsYesFrom (plain_verdict extent us n) c }
+    ensures settled { (extent : Extent) (us : Library) (n budget more : ℕ) → budget ≤ more
+        → (plain_verdict extent us n budget ≡ says_steps)
+        ⊎ (plain_verdict extent us n more ≡ plain_verdict extent us n budget) }
 {}
 
-/// A unit that is answered yes by a stage is answered yes by each wider one.
-pub fn stages_agree()
-    ensures { (stage wider : Stage) (us : Library) (n budget : ℕ) → IsWidened stage wider
-        → plain_verdict stage us n budget ≡ says_yes → plain_verdict wider us n budget ≡ says_yes }
+/// A unit that is answered yes by an extent is answered yes by each wider one.
+pub fn extents_agree()
+    ensures { (extent wider : Extent) (us : Library) (n budget : ℕ) → IsWidened extent wider
+        → plain_verdict extent us n budget ≡ says_yes → plain_verdict wider us n budget ≡ says_yes }
 {}
 
 /// The verdict of a unit, and whether it is good, rest on the units up to it alone.
 pub fn verdicts_rest_on_earlier_units()
-    ensures verdict { (stage : Stage) (us vs : Library) (n budget : ℕ) → take n us ≡ take n vs
-        → slice_get us n ≡ slice_get vs n → plain_verdict stage us n budget
-        ≡ plain_verdict stage vs n budget }
+    ensures verdict { (extent : Extent) (us vs : Library) (n budget : ℕ) → take n us ≡ take n vs
+        → slice_get us n ≡ slice_get vs n → plain_verdict extent us n budget
+        ≡ plain_verdict extent vs n budget }
     ensures good { (us vs : Library) (n : ℕ) → take n us ≡ take n vs → slice_get us n
         ≡ slice_get vs n → IsGoodUnit us n → IsGoodUnit vs n }
 {}
@@ -47,7 +47,8 @@ pub fn verdicts_rest_on_earlier_units()
 pub fn good_units_stay()
     ensures declarations { (us : Library) (n m : ℕ) (d : Decl) → n ≤ m
         → DeclDerived (place_of us n []) d → DeclDerived (place_of us m []) d }
-    ensures blocks { (us : Library) (n m : ℕ) (b : Block) (rs : List Rec) (s : Shape) → n < m
+    ensures blocks { (us : Library) (n m : ℕ) (b : Block) (rs : List BlockRecursor) (s : Shape)
+        → n < m
         → slice_get us n ≡ Some (of_block b rs) → IsScanned us n (of_block b rs) →
         BlockDerived (place_of us n) b rs s → BlockDerived (λ h. place_of us m []) b rs s }
 {}
@@ -66,6 +67,7 @@ pub fn known_attacks_are_refused()
     ensures undeclared { (us : Library) (n : ℕ) → slice_get us n ≡ Some undeclared → IsGoodUnit us n
         → ⊥ }
     ensures local { (us : Library) (n : ℕ) → slice_get us n ≡ Some of_local → IsGoodUnit us n → ⊥ }
-    ensures hidden { (us : Library) (n : ℕ) (ts : List BlockType) (rs : List Rec) → slice_get us n
+    ensures hidden { (us : Library) (n : ℕ) (ts : List BlockType) (rs : List BlockRecursor)
+        → slice_get us n
         ≡ Some (hidden ts rs) → IsGoodUnit us n → ⊥ }
 {}

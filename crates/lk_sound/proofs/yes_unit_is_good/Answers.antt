@@ -4,4 +4,4 @@ use Rattle.lk_sound.proofs.GoodUnits.{good_of_yes}
 use Rattle.lk_sound.proofs.yes_unit_is_good.Goals as goal
 
 pub returns : goal.returns
-returns c = record { each = λ stage us n budget sound cl h. good_of_yes stage sound us n budget cl h; whole = λ us n budget cl h. good_of_yes verdict.whole sound_steps us n budget cl h }
+returns c = record { each = λ extent us n budget sound cl h. good_of_yes extent sound us n budget cl h; whole = λ us n budget cl h. good_of_yes verdict.whole sound_steps us n budget cl h }

@@ -1,11 +1,11 @@
--- What a stage answers of a block its table answers too.
+-- What a part answers of a block its table answers too.
 use Rattle.std.proofs.Common.{ℕ, suc, ◌-◌, List, [], ◌++◌, refl}
-use Rattle.lk_rulebook.specs.Place.{Place, Block, Rec}
+use Rattle.lk_rulebook.specs.Place.{Place, Block, BlockRecursor}
 use Rattle.lk_rulebook.specs.Units.{Members, Library, place_of}
 use Rattle.lk_plain.specs.Query.{Query, AnswerTo}
 use Rattle.lk_plain.specs.Program.{Table}
 use Rattle.lk_plain.specs.Answer.{Outcome, plain_answer}
-use Rattle.lk_plain.specs.Parts.{IsStageOf}
+use Rattle.lk_plain.specs.Parts.{IsPartOf}
 use Rattle.lk_plain.proofs.Parts.{Gives, gives_then, gives_found, ans_gives}
 use Rattle.lk_inductive.specs.Task.{Task, done_with, stopped, asking, looking, with_partial, run_task}
 use Rattle.lk_inductive.specs.FlatTask.{flat_task, plain_flat}
@@ -22,9 +22,9 @@ task_gives places f g i h b (looking r c k) =
     gives_found r ((places h).means c) ((places h).origin c) ((places h).flaw c) (λ e. run_task places f h b (k e)) (λ e. run_task places g h b (k e)) (λ e. task_gives places f g i h b (k e))
 task_gives places f g i h b (with_partial ms t) = task_gives places f g i (h ++ ms) b t
 
-pub plain_gives : (stage table : Table) → IsStageOf stage table → (us : Library) (n : ℕ) (b : Block) (stated : List Rec) (budget : ℕ) → Gives (plain_whole stage us n b stated budget) (plain_whole table us n b stated budget)
-plain_gives stage table h us n b stated budget = task_gives (place_of us n) (λ w. plain_answer stage w) (λ w. plain_answer table w) (λ w q i. ans_gives stage table h w q i) [] budget (whole_task (suc budget) b stated)
+pub plain_gives : (part table : Table) → IsPartOf part table → (us : Library) (n : ℕ) (b : Block) (stated : List BlockRecursor) (budget : ℕ) → Gives (plain_whole part us n b stated budget) (plain_whole table us n b stated budget)
+plain_gives part table h us n b stated budget = task_gives (place_of us n) (λ w. plain_answer part w) (λ w. plain_answer table w) (λ w q i. ans_gives part table h w q i) [] budget (whole_task (suc budget) b stated)
 
 -- where nested occurrences are refused
-pub flat_gives : (stage table : Table) → IsStageOf stage table → (us : Library) (n : ℕ) (b : Block) (stated : List Rec) (budget : ℕ) → Gives (plain_flat stage us n b stated budget) (plain_flat table us n b stated budget)
-flat_gives stage table h us n b stated budget = task_gives (place_of us n) (λ w. plain_answer stage w) (λ w. plain_answer table w) (λ w q i. ans_gives stage table h w q i) [] budget (flat_task (suc budget) b stated)
+pub flat_gives : (part table : Table) → IsPartOf part table → (us : Library) (n : ℕ) (b : Block) (stated : List BlockRecursor) (budget : ℕ) → Gives (plain_flat part us n b stated budget) (plain_flat table us n b stated budget)
+flat_gives part table h us n b stated budget = task_gives (place_of us n) (λ w. plain_answer part w) (λ w. plain_answer table w) (λ w q i. ans_gives part table h w q i) [] budget (flat_task (suc budget) b stated)
