@@ -1,5 +1,5 @@
 -- What the rows of a store's tables stand for.
-use Rattle.std.specs.Prelude.{◌≡◌, ℕ, max, ◌<◌, ◌≤◌, ◌+◌, ◌-◌, ◌^◌, nat_lt, if◌then◌else◌}
+use Rattle.std.specs.Prelude.{◌≡◌, ℕ, ◌<◌, ◌≤◌, ◌+◌, ◌-◌, ◌^◌, nat_lt, if◌then◌else◌}
 use Rattle.std.specs.Prelude.{List, [], ◌∷◌, ◌++◌, length, slice_index_or}
 use Rattle.lk_tree.specs.Tree.{Name, text, number}
 use Rattle.lk_tree.specs.Tree.{Level, zero_level, succ_level, max_level, imax_level, param}
@@ -85,12 +85,6 @@ IsNameBelow texts names n.Anonymous = Unit {0}
 IsNameBelow texts names (n.Text a s) = (a < names) × (s < texts)
 IsNameBelow texts names (n.Number a i) = a < names
 
--- the last of its parts that are names, or 0
-abbrev pub last_name : NameKey → ℕ
-last_name n.Anonymous = 0
-last_name (n.Text a s) = a
-last_name (n.Number a i) = a
-
 -- a level among earlier ones
 abbrev pub key_level : List Name → List Level → LevelKey → Level
 key_level names levels Zero = zero_level
@@ -108,14 +102,6 @@ IsLevelBelow names levels (Max l m) = (l < levels) × (m < levels)
 IsLevelBelow names levels (IMax l m) = (l < levels) × (m < levels)
 IsLevelBelow names levels (Param n) = n < names
 
--- the last of its parts that are levels, or 0
-abbrev pub last_level : LevelKey → ℕ
-last_level Zero = 0
-last_level (Succ l) = l
-last_level (Max l m) = max l m
-last_level (IMax l m) = max l m
-last_level (Param n) = 0
-
 -- a list of levels among earlier ones
 abbrev pub key_list : List Level → List (List Level) → ListKey → List Level
 key_list levels lists Empty = []
@@ -125,11 +111,6 @@ key_list levels lists (Cons l ls) =
 abbrev pub IsListBelow : ℕ → ℕ → ListKey → Type 0
 IsListBelow levels lists Empty = Unit {0}
 IsListBelow levels lists (Cons l ls) = (l < levels) × (ls < lists)
-
--- the list of the others, or 0
-abbrev pub last_list : ListKey → ℕ
-last_list Empty = 0
-last_list (Cons l ls) = ls
 
 -- what trees are made of, beside trees
 pub record Parts : Type 0 where
@@ -169,16 +150,6 @@ IsTreeBelow p n (Lit i) = IsCode p.numbers i
 IsTreeBelow p n Wide = Unit {0}
 IsTreeBelow p n (Str s) = s < length p.texts
 IsTreeBelow p n (Local k T) = IsShortCode p.numbers k × (T < n)
-
--- the last of its parts that are trees, or 0
-abbrev pub last_tree : TreeKey → ℕ
-last_tree (App f a) = max f a
-last_tree (Lam A b) = max A b
-last_tree (Pi A B) = max A B
-last_tree (Let A v b) = max A (max v b)
-last_tree (Proj S i s) = s
-last_tree (Local k T) = T
-last_tree _ = 0
 
 -- what a row keeps of its tree is right
 pub record IsMarkedTree (ns : List Number) (t : Tree) (row : TreeRow) : Type 0 where

@@ -9,6 +9,7 @@ use crate::reading::{
     count_names_in, len_in, level_in, level_params_in, list_in, list_params_in, local_in, loose_in,
     name_in, narrow_in, params_in, same_in, same_name_in, text_in, view_in,
 };
+use crate::room::Room;
 use crate::tables::Tables;
 use crate::terms::Terms;
 use crate::text::Text;
@@ -21,6 +22,7 @@ pub struct BaseStore {
     /// What it lies over, which is empty.
     pub(crate) nothing: Tables,
     pub(crate) tables: Tables,
+    room: Room,
 }
 
 impl Model for BaseStore {
@@ -38,9 +40,14 @@ impl Model for BaseStore {
 
 impl Drop for BaseStore {
     fn drop(self) {
-        let BaseStore { nothing, tables } = self;
+        let BaseStore {
+            nothing,
+            tables,
+            room,
+        } = self;
         drop(nothing);
         drop(tables);
+        drop(room);
     }
 }
 
@@ -56,12 +63,13 @@ impl BaseStore {
         BaseStore {
             nothing: Tables::new(alloc),
             tables: Tables::new(alloc),
+            room: Room::new(alloc),
         }
     }
 
-    /// Gives back the memory that is set aside for more and not used; the store has what it had,
-    /// and can still be added to. It is for the end of the reading, before overlays borrow the
-    /// store: while one of them lives, nothing is added.
+    /// Gives back the memory that its tables set aside for more and do not use; the store has what
+    /// it had, and can still be added to. It is for the end of the reading, before overlays borrow
+    /// the store: while one of them lives, nothing is added.
     pub fn freeze(&mut self)
         ensures { self.new ≡ self.old }
     {
@@ -174,6 +182,14 @@ impl Terms for BaseStore {
     #[inline]
     fn same_name(&self, m: u64, n: u64) -> bool {
         same_name_in(&self.nothing, &self.tables, m, n)
+    }
+
+    fn lend_room(&mut self, alloc: Global) -> Room {
+        self.room.lend(alloc)
+    }
+
+    fn keep_room(&mut self, room: Room) {
+        self.room = room;
     }
 
     fn text(&self, s: u64) -> &Text {

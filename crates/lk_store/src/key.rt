@@ -3,7 +3,6 @@
 ghost use Rattle.std.specs.Prelude.{◌≡◌, ◌↔◌, IsTrue};
 ghost use Rattle.lk_store.specs.Hashes.{hash_of_number};
 ghost use Rattle.lk_store.specs.Keys.{hash_of_name, hash_of_level, hash_of_list, hash_of_tree};
-ghost use Rattle.lk_store.specs.Keys.{last_name, last_level, last_list, last_tree};
 
 use crate::hashing::{hash_words, mix};
 use lk_rows::row::Row;
@@ -55,19 +54,6 @@ pub enum NameKey {
     Number(u32, u64),
 }
 
-impl NameKey {
-    /// The last of its parts that are names, or 0. A name stands after them.
-    #[inline]
-    pub(crate) fn last_part(self) -> u32
-        ensures { result ≡ last_name self }
-    {
-        match self {
-            NameKey::Anonymous => 0,
-            NameKey::Text(a, _) | NameKey::Number(a, _) => a,
-        }
-    }
-}
-
 #[inline(always)]
 fn hash_name(key: &NameKey) -> u64
     ensures { result ≡ hash_of_name key.now }
@@ -112,20 +98,6 @@ pub enum LevelKey {
     Max(u32, u32),
     IMax(u32, u32),
     Param(u32),
-}
-
-impl LevelKey {
-    /// The last of its parts that are levels, or 0. A level stands after them.
-    #[inline]
-    pub(crate) fn last_part(self) -> u32
-        ensures { result ≡ last_level self }
-    {
-        match self {
-            LevelKey::Zero | LevelKey::Param(_) => 0,
-            LevelKey::Succ(a) => a,
-            LevelKey::Max(a, b) | LevelKey::IMax(a, b) => a.max(b),
-        }
-    }
 }
 
 #[inline(always)]
@@ -179,19 +151,6 @@ impl Row for LevelRow {
 pub enum ListKey {
     Empty,
     Cons(u32, u32),
-}
-
-impl ListKey {
-    /// The list of the others, or 0. A list stands after it.
-    #[inline]
-    pub(crate) fn last_part(self) -> u32
-        ensures { result ≡ last_list self }
-    {
-        match self {
-            ListKey::Empty => 0,
-            ListKey::Cons(_, b) => b,
-        }
-    }
 }
 
 #[inline(always)]
@@ -252,27 +211,6 @@ pub enum TreeKey {
     Wide,
     Str(u32),
     Local(u32, u32),
-}
-
-impl TreeKey {
-    /// The last of its parts that are trees, or 0. A tree stands after them.
-    #[inline]
-    pub(crate) fn last_part(self) -> u32
-        ensures { result ≡ last_tree self }
-    {
-        match self {
-            TreeKey::App(a, b) | TreeKey::Lam(a, b) | TreeKey::Pi(a, b) => a.max(b),
-            TreeKey::Let(a, b, c) => a.max(b.max(c)),
-            TreeKey::Proj(_, _, c) => c,
-            TreeKey::Local(_, b) => b,
-            TreeKey::Var(_)
-            | TreeKey::Sort(_)
-            | TreeKey::Const(_, _)
-            | TreeKey::Lit(_)
-            | TreeKey::Wide
-            | TreeKey::Str(_) => 0,
-        }
-    }
 }
 
 #[inline(always)]

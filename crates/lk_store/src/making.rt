@@ -1,6 +1,5 @@
 //! What is added to the tables of a store. A row is added only where none has its key, so that each
-//! thing stands once. The base is looked into only where it has all parts of the key: a row stands
-//! after its parts.
+//! thing stands once. The base is looked into only where it has all parts of the key.
 
 ghost use Rattle.std.specs.Prelude.{◌≡◌, ◌≢◌, ◌<◌, ◌≤◌, ◌^◌, ℕ, List, length};
 ghost use Rattle.std.specs.Prelude.{IfOk, OnErr, IfNone, IfSome};
@@ -18,6 +17,7 @@ ghost use Rattle.lk_store.specs.Store.{over, contents_of, IsStore, Recoded, Grow
 use crate::key::{LevelKey, LevelRow, ListKey, ListRow, NameKey, Number, TreeKey, TreeRow};
 use crate::memory::NoMemory;
 use crate::node::{LevelNode, ListNode, NameNode, Node};
+use crate::parts::{has_level_parts, has_list_parts, has_name_parts, has_tree_parts};
 use crate::reading::{level_params_in, list_params_in, marks_of};
 use crate::tables::Tables;
 use crate::text::Text;
@@ -131,6 +131,7 @@ pub(crate) fn make_level_in(
     own: &mut Tables,
     node: LevelNode,
 ) -> Result<u64, NoMemory>
+    requires base { IsStore base.now }
     requires store { IsStore (over base.now own.old) }
     requires known { IsLevelIn (contents_of (over base.now own.old)) node }
     ensures grown { Grown (over base.now own.old) (over base.now own.new) }
@@ -140,7 +141,7 @@ pub(crate) fn make_level_in(
 {
     let key = level_key(node);
     let hash = LevelRow::hash_of(&key);
-    let in_base = u64::from(key.last_part()) < base.levels.len();
+    let in_base = has_level_parts(base, key);
     match find(&base.levels, &own.levels, &key, hash, in_base) {
         Some(l) => Ok(l),
         None => {
@@ -158,6 +159,7 @@ pub(crate) fn make_level_in(
 
 /// The number of a list of levels.
 pub(crate) fn make_list_in(base: &Tables, own: &mut Tables, node: ListNode) -> Result<u64, NoMemory>
+    requires base { IsStore base.now }
     requires store { IsStore (over base.now own.old) }
     requires known { IsListIn (contents_of (over base.now own.old)) node }
     ensures grown { Grown (over base.now own.old) (over base.now own.new) }
@@ -167,7 +169,7 @@ pub(crate) fn make_list_in(base: &Tables, own: &mut Tables, node: ListNode) -> R
 {
     let key = list_key(node);
     let hash = ListRow::hash_of(&key);
-    let in_base = u64::from(key.last_part()) < base.lists.len();
+    let in_base = has_list_parts(base, key);
     match find(&base.lists, &own.lists, &key, hash, in_base) {
         Some(ls) => Ok(ls),
         None => {
@@ -180,6 +182,7 @@ pub(crate) fn make_list_in(base: &Tables, own: &mut Tables, node: ListNode) -> R
 
 /// The number of a name.
 pub(crate) fn make_name_in(base: &Tables, own: &mut Tables, node: NameNode) -> Result<u64, NoMemory>
+    requires base { IsStore base.now }
     requires store { IsStore (over base.now own.old) }
     requires known { IsNameIn (contents_of (over base.now own.old)) node }
     ensures grown { Grown (over base.now own.old) (over base.now own.new) }
@@ -189,7 +192,7 @@ pub(crate) fn make_name_in(base: &Tables, own: &mut Tables, node: NameNode) -> R
 {
     let key = name_key(node);
     let hash = NameKey::hash_of(&key);
-    let in_base = u64::from(key.last_part()) < base.names.len();
+    let in_base = has_name_parts(base, key);
     match find(&base.names, &own.names, &key, hash, in_base) {
         Some(n) => Ok(n),
         None => {
@@ -201,6 +204,7 @@ pub(crate) fn make_name_in(base: &Tables, own: &mut Tables, node: NameNode) -> R
 
 /// The number of a name, where it is there.
 pub(crate) fn find_name_in(base: &Tables, own: &Tables, node: NameNode) -> Option<u64>
+    requires base { IsStore base.now }
     requires store { IsStore (over base.now own.now) }
     requires known { IsNameIn (contents_of (over base.now own.now)) node }
     ensures absent { let c = contents_of (over base.now own.now) in
@@ -210,7 +214,7 @@ pub(crate) fn find_name_in(base: &Tables, own: &Tables, node: NameNode) -> Optio
 {
     let key = name_key(node);
     let hash = NameKey::hash_of(&key);
-    let in_base = u64::from(key.last_part()) < base.names.len();
+    let in_base = has_name_parts(base, key);
     find(&base.names, &own.names, &key, hash, in_base)
 }
 
@@ -312,6 +316,7 @@ fn tree_row_for(
 
 /// The number of a tree.
 pub(crate) fn make_in(base: &Tables, own: &mut Tables, node: Node) -> Result<u64, NoMemory>
+    requires base { IsStore base.now }
     requires store { IsStore (over base.now own.old) }
     requires known { IsIn (contents_of (over base.now own.old)) node }
     ensures grown { Grown (over base.now own.old) (over base.now own.new) }
@@ -322,7 +327,7 @@ pub(crate) fn make_in(base: &Tables, own: &mut Tables, node: Node) -> Result<u64
 {
     let key = tree_key(base, own, node)?;
     let hash = TreeRow::hash_of(&key);
-    let in_base = u64::from(key.last_part()) < base.trees.len();
+    let in_base = has_tree_parts(base, key);
     match find(&base.trees, &own.trees, &key, hash, in_base) {
         Some(e) => Ok(e),
         None => {

@@ -10,6 +10,7 @@ use crate::reading::{
     count_names_in, len_in, level_in, level_params_in, list_in, list_params_in, local_in, loose_in,
     name_in, narrow_in, params_in, same_in, same_name_in, text_in, view_in,
 };
+use crate::room::Room;
 use crate::tables::Tables;
 use crate::terms::Terms;
 use crate::text::Text;
@@ -22,6 +23,7 @@ use std::mem::drop;
 pub struct Overlay<'a> {
     base: &'a Tables,
     own: Tables,
+    room: Room,
 }
 
 impl<'a> Model for Overlay<'a> {
@@ -38,8 +40,9 @@ impl<'a> Model for Overlay<'a> {
 
 impl Drop for Overlay<'_> {
     fn drop(self) {
-        let Overlay { base: _, own } = self;
+        let Overlay { base: _, own, room } = self;
         drop(own);
+        drop(room);
     }
 }
 
@@ -55,6 +58,7 @@ impl<'a> Overlay<'a> {
         Overlay {
             base: &base.tables,
             own: Tables::new(alloc),
+            room: Room::new(alloc),
         }
     }
 
@@ -164,6 +168,14 @@ impl<'a> Terms for Overlay<'a> {
     #[inline]
     fn same_name(&self, m: u64, n: u64) -> bool {
         same_name_in(self.base, &self.own, m, n)
+    }
+
+    fn lend_room(&mut self, alloc: Global) -> Room {
+        self.room.lend(alloc)
+    }
+
+    fn keep_room(&mut self, room: Room) {
+        self.room = room;
     }
 
     fn text(&self, s: u64) -> &Text {

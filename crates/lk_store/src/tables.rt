@@ -54,7 +54,7 @@ impl Tables {
         }
     }
 
-    /// Gives back the room that nothing takes.
+    /// Gives back the memory that nothing takes.
     pub fn shrink(&mut self)
         ensures { self.new ≡ self.old }
     {
@@ -66,7 +66,7 @@ impl Tables {
         self.trees.shrink();
     }
 
-    /// Empties the tables, and keeps their rooms.
+    /// Empties the tables, and keeps their memory.
     pub fn clear(&mut self)
         ensures { self.new ≡ no_tables }
     {

@@ -6,6 +6,7 @@ ghost use Rattle.lk_tree.specs.Loose.{loose};
 ghost use Rattle.lk_tree.specs.Scan.{is_narrow};
 ghost use Rattle.lk_store.specs.Measures.{level_has_params, list_has_params, has_params};
 ghost use Rattle.lk_store.specs.Values.{AreApart};
+ghost use Rattle.lk_store.specs.Rooms.{IsEmpty};
 ghost use Rattle.lk_store.specs.Contents.{Contents, Extends};
 ghost use Rattle.lk_store.specs.Contents.{name_at, text_at, level_at, list_at, tree_at};
 ghost use Rattle.lk_store.specs.Contents.{name_of, level_of, list_of, tree_of};
@@ -14,7 +15,9 @@ ghost use Rattle.lk_store.specs.Contents.{IsName, IsText, IsLevel, IsList, IsTre
 
 use crate::memory::NoMemory;
 use crate::node::{LevelNode, ListNode, NameNode, Node};
+use crate::room::Room;
 use crate::text::Text;
+use std::alloc::Global;
 
 /// A store of names, texts, levels, lists of levels and trees. A number stands for one of them for
 /// good: what is made later changes nothing that is there.
@@ -141,6 +144,18 @@ pub trait Terms {
         requires m_in { m < length (contents self.now).names }
         requires n_in { n < length (contents self.now).names }
         ensures { IsTrue result ↔ (name_at (contents self.now) m ≡ name_at (contents self.now) n) };
+
+    /// Lends room for a walk, empty: what was given back last, or else room that has no memory yet
+    /// and takes it from `alloc`. It takes none itself.
+    fn lend_room(&mut self, alloc: Global) -> Room
+        ensures contents { contents self.new ≡ contents self.old }
+        ensures rest { rest self.new ≡ rest self.old }
+        ensures empty { IsEmpty result };
+
+    /// Takes room back, whatever is in it, and keeps its memory for the next walk.
+    fn keep_room(&mut self, room: Room)
+        ensures contents { contents self.new ≡ contents self.old }
+        ensures rest { rest self.new ≡ rest self.old };
 
     /// The text of a number.
     fn text(&self, s: u64) -> &Text

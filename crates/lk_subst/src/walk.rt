@@ -1,72 +1,19 @@
 //! Walks that build a tree anew. A walk keeps a stack of its own, and builds each pair of a number
-//! and a depth once.
+//! and a depth once. It works in room that the store lends, so that few walks take memory.
 
 ghost use Rattle.std.specs.Prelude.{◌≡◌, ◌<◌, ℕ, length, IfOk};
 ghost use Rattle.lk_tree.specs.Tree.{Tree};
 ghost use Rattle.lk_store.specs.Contents.{Contents, tree_at, Extends};
+ghost use Rattle.lk_store.specs.Rooms.{IsEmpty};
 ghost use Rattle.lk_subst.specs.Walks.{Change, Descends, IsStep, IsMade, AreMade, IsWaiting};
 ghost use Rattle.lk_subst.specs.Walks.{Begins, Resumes, IsOwn, first_of, next_of, with_child, inside};
 
-use lk_rows::row::Row;
 use lk_rows::table::Table;
-use lk_store::hashing::mix;
 use lk_store::memory::NoMemory;
 use lk_store::node::Node;
+use lk_store::room::{Child, Made, Room, Spot, Waiting};
 use lk_store::terms::Terms;
 use std::alloc::Global;
-
-/// A number under some binders.
-#[derive(Clone, Copy, PartialEq, Eq)]
-pub struct Place {
-    pub e: u64,
-    pub depth: u64,
-}
-
-/// What was made at a place.
-#[derive(Clone, Copy)]
-pub struct Made {
-    pub place: Place,
-    pub made: u64,
-}
-
-impl Row for Made {
-    type Key = Place;
-
-    ghost key = { λ m. m.place };
-
-    ghost use Rattle.lk_subst.specs.Walks.{hash_of_place};
-
-    ghost hash = { hash_of_place };
-
-    fn hash_of(wanted: &Place) -> u64 {
-        mix(wanted.e, wanted.depth)
-    }
-
-    fn own_hash(&self) -> u64 {
-        mix(self.place.e, self.place.depth)
-    }
-
-    fn has(&self, wanted: &Place) -> bool {
-        self.place == *wanted
-    }
-}
-
-/// A child of a node.
-#[derive(Clone, Copy)]
-pub enum Child {
-    First,
-    Second,
-    Third,
-}
-
-/// A node that waits for a child. The children before that one are built, and stand in the node in
-/// place of those that it had.
-#[derive(Clone, Copy)]
-pub struct Waiting {
-    pub place: Place,
-    pub node: Node,
-    pub child: Child,
-}
 
 /// What a walk does next.
 #[derive(Clone, Copy)]
@@ -190,12 +137,12 @@ fn enter<T: Terms, R: Rewrite<T>>(terms: &T, rewrite: &R, e: u64, depth: u64) ->
         (T.contents terms.now) result }
 {
     let _rewrite = rewrite;
-    let place = Place { e, depth };
+    let spot = Spot { e, depth };
     let node = terms.view(e);
     match first_child(node) {
         Some(first) => Turn::Down {
             waiting: Waiting {
-                place,
+                spot,
                 node,
                 child: Child::First,
             },
@@ -227,7 +174,7 @@ fn begin<T: Terms, R: Rewrite<T>>(
     if let Some(r) = rewrite.step(terms, e, depth)? {
         return Ok(Turn::Up { e: r });
     }
-    if let Some(i) = made.find(&Place { e, depth }) {
+    if let Some(i) = made.find(&Spot { e, depth }) {
         return Ok(Turn::Up {
             e: made.get(i).made,
         });
@@ -251,27 +198,59 @@ fn resume<T: Terms>(
     ensures goes_on { IfOk result
         (Resumes (T.contents terms.old) waiting e (T.contents terms.new)) }
 {
-    let place = waiting.place;
+    let spot = waiting.spot;
     let node = replaced(waiting.node, waiting.child, e);
     match next_child(node, waiting.child) {
         Some((child, next, under_binder)) => {
-            let depth = depth_inside(place.depth, under_binder)?;
+            let depth = depth_inside(spot.depth, under_binder)?;
             Ok(Turn::Down {
-                waiting: Waiting { place, node, child },
+                waiting: Waiting { spot, node, child },
                 e: next,
                 depth,
             })
         }
         None => {
             let r = terms.make(node)?;
-            made.push(Made { place, made: r })?;
+            made.push(Made { spot, made: r })?;
             Ok(Turn::Up { e: r })
         }
     }
 }
 
-/// What the change makes of a tree whose children are to be walked.
+/// What the change makes of a tree whose children are to be walked, in empty room.
 fn walk<T: Terms, R: Rewrite<T>>(
+    terms: &mut T,
+    rewrite: &R,
+    room: &mut Room,
+    e: u64,
+) -> Result<u64, NoMemory>
+    requires known { R.is_known rewrite.now (T.contents terms.old) }
+    requires empty { IsEmpty room.old }
+    requires e_in { e < length (T.contents terms.old).trees }
+    requires descends { Descends (R.change rewrite.now (T.contents terms.old)) 0
+        (tree_at (T.contents terms.old) e) }
+    ensures keeps { Extends (T.contents terms.old) (T.contents terms.new) }
+    ensures rest { T.rest terms.new ≡ T.rest terms.old }
+    ensures ok { IfOk result (IsMade (R.change rewrite.now (T.contents terms.old))
+        (T.contents terms.old) e 0 (T.contents terms.new)) }
+{
+    let mut turn = enter(terms, rewrite, e, 0);
+    'walk: loop {
+        match turn {
+            Turn::Down { waiting, e, depth } => {
+                room.stack.push(waiting)?;
+                turn = begin(terms, rewrite, &room.made, e, depth)?;
+            }
+            Turn::Up { e } => match room.stack.pop() {
+                None => return Ok(e),
+                Some(waiting) => turn = resume(terms, &mut room.made, waiting, e)?,
+            },
+        }
+    }
+}
+
+/// The same, in room that the store lends, which has it back however the walk ends.
+fn walk_in_lent_room<T: Terms, R: Rewrite<T>>(
     alloc: Global,
     terms: &mut T,
     rewrite: &R,
@@ -286,21 +265,10 @@ fn walk<T: Terms, R: Rewrite<T>>(
     ensures ok { IfOk result (IsMade (R.change rewrite.now (T.contents terms.old))
         (T.contents terms.old) e 0 (T.contents terms.new)) }
 {
-    let mut made: Table<Made> = Table::new(alloc);
-    let mut stack: Vec<Waiting> = Vec::new(alloc);
-    let mut turn = enter(terms, rewrite, e, 0);
-    'walk: loop {
-        match turn {
-            Turn::Down { waiting, e, depth } => {
-                stack.push(waiting)?;
-                turn = begin(terms, rewrite, &made, e, depth)?;
-            }
-            Turn::Up { e } => match stack.pop() {
-                None => return Ok(e),
-                Some(waiting) => turn = resume(terms, &mut made, waiting, e)?,
-            },
-        }
-    }
+    let mut room = terms.lend_room(alloc);
+    let made = walk(terms, rewrite, &mut room, e);
+    terms.keep_room(room);
+    made
 }
 
 /// What the change makes of a tree. Where it makes something at once, as it does where the tree's
@@ -321,6 +289,5 @@ pub fn rewritten<T: Terms, R: Rewrite<T>>(
     if let Some(r) = rewrite.step(terms, e, 0)? {
         return Ok(r);
     }
-    let r = walk(alloc, terms, rewrite, e)?;
-    Ok(r)
+    walk_in_lent_room(alloc, terms, rewrite, e)
 }

@@ -6,6 +6,7 @@ ghost use Rattle.store_bench.specs.Listing.{listed, inside, number_of, AreListed
 
 use lk_store::memory::NoMemory;
 use lk_store::node::{LevelNode, ListNode, NameNode, Node};
+use lk_store::room::Room;
 use lk_store::terms::Terms;
 use lk_store::text::Text;
 use std::alloc::Global;
@@ -189,6 +190,14 @@ impl<T: Terms + Drop> Terms for ListStore<T> {
 
     fn same_name(&self, m: u64, n: u64) -> bool {
         self.store.same_name(m, n)
+    }
+
+    fn lend_room(&mut self, alloc: Global) -> Room {
+        self.store.lend_room(alloc)
+    }
+
+    fn keep_room(&mut self, room: Room) {
+        self.store.keep_room(room)
     }
 
     fn text(&self, s: u64) -> &Text {

@@ -14,4 +14,5 @@ pub returns-clause-present : goal.returns-clause-present
 returns-clause-present c = name_present (over c.args.base.now c.args.own.now) c.requires.store c.name_key-key.result c.args.node c.name_key-key.ensures c.find.result c.find.ensures.known c.find.ensures.present
 
 pub find-requires-clause-base : goal.find-requires-clause-base
-find-requires-clause-base c = λ h. name_above c.args.base.now c.args.own.now c.requires.store c.name_key-key.result (cc)
+find-requires-clause-base c =
+    name_above c.args.base.now c.requires.base c.name_key-key.result c.has_name_parts-in_base.result c.has_name_parts-in_base.ensures.1
