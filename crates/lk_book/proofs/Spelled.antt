@@ -3,7 +3,7 @@ use Rattle.std.proofs.Common.{◌≡◌, ℕ, ◌==◌, nat_eq, true, ◌&&◌, 
 use Rattle.std.specs.Prelude.{not}
 use Rattle.lk_tree.specs.Tree.{Name, text, number, Tree, var, sort, const, app, lam, pi, let_in}
 use Rattle.lk_tree.proofs.Scans.{both_true, and_true}
-use Rattle.lk_rulebook.specs.Place.{Ctor, BlockType, Block, RecRule, Rec}
+use Rattle.lk_rulebook.specs.Place.{Ctor, BlockType, Block, RecRule, BlockRecursor}
 use Rattle.lk_rulebook.specs.Units.{Body, as_axiom, as_def, as_thm, as_opaque, LibraryUnit, of_decl, of_block, Library, Members, type_entries, ctor_entries, all_ctor_entries, rec_members, members_of, Trees, body_trees, type_trees, ctor_trees, all_ctor_trees, rule_trees, rec_trees, trees_of}
 use Rattle.lk_rulebook.specs.Spelled.{no_lf, is_spelled, tree_spelled, names_spelled, all_spelled, library_spelled}
 use Rattle.lk_units.specs.Names.{is_plain, IsPlainName, Each}
@@ -68,7 +68,7 @@ module _ (b : Block) where
   all_ctor_names [] h = refl
   all_ctor_names (t ∷ ts) h = names_append (ctor_entries b t t.ctors) (all_ctor_entries b ts) (ctor_names t t.ctors h.0.1) (all_ctor_names ts h.1)
 
-rec_names : (rs : List Rec) → Each IsBuiltRec rs → names_spelled (rec_members rs) ≡ true
+rec_names : (rs : List BlockRecursor) → Each IsBuiltRec rs → names_spelled (rec_members rs) ≡ true
 rec_names [] h = refl
 rec_names (r ∷ rs) h = and_true (is_spelled r.name) (names_spelled (rec_members rs)) (name_spelled r.name h.0.0.0.0) (rec_names rs h.1)
 
@@ -88,7 +88,7 @@ rules_spelled : (ps : List Name) (rs : List RecRule) → Each IsBuiltRule rs →
 rules_spelled ps [] h = refl
 rules_spelled ps (r ∷ rs) h = and_true (tree_spelled r.value) (all_spelled (rule_trees ps rs)) (built_spelled r.value h.0.1) (rules_spelled ps rs h.1)
 
-recs_spelled : (rs : List Rec) → Each IsBuiltRec rs → all_spelled (rec_trees rs) ≡ true
+recs_spelled : (rs : List BlockRecursor) → Each IsBuiltRec rs → all_spelled (rec_trees rs) ≡ true
 recs_spelled [] h = refl
 recs_spelled (r ∷ rs) h =
     and_true (tree_spelled r.type) (all_spelled (rule_trees r.levels r.recursor.rules ++ rec_trees rs)) (built_spelled r.type h.0.0.1)

@@ -4,7 +4,7 @@ use Rattle.std.specs.Prelude.{IsSome, option_map, option_and_then, slice_get, if
 use Rattle.std.proofs.lemmas.List.{map-append}
 use Rattle.std.proofs.lemmas.Option.{slice_get-map}
 use Rattle.lk_tree.specs.Tree.{Name, Tree}
-use Rattle.lk_rulebook.specs.Place.{Ctor, Rec, a_type, a_ctor, a_rec}
+use Rattle.lk_rulebook.specs.Place.{Ctor, BlockRecursor, a_type, a_ctor, a_rec}
 use Rattle.lk_rulebook.specs.Place.{Kind as PlainKind, BlockType as PlainType, Block as PlainBlock, Entry as PlainEntry}
 use Rattle.lk_rulebook.specs.Units.{Members, of_block, members_of, type_entries, ctor_entries, all_ctor_entries, rec_members, rec_entries, partial_types, partial_members}
 use Rattle.lk_store.specs.Contents.{Contents, tree_at}
@@ -46,17 +46,17 @@ bare_all_ctors b [] = refl
 bare_all_ctors b (t ∷ ts) =
     both_bare (ctor_entries b t t.ctors) (all_ctor_entries b ts) (ctor_entries b t t.ctors) (all_ctor_entries b ts) (bare_ctors b t t.ctors) (bare_all_ctors b ts)
 
-bare_recs : (rs : List Rec) → rec_entries rs ≡ map bare_member (rec_members rs)
+bare_recs : (rs : List BlockRecursor) → rec_entries rs ≡ map bare_member (rec_members rs)
 bare_recs [] = refl
 bare_recs (r ∷ rs) = ap (λ ms. (r.name, record { levels = r.levels; type = r.type; kind = a_rec (record r.recursor { rules = [] }) }) ∷ ms) (bare_recs rs)
 
-all_bare : (b : PlainBlock) (rs : List Rec) → partial_types b ++ partial_members b rs ≡ map bare_member (members_of (of_block b rs))
+all_bare : (b : PlainBlock) (rs : List BlockRecursor) → partial_types b ++ partial_members b rs ≡ map bare_member (members_of (of_block b rs))
 all_bare b rs =
     both_bare (type_entries b b.types) (all_ctor_entries b b.types ++ rec_entries rs) (type_entries b b.types) (all_ctor_entries b b.types ++ rec_members rs)
     (bare_types b b.types)
     (both_bare (all_ctor_entries b b.types) (rec_entries rs) (all_ctor_entries b b.types) (rec_members rs) (bare_all_ctors b b.types) (bare_recs rs))
 
-entry_is_bare : (b : PlainBlock) (rs : List Rec) (j : ℕ) → partial_entry_at (of_block b rs) AllMembers j ≡ option_map bare_entry (entry_at (of_block b rs) j)
+entry_is_bare : (b : PlainBlock) (rs : List BlockRecursor) (j : ℕ) → partial_entry_at (of_block b rs) AllMembers j ≡ option_map bare_entry (entry_at (of_block b rs) j)
 entry_is_bare b rs j =
     ap (λ ms. option_map (λ (m : Name × PlainEntry). m.1) (slice_get ms j)) (all_bare b rs)
     ∙ ap (option_map (λ (m : Name × PlainEntry). m.1)) (slice_get-map bare_member (members_of (of_block b rs)) j)
@@ -90,7 +90,7 @@ no_type_ctors : (b : PlainBlock) (ts : List PlainType) → NoTypes (all_ctor_ent
 no_type_ctors b [] = tt
 no_type_ctors b (t ∷ ts) = no_types_behind (ctor_entries b t t.ctors) (all_ctor_entries b ts) (no_type_ctor b t t.ctors) (no_type_ctors b ts)
 
-no_type_recs : (rs : List Rec) → NoTypes (rec_members rs)
+no_type_recs : (rs : List BlockRecursor) → NoTypes (rec_members rs)
 no_type_recs [] = tt
 no_type_recs (r ∷ rs) = (refl, no_type_recs rs)
 
@@ -105,17 +105,17 @@ types_alone b [] rest j h = none_alone rest j h
 types_alone b (t ∷ ts) rest zero h = refl
 types_alone b (t ∷ ts) rest (suc j) h = types_alone b ts rest j h
 
-entry_is_alone : (b : PlainBlock) (rs : List Rec) (j : ℕ) → partial_entry_at (of_block b rs) Types j ≡ option_and_then type_alone (entry_at (of_block b rs) j)
+entry_is_alone : (b : PlainBlock) (rs : List BlockRecursor) (j : ℕ) → partial_entry_at (of_block b rs) Types j ≡ option_and_then type_alone (entry_at (of_block b rs) j)
 entry_is_alone b rs j =
     types_alone b b.types (all_ctor_entries b b.types ++ rec_members rs) j (no_types_behind (all_ctor_entries b b.types) (rec_members rs) (no_type_ctors b b.types) (no_type_recs rs))
 
-pub no_entry : (b : PlainBlock) (rs : List Rec) (p : Partial) (j : ℕ) → entry_at (of_block b rs) j ≡ None → partial_entry_at (of_block b rs) p j ≡ None
+pub no_entry : (b : PlainBlock) (rs : List BlockRecursor) (p : Partial) (j : ℕ) → entry_at (of_block b rs) j ≡ None → partial_entry_at (of_block b rs) p j ≡ None
 no_entry b rs Nothing j h = refl
 no_entry b rs Types j h = entry_is_alone b rs j ∙ ap (option_and_then type_alone) h
 no_entry b rs AllMembers j h = entry_is_bare b rs j ∙ ap (option_map bare_entry) h
 
 -- The same of kinds by numbers.
-module _ (c : Contents) (b : PlainBlock) (rs : List Rec) (T : Tree) where
+module _ (c : Contents) (b : PlainBlock) (rs : List BlockRecursor) (T : Tree) where
   bare_of : (k : Kind) → option_map bare_entry (entry_of c (of_block b rs) k T) ≡ entry_of c (of_block b rs) (bare_kind k) T
   bare_of (kind.Declared d) = refl
   bare_of (kind.Type i) = go (slice_get b.types i)
@@ -138,14 +138,14 @@ module _ (c : Contents) (b : PlainBlock) (rs : List Rec) (T : Tree) where
       go (Some t) = inner t (slice_get t.ctors j)
   bare_of (kind.Recursor i) = go (slice_get rs i)
     where
-      go : (o : Option Rec) → option_map bare_entry (option_map (λ (r : Rec). record { levels = r.levels; type = T; kind = a_rec r.recursor }) o)
-          ≡ option_map (λ (r : Rec). record { levels = r.levels; type = T; kind = a_rec (record r.recursor { rules = [] }) }) o
+      go : (o : Option BlockRecursor) → option_map bare_entry (option_map (λ (r : BlockRecursor). record { levels = r.levels; type = T; kind = a_rec r.recursor }) o)
+          ≡ option_map (λ (r : BlockRecursor). record { levels = r.levels; type = T; kind = a_rec (record r.recursor { rules = [] }) }) o
       go None = refl
       go (Some r) = refl
   bare_of (kind.BareRecursor i) = go (slice_get rs i)
     where
-      go : (o : Option Rec) → option_map bare_entry (option_map (λ (r : Rec). record { levels = r.levels; type = T; kind = a_rec (record r.recursor { rules = [] }) }) o)
-          ≡ option_map (λ (r : Rec). record { levels = r.levels; type = T; kind = a_rec (record r.recursor { rules = [] }) }) o
+      go : (o : Option BlockRecursor) → option_map bare_entry (option_map (λ (r : BlockRecursor). record { levels = r.levels; type = T; kind = a_rec (record r.recursor { rules = [] }) }) o)
+          ≡ option_map (λ (r : BlockRecursor). record { levels = r.levels; type = T; kind = a_rec (record r.recursor { rules = [] }) }) o
       go None = refl
       go (Some r) = refl
 
@@ -169,12 +169,12 @@ module _ (c : Contents) (b : PlainBlock) (rs : List Rec) (T : Tree) where
       go (Some t) = inner t (slice_get t.ctors j)
   alone_of (kind.Recursor i) = go (slice_get rs i)
     where
-      go : (o : Option Rec) → option_and_then type_alone (option_map (λ (r : Rec). record { levels = r.levels; type = T; kind = a_rec r.recursor }) o) ≡ None
+      go : (o : Option BlockRecursor) → option_and_then type_alone (option_map (λ (r : BlockRecursor). record { levels = r.levels; type = T; kind = a_rec r.recursor }) o) ≡ None
       go None = refl
       go (Some r) = refl
   alone_of (kind.BareRecursor i) = go (slice_get rs i)
     where
-      go : (o : Option Rec) → option_and_then type_alone (option_map (λ (r : Rec). record { levels = r.levels; type = T; kind = a_rec (record r.recursor { rules = [] }) }) o) ≡ None
+      go : (o : Option BlockRecursor) → option_and_then type_alone (option_map (λ (r : BlockRecursor). record { levels = r.levels; type = T; kind = a_rec (record r.recursor { rules = [] }) }) o) ≡ None
       go None = refl
       go (Some r) = refl
 
@@ -193,7 +193,7 @@ module _ (c : Contents) (b : Block) (j : ℕ) where
   abbrev plain : PlainBlock
   plain = block_at c b
 
-  abbrev recs : List Rec
+  abbrev recs : List BlockRecursor
   recs = map (recursor_at c) b.recursors.items
 
   -- a member as it is partial with all members

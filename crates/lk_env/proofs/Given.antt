@@ -4,7 +4,7 @@ use Rattle.std.specs.Prelude.{option_map, option_and_then, slice_get}
 use Rattle.lk_tree.specs.Tree.{Name, name_discrete}
 use Rattle.lk_rulebook.specs.Place.{Entry}
 use Rattle.lk_rulebook.specs.Units.{Members, LibraryUnit, members_of, Library, Found, flaw_of, given_by, first_of_two, at_unit, first_giving}
-use Rattle.lk_env.specs.Places.{member_in, first_place, at_member, place_in, entry_at, found_at}
+use Rattle.lk_env.specs.Places.{member_in, first_place, at_member, position_in, entry_at, found_at}
 
 -- f takes the one to the other, and either both are there or none
 abbrev pub AreTogether : {J X : Type 0} → (J → Option X) → Option J → Option X → Type 0
@@ -41,7 +41,7 @@ abbrev found_by : (ℕ → Option LibraryUnit) → ℕ × ℕ → Option Found
 found_by f p = option_and_then (λ u. at_unit p.0 u (entry_at u p.1)) (f p.0)
 
 found_from : (c : Name) (i : ℕ) (us : Library) (f : ℕ → Option LibraryUnit) → ((k : ℕ) → f (i + k) ≡ slice_get us k)
-    → AreTogether (found_by f) (place_in i us c) (first_giving i us c)
+    → AreTogether (found_by f) (position_in i us c) (first_giving i us c)
 found_from c i [] f h = tt
 found_from c i (u ∷ us) f h =
     go (member_in 0 (members_of u) c) (given_by (members_of u) c) (given_by_entry c u)
@@ -50,18 +50,18 @@ found_from c i (u ∷ us) f h =
     here : f i ≡ Some u
     here = let same : i ≡ i + zero = omega arith in ap f same ∙ h zero
 
-    go : (o : Option ℕ) (g : Option Entry) → AreTogether (entry_at u) o g → AreTogether (found_by f) (place_in (suc i) us c) (first_giving (suc i) us c)
-        → AreTogether (found_by f) (first_place (at_member i o) (place_in (suc i) us c)) (first_of_two (at_unit i u g) (first_giving (suc i) us c))
+    go : (o : Option ℕ) (g : Option Entry) → AreTogether (entry_at u) o g → AreTogether (found_by f) (position_in (suc i) us c) (first_giving (suc i) us c)
+        → AreTogether (found_by f) (first_place (at_member i o) (position_in (suc i) us c)) (first_of_two (at_unit i u g) (first_giving (suc i) us c))
     go None None t r = r
     go (Some j) (Some e) t r = ap (option_and_then (λ v. at_unit i v (entry_at v j))) here ∙ ap (at_unit i u) t
     go None (Some e) t r = absurd t
     go (Some j) None t r = absurd t
 
-found_together : (us : Library) (c : Name) → AreTogether (found_at us) (place_in 0 us c) (first_giving 0 us c)
+found_together : (us : Library) (c : Name) → AreTogether (found_at us) (position_in 0 us c) (first_giving 0 us c)
 found_together us c = found_from c 0 us (slice_get us) (λ k. let same : 0 + k ≡ k = omega arith in ap (slice_get us) same)
 
-pub found_is : (us : Library) (c : Name) → first_giving 0 us c ≡ option_and_then (found_at us) (place_in 0 us c)
-found_is us c = together_is (found_at us) (place_in 0 us c) (first_giving 0 us c) (found_together us c)
+pub found_is : (us : Library) (c : Name) → first_giving 0 us c ≡ option_and_then (found_at us) (position_in 0 us c)
+found_is us c = together_is (found_at us) (position_in 0 us c) (first_giving 0 us c) (found_together us c)
 
 unit_found : (us : Library) (p : ℕ × ℕ) (x : Found) → found_at us p ≡ Some x → x.unit ≡ p.0
 unit_found us p x h = by_unit (slice_get us p.0) h
@@ -80,5 +80,5 @@ unit_together us (Some p) (Some x) h = ap Some (unit_found us p x h)
 unit_together us None (Some x) h = absurd h
 unit_together us (Some p) None h = absurd h
 
-pub unit_is : (us : Library) (c : Name) → option_map (λ (x : Found). x.unit) (first_giving 0 us c) ≡ option_map (λ (p : ℕ × ℕ). p.0) (place_in 0 us c)
-unit_is us c = unit_together us (place_in 0 us c) (first_giving 0 us c) (found_together us c)
+pub unit_is : (us : Library) (c : Name) → option_map (λ (x : Found). x.unit) (first_giving 0 us c) ≡ option_map (λ (p : ℕ × ℕ). p.0) (position_in 0 us c)
+unit_is us c = unit_together us (position_in 0 us c) (first_giving 0 us c) (found_together us c)

@@ -16,7 +16,7 @@ use Rattle.lk_env.specs.declared.unit.Recursor.{Recursor}
 use Rattle.lk_env.specs.declared.unit.Unit.{Unit as StoredUnit}
 use Rattle.lk_env.specs.declared.unit.Unit.TheVariants as unit
 use Rattle.lk_env.specs.Units.{constructor_at, type_at, recursor_at, block_at, unit_at, library_at, IsConstructorIn, IsTypeIn, IsRecursorIn, IsUnitIn, AreUnitsIn}
-use Rattle.lk_env.specs.Places.{member_in, first_place, at_member, place_in}
+use Rattle.lk_env.specs.Places.{member_in, first_place, at_member, position_in}
 use Rattle.lk_env.specs.Index.{constructor_names, member_names}
 
 -- one more list
@@ -136,12 +136,12 @@ module _ (c : Contents) where
     absent_member i [] (m ∷ ms) all e = absurd cc
     absent_member i (a ∷ ns) [] all e = absurd cc
 
-    pub absent_place : (i : ℕ) (us : List StoredUnit) → AreUnitsIn c us → place_in i (library_at c us) x ≡ None
-    absent_place i [] h = refl
-    absent_place i (u ∷ us) h =
+    pub absent_position : (i : ℕ) (us : List StoredUnit) → AreUnitsIn c us → position_in i (library_at c us) x ≡ None
+    absent_position i [] h = refl
+    absent_position i (u ∷ us) h =
         let here = members_known u (All-head (IsUnitIn c) u us h) in
-        ap (λ o. first_place (at_member i o) (place_in (suc i) (library_at c us) x)) (absent_member 0 (member_names u) (members_of (unit_at c u)) here (member_names_are u))
-        ∙ absent_place (suc i) us (All-tail (IsUnitIn c) u us h)
+        ap (λ o. first_place (at_member i o) (position_in (suc i) (library_at c us) x)) (absent_member 0 (member_names u) (members_of (unit_at c u)) here (member_names_are u))
+        ∙ absent_position (suc i) us (All-tail (IsUnitIn c) u us h)
 
 -- A name that a store has beyond those of c is none of c's.
 pub beyond_names : (c d : Contents) → Extends c d → AreApart [] d.names → (k : ℕ) → length c.names ≤ k → k < length d.names → (n : ℕ) → n < length c.names → name_at c n ≢ name_at d k

@@ -9,10 +9,10 @@ use Rattle.std.proofs.lemmas.List.Elements.{All-get_or}
 use Rattle.lk_tree.specs.Tree.{Name}
 use Rattle.lk_store.specs.Values.{AreApart}
 use Rattle.lk_store.specs.Contents.{Contents, name_at}
-use Rattle.lk_env.specs.declared.place.Place.{Place}
+use Rattle.lk_env.specs.declared.position.Position.{Position}
 use Rattle.lk_env.specs.declared.unit.Unit.{Unit as StoredUnit}
 use Rattle.lk_env.specs.Units.{library_at, IsUnitIn, AreUnitsIn}
-use Rattle.lk_env.specs.Places.{first_place, at_member, place_in}
+use Rattle.lk_env.specs.Places.{first_place, at_member, position_in}
 use Rattle.lk_env.specs.Index.{member_names, pair_of, cell_at, AreNoted, IsIndex}
 use Rattle.lk_env.proofs.Members.{members_known, place_of_number}
 
@@ -25,31 +25,31 @@ first_assoc None b c = refl
 first_assoc (Some p) b c = refl
 
 -- Members that are noted.
-pub record AreNotedUpTo (unit : ℕ) (names : List ℕ) (j : ℕ) (old new : List (Option Place)) : Type 0 where
+pub record AreNotedUpTo (unit : ℕ) (names : List ℕ) (j : ℕ) (old new : List (Option Position)) : Type 0 where
   pub one_each : length new ≡ length old
   pub right : (n : ℕ) → n < length old →
       first_place (cell_at new n) (at_member unit (position_from (λ m. nat_eq m n) j (drop j names))) ≡ first_place (cell_at old n) (at_member unit (position_from (λ m. nat_eq m n) 0 names))
 
-pub none_noted : (unit : ℕ) (names : List ℕ) (cells : List (Option Place)) → AreNotedUpTo unit names 0 cells cells
+pub none_noted : (unit : ℕ) (names : List ℕ) (cells : List (Option Position)) → AreNotedUpTo unit names 0 cells cells
 none_noted unit names cells = record { one_each = refl; right = λ n h. refl }
 
-pub all_noted : (unit : ℕ) (names : List ℕ) (old new : List (Option Place)) → AreNotedUpTo unit names (length names) old new → AreNoted unit names old new
+pub all_noted : (unit : ℕ) (names : List ℕ) (old new : List (Option Position)) → AreNotedUpTo unit names (length names) old new → AreNoted unit names old new
 all_noted unit names old new s n h =
     sym (first_none (cell_at new n))
     ∙ sym (ap (λ l. first_place (cell_at new n) (at_member unit (position_from (λ m. nat_eq m n) (length names) l))) (drop-length names))
     ∙ s.right n h
 
-cell_kept : (o : Option Place) (p : Place) → Some (pair_of (unwrap_or o p)) ≡ first_place (option_map pair_of o) (Some (pair_of p))
+cell_kept : (o : Option Position) (p : Position) → Some (pair_of (unwrap_or o p)) ≡ first_place (option_map pair_of o) (Some (pair_of p))
 cell_kept None p = refl
 cell_kept (Some q) p = refl
 
 -- the cells after number a is noted as member j
-abbrev pub cells_after : ℕ → ℕ → ℕ → List (Option Place) → List (Option Place)
+abbrev pub cells_after : ℕ → ℕ → ℕ → List (Option Position) → List (Option Position)
 cells_after unit j a cells = slice_set cells a (Some (unwrap_or (get_or cells a None) (record { unit = unit; member = j })))
 
 -- One more cell, where the number a stands next.
-module _ (unit j a : ℕ) (later : List ℕ) (cells : List (Option Place)) (within : a < length cells) where
-  abbrev next : Place
+module _ (unit j a : ℕ) (later : List ℕ) (cells : List (Option Position)) (within : a < length cells) where
+  abbrev next : Position
   next = record { unit = unit; member = j }
 
   cell_here : (n : ℕ) → a ≡ n
@@ -76,7 +76,7 @@ module _ (unit j a : ℕ) (later : List ℕ) (cells : List (Option Place)) (with
       go (inl e) = cell_here n e
       go (inr f) = cell_elsewhere n f
 
-pub one_noted : (unit j : ℕ) (names : List ℕ) (old cells : List (Option Place)) → j < length names → All (λ n. n < length old) names → AreNotedUpTo unit names j old cells
+pub one_noted : (unit j : ℕ) (names : List ℕ) (old cells : List (Option Position)) → j < length names → All (λ n. n < length old) names → AreNotedUpTo unit names j old cells
     → AreNotedUpTo unit names (j + 1) old (cells_after unit j (get_or names j 0) cells)
 one_noted unit j names old cells l all s =
     let a : ℕ = get_or names j 0 in
@@ -91,27 +91,27 @@ one_noted unit j names old cells l all s =
     }
 
 -- The index over the first i units.
-pub record IsIndexUpTo (c : Contents) (us : List StoredUnit) (i : ℕ) (cells : List (Option Place)) : Type 0 where
+pub record IsIndexUpTo (c : Contents) (us : List StoredUnit) (i : ℕ) (cells : List (Option Position)) : Type 0 where
   pub one_each : length cells ≡ length c.names
-  pub right : (n : ℕ) → n < length c.names → first_place (cell_at cells n) (place_in i (library_at c (drop i us)) (name_at c n)) ≡ place_in 0 (library_at c us) (name_at c n)
+  pub right : (n : ℕ) → n < length c.names → first_place (cell_at cells n) (position_in i (library_at c (drop i us)) (name_at c n)) ≡ position_in 0 (library_at c us) (name_at c n)
 
-pub no_unit : (c : Contents) (us : List StoredUnit) (cells : List (Option Place)) → length cells ≡ length c.names → ((n : ℕ) → n < length c.names → cell_at cells n ≡ None) → IsIndexUpTo c us 0 cells
+pub no_unit : (c : Contents) (us : List StoredUnit) (cells : List (Option Position)) → length cells ≡ length c.names → ((n : ℕ) → n < length c.names → cell_at cells n ≡ None) → IsIndexUpTo c us 0 cells
 no_unit c us cells one_each empty = record { one_each = one_each; right = λ n h. rw (empty n h) refl }
 
-pub every_unit : (c : Contents) (us : List StoredUnit) (cells : List (Option Place)) → IsIndexUpTo c us (length us) cells → IsIndex c us cells
+pub every_unit : (c : Contents) (us : List StoredUnit) (cells : List (Option Position)) → IsIndexUpTo c us (length us) cells → IsIndex c us cells
 every_unit c us cells s = record {
   one_each = s.one_each;
   right = λ n h.
       sym (first_none (cell_at cells n))
-      ∙ sym (ap (λ vs. first_place (cell_at cells n) (place_in (length us) (library_at c vs) (name_at c n))) (drop-length us))
+      ∙ sym (ap (λ vs. first_place (cell_at cells n) (position_in (length us) (library_at c vs) (name_at c n))) (drop-length us))
       ∙ s.right n h;
 }
 
-pub names_known : (c : Contents) (us : List StoredUnit) (i : ℕ) (u : StoredUnit) (names : List ℕ) (cells : List (Option Place)) → AreUnitsIn c us → i < length us → u ≡ get_or us i u
+pub names_known : (c : Contents) (us : List StoredUnit) (i : ℕ) (u : StoredUnit) (names : List ℕ) (cells : List (Option Position)) → AreUnitsIn c us → i < length us → u ≡ get_or us i u
     → names ≡ member_names u → length cells ≡ length c.names → All (λ n. n < length cells) names
 names_known c us i u names cells known l is are one_each = rw (are, one_each) (members_known c u (rw is (All-get_or (IsUnitIn c) us i u l known)))
 
-pub next_unit : (c : Contents) (us : List StoredUnit) (i : ℕ) (u : StoredUnit) (names : List ℕ) (cells after : List (Option Place)) → AreApart [] c.names → AreUnitsIn c us → i < length us → u ≡ get_or us i u
+pub next_unit : (c : Contents) (us : List StoredUnit) (i : ℕ) (u : StoredUnit) (names : List ℕ) (cells after : List (Option Position)) → AreApart [] c.names → AreUnitsIn c us → i < length us → u ≡ get_or us i u
     → names ≡ member_names u → length after ≡ length cells → AreNoted i names cells after → IsIndexUpTo c us i cells → IsIndexUpTo c us (i + 1) after
 next_unit c us i u names cells after apart known l is are same noted s =
     let u_in : IsUnitIn c u = rw is (All-get_or (IsUnitIn c) us i u l known) in
@@ -120,12 +120,12 @@ next_unit c us i u names cells after apart known l is are same noted s =
       one_each = same ∙ s.one_each;
       right = λ n h.
           let x : Name = name_at c n in
-          let later : Option (ℕ × ℕ) = place_in (suc i) (library_at c (drop (suc i) us)) x in
-          ap (λ k. first_place (cell_at after n) (place_in k (library_at c (drop k us)) x)) (add-one i)
+          let later : Option (ℕ × ℕ) = position_in (suc i) (library_at c (drop (suc i) us)) x in
+          ap (λ k. first_place (cell_at after n) (position_in k (library_at c (drop k us)) x)) (add-one i)
           ∙ ap (λ o. first_place o later) (noted n (rw s.one_each h))
           ∙ first_assoc (cell_at cells n) (at_member i (position_from (λ m. nat_eq m n) 0 names)) later
           ∙ ap (λ ns. first_place (cell_at cells n) (first_place (at_member i (position_from (λ m. nat_eq m n) 0 ns)) later)) are
           ∙ ap (λ o. first_place (cell_at cells n) (first_place (at_member i o) later)) (place_of_number c n u apart h u_in)
-          ∙ sym (ap (λ vs. first_place (cell_at cells n) (place_in i (library_at c vs) x)) here)
+          ∙ sym (ap (λ vs. first_place (cell_at cells n) (position_in i (library_at c vs) x)) here)
           ∙ s.right n h;
     }

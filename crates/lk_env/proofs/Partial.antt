@@ -3,15 +3,15 @@ use Rattle.std.proofs.Common.{◌≡◌, ℕ, zero, suc, ◌+◌, ◌<◌, Bool,
 use Rattle.std.specs.Prelude.{◌&&◌, option_map, option_and_then, slice_get, if◌then◌else◌}
 use Rattle.std.proofs.lemmas.Bool.Decides.{nat_tests}
 use Rattle.lk_tree.specs.Tree.{Name, name_discrete}
-use Rattle.lk_rulebook.specs.Place.{Entry, Rec}
+use Rattle.lk_rulebook.specs.Place.{Entry, BlockRecursor}
 use Rattle.lk_rulebook.specs.Units.{Members, LibraryUnit, of_decl, of_block, members_of, type_entries, all_ctor_entries, rec_members, rec_entries, Library, Found, given_by, first_of_two, at_partial, first_giving}
 use Rattle.lk_rulebook.specs.Scan.{is_none, are_new}
 use Rattle.lk_env.specs.declared.entry.Partial.{Partial}
 use Rattle.lk_env.specs.declared.entry.Partial.TheVariants.{Nothing, Types, Members as AllMembers}
 use Rattle.lk_env.specs.declared.entry.Site.{Site}
-use Rattle.lk_env.specs.Places.{member_in, first_place, at_member, place_in, place_below, found_at, partial_of, partial_entry_in, own_member, new_among, partial_at}
+use Rattle.lk_env.specs.Places.{member_in, first_place, at_member, position_in, position_below, found_at, partial_of, partial_entry_in, own_member, new_among, partial_at}
 use Rattle.lk_env.proofs.Given.{unit_is}
-use Rattle.lk_env.proofs.Before.{none_below, place_before_is}
+use Rattle.lk_env.proofs.Before.{none_below, position_before_is}
 use Rattle.lk_env.proofs.Answered.{given_before}
 
 -- the names of the one are the first names of the other
@@ -28,7 +28,7 @@ leads_behind : (xs ps ms : Members) → Leads ps ms → Leads (xs ++ ps) (xs ++ 
 leads_behind [] ps ms h = h
 leads_behind (x ∷ xs) ps ms h = (refl, leads_behind xs ps ms h)
 
-leads_recursors : (rs : List Rec) → Leads (rec_entries rs) (rec_members rs)
+leads_recursors : (rs : List BlockRecursor) → Leads (rec_entries rs) (rec_members rs)
 leads_recursors [] = tt
 leads_recursors (r ∷ rs) = (refl, leads_recursors rs)
 
@@ -108,7 +108,7 @@ given_not_new us n (m ∷ ms) c x h = go (given_not_new us n ms c x h) (first_gi
     go more (Some y) is = more
 
 -- Where no earlier unit gives a name, its place says which member of unit n has it.
-not_own : (n k : ℕ) (o : Option (ℕ × ℕ)) → place_below k o ≡ None → n < k → own_member n o ≡ None
+not_own : (n k : ℕ) (o : Option (ℕ × ℕ)) → position_below k o ≡ None → n < k → own_member n o ≡ None
 not_own n k None h l = refl
 not_own n k (Some p) h l = go (nat_lt p.0 k) (nat_eq p.0 n) (λ e. grind (arith, nat_tests)) h
   where
@@ -117,24 +117,24 @@ not_own n k (Some p) h l = go (nat_lt p.0 k) (nat_eq p.0 n) (λ e. grind (arith,
     go true true both e = absurd cc
     go false true both e = absurd (let f : false ≡ true = both refl in cc)
 
-own_from : (c : Name) (us : Library) (i n : ℕ) (u : LibraryUnit) → slice_get us n ≡ Some u → place_below (i + n) (place_in i us c) ≡ None
-    → own_member (i + n) (place_in i us c) ≡ member_in 0 (members_of u) c
+own_from : (c : Name) (us : Library) (i n : ℕ) (u : LibraryUnit) → slice_get us n ≡ Some u → position_below (i + n) (position_in i us c) ≡ None
+    → own_member (i + n) (position_in i us c) ≡ member_in 0 (members_of u) c
 own_from c [] i n u at h = absurd cc
 own_from c (v ∷ us) i zero u at h =
     let same : v ≡ u = cc in
     go (member_in 0 (members_of v) c) ∙ ap (λ w. member_in 0 (members_of w) c) same
   where
-    go : (o : Option ℕ) → own_member (i + zero) (first_place (at_member i o) (place_in (suc i) us c)) ≡ o
-    go None = not_own (i + zero) (suc i) (place_in (suc i) us c) (none_below c us (suc i) (suc i) (omega arith)) (omega arith)
+    go : (o : Option ℕ) → own_member (i + zero) (first_place (at_member i o) (position_in (suc i) us c)) ≡ o
+    go None = not_own (i + zero) (suc i) (position_in (suc i) us c) (none_below c us (suc i) (suc i) (omega arith)) (omega arith)
     go (Some j) = let e : nat_eq i (i + zero) ≡ true = grind (arith, nat_tests) in ap (λ b. if b then Some j else None) e
 own_from c (v ∷ us) i (suc n) u at h = go (λ k. own_from c us (suc i) n u at k) (member_in 0 (members_of v) c) h
   where
-    go : (place_below (suc i + n) (place_in (suc i) us c) ≡ None → own_member (suc i + n) (place_in (suc i) us c) ≡ member_in 0 (members_of u) c)
-        → (o : Option ℕ) → place_below (i + suc n) (first_place (at_member i o) (place_in (suc i) us c)) ≡ None
-        → own_member (i + suc n) (first_place (at_member i o) (place_in (suc i) us c)) ≡ member_in 0 (members_of u) c
+    go : (position_below (suc i + n) (position_in (suc i) us c) ≡ None → own_member (suc i + n) (position_in (suc i) us c) ≡ member_in 0 (members_of u) c)
+        → (o : Option ℕ) → position_below (i + suc n) (first_place (at_member i o) (position_in (suc i) us c)) ≡ None
+        → own_member (i + suc n) (first_place (at_member i o) (position_in (suc i) us c)) ≡ member_in 0 (members_of u) c
     go more None k =
         let e : i + suc n ≡ suc i + n = omega arith in
-        ap (λ m. own_member m (place_in (suc i) us c)) e ∙ more (ap (λ m. place_below m (place_in (suc i) us c)) (sym e) ∙ k)
+        ap (λ m. own_member m (position_in (suc i) us c)) e ∙ more (ap (λ m. position_below m (position_in (suc i) us c)) (sym e) ∙ k)
     go more (Some j) k =
         let e : nat_lt i (i + suc n) ≡ true = grind (arith, nat_tests) in
         absurd (none_is_some (i, j) (sym k ∙ ap (λ b. if b then Some (i, j) else None) e))
@@ -144,7 +144,7 @@ module _ (us : Library) (s : Site) (x : Name) where
   found_at_site = first_of_two (at_partial s.unit (given_by (partial_at us s) x)) (first_giving 0 (take s.unit us) x)
 
   -- what an earlier unit gives is not partial
-  pub found_before : (p : ℕ × ℕ) → Some p ≡ place_in 0 (take s.unit us) x → found_at_site ≡ found_at us p
+  pub found_before : (p : ℕ × ℕ) → Some p ≡ position_in 0 (take s.unit us) x → found_at_site ≡ found_at us p
   found_before p h = go (first_giving 0 (take s.unit us) x) refl ∙ given_before us s.unit x (Some p) h
     where
       none : (f : Found) → first_giving 0 (take s.unit us) x ≡ Some f → (o : Option LibraryUnit)
@@ -158,7 +158,7 @@ module _ (us : Library) (s : Site) (x : Name) where
       go (Some f) is = ap (λ e. first_of_two (at_partial s.unit e) (first_giving 0 (take s.unit us) x)) (none f is (slice_get us s.unit))
 
   -- what none gives is found among the members of the unit itself
-  pub found_own : place_in 0 (take s.unit us) x ≡ None → found_at_site ≡ at_partial s.unit (option_and_then (partial_entry_in us s) (own_member s.unit (place_in 0 us x)))
+  pub found_own : position_in 0 (take s.unit us) x ≡ None → found_at_site ≡ at_partial s.unit (option_and_then (partial_entry_in us s) (own_member s.unit (position_in 0 us x)))
   found_own h =
       ap (first_of_two (at_partial s.unit (given_by (partial_at us s) x))) first
       ∙ alone (at_partial s.unit (given_by (partial_at us s) x))
@@ -175,25 +175,25 @@ module _ (us : Library) (s : Site) (x : Name) where
       nothing None = refl
       nothing (Some j) = refl
 
-      below : place_below s.unit (place_in 0 us x) ≡ None
-      below = sym (place_before_is x us s.unit) ∙ h
+      below : position_below s.unit (position_in 0 us x) ≡ None
+      below = sym (position_before_is x us s.unit) ∙ h
 
       go : (o : Option LibraryUnit) → slice_get us s.unit ≡ o
           → given_by (elim o as (λ y. Members) [ None ↦ [] | Some u ↦ new_among us s.unit (partial_of u s.partial) ]) x
-          ≡ option_and_then (λ (j : ℕ). option_and_then (λ u. option_map (λ (m : Name × Entry). m.1) (slice_get (partial_of u s.partial) j)) o) (own_member s.unit (place_in 0 us x))
-      go None at = nothing (own_member s.unit (place_in 0 us x))
+          ≡ option_and_then (λ (j : ℕ). option_and_then (λ u. option_map (λ (m : Name × Entry). m.1) (slice_get (partial_of u s.partial) j)) o) (own_member s.unit (position_in 0 us x))
+      go None at = nothing (own_member s.unit (position_in 0 us x))
       go (Some u) at =
           let e : 0 + s.unit ≡ s.unit = omega arith in
           given_new us s.unit (partial_of u s.partial) x first
           ∙ given_leading x 0 (partial_of u s.partial) (members_of u) (slice_get (partial_of u s.partial)) (λ k. let same : 0 + k ≡ k = omega arith in ap (slice_get (partial_of u s.partial)) same)
           (partial_leads u s.partial)
           ∙ ap (option_and_then (entry_by (slice_get (partial_of u s.partial))))
-          (sym (own_from x us 0 s.unit u at (ap (λ m. place_below m (place_in 0 us x)) e ∙ below)) ∙ ap (λ m. own_member m (place_in 0 us x)) e)
+          (sym (own_from x us 0 s.unit u at (ap (λ m. position_below m (position_in 0 us x)) e ∙ below)) ∙ ap (λ m. own_member m (position_in 0 us x)) e)
 
   -- what no unit gives means nothing
-  pub found_nowhere : place_in 0 us x ≡ None → found_at_site ≡ None
+  pub found_nowhere : position_in 0 us x ≡ None → found_at_site ≡ None
   found_nowhere h =
-      found_own (place_before_is x us s.unit ∙ ap (place_below s.unit) h)
+      found_own (position_before_is x us s.unit ∙ ap (position_below s.unit) h)
       ∙ ap (λ o. at_partial s.unit (option_and_then (partial_entry_in us s) (own_member s.unit o))) h
 
 -- Where all names of a unit are new, all that is partial of it is.

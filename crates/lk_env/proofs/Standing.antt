@@ -6,7 +6,7 @@ use Rattle.std.proofs.lemmas.List.{length-map}
 use Rattle.std.proofs.lemmas.List.Elements.{All-get_or}
 use Rattle.std.proofs.lemmas.Option.{slice_get-map, slice_get_within, get_or_from_slice_get}
 use Rattle.lk_tree.specs.Tree.{Name}
-use Rattle.lk_rulebook.specs.Place.{Ctor, Rec, a_type, a_ctor, a_rec}
+use Rattle.lk_rulebook.specs.Place.{Ctor, BlockRecursor, a_type, a_ctor, a_rec}
 use Rattle.lk_rulebook.specs.Place.{BlockType as PlainType, Block as PlainBlock, Entry as PlainEntry}
 use Rattle.lk_rulebook.specs.Units.{members_of, type_entries, ctor_entries, all_ctor_entries, rec_members}
 use Rattle.lk_store.specs.Contents.{Contents, name_at, tree_at}
@@ -47,7 +47,7 @@ type_entry b t = record { levels = t.levels; type = t.type; kind = a_type b t }
 abbrev ctor_entry : PlainBlock → PlainType → Ctor → PlainEntry
 ctor_entry b t k = record { levels = k.levels; type = k.type; kind = a_ctor b t k }
 
-abbrev rec_entry : Rec → PlainEntry
+abbrev rec_entry : BlockRecursor → PlainEntry
 rec_entry r = record { levels = r.levels; type = r.type; kind = a_rec r.recursor }
 
 nth_type : (b : PlainBlock) (ts : List PlainType) (i : ℕ) → slice_get (type_entries b ts) i ≡ option_map (λ (t : PlainType). (t.name, type_entry b t)) (slice_get ts i)
@@ -60,7 +60,7 @@ nth_ctor b t [] i = refl
 nth_ctor b t (k ∷ ks) zero = refl
 nth_ctor b t (k ∷ ks) (suc i) = nth_ctor b t ks i
 
-nth_rec : (rs : List Rec) (i : ℕ) → slice_get (rec_members rs) i ≡ option_map (λ (r : Rec). (r.name, rec_entry r)) (slice_get rs i)
+nth_rec : (rs : List BlockRecursor) (i : ℕ) → slice_get (rec_members rs) i ≡ option_map (λ (r : BlockRecursor). (r.name, rec_entry r)) (slice_get rs i)
 nth_rec [] i = refl
 nth_rec (r ∷ rs) zero = refl
 nth_rec (r ∷ rs) (suc i) = nth_rec rs i
@@ -111,7 +111,7 @@ module _ (c : Contents) where
     abbrev plain : PlainBlock
     plain = block_at c b
 
-    abbrev recs : List Rec
+    abbrev recs : List BlockRecursor
     recs = map (recursor_at c) b.recursors.items
 
     nth_plain : (i : ℕ) (t : BlockType) → slice_get b.types.items i ≡ Some t → slice_get plain.types i ≡ Some (type_at c t)
@@ -123,15 +123,15 @@ module _ (c : Contents) where
         let at : j ≡ length (type_entries plain plain.types) + i = omega (arith, count, e) in
         ap (slice_get (members_of (unit_at c (unit.Block b)))) at ∙ get_right (type_entries plain plain.types) (all_ctor_entries plain plain.types ++ rec_members recs) i
 
-    pub type_member : (n i : ℕ) (t : BlockType) → slice_get b.types.items i ≡ Some t → IsMember c (unit.Block b) i (record { kind = kind.Type i; stated = t.kind; unit = n })
+    pub type_member : (n i : ℕ) (t : BlockType) → slice_get b.types.items i ≡ Some t → IsMember c (unit.Block b) i (record { kind = kind.Type i; stated = t.ty; unit = n })
     type_member n i t h =
         let at = nth_plain i t h in
         let y : PlainEntry = type_entry plain (type_at c t) in
-        is_member c (unit.Block b) i (record { kind = kind.Type i; stated = t.kind; unit = n }) y
+        is_member c (unit.Block b) i (record { kind = kind.Type i; stated = t.ty; unit = n }) y
         (ap (option_map (λ (m : Name × PlainEntry). m.1)) (get_left (type_entries plain plain.types) (all_ctor_entries plain plain.types ++ rec_members recs) i (name_at c t.name, y)
         (nth_type plain plain.types i ∙ ap (option_map (λ (t : PlainType). (t.name, type_entry plain t))) at)))
-        (ap (option_map (λ (p : PlainType). record { levels = p.levels; type = tree_at c t.kind; kind = a_type plain p })) at)
-        (λ known. record { kind_in = tt; stated_in = (holds_at (IsTypeIn c) b.types.items i t h known.0).stated.kind_in })
+        (ap (option_map (λ (p : PlainType). record { levels = p.levels; type = tree_at c t.ty; kind = a_type plain p })) at)
+        (λ known. record { kind_in = tt; stated_in = (holds_at (IsTypeIn c) b.types.items i t h known.0).stated.ty_in })
 
     pub constructor_member : (place j : ℕ) (e : Entry) → j ≡ length b.types.items + place → IsConstructorAt b.types.items place e → IsMember c (unit.Block b) j e
     constructor_member place j e h s =
@@ -151,7 +151,7 @@ module _ (c : Contents) where
         (λ known.
         let type_in : IsTypeIn c s.type = holds_at (IsTypeIn c) b.types.items s.parent s.type s.type_is known.0 in
         let constructor_in : IsConstructorIn c s.constructor = holds_at (IsConstructorIn c) s.type.constructors.items s.number s.constructor s.constructor_is type_in.constructors_in in
-        record { kind_in = rw s.kind_is tt; stated_in = rw s.stated_is constructor_in.stated.kind_in })
+        record { kind_in = rw s.kind_is tt; stated_in = rw s.stated_is constructor_in.stated.ty_in })
 
     nth_recursor : (i place j : ℕ) → length (flat_map constructor_names b.types.items) + i ≡ place → j ≡ length b.types.items + place
         → entry_at (unit_at c (unit.Block b)) j ≡ option_map (λ (r : Recursor). rec_entry (recursor_at c r)) (slice_get b.recursors.items i)
@@ -162,10 +162,10 @@ module _ (c : Contents) where
         ∙ ap (slice_get (all_ctor_entries plain plain.types ++ rec_members recs)) at
         ∙ get_right (all_ctor_entries plain plain.types) (rec_members recs) i
         ∙ nth_rec recs i
-        ∙ ap (option_map (λ (r : Rec). (r.name, rec_entry r))) (slice_get-map (recursor_at c) b.recursors.items i))
+        ∙ ap (option_map (λ (r : BlockRecursor). (r.name, rec_entry r))) (slice_get-map (recursor_at c) b.recursors.items i))
         ∙ twice (slice_get b.recursors.items i)
       where
-        twice : (o : Option Recursor) → option_map (λ (m : Name × PlainEntry). m.1) (option_map (λ (r : Rec). (r.name, rec_entry r)) (option_map (recursor_at c) o)) ≡ option_map (λ (r : Recursor). rec_entry (recursor_at c r)) o
+        twice : (o : Option Recursor) → option_map (λ (m : Name × PlainEntry). m.1) (option_map (λ (r : BlockRecursor). (r.name, rec_entry r)) (option_map (recursor_at c) o)) ≡ option_map (λ (r : Recursor). rec_entry (recursor_at c r)) o
         twice None = refl
         twice (Some r) = refl
 
@@ -178,5 +178,5 @@ module _ (c : Contents) where
         go None at entry = entry
         go (Some r) at entry =
             is_member c (unit.Block b) j (recursor_entry_at n i r) (rec_entry (recursor_at c r)) entry
-            (ap (option_map (λ (p : Rec). record { levels = p.levels; type = tree_at c r.kind; kind = a_rec p.recursor })) (slice_get-map (recursor_at c) b.recursors.items i ∙ ap (option_map (recursor_at c)) at))
-            (λ known. record { kind_in = tt; stated_in = (holds_at (IsRecursorIn c) b.recursors.items i r at known.1).stated.kind_in })
+            (ap (option_map (λ (p : BlockRecursor). record { levels = p.levels; type = tree_at c r.ty; kind = a_rec p.recursor })) (slice_get-map (recursor_at c) b.recursors.items i ∙ ap (option_map (recursor_at c)) at))
+            (λ known. record { kind_in = tt; stated_in = (holds_at (IsRecursorIn c) b.recursors.items i r at known.1).stated.ty_in })

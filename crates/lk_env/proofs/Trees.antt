@@ -15,11 +15,10 @@ use Rattle.lk_env.specs.declared.unit.Recursor.{Recursor}
 use Rattle.lk_env.specs.declared.unit.Block.{Block}
 use Rattle.lk_env.specs.declared.unit.Unit.{Unit as StoredUnit}
 use Rattle.lk_env.specs.declared.unit.Unit.TheVariants as unit
-use Rattle.lk_env.specs.declared.entry.Flaw.{Flaw}
+use Rattle.lk_tree.specs.declared.rule.Rule.{Rule}
 use Rattle.lk_env.specs.declared.scan.Test.{Test}
 use Rattle.lk_env.specs.declared.scan.Test.TheVariants.{Closed, Narrow}
 use Rattle.lk_env.specs.Units.{constructor_at, type_at, rule_at, recursor_at, unit_at, library_at}
-use Rattle.lk_env.specs.Entries.{rule_of}
 use Rattle.lk_env.specs.Scan.{passes, AreFlaws}
 
 -- each tree passes a test of trees with the level parameters that they may have
@@ -40,10 +39,10 @@ narrow_pass (e ∷ es) = ap (λ b. is_narrow e.1 && b) (narrow_pass es)
 
 module _ (c : Contents) (p : List Name × Tree → Bool) where
   abbrev pub type_meets : BlockType → Bool
-  type_meets t = p (map (name_at c) t.levels.items, tree_at c t.kind)
+  type_meets t = p (map (name_at c) t.levels.items, tree_at c t.ty)
 
   abbrev pub ctor_meets : Constructor → Bool
-  ctor_meets k = p (map (name_at c) k.levels.items, tree_at c k.kind)
+  ctor_meets k = p (map (name_at c) k.levels.items, tree_at c k.ty)
 
   abbrev pub ctors_meet : BlockType → Bool
   ctors_meet t = list_all ctor_meets t.constructors.items
@@ -53,7 +52,7 @@ module _ (c : Contents) (p : List Name × Tree → Bool) where
 
   -- a recursor's type and the right sides of its rules
   abbrev pub rec_meets : Recursor → Bool
-  rec_meets r = p (map (name_at c) r.levels.items, tree_at c r.kind) && list_all (rule_meets r.levels.items) r.rules.items
+  rec_meets r = p (map (name_at c) r.levels.items, tree_at c r.ty) && list_all (rule_meets r.levels.items) r.rules.items
 
   types_are : (ts : List BlockType) → all_meet p (type_trees (map (type_at c) ts)) ≡ list_all type_meets ts
   types_are [] = refl
@@ -83,12 +82,12 @@ module _ (c : Contents) (p : List Name × Tree → Bool) where
   recs_are : (rs : List Recursor) → all_meet p (rec_trees (map (recursor_at c) rs)) ≡ list_all rec_meets rs
   recs_are [] = refl
   recs_are (r ∷ rs) =
-      let kind = p (map (name_at c) r.levels.items, tree_at c r.kind) in
+      let ty = p (map (name_at c) r.levels.items, tree_at c r.ty) in
       let rules = list_all (rule_meets r.levels.items) r.rules.items in
-      ap (λ b. kind && b)
+      ap (λ b. ty && b)
       (both (rule_trees (map (name_at c) r.levels.items) (map (rule_at c) r.rules.items)) (rec_trees (map (recursor_at c) rs)) rules (list_all rec_meets rs)
       (rules_are r.levels.items r.rules.items) (recs_are rs))
-      ∙ assoc kind rules (list_all rec_meets rs)
+      ∙ assoc ty rules (list_all rec_meets rs)
 
   -- a block's trees pass where the types, the constructors and the recursors do
   pub block_is : (b : Block) → all_meet p (trees_of (unit_at c (unit.Block b)))
@@ -123,10 +122,9 @@ module _ (c : Contents) (p : List Name × Tree → Bool) where
         ∙ ap (λ v. v && list_all rec_meets b.recursors.items) ctors)
 
 -- one more unit
-pub next_flaw : (c : Contents) (us : List StoredUnit) (i : ℕ) (u : StoredUnit) (flaws : List (Option Flaw)) (f : Option Flaw) → i < length us → u ≡ get_or us i u
-    → AreFlaws c (take i us) flaws → option_map rule_of f ≡ flaw_of (unit_at c u) → AreFlaws c (take (i + 1) us) (flaws ++ f ∷ [])
+pub next_flaw : (c : Contents) (us : List StoredUnit) (i : ℕ) (u : StoredUnit) (flaws : List (Option Rule)) (f : Option Rule) → i < length us → u ≡ get_or us i u
+    → AreFlaws c (take i us) flaws → f ≡ flaw_of (unit_at c u) → AreFlaws c (take (i + 1) us) (flaws ++ f ∷ [])
 next_flaw c us i u flaws f l is so_far here =
-    map-append (option_map rule_of) flaws (f ∷ [])
-    ∙ ap (λ l. l ++ option_map rule_of f ∷ []) so_far
+    ap (λ l. l ++ f ∷ []) so_far
     ∙ ap (λ x. map flaw_of (library_at c (take i us)) ++ x ∷ []) (here ∙ ap (λ v. flaw_of (unit_at c v)) is)
     ∙ sym (ap (map flaw_of) (ap (map (unit_at c)) (take_more us i u l) ∙ map-append (unit_at c) (take i us) (get_or us i u ∷ [])) ∙ map-append flaw_of (library_at c (take i us)) (unit_at c (get_or us i u) ∷ []))

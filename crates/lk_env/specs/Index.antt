@@ -2,14 +2,14 @@
 use Rattle.std.specs.Prelude.{◌≡◌, ℕ, ◌<◌, nat_eq, List, [], ◌∷◌, ◌++◌, length, map, Option, None, option_map, slice_index_or}
 use Rattle.std.specs.List.{flat_map, position_from}
 use Rattle.lk_store.specs.Contents.{Contents, name_at}
-use Rattle.lk_env.specs.declared.place.Place.{Place}
+use Rattle.lk_env.specs.declared.position.Position.{Position}
 use Rattle.lk_env.specs.declared.unit.Constructor.{Constructor}
 use Rattle.lk_env.specs.declared.unit.BlockType.{BlockType}
 use Rattle.lk_env.specs.declared.unit.Recursor.{Recursor}
 use Rattle.lk_env.specs.declared.unit.Unit.{Unit as StoredUnit}
 use Rattle.lk_env.specs.declared.unit.Unit.TheVariants as unit
 use Rattle.lk_env.specs.Units.{library_at}
-use Rattle.lk_env.specs.Places.{first_place, at_member, place_in}
+use Rattle.lk_env.specs.Places.{first_place, at_member, position_in}
 
 abbrev pub constructor_names : BlockType → List ℕ
 constructor_names t = map (λ (k : Constructor). k.name) t.constructors.items
@@ -19,17 +19,17 @@ abbrev pub member_names : StoredUnit → List ℕ
 member_names (unit.Declaration d) = d.name ∷ []
 member_names (unit.Block b) = map (λ (t : BlockType). t.name) b.types.items ++ (flat_map constructor_names b.types.items ++ map (λ (r : Recursor). r.name) b.recursors.items)
 
-abbrev pub pair_of : Place → ℕ × ℕ
+abbrev pub pair_of : Position → ℕ × ℕ
 pair_of p = (p.unit, p.member)
 
 -- what the cell of a number says
-abbrev pub cell_at : List (Option Place) → ℕ → Option (ℕ × ℕ)
+abbrev pub cell_at : List (Option Position) → ℕ → Option (ℕ × ℕ)
 cell_at cells n = option_map pair_of (slice_index_or cells n None)
 
 -- each cell that was empty has the first member of its number, where a member has it
-abbrev pub AreNoted : ℕ → List ℕ → List (Option Place) → List (Option Place) → Type 0
+abbrev pub AreNoted : ℕ → List ℕ → List (Option Position) → List (Option Position) → Type 0
 AreNoted unit names old new = (n : ℕ) → n < length old → cell_at new n ≡ first_place (cell_at old n) (at_member unit (position_from (λ m. nat_eq m n) 0 names))
 
-pub record IsIndex (c : Contents) (us : List StoredUnit) (cells : List (Option Place)) : Type 0 where
+pub record IsIndex (c : Contents) (us : List StoredUnit) (cells : List (Option Position)) : Type 0 where
   pub one_each : length cells ≡ length c.names
-  pub right : (n : ℕ) → n < length c.names → cell_at cells n ≡ place_in 0 (library_at c us) (name_at c n)
+  pub right : (n : ℕ) → n < length c.names → cell_at cells n ≡ position_in 0 (library_at c us) (name_at c n)

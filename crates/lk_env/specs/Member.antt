@@ -25,11 +25,11 @@ pub record IsConstructorAt (types : List BlockType) (place : ℕ) (e : Entry) : 
   pub kind_is : e.kind ≡ kind.Constructor parent number
   pub type_is : slice_get types parent ≡ Some type
   pub constructor_is : slice_get type.constructors.items number ≡ Some constructor
-  pub stated_is : e.stated ≡ constructor.kind
+  pub stated_is : e.stated ≡ constructor.ty
   pub place_is : length (flat_map constructor_names (take parent types)) + number ≡ place
 
 abbrev pub recursor_entry_at : ℕ → ℕ → Recursor → Entry
-recursor_entry_at unit i r = record { kind = kind.Recursor i; stated = r.kind; unit = unit }
+recursor_entry_at unit i r = record { kind = kind.Recursor i; stated = r.ty; unit = unit }
 
 -- which member it is while its unit is partial
 abbrev pub bare_kind : Kind → Kind

@@ -27,9 +27,9 @@ at_member i None = None
 at_member i (Some j) = Some (i, j)
 
 -- the first unit that gives the name and the member that does, where the first of all units has number i
-abbrev pub place_in : ℕ → Library → Name → Option (ℕ × ℕ)
-place_in i [] c = None
-place_in i (u ∷ us) c = first_place (at_member i (member_in 0 (members_of u) c)) (place_in (suc i) us c)
+abbrev pub position_in : ℕ → Library → Name → Option (ℕ × ℕ)
+position_in i [] c = None
+position_in i (u ∷ us) c = first_place (at_member i (member_in 0 (members_of u) c)) (position_in (suc i) us c)
 
 -- the entry of a unit's member
 abbrev pub entry_at : LibraryUnit → ℕ → Option Entry
@@ -40,9 +40,9 @@ abbrev pub found_at : Library → ℕ × ℕ → Option Found
 found_at us p = option_and_then (λ u. at_unit p.0 u (entry_at u p.1)) (slice_get us p.0)
 
 -- the place, where its unit is one of the first n
-abbrev pub place_below : ℕ → Option (ℕ × ℕ) → Option (ℕ × ℕ)
-place_below n None = None
-place_below n (Some p) = if nat_lt p.0 n then Some p else None
+abbrev pub position_below : ℕ → Option (ℕ × ℕ) → Option (ℕ × ℕ)
+position_below n None = None
+position_below n (Some p) = if nat_lt p.0 n then Some p else None
 
 -- what is partial of a unit
 abbrev pub partial_of : LibraryUnit → Partial → Members

@@ -1,6 +1,6 @@
 -- What the units of a library stand for, by the numbers of a store.
 use Rattle.std.specs.Prelude.{ℕ, ◌<◌, List, length, map, All}
-use Rattle.lk_rulebook.specs.Place.{Ctor, BlockType as PlainType, Block as PlainBlock, RecRule, Rec, opaque_hint, abbreviation, regular}
+use Rattle.lk_rulebook.specs.Place.{Ctor, BlockType as PlainType, Block as PlainBlock, RecRule, BlockRecursor, opaque_hint, abbreviation, regular}
 use Rattle.lk_rulebook.specs.Place.{Hint as PlainHint}
 use Rattle.lk_rulebook.specs.Units.{Body as PlainBody, as_axiom, as_def, as_thm, as_opaque, as_quot, Decl, LibraryUnit, of_decl, of_block, Library}
 use Rattle.lk_store.specs.Contents.{Contents, name_at, tree_at}
@@ -32,13 +32,13 @@ body_at c (Opaque v) = as_opaque (tree_at c v)
 body_at c Quotient = as_quot
 
 abbrev pub declaration_at : Contents → Declaration → Decl
-declaration_at c d = record { name = name_at c d.name; levels = map (name_at c) d.levels.items; type = tree_at c d.kind; body = body_at c d.body }
+declaration_at c d = record { name = name_at c d.name; levels = map (name_at c) d.levels.items; type = tree_at c d.ty; body = body_at c d.body }
 
 abbrev pub constructor_at : Contents → Constructor → Ctor
 constructor_at c k = record {
   name = name_at c k.name;
   levels = map (name_at c) k.levels.items;
-  type = tree_at c k.kind;
+  type = tree_at c k.ty;
   parent = name_at c k.parent;
   place = k.place;
   parameters = k.parameters;
@@ -49,7 +49,7 @@ abbrev pub type_at : Contents → BlockType → PlainType
 type_at c t = record {
   name = name_at c t.name;
   levels = map (name_at c) t.levels.items;
-  type = tree_at c t.kind;
+  type = tree_at c t.ty;
   parameters = t.parameters;
   indices = t.indices;
   ctors = map (constructor_at c) t.constructors.items;
@@ -58,11 +58,11 @@ type_at c t = record {
 abbrev pub rule_at : Contents → RecursorRule → RecRule
 rule_at c r = record { ctor = name_at c r.constructor; fields = r.fields; value = tree_at c r.value }
 
-abbrev pub recursor_at : Contents → Recursor → Rec
+abbrev pub recursor_at : Contents → Recursor → BlockRecursor
 recursor_at c r = record {
   name = name_at c r.name;
   levels = map (name_at c) r.levels.items;
-  type = tree_at c r.kind;
+  type = tree_at c r.ty;
   recursor = record { parameters = r.parameters; indices = r.indices; motives = r.motives; minors = r.minors; k = r.k; rules = map (rule_at c) r.rules.items };
 }
 
@@ -90,17 +90,17 @@ IsBodyIn c (Opaque v) = v < length c.trees
 IsBodyIn c Quotient = Unit {0}
 
 -- a name, level parameters and a type
-pub record IsStatedIn (c : Contents) (name : ℕ) (levels : List ℕ) (kind : ℕ) : Type 0 where
+pub record IsStatedIn (c : Contents) (name : ℕ) (levels : List ℕ) (ty : ℕ) : Type 0 where
   pub name_in : name < length c.names
   pub levels_in : All (λ n. n < length c.names) levels
-  pub kind_in : kind < length c.trees
+  pub ty_in : ty < length c.trees
 
 pub record IsConstructorIn (c : Contents) (k : Constructor) : Type 0 where
-  pub stated : IsStatedIn c k.name k.levels.items k.kind
+  pub stated : IsStatedIn c k.name k.levels.items k.ty
   pub parent_in : k.parent < length c.names
 
 pub record IsTypeIn (c : Contents) (t : BlockType) : Type 0 where
-  pub stated : IsStatedIn c t.name t.levels.items t.kind
+  pub stated : IsStatedIn c t.name t.levels.items t.ty
   pub constructors_in : All (IsConstructorIn c) t.constructors.items
 
 pub record IsRuleIn (c : Contents) (r : RecursorRule) : Type 0 where
@@ -108,11 +108,11 @@ pub record IsRuleIn (c : Contents) (r : RecursorRule) : Type 0 where
   pub value_in : r.value < length c.trees
 
 pub record IsRecursorIn (c : Contents) (r : Recursor) : Type 0 where
-  pub stated : IsStatedIn c r.name r.levels.items r.kind
+  pub stated : IsStatedIn c r.name r.levels.items r.ty
   pub rules_in : All (IsRuleIn c) r.rules.items
 
 abbrev pub IsUnitIn : Contents → StoredUnit → Type 0
-IsUnitIn c (unit.Declaration d) = IsStatedIn c d.name d.levels.items d.kind × IsBodyIn c d.body
+IsUnitIn c (unit.Declaration d) = IsStatedIn c d.name d.levels.items d.ty × IsBodyIn c d.body
 IsUnitIn c (unit.Block b) = All (IsTypeIn c) b.types.items × All (IsRecursorIn c) b.recursors.items
 
 abbrev pub AreUnitsIn : Contents → List StoredUnit → Type 0

@@ -22,21 +22,6 @@ pub struct Entry {
     pub unit: u32,
 }
 
-/// Why look-ups of a unit's members are refused.
-#[derive(Clone, Copy, PartialEq, Eq)]
-pub enum Flaw {
-    LooseVariable,
-    WideLiteral,
-}
-
-/// Why a look-up is refused.
-#[derive(Clone, Copy)]
-pub enum Refused {
-    UnknownConstant,
-    LooseVariable,
-    WideLiteral,
-}
-
 /// Which members of a unit are partial: given while the unit itself is checked.
 #[derive(Clone, Copy)]
 pub enum Partial {

@@ -6,7 +6,7 @@ ghost use Rattle.lk_store.specs.Store.{contents_of};
 ghost use Rattle.lk_env.specs.Units.{AreUnitsIn};
 ghost use Rattle.lk_env.specs.Index.{constructor_names, member_names, cell_at, AreNoted, IsIndex};
 
-use crate::place::Place;
+use crate::position::Position;
 use crate::unit::{Block, BlockType, Constructor, Recursor, Unit};
 use lk_store::base_store::BaseStore;
 use lk_store::memory::NoMemory;
@@ -71,8 +71,8 @@ pub fn names_of(alloc: Global, unit: &Unit) -> Result<Vec<u64>, NoMemory>
     }
 }
 
-/// Notes the members of a unit by their names. A name that has a place keeps it.
-fn note_members(cells: &mut Vec<Option<Place>>, unit: u32, names: &[u64]) -> Result<(), NoMemory>
+/// Notes the members of a unit by their names. A name that has a position keeps it.
+fn note_members(cells: &mut Vec<Option<Position>>, unit: u32, names: &[u64]) -> Result<(), NoMemory>
     requires { All (λ n. n < length cells.old.items) names.now }
     ensures one_each { length cells.new.items ≡ length cells.old.items }
     ensures ok { OnOk result (AreNoted unit names.now cells.old.items cells.new.items) }
@@ -81,18 +81,18 @@ fn note_members(cells: &mut Vec<Option<Place>>, unit: u32, names: &[u64]) -> Res
         return Err(NoMemory);
     }
     for (j, name) in names.iter().enumerate() {
-        let place = Place {
+        let position = Position {
             unit,
             member: j as u32,
         };
-        let first = cells[*name as usize].unwrap_or(place);
+        let first = cells[*name as usize].unwrap_or(position);
         cells[*name as usize] = Some(first);
     }
     Ok(())
 }
 
-/// A cell for each of n names, without a place.
-fn empty_cells(alloc: Global, n: usize) -> Result<Vec<Option<Place>>, NoMemory>
+/// A cell for each of n names, without a position.
+fn empty_cells(alloc: Global, n: usize) -> Result<Vec<Option<Position>>, NoMemory>
     ensures one_each { IfOk result (λ cells. length cells.items ≡ n) }
     ensures empty { IfOk result (λ cells. (k : ℕ) → k < n → cell_at cells.items k ≡ None) }
 {
@@ -106,7 +106,7 @@ pub(crate) fn index_of(
     alloc: Global,
     base: &BaseStore,
     units: &[Unit],
-) -> Result<Vec<Option<Place>>, NoMemory>
+) -> Result<Vec<Option<Position>>, NoMemory>
     requires { AreUnitsIn (contents_of base.now) units.now }
     ensures { IfOk result (λ cells. IsIndex (contents_of base.now) units.now cells.items) }
 {

@@ -6,17 +6,19 @@ ghost use Rattle.lk_rulebook.specs.Units.{Library, LibraryUnit, members_of, firs
 ghost use Rattle.lk_rulebook.specs.Scan.{are_new};
 ghost use Rattle.lk_store.specs.declared.tables.Tables.{Tables};
 ghost use Rattle.lk_env.specs.Units.{library_of};
-ghost use Rattle.lk_env.specs.Places.{place_in, found_at, partial_of, partial_at, place_at};
+ghost use Rattle.lk_env.specs.Places.{position_in, found_at, partial_of, partial_at, place_at};
 
 use crate::entry::{Partial, Site};
 use crate::unit::Unit;
 
-/// A name is given exactly where it has a place, by the unit of that place and as that member says.
+/// A name is given exactly where it has a position, by the unit of that position and as that
+/// member says.
 pub fn places_are_given()
     ensures units { (us : Library) (c : Name)
-        → option_map (λ f. f.unit) (first_giving 0 us c) ≡ option_map (λ p. p.0) (place_in 0 us c) }
+        → option_map (λ f. f.unit) (first_giving 0 us c) ≡ option_map (λ p. p.0)
+        (position_in 0 us c) }
     ensures entries { (us : Library) (c : Name) → first_giving 0 us c
-        ≡ option_and_then (found_at us) (place_in 0 us c) }
+        ≡ option_and_then (found_at us) (position_in 0 us c) }
 {}
 
 /// Where the names of a unit are new, all that is partial of it is seen; and where nothing is partial, the units before

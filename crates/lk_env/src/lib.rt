@@ -9,6 +9,6 @@ pub mod lent;
 pub mod library;
 mod member;
 mod parameters;
-pub mod place;
+pub mod position;
 pub mod scan;
 pub mod unit;

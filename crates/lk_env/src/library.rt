@@ -1,17 +1,18 @@
 //! A library: a store, units whose names and trees are numbers of it, and an index over their
 //! names.
 
-use crate::entry::{Entry, Flaw, Refused, Site};
+use crate::entry::{Entry, Site};
 use crate::index::index_of;
 use crate::member::{member_entry, partial_entry};
 use crate::parameters::parameters_in;
-use crate::place::Place;
+use crate::position::Position;
 use crate::scan::flaws_of;
 use crate::unit::Unit;
 use lk_store::base_store::BaseStore;
 use lk_store::memory::NoMemory;
 use lk_store::node::NameNode;
 use lk_store::terms::Terms;
+use lk_tree::rule::Rule;
 use std::alloc::Global;
 use std::marker::Model;
 use std::mem::drop;
@@ -20,10 +21,10 @@ use std::mem::drop;
 pub struct Library {
     base: BaseStore,
     units: Vec<Unit>,
-    /// For each name of the store the place at which it is given.
-    cells: Vec<Option<Place>>,
+    /// For each name of the store the position at which it is given.
+    cells: Vec<Option<Position>>,
     /// For each unit why look-ups of its members are refused, if they are.
-    flaws: Vec<Option<Flaw>>,
+    flaws: Vec<Option<Rule>>,
 }
 
 impl Model for Library {
@@ -50,55 +51,54 @@ ghost use Rattle.lk_tree.specs.Tree.{Name as PlainName};
 ghost use Rattle.lk_rulebook.specs.Units.{at_partial, place_by};
 ghost use Rattle.lk_store.specs.Contents.{Contents, name_at, name_of, IsNameIn};
 ghost use Rattle.lk_env.specs.Units.{library_at, AreUnitsIn};
-ghost use Rattle.lk_env.specs.Places.{place_below, own_member, found_at, partial_entry_in};
+ghost use Rattle.lk_env.specs.Places.{position_below, own_member, found_at, partial_entry_in};
 ghost use Rattle.lk_env.specs.Index.{pair_of};
 ghost use Rattle.lk_env.specs.Entries.{plain_entry, judged, IsEntryIn, IsAnswer};
 ghost use Rattle.lk_env.specs.Scan.{AreFlaws};
 
-/// The place, where its unit is one of the first ones.
-fn place_among(place: Option<Place>, units: u32) -> Option<Place>
-    ensures { option_map pair_of result ≡ place_below units (option_map pair_of place) }
+/// The position, where its unit is one of the first ones.
+fn position_among(position: Option<Position>, units: u32) -> Option<Position>
+    ensures { option_map pair_of result ≡ position_below units (option_map pair_of position) }
 {
-    match place {
-        Some(p) if p.unit < units => place,
+    match position {
+        Some(p) if p.unit < units => position,
         _ => None,
     }
 }
 
 /// The entry, where its unit has no flaw.
-fn flawless(flaw: Option<Flaw>, entry: Entry) -> Result<Entry, Refused>
+fn flawless(flaw: Option<Rule>, entry: Entry) -> Result<Entry, Rule>
     ensures { result ≡ judged flaw entry }
 {
     match flaw {
         None => Ok(entry),
-        Some(Flaw::LooseVariable) => Err(Refused::LooseVariable),
-        Some(Flaw::WideLiteral) => Err(Refused::WideLiteral),
+        Some(rule) => Err(rule),
     }
 }
 
-/// The entry of the member at a place.
-fn entry_in(units: &[Unit], flaws: &[Option<Flaw>], place: Place) -> Result<Entry, Refused>
+/// The entry of the member at a position.
+fn entry_in(units: &[Unit], flaws: &[Option<Rule>], position: Position) -> Result<Entry, Rule>
     requires { length flaws.now ≡ length units.now }
     ensures known { (c : Contents) → AreUnitsIn c units.now → IfOk result (IsEntryIn c) }
     ensures answer { (c : Contents) → AreFlaws c units.now flaws.now → (n : ℕ) (x : PlainName)
         → IsAnswer c units.now (place_by n
-        (λ y. found_at (library_at c units.now) (pair_of place))) x result }
+        (λ y. found_at (library_at c units.now) (pair_of position))) x result }
 {
-    let i = place.unit as usize;
+    let i = position.unit as usize;
     if i >= units.len() {
-        return Err(Refused::UnknownConstant);
+        return Err(Rule::UnknownConstant);
     }
-    match member_entry(place.unit, &units[i], place.member as usize) {
+    match member_entry(position.unit, &units[i], position.member as usize) {
         Some(entry) => flawless(flaws[i], entry),
-        None => Err(Refused::UnknownConstant),
+        None => Err(Rule::UnknownConstant),
     }
 }
 
-/// The member, where the place is in the unit.
-fn member_of(place: Option<Place>, unit: u32) -> Option<u32>
-    ensures { result ≡ own_member unit (option_map pair_of place) }
+/// The member, where the position is in the unit.
+fn member_of(position: Option<Position>, unit: u32) -> Option<u32>
+    ensures { result ≡ own_member unit (option_map pair_of position) }
 {
-    match place {
+    match position {
         Some(p) if p.unit == unit => Some(p.member),
         _ => None,
     }
@@ -106,7 +106,7 @@ fn member_of(place: Option<Place>, unit: u32) -> Option<u32>
 
 /// The entry of a member of the site's own unit, where it is partial. Nothing is wrong with a unit
 /// that is partial.
-fn partial_in(units: &[Unit], site: &Site, member: usize) -> Result<Entry, Refused>
+fn partial_in(units: &[Unit], site: &Site, member: usize) -> Result<Entry, Rule>
     ensures known { (c : Contents) → AreUnitsIn c units.now → IfOk result (IsEntryIn c) }
     ensures answer { (c : Contents) (x : PlainName)
         → IsAnswer c units.now (place_by site.now.unit (λ y. at_partial site.now.unit
@@ -115,9 +115,9 @@ fn partial_in(units: &[Unit], site: &Site, member: usize) -> Result<Entry, Refus
     match units.get(site.unit as usize) {
         Some(unit) => match partial_entry(site.unit, unit, site.partial, member) {
             Some(entry) => Ok(entry),
-            None => Err(Refused::UnknownConstant),
+            None => Err(Rule::UnknownConstant),
         },
-        None => Err(Refused::UnknownConstant),
+        None => Err(Rule::UnknownConstant),
     }
 }
 
@@ -152,7 +152,7 @@ impl Library {
     ghost use Rattle.std.specs.Prelude.{take, None};
     ghost use Rattle.lk_store.specs.Store.{contents_of};
     ghost use Rattle.lk_env.specs.Units.{library_of};
-    ghost use Rattle.lk_env.specs.Places.{place_in, place_at};
+    ghost use Rattle.lk_env.specs.Places.{position_in, place_at};
     ghost use Rattle.lk_store.specs.Contents.{Extends};
 
     /// Makes the index. Units are fewer than 2^32; more are want of memory.
@@ -186,50 +186,51 @@ impl Library {
     }
 
     /// The first unit that gives the name, and which of its members. It takes no memory.
-    pub fn place_of(&self, name: u64) -> Option<Place>
+    pub fn position_of(&self, name: u64) -> Option<Position>
         requires { name < length (contents_of self.now.0).names }
         ensures { option_map pair_of result
-            ≡ place_in 0 (library_of self.now) (name_at (contents_of self.now.0) name) }
+            ≡ position_in 0 (library_of self.now) (name_at (contents_of self.now.0) name) }
     {
         self.cells[name as usize]
     }
 
     /// The first of so many units that gives the name, and which of its members. It takes no
     /// memory.
-    pub fn place_before(&self, units: u32, name: u64) -> Option<Place>
+    pub fn position_before(&self, units: u32, name: u64) -> Option<Position>
         requires { name < length (contents_of self.now.0).names }
         ensures { option_map pair_of result
-            ≡ place_in 0 (take units (library_of self.now))
+            ≡ position_in 0 (take units (library_of self.now))
             (name_at (contents_of self.now.0) name) }
     {
-        place_among(self.place_of(name), units)
+        position_among(self.position_of(name), units)
     }
 
     /// What the name means among the partial members of the site's unit, where no unit before gives
     /// it.
-    fn among_partial(&self, site: &Site, name: u64) -> Result<Entry, Refused>
+    fn among_partial(&self, site: &Site, name: u64) -> Result<Entry, Rule>
         requires name_in { name < length (contents_of self.now.0).names }
-        requires new { place_in 0 (take site.now.unit (library_of self.now))
+        requires new { position_in 0 (take site.now.unit (library_of self.now))
             (name_at (contents_of self.now.0) name) ≡ None }
         ensures known { IfOk result (IsEntryIn (contents_of self.now.0)) }
         ensures answer { IsAnswer (contents_of self.now.0) self.now.1
             (place_at self.now site.now) (name_at (contents_of self.now.0) name) result }
     {
-        match member_of(self.place_of(name), site.unit) {
+        match member_of(self.position_of(name), site.unit) {
             Some(member) => partial_in(&self.units, site, member as usize),
-            None => Err(Refused::UnknownConstant),
+            None => Err(Rule::UnknownConstant),
         }
     }
 
-    /// What the name means at the site. It takes no memory, and of the library it reads one unit.
-    pub fn at(&self, site: &Site, name: u64) -> Result<Entry, Refused>
+    /// What the name means at the site. A name that nothing gives is UnknownConstant; where its unit has a flaw, the flaw is
+    /// told. It takes no memory, and of the library it reads one unit.
+    pub fn at(&self, site: &Site, name: u64) -> Result<Entry, Rule>
         requires { name < length (contents_of self.now.0).names }
         ensures known { IfOk result (IsEntryIn (contents_of self.now.0)) }
         ensures answer { IsAnswer (contents_of self.now.0) self.now.1
             (place_at self.now site.now) (name_at (contents_of self.now.0) name) result }
     {
-        match self.place_before(site.unit, name) {
-            Some(place) => entry_in(&self.units, &self.flaws, place),
+        match self.position_before(site.unit, name) {
+            Some(position) => entry_in(&self.units, &self.flaws, position),
             None => self.among_partial(site, name),
         }
     }
@@ -237,7 +238,7 @@ impl Library {
     /// What the name means at the site, where the number is one of a store that has what the
     /// library has, under the same numbers: an overlay over the library's store is such a store.
     /// Names that the library does not have mean nothing.
-    pub fn means<T: Terms>(&self, site: &Site, terms: &T, name: u64) -> Result<Entry, Refused>
+    pub fn means<T: Terms>(&self, site: &Site, terms: &T, name: u64) -> Result<Entry, Rule>
         requires over { Extends (contents_of self.now.0) (T.contents terms.now) }
         requires name_in { name < length (T.contents terms.now).names }
         ensures known { IfOk result (IsEntryIn (contents_of self.now.0)) }
@@ -250,7 +251,7 @@ impl Library {
         // The names of the store are apart, so that a number beyond the library's is a name that
         // the library does not have.
         let _names = terms.count_names();
-        Err(Refused::UnknownConstant)
+        Err(Rule::UnknownConstant)
     }
 
     /// The level parameters of an entry, by the numbers of their names. It takes no memory.
@@ -262,15 +263,15 @@ impl Library {
         level_parameters(&self.units, entry)
     }
 
-    /// What `place_of` says, of the name that a node makes of its parts. It need not be in the
+    /// What `position_of` says, of the name that a node makes of its parts. It need not be in the
     /// store.
-    pub fn find(&self, node: NameNode) -> Option<Place>
+    pub fn find(&self, node: NameNode) -> Option<Position>
         requires { IsNameIn (contents_of self.now.0) node }
         ensures { option_map pair_of result
-            ≡ place_in 0 (library_of self.now) (name_of (contents_of self.now.0) node) }
+            ≡ position_in 0 (library_of self.now) (name_of (contents_of self.now.0) node) }
     {
         match self.base.find_name(node) {
-            Some(n) => self.place_of(n),
+            Some(n) => self.position_of(n),
             None => None,
         }
     }

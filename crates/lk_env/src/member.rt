@@ -15,7 +15,7 @@ fn declaration_entry(unit: u32, declaration: &Declaration) -> Entry
 {
     Entry {
         kind: Kind::Declared(declaration.body),
-        stated: declaration.kind,
+        stated: declaration.ty,
         unit,
     }
 }
@@ -38,7 +38,7 @@ fn constructor_entry(unit: u32, types: &[BlockType], place: usize) -> Result<Ent
             };
             return Ok(Entry {
                 kind,
-                stated: constructors[rest].kind,
+                stated: constructors[rest].ty,
                 unit,
             });
         }
@@ -54,7 +54,7 @@ fn recursor_entry(unit: u32, recursors: &[Recursor], i: usize) -> Option<Entry>
     match recursors.get(i) {
         Some(r) => Some(Entry {
             kind: Kind::Recursor(i),
-            stated: r.kind,
+            stated: r.ty,
             unit,
         }),
         None => None,
@@ -70,7 +70,7 @@ fn block_entry(unit: u32, block: &Block, member: usize) -> Option<Entry>
     if member < types.len() {
         return Some(Entry {
             kind: Kind::Type(member),
-            stated: types[member].kind,
+            stated: types[member].ty,
             unit,
         });
     }

@@ -24,7 +24,7 @@ pub enum Body {
 pub struct Declaration {
     pub name: u64,
     pub levels: Vec<u64>,
-    pub kind: u64,
+    pub ty: u64,
     pub body: Body,
 }
 
@@ -33,7 +33,7 @@ pub struct Declaration {
 pub struct Constructor {
     pub name: u64,
     pub levels: Vec<u64>,
-    pub kind: u64,
+    pub ty: u64,
     /// The name of its type.
     pub parent: u64,
     /// Its place among the constructors of its type.
@@ -47,7 +47,7 @@ pub struct Constructor {
 pub struct BlockType {
     pub name: u64,
     pub levels: Vec<u64>,
-    pub kind: u64,
+    pub ty: u64,
     pub parameters: u64,
     pub indices: u64,
     pub constructors: Vec<Constructor>,
@@ -66,7 +66,7 @@ pub struct RecursorRule {
 pub struct Recursor {
     pub name: u64,
     pub levels: Vec<u64>,
-    pub kind: u64,
+    pub ty: u64,
     pub parameters: u64,
     pub indices: u64,
     pub motives: u64,

@@ -16,7 +16,7 @@ use Rattle.lk_members.specs.declared.line.Said.{Said as StoredSaid}
 use Rattle.lk_members.specs.declared.line.Said.TheVariants as said
 use Rattle.lk_members.specs.declared.line.Line.{Line as StoredLine}
 use Rattle.lk_tree.specs.Tree.{Name}
-use Rattle.lk_rulebook.specs.Place.{Ctor, Rec}
+use Rattle.lk_rulebook.specs.Place.{Ctor, BlockRecursor}
 use Rattle.lk_members.specs.Lines.{alone, a_type, a_ctor, a_recursor}
 use Rattle.lk_members.specs.Stored.{AreNames, IsSaidIn, AreLinesIn}
 use Rattle.lk_members.specs.Plain.{Head, PlainSaid, head_at, said_at, line_at, lines_at}
@@ -41,10 +41,10 @@ ctor_said p n k = a_ctor p n k
 built_of : (p q n m : Name) (k l : Ctor) → p ≡ q → n ≡ m → k ≡ l → ctor_said p n k ≡ ctor_said q m l
 built_of p q n m k l a b e = rw (a, b, e) refl
 
-abbrev recursor_said : List Name → Name → Rec → PlainSaid
+abbrev recursor_said : List Name → Name → BlockRecursor → PlainSaid
 recursor_said ts n r = a_recursor ts n r
 
-eliminated : (ts us : List Name) (n m : Name) (r s : Rec) → ts ≡ us → n ≡ m → r ≡ s → recursor_said ts n r ≡ recursor_said us m s
+eliminated : (ts us : List Name) (n m : Name) (r s : BlockRecursor) → ts ≡ us → n ≡ m → r ≡ s → recursor_said ts n r ≡ recursor_said us m s
 eliminated ts us n m r s a b e = rw (a, b, e) refl
 
 module _ (c d : Contents) (x : Extends c d) where
@@ -61,11 +61,11 @@ module _ (c d : Contents) (x : Extends c d) where
   body_same (Opaque v) h = ap as_opaque (tree_same v h)
   body_same Quotient h = refl
 
-  declaration_same : (t : Declaration) → IsStatedIn c t.name t.levels.items t.kind → IsBodyIn c t.body → declaration_at d t ≡ declaration_at c t
-  declaration_same t h b = rw (x.names.same t.name h.name_in, names_same t.levels.items h.levels_in, tree_same t.kind h.kind_in, body_same t.body b) refl
+  declaration_same : (t : Declaration) → IsStatedIn c t.name t.levels.items t.ty → IsBodyIn c t.body → declaration_at d t ≡ declaration_at c t
+  declaration_same t h b = rw (x.names.same t.name h.name_in, names_same t.levels.items h.levels_in, tree_same t.ty h.ty_in, body_same t.body b) refl
 
   constructor_same : (k : Constructor) → IsConstructorIn c k → constructor_at d k ≡ constructor_at c k
-  constructor_same k h = rw (x.names.same k.name h.stated.name_in, names_same k.levels.items h.stated.levels_in, tree_same k.kind h.stated.kind_in, x.names.same k.parent h.parent_in) refl
+  constructor_same k h = rw (x.names.same k.name h.stated.name_in, names_same k.levels.items h.stated.levels_in, tree_same k.ty h.stated.ty_in, x.names.same k.parent h.parent_in) refl
 
   pub rule_same : (r : RecursorRule) → IsRuleIn c r → rule_at d r ≡ rule_at c r
   rule_same r h = rw (x.names.same r.constructor h.constructor_in, tree_same r.value h.value_in) refl
@@ -73,10 +73,10 @@ module _ (c d : Contents) (x : Extends c d) where
   recursor_same : (r : Recursor) → IsRecursorIn c r → recursor_at d r ≡ recursor_at c r
   recursor_same r h =
       let rules = map_same (IsRuleIn c) (rule_at c) (rule_at d) rule_same r.rules.items h.rules_in in
-      rw (x.names.same r.name h.stated.name_in, names_same r.levels.items h.stated.levels_in, tree_same r.kind h.stated.kind_in, rules) refl
+      rw (x.names.same r.name h.stated.name_in, names_same r.levels.items h.stated.levels_in, tree_same r.ty h.stated.ty_in, rules) refl
 
-  head_same : (t : TypeHead) → IsStatedIn c t.name t.levels.items t.kind → head_at d t ≡ head_at c t
-  head_same t h = rw (x.names.same t.name h.name_in, names_same t.levels.items h.levels_in, tree_same t.kind h.kind_in) refl
+  head_same : (t : TypeHead) → IsStatedIn c t.name t.levels.items t.ty → head_at d t ≡ head_at c t
+  head_same t h = rw (x.names.same t.name h.name_in, names_same t.levels.items h.levels_in, tree_same t.ty h.ty_in) refl
 
   said_same : (s : StoredSaid) → IsSaidIn c s → said_at d s ≡ said_at c s
   said_same (said.Alone t) h = ap alone (declaration_same t h.0 h.1)
@@ -107,22 +107,22 @@ module _ (c d : Contents) (x : Extends c d) where
   name_stays : (n : ℕ) → n < length c.names → n < length d.names
   name_stays n h = let l = x.names.longer in omega arith
 
-  stated_stays : (name : ℕ) (levels : List ℕ) (kind : ℕ) → IsStatedIn c name levels kind → IsStatedIn d name levels kind
-  stated_stays name levels kind h = record {
+  stated_stays : (name : ℕ) (levels : List ℕ) (ty : ℕ) → IsStatedIn c name levels ty → IsStatedIn d name levels ty
+  stated_stays name levels ty h = record {
     name_in = name_stays name h.name_in;
     levels_in = All-weaker (λ n. n < length c.names) (λ n. n < length d.names) name_stays levels h.levels_in;
-    kind_in = let k = h.kind_in in let l = x.trees.longer in omega arith;
+    ty_in = let k = h.ty_in in let l = x.trees.longer in omega arith;
   }
 
   constructor_stays : (k : Constructor) → IsConstructorIn c k → IsConstructorIn d k
-  constructor_stays k h = record { stated = stated_stays k.name k.levels.items k.kind h.stated; parent_in = name_stays k.parent h.parent_in }
+  constructor_stays k h = record { stated = stated_stays k.name k.levels.items k.ty h.stated; parent_in = name_stays k.parent h.parent_in }
 
   pub rule_stays : (r : RecursorRule) → IsRuleIn c r → IsRuleIn d r
   rule_stays r h = record { constructor_in = name_stays r.constructor h.constructor_in; value_in = let v = h.value_in in let l = x.trees.longer in omega arith }
 
   recursor_stays : (r : Recursor) → IsRecursorIn c r → IsRecursorIn d r
   recursor_stays r h = record {
-    stated = stated_stays r.name r.levels.items r.kind h.stated;
+    stated = stated_stays r.name r.levels.items r.ty h.stated;
     rules_in = All-weaker (IsRuleIn c) (IsRuleIn d) rule_stays r.rules.items h.rules_in;
   }
 
@@ -130,8 +130,8 @@ module _ (c d : Contents) (x : Extends c d) where
   names_stay ns h = All-weaker (λ n. n < length c.names) (λ n. n < length d.names) name_stays ns h
 
   said_stays : (s : StoredSaid) → IsSaidIn c s → IsSaidIn d s
-  said_stays (said.Alone t) h = (stated_stays t.name t.levels.items t.kind h.0, body_stays t.body h.1)
-  said_stays (said.Type t types constructors) h = (stated_stays t.value.name t.value.levels.items t.value.kind h.0, (names_stay types.items h.1.0, names_stay constructors.items h.1.1))
+  said_stays (said.Alone t) h = (stated_stays t.name t.levels.items t.ty h.0, body_stays t.body h.1)
+  said_stays (said.Type t types constructors) h = (stated_stays t.value.name t.value.levels.items t.value.ty h.0, (names_stay types.items h.1.0, names_stay constructors.items h.1.1))
   said_stays (said.Constructor k) h = constructor_stays k h
   said_stays (said.Recursor types r) h = (names_stay types.items h.0, recursor_stays r.value h.1)
 

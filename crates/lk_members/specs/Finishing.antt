@@ -62,7 +62,7 @@ pub record IsRecursorCopy (r copy : Recursor) : Type 0 where
 -- a type stands for what its line states, with these constructors
 pub record IsTypeCopy (head : TypeHead) (constructors : List Constructor) (copy : BlockType) : Type 0 where
   pub same : (c : Contents) (ks : List Constructor) → map (constructor_at c) constructors ≡ map (constructor_at c) ks → type_at c copy ≡ type_stated c (head, ks)
-  pub known : (c : Contents) → IsStatedIn c head.name head.levels.items head.kind → All (IsConstructorIn c) constructors → IsTypeIn c copy
+  pub known : (c : Contents) → IsStatedIn c head.name head.levels.items head.ty → All (IsConstructorIn c) constructors → IsTypeIn c copy
 
 -- What is made from lines: what it stands for, and that it is the store's where the lines are.
 pub record AreMade {A X V : Type 0} (value : Contents → A → V) (stated : Contents → X → V) (IsKnown : Contents → A → Type 0) (lines : List StoredLine) (xs : List X) (made : List A) : Type 0 where

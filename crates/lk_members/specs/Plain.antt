@@ -2,7 +2,7 @@
 use Rattle.std.specs.Prelude.{ℕ, List, map}
 use Rattle.lk_tree.specs.Tree.{Name, Tree}
 use Rattle.lk_tree.specs.Mentions.{same_name}
-use Rattle.lk_rulebook.specs.Place.{Ctor, BlockType, Rec}
+use Rattle.lk_rulebook.specs.Place.{Ctor, BlockType, BlockRecursor}
 use Rattle.lk_rulebook.specs.Units.{Decl, LibraryUnit, of_decl, of_block, Library}
 use Rattle.lk_store.specs.Contents.{Contents, name_at, tree_at}
 use Rattle.lk_env.specs.Units.{declaration_at, constructor_at, recursor_at}
@@ -22,16 +22,16 @@ pub record Head : Type 0 where
   pub indices : ℕ
 
 abbrev pub PlainSaid : Type 0
-PlainSaid = Said Name Decl Head Ctor Rec
+PlainSaid = Said Name Decl Head Ctor BlockRecursor
 
 abbrev pub PlainLine : Type 0
-PlainLine = Line Name Decl Head Ctor Rec
+PlainLine = Line Name Decl Head Ctor BlockRecursor
 
 -- a type with its constructors
 abbrev pub with_its_ctors : Head × List Ctor → BlockType
 with_its_ctors t = record { name = t.0.name; levels = t.0.levels; type = t.0.type; parameters = t.0.parameters; indices = t.0.indices; ctors = t.1 }
 
-abbrev pub unit_of : Gathered Decl Head Ctor Rec → LibraryUnit
+abbrev pub unit_of : Gathered Decl Head Ctor BlockRecursor → LibraryUnit
 unit_of (one d) = of_decl d
 unit_of (block ts rs) = of_block (record { types = map with_its_ctors ts }) rs
 
@@ -41,7 +41,7 @@ library_stated lines = map unit_of (units_of same_name lines)
 
 -- what a line by the numbers of a store stands for
 abbrev pub head_at : Contents → TypeHead → Head
-head_at c t = record { name = name_at c t.name; levels = map (name_at c) t.levels.items; type = tree_at c t.kind; parameters = t.parameters; indices = t.indices }
+head_at c t = record { name = name_at c t.name; levels = map (name_at c) t.levels.items; type = tree_at c t.ty; parameters = t.parameters; indices = t.indices }
 
 abbrev pub said_at : Contents → StoredSaid → PlainSaid
 said_at c (said.Alone d) = alone (declaration_at c d)

@@ -40,7 +40,7 @@ abbrev pub type_stated : Contents → TypeHead × List Constructor → PlainType
 type_stated c t = record {
   name = name_at c t.0.name;
   levels = map (name_at c) t.0.levels.items;
-  type = tree_at c t.0.kind;
+  type = tree_at c t.0.ty;
   parameters = t.0.parameters;
   indices = t.0.indices;
   ctors = map (constructor_at c) t.1;
@@ -55,8 +55,8 @@ abbrev pub AreNames : Contents → List ℕ → Type 0
 AreNames c ns = All (λ n. n < length c.names) ns
 
 abbrev pub IsSaidIn : Contents → StoredSaid → Type 0
-IsSaidIn c (said.Alone d) = IsStatedIn c d.name d.levels.items d.kind × IsBodyIn c d.body
-IsSaidIn c (said.Type head types constructors) = IsStatedIn c head.value.name head.value.levels.items head.value.kind × (AreNames c types.items × AreNames c constructors.items)
+IsSaidIn c (said.Alone d) = IsStatedIn c d.name d.levels.items d.ty × IsBodyIn c d.body
+IsSaidIn c (said.Type head types constructors) = IsStatedIn c head.value.name head.value.levels.items head.value.ty × (AreNames c types.items × AreNames c constructors.items)
 IsSaidIn c (said.Constructor k) = IsConstructorIn c k
 IsSaidIn c (said.Recursor types r) = AreNames c types.items × IsRecursorIn c r.value
 

@@ -31,7 +31,7 @@ fn copy_constructor(alloc: Global, k: &Constructor) -> Result<Constructor, NoMem
     Ok(Constructor {
         name: k.name,
         levels,
-        kind: k.kind,
+        ty: k.ty,
         parent: k.parent,
         place: k.place,
         parameters: k.parameters,
@@ -48,7 +48,7 @@ fn copy_recursor(alloc: Global, r: &Recursor) -> Result<Recursor, NoMemory>
     Ok(Recursor {
         name: r.name,
         levels,
-        kind: r.kind,
+        ty: r.ty,
         parameters: r.parameters,
         indices: r.indices,
         motives: r.motives,
@@ -70,7 +70,7 @@ fn copy_type(
     Ok(BlockType {
         name: head.name,
         levels,
-        kind: head.kind,
+        ty: head.ty,
         parameters: head.parameters,
         indices: head.indices,
         constructors,

@@ -13,3 +13,5 @@ pub mod names;
 mod open;
 mod places;
 pub mod taking;
+
+pub use members::Members;

@@ -12,7 +12,7 @@ use lk_env::unit::{Constructor, Declaration, Recursor};
 pub struct TypeHead {
     pub name: u64,
     pub levels: Vec<u64>,
-    pub kind: u64,
+    pub ty: u64,
     pub parameters: u64,
     pub indices: u64,
 }

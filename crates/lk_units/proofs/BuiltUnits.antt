@@ -5,7 +5,7 @@ use Rattle.std.specs.List.{flat_map}
 use Rattle.std.proofs.lemmas.List.{map-append}
 use Rattle.lk_tree.specs.Tree.{Name}
 use Rattle.lk_tree.specs.Mentions.{same_name}
-use Rattle.lk_rulebook.specs.Place.{Ctor, Rec}
+use Rattle.lk_rulebook.specs.Place.{Ctor, BlockRecursor}
 use Rattle.lk_rulebook.specs.Units.{Decl, LibraryUnit, Library}
 use Rattle.lk_members.specs.Lines.{alone, a_type, a_ctor, a_recursor, or_next, same_list, block_of, type_here, type_of, ctor_here, ctor_of, recursor_here, recursors_of}
 use Rattle.lk_members.specs.Units.{Gathered, if_any, ctors_listed, with_ctors, block_with, block_at, is_last, ended, at_line, units_from}
@@ -85,7 +85,7 @@ types_built ls (x ∷ ts) h =
     (each_append IsBuiltType (map with_its_ctors (with_ctors same_name ls x (type_of same_name ls x))) (map with_its_ctors (flat_map (λ y. with_ctors same_name ls y (type_of same_name ls y)) ts))
     (with_built ls x (type_of same_name ls x) h (type_built ls x h)) (types_built ls ts h))
 
-abbrev IsBuiltGathered : Gathered Decl Head Ctor Rec → Type 0
+abbrev IsBuiltGathered : Gathered Decl Head Ctor BlockRecursor → Type 0
 IsBuiltGathered u = IsBuiltUnit (unit_of u)
 
 ended_built : (ls later : List PlainLine) (o : Option (List Name)) → AreBuiltLines ls → Each IsBuiltGathered (ended same_name ls later o)
@@ -106,7 +106,7 @@ from_built : (all ls : List PlainLine) → AreBuiltLines all → AreBuiltLines l
 from_built all [] h g = tt
 from_built all (l ∷ ls) h g = each_append IsBuiltGathered (at_line same_name all ls l.said) (units_from same_name all ls) (at_built all ls l.said h g.0) (from_built all ls h g.1)
 
-each_map : (us : List (Gathered Decl Head Ctor Rec)) → Each IsBuiltGathered us → AllBuilt (map unit_of us)
+each_map : (us : List (Gathered Decl Head Ctor BlockRecursor)) → Each IsBuiltGathered us → AllBuilt (map unit_of us)
 each_map [] h = tt
 each_map (u ∷ us) h = (h.0, each_map us h.1)
 

@@ -4,7 +4,7 @@ use Rattle.std.specs.Prelude.{IfSome, IfOk, is_some, if◌then◌else◌, ◌^�
 use Rattle.std.specs.declared.option.Option.{Option}
 use Rattle.lk_tree.specs.Tree.{Name, text, number, Level, zero_level, succ_level, max_level, imax_level, param, Tree, var, sort, const, app, lam, pi, let_in}
 use Rattle.lk_tree.specs.Mentions.{same_name}
-use Rattle.lk_rulebook.specs.Place.{Ctor, RecRule, Rec}
+use Rattle.lk_rulebook.specs.Place.{Ctor, RecRule, BlockRecursor}
 use Rattle.lk_rulebook.specs.Units.{Body, as_axiom, as_def, as_thm, as_opaque}
 use Rattle.lk_members.specs.declared.fault.MemberFault.{MemberFault}
 use Rattle.lk_members.specs.Lines.{alone, a_type, a_ctor, a_recursor}
@@ -153,7 +153,7 @@ kept_ctor s n a q i p f ps k =
     (λ type pt. if_then IsPlainName IsBuiltSaid (known s.names q) (λ parent. (all_known s.names ps >>= λ levels. Ok (a_ctor parent name (ctor_stated name type parent i p f levels)))) (if_known IsPlainName s.names q (k.names q))
     (λ parent pq. if_then ArePlain IsBuiltSaid (all_known s.names ps) (λ levels. Ok (a_ctor parent name (ctor_stated name type parent i p f levels))) (if_all_known IsPlainName s.names ps k.names) (λ levels pl. (((pn, pl), pt), pq)))))
 
-abbrev rec_stated : Name → Tree → Counts → List RecRule → List Name → Rec
+abbrev rec_stated : Name → Tree → Counts → List RecRule → List Name → BlockRecursor
 rec_stated n a c rs ls = record { name = n; levels = ls; type = a; recursor = record { parameters = c.parameters; indices = c.indices; motives = c.motives; minors = c.minors; k = c.k; rules = rs } }
 
 kept_recursor : (s : State) (n a : ℕ) (ts : List ℕ) (c : Counts) (rs ps : List ℕ) → Kept s → IfOk (recursor_said s n a ts c rs ps) IsBuiltSaid

@@ -1,7 +1,7 @@
 -- What a file may state today.
 use Rattle.std.specs.Prelude.{List}
 use Rattle.lk_tree.specs.Tree.{Level, zero_level, succ_level, max_level, imax_level, param, Tree, var, sort, const, app, lam, pi, let_in}
-use Rattle.lk_rulebook.specs.Place.{Ctor, BlockType, RecRule, Rec}
+use Rattle.lk_rulebook.specs.Place.{Ctor, BlockType, RecRule, BlockRecursor}
 use Rattle.lk_rulebook.specs.Units.{Body, as_axiom, as_def, as_thm, as_opaque, Decl, LibraryUnit, of_decl, of_block, Library}
 use Rattle.lk_members.specs.Lines.{alone, a_type, a_ctor, a_recursor}
 use Rattle.lk_members.specs.Plain.{Head, PlainSaid, PlainLine}
@@ -50,7 +50,7 @@ IsBuiltType t = ((IsPlainName t.name × ArePlain t.levels) × IsBuilt t.type) ×
 abbrev pub IsBuiltRule : RecRule → Type 0
 IsBuiltRule r = IsPlainName r.ctor × IsBuilt r.value
 
-abbrev pub IsBuiltRec : Rec → Type 0
+abbrev pub IsBuiltRec : BlockRecursor → Type 0
 IsBuiltRec r = ((IsPlainName r.name × ArePlain r.levels) × IsBuilt r.type) × Each IsBuiltRule r.recursor.rules
 
 abbrev pub IsBuiltUnit : LibraryUnit → Type 0

@@ -3,7 +3,7 @@ use Rattle.std.specs.Prelude.{ℕ, ◌==◌, ◌+◌, ◌-◌, ◌^◌, Bool, Li
 use Rattle.std.specs.declared.option.Option.{Option}
 use Rattle.lk_tree.specs.Tree.{Name, Part, text, number, Level, zero_level, succ_level, max_level, imax_level, param, Tree, var, sort, const, app, lam, pi, let_in}
 use Rattle.lk_tree.specs.Mentions.{same_name}
-use Rattle.lk_rulebook.specs.Place.{Hint, opaque_hint, abbreviation, regular, Ctor, RecRule, Recursor, Rec}
+use Rattle.lk_rulebook.specs.Place.{Hint, opaque_hint, abbreviation, regular, Ctor, RecRule, Recursor, BlockRecursor}
 use Rattle.lk_rulebook.specs.Units.{Body, as_axiom, as_def, as_thm, as_opaque, Decl}
 use Rattle.lk_members.specs.declared.fault.MemberFault.{MemberFault}
 use Rattle.lk_members.specs.declared.fault.MemberFault.TheVariants as faults

@@ -7,7 +7,7 @@ ghost use Rattle.lk_units.specs.Held.{Numbered, Below, IsKnown, Holds, Follows};
 use crate::numbering::Numbering;
 use lk_env::unit::{Hint, RecursorRule};
 use lk_lines::Word;
-use lk_members::members::Members;
+use lk_members::Members;
 use lk_store::memory::NoMemory;
 use lk_store::node::{LevelNode, NameNode};
 use lk_store::terms::Terms;

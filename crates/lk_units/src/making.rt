@@ -417,7 +417,7 @@ impl Assembler {
         &self,
         alloc: Global,
         name: u32,
-        kind: u32,
+        ty: u32,
         body: Result<Body, TakeError>,
         parameters: &[u32],
     ) -> Result<Said, TakeError>
@@ -425,12 +425,12 @@ impl Assembler {
             → IfOk result (IsSaidIn c) }
         ensures made { (c : Contents) (s : State) (said : Result PlainBody LineWord)
             → Holds self.now c s → Makes (body_at c) body said
-            → Makes (said_at c) result (declaration_of s name kind said parameters.now) }
+            → Makes (said_at c) result (declaration_of s name ty said parameters.now) }
     {
         let Some(name) = self.by_name.find(name) else {
             return Err(TakeError::Fault(Word::IndexUnknown));
         };
-        let Some(kind) = self.by_tree.find(kind) else {
+        let Some(ty) = self.by_tree.find(ty) else {
             return Err(TakeError::Fault(Word::IndexUnknown));
         };
         let body = match body {
@@ -441,7 +441,7 @@ impl Assembler {
             Ok(levels) => Ok(Said::Alone(Declaration {
                 name,
                 levels,
-                kind,
+                ty,
                 body,
             })),
             Err(error) => Err(error),
@@ -467,17 +467,17 @@ impl Assembler {
         alloc: Global,
         value_use: ValueUse,
         name: u32,
-        kind: u32,
+        ty: u32,
         value: u32,
         parameters: &[u32],
     ) -> Result<Said, TakeError>
         ensures known { (c : Contents) → IsKnown self.now c → IfOk result (IsSaidIn c) }
         ensures made { (c : Contents) (s : State) → Holds self.now c s
             → Makes (said_at c) result (valued_of s
-            (body_of value_use) name kind value parameters.now) }
+            (body_of value_use) name ty value parameters.now) }
     {
         let body = self.body(value_use, value);
-        self.declaration(alloc, name, kind, body, parameters)
+        self.declaration(alloc, name, ty, body, parameters)
     }
 
     /// An axiom.
@@ -485,13 +485,13 @@ impl Assembler {
         &self,
         alloc: Global,
         name: u32,
-        kind: u32,
+        ty: u32,
         parameters: &[u32],
     ) -> Result<Said, TakeError>
         ensures known { (c : Contents) → IsKnown self.now c → IfOk result (IsSaidIn c) }
         ensures made { (c : Contents) (s : State) → Holds self.now c s
-            → Makes (said_at c) result (axiom_of s name kind parameters.now) }
+            → Makes (said_at c) result (axiom_of s name ty parameters.now) }
     {
-        self.declaration(alloc, name, kind, Ok(Body::Axiom), parameters)
+        self.declaration(alloc, name, ty, Ok(Body::Axiom), parameters)
     }
 }

@@ -100,7 +100,7 @@ impl Assembler {
         &self,
         alloc: Global,
         name: u32,
-        kind: u32,
+        ty: u32,
         counts: TypeCounts,
         types: &[u32],
         constructors: &[u32],
@@ -108,13 +108,13 @@ impl Assembler {
     ) -> Result<Said, TakeError>
         ensures known { (c : Contents) → IsKnown self.now c → IfOk result (IsSaidIn c) }
         ensures made { (c : Contents) (s : State) → Holds self.now c s
-            → Makes (said_at c) result (type_said s name kind counts.parameters counts.indices
+            → Makes (said_at c) result (type_said s name ty counts.parameters counts.indices
             types.now constructors.now parameters.now) }
     {
         let Some(name) = self.by_name.find(name) else {
             return Err(TakeError::Fault(Word::IndexUnknown));
         };
-        let Some(kind) = self.by_tree.find(kind) else {
+        let Some(ty) = self.by_tree.find(ty) else {
             return Err(TakeError::Fault(Word::IndexUnknown));
         };
         let types = self.names_of(alloc, types)?;
@@ -123,7 +123,7 @@ impl Assembler {
         let head = TypeHead {
             name,
             levels,
-            kind,
+            ty,
             parameters: u64::from(counts.parameters),
             indices: u64::from(counts.indices),
         };
@@ -140,20 +140,20 @@ impl Assembler {
         &self,
         alloc: Global,
         name: u32,
-        kind: u32,
+        ty: u32,
         parent: u32,
         counts: ConstructorCounts,
         parameters: &[u32],
     ) -> Result<Said, TakeError>
         ensures known { (c : Contents) → IsKnown self.now c → IfOk result (IsSaidIn c) }
         ensures made { (c : Contents) (s : State) → Holds self.now c s
-            → Makes (said_at c) result (ctor_said s name kind parent counts.place counts.parameters
+            → Makes (said_at c) result (ctor_said s name ty parent counts.place counts.parameters
             counts.fields parameters.now) }
     {
         let Some(name) = self.by_name.find(name) else {
             return Err(TakeError::Fault(Word::IndexUnknown));
         };
-        let Some(kind) = self.by_tree.find(kind) else {
+        let Some(ty) = self.by_tree.find(ty) else {
             return Err(TakeError::Fault(Word::IndexUnknown));
         };
         let Some(parent) = self.by_name.find(parent) else {
@@ -163,7 +163,7 @@ impl Assembler {
         Ok(Said::Constructor(Constructor {
             name,
             levels,
-            kind,
+            ty,
             parent,
             place: u64::from(counts.place),
             parameters: u64::from(counts.parameters),
@@ -176,7 +176,7 @@ impl Assembler {
         &self,
         alloc: Global,
         name: u32,
-        kind: u32,
+        ty: u32,
         types: &[u32],
         counts: RecursorCounts,
         rules: &[u32],
@@ -185,13 +185,13 @@ impl Assembler {
         requires { Below self.now.by_rule (length self.now.rules.items) }
         ensures known { (c : Contents) → IsKnown self.now c → IfOk result (IsSaidIn c) }
         ensures made { (c : Contents) (s : State) → Holds self.now c s
-            → Makes (said_at c) result (recursor_said s name kind types.now
+            → Makes (said_at c) result (recursor_said s name ty types.now
             (counts_of counts) rules.now parameters.now) }
     {
         let Some(name) = self.by_name.find(name) else {
             return Err(TakeError::Fault(Word::IndexUnknown));
         };
-        let Some(kind) = self.by_tree.find(kind) else {
+        let Some(ty) = self.by_tree.find(ty) else {
             return Err(TakeError::Fault(Word::IndexUnknown));
         };
         let types = self.names_of(alloc, types)?;
@@ -200,7 +200,7 @@ impl Assembler {
         let recursor = Recursor {
             name,
             levels,
-            kind,
+            ty,
             parameters: u64::from(counts.parameters),
             indices: u64::from(counts.indices),
             motives: u64::from(counts.motives),

@@ -14,6 +14,6 @@ returns-then-rest-constructors-clause-found c = record {
   constructor_is =
       rw (← c.as_slice-constructors.ensures.value)
       (slice_get_read c.as_slice-constructors.result.now _ c.loop-i.rest c.index-constructors-rest.result refl c.if-rest-constructors.true c.index-constructors-rest.is);
-  stated_is = ap (λ (k : Constructor). k.kind) (sym c.index-constructors-rest.is);
+  stated_is = ap (λ (k : Constructor). k.ty) (sym c.index-constructors-rest.is);
   place_is = c.loop-i.invariant;
 }

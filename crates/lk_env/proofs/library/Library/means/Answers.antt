@@ -3,7 +3,7 @@ use Rattle.lk_tree.specs.Tree.{Name}
 use Rattle.lk_store.specs.Contents.{Contents, name_at}
 use Rattle.lk_store.specs.Store.{contents_of}
 use Rattle.lk_env.specs.Units.{library_of, AreUnitsIn}
-use Rattle.lk_env.proofs.Members.{beyond_names, absent_place}
+use Rattle.lk_env.proofs.Members.{beyond_names, absent_position}
 use Rattle.lk_env.proofs.Partial.{found_nowhere}
 use Rattle.lk_env.proofs.library.Library.means.Goals as goal
 
@@ -16,4 +16,5 @@ returns-clause-answer g c =
     let beyond : length at.names ≤ c.args.name = rw (← count) (omega arith) in
     let absent : (n : ℕ) → n < length at.names → name_at at n ≢ x =
     beyond_names at (g.T.Terms.contents c.args.terms.now) c.requires.over c.count_names-names.ensures.apart c.args.name beyond c.requires.name_in in
-    rw (found_nowhere (library_of c.args.self.now) c.args.site.now x (absent_place at x absent 0 c.args.self.now.1 units_in)) (refl, refl)
+    let found = found_nowhere (library_of c.args.self.now) c.args.site.now x (absent_position at x absent 0 c.args.self.now.1 units_in) in
+    record { means = rw found refl; rule = rw found refl; unknown = λ is. rw found refl }

@@ -2,7 +2,7 @@
 
 /// A member of a unit. Of a block the types come first, then their constructors, then the recursors.
 #[derive(Clone, Copy)]
-pub struct Place {
+pub struct Position {
     pub unit: u32,
     pub member: u32,
 }
