@@ -1,4 +1,3 @@
 pub mod Numbers
-pub mod Opening
-pub mod Visits
+pub mod Looked
 pub mod Heads

@@ -3,7 +3,7 @@
 #![tactic(auto)]
 
 pub mod fields;
-mod looking;
+mod mentioned;
 pub mod names;
 pub mod part;
 mod pis;

@@ -1,10 +1,14 @@
 //! Sets of names.
 
-ghost use Rattle.std.specs.Prelude.{◌≡◌, ℕ, ◌==◌, IfOk, OnOk, true, if◌then◌else◌, nat_eq};
+ghost use Rattle.std.specs.Prelude.{◌≡◌, ◌<◌, ℕ, ◌==◌, All, IfOk, OnOk, true, if◌then◌else◌};
+ghost use Rattle.std.specs.Prelude.{length, nat_eq};
 ghost use Rattle.std.specs.HashSet.{contains};
-ghost use Rattle.lk_mentions.specs.Names.{any_number};
+ghost use Rattle.lk_tree.specs.Mentions.{is_one_of};
+ghost use Rattle.lk_store.specs.Contents.{name_at};
+ghost use Rattle.lk_mentions.specs.Names.{any_number, names_at};
 
 use lk_store::memory::NoMemory;
+use lk_store::terms::Terms;
 use std::alloc::Global;
 use std::collections::HashSet;
 use std::marker::Model;
@@ -66,4 +70,15 @@ impl Names {
     {
         self.set.contains(&number)
     }
+}
+
+/// Whether a name is one of the names. A store has each name once, so that its number tells.
+pub fn is_one_of<T: Terms>(terms: &T, names: &Names, name: u64) -> bool
+    requires names_in { All (λ n. n < length (T.contents terms.now).names) names.now }
+    requires name_in { name < length (T.contents terms.now).names }
+    ensures { result ≡ is_one_of (names_at (T.contents terms.now) names.now)
+        (name_at (T.contents terms.now) name) }
+{
+    let _names = terms.count_names();
+    names.has(name)
 }

@@ -6,15 +6,17 @@ ghost use Rattle.lk_store.specs.Contents.{tree_at};
 ghost use Rattle.lk_mentions.specs.Names.{names_at};
 ghost use Rattle.lk_mentions.specs.Walks.{AreClear, is_clear};
 
-use crate::looking::look;
+use crate::mentioned::Mentioned;
 use crate::names::Names;
-use crate::part::{Met, Visit, push};
+use crate::part::Met;
 use lk_rows::table::Table;
+use lk_seek::walk::seek;
 use lk_store::memory::NoMemory;
 use lk_store::terms::Terms;
 use std::alloc::Global;
 
-/// Whether a term mentions none of the names. What was met in terms that mention none of them is not walked again.
+/// Whether a term mentions none of the names. What was met in terms that mention none of them is not
+/// walked again.
 pub fn is_clear<T: Terms>(
     alloc: Global,
     terms: &T,
@@ -28,20 +30,14 @@ pub fn is_clear<T: Terms>(
     ensures clear { IfOk result (λ r. r ≡ is_clear (T.contents terms.now) names.now e) }
     ensures met { IfOk result (λ r. AreClear (T.contents terms.now) names.now met.new) }
 {
-    let mut stack: Vec<Visit> = Vec::new(alloc);
-    push(&mut stack, e)?;
-    'walk: while let Some(visit) = stack.pop() {
-        if visit.opened {
-            met.push(Met { tree: visit.tree })?;
-        } else if !look(terms, names, met, &mut stack, visit.tree)? {
-            return Ok(false);
-        }
-    }
-    Ok(true)
+    let seeker = Mentioned { terms, names };
+    let found = seek(alloc, &seeker, met, e)?;
+    Ok(!found)
 }
 
-/// Whether a term mentions one of the names, as that of a constant or of the structure of a projection. The types of
-/// Locals do not count. Each part is looked at once, however often it stands in the term.
+/// Whether a term mentions one of the names, as that of a constant or of the structure of a
+/// projection. The types of Locals do not count. Each part is looked at once, however often it
+/// stands in the term.
 pub fn mentions<T: Terms>(alloc: Global, terms: &T, names: &Names, e: u64) -> Result<bool, NoMemory>
     requires names_in { All (λ n. n < length (T.contents terms.now).names) names.now }
     requires tree_in { e < length (T.contents terms.now).trees }

@@ -10,10 +10,10 @@ use Rattle.lk_rulebook.specs.Place.{Entry}
 use Rattle.lk_rulebook.specs.Units.{Library, Members, members_of, Found, given_by, first_giving}
 use Rattle.lk_rulebook.specs.Scan.{is_none, are_new}
 use Rattle.lk_store.specs.Contents.{Contents, name_at}
-use Rattle.lk_env.specs.declared.place.Place.{Place}
+use Rattle.lk_env.specs.declared.position.Position.{Position}
 use Rattle.lk_env.specs.declared.unit.Unit.{Unit as StoredUnit}
 use Rattle.lk_env.specs.Units.{unit_at}
-use Rattle.lk_env.specs.Places.{place_in}
+use Rattle.lk_env.specs.Places.{position_in}
 use Rattle.lk_env.specs.Index.{pair_of, member_names}
 use Rattle.lk_env.proofs.Given.{unit_is}
 use Rattle.lk_env.proofs.Members.{names_in, member_names_are}
@@ -30,10 +30,10 @@ none_is (Some x) true e = absurd (cc)
 none_is (Some x) false e = refl
 
 -- a name is new where it has no place
-pub new_is : (us : Library) (n : ℕ) (c : Name) (p : Option Place) (r : Bool) → option_map pair_of p ≡ place_in 0 (take n us) c → is_some p ≡ not r → r ≡ is_new us n c
+pub new_is : (us : Library) (n : ℕ) (c : Name) (p : Option Position) (r : Bool) → option_map pair_of p ≡ position_in 0 (take n us) c → is_some p ≡ not r → r ≡ is_new us n c
 new_is us n c p r placed asked =
     none_is p r asked ∙ sym (none_mapped pair_of p) ∙ ap is_none placed
-    ∙ sym (none_mapped (λ (x : ℕ × ℕ). x.0) (place_in 0 (take n us) c)) ∙ ap is_none (sym (unit_is (take n us) c))
+    ∙ sym (none_mapped (λ (x : ℕ × ℕ). x.0) (position_in 0 (take n us) c)) ∙ ap is_none (sym (unit_is (take n us) c))
     ∙ none_mapped (λ (x : Found). x.unit) (first_giving 0 (take n us) c)
 
 -- a name that no member has is none of theirs

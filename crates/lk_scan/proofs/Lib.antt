@@ -1,5 +1,4 @@
 pub mod Numbers
-pub mod Visits
-pub mod Opening
+pub mod Passed
 pub mod Blocks
 pub mod Given

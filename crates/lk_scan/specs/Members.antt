@@ -37,10 +37,10 @@ abbrev pub is_over : List Name × Tree → Bool
 is_over e = tree_over e.0 e.1
 
 abbrev pub type_over : Contents → BlockType → Bool
-type_over c t = tree_over (map (name_at c) t.levels.items) (tree_at c t.kind)
+type_over c t = tree_over (map (name_at c) t.levels.items) (tree_at c t.ty)
 
 abbrev pub constructor_over : Contents → Constructor → Bool
-constructor_over c k = tree_over (map (name_at c) k.levels.items) (tree_at c k.kind)
+constructor_over c k = tree_over (map (name_at c) k.levels.items) (tree_at c k.ty)
 
 abbrev pub constructors_over : Contents → BlockType → Bool
 constructors_over c t = list_all (constructor_over c) t.constructors.items
@@ -50,4 +50,4 @@ rule_over c ps r = tree_over ps (tree_at c r.value)
 
 -- a recursor's type and the right sides of its rules
 abbrev pub recursor_over : Contents → Recursor → Bool
-recursor_over c r = tree_over (map (name_at c) r.levels.items) (tree_at c r.kind) && list_all (rule_over c (map (name_at c) r.levels.items)) r.rules.items
+recursor_over c r = tree_over (map (name_at c) r.levels.items) (tree_at c r.ty) && list_all (rule_over c (map (name_at c) r.levels.items)) r.rules.items

@@ -21,7 +21,7 @@ fn is_new(library: &Library, units: u32, name: u64) -> bool
     requires { name < length (contents_of library.now.0).names }
     ensures { result ≡ number_is_new library.now units name }
 {
-    let place = library.place_before(units, name);
+    let place = library.position_before(units, name);
     place.is_none()
 }
 

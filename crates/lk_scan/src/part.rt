@@ -1,9 +1,11 @@
 //! The parts of trees in which level parameters may stand.
 
-ghost use Rattle.std.specs.Prelude.{◌≡◌, [], ◌∷◌, ◌++◌, map, OnOk};
-ghost use Rattle.lk_scan.specs.Parts.{hash_of, closed, parts_of, parts_of_level, parts_of_list};
+ghost use Rattle.std.specs.Prelude.{◌≡◌, ◌++◌, map, OnOk};
+ghost use Rattle.lk_seek.specs.declared.visit.Visit.TheVariants as visit;
+ghost use Rattle.lk_scan.specs.Parts.{hash_of, parts_of, parts_of_level, parts_of_list};
 
 use lk_rows::row::Row;
+use lk_seek::visit::{Visit, push};
 use lk_store::hashing::mix;
 use lk_store::memory::NoMemory;
 use lk_store::node::{LevelNode, ListNode, Node};
@@ -55,69 +57,55 @@ impl Row for Met {
     }
 }
 
-/// A part on the stack. An opened one has its own parts above it.
-#[derive(Clone, Copy)]
-pub struct Visit {
-    pub part: Part,
-    pub opened: bool,
-}
-
-fn push(stack: &mut Vec<Visit>, part: Part) -> Result<(), NoMemory>
-    ensures { OnOk result (stack.new.items ≡ stack.old.items ++ closed part ∷ []) }
-{
-    stack.push(Visit {
-        part,
-        opened: false,
-    })?;
-    Ok(())
-}
-
-/// Puts the parts of a tree's node on the stack.
-pub fn push_parts(stack: &mut Vec<Visit>, node: Node) -> Result<(), NoMemory>
-    ensures { OnOk result (stack.new.items ≡ stack.old.items ++ map closed (parts_of node)) }
+/// Puts the parts of a tree's node on the stack, the first of them on top.
+pub fn push_parts(stack: &mut Vec<Visit<Part>>, node: Node) -> Result<(), NoMemory>
+    ensures { OnOk result (stack.new.items
+        ≡ stack.old.items ++ map visit.Enter (parts_of node)) }
 {
     match node {
         Node::Var(_) | Node::Lit(_) | Node::Wide | Node::Str(_) => {}
-        Node::Sort(l) => push(stack, Part::Level(l))?,
-        Node::Const(_, ls) => push(stack, Part::Levels(ls))?,
-        Node::Proj(_, _, e) | Node::Local(_, e) => push(stack, Part::Tree(e))?,
+        Node::Sort(l) => push(stack, Visit::Enter(Part::Level(l)))?,
+        Node::Const(_, ls) => push(stack, Visit::Enter(Part::Levels(ls)))?,
+        Node::Proj(_, _, e) | Node::Local(_, e) => push(stack, Visit::Enter(Part::Tree(e)))?,
         Node::App(a, b) | Node::Lam(a, b) | Node::Pi(a, b) => {
-            push(stack, Part::Tree(a))?;
-            push(stack, Part::Tree(b))?;
+            push(stack, Visit::Enter(Part::Tree(b)))?;
+            push(stack, Visit::Enter(Part::Tree(a)))?;
         }
         Node::Let(a, b, c) => {
-            push(stack, Part::Tree(a))?;
-            push(stack, Part::Tree(b))?;
-            push(stack, Part::Tree(c))?;
+            push(stack, Visit::Enter(Part::Tree(c)))?;
+            push(stack, Visit::Enter(Part::Tree(b)))?;
+            push(stack, Visit::Enter(Part::Tree(a)))?;
         }
     }
     Ok(())
 }
 
-/// Puts the parts of a level's node on the stack.
-pub fn push_level_parts(stack: &mut Vec<Visit>, node: LevelNode) -> Result<(), NoMemory>
-    ensures { OnOk result (stack.new.items ≡ stack.old.items ++ map closed (parts_of_level node)) }
+/// Puts the parts of a level's node on the stack, the first of them on top.
+pub fn push_level_parts(stack: &mut Vec<Visit<Part>>, node: LevelNode) -> Result<(), NoMemory>
+    ensures { OnOk result (stack.new.items
+        ≡ stack.old.items ++ map visit.Enter (parts_of_level node)) }
 {
     match node {
         LevelNode::Zero | LevelNode::Param(_) => {}
-        LevelNode::Succ(a) => push(stack, Part::Level(a))?,
+        LevelNode::Succ(a) => push(stack, Visit::Enter(Part::Level(a)))?,
         LevelNode::Max(a, b) | LevelNode::IMax(a, b) => {
-            push(stack, Part::Level(a))?;
-            push(stack, Part::Level(b))?;
+            push(stack, Visit::Enter(Part::Level(b)))?;
+            push(stack, Visit::Enter(Part::Level(a)))?;
         }
     }
     Ok(())
 }
 
-/// Puts the first level of a list and the list of the others on the stack.
-pub fn push_list_parts(stack: &mut Vec<Visit>, node: ListNode) -> Result<(), NoMemory>
-    ensures { OnOk result (stack.new.items ≡ stack.old.items ++ map closed (parts_of_list node)) }
+/// Puts the list of the other levels and the first level of a list on the stack.
+pub fn push_list_parts(stack: &mut Vec<Visit<Part>>, node: ListNode) -> Result<(), NoMemory>
+    ensures { OnOk result (stack.new.items
+        ≡ stack.old.items ++ map visit.Enter (parts_of_list node)) }
 {
     match node {
         ListNode::Empty => {}
         ListNode::Cons(l, ls) => {
-            push(stack, Part::Level(l))?;
-            push(stack, Part::Levels(ls))?;
+            push(stack, Visit::Enter(Part::Levels(ls)))?;
+            push(stack, Visit::Enter(Part::Level(l)))?;
         }
     }
     Ok(())

@@ -7,24 +7,18 @@ ghost use Rattle.lk_scan.specs.Scans.{IsScan};
 
 use crate::distinct::levels_distinct;
 use crate::trees::levels_declared;
-use lk_env::entry::Flaw;
-use lk_env::scan::flaw_of;
+use lk_env::scan::{are_closed, are_narrow};
 use lk_env::unit::Unit;
 use lk_store::base_store::BaseStore;
 use lk_store::memory::NoMemory;
+use lk_tree::rule::Rule;
 use std::alloc::Global;
 
 /// What is wrong with a unit in itself.
 #[derive(Clone, Copy)]
 pub enum ScanError {
-    /// A member declares a level parameter twice.
-    DuplicateLevel,
-    /// A tree has a loose variable, or a Local.
-    LooseVariable,
-    /// A level parameter is none that its member declares.
-    UndeclaredLevel,
-    /// A literal is above 2^128 - 1.
-    WideLiteral,
+    /// It breaks this rule.
+    No(Rule),
     /// Memory is wanting.
     NoMemory,
 }
@@ -40,23 +34,24 @@ impl From<NoMemory> for ScanError {
     }
 }
 
-/// Finds the first rule, in the order of `ScanError`, that a unit breaks by its own lines.
+/// Finds the first rule that a unit breaks by its own lines: a member declares a level parameter twice (`DuplicateLevel`), a
+/// tree has a loose variable or a Local (`LooseVariable`), a level parameter is none that its member declares
+/// (`UndeclaredLevel`), a literal is above 2^128 - 1 (`WideLiteral`).
 pub fn scan(alloc: Global, base: &BaseStore, unit: &Unit) -> Result<(), ScanError>
     requires { IsUnitIn (contents_of base.now) unit.now }
     ensures { IsScan (own_scan (unit_at (contents_of base.now) unit.now)) result }
 {
     if !levels_distinct(alloc, base, unit)? {
-        return Err(ScanError::DuplicateLevel);
+        return Err(ScanError::No(Rule::DuplicateLevel));
     }
-    let flaw = flaw_of(base, unit);
-    if let Some(Flaw::LooseVariable) = flaw {
-        return Err(ScanError::LooseVariable);
+    if !are_closed(base, unit) {
+        return Err(ScanError::No(Rule::LooseVariable));
     }
     if !levels_declared(alloc, base, unit)? {
-        return Err(ScanError::UndeclaredLevel);
+        return Err(ScanError::No(Rule::UndeclaredLevel));
     }
-    match flaw {
-        Some(_) => Err(ScanError::WideLiteral),
-        None => Ok(()),
+    if !are_narrow(base, unit) {
+        return Err(ScanError::No(Rule::WideLiteral));
     }
+    Ok(())
 }

@@ -96,7 +96,7 @@ fn types_over(
     ensures over { IfOk result (λ r. r ≡ list_all (type_over (contents_of base.now)) types.now) }
 {
     for t in types {
-        if !stated_over(alloc, base, walked, &t.levels, t.kind)? {
+        if !stated_over(alloc, base, walked, &t.levels, t.ty)? {
             return Ok(false);
         }
     }
@@ -116,7 +116,7 @@ fn constructors_over(
         constructors.now) }
 {
     for k in constructors {
-        if !stated_over(alloc, base, walked, &k.levels, k.kind)? {
+        if !stated_over(alloc, base, walked, &k.levels, k.ty)? {
             return Ok(false);
         }
     }
@@ -176,7 +176,7 @@ fn recursor_over(
     ensures walked { IfOk result (λ r. IsWalked (contents_of base.now) walked.new) }
     ensures over { IfOk result (λ r. r ≡ recursor_over (contents_of base.now) recursor.now) }
 {
-    if !stated_over(alloc, base, walked, &recursor.levels, recursor.kind)? {
+    if !stated_over(alloc, base, walked, &recursor.levels, recursor.ty)? {
         return Ok(false);
     }
     let over = rules_over(
@@ -261,7 +261,7 @@ fn declaration_over(
         base,
         &walked.declared,
         &mut walked.met,
-        declaration.kind,
+        declaration.ty,
     )? {
         return Ok(false);
     }

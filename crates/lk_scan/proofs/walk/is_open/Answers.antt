@@ -1,6 +1,6 @@
 use Rattle.std.proofs.Common.{◌∙◌, sym}
 use Rattle.lk_store.specs.Store.{contents_of}
-use Rattle.lk_scan.proofs.Opening.{part_without, met_before}
+use Rattle.lk_scan.proofs.Passed.{part_without, met_before}
 use Rattle.lk_scan.proofs.walk.is_open.Goals as goal
 
 pub returns-then-has_params : goal.returns-then-has_params

@@ -1,0 +1,4 @@
+pub mod Sought
+pub mod Visits
+pub mod Costs
+pub mod Trees
