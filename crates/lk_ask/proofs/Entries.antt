@@ -2,7 +2,7 @@
 use Rattle.std.proofs.Common.{◌≡◌, List, [], Option, Some, None, refl, ap, sym, subst, ◌∙◌}
 use Rattle.std.specs.Prelude.{option_map, option_and_then, slice_get}
 use Rattle.lk_tree.specs.Tree.{Tree}
-use Rattle.lk_rulebook.specs.Place.{Entry as PlainEntry, Ctor, BlockType, Rec, a_type, a_ctor, a_rec}
+use Rattle.lk_rulebook.specs.Place.{Entry as PlainEntry, Ctor, BlockType, BlockRecursor, a_type, a_ctor, a_rec}
 use Rattle.lk_rulebook.specs.Units.{LibraryUnit, of_decl, of_block, kind_of}
 use Rattle.lk_store.specs.Contents.{Contents, tree_at}
 use Rattle.lk_env.specs.declared.entry.Kind.{Kind}
@@ -35,9 +35,9 @@ stated_in c (of_block b rs) (kind.Constructor i j) T g h =
     of_then (λ (y : PlainEntry). y.type ≡ T) (λ (t : BlockType). option_map (λ (k : Ctor). record { levels = k.levels; type = T; kind = a_ctor b t k }) (slice_get t.ctors j)) (slice_get b.types i) g
     (λ t i. of_mapped (λ (y : PlainEntry). y.type ≡ T) (λ (k : Ctor). record { levels = k.levels; type = T; kind = a_ctor b t k }) (slice_get t.ctors j) g (λ k. refl) i) h
 stated_in c (of_block b rs) (kind.Recursor i) T g h =
-    of_mapped (λ (y : PlainEntry). y.type ≡ T) (λ (r : Rec). record { levels = r.levels; type = T; kind = a_rec r.recursor }) (slice_get rs i) g (λ r. refl) h
+    of_mapped (λ (y : PlainEntry). y.type ≡ T) (λ (r : BlockRecursor). record { levels = r.levels; type = T; kind = a_rec r.recursor }) (slice_get rs i) g (λ r. refl) h
 stated_in c (of_block b rs) (kind.BareRecursor i) T g h =
-    of_mapped (λ (y : PlainEntry). y.type ≡ T) (λ (r : Rec). record { levels = r.levels; type = T; kind = a_rec (record r.recursor { rules = [] }) }) (slice_get rs i) g (λ r. refl) h
+    of_mapped (λ (y : PlainEntry). y.type ≡ T) (λ (r : BlockRecursor). record { levels = r.levels; type = T; kind = a_rec (record r.recursor { rules = [] }) }) (slice_get rs i) g (λ r. refl) h
 
 -- its type is what is stated
 pub entry_type : (c : Contents) (us : List StoredUnit) (e : Entry) (g : PlainEntry) → plain_entry c us e ≡ Some g → g.type ≡ tree_at c e.stated

@@ -1,25 +1,21 @@
 -- Look-ups that were made.
 use Rattle.std.proofs.Common.{◌≡◌, ℕ, true, false, List, Option, Some, None, refl, ap, sym, ◌∙◌, if◌then◌else◌}
-use Rattle.std.specs.Prelude.{IsSome, IfErr, Result, Ok, Err, option_and_then}
+use Rattle.std.specs.Prelude.{IsSome, IfErr, Result, Ok, Err}
 use Rattle.lk_tree.specs.Tree.{Name}
-use Rattle.lk_tree.specs.RuleNo.{RuleNo, unknown_constant, builtin_shape}
+use Rattle.lk_tree.specs.declared.rule.Rule.{Rule}
+use Rattle.lk_tree.specs.declared.rule.Rule.TheVariants.{UnknownConstant, BuiltinShape}
 use Rattle.lk_rulebook.specs.Place.{Place, Entry as PlainEntry}
-use Rattle.lk_rulebook.specs.Units.{Found, flawless}
-use Rattle.lk_plain.specs.Answer.{later}
+use Rattle.lk_plain.specs.Answer.{later, refusal}
 use Rattle.lk_plain.specs.Program.{Program, refuse, look}
 use Rattle.lk_plain.specs.Parts.{is_built_kind, where_built}
 use Rattle.lk_plain.specs.Erased.{Value, refuses, looked, erased}
 use Rattle.lk_store.specs.Store.{contents_of}
 use Rattle.lk_store.specs.declared.tables.Tables.{Tables}
 use Rattle.lk_env.specs.declared.entry.Entry.{Entry}
-use Rattle.lk_env.specs.declared.entry.Refused.{Refused}
-use Rattle.lk_env.specs.declared.entry.Refused.TheVariants as refused
 use Rattle.lk_env.specs.declared.entry.Site.{Site}
 use Rattle.lk_env.specs.declared.unit.Unit.{Unit as StoredUnit}
-use Rattle.lk_env.specs.Entries.{IsMeaning, IsAnswer}
+use Rattle.lk_env.specs.Entries.{why, MeansNothing, IsMeaning, IsAnswer}
 use Rattle.lk_env.specs.Places.{place_at}
-use Rattle.lk_ask.specs.declared.rule.Rule.{Rule}
-use Rattle.lk_ask.specs.Questions.{rule_no}
 use Rattle.lk_ask.specs.Constants.{IsFound, IsRefused}
 
 -- what the library answers is what was found
@@ -31,39 +27,40 @@ found_is l w x before last e m looked_at = go (w.means x) refl m.given
     go (Some g) h s = record { entry = g; is = sym m.means ∙ h; means = h; looked = looked_at ∙ ap (λ u. later before (Some u)) (sym m.unit) }
 
 module _ {A : Type 0} (w : Place) (f : A → Value) (x : Name) where
-  looked_found : (r : RuleNo) (before : Option ℕ) (k : PlainEntry → Program A) (o : Option PlainEntry) (g : PlainEntry) → o ≡ Some g
+  looked_found : (r : Rule) (before : Option ℕ) (k : PlainEntry → Program A) (o : Option PlainEntry) (g : PlainEntry) → o ≡ Some g
       → looked r before o (w.origin x) (w.flaw x) (λ u e. erased w f u (k e)) ≡ erased w f (later before (Some (w.origin x))) (k g)
   looked_found r before k o g h = ap (λ y. looked r before y (w.origin x) (w.flaw x) (λ u e. erased w f u (k e))) h
 
   -- the program goes on with the entry that was found
-  pub found_goes : (r : RuleNo) (k : PlainEntry → Program A) (l : Tables × List StoredUnit) (before last : Option ℕ) (e : Entry) → (h : IsFound l w x before e last)
+  pub found_goes : (r : Rule) (k : PlainEntry → Program A) (l : Tables × List StoredUnit) (before last : Option ℕ) (e : Entry) → (h : IsFound l w x before e last)
       → erased w f before (look r x k) ≡ erased w f last (k h.entry)
   found_goes r k l before last e h = looked_found r before k (w.means x) h.entry h.means ∙ ap (λ u. erased w f u (k h.entry)) (sym h.looked)
 
   -- and is refused where its kind is not built
-  pub found_unbuilt : (r : RuleNo) (k : PlainEntry → Program A) (l : Tables × List StoredUnit) (before last : Option ℕ) (e : Entry) → (h : IsFound l w x before e last) → is_built_kind h.entry.kind ≡ false
-      → erased w f before (look r x (where_built k)) ≡ refuses builtin_shape
+  pub found_unbuilt : (r : Rule) (k : PlainEntry → Program A) (l : Tables × List StoredUnit) (before last : Option ℕ) (e : Entry) → (h : IsFound l w x before e last) → is_built_kind h.entry.kind ≡ false
+      → erased w f before (look r x (where_built k)) ≡ refuses BuiltinShape
   found_unbuilt r k l before last e h b =
-      found_goes r (where_built k) l before last e h ∙ ap (λ t. erased w f last (if t then k h.entry else refuse builtin_shape)) b
+      found_goes r (where_built k) l before last e h ∙ ap (λ t. erased w f last (if t then k h.entry else refuse BuiltinShape)) b
 
-  pub found_built : (r : RuleNo) (k : PlainEntry → Program A) (l : Tables × List StoredUnit) (before last : Option ℕ) (e : Entry) → (h : IsFound l w x before e last) → is_built_kind h.entry.kind ≡ true
+  pub found_built : (r : Rule) (k : PlainEntry → Program A) (l : Tables × List StoredUnit) (before last : Option ℕ) (e : Entry) → (h : IsFound l w x before e last) → is_built_kind h.entry.kind ≡ true
       → erased w f before (look r x (where_built k)) ≡ erased w f last (k h.entry)
   found_built r k l before last e h b =
-      found_goes r (where_built k) l before last e h ∙ ap (λ t. erased w f last (if t then k h.entry else refuse builtin_shape)) b
+      found_goes r (where_built k) l before last e h ∙ ap (λ t. erased w f last (if t then k h.entry else refuse BuiltinShape)) b
 
   -- a look-up that finds nothing
-  pub refused_goes : (k : PlainEntry → Program A) (before : Option ℕ) (rule : Rule) → IsRefused w x rule → erased w f before (look unknown_constant x k) ≡ refuses (rule_no rule)
+  pub refused_goes : (k : PlainEntry → Program A) (before : Option ℕ) (rule : Rule) → IsRefused w x rule → erased w f before (look UnknownConstant x k) ≡ refuses rule
   refused_goes k before rule h =
-      ap (λ o. looked unknown_constant before o (w.origin x) (w.flaw x) (λ u e. erased w f u (k e))) h.means ∙ ap refuses (sym h.rule)
+      ap (λ o. looked UnknownConstant before o (w.origin x) (w.flaw x) (λ u e. erased w f u (k e))) h.means ∙ ap refuses (sym h.rule)
 
--- what is found means nothing where its unit has a flaw
-flawed : (o : Option Found) (r : RuleNo) → option_and_then (λ (f : Found). f.flaw) o ≡ Some r → option_and_then flawless o ≡ None
-flawed None r h = refl
-flawed (Some f) r h = ap (λ x. elim x [ None ↦ Some f.entry | Some n ↦ None ]) h
+-- a name that means nothing is refused as the question is
+pub refused_as : (w : Place) (x : Name) (r : Rule) → MeansNothing w x r → IsRefused w x r
+refused_as w x r h = record { means = h.means; rule = h.rule ∙ go (w.flaw x) }
+  where
+    go : (f : Option Rule) → why f ≡ refusal UnknownConstant f
+    go None = refl
+    go (Some f) = refl
 
 -- a name that is refused at a site means nothing there
-pub refused_means : (l : Tables × List StoredUnit) (s : Site) (x : Name) (o : Result Entry Refused) → IsAnswer (contents_of l.0) l.1 (place_at l s) x o → IfErr o (λ r. (place_at l s).means x ≡ None)
+pub refused_means : (l : Tables × List StoredUnit) (s : Site) (x : Name) (o : Result Entry Rule) → IsAnswer (contents_of l.0) l.1 (place_at l s) x o → IfErr o (λ r. (place_at l s).means x ≡ None)
 refused_means l s x (Ok e) h = tt
-refused_means l s x (Err refused.UnknownConstant) h = h.0
-refused_means l s x (Err refused.LooseVariable) h = flawed _ _ h
-refused_means l s x (Err refused.WideLiteral) h = flawed _ _ h
+refused_means l s x (Err r) h = h.means

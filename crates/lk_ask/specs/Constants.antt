@@ -3,7 +3,8 @@ use Rattle.std.specs.Prelude.{◌≡◌, ◌<◌, ℕ, true, false, nat_eq, List
 use Rattle.lk_tree.specs.Tree.{Name, Level, Tree}
 use Rattle.lk_tree.specs.Levels.{put_levels}
 use Rattle.lk_tree.specs.Spine.{apply}
-use Rattle.lk_tree.specs.RuleNo.{unknown_constant}
+use Rattle.lk_tree.specs.declared.rule.Rule.{Rule}
+use Rattle.lk_tree.specs.declared.rule.Rule.TheVariants.{UnknownConstant}
 use Rattle.lk_rulebook.specs.Place.{Place, Entry as PlainEntry}
 use Rattle.lk_plain.specs.Answer.{later, refusal}
 use Rattle.lk_store.specs.Contents.{Contents, level_at, IsTree}
@@ -12,8 +13,6 @@ use Rattle.lk_store.specs.declared.tables.Tables.{Tables}
 use Rattle.lk_env.specs.declared.entry.Entry.{Entry}
 use Rattle.lk_env.specs.declared.unit.Unit.{Unit as StoredUnit}
 use Rattle.lk_env.specs.Entries.{plain_entry}
-use Rattle.lk_ask.specs.declared.rule.Rule.{Rule}
-use Rattle.lk_ask.specs.Questions.{rule_no}
 
 -- the name means this entry, whose unit is looked at
 pub record IsFound (l : Tables × List StoredUnit) (w : Place) (x : Name) (before : Option ℕ) (e : Entry) (last : Option ℕ) : Type 0 where
@@ -25,7 +24,7 @@ pub record IsFound (l : Tables × List StoredUnit) (w : Place) (x : Name) (befor
 -- the name means nothing at the place, or what gives it has a flaw
 pub record IsRefused (w : Place) (x : Name) (r : Rule) : Type 0 where
   pub means : w.means x ≡ None
-  pub rule : rule_no r ≡ refusal unknown_constant (w.flaw x)
+  pub rule : r ≡ refusal UnknownConstant (w.flaw x)
 
 -- the number stands for the tree at these levels; there is none where the counts differ
 abbrev pub IsAtLevels : Contents → List Name → List Level → Tree → Option ℕ → Type 0

@@ -16,3 +16,8 @@ pub record Gives {S R B X : Type 0} (known_sheet : ℕ → X → Type 0) (next_o
   pub stays : (sight (rest new)).basis ≡ (sight (rest old)).basis
   pub known : IfOk result (IsKnownNext known_sheet (length (contents new).trees))
   pub steps : IfOk result (λ next. next_of (sight (rest old)).basis.place (tree_at (contents new)) (sight (rest new)).last next ≡ does)
+
+-- what comes next in one crate, told as what comes next in a crate above it
+pub record Wraps {X Y : Type 0} (known_sheet : ℕ → X → Type 0) (next_in : Place → (ℕ → Tree) → Option ℕ → Next ℕ X → Steps) (known_above : ℕ → Y → Type 0) (next_above : Place → (ℕ → Tree) → Option ℕ → Next ℕ Y → Steps) (next : Next ℕ X) (above : Next ℕ Y) : Type 0 where
+  pub known : (n : ℕ) → IsKnownNext known_sheet n next → IsKnownNext known_above n above
+  pub steps : (w : Place) (t : ℕ → Tree) (last : Option ℕ) → next_above w t last above ≡ next_in w t last next

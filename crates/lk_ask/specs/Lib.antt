@@ -5,3 +5,4 @@ pub mod Questions
 pub mod Sheets
 pub mod Gives
 pub mod Looks
+pub mod Asking

@@ -4,13 +4,13 @@ use Rattle.lk_tree.specs.Tree.{Tree}
 use Rattle.lk_plain.specs.Erased.{Value, Steps, asks, gives, refuses}
 use Rattle.lk_ask.specs.declared.next.Next.{Next}
 use Rattle.lk_ask.specs.declared.next.Next.TheVariants.{Ask, Done, No}
-use Rattle.lk_ask.specs.Questions.{query_of, value_at, rule_no, IsKnownQuery, IsKnownAnswer}
+use Rattle.lk_ask.specs.Questions.{query_of, value_at, IsKnownQuery, IsKnownAnswer}
 
 -- t is what numbers stand for, and last the last unit that was looked at
 abbrev pub next_steps : {S : Type 0} → (S → Value → Steps) → (ℕ → Tree) → Option ℕ → Next ℕ S → Steps
 next_steps rest t last (Ask q s) = asks last (query_of t q) (rest s)
 next_steps rest t last (Done v) = gives last (value_at t v)
-next_steps rest t last (No r) = refuses (rule_no r)
+next_steps rest t last (No r) = refuses r
 
 -- its numbers are below n
 abbrev pub IsKnownNext : {S : Type 0} → (ℕ → S → Type 0) → ℕ → Next ℕ S → Type 0

@@ -4,12 +4,12 @@ use Rattle.lk_store.specs.Contents.{Contents, tree_at}
 use Rattle.lk_plain.specs.Erased.{Out, finished, stopped, used_up}
 use Rattle.lk_ask.specs.declared.query.Answer.{Answer}
 use Rattle.lk_ask.specs.declared.stop.Stop.{Stop}
-use Rattle.lk_ask.specs.declared.stop.Stop.TheVariants.{Rule, Spent, NoMemory}
-use Rattle.lk_ask.specs.Questions.{value_at, rule_no}
+use Rattle.lk_ask.specs.declared.stop.Stop.TheVariants.{No, Spent, NoMemory}
+use Rattle.lk_ask.specs.Questions.{value_at}
 
 -- why there is no answer
 abbrev pub IsStop : Out → Stop → Type 0
-IsStop o (Rule r) = o ≡ stopped (rule_no r)
+IsStop o (No r) = o ≡ stopped r
 IsStop o Spent = o ≡ used_up
 IsStop o NoMemory = Unit {0}
 

@@ -2,33 +2,28 @@
 
 ghost use Rattle.std.specs.Prelude.{◌≡◌, ◌<◌, ℕ, length, IfOk, IfErr};
 ghost use Rattle.lk_rulebook.specs.Place.{Place};
-ghost use Rattle.lk_plain.specs.Program.{Table};
 ghost use Rattle.lk_plain.specs.Erased.{out_of};
 ghost use Rattle.lk_store.specs.Contents.{name_at, tree_at, Extends};
 ghost use Rattle.lk_env.specs.declared.entry.Partial.{Partial as GivenMembers};
+ghost use Rattle.lk_ask.specs.Asking.{Standing, given};
 ghost use Rattle.lk_ask.specs.Questions.{query_of, IsKnownQuery, IsKnownAnswer};
 ghost use Rattle.lk_ask.specs.Outcomes.{IsOutcome};
 ghost use Rattle.lk_ask.specs.Constants.{IsRefused};
 ghost use Rattle.lk_env.specs.Lent.{HasParameters};
 
 use crate::query::{Answer, Query};
-use crate::rule::Rule;
 use crate::stop::Stop;
 use lk_env::entry::Partial;
 use lk_store::terms::Terms;
+use lk_tree::rule::Rule;
 
 /// A store over which questions are answered, at a place and under a budget.
 pub trait Asks: Terms {
     /// What it stands on, which no call changes.
     type Basis;
 
-    ghost basis: { Self → Self.Basis };
-
-    /// What each question does.
-    ghost table: { Self → Table };
-
-    /// What names mean.
-    ghost place: { Self → Place };
+    /// That, what each question does, and what names mean.
+    ghost standing: { Self → Standing Self.Basis };
 
     /// How many steps are left.
     ghost left: { Self → ℕ };
@@ -41,12 +36,10 @@ pub trait Asks: Terms {
     fn ask(&mut self, query: Query<u64>) -> Result<Answer<u64>, Stop>
         requires { IsKnownQuery (length (Self.contents self.old).trees) query }
         ensures keeps { Extends (Self.contents self.old) (Self.contents self.new) }
-        ensures basis { basis self.new ≡ basis self.old }
-        ensures table { table self.new ≡ table self.old }
-        ensures place { place self.new ≡ place self.old }
+        ensures stays { standing self.new ≡ standing self.old }
         ensures known { IfOk result (IsKnownAnswer (length (Self.contents self.new).trees)) }
         ensures outcome { IsOutcome (Self.contents self.new)
-            (out_of (table self.old) (place self.old)
+            (out_of (standing self.old).table (standing self.old).place
             (query_of (tree_at (Self.contents self.old)) query) (left self.old))
             (left self.new) result };
 
@@ -54,20 +47,18 @@ pub trait Asks: Terms {
     /// memory and no step.
     fn parameter_count(&self, name: u64) -> Result<Option<u64>, Rule>
         requires { name < length (Self.contents self.now).names }
-        ensures found { IfOk result (HasParameters (place self.now)
+        ensures found { IfOk result (HasParameters (standing self.now).place
             (name_at (Self.contents self.now) name)) }
-        ensures refused { IfErr result (IsRefused (place self.now)
+        ensures refused { IfErr result (IsRefused (standing self.now).place
             (name_at (Self.contents self.now) name)) };
 
     /// From here on so much of the unit at work is partial. It takes no memory and no step.
     fn give(&mut self, partial: Partial)
         ensures contents { Self.contents self.new ≡ Self.contents self.old }
-        ensures basis { basis self.new ≡ basis self.old }
-        ensures table { table self.new ≡ table self.old }
-        ensures left { left self.new ≡ left self.old }
-        ensures place { place self.new ≡ places (basis self.old) partial };
+        ensures standing { standing self.new ≡ given places (standing self.old) partial }
+        ensures left { left self.new ≡ left self.old };
 
     /// Whoever changes terms alone changes nothing of how questions are answered.
-    ghost decided: { (a b : Self) → Self.rest a ≡ Self.rest b → (basis a ≡ basis b)
-        × (table a ≡ table b) × (place a ≡ place b) × (left a ≡ left b) };
+    ghost decided: { (a b : Self) → Self.rest a ≡ Self.rest b
+        → (standing a ≡ standing b) × (left a ≡ left b) };
 }

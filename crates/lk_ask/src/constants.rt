@@ -10,15 +10,15 @@ ghost use Rattle.lk_env.specs.Places.{place_at};
 ghost use Rattle.lk_env.specs.declared.unit.Unit.{Unit as StoredUnit};
 ghost use Rattle.lk_ask.specs.Constants.{IsFound, IsRefused, IsAtLevels, IsLevels};
 
-use crate::rule::Rule;
-use lk_env::entry::{Entry, Kind, Refused, Site};
+use lk_env::entry::{Entry, Kind, Site};
 use lk_env::library::Library;
 use lk_env::unit::Body;
-use lk_meter::meter::Meter;
+use lk_meter::Meter;
 use lk_store::memory::NoMemory;
 use lk_store::node::ListNode;
 use lk_store::terms::Terms;
 use lk_subst::levels::put_levels_in;
+use lk_tree::rule::Rule;
 use std::alloc::Global;
 
 /// Looks a constant up: what its name means at the site. That its unit was looked at is noted.
@@ -38,15 +38,9 @@ pub(crate) fn look_up<T: Terms>(
     ensures refused { IfErr result (IsRefused (place_at library.now site.now)
         (name_at (T.contents terms.now) name)) }
 {
-    match library.means(site, terms, name) {
-        Ok(entry) => {
-            meter.note(entry.unit);
-            Ok(entry)
-        }
-        Err(Refused::UnknownConstant) => Err(Rule::UnknownConstant),
-        Err(Refused::LooseVariable) => Err(Rule::LooseVariable),
-        Err(Refused::WideLiteral) => Err(Rule::WideLiteral),
-    }
+    let entry = library.means(site, terms, name)?;
+    meter.note(entry.unit);
+    Ok(entry)
 }
 
 /// Whether constants of this kind are built.

@@ -1,5 +1,5 @@
-//! Questions, answers and what waits for them, as plain values; whoever answers questions, and terms made between them; and
-//! what a constant of a term means in a library, what an entry of a block has, and by what a constant is unfolded.
+//! Questions, answers and what waits for them, as plain values; whoever answers questions, and terms made between them; what a
+//! constant of a term means in a library, and by what it is unfolded.
 #![tactic(auto)]
 
 pub mod asks;
@@ -10,7 +10,6 @@ pub mod lookout;
 pub mod looks;
 pub mod next;
 pub mod query;
-pub mod rule;
 pub mod sheet;
 pub mod stack;
 pub mod stop;

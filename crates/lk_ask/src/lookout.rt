@@ -2,14 +2,15 @@
 
 use crate::constants::{at_levels, look_up};
 use crate::looks::Looks;
-use crate::rule::Rule;
-use lk_env::entry::{Entry, Refused, Site};
+use lk_env::entry::{Entry, Site};
 use lk_env::library::Library;
-use lk_meter::meter::Meter;
+use lk_meter::Meter;
 use lk_store::memory::NoMemory;
 use lk_store::node::{LevelNode, ListNode, NameNode, Node};
+use lk_store::room::Room;
 use lk_store::terms::Terms;
 use lk_store::text::Text;
+use lk_tree::rule::Rule;
 use std::alloc::Global;
 use std::marker::Model;
 
@@ -119,6 +120,14 @@ impl<'a, T: Terms> Terms for Lookout<'a, T> {
         self.terms.same_name(m, n)
     }
 
+    fn lend_room(&mut self, alloc: Global) -> Room {
+        self.terms.lend_room(alloc)
+    }
+
+    fn keep_room(&mut self, room: Room) {
+        self.terms.keep_room(room)
+    }
+
     fn text(&self, s: u64) -> &Text {
         self.terms.text(s)
     }
@@ -153,7 +162,7 @@ impl<'a, T: Terms> Looks for Lookout<'a, T> {
         self.library
     }
 
-    fn means(&self, name: u64) -> Result<Entry, Refused> {
+    fn means(&self, name: u64) -> Result<Entry, Rule> {
         self.library.means(&self.site, &self.terms, name)
     }
 

@@ -8,11 +8,11 @@ ghost use Rattle.lk_env.specs.Entries.{IsAnswer, IsEntryIn};
 ghost use Rattle.lk_ask.specs.Constants.{IsFound, IsRefused, IsAtLevels};
 ghost use Rattle.lk_ask.specs.Looks.{Sight, entry_at, IsOver};
 
-use crate::rule::Rule;
-use lk_env::entry::{Entry, Refused};
+use lk_env::entry::Entry;
 use lk_env::library::Library;
 use lk_store::memory::NoMemory;
 use lk_store::terms::Terms;
+use lk_tree::rule::Rule;
 use std::alloc::Global;
 
 /// A store at a library: what a question has while it takes a step.
@@ -32,7 +32,7 @@ pub trait Looks: Terms {
         ensures over { IsOver Self.contents Self.rest sight self.now };
 
     /// What a name means that was looked up before: nothing is noted. It takes no memory.
-    fn means(&self, name: u64) -> Result<Entry, Refused>
+    fn means(&self, name: u64) -> Result<Entry, Rule>
         requires { name < length (Self.contents self.now).names }
         ensures over { IsOver Self.contents Self.rest sight self.now }
         ensures known { IfOk result

@@ -1,7 +1,7 @@
 //! What a question does next.
 
 use crate::query::{Answer, Query};
-use crate::rule::Rule;
+use lk_tree::rule::Rule;
 
 /// What a question does next. While it asks another one it keeps a sheet.
 #[derive(Drop)]

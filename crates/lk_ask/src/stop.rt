@@ -1,15 +1,15 @@
 //! Why a question has no answer.
 
-use crate::rule::Rule;
-use lk_meter::meter::Spent;
+use lk_meter::Spent;
 use lk_store::memory::NoMemory;
+use lk_tree::rule::Rule;
 use std::alloc::AllocError;
 
 /// Why a question has no answer.
 #[derive(Clone, Copy)]
 pub enum Stop {
     /// It is refused.
-    Rule(Rule),
+    No(Rule),
     /// The budget is used up.
     Spent,
     /// Memory is wanting.

@@ -3,3 +3,5 @@
 
 pub mod key;
 pub mod memo;
+
+pub use memo::PrivateMemo;

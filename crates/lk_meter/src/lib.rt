@@ -2,3 +2,5 @@
 #![tactic(auto)]
 
 pub mod meter;
+
+pub use meter::{Meter, Spent};

@@ -1,10 +1,6 @@
 use Rattle.lk_ask.proofs.building.build.Goals as goal
 
-pub returns-clause-table : goal.returns-clause-table
-returns-clause-table g c = (g.met.A.Asks.decided c.make.new.self c.args.asks.now c.make.ensures.rest).1
-
-pub returns-clause-place : goal.returns-clause-place
-returns-clause-place g c = (g.met.A.Asks.decided c.make.new.self c.args.asks.now c.make.ensures.rest).2
-
-pub returns-clause-left : goal.returns-clause-left
-returns-clause-left g c = (g.met.A.Asks.decided c.make.new.self c.args.asks.now c.make.ensures.rest).3
+pub returns : goal.returns
+returns g c =
+    let decided = g.met.A.Asks.decided c.make.new.self c.args.asks.now c.make.ensures.rest in
+    record { keeps = c.make.ensures.keeps; stays = decided.0; left = decided.1; ok = c.make.ensures.ok }
