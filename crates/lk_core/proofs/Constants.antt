@@ -2,7 +2,7 @@
 use Rattle.std.proofs.Common.{◌≡◌, ℕ, Bool, true, List, Option, Some, None, sym, ap, subst, ◌∙◌, if◌then◌else◌}
 use Rattle.std.specs.Prelude.{Result}
 use Rattle.lk_tree.specs.Tree.{Name, Level, Tree, const}
-use Rattle.lk_tree.specs.RuleNo.{unknown_constant, builtin_shape}
+use Rattle.lk_tree.specs.declared.rule.Rule.TheVariants.{UnknownConstant, BuiltinShape}
 use Rattle.lk_tree.specs.Spine.{head, args}
 use Rattle.lk_rulebook.specs.Place.{Place, Entry as PlainEntry}
 use Rattle.lk_plain.specs.Program.{refuse}
@@ -18,13 +18,13 @@ use Rattle.lk_store.specs.declared.tables.Tables.{Tables}
 use Rattle.lk_env.specs.declared.entry.Entry.{Entry}
 use Rattle.lk_env.specs.declared.unit.Unit.{Unit as StoredUnit}
 use Rattle.lk_ask.specs.declared.next.Next.{Next}
-use Rattle.lk_ask.specs.declared.sheet.IotaSheet.{IotaSheet}
 use Rattle.lk_ask.specs.Constants.{IsFound}
 use Rattle.lk_ask.specs.Looks.{Sight, entry_at}
 use Rattle.lk_ask.proofs.Looking.{found_built}
+use Rattle.lk_ask.proofs.Steps.{same_steps, after_look, carried}
+use Rattle.lk_iota.specs.Sheets.{IotaSheet}
 use Rattle.lk_iota.specs.Iotas.{Reduces}
 use Rattle.lk_iota.specs.Redexes.{redex_by, redex_of, redex_at}
-use Rattle.lk_core.proofs.Reducing.{same_steps, after_look, carried}
 
 -- what a head means
 redex_head : (w : Place) (h : Tree) (x : Name) (ls : List Level) (xs : List Tree) (g : PlainEntry)
@@ -62,7 +62,7 @@ module _ {S R B : Type 0} {contents : S → Contents} {rest : S → R} {sight : 
       let redex = carried (λ k c. redex_at c.place (tree_at k e)
       ≡ redex_by (list_at k levels) (args (tree_at k e)) g g.kind) same stays
       (redex_head b.place (head E) x ls (args E) g is h.means) in
-      same_steps (sym (found_built b.place a_tree x unknown_constant
+      same_steps (sym (found_built b.place a_tree x UnknownConstant
       (λ d. core_constant_built E ls (args E) d d.kind) b.library _ last entry h built))
       (after_look (λ k c. erased c.place a_tree last
       (core_constant_built (tree_at k e) (list_at k levels) (args (tree_at k e)) g g.kind))
@@ -74,12 +74,12 @@ pub whnf_goes : (w : Place) (x : Name) (ls : List Level) (t : Tree) (l : Tables 
     (before last : Option ℕ) (entry : Entry) (h : IsFound l w x before entry last)
     → is_built_kind h.entry.kind ≡ true → (b : Bool) → may_compute t x h.entry.kind ≡ b
     → (o : Option Tree) → value_of h.entry.kind ≡ o
-    → erased w a_tree last (if b then refuse builtin_shape else unfolded h.entry (const x ls) t o)
+    → erased w a_tree last (if b then refuse BuiltinShape else unfolded h.entry (const x ls) t o)
     ≡ erased w a_tree before (whnf_built t (const x ls))
 whnf_goes w x ls t l before last entry h built b computes o value =
     let g = h.entry in
     let P : Bool → Option Tree → Steps = λ c v.
-    erased w a_tree last (if c then refuse builtin_shape else unfolded g (const x ls) t v) in
+    erased w a_tree last (if c then refuse BuiltinShape else unfolded g (const x ls) t v) in
     ap (λ c. P c o) (sym computes) ∙ ap (P (may_compute t x g.kind)) (sym value)
-    ∙ sym (found_built w a_tree x unknown_constant (unfolded_built t x (const x ls)) l
+    ∙ sym (found_built w a_tree x UnknownConstant (unfolded_built t x (const x ls)) l
     before last entry h built)

@@ -1,6 +1,6 @@
+pub mod Sheets
 pub mod Lambdas
 pub mod Opened
-pub mod Reducing
 pub mod Constants
 pub mod Rows
 pub mod Naming

@@ -1,3 +1,4 @@
+pub mod Sheets
 pub mod Forms
 pub mod Lambdas
 pub mod Words

@@ -1,44 +1,47 @@
 //! `Core`: the weak head form without unfolding.
 
-ghost use Rattle.std.specs.Prelude.{◌≡◌, ◌<◌, ℕ, Option, length};
-ghost use Rattle.lk_tree.specs.Tree.{Tree, const};
+ghost use Rattle.std.specs.Prelude.{◌≡◌, ◌<◌, length};
+ghost use Rattle.lk_tree.specs.Tree.{const};
 ghost use Rattle.lk_tree.specs.Spine.{head as head_of, args as args_of};
-ghost use Rattle.lk_rulebook.specs.Place.{Place};
 ghost use Rattle.lk_plain.specs.Program.{asked};
 ghost use Rattle.lk_plain.specs.Query.{core};
 ghost use Rattle.lk_questions.specs.Core.{beta as beta_of, lambdas};
 ghost use Rattle.lk_questions.specs.Built.{built_applied, core_row};
 ghost use Rattle.lk_store.specs.Contents.{name_at, list_at, tree_at};
-ghost use Rattle.lk_ask.specs.Nexts.{IsKnownNext};
-ghost use Rattle.lk_ask.specs.Sheets.{IsKnownIota, IsKnownCore};
+ghost use Rattle.lk_ask.specs.Gives.{Wraps};
+ghost use Rattle.lk_iota.specs.Sheets.{IsKnownIotaSheet};
 ghost use Rattle.lk_iota.specs.Iotas.{iota_next};
+ghost use Rattle.lk_core.specs.Sheets.{IsKnownCoreSheet};
 ghost use Rattle.lk_core.specs.Forms.{core_next, headed_rest, Reduces};
 
 use crate::beta::beta;
+use crate::sheet::CoreTermSheet;
 use lk_ask::constants::is_built;
 use lk_ask::looks::Looks;
 use lk_ask::next::Next;
 use lk_ask::query::{Answer, Query};
-use lk_ask::rule::Rule;
-use lk_ask::sheet::CoreSheet;
+use lk_ask::sheet::Sheet;
 use lk_ask::unfolding::with_head;
-use lk_iota::iota::IotaNext;
+use lk_iota::IotaNext;
+use lk_iota::sheet::IotaTruthSheet;
 use lk_spine::{args, head};
 use lk_store::memory::NoMemory;
 use lk_store::node::Node;
 use lk_subst::opening::open_with;
+use lk_tree::rule::Rule;
 
 /// What `Core` or `Whnf` does next.
-pub type CoreNext = Next<u64, CoreSheet<u64>>;
+pub type CoreNext = Next<u64, Sheet<CoreTermSheet<u64>, IotaTruthSheet<u64>>>;
 
 /// What a recursor does next.
 pub(crate) fn of_iota(next: IotaNext) -> CoreNext
-    ensures known { (n : ℕ) → IsKnownNext IsKnownIota n next → IsKnownNext IsKnownCore n result }
-    ensures steps { (w : Place) (t : ℕ → Tree) (last : Option ℕ)
-        → core_next w t last result ≡ iota_next w t last next }
+    ensures { Wraps IsKnownIotaSheet iota_next IsKnownCoreSheet core_next next result }
 {
     match next {
-        Next::Ask(asked, sheet) => Next::Ask(asked, CoreSheet::Iota(sheet)),
+        Next::Ask(asked, sheet) => match sheet {
+            Sheet::Term(kept) => Next::Ask(asked, Sheet::Term(CoreTermSheet::Iota(kept))),
+            Sheet::Truth(kept) => Next::Ask(asked, Sheet::Truth(kept)),
+        },
         Next::Done(answer) => Next::Done(answer),
         Next::No(rule) => Next::No(rule),
     }
@@ -67,7 +70,7 @@ fn constant_applied<L: Looks>(
     if !is_built(entry.kind) {
         return Ok(Next::No(Rule::BuiltinShape));
     }
-    let next = lk_iota::iota::begin(looks, entry, levels, e)?;
+    let next = lk_iota::begin(looks, entry, levels, e)?;
     Ok(of_iota(next))
 }
 
@@ -80,7 +83,7 @@ fn lambda_applied<L: Looks>(looks: &mut L, e: u64, lambda: u64) -> Result<CoreNe
 {
     let values = args(looks.alloc(), looks, e)?;
     let next = beta(looks, lambda, &values)?;
-    Ok(Next::Ask(Query::Core(next), CoreSheet::Passed))
+    Ok(Next::Ask(Query::Core(next), Sheet::Term(CoreTermSheet::Passed)))
 }
 
 /// `Core` of an application, by its head.
@@ -91,7 +94,10 @@ fn applied<L: Looks>(looks: &mut L, e: u64) -> Result<CoreNext, NoMemory>
 {
     let front = head(looks, e);
     match looks.view(front) {
-        Node::Let(_, _, _) => Ok(Next::Ask(Query::Core(front), CoreSheet::Head { application: e })),
+        Node::Let(_, _, _) => Ok(Next::Ask(
+            Query::Core(front),
+            Sheet::Term(CoreTermSheet::Head { application: e }),
+        )),
         Node::Proj(_, _, _) => Ok(Next::No(Rule::BuiltinShape)),
         Node::Const(name, levels) => constant_applied(looks, e, name, levels),
         Node::Lam(_, _) => lambda_applied(looks, e, front),
@@ -115,7 +121,7 @@ pub(crate) fn after_head<L: Looks>(
         return Ok(Next::Done(Answer::Term(application)));
     }
     let next = with_head(looks.alloc(), looks, application, form)?;
-    Ok(Next::Ask(Query::Core(next), CoreSheet::Passed))
+    Ok(Next::Ask(Query::Core(next), Sheet::Term(CoreTermSheet::Passed)))
 }
 
 /// The first step of `Core` of a term.
@@ -127,7 +133,7 @@ pub fn begin<L: Looks>(looks: &mut L, e: u64) -> Result<CoreNext, NoMemory>
         Node::App(_, _) => applied(looks, e),
         Node::Let(_, value, body) => {
             let next = open_with(looks.alloc(), looks, body, value)?;
-            Ok(Next::Ask(Query::Core(next), CoreSheet::Passed))
+            Ok(Next::Ask(Query::Core(next), Sheet::Term(CoreTermSheet::Passed)))
         }
         Node::Proj(_, _, _) => Ok(Next::No(Rule::BuiltinShape)),
         _ => Ok(Next::Done(Answer::Term(e))),

@@ -4,4 +4,5 @@
 pub mod beta;
 pub mod core_form;
 mod operations;
+pub mod sheet;
 pub mod whnf;

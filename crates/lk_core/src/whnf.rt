@@ -3,7 +3,7 @@
 ghost use Rattle.std.specs.Prelude.{◌≡◌, ◌<◌, ℕ, Option, Some, List, IfSome, length, option_map};
 ghost use Rattle.lk_tree.specs.Tree.{Name, Tree, const};
 ghost use Rattle.lk_rulebook.specs.Place.{Place, Entry as PlainEntry};
-ghost use Rattle.lk_plain.specs.Erased.{a_tree, truth, erased};
+ghost use Rattle.lk_plain.specs.Erased.{a_tree, erased};
 ghost use Rattle.lk_questions.specs.Core.{unfolded};
 ghost use Rattle.lk_questions.specs.Steps.{value_of as plain_value};
 ghost use Rattle.lk_questions.specs.Built.{ops_of_kind, names_one_of};
@@ -13,34 +13,36 @@ ghost use Rattle.lk_store.specs.Contents.{Contents, name_at, list_at, tree_at};
 ghost use Rattle.lk_env.specs.declared.unit.Unit.{Unit as StoredUnit};
 ghost use Rattle.lk_env.specs.Entries.{plain_entry, IsEntryIn};
 ghost use Rattle.lk_ask.specs.Looks.{entry_at};
-ghost use Rattle.lk_ask.specs.Questions.{value_at, IsKnownAnswer};
 ghost use Rattle.lk_ask.specs.Nexts.{IsKnownNext};
-ghost use Rattle.lk_ask.specs.Sheets.{IsKnownCore};
-ghost use Rattle.lk_core.specs.Forms.{core_next, Reduces, Resumes};
+ghost use Rattle.lk_iota.specs.Sheets.{IsKnownIotaTruth};
+ghost use Rattle.lk_core.specs.Sheets.{IsKnownCoreTerm, IsKnownCoreSheet};
+ghost use Rattle.lk_core.specs.Forms.{core_next, Reduces, ResumesTerm, ResumesTruth};
 
 use crate::core_form::{CoreNext, after_head, of_iota};
 use crate::operations::{names_operation, names_successor};
+use crate::sheet::CoreTermSheet;
 use lk_ask::constants::is_built;
 use lk_ask::looks::Looks;
 use lk_ask::next::Next;
 use lk_ask::query::{Answer, Query};
-use lk_ask::rule::Rule;
-use lk_ask::sheet::CoreSheet;
+use lk_ask::sheet::Sheet;
 use lk_ask::unfolding::unfold;
 use lk_env::entry::{Entry, Kind};
 use lk_env::unit::Body;
+use lk_iota::sheet::IotaTruthSheet;
 use lk_spine::head;
 use lk_store::memory::NoMemory;
 use lk_store::node::Node;
 use lk_store::terms::Terms;
+use lk_tree::rule::Rule;
 
 /// The first step of `Whnf` of a term.
 pub fn begin(e: u64) -> CoreNext
-    ensures known { (n : ℕ) → e < n → IsKnownNext IsKnownCore n result }
+    ensures known { (n : ℕ) → e < n → IsKnownNext IsKnownCoreSheet n result }
     ensures steps { (w : Place) (t : ℕ → Tree) (last : Option ℕ)
         → core_next w t last result ≡ erased w a_tree last (whnf_row (t e)) }
 {
-    Next::Ask(Query::Core(e), CoreSheet::WhnfCore)
+    Next::Ask(Query::Core(e), Sheet::Term(CoreTermSheet::WhnfCore))
 }
 
 /// The value that a constant is unfolded by.
@@ -108,7 +110,7 @@ fn by_value<L: Looks>(
         (λ t. unfolded g h (t e) (Some (t value))) }
 {
     match unfold(looks, entry, levels, value, e)? {
-        Some(next) => Ok(Next::Ask(Query::Whnf(next), CoreSheet::Passed)),
+        Some(next) => Ok(Next::Ask(Query::Whnf(next), Sheet::Term(CoreTermSheet::Passed))),
         None => Ok(Next::No(Rule::LevelCount)),
     }
 }
@@ -156,58 +158,36 @@ fn end<L: Looks>(looks: &mut L, e: u64) -> Result<CoreNext, NoMemory>
     }
 }
 
-/// Goes on with an answer that is a term.
-fn resume_term<L: Looks>(looks: &mut L, sheet: CoreSheet<u64>, e: u64) -> Result<CoreNext, NoMemory>
-    requires sheet_in { IsKnownCore (length (L.contents looks.old).trees) sheet }
+/// Goes on once the term is there that a sheet waits for.
+pub fn resume_term<L: Looks>(
+    looks: &mut L,
+    sheet: CoreTermSheet<u64>,
+    e: u64,
+) -> Result<CoreNext, NoMemory>
+    requires sheet_in { IsKnownCoreTerm (length (L.contents looks.old).trees) sheet }
     requires e_in { e < length (L.contents looks.old).trees }
-    ensures { Resumes L.contents L.rest L.sight looks.old looks.new result sheet
-        (λ t. a_tree (t e)) }
+    ensures { ResumesTerm L.contents L.rest L.sight looks.old looks.new result sheet e }
 {
     match sheet {
-        CoreSheet::Passed => Ok(Next::Done(Answer::Term(e))),
-        CoreSheet::Head { application } => after_head(looks, application, e),
-        CoreSheet::WhnfCore => end(looks, e),
-        CoreSheet::Iota(kept) => {
-            let next = lk_iota::iota::resume(looks, kept, Answer::Term(e))?;
+        CoreTermSheet::Passed => Ok(Next::Done(Answer::Term(e))),
+        CoreTermSheet::Head { application } => after_head(looks, application, e),
+        CoreTermSheet::WhnfCore => end(looks, e),
+        CoreTermSheet::Iota(kept) => {
+            let next = lk_iota::resume_term(looks, kept, e)?;
             Ok(of_iota(next))
         }
     }
 }
 
-/// Goes on with an answer that is a truth value: only a recursor's sheet waits for one.
-fn resume_truth<L: Looks>(
+/// Goes on once it is there whether two terms are the same, for which a recursor waits.
+pub fn resume_truth<L: Looks>(
     looks: &mut L,
-    sheet: CoreSheet<u64>,
-    equal: bool,
+    sheet: IotaTruthSheet<u64>,
+    yes: bool,
 ) -> Result<CoreNext, NoMemory>
-    requires { IsKnownCore (length (L.contents looks.old).trees) sheet }
-    ensures { Resumes L.contents L.rest L.sight looks.old looks.new result sheet
-        (λ t. truth equal) }
+    requires sheet_in { IsKnownIotaTruth (length (L.contents looks.old).trees) sheet }
+    ensures { ResumesTruth L.contents L.rest L.sight looks.old looks.new result sheet yes }
 {
-    match sheet {
-        CoreSheet::Passed | CoreSheet::Head { .. } | CoreSheet::WhnfCore => Ok(Next::No(
-            Rule::LooseVariable,
-        )),
-        CoreSheet::Iota(kept) => {
-            let next = lk_iota::iota::resume(looks, kept, Answer::Truth(equal))?;
-            Ok(of_iota(next))
-        }
-    }
-}
-
-/// Goes on with `Core` or `Whnf` once the answer is there that its sheet waits for.
-pub fn resume<L: Looks>(
-    looks: &mut L,
-    sheet: CoreSheet<u64>,
-    answer: Answer<u64>,
-) -> Result<CoreNext, NoMemory>
-    requires sheet_in { IsKnownCore (length (L.contents looks.old).trees) sheet }
-    requires answer_in { IsKnownAnswer (length (L.contents looks.old).trees) answer }
-    ensures { Resumes L.contents L.rest L.sight looks.old looks.new result sheet
-        (λ t. value_at t answer) }
-{
-    match answer {
-        Answer::Term(e) => resume_term(looks, sheet, e),
-        Answer::Truth(equal) => resume_truth(looks, sheet, equal),
-    }
+    let next = lk_iota::resume_truth(looks, sheet, yes)?;
+    Ok(of_iota(next))
 }

@@ -1,4 +1,4 @@
-pub mod Asking
+pub mod Sheets
 pub mod Frames
 pub mod Links
 pub mod Lookouts

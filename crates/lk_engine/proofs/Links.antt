@@ -14,24 +14,23 @@ use Rattle.lk_store.specs.Contents.{Contents, tree_at, Extends}
 use Rattle.lk_ask.specs.declared.query.Query.{Query}
 use Rattle.lk_ask.specs.declared.query.Query.TheVariants.{Core, Whnf, Infer, Same}
 use Rattle.lk_ask.specs.declared.query.Answer.{Answer}
-use Rattle.lk_ask.specs.declared.rule.Rule.{Rule}
+use Rattle.lk_tree.specs.declared.rule.Rule.{Rule}
 use Rattle.lk_ask.specs.declared.stop.Stop.{Stop}
 use Rattle.lk_ask.specs.declared.stop.Stop.TheVariants as stop
 use Rattle.lk_ask.specs.declared.kept.Kept.{Kept}
 use Rattle.lk_ask.specs.declared.next.Next.{Next}
 use Rattle.lk_ask.specs.declared.next.Next.TheVariants.{Ask, Done, No}
-use Rattle.lk_ask.specs.declared.sheet.Sheet.{Sheet}
-use Rattle.lk_ask.specs.Questions.{query_of, value_at, rule_no, IsKnownQuery, IsKnownAnswer}
+use Rattle.lk_ask.specs.Questions.{query_of, value_at, IsKnownQuery, IsKnownAnswer}
 use Rattle.lk_ask.specs.Nexts.{IsKnownNext}
 use Rattle.lk_ask.specs.Outcomes.{IsStop}
-use Rattle.lk_ask.specs.Sheets.{map_sheet, IsKnownSheet}
+use Rattle.lk_engine.specs.Sheets.{AnySheet, map_any, IsKnownAny}
 use Rattle.lk_memo.specs.declared.key.Key.{Key}
 use Rattle.lk_memo.specs.Keys.{key_of}
 use Rattle.lk_memo.proofs.Keys.{key_of-injective}
 use Rattle.lk_engine.specs.declared.answering.Frame.{Frame}
 use Rattle.lk_engine.specs.Entries.{IsTrueAt, AreTrue}
-use Rattle.lk_engine.specs.Rests.{sheet_rest, next_of, query_steps, IsKnownFrame, Linked}
-use Rattle.lk_engine.proofs.Frames.{sheet_from, query_steady, query_known, stack_known, links_steady}
+use Rattle.lk_engine.specs.Rests.{any_rest, next_of, query_steps, IsKnownFrame, Linked}
+use Rattle.lk_engine.proofs.Frames.{any_from, query_steady, query_known, stack_known, links_steady}
 
 -- a question's row is its row in the table
 query_steps_is : (w : Place) (t : ℕ → Tree) (q : Query ℕ) → query_steps w t None q ≡ steps_of rows w (query_of t q)
@@ -63,7 +62,7 @@ true_at w c es q kept h within = h.each (key_of q, kept) within q refl
 module _ (w : Place) (t : ℕ → Tree) where
   -- what waits for an answer, with this frame
   abbrev waiting : Frame → Out → Out
-  waiting f o = seen f.last (go_on o (λ v rest. run_steps (out_of rows w) (sheet_rest w None (map_sheet t f.sheet) v) rest))
+  waiting f o = seen f.last (go_on o (λ v rest. run_steps (out_of rows w) (any_rest w None (map_any t f.sheet) v) rest))
 
   -- one more question is asked
   links_push : (q : plain.Query) (b : ℕ) (fs : List Frame) (f : Frame) (asked : plain.Query) (left : ℕ)
@@ -87,19 +86,19 @@ module _ (w : Place) (t : ℕ → Tree) where
   links_stop q b (f ∷ fs) asked left s h e = stops_behind f q b h.2.0 h.2.1 s h.2.2 (links_stop h.2.0 h.2.1 fs asked left s h.2.3 e)
     where
       stops_behind : (f : Frame) (q : plain.Query) (b : ℕ) (r : plain.Query) (c : ℕ) (s : Stop) → out_of rows w q b ≡ waiting f (out_of rows w r c) → IsStop (out_of rows w r c) s → IsStop (out_of rows w q b) s
-      stops_behind f q b r c (stop.Rule rule) h e = h ∙ ap (waiting f) e
+      stops_behind f q b r c (stop.No rule) h e = h ∙ ap (waiting f) e
       stops_behind f q b r c stop.Spent h e = h ∙ ap (waiting f) e
       stops_behind f q b r c stop.NoMemory h e = tt
 
   -- an answer goes to the frame that waits
-  waiting_goes : (f : Frame) (v : Value) (left : ℕ) (last last2 : Option ℕ) → last2 ≡ later f.last last → waiting f (finished v left last) ≡ run_steps (out_of rows w) (sheet_rest w last2 (map_sheet t f.sheet) v) left
+  waiting_goes : (f : Frame) (v : Value) (left : ℕ) (last last2 : Option ℕ) → last2 ≡ later f.last last → waiting f (finished v left last) ≡ run_steps (out_of rows w) (any_rest w last2 (map_any t f.sheet) v) left
   waiting_goes f v left last last2 e =
-      seen_seen f.last last (run_steps (out_of rows w) (sheet_rest w None (map_sheet t f.sheet) v) left)
-      ∙ ap (λ s. seen s (run_steps (out_of rows w) (sheet_rest w None (map_sheet t f.sheet) v) left)) (sym e)
-      ∙ sym (sheet_from w last2 left (map_sheet t f.sheet) v)
+      seen_seen f.last last (run_steps (out_of rows w) (any_rest w None (map_any t f.sheet) v) left)
+      ∙ ap (λ s. seen s (run_steps (out_of rows w) (any_rest w None (map_any t f.sheet) v) left)) (sym e)
+      ∙ sym (any_from w last2 left (map_any t f.sheet) v)
 
 -- a question is opened
-pub opened : (w : Place) (t u : ℕ → Tree) (q : Query ℕ) (next : Next ℕ (Sheet ℕ)) (left left2 : ℕ) (last : Option ℕ) → 0 < left → left2 ≡ left - 1 → next_of w u last next ≡ query_steps w t None q
+pub opened : (w : Place) (t u : ℕ → Tree) (q : Query ℕ) (next : Next ℕ (AnySheet ℕ)) (left left2 : ℕ) (last : Option ℕ) → 0 < left → left2 ≡ left - 1 → next_of w u last next ≡ query_steps w t None q
     → run_steps (out_of rows w) (next_of w u last next) left2 ≡ out_of rows w (query_of t q) left
 opened w t u q next left left2 last l e p = ap (run_steps (out_of rows w) (next_of w u last next)) e ∙ ap (λ r. run_steps (out_of rows w) r (left - 1)) (p ∙ query_steps_is w t q) ∙ sym (out-step rows w (query_of t q) left l)
 
@@ -108,23 +107,23 @@ pub not_opened : (w : Place) (t : ℕ → Tree) (q : Query ℕ) (left : ℕ) →
 not_opened w t q left h = let e : left ≡ 0 = omega arith in rw e (out-zero rows w (query_of t q))
 
 -- where the work stands: the first question is q under b, and the one that is worked on is `asked` under `budget`
-pub record IsLinked (w : Place) (q : plain.Query) (b : ℕ) (c : Contents) (stack : List Frame) (asked : Query ℕ) (budget : ℕ) (next : Next ℕ (Sheet ℕ)) (left : ℕ) (last : Option ℕ) : Type 0 where
+pub record IsLinked (w : Place) (q : plain.Query) (b : ℕ) (c : Contents) (stack : List Frame) (asked : Query ℕ) (budget : ℕ) (next : Next ℕ (AnySheet ℕ)) (left : ℕ) (last : Option ℕ) : Type 0 where
   pub stacked : All (IsKnownFrame (length c.trees)) stack
   pub asked_known : IsKnownQuery (length c.trees) asked
-  pub known : IsKnownNext IsKnownSheet (length c.trees) next
+  pub known : IsKnownNext IsKnownAny (length c.trees) next
   pub links : Linked w (tree_at c) q b stack (query_of (tree_at c) asked) budget
   pub runs : run_steps (out_of rows w) (next_of w (tree_at c) last next) left ≡ out_of rows w (query_of (tree_at c) asked) budget
 
-pub linked_begins : {c d : Contents} {next : Next ℕ (Sheet ℕ)} {left : ℕ} {last : Option ℕ} (w : Place) (q : Query ℕ) (b : ℕ) → Extends c d → IsKnownQuery (length c.trees) q → IsKnownNext IsKnownSheet (length d.trees) next
+pub linked_begins : {c d : Contents} {next : Next ℕ (AnySheet ℕ)} {left : ℕ} {last : Option ℕ} (w : Place) (q : Query ℕ) (b : ℕ) → Extends c d → IsKnownQuery (length c.trees) q → IsKnownNext IsKnownAny (length d.trees) next
     → run_steps (out_of rows w) (next_of w (tree_at d) last next) left ≡ out_of rows w (query_of (tree_at c) q) b → IsLinked w (query_of (tree_at c) q) b d [] q b next left last
 linked_begins {c} {d} {next} {left} {last} w q b x h k e =
     let same = query_steady x q h in
     record { stacked = λ i d h. absurd (omega arith); asked_known = query_known x q h; known = k; links = (same, refl); runs = e ∙ sym (ap (λ r. out_of rows w r b) same) }
 
-module _ {w : Place} {q : plain.Query} {b : ℕ} {c : Contents} {stack : List Frame} {asked : Query ℕ} {budget : ℕ} {next : Next ℕ (Sheet ℕ)} {left : ℕ} {last : Option ℕ} (l : IsLinked w q b c stack asked budget next left last) where
+module _ {w : Place} {q : plain.Query} {b : ℕ} {c : Contents} {stack : List Frame} {asked : Query ℕ} {budget : ℕ} {next : Next ℕ (AnySheet ℕ)} {left : ℕ} {last : Option ℕ} (l : IsLinked w q b c stack asked budget next left last) where
   -- another question is asked
-  pub linked_asks : {d : Contents} {other : Query ℕ} {sheet : Sheet ℕ} {stack' : List Frame} {next' : Next ℕ (Sheet ℕ)} {left' : ℕ} {last' : Option ℕ} → next ≡ Ask other sheet
-      → stack' ≡ stack ++ record { asker = asked; budget = budget; sheet = sheet; last = last } ∷ [] → Extends c d → IsKnownNext IsKnownSheet (length d.trees) next'
+  pub linked_asks : {d : Contents} {other : Query ℕ} {sheet : AnySheet ℕ} {stack' : List Frame} {next' : Next ℕ (AnySheet ℕ)} {left' : ℕ} {last' : Option ℕ} → next ≡ Ask other sheet
+      → stack' ≡ stack ++ record { asker = asked; budget = budget; sheet = sheet; last = last } ∷ [] → Extends c d → IsKnownNext IsKnownAny (length d.trees) next'
       → run_steps (out_of rows w) (next_of w (tree_at d) last' next') left' ≡ out_of rows w (query_of (tree_at c) other) left → IsLinked w q b d stack' other left next' left' last'
   linked_asks {d} {other} {sheet} {stack'} {next'} {left'} {last'} is pushed x k e =
       let frame : Frame = record { asker = asked; budget = budget; sheet = sheet; last = last } in
@@ -159,8 +158,8 @@ module _ {w : Place} {q : plain.Query} {b : ℕ} {c : Contents} {stack : List Fr
   top_known stack' frame popped = (All-pop (IsKnownFrame (length c.trees)) stack stack' (Some frame) popped l.stacked).1
 
   -- the answer goes to the question that asked
-  pub linked_resumes : {d : Contents} {answer : Answer ℕ} {next' : Next ℕ (Sheet ℕ)} {last2 last3 : Option ℕ} (stack' : List Frame) (frame : Frame) → next ≡ Done answer → stack ≡ stack' ++ frame ∷ [] → last2 ≡ later frame.last last → Extends c d
-      → IsKnownNext IsKnownSheet (length d.trees) next' → next_of w (tree_at d) last3 next' ≡ sheet_rest w last2 (map_sheet (tree_at c) frame.sheet) (value_at (tree_at c) answer)
+  pub linked_resumes : {d : Contents} {answer : Answer ℕ} {next' : Next ℕ (AnySheet ℕ)} {last2 last3 : Option ℕ} (stack' : List Frame) (frame : Frame) → next ≡ Done answer → stack ≡ stack' ++ frame ∷ [] → last2 ≡ later frame.last last → Extends c d
+      → IsKnownNext IsKnownAny (length d.trees) next' → next_of w (tree_at d) last3 next' ≡ any_rest w last2 (map_any (tree_at c) frame.sheet) (value_at (tree_at c) answer)
       → IsLinked w q b d stack' frame.asker frame.budget next' left last3
   linked_resumes {d} {answer} {next'} {last2} {last3} stack' frame is popped e x k p =
       let all = All-pop (IsKnownFrame (length c.trees)) stack stack' (Some frame) popped l.stacked in
@@ -168,7 +167,7 @@ module _ {w : Place} {q : plain.Query} {b : ℕ} {c : Contents} {stack : List Fr
       let both = links_pop w (tree_at c) q b stack' frame (query_of (tree_at c) asked) budget links in
       let same = query_steady x frame.asker all.1.asker in
       let given = (linked_answers is).1 in
-      let asker_is : out_of rows w (query_of (tree_at c) frame.asker) frame.budget ≡ run_steps (out_of rows w) (sheet_rest w last2 (map_sheet (tree_at c) frame.sheet) (value_at (tree_at c) answer)) left =
+      let asker_is : out_of rows w (query_of (tree_at c) frame.asker) frame.budget ≡ run_steps (out_of rows w) (any_rest w last2 (map_any (tree_at c) frame.sheet) (value_at (tree_at c) answer)) left =
       both.1 ∙ ap (waiting w (tree_at c) frame) given ∙ waiting_goes w (tree_at c) frame (value_at (tree_at c) answer) left last last2 e in
       record {
         stacked = stack_known x stack' all.0;
@@ -179,19 +178,19 @@ module _ {w : Place} {q : plain.Query} {b : ℕ} {c : Contents} {stack : List Fr
       }
 
   -- why the first question has no answer
-  pub linked_stops : {other : Query ℕ} {sheet : Sheet ℕ} (s : Stop) → next ≡ Ask other sheet → IsStop (out_of rows w (query_of (tree_at c) other) left) s → IsStop (out_of rows w q b) s
+  pub linked_stops : {other : Query ℕ} {sheet : AnySheet ℕ} (s : Stop) → next ≡ Ask other sheet → IsStop (out_of rows w (query_of (tree_at c) other) left) s → IsStop (out_of rows w q b) s
   linked_stops {other} {sheet} s is e = links_stop w (tree_at c) q b stack (query_of (tree_at c) asked) budget s l.links (go s e)
     where
       runs : waiting w (tree_at c) (record { asker = asked; budget = budget; sheet = sheet; last = last }) (out_of rows w (query_of (tree_at c) other) left) ≡ out_of rows w (query_of (tree_at c) asked) budget
       runs = rw is at l.runs
 
       go : (s : Stop) → IsStop (out_of rows w (query_of (tree_at c) other) left) s → IsStop (out_of rows w (query_of (tree_at c) asked) budget) s
-      go (stop.Rule r) e = sym runs ∙ ap (waiting w (tree_at c) (record { asker = asked; budget = budget; sheet = sheet; last = last })) e
+      go (stop.No r) e = sym runs ∙ ap (waiting w (tree_at c) (record { asker = asked; budget = budget; sheet = sheet; last = last })) e
       go stop.Spent e = sym runs ∙ ap (waiting w (tree_at c) (record { asker = asked; budget = budget; sheet = sheet; last = last })) e
       go stop.NoMemory e = tt
 
-  pub linked_refused : {rule : Rule} → next ≡ No rule → out_of rows w q b ≡ stopped (rule_no rule)
-  linked_refused {rule} is = links_stop w (tree_at c) q b stack (query_of (tree_at c) asked) budget (stop.Rule rule) l.links (sym (rw is at l.runs))
+  pub linked_refused : {rule : Rule} → next ≡ No rule → out_of rows w q b ≡ stopped rule
+  linked_refused {rule} is = links_stop w (tree_at c) q b stack (query_of (tree_at c) asked) budget (stop.No rule) l.links (sym (rw is at l.runs))
 
   pub linked_ends : {answer : Answer ℕ} → next ≡ Done answer → stack ≡ [] → IsKnownAnswer (length c.trees) answer × (out_of rows w q b ≡ finished (value_at (tree_at c) answer) left last)
   linked_ends {answer} is empty =

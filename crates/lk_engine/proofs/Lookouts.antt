@@ -20,35 +20,19 @@ use Rattle.lk_ask.specs.declared.next.Next.{Next}
 use Rattle.lk_ask.specs.declared.next.Next.TheVariants.{Done}
 use Rattle.lk_ask.specs.declared.query.Query.{Query}
 use Rattle.lk_ask.specs.declared.query.Answer.{Answer}
-use Rattle.lk_ask.specs.declared.sheet.Sheet.{Sheet}
 use Rattle.lk_ask.specs.declared.stop.Stop.{Stop}
 use Rattle.lk_ask.specs.declared.stop.Stop.TheVariants.{Spent, NoMemory}
 use Rattle.lk_ask.specs.Questions.{IsKnownAnswer}
 use Rattle.lk_ask.specs.Gives.{Gives}
 use Rattle.lk_ask.specs.Looks.{Sight}
 use Rattle.lk_ask.specs.Outcomes.{IsStop}
-use Rattle.lk_ask.specs.Sheets.{IsKnownSheet}
+use Rattle.lk_engine.specs.Sheets.{AnySheet, IsKnownAny}
 use Rattle.lk_memo.specs.declared.key.Key.{Key}
 use Rattle.lk_engine.specs.Entries.{IsTrueAt, AreTrue}
-use Rattle.lk_engine.specs.Lookouts.{Seen, place_of, out_at, Stays, Metered, Pays, Repeats, Opens, Answers, Stands}
-use Rattle.lk_engine.specs.Rests.{next_of, query_steps, Wraps}
+use Rattle.lk_engine.specs.Lookouts.{Seen, place_of, standing_at, out_at, Stays, Metered, Pays, Repeats, Opens, Answers, Stands}
+use Rattle.lk_engine.specs.Rests.{next_of, query_steps}
 use Rattle.lk_engine.proofs.Frames.{entries_steady}
 use Rattle.lk_engine.proofs.Links.{opened, not_opened}
-
--- what a crate's step gives, any question's step gives
-pub wrapped : {S R B X : Type 0} {known_sheet : ℕ → X → Type 0} {next_in : Place → (ℕ → Tree)
-    → Option ℕ → Next ℕ X → Steps} {contents : S → Contents} {rest : S → R} {sight : R → Sight B}
-    {old new : S} {next : Next ℕ X} {any : Next ℕ (Sheet ℕ)} {does : Steps}
-    → Wraps known_sheet next_in next any
-    → Gives known_sheet next_in contents rest sight old new (Ok next) does
-    → Gives IsKnownSheet next_of contents rest sight old new (Ok any) does
-wrapped w g = record {
-  keeps = g.keeps;
-  stays = g.stays;
-  known = w.known _ g.known;
-  steps = w.steps
-      _ _ _ ∙ g.steps;
-}
 
 -- what a lookout sees, by all but its terms
 abbrev pub sight_at : {R : Type 0} → (Tables × List StoredUnit) × Site × Meter × R
@@ -65,8 +49,8 @@ sight_at r = record {
 
 -- a step over a lookout
 abbrev IsStep : {T R : Type 0} → (T → Contents) → (T → R) → Seen T → Seen T
-    → Result (Next ℕ (Sheet ℕ)) Wanting → Steps → Type 0
-IsStep contents rest old new result does = Gives IsKnownSheet next_of (λ s. contents s.2)
+    → Result (Next ℕ (AnySheet ℕ)) Wanting → Steps → Type 0
+IsStep contents rest old new result does = Gives IsKnownAny next_of (λ s. contents s.2)
     (λ s. (s.0, s.1, s.3, rest s.2)) sight_at old new result does
 
 -- what is answered is what was kept
@@ -86,8 +70,13 @@ repeat_has_memory {T} {old} {new} {kept} {result} r = spent_only old.3.left kept
     result r.spent
 
 module _ {T R : Type 0} {contents : T → Contents} {rest : T → R} where
+  pub standing_stays : {old new : Seen T} → Stays contents rest old new
+      → standing_at new.0 new.1 ≡ standing_at old.0 old.1
+  standing_stays {old} {new} h =
+      ap (λ l. standing_at l new.1) h.library ∙ ap (standing_at old.0) h.site
+
   pub place_stays : {old new : Seen T} → Stays contents rest old new → place_of new ≡ place_of old
-  place_stays {old} {new} h = ap (λ l. place_at l new.1) h.library ∙ ap (place_at old.0) h.site
+  place_stays h = ap (λ s. s.place) (standing_stays h)
 
   pub stays_on : {old between new : Seen T} → Stays contents rest old between
       → Stays contents rest between new → Stays contents rest old new
@@ -108,7 +97,7 @@ module _ {T R : Type 0} {contents : T → Contents} {rest : T → R} where
     others = ap rest h.terms;
   }
 
-  pub step_stays : {old new : Seen T} {result : Result (Next ℕ (Sheet ℕ)) Wanting} {does : Steps}
+  pub step_stays : {old new : Seen T} {result : Result (Next ℕ (AnySheet ℕ)) Wanting} {does : Steps}
       → IsStep contents rest old new result does → Stays contents rest old new
   step_stays h = record {
     library = ap (λ b. b.library) h.stays;
@@ -119,7 +108,7 @@ module _ {T R : Type 0} {contents : T → Contents} {rest : T → R} where
   }
 
   -- a question is opened
-  pub first_opens : {old between new : Seen T} {query : Query ℕ} {next : Next ℕ (Sheet ℕ)}
+  pub first_opens : {old between new : Seen T} {query : Query ℕ} {next : Next ℕ (AnySheet ℕ)}
       → Pays old between (Ok tt) 1 None
       → IsStep contents rest between new (Ok next)
       (query_steps (place_of between) (tree_at (contents between.2)) between.3.last query)

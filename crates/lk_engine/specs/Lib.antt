@@ -1,4 +1,4 @@
 pub mod Entries
 pub mod Lookouts
-pub mod Outcomes
 pub mod Rests
+pub mod Sheets

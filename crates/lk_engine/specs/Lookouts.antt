@@ -11,21 +11,21 @@ use Rattle.lk_env.specs.declared.entry.Site.{Site}
 use Rattle.lk_env.specs.declared.unit.Unit.{Unit as StoredUnit}
 use Rattle.lk_env.specs.Places.{place_at}
 use Rattle.lk_meter.specs.declared.meter.Meter.{Meter}
+use Rattle.lk_ask.specs.Asking.{Standing}
 use Rattle.lk_ask.specs.declared.kept.Kept.{Kept}
 use Rattle.lk_ask.specs.declared.next.Next.{Next}
 use Rattle.lk_ask.specs.declared.query.Query.{Query}
 use Rattle.lk_ask.specs.declared.query.Answer.{Answer}
-use Rattle.lk_ask.specs.declared.sheet.Sheet.{Sheet}
 use Rattle.lk_ask.specs.declared.stop.Stop.{Stop}
 use Rattle.lk_ask.specs.declared.stop.Stop.TheVariants.{Spent, NoMemory}
 use Rattle.lk_ask.specs.Questions.{query_of, value_at, IsKnownAnswer}
 use Rattle.lk_ask.specs.Nexts.{IsKnownNext}
 use Rattle.lk_ask.specs.Outcomes.{IsExactly, IsStop}
-use Rattle.lk_ask.specs.Sheets.{IsKnownSheet}
 use Rattle.lk_memo.specs.declared.key.Key.{Key}
 use Rattle.lk_memo.specs.Entries.{IsKept}
 use Rattle.lk_engine.specs.Entries.{AreTrue}
 use Rattle.lk_engine.specs.Rests.{next_of}
+use Rattle.lk_engine.specs.Sheets.{AnySheet, IsKnownAny}
 
 -- what a lookout over a store stands for: the library, from where it is seen, the store, and what
 -- is left of a budget
@@ -35,6 +35,15 @@ Seen T = (Tables × List StoredUnit) × Site × T × Meter
 -- what names mean from there
 abbrev pub place_of : {T : Type 0} → Seen T → Place
 place_of s = place_at s.0 s.1
+
+-- how questions are answered from there; no call changes the library and the number of the unit
+abbrev pub standing_at : Tables × List StoredUnit → Site
+    → Standing ((Tables × List StoredUnit) × ℕ)
+standing_at library site = record {
+  basis = (library, site.unit);
+  table = rows;
+  place = place_at library site;
+}
 
 -- the plain answer of a question there
 abbrev pub out_at : {T : Type 0} → (T → Contents) → Seen T → Query ℕ → Out
@@ -79,9 +88,9 @@ pub record Repeats {T : Type 0} (old new : Seen T) (result : Result (Answer ℕ)
 
 -- a question was opened: what comes next comes to its plain answer
 pub record Opens {T R : Type 0} (contents : T → Contents) (rest : T → R) (old new : Seen T)
-    (result : Result (Next ℕ (Sheet ℕ)) Stop) (query : Query ℕ) : Type 0 where
+    (result : Result (Next ℕ (AnySheet ℕ)) Stop) (query : Query ℕ) : Type 0 where
   pub stays : Stays contents rest old new
-  pub known : IfOk result (IsKnownNext IsKnownSheet (length (contents new.2).trees))
+  pub known : IfOk result (IsKnownNext IsKnownAny (length (contents new.2).trees))
   pub runs : IfOk result
       (λ next. run_steps (out_of rows (place_of old))
       (next_of (place_of old) (tree_at (contents new.2)) new.3.last next) new.3.left

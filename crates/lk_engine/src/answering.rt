@@ -7,16 +7,16 @@ ghost use Rattle.lk_engine.specs.Entries.{AreTrue};
 ghost use Rattle.lk_engine.specs.Lookouts.{place_of, Repeats, Opens, Answers, AnswersKept};
 
 use crate::paying::{last, left, note_before, pay, site};
+use crate::sheet::AnySheet;
 use crate::steps::{AnyNext, begin, resume};
 use lk_ask::kept::Kept;
 use lk_ask::lookout::Lookout;
 use lk_ask::looks::Looks;
 use lk_ask::next::Next;
 use lk_ask::query::{Answer, Query};
-use lk_ask::sheet::Sheet;
 use lk_ask::stop::Stop;
 use lk_env::entry::Partial;
-use lk_memo::memo::PrivateMemo;
+use lk_memo::PrivateMemo;
 use lk_store::terms::Terms;
 
 /// A question that waits: what was asked under which budget, its sheet, and the last unit that was
@@ -25,7 +25,7 @@ use lk_store::terms::Terms;
 pub struct Frame {
     pub asker: Query<u64>,
     pub budget: u128,
-    pub sheet: Sheet<u64>,
+    pub sheet: AnySheet,
     pub last: Option<u32>,
 }
 
@@ -147,7 +147,7 @@ fn work<T: Terms>(
                     }
                 }
             }
-            Next::No(rule) => return Err(Stop::Rule(rule)),
+            Next::No(rule) => return Err(Stop::No(rule)),
         }
     }
 }

@@ -10,18 +10,19 @@ use crate::parameters::parameters_at;
 use lk_ask::asks::Asks;
 use lk_ask::lookout::Lookout;
 use lk_ask::query::{Answer, Query};
-use lk_ask::rule::Rule;
 use lk_ask::stop::Stop;
 use lk_env::entry::{Partial, Site};
 use lk_env::library::Library;
-use lk_memo::memo::PrivateMemo;
-use lk_meter::meter::Meter;
+use lk_memo::PrivateMemo;
+use lk_meter::Meter;
 use lk_store::memory::NoMemory;
 use lk_store::node::{LevelNode, ListNode, NameNode, Node};
 use lk_store::overlay::Overlay;
+use lk_store::room::Room;
 use lk_store::tables::Tables;
 use lk_store::terms::Terms;
 use lk_store::text::Text;
+use lk_tree::rule::Rule;
 use std::alloc::Global;
 use std::marker::Model;
 use std::mem::drop;
@@ -223,6 +224,14 @@ impl<'a> Terms for Engine<'a> {
         self.lookout.same_name(m, n)
     }
 
+    fn lend_room(&mut self, alloc: Global) -> Room {
+        self.lookout.lend_room(alloc)
+    }
+
+    fn keep_room(&mut self, room: Room) {
+        self.lookout.keep_room(room)
+    }
+
     fn text(&self, s: u64) -> &Text {
         self.lookout.text(s)
     }
@@ -233,18 +242,14 @@ impl<'a> Terms for Engine<'a> {
 }
 
 impl<'a> Asks for Engine<'a> {
-    ghost use Rattle.std.proofs.Common.{refl, ap};
-    ghost use Rattle.lk_questions.specs.Built.{rows};
+    ghost use Rattle.std.proofs.Common.{ap};
     ghost use Rattle.lk_env.specs.Places.{place_at};
+    ghost use Rattle.lk_engine.specs.Lookouts.{standing_at};
 
     /// The library and the number of the unit at work.
     type Basis = (Library, u32);
 
-    ghost basis = { λ s. (s.0, s.1.unit) };
-
-    ghost table = { λ s. rows };
-
-    ghost place = { λ s. place_at s.0 s.1 };
+    ghost standing = { λ s. standing_at s.0 s.1 };
 
     ghost left = { λ s. s.3.left };
 
@@ -266,9 +271,7 @@ impl<'a> Asks for Engine<'a> {
     }
 
     ghost decided = { λ a b h. (
-      ap (λ r. (r.0, r.1.unit)) h,
-      refl,
-      ap (λ r. place_at r.0 r.1) h,
+      ap (λ r. standing_at r.0 r.1) h,
       ap (λ r. r.2.left) h,
     ) };
 }

@@ -8,10 +8,9 @@ ghost use Rattle.lk_engine.specs.Lookouts.{place_of};
 
 use lk_ask::lookout::Lookout;
 use lk_ask::looks::Looks;
-use lk_ask::rule::Rule;
-use lk_env::entry::Refused;
 use lk_env::lent::parameter_count;
 use lk_store::terms::Terms;
+use lk_tree::rule::Rule;
 
 /// The number of parameters of the type of a block that the name means; none where it means
 /// something else. Nothing is noted, and it takes no memory.
@@ -22,10 +21,6 @@ pub fn parameters_at<T: Terms>(lookout: &Lookout<'_, T>, name: u64) -> Result<Op
     ensures refused { IfErr result (IsRefused (place_of lookout.now)
         (name_at (T.contents lookout.now.2) name)) }
 {
-    match lookout.means(name) {
-        Ok(entry) => Ok(parameter_count(lookout.library(), entry)),
-        Err(Refused::UnknownConstant) => Err(Rule::UnknownConstant),
-        Err(Refused::LooseVariable) => Err(Rule::LooseVariable),
-        Err(Refused::WideLiteral) => Err(Rule::WideLiteral),
-    }
+    let entry = lookout.means(name)?;
+    Ok(parameter_count(lookout.library(), entry))
 }

@@ -7,7 +7,8 @@ use Rattle.std.proofs.lemmas.Bool.Decides.{nat_tests}
 use Rattle.lk_tree.specs.Tree.{Name, name_discrete, Level, Tree, const}
 use Rattle.lk_tree.specs.Spine.{apply, head, args}
 use Rattle.lk_tree.specs.Mentions.{same_name}
-use Rattle.lk_tree.specs.RuleNo.{RuleNo, builtin_shape}
+use Rattle.lk_tree.specs.declared.rule.Rule.{Rule}
+use Rattle.lk_tree.specs.declared.rule.Rule.TheVariants.{BuiltinShape}
 use Rattle.lk_rulebook.specs.Place.{Place, Entry as PlainEntry, Kind, Recursor, RecRule, an_axiom}
 use Rattle.lk_rulebook.specs.Place.{a_def, a_thm, an_opaque, a_quot, a_type, a_ctor, a_rec}
 use Rattle.lk_rulebook.specs.Structures.{before_major}
@@ -23,7 +24,7 @@ use Rattle.lk_store.specs.declared.node.Node.TheVariants.{Var, Sort, Const, App,
 use Rattle.lk_store.specs.declared.node.Node.TheVariants.{Lit, Wide, Str, Local}
 use Rattle.lk_store.specs.declared.tables.Tables.{Tables}
 use Rattle.lk_env.specs.declared.unit.Unit.{Unit as StoredUnit}
-use Rattle.lk_ask.specs.declared.sheet.IotaSheet.TheVariants.{MajorType, Candidate}
+use Rattle.lk_iota.specs.declared.sheet.IotaTermSheet.TheVariants.{MajorType, Candidate}
 use Rattle.lk_iota.specs.declared.major.Redex.{Redex}
 use Rattle.lk_iota.specs.declared.shape.Shape.{Shape}
 use Rattle.lk_iota.specs.Redexes.{PlainRedex, at_major, split_at, redex_by, redex_at, IsRedex}
@@ -31,7 +32,7 @@ use Rattle.lk_iota.specs.Redexes.{IsRedexIf}
 use Rattle.lk_iota.specs.Shapes.{only_at, app_at, app_looked, only_looked, IsShape, IsShapeIf}
 use Rattle.lk_iota.specs.Iotas.{after_k, with_k, of_redex, of_redex_if, at_ctor, by_app, by_only}
 use Rattle.lk_iota.specs.Iotas.{by_subject, by_form, at_levels, by_type_if, type_rest}
-use Rattle.lk_iota.specs.Iotas.{compared_rest, iota_rest}
+use Rattle.lk_iota.specs.Iotas.{compared_rest, iota_term_rest}
 
 -- what numbers stand for, where they do
 pub some_shape : (c : Contents) (xs : List Tree) (u : Shape) (o : Option CtorApp)
@@ -152,13 +153,13 @@ pub candidate_asked : (w : Place) (last : Option ℕ) (e made_from ty made_type 
     (p : PlainRedex) (b : CtorApp) (ks : List Level) → made_from ≡ e → made_type ≡ ty
     → candidate ≡ candidate_at b ty ks → redex_at w e ≡ Some p
     → b.ctor.parameters ≤ length (args ty)
-    → asks last (infer candidate) (iota_rest w None (Candidate made_from made_type candidate))
+    → asks last (infer candidate) (with_tree (iota_term_rest w None (Candidate made_from made_type candidate)))
     ≡ erased w a_tree last (at_levels e p b ty (Some ks))
 candidate_asked w last e made_from ty made_type candidate p b ks e_is ty_is candidate_is at many =
     let made : Tree = candidate_at b ty ks in
-    ap (λ t. asks last (infer candidate) (iota_rest w None (Candidate t made_type candidate))) e_is
-    ∙ ap (λ t. asks last (infer candidate) (iota_rest w None (Candidate e t candidate))) ty_is
-    ∙ ap (λ t. asks last (infer t) (iota_rest w None (Candidate e ty t))) candidate_is
+    ap (λ t. asks last (infer candidate) (with_tree (iota_term_rest w None (Candidate t made_type candidate)))) e_is
+    ∙ ap (λ t. asks last (infer candidate) (with_tree (iota_term_rest w None (Candidate e t candidate)))) ty_is
+    ∙ ap (λ t. asks last (infer t) (with_tree (iota_term_rest w None (Candidate e ty t)))) candidate_is
     ∙ ap (λ o. asks last (infer made) (with_tree (λ own. erased w a_tree None
     (ask (same ty own) (λ equal. compared_rest e o made equal))))) at
     ∙ levels_go w last e p b ty ks true (grind (arith, nat_tests))
@@ -173,7 +174,7 @@ module _ (w : Place) (e : Tree) (p : PlainRedex) (before : Option ℕ) where
   none_looked : by_app e p None ≡ only_looked p.recursor.rules (by_only e p)
   none_looked = only_bind p.recursor.rules e p
 
-  pub none_refused : (r : RuleNo)
+  pub none_refused : (r : Rule)
       → erased w a_tree before (only_looked p.recursor.rules (by_only e p)) ≡ refuses r
       → refuses r ≡ erased w a_tree before (by_app e p None)
   none_refused r h = sym h ∙ ap (erased w a_tree before) (sym none_looked)
@@ -190,17 +191,17 @@ module _ (w : Place) (e : Tree) (p : PlainRedex) (before : Option ℕ) where
 -- it may be the constructor of a structure, or not
 pub only_refused_is : (w : Place) (last : Option ℕ) (e : Tree) (p : PlainRedex) (b : CtorApp)
     (t : Bool) → t ≡ may_be_structure b → t ≡ true
-    → erased w a_tree last (by_only e p (Some b)) ≡ refuses builtin_shape
+    → erased w a_tree last (by_only e p (Some b)) ≡ refuses BuiltinShape
 only_refused_is w last e p b t is on =
     ap (λ (s : Bool). erased w a_tree last
-    ((if s then refuse builtin_shape else done None) >>= λ c. at_ctor e p c)) (sym is ∙ on)
+    ((if s then refuse BuiltinShape else done None) >>= λ c. at_ctor e p c)) (sym is ∙ on)
 
 pub only_done_is : (w : Place) (last : Option ℕ) (e : Tree) (p : PlainRedex) (b : CtorApp)
     (t : Bool) → t ≡ may_be_structure b → t ≡ false
     → erased w a_tree last (by_only e p (Some b)) ≡ gives last (a_tree e)
 only_done_is w last e p b t is off =
     ap (λ (s : Bool). erased w a_tree last
-    ((if s then refuse builtin_shape else done None) >>= λ c. at_ctor e p c)) (sym is ∙ off)
+    ((if s then refuse BuiltinShape else done None) >>= λ c. at_ctor e p c)) (sym is ∙ off)
 
 -- the head of the subject, looked up
 pub subject_goes : (w : Place) (before last : Option ℕ) (e m : Tree) (p : PlainRedex)
@@ -219,7 +220,7 @@ with_only e p b = do
   after_k e p d
 
 module _ (w : Place) (e : Tree) (p : PlainRedex) (before : Option ℕ) where
-  pub k_refused : (r : RuleNo) → ((k : Option CtorApp → Program Tree)
+  pub k_refused : (r : Rule) → ((k : Option CtorApp → Program Tree)
       → erased w a_tree before (only_looked p.recursor.rules k) ≡ refuses r)
       → refuses r ≡ erased w a_tree before (with_k e p)
   k_refused r h = sym (h (with_only e p))
@@ -240,9 +241,9 @@ module _ (w : Place) (e : Tree) (p : PlainRedex) (before : Option ℕ) where
     -- it is this one
     pub k_some : (b : CtorApp) (m : Tree) → only_at w p.recursor.rules ≡ Some b
         → redex_at w e ≡ Some p → m ≡ p.major
-        → asks last (infer m) (iota_rest w None (MajorType e)) ≡ erased w a_tree before (with_k e p)
+        → asks last (infer m) (with_tree (iota_term_rest w None (MajorType e))) ≡ erased w a_tree before (with_k e p)
     k_some b m is at major =
-        ap (λ t. asks last (infer t) (iota_rest w None (MajorType e))) major
+        ap (λ t. asks last (infer t) (with_tree (iota_term_rest w None (MajorType e)))) major
         ∙ ap (λ o. asks last (infer p.major)
         (with_tree (λ stated. erased w a_tree None (ask (whnf stated) (λ ty. type_rest w e o ty)))))
         at

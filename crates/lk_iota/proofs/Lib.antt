@@ -1,3 +1,4 @@
+pub mod Sheets
 pub mod Giving
 pub mod Splits
 pub mod Forms

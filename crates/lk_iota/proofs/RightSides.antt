@@ -9,7 +9,7 @@ use Rattle.lk_tree.specs.Tree.{Name, Level, Tree}
 use Rattle.lk_tree.specs.Levels.{put_levels}
 use Rattle.lk_tree.specs.Mentions.{same_name}
 use Rattle.lk_tree.specs.Spine.{apply}
-use Rattle.lk_tree.specs.RuleNo.{level_count}
+use Rattle.lk_tree.specs.declared.rule.Rule.TheVariants.{LevelCount}
 use Rattle.lk_rulebook.specs.Place.{Place, Entry as PlainEntry, Kind, Recursor as PlainRecursor}
 use Rattle.lk_rulebook.specs.Place.{a_rec}
 use Rattle.lk_plain.specs.Query.{core}
@@ -93,7 +93,7 @@ right_applied w last g ls v u T xs ys zs many at is =
     ap (λ t. asks last (core t) (with_tree (λ r. gives None (a_tree r))))
     (is ∙ ap (λ y. apply (apply (apply y xs) ys) zs) at)
     ∙ sym (ap (λ (b : Bool). erased w a_tree last
-    (given b level_count (done (put_levels g.levels ls v)) >>= λ y. asked
+    (given b LevelCount (done (put_levels g.levels ls v)) >>= λ y. asked
     (core (apply (apply (apply y xs) ys) zs)))) many)
 
 module _ (c d : Contents) (x : Extends c d) (es : List ℕ)

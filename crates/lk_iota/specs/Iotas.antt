@@ -2,11 +2,11 @@
 use Rattle.std.specs.Prelude.{ℕ, Bool, List, Option, Some, None, Result, if◌then◌else◌}
 use Rattle.lk_tree.specs.Tree.{Level, Tree}
 use Rattle.lk_tree.specs.Spine.{head}
-use Rattle.lk_tree.specs.RuleNo.{loose_variable}
+use Rattle.lk_tree.specs.declared.rule.Rule.TheVariants.{LooseVariable}
 use Rattle.lk_rulebook.specs.Place.{Place}
 use Rattle.lk_plain.specs.Query.{whnf, same}
 use Rattle.lk_plain.specs.Program.{Program, done, refuse, ask, ◌>>=◌}
-use Rattle.lk_plain.specs.Erased.{Value, a_tree, Steps, gives, with_tree, with_truth, erased}
+use Rattle.lk_plain.specs.Erased.{Value, a_tree, Steps, gives, erased}
 use Rattle.lk_questions.specs.Iota.{CtorApp, only_ctor, to_ctor_when_k, levels_at, k_from}
 use Rattle.lk_questions.specs.Iota.{iota_at_ctor}
 use Rattle.lk_questions.specs.BuiltIota.{no_structure, as_ctor_app_built, iota_of_built, no_literal}
@@ -14,13 +14,17 @@ use Rattle.lk_questions.specs.BuiltIota.{iota_after_k_built, iota_built}
 use Rattle.lk_store.specs.declared.memory.NoMemory.{NoMemory}
 use Rattle.lk_store.specs.Contents.{Contents, tree_at}
 use Rattle.lk_ask.specs.declared.next.Next.{Next}
-use Rattle.lk_ask.specs.declared.sheet.IotaSheet.{IotaSheet}
-use Rattle.lk_ask.specs.declared.sheet.IotaSheet.TheVariants.{Passed, MajorType, MajorTypeForm}
-use Rattle.lk_ask.specs.declared.sheet.IotaSheet.TheVariants.{Candidate, CandidateSame, Major}
 use Rattle.lk_ask.specs.Looks.{Sight}
 use Rattle.lk_ask.specs.Gives.{Gives}
 use Rattle.lk_ask.specs.Nexts.{next_steps}
-use Rattle.lk_ask.specs.Sheets.{map_iota, IsKnownIota}
+use Rattle.lk_ask.specs.Sheets.{sheet_rest}
+use Rattle.lk_iota.specs.declared.sheet.IotaTermSheet.{IotaTermSheet}
+use Rattle.lk_iota.specs.declared.sheet.IotaTermSheet.TheVariants.{Passed, MajorType, MajorTypeForm}
+use Rattle.lk_iota.specs.declared.sheet.IotaTermSheet.TheVariants.{Candidate, Major}
+use Rattle.lk_iota.specs.declared.sheet.IotaTruthSheet.{IotaTruthSheet}
+use Rattle.lk_iota.specs.declared.sheet.IotaTruthSheet.TheVariants.{CandidateSame}
+use Rattle.lk_iota.specs.Sheets.{IotaSheet, map_iota_term, map_iota_truth, map_iota_sheet}
+use Rattle.lk_iota.specs.Sheets.{IsKnownIotaSheet}
 use Rattle.lk_iota.specs.Redexes.{PlainRedex, redex_at}
 use Rattle.lk_iota.specs.Shapes.{only_at}
 
@@ -70,7 +74,7 @@ by_form e p m = do
   by_subject e p s
 
 abbrev pub form_rest : Tree → Option PlainRedex → Tree → Program Tree
-form_rest e None m = refuse loose_variable
+form_rest e None m = refuse LooseVariable
 form_rest e (Some p) m = by_form e p m
 
 -- T is the weak head form of the major premise's type, and b the constructor of the only rule
@@ -83,50 +87,62 @@ abbrev pub by_type : Tree → PlainRedex → CtorApp → Tree → Program Tree
 by_type e p b T = at_levels e p b T (levels_at b.ind.name (head T))
 
 abbrev pub by_type_if : Tree → PlainRedex → Tree → Option CtorApp → Program Tree
-by_type_if e p T None = refuse loose_variable
+by_type_if e p T None = refuse LooseVariable
 by_type_if e p T (Some b) = by_type e p b T
 
 abbrev pub type_rest : Place → Tree → Option PlainRedex → Tree → Program Tree
-type_rest w e None T = refuse loose_variable
+type_rest w e None T = refuse LooseVariable
 type_rest w e (Some p) T = by_type_if e p T (only_at w p.recursor.rules)
 
 -- the candidate d, once its type was compared
 abbrev pub compared_rest : Tree → Option PlainRedex → Tree → Bool → Program Tree
-compared_rest e None d equal = refuse loose_variable
+compared_rest e None d equal = refuse LooseVariable
 compared_rest e (Some p) d equal = do
   o ← if equal then done (Some d) else done None
   after_k e p o
 
--- what a sheet waits for, and goes on with; last is the last unit that was looked at before
+-- what goes on with a term; last is the last unit that was looked at before
+abbrev pub iota_term_rest : Place → Option ℕ → IotaTermSheet Tree → Tree → Steps
+iota_term_rest w last Passed v = gives last (a_tree v)
+iota_term_rest w last (MajorType e) T₀ =
+    erased w a_tree last (ask (whnf T₀) (λ T. type_rest w e (redex_at w e) T))
+iota_term_rest w last (MajorTypeForm e) T = erased w a_tree last (type_rest w e (redex_at w e) T)
+iota_term_rest w last (Candidate e T d) D =
+    erased w a_tree last (ask (same T D) (λ equal. compared_rest e (redex_at w e) d equal))
+iota_term_rest w last (Major e) m = erased w a_tree last (form_rest e (redex_at w e) m)
+
+-- what goes on with yes or no
+abbrev pub iota_truth_rest : Place → Option ℕ → IotaTruthSheet Tree → Bool → Steps
+iota_truth_rest w last (CandidateSame e d) equal =
+    erased w a_tree last (compared_rest e (redex_at w e) d equal)
+
 abbrev pub iota_rest : Place → Option ℕ → IotaSheet Tree → Value → Steps
-iota_rest w last Passed = with_tree (λ v. gives last (a_tree v))
-iota_rest w last (MajorType e) =
-    with_tree (λ T₀. erased w a_tree last (ask (whnf T₀) (λ T. type_rest w e (redex_at w e) T)))
-iota_rest w last (MajorTypeForm e) =
-    with_tree (λ T. erased w a_tree last (type_rest w e (redex_at w e) T))
-iota_rest w last (Candidate e T d) =
-    with_tree (λ D. erased w a_tree last
-    (ask (same T D) (λ equal. compared_rest e (redex_at w e) d equal)))
-iota_rest w last (CandidateSame e d) =
-    with_truth (λ equal. erased w a_tree last (compared_rest e (redex_at w e) d equal))
-iota_rest w last (Major e) = with_tree (λ m. erased w a_tree last (form_rest e (redex_at w e) m))
+iota_rest w last = sheet_rest (iota_term_rest w last) (iota_truth_rest w last)
 
 -- what Core of a recursor does next; t is what numbers stand for
 abbrev pub iota_next : Place → (ℕ → Tree) → Option ℕ → Next ℕ (IotaSheet ℕ) → Steps
-iota_next w t last next = next_steps (λ s. iota_rest w None (map_iota t s)) t last next
+iota_next w t last next = next_steps (λ s. iota_rest w None (map_iota_sheet t s)) t last next
 
 -- a step of Core of a recursor does what the program does; t is what numbers stood for
 abbrev pub Reduces : {S R B : Type 0} → (S → Contents) → (S → R) → (R → Sight B) → S → S
     → Result (Next ℕ (IotaSheet ℕ)) NoMemory → ((ℕ → Tree) → Program Tree) → Type 0
 Reduces contents rest sight old new result program =
-    Gives IsKnownIota iota_next contents rest sight old new result
+    Gives IsKnownIotaSheet iota_next contents rest sight old new result
     (erased (sight (rest old)).basis.place a_tree (sight (rest old)).last
     (program (tree_at (contents old))))
 
--- it does what the sheet goes on with
-abbrev pub Resumes : {S R B : Type 0} → (S → Contents) → (S → R) → (R → Sight B) → S → S
-    → Result (Next ℕ (IotaSheet ℕ)) NoMemory → IotaSheet ℕ → ((ℕ → Tree) → Value) → Type 0
-Resumes contents rest sight old new result sheet value =
-    Gives IsKnownIota iota_next contents rest sight old new result
-    (iota_rest (sight (rest old)).basis.place (sight (rest old)).last
-    (map_iota (tree_at (contents old)) sheet) (value (tree_at (contents old))))
+-- it does what the sheet goes on with, with the term of this number
+abbrev pub ResumesTerm : {S R B : Type 0} → (S → Contents) → (S → R) → (R → Sight B) → S → S
+    → Result (Next ℕ (IotaSheet ℕ)) NoMemory → IotaTermSheet ℕ → ℕ → Type 0
+ResumesTerm contents rest sight old new result sheet e =
+    Gives IsKnownIotaSheet iota_next contents rest sight old new result
+    (iota_term_rest (sight (rest old)).basis.place (sight (rest old)).last
+    (map_iota_term (tree_at (contents old)) sheet) (tree_at (contents old) e))
+
+-- the same, with yes or no
+abbrev pub ResumesTruth : {S R B : Type 0} → (S → Contents) → (S → R) → (R → Sight B) → S → S
+    → Result (Next ℕ (IotaSheet ℕ)) NoMemory → IotaTruthSheet ℕ → Bool → Type 0
+ResumesTruth contents rest sight old new result sheet equal =
+    Gives IsKnownIotaSheet iota_next contents rest sight old new result
+    (iota_truth_rest (sight (rest old)).basis.place (sight (rest old)).last
+    (map_iota_truth (tree_at (contents old)) sheet) equal)

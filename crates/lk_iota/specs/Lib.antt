@@ -1,3 +1,4 @@
+pub mod Sheets
 pub mod Redexes
 pub mod Shapes
 pub mod RightSides

@@ -2,7 +2,8 @@
 use Rattle.std.specs.Prelude.{◌≡◌, ◌<◌, List, [], ◌∷◌, length, Option, Some, None, Result, IfOk}
 use Rattle.std.specs.Prelude.{IfErr}
 use Rattle.lk_tree.specs.Tree.{Name, Level, Tree, const}
-use Rattle.lk_tree.specs.RuleNo.{unknown_constant}
+use Rattle.lk_tree.specs.declared.rule.Rule.{Rule}
+use Rattle.lk_tree.specs.declared.rule.Rule.TheVariants.{UnknownConstant}
 use Rattle.lk_rulebook.specs.Place.{Place, RecRule}
 use Rattle.lk_plain.specs.Program.{Program, look, ◌>>=◌}
 use Rattle.lk_plain.specs.Erased.{a_tree, refuses, erased}
@@ -10,8 +11,6 @@ use Rattle.lk_questions.specs.Iota.{CtorApp, ctor_app_by, ctor_app_of, only_ctor
 use Rattle.lk_questions.specs.BuiltIota.{may_be_structure}
 use Rattle.lk_store.specs.Contents.{Contents, name_at}
 use Rattle.lk_env.specs.declared.unit.RecursorRule.{RecursorRule}
-use Rattle.lk_ask.specs.declared.rule.Rule.{Rule}
-use Rattle.lk_ask.specs.Questions.{rule_no}
 use Rattle.lk_ask.specs.Looks.{Sight}
 use Rattle.lk_iota.specs.declared.shape.Shape.{Shape}
 
@@ -38,7 +37,7 @@ IsOnly rules (Some rule) = rules ≡ rule ∷ []
 -- each of these is looked up, and k goes on with it
 abbrev pub name_looked : Name → List Level → List Tree → (Option CtorApp → Program Tree)
     → Program Tree
-name_looked x ks xs k = look unknown_constant x λ g. k (ctor_app_by x ks xs g g.kind)
+name_looked x ks xs k = look UnknownConstant x λ g. k (ctor_app_by x ks xs g g.kind)
 
 abbrev pub app_looked : Tree → List Tree → (Option CtorApp → Program Tree) → Program Tree
 app_looked h xs k = ctor_app_of h xs >>= k
@@ -77,4 +76,4 @@ pub record Finds {S R B : Type 0} (contents : S → Contents) (rest : S → R) (
       ≡ erased (sight (rest old)).basis.place a_tree (sight (rest new)).last (k ctor))
   pub refused : IfErr result (λ r. (k : Option CtorApp → Program Tree)
       → erased (sight (rest old)).basis.place a_tree (sight (rest old)).last (looked k)
-      ≡ refuses (rule_no r))
+      ≡ refuses r)

@@ -11,15 +11,16 @@ ghost use Rattle.lk_iota.specs.Iotas.{at_levels, by_type as plain_type, by_type_
 use crate::iota::IotaNext;
 use crate::major::Redex;
 use crate::shape::{Shape, only_constructor};
+use crate::sheet::IotaTermSheet;
 use crate::subject::ask_major;
 use lk_ask::looks::Looks;
 use lk_ask::next::Next;
 use lk_ask::query::Query;
-use lk_ask::rule::Rule;
-use lk_ask::sheet::IotaSheet;
+use lk_ask::sheet::Sheet;
 use lk_spine::{apply, args, head};
 use lk_store::memory::NoMemory;
 use lk_store::node::Node;
+use lk_tree::rule::Rule;
 
 /// The candidate: the only constructor at these levels and at the parameters of the major premise's
 /// type. Its type is asked for, where that type has so many arguments.
@@ -52,11 +53,11 @@ fn at_parameters<L: Looks>(
     let candidate = apply(looks, front, parameters)?;
     Ok(Next::Ask(
         Query::Infer(candidate),
-        IotaSheet::Candidate {
+        Sheet::Term(IotaTermSheet::Candidate {
             application: e,
-            kind: ty,
+            ty,
             candidate,
-        },
+        }),
     ))
 }
 

@@ -3,30 +3,30 @@
 ghost use Rattle.std.specs.Prelude.{◌≡◌, ◌<◌, Ok, Some, length};
 ghost use Rattle.lk_tree.specs.Spine.{args as args_of};
 ghost use Rattle.lk_rulebook.specs.Place.{Entry as PlainEntry};
-ghost use Rattle.lk_plain.specs.Erased.{a_tree, truth};
 ghost use Rattle.lk_questions.specs.BuiltIota.{core_constant_built};
 ghost use Rattle.lk_store.specs.Contents.{list_at, tree_at};
 ghost use Rattle.lk_ask.specs.Looks.{entry_at};
-ghost use Rattle.lk_ask.specs.Questions.{value_at, IsKnownAnswer};
-ghost use Rattle.lk_ask.specs.Sheets.{IsKnownIota};
+ghost use Rattle.lk_iota.specs.Sheets.{IsKnownIotaTerm, IsKnownIotaTruth};
 ghost use Rattle.lk_iota.specs.Redexes.{PlainRedex, redex_by as plain_by, redex_at, IsKnownRedex};
 ghost use Rattle.lk_iota.specs.Redexes.{StandsFor, IsAt};
-ghost use Rattle.lk_iota.specs.Iotas.{form_rest, type_rest, compared_rest, Reduces, Resumes};
+ghost use Rattle.lk_iota.specs.Iotas.{form_rest, type_rest, compared_rest, Reduces};
+ghost use Rattle.lk_iota.specs.Iotas.{ResumesTerm, ResumesTruth};
 
 use crate::candidate::after_type;
 use crate::major::{Redex, applied_recursor, redex_by};
+use crate::sheet::{IotaTermSheet, IotaTruthSheet};
 use crate::start::first;
 use crate::subject::{ask_major, by_form, by_subject};
 use lk_ask::looks::Looks;
 use lk_ask::next::Next;
 use lk_ask::query::{Answer, Query};
-use lk_ask::rule::Rule;
-use lk_ask::sheet::IotaSheet;
+use lk_ask::sheet::Sheet;
 use lk_env::entry::Entry;
 use lk_store::memory::NoMemory;
+use lk_tree::rule::Rule;
 
 /// What `Core` of a recursor does next.
-pub type IotaNext = Next<u64, IotaSheet<u64>>;
+pub type IotaNext = Next<u64, Sheet<IotaTermSheet<u64>, IotaTruthSheet<u64>>>;
 
 /// The first step of `Core` of an application whose head is the constant of this entry and these
 /// levels, which was just looked up. It is done where that is no recursor, or has no major premise.
@@ -123,74 +123,51 @@ fn resume_form<L: Looks>(looks: &mut L, e: u64, m: u64) -> Result<IotaNext, NoMe
     }
 }
 
-/// Goes on with an answer that is a term.
-fn resume_term<L: Looks>(looks: &mut L, sheet: IotaSheet<u64>, v: u64) -> Result<IotaNext, NoMemory>
-    requires sheet_in { IsKnownIota (length (L.contents looks.old).trees) sheet }
-    requires v_in { v < length (L.contents looks.old).trees }
-    ensures { Resumes L.contents L.rest L.sight looks.old looks.new result sheet
-        (λ t. a_tree (t v)) }
+/// Goes on once the term is there that a sheet waits for.
+pub fn resume_term<L: Looks>(
+    looks: &mut L,
+    sheet: IotaTermSheet<u64>,
+    e: u64,
+) -> Result<IotaNext, NoMemory>
+    requires sheet_in { IsKnownIotaTerm (length (L.contents looks.old).trees) sheet }
+    requires e_in { e < length (L.contents looks.old).trees }
+    ensures { ResumesTerm L.contents L.rest L.sight looks.old looks.new result sheet e }
 {
     match sheet {
-        IotaSheet::Passed => Ok(Next::Done(Answer::Term(v))),
-        IotaSheet::MajorType { application } => Ok(Next::Ask(
-            Query::Whnf(v),
-            IotaSheet::MajorTypeForm { application },
+        IotaTermSheet::Passed => Ok(Next::Done(Answer::Term(e))),
+        IotaTermSheet::MajorType { application } => Ok(Next::Ask(
+            Query::Whnf(e),
+            Sheet::Term(IotaTermSheet::MajorTypeForm { application }),
         )),
-        IotaSheet::MajorTypeForm { application } => resume_type(looks, application, v),
-        IotaSheet::Candidate {
+        IotaTermSheet::MajorTypeForm { application } => resume_type(looks, application, e),
+        IotaTermSheet::Candidate {
             application,
-            kind,
+            ty,
             candidate,
         } => Ok(Next::Ask(
-            Query::Same(kind, v),
-            IotaSheet::CandidateSame {
+            Query::Same(ty, e),
+            Sheet::Truth(IotaTruthSheet::CandidateSame {
                 application,
                 candidate,
-            },
+            }),
         )),
-        // It waits for yes or no.
-        IotaSheet::CandidateSame { .. } => Ok(Next::No(Rule::LooseVariable)),
-        IotaSheet::Major { application } => resume_form(looks, application, v),
+        IotaTermSheet::Major { application } => resume_form(looks, application, e),
     }
 }
 
-/// Goes on with an answer that is yes or no.
-fn resume_truth<L: Looks>(
+/// Goes on once it is there whether two terms are the same, for which a sheet waits.
+pub fn resume_truth<L: Looks>(
     looks: &mut L,
-    sheet: IotaSheet<u64>,
-    equal: bool,
+    sheet: IotaTruthSheet<u64>,
+    yes: bool,
 ) -> Result<IotaNext, NoMemory>
-    requires { IsKnownIota (length (L.contents looks.old).trees) sheet }
-    ensures { Resumes L.contents L.rest L.sight looks.old looks.new result sheet
-        (λ t. truth equal) }
+    requires sheet_in { IsKnownIotaTruth (length (L.contents looks.old).trees) sheet }
+    ensures { ResumesTruth L.contents L.rest L.sight looks.old looks.new result sheet yes }
 {
     match sheet {
-        IotaSheet::CandidateSame {
+        IotaTruthSheet::CandidateSame {
             application,
             candidate,
-        } => resume_candidate(looks, application, candidate, equal),
-        // The others wait for a term.
-        IotaSheet::Passed
-        | IotaSheet::MajorType { .. }
-        | IotaSheet::MajorTypeForm { .. }
-        | IotaSheet::Candidate { .. }
-        | IotaSheet::Major { .. } => Ok(Next::No(Rule::LooseVariable)),
-    }
-}
-
-/// Goes on once the answer is there that a sheet waits for.
-pub fn resume<L: Looks>(
-    looks: &mut L,
-    sheet: IotaSheet<u64>,
-    answer: Answer<u64>,
-) -> Result<IotaNext, NoMemory>
-    requires sheet_in { IsKnownIota (length (L.contents looks.old).trees) sheet }
-    requires answer_in { IsKnownAnswer (length (L.contents looks.old).trees) answer }
-    ensures { Resumes L.contents L.rest L.sight looks.old looks.new result sheet
-        (λ t. value_at t answer) }
-{
-    match answer {
-        Answer::Term(v) => resume_term(looks, sheet, v),
-        Answer::Truth(equal) => resume_truth(looks, sheet, equal),
+        } => resume_candidate(looks, application, candidate, yes),
     }
 }

@@ -7,5 +7,8 @@ pub mod iota;
 mod major;
 mod rule;
 mod shape;
+pub mod sheet;
 mod start;
 mod subject;
+
+pub use iota::{IotaNext, begin, resume_term, resume_truth};

@@ -17,17 +17,18 @@ ghost use Rattle.lk_iota.specs.Iotas.{at_ctor, Reduces};
 use crate::iota::IotaNext;
 use crate::major::Redex;
 use crate::shape::Shape;
+use crate::sheet::IotaTermSheet;
 use lk_ask::looks::Looks;
 use lk_ask::next::Next;
 use lk_ask::query::{Answer, Query};
-use lk_ask::rule::Rule;
-use lk_ask::sheet::IotaSheet;
+use lk_ask::sheet::Sheet;
 use lk_env::entry::Entry;
 use lk_env::lent::recursor_of;
 use lk_env::unit::RecursorRule;
 use lk_spine::{apply, args};
 use lk_store::memory::NoMemory;
 use lk_store::terms::Terms;
+use lk_tree::rule::Rule;
 
 /// Whether so many arguments are the parameters and the fields.
 fn makes(parameters: u64, fields: u64, count: usize) -> bool
@@ -131,7 +132,7 @@ fn by_rule<L: Looks>(
     let shared = &redex.arguments[..redex.shared];
     let (_, others) = redex.arguments.split_at(redex.before + 1);
     let next = apply_thrice(looks, front, shared, fields, others)?;
-    Ok(Next::Ask(Query::Core(next), IotaSheet::Passed))
+    Ok(Next::Ask(Query::Core(next), Sheet::Term(IotaTermSheet::Passed)))
 }
 
 /// A recursor whose major premise is a constructor applied, `m`: by the rule that fits.

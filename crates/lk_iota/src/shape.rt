@@ -13,12 +13,12 @@ ghost use Rattle.lk_iota.specs.Shapes.{only_looked, IsOnly, IsKnownShape, IsShap
 
 use crate::rule::rules_of;
 use lk_ask::looks::Looks;
-use lk_ask::rule::Rule;
 use lk_env::entry::Entry;
 use lk_env::lent::constructor_of;
 use lk_env::unit::{BlockType, RecursorRule};
 use lk_spine::head;
 use lk_store::node::Node;
+use lk_tree::rule::Rule;
 
 /// What is asked of a constructor.
 #[derive(Clone, Copy)]

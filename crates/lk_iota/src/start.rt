@@ -7,11 +7,12 @@ ghost use Rattle.lk_iota.specs.Iotas.{with_k as plain_with_k, of_redex, Reduces}
 use crate::iota::IotaNext;
 use crate::major::Redex;
 use crate::shape::look_only;
+use crate::sheet::IotaTermSheet;
 use crate::subject::ask_major;
 use lk_ask::looks::Looks;
 use lk_ask::next::Next;
 use lk_ask::query::Query;
-use lk_ask::sheet::IotaSheet;
+use lk_ask::sheet::Sheet;
 
 /// A recursor that has K: the type of its major premise is asked for, where there is exactly one
 /// constructor.
@@ -30,7 +31,7 @@ fn with_k<L: Looks>(looks: &mut L, redex: &Redex, e: u64) -> IotaNext
     match found {
         Some(_) => Next::Ask(
             Query::Infer(redex.major),
-            IotaSheet::MajorType { application: e },
+            Sheet::Term(IotaTermSheet::MajorType { application: e }),
         ),
         None => ask_major(redex, e),
     }

@@ -7,7 +7,7 @@ ghost use Rattle.lk_store.specs.Contents.{Contents, tree_at};
 ghost use Rattle.lk_store.specs.declared.tables.Tables.{Tables};
 ghost use Rattle.lk_env.specs.declared.unit.Unit.{Unit as StoredUnit};
 ghost use Rattle.lk_ask.specs.Nexts.{IsKnownNext};
-ghost use Rattle.lk_ask.specs.Sheets.{IsKnownIota};
+ghost use Rattle.lk_iota.specs.Sheets.{IsKnownIotaSheet};
 ghost use Rattle.lk_iota.specs.Redexes.{PlainRedex, redex_at, IsKnownRedex, IsRedex, StandsFor};
 ghost use Rattle.lk_iota.specs.Iotas.{after_k, by_subject as plain_subject, by_app};
 ghost use Rattle.lk_iota.specs.Iotas.{by_form as plain_form, iota_next, Reduces};
@@ -16,17 +16,18 @@ use crate::iota::IotaNext;
 use crate::major::Redex;
 use crate::rule::at_constructor;
 use crate::shape::{look_head, look_only};
+use crate::sheet::IotaTermSheet;
 use lk_ask::looks::Looks;
 use lk_ask::next::Next;
 use lk_ask::query::{Answer, Query};
-use lk_ask::rule::Rule;
-use lk_ask::sheet::IotaSheet;
+use lk_ask::sheet::Sheet;
 use lk_store::memory::NoMemory;
 use lk_store::node::Node;
+use lk_tree::rule::Rule;
 
 /// Asks for the weak head form of the major premise.
 pub(crate) fn ask_major(redex: &Redex, e: u64) -> IotaNext
-    ensures known { (n : ℕ) → redex.now.major < n → e < n → IsKnownNext IsKnownIota n result }
+    ensures known { (n : ℕ) → redex.now.major < n → e < n → IsKnownNext IsKnownIotaSheet n result }
     ensures steps { (w : Place) (c : Contents) (l : Tables × List StoredUnit) (last : Option ℕ)
         (p : PlainRedex) → redex_at w (tree_at c e) ≡ Some p → IsRedex c l redex.now p
         → iota_next w (tree_at c) last result
@@ -34,7 +35,7 @@ pub(crate) fn ask_major(redex: &Redex, e: u64) -> IotaNext
 {
     Next::Ask(
         Query::Whnf(redex.major),
-        IotaSheet::Major { application: e },
+        Sheet::Term(IotaTermSheet::Major { application: e }),
     )
 }
 

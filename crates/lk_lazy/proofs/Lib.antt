@@ -1,5 +1,6 @@
-pub mod Walks
-pub mod Programs
 pub mod Giving
-pub mod Ranks
 pub mod Lines
+pub mod Programs
+pub mod Ranks
+pub mod Sheets
+pub mod Walks

@@ -14,10 +14,10 @@ use Rattle.lk_store.specs.Contents.{Contents, tree_at, Extends}
 use Rattle.lk_store.proofs.Made.{Extends-self}
 use Rattle.lk_ask.specs.declared.next.Next.{Next}
 use Rattle.lk_ask.specs.declared.next.Next.TheVariants.{No}
-use Rattle.lk_ask.specs.declared.rule.Rule.{Rule}
-use Rattle.lk_ask.specs.declared.sheet.LazySheet.{LazySheet}
+use Rattle.lk_tree.specs.declared.rule.Rule.{Rule}
 use Rattle.lk_ask.specs.Looks.{Basis, Sight}
 use Rattle.lk_lazy.specs.declared.heads.Unfolding.{Unfolding}
+use Rattle.lk_lazy.specs.declared.sheet.LazySheet.{LazySheet}
 use Rattle.lk_lazy.specs.Heads.{looked_up, unfolding_at, IsHeadUnfolding, IsLookedUp, LooksUp}
 use Rattle.lk_lazy.specs.Lazies.{GoesLine, GivesLine}
 use Rattle.lk_lazy.proofs.Programs.{bind_bind}

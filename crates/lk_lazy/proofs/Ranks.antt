@@ -5,7 +5,7 @@ use Rattle.std.specs.Prelude.{ℕ}
 use Rattle.lk_tree.specs.Tree.{name_discrete, Tree}
 use Rattle.lk_tree.specs.Levels.{put_levels}
 use Rattle.lk_tree.specs.Spine.{apply, head, args}
-use Rattle.lk_tree.specs.RuleNo.{loose_variable, level_count}
+use Rattle.lk_tree.specs.declared.rule.Rule.TheVariants.{LevelCount, LooseVariable}
 use Rattle.lk_rulebook.specs.Place.{Place}
 use Rattle.lk_plain.specs.Program.{Program, done, refuse, ◌>>=◌}
 use Rattle.lk_questions.specs.Steps.{given, decided}
@@ -55,7 +55,7 @@ module _ (a b : Tree) (p q : PlainUnfolding) where
       → unfold_both a b p q ≡ unfold_second (tree_at c e) b q
   first_unfolds c e i =
       let value = put_levels p.entry.levels p.levels p.value in
-      ap (λ x. (given x level_count (done value) >>= λ v. done (apply v (args a)))
+      ap (λ x. (given x LevelCount (done value) >>= λ v. done (apply v (args a)))
       >>= λ e. unfold_second e b q) i.0
       ∙ ap (λ t. unfold_second t b q) (sym i.1.is)
 
@@ -129,10 +129,10 @@ module _ (a b : Tree) (p q : PlainUnfolding) where
   pub again_is : (w : Place) → unfolding_at w (head a) ≡ Some p → unfolding_at w (head b) ≡ Some q → unfold_again w a b ≡ unfold_both a b p q
   again_is w e f = ap (λ x. both_by a b x (unfolding_at w (head b))) e ∙ ap (both_by a b (Some p)) f
 
-pub again_left : (w : Place) (a b : Tree) → unfolding_at w (head a) ≡ None → unfold_again w a b ≡ refuse loose_variable
+pub again_left : (w : Place) (a b : Tree) → unfolding_at w (head a) ≡ None → unfold_again w a b ≡ refuse LooseVariable
 again_left w a b e = ap (λ x. both_by a b x (unfolding_at w (head b))) e
 
-pub again_right : (w : Place) (a b : Tree) (p : PlainUnfolding) → unfolding_at w (head a) ≡ Some p → unfolding_at w (head b) ≡ None → unfold_again w a b ≡ refuse loose_variable
+pub again_right : (w : Place) (a b : Tree) (p : PlainUnfolding) → unfolding_at w (head a) ≡ Some p → unfolding_at w (head b) ≡ None → unfold_again w a b ≡ refuse LooseVariable
 again_right w a b p e f = ap (λ x. both_by a b x (unfolding_at w (head b))) e ∙ ap (both_by a b (Some p)) f
 
 -- one of them alone unfolds

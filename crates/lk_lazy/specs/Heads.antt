@@ -12,8 +12,7 @@ use Rattle.lk_store.specs.Store.{contents_of}
 use Rattle.lk_store.specs.declared.tables.Tables.{Tables}
 use Rattle.lk_env.specs.declared.unit.Unit.{Unit as StoredUnit}
 use Rattle.lk_env.specs.Entries.{plain_entry}
-use Rattle.lk_ask.specs.declared.rule.Rule.{Rule}
-use Rattle.lk_ask.specs.Questions.{rule_no}
+use Rattle.lk_tree.specs.declared.rule.Rule.{Rule}
 use Rattle.lk_ask.specs.Looks.{Basis, Sight}
 use Rattle.lk_lazy.specs.declared.rank.Rank.{Rank}
 use Rattle.lk_lazy.specs.declared.rank.Rank.TheVariants.{Lowest, Height, Highest}
@@ -78,7 +77,7 @@ pub record IsLookedUp {B : Type 0} (c : Contents) (b : Basis B) (before last : O
   pub goes : IfOk result (λ u. HasLooked b.place before (head (tree_at c e))
       (λ k. erased b.place truth last (k (unfolding_at b.place (head (tree_at c e))))))
   pub refused : IfErr result (λ r. HasLooked b.place before (head (tree_at c e))
-      (λ k. refuses (rule_no r)))
+      (λ k. refuses r))
 
 -- the same, where no more than the last unit that was looked at is another one
 pub record LooksUp {S R B : Type 0} (contents : S → Contents) (rest : S → R) (sight : R → Sight B)

@@ -3,29 +3,29 @@ use Rattle.std.specs.Prelude.{ℕ, ◌≡◌, Bool, false, nat_eq, List, length,
 use Rattle.std.specs.Prelude.{Option, Some, None, IfOk, IfSome, Result}
 use Rattle.lk_tree.specs.Tree.{Tree}
 use Rattle.lk_tree.specs.Spine.{head, args}
-use Rattle.lk_tree.specs.RuleNo.{loose_variable}
+use Rattle.lk_tree.specs.declared.rule.Rule.TheVariants.{LooseVariable}
 use Rattle.lk_rulebook.specs.Place.{Place}
 use Rattle.lk_plain.specs.Program.{Program, done, refuse}
-use Rattle.lk_plain.specs.Erased.{Value, truth, Steps, gives, with_truth, erased}
+use Rattle.lk_plain.specs.Erased.{truth, Steps, gives, with_truth, erased}
 use Rattle.lk_questions.specs.Pairs.{same_all, Line, answers_yes, ◌or_else◌}
 use Rattle.lk_questions.specs.Unfolding.{Unfolding as PlainUnfolding, is_less, unfold_first, unfold_second, unfold_both, same_by_arguments}
 use Rattle.lk_store.specs.declared.memory.NoMemory.{NoMemory}
 use Rattle.lk_store.specs.Contents.{Contents, tree_at, Extends}
 use Rattle.lk_ask.specs.declared.next.Next.{Next}
 use Rattle.lk_ask.specs.declared.sheet.Pair.{Pair}
-use Rattle.lk_ask.specs.declared.sheet.LazySheet.{LazySheet}
-use Rattle.lk_ask.specs.declared.sheet.LazySheet.TheVariants.{Passed, Arguments}
 use Rattle.lk_ask.specs.Looks.{Sight}
 use Rattle.lk_ask.specs.Gives.{Gives}
 use Rattle.lk_ask.specs.Nexts.{next_steps, IsKnownNext}
-use Rattle.lk_ask.specs.Sheets.{map_lazy, IsKnownLazy}
+use Rattle.lk_lazy.specs.declared.sheet.LazySheet.{LazySheet}
+use Rattle.lk_lazy.specs.declared.sheet.LazySheet.TheVariants.{Passed, Arguments}
 use Rattle.lk_lazy.specs.Heads.{unfolding_at}
+use Rattle.lk_lazy.specs.Sheets.{map_lazy, IsKnownLazy}
 use Rattle.lk_lazy.specs.Spines.{lefts, rights}
 
 abbrev pub both_by : Tree → Tree → Option PlainUnfolding → Option PlainUnfolding → Program Bool
 both_by a b (Some u) (Some v) = unfold_both a b u v
-both_by a b (Some u) None = refuse loose_variable
-both_by a b None v = refuse loose_variable
+both_by a b (Some u) None = refuse LooseVariable
+both_by a b None v = refuse LooseVariable
 
 -- both unfold, by what their heads mean at the place
 abbrev pub unfold_again : Place → Tree → Tree → Program Bool
@@ -51,14 +51,16 @@ same_or_both a b u v = answers_yes (same_by_arguments a b u v) or_else unfold_bo
 abbrev pub ranked : Tree → Tree → PlainUnfolding → PlainUnfolding → Program Bool
 ranked a b u v = if is_less u.rank v.rank then unfold_second a b v else (if is_less v.rank u.rank then unfold_first a b u else same_or_both a b u v)
 
--- what a sheet waits for, and goes on with; last is the last unit that was looked at before
-abbrev pub lazy_rest : Place → Option ℕ → LazySheet Tree → Value → Steps
-lazy_rest w last Passed = with_truth (λ equal. gives last (truth equal))
-lazy_rest w last (Arguments a b ps) = with_truth (λ equal. erased w truth last (arguments_rest w a b ps equal))
+-- what a sheet goes on with, once yes or no is there; last is the last unit that was looked at before
+abbrev pub lazy_rest : Place → Option ℕ → LazySheet Tree → Bool → Steps
+lazy_rest w last Passed equal = gives last (truth equal)
+lazy_rest w last (Arguments a b ps) equal =
+    erased w truth last (arguments_rest w a b ps equal)
 
 -- what unfolding does next; t is what numbers stand for
 abbrev pub lazy_next : Place → (ℕ → Tree) → Option ℕ → Next ℕ (LazySheet ℕ) → Steps
-lazy_next w t last next = next_steps (λ s. lazy_rest w None (map_lazy t s)) t last next
+lazy_next w t last next =
+    next_steps (λ s. with_truth (lazy_rest w None (map_lazy t s))) t last next
 
 -- what a line does next; where it gives no answer, what comes behind it goes on
 abbrev pub GoesLine : Place → (ℕ → Tree) → Option ℕ → Option ℕ → Line → Option (Next ℕ (LazySheet ℕ)) → Type 0
@@ -73,13 +75,13 @@ Unfolds contents rest sight old new result program =
     (erased (sight (rest old)).basis.place truth (sight (rest old)).last
     (program (tree_at (contents old))))
 
--- it does what the sheet goes on with
+-- it does what the sheet goes on with, now that yes or no is there
 abbrev pub Resumes : {S R B : Type 0} → (S → Contents) → (S → R) → (R → Sight B) → S → S
-    → Result (Next ℕ (LazySheet ℕ)) NoMemory → LazySheet ℕ → ((ℕ → Tree) → Value) → Type 0
-Resumes contents rest sight old new result sheet value =
+    → Result (Next ℕ (LazySheet ℕ)) NoMemory → LazySheet ℕ → Bool → Type 0
+Resumes contents rest sight old new result sheet equal =
     Gives IsKnownLazy lazy_next contents rest sight old new result
     (lazy_rest (sight (rest old)).basis.place (sight (rest old)).last
-    (map_lazy (tree_at (contents old)) sheet) (value (tree_at (contents old))))
+    (map_lazy (tree_at (contents old)) sheet) equal)
 
 -- what Gives says, of a line: where it gives no answer, what comes behind it goes on
 pub record GivesLine {S R B : Type 0} (contents : S → Contents) (rest : S → R) (sight : R → Sight B)

@@ -1,3 +1,4 @@
 pub mod Heads
 pub mod Lazies
+pub mod Sheets
 pub mod Spines

@@ -13,11 +13,11 @@ ghost use Rattle.lk_lazy.specs.Heads.{IsUnfoldingIf, IsHeadUnfolding, LooksUp};
 
 use crate::rank::{Rank, rank_of};
 use lk_ask::looks::Looks;
-use lk_ask::rule::Rule;
 use lk_env::entry::{Entry, Kind};
 use lk_env::unit::Body;
 use lk_spine::head;
 use lk_store::node::Node;
+use lk_tree::rule::Rule;
 
 /// What a term unfolds by whose head is a definition or a theorem: the constant, its entry, its
 /// value and its rank.

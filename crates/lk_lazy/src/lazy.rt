@@ -12,24 +12,26 @@ ghost use Rattle.lk_questions.specs.Unfolding.{unfold_first, unfold_second};
 ghost use Rattle.lk_questions.specs.Unfolding.{unfold_both as plain_both, by_unfolding};
 ghost use Rattle.lk_store.specs.Contents.{tree_at};
 ghost use Rattle.lk_ask.specs.Nexts.{IsKnownNext};
-ghost use Rattle.lk_ask.specs.Sheets.{map_pair, IsKnownPair, IsKnownLazy};
+ghost use Rattle.lk_ask.specs.Sheets.{map_pair, IsKnownPair};
 ghost use Rattle.lk_lazy.specs.Heads.{unfolding_at, IsUnfolding, IsHeadUnfolding};
 ghost use Rattle.lk_lazy.specs.Heads.{IsKnownUnfolding, UnfoldsBy};
 ghost use Rattle.lk_lazy.specs.Lazies.{unfold_again, others_same, arguments_or_both, same_or_both};
 ghost use Rattle.lk_lazy.specs.Lazies.{ranked, lazy_next, Unfolds, Resumes, GivesLine};
+ghost use Rattle.lk_lazy.specs.Sheets.{IsKnownLazy};
 
 use crate::heads::{Unfolding, unfolding_again, unfolding_of};
 use crate::levels::levels_equal;
 use crate::rank::is_less;
+use crate::sheet::LazySheet;
 use crate::spines::pair_up;
 use lk_ask::looks::Looks;
 use lk_ask::next::Next;
 use lk_ask::query::{Answer, Query};
-use lk_ask::rule::Rule;
-use lk_ask::sheet::{LazySheet, Pair};
+use lk_ask::sheet::Pair;
 use lk_ask::stack::Stack;
 use lk_ask::unfolding::unfold;
 use lk_store::memory::NoMemory;
+use lk_tree::rule::Rule;
 
 /// What unfolding does next.
 pub type LazyNext = Next<u64, LazySheet<u64>>;
@@ -258,24 +260,23 @@ fn after_arguments<L: Looks>(looks: &mut L, a: u64, b: u64) -> Result<LazyNext, 
     }
 }
 
-/// Goes on once the answer is there that a sheet waits for.
+/// Goes on once yes or no is there, which a sheet waits for.
 pub fn resume<L: Looks>(
     looks: &mut L,
     sheet: LazySheet<u64>,
-    equal: bool,
+    yes: bool,
 ) -> Result<LazyNext, NoMemory>
     requires sheet_in { IsKnownLazy (length (L.contents looks.old).trees) sheet }
-    ensures { Resumes L.contents L.rest L.sight looks.old looks.new result sheet
-        (λ t. truth equal) }
+    ensures { Resumes L.contents L.rest L.sight looks.old looks.new result sheet yes }
 {
     match sheet {
-        LazySheet::Passed => Ok(Next::Done(Answer::Truth(equal))),
+        LazySheet::Passed => Ok(Next::Done(Answer::Truth(yes))),
         LazySheet::Arguments {
             left,
             right,
             others,
         } => {
-            if equal {
+            if yes {
                 Ok(next_pair(left, right, others))
             } else {
                 after_arguments(looks, left, right)

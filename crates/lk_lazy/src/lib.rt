@@ -6,4 +6,7 @@ pub mod heads;
 pub mod lazy;
 pub mod levels;
 pub mod rank;
+pub mod sheet;
 pub mod spines;
+
+pub use lazy::{LazyNext, begin, resume};

@@ -1,3 +1,4 @@
 pub mod Giving
 pub mod Shapes
+pub mod Sheets
 pub mod Spines

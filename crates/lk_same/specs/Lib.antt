@@ -1,2 +1,3 @@
 pub mod Sames
+pub mod Sheets
 pub mod Spines

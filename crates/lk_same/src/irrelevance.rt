@@ -3,35 +3,36 @@
 ghost use Rattle.std.specs.Prelude.{◌≡◌, ◌<◌, ℕ, IfOk, Option, length};
 ghost use Rattle.lk_tree.specs.Tree.{Tree};
 ghost use Rattle.lk_rulebook.specs.Place.{Place};
-ghost use Rattle.lk_plain.specs.Erased.{a_tree, truth, erased};
+ghost use Rattle.lk_plain.specs.Erased.{truth, erased};
 ghost use Rattle.lk_questions.specs.Levels.{complete_test};
 ghost use Rattle.lk_questions.specs.Built.{same_headed};
 ghost use Rattle.lk_store.specs.Contents.{level_at};
 ghost use Rattle.lk_ask.specs.Nexts.{IsKnownNext};
-ghost use Rattle.lk_ask.specs.Sheets.{IsKnownProof, IsKnownSame};
 ghost use Rattle.lk_same.specs.Sames.{level_rest, form_rest, types_rest, same_next};
-ghost use Rattle.lk_same.specs.Sames.{Compares, Resumes};
+ghost use Rattle.lk_same.specs.Sames.{Compares, ResumesTerm};
+ghost use Rattle.lk_same.specs.Sheets.{IsKnownProof, IsKnownSameSheet};
 
 use crate::headed::unfolded;
 use crate::same::SameNext;
+use crate::sheet::{ProofSheet, SameTermSheet, SameTruthSheet};
 use lk_ask::looks::Looks;
 use lk_ask::next::Next;
 use lk_ask::query::{Answer, Query};
-use lk_ask::rule::Rule;
-use lk_ask::sheet::{ProofSheet, SameSheet};
+use lk_ask::sheet::Sheet;
 use lk_level_order::zero::is_zero;
 use lk_store::memory::NoMemory;
 use lk_store::node::Node;
+use lk_tree::rule::Rule;
 
 /// Two terms whose heads take no step of `Core`: first as proofs.
 pub(crate) fn begin(left: u64, right: u64) -> SameNext
-    ensures known { (n : ℕ) → left < n → right < n → IsKnownNext IsKnownSame n result }
+    ensures known { (n : ℕ) → left < n → right < n → IsKnownNext IsKnownSameSheet n result }
     ensures steps { (w : Place) (t : ℕ → Tree) (last : Option ℕ) → same_next w t last result
         ≡ erased w truth last (same_headed complete_test (t left) (t right)) }
 {
     Next::Ask(
         Query::Infer(left),
-        SameSheet::Proof(ProofSheet::Left { left, right }),
+        Sheet::Term(SameTermSheet::Proof(ProofSheet::Left { left, right })),
     )
 }
 
@@ -53,11 +54,7 @@ fn by_level<L: Looks>(
     if is_zero(looks.alloc(), looks, level)? {
         return Ok(Next::Ask(
             Query::Infer(right),
-            SameSheet::Proof(ProofSheet::Right {
-                left,
-                right,
-                kind: ty,
-            }),
+            Sheet::Term(SameTermSheet::Proof(ProofSheet::Right { left, right, ty })),
         ));
     }
     unfolded(looks, left, right)
@@ -85,7 +82,7 @@ fn by_form<L: Looks>(
 }
 
 /// Goes on once the two types were compared, of which the left one is a proposition.
-fn by_types<L: Looks>(
+pub(crate) fn by_types<L: Looks>(
     looks: &mut L,
     left: u64,
     right: u64,
@@ -102,7 +99,7 @@ fn by_types<L: Looks>(
     unfolded(looks, left, right)
 }
 
-/// Goes on with an answer that is a term.
+/// Goes on once the term is there that a sheet waits for.
 pub(crate) fn resume_term<L: Looks>(
     looks: &mut L,
     sheet: ProofSheet<u64>,
@@ -110,63 +107,22 @@ pub(crate) fn resume_term<L: Looks>(
 ) -> Result<SameNext, NoMemory>
     requires sheet_in { IsKnownProof (length (L.contents looks.old).trees) sheet }
     requires e_in { e < length (L.contents looks.old).trees }
-    ensures { Resumes L.contents L.rest L.sight looks.old looks.new result (SameSheet.Proof sheet)
-        (λ t. a_tree (t e)) }
+    ensures { ResumesTerm L.contents L.rest L.sight looks.old looks.new result
+        (SameTermSheet.Proof sheet) e }
 {
     match sheet {
         ProofSheet::Left { left, right } => Ok(Next::Ask(
             Query::Infer(e),
-            SameSheet::Proof(ProofSheet::LeftSort {
-                left,
-                right,
-                kind: e,
-            }),
+            Sheet::Term(SameTermSheet::Proof(ProofSheet::LeftSort { left, right, ty: e })),
         )),
-        ProofSheet::LeftSort {
-            left,
-            right,
-            kind: ty,
-        } => Ok(Next::Ask(
+        ProofSheet::LeftSort { left, right, ty } => Ok(Next::Ask(
             Query::Whnf(e),
-            SameSheet::Proof(ProofSheet::LeftSortForm {
-                left,
-                right,
-                kind: ty,
-            }),
+            Sheet::Term(SameTermSheet::Proof(ProofSheet::LeftSortForm { left, right, ty })),
         )),
-        ProofSheet::LeftSortForm {
-            left,
-            right,
-            kind: ty,
-        } => by_form(looks, left, right, ty, e),
-        ProofSheet::Right {
-            left,
-            right,
-            kind: ty,
-        } => Ok(Next::Ask(
+        ProofSheet::LeftSortForm { left, right, ty } => by_form(looks, left, right, ty, e),
+        ProofSheet::Right { left, right, ty } => Ok(Next::Ask(
             Query::Same(ty, e),
-            SameSheet::Proof(ProofSheet::Types { left, right }),
+            Sheet::Truth(SameTruthSheet::Types { left, right }),
         )),
-        ProofSheet::Types { .. } => Ok(Next::No(Rule::LooseVariable)),
-    }
-}
-
-/// Goes on with an answer that is a truth value.
-pub(crate) fn resume_truth<L: Looks>(
-    looks: &mut L,
-    sheet: ProofSheet<u64>,
-    equal: bool,
-) -> Result<SameNext, NoMemory>
-    requires sheet_in { IsKnownProof (length (L.contents looks.old).trees) sheet }
-    ensures { Resumes L.contents L.rest L.sight looks.old looks.new result (SameSheet.Proof sheet)
-        (λ t. truth equal) }
-{
-    match sheet {
-        ProofSheet::Types { left, right } => by_types(looks, left, right, equal),
-        // The others wait for a term.
-        ProofSheet::Left { .. } => Ok(Next::No(Rule::LooseVariable)),
-        ProofSheet::LeftSort { .. } => Ok(Next::No(Rule::LooseVariable)),
-        ProofSheet::LeftSortForm { .. } => Ok(Next::No(Rule::LooseVariable)),
-        ProofSheet::Right { .. } => Ok(Next::No(Rule::LooseVariable)),
     }
 }

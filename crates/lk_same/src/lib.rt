@@ -6,3 +6,6 @@ pub mod irrelevance;
 pub mod parts;
 pub mod same;
 pub mod shape;
+pub mod sheet;
+
+pub use same::{SameNext, begin, resume_term, resume_truth};

@@ -8,26 +8,28 @@ ghost use Rattle.lk_questions.specs.Levels.{complete_test, tested as plain_answe
 ghost use Rattle.lk_questions.specs.Built.{same_parts};
 ghost use Rattle.lk_store.specs.Contents.{name_at, list_at};
 ghost use Rattle.lk_ask.specs.Nexts.{IsKnownNext};
-ghost use Rattle.lk_ask.specs.Sheets.{map_pair, IsKnownPair, IsKnownSame};
+ghost use Rattle.lk_ask.specs.Sheets.{map_pair, IsKnownPair};
 ghost use Rattle.lk_lazy.specs.Lazies.{others_same};
 ghost use Rattle.lk_same.specs.Sames.{parts_rest, same_next, Compares};
+ghost use Rattle.lk_same.specs.Sheets.{IsKnownSameSheet};
 ghost use Rattle.lk_same.specs.Spines.{spines_same};
 
 use crate::same::SameNext;
+use crate::sheet::SameTruthSheet;
 use lk_ask::looks::Looks;
 use lk_ask::next::Next;
 use lk_ask::query::{Answer, Query};
-use lk_ask::rule::Rule;
-use lk_ask::sheet::{Pair, SameSheet};
+use lk_ask::sheet::{Pair, Sheet};
 use lk_ask::stack::Stack;
 use lk_lazy::levels::levels_equal;
 use lk_lazy::spines::pair_up;
 use lk_store::memory::NoMemory;
 use lk_store::node::Node;
+use lk_tree::rule::Rule;
 
 /// What a test of levels answers.
 pub(crate) fn tested(answer: Option<bool>) -> SameNext
-    ensures known { (n : ℕ) → IsKnownNext IsKnownSame n result }
+    ensures known { (n : ℕ) → IsKnownNext IsKnownSameSheet n result }
     ensures steps { (w : Place) (t : ℕ → Tree) (last : Option ℕ)
         → same_next w t last result ≡ erased w truth last (plain_answer answer) }
 {
@@ -86,9 +88,9 @@ fn spines<L: Looks>(looks: &L, a: u64, b: u64) -> Result<SameNext, NoMemory>
     match pair_up(looks.alloc(), looks, a, b)? {
         Some(found) => Ok(Next::Ask(
             Query::Same(found.left, found.right),
-            SameSheet::Parts {
+            Sheet::Truth(SameTruthSheet::Parts {
                 others: Stack { items: found.pairs },
-            },
+            }),
         )),
         None => Ok(Next::Done(Answer::Truth(false))),
     }
@@ -110,7 +112,7 @@ pub(crate) fn parts<L: Looks>(looks: &L, a: u64, b: u64) -> Result<SameNext, NoM
 
 /// Goes on with the pairs that are left.
 fn next_pair(others: Stack<Pair<u64>>) -> SameNext
-    ensures known { (n : ℕ) → All (IsKnownPair n) others → IsKnownNext IsKnownSame n result }
+    ensures known { (n : ℕ) → All (IsKnownPair n) others → IsKnownNext IsKnownSameSheet n result }
     ensures steps { (w : Place) (t : ℕ → Tree) (last : Option ℕ) → same_next w t last result
         ≡ erased w truth last (others_same (map (map_pair t) others)) }
 {
@@ -119,16 +121,16 @@ fn next_pair(others: Stack<Pair<u64>>) -> SameNext
         None => Next::Done(Answer::Truth(true)),
         Some(pair) => Next::Ask(
             Query::Same(pair.left, pair.right),
-            SameSheet::Parts {
+            Sheet::Truth(SameTruthSheet::Parts {
                 others: Stack { items },
-            },
+            }),
         ),
     }
 }
 
 /// Goes on with the pairs that are left, once the one before them was compared.
 pub(crate) fn after_pair(others: Stack<Pair<u64>>, equal: bool) -> SameNext
-    ensures known { (n : ℕ) → All (IsKnownPair n) others → IsKnownNext IsKnownSame n result }
+    ensures known { (n : ℕ) → All (IsKnownPair n) others → IsKnownNext IsKnownSameSheet n result }
     ensures steps { (w : Place) (t : ℕ → Tree) (last : Option ℕ) → same_next w t last result
         ≡ erased w truth last (parts_rest (map (map_pair t) others) equal) }
 {

@@ -1,27 +1,26 @@
 //! `Same`: its first step, and how it goes on.
 
-ghost use Rattle.std.specs.Prelude.{◌<◌, true, IfOk, length};
-ghost use Rattle.lk_plain.specs.Erased.{a_tree, truth};
+ghost use Rattle.std.specs.Prelude.{◌<◌, true, Ok, length};
 ghost use Rattle.lk_questions.specs.Built.{same_row};
-ghost use Rattle.lk_ask.specs.Questions.{value_at, IsKnownAnswer};
-ghost use Rattle.lk_ask.specs.Sheets.{IsKnownSame};
-ghost use Rattle.lk_same.specs.Sames.{bodies_rest, cores_rest, Compares, Resumes};
+ghost use Rattle.lk_same.specs.Sames.{bodies_rest, cores_rest, Compares};
+ghost use Rattle.lk_same.specs.Sames.{ResumesTerm, ResumesTruth};
+ghost use Rattle.lk_same.specs.Sheets.{IsKnownSameTerm, IsKnownSameTruth};
 
 use crate::headed::of_lazy;
 use crate::irrelevance;
 use crate::parts::after_pair;
 use crate::shape::shape;
+use crate::sheet::{SameTermSheet, SameTruthSheet};
 use lk_ask::looks::Looks;
 use lk_ask::next::Next;
 use lk_ask::query::{Answer, Query};
-use lk_ask::rule::Rule;
-use lk_ask::sheet::SameSheet;
+use lk_ask::sheet::Sheet;
 use lk_store::memory::NoMemory;
 use lk_store::node::Node;
 use lk_subst::opening::open_with;
 
 /// What `Same` does next.
-pub type SameNext = Next<u64, SameSheet<u64>>;
+pub type SameNext = Next<u64, Sheet<SameTermSheet<u64>, SameTruthSheet<u64>>>;
 
 /// The first step of `Same` of two terms.
 pub fn begin<L: Looks>(looks: &mut L, a: u64, b: u64) -> Result<SameNext, NoMemory>
@@ -53,7 +52,7 @@ fn bodies<L: Looks>(
     let fresh = looks.make(Node::Local(number, domain))?;
     let a = open_with(looks.alloc(), looks, left, fresh)?;
     let b = open_with(looks.alloc(), looks, right, fresh)?;
-    Ok(Next::Ask(Query::Same(a, b), SameSheet::Passed))
+    Ok(Next::Ask(Query::Same(a, b), Sheet::Truth(SameTruthSheet::Passed)))
 }
 
 /// Goes on with two binders, once their domains were compared.
@@ -90,80 +89,57 @@ fn after_cores<L: Looks>(looks: &L, left: u64, right: u64, form: u64, e: u64) ->
     if looks.same(form, left) && looks.same(e, right) {
         return irrelevance::begin(left, right);
     }
-    Next::Ask(Query::Same(form, e), SameSheet::Passed)
+    Next::Ask(Query::Same(form, e), Sheet::Truth(SameTruthSheet::Passed))
 }
 
-/// Goes on with an answer that is a term.
-fn resume_term<L: Looks>(looks: &mut L, sheet: SameSheet<u64>, e: u64) -> Result<SameNext, NoMemory>
-    requires sheet_in { IsKnownSame (length (L.contents looks.old).trees) sheet }
+/// Goes on with `Same` once the term is there that its sheet waits for.
+pub fn resume_term<L: Looks>(
+    looks: &mut L,
+    sheet: SameTermSheet<u64>,
+    e: u64,
+) -> Result<SameNext, NoMemory>
+    requires sheet_in { IsKnownSameTerm (length (L.contents looks.old).trees) sheet }
     requires e_in { e < length (L.contents looks.old).trees }
-    ensures { Resumes L.contents L.rest L.sight looks.old looks.new result sheet
-        (λ t. a_tree (t e)) }
+    ensures { ResumesTerm L.contents L.rest L.sight looks.old looks.new result sheet e }
 {
     match sheet {
-        SameSheet::CoreLeft { left, right } => Ok(Next::Ask(
+        SameTermSheet::CoreLeft { left, right } => Ok(Next::Ask(
             Query::Core(right),
-            SameSheet::CoreRight {
+            Sheet::Term(SameTermSheet::CoreRight {
                 left,
                 right,
                 form: e,
-            },
+            }),
         )),
-        SameSheet::CoreRight { left, right, form } => {
+        SameTermSheet::CoreRight { left, right, form } => {
             Ok(after_cores(looks, left, right, form, e))
         }
-        SameSheet::Proof(kept) => irrelevance::resume_term(looks, kept, e),
-        // The others wait for yes or no.
-        SameSheet::Passed => Ok(Next::No(Rule::LooseVariable)),
-        SameSheet::Domains { .. } => Ok(Next::No(Rule::LooseVariable)),
-        SameSheet::Parts { .. } => Ok(Next::No(Rule::LooseVariable)),
-        SameSheet::Lazy(_) => Ok(Next::No(Rule::LooseVariable)),
+        SameTermSheet::Proof(kept) => irrelevance::resume_term(looks, kept, e),
     }
 }
 
-/// Goes on with an answer that is a truth value.
-fn resume_truth<L: Looks>(
+/// Goes on with `Same` once yes or no is there, which its sheet waits for.
+pub fn resume_truth<L: Looks>(
     looks: &mut L,
-    sheet: SameSheet<u64>,
-    equal: bool,
+    sheet: SameTruthSheet<u64>,
+    yes: bool,
 ) -> Result<SameNext, NoMemory>
-    requires sheet_in { IsKnownSame (length (L.contents looks.old).trees) sheet }
-    ensures { Resumes L.contents L.rest L.sight looks.old looks.new result sheet
-        (λ t. truth equal) }
+    requires sheet_in { IsKnownSameTruth (length (L.contents looks.old).trees) sheet }
+    ensures { ResumesTruth L.contents L.rest L.sight looks.old looks.new result sheet yes }
 {
     match sheet {
-        SameSheet::Passed => Ok(Next::Done(Answer::Truth(equal))),
-        SameSheet::Domains {
+        SameTruthSheet::Passed => Ok(Next::Done(Answer::Truth(yes))),
+        SameTruthSheet::Domains {
             domain,
             left,
             right,
             number,
-        } => after_domains(looks, domain, left, right, number, equal),
-        SameSheet::Parts { others } => Ok(after_pair(others, equal)),
-        SameSheet::Proof(kept) => irrelevance::resume_truth(looks, kept, equal),
-        SameSheet::Lazy(kept) => {
-            let next = lk_lazy::lazy::resume(looks, kept, equal)?;
+        } => after_domains(looks, domain, left, right, number, yes),
+        SameTruthSheet::Parts { others } => Ok(after_pair(others, yes)),
+        SameTruthSheet::Types { left, right } => irrelevance::by_types(looks, left, right, yes),
+        SameTruthSheet::Lazy(kept) => {
+            let next = lk_lazy::resume(looks, kept, yes)?;
             Ok(of_lazy(next))
         }
-        // The others wait for a term.
-        SameSheet::CoreLeft { .. } => Ok(Next::No(Rule::LooseVariable)),
-        SameSheet::CoreRight { .. } => Ok(Next::No(Rule::LooseVariable)),
-    }
-}
-
-/// Goes on with `Same` once the answer is there that its sheet waits for.
-pub fn resume<L: Looks>(
-    looks: &mut L,
-    sheet: SameSheet<u64>,
-    answer: Answer<u64>,
-) -> Result<SameNext, NoMemory>
-    requires sheet_in { IsKnownSame (length (L.contents looks.old).trees) sheet }
-    requires answer_in { IsKnownAnswer (length (L.contents looks.old).trees) answer }
-    ensures { Resumes L.contents L.rest L.sight looks.old looks.new result sheet
-        (λ t. value_at t answer) }
-{
-    match answer {
-        Answer::Term(e) => resume_term(looks, sheet, e),
-        Answer::Truth(equal) => resume_truth(looks, sheet, equal),
     }
 }

@@ -10,26 +10,30 @@ ghost use Rattle.lk_questions.specs.Pairs.{same_bodies};
 ghost use Rattle.lk_questions.specs.Built.{built_by_reduction, same_shape};
 ghost use Rattle.lk_store.specs.Contents.{level_at, tree_at};
 ghost use Rattle.lk_ask.specs.Nexts.{IsKnownNext};
-ghost use Rattle.lk_ask.specs.Sheets.{IsKnownSame};
 ghost use Rattle.lk_same.specs.Sames.{same_next, Compares};
+ghost use Rattle.lk_same.specs.Sheets.{IsKnownSameSheet};
 
 use crate::parts::tested;
 use crate::same::SameNext;
+use crate::sheet::{SameTermSheet, SameTruthSheet};
 use lk_ask::looks::Looks;
 use lk_ask::next::Next;
 use lk_ask::query::Query;
-use lk_ask::sheet::SameSheet;
+use lk_ask::sheet::Sheet;
 use lk_lazy::levels::are_equal;
 use lk_store::memory::NoMemory;
 use lk_store::node::Node;
 
 /// Two terms by their `Core`.
 fn reduced(a: u64, b: u64) -> SameNext
-    ensures known { (n : ℕ) → a < n → b < n → IsKnownNext IsKnownSame n result }
+    ensures known { (n : ℕ) → a < n → b < n → IsKnownNext IsKnownSameSheet n result }
     ensures steps { (w : Place) (t : ℕ → Tree) (last : Option ℕ) → same_next w t last result
         ≡ erased w truth last (built_by_reduction plain_test (t a) (t b)) }
 {
-    Next::Ask(Query::Core(a), SameSheet::CoreLeft { left: a, right: b })
+    Next::Ask(
+        Query::Core(a),
+        Sheet::Term(SameTermSheet::CoreLeft { left: a, right: b }),
+    )
 }
 
 /// A sort and another term.
@@ -89,12 +93,12 @@ fn domains<L: Looks>(
     let number = fresh_number(looks, a, b)?;
     Ok(Next::Ask(
         Query::Same(domain, other),
-        SameSheet::Domains {
+        Sheet::Truth(SameTruthSheet::Domains {
             domain,
             left,
             right,
             number,
-        },
+        }),
     ))
 }
 

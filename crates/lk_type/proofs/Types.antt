@@ -2,7 +2,7 @@
 use Rattle.std.proofs.Common.{◌≡◌, ℕ, List, Bool, true, false, nat_eq, length, Option, Some, None, ap, sym, subst, ◌∙◌}
 use Rattle.lk_tree.specs.Tree.{Name, Level, Tree, sort}
 use Rattle.lk_tree.specs.Levels.{put_levels}
-use Rattle.lk_tree.specs.RuleNo.{unknown_constant, level_count, builtin_shape}
+use Rattle.lk_tree.specs.declared.rule.Rule.TheVariants.{UnknownConstant, LevelCount, BuiltinShape}
 use Rattle.lk_rulebook.specs.Place.{Place}
 use Rattle.lk_plain.specs.Program.{Program, done, look}
 use Rattle.lk_plain.specs.Parts.{is_built_kind, where_built}
@@ -23,22 +23,22 @@ pub pi_sorted_is : (P : Program Tree → Type 0) (A b S : Tree) (l : Level) → 
 pi_sorted_is P A b S l e h = let Q : Tree → Type 0 = λ x. P (pi_rest A b (level_in x)) → P (pi_sorted A b x) in subst Q e (λ p. p) h
 
 -- a tree at levels, or too many or too few of them
-given_is : {A : Type 0} (w : Place) (f : A → Value) (last : Option ℕ) (b : Bool) (v : A) → b ≡ true → erased w f last (given b level_count (done v)) ≡ gives last (f v)
-given_is w f last b v e = ap (λ t. erased w f last (given t level_count (done v))) e
+given_is : {A : Type 0} (w : Place) (f : A → Value) (last : Option ℕ) (b : Bool) (v : A) → b ≡ true → erased w f last (given b LevelCount (done v)) ≡ gives last (f v)
+given_is w f last b v e = ap (λ t. erased w f last (given t LevelCount (done v))) e
 
-not_given : {A : Type 0} (w : Place) (f : A → Value) (last : Option ℕ) (b : Bool) (v : A) → b ≡ false → erased w f last (given b level_count (done v)) ≡ refuses level_count
-not_given w f last b v e = ap (λ t. erased w f last (given t level_count (done v))) e
+not_given : {A : Type 0} (w : Place) (f : A → Value) (last : Option ℕ) (b : Bool) (v : A) → b ≡ false → erased w f last (given b LevelCount (done v)) ≡ refuses LevelCount
+not_given w f last b v e = ap (λ t. erased w f last (given t LevelCount (done v))) e
 
 module _ (l : Tables × List StoredUnit) (w : Place) (x : Name) (before last : Option ℕ) (e : Entry) (h : IsFound l w x before e last) (ls : List Level) where
   -- the row of a constant
   abbrev row : Steps
-  row = erased w a_tree before (look unknown_constant x (where_built λ g. with_levels g ls g.type))
+  row = erased w a_tree before (look UnknownConstant x (where_built λ g. with_levels g ls g.type))
 
-  pub unbuilt_row : (b : Bool) → b ≡ is_built_kind h.entry.kind → b ≡ false → refuses builtin_shape ≡ row
-  unbuilt_row b is off = sym (found_unbuilt w a_tree x unknown_constant (λ g. with_levels g ls g.type) l before last e h (sym is ∙ off))
+  pub unbuilt_row : (b : Bool) → b ≡ is_built_kind h.entry.kind → b ≡ false → refuses BuiltinShape ≡ row
+  unbuilt_row b is off = sym (found_unbuilt w a_tree x UnknownConstant (λ g. with_levels g ls g.type) l before last e h (sym is ∙ off))
 
   goes : (b : Bool) → b ≡ is_built_kind h.entry.kind → b ≡ true → row ≡ erased w a_tree last (with_params h.entry.levels ls h.entry.type)
-  goes b is on = found_built w a_tree x unknown_constant (λ g. with_levels g ls g.type) l before last e h (sym is ∙ on)
+  goes b is on = found_built w a_tree x UnknownConstant (λ g. with_levels g ls g.type) l before last e h (sym is ∙ on)
 
   module _ (c : Contents) (t : Tree) (is_t : t ≡ tree_at (contents_of l.0) e.stated) where
     type_is : h.entry.type ≡ t
@@ -49,5 +49,5 @@ module _ (l : Tables × List StoredUnit) (w : Place) (x : Name) (before last : O
         let there : gives last (a_tree (tree_at c r)) ≡ gives last (a_tree (put_levels h.entry.levels ls h.entry.type)) = ap (λ y. gives last (a_tree y)) (at.1.is ∙ ap (put_levels h.entry.levels ls) (sym type_is)) in
         there ∙ sym (given_is w a_tree last (nat_eq (length ls) (length h.entry.levels)) (put_levels h.entry.levels ls h.entry.type) at.0) ∙ sym (goes b is on)
 
-    pub counted_row : (b : Bool) → b ≡ is_built_kind h.entry.kind → b ≡ true → IsAtLevels c h.entry.levels ls t None → refuses level_count ≡ row
+    pub counted_row : (b : Bool) → b ≡ is_built_kind h.entry.kind → b ≡ true → IsAtLevels c h.entry.levels ls t None → refuses LevelCount ≡ row
     counted_row b is on at = sym (not_given w a_tree last (nat_eq (length ls) (length h.entry.levels)) (put_levels h.entry.levels ls h.entry.type) at) ∙ sym (goes b is on)

@@ -4,14 +4,15 @@ ghost use Rattle.std.specs.Prelude.{◌<◌, Ok, IfOk, length};
 ghost use Rattle.lk_type.specs.Types.{applied_end, applied_rest, Infers};
 
 use crate::infer::TypeNext;
+use crate::sheet::TypeTermSheet;
 use lk_ask::looks::Looks;
 use lk_ask::next::Next;
 use lk_ask::query::{Answer, Query};
-use lk_ask::rule::Rule;
-use lk_ask::sheet::TypeSheet;
+use lk_ask::sheet::Sheet;
 use lk_store::memory::NoMemory;
 use lk_store::node::Node;
 use lk_subst::opening::open_with;
+use lk_tree::rule::Rule;
 
 /// Goes on with the weak head form of the function's type, which is to be a Pi.
 pub(crate) fn function_form<L: Looks>(looks: &L, argument: u64, form: u64) -> TypeNext
@@ -23,11 +24,11 @@ pub(crate) fn function_form<L: Looks>(looks: &L, argument: u64, form: u64) -> Ty
     match looks.view(form) {
         Node::Pi(domain, body) => Next::Ask(
             Query::Infer(argument),
-            TypeSheet::Argument {
+            Sheet::Term(TypeTermSheet::Argument {
                 domain,
                 body,
                 argument,
-            },
+            }),
         ),
         _ => Next::No(Rule::NotAFunction),
     }

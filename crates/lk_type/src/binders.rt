@@ -9,15 +9,16 @@ ghost use Rattle.lk_ask.specs.Looks.{MakesTree};
 ghost use Rattle.lk_type.specs.Types.{level_in, lam_rest, lam_sorted, pi_rest, pi_sorted, Infers};
 
 use crate::infer::TypeNext;
+use crate::sheet::TypeTermSheet;
 use lk_ask::looks::Looks;
 use lk_ask::next::Next;
 use lk_ask::query::{Answer, Query};
-use lk_ask::rule::Rule;
-use lk_ask::sheet::TypeSheet;
+use lk_ask::sheet::Sheet;
 use lk_store::memory::NoMemory;
 use lk_store::node::Node;
 use lk_subst::closing::close;
 use lk_subst::opening::open_with;
+use lk_tree::rule::Rule;
 
 /// The number of a Local that is fresh for a term under a binder.
 #[tactic(auto, unfolding(lk_tree::specs::Bind::bound))]
@@ -57,7 +58,10 @@ fn lam_body<L: Looks>(looks: &mut L, domain: u64, body: u64) -> Result<TypeNext,
 {
     let number = fresh_number(looks, domain, body)?;
     let e = open_fresh(looks, domain, body, number)?;
-    Ok(Next::Ask(Query::Infer(e), TypeSheet::LamBody { domain, number }))
+    Ok(Next::Ask(
+        Query::Infer(e),
+        Sheet::Term(TypeTermSheet::LamBody { domain, number }),
+    ))
 }
 
 /// Goes on with the sort of a lambda's domain.
@@ -106,7 +110,7 @@ fn pi_body<L: Looks>(looks: &mut L, domain: u64, body: u64, sort: u64) -> Result
 {
     let number = fresh_number(looks, domain, body)?;
     let e = open_fresh(looks, domain, body, number)?;
-    Ok(Next::Ask(Query::Infer(e), TypeSheet::PiBody { sort }))
+    Ok(Next::Ask(Query::Infer(e), Sheet::Term(TypeTermSheet::PiBody { sort })))
 }
 
 /// Goes on with the sort of a Pi's domain.

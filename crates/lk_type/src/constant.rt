@@ -11,8 +11,8 @@ use lk_ask::constants::is_built;
 use lk_ask::looks::Looks;
 use lk_ask::next::Next;
 use lk_ask::query::Answer;
-use lk_ask::rule::Rule;
 use lk_store::memory::NoMemory;
+use lk_tree::rule::Rule;
 
 /// The type of a constant: what its line states, at its levels.
 pub(crate) fn constant_type<L: Looks>(

@@ -1,27 +1,26 @@
 //! `Infer`: its first step, and how it goes on.
 
-ghost use Rattle.std.specs.Prelude.{◌<◌, IfOk, length};
-ghost use Rattle.lk_plain.specs.Erased.{a_tree, truth};
+ghost use Rattle.std.specs.Prelude.{◌<◌, length};
 ghost use Rattle.lk_questions.specs.Built.{infer_row};
-ghost use Rattle.lk_ask.specs.Questions.{value_at, IsKnownAnswer};
-ghost use Rattle.lk_ask.specs.Sheets.{IsKnownType};
-ghost use Rattle.lk_type.specs.Types.{Infers, Resumes};
+ghost use Rattle.lk_type.specs.Sheets.{IsKnownTypeTerm, IsKnownTypeTruth};
+ghost use Rattle.lk_type.specs.Types.{Infers, ResumesTerm, ResumesTruth};
 
 use crate::application::{application_end, function_form};
 use crate::binders::{lam_domain_sort, lam_end, pi_domain_sort};
 use crate::constant::constant_type;
 use crate::lets::{let_body, let_type_sort};
+use crate::sheet::{TypeTermSheet, TypeTruthSheet};
 use crate::sorts::{next_sort, pi_body_sort};
 use lk_ask::looks::Looks;
 use lk_ask::next::Next;
 use lk_ask::query::{Answer, Query};
-use lk_ask::rule::Rule;
-use lk_ask::sheet::TypeSheet;
+use lk_ask::sheet::Sheet;
 use lk_store::memory::NoMemory;
 use lk_store::node::Node;
+use lk_tree::rule::Rule;
 
 /// What `Infer` does next.
-pub type TypeNext = Next<u64, TypeSheet<u64>>;
+pub type TypeNext = Next<u64, Sheet<TypeTermSheet<u64>, TypeTruthSheet<u64>>>;
 
 /// The first step of `Infer` of a term.
 pub fn begin<L: Looks>(looks: &mut L, e: u64) -> Result<TypeNext, NoMemory>
@@ -31,23 +30,23 @@ pub fn begin<L: Looks>(looks: &mut L, e: u64) -> Result<TypeNext, NoMemory>
     match looks.view(e) {
         Node::Var(_) => Ok(Next::No(Rule::LooseVariable)),
         Node::Sort(level) => next_sort(looks, level),
-        Node::Local(_, kind) => Ok(Next::Done(Answer::Term(kind))),
+        Node::Local(_, ty) => Ok(Next::Done(Answer::Term(ty))),
         Node::Const(name, levels) => constant_type(looks, name, levels),
         Node::App(function, argument) => Ok(Next::Ask(
             Query::Infer(function),
-            TypeSheet::Function { argument },
+            Sheet::Term(TypeTermSheet::Function { argument }),
         )),
         Node::Lam(domain, body) => Ok(Next::Ask(
             Query::Infer(domain),
-            TypeSheet::LamDomain { domain, body },
+            Sheet::Term(TypeTermSheet::LamDomain { domain, body }),
         )),
         Node::Pi(domain, body) => Ok(Next::Ask(
             Query::Infer(domain),
-            TypeSheet::PiDomain { domain, body },
+            Sheet::Term(TypeTermSheet::PiDomain { domain, body }),
         )),
-        Node::Let(kind, value, body) => Ok(Next::Ask(
-            Query::Infer(kind),
-            TypeSheet::LetType { kind, value, body },
+        Node::Let(ty, value, body) => Ok(Next::Ask(
+            Query::Infer(ty),
+            Sheet::Term(TypeTermSheet::LetType { ty, value, body }),
         )),
         // Those of the other kinds are not built yet.
         Node::Proj(_, _, _) | Node::Lit(_) | Node::Wide | Node::Str(_) => Ok(Next::No(
@@ -56,104 +55,74 @@ pub fn begin<L: Looks>(looks: &mut L, e: u64) -> Result<TypeNext, NoMemory>
     }
 }
 
-/// Goes on with an answer that is a term.
-fn resume_term<L: Looks>(looks: &mut L, sheet: TypeSheet<u64>, e: u64) -> Result<TypeNext, NoMemory>
-    requires sheet_in { IsKnownType (length (L.contents looks.old).trees) sheet }
+/// Goes on with `Infer` once the term is there that its sheet waits for.
+pub fn resume_term<L: Looks>(
+    looks: &mut L,
+    sheet: TypeTermSheet<u64>,
+    e: u64,
+) -> Result<TypeNext, NoMemory>
+    requires sheet_in { IsKnownTypeTerm (length (L.contents looks.old).trees) sheet }
     requires e_in { e < length (L.contents looks.old).trees }
-    ensures { Resumes L.contents L.rest L.sight looks.old looks.new result sheet
-        (λ t. a_tree (t e)) }
+    ensures { ResumesTerm L.contents L.rest L.sight looks.old looks.new result sheet e }
 {
     match sheet {
-        TypeSheet::Passed => Ok(Next::Done(Answer::Term(e))),
-        TypeSheet::LamDomain { domain, body } => Ok(Next::Ask(
+        TypeTermSheet::Passed => Ok(Next::Done(Answer::Term(e))),
+        TypeTermSheet::LamDomain { domain, body } => Ok(Next::Ask(
             Query::Whnf(e),
-            TypeSheet::LamDomainSort { domain, body },
+            Sheet::Term(TypeTermSheet::LamDomainSort { domain, body }),
         )),
-        TypeSheet::LamDomainSort { domain, body } => lam_domain_sort(looks, domain, body, e),
-        TypeSheet::LamBody { domain, number } => lam_end(looks, domain, number, e),
-        TypeSheet::PiDomain { domain, body } => Ok(Next::Ask(
+        TypeTermSheet::LamDomainSort { domain, body } => lam_domain_sort(looks, domain, body, e),
+        TypeTermSheet::LamBody { domain, number } => lam_end(looks, domain, number, e),
+        TypeTermSheet::PiDomain { domain, body } => Ok(Next::Ask(
             Query::Whnf(e),
-            TypeSheet::PiDomainSort { domain, body },
+            Sheet::Term(TypeTermSheet::PiDomainSort { domain, body }),
         )),
-        TypeSheet::PiDomainSort { domain, body } => pi_domain_sort(looks, domain, body, e),
-        TypeSheet::PiBody { sort } => Ok(Next::Ask(Query::Whnf(e), TypeSheet::PiBodySort { sort })),
-        TypeSheet::PiBodySort { sort } => pi_body_sort(looks, sort, e),
-        TypeSheet::Function { argument } => Ok(Next::Ask(
+        TypeTermSheet::PiDomainSort { domain, body } => pi_domain_sort(looks, domain, body, e),
+        TypeTermSheet::PiBody { sort } => Ok(Next::Ask(
             Query::Whnf(e),
-            TypeSheet::FunctionForm { argument },
+            Sheet::Term(TypeTermSheet::PiBodySort { sort }),
         )),
-        TypeSheet::FunctionForm { argument } => Ok(function_form(looks, argument, e)),
-        TypeSheet::Argument {
+        TypeTermSheet::PiBodySort { sort } => pi_body_sort(looks, sort, e),
+        TypeTermSheet::Function { argument } => Ok(Next::Ask(
+            Query::Whnf(e),
+            Sheet::Term(TypeTermSheet::FunctionForm { argument }),
+        )),
+        TypeTermSheet::FunctionForm { argument } => Ok(function_form(looks, argument, e)),
+        TypeTermSheet::Argument {
             domain,
             body,
             argument,
         } => Ok(Next::Ask(
             Query::Same(e, domain),
-            TypeSheet::ArgumentSame { body, argument },
+            Sheet::Truth(TypeTruthSheet::ArgumentSame { body, argument }),
         )),
-        TypeSheet::LetType { kind, value, body } => Ok(Next::Ask(
+        TypeTermSheet::LetType { ty, value, body } => Ok(Next::Ask(
             Query::Whnf(e),
-            TypeSheet::LetTypeSort { kind, value, body },
+            Sheet::Term(TypeTermSheet::LetTypeSort { ty, value, body }),
         )),
-        TypeSheet::LetTypeSort { kind, value, body } => {
-            Ok(let_type_sort(looks, kind, value, body, e))
+        TypeTermSheet::LetTypeSort { ty, value, body } => {
+            Ok(let_type_sort(looks, ty, value, body, e))
         }
-        TypeSheet::LetValue { kind, value, body } => Ok(Next::Ask(
-            Query::Same(e, kind),
-            TypeSheet::LetValueSame { value, body },
+        TypeTermSheet::LetValue { ty, value, body } => Ok(Next::Ask(
+            Query::Same(e, ty),
+            Sheet::Truth(TypeTruthSheet::LetValueSame { value, body }),
         )),
-        // They wait for yes or no.
-        TypeSheet::ArgumentSame { .. } | TypeSheet::LetValueSame { .. } => {
-            Ok(Next::No(Rule::LooseVariable))
-        }
     }
 }
 
-/// Goes on with an answer that is yes or no.
-fn resume_truth<L: Looks>(
+/// Goes on with `Infer` once yes or no is there, which its sheet waits for.
+pub fn resume_truth<L: Looks>(
     looks: &mut L,
-    sheet: TypeSheet<u64>,
+    sheet: TypeTruthSheet<u64>,
     yes: bool,
 ) -> Result<TypeNext, NoMemory>
-    requires { IsKnownType (length (L.contents looks.old).trees) sheet }
-    ensures { Resumes L.contents L.rest L.sight looks.old looks.new result sheet (λ t. truth yes) }
+    requires sheet_in { IsKnownTypeTruth (length (L.contents looks.old).trees) sheet }
+    ensures { ResumesTruth L.contents L.rest L.sight looks.old looks.new result sheet yes }
 {
     match sheet {
-        TypeSheet::ArgumentSame { body, argument } => {
+        TypeTruthSheet::ArgumentSame { body, argument } => {
             application_end(looks, body, argument, yes)
         }
-        TypeSheet::LetValueSame { value, body } => let_body(looks, value, body, yes),
-        // The others wait for a term.
-        TypeSheet::Passed
-        | TypeSheet::LetType { .. }
-        | TypeSheet::LetTypeSort { .. }
-        | TypeSheet::LetValue { .. }
-        | TypeSheet::LamDomain { .. }
-        | TypeSheet::LamDomainSort { .. }
-        | TypeSheet::LamBody { .. }
-        | TypeSheet::PiDomain { .. }
-        | TypeSheet::PiDomainSort { .. }
-        | TypeSheet::PiBody { .. }
-        | TypeSheet::PiBodySort { .. }
-        | TypeSheet::Function { .. }
-        | TypeSheet::FunctionForm { .. }
-        | TypeSheet::Argument { .. } => Ok(Next::No(Rule::LooseVariable)),
-    }
-}
-
-/// Goes on with `Infer` once the answer is there that its sheet waits for.
-pub fn resume<L: Looks>(
-    looks: &mut L,
-    sheet: TypeSheet<u64>,
-    answer: Answer<u64>,
-) -> Result<TypeNext, NoMemory>
-    requires sheet_in { IsKnownType (length (L.contents looks.old).trees) sheet }
-    requires answer_in { IsKnownAnswer (length (L.contents looks.old).trees) answer }
-    ensures { Resumes L.contents L.rest L.sight looks.old looks.new result sheet
-        (λ t. value_at t answer) }
-{
-    match answer {
-        Answer::Term(e) => resume_term(looks, sheet, e),
-        Answer::Truth(yes) => resume_truth(looks, sheet, yes),
+        TypeTruthSheet::LetValueSame { value, body } => let_body(looks, value, body, yes),
     }
 }

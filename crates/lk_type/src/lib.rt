@@ -6,4 +6,5 @@ pub mod binders;
 pub mod constant;
 pub mod infer;
 mod lets;
+pub mod sheet;
 pub mod sorts;

@@ -12,9 +12,9 @@ use crate::infer::TypeNext;
 use lk_ask::looks::Looks;
 use lk_ask::next::Next;
 use lk_ask::query::Answer;
-use lk_ask::rule::Rule;
 use lk_store::memory::NoMemory;
 use lk_store::node::{LevelNode, Node};
+use lk_tree::rule::Rule;
 
 /// The sort above that of a level.
 pub(crate) fn next_sort<L: Looks>(looks: &mut L, level: u64) -> Result<TypeNext, NoMemory>

@@ -1,6 +1,6 @@
 use Rattle.std.proofs.Common.{◌≡◌, Some, None, true, false, refl, sym, ap, subst, ◌∙◌, rules}
 use Rattle.lk_tree.specs.Tree.{const}
-use Rattle.lk_tree.specs.RuleNo.{unknown_constant}
+use Rattle.lk_tree.specs.declared.rule.Rule.TheVariants.{UnknownConstant}
 use Rattle.lk_plain.specs.Erased.{a_tree, gives, erased}
 use Rattle.lk_plain.specs.Parts.{is_built_kind}
 use Rattle.lk_questions.specs.Core.{unfolded}
@@ -11,7 +11,7 @@ use Rattle.lk_store.specs.Contents.{name_at, list_at, tree_at}
 use Rattle.lk_ask.specs.Looks.{entry_at}
 use Rattle.lk_ask.proofs.Looking.{found_unbuilt}
 use Rattle.lk_core.proofs.Constants.{whnf_goes}
-use Rattle.lk_core.proofs.Reducing.{same_steps, after_look, carried}
+use Rattle.lk_ask.proofs.Steps.{same_steps, after_look, carried}
 use Rattle.lk_core.proofs.whnf.constant_end.Goals as goal
 
 pub returns-then-not-is_built : goal.returns-then-not-is_built
@@ -26,7 +26,7 @@ returns-then-not-is_built g c =
       keeps = search rules;
       stays = search rules;
       known = tt;
-      steps = sym (found_unbuilt b.place a_tree x unknown_constant
+      steps = sym (found_unbuilt b.place a_tree x UnknownConstant
           (unfolded_built (tree_at t c.args.e) x (const x (list_at t c.args.levels)))
           b.library _ _ entry h (sym kind ∙ c.if-not-is_built.true));
     }

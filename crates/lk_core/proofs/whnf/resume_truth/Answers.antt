@@ -1,10 +1,5 @@
-use Rattle.std.proofs.Common.{rules}
+use Rattle.lk_ask.proofs.Steps.{wrapped}
 use Rattle.lk_core.proofs.whnf.resume_truth.Goals as goal
 
-pub returns-in_ok-next-in-Iota : goal.returns-in_ok-next-in-Iota
-returns-in_ok-next-in-Iota g c = record {
-  keeps = search rules;
-  stays = search rules;
-  known = c.of_iota.ensures.known _ c.in_ok-next-in-Iota.ensures.known;
-  steps = search rules;
-}
+pub returns : goal.returns
+returns g c = wrapped c.of_iota.ensures c.in_ok-next.ensures

@@ -21,9 +21,9 @@ has_parameters c us w x e count m is = go (w.means x) refl m.given
     go None h s = absurd cc
     go (Some y) h s = record { entry = y; means = h; count_is = is y (sym m.means ∙ h) }
 
-pub returns-in-Ok-clause-found : goal.returns-in-Ok-clause-found
-returns-in-Ok-clause-found g c =
+pub returns-clause-found : goal.returns-clause-found
+returns-clause-found g c =
     let l = c.args.lookout.now.0 in
-    has_parameters (contents_of l.0) l.1 (place_at l c.args.lookout.now.1) _ c.in-Ok.entry
+    has_parameters (contents_of l.0) l.1 (place_at l c.args.lookout.now.1) _ c.in_ok-entry.entry
     c.parameter_count.result
-    c.in-Ok.ensures.answer (rw c.library.ensures.is at c.parameter_count.ensures)
+    c.in_ok-entry.ensures.answer (rw c.library.ensures.is at c.parameter_count.ensures)

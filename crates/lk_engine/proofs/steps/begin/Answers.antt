@@ -1,6 +1,6 @@
 use Rattle.std.proofs.Common.{refl, ◌∙◌}
 use Rattle.lk_store.proofs.Made.{Extends-self}
-use Rattle.lk_engine.proofs.Lookouts.{wrapped}
+use Rattle.lk_ask.proofs.Steps.{wrapped}
 use Rattle.lk_engine.proofs.steps.begin.Goals as goal
 
 pub returns-in_ok-begin-in-Core : goal.returns-in_ok-begin-in-Core

@@ -1,18 +1,18 @@
 use Rattle.std.proofs.Common.{rules, ◌≡◌, ℕ, None, ◌<◌, ◌≤◌, length, map, take, ap, sym, subst, ◌∙◌}
-use Rattle.std.proofs.Common.{arith, refl}
+use Rattle.std.proofs.Common.{arith}
 use Rattle.std.specs.Prelude.{All}
 use Rattle.std.proofs.lemmas.List.Elements.{All-take}
 use Rattle.std.proofs.lemmas.List.{length-map, take-map}
 use Rattle.lk_tree.specs.Tree.{const}
 use Rattle.lk_tree.specs.Spine.{apply, args}
 use Rattle.lk_plain.specs.Query.{infer}
-use Rattle.lk_plain.specs.Erased.{asks}
+use Rattle.lk_plain.specs.Erased.{asks, with_tree}
 use Rattle.lk_store.specs.Contents.{list_at, tree_at}
 use Rattle.lk_store.proofs.Extending.{Extends-trans}
 use Rattle.lk_subst.specs.Numbers.{trees-known}
-use Rattle.lk_ask.specs.declared.sheet.IotaSheet.TheVariants.{Candidate}
-use Rattle.lk_iota.specs.Iotas.{iota_rest}
-use Rattle.lk_iota.proofs.Giving.{looked_once}
+use Rattle.lk_iota.specs.declared.sheet.IotaTermSheet.TheVariants.{Candidate}
+use Rattle.lk_iota.specs.Iotas.{iota_term_rest}
+use Rattle.lk_ask.proofs.Steps.{gives_now}
 use Rattle.lk_iota.proofs.RightSides.{front_steady}
 use Rattle.lk_iota.proofs.Going.{too_few, candidate_asked}
 use Rattle.lk_iota.proofs.candidate.at_parameters.Goals as goal
@@ -28,8 +28,8 @@ returns-then-from-len g c xs p b at is shape =
     let parameters = shape.parameters_are in
     let more = c.if-from-len.true in
     let few : length (args ty) < b.ctor.parameters = omega arith in
-    looked_once g.L.Terms.contents g.L.Terms.rest g.L.Looks.sight c.args.looks.now c.args.looks.now
-    _ _ refl refl (c.ask_major.ensures.known _ c.requires.redex_in.major_in c.requires.e_in)
+    gives_now c.args.looks.now _ _
+    (c.ask_major.ensures.known _ c.requires.redex_in.major_in c.requires.e_in)
     (c.ask_major.ensures.steps sight.basis.place d sight.basis.library sight.last p at is
     ∙ too_few sight.basis.place sight.last (tree_at d c.args.e) p b ty (list_at d c.args.levels)
     few)
@@ -76,8 +76,8 @@ returns g c xs p b at is shape =
       stays = search rules;
       known = search rules;
       steps = ap (λ r. asks (g.L.Looks.sight r).last (infer (tree_at h c.in_ok-candidate.candidate))
-          (iota_rest w None (Candidate (tree_at h c.args.e) (tree_at h c.args.ty)
-          (tree_at h c.in_ok-candidate.candidate)))) (c.apply.ensures.rest ∙ c.make.ensures.rest)
+          (with_tree (iota_term_rest w None (Candidate (tree_at h c.args.e) (tree_at h c.args.ty)
+          (tree_at h c.in_ok-candidate.candidate))))) (c.apply.ensures.rest ∙ c.make.ensures.rest)
           ∙ candidate_asked w sight.last e (tree_at h c.args.e) ty (tree_at h c.args.ty)
           (tree_at h c.in_ok-candidate.candidate) p b ks (grown.trees.same c.args.e c.requires.e_in)
           (grown.trees.same c.args.ty c.requires.ty_in)

@@ -1,10 +1,10 @@
-use Rattle.std.proofs.Common.{Ok, ap, sym, subst, refl, ◌∙◌}
+use Rattle.std.proofs.Common.{Ok, ap, sym, subst, ◌∙◌}
 use Rattle.lk_tree.specs.Spine.{args}
 use Rattle.lk_plain.specs.Erased.{a_tree, erased}
 use Rattle.lk_store.specs.Contents.{list_at, tree_at}
 use Rattle.lk_iota.specs.Redexes.{redex_by}
 use Rattle.lk_iota.specs.Iotas.{of_redex_if, Reduces}
-use Rattle.lk_iota.proofs.Giving.{looked_once}
+use Rattle.lk_ask.proofs.Steps.{gives_now}
 use Rattle.lk_iota.proofs.Going.{some_redex, none_redex, constant_goes}
 use Rattle.lk_iota.proofs.iota.begin.Goals as goal
 
@@ -29,7 +29,6 @@ returns-in-None g c p h at =
     let ls = list_at d c.args.levels in
     let none = none_redex d sight.basis.library (redex_by ls (args e) p p.kind)
     (rw c.in-None.is at c.in_ok-redex.ensures.is p h) in
-    looked_once g.L.Terms.contents g.L.Terms.rest g.L.Looks.sight c.args.looks.now c.args.looks.now
-    _ _ refl refl c.requires.e_in
+    gives_now c.args.looks.now _ _ c.requires.e_in
     (ap (λ o. erased sight.basis.place a_tree sight.last (of_redex_if e o)) (sym none)
     ∙ ap (erased sight.basis.place a_tree sight.last) (sym (constant_goes e ls (args e) p p.kind)))

@@ -1,9 +1,9 @@
-use Rattle.std.proofs.Common.{ap, sym, subst, refl}
+use Rattle.std.proofs.Common.{ap, sym, subst}
 use Rattle.lk_plain.specs.Erased.{a_tree, erased}
 use Rattle.lk_store.specs.Contents.{tree_at}
 use Rattle.lk_iota.specs.Redexes.{redex_at}
 use Rattle.lk_iota.specs.Iotas.{form_rest, Reduces}
-use Rattle.lk_iota.proofs.Giving.{looked_once}
+use Rattle.lk_ask.proofs.Steps.{gives_now}
 use Rattle.lk_iota.proofs.Going.{some_redex, none_redex}
 use Rattle.lk_iota.proofs.iota.resume_form.Goals as goal
 
@@ -27,6 +27,5 @@ returns-in-None g c =
     let e = tree_at d c.args.e in
     let none = none_redex d sight.basis.library (redex_at w e)
     (rw c.in-None.is at c.in_ok-redex.ensures.is) in
-    looked_once g.L.Terms.contents g.L.Terms.rest g.L.Looks.sight c.args.looks.now c.args.looks.now
-    _ _ refl refl tt
+    gives_now c.args.looks.now _ _ tt
     (ap (λ o. erased w a_tree sight.last (form_rest e o (tree_at d c.args.m))) (sym none))

@@ -1,9 +1,9 @@
-use Rattle.std.proofs.Common.{rules, ◌≡◌, suc, ap, map, subst, ◌∙◌, take, drop, refl}
+use Rattle.std.proofs.Common.{rules, ◌≡◌, suc, ap, map, subst, ◌∙◌, take, drop}
 use Rattle.lk_tree.specs.Spine.{args}
 use Rattle.lk_store.specs.Contents.{list_at, tree_at}
 use Rattle.lk_iota.specs.RightSides.{right_side}
 use Rattle.lk_iota.specs.Iotas.{Reduces}
-use Rattle.lk_iota.proofs.Giving.{looked_once}
+use Rattle.lk_ask.proofs.Steps.{gives_now}
 use Rattle.lk_iota.proofs.RightSides.{none_fits, one_fits}
 use Rattle.lk_iota.proofs.rule.at_constructor.Goals as goal
 
@@ -36,8 +36,7 @@ returns g c p b is shape =
     let d = g.L.Terms.contents c.args.looks.now in
     let m = args (tree_at d c.args.m) in
     let subject = c.in_ok-subject.subject.items in
-    looked_once g.L.Terms.contents g.L.Terms.rest g.L.Looks.sight c.args.looks.now c.args.looks.now
-    _ _ refl refl c.requires.e_in
+    gives_now c.args.looks.now _ _ c.requires.e_in
     (none_fits d sight.basis.library c.args.redex.now p c.requires.redex_in is m c.args.shape b
     shape subject c.in_ok-subject.ensures.are
     c.rules_of-rules.result.now (c.rules_of-rules.ensures.value p.entry p.recursor is.entry_is

@@ -1,5 +1,5 @@
 use Rattle.std.proofs.Common.{◌≡◌, Some, ap, sym, subst, ◌∙◌}
-use Rattle.lk_tree.specs.RuleNo.{unknown_constant}
+use Rattle.lk_tree.specs.declared.rule.Rule.TheVariants.{UnknownConstant}
 use Rattle.lk_plain.specs.Erased.{a_tree, erased}
 use Rattle.lk_questions.specs.Iota.{ctor_app_by}
 use Rattle.lk_store.specs.Contents.{name_at}
@@ -24,7 +24,7 @@ returns-clause-finds g c ks xs =
     (c.shape_by.ensures.is h.entry ks xs there) in
     record {
       found = shape_named d w c.shape_by.result x ks xs h.entry h.means shape;
-      goes = λ k. found_goes w a_tree x unknown_constant (λ y. k (ctor_app_by x ks xs y y.kind))
+      goes = λ k. found_goes w a_tree x UnknownConstant (λ y. k (ctor_app_by x ks xs y y.kind))
           sight.basis.library sight.last last c.in_ok-entry.entry h
           ∙ ap (λ o. erased w a_tree last (k o)) (sym (named_is w x ks xs h.entry h.means));
       refused = tt;

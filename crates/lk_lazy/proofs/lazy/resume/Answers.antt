@@ -1,4 +1,4 @@
 use Rattle.lk_lazy.proofs.lazy.resume.Goals as goal
 
-pub returns-else-equal : goal.returns-else-equal
-returns-else-equal g c = rw (c.in-Arguments.is, c.if-equal.false) c.after_arguments.ensures
+pub returns-else-yes : goal.returns-else-yes
+returns-else-yes g c = rw (c.in-Arguments.is, c.if-yes.false) c.after_arguments.ensures

@@ -1,7 +1,9 @@
-use Rattle.std.proofs.Common.{sym, subst}
+use Rattle.std.proofs.Common.{sym, ap, subst}
+use Rattle.lk_plain.specs.Erased.{truth, erased}
+use Rattle.lk_questions.specs.Unfolding.{unfold_second}
 use Rattle.lk_store.specs.Contents.{tree_at}
+use Rattle.lk_ask.proofs.Steps.{same_steps, after_making}
 use Rattle.lk_lazy.specs.Heads.{IsUnfolding}
-use Rattle.lk_lazy.proofs.Giving.{gives_as, gives_after}
 use Rattle.lk_lazy.proofs.Ranks.{still_unfolds, first_unfolds}
 use Rattle.lk_lazy.proofs.lazy.unfold_both.Goals as goal
 
@@ -17,6 +19,9 @@ returns g c p q i j =
     let l = (g.L.Looks.sight (rest c.args.looks.now)).basis.library in
     let still = subst (λ r. IsUnfolding middle (g.L.Looks.sight r).basis.library c.args.v q)
     (sym made.rest) (still_unfolds old middle l c.args.v q made.keeps j) in
-    let second = gives_after c.args.looks.now _ made.keeps made.rest
-    (c.unfold_right.ensures q still) in
-    gives_as _ _ _ _ first (rw (made.keeps.trees.same c.args.b c.requires.b_in) at second)
+    let t = tree_at middle in
+    let second = after_making
+    (λ s. erased s.basis.place truth s.last (unfold_second (t c.in-Some.left) (t c.args.b) q))
+    made.keeps made.rest (c.unfold_right.ensures q still) in
+    same_steps (ap (erased _ truth _) (sym first))
+    (rw (made.keeps.trees.same c.args.b c.requires.b_in) at second)

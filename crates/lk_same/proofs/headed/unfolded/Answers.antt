@@ -2,7 +2,7 @@ use Rattle.std.proofs.Common.{◌∙◌}
 use Rattle.lk_questions.specs.Levels.{complete_test}
 use Rattle.lk_questions.specs.Built.{same_parts}
 use Rattle.lk_store.specs.Contents.{tree_at}
-use Rattle.lk_same.proofs.Giving.{gives_behind}
+use Rattle.lk_same.proofs.Giving.{behind_line}
 use Rattle.lk_same.proofs.headed.unfolded.Goals as goal
 
 pub returns-in-Some : goal.returns-in-Some
@@ -22,4 +22,4 @@ returns-in-None g c =
     let h = rw c.in-None.is at c.in_ok-next.ensures in
     let a = h.keeps.trees.same c.args.a c.requires.a_in in
     let b = h.keeps.trees.same c.args.b c.requires.b_in in
-    gives_behind _ _ _ _ _ _ h (rw (a, b) at c.parts.ensures)
+    behind_line _ _ _ _ _ _ h (rw (a, b) at c.parts.ensures)

@@ -1,5 +1,5 @@
 use Rattle.std.proofs.Common.{rules}
-use Rattle.lk_same.proofs.Giving.{gives_now}
+use Rattle.lk_ask.proofs.Steps.{gives_now}
 use Rattle.lk_same.proofs.parts.constants.Goals as goal
 
 pub returns : goal.returns

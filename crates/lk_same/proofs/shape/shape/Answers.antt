@@ -1,7 +1,7 @@
 use Rattle.std.proofs.Common.{◌∙◌, ap}
 use Rattle.lk_plain.specs.Erased.{truth, erased}
 use Rattle.lk_store.specs.Contents.{tree_at}
-use Rattle.lk_same.proofs.Giving.{gives_now}
+use Rattle.lk_ask.proofs.Steps.{gives_now}
 use Rattle.lk_same.proofs.Shapes.{other_and}
 use Rattle.lk_same.proofs.shape.shape.Goals as goal
 

@@ -1,10 +1,9 @@
 use Rattle.std.proofs.Common.{length, ap, sym, subst, ◌∙◌}
 use Rattle.lk_store.specs.Store.{over, contents_of}
-use Rattle.lk_env.specs.Places.{place_at}
 use Rattle.lk_ask.specs.Questions.{IsKnownQuery}
 use Rattle.lk_ask.specs.Outcomes.{IsOutcome}
-use Rattle.lk_engine.specs.Lookouts.{out_at}
-use Rattle.lk_engine.proofs.Lookouts.{place_stays, still_stands}
+use Rattle.lk_engine.specs.Lookouts.{standing_at, out_at}
+use Rattle.lk_engine.proofs.Lookouts.{standing_stays, still_stands}
 use Rattle.lk_engine.proofs.Outcomes.{exactly_so}
 use Rattle.lk_engine.proofs.engine.EngineAsks.ask.Goals as goal
 
@@ -26,6 +25,6 @@ returns-clause-outcome c =
     (exactly_so after (out_at (λ t. contents_of (over t.0 t.1)) c.self.inside.lookout c.args.query)
     new.3.left new.3.last c.answer.result c.answer.ensures.answers.outcome)
 
-pub returns-clause-place : goal.returns-clause-place
-returns-clause-place c = place_stays c.answer.ensures.answers.stays ∙ ap (λ s. place_at s.0 s.1)
-    c.self.view_is
+pub returns-clause-stays : goal.returns-clause-stays
+returns-clause-stays c = standing_stays c.answer.ensures.answers.stays
+    ∙ ap (λ s. standing_at s.0 s.1) c.self.view_is
