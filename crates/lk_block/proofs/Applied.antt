@@ -1,13 +1,14 @@
 -- Constants applied to arguments, and whether they are nested occurrences.
 use Rattle.std.proofs.Common.{◌≡◌, ℕ, ◌<◌, ◌≤◌, ◌+◌, ◌-◌, Bool, true, false, ◌&&◌, ◌||◌, List, [], ◌∷◌, ◌++◌, length, Option, None, Some, Ok, Err, Result, refl, sym, ap, subst, ◌∙◌, arith}
-use Rattle.std.specs.Prelude.{slice_index_or, not, nat_eq, if◌then◌else◌}
+use Rattle.std.specs.Prelude.{not, nat_eq, if◌then◌else◌}
 use Rattle.std.proofs.lemmas.Bool.Decides.{nat_tests}
 use Rattle.std.proofs.lemmas.List.{length-append}
 use Rattle.std.proofs.lemmas.List.Elements.{All-push}
 use Rattle.lk_tree.specs.Tree.{Name, Tree, var, sort, const, app, lam, pi, let_in, proj, lit, wide, str, local}
 use Rattle.lk_tree.specs.Spine.{head, args}
 use Rattle.lk_tree.specs.Mentions.{is_one_of, mentions}
-use Rattle.lk_tree.specs.RuleNo.{unknown_constant}
+use Rattle.lk_tree.specs.declared.rule.Rule.{Rule}
+use Rattle.lk_tree.specs.declared.rule.Rule.TheVariants.{UnknownConstant}
 use Rattle.lk_rulebook.specs.Place.{Place, Entry, Kind, an_axiom, a_def, a_thm, an_opaque, a_quot, a_type, a_ctor, a_rec}
 use Rattle.lk_plain.specs.Program.{Program, done, look}
 use Rattle.lk_inductive.specs.BlockSteps.{mention_none}
@@ -16,9 +17,8 @@ use Rattle.lk_store.specs.Contents.{Contents, tree_at, tree_of}
 use Rattle.lk_store.specs.declared.node.Node.{Node}
 use Rattle.lk_store.specs.declared.node.Node.TheVariants as node
 use Rattle.lk_spine.specs.Reading.{left_depth}
-use Rattle.lk_ask.specs.declared.rule.Rule.{Rule as Refusal}
 use Rattle.lk_ask.specs.declared.stop.Stop.{Stop}
-use Rattle.lk_ask.specs.declared.stop.Stop.TheVariants.{Rule}
+use Rattle.lk_ask.specs.declared.stop.Stop.TheVariants.{No}
 use Rattle.lk_ask.specs.Constants.{IsRefused}
 use Rattle.lk_env.specs.Lent.{parameters_in, HasParameters}
 use Rattle.lk_block.specs.declared.spines.Spine.{Spine}
@@ -221,7 +221,7 @@ kind_matches (a_ctor b t k) xs next h = absurd cc
 kind_matches (a_rec r) xs next h = absurd cc
 
 named_head : List Name → Name → List Tree → Program Bool → Program Bool
-named_head ns J xs next = if is_one_of ns J || mention_none ns xs then next else look unknown_constant J λ g. holds_kind xs g.kind next
+named_head ns J xs next = if is_one_of ns J || mention_none ns xs then next else look UnknownConstant J λ g. holds_kind xs g.kind next
 
 head_named : (ns : List Name) (h : Tree) (J : Name) (xs : List Tree) (next : Program Bool) → constant_name h ≡ Some J → holds_head ns h xs next ≡ named_head ns J xs next
 unfolding named_head
@@ -243,14 +243,14 @@ or_is a b d e f = ap (λ x. x || b) e ∙ f
 
 module _ (w : Place) (ns : List Name) (h : Tree) (xs : List Tree) (J : Name) (named : constant_name h ≡ Some J) where
   module _ (other : is_one_of ns J ≡ false) where
-    decided_head : (b : Bool) (next : Program Bool) → mention_none ns xs ≡ b → holds_head ns h xs next ≡ (if b then next else look unknown_constant J λ g. holds_kind xs g.kind next)
+    decided_head : (b : Bool) (next : Program Bool) → mention_none ns xs ≡ b → holds_head ns h xs next ≡ (if b then next else look UnknownConstant J λ g. holds_kind xs g.kind next)
     unfolding named_head
     decided_head b next is =
         head_named ns h J xs next named
-        ∙ ap (λ (b : Bool). if b then next else look unknown_constant J λ g. holds_kind xs g.kind next) (or_is (is_one_of ns J) (mention_none ns xs) b other is)
+        ∙ ap (λ (b : Bool). if b then next else look UnknownConstant J λ g. holds_kind xs g.kind next) (or_is (is_one_of ns J) (mention_none ns xs) b other is)
 
-    looks_up : (next : Program Bool) (o : Option Entry) → w.means J ≡ o → finding w (look unknown_constant J λ g. holds_kind xs g.kind next) ≡ looked o (w.flaw J) unknown_constant (λ g. finding w (holds_kind xs g.kind next))
-    looks_up next o is = ap (λ x. looked x (w.flaw J) unknown_constant (λ g. finding w (holds_kind xs g.kind next))) is
+    looks_up : (next : Program Bool) (o : Option Entry) → w.means J ≡ o → finding w (look UnknownConstant J λ g. holds_kind xs g.kind next) ≡ looked o (w.flaw J) UnknownConstant (λ g. finding w (holds_kind xs g.kind next))
+    looks_up next o is = ap (λ x. looked x (w.flaw J) UnknownConstant (λ g. finding w (holds_kind xs g.kind next))) is
 
     -- no argument mentions one of the names
     pub test_clear : mention_none ns xs ≡ true → IsHeadTest w ns h xs (Ok false)
@@ -263,7 +263,7 @@ module _ (w : Place) (ns : List Name) (h : Tree) (xs : List Tree) (J : Name) (na
         ∙ ap (finding w) (kind_matches has.entry.kind xs next (ap (λ n. Some n) count ∙ has.count_is))
 
     -- the look-up is refused
-    pub test_refused : (r : Refusal) → mention_none ns xs ≡ false → IsRefused w J r → IsHeadTest w ns h xs (Err (Rule r))
+    pub test_refused : (r : Rule) → mention_none ns xs ≡ false → IsRefused w J r → IsHeadTest w ns h xs (Err (No r))
     test_refused r is missing = λ next.
         ap (finding w) (decided_head false next is) ∙ looks_up next None missing.means ∙ ap (λ s. refused s) (sym missing.rule)
 
@@ -276,7 +276,7 @@ module _ (w : Place) (ns : List Name) (t : Tree) (J : Name) (named : constant_na
   pub test_unmentioned : (clear : Bool) → clear ≡ not (mentions ns t) → clear ≡ true → IsHeadTest w ns (head t) (args t) (Ok false)
   test_unmentioned clear is h = test_clear w ns (head t) (args t) J named other (mentions_spine ns t J named other ∙ sym is ∙ h)
 
-  pub test_missing : (clear : Bool) (r : Refusal) → clear ≡ not (mentions ns t) → clear ≡ false → IsRefused w J r → IsHeadTest w ns (head t) (args t) (Err (Rule r))
+  pub test_missing : (clear : Bool) (r : Rule) → clear ≡ not (mentions ns t) → clear ≡ false → IsRefused w J r → IsHeadTest w ns (head t) (args t) (Err (No r))
   test_missing clear r is h missing = test_refused w ns (head t) (args t) J named other r (mentions_spine ns t J named other ∙ sym is ∙ h) missing
 
 -- what is no application

@@ -1,7 +1,7 @@
 -- Types that are listed, terms that mention no name, and arguments past the parameters.
-use Rattle.std.proofs.Common.{◌≡◌, ◌↔◌, ◌<◌, ◌&&◌, ◌||◌, ℕ, Bool, true, false, not, IsTrue, List, [], ◌∷◌, length, map, All, Option, Some, None, nat_eq, if◌then◌else◌, refl, sym, ap, subst, ◌∙◌, arith}
-use Rattle.lk_tree.specs.Tree.{Name, Level, Tree, tree_discrete, var, sort, const, app, lam, pi, let_in, proj, lit, wide, str, local}
-use Rattle.lk_tree.specs.Mentions.{mentions, same_name}
+use Rattle.std.proofs.Common.{◌≡◌, ◌↔◌, ◌&&◌, ◌||◌, ℕ, Bool, true, false, IsTrue, List, ◌∷◌, map, Some, None, nat_eq, if◌then◌else◌, refl, ap}
+use Rattle.lk_tree.specs.Tree.{Name, Tree, tree_discrete, const}
+use Rattle.lk_tree.specs.Mentions.{same_name}
 use Rattle.lk_questions.specs.Steps.{decided, is_same_tree}
 use Rattle.lk_store.specs.Contents.{Contents, name_at, tree_at}
 use Rattle.lk_env.specs.declared.unit.BlockType.{BlockType}

@@ -1,23 +1,23 @@
 -- Constructors one after another, and types one after another.
-use Rattle.std.proofs.Common.{◌≡◌, ℕ, List, [], ◌∷◌, ◌++◌, length, map, All, refl, sym, ap, ◌∙◌, append_assoc}
+use Rattle.std.proofs.Common.{◌≡◌, ℕ, List, [], ◌∷◌, ◌++◌, length, refl, sym, ap, ◌∙◌, append_assoc}
 use Rattle.std.specs.Prelude.{reverse}
 use Rattle.std.proofs.lemmas.List.{reverse-append}
-use Rattle.lk_tree.specs.Tree.{Name, Level, Tree}
+use Rattle.lk_tree.specs.Tree.{Name, Tree}
 use Rattle.lk_tree.specs.Spine.{head, args}
 use Rattle.lk_rulebook.specs.Place.{Place, BlockType, Ctor}
 use Rattle.lk_plain.specs.Query.{Query}
-use Rattle.lk_plain.specs.Program.{Program, Table, done, ◌>>=◌}
+use Rattle.lk_plain.specs.Program.{Program, done, ◌>>=◌}
 use Rattle.lk_plain.specs.Erased.{Out, out_of}
 use Rattle.lk_inductive.specs.Block.{Frame, Field, CtorShape, TypeShape}
-use Rattle.lk_inductive.specs.BlockSteps.{over, as_member, own_indices, fields_steps, ctor_steps, ctors_steps, shapes_steps}
-use Rattle.lk_store.specs.Contents.{Contents, name_at, tree_at, Extends}
-use Rattle.lk_ask.specs.declared.rule.Rule.TheVariants.{BlockShape}
+use Rattle.lk_inductive.specs.BlockSteps.{as_member, own_indices, fields_steps, ctor_steps, ctors_steps, shapes_steps}
+use Rattle.lk_tree.specs.declared.rule.Rule.TheVariants.{BlockShape}
 use Rattle.lk_ask.specs.declared.stop.Stop.{Stop}
-use Rattle.lk_ask.specs.declared.stop.Stop.TheVariants.{Rule}
-use Rattle.lk_block.specs.Courses.{run_then, Passes, Goes, Halts, Gives}
+use Rattle.lk_ask.specs.declared.stop.Stop.TheVariants.{No}
+use Rattle.lk_ask.specs.Asking.{Standing}
+use Rattle.lk_declaration.specs.Courses.{run_then, Goes, Halts}
 use Rattle.lk_block.specs.Constructors.{result_form, rest_form, constructor_form, type_form, constructors_form, shapes_form}
-use Rattle.lk_block.proofs.Running.{run_same, run_bind, passes_same, passes_on, stop_passes, stop_same, goes_on, halts_later, halts_first, ends_at}
-use Rattle.lk_block.proofs.Leading.{Leads, Splits}
+use Rattle.lk_declaration.proofs.Running.{run_same, run_bind, passes_same, passes_on, stop_passes, stop_same, goes_on, halts_later, halts_first, ends_at}
+use Rattle.lk_declaration.proofs.Leading.{Leads, Splits}
 
 pub own_kept : (G F : Frame) (S T : Name) (R : Tree) → G ≡ F → S ≡ T → own_indices S (as_member G (head R) (args R)) ≡ own_indices T (as_member F (head R) (args R))
 own_kept G F S T R e f = ap (λ H. own_indices S (as_member H (head R) (args R))) e ∙ ap (λ U. own_indices U (as_member F (head R) (args R))) f
@@ -36,17 +36,17 @@ pub type_kept : (fuel : ℕ) (G F : Frame) (S T : Name) (cs ds : List Ctor) (is 
 type_kept fuel G F S T cs ds is js e f g h = ap (λ H. type_form fuel H S cs is) e ∙ ap (λ U. type_form fuel F U cs is) f ∙ ap (λ xs. type_form fuel F T xs is) g ∙ ap (λ xs. type_form fuel F T ds xs) h
 
 -- what is left past the parameters: its fields, and then its end
-module _ (t u : Table) (w x : Place) (same_table : u ≡ t) (same_place : x ≡ w) (fuel : ℕ) (F : Frame) (T c : Name) (n : ℕ) (r : Tree) (b d : ℕ) (fs : List Field) (e : Tree)
-    (first : Goes t w (fields_steps fuel F (length F.params) n r) b (fs, e) d) where
-  pub rest_goes : (is : List Tree) (z : CtorShape) (left : ℕ) → Goes u x (result_form F T e) d is left → z ≡ (let s : CtorShape = record { name = c; fields = fs; indices = is } in s) → Goes t w (rest_form fuel F T c n r) b z left
+module _ {Base : Type 0} (t u : Standing Base) (stays : u ≡ t) (fuel : ℕ) (F : Frame) (T c : Name) (n : ℕ) (r : Tree) (b d : ℕ) (fs : List Field) (e : Tree)
+    (first : Goes t (fields_steps fuel F (length F.params) n r) b (fs, e) d) where
+  pub rest_goes : (is : List Tree) (z : CtorShape) (left : ℕ) → Goes u (result_form F T e) d is left → z ≡ (let s : CtorShape = record { name = c; fields = fs; indices = is } in s) → Goes t (rest_form fuel F T c n r) b z left
   rest_goes is z left second same =
-      goes_on t u w x same_table same_place (fields_steps fuel F (length F.params) n r) (λ fs. result_form F T fs.1 >>= λ is. done (record { name = c; fields = fs.0; indices = is })) b d left (fs, e) z first
-      (ends_at u x (result_form F T e) (λ is. done (record { name = c; fields = fs; indices = is })) d left left is (record { name = c; fields = fs; indices = is }) z second refl same refl)
+      goes_on t u stays (fields_steps fuel F (length F.params) n r) (λ fs. result_form F T fs.1 >>= λ is. done (record { name = c; fields = fs.0; indices = is })) b d left (fs, e) z first
+      (ends_at u (result_form F T e) (λ is. done (record { name = c; fields = fs; indices = is })) d left left is (record { name = c; fields = fs; indices = is }) z second refl same refl)
 
-  pub rest_halts : (stop : Stop) → Halts u x (result_form F T e) d stop → Halts t w (rest_form fuel F T c n r) b stop
+  pub rest_halts : (stop : Stop) → Halts u (result_form F T e) d stop → Halts t (rest_form fuel F T c n r) b stop
   rest_halts stop second =
-      halts_later t u w x same_table same_place (fields_steps fuel F (length F.params) n r) (λ fs. result_form F T fs.1 >>= λ is. done (record { name = c; fields = fs.0; indices = is })) b d (fs, e) stop first
-      (halts_first u x (result_form F T e) (λ is. done (record { name = c; fields = fs; indices = is })) d stop second)
+      halts_later t u stays (fields_steps fuel F (length F.params) n r) (λ fs. result_form F T fs.1 >>= λ is. done (record { name = c; fields = fs.0; indices = is })) b d (fs, e) stop first
+      (halts_first u (result_form F T e) (λ is. done (record { name = c; fields = fs; indices = is })) d stop second)
 
 pub shape_is : (c d : Name) (fs gs : List Field) (is : List Tree) → c ≡ d → fs ≡ gs → (let s : CtorShape = record { name = c; fields = fs; indices = is } in s) ≡ (let s : CtorShape = record { name = d; fields = gs; indices = is } in s)
 shape_is c d fs gs is e f = cc
@@ -55,11 +55,11 @@ pub type_is : (c d : Name) (is js : List Tree) (ss : List CtorShape) → c ≡ d
 type_is c d is js ss e f = cc
 
 -- a program and nothing after it
-pub goes_bare : {A : Type 0} (t : Table) (w : Place) (p : Program A) (b c : ℕ) (v : A) → Goes t w (p >>= λ u. done u) b v c → Goes t w p b v c
-goes_bare t w p b c v h = record { on = λ k. passes_on _ _ _ (passes_same _ _ (sym (run_bind (out_of t w) w p (λ u. done u) b k))) (h.on k) }
+pub goes_bare : {A Base : Type 0} (t : Standing Base) (p : Program A) (b c : ℕ) (v : A) → Goes t (p >>= λ u. done u) b v c → Goes t p b v c
+goes_bare t p b c v h = record { on = λ k. passes_on _ _ _ (passes_same _ _ (sym (run_bind (out_of t.table t.place) t.place p (λ u. done u) b k))) (h.on k) }
 
-pub halts_bare : {A : Type 0} (t : Table) (w : Place) (p : Program A) (b : ℕ) (stop : Stop) → Halts t w (p >>= λ u. done u) b stop → Halts t w p b stop
-halts_bare t w p b stop h = record { stops = λ k. stop_same _ _ stop (sym (run_bind (out_of t w) w p (λ u. done u) b k)) (h.stops k) }
+pub halts_bare : {A Base : Type 0} (t : Standing Base) (p : Program A) (b : ℕ) (stop : Stop) → Halts t (p >>= λ u. done u) b stop → Halts t p b stop
+halts_bare t p b stop h = record { stops = λ k. stop_same _ _ stop (sym (run_bind (out_of t.table t.place) t.place p (λ u. done u) b k)) (h.stops k) }
 
 -- one more of what comes after these
 more_last : {A : Type 0} (answer : Query → ℕ → Out) (w : Place) (p : Program (List A)) (ss : List A) (s : A) (b : ℕ) (k : List A → ℕ → Out)
@@ -102,10 +102,10 @@ shapes_split ss fuel F ts t more xs x rest p is are same = record {
 }
 
 -- a type whose indices are missing
-pub shapes_missing : (t : Table) (w : Place) (p : Program (List TypeShape)) (b : ℕ) (ss : List TypeShape) (fuel : ℕ) (F : Frame) (ts : List BlockType) (x : BlockType) (more : List BlockType) (xs : List (List Tree)) (c : ℕ)
-    → Leads t w p b (shapes_form ss fuel F ts xs) c → ts ≡ x ∷ more → xs ≡ [] → Halts t w p b (Rule BlockShape)
-shapes_missing t w p b ss fuel F ts x more xs c so_far is none = record {
-  stops = λ k. stop_passes _ _ (Rule BlockShape) (so_far.on k) (ap (λ y. run_then (out_of t w) w (shapes_form ss fuel F y xs) c k) is ∙ ap (λ y. run_then (out_of t w) w (shapes_form ss fuel F (x ∷ more) y) c k) none);
+pub shapes_missing : {Base : Type 0} (t : Standing Base) (p : Program (List TypeShape)) (b : ℕ) (ss : List TypeShape) (fuel : ℕ) (F : Frame) (ts : List BlockType) (x : BlockType) (more : List BlockType) (xs : List (List Tree)) (c : ℕ)
+    → Leads t p b (shapes_form ss fuel F ts xs) c → ts ≡ x ∷ more → xs ≡ [] → Halts t p b (No BlockShape)
+shapes_missing t p b ss fuel F ts x more xs c so_far is none = record {
+  stops = λ k. stop_passes _ _ (No BlockShape) (so_far.on k) (ap (λ y. run_then (out_of t.table t.place) t.place (shapes_form ss fuel F y xs) c k) is ∙ ap (λ y. run_then (out_of t.table t.place) t.place (shapes_form ss fuel F (x ∷ more) y) c k) none);
 }
 
 pub turned : {A : Type 0} (xs ys : List A) (x : A) → xs ≡ ys ++ x ∷ [] → reverse xs ≡ x ∷ reverse ys

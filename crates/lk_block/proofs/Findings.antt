@@ -1,24 +1,24 @@
 -- What a program that asks nothing finds, and what its run gives.
 use Rattle.std.proofs.Common.{◌≡◌, ℕ, Bool, true, false, Option, None, Some, Ok, Err, Result, refl, sym, ap, ◌∙◌}
-use Rattle.lk_tree.specs.RuleNo.{RuleNo}
+use Rattle.lk_tree.specs.declared.rule.Rule.{Rule}
 use Rattle.lk_rulebook.specs.Place.{Place, Entry}
 use Rattle.lk_plain.specs.Query.{Query}
-use Rattle.lk_plain.specs.Program.{Program, Table, done, refuse, ask, look, ◌>>=◌}
+use Rattle.lk_plain.specs.Program.{Program, done, refuse, ask, look, ◌>>=◌}
 use Rattle.lk_plain.specs.Answer.{refusal}
 use Rattle.lk_plain.specs.Erased.{Out, stopped, seen, out_of}
 use Rattle.lk_inductive.specs.Nested.{either_holds}
 use Rattle.lk_ask.specs.declared.stop.Stop.{Stop}
-use Rattle.lk_ask.specs.declared.stop.Stop.TheVariants.{Rule, Spent, NoMemory}
-use Rattle.lk_ask.specs.Questions.{rule_no}
-use Rattle.lk_block.specs.Courses.{look_then, run_then, Passes, Gives}
+use Rattle.lk_ask.specs.declared.stop.Stop.TheVariants.{No, Spent, NoMemory}
+use Rattle.lk_ask.specs.Asking.{Standing}
+use Rattle.lk_declaration.specs.Courses.{look_then, run_then, Passes, ComesTo}
 use Rattle.lk_block.specs.Findings.{Finding, found, refused, asking, looked, finding, then_held, Finds}
-use Rattle.lk_block.proofs.Running.{passes_same, passes_on, halts_nowhere}
+use Rattle.lk_declaration.proofs.Running.{passes_same, passes_on, halts_nowhere}
 
 found_same : {A : Type 0} (x y : A) → found x ≡ found y → x ≡ y
 found_same x y h = cc
 
-looked_then : {A B : Type 0} (m : Finding A → Finding B) (o : Option Entry) (flaw : Option RuleNo) (r : RuleNo) (k : Entry → Finding A) (l : Entry → Finding B)
-    → ((s : RuleNo) → m (refused s) ≡ refused s) → ((e : Entry) → m (k e) ≡ l e) → m (looked o flaw r k) ≡ looked o flaw r l
+looked_then : {A B : Type 0} (m : Finding A → Finding B) (o : Option Entry) (flaw : Option Rule) (r : Rule) (k : Entry → Finding A) (l : Entry → Finding B)
+    → ((s : Rule) → m (refused s) ≡ refused s) → ((e : Entry) → m (k e) ≡ l e) → m (looked o flaw r k) ≡ looked o flaw r l
 looked_then m None flaw r k l refuses same = refuses (refusal r flaw)
 looked_then m (Some e) flaw r k l refuses same = same e
 
@@ -49,12 +49,12 @@ pub goes_finding : {A B : Type 0} (w : Place) (p : Program A) (f : A → Program
 unfolding then_found
 goes_finding w p f v h = bind_found w p f ∙ ap (λ x. then_found x (λ u. finding w (f u))) h
 
-pub stops_finding : {A B : Type 0} (w : Place) (p : Program A) (f : A → Program B) (r : RuleNo) → finding w p ≡ refused r → finding w (p >>= f) ≡ refused r
+pub stops_finding : {A B : Type 0} (w : Place) (p : Program A) (f : A → Program B) (r : Rule) → finding w p ≡ refused r → finding w (p >>= f) ≡ refused r
 unfolding then_found
 stops_finding w p f r h = bind_found w p f ∙ ap (λ x. then_found x (λ u. finding w (f u))) h
 
 module _ {A : Type 0} (answer : Query → ℕ → Out) (w : Place) where
-  look_passes : (r : RuleNo) (o : Option Entry) (unit : ℕ) (flaw : Option RuleNo) (g : Entry → Finding A) (k : Entry → Out) (v : A) (out : Out)
+  look_passes : (r : Rule) (o : Option Entry) (unit : ℕ) (flaw : Option Rule) (g : Entry → Finding A) (k : Entry → Out) (v : A) (out : Out)
       → ((e : Entry) → g e ≡ found v → Passes (k e) out) → looked o flaw r g ≡ found v → Passes (look_then r o unit flaw k) out
   look_passes r None unit flaw g k v out next h = absurd cc
   look_passes r (Some e) unit flaw g k v out next h = passes_on _ _ _ (Some unit, refl) (next e h)
@@ -66,12 +66,12 @@ module _ {A : Type 0} (answer : Query → ℕ → Out) (w : Place) where
   found_passes (look r c f) v b k h =
       look_passes r (w.means c) (w.origin c) (w.flaw c) (λ e. finding w (f e)) (λ e. run_then answer w (f e) b k) v (k v b) (λ e i. found_passes (f e) v b k i) h
 
-  look_stops : (r s : RuleNo) (o : Option Entry) (unit : ℕ) (flaw : Option RuleNo) (g : Entry → Finding A) (k : Entry → Out)
+  look_stops : (r s : Rule) (o : Option Entry) (unit : ℕ) (flaw : Option Rule) (g : Entry → Finding A) (k : Entry → Out)
       → ((e : Entry) → g e ≡ refused s → k e ≡ stopped s) → looked o flaw r g ≡ refused s → look_then r o unit flaw k ≡ stopped s
   look_stops r s None unit flaw g k next h = let same : refusal r flaw ≡ s = cc in ap stopped same
   look_stops r s (Some e) unit flaw g k next h = ap (seen (Some unit)) (next e h)
 
-  refused_stops : (p : Program A) (s : RuleNo) (b : ℕ) (k : A → ℕ → Out) → finding w p ≡ refused s → run_then answer w p b k ≡ stopped s
+  refused_stops : (p : Program A) (s : Rule) (b : ℕ) (k : A → ℕ → Out) → finding w p ≡ refused s → run_then answer w p b k ≡ stopped s
   refused_stops (done u) s b k h = absurd cc
   refused_stops (refuse r) s b k h = let same : r ≡ s = cc in ap stopped same
   refused_stops (ask q f) s b k h = absurd cc
@@ -79,8 +79,8 @@ module _ {A : Type 0} (answer : Query → ℕ → Out) (w : Place) where
       look_stops r s (w.means c) (w.origin c) (w.flaw c) (λ e. finding w (f e)) (λ e. run_then answer w (f e) b k) (λ e i. refused_stops (f e) s b k i) h
 
 -- its run costs nothing
-pub finds_gives : {A X : Type 0} (t : Table) (w : Place) (p : Program A) (b : ℕ) (value : X → A) (r : Result X Stop) → Finds (finding w p) value r → Gives t w p b value b r
-finds_gives t w p b value (Ok x) h = record { on = λ k. found_passes (out_of t w) w p (value x) b k h }
-finds_gives t w p b value (Err (Rule r)) h = record { stops = λ k. refused_stops (out_of t w) w p (rule_no r) b k h }
-finds_gives t w p b value (Err Spent) h = absurd h
-finds_gives t w p b value (Err NoMemory) h = halts_nowhere t w p b
+pub finds_gives : {A X Base : Type 0} (t : Standing Base) (p : Program A) (b : ℕ) (value : X → A) (r : Result X Stop) → Finds (finding t.place p) value r → ComesTo t p b value b r
+finds_gives t p b value (Ok x) h = record { on = λ k. found_passes (out_of t.table t.place) t.place p (value x) b k h }
+finds_gives t p b value (Err (No r)) h = record { stops = λ k. refused_stops (out_of t.table t.place) t.place p r b k h }
+finds_gives t p b value (Err Spent) h = absurd h
+finds_gives t p b value (Err NoMemory) h = halts_nowhere t p b

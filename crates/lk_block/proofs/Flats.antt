@@ -2,7 +2,7 @@
 use Rattle.std.proofs.Common.{◌≡◌, Bool, true, false, List, ◌∷◌, sym, ap, subst, ◌∙◌}
 use Rattle.std.specs.Prelude.{not}
 use Rattle.lk_tree.specs.Tree.{Name}
-use Rattle.lk_tree.specs.RuleNo.{nested_form}
+use Rattle.lk_tree.specs.declared.rule.Rule.TheVariants.{NestedForm}
 use Rattle.lk_rulebook.specs.Place.{Place, BlockType, Ctor}
 use Rattle.lk_plain.specs.Program.{Program, ◌>>=◌}
 use Rattle.lk_questions.specs.Steps.{given}
@@ -10,26 +10,25 @@ use Rattle.lk_questions.specs.Declarations.{Yes, checked}
 use Rattle.lk_inductive.specs.Nested.{holds_nested}
 use Rattle.lk_inductive.specs.Flat.{flat_ctors, flat_types}
 use Rattle.lk_ask.specs.declared.stop.Stop.{Stop}
-use Rattle.lk_ask.specs.declared.stop.Stop.TheVariants.{Rule, Spent, NoMemory}
-use Rattle.lk_ask.specs.Questions.{rule_no}
+use Rattle.lk_ask.specs.declared.stop.Stop.TheVariants.{No, Spent, NoMemory}
 use Rattle.lk_block.specs.Findings.{found, refused, finding, FindsNothing}
 use Rattle.lk_block.proofs.Findings.{goes_finding, stops_finding}
 
 -- where the first stops, both do
 nothing_on : {A B : Type 0} (w : Place) (p : Program A) (f : A → Program B) (stop : Stop) → FindsNothing (finding w p) stop → FindsNothing (finding w (p >>= f)) stop
-nothing_on w p f (Rule r) h = stops_finding w p f (rule_no r) h
+nothing_on w p f (No r) h = stops_finding w p f r h
 nothing_on w p f Spent h = absurd h
 nothing_on w p f NoMemory h = tt
 
 module _ (w : Place) (ns : List Name) (cs : List Ctor) (c : Ctor) (more : List Ctor) (is : cs ≡ c ∷ more) where
   after : Bool → Program Yes
-  after nested = given (not nested) nested_form (flat_ctors ns more)
+  after nested = given (not nested) NestedForm (flat_ctors ns more)
 
   pub constructor_flat : (nested : Bool) → finding w (holds_nested ns c.type) ≡ found nested → nested ≡ false → finding w (flat_ctors ns cs) ≡ finding w (flat_ctors ns more)
   unfolding after
   constructor_flat nested h none = ap (λ y. finding w (flat_ctors ns y)) is ∙ goes_finding w (holds_nested ns c.type) after nested h ∙ ap (λ b. finding w (after b)) none
 
-  pub constructor_nested : (nested : Bool) → finding w (holds_nested ns c.type) ≡ found nested → nested ≡ true → finding w (flat_ctors ns cs) ≡ refused nested_form
+  pub constructor_nested : (nested : Bool) → finding w (holds_nested ns c.type) ≡ found nested → nested ≡ true → finding w (flat_ctors ns cs) ≡ refused NestedForm
   unfolding after
   constructor_nested nested h some = ap (λ y. finding w (flat_ctors ns y)) is ∙ goes_finding w (holds_nested ns c.type) after nested h ∙ ap (λ b. finding w (after b)) some
 

@@ -1,16 +1,15 @@
 -- What the checks of constructors know of their block, while the store grows.
-use Rattle.std.proofs.Common.{◌≡◌, ◌<◌, ℕ, List, [], ◌∷◌, length, map, All, refl, ap, ◌∙◌, arith}
+use Rattle.std.proofs.Common.{◌≡◌, ℕ, List, [], ◌∷◌, map, All, refl}
 use Rattle.std.proofs.lemmas.List.Elements.{All-head, All-tail}
 use Rattle.lk_tree.specs.Tree.{Name, Level, Tree}
-use Rattle.lk_store.specs.Contents.{Contents, name_at, level_at, list_at, tree_at, Extends}
-use Rattle.lk_subst.specs.Numbers.{values-steady, values-known, trees-steady, trees-known}
+use Rattle.lk_store.specs.Contents.{Contents, level_at, list_at, tree_at, Extends}
+use Rattle.lk_subst.specs.Numbers.{values-steady, trees-steady}
 use Rattle.lk_env.specs.declared.unit.BlockType.{BlockType}
 use Rattle.lk_env.specs.Units.{IsTypeIn}
 use Rattle.lk_mentions.specs.Names.{names_at}
 use Rattle.lk_inductive.specs.Block as plain
 use Rattle.lk_block.specs.declared.frame.Frame.{Frame}
 use Rattle.lk_block.specs.Frames.{listed_at, frame_at, IsFrameIn}
-use Rattle.lk_block.proofs.Stays.{types_in_stay}
 
 pub listed-steady : (c d : Contents) (ts : List BlockType) → Extends c d → All (IsTypeIn c) ts → listed_at d ts ≡ listed_at c ts
 listed-steady c d [] x h = refl

@@ -1,15 +1,10 @@
 pub mod Counted
-pub mod Running
 pub mod Telescopes
 pub mod Overs
 pub mod Ends
 pub mod Firsts
-pub mod Stepwise
 pub mod Staged
-pub mod Within
-pub mod Settled
 pub mod Stays
-pub mod Leading
 pub mod Sorted
 pub mod Smallness
 pub mod Findings
@@ -25,4 +20,3 @@ pub mod EachField
 pub mod EachConstructor
 pub mod FromTheEnd
 pub mod TypeNames
-pub mod Moves

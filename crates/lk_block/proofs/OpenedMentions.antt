@@ -2,8 +2,8 @@
 use Rattle.std.proofs.Common.{◌≡◌, ◌<◌, ℕ, suc, Bool, true, false, ◌||◌, List, length, map, Option, None, Some, refl, ap, sym, ◌∙◌, arith}
 use Rattle.std.specs.Prelude.{All, IfSome, nat_eq, nat_lt, ◌-◌, if◌then◌else◌}
 use Rattle.lk_tree.specs.Tree.{Name, Tree, var, sort, const, app, lam, pi, let_in, proj, lit, wide, str, local}
-use Rattle.lk_tree.specs.Bind.{open_at, open_var, opened}
-use Rattle.lk_tree.specs.Mentions.{is_one_of, mentions}
+use Rattle.lk_tree.specs.Bind.{open_at, opened}
+use Rattle.lk_tree.specs.Mentions.{mentions}
 use Rattle.lk_store.specs.Contents.{Contents, name_at, tree_at, Extends}
 use Rattle.lk_block.proofs.Stays.{names_stay}
 

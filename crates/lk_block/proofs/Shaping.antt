@@ -1,8 +1,8 @@
 -- What a shape stands for, while the store grows.
-use Rattle.std.proofs.Common.{◌≡◌, ◌<◌, ◌++◌, List, [], ◌∷◌, length, map, All, refl, ap, ◌∙◌, arith}
+use Rattle.std.proofs.Common.{◌≡◌, ◌++◌, List, [], ◌∷◌, map, All, refl, ap, ◌∙◌, arith}
 use Rattle.std.proofs.lemmas.List.{map-append}
 use Rattle.std.proofs.lemmas.List.Elements.{All-weaker}
-use Rattle.lk_store.specs.Contents.{Contents, name_at, Extends}
+use Rattle.lk_store.specs.Contents.{Contents, Extends}
 use Rattle.lk_subst.specs.Numbers.{trees-steady, trees-known}
 use Rattle.lk_block.specs.declared.shape.FieldKind.{FieldKind}
 use Rattle.lk_block.specs.declared.shape.FieldKind.TheVariants.{Plain, Recursive}

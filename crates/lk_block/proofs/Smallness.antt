@@ -1,11 +1,10 @@
 -- Fields that keep a block from being eliminated into every universe, and types and constructors of which there is one.
-use Rattle.std.proofs.Common.{◌≡◌, ℕ, Bool, true, false, ◌||◌, List, [], ◌∷◌, map, All, Result, refl, sym, ap, subst, ◌∙◌, ◌↔◌, IsTrue}
+use Rattle.std.proofs.Common.{◌≡◌, ℕ, Bool, true, false, ◌||◌, List, [], ◌∷◌, map, All, refl, sym, ap, subst, ◌∙◌, ◌↔◌, IsTrue}
 use Rattle.std.specs.Prelude.{if◌then◌else◌}
 use Rattle.std.proofs.lemmas.List.Elements.{All-head, All-tail}
 use Rattle.lk_tree.specs.Tree.{Tree, Level}
 use Rattle.lk_tree.specs.Level.{is_zero_level}
-use Rattle.lk_rulebook.specs.Place.{Place}
-use Rattle.lk_plain.specs.Program.{Program, Table, done, ◌>>=◌}
+use Rattle.lk_plain.specs.Program.{done, ◌>>=◌}
 use Rattle.lk_plain.specs.Erased.{Out}
 use Rattle.lk_questions.specs.Steps.{sort_of}
 use Rattle.lk_inductive.specs.Block as plain
@@ -14,15 +13,16 @@ use Rattle.lk_inductive.specs.BlockSteps.{is_among, small_steps, one_ctor_steps,
 use Rattle.lk_store.specs.Contents.{Contents, tree_at, Extends}
 use Rattle.lk_subst.specs.Numbers.{trees-steady}
 use Rattle.lk_ask.specs.declared.stop.Stop.{Stop}
+use Rattle.lk_ask.specs.Asking.{Standing}
 use Rattle.lk_block.specs.declared.shape.Field.{Field}
 use Rattle.lk_block.specs.declared.shape.ConstructorShape.{ConstructorShape}
 use Rattle.lk_block.specs.declared.shape.TypeShape.{TypeShape}
-use Rattle.lk_block.specs.Courses.{run_then, Goes, Halts, Gives}
+use Rattle.lk_declaration.specs.Courses.{run_then, Goes, Halts}
 use Rattle.lk_block.specs.Shapes.{field_at, constructor_shape_at, type_shape_at, IsFieldIn, IsConstructorShapeIn, IsTypeShapeIn}
 use Rattle.lk_block.specs.Smalls.{small_form}
-use Rattle.lk_block.proofs.Running.{run_bind, halts_first, ends_at}
+use Rattle.lk_declaration.proofs.Running.{run_bind, halts_first, ends_at}
 use Rattle.lk_block.proofs.Arguments.{tree_decides}
-use Rattle.lk_block.proofs.Leading.{Splits}
+use Rattle.lk_declaration.proofs.Leading.{Splits}
 
 module _ (f : ℕ → Tree) (x : Tree) (xs : List ℕ) (y : ℕ) (more : List ℕ) (is : xs ≡ y ∷ more) (r : Bool) (decides : IsTrue r ↔ (x ≡ f y)) where
   pub among_later : r ≡ false → is_among x (map f xs) ≡ is_among x (map f more)
@@ -41,18 +41,18 @@ small_split is is' fs f more x cons same variable = record {
       ∙ ap (λ y. run_then answer w (small_form is' y) b next) (sym variable);
 }
 
-module _ (t : Table) (w : Place) (is : List Tree) (x kind : Tree) (b : ℕ) (is_kind : kind ≡ domain x) where
-  pub small_stops : (stop : Stop) → Halts t w (sort_of kind) b stop → Halts t w (small_form is x) b stop
-  small_stops stop h = halts_first t w (sort_of (domain x)) (λ s. done (is_zero_level s || is_among x is)) b stop (subst (λ q. Halts t w (sort_of q) b stop) is_kind h)
+module _ {Base : Type 0} (t : Standing Base) (is : List Tree) (x ty : Tree) (b : ℕ) (is_type : ty ≡ domain x) where
+  pub small_stops : (stop : Stop) → Halts t (sort_of ty) b stop → Halts t (small_form is x) b stop
+  small_stops stop h = halts_first t (sort_of (domain x)) (λ s. done (is_zero_level s || is_among x is)) b stop (subst (λ q. Halts t (sort_of q) b stop) is_type h)
 
-  small_goes : (s : Level) (c d : ℕ) (z : Bool) → Goes t w (sort_of kind) b s c → z ≡ (is_zero_level s || is_among x is) → d ≡ c → Goes t w (small_form is x) b z d
+  small_goes : (s : Level) (c d : ℕ) (z : Bool) → Goes t (sort_of ty) b s c → z ≡ (is_zero_level s || is_among x is) → d ≡ c → Goes t (small_form is x) b z d
   small_goes s c d z h e kept =
-      ends_at t w (sort_of (domain x)) (λ s. done (is_zero_level s || is_among x is)) b c d s (is_zero_level s || is_among x is) z (subst (λ q. Goes t w (sort_of q) b s c) is_kind h) refl e kept
+      ends_at t (sort_of (domain x)) (λ s. done (is_zero_level s || is_among x is)) b c d s (is_zero_level s || is_among x is) z (subst (λ q. Goes t (sort_of q) b s c) is_type h) refl e kept
 
-  pub small_proof : (s : Level) (c : ℕ) (r : Bool) → Goes t w (sort_of kind) b s c → r ≡ is_zero_level s → r ≡ true → Goes t w (small_form is x) b true c
+  pub small_proof : (s : Level) (c : ℕ) (r : Bool) → Goes t (sort_of ty) b s c → r ≡ is_zero_level s → r ≡ true → Goes t (small_form is x) b true c
   small_proof s c r h e yes_zero = small_goes s c c true h (sym (ap (λ z. z || is_among x is) (sym e ∙ yes_zero))) refl
 
-  pub small_index : (s : Level) (c : ℕ) (r z : Bool) → Goes t w (sort_of kind) b s c → r ≡ is_zero_level s → r ≡ false → z ≡ is_among x is → Goes t w (small_form is x) b z c
+  pub small_index : (s : Level) (c : ℕ) (r z : Bool) → Goes t (sort_of ty) b s c → r ≡ is_zero_level s → r ≡ false → z ≡ is_among x is → Goes t (small_form is x) b z c
   small_index s c r z h e no_zero among = small_goes s c c z h (among ∙ sym (ap (λ z. z || is_among x is) (sym e ∙ no_zero))) refl
 
 -- what is asked of shapes stays

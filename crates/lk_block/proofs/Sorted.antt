@@ -2,8 +2,7 @@
 use Rattle.std.proofs.Common.{◌≡◌, ℕ, List, [], ◌∷◌, map, All, refl, sym, ap, ◌∙◌}
 use Rattle.std.proofs.lemmas.List.Elements.{All-head, All-tail}
 use Rattle.lk_tree.specs.Tree.{Tree, Level}
-use Rattle.lk_rulebook.specs.Place.{Place, BlockType, Ctor}
-use Rattle.lk_plain.specs.Query.{Query}
+use Rattle.lk_rulebook.specs.Place.{BlockType, Ctor}
 use Rattle.lk_plain.specs.Program.{Program, done, ◌>>=◌}
 use Rattle.lk_plain.specs.Erased.{Out}
 use Rattle.lk_questions.specs.Declarations.{Yes, checked}
@@ -12,10 +11,10 @@ use Rattle.lk_inductive.specs.BlockSteps.{ctor_sorts, all_ctor_sorts}
 use Rattle.lk_store.specs.Contents.{Contents, tree_at, Extends}
 use Rattle.lk_env.specs.declared.unit.Constructor.{Constructor}
 use Rattle.lk_env.specs.Units.{constructor_at, IsConstructorIn}
-use Rattle.lk_block.specs.Courses.{run_then}
+use Rattle.lk_declaration.specs.Courses.{run_then}
 use Rattle.lk_block.specs.Sorts.{constructors_form, sorts_form}
-use Rattle.lk_block.proofs.Running.{run_bind, run_same}
-use Rattle.lk_block.proofs.Leading.{Splits}
+use Rattle.lk_declaration.proofs.Running.{run_bind, run_same}
+use Rattle.lk_declaration.proofs.Leading.{Splits}
 
 pub constructors_split : (cs : List Ctor) (c : Ctor) (more : List Ctor) (T : Tree) → cs ≡ c ∷ more → T ≡ c.type → Splits (constructors_form cs) (sort_of T) (λ s. constructors_form more)
 constructors_split cs c more T is same = record {
@@ -52,5 +51,5 @@ constructors_kept c d [] x h = refl
 constructors_kept c d (k ∷ ks) x h =
     let known = All-head (IsConstructorIn c) k ks h in
     let others = constructors_kept c d ks x (All-tail (IsConstructorIn c) k ks h) in
-    ap (λ T. sort_of T >>= λ s. ctor_sorts (map (constructor_at d) ks) >>= λ ss. done (s ∷ ss)) (x.trees.same k.kind known.stated.kind_in)
-    ∙ ap (λ q. sort_of (tree_at c k.kind) >>= λ s. q >>= λ ss. done (s ∷ ss)) others
+    ap (λ T. sort_of T >>= λ s. ctor_sorts (map (constructor_at d) ks) >>= λ ss. done (s ∷ ss)) (x.trees.same k.ty known.stated.ty_in)
+    ∙ ap (λ q. sort_of (tree_at c k.ty) >>= λ s. q >>= λ ss. done (s ∷ ss)) others

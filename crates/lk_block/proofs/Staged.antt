@@ -1,7 +1,7 @@
 -- A task runs as its pieces run one after another.
 use Rattle.std.proofs.Common.{◌≡◌, ℕ, suc, ◌-◌, ◌++◌, true, Option, None, Some, List, [], refl, sym, subst}
-use Rattle.lk_tree.specs.RuleNo.{RuleNo}
-use Rattle.lk_rulebook.specs.Place.{Place, Entry, Block, Rec, type_names}
+use Rattle.lk_tree.specs.declared.rule.Rule.{Rule}
+use Rattle.lk_rulebook.specs.Place.{Place, Entry, Block, BlockRecursor, type_names}
 use Rattle.lk_rulebook.specs.Units.{Members, of_block, place_of, partial_types, partial_members}
 use Rattle.lk_plain.specs.Query.{Query, AnswerTo, core, whnf, infer, same}
 use Rattle.lk_plain.specs.Program.{Program, Table, done, refuse, ask, look}
@@ -17,7 +17,7 @@ use Rattle.lk_inductive.specs.Flat.{flat_types}
 use Rattle.lk_inductive.specs.FlatTask.{flat_recs}
 use Rattle.lk_inductive.specs.Task.{Task, done_with, here, give_partial, ◌>>=◌, run_task}
 use Rattle.lk_block.specs.Stages.{recursors_stage, shape_stage, flat_stage, sorts_stage, types_stage}
-use Rattle.lk_block.specs.Courses.{answer_then, look_then, run_then}
+use Rattle.lk_declaration.specs.Courses.{answer_then, look_then, run_then}
 use Rattle.lk_block.specs.Agreeing.{Agrees, FlatGoesByStages}
 
 after_agrees : {A : Type 0} (c : ℕ) (t s : Option ℕ) (o : Outcome A) (p : Out) → Agrees o p → Agrees (after c t o) (seen s p)
@@ -43,7 +43,7 @@ asked_agrees q b (answered v c t) next k h = subst (λ p. Agrees (after c t (nex
 asked_agrees q b (refused r) next k h = refl
 asked_agrees q b spent next k h = tt
 
-looked_agrees : {A : Type 0} (r : RuleNo) (e : Option Entry) (unit : ℕ) (flaw : Option RuleNo) (next : Entry → Outcome A) (k : Entry → Out)
+looked_agrees : {A : Type 0} (r : Rule) (e : Option Entry) (unit : ℕ) (flaw : Option Rule) (next : Entry → Outcome A) (k : Entry → Out)
     → ((e : Entry) → Agrees (next e) (k e)) → Agrees (looked_up r e unit flaw next) (look_then r e unit flaw k)
 looked_agrees r None unit flaw next k h = refl
 looked_agrees r (Some e) unit flaw next k h = after_agrees 0 (Some unit) (Some unit) (next e) (k e) (h e)
@@ -84,14 +84,14 @@ goes_by_stages table us n b rs budget =
     (types_steps (parameters_of b) b.types) rest)
     (counts_steps b) budget
   where
-    flat_rest : Block → List Rec → ℕ → TypeParts → Task Shape
+    flat_rest : Block → List BlockRecursor → ℕ → TypeParts → Task Shape
     flat_rest b rs fuel ts = here (shape_steps fuel b ts) >>= flat_recs b rs
 
-    sorts_rest : Block → List Rec → ℕ → TypeParts → Task Shape
+    sorts_rest : Block → List BlockRecursor → ℕ → TypeParts → Task Shape
     sorts_rest b rs fuel ts = here (flat_types (type_names b.types) b.types) >>= λ z. flat_rest b rs fuel ts
 
-    types_rest : Block → List Rec → ℕ → TypeParts → Task Shape
+    types_rest : Block → List BlockRecursor → ℕ → TypeParts → Task Shape
     types_rest b rs fuel ts = give_partial (partial_types b) >>= λ h. here (all_ctor_sorts b.types) >>= λ ls. sorts_rest b rs fuel ts
 
-    whole_rest : Block → List Rec → ℕ → Task Shape
+    whole_rest : Block → List BlockRecursor → ℕ → Task Shape
     whole_rest b rs fuel = here (types_steps (parameters_of b) b.types) >>= types_rest b rs fuel

@@ -1,8 +1,7 @@
 -- Members of a block stand for what they stood for, once a store has grown.
-use Rattle.std.proofs.Common.{◌≡◌, ◌<◌, ℕ, List, [], ◌∷◌, length, map, All, refl, ap, arith}
+use Rattle.std.proofs.Common.{◌≡◌, ◌<◌, ℕ, List, [], ◌∷◌, length, map, All, refl, arith}
 use Rattle.std.proofs.lemmas.List.Elements.{All-weaker, All-head, All-tail}
-use Rattle.lk_rulebook.specs.Place.{Ctor, BlockType as PlainType, RecRule, Rec}
-use Rattle.lk_store.specs.Contents.{Contents, name_at, tree_at, Extends}
+use Rattle.lk_store.specs.Contents.{Contents, name_at, Extends}
 use Rattle.lk_env.specs.declared.unit.Constructor.{Constructor}
 use Rattle.lk_env.specs.declared.unit.BlockType.{BlockType}
 use Rattle.lk_env.specs.declared.unit.RecursorRule.{RecursorRule}
@@ -21,20 +20,20 @@ module _ (c d : Contents) (x : Extends c d) where
   pub names_in_stay : (ns : List ℕ) → All (λ n. n < length c.names) ns → All (λ n. n < length d.names) ns
   names_in_stay = All-weaker (λ n. n < length c.names) (λ n. n < length d.names) (λ n small. let longer = x.names.longer in omega arith)
 
-  stated_stays : (name : ℕ) (levels : List ℕ) (kind : ℕ) → IsStatedIn c name levels kind → IsStatedIn d name levels kind
-  stated_stays name levels kind h = record {
+  stated_stays : (name : ℕ) (levels : List ℕ) (ty : ℕ) → IsStatedIn c name levels ty → IsStatedIn d name levels ty
+  stated_stays name levels ty h = record {
     name_in = let small = h.name_in in let longer = x.names.longer in omega arith;
     levels_in = names_in_stay levels h.levels_in;
-    kind_in = let small = h.kind_in in let longer = x.trees.longer in omega arith;
+    ty_in = let small = h.ty_in in let longer = x.trees.longer in omega arith;
   }
 
   pub constructor_stays : (k : Constructor) → IsConstructorIn c k → constructor_at d k ≡ constructor_at c k
   constructor_stays k h =
-      rw (x.names.same k.name h.stated.name_in, names_stay k.levels.items h.stated.levels_in, x.trees.same k.kind h.stated.kind_in, x.names.same k.parent h.parent_in) refl
+      rw (x.names.same k.name h.stated.name_in, names_stay k.levels.items h.stated.levels_in, x.trees.same k.ty h.stated.ty_in, x.names.same k.parent h.parent_in) refl
 
   constructor_in_stays : (k : Constructor) → IsConstructorIn c k → IsConstructorIn d k
   constructor_in_stays k h = record {
-    stated = stated_stays k.name k.levels.items k.kind h.stated;
+    stated = stated_stays k.name k.levels.items k.ty h.stated;
     parent_in = let small = h.parent_in in let longer = x.names.longer in omega arith;
   }
 
@@ -43,11 +42,11 @@ module _ (c d : Contents) (x : Extends c d) where
 
   pub type_stays : (t : BlockType) → IsTypeIn c t → type_at d t ≡ type_at c t
   type_stays t h =
-      rw (x.names.same t.name h.stated.name_in, names_stay t.levels.items h.stated.levels_in, x.trees.same t.kind h.stated.kind_in, constructors_stay t.constructors.items h.constructors_in) refl
+      rw (x.names.same t.name h.stated.name_in, names_stay t.levels.items h.stated.levels_in, x.trees.same t.ty h.stated.ty_in, constructors_stay t.constructors.items h.constructors_in) refl
 
   pub type_in_stays : (t : BlockType) → IsTypeIn c t → IsTypeIn d t
   type_in_stays t h = record {
-    stated = stated_stays t.name t.levels.items t.kind h.stated;
+    stated = stated_stays t.name t.levels.items t.ty h.stated;
     constructors_in = All-weaker (IsConstructorIn c) (IsConstructorIn d) constructor_in_stays t.constructors.items h.constructors_in;
   }
 
@@ -68,11 +67,11 @@ module _ (c d : Contents) (x : Extends c d) where
 
   pub recursor_stays : (r : Recursor) → IsRecursorIn c r → recursor_at d r ≡ recursor_at c r
   recursor_stays r h =
-      rw (x.names.same r.name h.stated.name_in, names_stay r.levels.items h.stated.levels_in, x.trees.same r.kind h.stated.kind_in, all_stay (IsRuleIn c) (rule_at d) (rule_at c) rule_stays r.rules.items h.rules_in) refl
+      rw (x.names.same r.name h.stated.name_in, names_stay r.levels.items h.stated.levels_in, x.trees.same r.ty h.stated.ty_in, all_stay (IsRuleIn c) (rule_at d) (rule_at c) rule_stays r.rules.items h.rules_in) refl
 
   pub recursor_in_stays : (r : Recursor) → IsRecursorIn c r → IsRecursorIn d r
   recursor_in_stays r h = record {
-    stated = stated_stays r.name r.levels.items r.kind h.stated;
+    stated = stated_stays r.name r.levels.items r.ty h.stated;
     rules_in = All-weaker (IsRuleIn c) (IsRuleIn d) rule_in_stays r.rules.items h.rules_in;
   }
 

@@ -1,6 +1,6 @@
 -- The outcome of a check, told in two ways: as the outcome of a task, and as what its pieces come to one after another.
 use Rattle.std.specs.Prelude.{ℕ, ◌≡◌, suc, List}
-use Rattle.lk_rulebook.specs.Place.{Block, Rec}
+use Rattle.lk_rulebook.specs.Place.{Block, BlockRecursor}
 use Rattle.lk_rulebook.specs.Units.{Library, of_block, place_of}
 use Rattle.lk_plain.specs.Answer.{Outcome, answered, refused, spent}
 use Rattle.lk_plain.specs.Erased.{Out, finished, stopped, used_up}
@@ -18,5 +18,5 @@ Agrees _ _ = ⊥
 
 -- so it is with the plain outcome of a block as unit n and that of its stages
 abbrev pub FlatGoesByStages : Type 0
-FlatGoesByStages = (table : Table) (us : Library) (n : ℕ) (b : Block) (rs : List Rec) (budget : ℕ)
+FlatGoesByStages = (table : Table) (us : Library) (n : ℕ) (b : Block) (rs : List BlockRecursor) (budget : ℕ)
     → Agrees (plain_flat table us n b rs budget) (block_stages table (λ p. place_of us n (partial_of (of_block b rs) p)) (suc budget) b rs budget)

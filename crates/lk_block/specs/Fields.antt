@@ -1,8 +1,8 @@
 -- The fields of a constructor, as the code asks them.
-use Rattle.std.specs.Prelude.{ℕ, suc, List}
+use Rattle.std.specs.Prelude.{ℕ, suc}
 use Rattle.lk_tree.specs.Tree.{Tree, local}
 use Rattle.lk_tree.specs.Bind.{opened}
-use Rattle.lk_tree.specs.RuleNo.{field_universe}
+use Rattle.lk_tree.specs.declared.rule.Rule.TheVariants.{FieldUniverse}
 use Rattle.lk_plain.specs.Program.{Program, done, ◌>>=◌}
 use Rattle.lk_questions.specs.Steps.{given}
 use Rattle.lk_inductive.specs.Block.{Frame, FieldKind, Field}
@@ -11,7 +11,7 @@ use Rattle.lk_block.specs.Forms.{pi_form}
 
 -- the kind of a field by its type, which is to fit in the universe of the block
 abbrev pub kind_form : ℕ → Frame → ℕ → Tree → Program FieldKind
-kind_form fuel F j A = fits_in F.sort A >>= λ allowed. given allowed field_universe (walk fuel F j A)
+kind_form fuel F j A = fits_in F.sort A >>= λ allowed. given allowed FieldUniverse (walk fuel F j A)
 
 -- the field that the Local number j stands for
 abbrev pub field_form : ℕ → Frame → ℕ → Tree → Tree → Program Field

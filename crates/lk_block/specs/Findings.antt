@@ -1,20 +1,19 @@
 -- What a program that asks nothing finds out at a place, where it only looks names up.
 use Rattle.std.specs.Prelude.{◌≡◌, Bool, true, false, Option, Some, None, Ok, Err, Result}
-use Rattle.lk_tree.specs.RuleNo.{RuleNo}
+use Rattle.lk_tree.specs.declared.rule.Rule.{Rule}
 use Rattle.lk_rulebook.specs.Place.{Place, Entry}
 use Rattle.lk_plain.specs.Program.{Program, done, refuse, ask, look}
 use Rattle.lk_plain.specs.Answer.{refusal}
 use Rattle.lk_ask.specs.declared.stop.Stop.{Stop}
-use Rattle.lk_ask.specs.declared.stop.Stop.TheVariants.{Rule, Spent, NoMemory}
-use Rattle.lk_ask.specs.Questions.{rule_no}
+use Rattle.lk_ask.specs.declared.stop.Stop.TheVariants.{No, Spent, NoMemory}
 
 -- asking: a question is met
 pub data Finding (A : Type 0) : Type 0 where
   found : A → Finding A
-  refused : RuleNo → Finding A
+  refused : Rule → Finding A
   asking : Finding A
 
-abbrev pub looked : {A : Type 0} → Option Entry → Option RuleNo → RuleNo → (Entry → Finding A) → Finding A
+abbrev pub looked : {A : Type 0} → Option Entry → Option Rule → Rule → (Entry → Finding A) → Finding A
 looked None flaw r k = refused (refusal r flaw)
 looked (Some e) flaw r k = k e
 
@@ -33,7 +32,7 @@ then_held asking q = asking
 
 -- it is what the result says
 abbrev pub FindsNothing : {A : Type 0} → Finding A → Stop → Type 0
-FindsNothing p (Rule r) = p ≡ refused (rule_no r)
+FindsNothing p (No r) = p ≡ refused r
 FindsNothing p Spent = ⊥
 FindsNothing p NoMemory = Unit {0}
 

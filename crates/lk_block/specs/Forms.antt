@@ -3,17 +3,17 @@ use Rattle.std.specs.Prelude.{ℕ, List, length}
 use Rattle.lk_tree.specs.Tree.{Level, Tree, local}
 use Rattle.lk_tree.specs.Bind.{opened}
 use Rattle.lk_tree.specs.LevelTest.{level_test}
-use Rattle.lk_tree.specs.RuleNo.{block_shape, parameter_differs}
+use Rattle.lk_tree.specs.declared.rule.Rule.TheVariants.{BlockShape, ParameterDiffers}
 use Rattle.lk_plain.specs.Query.{whnf, same}
 use Rattle.lk_plain.specs.Program.{Program, done, asked, ◌>>=◌}
-use Rattle.lk_questions.specs.Steps.{given, as_pi, as_sort, sort_of}
+use Rattle.lk_questions.specs.Steps.{given, as_pi, sort_of}
 use Rattle.lk_questions.specs.Levels.{tested}
 use Rattle.lk_inductive.specs.Block.{domain}
 use Rattle.lk_inductive.specs.BlockSteps.{as_level, over, type_end}
 
 -- the domain and the body of the weak head form, which is to be a Pi
 abbrev pub pi_form : Tree → Program (Tree × Tree)
-pi_form r = asked (whnf r) >>= λ R. as_pi block_shape R
+pi_form r = asked (whnf r) >>= λ R. as_pi BlockShape R
 
 -- the Local number j for the Pi, and what is left, opened with it
 abbrev pub local_form : ℕ → Tree → Program (Tree × Tree)
@@ -21,15 +21,11 @@ local_form j r = pi_form r >>= λ p. done (local j p.0, opened p.1 (local j p.0)
 
 -- the body with the Local put in, whose type the domain is to be
 abbrev pub put_form : Tree → Tree → Tree → Program Tree
-put_form P A B = asked (same A (domain P)) >>= λ equal. given equal parameter_differs (done (opened B P))
+put_form P A B = asked (same A (domain P)) >>= λ equal. given equal ParameterDiffers (done (opened B P))
 
 -- what is left once the Local is put in, whose type the Pi's domain is to be
 abbrev pub over_form : Tree → Tree → Program Tree
 over_form P r = pi_form r >>= λ p. put_form P p.0 p.1
-
--- the level of the sort that a type is to be
-abbrev pub sort_form : Tree → Program Level
-sort_form T = asked (whnf T) >>= λ S. as_sort S
 
 -- the level of the sort that the end of a type of the block is to be
 abbrev pub level_form : Tree → Program Level
@@ -37,7 +33,7 @@ level_form r = asked (whnf r) >>= λ S. as_level S
 
 -- the end of a type, whose level is to be this one: its indices
 abbrev pub end_form : ℕ → ℕ → Level → Tree → Program (List Tree)
-end_form j n l r = type_end j n r >>= λ e. tested (level_test e.1 l) >>= λ equal. given equal block_shape (done e.0)
+end_form j n l r = type_end j n r >>= λ e. tested (level_test e.1 l) >>= λ equal. given equal BlockShape (done e.0)
 
 -- a type after the first one, by its type and its number of indices
 abbrev pub next_form : List Tree → Level → ℕ → Tree → Program (List Tree)

@@ -1,15 +1,14 @@
 pub mod Counts
-pub mod Courses
 pub mod Forms
 pub mod Parts
 pub mod Shapes
 pub mod Stages
 pub mod Agreeing
-pub mod Settling
 pub mod Sorts
 pub mod Smalls
 pub mod Findings
 pub mod Nestings
+pub mod Held
 pub mod Frames
 pub mod Members
 pub mod Positive

@@ -1,17 +1,17 @@
--- The walk of a tree for a nested occurrence: what is found at its parts, and what is known on the way.
-use Rattle.std.specs.Prelude.{◌≡◌, ℕ, ◌<◌, ◌+◌, ◌⊎◌, Bool, true, false, List, [], ◌∷◌, ◌++◌, length, map, sum_by, All, Option, Some, None, Ok, Err, Result}
+-- The walk of a tree for a nested occurrence: what is found at its parts, and what is kept of them.
+use Rattle.std.specs.Prelude.{◌≡◌, ℕ, ◌<◌, Bool, true, false, List, length, All, Option, Some, None, Ok, Err, Result}
 use Rattle.lk_tree.specs.Tree.{Name, Tree, const, app, lam, pi, let_in, proj}
 use Rattle.lk_tree.specs.Spine.{head, args}
 use Rattle.lk_rulebook.specs.Place.{Place}
 use Rattle.lk_plain.specs.Program.{Program}
 use Rattle.lk_inductive.specs.Nested.{holds_head, holds_nested}
-use Rattle.lk_store.specs.Contents.{Contents, name_at, tree_at}
+use Rattle.lk_store.specs.Contents.{Contents, tree_at}
 use Rattle.lk_store.specs.declared.node.Node.{Node}
 use Rattle.lk_store.specs.declared.node.Node.TheVariants as node
+use Rattle.lk_seek.specs.Sought.{Findings, Sought}
+use Rattle.lk_seek.specs.Trees.{in_trees}
 use Rattle.lk_mentions.specs.declared.part.Met.{Met}
-use Rattle.lk_mentions.specs.declared.part.Visit.{Visit}
 use Rattle.lk_mentions.specs.Names.{names_at}
-use Rattle.lk_mentions.specs.Parts.{closed, opened, part_cost}
 use Rattle.lk_mentions.specs.Walks.{AreClear}
 use Rattle.lk_ask.specs.declared.stop.Stop.{Stop}
 use Rattle.lk_block.specs.declared.spines.Spine.{Spine}
@@ -39,15 +39,6 @@ function_at c None = None
 abbrev pub function_in : Node → Option ℕ
 function_in (node.App f a) = Some f
 function_in _ = None
-
--- the parts of a node from the last to the first
-abbrev pub parts_back : Node → List ℕ
-parts_back (node.App f a) = a ∷ f ∷ []
-parts_back (node.Lam A b) = b ∷ A ∷ []
-parts_back (node.Pi A B) = B ∷ A ∷ []
-parts_back (node.Let A v b) = b ∷ v ∷ A ∷ []
-parts_back (node.Proj S i s) = s ∷ []
-parts_back _ = []
 
 -- the number of arguments, and the head
 pub record IsSpine (c : Contents) (e : ℕ) (s : Spine) : Type 0 where
@@ -83,45 +74,17 @@ IsTreeTest w ns e (Ok true) = nested_in w ns e ≡ found true
 IsTreeTest w ns e (Ok false) = nested_in w ns e ≡ nested_below w ns e
 IsTreeTest w ns e (Err stop) = FindsNothing (nested_in w ns e) stop
 
--- an opened tree waits for its parts, which stand above it
-abbrev pub found_where : Bool → Finding Bool → Finding Bool
-found_where true p = found false
-found_where false p = p
+-- what may be found: a nested occurrence, or the refusal of a look-up
+abbrev pub nestings : Findings Stop
+nestings = record { Found = Finding Bool; found = found; then = then_held; stops = FindsNothing }
 
-abbrev pub visit_found : Place → List Name → Contents → Visit → Finding Bool
-visit_found w ns c v = found_where v.opened (nested_in w ns (tree_at c v.tree))
-
--- what stands on the stack is walked from its top
-abbrev pub visits_found : Place → List Name → Contents → List Visit → Finding Bool
-visits_found w ns c [] = found false
-visits_found w ns c (v ∷ vs) = then_held (visits_found w ns c vs) (visit_found w ns c v)
+-- what the walk looks for in the trees of a store
+abbrev pub nested : Place → List Name → Contents → Sought ℕ Stop
+nested w ns c = in_trees nestings (nested_in w ns) c
 
 -- each tree that was walked holds no nested occurrence
 abbrev pub AreFlat : Place → List Name → Contents → List Met → Type 0
 AreFlat w ns c met = All (λ (m : Met). nested_in w ns (tree_at c m.tree) ≡ found false) met
-
--- an opened tree holds none once what stands above it does not
-abbrev pub Owes : Place → List Name → Contents → List Visit → Type 0
-Owes w ns c [] = Unit {0}
-Owes w ns c (v ∷ vs) = (v.opened ≡ true → visits_found w ns c vs ≡ found false → nested_in w ns (tree_at c v.tree) ≡ found false) × Owes w ns c vs
-
--- a tree is put on the stack again, with its parts above it
-pub record IsOpened (w : Place) (ns : List Name) (c : Contents) (e : ℕ) (old new : List Visit) : Type 0 where
-  pub children : List ℕ
-  pub pushed : new ≡ old ++ opened e ∷ map closed children
-  pub known : All (λ p. p < length c.trees) children
-  pub cheaper : sum_by (part_cost c) children + 1 < part_cost c e
-  pub finds : visits_found w ns c (map closed children) ≡ nested_in w ns (tree_at c e)
-
--- nothing is left of a tree that holds none, or it is opened
-abbrev pub IsEntered : Place → List Name → Contents → ℕ → List Visit → List Visit → Type 0
-IsEntered w ns c e old new = ((new ≡ old) × (nested_in w ns (tree_at c e) ≡ found false)) ⊎ IsOpened w ns c e old new
-
--- what became of a tree from the top of the stack
-abbrev pub IsLooked : Place → List Name → Contents → ℕ → List Visit → List Visit → Result Bool Stop → Type 0
-IsLooked w ns c e old new (Ok true) = nested_in w ns (tree_at c e) ≡ found true
-IsLooked w ns c e old new (Ok false) = IsEntered w ns c e old new
-IsLooked w ns c e old new (Err stop) = FindsNothing (nested_in w ns (tree_at c e)) stop
 
 -- what is kept of the trees that were walked
 pub record AreWalked (w : Place) (c : Contents) (ks : List ℕ) (t : Walked) : Type 0 where

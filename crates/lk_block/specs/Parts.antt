@@ -2,7 +2,7 @@
 use Rattle.std.specs.Prelude.{ℕ, List, [], ◌∷◌, ◌++◌, ◌<◌, length, map, All}
 use Rattle.lk_tree.specs.Tree.{Level, Tree}
 use Rattle.lk_tree.specs.LevelTest.{level_test}
-use Rattle.lk_tree.specs.RuleNo.{block_shape}
+use Rattle.lk_tree.specs.declared.rule.Rule.TheVariants.{BlockShape}
 use Rattle.lk_rulebook.specs.Place.{BlockType}
 use Rattle.lk_plain.specs.Program.{Program, done, ◌>>=◌}
 use Rattle.lk_questions.specs.Steps.{given, sort_of}
@@ -33,7 +33,7 @@ more_form is ps l ts = next_types ps l ts >>= λ xs. done (is ++ xs)
 
 -- the end of the first type: its level is compared with itself, as the others with it
 abbrev pub self_form : ℕ → ℕ → Tree → Program (List Tree × Level)
-self_form j n r = type_end j n r >>= λ e. tested (level_test e.1 e.1) >>= λ equal. given equal block_shape (done e)
+self_form j n r = type_end j n r >>= λ e. tested (level_test e.1 e.1) >>= λ equal. given equal BlockShape (done e)
 
 abbrev pub first_parts : List Tree → List Tree × Level → PlainParts
 first_parts ps e = record { params = ps; sort = e.1; indices = e.0 ∷ [] }

@@ -4,7 +4,7 @@ use Rattle.lk_tree.specs.Tree.{Name, Tree, pi, local}
 use Rattle.lk_tree.specs.Bind.{opened}
 use Rattle.lk_tree.specs.Spine.{head, args}
 use Rattle.lk_tree.specs.Mentions.{mentions}
-use Rattle.lk_tree.specs.RuleNo.{not_positive}
+use Rattle.lk_tree.specs.declared.rule.Rule.TheVariants.{NotPositive}
 use Rattle.lk_plain.specs.Query.{whnf}
 use Rattle.lk_plain.specs.Program.{Program, done, refuse, asked, ◌>>=◌}
 use Rattle.lk_store.specs.Contents.{Contents, tree_at}
@@ -30,10 +30,10 @@ under_all ys (recursive zs T is) = recursive (ys ++ zs) T is
 
 abbrev pub member_step : Option (Name × List Tree) → Program Walked
 member_step (Some t) = done (ends (Some t))
-member_step None = refuse not_positive
+member_step None = refuse NotPositive
 
 abbrev pub under_step : Frame → ℕ → Tree → Tree → Program Walked
-under_step F j D E = if mentions F.names D then refuse not_positive else done (goes_under (local j D) (opened E (local j D)))
+under_step F j D E = if mentions F.names D then refuse NotPositive else done (goes_under (local j D) (opened E (local j D)))
 
 -- a weak head form that mentions a type of the block
 abbrev pub inner_step : Frame → ℕ → Tree → Program Walked

@@ -6,7 +6,7 @@ ghost use Rattle.lk_store.specs.Contents.{Contents, name_at, level_at, tree_at, 
 ghost use Rattle.lk_env.specs.Units.{type_at, IsTypeIn};
 ghost use Rattle.lk_inductive.specs.Block.{levels_of, frame_of};
 ghost use Rattle.lk_inductive.specs.BlockSteps.{shape_steps};
-ghost use Rattle.lk_block.specs.Courses.{Gives};
+ghost use Rattle.lk_declaration.specs.Courses.{ComesTo};
 ghost use Rattle.lk_block.specs.Frames.{frame_at, IsFrameIn};
 ghost use Rattle.lk_block.specs.Parts.{parts_at, lists_at, ArePartsIn, AreListsIn};
 ghost use Rattle.lk_block.specs.Shapes.{shape_at, type_shape_at, IsShapeIn, IsTypeShapeIn, AreTreesIn};
@@ -60,9 +60,7 @@ pub fn names_of(alloc: Global, types: &[BlockType]) -> Result<Names, NoMemory>
 fn own_levels<A: Asks>(asks: &mut A, types: &[BlockType]) -> Result<u64, NoMemory>
     requires { All (IsTypeIn (A.contents asks.old)) types.now }
     ensures keeps { Extends (A.contents asks.old) (A.contents asks.new) }
-    ensures basis { A.basis asks.new ≡ A.basis asks.old }
-    ensures table { A.table asks.new ≡ A.table asks.old }
-    ensures place { A.place asks.new ≡ A.place asks.old }
+    ensures stays { A.standing asks.new ≡ A.standing asks.old }
     ensures left { A.left asks.new ≡ A.left asks.old }
     ensures ok { IfOk result (λ ls. IsList (A.contents asks.new) ls
         (map param (levels_of (block_of (map (type_at (A.contents asks.old)) types.now))))) }
@@ -82,9 +80,7 @@ fn frame_of<'a, A: Asks>(
     requires parameters_in { AreTreesIn (A.contents asks.old) parameters.now }
     requires sort_in { sort < length (A.contents asks.old).levels }
     ensures keeps { Extends (A.contents asks.old) (A.contents asks.new) }
-    ensures basis { A.basis asks.new ≡ A.basis asks.old }
-    ensures table { A.table asks.new ≡ A.table asks.old }
-    ensures place { A.place asks.new ≡ A.place asks.old }
+    ensures stays { A.standing asks.new ≡ A.standing asks.old }
     ensures left { A.left asks.new ≡ A.left asks.old }
     ensures known { IfOk result (IsFrameIn (A.contents asks.new)) }
     ensures frame { IfOk result (λ f. frame_at (A.contents asks.new) f
@@ -117,21 +113,16 @@ fn types_of<A: Asks>(
     requires sort_in { sort < length (A.contents asks.old).levels }
     requires indices_in { AreListsIn (A.contents asks.old) indices.items }
     ensures keeps { Extends (A.contents asks.old) (A.contents asks.new) }
-    ensures basis { A.basis asks.new ≡ A.basis asks.old }
-    ensures table { A.table asks.new ≡ A.table asks.old }
-    ensures place { A.place asks.new ≡ A.place asks.old }
+    ensures stays { A.standing asks.new ≡ A.standing asks.old }
     ensures known { IfOk result (λ v. All (IsTypeShapeIn (A.contents asks.new)) v.items) }
     ensures outcome { (fuel : ℕ) → A.left asks.old < fuel
-        → Gives (A.table asks.old) (A.place asks.old)
+        → ComesTo (A.standing asks.old)
         (shapes_form fuel (map (type_at (A.contents asks.old)) types.now)
         (map (tree_at (A.contents asks.old)) parameters.now) (level_at (A.contents asks.old) sort)
         (lists_at (A.contents asks.old) indices.items)) (A.left asks.old)
         (λ v. map (type_shape_at (A.contents asks.new)) v.items) (A.left asks.new) result }
 {
-    let frame = match frame_of(alloc, asks, types, parameters, sort) {
-        Ok(frame) => frame,
-        Err(_) => return Err(Stop::NoMemory),
-    };
+    let frame = frame_of(alloc, asks, types, parameters, sort)?;
     check_constructors(alloc, asks, &frame, types, indices)
 }
 
@@ -176,12 +167,10 @@ pub fn check_shape<A: Asks>(
     requires types_in { All (IsTypeIn (A.contents asks.old)) types.now }
     requires parts_in { ArePartsIn (A.contents asks.old) parts }
     ensures keeps { Extends (A.contents asks.old) (A.contents asks.new) }
-    ensures basis { A.basis asks.new ≡ A.basis asks.old }
-    ensures table { A.table asks.new ≡ A.table asks.old }
-    ensures place { A.place asks.new ≡ A.place asks.old }
+    ensures stays { A.standing asks.new ≡ A.standing asks.old }
     ensures known { IfOk result (IsShapeIn (A.contents asks.new)) }
     ensures outcome { (fuel : ℕ) → A.left asks.old < fuel
-        → Gives (A.table asks.old) (A.place asks.old)
+        → ComesTo (A.standing asks.old)
         (shape_steps fuel (block_of (map (type_at (A.contents asks.old)) types.now))
         (parts_at (A.contents asks.old) parts)) (A.left asks.old) (shape_at (A.contents asks.new))
         (A.left asks.new) result }
@@ -191,16 +180,7 @@ pub fn check_shape<A: Asks>(
         sort,
         indices,
     } = parts;
-    let shapes = match types_of(alloc, asks, types, &parameters, sort, indices) {
-        Ok(shapes) => shapes,
-        Err(stop) => return Err(stop),
-    };
-    let large = match may_be_large(alloc, asks, sort, &shapes) {
-        Ok(large) => large,
-        Err(stop) => return Err(stop),
-    };
-    match shape_of(alloc, types, parameters, sort, shapes, large) {
-        Ok(shape) => Ok(shape),
-        Err(_) => Err(Stop::NoMemory),
-    }
+    let shapes = types_of(alloc, asks, types, &parameters, sort, indices)?;
+    let large = may_be_large(alloc, asks, sort, &shapes)?;
+    Ok(shape_of(alloc, types, parameters, sort, shapes, large)?)
 }

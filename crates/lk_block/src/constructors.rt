@@ -5,14 +5,13 @@ ghost use Rattle.lk_tree.specs.Spine.{head, args};
 ghost use Rattle.lk_store.specs.Contents.{name_at, tree_at, Extends};
 ghost use Rattle.lk_env.specs.Units.{constructor_at, type_at, IsConstructorIn, IsTypeIn};
 ghost use Rattle.lk_inductive.specs.BlockSteps.{as_member, own_indices, ctors_steps, shapes_steps};
-ghost use Rattle.lk_block.specs.Courses.{Gives, Settles};
+ghost use Rattle.lk_declaration.specs.Courses.{ComesTo, Settles};
 ghost use Rattle.lk_block.specs.Frames.{frame_at, IsFrameIn};
 ghost use Rattle.lk_block.specs.Members.{member_at, IsMemberIn};
 ghost use Rattle.lk_block.specs.Parts.{lists_at, AreListsIn};
 ghost use Rattle.lk_block.specs.Shapes.{constructor_shape_at, type_shape_at, AreTreesIn, IsConstructorShapeIn, IsTypeShapeIn};
 ghost use Rattle.lk_block.specs.Constructors.{result_form, rest_form, constructor_form, type_form};
 
-use crate::asking::form_of;
 use crate::counts::names_equal;
 use crate::fields::fields;
 use crate::frame::Frame;
@@ -20,10 +19,11 @@ use crate::members::{Member, as_member};
 use crate::over::over;
 use crate::shape::{ConstructorShape, TypeShape};
 use lk_ask::asks::Asks;
-use lk_ask::rule::Rule;
 use lk_ask::stop::Stop;
+use lk_declaration::asking::form_of;
 use lk_env::unit::{BlockType, Constructor};
 use lk_store::terms::Terms;
+use lk_tree::rule::Rule;
 use std::alloc::Global;
 
 /// The indices of an applied type of the block, which must be the type of this name.
@@ -38,7 +38,7 @@ fn indices_of<T: Terms>(terms: &T, parent: u64, member: Member) -> Result<Vec<u6
     if names_equal(terms, member.name, parent) {
         Ok(member.indices)
     } else {
-        Err(Stop::Rule(Rule::ConstructorResult))
+        Err(Stop::No(Rule::ConstructorResult))
     }
 }
 
@@ -54,9 +54,7 @@ fn indices_in<A: Asks>(
     requires parent_in { parent < length (A.contents asks.old).names }
     requires form_in { form < length (A.contents asks.old).trees }
     ensures keeps { Extends (A.contents asks.old) (A.contents asks.new) }
-    ensures basis { A.basis asks.new ≡ A.basis asks.old }
-    ensures table { A.table asks.new ≡ A.table asks.old }
-    ensures place { A.place asks.new ≡ A.place asks.old }
+    ensures stays { A.standing asks.new ≡ A.standing asks.old }
     ensures left { A.left asks.new ≡ A.left asks.old }
     ensures known { IfOk result (λ v. AreTreesIn (A.contents asks.new) v.items) }
     ensures indices { Settles (own_indices (name_at (A.contents asks.old) parent)
@@ -66,7 +64,7 @@ fn indices_in<A: Asks>(
 {
     match as_member(alloc, asks, frame, form) {
         Ok(Some(member)) => indices_of(asks, parent, member),
-        Ok(None) => Err(Stop::Rule(Rule::ConstructorResult)),
+        Ok(None) => Err(Stop::No(Rule::ConstructorResult)),
         Err(_) => Err(Stop::NoMemory),
     }
 }
@@ -83,19 +81,15 @@ fn result_of<A: Asks>(
     requires parent_in { parent < length (A.contents asks.old).names }
     requires e_in { e < length (A.contents asks.old).trees }
     ensures keeps { Extends (A.contents asks.old) (A.contents asks.new) }
-    ensures basis { A.basis asks.new ≡ A.basis asks.old }
-    ensures table { A.table asks.new ≡ A.table asks.old }
-    ensures place { A.place asks.new ≡ A.place asks.old }
+    ensures stays { A.standing asks.new ≡ A.standing asks.old }
     ensures known { IfOk result (λ v. AreTreesIn (A.contents asks.new) v.items) }
-    ensures outcome { Gives (A.table asks.old) (A.place asks.old)
+    ensures outcome { ComesTo (A.standing asks.old)
         (result_form (frame_at (A.contents asks.old) frame.now)
         (name_at (A.contents asks.old) parent) (tree_at (A.contents asks.old) e)) (A.left asks.old)
         (λ v. map (tree_at (A.contents asks.new)) v.items) (A.left asks.new) result }
 {
-    match form_of(asks, e) {
-        Ok(form) => indices_in(alloc, asks, frame, parent, form),
-        Err(stop) => Err(stop),
-    }
+    let form = form_of(asks, e)?;
+    indices_in(alloc, asks, frame, parent, form)
 }
 
 /// A constructor by what is left of its type past the parameters: its name, its fields, and its indices in its parent.
@@ -113,30 +107,23 @@ fn rest_of<A: Asks>(
     requires name_in { name < length (A.contents asks.old).names }
     requires e_in { e < length (A.contents asks.old).trees }
     ensures keeps { Extends (A.contents asks.old) (A.contents asks.new) }
-    ensures basis { A.basis asks.new ≡ A.basis asks.old }
-    ensures table { A.table asks.new ≡ A.table asks.old }
-    ensures place { A.place asks.new ≡ A.place asks.old }
+    ensures stays { A.standing asks.new ≡ A.standing asks.old }
     ensures known { IfOk result (IsConstructorShapeIn (A.contents asks.new)) }
     ensures outcome { (fuel : ℕ) → A.left asks.old < fuel
-        → Gives (A.table asks.old) (A.place asks.old)
+        → ComesTo (A.standing asks.old)
         (rest_form fuel (frame_at (A.contents asks.old) frame.now)
         (name_at (A.contents asks.old) parent) (name_at (A.contents asks.old) name) count
         (tree_at (A.contents asks.old) e)) (A.left asks.old)
         (constructor_shape_at (A.contents asks.new)) (A.left asks.new) result }
 {
     let first = frame.parameters.len() as u64;
-    let opened = match fields(alloc, asks, frame, first, count, e) {
-        Ok(opened) => opened,
-        Err(stop) => return Err(stop),
-    };
-    match result_of(alloc, asks, frame, parent, opened.1) {
-        Ok(indices) => Ok(ConstructorShape {
-            name,
-            fields: opened.0,
-            indices,
-        }),
-        Err(stop) => Err(stop),
-    }
+    let opened = fields(alloc, asks, frame, first, count, e)?;
+    let indices = result_of(alloc, asks, frame, parent, opened.1)?;
+    Ok(ConstructorShape {
+        name,
+        fields: opened.0,
+        indices,
+    })
 }
 
 /// The check of one constructor: its parameters are those of the block, its fields are positive and fit in the block's
@@ -148,28 +135,24 @@ fn constructor_of<A: Asks>(
     parent: u64,
     name: u64,
     count: u64,
-    kind: u64,
+    ty: u64,
 ) -> Result<ConstructorShape, Stop>
     requires frame_in { IsFrameIn (A.contents asks.old) frame.now }
     requires parent_in { parent < length (A.contents asks.old).names }
     requires name_in { name < length (A.contents asks.old).names }
-    requires kind_in { kind < length (A.contents asks.old).trees }
+    requires ty_in { ty < length (A.contents asks.old).trees }
     ensures keeps { Extends (A.contents asks.old) (A.contents asks.new) }
-    ensures basis { A.basis asks.new ≡ A.basis asks.old }
-    ensures table { A.table asks.new ≡ A.table asks.old }
-    ensures place { A.place asks.new ≡ A.place asks.old }
+    ensures stays { A.standing asks.new ≡ A.standing asks.old }
     ensures known { IfOk result (IsConstructorShapeIn (A.contents asks.new)) }
     ensures outcome { (fuel : ℕ) → A.left asks.old < fuel
-        → Gives (A.table asks.old) (A.place asks.old)
+        → ComesTo (A.standing asks.old)
         (constructor_form fuel (frame_at (A.contents asks.old) frame.now)
         (name_at (A.contents asks.old) parent) (name_at (A.contents asks.old) name) count
-        (tree_at (A.contents asks.old) kind)) (A.left asks.old)
+        (tree_at (A.contents asks.old) ty)) (A.left asks.old)
         (constructor_shape_at (A.contents asks.new)) (A.left asks.new) result }
 {
-    match over(alloc, asks, frame.parameters, kind) {
-        Ok(rest) => rest_of(alloc, asks, frame, parent, name, count, rest),
-        Err(stop) => Err(stop),
-    }
+    let rest = over(alloc, asks, frame.parameters, ty)?;
+    rest_of(alloc, asks, frame, parent, name, count, rest)
 }
 
 /// The checks of a type's constructors.
@@ -184,12 +167,10 @@ fn constructors_of<A: Asks>(
     requires parent_in { parent < length (A.contents asks.old).names }
     requires constructors_in { All (IsConstructorIn (A.contents asks.old)) constructors.now }
     ensures keeps { Extends (A.contents asks.old) (A.contents asks.new) }
-    ensures basis { A.basis asks.new ≡ A.basis asks.old }
-    ensures table { A.table asks.new ≡ A.table asks.old }
-    ensures place { A.place asks.new ≡ A.place asks.old }
+    ensures stays { A.standing asks.new ≡ A.standing asks.old }
     ensures known { IfOk result (λ v. All (IsConstructorShapeIn (A.contents asks.new)) v.items) }
     ensures outcome { (fuel : ℕ) → A.left asks.old < fuel
-        → Gives (A.table asks.old) (A.place asks.old)
+        → ComesTo (A.standing asks.old)
         (ctors_steps fuel (frame_at (A.contents asks.old) frame.now)
         (name_at (A.contents asks.old) parent)
         (map (constructor_at (A.contents asks.old)) constructors.now)) (A.left asks.old)
@@ -198,18 +179,15 @@ fn constructors_of<A: Asks>(
     let mut shapes: Vec<ConstructorShape> = Vec::new(alloc);
     let mut rest = constructors;
     'constructors: while let Some((stated, more)) = rest.split_first() {
-        let shape = match constructor_of(
+        let shape = constructor_of(
             alloc,
             asks,
             frame,
             parent,
             stated.name,
             stated.fields,
-            stated.kind,
-        ) {
-            Ok(shape) => shape,
-            Err(stop) => return Err(stop),
-        };
+            stated.ty,
+        )?;
         match shapes.push(shape) {
             Ok(_) => {}
             Err(_) => return Err(Stop::NoMemory),
@@ -231,26 +209,22 @@ fn type_of<A: Asks>(
     requires stated_in { IsTypeIn (A.contents asks.old) stated.now }
     requires indices_in { AreTreesIn (A.contents asks.old) indices.items }
     ensures keeps { Extends (A.contents asks.old) (A.contents asks.new) }
-    ensures basis { A.basis asks.new ≡ A.basis asks.old }
-    ensures table { A.table asks.new ≡ A.table asks.old }
-    ensures place { A.place asks.new ≡ A.place asks.old }
+    ensures stays { A.standing asks.new ≡ A.standing asks.old }
     ensures known { IfOk result (IsTypeShapeIn (A.contents asks.new)) }
     ensures outcome { (fuel : ℕ) → A.left asks.old < fuel
-        → Gives (A.table asks.old) (A.place asks.old)
+        → ComesTo (A.standing asks.old)
         (type_form fuel (frame_at (A.contents asks.old) frame.now)
         (name_at (A.contents asks.old) stated.now.name)
         (map (constructor_at (A.contents asks.old)) stated.now.constructors.items)
         (map (tree_at (A.contents asks.old)) indices.items)) (A.left asks.old)
         (type_shape_at (A.contents asks.new)) (A.left asks.new) result }
 {
-    match constructors_of(alloc, asks, frame, stated.name, &stated.constructors) {
-        Ok(constructors) => Ok(TypeShape {
-            name: stated.name,
-            indices,
-            constructors,
-        }),
-        Err(stop) => Err(stop),
-    }
+    let constructors = constructors_of(alloc, asks, frame, stated.name, &stated.constructors)?;
+    Ok(TypeShape {
+        name: stated.name,
+        indices,
+        constructors,
+    })
 }
 
 /// The checks of the constructors of a block's types, of which each has these Locals of its indices.
@@ -265,12 +239,10 @@ pub fn check_constructors<A: Asks>(
     requires types_in { All (IsTypeIn (A.contents asks.old)) types.now }
     requires indices_in { AreListsIn (A.contents asks.old) indices.items }
     ensures keeps { Extends (A.contents asks.old) (A.contents asks.new) }
-    ensures basis { A.basis asks.new ≡ A.basis asks.old }
-    ensures table { A.table asks.new ≡ A.table asks.old }
-    ensures place { A.place asks.new ≡ A.place asks.old }
+    ensures stays { A.standing asks.new ≡ A.standing asks.old }
     ensures known { IfOk result (λ v. All (IsTypeShapeIn (A.contents asks.new)) v.items) }
     ensures outcome { (fuel : ℕ) → A.left asks.old < fuel
-        → Gives (A.table asks.old) (A.place asks.old)
+        → ComesTo (A.standing asks.old)
         (shapes_steps fuel (frame_at (A.contents asks.old) frame.now)
         (map (type_at (A.contents asks.old)) types.now)
         (lists_at (A.contents asks.old) indices.items)) (A.left asks.old)
@@ -283,12 +255,9 @@ pub fn check_constructors<A: Asks>(
     'types: while let Some((stated, more)) = rest.split_first() {
         let own = match waiting.pop() {
             Some(own) => own,
-            None => return Err(Stop::Rule(Rule::BlockShape)),
+            None => return Err(Stop::No(Rule::BlockShape)),
         };
-        let shape = match type_of(alloc, asks, frame, stated, own) {
-            Ok(shape) => shape,
-            Err(stop) => return Err(stop),
-        };
+        let shape = type_of(alloc, asks, frame, stated, own)?;
         match shapes.push(shape) {
             Ok(_) => {}
             Err(_) => return Err(Stop::NoMemory),

@@ -4,15 +4,15 @@ ghost use Rattle.std.specs.Prelude.{◌≡◌, ◌<◌, length, map, All, IfOk};
 ghost use Rattle.lk_tree.specs.Tree.{zero_level, succ_level};
 ghost use Rattle.lk_store.specs.Contents.{level_at, tree_at, level_of, IsLevelIn, Extends, IsLevel};
 ghost use Rattle.lk_inductive.specs.BlockSteps.{is_among, small_steps, one_ctor_steps, one_type_steps, large_steps};
-ghost use Rattle.lk_block.specs.Courses.{Gives, Settles};
+ghost use Rattle.lk_declaration.specs.Courses.{ComesTo, Settles};
 ghost use Rattle.lk_block.specs.Shapes.{field_at, constructor_shape_at, type_shape_at, AreTreesIn, IsFieldIn, IsConstructorShapeIn, IsTypeShapeIn};
 ghost use Rattle.lk_block.specs.Smalls.{small_form, above_form};
 
-use crate::asking::{is_at_most, sort_of};
 use crate::over::domain_of;
 use crate::shape::{ConstructorShape, Field, TypeShape};
 use lk_ask::asks::Asks;
 use lk_ask::stop::Stop;
+use lk_declaration::asking::{is_at_most, sort_of};
 use lk_level_order::zero::is_zero;
 use lk_store::memory::NoMemory;
 use lk_store::node::LevelNode;
@@ -23,9 +23,7 @@ use std::alloc::Global;
 fn build_level<A: Asks>(asks: &mut A, node: LevelNode) -> Result<u64, NoMemory>
     requires { IsLevelIn (A.contents asks.old) node }
     ensures keeps { Extends (A.contents asks.old) (A.contents asks.new) }
-    ensures basis { A.basis asks.new ≡ A.basis asks.old }
-    ensures table { A.table asks.new ≡ A.table asks.old }
-    ensures place { A.place asks.new ≡ A.place asks.old }
+    ensures stays { A.standing asks.new ≡ A.standing asks.old }
     ensures left { A.left asks.new ≡ A.left asks.old }
     ensures ok { IfOk result (λ l. IsLevel (A.contents asks.new) l
         (level_of (A.contents asks.old) node)) }
@@ -36,9 +34,7 @@ fn build_level<A: Asks>(asks: &mut A, node: LevelNode) -> Result<u64, NoMemory>
 /// The level 1.
 fn level_one<A: Asks>(asks: &mut A) -> Result<u64, NoMemory>
     ensures keeps { Extends (A.contents asks.old) (A.contents asks.new) }
-    ensures basis { A.basis asks.new ≡ A.basis asks.old }
-    ensures table { A.table asks.new ≡ A.table asks.old }
-    ensures place { A.place asks.new ≡ A.place asks.old }
+    ensures stays { A.standing asks.new ≡ A.standing asks.old }
     ensures left { A.left asks.new ≡ A.left asks.old }
     ensures ok { IfOk result (λ l. IsLevel (A.contents asks.new) l (succ_level zero_level)) }
 {
@@ -50,16 +46,12 @@ fn level_one<A: Asks>(asks: &mut A) -> Result<u64, NoMemory>
 fn is_above_zero<A: Asks>(alloc: Global, asks: &mut A, level: u64) -> Result<bool, Stop>
     requires { level < length (A.contents asks.old).levels }
     ensures keeps { Extends (A.contents asks.old) (A.contents asks.new) }
-    ensures basis { A.basis asks.new ≡ A.basis asks.old }
-    ensures table { A.table asks.new ≡ A.table asks.old }
-    ensures place { A.place asks.new ≡ A.place asks.old }
+    ensures stays { A.standing asks.new ≡ A.standing asks.old }
     ensures left { A.left asks.new ≡ A.left asks.old }
     ensures outcome { Settles (above_form (level_at (A.contents asks.old) level)) (λ r. r) result }
 {
-    match level_one(asks) {
-        Ok(one) => is_at_most(alloc, asks, one, level),
-        Err(_) => Err(Stop::NoMemory),
-    }
+    let one = level_one(asks)?;
+    is_at_most(alloc, asks, one, level)
 }
 
 /// Whether a term is among these.
@@ -89,23 +81,18 @@ fn is_small<A: Asks>(
     requires indices_in { AreTreesIn (A.contents asks.old) indices.now }
     requires variable_in { variable < length (A.contents asks.old).trees }
     ensures keeps { Extends (A.contents asks.old) (A.contents asks.new) }
-    ensures basis { A.basis asks.new ≡ A.basis asks.old }
-    ensures table { A.table asks.new ≡ A.table asks.old }
-    ensures place { A.place asks.new ≡ A.place asks.old }
-    ensures outcome { Gives (A.table asks.old) (A.place asks.old)
+    ensures stays { A.standing asks.new ≡ A.standing asks.old }
+    ensures outcome { ComesTo (A.standing asks.old)
         (small_form (map (tree_at (A.contents asks.old)) indices.now)
         (tree_at (A.contents asks.old) variable)) (A.left asks.old) (λ r. r)
         (A.left asks.new) result }
 {
-    let kind = domain_of(asks, variable);
-    let level = match sort_of(asks, kind) {
-        Ok(level) => level,
-        Err(stop) => return Err(stop),
-    };
-    match is_zero(alloc, asks, level) {
-        Ok(true) => Ok(true),
-        Ok(false) => Ok(is_among(asks, variable, indices)),
-        Err(_) => Err(Stop::NoMemory),
+    let ty = domain_of(asks, variable);
+    let level = sort_of(asks, ty)?;
+    if is_zero(alloc, asks, level)? {
+        Ok(true)
+    } else {
+        Ok(is_among(asks, variable, indices))
     }
 }
 
@@ -119,20 +106,15 @@ fn are_small<A: Asks>(
     requires indices_in { AreTreesIn (A.contents asks.old) indices.now }
     requires fields_in { All (IsFieldIn (A.contents asks.old)) fields.now }
     ensures keeps { Extends (A.contents asks.old) (A.contents asks.new) }
-    ensures basis { A.basis asks.new ≡ A.basis asks.old }
-    ensures table { A.table asks.new ≡ A.table asks.old }
-    ensures place { A.place asks.new ≡ A.place asks.old }
-    ensures outcome { Gives (A.table asks.old) (A.place asks.old)
+    ensures stays { A.standing asks.new ≡ A.standing asks.old }
+    ensures outcome { ComesTo (A.standing asks.old)
         (small_steps (map (tree_at (A.contents asks.old)) indices.now)
         (map (field_at (A.contents asks.old)) fields.now)) (A.left asks.old) (λ r. r)
         (A.left asks.new) result }
 {
     let mut rest = fields;
     'fields: while let Some((field, more)) = rest.split_first() {
-        let small = match is_small(alloc, asks, indices, field.variable) {
-            Ok(small) => small,
-            Err(stop) => return Err(stop),
-        };
+        let small = is_small(alloc, asks, indices, field.variable)?;
         if !small {
             return Ok(false);
         }
@@ -149,10 +131,8 @@ fn has_small_constructor<A: Asks>(
 ) -> Result<bool, Stop>
     requires { All (IsConstructorShapeIn (A.contents asks.old)) constructors.now }
     ensures keeps { Extends (A.contents asks.old) (A.contents asks.new) }
-    ensures basis { A.basis asks.new ≡ A.basis asks.old }
-    ensures table { A.table asks.new ≡ A.table asks.old }
-    ensures place { A.place asks.new ≡ A.place asks.old }
-    ensures outcome { Gives (A.table asks.old) (A.place asks.old)
+    ensures stays { A.standing asks.new ≡ A.standing asks.old }
+    ensures outcome { ComesTo (A.standing asks.old)
         (one_ctor_steps (map (constructor_shape_at (A.contents asks.old)) constructors.now))
         (A.left asks.old) (λ r. r) (A.left asks.new) result }
 {
@@ -172,10 +152,8 @@ fn has_small_constructor<A: Asks>(
 fn has_small_type<A: Asks>(alloc: Global, asks: &mut A, types: &[TypeShape]) -> Result<bool, Stop>
     requires { All (IsTypeShapeIn (A.contents asks.old)) types.now }
     ensures keeps { Extends (A.contents asks.old) (A.contents asks.new) }
-    ensures basis { A.basis asks.new ≡ A.basis asks.old }
-    ensures table { A.table asks.new ≡ A.table asks.old }
-    ensures place { A.place asks.new ≡ A.place asks.old }
-    ensures outcome { Gives (A.table asks.old) (A.place asks.old)
+    ensures stays { A.standing asks.new ≡ A.standing asks.old }
+    ensures outcome { ComesTo (A.standing asks.old)
         (one_type_steps (map (type_shape_at (A.contents asks.old)) types.now)) (A.left asks.old)
         (λ r. r) (A.left asks.new) result }
 {
@@ -202,17 +180,15 @@ pub fn may_be_large<A: Asks>(
     requires sort_in { sort < length (A.contents asks.old).levels }
     requires types_in { All (IsTypeShapeIn (A.contents asks.old)) types.now }
     ensures keeps { Extends (A.contents asks.old) (A.contents asks.new) }
-    ensures basis { A.basis asks.new ≡ A.basis asks.old }
-    ensures table { A.table asks.new ≡ A.table asks.old }
-    ensures place { A.place asks.new ≡ A.place asks.old }
-    ensures outcome { Gives (A.table asks.old) (A.place asks.old)
+    ensures stays { A.standing asks.new ≡ A.standing asks.old }
+    ensures outcome { ComesTo (A.standing asks.old)
         (large_steps (level_at (A.contents asks.old) sort)
         (map (type_shape_at (A.contents asks.old)) types.now)) (A.left asks.old) (λ r. r)
         (A.left asks.new) result }
 {
-    match is_above_zero(alloc, asks, sort) {
-        Ok(true) => Ok(true),
-        Ok(false) => has_small_type(alloc, asks, types),
-        Err(stop) => Err(stop),
+    if is_above_zero(alloc, asks, sort)? {
+        Ok(true)
+    } else {
+        has_small_type(alloc, asks, types)
     }
 }

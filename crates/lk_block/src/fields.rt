@@ -3,21 +3,22 @@
 ghost use Rattle.std.specs.Prelude.{◌≡◌, ◌<◌, ℕ, length, map, All, IfOk};
 ghost use Rattle.lk_store.specs.Contents.{level_at, tree_at, Extends};
 ghost use Rattle.lk_inductive.specs.BlockSteps.{fits, fits_in, fields_steps};
-ghost use Rattle.lk_block.specs.Courses.{Gives};
+ghost use Rattle.lk_declaration.specs.Courses.{ComesTo};
 ghost use Rattle.lk_block.specs.Frames.{frame_at, IsFrameIn};
 ghost use Rattle.lk_block.specs.Shapes.{kind_at, field_at, IsKindIn, IsFieldIn};
 ghost use Rattle.lk_block.specs.Fields.{kind_form, field_form, next_field};
 
-use crate::asking::{is_at_most, pi_of, sort_of};
+use crate::asking::pi_of;
 use crate::frame::Frame;
 use crate::numbers::{keep, number_after};
 use crate::positive::walk;
 use crate::shape::{Field, FieldKind};
 use crate::telescope::open_local;
 use lk_ask::asks::Asks;
-use lk_ask::rule::Rule;
 use lk_ask::stop::Stop;
+use lk_declaration::asking::{is_at_most, sort_of};
 use lk_level_order::zero::is_zero;
+use lk_tree::rule::Rule;
 use std::alloc::Global;
 
 /// Whether the level of a type's sort is at most this one.
@@ -25,17 +26,13 @@ fn fits<A: Asks>(alloc: Global, asks: &mut A, level: u64, domain: u64) -> Result
     requires level_in { level < length (A.contents asks.old).levels }
     requires domain_in { domain < length (A.contents asks.old).trees }
     ensures keeps { Extends (A.contents asks.old) (A.contents asks.new) }
-    ensures basis { A.basis asks.new ≡ A.basis asks.old }
-    ensures table { A.table asks.new ≡ A.table asks.old }
-    ensures place { A.place asks.new ≡ A.place asks.old }
-    ensures outcome { Gives (A.table asks.old) (A.place asks.old)
+    ensures stays { A.standing asks.new ≡ A.standing asks.old }
+    ensures outcome { ComesTo (A.standing asks.old)
         (fits (level_at (A.contents asks.old) level) (tree_at (A.contents asks.old) domain))
         (A.left asks.old) (λ r. r) (A.left asks.new) result }
 {
-    match sort_of(asks, domain) {
-        Ok(own) => is_at_most(alloc, asks, own, level),
-        Err(stop) => Err(stop),
-    }
+    let own = sort_of(asks, domain)?;
+    is_at_most(alloc, asks, own, level)
 }
 
 /// Whether a type may be that of a field where the block's types have a sort at this level: each may, where that is 0.
@@ -43,17 +40,15 @@ fn fits_in<A: Asks>(alloc: Global, asks: &mut A, level: u64, domain: u64) -> Res
     requires level_in { level < length (A.contents asks.old).levels }
     requires domain_in { domain < length (A.contents asks.old).trees }
     ensures keeps { Extends (A.contents asks.old) (A.contents asks.new) }
-    ensures basis { A.basis asks.new ≡ A.basis asks.old }
-    ensures table { A.table asks.new ≡ A.table asks.old }
-    ensures place { A.place asks.new ≡ A.place asks.old }
-    ensures outcome { Gives (A.table asks.old) (A.place asks.old)
+    ensures stays { A.standing asks.new ≡ A.standing asks.old }
+    ensures outcome { ComesTo (A.standing asks.old)
         (fits_in (level_at (A.contents asks.old) level) (tree_at (A.contents asks.old) domain))
         (A.left asks.old) (λ r. r) (A.left asks.new) result }
 {
-    match is_zero(alloc, asks, level) {
-        Ok(true) => Ok(true),
-        Ok(false) => fits(alloc, asks, level, domain),
-        Err(_) => Err(Stop::NoMemory),
+    if is_zero(alloc, asks, level)? {
+        Ok(true)
+    } else {
+        fits(alloc, asks, level, domain)
     }
 }
 
@@ -68,20 +63,18 @@ fn kind_of_field<A: Asks>(
     requires frame_in { IsFrameIn (A.contents asks.old) frame.now }
     requires domain_in { domain < length (A.contents asks.old).trees }
     ensures keeps { Extends (A.contents asks.old) (A.contents asks.new) }
-    ensures basis { A.basis asks.new ≡ A.basis asks.old }
-    ensures table { A.table asks.new ≡ A.table asks.old }
-    ensures place { A.place asks.new ≡ A.place asks.old }
+    ensures stays { A.standing asks.new ≡ A.standing asks.old }
     ensures known { IfOk result (IsKindIn (A.contents asks.new)) }
     ensures outcome { (fuel : ℕ) → A.left asks.old < fuel
-        → Gives (A.table asks.old) (A.place asks.old)
+        → ComesTo (A.standing asks.old)
         (kind_form fuel (frame_at (A.contents asks.old) frame.now) number
         (tree_at (A.contents asks.old) domain)) (A.left asks.old) (kind_at (A.contents asks.new))
         (A.left asks.new) result }
 {
-    match fits_in(alloc, asks, frame.sort, domain) {
-        Ok(true) => walk(alloc, asks, frame, number, domain),
-        Ok(false) => Err(Stop::Rule(Rule::FieldUniverse)),
-        Err(stop) => Err(stop),
+    if fits_in(alloc, asks, frame.sort, domain)? {
+        walk(alloc, asks, frame, number, domain)
+    } else {
+        Err(Stop::No(Rule::FieldUniverse))
     }
 }
 
@@ -98,24 +91,17 @@ fn field_of<A: Asks>(
     requires domain_in { domain < length (A.contents asks.old).trees }
     requires variable_in { variable < length (A.contents asks.old).trees }
     ensures keeps { Extends (A.contents asks.old) (A.contents asks.new) }
-    ensures basis { A.basis asks.new ≡ A.basis asks.old }
-    ensures table { A.table asks.new ≡ A.table asks.old }
-    ensures place { A.place asks.new ≡ A.place asks.old }
+    ensures stays { A.standing asks.new ≡ A.standing asks.old }
     ensures known { IfOk result (IsFieldIn (A.contents asks.new)) }
     ensures outcome { (fuel : ℕ) → A.left asks.old < fuel
-        → Gives (A.table asks.old) (A.place asks.old)
+        → ComesTo (A.standing asks.old)
         (field_form fuel (frame_at (A.contents asks.old) frame.now) number
         (tree_at (A.contents asks.old) domain) (tree_at (A.contents asks.old) variable))
         (A.left asks.old) (field_at (A.contents asks.new)) (A.left asks.new) result }
 {
-    let next = match number_after(number) {
-        Ok(next) => next,
-        Err(_) => return Err(Stop::NoMemory),
-    };
-    match kind_of_field(alloc, asks, frame, next, domain) {
-        Ok(kind) => Ok(Field { variable, kind }),
-        Err(stop) => Err(stop),
-    }
+    let next = number_after(number)?;
+    let kind = kind_of_field(alloc, asks, frame, next, domain)?;
+    Ok(Field { variable, kind })
 }
 
 /// The field of the Pi that a term's weak head form is to be, and what is left, opened with the Local of a number.
@@ -129,30 +115,20 @@ fn next_field<A: Asks>(
     requires frame_in { IsFrameIn (A.contents asks.old) frame.now }
     requires e_in { e < length (A.contents asks.old).trees }
     ensures keeps { Extends (A.contents asks.old) (A.contents asks.new) }
-    ensures basis { A.basis asks.new ≡ A.basis asks.old }
-    ensures table { A.table asks.new ≡ A.table asks.old }
-    ensures place { A.place asks.new ≡ A.place asks.old }
+    ensures stays { A.standing asks.new ≡ A.standing asks.old }
     ensures field_known { IfOk result (λ p. IsFieldIn (A.contents asks.new) p.0) }
     ensures rest_known { IfOk result (λ p. p.1 < length (A.contents asks.new).trees) }
     ensures outcome { (fuel : ℕ) → A.left asks.old < fuel
-        → Gives (A.table asks.old) (A.place asks.old)
+        → ComesTo (A.standing asks.old)
         (next_field fuel (frame_at (A.contents asks.old) frame.now) number
         (tree_at (A.contents asks.old) e)) (A.left asks.old)
         (λ p. (field_at (A.contents asks.new) p.0, tree_at (A.contents asks.new) p.1))
         (A.left asks.new) result }
 {
-    let parts = match pi_of(asks, e) {
-        Ok(parts) => parts,
-        Err(stop) => return Err(stop),
-    };
-    let opened = match open_local(alloc, asks, number, parts.0, parts.1) {
-        Ok(opened) => opened,
-        Err(_) => return Err(Stop::NoMemory),
-    };
-    match field_of(alloc, asks, frame, number, parts.0, opened.0) {
-        Ok(field) => Ok((field, opened.1)),
-        Err(stop) => Err(stop),
-    }
+    let parts = pi_of(asks, e)?;
+    let opened = open_local(alloc, asks, number, parts.0, parts.1)?;
+    let field = field_of(alloc, asks, frame, number, parts.0, opened.0)?;
+    Ok((field, opened.1))
 }
 
 /// So many fields of a term, with Locals from a number on, and what is left.
@@ -167,13 +143,11 @@ pub fn fields<A: Asks>(
     requires frame_in { IsFrameIn (A.contents asks.old) frame.now }
     requires e_in { e < length (A.contents asks.old).trees }
     ensures keeps { Extends (A.contents asks.old) (A.contents asks.new) }
-    ensures basis { A.basis asks.new ≡ A.basis asks.old }
-    ensures table { A.table asks.new ≡ A.table asks.old }
-    ensures place { A.place asks.new ≡ A.place asks.old }
+    ensures stays { A.standing asks.new ≡ A.standing asks.old }
     ensures fields_known { IfOk result (λ t. All (IsFieldIn (A.contents asks.new)) t.0.items) }
     ensures rest_known { IfOk result (λ t. t.1 < length (A.contents asks.new).trees) }
     ensures outcome { (fuel : ℕ) → A.left asks.old < fuel
-        → Gives (A.table asks.old) (A.place asks.old)
+        → ComesTo (A.standing asks.old)
         (fields_steps fuel (frame_at (A.contents asks.old) frame.now) first count
         (tree_at (A.contents asks.old) e)) (A.left asks.old)
         (λ t. (map (field_at (A.contents asks.new)) t.0.items, tree_at (A.contents asks.new) t.1))
@@ -184,14 +158,8 @@ pub fn fields<A: Asks>(
     let mut left = count;
     let mut rest = e;
     'fields: while left > 0 {
-        let next = match next_field(alloc, asks, frame, number, rest) {
-            Ok(next) => next,
-            Err(stop) => return Err(stop),
-        };
-        number = match keep(&mut found, next.0, number) {
-            Ok(after) => after,
-            Err(_) => return Err(Stop::NoMemory),
-        };
+        let next = next_field(alloc, asks, frame, number, rest)?;
+        number = keep(&mut found, next.0, number)?;
         rest = next.1;
         left -= 1;
     }

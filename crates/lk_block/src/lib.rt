@@ -2,7 +2,7 @@
 //! constructors, and whether it may be eliminated into every universe.
 #![tactic(auto)]
 
-pub mod asking;
+mod asking;
 pub mod block;
 mod constructors;
 pub mod counts;
@@ -21,3 +21,5 @@ pub mod sorts;
 mod spines;
 mod telescope;
 pub mod types;
+
+pub use block::{check_shape, names_of};

@@ -211,9 +211,7 @@ fn own_name<A: Asks>(asks: &mut A, levels: u64, head: u64) -> Result<Option<u64>
     requires levels_in { levels < length (A.contents asks.old).lists }
     requires head_in { head < length (A.contents asks.old).trees }
     ensures keeps { Extends (A.contents asks.old) (A.contents asks.new) }
-    ensures basis { A.basis asks.new ≡ A.basis asks.old }
-    ensures table { A.table asks.new ≡ A.table asks.old }
-    ensures place { A.place asks.new ≡ A.place asks.old }
+    ensures stays { A.standing asks.new ≡ A.standing asks.old }
     ensures left { A.left asks.new ≡ A.left asks.old }
     ensures known { IfOk result (λ o. IfSome o (λ n. n < length (A.contents asks.new).names)) }
     ensures name { IfOk result (λ o. named_at (A.contents asks.new) o
@@ -242,9 +240,7 @@ pub(crate) fn as_member<A: Asks>(
     requires frame_in { IsFrameIn (A.contents asks.old) frame.now }
     requires e_in { e < length (A.contents asks.old).trees }
     ensures keeps { Extends (A.contents asks.old) (A.contents asks.new) }
-    ensures basis { A.basis asks.new ≡ A.basis asks.old }
-    ensures table { A.table asks.new ≡ A.table asks.old }
-    ensures place { A.place asks.new ≡ A.place asks.old }
+    ensures stays { A.standing asks.new ≡ A.standing asks.old }
     ensures left { A.left asks.new ≡ A.left asks.old }
     ensures known { IfOk result (λ o. IfSome o (IsMemberIn (A.contents asks.new))) }
     ensures member { IfOk result (λ o. member_at (A.contents asks.new) o

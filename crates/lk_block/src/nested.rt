@@ -1,8 +1,7 @@
-//! Whether a type of a block occurs nested in the types of its constructors: among the arguments of another type, which
-//! has just these arguments as its parameters.
+//! Whether a type of a block occurs nested in the types of its constructors: among the arguments of
+//! another type, which has just these arguments as its parameters.
 
-ghost use Rattle.std.specs.Prelude.{◌≡◌, ◌<◌, ◌++◌, List, Some, false, length, map, All, IfOk, OnOk, IfSome};
-ghost use Rattle.lk_tree.specs.Tree.{Name};
+ghost use Rattle.std.specs.Prelude.{◌≡◌, ◌<◌, Some, false, length, map, All, IfOk, IfSome};
 ghost use Rattle.lk_tree.specs.Mentions.{is_one_of};
 ghost use Rattle.lk_tree.specs.Spine.{head, args};
 ghost use Rattle.lk_questions.specs.Declarations.{checked};
@@ -10,25 +9,28 @@ ghost use Rattle.lk_inductive.specs.Flat.{flat_ctors, flat_types};
 ghost use Rattle.lk_store.specs.Contents.{name_at, tree_at};
 ghost use Rattle.lk_env.specs.Units.{constructor_at, type_at, IsConstructorIn, IsTypeIn};
 ghost use Rattle.lk_mentions.specs.Names.{names_at};
-ghost use Rattle.lk_mentions.specs.Parts.{closed};
 ghost use Rattle.lk_mentions.specs.Walks.{AreClear};
-ghost use Rattle.lk_block.specs.Courses.{Gives};
+ghost use Rattle.lk_declaration.specs.Courses.{ComesTo};
 ghost use Rattle.lk_block.specs.Findings.{finding, Finds};
 ghost use Rattle.lk_block.specs.Members.{named_at};
-ghost use Rattle.lk_block.specs.Nestings.{constant_in, constant_name, parts_back, IsSpine, IsHeadTest, IsTreeTest, nested_in, nested_below, IsOpened, IsLooked, AreWalked};
+ghost use Rattle.lk_block.specs.Nestings.{constant_in, constant_name, nested_in, AreWalked};
+ghost use Rattle.lk_block.specs.Nestings.{IsSpine, IsHeadTest, IsTreeTest};
 
 use crate::spines::{Spine, function_of, keep_function, spine_of};
 use lk_ask::asks::Asks;
-use lk_ask::rule::Rule;
 use lk_ask::stop::Stop;
 use lk_env::unit::{BlockType, Constructor};
-use lk_mentions::names::Names;
-use lk_mentions::part::{Met, Visit, is_leaf, push, push_opened};
+use lk_mentions::names::{Names, is_one_of};
+use lk_mentions::part::Met;
 use lk_mentions::walk::is_clear;
 use lk_rows::table::Table;
-use lk_store::memory::NoMemory;
+use lk_seek::Seek;
+use lk_seek::tree::{is_leaf, open};
+use lk_seek::visit::Visit;
+use lk_seek::walk::seek;
 use lk_store::node::Node;
 use lk_store::terms::Terms;
+use lk_tree::rule::Rule;
 use std::alloc::Global;
 
 /// What is kept of the terms that were walked, so that a part which terms share is walked once.
@@ -62,19 +64,9 @@ fn constant_name<T: Terms>(terms: &T, e: u64) -> Option<u64>
     constant_in(terms.view(e))
 }
 
-/// Whether a name is one of the names. A store has each name once, so that its number tells.
-fn is_one_of<T: Terms>(terms: &T, names: &Names, name: u64) -> bool
-    requires names_in { All (λ n. n < length (T.contents terms.now).names) names.now }
-    requires name_in { name < length (T.contents terms.now).names }
-    ensures { result ≡ is_one_of (names_at (T.contents terms.now) names.now)
-        (name_at (T.contents terms.now) name) }
-{
-    let _names = terms.count_names();
-    names.has(name)
-}
-
-/// Whether a constant that is no type of the block, applied to arguments, is a nested occurrence: one of the arguments
-/// mentions a type of the block, and the constant is a type with this number of parameters.
+/// Whether a constant that is no type of the block, applied to arguments, is a nested occurrence:
+/// one of the arguments mentions a type of the block, and the constant is a type with this number of
+/// parameters.
 fn is_nested_type<A: Asks>(
     alloc: Global,
     asks: &A,
@@ -93,7 +85,7 @@ fn is_nested_type<A: Asks>(
         (name_at (A.contents asks.now) name) ≡ false }
     requires clear { AreClear (A.contents asks.now) names.now clear.old }
     ensures clear { IfOk result (λ r. AreClear (A.contents asks.now) names.now clear.new) }
-    ensures test { IsHeadTest (A.place asks.now) (names_at (A.contents asks.now) names.now)
+    ensures test { IsHeadTest (A.standing asks.now).place (names_at (A.contents asks.now) names.now)
         (head (tree_at (A.contents asks.now) spine.tree))
         (args (tree_at (A.contents asks.now) spine.tree)) result }
 {
@@ -111,7 +103,7 @@ fn is_nested_type<A: Asks>(
             if is_clear {
                 Ok(false)
             } else {
-                Err(Stop::Rule(rule))
+                Err(Stop::No(rule))
             }
         }
     }
@@ -130,7 +122,7 @@ fn is_nested_application<A: Asks>(
     requires spine { IsSpine (A.contents asks.now) spine.tree spine }
     requires clear { AreClear (A.contents asks.now) names.now clear.old }
     ensures clear { IfOk result (λ r. AreClear (A.contents asks.now) names.now clear.new) }
-    ensures test { IsHeadTest (A.place asks.now) (names_at (A.contents asks.now) names.now)
+    ensures test { IsHeadTest (A.standing asks.now).place (names_at (A.contents asks.now) names.now)
         (head (tree_at (A.contents asks.now) spine.tree))
         (args (tree_at (A.contents asks.now) spine.tree)) result }
 {
@@ -155,10 +147,11 @@ fn is_nested<A: Asks>(
 ) -> Result<bool, Stop>
     requires names_in { All (λ n. n < length (A.contents asks.now).names) names.now }
     requires tree_in { e < length (A.contents asks.now).trees }
-    requires walked { AreWalked (A.place asks.now) (A.contents asks.now) names.now walked.old }
-    ensures walked { IfOk result (λ r. AreWalked (A.place asks.now)
+    requires walked { AreWalked (A.standing asks.now).place
+        (A.contents asks.now) names.now walked.old }
+    ensures walked { IfOk result (λ r. AreWalked (A.standing asks.now).place
         (A.contents asks.now) names.now walked.new) }
-    ensures test { IsTreeTest (A.place asks.now) (names_at (A.contents asks.now) names.now)
+    ensures test { IsTreeTest (A.standing asks.now).place (names_at (A.contents asks.now) names.now)
         (tree_at (A.contents asks.now) e) result }
 {
     match function_of(asks, e) {
@@ -171,72 +164,56 @@ fn is_nested<A: Asks>(
     }
 }
 
-/// Puts the parts of a node on the stack, the first of them on top.
-fn push_parts(stack: &mut Vec<Visit>, node: Node) -> Result<(), NoMemory>
-    ensures { OnOk result (stack.new.items ≡ stack.old.items ++ map closed (parts_back node)) }
-{
-    match node {
-        Node::Var(_) | Node::Sort(_) | Node::Const(_, _) => {}
-        Node::Lit(_) | Node::Wide | Node::Str(_) | Node::Local(_, _) => {}
-        Node::Proj(_, _, e) => push(stack, e)?,
-        Node::App(a, b) | Node::Lam(a, b) | Node::Pi(a, b) => {
-            push(stack, b)?;
-            push(stack, a)?;
+/// A nested occurrence of one of the names.
+#[derive(Drop)]
+struct Nested<'a, A: Asks> {
+    pub alloc: Global,
+    pub asks: &'a A,
+    pub names: &'a Names,
+    ghost names_in: { All (λ n. n < length (A.contents asks.now).names) names.now },
+}
+
+impl<'a, A: Asks> Seek for Nested<'a, A> {
+    type Part = u64;
+
+    type Kept = Walked;
+
+    type Stop = Stop;
+
+    ghost use Rattle.lk_mentions.specs.Names.{names_at};
+    ghost use Rattle.lk_block.specs.Nestings.{nested, AreWalked};
+    ghost use Rattle.lk_block.specs.Held.{nestings_laws};
+
+    ghost sought = { λ s. let c = A.contents s.asks.now in
+        nested (A.standing s.asks.now).place (names_at c s.names.now) c };
+
+    ghost are_kept = { λ s walked. AreWalked (A.standing s.asks.now).place
+        (A.contents s.asks.now) s.names.now walked };
+
+    ghost laws = { λ s. nestings_laws };
+
+    fn look(&self, walked: &mut Walked, stack: &mut Vec<Visit<u64>>, e: u64) -> Result<bool, Stop> {
+        let node = self.asks.view(e);
+        if is_leaf(node) {
+            return Ok(false);
         }
-        Node::Let(a, b, c) => {
-            push(stack, c)?;
-            push(stack, b)?;
-            push(stack, a)?;
+        if let Some(_) = walked.flat.find(&e) {
+            return Ok(false);
         }
+        if is_nested(self.alloc, self.asks, self.names, walked, e)? {
+            return Ok(true);
+        }
+        open(stack, e, node)?;
+        Ok(false)
     }
-    Ok(())
+
+    fn keep(&self, walked: &mut Walked, e: u64) -> Result<(), Stop> {
+        walked.flat.push(Met { tree: e })?;
+        Ok(())
+    }
 }
 
-/// Puts a term on the stack again, and its parts above it.
-fn open<A: Asks>(asks: &A, stack: &mut Vec<Visit>, e: u64) -> Result<(), NoMemory>
-    requires { e < length (A.contents asks.now).trees }
-    ensures { OnOk result ((ns : List Name)
-        → nested_in (A.place asks.now) ns (tree_at (A.contents asks.now) e)
-        ≡ nested_below (A.place asks.now) ns (tree_at (A.contents asks.now) e)
-        → IsOpened (A.place asks.now) ns (A.contents asks.now) e stack.old.items stack.new.items) }
-{
-    push_opened(stack, e)?;
-    push_parts(stack, asks.view(e))?;
-    Ok(())
-}
-
-/// Looks at a term from the top of the stack: whether it is a nested occurrence itself. Where it is not, and was not
-/// walked, it comes onto the stack again, with its parts above it.
-fn look<A: Asks>(
-    alloc: Global,
-    asks: &A,
-    names: &Names,
-    walked: &mut Walked,
-    stack: &mut Vec<Visit>,
-    e: u64,
-) -> Result<bool, Stop>
-    requires names_in { All (λ n. n < length (A.contents asks.now).names) names.now }
-    requires tree_in { e < length (A.contents asks.now).trees }
-    requires walked { AreWalked (A.place asks.now) (A.contents asks.now) names.now walked.old }
-    ensures walked { IfOk result (λ r. AreWalked (A.place asks.now)
-        (A.contents asks.now) names.now walked.new) }
-    ensures looked { IsLooked (A.place asks.now) (names_at (A.contents asks.now) names.now)
-        (A.contents asks.now) e stack.old.items stack.new.items result }
-{
-    if is_leaf(asks.view(e)) {
-        return Ok(false);
-    }
-    if let Some(_) = walked.flat.find(&e) {
-        return Ok(false);
-    }
-    if is_nested(alloc, asks, names, walked, e)? {
-        return Ok(true);
-    }
-    open(asks, stack, e)?;
-    Ok(false)
-}
-
-/// Whether a term holds a nested occurrence: a walk from the left to the right, the outermost first.
+/// Whether a term holds a nested occurrence. The walk takes the outermost first.
 fn holds_nested<A: Asks>(
     alloc: Global,
     asks: &A,
@@ -246,28 +223,16 @@ fn holds_nested<A: Asks>(
 ) -> Result<bool, Stop>
     requires names_in { All (λ n. n < length (A.contents asks.now).names) names.now }
     requires tree_in { e < length (A.contents asks.now).trees }
-    requires walked { AreWalked (A.place asks.now) (A.contents asks.now) names.now walked.old }
-    ensures walked { IfOk result (λ r. AreWalked (A.place asks.now)
+    requires walked { AreWalked (A.standing asks.now).place
+        (A.contents asks.now) names.now walked.old }
+    ensures walked { IfOk result (λ r. AreWalked (A.standing asks.now).place
         (A.contents asks.now) names.now walked.new) }
-    ensures found { Finds (nested_in (A.place asks.now) (names_at (A.contents asks.now) names.now)
+    ensures found { Finds (nested_in (A.standing asks.now).place
+        (names_at (A.contents asks.now) names.now)
         (tree_at (A.contents asks.now) e)) (λ r. r) result }
 {
-    let mut stack: Vec<Visit> = Vec::new(alloc);
-    push(&mut stack, e)?;
-    'walk: while let Some(visit) = stack.pop() {
-        if visit.opened {
-            walked.flat.push(Met { tree: visit.tree })?;
-            continue;
-        }
-        let nested = match look(alloc, asks, names, walked, &mut stack, visit.tree) {
-            Ok(nested) => nested,
-            Err(stop) => return Err(stop),
-        };
-        if nested {
-            return Ok(true);
-        }
-    }
-    Ok(false)
+    let seeker = Nested { alloc, asks, names };
+    seek(alloc, &seeker, walked, e)
 }
 
 /// None of these constructors' types holds a nested occurrence.
@@ -280,21 +245,19 @@ fn check_constructors<A: Asks>(
 ) -> Result<(), Stop>
     requires names_in { All (λ n. n < length (A.contents asks.now).names) names.now }
     requires constructors_in { All (IsConstructorIn (A.contents asks.now)) constructors.now }
-    requires walked { AreWalked (A.place asks.now) (A.contents asks.now) names.now walked.old }
-    ensures walked { IfOk result (λ r. AreWalked (A.place asks.now)
+    requires walked { AreWalked (A.standing asks.now).place
+        (A.contents asks.now) names.now walked.old }
+    ensures walked { IfOk result (λ r. AreWalked (A.standing asks.now).place
         (A.contents asks.now) names.now walked.new) }
-    ensures found { Finds (finding (A.place asks.now)
+    ensures found { Finds (finding (A.standing asks.now).place
         (flat_ctors (names_at (A.contents asks.now) names.now)
         (map (constructor_at (A.contents asks.now)) constructors.now))) (λ u. checked) result }
 {
     let mut rest = constructors;
     'constructors: while let Some((constructor, more)) = rest.split_first() {
-        let nested = match holds_nested(alloc, asks, names, walked, constructor.kind) {
-            Ok(nested) => nested,
-            Err(stop) => return Err(stop),
-        };
+        let nested = holds_nested(alloc, asks, names, walked, constructor.ty)?;
         if nested {
-            return Err(Stop::Rule(Rule::NestedForm));
+            return Err(Stop::No(Rule::NestedForm));
         }
         rest = more;
     }
@@ -310,7 +273,7 @@ fn check_types<A: Asks>(
 ) -> Result<(), Stop>
     requires names_in { All (λ n. n < length (A.contents asks.now).names) names.now }
     requires types_in { All (IsTypeIn (A.contents asks.now)) types.now }
-    ensures { Finds (finding (A.place asks.now)
+    ensures { Finds (finding (A.standing asks.now).place
         (flat_types (names_at (A.contents asks.now) names.now)
         (map (type_at (A.contents asks.now)) types.now))) (λ u. checked) result }
 {
@@ -321,17 +284,14 @@ fn check_types<A: Asks>(
     };
     let mut rest = types;
     'types: while let Some((stated, more)) = rest.split_first() {
-        match check_constructors(alloc, asks, names, &mut walked, &stated.constructors) {
-            Ok(_) => {}
-            Err(stop) => return Err(stop),
-        }
+        check_constructors(alloc, asks, names, &mut walked, &stated.constructors)?;
         rest = more;
     }
     Ok(())
 }
 
-/// No constructor's type holds a nested occurrence of these names (`NestedForm`). It takes no step. A name that is not given
-/// is refused as a look-up of it is.
+/// No constructor's type holds a nested occurrence of these names (`NestedForm`). It takes no step. A
+/// name that is not given is refused as a look-up of it is.
 pub fn check_flat<A: Asks>(
     alloc: Global,
     asks: &A,
@@ -340,7 +300,7 @@ pub fn check_flat<A: Asks>(
 ) -> Result<(), Stop>
     requires names_in { All (λ n. n < length (A.contents asks.now).names) names.now }
     requires types_in { All (IsTypeIn (A.contents asks.now)) types.now }
-    ensures outcome { Gives (A.table asks.now) (A.place asks.now)
+    ensures outcome { ComesTo (A.standing asks.now)
         (flat_types (names_at (A.contents asks.now) names.now)
         (map (type_at (A.contents asks.now)) types.now)) (A.left asks.now) (λ u. checked)
         (A.left asks.now) result }

@@ -4,16 +4,17 @@ ghost use Rattle.std.specs.Prelude.{◌≡◌, ◌<◌, length, map, All, IfOk};
 ghost use Rattle.lk_store.specs.Contents.{tree_at, Extends};
 ghost use Rattle.lk_inductive.specs.Block.{domain};
 ghost use Rattle.lk_inductive.specs.BlockSteps.{over};
-ghost use Rattle.lk_block.specs.Courses.{Gives};
+ghost use Rattle.lk_declaration.specs.Courses.{ComesTo};
 ghost use Rattle.lk_block.specs.Forms.{put_form, over_form};
 
-use crate::asking::{are_same, pi_of};
+use crate::asking::pi_of;
 use lk_ask::asks::Asks;
 use lk_ask::building::open;
-use lk_ask::rule::Rule;
 use lk_ask::stop::Stop;
+use lk_declaration::asking::are_same;
 use lk_store::node::Node;
 use lk_store::terms::Terms;
+use lk_tree::rule::Rule;
 use std::alloc::Global;
 
 /// The type inside a Local.
@@ -41,27 +42,19 @@ fn put_in<A: Asks>(
     requires domain_in { domain < length (A.contents asks.old).trees }
     requires body_in { body < length (A.contents asks.old).trees }
     ensures keeps { Extends (A.contents asks.old) (A.contents asks.new) }
-    ensures basis { A.basis asks.new ≡ A.basis asks.old }
-    ensures table { A.table asks.new ≡ A.table asks.old }
-    ensures place { A.place asks.new ≡ A.place asks.old }
+    ensures stays { A.standing asks.new ≡ A.standing asks.old }
     ensures known { IfOk result (λ e. e < length (A.contents asks.new).trees) }
-    ensures outcome { Gives (A.table asks.old) (A.place asks.old)
+    ensures outcome { ComesTo (A.standing asks.old)
         (put_form (tree_at (A.contents asks.old) parameter) (tree_at (A.contents asks.old) domain)
         (tree_at (A.contents asks.old) body)) (A.left asks.old) (tree_at (A.contents asks.new))
         (A.left asks.new) result }
 {
     let own = domain_of(asks, parameter);
-    let equal = match are_same(asks, domain, own) {
-        Ok(equal) => equal,
-        Err(stop) => return Err(stop),
-    };
+    let equal = are_same(asks, domain, own)?;
     if !equal {
-        return Err(Stop::Rule(Rule::ParameterDiffers));
+        return Err(Stop::No(Rule::ParameterDiffers));
     }
-    match open(alloc, asks, body, parameter) {
-        Ok(rest) => Ok(rest),
-        Err(_) => Err(Stop::NoMemory),
-    }
+    Ok(open(alloc, asks, body, parameter)?)
 }
 
 /// What is left of the Pi that a term's weak head form is to be, once a Local is put in, whose type its domain is to be.
@@ -69,18 +62,13 @@ fn put_parameter<A: Asks>(alloc: Global, asks: &mut A, parameter: u64, e: u64) -
     requires parameter_in { parameter < length (A.contents asks.old).trees }
     requires e_in { e < length (A.contents asks.old).trees }
     ensures keeps { Extends (A.contents asks.old) (A.contents asks.new) }
-    ensures basis { A.basis asks.new ≡ A.basis asks.old }
-    ensures table { A.table asks.new ≡ A.table asks.old }
-    ensures place { A.place asks.new ≡ A.place asks.old }
+    ensures stays { A.standing asks.new ≡ A.standing asks.old }
     ensures known { IfOk result (λ e. e < length (A.contents asks.new).trees) }
-    ensures outcome { Gives (A.table asks.old) (A.place asks.old)
+    ensures outcome { ComesTo (A.standing asks.old)
         (over_form (tree_at (A.contents asks.old) parameter) (tree_at (A.contents asks.old) e))
         (A.left asks.old) (tree_at (A.contents asks.new)) (A.left asks.new) result }
 {
-    let parts = match pi_of(asks, e) {
-        Ok(parts) => parts,
-        Err(stop) => return Err(stop),
-    };
+    let parts = pi_of(asks, e)?;
     put_in(alloc, asks, parameter, parts.0, parts.1)
 }
 
@@ -89,11 +77,9 @@ pub fn over<A: Asks>(alloc: Global, asks: &mut A, parameters: &[u64], e: u64) ->
     requires parameters_in { All (λ x. x < length (A.contents asks.old).trees) parameters.now }
     requires e_in { e < length (A.contents asks.old).trees }
     ensures keeps { Extends (A.contents asks.old) (A.contents asks.new) }
-    ensures basis { A.basis asks.new ≡ A.basis asks.old }
-    ensures table { A.table asks.new ≡ A.table asks.old }
-    ensures place { A.place asks.new ≡ A.place asks.old }
+    ensures stays { A.standing asks.new ≡ A.standing asks.old }
     ensures known { IfOk result (λ e. e < length (A.contents asks.new).trees) }
-    ensures outcome { Gives (A.table asks.old) (A.place asks.old)
+    ensures outcome { ComesTo (A.standing asks.old)
         (over (map (tree_at (A.contents asks.old)) parameters.now)
         (tree_at (A.contents asks.old) e)) (A.left asks.old) (tree_at (A.contents asks.new))
         (A.left asks.new) result }
@@ -101,10 +87,7 @@ pub fn over<A: Asks>(alloc: Global, asks: &mut A, parameters: &[u64], e: u64) ->
     let mut more = parameters;
     let mut rest = e;
     'parameters: while let Some((parameter, others)) = more.split_first() {
-        rest = match put_parameter(alloc, asks, *parameter, rest) {
-            Ok(next) => next,
-            Err(stop) => return Err(stop),
-        };
+        rest = put_parameter(alloc, asks, *parameter, rest)?;
         more = others;
     }
     Ok(rest)

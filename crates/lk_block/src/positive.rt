@@ -7,26 +7,26 @@ ghost use Rattle.lk_tree.specs.Tree.{pi};
 ghost use Rattle.lk_store.specs.Contents.{Contents, tree_at, Extends};
 ghost use Rattle.lk_inductive.specs.BlockSteps.{as_member, walk};
 ghost use Rattle.lk_mentions.specs.Names.{names_at};
-ghost use Rattle.lk_block.specs.Courses.{Gives, Settles};
+ghost use Rattle.lk_declaration.specs.Courses.{ComesTo, Settles};
 ghost use Rattle.lk_block.specs.Frames.{frame_at, IsFrameIn};
 ghost use Rattle.lk_block.specs.Members.{member_at, IsMemberIn};
 ghost use Rattle.lk_block.specs.Shapes.{kind_at, AreTreesIn, IsKindIn};
 ghost use Rattle.lk_block.specs.Positive.{kind_with, member_step, under_step, inner_step, form_step, walk_step, step_at, IsStepIn, GoesUnderMention};
 
-use crate::asking::form_of;
 use crate::frame::Frame;
 use crate::members::{Member, as_member};
 use crate::numbers::keep;
 use crate::shape::{FieldKind, Recursion};
 use crate::telescope::open_local;
 use lk_ask::asks::Asks;
-use lk_ask::rule::Rule;
 use lk_ask::stop::Stop;
+use lk_declaration::asking::form_of;
 use lk_mentions::names::Names;
 use lk_mentions::walk::mentions;
 use lk_store::memory::NoMemory;
 use lk_store::node::Node;
 use lk_store::terms::Terms;
+use lk_tree::rule::Rule;
 use std::alloc::Global;
 
 /// What the walk comes to at a weak head form: its end, with the type of the block that the form is, if it mentions one; or
@@ -79,9 +79,7 @@ fn step_under<A: Asks>(
     requires mentioning { mentions (names_at (A.contents asks.old) frame.now.names)
         (pi (tree_at (A.contents asks.old) domain) (tree_at (A.contents asks.old) body)) ≡ true }
     ensures keeps { Extends (A.contents asks.old) (A.contents asks.new) }
-    ensures basis { A.basis asks.new ≡ A.basis asks.old }
-    ensures table { A.table asks.new ≡ A.table asks.old }
-    ensures place { A.place asks.new ≡ A.place asks.old }
+    ensures stays { A.standing asks.new ≡ A.standing asks.old }
     ensures left { A.left asks.new ≡ A.left asks.old }
     ensures known { IfOk result (IsStepIn (A.contents asks.new)) }
     ensures under { IfOk result (GoesUnderMention (names_at (A.contents asks.new) frame.now.names)
@@ -91,14 +89,12 @@ fn step_under<A: Asks>(
         (step_at (A.contents asks.new)) result }
 {
     match mentions(alloc, asks, &frame.names, domain) {
-        Ok(true) => return Err(Stop::Rule(Rule::NotPositive)),
+        Ok(true) => return Err(Stop::No(Rule::NotPositive)),
         Ok(false) => {}
         Err(_) => return Err(Stop::NoMemory),
     }
-    match open_local(alloc, asks, number, domain, body) {
-        Ok(opened) => Ok(Step::Under(opened.0, opened.1)),
-        Err(_) => Err(Stop::NoMemory),
-    }
+    let opened = open_local(alloc, asks, number, domain, body)?;
+    Ok(Step::Under(opened.0, opened.1))
 }
 
 /// The step at a form that is no Pi, which must be a type of the block, applied.
@@ -106,9 +102,7 @@ fn step_ending<A: Asks>(alloc: Global, asks: &mut A, frame: &Frame, form: u64) -
     requires frame_in { IsFrameIn (A.contents asks.old) frame.now }
     requires form_in { form < length (A.contents asks.old).trees }
     ensures keeps { Extends (A.contents asks.old) (A.contents asks.new) }
-    ensures basis { A.basis asks.new ≡ A.basis asks.old }
-    ensures table { A.table asks.new ≡ A.table asks.old }
-    ensures place { A.place asks.new ≡ A.place asks.old }
+    ensures stays { A.standing asks.new ≡ A.standing asks.old }
     ensures left { A.left asks.new ≡ A.left asks.old }
     ensures known { IfOk result (IsStepIn (A.contents asks.new)) }
     ensures under { IfOk result (GoesUnderMention (names_at (A.contents asks.new) frame.now.names)
@@ -119,7 +113,7 @@ fn step_ending<A: Asks>(alloc: Global, asks: &mut A, frame: &Frame, form: u64) -
 {
     match as_member(alloc, asks, frame, form) {
         Ok(Some(member)) => Ok(Step::Ends(Some(member))),
-        Ok(None) => Err(Stop::Rule(Rule::NotPositive)),
+        Ok(None) => Err(Stop::No(Rule::NotPositive)),
         Err(_) => Err(Stop::NoMemory),
     }
 }
@@ -137,9 +131,7 @@ fn inner_step<A: Asks>(
     requires mentioning { mentions (names_at (A.contents asks.old) frame.now.names)
         (tree_at (A.contents asks.old) form) ≡ true }
     ensures keeps { Extends (A.contents asks.old) (A.contents asks.new) }
-    ensures basis { A.basis asks.new ≡ A.basis asks.old }
-    ensures table { A.table asks.new ≡ A.table asks.old }
-    ensures place { A.place asks.new ≡ A.place asks.old }
+    ensures stays { A.standing asks.new ≡ A.standing asks.old }
     ensures left { A.left asks.new ≡ A.left asks.old }
     ensures known { IfOk result (IsStepIn (A.contents asks.new)) }
     ensures under { IfOk result (GoesUnderMention (names_at (A.contents asks.new) frame.now.names)
@@ -168,9 +160,7 @@ fn form_step<A: Asks>(
         (tree_at (A.contents asks.old) k) ≡ true) }
     requires known_in { IfSome known (λ k. k < length (A.contents asks.old).trees) }
     ensures keeps { Extends (A.contents asks.old) (A.contents asks.new) }
-    ensures basis { A.basis asks.new ≡ A.basis asks.old }
-    ensures table { A.table asks.new ≡ A.table asks.old }
-    ensures place { A.place asks.new ≡ A.place asks.old }
+    ensures stays { A.standing asks.new ≡ A.standing asks.old }
     ensures left { A.left asks.new ≡ A.left asks.old }
     ensures known { IfOk result (IsStepIn (A.contents asks.new)) }
     ensures under { IfOk result (GoesUnderMention (names_at (A.contents asks.new) frame.now.names)
@@ -178,10 +168,10 @@ fn form_step<A: Asks>(
     ensures step { Settles (form_step (frame_at (A.contents asks.old) frame.now) number
         (tree_at (A.contents asks.old) form)) (step_at (A.contents asks.new)) result }
 {
-    match form_mentions(alloc, asks, &frame.names, known, form) {
-        Ok(true) => inner_step(alloc, asks, frame, number, form),
-        Ok(false) => Ok(Step::Ends(None)),
-        Err(_) => Err(Stop::NoMemory),
+    if form_mentions(alloc, asks, &frame.names, known, form)? {
+        inner_step(alloc, asks, frame, number, form)
+    } else {
+        Ok(Step::Ends(None))
     }
 }
 
@@ -200,22 +190,18 @@ fn walk_step<A: Asks>(
         (tree_at (A.contents asks.old) k) ≡ true) }
     requires known_in { IfSome known (λ k. k < length (A.contents asks.old).trees) }
     ensures keeps { Extends (A.contents asks.old) (A.contents asks.new) }
-    ensures basis { A.basis asks.new ≡ A.basis asks.old }
-    ensures table { A.table asks.new ≡ A.table asks.old }
-    ensures place { A.place asks.new ≡ A.place asks.old }
+    ensures stays { A.standing asks.new ≡ A.standing asks.old }
     ensures paid { IfOk result (λ s. A.left asks.new < A.left asks.old) }
     ensures known { IfOk result (IsStepIn (A.contents asks.new)) }
     ensures under { IfOk result (GoesUnderMention (names_at (A.contents asks.new) frame.now.names)
         (A.contents asks.new)) }
-    ensures outcome { Gives (A.table asks.old) (A.place asks.old)
+    ensures outcome { ComesTo (A.standing asks.old)
         (walk_step (frame_at (A.contents asks.old) frame.now) number
         (tree_at (A.contents asks.old) e)) (A.left asks.old) (step_at (A.contents asks.new))
         (A.left asks.new) result }
 {
-    match form_of(asks, e) {
-        Ok(form) => form_step(alloc, asks, frame, number, known, form),
-        Err(stop) => Err(stop),
-    }
+    let form = form_of(asks, e)?;
+    form_step(alloc, asks, frame, number, known, form)
 }
 
 /// The walk of a term with Locals from a number on, which are added: the type of the block that it comes to, applied; none
@@ -232,14 +218,12 @@ fn walk_pis<A: Asks>(
     requires e_in { e < length (A.contents asks.old).trees }
     requires none_yet { arguments.old.items ≡ [] }
     ensures keeps { Extends (A.contents asks.old) (A.contents asks.new) }
-    ensures basis { A.basis asks.new ≡ A.basis asks.old }
-    ensures table { A.table asks.new ≡ A.table asks.old }
-    ensures place { A.place asks.new ≡ A.place asks.old }
+    ensures stays { A.standing asks.new ≡ A.standing asks.old }
     ensures arguments_known { IfOk result
         (λ o. AreTreesIn (A.contents asks.new) arguments.new.items) }
     ensures known { IfOk result (λ o. IfSome o (IsMemberIn (A.contents asks.new))) }
     ensures outcome { (fuel : ℕ) → A.left asks.old < fuel
-        → Gives (A.table asks.old) (A.place asks.old)
+        → ComesTo (A.standing asks.old)
         (walk fuel (frame_at (A.contents asks.old) frame.now) first
         (tree_at (A.contents asks.old) e)) (A.left asks.old)
         (λ o. kind_with (map (tree_at (A.contents asks.new)) arguments.new.items)
@@ -249,17 +233,11 @@ fn walk_pis<A: Asks>(
     let mut rest = e;
     let mut known = None;
     'walk: loop {
-        let step = match walk_step(alloc, asks, frame, number, known, rest) {
-            Ok(step) => step,
-            Err(stop) => return Err(stop),
-        };
+        let step = walk_step(alloc, asks, frame, number, known, rest)?;
         match step {
             Step::Ends(found) => return Ok(found),
             Step::Under(local, inner) => {
-                number = match keep(arguments, local, number) {
-                    Ok(next) => next,
-                    Err(_) => return Err(Stop::NoMemory),
-                };
+                number = keep(arguments, local, number)?;
                 rest = inner;
                 known = Some(inner);
             }
@@ -296,19 +274,15 @@ pub fn walk<A: Asks>(
     requires frame_in { IsFrameIn (A.contents asks.old) frame.now }
     requires e_in { e < length (A.contents asks.old).trees }
     ensures keeps { Extends (A.contents asks.old) (A.contents asks.new) }
-    ensures basis { A.basis asks.new ≡ A.basis asks.old }
-    ensures table { A.table asks.new ≡ A.table asks.old }
-    ensures place { A.place asks.new ≡ A.place asks.old }
+    ensures stays { A.standing asks.new ≡ A.standing asks.old }
     ensures known { IfOk result (IsKindIn (A.contents asks.new)) }
     ensures outcome { (fuel : ℕ) → A.left asks.old < fuel
-        → Gives (A.table asks.old) (A.place asks.old)
+        → ComesTo (A.standing asks.old)
         (walk fuel (frame_at (A.contents asks.old) frame.now) first
         (tree_at (A.contents asks.old) e)) (A.left asks.old) (kind_at (A.contents asks.new))
         (A.left asks.new) result }
 {
     let mut arguments: Vec<u64> = Vec::new(alloc);
-    match walk_pis(alloc, asks, frame, first, e, &mut arguments) {
-        Ok(found) => Ok(kind_of(arguments, found)),
-        Err(stop) => Err(stop),
-    }
+    let found = walk_pis(alloc, asks, frame, first, e, &mut arguments)?;
+    Ok(kind_of(arguments, found))
 }

@@ -5,7 +5,7 @@ ghost use Rattle.lk_tree.specs.Tree.{local};
 ghost use Rattle.lk_tree.specs.Bind.{opened};
 ghost use Rattle.lk_store.specs.Contents.{tree_at, Extends, IsTree};
 ghost use Rattle.lk_inductive.specs.BlockSteps.{telescope};
-ghost use Rattle.lk_block.specs.Courses.{Gives};
+ghost use Rattle.lk_declaration.specs.Courses.{ComesTo};
 ghost use Rattle.lk_block.specs.Forms.{local_form};
 
 use crate::asking::pi_of;
@@ -28,9 +28,7 @@ pub(crate) fn open_local<A: Asks>(
     requires domain_in { domain < length (A.contents asks.old).trees }
     requires body_in { body < length (A.contents asks.old).trees }
     ensures keeps { Extends (A.contents asks.old) (A.contents asks.new) }
-    ensures basis { A.basis asks.new ≡ A.basis asks.old }
-    ensures table { A.table asks.new ≡ A.table asks.old }
-    ensures place { A.place asks.new ≡ A.place asks.old }
+    ensures stays { A.standing asks.new ≡ A.standing asks.old }
     ensures left { A.left asks.new ≡ A.left asks.old }
     ensures made { IfOk result (λ p. IsTree (A.contents asks.new) p.0
         (local number (tree_at (A.contents asks.old) domain))) }
@@ -47,24 +45,16 @@ pub(crate) fn open_local<A: Asks>(
 fn next_local<A: Asks>(alloc: Global, asks: &mut A, number: u64, e: u64) -> Result<(u64, u64), Stop>
     requires { e < length (A.contents asks.old).trees }
     ensures keeps { Extends (A.contents asks.old) (A.contents asks.new) }
-    ensures basis { A.basis asks.new ≡ A.basis asks.old }
-    ensures table { A.table asks.new ≡ A.table asks.old }
-    ensures place { A.place asks.new ≡ A.place asks.old }
+    ensures stays { A.standing asks.new ≡ A.standing asks.old }
     ensures known { IfOk result (λ p. (p.0 < length (A.contents asks.new).trees)
         × (p.1 < length (A.contents asks.new).trees)) }
-    ensures outcome { Gives (A.table asks.old) (A.place asks.old)
+    ensures outcome { ComesTo (A.standing asks.old)
         (local_form number (tree_at (A.contents asks.old) e)) (A.left asks.old)
         (λ p. (tree_at (A.contents asks.new) p.0, tree_at (A.contents asks.new) p.1))
         (A.left asks.new) result }
 {
-    let parts = match pi_of(asks, e) {
-        Ok(parts) => parts,
-        Err(stop) => return Err(stop),
-    };
-    match open_local(alloc, asks, number, parts.0, parts.1) {
-        Ok(opened) => Ok(opened),
-        Err(_) => Err(Stop::NoMemory),
-    }
+    let parts = pi_of(asks, e)?;
+    Ok(open_local(alloc, asks, number, parts.0, parts.1)?)
 }
 
 /// So many Pis of a term, opened with Locals from a number on: the Locals, and what is left.
@@ -77,13 +67,11 @@ pub fn telescope<A: Asks>(
 ) -> Result<(Vec<u64>, u64), Stop>
     requires { e < length (A.contents asks.old).trees }
     ensures keeps { Extends (A.contents asks.old) (A.contents asks.new) }
-    ensures basis { A.basis asks.new ≡ A.basis asks.old }
-    ensures table { A.table asks.new ≡ A.table asks.old }
-    ensures place { A.place asks.new ≡ A.place asks.old }
+    ensures stays { A.standing asks.new ≡ A.standing asks.old }
     ensures locals_known { IfOk result (λ t. All
         (λ x. x < length (A.contents asks.new).trees) t.0.items) }
     ensures rest_known { IfOk result (λ t. t.1 < length (A.contents asks.new).trees) }
-    ensures outcome { Gives (A.table asks.old) (A.place asks.old)
+    ensures outcome { ComesTo (A.standing asks.old)
         (telescope first count (tree_at (A.contents asks.old) e)) (A.left asks.old)
         (λ t. (map (tree_at (A.contents asks.new)) t.0.items, tree_at (A.contents asks.new) t.1))
         (A.left asks.new) result }
@@ -93,14 +81,8 @@ pub fn telescope<A: Asks>(
     let mut left = count;
     let mut rest = e;
     'pis: while left > 0 {
-        let opened = match next_local(alloc, asks, number, rest) {
-            Ok(opened) => opened,
-            Err(stop) => return Err(stop),
-        };
-        number = match keep(&mut locals, opened.0, number) {
-            Ok(next) => next,
-            Err(_) => return Err(Stop::NoMemory),
-        };
+        let opened = next_local(alloc, asks, number, rest)?;
+        number = keep(&mut locals, opened.0, number)?;
         rest = opened.1;
         left -= 1;
     }

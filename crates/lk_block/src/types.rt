@@ -4,18 +4,19 @@ ghost use Rattle.std.specs.Prelude.{◌≡◌, ◌<◌, ◌∷◌, [], length, m
 ghost use Rattle.lk_store.specs.Contents.{level_at, tree_at, Extends};
 ghost use Rattle.lk_env.specs.Units.{type_at, IsTypeIn};
 ghost use Rattle.lk_inductive.specs.BlockSteps.{type_end, types_steps};
-ghost use Rattle.lk_block.specs.Courses.{Gives};
+ghost use Rattle.lk_declaration.specs.Courses.{ComesTo};
 ghost use Rattle.lk_block.specs.Forms.{end_form, next_form};
 ghost use Rattle.lk_block.specs.Parts.{lists_at, AreListsIn, parts_at, ArePartsIn, more_form, self_form, open_form, first_form, others_form};
 
-use crate::asking::{level_of, levels_equal, sort_of};
+use crate::asking::level_of;
 use crate::over::over;
 use crate::telescope::telescope;
 use lk_ask::asks::Asks;
-use lk_ask::rule::Rule;
 use lk_ask::stop::Stop;
+use lk_declaration::asking::{levels_equal, sort_of};
 use lk_env::unit::BlockType;
 use lk_store::memory::NoMemory;
+use lk_tree::rule::Rule;
 use std::alloc::Global;
 
 /// The indices of a type past its parameters, and the level of its sort.
@@ -28,25 +29,18 @@ fn type_end<A: Asks>(
 ) -> Result<(Vec<u64>, u64), Stop>
     requires { e < length (A.contents asks.old).trees }
     ensures keeps { Extends (A.contents asks.old) (A.contents asks.new) }
-    ensures basis { A.basis asks.new ≡ A.basis asks.old }
-    ensures table { A.table asks.new ≡ A.table asks.old }
-    ensures place { A.place asks.new ≡ A.place asks.old }
+    ensures stays { A.standing asks.new ≡ A.standing asks.old }
     ensures indices_known { IfOk result (λ t. All
         (λ x. x < length (A.contents asks.new).trees) t.0.items) }
     ensures level_known { IfOk result (λ t. t.1 < length (A.contents asks.new).levels) }
-    ensures outcome { Gives (A.table asks.old) (A.place asks.old)
+    ensures outcome { ComesTo (A.standing asks.old)
         (type_end first count (tree_at (A.contents asks.old) e)) (A.left asks.old)
         (λ t. (map (tree_at (A.contents asks.new)) t.0.items, level_at (A.contents asks.new) t.1))
         (A.left asks.new) result }
 {
-    let opened = match telescope(alloc, asks, first, count, e) {
-        Ok(opened) => opened,
-        Err(stop) => return Err(stop),
-    };
-    match level_of(asks, opened.1) {
-        Ok(level) => Ok((opened.0, level)),
-        Err(stop) => Err(stop),
-    }
+    let opened = telescope(alloc, asks, first, count, e)?;
+    let level = level_of(asks, opened.1)?;
+    Ok((opened.0, level))
 }
 
 /// The indices of a type past its parameters, where the level of its sort is to be this one.
@@ -61,23 +55,18 @@ fn end_at_level<A: Asks>(
     requires e_in { e < length (A.contents asks.old).trees }
     requires level_in { level < length (A.contents asks.old).levels }
     ensures keeps { Extends (A.contents asks.old) (A.contents asks.new) }
-    ensures basis { A.basis asks.new ≡ A.basis asks.old }
-    ensures table { A.table asks.new ≡ A.table asks.old }
-    ensures place { A.place asks.new ≡ A.place asks.old }
+    ensures stays { A.standing asks.new ≡ A.standing asks.old }
     ensures known { IfOk result (λ t. All (λ x. x < length (A.contents asks.new).trees) t.items) }
-    ensures outcome { Gives (A.table asks.old) (A.place asks.old)
+    ensures outcome { ComesTo (A.standing asks.old)
         (end_form first count (level_at (A.contents asks.old) level)
         (tree_at (A.contents asks.old) e)) (A.left asks.old)
         (λ t. map (tree_at (A.contents asks.new)) t.items) (A.left asks.new) result }
 {
-    let end = match type_end(alloc, asks, first, count, e) {
-        Ok(end) => end,
-        Err(stop) => return Err(stop),
-    };
-    match levels_equal(alloc, asks, end.1, level) {
-        Ok(true) => Ok(end.0),
-        Ok(false) => Err(Stop::Rule(Rule::BlockShape)),
-        Err(stop) => Err(stop),
+    let end = type_end(alloc, asks, first, count, e)?;
+    if levels_equal(alloc, asks, end.1, level)? {
+        Ok(end.0)
+    } else {
+        Err(Stop::No(Rule::BlockShape))
     }
 }
 
@@ -87,31 +76,23 @@ fn next_type<A: Asks>(
     asks: &mut A,
     parameters: &[u64],
     level: u64,
-    kind: u64,
+    ty: u64,
     indices: u64,
 ) -> Result<Vec<u64>, Stop>
     requires parameters_in { All (λ x. x < length (A.contents asks.old).trees) parameters.now }
     requires level_in { level < length (A.contents asks.old).levels }
-    requires kind_in { kind < length (A.contents asks.old).trees }
+    requires ty_in { ty < length (A.contents asks.old).trees }
     ensures keeps { Extends (A.contents asks.old) (A.contents asks.new) }
-    ensures basis { A.basis asks.new ≡ A.basis asks.old }
-    ensures table { A.table asks.new ≡ A.table asks.old }
-    ensures place { A.place asks.new ≡ A.place asks.old }
+    ensures stays { A.standing asks.new ≡ A.standing asks.old }
     ensures known { IfOk result (λ t. All (λ x. x < length (A.contents asks.new).trees) t.items) }
-    ensures outcome { Gives (A.table asks.old) (A.place asks.old)
+    ensures outcome { ComesTo (A.standing asks.old)
         (next_form (map (tree_at (A.contents asks.old)) parameters.now)
-        (level_at (A.contents asks.old) level) indices (tree_at (A.contents asks.old) kind))
+        (level_at (A.contents asks.old) level) indices (tree_at (A.contents asks.old) ty))
         (A.left asks.old) (λ t. map (tree_at (A.contents asks.new)) t.items)
         (A.left asks.new) result }
 {
-    match sort_of(asks, kind) {
-        Ok(_) => {}
-        Err(stop) => return Err(stop),
-    }
-    let rest = match over(alloc, asks, parameters, kind) {
-        Ok(rest) => rest,
-        Err(stop) => return Err(stop),
-    };
+    sort_of(asks, ty)?;
+    let rest = over(alloc, asks, parameters, ty)?;
     end_at_level(alloc, asks, parameters.len() as u64, indices, level, rest)
 }
 
@@ -125,25 +106,20 @@ fn end_with_itself<A: Asks>(
 ) -> Result<(Vec<u64>, u64), Stop>
     requires { e < length (A.contents asks.old).trees }
     ensures keeps { Extends (A.contents asks.old) (A.contents asks.new) }
-    ensures basis { A.basis asks.new ≡ A.basis asks.old }
-    ensures table { A.table asks.new ≡ A.table asks.old }
-    ensures place { A.place asks.new ≡ A.place asks.old }
+    ensures stays { A.standing asks.new ≡ A.standing asks.old }
     ensures indices_known { IfOk result (λ t. All
         (λ x. x < length (A.contents asks.new).trees) t.0.items) }
     ensures level_known { IfOk result (λ t. t.1 < length (A.contents asks.new).levels) }
-    ensures outcome { Gives (A.table asks.old) (A.place asks.old)
+    ensures outcome { ComesTo (A.standing asks.old)
         (self_form first count (tree_at (A.contents asks.old) e)) (A.left asks.old)
         (λ t. (map (tree_at (A.contents asks.new)) t.0.items, level_at (A.contents asks.new) t.1))
         (A.left asks.new) result }
 {
-    let end = match type_end(alloc, asks, first, count, e) {
-        Ok(end) => end,
-        Err(stop) => return Err(stop),
-    };
-    match levels_equal(alloc, asks, end.1, end.1) {
-        Ok(true) => Ok(end),
-        Ok(false) => Err(Stop::Rule(Rule::BlockShape)),
-        Err(stop) => Err(stop),
+    let end = type_end(alloc, asks, first, count, e)?;
+    if levels_equal(alloc, asks, end.1, end.1)? {
+        Ok(end)
+    } else {
+        Err(Stop::No(Rule::BlockShape))
     }
 }
 
@@ -170,11 +146,9 @@ fn more_types<A: Asks>(
     requires types_in { All (IsTypeIn (A.contents asks.old)) types.now }
     requires indices_in { AreListsIn (A.contents asks.old) indices.old.items }
     ensures keeps { Extends (A.contents asks.old) (A.contents asks.new) }
-    ensures basis { A.basis asks.new ≡ A.basis asks.old }
-    ensures table { A.table asks.new ≡ A.table asks.old }
-    ensures place { A.place asks.new ≡ A.place asks.old }
+    ensures stays { A.standing asks.new ≡ A.standing asks.old }
     ensures known { AreListsIn (A.contents asks.new) indices.new.items }
-    ensures outcome { Gives (A.table asks.old) (A.place asks.old)
+    ensures outcome { ComesTo (A.standing asks.old)
         (more_form (lists_at (A.contents asks.old) indices.old.items)
         (map (tree_at (A.contents asks.old)) parameters.now) (level_at (A.contents asks.old) level)
         (map (type_at (A.contents asks.old)) types.now)) (A.left asks.old)
@@ -182,10 +156,7 @@ fn more_types<A: Asks>(
 {
     let mut rest = types;
     'types: while let Some((stated, more)) = rest.split_first() {
-        let own = match next_type(alloc, asks, parameters, level, stated.kind, stated.indices) {
-            Ok(own) => own,
-            Err(stop) => return Err(stop),
-        };
+        let own = next_type(alloc, asks, parameters, level, stated.ty, stated.indices)?;
         match indices.push(own) {
             Ok(_) => {}
             Err(_) => return Err(Stop::NoMemory),
@@ -220,31 +191,20 @@ fn open_parameters<A: Asks>(
     alloc: Global,
     asks: &mut A,
     parameters: u64,
-    kind: u64,
+    ty: u64,
     indices: u64,
 ) -> Result<TypeParts, Stop>
-    requires { kind < length (A.contents asks.old).trees }
+    requires { ty < length (A.contents asks.old).trees }
     ensures keeps { Extends (A.contents asks.old) (A.contents asks.new) }
-    ensures basis { A.basis asks.new ≡ A.basis asks.old }
-    ensures table { A.table asks.new ≡ A.table asks.old }
-    ensures place { A.place asks.new ≡ A.place asks.old }
+    ensures stays { A.standing asks.new ≡ A.standing asks.old }
     ensures known { IfOk result (ArePartsIn (A.contents asks.new)) }
-    ensures outcome { Gives (A.table asks.old) (A.place asks.old)
-        (open_form parameters indices (tree_at (A.contents asks.old) kind)) (A.left asks.old)
+    ensures outcome { ComesTo (A.standing asks.old)
+        (open_form parameters indices (tree_at (A.contents asks.old) ty)) (A.left asks.old)
         (parts_at (A.contents asks.new)) (A.left asks.new) result }
 {
-    let opened = match telescope(alloc, asks, 0, parameters, kind) {
-        Ok(opened) => opened,
-        Err(stop) => return Err(stop),
-    };
-    let end = match end_with_itself(alloc, asks, parameters, indices, opened.1) {
-        Ok(end) => end,
-        Err(stop) => return Err(stop),
-    };
-    match parts_of(alloc, opened.0, end.0, end.1) {
-        Ok(parts) => Ok(parts),
-        Err(_) => Err(Stop::NoMemory),
-    }
+    let opened = telescope(alloc, asks, 0, parameters, ty)?;
+    let end = end_with_itself(alloc, asks, parameters, indices, opened.1)?;
+    Ok(parts_of(alloc, opened.0, end.0, end.1)?)
 }
 
 /// The parts of a block with the first type's alone.
@@ -252,23 +212,19 @@ fn first_type<A: Asks>(
     alloc: Global,
     asks: &mut A,
     parameters: u64,
-    kind: u64,
+    ty: u64,
     indices: u64,
 ) -> Result<TypeParts, Stop>
-    requires { kind < length (A.contents asks.old).trees }
+    requires { ty < length (A.contents asks.old).trees }
     ensures keeps { Extends (A.contents asks.old) (A.contents asks.new) }
-    ensures basis { A.basis asks.new ≡ A.basis asks.old }
-    ensures table { A.table asks.new ≡ A.table asks.old }
-    ensures place { A.place asks.new ≡ A.place asks.old }
+    ensures stays { A.standing asks.new ≡ A.standing asks.old }
     ensures known { IfOk result (ArePartsIn (A.contents asks.new)) }
-    ensures outcome { Gives (A.table asks.old) (A.place asks.old)
-        (first_form parameters indices (tree_at (A.contents asks.old) kind)) (A.left asks.old)
+    ensures outcome { ComesTo (A.standing asks.old)
+        (first_form parameters indices (tree_at (A.contents asks.old) ty)) (A.left asks.old)
         (parts_at (A.contents asks.new)) (A.left asks.new) result }
 {
-    match sort_of(asks, kind) {
-        Ok(_) => open_parameters(alloc, asks, parameters, kind, indices),
-        Err(stop) => Err(stop),
-    }
+    sort_of(asks, ty)?;
+    open_parameters(alloc, asks, parameters, ty, indices)
 }
 
 /// The parts of a block, once those of its first type are known.
@@ -281,11 +237,9 @@ fn add_others<A: Asks>(
     requires parts_in { ArePartsIn (A.contents asks.old) parts }
     requires others_in { All (IsTypeIn (A.contents asks.old)) others.now }
     ensures keeps { Extends (A.contents asks.old) (A.contents asks.new) }
-    ensures basis { A.basis asks.new ≡ A.basis asks.old }
-    ensures table { A.table asks.new ≡ A.table asks.old }
-    ensures place { A.place asks.new ≡ A.place asks.old }
+    ensures stays { A.standing asks.new ≡ A.standing asks.old }
     ensures known { IfOk result (ArePartsIn (A.contents asks.new)) }
-    ensures outcome { Gives (A.table asks.old) (A.place asks.old)
+    ensures outcome { ComesTo (A.standing asks.old)
         (others_form (parts_at (A.contents asks.old) parts)
         (map (type_at (A.contents asks.old)) others.now)) (A.left asks.old)
         (parts_at (A.contents asks.new)) (A.left asks.new) result }
@@ -295,14 +249,12 @@ fn add_others<A: Asks>(
         sort,
         mut indices,
     } = parts;
-    match more_types(alloc, asks, &parameters, sort, others, &mut indices) {
-        Ok(_) => Ok(TypeParts {
-            parameters,
-            sort,
-            indices,
-        }),
-        Err(stop) => Err(stop),
-    }
+    more_types(alloc, asks, &parameters, sort, others, &mut indices)?;
+    Ok(TypeParts {
+        parameters,
+        sort,
+        indices,
+    })
 }
 
 /// The checks of a block's types, each of which has this number of parameters: each has a sort (`NotASort`), all have the
@@ -317,18 +269,16 @@ pub fn check_types<A: Asks>(
 ) -> Result<TypeParts, Stop>
     requires { All (IsTypeIn (A.contents asks.old)) types.now }
     ensures keeps { Extends (A.contents asks.old) (A.contents asks.new) }
-    ensures basis { A.basis asks.new ≡ A.basis asks.old }
-    ensures table { A.table asks.new ≡ A.table asks.old }
-    ensures place { A.place asks.new ≡ A.place asks.old }
+    ensures stays { A.standing asks.new ≡ A.standing asks.old }
     ensures known { IfOk result (ArePartsIn (A.contents asks.new)) }
-    ensures outcome { Gives (A.table asks.old) (A.place asks.old)
+    ensures outcome { ComesTo (A.standing asks.old)
         (types_steps parameters (map (type_at (A.contents asks.old)) types.now)) (A.left asks.old)
         (parts_at (A.contents asks.new)) (A.left asks.new) result }
 {
     match types.split_first() {
-        None => Err(Stop::Rule(Rule::BlockShape)),
+        None => Err(Stop::No(Rule::BlockShape)),
         Some((first, others)) => {
-            match first_type(alloc, asks, parameters, first.kind, first.indices) {
+            match first_type(alloc, asks, parameters, first.ty, first.indices) {
                 Ok(parts) => add_others(alloc, asks, parts, others),
                 Err(stop) => Err(stop),
             }

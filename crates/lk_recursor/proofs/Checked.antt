@@ -8,7 +8,7 @@ use Rattle.lk_env.specs.declared.unit.RecursorRule.{RecursorRule}
 use Rattle.lk_env.specs.declared.unit.Recursor.{Recursor}
 use Rattle.lk_env.specs.Units.{rule_at, recursor_at, IsRecursorIn}
 use Rattle.lk_inductive.specs.Block as plain
-use Rattle.lk_inductive.specs.Recursors.{Rec, rules_of, as_they_are, rule_value, recs_from, recursors}
+use Rattle.lk_inductive.specs.Recursors.{BlockRecursor, rules_of, as_they_are, rule_value, recs_from, recursors}
 use Rattle.lk_inductive.specs.Compare.{renamed, rules_steps, rec_steps, rec_named, compare_found, compare_steps}
 use Rattle.lk_block.specs.declared.shape.ConstructorShape.{ConstructorShape}
 use Rattle.lk_block.specs.declared.shape.TypeShape.{TypeShape}
@@ -34,8 +34,8 @@ module _ (c d : Contents) (grown : Extends c d) (x : Comparison) (known : IsComp
 
   pub rules-steady : rules_steps (stated_of d x) (own_of d x) (stated_of d x).recursor.rules (own_of d x).recursor.rules ≡ rules_steps (stated_of c x) (own_of c x) (stated_of c x).recursor.rules (own_of c x).recursor.rules
   rules-steady =
-      ap (λ (s : Rec). rules_steps s (own_of d x) s.recursor.rules (own_of d x).recursor.rules) (stated_of-steady c d grown x known)
-      ∙ ap (λ (r : Rec). rules_steps (stated_of c x) r (stated_of c x).recursor.rules r.recursor.rules) (own_of-steady c d grown x known)
+      ap (λ (s : BlockRecursor). rules_steps s (own_of d x) s.recursor.rules (own_of d x).recursor.rules) (stated_of-steady c d grown x known)
+      ∙ ap (λ (r : BlockRecursor). rules_steps (stated_of c x) r (stated_of c x).recursor.rules r.recursor.rules) (own_of-steady c d grown x known)
 
   pub parts-steady : parts_form (stated_of d x) (own_of d x) ≡ parts_form (stated_of c x) (own_of c x)
   parts-steady = ap (λ s. parts_form s (own_of d x)) (stated_of-steady c d grown x known) ∙ ap (parts_form (stated_of c x)) (own_of-steady c d grown x known)
@@ -58,11 +58,11 @@ module _ (c d : Contents) (grown : Extends c d) (x : Comparison) (known : IsComp
       ∙ ap (λ v. rule_form v (renamed_value c x m k) >>= λ u. rules_steps s own (map (rule_at c) more) bs) (sym (grown.trees.same r.value value_in))
       ∙ ap (λ v. rule_form (tree_at d r.value) v >>= λ u. rules_steps s own (map (rule_at c) more) bs) (sym (renamed_value-steady m k m_in k_in))
 
-no_own_rule : (s r : Rec) (as_ : List RecRule) → rules_steps s r as_ [] ≡ done checked
+no_own_rule : (s r : BlockRecursor) (as_ : List RecRule) → rules_steps s r as_ [] ≡ done checked
 no_own_rule s r [] = refl
 no_own_rule s r (a ∷ as_) = refl
 
-module _ (c : Contents) (s r : Rec) (shape : plain.Shape) (rules : List RecursorRule) (minors : List ℕ) (ks : List ConstructorShape) where
+module _ (c : Contents) (s r : BlockRecursor) (shape : plain.Shape) (rules : List RecursorRule) (minors : List ℕ) (ks : List ConstructorShape) where
   pub no_rule : length rules ≡ 0 → rules_steps s r (map (rule_at c) rules) (rules_of as_they_are shape (map (tree_at c) minors) (map (constructor_shape_at c) ks)) ≡ done checked
   no_rule none = go rules none
     where
@@ -118,6 +118,6 @@ module _ (c d : Contents) (grown : Extends c d) (shape : Shape) (shape_in : IsSh
       ∙ ap (compare_steps (recursors (shape_at c shape))) (recursors_stay c d grown stated stated_in)
 
 -- nothing is stated
-pub none_stated : (c : Contents) (rs : List Rec) (stated : List Recursor) → length stated ≡ 0 → compare_steps rs (map (recursor_at c) stated) ≡ done checked
+pub none_stated : (c : Contents) (rs : List BlockRecursor) (stated : List Recursor) → length stated ≡ 0 → compare_steps rs (map (recursor_at c) stated) ≡ done checked
 none_stated c rs [] e = refl
 none_stated c rs (s ∷ ss) e = absurd (omega arith)

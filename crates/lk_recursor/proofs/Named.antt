@@ -5,7 +5,7 @@ use Rattle.lk_tree.specs.Tree.{Name, Tree}
 use Rattle.lk_tree.specs.Mentions.{same_name}
 use Rattle.lk_inductive.specs.Block.{Shape as PlainShape, CtorShape}
 use Rattle.lk_inductive.specs.Compare.{rec_named}
-use Rattle.lk_inductive.specs.Recursors.{Rec, past_minors, rec_name, rec_of, recs_from, as_they_are}
+use Rattle.lk_inductive.specs.Recursors.{BlockRecursor, past_minors, rec_name, rec_of, recs_from, as_they_are}
 use Rattle.lk_store.specs.Contents.{Contents, name_at, tree_at}
 use Rattle.lk_block.specs.declared.shape.TypeShape.{TypeShape}
 use Rattle.lk_block.specs.Shapes.{constructor_shape_at, type_shape_at}
@@ -42,7 +42,7 @@ module _ (c : Contents) (s : PlainShape) (n : Name) (names more : List ℕ) (typ
   pub named_next : (after : List ℕ) → after ≡ drop (length t.constructors.items) minors → same_name (name_at c own) n ≡ false
       → rec_named (recs_from as_they_are s (map (tree_at c) minors) (map (type_shape_at c) types)) n ≡ rec_named (recs_from as_they_are s (map (tree_at c) after) (map (type_shape_at c) others)) n
   named_next after is differs =
-      let r : Rec = rec_of as_they_are s (map (tree_at c) minors) (type_shape_at c t) in
+      let r : BlockRecursor = rec_of as_they_are s (map (tree_at c) minors) (type_shape_at c t) in
       let past = past_minors (map (constructor_shape_at c) t.constructors.items) (map (tree_at c) minors) in
       ap (λ ts. rec_named (recs_from as_they_are s (map (tree_at c) minors) (map (type_shape_at c) ts)) n) f
       ∙ ap (λ b. elim b [ true ↦ Some r | false ↦ rec_named (recs_from as_they_are s past (map (type_shape_at c) others)) n ]) (ap (λ m. same_name m n) first_name ∙ differs)

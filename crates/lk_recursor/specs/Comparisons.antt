@@ -1,7 +1,7 @@
 -- A block's own recursors by the numbers of a store, and one of them beside the stated recursor of its name.
 use Rattle.std.specs.Prelude.{◌≡◌, ℕ, ◌<◌, List, length, map, All}
 use Rattle.lk_tree.specs.Tree.{Tree, param}
-use Rattle.lk_tree.specs.RuleNo.{recursor_differs}
+use Rattle.lk_tree.specs.declared.rule.Rule.TheVariants.{RecursorDiffers}
 use Rattle.lk_plain.specs.Query.{infer, same}
 use Rattle.lk_plain.specs.Program.{Program, done, asked, ◌>>=◌}
 use Rattle.lk_questions.specs.Steps.{given, sort_of}
@@ -10,7 +10,7 @@ use Rattle.lk_store.specs.Contents.{Contents, name_at, level_at, tree_at}
 use Rattle.lk_env.specs.Units.{recursor_at, IsRecursorIn}
 use Rattle.lk_inductive.specs.Block as plain
 use Rattle.lk_inductive.specs.Compare.{renamed, rules_steps}
-use Rattle.lk_inductive.specs.Recursors.{Rec, as_they_are, rec_name, rec_of, rule_value, is_k}
+use Rattle.lk_inductive.specs.Recursors.{BlockRecursor, as_they_are, rec_name, rec_of, rule_value, is_k}
 use Rattle.lk_block.specs.Shapes.{shape_at, constructor_shape_at, type_shape_at, AreTreesIn, IsShapeIn, IsTypeShapeIn}
 use Rattle.lk_block.specs.declared.shape.ConstructorShape.{ConstructorShape}
 use Rattle.lk_block.specs.declared.shape.TypeShape.{TypeShape}
@@ -30,17 +30,17 @@ pub record IsShared (c : Contents) (s : Shared) : Type 0 where
   pub names_are : AreNames c s.names.now s.shape.now.types.items
   pub k_is : s.k ≡ is_k (shape_at c s.shape.now)
 
-abbrev pub own_at : Contents → plain.Shape → OwnRecursor → Rec
+abbrev pub own_at : Contents → plain.Shape → OwnRecursor → BlockRecursor
 own_at c s r = rec_of as_they_are s (map (tree_at c) r.minors.now) (type_shape_at c r.of.now)
 
 pub record IsOwnRecursor (c : Contents) (r : OwnRecursor) : Type 0 where
   pub of_in : IsTypeShapeIn c r.of.now
   pub minors_in : AreTreesIn c r.minors.now
 
-abbrev pub stated_of : Contents → Comparison → Rec
+abbrev pub stated_of : Contents → Comparison → BlockRecursor
 stated_of c x = recursor_at c x.stated.now
 
-abbrev pub own_of : Contents → Comparison → Rec
+abbrev pub own_of : Contents → Comparison → BlockRecursor
 own_of c x = own_at c (shape_at c x.shared.shape.now) x.own
 
 pub record IsComparison (c : Contents) (x : Comparison) : Type 0 where
@@ -60,16 +60,16 @@ renamed_value c x m k = renamed (stated_of c x) (own_of c x) (rule_value as_they
 
 -- two trees that are to be the same
 abbrev pub same_form : Tree → Tree → Program Yes
-same_form a b = asked (same a b) >>= λ equal. given equal recursor_differs (done checked)
+same_form a b = asked (same a b) >>= λ equal. given equal RecursorDiffers (done checked)
 
 -- the value of one rule, and the recomputed one
 abbrev pub rule_form : Tree → Tree → Program Yes
 rule_form a b = asked (infer a) >>= λ V. same_form a b
 
 -- a stated recursor's type and rules against the recomputed ones, past its type's sort
-abbrev pub parts_form : Rec → Rec → Program Yes
-parts_form s r = asked (same s.type (renamed s r r.type)) >>= λ equal. given equal recursor_differs (rules_steps s r s.recursor.rules r.recursor.rules)
+abbrev pub parts_form : BlockRecursor → BlockRecursor → Program Yes
+parts_form s r = asked (same s.type (renamed s r r.type)) >>= λ equal. given equal RecursorDiffers (rules_steps s r s.recursor.rules r.recursor.rules)
 
 -- the same, and its type's sort first
-abbrev pub trees_form : Rec → Rec → Program Yes
+abbrev pub trees_form : BlockRecursor → BlockRecursor → Program Yes
 trees_form s r = sort_of s.type >>= λ l. parts_form s r

@@ -23,9 +23,7 @@ pub(crate) fn front_between<A: Asks>(
 ) -> Result<Front, NoMemory>
     requires { IsShapeIn (A.contents asks.old) shape.now }
     ensures keeps { Extends (A.contents asks.old) (A.contents asks.new) }
-    ensures basis { A.basis asks.new ≡ A.basis asks.old }
-    ensures table { A.table asks.new ≡ A.table asks.old }
-    ensures place { A.place asks.new ≡ A.place asks.old }
+    ensures stays { A.standing asks.new ≡ A.standing asks.old }
     ensures left { A.left asks.new ≡ A.left asks.old }
     ensures ok { IfOk result (IsFront (A.contents asks.new) shape.now) }
 {
@@ -40,9 +38,7 @@ pub(crate) fn names_between<A: Asks>(
 ) -> Result<Vec<u64>, NoMemory>
     requires { All (IsTypeShapeIn (A.contents asks.old)) types.now }
     ensures keeps { Extends (A.contents asks.old) (A.contents asks.new) }
-    ensures basis { A.basis asks.new ≡ A.basis asks.old }
-    ensures table { A.table asks.new ≡ A.table asks.old }
-    ensures place { A.place asks.new ≡ A.place asks.old }
+    ensures stays { A.standing asks.new ≡ A.standing asks.old }
     ensures left { A.left asks.new ≡ A.left asks.old }
     ensures ok { IfOk result (λ ns. AreNames (A.contents asks.new) ns.items types.now) }
 {
@@ -57,9 +53,7 @@ pub(crate) fn levels_between<A: Asks>(
 ) -> Result<Vec<u64>, NoMemory>
     requires { All (λ n. n < length (A.contents asks.old).names) names.now }
     ensures keeps { Extends (A.contents asks.old) (A.contents asks.new) }
-    ensures basis { A.basis asks.new ≡ A.basis asks.old }
-    ensures table { A.table asks.new ≡ A.table asks.old }
-    ensures place { A.place asks.new ≡ A.place asks.old }
+    ensures stays { A.standing asks.new ≡ A.standing asks.old }
     ensures left { A.left asks.new ≡ A.left asks.old }
     ensures known { IfOk result (λ ls. All
         (λ l. l < length (A.contents asks.new).levels) ls.items) }
@@ -77,9 +71,7 @@ pub(crate) fn type_between<A: Asks>(
 ) -> Result<u64, NoMemory>
     requires { IsComparison (A.contents asks.old) pair.now }
     ensures keeps { Extends (A.contents asks.old) (A.contents asks.new) }
-    ensures basis { A.basis asks.new ≡ A.basis asks.old }
-    ensures table { A.table asks.new ≡ A.table asks.old }
-    ensures place { A.place asks.new ≡ A.place asks.old }
+    ensures stays { A.standing asks.new ≡ A.standing asks.old }
     ensures left { A.left asks.new ≡ A.left asks.old }
     ensures ok { IfOk result (λ e. IsTree (A.contents asks.new) e
         (renamed_type (A.contents asks.old) pair.now)) }
@@ -99,9 +91,7 @@ pub(crate) fn rule_between<A: Asks>(
     requires minor_in { minor < length (A.contents asks.old).trees }
     requires constructor_in { IsConstructorShapeIn (A.contents asks.old) constructor.now }
     ensures keeps { Extends (A.contents asks.old) (A.contents asks.new) }
-    ensures basis { A.basis asks.new ≡ A.basis asks.old }
-    ensures table { A.table asks.new ≡ A.table asks.old }
-    ensures place { A.place asks.new ≡ A.place asks.old }
+    ensures stays { A.standing asks.new ≡ A.standing asks.old }
     ensures left { A.left asks.new ≡ A.left asks.old }
     ensures ok { IfOk result (λ e. IsTree (A.contents asks.new) e
         (renamed_value (A.contents asks.old) pair.now minor constructor.now)) }

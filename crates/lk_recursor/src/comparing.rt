@@ -6,7 +6,7 @@ ghost use Rattle.lk_store.specs.Contents.{name_at, tree_at, Extends};
 ghost use Rattle.lk_env.specs.Units.{recursor_at, IsRecursorIn};
 ghost use Rattle.lk_inductive.specs.Recursors.{recursors};
 ghost use Rattle.lk_inductive.specs.Compare.{rules_steps, rec_steps, rec_named, compare_found, compare_steps};
-ghost use Rattle.lk_block.specs.Courses.{Gives};
+ghost use Rattle.lk_declaration.specs.Courses.{ComesTo};
 ghost use Rattle.lk_block.specs.Shapes.{shape_at, IsShapeIn, IsConstructorShapeIn};
 ghost use Rattle.lk_recursor.specs.Fronts.{IsFront};
 ghost use Rattle.lk_recursor.specs.Comparisons.{own_at, stated_of, own_of, renamed_type, renamed_value, same_form, rule_form, parts_form, trees_form, IsShared, IsOwnRecursor, IsComparison};
@@ -17,11 +17,11 @@ use crate::front::Front;
 use crate::own::{Comparison, OwnRecursor, Shared, named};
 use crate::recursor::by_k;
 use lk_ask::asks::Asks;
-use lk_ask::rule::Rule;
 use lk_ask::stop::Stop;
-use lk_block::asking::{are_same, sort_of, type_of};
 use lk_block::shape::{ConstructorShape, Shape};
+use lk_declaration::asking::{are_same, sort_of, type_of};
 use lk_env::unit::Recursor;
+use lk_tree::rule::Rule;
 use std::alloc::Global;
 
 /// Two terms that are to be the same.
@@ -29,17 +29,15 @@ fn check_same<A: Asks>(asks: &mut A, stated: u64, made: u64) -> Result<(), Stop>
     requires stated_in { stated < length (A.contents asks.old).trees }
     requires made_in { made < length (A.contents asks.old).trees }
     ensures keeps { Extends (A.contents asks.old) (A.contents asks.new) }
-    ensures basis { A.basis asks.new ≡ A.basis asks.old }
-    ensures table { A.table asks.new ≡ A.table asks.old }
-    ensures place { A.place asks.new ≡ A.place asks.old }
-    ensures outcome { Gives (A.table asks.old) (A.place asks.old)
+    ensures stays { A.standing asks.new ≡ A.standing asks.old }
+    ensures outcome { ComesTo (A.standing asks.old)
         (same_form (tree_at (A.contents asks.old) stated) (tree_at (A.contents asks.old) made))
         (A.left asks.old) (λ u. checked) (A.left asks.new) result }
 {
-    match are_same(asks, stated, made) {
-        Ok(true) => Ok(()),
-        Ok(false) => Err(Stop::Rule(Rule::RecursorDiffers)),
-        Err(stop) => Err(stop),
+    if are_same(asks, stated, made)? {
+        Ok(())
+    } else {
+        Err(Stop::No(Rule::RecursorDiffers))
     }
 }
 
@@ -47,18 +45,14 @@ fn check_same<A: Asks>(asks: &mut A, stated: u64, made: u64) -> Result<(), Stop>
 fn check_type<A: Asks>(alloc: Global, asks: &mut A, pair: &Comparison) -> Result<(), Stop>
     requires { IsComparison (A.contents asks.old) pair.now }
     ensures keeps { Extends (A.contents asks.old) (A.contents asks.new) }
-    ensures basis { A.basis asks.new ≡ A.basis asks.old }
-    ensures table { A.table asks.new ≡ A.table asks.old }
-    ensures place { A.place asks.new ≡ A.place asks.old }
-    ensures outcome { Gives (A.table asks.old) (A.place asks.old)
+    ensures stays { A.standing asks.new ≡ A.standing asks.old }
+    ensures outcome { ComesTo (A.standing asks.old)
         (same_form (stated_of (A.contents asks.old) pair.now).type
         (renamed_type (A.contents asks.old) pair.now)) (A.left asks.old) (λ u. checked)
         (A.left asks.new) result }
 {
-    match type_between(alloc, asks, pair) {
-        Ok(made) => check_same(asks, pair.stated.kind, made),
-        Err(_) => Err(Stop::NoMemory),
-    }
+    let made = type_between(alloc, asks, pair)?;
+    check_same(asks, pair.stated.ty, made)
 }
 
 /// The stated value of a rule against the recomputed one.
@@ -75,18 +69,14 @@ fn check_value<A: Asks>(
     requires constructor_in { IsConstructorShapeIn (A.contents asks.old) constructor.now }
     requires value_in { value < length (A.contents asks.old).trees }
     ensures keeps { Extends (A.contents asks.old) (A.contents asks.new) }
-    ensures basis { A.basis asks.new ≡ A.basis asks.old }
-    ensures table { A.table asks.new ≡ A.table asks.old }
-    ensures place { A.place asks.new ≡ A.place asks.old }
-    ensures outcome { Gives (A.table asks.old) (A.place asks.old)
+    ensures stays { A.standing asks.new ≡ A.standing asks.old }
+    ensures outcome { ComesTo (A.standing asks.old)
         (same_form (tree_at (A.contents asks.old) value)
         (renamed_value (A.contents asks.old) pair.now minor constructor.now)) (A.left asks.old)
         (λ u. checked) (A.left asks.new) result }
 {
-    match rule_between(alloc, asks, pair, minor, constructor) {
-        Ok(made) => check_same(asks, value, made),
-        Err(_) => Err(Stop::NoMemory),
-    }
+    let made = rule_between(alloc, asks, pair, minor, constructor)?;
+    check_same(asks, value, made)
 }
 
 /// The stated value of a rule, which is to have a type, against the recomputed one.
@@ -103,28 +93,22 @@ fn check_rule<A: Asks>(
     requires constructor_in { IsConstructorShapeIn (A.contents asks.old) constructor.now }
     requires value_in { value < length (A.contents asks.old).trees }
     ensures keeps { Extends (A.contents asks.old) (A.contents asks.new) }
-    ensures basis { A.basis asks.new ≡ A.basis asks.old }
-    ensures table { A.table asks.new ≡ A.table asks.old }
-    ensures place { A.place asks.new ≡ A.place asks.old }
-    ensures outcome { Gives (A.table asks.old) (A.place asks.old)
+    ensures stays { A.standing asks.new ≡ A.standing asks.old }
+    ensures outcome { ComesTo (A.standing asks.old)
         (rule_form (tree_at (A.contents asks.old) value)
         (renamed_value (A.contents asks.old) pair.now minor constructor.now)) (A.left asks.old)
         (λ u. checked) (A.left asks.new) result }
 {
-    match type_of(asks, value) {
-        Ok(_) => check_value(alloc, asks, pair, minor, constructor, value),
-        Err(stop) => Err(stop),
-    }
+    type_of(asks, value)?;
+    check_value(alloc, asks, pair, minor, constructor, value)
 }
 
 /// The stated rules against those of the type's constructors, one after another.
 fn check_rules<A: Asks>(alloc: Global, asks: &mut A, pair: &Comparison) -> Result<(), Stop>
     requires { IsComparison (A.contents asks.old) pair.now }
     ensures keeps { Extends (A.contents asks.old) (A.contents asks.new) }
-    ensures basis { A.basis asks.new ≡ A.basis asks.old }
-    ensures table { A.table asks.new ≡ A.table asks.old }
-    ensures place { A.place asks.new ≡ A.place asks.old }
-    ensures outcome { Gives (A.table asks.old) (A.place asks.old)
+    ensures stays { A.standing asks.new ≡ A.standing asks.old }
+    ensures outcome { ComesTo (A.standing asks.old)
         (rules_steps (stated_of (A.contents asks.old) pair.now)
         (own_of (A.contents asks.old) pair.now)
         (stated_of (A.contents asks.old) pair.now).recursor.rules
@@ -140,10 +124,7 @@ fn check_rules<A: Asks>(alloc: Global, asks: &mut A, pair: &Comparison) -> Resul
             Some((minor, more_minors)) => match constructors.split_first() {
                 None => return Ok(()),
                 Some((constructor, others)) => {
-                    match check_rule(alloc, asks, pair, *minor, constructor, rule.value) {
-                        Ok(_) => {}
-                        Err(stop) => return Err(stop),
-                    }
+                    check_rule(alloc, asks, pair, *minor, constructor, rule.value)?;
                     rules = more_rules;
                     minors = more_minors;
                     constructors = others;
@@ -158,52 +139,42 @@ fn check_rules<A: Asks>(alloc: Global, asks: &mut A, pair: &Comparison) -> Resul
 fn check_parts<A: Asks>(alloc: Global, asks: &mut A, pair: &Comparison) -> Result<(), Stop>
     requires { IsComparison (A.contents asks.old) pair.now }
     ensures keeps { Extends (A.contents asks.old) (A.contents asks.new) }
-    ensures basis { A.basis asks.new ≡ A.basis asks.old }
-    ensures table { A.table asks.new ≡ A.table asks.old }
-    ensures place { A.place asks.new ≡ A.place asks.old }
-    ensures outcome { Gives (A.table asks.old) (A.place asks.old)
+    ensures stays { A.standing asks.new ≡ A.standing asks.old }
+    ensures outcome { ComesTo (A.standing asks.old)
         (parts_form (stated_of (A.contents asks.old) pair.now)
         (own_of (A.contents asks.old) pair.now)) (A.left asks.old) (λ u. checked)
         (A.left asks.new) result }
 {
-    match check_type(alloc, asks, pair) {
-        Ok(_) => check_rules(alloc, asks, pair),
-        Err(stop) => Err(stop),
-    }
+    check_type(alloc, asks, pair)?;
+    check_rules(alloc, asks, pair)
 }
 
 /// The stated type, which is to have a sort, and the rules against the recomputed ones.
 fn check_trees<A: Asks>(alloc: Global, asks: &mut A, pair: &Comparison) -> Result<(), Stop>
     requires { IsComparison (A.contents asks.old) pair.now }
     ensures keeps { Extends (A.contents asks.old) (A.contents asks.new) }
-    ensures basis { A.basis asks.new ≡ A.basis asks.old }
-    ensures table { A.table asks.new ≡ A.table asks.old }
-    ensures place { A.place asks.new ≡ A.place asks.old }
-    ensures outcome { Gives (A.table asks.old) (A.place asks.old)
+    ensures stays { A.standing asks.new ≡ A.standing asks.old }
+    ensures outcome { ComesTo (A.standing asks.old)
         (trees_form (stated_of (A.contents asks.old) pair.now)
         (own_of (A.contents asks.old) pair.now)) (A.left asks.old) (λ u. checked)
         (A.left asks.new) result }
 {
-    match sort_of(asks, pair.stated.kind) {
-        Ok(_) => check_parts(alloc, asks, pair),
-        Err(stop) => Err(stop),
-    }
+    sort_of(asks, pair.stated.ty)?;
+    check_parts(alloc, asks, pair)
 }
 
 /// A stated recursor against the block's own of its name: the counts, and then the terms.
 fn check_pair<A: Asks>(alloc: Global, asks: &mut A, pair: &Comparison) -> Result<(), Stop>
     requires { IsComparison (A.contents asks.old) pair.now }
     ensures keeps { Extends (A.contents asks.old) (A.contents asks.new) }
-    ensures basis { A.basis asks.new ≡ A.basis asks.old }
-    ensures table { A.table asks.new ≡ A.table asks.old }
-    ensures place { A.place asks.new ≡ A.place asks.old }
-    ensures outcome { Gives (A.table asks.old) (A.place asks.old)
+    ensures stays { A.standing asks.new ≡ A.standing asks.old }
+    ensures outcome { ComesTo (A.standing asks.old)
         (rec_steps (stated_of (A.contents asks.old) pair.now)
         (own_of (A.contents asks.old) pair.now)) (A.left asks.old) (λ u. checked)
         (A.left asks.new) result }
 {
     if !counts_agree(asks, pair) {
-        return Err(Stop::Rule(Rule::RecursorDiffers));
+        return Err(Stop::No(Rule::RecursorDiffers));
     }
     check_trees(alloc, asks, pair)
 }
@@ -220,19 +191,14 @@ fn check_found<A: Asks>(
     requires own_is { IsOwnRecursor (A.contents asks.old) own }
     requires stated_in { IsRecursorIn (A.contents asks.old) stated.now }
     ensures keeps { Extends (A.contents asks.old) (A.contents asks.new) }
-    ensures basis { A.basis asks.new ≡ A.basis asks.old }
-    ensures table { A.table asks.new ≡ A.table asks.old }
-    ensures place { A.place asks.new ≡ A.place asks.old }
-    ensures outcome { Gives (A.table asks.old) (A.place asks.old)
+    ensures stays { A.standing asks.new ≡ A.standing asks.old }
+    ensures outcome { ComesTo (A.standing asks.old)
         (rec_steps (recursor_at (A.contents asks.old) stated.now)
         (own_at (A.contents asks.old) (shape_at
         (A.contents asks.old) shared.now.shape.now) own.entry)) (A.left asks.old) (λ u. checked)
         (A.left asks.new) result }
 {
-    let levels = match levels_between(alloc, asks, &stated.levels) {
-        Ok(levels) => levels,
-        Err(_) => return Err(Stop::NoMemory),
-    };
+    let levels = levels_between(alloc, asks, &stated.levels)?;
     let pair = Comparison {
         shared: *shared,
         own,
@@ -252,10 +218,8 @@ fn check_recursor<A: Asks>(
     requires shared_is { IsShared (A.contents asks.old) shared.now }
     requires stated_in { IsRecursorIn (A.contents asks.old) stated.now }
     ensures keeps { Extends (A.contents asks.old) (A.contents asks.new) }
-    ensures basis { A.basis asks.new ≡ A.basis asks.old }
-    ensures table { A.table asks.new ≡ A.table asks.old }
-    ensures place { A.place asks.new ≡ A.place asks.old }
-    ensures outcome { Gives (A.table asks.old) (A.place asks.old)
+    ensures stays { A.standing asks.new ≡ A.standing asks.old }
+    ensures outcome { ComesTo (A.standing asks.old)
         (compare_found (recursor_at (A.contents asks.old) stated.now)
         (rec_named (recursors (shape_at (A.contents asks.old) shared.now.shape.now))
         (name_at (A.contents asks.old) stated.now.name))) (A.left asks.old) (λ u. checked)
@@ -268,7 +232,7 @@ fn check_recursor<A: Asks>(
         &shared.front.minors,
         stated.name,
     ) {
-        None => Err(Stop::Rule(Rule::RecursorDiffers)),
+        None => Err(Stop::No(Rule::RecursorDiffers)),
         Some(own) => check_found(alloc, asks, shared, own, stated),
     }
 }
@@ -283,20 +247,15 @@ fn check_all<A: Asks>(
     requires shared_is { IsShared (A.contents asks.old) shared.now }
     requires stated_in { All (IsRecursorIn (A.contents asks.old)) stated.now }
     ensures keeps { Extends (A.contents asks.old) (A.contents asks.new) }
-    ensures basis { A.basis asks.new ≡ A.basis asks.old }
-    ensures table { A.table asks.new ≡ A.table asks.old }
-    ensures place { A.place asks.new ≡ A.place asks.old }
-    ensures outcome { Gives (A.table asks.old) (A.place asks.old)
+    ensures stays { A.standing asks.new ≡ A.standing asks.old }
+    ensures outcome { ComesTo (A.standing asks.old)
         (compare_steps (recursors (shape_at (A.contents asks.old) shared.now.shape.now))
         (map (recursor_at (A.contents asks.old)) stated.now)) (A.left asks.old) (λ u. checked)
         (A.left asks.new) result }
 {
     let mut rest = stated;
     'stated: while let Some((recursor, more)) = rest.split_first() {
-        match check_recursor(alloc, asks, shared, recursor) {
-            Ok(_) => {}
-            Err(stop) => return Err(stop),
-        }
+        check_recursor(alloc, asks, shared, recursor)?;
         rest = more;
     }
     Ok(())
@@ -314,22 +273,14 @@ fn compare_with<A: Asks>(
     requires front_is { IsFront (A.contents asks.old) shape.now front.now }
     requires stated_in { All (IsRecursorIn (A.contents asks.old)) stated.now }
     ensures keeps { Extends (A.contents asks.old) (A.contents asks.new) }
-    ensures basis { A.basis asks.new ≡ A.basis asks.old }
-    ensures table { A.table asks.new ≡ A.table asks.old }
-    ensures place { A.place asks.new ≡ A.place asks.old }
-    ensures outcome { Gives (A.table asks.old) (A.place asks.old)
+    ensures stays { A.standing asks.new ≡ A.standing asks.old }
+    ensures outcome { ComesTo (A.standing asks.old)
         (compare_steps (recursors (shape_at (A.contents asks.old) shape.now))
         (map (recursor_at (A.contents asks.old)) stated.now)) (A.left asks.old) (λ u. checked)
         (A.left asks.new) result }
 {
-    let names = match names_between(alloc, asks, &shape.types) {
-        Ok(names) => names,
-        Err(_) => return Err(Stop::NoMemory),
-    };
-    let k = match by_k(alloc, asks, shape) {
-        Ok(k) => k,
-        Err(_) => return Err(Stop::NoMemory),
-    };
+    let names = names_between(alloc, asks, &shape.types)?;
+    let k = by_k(alloc, asks, shape)?;
     let shared = Shared {
         shape,
         front,
@@ -354,10 +305,8 @@ pub fn compare<A: Asks>(
     requires shape_in { IsShapeIn (A.contents asks.old) shape.now }
     requires stated_in { All (IsRecursorIn (A.contents asks.old)) stated.now }
     ensures keeps { Extends (A.contents asks.old) (A.contents asks.new) }
-    ensures basis { A.basis asks.new ≡ A.basis asks.old }
-    ensures table { A.table asks.new ≡ A.table asks.old }
-    ensures place { A.place asks.new ≡ A.place asks.old }
-    ensures outcome { Gives (A.table asks.old) (A.place asks.old)
+    ensures stays { A.standing asks.new ≡ A.standing asks.old }
+    ensures outcome { ComesTo (A.standing asks.old)
         (compare_steps (recursors (shape_at (A.contents asks.old) shape.now))
         (map (recursor_at (A.contents asks.old)) stated.now)) (A.left asks.old) (λ u. checked)
         (A.left asks.new) result }
@@ -365,8 +314,6 @@ pub fn compare<A: Asks>(
     if stated.is_empty() {
         return Ok(());
     }
-    match front_between(alloc, asks, shape) {
-        Ok(front) => compare_with(alloc, asks, shape, &front, stated),
-        Err(_) => Err(Stop::NoMemory),
-    }
+    let front = front_between(alloc, asks, shape)?;
+    compare_with(alloc, asks, shape, &front, stated)
 }

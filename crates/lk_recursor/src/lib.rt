@@ -16,3 +16,5 @@ pub mod recursor;
 mod renaming;
 pub mod rules;
 mod runs;
+
+pub use recursor::{by_k, recursor_type};

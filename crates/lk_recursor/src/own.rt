@@ -68,10 +68,7 @@ pub fn names_of<T: Terms>(
     let mut rest = types;
     'types: while let Some((of, more)) = rest.split_first() {
         let name = recursor_name(alloc, terms, of.name)?;
-        match names.push(name) {
-            Ok(_) => {}
-            Err(_) => return Err(NoMemory),
-        }
+        names.push(name)?;
         rest = more;
     }
     Ok(names)

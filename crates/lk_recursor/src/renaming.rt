@@ -35,10 +35,7 @@ pub fn levels_of<T: Terms>(
     let mut rest = names;
     'names: while let Some((name, more)) = rest.split_first() {
         let level = terms.make_level(LevelNode::Param(*name))?;
-        match levels.push(level) {
-            Ok(_) => {}
-            Err(_) => return Err(NoMemory),
-        }
+        levels.push(level)?;
         rest = more;
     }
     Ok(levels)

@@ -1,8 +1,7 @@
 use Rattle.std.proofs.Common.{◌<◌, length, map, All, ap, sym, subst, ◌∙◌, arith}
 use Rattle.lk_rulebook.specs.Place.{type_names}
-use Rattle.lk_store.specs.Contents.{name_at, level_at, list_at, tree_at}
+use Rattle.lk_store.specs.Contents.{name_at}
 use Rattle.lk_subst.specs.Numbers.{trees-steady, trees-known}
-use Rattle.lk_env.specs.Units.{type_at, IsTypeIn}
 use Rattle.lk_inductive.specs.Block.{counts_of}
 use Rattle.lk_block.proofs.Frames.{frame_same}
 use Rattle.lk_block.proofs.Stays.{types_stay, types_in_stay}

@@ -2,7 +2,7 @@ use Rattle.std.proofs.Common.{◌≡◌, length, map, All}
 use Rattle.lk_inductive.specs.BlockSteps.{small_steps}
 use Rattle.lk_store.specs.Contents.{tree_at, Extends}
 use Rattle.lk_block.specs.Shapes.{field_at, IsFieldIn}
-use Rattle.lk_block.proofs.Leading.{Leads}
+use Rattle.lk_declaration.proofs.Leading.{Leads}
 use Rattle.lk_block.proofs.elimination.are_small.Given as goal
 
 abbrev pub invariant-fields : goal.invariant-fields
@@ -11,11 +11,9 @@ invariant-fields g l =
     let is = map (tree_at before) l.fn.indices in
     record {
       keeps : Extends before (g.A.Terms.contents l.asks);
-      same_basis : g.A.Asks.basis l.asks ≡ g.A.Asks.basis l.fn.asks;
-      same_table : g.A.Asks.table l.asks ≡ g.A.Asks.table l.fn.asks;
-      same_place : g.A.Asks.place l.asks ≡ g.A.Asks.place l.fn.asks;
+      same_standing : g.A.Asks.standing l.asks ≡ g.A.Asks.standing l.fn.asks;
       rest_in : All (IsFieldIn before) l.rest;
-      leads : Leads (g.A.Asks.table l.fn.asks) (g.A.Asks.place l.fn.asks) (small_steps is (map (field_at before) l.fn.fields)) (g.A.Asks.left l.fn.asks) (small_steps is (map (field_at before) l.rest)) (g.A.Asks.left l.asks);
+      leads : Leads (g.A.Asks.standing l.fn.asks) (small_steps is (map (field_at before) l.fn.fields)) (g.A.Asks.left l.fn.asks) (small_steps is (map (field_at before) l.rest)) (g.A.Asks.left l.asks);
     }
 
 abbrev pub decreases-fields : goal.decreases-fields

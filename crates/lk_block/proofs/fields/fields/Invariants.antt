@@ -11,12 +11,10 @@ invariant-fields g l =
     let now = g.A.Terms.contents l.asks in
     record {
       keeps : Extends before now;
-      same_basis : g.A.Asks.basis l.asks ≡ g.A.Asks.basis l.fn.asks;
-      same_table : g.A.Asks.table l.asks ≡ g.A.Asks.table l.fn.asks;
-      same_place : g.A.Asks.place l.asks ≡ g.A.Asks.place l.fn.asks;
+      same_standing : g.A.Asks.standing l.asks ≡ g.A.Asks.standing l.fn.asks;
       found_in : All (IsFieldIn now) l.found.items;
       rest_in : l.rest < length now.trees;
-      leads : LeadsFields (g.A.Asks.table l.fn.asks) (g.A.Asks.place l.fn.asks) (frame_at before l.frame) l.fn.first l.fn.count (tree_at before l.fn.e) (g.A.Asks.left l.fn.asks) (map (field_at now) l.found.items) l.number l.left (tree_at now l.rest) (g.A.Asks.left l.asks);
+      leads : LeadsFields (g.A.Asks.standing l.fn.asks) (frame_at before l.frame) l.fn.first l.fn.count (tree_at before l.fn.e) (g.A.Asks.left l.fn.asks) (map (field_at now) l.found.items) l.number l.left (tree_at now l.rest) (g.A.Asks.left l.asks);
     }
 
 abbrev pub decreases-fields : goal.decreases-fields

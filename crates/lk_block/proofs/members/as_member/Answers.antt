@@ -1,9 +1,8 @@
 use Rattle.std.proofs.Common.{◌≡◌, IfOk, Some, sym, ap, subst, ◌∙◌}
-use Rattle.lk_tree.specs.Tree.{Tree}
 use Rattle.lk_tree.specs.Spine.{head, args}
 use Rattle.lk_inductive.specs.Block.{Frame}
 use Rattle.lk_inductive.specs.BlockSteps.{after_params, plain_indices}
-use Rattle.lk_store.specs.Contents.{name_at, list_at, tree_at}
+use Rattle.lk_store.specs.Contents.{name_at, tree_at}
 use Rattle.lk_block.specs.Frames.{frame_at}
 use Rattle.lk_block.specs.Members.{own_name, named_at, member_at}
 use Rattle.lk_block.proofs.Frames.{frame-steady}

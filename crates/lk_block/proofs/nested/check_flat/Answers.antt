@@ -9,4 +9,4 @@ use Rattle.lk_block.proofs.nested.check_flat.Goals as goal
 pub returns : goal.returns
 returns g c =
     let s = g.A.Terms.contents c.args.asks.now in
-    record { outcome = finds_gives (g.A.Asks.table c.args.asks.now) (g.A.Asks.place c.args.asks.now) (flat_types (names_at s c.args.names.now) (map (type_at s) c.args.types.now)) (g.A.Asks.left c.args.asks.now) (λ u. checked) c.check_types.result c.check_types.ensures }
+    record { outcome = finds_gives (g.A.Asks.standing c.args.asks.now) (flat_types (names_at s c.args.names.now) (map (type_at s) c.args.types.now)) (g.A.Asks.left c.args.asks.now) (λ u. checked) c.check_types.result c.check_types.ensures }

@@ -9,7 +9,7 @@ use Rattle.lk_block.proofs.nested.check_types.Given as goal
 abbrev pub invariant-types : goal.invariant-types
 invariant-types g l =
     let c = g.A.Terms.contents l.asks in
-    let w = g.A.Asks.place l.asks in
+    let w = (g.A.Asks.standing l.asks).place in
     let ns = names_at c l.names in
     record {
       walked : AreWalked w c l.names l.walked;

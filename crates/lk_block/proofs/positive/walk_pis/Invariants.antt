@@ -13,14 +13,12 @@ invariant-walk g l =
     let now = g.A.Terms.contents l.asks in
     record {
       keeps : Extends before now;
-      same_basis : g.A.Asks.basis l.asks ≡ g.A.Asks.basis l.fn.asks;
-      same_table : g.A.Asks.table l.asks ≡ g.A.Asks.table l.fn.asks;
-      same_place : g.A.Asks.place l.asks ≡ g.A.Asks.place l.fn.asks;
+      same_standing : g.A.Asks.standing l.asks ≡ g.A.Asks.standing l.fn.asks;
       arguments_in : AreTreesIn now l.arguments.items;
       rest_in : l.rest < length now.trees;
       known : IfSome l.known (λ k. mentions (map (name_at now) l.frame.names) (tree_at now k) ≡ true);
       known_in : IfSome l.known (λ k. k < length now.trees);
-      leads : LeadsWalk (g.A.Asks.table l.fn.asks) (g.A.Asks.place l.fn.asks) (frame_at before l.frame) l.fn.first (tree_at before l.fn.e) (g.A.Asks.left l.fn.asks) (map (tree_at now) l.arguments.items) l.number (tree_at now l.rest) (g.A.Asks.left l.asks);
+      leads : LeadsWalk (g.A.Asks.standing l.fn.asks) (frame_at before l.frame) l.fn.first (tree_at before l.fn.e) (g.A.Asks.left l.fn.asks) (map (tree_at now) l.arguments.items) l.number (tree_at now l.rest) (g.A.Asks.left l.asks);
     }
 
 abbrev pub decreases-walk : goal.decreases-walk

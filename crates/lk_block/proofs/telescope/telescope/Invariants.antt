@@ -9,12 +9,10 @@ invariant-pis g l =
     let now = g.A.Terms.contents l.asks in
     record {
       keeps : Extends before now;
-      same_basis : g.A.Asks.basis l.asks ≡ g.A.Asks.basis l.fn.asks;
-      same_table : g.A.Asks.table l.asks ≡ g.A.Asks.table l.fn.asks;
-      same_place : g.A.Asks.place l.asks ≡ g.A.Asks.place l.fn.asks;
+      same_standing : g.A.Asks.standing l.asks ≡ g.A.Asks.standing l.fn.asks;
       locals_in : All (λ x. x < length now.trees) l.locals.items;
       rest_in : l.rest < length now.trees;
-      leads : LeadsOn (g.A.Asks.table l.fn.asks) (g.A.Asks.place l.fn.asks) l.fn.first l.fn.count (tree_at before l.fn.e) (g.A.Asks.left l.fn.asks) (map (tree_at now) l.locals.items) l.number l.left (tree_at now l.rest) (g.A.Asks.left l.asks);
+      leads : LeadsOn (g.A.Asks.standing l.fn.asks) l.fn.first l.fn.count (tree_at before l.fn.e) (g.A.Asks.left l.fn.asks) (map (tree_at now) l.locals.items) l.number l.left (tree_at now l.rest) (g.A.Asks.left l.asks);
     }
 
 abbrev pub decreases-pis : goal.decreases-pis

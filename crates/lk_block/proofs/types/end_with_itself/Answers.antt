@@ -1,6 +1,7 @@
 use Rattle.std.proofs.Common.{List, map}
+use Rattle.std.proofs.lemmas.Result.{err_from_is_err_and}
 use Rattle.lk_tree.specs.LevelTest.{level_test}
-use Rattle.lk_tree.specs.RuleNo.{block_shape}
+use Rattle.lk_tree.specs.declared.rule.Rule.TheVariants.{BlockShape}
 use Rattle.lk_tree.specs.Tree.{Level, Tree}
 use Rattle.lk_plain.specs.Program.{done, ◌>>=◌}
 use Rattle.lk_questions.specs.Steps.{given}
@@ -8,32 +9,34 @@ use Rattle.lk_questions.specs.Levels.{tested}
 use Rattle.lk_inductive.specs.BlockSteps.{type_end}
 use Rattle.lk_store.specs.Contents.{level_at, tree_at}
 use Rattle.lk_block.proofs.Firsts.{self_goes, self_differs, self_stops}
-use Rattle.lk_block.proofs.Running.{halts_first}
+use Rattle.lk_declaration.proofs.Running.{halts_first}
 use Rattle.lk_block.proofs.types.end_with_itself.Goals as goal
 
-pub returns-in-Err-clause-outcome : goal.returns-in-Err-clause-outcome
-returns-in-Err-clause-outcome g c =
+pub returns-in_err-end-clause-outcome : goal.returns-in_err-end-clause-outcome
+returns-in_err-end-clause-outcome g c =
     let before = g.A.Terms.contents c.args.asks.now in
-    halts_first (g.A.Asks.table c.args.asks.now) (g.A.Asks.place c.args.asks.now) (type_end c.args.first c.args.count (tree_at before c.args.e))
-    (λ (e : List Tree × Level). tested (level_test e.1 e.1) >>= λ equal. given equal block_shape (done e)) (g.A.Asks.left c.args.asks.now) c.in-Err.stop c.in-Err.ensures.outcome
+    let p = err_from_is_err_and c.from_residual.result c.from_residual.ensures.1 in
+    rw (p.1, p.2) (halts_first (g.A.Asks.standing c.args.asks.now) (type_end c.args.first c.args.count (tree_at before c.args.e))
+    (λ (e : List Tree × Level). tested (level_test e.1 e.1) >>= λ equal. given equal BlockShape (done e)) (g.A.Asks.left c.args.asks.now) c.in_err-end.field-0.0 c.in_err-end.ensures.outcome)
 
-pub returns-in-Ok-true-clause-outcome : goal.returns-in-Ok-true-clause-outcome
-returns-in-Ok-true-clause-outcome g c =
+pub returns-then-branch-clause-outcome : goal.returns-then-branch-clause-outcome
+returns-then-branch-clause-outcome g c =
     let before = g.A.Terms.contents c.args.asks.now in
     let between = g.A.Terms.contents c.type_end.new.asks in
-    self_goes (g.A.Asks.table c.args.asks.now) (g.A.Asks.place c.args.asks.now) c.args.first c.args.count (tree_at before c.args.e) (g.A.Asks.left c.args.asks.now) (level_at between c.in-Ok.end.1) (map (tree_at between) c.in-Ok.end.0.items) (g.A.Asks.left c.type_end.new.asks)
-    c.in-Ok-true.field-0 c.in-Ok.ensures.outcome c.in-Ok-true.ensures c.in-Ok-true.field-0-test
+    self_goes (g.A.Asks.standing c.args.asks.now) c.args.first c.args.count (tree_at before c.args.e) (g.A.Asks.left c.args.asks.now) (level_at between c.in_ok-end.end.1) (map (tree_at between) c.in_ok-end.end.0.items) (g.A.Asks.left c.type_end.new.asks)
+    c.in_ok-levels_equal.field-0 c.in_ok-end.ensures.outcome c.in_ok-levels_equal.ensures c.if-branch.true
 
-pub returns-in-Ok-false-clause-outcome : goal.returns-in-Ok-false-clause-outcome
-returns-in-Ok-false-clause-outcome g c =
+pub returns-else-branch-clause-outcome : goal.returns-else-branch-clause-outcome
+returns-else-branch-clause-outcome g c =
     let before = g.A.Terms.contents c.args.asks.now in
     let between = g.A.Terms.contents c.type_end.new.asks in
-    self_differs (g.A.Asks.table c.args.asks.now) (g.A.Asks.place c.args.asks.now) c.args.first c.args.count (tree_at before c.args.e) (g.A.Asks.left c.args.asks.now) (level_at between c.in-Ok.end.1) (map (tree_at between) c.in-Ok.end.0.items) (g.A.Asks.left c.type_end.new.asks)
-    c.in-Ok-false.field-0 c.in-Ok.ensures.outcome c.in-Ok-false.ensures c.in-Ok-false.field-0-test
+    self_differs (g.A.Asks.standing c.args.asks.now) c.args.first c.args.count (tree_at before c.args.e) (g.A.Asks.left c.args.asks.now) (level_at between c.in_ok-end.end.1) (map (tree_at between) c.in_ok-end.end.0.items) (g.A.Asks.left c.type_end.new.asks)
+    c.in_ok-levels_equal.field-0 c.in_ok-end.ensures.outcome c.in_ok-levels_equal.ensures c.if-branch.false
 
-pub returns-in-Err-levels_equal-clause-outcome : goal.returns-in-Err-levels_equal-clause-outcome
-returns-in-Err-levels_equal-clause-outcome g c =
+pub returns-in_err-levels_equal-clause-outcome : goal.returns-in_err-levels_equal-clause-outcome
+returns-in_err-levels_equal-clause-outcome g c =
     let before = g.A.Terms.contents c.args.asks.now in
     let between = g.A.Terms.contents c.type_end.new.asks in
-    self_stops (g.A.Asks.table c.args.asks.now) (g.A.Asks.place c.args.asks.now) c.args.first c.args.count (tree_at before c.args.e) (g.A.Asks.left c.args.asks.now) (level_at between c.in-Ok.end.1) (map (tree_at between) c.in-Ok.end.0.items) (g.A.Asks.left c.type_end.new.asks)
-    c.in-Err-levels_equal.stop c.in-Ok.ensures.outcome c.in-Err-levels_equal.ensures
+    let p = err_from_is_err_and c.from_residual-in_err-levels_equal.result c.from_residual-in_err-levels_equal.ensures.1 in
+    rw (p.1, p.2) (self_stops (g.A.Asks.standing c.args.asks.now) c.args.first c.args.count (tree_at before c.args.e) (g.A.Asks.left c.args.asks.now) (level_at between c.in_ok-end.end.1) (map (tree_at between) c.in_ok-end.end.0.items) (g.A.Asks.left c.type_end.new.asks)
+    c.in_err-levels_equal.field-0.0 c.in_ok-end.ensures.outcome c.in_err-levels_equal.ensures)

@@ -1,5 +1,6 @@
 use Rattle.std.proofs.Common.{◌<◌, ◌∷◌, ◌++◌, [], length, map, All, refl, ap, ◌∙◌}
 use Rattle.std.proofs.lemmas.List.Elements.{All-same, All-push}
+use Rattle.std.proofs.lemmas.Result.{err_from_is_err_and}
 use Rattle.lk_store.specs.Contents.{level_at, tree_at}
 use Rattle.lk_store.proofs.Extending.{Extends-trans}
 use Rattle.lk_env.specs.Units.{type_at, IsTypeIn}
@@ -10,8 +11,8 @@ use Rattle.lk_block.proofs.Counted.{rest_have, first_has, none_left}
 use Rattle.lk_block.proofs.Firsts.{form_kept, lists-known, lists-push, types_next, types_halt, types_end}
 use Rattle.lk_block.proofs.types.more_types.Goals as goal
 
-pub returns-in-Err-clause-outcome : goal.returns-in-Err-clause-outcome
-returns-in-Err-clause-outcome g c =
+pub returns-in_err-own-clause-outcome : goal.returns-in_err-own-clause-outcome
+returns-in_err-own-clause-outcome g c =
     let before = g.A.Terms.contents c.args.asks.now in
     let now = g.A.Terms.contents c.types.asks in
     let ps = map (tree_at before) c.args.parameters.now in
@@ -21,14 +22,15 @@ returns-in-Err-clause-outcome g c =
     let kept = c.types.invariant.keeps in
     let same_params = trees-steady before now c.args.parameters.now kept c.requires.parameters_in in
     let same_level = kept.levels.same c.args.level c.requires.level_in in
-    let same_kind = kept.trees.same stated.kind known.stated.kind_in in
-    let p = next_form ps l stated.indices (tree_at before stated.kind) in
-    let q = next_form (map (tree_at now) c.args.parameters.now) (level_at now c.args.level) stated.indices (tree_at now stated.kind) in
-    types_halt (g.A.Asks.table c.args.asks.now) (g.A.Asks.table c.types.asks) (g.A.Asks.place c.args.asks.now) (g.A.Asks.place c.types.asks) c.types.invariant.same_table c.types.invariant.same_place
+    let same_type = kept.trees.same stated.ty known.stated.ty_in in
+    let p = next_form ps l stated.indices (tree_at before stated.ty) in
+    let q = next_form (map (tree_at now) c.args.parameters.now) (level_at now c.args.level) stated.indices (tree_at now stated.ty) in
+    let why = err_from_is_err_and c.from_residual.result c.from_residual.ensures.1 in
+    rw (why.1, why.2) (types_halt (g.A.Asks.standing c.args.asks.now) (g.A.Asks.standing c.types.asks) c.types.invariant.same_standing
     ps (map (tree_at now) c.args.parameters.now) l (level_at now c.args.level) (lists_at before c.args.indices.now.items) (map (type_at before) c.args.types.now) (g.A.Asks.left c.args.asks.now)
     (lists_at now c.types.indices.items) (map (type_at before) c.types.rest.now) (g.A.Asks.left c.types.asks) c.types.invariant.leads
-    p q (type_at before stated) (map (type_at before) c.in-Some.more.now) c.in-Err.stop (ap (map (type_at before)) c.in-Some.ensures.cases.0) refl
-    (form_kept (map (tree_at now) c.args.parameters.now) ps (level_at now c.args.level) l stated.indices (tree_at now stated.kind) (tree_at before stated.kind) same_params same_level same_kind) c.in-Err.ensures.outcome
+    p q (type_at before stated) (map (type_at before) c.in-Some.more.now) c.in_err-own.field-0.0 (ap (map (type_at before)) c.in-Some.ensures.cases.0) refl
+    (form_kept (map (tree_at now) c.args.parameters.now) ps (level_at now c.args.level) l stated.indices (tree_at now stated.ty) (tree_at before stated.ty) same_params same_level same_type) c.in_err-own.ensures.outcome)
 
 pub types-preserved : goal.types-preserved
 types-preserved g c =
@@ -41,26 +43,24 @@ types-preserved g c =
     let kept = c.types.invariant.keeps in
     let same_params = trees-steady before now c.args.parameters.now kept c.requires.parameters_in in
     let same_level = kept.levels.same c.args.level c.requires.level_in in
-    let same_kind = kept.trees.same stated.kind known.stated.kind_in in
-    let p = next_form ps l stated.indices (tree_at before stated.kind) in
-    let q = next_form (map (tree_at now) c.args.parameters.now) (level_at now c.args.level) stated.indices (tree_at now stated.kind) in
+    let same_type = kept.trees.same stated.ty known.stated.ty_in in
+    let p = next_form ps l stated.indices (tree_at before stated.ty) in
+    let q = next_form (map (tree_at now) c.args.parameters.now) (level_at now c.args.level) stated.indices (tree_at now stated.ty) in
     let after = g.A.Terms.contents c.next_type.new.asks in
-    let grown = c.in-Ok.ensures.keeps in
-    let pushed = c.in-Ok-push.ensures.items in
+    let grown = c.in_ok-own.ensures.keeps in
+    let pushed = c.in-Ok.ensures.items in
     record {
       keeps = Extends-trans before now after kept grown;
-      same_basis = c.in-Ok.ensures.basis ∙ c.types.invariant.same_basis;
-      same_table = c.in-Ok.ensures.table ∙ c.types.invariant.same_table;
-      same_place = c.in-Ok.ensures.place ∙ c.types.invariant.same_place;
+      same_standing = c.in_ok-own.ensures.stays ∙ c.types.invariant.same_standing;
       rest_in = rest_have (IsTypeIn before) c.types.rest.now stated c.in-Some.more.now c.in-Some.ensures.cases.0 c.types.invariant.rest_in;
-      lists_in = All-same (λ ys. All (λ x. x < length after.trees) ys.items) c.push.new.self.items (c.types.indices.items ++ c.in-Ok.own ∷ []) pushed
-          (All-push (λ ys. All (λ x. x < length after.trees) ys.items) c.types.indices.items c.in-Ok.own (lists-known now after c.types.indices.items grown c.types.invariant.lists_in) c.in-Ok.ensures.known);
-      leads = types_next (g.A.Asks.table c.args.asks.now) (g.A.Asks.table c.types.asks) (g.A.Asks.place c.args.asks.now) (g.A.Asks.place c.types.asks) c.types.invariant.same_table c.types.invariant.same_place
+      lists_in = All-same (λ ys. All (λ x. x < length after.trees) ys.items) c.push.new.self.items (c.types.indices.items ++ c.in_ok-own.own ∷ []) pushed
+          (All-push (λ ys. All (λ x. x < length after.trees) ys.items) c.types.indices.items c.in_ok-own.own (lists-known now after c.types.indices.items grown c.types.invariant.lists_in) c.in_ok-own.ensures.known);
+      leads = types_next (g.A.Asks.standing c.args.asks.now) (g.A.Asks.standing c.types.asks) c.types.invariant.same_standing
           ps (map (tree_at now) c.args.parameters.now) l (level_at now c.args.level) (lists_at before c.args.indices.now.items) (map (type_at before) c.args.types.now) (g.A.Asks.left c.args.asks.now)
           (lists_at now c.types.indices.items) (map (type_at before) c.types.rest.now) (g.A.Asks.left c.types.asks) c.types.invariant.leads
-          p q (type_at before stated) (map (type_at before) c.in-Some.more.now) (map (tree_at after) c.in-Ok.own.items) (lists_at after c.push.new.self.items) (g.A.Asks.left c.next_type.new.asks) (ap (map (type_at before)) c.in-Some.ensures.cases.0) refl
-          (form_kept (map (tree_at now) c.args.parameters.now) ps (level_at now c.args.level) l stated.indices (tree_at now stated.kind) (tree_at before stated.kind) same_params same_level same_kind)
-          (ap (lists_at after) pushed ∙ lists-push now after c.types.indices.items c.in-Ok.own grown c.types.invariant.lists_in) c.in-Ok.ensures.outcome;
+          p q (type_at before stated) (map (type_at before) c.in-Some.more.now) (map (tree_at after) c.in_ok-own.own.items) (lists_at after c.push.new.self.items) (g.A.Asks.left c.next_type.new.asks) (ap (map (type_at before)) c.in-Some.ensures.cases.0) refl
+          (form_kept (map (tree_at now) c.args.parameters.now) ps (level_at now c.args.level) l stated.indices (tree_at now stated.ty) (tree_at before stated.ty) same_params same_level same_type)
+          (ap (lists_at after) pushed ∙ lists-push now after c.types.indices.items c.in_ok-own.own grown c.types.invariant.lists_in) c.in_ok-own.ensures.outcome;
     }
 
 pub returns-clause-outcome : goal.returns-clause-outcome
@@ -69,7 +69,7 @@ returns-clause-outcome g c =
     let now = g.A.Terms.contents c.types.asks in
     let ps = map (tree_at before) c.args.parameters.now in
     let l = level_at before c.args.level in
-    types_end (g.A.Asks.table c.args.asks.now) (g.A.Asks.table c.types.asks) (g.A.Asks.place c.args.asks.now) (g.A.Asks.place c.types.asks) c.types.invariant.same_table c.types.invariant.same_place
+    types_end (g.A.Asks.standing c.args.asks.now) (g.A.Asks.standing c.types.asks) c.types.invariant.same_standing
     ps (map (tree_at now) c.args.parameters.now) l (level_at now c.args.level) (lists_at before c.args.indices.now.items) (map (type_at before) c.args.types.now) (g.A.Asks.left c.args.asks.now)
     (lists_at now c.types.indices.items) (map (type_at before) c.types.rest.now) (g.A.Asks.left c.types.asks) c.types.invariant.leads
     (none_left (type_at before) c.types.rest.now c.in_default.ensures.cases)

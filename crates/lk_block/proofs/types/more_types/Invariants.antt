@@ -11,12 +11,10 @@ invariant-types g l =
     let now = g.A.Terms.contents l.asks in
     record {
       keeps : Extends before now;
-      same_basis : g.A.Asks.basis l.asks ≡ g.A.Asks.basis l.fn.asks;
-      same_table : g.A.Asks.table l.asks ≡ g.A.Asks.table l.fn.asks;
-      same_place : g.A.Asks.place l.asks ≡ g.A.Asks.place l.fn.asks;
+      same_standing : g.A.Asks.standing l.asks ≡ g.A.Asks.standing l.fn.asks;
       rest_in : All (IsTypeIn before) l.rest;
       lists_in : AreListsIn now l.indices.items;
-      leads : LeadsTypes (g.A.Asks.table l.fn.asks) (g.A.Asks.place l.fn.asks) (map (tree_at before) l.fn.parameters) (level_at before l.fn.level) (lists_at before l.fn.indices.items) (map (type_at before) l.fn.types) (g.A.Asks.left l.fn.asks)
+      leads : LeadsTypes (g.A.Asks.standing l.fn.asks) (map (tree_at before) l.fn.parameters) (level_at before l.fn.level) (lists_at before l.fn.indices.items) (map (type_at before) l.fn.types) (g.A.Asks.left l.fn.asks)
           (lists_at now l.indices.items) (map (type_at before) l.rest) (g.A.Asks.left l.asks);
     }
 

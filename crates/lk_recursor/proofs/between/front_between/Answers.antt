@@ -1,10 +1,7 @@
 use Rattle.lk_recursor.proofs.between.front_between.Goals as goal
 
-pub returns-clause-table : goal.returns-clause-table
-returns-clause-table g c = (g.met.A.Asks.decided c.front_of.new.terms c.args.asks.now c.front_of.ensures.rest).1
-
-pub returns-clause-place : goal.returns-clause-place
-returns-clause-place g c = (g.met.A.Asks.decided c.front_of.new.terms c.args.asks.now c.front_of.ensures.rest).2
+pub returns-clause-stays : goal.returns-clause-stays
+returns-clause-stays g c = (g.met.A.Asks.decided c.front_of.new.terms c.args.asks.now c.front_of.ensures.rest).0
 
 pub returns-clause-left : goal.returns-clause-left
-returns-clause-left g c = (g.met.A.Asks.decided c.front_of.new.terms c.args.asks.now c.front_of.ensures.rest).3
+returns-clause-left g c = (g.met.A.Asks.decided c.front_of.new.terms c.args.asks.now c.front_of.ensures.rest).1

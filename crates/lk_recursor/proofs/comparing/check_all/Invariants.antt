@@ -4,7 +4,7 @@ use Rattle.lk_env.specs.Units.{recursor_at, IsRecursorIn}
 use Rattle.lk_inductive.specs.Recursors.{recursors}
 use Rattle.lk_inductive.specs.Compare.{compare_steps}
 use Rattle.lk_block.specs.Shapes.{shape_at}
-use Rattle.lk_block.proofs.Leading.{Leads}
+use Rattle.lk_declaration.proofs.Leading.{Leads}
 use Rattle.lk_recursor.proofs.comparing.check_all.Given as goal
 
 abbrev pub invariant-stated : goal.invariant-stated
@@ -13,11 +13,9 @@ invariant-stated g l =
     let all = recursors (shape_at before l.fn.shared.shape.now) in
     record {
       keeps : Extends before (g.A.Terms.contents l.asks);
-      same_basis : g.A.Asks.basis l.asks ≡ g.A.Asks.basis l.fn.asks;
-      same_table : g.A.Asks.table l.asks ≡ g.A.Asks.table l.fn.asks;
-      same_place : g.A.Asks.place l.asks ≡ g.A.Asks.place l.fn.asks;
+      same_standing : g.A.Asks.standing l.asks ≡ g.A.Asks.standing l.fn.asks;
       rest_in : All (IsRecursorIn before) l.rest;
-      leads : Leads (g.A.Asks.table l.fn.asks) (g.A.Asks.place l.fn.asks) (compare_steps all (map (recursor_at before) l.fn.stated)) (g.A.Asks.left l.fn.asks) (compare_steps all (map (recursor_at before) l.rest)) (g.A.Asks.left l.asks);
+      leads : Leads (g.A.Asks.standing l.fn.asks) (compare_steps all (map (recursor_at before) l.fn.stated)) (g.A.Asks.left l.fn.asks) (compare_steps all (map (recursor_at before) l.rest)) (g.A.Asks.left l.asks);
     }
 
 abbrev pub decreases-stated : goal.decreases-stated

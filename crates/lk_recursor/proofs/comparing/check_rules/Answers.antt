@@ -1,4 +1,5 @@
 use Rattle.std.proofs.Common.{◌<◌, length, map, refl, ◌∙◌, arith}
+use Rattle.std.proofs.lemmas.Result.{err_from_is_err_and}
 use Rattle.lk_questions.specs.Declarations.{Yes, checked}
 use Rattle.lk_store.specs.Contents.{tree_at}
 use Rattle.lk_store.proofs.Extending.{Extends-trans}
@@ -11,7 +12,7 @@ use Rattle.lk_recursor.specs.Comparisons.{stated_of, own_of, renamed_value, rule
 use Rattle.lk_block.proofs.Shaping.{constructor-known}
 use Rattle.lk_recursor.proofs.Compared.{comparison-known}
 use Rattle.lk_recursor.proofs.Checked.{rules_step, no_rule, no_minor, no_constructor}
-use Rattle.lk_block.proofs.Leading.{split_bind, leads_on, leads_stop, leads_end}
+use Rattle.lk_declaration.proofs.Leading.{split_bind, leads_on, leads_stop, leads_end}
 use Rattle.lk_recursor.proofs.comparing.check_rules.Goals as goal
 
 pub returns-in-None-clause-outcome : goal.returns-in-None-clause-outcome
@@ -25,7 +26,7 @@ returns-in-None-clause-outcome g c =
     let shape = shape_at before pair.shared.shape.now in
     let all = rules_steps stated own stated.recursor.rules own.recursor.rules in
     let rest = rules_steps stated own (map (rule_at before) c.rules.rules.now) (rules_of as_they_are shape (map (tree_at before) c.rules.minors.now) (map (constructor_shape_at before) c.rules.constructors.now)) in
-    leads_end (g.A.Asks.table c.args.asks.now) (g.A.Asks.place c.args.asks.now) all (g.A.Asks.left c.args.asks.now) rest (g.A.Asks.left c.rules.asks) checked inv.leads
+    leads_end (g.A.Asks.standing c.args.asks.now) all (g.A.Asks.left c.args.asks.now) rest (g.A.Asks.left c.rules.asks) checked inv.leads
     (no_minor before stated own shape c.rules.rules.now c.rules.minors.now c.rules.constructors.now c.in-None.ensures.cases)
 
 pub returns-in-None-split_first-clause-outcome : goal.returns-in-None-split_first-clause-outcome
@@ -39,7 +40,7 @@ returns-in-None-split_first-clause-outcome g c =
     let shape = shape_at before pair.shared.shape.now in
     let all = rules_steps stated own stated.recursor.rules own.recursor.rules in
     let rest = rules_steps stated own (map (rule_at before) c.rules.rules.now) (rules_of as_they_are shape (map (tree_at before) c.rules.minors.now) (map (constructor_shape_at before) c.rules.constructors.now)) in
-    leads_end (g.A.Asks.table c.args.asks.now) (g.A.Asks.place c.args.asks.now) all (g.A.Asks.left c.args.asks.now) rest (g.A.Asks.left c.rules.asks) checked inv.leads
+    leads_end (g.A.Asks.standing c.args.asks.now) all (g.A.Asks.left c.args.asks.now) rest (g.A.Asks.left c.rules.asks) checked inv.leads
     (no_constructor before stated own shape c.rules.rules.now c.rules.minors.now c.rules.constructors.now c.in-None-split_first.ensures.cases)
 
 pub returns-clause-outcome : goal.returns-clause-outcome
@@ -53,7 +54,7 @@ returns-clause-outcome g c =
     let shape = shape_at before pair.shared.shape.now in
     let all = rules_steps stated own stated.recursor.rules own.recursor.rules in
     let rest = rules_steps stated own (map (rule_at before) c.rules.rules.now) (rules_of as_they_are shape (map (tree_at before) c.rules.minors.now) (map (constructor_shape_at before) c.rules.constructors.now)) in
-    leads_end (g.A.Asks.table c.args.asks.now) (g.A.Asks.place c.args.asks.now) all (g.A.Asks.left c.args.asks.now) rest (g.A.Asks.left c.rules.asks) checked inv.leads
+    leads_end (g.A.Asks.standing c.args.asks.now) all (g.A.Asks.left c.args.asks.now) rest (g.A.Asks.left c.rules.asks) checked inv.leads
     (no_rule before stated own shape c.rules.rules.now c.rules.minors.now c.rules.constructors.now c.in_default.ensures.cases)
 
 pub check_rule-requires-clause-pair_is : goal.check_rule-requires-clause-pair_is
@@ -90,8 +91,8 @@ check_rule-requires-clause-value_in g c =
     let longer = inv.keeps.trees.longer in
     omega arith
 
-pub returns-in-Err-clause-outcome : goal.returns-in-Err-clause-outcome
-returns-in-Err-clause-outcome g c =
+pub returns-in_err-check_rule-in-Some-split_first-2-clause-outcome : goal.returns-in_err-check_rule-in-Some-split_first-2-clause-outcome
+returns-in_err-check_rule-in-Some-split_first-2-clause-outcome g c =
     let before = g.A.Terms.contents c.args.asks.now in
     let now = g.A.Terms.contents c.rules.asks in
     let pair = c.args.pair.now in
@@ -108,8 +109,9 @@ returns-in-Err-clause-outcome g c =
     let step = rules_step before now inv.keeps pair c.requires c.rules.rules.now c.in-Some.more_rules.now c.in-Some.rule.now c.rules.minors.now c.in-Some-split_first.more_minors.now c.in-Some-split_first.minor.now
     c.rules.constructors.now c.in-Some-split_first-2.others.now c.in-Some-split_first-2.constructor.now c.in-Some.ensures.cases.0 c.in-Some-split_first.ensures.cases.0 c.in-Some-split_first-2.ensures.cases.0 rule_in.value_in minor_in constructor_in in
     let form = rule_form (tree_at now c.in-Some.rule.now.value) (renamed_value now pair c.in-Some-split_first.minor.now c.in-Some-split_first-2.constructor.now) in
-    leads_stop (g.A.Asks.table c.args.asks.now) (g.A.Asks.table c.rules.asks) (g.A.Asks.place c.args.asks.now) (g.A.Asks.place c.rules.asks) inv.same_table inv.same_place
-    all (g.A.Asks.left c.args.asks.now) rest (g.A.Asks.left c.rules.asks) inv.leads form (λ (u : Yes). more) (split_bind rest form (λ (u : Yes). more) step) c.in-Err.stop c.in-Err.ensures.outcome
+    let p = err_from_is_err_and c.from_residual.result c.from_residual.ensures.1 in
+    rw (p.1, p.2) (leads_stop (g.A.Asks.standing c.args.asks.now) (g.A.Asks.standing c.rules.asks) inv.same_standing
+    all (g.A.Asks.left c.args.asks.now) rest (g.A.Asks.left c.rules.asks) inv.leads form (λ (u : Yes). more) (split_bind rest form (λ (u : Yes). more) step) c.in_err-check_rule-in-Some-split_first-2.field-0.0 c.in_err-check_rule-in-Some-split_first-2.ensures.outcome)
 
 pub rules-preserved : goal.rules-preserved
 rules-preserved g c =
@@ -130,13 +132,11 @@ rules-preserved g c =
     c.rules.constructors.now c.in-Some-split_first-2.others.now c.in-Some-split_first-2.constructor.now c.in-Some.ensures.cases.0 c.in-Some-split_first.ensures.cases.0 c.in-Some-split_first-2.ensures.cases.0 rule_in.value_in minor_in constructor_in in
     let form = rule_form (tree_at now c.in-Some.rule.now.value) (renamed_value now pair c.in-Some-split_first.minor.now c.in-Some-split_first-2.constructor.now) in
     record {
-      keeps = Extends-trans before now (g.A.Terms.contents c.check_rule.new.asks) inv.keeps c.in-Ok.ensures.keeps;
-      same_basis = c.in-Ok.ensures.basis ∙ inv.same_basis;
-      same_table = c.in-Ok.ensures.table ∙ inv.same_table;
-      same_place = c.in-Ok.ensures.place ∙ inv.same_place;
+      keeps = Extends-trans before now (g.A.Terms.contents c.check_rule.new.asks) inv.keeps c.in_ok-check_rule-in-Some-split_first-2.ensures.keeps;
+      same_standing = c.in_ok-check_rule-in-Some-split_first-2.ensures.stays ∙ inv.same_standing;
       rules_in = rest_have (IsRuleIn before) c.rules.rules.now c.in-Some.rule.now c.in-Some.more_rules.now c.in-Some.ensures.cases.0 inv.rules_in;
       minors_in = rest_have (λ m. m < length before.trees) c.rules.minors.now c.in-Some-split_first.minor.now c.in-Some-split_first.more_minors.now c.in-Some-split_first.ensures.cases.0 inv.minors_in;
       constructors_in = rest_have (IsConstructorShapeIn before) c.rules.constructors.now c.in-Some-split_first-2.constructor.now c.in-Some-split_first-2.others.now c.in-Some-split_first-2.ensures.cases.0 inv.constructors_in;
-      leads = leads_on (g.A.Asks.table c.args.asks.now) (g.A.Asks.table c.rules.asks) (g.A.Asks.place c.args.asks.now) (g.A.Asks.place c.rules.asks) inv.same_table inv.same_place
-          all (g.A.Asks.left c.args.asks.now) rest (g.A.Asks.left c.rules.asks) inv.leads form (λ (u : Yes). more) (split_bind rest form (λ (u : Yes). more) step) checked (g.A.Asks.left c.check_rule.new.asks) more c.in-Ok.ensures.outcome refl;
+      leads = leads_on (g.A.Asks.standing c.args.asks.now) (g.A.Asks.standing c.rules.asks) inv.same_standing
+          all (g.A.Asks.left c.args.asks.now) rest (g.A.Asks.left c.rules.asks) inv.leads form (λ (u : Yes). more) (split_bind rest form (λ (u : Yes). more) step) checked (g.A.Asks.left c.check_rule.new.asks) more c.in_ok-check_rule-in-Some-split_first-2.ensures.outcome refl;
     }

@@ -5,7 +5,7 @@ use Rattle.lk_inductive.specs.Recursors.{rules_of, as_they_are}
 use Rattle.lk_inductive.specs.Compare.{rules_steps}
 use Rattle.lk_block.specs.Shapes.{shape_at, constructor_shape_at, IsConstructorShapeIn}
 use Rattle.lk_recursor.specs.Comparisons.{stated_of, own_of}
-use Rattle.lk_block.proofs.Leading.{Leads}
+use Rattle.lk_declaration.proofs.Leading.{Leads}
 use Rattle.lk_recursor.proofs.comparing.check_rules.Given as goal
 
 abbrev pub invariant-rules : goal.invariant-rules
@@ -16,13 +16,11 @@ invariant-rules g l =
     let own = own_of before l.fn.pair in
     record {
       keeps : Extends before now;
-      same_basis : g.A.Asks.basis l.asks ≡ g.A.Asks.basis l.fn.asks;
-      same_table : g.A.Asks.table l.asks ≡ g.A.Asks.table l.fn.asks;
-      same_place : g.A.Asks.place l.asks ≡ g.A.Asks.place l.fn.asks;
+      same_standing : g.A.Asks.standing l.asks ≡ g.A.Asks.standing l.fn.asks;
       rules_in : All (IsRuleIn before) l.rules;
       minors_in : All (λ m. m < length before.trees) l.minors;
       constructors_in : All (IsConstructorShapeIn before) l.constructors;
-      leads : Leads (g.A.Asks.table l.fn.asks) (g.A.Asks.place l.fn.asks) (rules_steps stated own stated.recursor.rules own.recursor.rules) (g.A.Asks.left l.fn.asks)
+      leads : Leads (g.A.Asks.standing l.fn.asks) (rules_steps stated own stated.recursor.rules own.recursor.rules) (g.A.Asks.left l.fn.asks)
           (rules_steps stated own (map (rule_at before) l.rules) (rules_of as_they_are (shape_at before l.fn.pair.shared.shape.now) (map (tree_at before) l.minors) (map (constructor_shape_at before) l.constructors))) (g.A.Asks.left l.asks);
     }
 

@@ -5,16 +5,16 @@ use Rattle.lk_inductive.specs.Recursors.{recursors}
 use Rattle.lk_inductive.specs.Compare.{compare_steps}
 use Rattle.lk_block.specs.Shapes.{shape_at}
 use Rattle.lk_recursor.proofs.Checked.{compare-steady}
-use Rattle.lk_block.proofs.Moves.{gives_moved}
+use Rattle.lk_declaration.proofs.Moves.{gives_moved}
 use Rattle.lk_recursor.proofs.comparing.compare.Goals as goal
 
-pub returns-in-Ok-clause-outcome : goal.returns-in-Ok-clause-outcome
-returns-in-Ok-clause-outcome g c =
+pub returns-clause-outcome : goal.returns-clause-outcome
+returns-clause-outcome g c =
     let before = g.A.Terms.contents c.args.asks.now in
     let between = g.A.Terms.contents c.front_between.new.asks in
     let shape = c.args.shape.now in
-    let made = c.in-Ok.ensures in
-    gives_moved (g.A.Asks.table c.args.asks.now) (g.A.Asks.table c.front_between.new.asks) (g.A.Asks.place c.args.asks.now) (g.A.Asks.place c.front_between.new.asks) made.table made.place
+    let made = c.in_ok-front.ensures in
+    gives_moved (g.A.Asks.standing c.args.asks.now) (g.A.Asks.standing c.front_between.new.asks) made.stays
     (compare_steps (recursors (shape_at before shape)) (map (recursor_at before) c.args.stated.now)) (compare_steps (recursors (shape_at between shape)) (map (recursor_at between) c.args.stated.now))
     (compare-steady before between made.keeps shape c.requires.shape_in c.args.stated.now c.requires.stated_in)
     (g.A.Asks.left c.args.asks.now) (g.A.Asks.left c.front_between.new.asks) made.left (λ u. checked) (g.A.Asks.left c.compare_with.new.asks) c.compare_with.result c.compare_with.ensures.outcome

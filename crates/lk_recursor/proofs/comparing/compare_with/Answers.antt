@@ -10,23 +10,23 @@ use Rattle.lk_recursor.specs.Comparisons.{AreNames}
 use Rattle.lk_block.proofs.Shaping.{shape-known}
 use Rattle.lk_recursor.proofs.Steady.{front-steady}
 use Rattle.lk_recursor.proofs.Checked.{compare-steady}
-use Rattle.lk_block.proofs.Moves.{gives_moved}
+use Rattle.lk_declaration.proofs.Moves.{gives_moved}
 use Rattle.lk_recursor.proofs.comparing.compare_with.Goals as goal
 
 pub check_all-requires-clause-shared_is : goal.check_all-requires-clause-shared_is
 check_all-requires-clause-shared_is g c =
     let before = g.A.Terms.contents c.args.asks.now in
     let between = g.A.Terms.contents c.names_between.new.asks in
-    let grown = c.in-Ok.ensures.keeps in
+    let grown = c.in_ok-names.ensures.keeps in
     let shape = c.args.shape.now in
     record {
       shape_in = shape-known before between grown shape c.requires.shape_in;
       front_is = front-steady before between grown shape c.args.front.now c.requires.shape_in c.requires.front_is;
       names_are = subst (λ ts. AreNames between c.deref-2.result.now ts) c.deref.ensures.value (record {
-        known = All-same (λ n. n < length between.names) c.deref-2.result.now c.in-Ok.names.items c.deref-2.ensures.value c.in-Ok.ensures.ok.known;
-        are = ap (map (name_at between)) c.deref-2.ensures.value ∙ c.in-Ok.ensures.ok.are;
+        known = All-same (λ n. n < length between.names) c.deref-2.result.now c.in_ok-names.names.items c.deref-2.ensures.value c.in_ok-names.ensures.ok.known;
+        are = ap (map (name_at between)) c.deref-2.ensures.value ∙ c.in_ok-names.ensures.ok.are;
       });
-      k_is = c.in-Ok-by_k.ensures;
+      k_is = c.in_ok-k.ensures;
     }
 
 pub returns-clause-outcome : goal.returns-clause-outcome
@@ -34,8 +34,8 @@ returns-clause-outcome g c =
     let before = g.A.Terms.contents c.args.asks.now in
     let between = g.A.Terms.contents c.names_between.new.asks in
     let shape = c.args.shape.now in
-    let made = c.in-Ok.ensures in
-    gives_moved (g.A.Asks.table c.args.asks.now) (g.A.Asks.table c.names_between.new.asks) (g.A.Asks.place c.args.asks.now) (g.A.Asks.place c.names_between.new.asks) made.table made.place
+    let made = c.in_ok-names.ensures in
+    gives_moved (g.A.Asks.standing c.args.asks.now) (g.A.Asks.standing c.names_between.new.asks) made.stays
     (compare_steps (recursors (shape_at before shape)) (map (recursor_at before) c.args.stated.now)) (compare_steps (recursors (shape_at between shape)) (map (recursor_at between) c.args.stated.now))
     (compare-steady before between made.keeps shape c.requires.shape_in c.args.stated.now c.requires.stated_in)
     (g.A.Asks.left c.args.asks.now) (g.A.Asks.left c.names_between.new.asks) made.left (λ u. checked) (g.A.Asks.left c.check_all.new.asks) c.check_all.result c.check_all.ensures.outcome

@@ -16,7 +16,7 @@ types-preserved g c =
     let inv = c.types.invariant in
     let split = c.in-Some.ensures.cases.0 in
     let made = c.in_ok-name.ensures in
-    let pushed = c.in-Ok.ensures.items in
+    let pushed = c.in_ok-push.ensures.items in
     let known = first_has (IsTypeShapeIn before) c.types.rest.now c.in-Some.of.now c.in-Some.more.now split inv.rest_in in
     record {
       keeps = Extends-trans before now after inv.keeps made.keeps;

@@ -15,7 +15,7 @@ names-preserved g c =
     let inv = c.names.invariant in
     let split = c.in-Some.ensures.cases.0 in
     let made = c.in_ok-level.ensures in
-    let pushed = c.in-Ok.ensures.items in
+    let pushed = c.in_ok-push.ensures.items in
     let named = first_has (λ n. n < length before.names) c.names.rest.now c.in-Some.name.now c.in-Some.more.now split inv.rest_in in
     record {
       keeps = Extends-trans before now after inv.keeps made.keeps;

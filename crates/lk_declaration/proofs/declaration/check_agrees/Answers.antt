@@ -1,0 +1,33 @@
+use Rattle.std.proofs.Common.{refl}
+use Rattle.std.proofs.lemmas.Result.{err_from_is_err_and}
+use Rattle.lk_tree.specs.declared.rule.Rule.TheVariants.{ValueType}
+use Rattle.lk_plain.specs.Query.{same}
+use Rattle.lk_plain.specs.Program.{done, asked}
+use Rattle.lk_questions.specs.Steps.{given}
+use Rattle.lk_questions.specs.Declarations.{checked}
+use Rattle.lk_store.specs.Contents.{tree_at}
+use Rattle.lk_declaration.proofs.Running.{goes_on, halts_later, halts_first, goes_done}
+use Rattle.lk_ask.specs.declared.stop.Stop.TheVariants.{No}
+use Rattle.lk_declaration.proofs.declaration.check_agrees.Goals as goal
+
+pub returns-in_err-are_same-clause-outcome : goal.returns-in_err-are_same-clause-outcome
+returns-in_err-are_same-clause-outcome g c =
+    let before = g.A.Terms.contents c.args.asks.now in
+    let p = err_from_is_err_and c.from_residual.result c.from_residual.ensures.1 in
+    rw (p.1, p.2) (halts_first (g.A.Asks.standing c.args.asks.now) (asked (same (tree_at before c.args.found) (tree_at before c.args.ty))) (λ equal. given equal ValueType (done checked)) (g.A.Asks.left c.args.asks.now) c.in_err-are_same.field-0.0 c.in_err-are_same.ensures.outcome)
+
+pub returns-then-branch-clause-outcome : goal.returns-then-branch-clause-outcome
+returns-then-branch-clause-outcome g c =
+    let before = g.A.Terms.contents c.args.asks.now in
+    let s = g.A.Asks.standing c.args.asks.now in
+    let left = g.A.Asks.left c.are_same.new.asks in
+    goes_on s s refl (asked (same (tree_at before c.args.found) (tree_at before c.args.ty))) (λ equal. given equal ValueType (done checked)) (g.A.Asks.left c.args.asks.now) left left c.in_ok-are_same.field-0 checked
+    c.in_ok-are_same.ensures.outcome (rw c.if-branch.true (goes_done s checked checked left refl))
+
+pub returns-else-branch-clause-outcome : goal.returns-else-branch-clause-outcome
+returns-else-branch-clause-outcome g c =
+    let before = g.A.Terms.contents c.args.asks.now in
+    let s = g.A.Asks.standing c.args.asks.now in
+    let left = g.A.Asks.left c.are_same.new.asks in
+    halts_later s s refl (asked (same (tree_at before c.args.found) (tree_at before c.args.ty))) (λ equal. given equal ValueType (done checked)) (g.A.Asks.left c.args.asks.now) left c.in_ok-are_same.field-0 (No ValueType)
+    c.in_ok-are_same.ensures.outcome (rw c.if-branch.false (record { stops = λ k. refl }))

@@ -1,0 +1,3 @@
+pub mod Asked
+pub mod Courses
+pub mod Checked

@@ -1,0 +1,10 @@
+//! The questions of a declaration, asked one after another of whoever answers them, and the single
+//! questions of which the checks of blocks are made too. Each clause says what a program gives,
+//! whatever comes next.
+#![tactic(auto)]
+
+pub mod asking;
+pub mod declaration;
+pub mod laws;
+
+pub use declaration::{check_axiom, check_definition, check_opaque, check_theorem};
