@@ -18,19 +18,19 @@ fn push_constructor<T: Terms>(
     store: &T,
     constructors: &mut Vec<Constructor>,
     name: u64,
-    kind: u64,
+    ty: u64,
     place: u64,
 ) -> Result<(), NoMemory>
     requires known { All (IsConstructorIn (T.contents store.now)) constructors.old.items }
     requires name_in { name < length (T.contents store.now).names }
-    requires kind_in { kind < length (T.contents store.now).trees }
+    requires ty_in { ty < length (T.contents store.now).trees }
     ensures { OnOk result (All (IsConstructorIn (T.contents store.now)) constructors.new.items) }
 {
     let _store = store;
     constructors.push(Constructor {
         name,
         levels: Vec::new(alloc),
-        kind,
+        ty,
         parent: name,
         place,
         parameters: 0,
@@ -44,16 +44,16 @@ fn constructors_of<T: Terms>(
     alloc: Global,
     store: &T,
     name: u64,
-    kind: u64,
+    ty: u64,
     place: u64,
 ) -> Result<Vec<Constructor>, NoMemory>
     requires name_in { name < length (T.contents store.now).names }
-    requires kind_in { kind < length (T.contents store.now).trees }
+    requires ty_in { ty < length (T.contents store.now).trees }
     ensures { IfOk result (λ ks. All (IsConstructorIn (T.contents store.now)) ks.items) }
 {
     let mut constructors = Vec::new(alloc);
-    push_constructor(alloc, store, &mut constructors, name, kind, 0)?;
-    push_constructor(alloc, store, &mut constructors, name, kind, place)?;
+    push_constructor(alloc, store, &mut constructors, name, ty, 0)?;
+    push_constructor(alloc, store, &mut constructors, name, ty, place)?;
     Ok(constructors)
 }
 
@@ -62,12 +62,12 @@ fn push_type<T: Terms>(
     store: &T,
     types: &mut Vec<BlockType>,
     name: u64,
-    kind: u64,
+    ty: u64,
     constructors: Vec<Constructor>,
 ) -> Result<(), NoMemory>
     requires known { All (IsTypeIn (T.contents store.now)) types.old.items }
     requires name_in { name < length (T.contents store.now).names }
-    requires kind_in { kind < length (T.contents store.now).trees }
+    requires ty_in { ty < length (T.contents store.now).trees }
     requires constructors_in { All (IsConstructorIn (T.contents store.now)) constructors.items }
     ensures { OnOk result (All (IsTypeIn (T.contents store.now)) types.new.items) }
 {
@@ -75,7 +75,7 @@ fn push_type<T: Terms>(
     types.push(BlockType {
         name,
         levels: Vec::new(alloc),
-        kind,
+        ty,
         parameters: 0,
         indices: 0,
         constructors,
@@ -87,16 +87,16 @@ fn block_of<T: Terms>(
     alloc: Global,
     store: &T,
     name: u64,
-    kind: u64,
+    ty: u64,
     place: u64,
 ) -> Result<Block, NoMemory>
     requires name_in { name < length (T.contents store.now).names }
-    requires kind_in { kind < length (T.contents store.now).trees }
+    requires ty_in { ty < length (T.contents store.now).trees }
     ensures { IfOk result (λ b. All (IsTypeIn (T.contents store.now)) b.types.items) }
 {
-    let constructors = constructors_of(alloc, store, name, kind, place)?;
+    let constructors = constructors_of(alloc, store, name, ty, place)?;
     let mut types = Vec::new(alloc);
-    push_type(alloc, store, &mut types, name, kind, constructors)?;
+    push_type(alloc, store, &mut types, name, ty, constructors)?;
     Ok(Block {
         types,
         recursors: Vec::new(alloc),
@@ -104,9 +104,9 @@ fn block_of<T: Terms>(
 }
 
 fn agrees_in<T: Terms>(alloc: Global, store: &mut T, place: u64) -> Result<bool, NoMemory> {
-    let kind = store.make(Node::Lit(0))?;
+    let ty = store.make(Node::Lit(0))?;
     let name = store.make_name(NameNode::Anonymous)?;
-    let block = block_of(alloc, store, name, kind, place)?;
+    let block = block_of(alloc, store, name, ty, place)?;
     Ok(counts_agree(store, &block))
 }
 

@@ -5,15 +5,16 @@ ghost use Rattle.lk_store.specs.Contents.{Extends, IsIn};
 ghost use Rattle.lk_store.specs.Store.{contents_of, no_tables};
 ghost use Rattle.lk_env.specs.Units.{AreUnitsIn};
 
-use lk_env::entry::{Entry, Kind, Partial, Refused, Site};
+use lk_env::entry::{Entry, Kind, Partial, Site};
 use lk_env::library::Library;
-use lk_env::place::Place;
+use lk_env::position::Position;
 use lk_env::unit::{Body, Declaration, Unit};
 use lk_store::base_store::BaseStore;
 use lk_store::memory::NoMemory;
 use lk_store::node::{NameNode, Node};
 use lk_store::overlay::Overlay;
 use lk_store::terms::Terms;
+use lk_tree::rule::Rule;
 use std::alloc::Global;
 use std::test::Fail;
 
@@ -33,7 +34,7 @@ fn push_theorem<T: Terms>(
     units.push(Unit::Declaration(Declaration {
         name,
         levels: Vec::new(alloc),
-        kind: tree,
+        ty: tree,
         body: Body::Theorem { proof: tree },
     }))?;
     Ok(())
@@ -78,7 +79,7 @@ fn library(alloc: Global, node: Node) -> Result<Library, NoMemory>
 }
 
 // Where the library gives the name that is this number.
-fn found(alloc: Global, number: u64) -> Result<Option<Place>, NoMemory> {
+fn found(alloc: Global, number: u64) -> Result<Option<Position>, NoMemory> {
     let library = library(alloc, Node::Lit(0))?;
     match library.base().find_name(NameNode::Anonymous) {
         Some(nothing) => Ok(library.find(NameNode::Number(nothing, number))),
@@ -86,7 +87,7 @@ fn found(alloc: Global, number: u64) -> Result<Option<Place>, NoMemory> {
     }
 }
 
-fn is_at(place: Option<Place>, unit: u32) -> bool {
+fn is_at(place: Option<Position>, unit: u32) -> bool {
     match place {
         Some(p) => p.unit == unit && p.member == 0,
         None => false,
@@ -94,9 +95,9 @@ fn is_at(place: Option<Place>, unit: u32) -> bool {
 }
 
 // What a name means where the first so many units are seen.
-fn look_up(library: &Library, number: u64, unit: u32) -> Result<Entry, Refused> {
+fn look_up(library: &Library, number: u64, unit: u32) -> Result<Entry, Rule> {
     let Some(nothing) = library.base().find_name(NameNode::Anonymous) else {
-        return Err(Refused::UnknownConstant);
+        return Err(Rule::UnknownConstant);
     };
     match library.base().find_name(NameNode::Number(nothing, number)) {
         Some(n) => library.at(
@@ -106,7 +107,7 @@ fn look_up(library: &Library, number: u64, unit: u32) -> Result<Entry, Refused> 
             },
             n,
         ),
-        None => Err(Refused::UnknownConstant),
+        None => Err(Rule::UnknownConstant),
     }
 }
 
@@ -115,7 +116,7 @@ fn answer(
     node: Node,
     number: u64,
     unit: u32,
-) -> Result<Result<Entry, Refused>, NoMemory>
+) -> Result<Result<Entry, Rule>, NoMemory>
     requires { IsIn (contents_of no_tables) node }
 {
     let library = library(alloc, node)?;
@@ -132,7 +133,7 @@ fn make_number<T: Terms>(terms: &mut T, number: u64) -> Result<u64, NoMemory>
 }
 
 // What a name means that is made in an overlay, where the first so many units are seen.
-fn meant(alloc: Global, number: u64, unit: u32) -> Result<Result<Entry, Refused>, NoMemory> {
+fn meant(alloc: Global, number: u64, unit: u32) -> Result<Result<Entry, Rule>, NoMemory> {
     let library = library(alloc, Node::Lit(0))?;
     let mut terms = Overlay::new(alloc, library.base());
     let name = make_number(&mut terms, number)?;
@@ -146,7 +147,7 @@ fn meant(alloc: Global, number: u64, unit: u32) -> Result<Result<Entry, Refused>
     ))
 }
 
-fn is_theorem(answer: Result<Entry, Refused>, unit: u32) -> bool {
+fn is_theorem(answer: Result<Entry, Rule>, unit: u32) -> bool {
     let Ok(entry) = answer else {
         return false;
     };
@@ -166,20 +167,15 @@ fn a_unit_sees_those_before_it(rt: HostRuntime) -> Result<(), Fail> {
 #[test]
 fn a_unit_does_not_see_itself(rt: HostRuntime) -> Result<(), Fail> {
     let answer = answer(rt.alloc(), Node::Lit(0), 1, 0)?;
-    assert!(rt; matches!(answer, Err(Refused::UnknownConstant)));
+    assert!(rt; matches!(answer, Err(Rule::UnknownConstant)));
     Ok(())
 }
 
 #[test]
 fn a_flaw_is_refused(rt: HostRuntime) -> Result<(), Fail> {
     let alloc = rt.alloc();
-    assert!(rt;
-        matches!(
-            answer(alloc, Node::Var(0), 1, 1)?,
-            Err(Refused::LooseVariable)
-        )
-    );
-    assert!(rt; matches!(answer(alloc, Node::Wide, 1, 1)?, Err(Refused::WideLiteral)));
+    assert!(rt; matches!(answer(alloc, Node::Var(0), 1, 1)?, Err(Rule::LooseVariable)));
+    assert!(rt; matches!(answer(alloc, Node::Wide, 1, 1)?, Err(Rule::WideLiteral)));
     Ok(())
 }
 
@@ -208,12 +204,12 @@ fn a_library_has_its_units(rt: HostRuntime) -> Result<(), Fail> {
 fn an_overlay_has_the_names_of_its_library(rt: HostRuntime) -> Result<(), Fail> {
     let alloc = rt.alloc();
     assert!(rt; is_theorem(meant(alloc, 2, 3)?, 1));
-    assert!(rt; matches!(meant(alloc, 2, 1)?, Err(Refused::UnknownConstant)));
+    assert!(rt; matches!(meant(alloc, 2, 1)?, Err(Rule::UnknownConstant)));
     Ok(())
 }
 
 #[test]
 fn a_name_of_the_overlay_alone_means_nothing(rt: HostRuntime) -> Result<(), Fail> {
-    assert!(rt; matches!(meant(rt.alloc(), 3, 3)?, Err(Refused::UnknownConstant)));
+    assert!(rt; matches!(meant(rt.alloc(), 3, 3)?, Err(Rule::UnknownConstant)));
     Ok(())
 }

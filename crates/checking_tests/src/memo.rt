@@ -2,7 +2,7 @@
 
 use lk_ask::kept::Kept;
 use lk_ask::query::{Answer, Query};
-use lk_memo::memo::PrivateMemo;
+use lk_memo::PrivateMemo;
 use std::test::Fail;
 
 const KEPT: Kept = Kept {

@@ -57,9 +57,9 @@ fn let_in<T: Terms>(terms: &mut T, a: u64, v: u64, b: u64) -> Result<u64, NoMemo
     }
 }
 
-fn local<T: Terms>(terms: &mut T, kind: u64) -> Result<u64, NoMemory> {
-    if kind < terms.len() {
-        terms.make(Node::Local(0, kind))
+fn local<T: Terms>(terms: &mut T, ty: u64) -> Result<u64, NoMemory> {
+    if ty < terms.len() {
+        terms.make(Node::Local(0, ty))
     } else {
         Err(NoMemory)
     }

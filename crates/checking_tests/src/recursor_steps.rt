@@ -7,16 +7,16 @@ ghost use Rattle.lk_env.specs.Units.{IsConstructorIn, IsTypeIn, IsRecursorIn, Ar
 
 use lk_ask::asks::Asks;
 use lk_ask::query::{Answer, Query};
-use lk_ask::rule::Rule;
 use lk_ask::stop::Stop;
-use lk_engine::engine::Engine;
+use lk_engine::Engine;
 use lk_env::library::Library;
 use lk_env::unit::{Block, BlockType, Constructor, Recursor, RecursorRule, Unit};
-use lk_memo::memo::PrivateMemo;
+use lk_memo::PrivateMemo;
 use lk_store::base_store::BaseStore;
 use lk_store::memory::NoMemory;
 use lk_store::node::{LevelNode, ListNode, NameNode, Node};
 use lk_store::terms::Terms;
+use lk_tree::rule::Rule;
 use std::alloc::Global;
 use std::test::Fail;
 
@@ -75,11 +75,11 @@ fn redex<T: Terms>(terms: &mut T, minor: u64, major: u64) -> Result<u64, NoMemor
 }
 
 /// A Local whose type is this term.
-fn local<T: Terms>(terms: &mut T, kind: u64) -> Result<u64, NoMemory> {
-    if kind >= terms.len() {
+fn local<T: Terms>(terms: &mut T, ty: u64) -> Result<u64, NoMemory> {
+    if ty >= terms.len() {
         return Err(NoMemory);
     }
-    terms.make(Node::Local(0, kind))
+    terms.make(Node::Local(0, ty))
 }
 
 /// `Core` of a term.
@@ -105,17 +105,17 @@ fn steps_at_constructor<A: Asks>(asks: &mut A) -> Result<bool, NoMemory> {
     Ok(is_term(core(asks, e), minor))
 }
 
-fn constructor<T: Terms>(alloc: Global, store: &T, name: u64, parent: u64, kind: u64) -> Constructor
+fn constructor<T: Terms>(alloc: Global, store: &T, name: u64, parent: u64, ty: u64) -> Constructor
     requires name_in { name < length (T.contents store.now).names }
     requires parent_in { parent < length (T.contents store.now).names }
-    requires kind_in { kind < length (T.contents store.now).trees }
+    requires ty_in { ty < length (T.contents store.now).trees }
     ensures { IsConstructorIn (T.contents store.now) result }
 {
     let _store = store;
     Constructor {
         name,
         levels: Vec::new(alloc),
-        kind,
+        ty,
         parent,
         place: 0,
         parameters: 0,
@@ -127,11 +127,11 @@ fn block_type<T: Terms>(
     alloc: Global,
     store: &T,
     name: u64,
-    kind: u64,
+    ty: u64,
     only: Constructor,
 ) -> Result<BlockType, NoMemory>
     requires name_in { name < length (T.contents store.now).names }
-    requires kind_in { kind < length (T.contents store.now).trees }
+    requires ty_in { ty < length (T.contents store.now).trees }
     requires only_in { IsConstructorIn (T.contents store.now) only }
     ensures { IfOk result (IsTypeIn (T.contents store.now)) }
 {
@@ -141,7 +141,7 @@ fn block_type<T: Terms>(
     Ok(BlockType {
         name,
         levels: Vec::new(alloc),
-        kind,
+        ty,
         parameters: 0,
         indices: 0,
         constructors,
@@ -152,12 +152,12 @@ fn recursor<T: Terms>(
     alloc: Global,
     store: &T,
     name: u64,
-    kind: u64,
+    ty: u64,
     rule: RecursorRule,
     k: bool,
 ) -> Result<Recursor, NoMemory>
     requires name_in { name < length (T.contents store.now).names }
-    requires kind_in { kind < length (T.contents store.now).trees }
+    requires ty_in { ty < length (T.contents store.now).trees }
     requires constructor_in { rule.constructor < length (T.contents store.now).names }
     requires value_in { rule.value < length (T.contents store.now).trees }
     ensures { IfOk result (IsRecursorIn (T.contents store.now)) }
@@ -168,7 +168,7 @@ fn recursor<T: Terms>(
     Ok(Recursor {
         name,
         levels: Vec::new(alloc),
-        kind,
+        ty,
         parameters: 0,
         indices: 0,
         motives: 1,
@@ -203,10 +203,10 @@ fn right_side<T: Terms>(store: &mut T) -> Result<u64, NoMemory>
     ensures keeps { Extends (T.contents store.old) (T.contents store.new) }
     ensures known { IfOk result (λ e. e < length (T.contents store.new).trees) }
 {
-    let kind = sort(store)?;
+    let ty = sort(store)?;
     let variable = store.make(Node::Var(0))?;
-    let inner = store.make(Node::Lam(kind, variable))?;
-    store.make(Node::Lam(kind, inner))
+    let inner = store.make(Node::Lam(ty, variable))?;
+    store.make(Node::Lam(ty, inner))
 }
 
 fn pieces<T: Terms>(
@@ -219,7 +219,7 @@ fn pieces<T: Terms>(
     requires type_in { names.0 < length (T.contents store.now).names }
     requires constructor_in { names.1 < length (T.contents store.now).names }
     requires recursor_in { names.2 < length (T.contents store.now).names }
-    requires kind_in { trees.0 < length (T.contents store.now).trees }
+    requires ty_in { trees.0 < length (T.contents store.now).trees }
     requires held_in { trees.1 < length (T.contents store.now).trees }
     requires value_in { trees.2 < length (T.contents store.now).trees }
     ensures { IfOk result (λ units. AreUnitsIn (T.contents store.now) units.items) }
@@ -238,19 +238,13 @@ fn pieces<T: Terms>(
 fn units<T: Terms>(alloc: Global, store: &mut T, k: bool) -> Result<Vec<Unit>, NoMemory>
     ensures { IfOk result (λ units. AreUnitsIn (T.contents store.new) units.items) }
 {
-    let kind = sort(store)?;
+    let ty = sort(store)?;
     let held = constant(store, TYPE)?;
     let value = right_side(store)?;
     let family = name(store, TYPE)?;
     let only = name(store, CONSTRUCTOR)?;
     let recursor = name(store, RECURSOR)?;
-    pieces(
-        alloc,
-        store,
-        (family, only, recursor),
-        (kind, held, value),
-        k,
-    )
+    pieces(alloc, store, (family, only, recursor), (ty, held, value), k)
 }
 
 fn library(alloc: Global, k: bool) -> Result<Library, NoMemory> {
@@ -262,8 +256,8 @@ fn library(alloc: Global, k: bool) -> Result<Library, NoMemory> {
 /// Whether the recursor gives its minor premise where the major premise is a Local of its type.
 fn steps_at_local<A: Asks>(asks: &mut A) -> Result<bool, NoMemory> {
     let minor = asks.make(Node::Lit(5))?;
-    let kind = constant(asks, TYPE)?;
-    let major = local(asks, kind)?;
+    let ty = constant(asks, TYPE)?;
+    let major = local(asks, ty)?;
     let e = redex(asks, minor, major)?;
     Ok(is_term(core(asks, e), minor))
 }
@@ -271,10 +265,10 @@ fn steps_at_local<A: Asks>(asks: &mut A) -> Result<bool, NoMemory> {
 /// Whether it is refused there.
 fn is_refused_at_local<A: Asks>(asks: &mut A) -> Result<bool, NoMemory> {
     let minor = asks.make(Node::Lit(5))?;
-    let kind = constant(asks, TYPE)?;
-    let major = local(asks, kind)?;
+    let ty = constant(asks, TYPE)?;
+    let major = local(asks, ty)?;
     let e = redex(asks, minor, major)?;
-    Ok(matches!(core(asks, e), Err(Stop::Rule(Rule::BuiltinShape))))
+    Ok(matches!(core(asks, e), Err(Stop::No(Rule::BuiltinShape))))
 }
 
 fn constructor_steps(alloc: Global) -> Result<bool, NoMemory> {

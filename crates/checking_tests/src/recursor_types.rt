@@ -6,8 +6,8 @@ ghost use Rattle.lk_recursor.specs.Fronts.{IsFront};
 
 use lk_block::shape::{ConstructorShape, Shape, TypeShape};
 use lk_recursor::front::{Front, front_of};
-use lk_recursor::recursor::{by_k, recursor_type};
 use lk_recursor::rules::rule_value;
+use lk_recursor::{by_k, recursor_type};
 use lk_spine::telescope;
 use lk_store::base_store::BaseStore;
 use lk_store::memory::NoMemory;

@@ -14,6 +14,7 @@ use lk_store::base_store::BaseStore;
 use lk_store::memory::NoMemory;
 use lk_store::node::{LevelNode, ListNode, NameNode, Node};
 use lk_store::terms::Terms;
+use lk_tree::rule::Rule;
 use std::alloc::Global;
 use std::test::Fail;
 
@@ -64,7 +65,7 @@ fn theorem<T: Terms>(store: &T, name: u64, levels: Vec<u64>, tree: u64) -> Unit
     Unit::Declaration(Declaration {
         name,
         levels,
-        kind: tree,
+        ty: tree,
         body: Body::Theorem { proof: tree },
     })
 }
@@ -117,13 +118,13 @@ fn a_parameter_is_not_declared(rt: HostRuntime) -> Result<(), Fail> {
     assert!(rt;
         matches!(
             scan_constant(alloc, Declares::Nothing)?,
-            Err(ScanError::UndeclaredLevel)
+            Err(ScanError::No(Rule::UndeclaredLevel))
         )
     );
     assert!(rt;
         matches!(
             scan_constant(alloc, Declares::Another)?,
-            Err(ScanError::UndeclaredLevel)
+            Err(ScanError::No(Rule::UndeclaredLevel))
         )
     );
     Ok(())
@@ -134,7 +135,7 @@ fn a_parameter_is_declared_twice(rt: HostRuntime) -> Result<(), Fail> {
     assert!(rt;
         matches!(
             scan_constant(rt.alloc(), Declares::Twice)?,
-            Err(ScanError::DuplicateLevel)
+            Err(ScanError::No(Rule::DuplicateLevel))
         )
     );
     Ok(())
@@ -146,10 +147,15 @@ fn a_node_has_a_flaw(rt: HostRuntime) -> Result<(), Fail> {
     assert!(rt;
         matches!(
             scan_node(alloc, Node::Var(0))?,
-            Err(ScanError::LooseVariable)
+            Err(ScanError::No(Rule::LooseVariable))
         )
     );
-    assert!(rt; matches!(scan_node(alloc, Node::Wide)?, Err(ScanError::WideLiteral)));
+    assert!(rt;
+        matches!(
+            scan_node(alloc, Node::Wide)?,
+            Err(ScanError::No(Rule::WideLiteral))
+        )
+    );
     assert!(rt; matches!(scan_node(alloc, Node::Lit(0))?, Ok(())));
     Ok(())
 }
@@ -170,7 +176,7 @@ fn push_type<T: Terms>(
     types.push(BlockType {
         name,
         levels: Vec::new(alloc),
-        kind: tree,
+        ty: tree,
         parameters: 0,
         indices: 0,
         constructors: Vec::new(alloc),

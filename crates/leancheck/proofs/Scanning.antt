@@ -1,7 +1,8 @@
 -- How a program finds the plain verdict of a unit is right.
 use Rattle.std.proofs.Common.{ℕ, suc, ◌≡◌, inl, inr, Bool, true, false, Option, Some, None, refl, ap, sym, ◌∙◌}
 use Rattle.std.specs.Prelude.{slice_get, if◌then◌else◌}
-use Rattle.lk_tree.specs.RuleNo.{RuleNo, duplicate_name}
+use Rattle.lk_tree.specs.declared.rule.Rule.{Rule}
+use Rattle.lk_tree.specs.declared.rule.Rule.TheVariants.{DuplicateName}
 use Rattle.lk_rulebook.specs.Units.{LibraryUnit, of_decl, of_block, Library, members_of, place_of}
 use Rattle.lk_plain.specs.Answer.{Outcome, answered, refused, spent}
 use Rattle.lk_plain.specs.Erased.{Out, finished, stopped, used_up}
@@ -13,16 +14,16 @@ use Rattle.lk_block.proofs.Staged.{goes_by_stages}
 use Rattle.lk_rulebook.specs.Scan.{are_new, own_scan}
 use Rattle.lk_questions.specs.Built.{rows}
 use Rattle.lk_verdict.specs.GoodUnit.{IsClearLibrary}
-use Rattle.lk_verdict.specs.Verdict.{Verdict as Plain, says_yes, says_no, says_steps, questions_of as plain_questions, verdict_by, verdict_of as plain_of, plain_verdict}
-use Rattle.lk_verdict.specs.Built.{unbuilt_body, stage}
+use Rattle.lk_verdict.specs.Verdict.{PlainVerdict, says_yes, says_no, says_steps, questions_of as plain_questions, verdict_by, verdict_of as plain_of, plain_verdict}
+use Rattle.lk_verdict.specs.Built.{unbuilt_body, built_extent}
 use Rattle.lk_verdict.specs.Told.{Verdict, accepted, rejected, out_of_memory, told, IsVerdict}
-use Rattle.lk_sound.proofs.BuiltTable.{good_of_stage}
+use Rattle.lk_sound.proofs.BuiltTable.{good_of_built}
 use Rattle.leancheck.specs.Rows.{questions_of, stages_verdict, row_verdict}
 
--- a scan of the names and of the unit's own lines, then the stage's rule, then the questions
-by_tests : (new : Bool) (own unbuilt : Option RuleNo) (q : Plain)
-    → told (elim (elim (if new then own else Some duplicate_name) as (λ y. Option RuleNo) [ Some r ↦ Some r | None ↦ unbuilt ]) as (λ y. Plain) [ Some r ↦ says_no r | None ↦ q ])
-    ≡ (if new then (elim own as (λ y. Verdict) [ Some r ↦ rejected r | None ↦ (elim unbuilt as (λ y. Verdict) [ Some r ↦ rejected r | None ↦ told q ]) ]) else rejected duplicate_name)
+-- a scan of the names and of the unit's own lines, then the rule of what is not built, then the questions
+by_tests : (new : Bool) (own unbuilt : Option Rule) (q : PlainVerdict)
+    → told (elim (elim (if new then own else Some DuplicateName) as (λ y. Option Rule) [ Some r ↦ Some r | None ↦ unbuilt ]) as (λ y. PlainVerdict) [ Some r ↦ says_no r | None ↦ q ])
+    ≡ (if new then (elim own as (λ y. Verdict) [ Some r ↦ rejected r | None ↦ (elim unbuilt as (λ y. Verdict) [ Some r ↦ rejected r | None ↦ told q ]) ]) else rejected DuplicateName)
 by_tests false own unbuilt q = refl
 by_tests true (Some r) unbuilt q = refl
 by_tests true None None q = refl
@@ -39,21 +40,21 @@ agreed spent (finished u left last) h = absurd h
 agreed spent (stopped s) h = absurd h
 agreed spent used_up h = refl
 
-unit_is : (us : Library) (n budget : ℕ) (u : LibraryUnit) → told (plain_of stage us n u budget) ≡ row_verdict us budget n u
+unit_is : (us : Library) (n budget : ℕ) (u : LibraryUnit) → told (plain_of built_extent us n u budget) ≡ row_verdict us budget n u
 unfolding questions_of
 unit_is us n budget (of_decl d) =
-    by_tests (are_new us n (members_of (of_decl d))) (own_scan (of_decl d)) (unbuilt_body d.body) (plain_questions stage us n (of_decl d) budget)
+    by_tests (are_new us n (members_of (of_decl d))) (own_scan (of_decl d)) (unbuilt_body d.body) (plain_questions built_extent us n (of_decl d) budget)
 unit_is us n budget (of_block b rs) =
-    by_tests (are_new us n (members_of (of_block b rs))) (own_scan (of_block b rs)) None (plain_questions stage us n (of_block b rs) budget)
-    ∙ ap (λ v. if are_new us n (members_of (of_block b rs)) then (elim (own_scan (of_block b rs)) as (λ y. Verdict) [ Some r ↦ rejected r | None ↦ v ]) else rejected duplicate_name)
+    by_tests (are_new us n (members_of (of_block b rs))) (own_scan (of_block b rs)) None (plain_questions built_extent us n (of_block b rs) budget)
+    ∙ ap (λ v. if are_new us n (members_of (of_block b rs)) then (elim (own_scan (of_block b rs)) as (λ y. Verdict) [ Some r ↦ rejected r | None ↦ v ]) else rejected DuplicateName)
     (agreed (plain_flat rows us n b rs budget) (block_stages rows (λ p. place_of us n (partial_of (of_block b rs) p)) (suc budget) b rs budget) (goes_by_stages rows us n b rs budget))
 
 -- the plain verdict is found so
-plain_is : (us : Library) (n budget : ℕ) (u : LibraryUnit) → slice_get us n ≡ Some u → told (plain_verdict stage us n budget) ≡ row_verdict us budget n u
+plain_is : (us : Library) (n budget : ℕ) (u : LibraryUnit) → slice_get us n ≡ Some u → told (plain_verdict built_extent us n budget) ≡ row_verdict us budget n u
 plain_is us n budget u there =
-    ap (λ o. told (elim o as (λ y. Plain) [ Some u ↦ plain_of stage us n u budget | None ↦ says_steps ])) there ∙ unit_is us n budget u
+    ap (λ o. told (elim o as (λ y. PlainVerdict) [ Some u ↦ plain_of built_extent us n u budget | None ↦ says_steps ])) there ∙ unit_is us n budget u
 
-told_yes : (p : Plain) → told p ≡ accepted → p ≡ says_yes
+told_yes : (p : PlainVerdict) → told p ≡ accepted → p ≡ says_yes
 told_yes says_yes e = refl
 told_yes (says_no r) e = absurd (cc)
 told_yes says_steps e = absurd (cc)
@@ -62,7 +63,7 @@ told_yes says_steps e = absurd (cc)
 pub verdict_plain : (us : Library) → IsClearLibrary us → (budget n : ℕ) (u : LibraryUnit) (v : Verdict) → slice_get us n ≡ Some u → v ≡ row_verdict us budget n u → IsVerdict us budget n v
 verdict_plain us clear budget n u v there e =
     let plain = e ∙ sym (plain_is us n budget u there) in
-    record { plain = inl plain; good = λ yes. good_of_stage us n budget clear (told_yes (plain_verdict stage us n budget) (sym plain ∙ yes)) }
+    record { plain = inl plain; good = λ yes. good_of_built us n budget clear (told_yes (plain_verdict built_extent us n budget) (sym plain ∙ yes)) }
 
 pub verdict_memory : (us : Library) (budget n : ℕ) (v : Verdict) → v ≡ out_of_memory → IsVerdict us budget n v
 verdict_memory us budget n v e = record { plain = inr e; good = λ yes. absurd (cc) }

@@ -1,9 +1,7 @@
 -- What verdicts that are held stand for.
 use Rattle.std.specs.Prelude.{◌≡◌, ◌⊎◌, Result, Ok, Err}
 use Rattle.lk_ask.specs.declared.stop.Stop.{Stop}
-use Rattle.lk_ask.specs.declared.stop.Stop.TheVariants.{Rule, Spent, NoMemory}
-use Rattle.lk_ask.specs.Questions.{rule_no}
-use Rattle.lk_ask.specs.declared.rule.Rule.TheVariants.{DuplicateLevel, LooseVariable, UndeclaredLevel, WideLiteral}
+use Rattle.lk_ask.specs.declared.stop.Stop.TheVariants as stop
 use Rattle.lk_scan.specs.declared.scan.ScanError.{ScanError}
 use Rattle.lk_scan.specs.declared.scan.ScanError.TheVariants as error
 use Rattle.lk_verdict.specs.Told.{Verdict, accepted, rejected, out_of_steps, out_of_memory}
@@ -12,7 +10,7 @@ use Rattle.leancheck.specs.declared.checking.Verdict.TheVariants.{Yes, No, Steps
 
 abbrev pub verdict : HeldVerdict → Verdict
 verdict Yes = accepted
-verdict (No r) = rejected (rule_no r)
+verdict (No r) = rejected r
 verdict Steps = out_of_steps
 verdict Memory = out_of_memory
 
@@ -22,15 +20,12 @@ IsPlain plain v = (verdict v ≡ plain) ⊎ (verdict v ≡ out_of_memory)
 
 -- the verdict of a unit that breaks a rule by its own lines
 abbrev pub scan_verdict : ScanError → HeldVerdict
-scan_verdict error.DuplicateLevel = No DuplicateLevel
-scan_verdict error.LooseVariable = No LooseVariable
-scan_verdict error.UndeclaredLevel = No UndeclaredLevel
-scan_verdict error.WideLiteral = No WideLiteral
+scan_verdict (error.No r) = No r
 scan_verdict error.NoMemory = Memory
 
 -- the verdict that the outcome of a unit's questions gives
 abbrev pub result_verdict : Result (Unit {0}) Stop → HeldVerdict
 result_verdict (Ok u) = Yes
-result_verdict (Err (Rule r)) = No r
-result_verdict (Err Spent) = Steps
-result_verdict (Err NoMemory) = Memory
+result_verdict (Err (stop.No r)) = No r
+result_verdict (Err stop.Spent) = Steps
+result_verdict (Err stop.NoMemory) = Memory

@@ -5,3 +5,4 @@ pub mod Names
 pub mod Text
 pub mod Words
 pub mod Rows
+pub mod Standing

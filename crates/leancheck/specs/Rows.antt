@@ -1,7 +1,7 @@
 -- How a program finds the plain verdict of a unit: are its names new, is it without flaw in itself, is its kind built, and
 -- then the questions.
 use Rattle.std.specs.Prelude.{ℕ, suc, Some, None, if◌then◌else◌}
-use Rattle.lk_tree.specs.RuleNo.{duplicate_name}
+use Rattle.lk_tree.specs.declared.rule.Rule.TheVariants.{DuplicateName}
 use Rattle.lk_rulebook.specs.Place.{Place}
 use Rattle.lk_rulebook.specs.Units.{Decl, LibraryUnit, of_decl, of_block, Library, members_of, place_of}
 use Rattle.lk_rulebook.specs.Scan.{are_new, own_scan}
@@ -44,4 +44,4 @@ scanned_of places budget u = elim (own_scan u) [ Some r ↦ rejected r | None �
 
 -- the verdict of u as unit n
 abbrev pub row_verdict : Library → ℕ → ℕ → LibraryUnit → Verdict
-row_verdict us budget n u = if are_new us n (members_of u) then scanned_of (λ p. place_of us n (partial_of u p)) budget u else rejected duplicate_name
+row_verdict us budget n u = if are_new us n (members_of u) then scanned_of (λ p. place_of us n (partial_of u p)) budget u else rejected DuplicateName

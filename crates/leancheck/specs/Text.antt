@@ -3,7 +3,8 @@ use Rattle.std.specs.Prelude.{ℕ, ◌+◌, Bool, true, false, List, [], ◌∷�
 use Rattle.lk_tree.specs.Tree.{Name, Part, text, number}
 use Rattle.lk_lines.specs.declared.line.Fault.{Fault}
 use Rattle.lk_lines.specs.Words.{word_text}
-use Rattle.lk_tree.specs.RuleNo.{RuleNo, unknown_constant, level_count, undeclared_level, duplicate_level, duplicate_name, loose_variable, not_a_sort, not_a_function, argument_type, let_type, value_type, theorem_not_prop, bad_projection, prop_projection, wide_literal, no_builtin, builtin_shape, quot_shape, level_width, block_shape, parameter_differs, constructor_result, not_positive, field_universe, nested_form, recursor_differs}
+use Rattle.lk_tree.specs.declared.rule.Rule.{Rule}
+use Rattle.lk_tree.specs.declared.rule.Rule.TheVariants.{UnknownConstant, LevelCount, UndeclaredLevel, DuplicateLevel, DuplicateName, LooseVariable, NotASort, NotAFunction, ArgumentType, LetType, ValueType, TheoremNotProp, BadProjection, PropProjection, WideLiteral, NoBuiltin, BuiltinShape, QuotShape, LevelWidth, BlockShape, ParameterDiffers, ConstructorResult, NotPositive, FieldUniverse, NestedForm, RecursorDiffers}
 use Rattle.leancheck.specs.declared.report.Kind.{Kind}
 use Rattle.leancheck.specs.declared.report.Kind.TheVariants.{Yes, No, Memory}
 use Rattle.lk_rulebook.specs.Units.{Body, as_axiom, as_def, as_thm, as_opaque, as_quot, LibraryUnit, of_decl, of_block, Library, Members, members_of}
@@ -30,33 +31,33 @@ abbrev pub name_text : Name → List ℕ
 name_text [] = codes "[anonymous]"
 name_text (p ∷ ps) = part_text p ++ dotted ps
 
-abbrev pub rule_word : RuleNo → List ℕ
-rule_word unknown_constant = codes "UnknownConstant"
-rule_word level_count = codes "LevelCount"
-rule_word undeclared_level = codes "UndeclaredLevel"
-rule_word duplicate_level = codes "DuplicateLevel"
-rule_word duplicate_name = codes "DuplicateName"
-rule_word loose_variable = codes "LooseVariable"
-rule_word not_a_sort = codes "NotASort"
-rule_word not_a_function = codes "NotAFunction"
-rule_word argument_type = codes "ArgumentType"
-rule_word let_type = codes "LetType"
-rule_word value_type = codes "ValueType"
-rule_word theorem_not_prop = codes "TheoremNotProp"
-rule_word bad_projection = codes "BadProjection"
-rule_word prop_projection = codes "PropProjection"
-rule_word wide_literal = codes "WideLiteral"
-rule_word no_builtin = codes "NoBuiltin"
-rule_word builtin_shape = codes "BuiltinShape"
-rule_word quot_shape = codes "QuotShape"
-rule_word level_width = codes "LevelWidth"
-rule_word block_shape = codes "BlockShape"
-rule_word parameter_differs = codes "ParameterDiffers"
-rule_word constructor_result = codes "ConstructorResult"
-rule_word not_positive = codes "NotPositive"
-rule_word field_universe = codes "FieldUniverse"
-rule_word nested_form = codes "NestedForm"
-rule_word recursor_differs = codes "RecursorDiffers"
+abbrev pub rule_word : Rule → List ℕ
+rule_word UnknownConstant = codes "UnknownConstant"
+rule_word LevelCount = codes "LevelCount"
+rule_word UndeclaredLevel = codes "UndeclaredLevel"
+rule_word DuplicateLevel = codes "DuplicateLevel"
+rule_word DuplicateName = codes "DuplicateName"
+rule_word LooseVariable = codes "LooseVariable"
+rule_word NotASort = codes "NotASort"
+rule_word NotAFunction = codes "NotAFunction"
+rule_word ArgumentType = codes "ArgumentType"
+rule_word LetType = codes "LetType"
+rule_word ValueType = codes "ValueType"
+rule_word TheoremNotProp = codes "TheoremNotProp"
+rule_word BadProjection = codes "BadProjection"
+rule_word PropProjection = codes "PropProjection"
+rule_word WideLiteral = codes "WideLiteral"
+rule_word NoBuiltin = codes "NoBuiltin"
+rule_word BuiltinShape = codes "BuiltinShape"
+rule_word QuotShape = codes "QuotShape"
+rule_word LevelWidth = codes "LevelWidth"
+rule_word BlockShape = codes "BlockShape"
+rule_word ParameterDiffers = codes "ParameterDiffers"
+rule_word ConstructorResult = codes "ConstructorResult"
+rule_word NotPositive = codes "NotPositive"
+rule_word FieldUniverse = codes "FieldUniverse"
+rule_word NestedForm = codes "NestedForm"
+rule_word RecursorDiffers = codes "RecursorDiffers"
 
 abbrev pub body_word : Body → List ℕ
 body_word as_axiom = codes "axiom"

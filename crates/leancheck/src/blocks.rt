@@ -5,25 +5,26 @@ ghost use Rattle.lk_store.specs.Contents.{Contents, Extends};
 ghost use Rattle.lk_questions.specs.Declarations.{checked};
 ghost use Rattle.lk_env.specs.Units.{block_at, type_at, recursor_at, IsTypeIn, IsRecursorIn};
 ghost use Rattle.lk_inductive.specs.Block.{parameters_of as stated_parameters};
-ghost use Rattle.lk_block.specs.Courses.{Gives};
+ghost use Rattle.lk_declaration.specs.Courses.{ComesTo};
 ghost use Rattle.lk_block.specs.Wholes.{flat_form};
 ghost use Rattle.lk_block.specs.Parts.{parts_at, ArePartsIn};
-ghost use Rattle.lk_block.specs.Settling.{IsChecked};
+ghost use Rattle.lk_declaration.specs.Checked.{IsCheckOutcome};
 ghost use Rattle.lk_block.specs.Shapes.{shape_at, IsShapeIn};
+ghost use Rattle.leancheck.specs.Standing.{StandsAt};
 ghost use Rattle.lk_block.specs.Stages.{recursors_stage, shape_stage, flat_stage, sorts_stage, types_stage, block_stages};
 
 use lk_ask::asks::Asks;
-use lk_ask::rule::Rule;
 use lk_ask::stop::Stop;
-use lk_block::block::{check_shape, names_of};
 use lk_block::counts::counts_agree;
 use lk_block::nested::check_flat;
 use lk_block::shape::Shape;
 use lk_block::sorts::check_sorts;
 use lk_block::types::{TypeParts, check_types};
+use lk_block::{check_shape, names_of};
 use lk_env::entry::Partial;
 use lk_env::unit::{Block, BlockType, Recursor};
 use lk_recursor::comparing::compare;
+use lk_tree::rule::Rule;
 use std::alloc::Global;
 
 /// The stated recursors, where all members are given.
@@ -35,8 +36,9 @@ fn check_recursors<A: Asks>(
 ) -> Result<(), Stop>
     requires shape_in { IsShapeIn (A.contents asks.old) shape.now }
     requires stated_in { All (IsRecursorIn (A.contents asks.old)) stated.now }
-    ensures basis { A.basis asks.new ≡ A.basis asks.old }
-    ensures outcome { IsChecked (recursors_stage (A.table asks.old) (A.places (A.basis asks.old))
+    ensures basis { (A.standing asks.new).basis ≡ (A.standing asks.old).basis }
+    ensures outcome { IsCheckOutcome (recursors_stage
+        (A.standing asks.old).table (A.places (A.standing asks.old).basis)
         (map (recursor_at (A.contents asks.old)) stated.now)
         (shape_at (A.contents asks.old) shape.now) (A.left asks.old)) result }
 {
@@ -54,32 +56,27 @@ fn check_from_shape<A: Asks>(
     requires types_in { All (IsTypeIn (A.contents asks.old)) block.now.types.items }
     requires stated_in { All (IsRecursorIn (A.contents asks.old)) block.now.recursors.items }
     requires parts_in { ArePartsIn (A.contents asks.old) parts }
-    requires place { A.place asks.old ≡ A.places (A.basis asks.old) Partial.Types }
-    ensures basis { A.basis asks.new ≡ A.basis asks.old }
+    requires place { StandsAt A.places (A.standing asks.old) Partial.Types }
+    ensures basis { (A.standing asks.new).basis ≡ (A.standing asks.old).basis }
     ensures outcome { (fuel : ℕ) → A.left asks.old < fuel
-        → IsChecked (shape_stage (A.table asks.old) (A.places (A.basis asks.old)) fuel
+        → IsCheckOutcome (shape_stage
+        (A.standing asks.old).table (A.places (A.standing asks.old).basis) fuel
         (block_at (A.contents asks.old) block.now)
         (map (recursor_at (A.contents asks.old)) block.now.recursors.items)
         (parts_at (A.contents asks.old) parts) (A.left asks.old)) result }
 {
-    let shape = match check_shape(alloc, asks, &block.types, parts) {
-        Ok(shape) => shape,
-        Err(stop) => return Err(stop),
-    };
+    let shape = check_shape(alloc, asks, &block.types, parts)?;
     check_recursors(alloc, asks, &shape, &block.recursors)
 }
 
 /// That no occurrence is nested.
 fn check_occurrences<A: Asks>(alloc: Global, asks: &A, types: &[BlockType]) -> Result<(), Stop>
     requires { All (IsTypeIn (A.contents asks.now)) types.now }
-    ensures { Gives (A.table asks.now) (A.place asks.now)
+    ensures { ComesTo (A.standing asks.now)
         (flat_form (map (type_at (A.contents asks.now)) types.now)) (A.left asks.now) (λ u. checked)
         (A.left asks.now) result }
 {
-    let names = match names_of(alloc, types) {
-        Ok(names) => names,
-        Err(_) => return Err(Stop::NoMemory),
-    };
+    let names = names_of(alloc, types)?;
     check_flat(alloc, asks, &names, types)
 }
 
@@ -93,18 +90,17 @@ fn check_from_occurrences<A: Asks>(
     requires types_in { All (IsTypeIn (A.contents asks.old)) block.now.types.items }
     requires stated_in { All (IsRecursorIn (A.contents asks.old)) block.now.recursors.items }
     requires parts_in { ArePartsIn (A.contents asks.old) parts }
-    requires place { A.place asks.old ≡ A.places (A.basis asks.old) Partial.Types }
-    ensures basis { A.basis asks.new ≡ A.basis asks.old }
+    requires place { StandsAt A.places (A.standing asks.old) Partial.Types }
+    ensures basis { (A.standing asks.new).basis ≡ (A.standing asks.old).basis }
     ensures outcome { (fuel : ℕ) → A.left asks.old < fuel
-        → IsChecked (flat_stage (A.table asks.old) (A.places (A.basis asks.old)) fuel
+        → IsCheckOutcome (flat_stage
+        (A.standing asks.old).table (A.places (A.standing asks.old).basis) fuel
         (block_at (A.contents asks.old) block.now)
         (map (recursor_at (A.contents asks.old)) block.now.recursors.items)
         (parts_at (A.contents asks.old) parts) (A.left asks.old)) result }
 {
-    match check_occurrences(alloc, asks, &block.types) {
-        Ok(()) => check_from_shape(alloc, asks, block, parts),
-        Err(stop) => Err(stop),
-    }
+    check_occurrences(alloc, asks, &block.types)?;
+    check_from_shape(alloc, asks, block, parts)
 }
 
 /// The sorts of the constructors' types, and then what follows. The types are given.
@@ -117,18 +113,17 @@ fn check_from_sorts<A: Asks>(
     requires types_in { All (IsTypeIn (A.contents asks.old)) block.now.types.items }
     requires stated_in { All (IsRecursorIn (A.contents asks.old)) block.now.recursors.items }
     requires parts_in { ArePartsIn (A.contents asks.old) parts }
-    requires place { A.place asks.old ≡ A.places (A.basis asks.old) Partial.Types }
-    ensures basis { A.basis asks.new ≡ A.basis asks.old }
+    requires place { StandsAt A.places (A.standing asks.old) Partial.Types }
+    ensures basis { (A.standing asks.new).basis ≡ (A.standing asks.old).basis }
     ensures outcome { (fuel : ℕ) → A.left asks.old < fuel
-        → IsChecked (sorts_stage (A.table asks.old) (A.places (A.basis asks.old)) fuel
+        → IsCheckOutcome (sorts_stage
+        (A.standing asks.old).table (A.places (A.standing asks.old).basis) fuel
         (block_at (A.contents asks.old) block.now)
         (map (recursor_at (A.contents asks.old)) block.now.recursors.items)
         (parts_at (A.contents asks.old) parts) (A.left asks.old)) result }
 {
-    match check_sorts(asks, &block.types) {
-        Ok(()) => check_from_occurrences(alloc, asks, block, parts),
-        Err(stop) => Err(stop),
-    }
+    check_sorts(asks, &block.types)?;
+    check_from_occurrences(alloc, asks, block, parts)
 }
 
 /// Gives the types, and then makes all the checks that follow theirs.
@@ -141,9 +136,10 @@ fn give_types<A: Asks>(
     requires types_in { All (IsTypeIn (A.contents asks.old)) block.now.types.items }
     requires stated_in { All (IsRecursorIn (A.contents asks.old)) block.now.recursors.items }
     requires parts_in { ArePartsIn (A.contents asks.old) parts }
-    ensures basis { A.basis asks.new ≡ A.basis asks.old }
+    ensures basis { (A.standing asks.new).basis ≡ (A.standing asks.old).basis }
     ensures outcome { (fuel : ℕ) → A.left asks.old < fuel
-        → IsChecked (sorts_stage (A.table asks.old) (A.places (A.basis asks.old)) fuel
+        → IsCheckOutcome (sorts_stage
+        (A.standing asks.old).table (A.places (A.standing asks.old).basis) fuel
         (block_at (A.contents asks.old) block.now)
         (map (recursor_at (A.contents asks.old)) block.now.recursors.items)
         (parts_at (A.contents asks.old) parts) (A.left asks.old)) result }
@@ -167,19 +163,18 @@ fn stated_parameters(types: &[BlockType]) -> u64
 fn check_from_types<A: Asks>(alloc: Global, asks: &mut A, block: &Block) -> Result<(), Stop>
     requires types_in { All (IsTypeIn (A.contents asks.old)) block.now.types.items }
     requires stated_in { All (IsRecursorIn (A.contents asks.old)) block.now.recursors.items }
-    requires place { A.place asks.old ≡ A.places (A.basis asks.old) Partial.Nothing }
-    ensures basis { A.basis asks.new ≡ A.basis asks.old }
+    requires place { StandsAt A.places (A.standing asks.old) Partial.Nothing }
+    ensures basis { (A.standing asks.new).basis ≡ (A.standing asks.old).basis }
     ensures outcome { (fuel : ℕ) → A.left asks.old < fuel
-        → IsChecked (types_stage (A.table asks.old) (A.places (A.basis asks.old)) fuel
+        → IsCheckOutcome (types_stage
+        (A.standing asks.old).table (A.places (A.standing asks.old).basis) fuel
         (block_at (A.contents asks.old) block.now)
         (map (recursor_at (A.contents asks.old)) block.now.recursors.items)
         (A.left asks.old)) result }
 {
     let parameters = stated_parameters(&block.types);
-    match check_types(alloc, asks, parameters, &block.types) {
-        Ok(parts) => give_types(alloc, asks, block, parts),
-        Err(stop) => Err(stop),
-    }
+    let parts = check_types(alloc, asks, parameters, &block.types)?;
+    give_types(alloc, asks, block, parts)
 }
 
 /// The whole check of a block of inductive types in which no occurrence may be nested, under what is left. In its order: the
@@ -188,9 +183,10 @@ fn check_from_types<A: Asks>(alloc: Global, asks: &mut A, block: &Block) -> Resu
 pub fn check_block<A: Asks>(alloc: Global, asks: &mut A, block: &Block) -> Result<(), Stop>
     requires types_in { All (IsTypeIn (A.contents asks.old)) block.now.types.items }
     requires stated_in { All (IsRecursorIn (A.contents asks.old)) block.now.recursors.items }
-    requires place { A.place asks.old ≡ A.places (A.basis asks.old) Partial.Nothing }
-    ensures basis { A.basis asks.new ≡ A.basis asks.old }
-    ensures outcome { IsChecked (block_stages (A.table asks.old) (A.places (A.basis asks.old))
+    requires place { StandsAt A.places (A.standing asks.old) Partial.Nothing }
+    ensures basis { (A.standing asks.new).basis ≡ (A.standing asks.old).basis }
+    ensures outcome { IsCheckOutcome (block_stages
+        (A.standing asks.old).table (A.places (A.standing asks.old).basis)
         (suc (A.left asks.old)) (block_at (A.contents asks.old) block.now)
         (map (recursor_at (A.contents asks.old)) block.now.recursors.items)
         (A.left asks.old)) result }
@@ -198,6 +194,6 @@ pub fn check_block<A: Asks>(alloc: Global, asks: &mut A, block: &Block) -> Resul
     if counts_agree(asks, block) {
         check_from_types(alloc, asks, block)
     } else {
-        Err(Stop::Rule(Rule::BlockShape))
+        Err(Stop::No(Rule::BlockShape))
     }
 }

@@ -12,23 +12,24 @@ ghost use Rattle.lk_env.specs.declared.entry.Partial.{Partial as GivenMembers};
 ghost use Rattle.lk_env.specs.Places.{partial_of};
 ghost use Rattle.lk_env.specs.Units.{body_at, unit_at, library_of, IsBodyIn, IsUnitIn};
 ghost use Rattle.leancheck.specs.Rows.{built_of, asked_of, scanned_of, row_verdict};
+ghost use Rattle.leancheck.specs.Standing.{StandsAt};
 ghost use Rattle.leancheck.specs.Held.{verdict, result_verdict, scan_verdict, IsPlain};
 
 use crate::blocks::check_block;
 use lk_ask::asks::Asks;
-use lk_ask::rule::Rule;
 use lk_ask::stop::Stop;
-use lk_engine::declaration::{check_axiom, check_definition, check_opaque, check_theorem};
-use lk_engine::engine::Engine;
+use lk_declaration::{check_axiom, check_definition, check_opaque, check_theorem};
+use lk_engine::Engine;
 use lk_env::entry::Partial;
 use lk_env::library::Library;
 use lk_env::unit::{Body, Unit};
-use lk_memo::memo::PrivateMemo;
+use lk_memo::PrivateMemo;
 use lk_port::Gate;
 use lk_scan::names::are_new;
 use lk_scan::scan::{ScanError, scan};
 use lk_store::base_store::BaseStore;
 use lk_store::memory::NoMemory;
+use lk_tree::rule::Rule;
 use std::alloc::Global;
 use std::mem::drop;
 
@@ -50,7 +51,7 @@ fn verdict_of(outcome: Result<(), Stop>) -> Verdict
     match outcome {
         Ok(()) => Verdict::Yes,
         Err(stop) => match stop {
-            Stop::Rule(rule) => Verdict::No(rule),
+            Stop::No(rule) => Verdict::No(rule),
             Stop::Spent => Verdict::Steps,
             Stop::NoMemory => Verdict::Memory,
         },
@@ -58,20 +59,20 @@ fn verdict_of(outcome: Result<(), Stop>) -> Verdict
 }
 
 /// The verdict of a declaration's questions. A kind that is not built yet is refused without a question.
-fn ask<A: Asks>(alloc: Global, asks: &mut A, kind: u64, body: Body) -> Verdict
-    requires table { A.table asks.old ≡ rows }
-    requires kind_in { kind < length (A.contents asks.old).trees }
+fn ask<A: Asks>(alloc: Global, asks: &mut A, ty: u64, body: Body) -> Verdict
+    requires table { (A.standing asks.old).table ≡ rows }
+    requires ty_in { ty < length (A.contents asks.old).trees }
     requires body_in { IsBodyIn (A.contents asks.old) body }
-    ensures basis { A.basis asks.new ≡ A.basis asks.old }
-    ensures verdict { (d : Decl) → d.type ≡ tree_at (A.contents asks.old) kind → d.body
+    ensures basis { (A.standing asks.new).basis ≡ (A.standing asks.old).basis }
+    ensures verdict { (d : Decl) → d.type ≡ tree_at (A.contents asks.old) ty → d.body
         ≡ body_at (A.contents asks.old) body
-        → IsPlain (built_of (A.place asks.old) (A.left asks.old) d) result }
+        → IsPlain (built_of (A.standing asks.old).place (A.left asks.old) d) result }
 {
     match body {
-        Body::Axiom => verdict_of(check_axiom(asks, kind)),
-        Body::Definition { value, .. } => verdict_of(check_definition(asks, kind, value)),
-        Body::Theorem { proof } => verdict_of(check_theorem(alloc, asks, kind, proof)),
-        Body::Opaque { value } => verdict_of(check_opaque(asks, kind, value)),
+        Body::Axiom => verdict_of(check_axiom(asks, ty)),
+        Body::Definition { value, .. } => verdict_of(check_definition(asks, ty, value)),
+        Body::Theorem { proof } => verdict_of(check_theorem(alloc, asks, ty, proof)),
+        Body::Opaque { value } => verdict_of(check_opaque(asks, ty, value)),
         Body::Quotient => Verdict::No(Rule::BuiltinShape),
     }
 }
@@ -81,37 +82,34 @@ fn refused(error: ScanError) -> Verdict
     ensures { result ≡ scan_verdict error }
 {
     match error {
-        ScanError::DuplicateLevel => Verdict::No(Rule::DuplicateLevel),
-        ScanError::LooseVariable => Verdict::No(Rule::LooseVariable),
-        ScanError::UndeclaredLevel => Verdict::No(Rule::UndeclaredLevel),
-        ScanError::WideLiteral => Verdict::No(Rule::WideLiteral),
+        ScanError::No(rule) => Verdict::No(rule),
         ScanError::NoMemory => Verdict::Memory,
     }
 }
 
 /// The verdict of a unit with which nothing is wrong in itself. Nothing of it is partial yet.
 fn judge_scanned<A: Asks>(alloc: Global, asks: &mut A, unit: &Unit) -> Verdict
-    requires table { A.table asks.old ≡ rows }
-    requires place { A.place asks.old ≡ A.places (A.basis asks.old) Partial.Nothing }
+    requires table { (A.standing asks.old).table ≡ rows }
+    requires place { StandsAt A.places (A.standing asks.old) Partial.Nothing }
     requires known { IsUnitIn (A.contents asks.old) unit.now }
-    ensures basis { A.basis asks.new ≡ A.basis asks.old }
-    ensures verdict { IsPlain (asked_of (A.places (A.basis asks.old)) (A.left asks.old)
+    ensures basis { (A.standing asks.new).basis ≡ (A.standing asks.old).basis }
+    ensures verdict { IsPlain (asked_of (A.places (A.standing asks.old).basis) (A.left asks.old)
         (unit_at (A.contents asks.old) unit.now)) result }
 {
     match unit {
-        Unit::Declaration(declaration) => ask(alloc, asks, declaration.kind, declaration.body),
+        Unit::Declaration(declaration) => ask(alloc, asks, declaration.ty, declaration.body),
         Unit::Block(block) => verdict_of(check_block(alloc, asks, block)),
     }
 }
 
 /// The verdict of a unit whose names are new.
 fn judge_new<A: Asks>(alloc: Global, base: &BaseStore, asks: &mut A, unit: &Unit) -> Verdict
-    requires table { A.table asks.old ≡ rows }
+    requires table { (A.standing asks.old).table ≡ rows }
     requires same { A.contents asks.old ≡ contents_of base.now }
-    requires place { A.place asks.old ≡ A.places (A.basis asks.old) Partial.Nothing }
+    requires place { StandsAt A.places (A.standing asks.old) Partial.Nothing }
     requires known { IsUnitIn (contents_of base.now) unit.now }
-    ensures basis { A.basis asks.new ≡ A.basis asks.old }
-    ensures verdict { IsPlain (scanned_of (A.places (A.basis asks.old)) (A.left asks.old)
+    ensures basis { (A.standing asks.new).basis ≡ (A.standing asks.old).basis }
+    ensures verdict { IsPlain (scanned_of (A.places (A.standing asks.old).basis) (A.left asks.old)
         (unit_at (contents_of base.now) unit.now)) result }
 {
     match scan(alloc, base, unit) {
@@ -128,15 +126,15 @@ fn judge<A: Asks>(
     number: u32,
     unit: &Unit,
 ) -> Verdict
-    requires table { A.table asks.old ≡ rows }
+    requires table { (A.standing asks.old).table ≡ rows }
     requires same { A.contents asks.old ≡ contents_of library.now.0 }
-    requires place { A.place asks.old ≡ A.places (A.basis asks.old) Partial.Nothing }
+    requires place { StandsAt A.places (A.standing asks.old) Partial.Nothing }
     requires places { are_new (library_of library.now) number
         (members_of (unit_at (contents_of library.now.0) unit.now)) ≡ true → (p : GivenMembers)
-        → A.places (A.basis asks.old) p ≡ place_of (library_of library.now) number
+        → A.places (A.standing asks.old).basis p ≡ place_of (library_of library.now) number
         (partial_of (unit_at (contents_of library.now.0) unit.now) p) }
     requires known { IsUnitIn (contents_of library.now.0) unit.now }
-    ensures basis { A.basis asks.new ≡ A.basis asks.old }
+    ensures basis { (A.standing asks.new).basis ≡ (A.standing asks.old).basis }
     ensures verdict { IsPlain (row_verdict (library_of library.now) (A.left asks.old) number
         (unit_at (contents_of library.now.0) unit.now)) result }
 {

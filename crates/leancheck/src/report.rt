@@ -1,7 +1,6 @@
 //! The text of a run.
 
 ghost use Rattle.std.specs.Prelude.{◌≡◌, ◌++◌, ◌∷◌, [], ℕ, List, map, decimal, codes, OnOk, IfOk};
-ghost use Rattle.lk_ask.specs.Questions.{rule_no};
 ghost use Rattle.leancheck.specs.Held.{verdict};
 ghost use Rattle.leancheck.specs.Text.{bad_line, rule_word, body_word, kind_word, title_text, head_text, why_text, verdict_text, lines_text, is_of, count, counted_text, summary_text, report_text};
 ghost use Rattle.leancheck.specs.Ends.{IsChecked, status_of};
@@ -14,11 +13,11 @@ use crate::checking::Verdict;
 use crate::names::{add_name, add_number};
 use crate::status::Status;
 use itoa::Buffer;
-use lk_ask::rule::Rule;
 use lk_env::library::Library;
 use lk_env::unit::{BlockType, Body, Recursor, Unit};
 use lk_lines::Fault;
 use lk_store::memory::NoMemory;
+use lk_tree::rule::Rule;
 use std::alloc::Global;
 
 /// What a verdict is counted as.
@@ -135,7 +134,7 @@ fn add_why(out: &mut Vec<u8>, word: &[u8]) -> Result<(), NoMemory>
 
 /// The word of a rule.
 fn word_of(rule: Rule) -> &'static [u8]
-    ensures { result.now ≡ rule_word (rule_no rule) }
+    ensures { result.now ≡ rule_word rule }
 {
     match rule {
         Rule::UnknownConstant => b"UnknownConstant",

@@ -5,11 +5,12 @@ use Rattle.lk_env.specs.declared.entry.Partial.TheVariants.{Members}
 use Rattle.lk_inductive.specs.Compare.{compare_steps}
 use Rattle.lk_inductive.specs.Recursors.{recursors}
 use Rattle.lk_block.specs.Shapes.{shape_at}
-use Rattle.leancheck.proofs.Staging.{stage_last}
+use Rattle.leancheck.proofs.Staging.{stage_last, same_table, same_place}
 use Rattle.leancheck.proofs.blocks.check_recursors.Goals as goal
 
 pub returns-clause-outcome : goal.returns-clause-outcome
 returns-clause-outcome g c =
-    stage_last (g.A.Asks.table c.args.asks.now) (g.A.Asks.table c.give.new.self) (g.A.Asks.places (g.A.Asks.basis c.args.asks.now)) Members (g.A.Asks.place c.give.new.self) _ _ _ _ (g.A.Asks.left c.compare.new.asks) c.compare.result
-    c.give.ensures.table c.give.ensures.place
+    let s = g.A.Asks.standing c.args.asks.now in
+    stage_last s.table (g.A.Asks.standing c.give.new.self) (g.A.Asks.places s.basis) Members _ _ _ _ (g.A.Asks.left c.compare.new.asks) c.compare.result
+    (same_table c.give.ensures.standing) (same_place c.give.ensures.standing)
     (ap (λ (d : Contents). compare_steps (recursors (shape_at d c.args.shape.now)) (map (recursor_at d) c.args.stated.now)) c.give.ensures.contents) c.give.ensures.left c.compare.ensures.outcome

@@ -3,9 +3,9 @@ use Rattle.lk_store.specs.Contents.{Contents}
 use Rattle.lk_env.specs.Units.{block_at, recursor_at, IsTypeIn, IsRecursorIn}
 use Rattle.lk_env.specs.declared.entry.Partial.TheVariants.{Types}
 use Rattle.lk_block.specs.Parts.{parts_at, ArePartsIn}
-use Rattle.lk_block.specs.Settling.{IsChecked}
+use Rattle.lk_declaration.specs.Checked.{IsCheckOutcome}
 use Rattle.lk_block.specs.Stages.{sorts_stage}
-use Rattle.leancheck.proofs.Staging.{moved_four}
+use Rattle.leancheck.proofs.Staging.{moved_four, same_table, same_place, same_basis}
 use Rattle.leancheck.proofs.blocks.give_types.Goals as goal
 
 pub check_from_sorts-requires-clause-types_in : goal.check_from_sorts-requires-clause-types_in
@@ -18,10 +18,10 @@ pub check_from_sorts-requires-clause-parts_in : goal.check_from_sorts-requires-c
 check_from_sorts-requires-clause-parts_in g c = subst (λ (d : Contents). ArePartsIn d c.args.parts) (sym c.give.ensures.contents) c.requires.parts_in
 
 pub check_from_sorts-requires-clause-place : goal.check_from_sorts-requires-clause-place
-check_from_sorts-requires-clause-place g c = c.give.ensures.place ∙ ap (λ b. g.A.Asks.places b Types) (sym c.give.ensures.basis)
+check_from_sorts-requires-clause-place g c = same_place c.give.ensures.standing ∙ ap (λ b. g.A.Asks.places b Types) (sym (same_basis c.give.ensures.standing))
 
 pub returns-clause-outcome : goal.returns-clause-outcome
 returns-clause-outcome g c fuel enough =
-    moved_four (λ u ps (d : Contents) n. IsChecked (sorts_stage u ps fuel (block_at d c.args.block.now) (map (recursor_at d) c.args.block.now.recursors.items) (parts_at d c.args.parts) n) c.check_from_sorts.result)
-    c.give.ensures.table (ap (g.A.Asks.places) c.give.ensures.basis) c.give.ensures.contents c.give.ensures.left
+    moved_four (λ u ps (d : Contents) n. IsCheckOutcome (sorts_stage u ps fuel (block_at d c.args.block.now) (map (recursor_at d) c.args.block.now.recursors.items) (parts_at d c.args.parts) n) c.check_from_sorts.result)
+    (same_table c.give.ensures.standing) (ap (g.A.Asks.places) (same_basis c.give.ensures.standing)) c.give.ensures.contents c.give.ensures.left
     (c.check_from_sorts.ensures.outcome fuel (subst (λ n. n < fuel) (sym c.give.ensures.left) enough))

@@ -16,4 +16,4 @@ pub returns-in-Block-clause-verdict : goal.returns-in-Block-clause-verdict
 returns-in-Block-clause-verdict g c =
     let at = g.A.Terms.contents c.args.asks.now in
     rw (c.in-Block.is, c.verdict_of.ensures)
-    (stages_answered (g.A.Asks.table c.args.asks.now) (g.A.Asks.places (g.A.Asks.basis c.args.asks.now)) (block_at at c.in-Block.block) (map (recursor_at at) c.in-Block.block.recursors.items) (g.A.Asks.left c.args.asks.now) c.check_block.result c.requires.table c.check_block.ensures.outcome)
+    (stages_answered (g.A.Asks.standing c.args.asks.now).table (g.A.Asks.places (g.A.Asks.standing c.args.asks.now).basis) (block_at at c.in-Block.block) (map (recursor_at at) c.in-Block.block.recursors.items) (g.A.Asks.left c.args.asks.now) c.check_block.result c.requires.table c.check_block.ensures.outcome)
