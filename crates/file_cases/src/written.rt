@@ -1,0 +1,160 @@
+//! What a line tells, written as the format writes it: one space between fields, and numbers
+//! without leading zeros. Of the tags those are written whose fields are all the kinds that a field
+//! may be due.
+use lk_lines::{BinderInfo, Declaration, Entry, LineError, ReducibilityHint, Said, read_line};
+use lk_token::next_line;
+use std::alloc::Global;
+use std::io;
+
+/// Writes numbers behind what is written.
+fn write_numbers(rt: &impl Print, numbers: &[u32]) -> io::Result<()> {
+    for number in numbers {
+        print!(rt; " {number}")?;
+    }
+    Ok(())
+}
+
+/// Writes a tag and the numbers behind it.
+fn write_tagged(rt: &impl Print, tag: &'static str, numbers: &[u32]) -> io::Result<()> {
+    print!(rt; "{tag}")?;
+    write_numbers(rt, numbers)
+}
+
+/// Writes a count, and as many numbers.
+fn write_counted(rt: &impl Print, numbers: &[u32]) -> io::Result<()> {
+    let count = numbers.len();
+    print!(rt; " {count}")?;
+    write_numbers(rt, numbers)
+}
+
+/// Writes the text of a name, in quotes, since it may end in spaces.
+fn write_text(rt: &impl Print, text: &[u8]) -> io::Result<()> {
+    match std::str::from_utf8(text) {
+        Ok(text) => print!(rt; " '{text}'"),
+        Err(_) => print!(rt; " no text"),
+    }
+}
+
+/// The tag of a lambda with this info.
+fn lambda_tag(info: BinderInfo) -> &'static str {
+    match info {
+        BinderInfo::Default => "#EL #BD",
+        BinderInfo::Implicit => "#EL #BI",
+        BinderInfo::StrictImplicit => "#EL #BS",
+        BinderInfo::InstImplicit => "#EL #BC",
+    }
+}
+
+/// Writes an entry behind its number.
+fn write_entry(rt: &impl Print, entry: &Entry<'_>) -> io::Result<()> {
+    match entry {
+        Entry::NameText { parent, text } => {
+            write_tagged(rt, "#NS", &[*parent])?;
+            write_text(rt, text)
+        }
+        Entry::NameNumber { parent, component } => print!(rt; "#NI {parent} {component}"),
+        Entry::Variable { index } => write_tagged(rt, "#EV", &[*index]),
+        Entry::Constant { name, levels } => {
+            write_tagged(rt, "#EC", &[*name])?;
+            write_numbers(rt, levels)
+        }
+        Entry::Apply { function, argument } => write_tagged(rt, "#EA", &[*function, *argument]),
+        Entry::Lambda {
+            info,
+            name,
+            binder_type,
+            body,
+        } => write_tagged(rt, lambda_tag(*info), &[*name, *binder_type, *body]),
+        _ => print!(rt; "another entry"),
+    }
+}
+
+fn write_hint(rt: &impl Print, hint: ReducibilityHint) -> io::Result<()> {
+    match hint {
+        ReducibilityHint::Opaque => print!(rt; " O"),
+        ReducibilityHint::Abbreviation => print!(rt; " A"),
+        ReducibilityHint::Regular(height) => print!(rt; " R {height}"),
+    }
+}
+
+/// Writes what a line declares.
+fn write_declaration(rt: &impl Print, declaration: &Declaration) -> io::Result<()> {
+    match declaration {
+        Declaration::Axiom {
+            name,
+            declared_type,
+            parameters,
+        } => {
+            write_tagged(rt, "#AX", &[*name, *declared_type])?;
+            write_numbers(rt, parameters)
+        }
+        Declaration::Definition {
+            name,
+            declared_type,
+            value,
+            hint,
+            parameters,
+        } => {
+            write_tagged(rt, "#DEF", &[*name, *declared_type, *value])?;
+            write_hint(rt, *hint)?;
+            write_numbers(rt, parameters)
+        }
+        Declaration::Theorem {
+            name,
+            declared_type,
+            value,
+            parameters,
+        } => {
+            write_tagged(rt, "#THM", &[*name, *declared_type, *value])?;
+            write_numbers(rt, parameters)
+        }
+        Declaration::Recursor {
+            name,
+            declared_type,
+            types,
+            parameter_count,
+            index_count,
+            motive_count,
+            minor_count,
+            rules,
+            k,
+            parameters,
+        } => {
+            let counts = [*parameter_count, *index_count, *motive_count, *minor_count];
+            write_tagged(rt, "#REC", &[*name, *declared_type])?;
+            write_counted(rt, types)?;
+            write_numbers(rt, &counts)?;
+            write_counted(rt, rules)?;
+            write_numbers(rt, &[u32::from(*k)])?;
+            write_numbers(rt, parameters)
+        }
+        _ => print!(rt; "another declaration"),
+    }
+}
+
+/// Writes what a line tells.
+fn write_said(rt: &impl Print, said: &Said<'_>) -> io::Result<()> {
+    match said {
+        Said::Blank => print!(rt; "blank"),
+        Said::Version => print!(rt; "version"),
+        Said::Entry { own, entry } => {
+            print!(rt; "{own} ")?;
+            write_entry(rt, entry)
+        }
+        Said::Declaration(declaration) => write_declaration(rt, declaration),
+    }
+}
+
+/// Writes what the first line of a text tells as a line that is not the file's first one, or its
+/// fault.
+pub fn write_line(rt: &impl Print, alloc: Global, text: &[u8]) -> io::Result<()> {
+    let Ok(Some(end)) = next_line(text, true) else {
+        return print!(rt; "no line");
+    };
+    let (line, _) = text.split_at(end);
+    match read_line(alloc, 2, false, line) {
+        Ok(line) => write_said(rt, &line.said),
+        Err(LineError::NoMemory) => print!(rt; "no memory"),
+        Err(LineError::Fault(fault)) => print!(rt; "{}", fault.word.text()),
+    }
+}
