@@ -8,3 +8,6 @@ pub mod Soundness
 pub mod Parts
 pub mod Erasing
 pub mod Exact
+pub mod Continuing
+pub mod Settling
+pub mod Binding

@@ -53,6 +53,13 @@ erased w f t (refuse r) = refuses r
 erased w f t (ask q k) = asks t q (with_answer q (λ v. erased w f None (k v)))
 erased w f t (look r c k) = looked r t (w.means c) (w.origin c) (w.flaw c) (λ u e. erased w f u (k e))
 
+-- the steps of a program, where k goes on with its value and the last unit that was looked at
+abbrev pub erased_then : {R : Type 0} → Place → (Option ℕ → R → Steps) → Option ℕ → Program R → Steps
+erased_then w k t (done v) = k t v
+erased_then w k t (refuse r) = refuses r
+erased_then w k t (ask q g) = asks t q (with_answer q (λ v. erased_then w k None (g v)))
+erased_then w k t (look r c g) = looked r t (w.means c) (w.origin c) (w.flaw c) (λ u e. erased_then w k u (g e))
+
 -- an answer with what is left of the budget and the last unit that was looked at, a refusal, or the budget is used up
 pub data Out : Type 0 where
   finished : Value → ℕ → Option ℕ → Out

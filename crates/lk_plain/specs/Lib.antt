@@ -5,3 +5,4 @@ pub mod Query
 pub mod Sound
 pub mod Parts
 pub mod Erased
+pub mod Settled

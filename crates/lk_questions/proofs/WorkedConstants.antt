@@ -1,5 +1,5 @@
--- Worked steps and costs of constants, applications and binders: what the rows that are built say, and the whole table, the
--- latter found with another program.
+-- Worked steps and costs of constants, applications and binders: what the table says,
+-- found with another program.
 use Rattle.std.proofs.Common.{◌≡◌, List, [], ◌∷◌, Some, None, true, false, refl}
 use Rattle.lk_tree.specs.Tree.{Level, tree_discrete, level_discrete, name_discrete, part_discrete, zero_level, succ_level, max_level, param, Tree, var, sort, const, app, lam, pi}
 use Rattle.lk_tree.specs.Decide.{list_discrete, both_discrete}
@@ -16,7 +16,6 @@ use Rattle.lk_plain.specs.Query.{core, whnf, infer, same}
 use Rattle.lk_plain.specs.Answer.{answered, refused, spent, answer_to_depth, outcome_of, plain_answer}
 use Rattle.lk_questions.specs.Declarations.{checked, unit_steps}
 use Rattle.lk_questions.specs.Table.{steps}
-use Rattle.lk_questions.specs.Built.{rows}
 use native.Mathlib.Decide.{ℕ_discrete}
 
 abbrev pub one : Level
@@ -79,239 +78,127 @@ place = place_of units 11 []
 abbrev first : Tree
 first = lam (pi A A) (lam A (var 1))
 
-of_an_axiom : plain_answer rows place (infer a) 1 ≡ answered A 1 (Some 3)
+of_an_axiom : plain_answer steps place (infer a) 1 ≡ answered A 1 (Some 3)
 unfolding answer_to_depth open_at close_at bound head args put_levels put_in_level level_for level_le tree_discrete level_discrete name_discrete part_discrete list_discrete both_discrete ℕ_discrete
 of_an_axiom = refl
 
-of_an_axiom_whole : plain_answer steps place (infer a) 1 ≡ answered A 1 (Some 3)
-unfolding answer_to_depth open_at close_at bound head args put_levels put_in_level level_for level_le tree_discrete level_discrete name_discrete part_discrete list_discrete both_discrete ℕ_discrete
-of_an_axiom_whole = refl
-
-type_at_levels : plain_answer rows place (infer (F zero_level)) 1 ≡ answered (sort one) 1 (Some 2)
+type_at_levels : plain_answer steps place (infer (F zero_level)) 1 ≡ answered (sort one) 1 (Some 2)
 unfolding answer_to_depth open_at close_at bound head args put_levels put_in_level level_for level_le tree_discrete level_discrete name_discrete part_discrete list_discrete both_discrete ℕ_discrete
 type_at_levels = refl
 
-type_at_levels_whole : plain_answer steps place (infer (F zero_level)) 1 ≡ answered (sort one) 1 (Some 2)
-unfolding answer_to_depth open_at close_at bound head args put_levels put_in_level level_for level_le tree_discrete level_discrete name_discrete part_discrete list_discrete both_discrete ℕ_discrete
-type_at_levels_whole = refl
-
-applied : plain_answer rows place (infer (app f a)) 6 ≡ answered A 6 (Some 5)
+applied : plain_answer steps place (infer (app f a)) 6 ≡ answered A 6 (Some 5)
 unfolding answer_to_depth open_at close_at bound head args put_levels put_in_level level_for level_le tree_discrete level_discrete name_discrete part_discrete list_discrete both_discrete ℕ_discrete
 applied = refl
 
-applied_whole : plain_answer steps place (infer (app f a)) 6 ≡ answered A 6 (Some 5)
-unfolding answer_to_depth open_at close_at bound head args put_levels put_in_level level_for level_le tree_discrete level_discrete name_discrete part_discrete list_discrete both_discrete ℕ_discrete
-applied_whole = refl
-
-applied_short : plain_answer rows place (infer (app f a)) 5 ≡ spent
+applied_short : plain_answer steps place (infer (app f a)) 5 ≡ spent
 unfolding answer_to_depth open_at close_at bound head args put_levels put_in_level level_for level_le tree_discrete level_discrete name_discrete part_discrete list_discrete both_discrete ℕ_discrete
 applied_short = refl
 
-applied_short_whole : plain_answer steps place (infer (app f a)) 5 ≡ spent
-unfolding answer_to_depth open_at close_at bound head args put_levels put_in_level level_for level_le tree_discrete level_discrete name_discrete part_discrete list_discrete both_discrete ℕ_discrete
-applied_short_whole = refl
-
-wrong_argument : plain_answer rows place (infer (app f b)) 100 ≡ refused ArgumentType
+wrong_argument : plain_answer steps place (infer (app f b)) 100 ≡ refused ArgumentType
 unfolding answer_to_depth open_at close_at bound head args put_levels put_in_level level_for level_le tree_discrete level_discrete name_discrete part_discrete list_discrete both_discrete ℕ_discrete
 wrong_argument = refl
 
-wrong_argument_whole : plain_answer steps place (infer (app f b)) 100 ≡ refused ArgumentType
-unfolding answer_to_depth open_at close_at bound head args put_levels put_in_level level_for level_le tree_discrete level_discrete name_discrete part_discrete list_discrete both_discrete ℕ_discrete
-wrong_argument_whole = refl
-
-no_function : plain_answer rows place (infer (app a b)) 100 ≡ refused NotAFunction
+no_function : plain_answer steps place (infer (app a b)) 100 ≡ refused NotAFunction
 unfolding answer_to_depth open_at close_at bound head args put_levels put_in_level level_for level_le tree_discrete level_discrete name_discrete part_discrete list_discrete both_discrete ℕ_discrete
 no_function = refl
 
-no_function_whole : plain_answer steps place (infer (app a b)) 100 ≡ refused NotAFunction
-unfolding answer_to_depth open_at close_at bound head args put_levels put_in_level level_for level_le tree_discrete level_discrete name_discrete part_discrete list_discrete both_discrete ℕ_discrete
-no_function_whole = refl
-
-unknown : plain_answer rows place (infer (named (word "x"))) 100 ≡ refused UnknownConstant
+unknown : plain_answer steps place (infer (named (word "x"))) 100 ≡ refused UnknownConstant
 unfolding answer_to_depth open_at close_at bound head args put_levels put_in_level level_for level_le tree_discrete level_discrete name_discrete part_discrete list_discrete both_discrete ℕ_discrete
 unknown = refl
 
-unknown_whole : plain_answer steps place (infer (named (word "x"))) 100 ≡ refused UnknownConstant
-unfolding answer_to_depth open_at close_at bound head args put_levels put_in_level level_for level_le tree_discrete level_discrete name_discrete part_discrete list_discrete both_discrete ℕ_discrete
-unknown_whole = refl
-
-flawed : plain_answer rows place (infer (named (word "w"))) 100 ≡ refused LooseVariable
+flawed : plain_answer steps place (infer (named (word "w"))) 100 ≡ refused LooseVariable
 unfolding answer_to_depth open_at close_at bound head args put_levels put_in_level level_for level_le tree_discrete level_discrete name_discrete part_discrete list_discrete both_discrete ℕ_discrete
 flawed = refl
 
-flawed_whole : plain_answer steps place (infer (named (word "w"))) 100 ≡ refused LooseVariable
-unfolding answer_to_depth open_at close_at bound head args put_levels put_in_level level_for level_le tree_discrete level_discrete name_discrete part_discrete list_discrete both_discrete ℕ_discrete
-flawed_whole = refl
-
-flawed_head : plain_answer rows place (core (app (named (word "w")) a)) 100 ≡ refused LooseVariable
+flawed_head : plain_answer steps place (core (app (named (word "w")) a)) 100 ≡ refused LooseVariable
 unfolding answer_to_depth open_at close_at bound head args put_levels put_in_level level_for level_le tree_discrete level_discrete name_discrete part_discrete list_discrete both_discrete ℕ_discrete
 flawed_head = refl
 
-flawed_head_whole : plain_answer steps place (core (app (named (word "w")) a)) 100 ≡ refused LooseVariable
-unfolding answer_to_depth open_at close_at bound head args put_levels put_in_level level_for level_le tree_discrete level_discrete name_discrete part_discrete list_discrete both_discrete ℕ_discrete
-flawed_head_whole = refl
-
-no_levels : plain_answer rows place (infer (const (word "F") [])) 100 ≡ refused LevelCount
+no_levels : plain_answer steps place (infer (const (word "F") [])) 100 ≡ refused LevelCount
 unfolding answer_to_depth open_at close_at bound head args put_levels put_in_level level_for level_le tree_discrete level_discrete name_discrete part_discrete list_discrete both_discrete ℕ_discrete
 no_levels = refl
 
-no_levels_whole : plain_answer steps place (infer (const (word "F") [])) 100 ≡ refused LevelCount
-unfolding answer_to_depth open_at close_at bound head args put_levels put_in_level level_for level_le tree_discrete level_discrete name_discrete part_discrete list_discrete both_discrete ℕ_discrete
-no_levels_whole = refl
-
-two_levels : plain_answer rows place (infer (const (word "F") (one ∷ one ∷ []))) 100 ≡ refused LevelCount
+two_levels : plain_answer steps place (infer (const (word "F") (one ∷ one ∷ []))) 100 ≡ refused LevelCount
 unfolding answer_to_depth open_at close_at bound head args put_levels put_in_level level_for level_le tree_discrete level_discrete name_discrete part_discrete list_discrete both_discrete ℕ_discrete
 two_levels = refl
-
-two_levels_whole : plain_answer steps place (infer (const (word "F") (one ∷ one ∷ []))) 100 ≡ refused LevelCount
-unfolding answer_to_depth open_at close_at bound head args put_levels put_in_level level_for level_le tree_discrete level_discrete name_discrete part_discrete list_discrete both_discrete ℕ_discrete
-two_levels_whole = refl
 
 of_a_def_whole : plain_answer steps place (infer (named (word "d"))) 1 ≡ answered A 1 (Some 9)
 unfolding answer_to_depth open_at close_at bound head args put_levels put_in_level level_for level_le tree_discrete level_discrete name_discrete part_discrete list_discrete both_discrete ℕ_discrete
 of_a_def_whole = refl
 
-more_arguments : plain_answer rows place (core (app (app (app first f) a) a)) 2 ≡ answered (app f a) 2 (Some 5)
+more_arguments : plain_answer steps place (core (app (app (app first f) a) a)) 2 ≡ answered (app f a) 2 (Some 5)
 unfolding answer_to_depth open_at close_at bound head args put_levels put_in_level level_for level_le tree_discrete level_discrete name_discrete part_discrete list_discrete both_discrete ℕ_discrete
 more_arguments = refl
 
-more_arguments_whole : plain_answer steps place (core (app (app (app first f) a) a)) 2 ≡ answered (app f a) 2 (Some 5)
-unfolding answer_to_depth open_at close_at bound head args put_levels put_in_level level_for level_le tree_discrete level_discrete name_discrete part_discrete list_discrete both_discrete ℕ_discrete
-more_arguments_whole = refl
-
-fewer_arguments : plain_answer rows place (core (app first f)) 2 ≡ answered (lam A f) 2 None
+fewer_arguments : plain_answer steps place (core (app first f)) 2 ≡ answered (lam A f) 2 None
 unfolding answer_to_depth open_at close_at bound head args put_levels put_in_level level_for level_le tree_discrete level_discrete name_discrete part_discrete list_discrete both_discrete ℕ_discrete
 fewer_arguments = refl
 
-fewer_arguments_whole : plain_answer steps place (core (app first f)) 2 ≡ answered (lam A f) 2 None
-unfolding answer_to_depth open_at close_at bound head args put_levels put_in_level level_for level_le tree_discrete level_discrete name_discrete part_discrete list_discrete both_discrete ℕ_discrete
-fewer_arguments_whole = refl
-
-as_many_arguments : plain_answer rows place (core (app (app first f) a)) 2 ≡ answered f 2 None
+as_many_arguments : plain_answer steps place (core (app (app first f) a)) 2 ≡ answered f 2 None
 unfolding answer_to_depth open_at close_at bound head args put_levels put_in_level level_for level_le tree_discrete level_discrete name_discrete part_discrete list_discrete both_discrete ℕ_discrete
 as_many_arguments = refl
 
-as_many_arguments_whole : plain_answer steps place (core (app (app first f) a)) 2 ≡ answered f 2 None
-unfolding answer_to_depth open_at close_at bound head args put_levels put_in_level level_for level_le tree_discrete level_discrete name_discrete part_discrete list_discrete both_discrete ℕ_discrete
-as_many_arguments_whole = refl
-
-theorem_unfolded : plain_answer rows place (whnf (app t q)) 5 ≡ answered q 5 (Some 8)
+theorem_unfolded : plain_answer steps place (whnf (app t q)) 5 ≡ answered q 5 (Some 8)
 unfolding answer_to_depth open_at close_at bound head args put_levels put_in_level level_for level_le tree_discrete level_discrete name_discrete part_discrete list_discrete both_discrete ℕ_discrete
 theorem_unfolded = refl
 
-theorem_unfolded_whole : plain_answer steps place (whnf (app t q)) 5 ≡ answered q 5 (Some 8)
-unfolding answer_to_depth open_at close_at bound head args put_levels put_in_level level_for level_le tree_discrete level_discrete name_discrete part_discrete list_discrete both_discrete ℕ_discrete
-theorem_unfolded_whole = refl
-
-theorem_applied : plain_answer rows place (infer (app t q)) 6 ≡ answered Q 6 (Some 8)
+theorem_applied : plain_answer steps place (infer (app t q)) 6 ≡ answered Q 6 (Some 8)
 unfolding answer_to_depth open_at close_at bound head args put_levels put_in_level level_for level_le tree_discrete level_discrete name_discrete part_discrete list_discrete both_discrete ℕ_discrete
 theorem_applied = refl
 
-theorem_applied_whole : plain_answer steps place (infer (app t q)) 6 ≡ answered Q 6 (Some 8)
-unfolding answer_to_depth open_at close_at bound head args put_levels put_in_level level_for level_le tree_discrete level_discrete name_discrete part_discrete list_discrete both_discrete ℕ_discrete
-theorem_applied_whole = refl
-
-pis_with_other_bodies : plain_answer rows place (same (pi A A) (pi A B)) 9 ≡ answered false 9 (Some 1)
+pis_with_other_bodies : plain_answer steps place (same (pi A A) (pi A B)) 12 ≡ answered false 12 (Some 1)
 unfolding answer_to_depth open_at close_at bound head args put_levels put_in_level level_for level_le tree_discrete level_discrete name_discrete part_discrete list_discrete both_discrete ℕ_discrete
 pis_with_other_bodies = refl
 
-pis_with_other_bodies_whole : plain_answer steps place (same (pi A A) (pi A B)) 12 ≡ answered false 12 (Some 1)
-unfolding answer_to_depth open_at close_at bound head args put_levels put_in_level level_for level_le tree_discrete level_discrete name_discrete part_discrete list_discrete both_discrete ℕ_discrete
-pis_with_other_bodies_whole = refl
-
-pis_with_other_domains : plain_answer rows place (same (pi A A) (pi B A)) 8 ≡ answered false 8 (Some 1)
+pis_with_other_domains : plain_answer steps place (same (pi A A) (pi B A)) 11 ≡ answered false 11 (Some 1)
 unfolding answer_to_depth open_at close_at bound head args put_levels put_in_level level_for level_le tree_discrete level_discrete name_discrete part_discrete list_discrete both_discrete ℕ_discrete
 pis_with_other_domains = refl
 
-pis_with_other_domains_whole : plain_answer steps place (same (pi A A) (pi B A)) 11 ≡ answered false 11 (Some 1)
-unfolding answer_to_depth open_at close_at bound head args put_levels put_in_level level_for level_le tree_discrete level_discrete name_discrete part_discrete list_discrete both_discrete ℕ_discrete
-pis_with_other_domains_whole = refl
-
-lambdas : plain_answer rows place (same (lam A (app f (var 0))) (lam A (app f (app (id_of A) (var 0))))) 20 ≡ answered true 20 (Some 5)
+lambdas : plain_answer steps place (same (lam A (app f (var 0))) (lam A (app f (app (id_of A) (var 0))))) 20 ≡ answered true 20 (Some 5)
 unfolding answer_to_depth open_at close_at bound head args put_levels put_in_level level_for level_le tree_discrete level_discrete name_discrete part_discrete list_discrete both_discrete ℕ_discrete
 lambdas = refl
 
-lambdas_whole : plain_answer steps place (same (lam A (app f (var 0))) (lam A (app f (app (id_of A) (var 0))))) 20 ≡ answered true 20 (Some 5)
-unfolding answer_to_depth open_at close_at bound head args put_levels put_in_level level_for level_le tree_discrete level_discrete name_discrete part_discrete list_discrete both_discrete ℕ_discrete
-lambdas_whole = refl
-
-equal_levels : plain_answer rows place (same (F zero_level) (F (max_level zero_level zero_level))) 7 ≡ answered true 7 (Some 2)
+equal_levels : plain_answer steps place (same (F zero_level) (F (max_level zero_level zero_level))) 7 ≡ answered true 7 (Some 2)
 unfolding answer_to_depth open_at close_at bound head args put_levels put_in_level level_for level_le tree_discrete level_discrete name_discrete part_discrete list_discrete both_discrete ℕ_discrete
 equal_levels = refl
 
-equal_levels_whole : plain_answer steps place (same (F zero_level) (F (max_level zero_level zero_level))) 7 ≡ answered true 7 (Some 2)
-unfolding answer_to_depth open_at close_at bound head args put_levels put_in_level level_for level_le tree_discrete level_discrete name_discrete part_discrete list_discrete both_discrete ℕ_discrete
-equal_levels_whole = refl
-
-other_levels : plain_answer rows place (same (F zero_level) (F one)) 7 ≡ answered false 7 (Some 2)
+other_levels : plain_answer steps place (same (F zero_level) (F one)) 10 ≡ answered false 10 (Some 2)
 unfolding answer_to_depth open_at close_at bound head args put_levels put_in_level level_for level_le tree_discrete level_discrete name_discrete part_discrete list_discrete both_discrete ℕ_discrete
 other_levels = refl
 
-other_levels_whole : plain_answer steps place (same (F zero_level) (F one)) 10 ≡ answered false 10 (Some 2)
-unfolding answer_to_depth open_at close_at bound head args put_levels put_in_level level_for level_le tree_discrete level_discrete name_discrete part_discrete list_discrete both_discrete ℕ_discrete
-other_levels_whole = refl
-
-other_constants : plain_answer rows place (same A B) 7 ≡ answered false 7 (Some 1)
+other_constants : plain_answer steps place (same A B) 10 ≡ answered false 10 (Some 1)
 unfolding answer_to_depth open_at close_at bound head args put_levels put_in_level level_for level_le tree_discrete level_discrete name_discrete part_discrete list_discrete both_discrete ℕ_discrete
 other_constants = refl
 
-other_constants_whole : plain_answer steps place (same A B) 10 ≡ answered false 10 (Some 1)
-unfolding answer_to_depth open_at close_at bound head args put_levels put_in_level level_for level_le tree_discrete level_discrete name_discrete part_discrete list_discrete both_discrete ℕ_discrete
-other_constants_whole = refl
-
-applications : plain_answer rows place (same (app f (app (id_of A) a)) (app f a)) 27 ≡ answered true 27 (Some 5)
+applications : plain_answer steps place (same (app f (app (id_of A) a)) (app f a)) 27 ≡ answered true 27 (Some 5)
 unfolding answer_to_depth open_at close_at bound head args put_levels put_in_level level_for level_le tree_discrete level_discrete name_discrete part_discrete list_discrete both_discrete ℕ_discrete
 applications = refl
 
-applications_whole : plain_answer steps place (same (app f (app (id_of A) a)) (app f a)) 27 ≡ answered true 27 (Some 5)
-unfolding answer_to_depth open_at close_at bound head args put_levels put_in_level level_for level_le tree_discrete level_discrete name_discrete part_discrete list_discrete both_discrete ℕ_discrete
-applications_whole = refl
-
-applications_of_others : plain_answer rows place (same (app f a) (app f (app f a))) 20 ≡ answered false 20 (Some 5)
+applications_of_others : plain_answer steps place (same (app f a) (app f (app f a))) 31 ≡ answered false 31 (Some 5)
 unfolding answer_to_depth open_at close_at bound head args put_levels put_in_level level_for level_le tree_discrete level_discrete name_discrete part_discrete list_discrete both_discrete ℕ_discrete
 applications_of_others = refl
 
-applications_of_others_whole : plain_answer steps place (same (app f a) (app f (app f a))) 31 ≡ answered false 31 (Some 5)
-unfolding answer_to_depth open_at close_at bound head args put_levels put_in_level level_for level_le tree_discrete level_discrete name_discrete part_discrete list_discrete both_discrete ℕ_discrete
-applications_of_others_whole = refl
-
-other_heads : plain_answer rows place (same (app f a) (app t a)) 28 ≡ answered false 28 (Some 8)
+other_heads : plain_answer steps place (same (app f a) (app t a)) 36 ≡ answered false 36 (Some 8)
 unfolding answer_to_depth open_at close_at bound head args put_levels put_in_level level_for level_le tree_discrete level_discrete name_discrete part_discrete list_discrete both_discrete ℕ_discrete
 other_heads = refl
 
-other_heads_whole : plain_answer steps place (same (app f a) (app t a)) 36 ≡ answered false 36 (Some 8)
-unfolding answer_to_depth open_at close_at bound head args put_levels put_in_level level_for level_le tree_discrete level_discrete name_discrete part_discrete list_discrete both_discrete ℕ_discrete
-other_heads_whole = refl
-
-other_argument_counts : plain_answer rows place (same (app f a) (app (app f a) a)) 12 ≡ answered false 12 (Some 5)
+other_argument_counts : plain_answer steps place (same (app f a) (app (app f a) a)) 20 ≡ answered false 20 (Some 5)
 unfolding answer_to_depth open_at close_at bound head args put_levels put_in_level level_for level_le tree_discrete level_discrete name_discrete part_discrete list_discrete both_discrete ℕ_discrete
 other_argument_counts = refl
 
-other_argument_counts_whole : plain_answer steps place (same (app f a) (app (app f a) a)) 20 ≡ answered false 20 (Some 5)
-unfolding answer_to_depth open_at close_at bound head args put_levels put_in_level level_for level_le tree_discrete level_discrete name_discrete part_discrete list_discrete both_discrete ℕ_discrete
-other_argument_counts_whole = refl
-
 -- two proofs of one proposition are the same, before the theorem is unfolded
 
-two_proofs : plain_answer rows place (same q (app t q)) 14 ≡ answered true 14 (Some 8)
+two_proofs : plain_answer steps place (same q (app t q)) 14 ≡ answered true 14 (Some 8)
 unfolding answer_to_depth open_at close_at bound head args put_levels put_in_level level_for level_le tree_discrete level_discrete name_discrete part_discrete list_discrete both_discrete ℕ_discrete
 two_proofs = refl
 
-two_proofs_whole : plain_answer steps place (same q (app t q)) 14 ≡ answered true 14 (Some 8)
-unfolding answer_to_depth open_at close_at bound head args put_levels put_in_level level_for level_le tree_discrete level_discrete name_discrete part_discrete list_discrete both_discrete ℕ_discrete
-two_proofs_whole = refl
-
 -- levels with parameters
 
-levels_with_parameters : plain_answer rows place (same (sort u) (sort (max_level u u))) 1 ≡ answered true 1 None
+levels_with_parameters : plain_answer steps place (same (sort u) (sort (max_level u u))) 1 ≡ answered true 1 None
 unfolding answer_to_depth open_at close_at bound head args put_levels put_in_level level_for level_le tree_discrete level_discrete name_discrete part_discrete list_discrete both_discrete ℕ_discrete
 levels_with_parameters = refl
 
-levels_with_parameters_whole : plain_answer steps place (same (sort u) (sort (max_level u u))) 1 ≡ answered true 1 None
-unfolding answer_to_depth open_at close_at bound head args put_levels put_in_level level_for level_le tree_discrete level_discrete name_discrete part_discrete list_discrete both_discrete ℕ_discrete
-levels_with_parameters_whole = refl
-
-other_levels_with_parameters : plain_answer rows place (same (sort u) (sort (succ_level u))) 1 ≡ answered false 1 None
+other_levels_with_parameters : plain_answer steps place (same (sort u) (sort (succ_level u))) 1 ≡ answered false 1 None
 unfolding answer_to_depth open_at close_at bound head args put_levels put_in_level level_for level_le tree_discrete level_discrete name_discrete part_discrete list_discrete both_discrete ℕ_discrete
 other_levels_with_parameters = refl
 
@@ -322,34 +209,18 @@ theorem_of type proof = record { name = word "s"; levels = []; type = type; body
 abbrev axiom_of : Tree → Decl
 axiom_of type = record { name = word "s"; levels = []; type = type; body = as_axiom }
 
-axiom_checked : outcome_of place (plain_answer rows place) 9 (unit_steps (axiom_of (pi A A))) ≡ answered checked 9 (Some 0)
+axiom_checked : outcome_of place (plain_answer steps place) 9 (unit_steps (axiom_of (pi A A))) ≡ answered checked 9 (Some 0)
 unfolding answer_to_depth open_at close_at bound head args put_levels put_in_level level_for level_le tree_discrete level_discrete name_discrete part_discrete list_discrete both_discrete ℕ_discrete
 axiom_checked = refl
 
-axiom_checked_whole : outcome_of place (plain_answer steps place) 9 (unit_steps (axiom_of (pi A A))) ≡ answered checked 9 (Some 0)
-unfolding answer_to_depth open_at close_at bound head args put_levels put_in_level level_for level_le tree_discrete level_discrete name_discrete part_discrete list_discrete both_discrete ℕ_discrete
-axiom_checked_whole = refl
-
-theorem_applied_checked : outcome_of place (plain_answer rows place) 10 (unit_steps (theorem_of Q (app t q))) ≡ answered checked 10 (Some 8)
+theorem_applied_checked : outcome_of place (plain_answer steps place) 10 (unit_steps (theorem_of Q (app t q))) ≡ answered checked 10 (Some 8)
 unfolding answer_to_depth open_at close_at bound head args put_levels put_in_level level_for level_le tree_discrete level_discrete name_discrete part_discrete list_discrete both_discrete ℕ_discrete
 theorem_applied_checked = refl
 
-theorem_applied_checked_whole : outcome_of place (plain_answer steps place) 10 (unit_steps (theorem_of Q (app t q))) ≡ answered checked 10 (Some 8)
-unfolding answer_to_depth open_at close_at bound head args put_levels put_in_level level_for level_le tree_discrete level_discrete name_discrete part_discrete list_discrete both_discrete ℕ_discrete
-theorem_applied_checked_whole = refl
-
-theorem_applied_twice : outcome_of place (plain_answer rows place) 25 (unit_steps (theorem_of (pi Q Q) (lam Q (app t (app t (var 0)))))) ≡ answered checked 25 (Some 8)
+theorem_applied_twice : outcome_of place (plain_answer steps place) 25 (unit_steps (theorem_of (pi Q Q) (lam Q (app t (app t (var 0)))))) ≡ answered checked 25 (Some 8)
 unfolding answer_to_depth open_at close_at bound head args put_levels put_in_level level_for level_le tree_discrete level_discrete name_discrete part_discrete list_discrete both_discrete ℕ_discrete
 theorem_applied_twice = refl
 
-theorem_applied_twice_whole : outcome_of place (plain_answer steps place) 25 (unit_steps (theorem_of (pi Q Q) (lam Q (app t (app t (var 0)))))) ≡ answered checked 25 (Some 8)
-unfolding answer_to_depth open_at close_at bound head args put_levels put_in_level level_for level_le tree_discrete level_discrete name_discrete part_discrete list_discrete both_discrete ℕ_discrete
-theorem_applied_twice_whole = refl
-
-theorem_refused : outcome_of place (plain_answer rows place) 100 (unit_steps (theorem_of Q (app t a))) ≡ refused ArgumentType
+theorem_refused : outcome_of place (plain_answer steps place) 100 (unit_steps (theorem_of Q (app t a))) ≡ refused ArgumentType
 unfolding answer_to_depth open_at close_at bound head args put_levels put_in_level level_for level_le tree_discrete level_discrete name_discrete part_discrete list_discrete both_discrete ℕ_discrete
 theorem_refused = refl
-
-theorem_refused_whole : outcome_of place (plain_answer steps place) 100 (unit_steps (theorem_of Q (app t a))) ≡ refused ArgumentType
-unfolding answer_to_depth open_at close_at bound head args put_levels put_in_level level_for level_le tree_discrete level_discrete name_discrete part_discrete list_discrete both_discrete ℕ_discrete
-theorem_refused_whole = refl

@@ -16,5 +16,3 @@ pub mod Steps
 pub mod Strings
 pub mod Table
 pub mod Declarations
-pub mod BuiltIota
-pub mod Built

@@ -15,9 +15,9 @@ use Rattle.lk_inductive.specs.Nested.{Aux}
 use Rattle.lk_inductive.specs.NestedTask.{plain_whole}
 use Rattle.lk_inductive.specs.NestedRelation.{NestedDerived}
 use Rattle.lk_verdict.specs.GoodUnit.{UnitDerived, declaration, block, nested, IsGoodUnit, IsClearLibrary}
-use Rattle.lk_verdict.specs.Verdict.{says_yes, Extent, questions_of, refused_at_once, verdict_of, plain_verdict}
+use Rattle.lk_verdict.specs.Verdict.{says_yes, Extent, questions_of, verdict_of, plain_verdict}
 use Rattle.lk_verdict.proofs.Clears.{all_clear, block_clear, clear_at}
-use Rattle.lk_verdict.proofs.Verdicts.{IsAnswer, yes_answer, first_none, scanned_yes, yes_of, yes_of_whole}
+use Rattle.lk_verdict.proofs.Verdicts.{IsAnswer, yes_answer, scanned_yes, yes_of, yes_of_whole}
 use Rattle.lk_sound.proofs.Declarations.{yes_is_good}
 use Rattle.lk_sound.proofs.WholeYes.{yes_whole}
 use Rattle.lk_sound.proofs.NoNested.{nothing_nested}
@@ -49,6 +49,6 @@ derived extent sound us n budget (of_block b rs) cl at sc e =
 pub good_of_yes : (extent : Extent) → IsSoundTable extent.table → (us : Library) (n budget : ℕ) → IsClearLibrary us → plain_verdict extent us n budget ≡ says_yes → IsGoodUnit us n
 good_of_yes extent sound us n budget cl h =
     let a : (u : LibraryUnit) × (slice_get us n ≡ Some u) × (verdict_of extent us n u budget ≡ says_yes) = yes_of extent us n budget (slice_get us n) h in
-    let s : (refused_at_once extent us n a.0 ≡ None) × (questions_of extent us n a.0 budget ≡ says_yes) = scanned_yes (refused_at_once extent us n a.0) (questions_of extent us n a.0 budget) a.2 in
-    let sc : IsScanned us n a.0 = scan_right us n a.0 (first_none (scan_of us n a.0) (extent.unbuilt a.0) s.0).0 in
+    let s : (scan_of us n a.0 ≡ None) × (questions_of extent us n a.0 budget ≡ says_yes) = scanned_yes (scan_of us n a.0) (questions_of extent us n a.0 budget) a.2 in
+    let sc : IsScanned us n a.0 = scan_right us n a.0 s.0 in
     record { unit = a.0; given = a.1; scanned = sc; clear = clear_at us n a.0 cl a.1; derived = derived extent sound us n budget a.0 cl a.1 sc s.1 }

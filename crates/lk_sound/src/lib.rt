@@ -14,9 +14,8 @@ ghost use Rattle.lk_rulebook.specs.Derived.{DeclWellFormed, DeclDerived};
 ghost use Rattle.lk_rulebook.specs.Place.{Place, Block, BlockRecursor};
 ghost use Rattle.lk_rulebook.specs.Stated.{GivesNoLocal};
 ghost use Rattle.lk_rulebook.specs.Units.{Decl, Members, LibraryUnit, place_of, Library};
-ghost use Rattle.lk_questions.specs.Built.{rows_by, rows};
 ghost use Rattle.lk_questions.specs.Declarations.{unit_steps};
-ghost use Rattle.lk_questions.specs.Levels.{LevelTest, IsLevelTest, complete_test};
+ghost use Rattle.lk_questions.specs.Levels.{IsLevelTest, complete_test};
 ghost use Rattle.lk_questions.specs.Table.{steps};
 ghost use Rattle.lk_verdict.specs.Built.{built_extent};
 ghost use Rattle.lk_verdict.specs.GoodUnit.{IsGoodUnit, IsClearLibrary};
@@ -85,16 +84,13 @@ pub fn yes_unit_is_good()
         → plain_verdict whole us n budget ≡ says_yes → IsGoodUnit us n }
 {}
 
-/// Where the complete test of levels says yes, the two levels are equal under every assignment. The rows that are built are
-/// sound with each test of which that holds.
+/// Where the complete test of levels says yes, the two levels are equal under every assignment.
 pub fn level_tests_are_sound()
-    ensures complete { IsLevelTest complete_test }
-    ensures rows { (test : LevelTest) → IsLevelTest test → IsSoundTable (rows_by test) }
+    ensures { IsLevelTest complete_test }
 {}
 
-/// The rows that are built are sound, and a unit to which they say yes is good.
-pub fn built_rows_are_sound()
-    ensures sound { IsSoundTable rows }
-    ensures good { (us : Library) (n budget : ℕ) → IsClearLibrary us
+/// A unit to which what the program checks today says yes is good.
+pub fn built_yes_is_good()
+    ensures { (us : Library) (n budget : ℕ) → IsClearLibrary us
         → plain_verdict built_extent us n budget ≡ says_yes → IsGoodUnit us n }
 {}

@@ -1,11 +1,10 @@
 -- A unit's verdict, and whether it is good, rest on the units up to it alone.
 use Rattle.std.proofs.Common.{ℕ, suc, ◌≡◌, ◌&&◌, Bool, true, false, List, [], ◌∷◌, take, Option, Some, None, refl, sym, ap, ◌∙◌, subst, if◌then◌else◌}
 use Rattle.std.specs.Prelude.{slice_get}
-use Rattle.lk_tree.specs.declared.rule.Rule.{Rule}
 use Rattle.lk_tree.specs.declared.rule.Rule.TheVariants.{DuplicateName}
 use Rattle.lk_rulebook.specs.Place.{Place, Block, BlockRecursor}
 use Rattle.lk_rulebook.specs.Units.{LibraryUnit, of_decl, of_block, Library, Members, members_of, given_by, first_of_two, at_partial, first_giving, place_by}
-use Rattle.lk_rulebook.specs.Scan.{AreNew, is_none, are_new, own_scan}
+use Rattle.lk_rulebook.specs.Scan.{AreNew, is_none, are_new, own_scan, scan_of}
 use Rattle.lk_plain.specs.Answer.{outcome_of, plain_answer}
 use Rattle.lk_plain.specs.Program.{Table}
 use Rattle.lk_questions.specs.Declarations.{unit_steps}
@@ -16,7 +15,7 @@ use Rattle.lk_inductive.specs.FlatTask.{flat_task}
 use Rattle.lk_inductive.specs.NestedTask.{whole_task}
 use Rattle.lk_inductive.specs.Task.{run_task}
 use Rattle.lk_verdict.specs.GoodUnit.{UnitDerived, declaration, block, nested, IsGoodUnit}
-use Rattle.lk_verdict.specs.Verdict.{PlainVerdict, says_no, says_steps, verdict_by, Extent, block_outcome, questions_of, refused_at_once, verdict_of, plain_verdict}
+use Rattle.lk_verdict.specs.Verdict.{PlainVerdict, says_no, says_steps, verdict_by, Extent, block_outcome, questions_of, verdict_of, plain_verdict}
 
 -- the place of unit n after these units
 abbrev after_units : ℕ → Library → Members → Place
@@ -56,8 +55,8 @@ same_questions extent us vs n e (of_block b rs) budget = ap verdict_by (same_blo
 
 same_of : (extent : Extent) (us vs : Library) (n : ℕ) → take n us ≡ take n vs → (u : LibraryUnit) (budget : ℕ) → verdict_of extent us n u budget ≡ verdict_of extent vs n u budget
 same_of extent us vs n e u budget =
-    ap (λ b. elim (elim (if b then own_scan u else Some DuplicateName) as (λ y. Option Rule) [ Some r ↦ Some r | None ↦ extent.unbuilt u ]) as (λ y. PlainVerdict) [ Some r ↦ says_no r | None ↦ questions_of extent us n u budget ]) (same_new us vs n e (members_of u))
-    ∙ ap (λ v. elim (refused_at_once extent vs n u) as (λ y. PlainVerdict) [ Some r ↦ says_no r | None ↦ v ]) (same_questions extent us vs n e u budget)
+    ap (λ b. elim (if b then own_scan u else Some DuplicateName) as (λ y. PlainVerdict) [ Some r ↦ says_no r | None ↦ questions_of extent us n u budget ]) (same_new us vs n e (members_of u))
+    ∙ ap (λ v. elim (scan_of vs n u) as (λ y. PlainVerdict) [ Some r ↦ says_no r | None ↦ v ]) (same_questions extent us vs n e u budget)
 
 same_at : (extent : Extent) (us vs : Library) (n budget : ℕ) → take n us ≡ take n vs → (o : Option LibraryUnit) →
     elim o as (λ y. PlainVerdict) [ Some u ↦ verdict_of extent us n u budget | None ↦ says_steps ] ≡ elim o as (λ y. PlainVerdict) [ Some u ↦ verdict_of extent vs n u budget | None ↦ says_steps ]

@@ -21,7 +21,7 @@ use Rattle.lk_inductive.proofs.FlatBlocks.{flat_is_whole}
 use Rattle.lk_inductive.proofs.Plain.{plain_steady, flat_steady}
 use Rattle.lk_inductive.proofs.SettledTasks.{plain_settled, flat_settled}
 use Rattle.lk_inductive.proofs.PartTasks.{plain_gives, flat_gives}
-use Rattle.lk_verdict.specs.Verdict.{PlainVerdict, says_yes, says_no, says_steps, verdict_by, Extent, block_outcome, questions_of, refused_at_once, IsWidened, verdict_of, plain_verdict, IsYesFrom}
+use Rattle.lk_verdict.specs.Verdict.{PlainVerdict, says_yes, says_no, says_steps, verdict_by, Extent, block_outcome, questions_of, IsWidened, verdict_of, plain_verdict, IsYesFrom}
 
 -- an outcome that says yes is an answer
 pub record IsAnswer {A : Type 0} (o : Outcome A) (P : A → ℕ → Option ℕ → Type 0) : Type 0 where
@@ -35,10 +35,6 @@ pub yes_answer : {A : Type 0} (o : Outcome A) (P : A → ℕ → Option ℕ → 
 yes_answer (answered v c t) P h e = record { value = v; cost = c; top = t; is = refl; has = h }
 yes_answer (refused r) P h e = absurd cc
 yes_answer spent P h e = absurd cc
-
-pub first_none : (o p : Option Rule) → elim o as (λ y. Option Rule) [ Some r ↦ Some r | None ↦ p ] ≡ None → (o ≡ None) × (p ≡ None)
-first_none (Some r) p h = absurd cc
-first_none None p h = (refl, h)
 
 -- past the scan
 pub scanned_yes : (o : Option Rule) (v : PlainVerdict) → elim o as (λ y. PlainVerdict) [ Some r ↦ says_no r | None ↦ v ] ≡ says_yes → (o ≡ None) × (v ≡ says_yes)
@@ -71,7 +67,7 @@ questions_steady extent us n budget (of_block b rs) e =
 pub steady_yes : (extent : Extent) (us : Library) (n budget : ℕ) → plain_verdict extent us n budget ≡ says_yes → (c : ℕ) × (c ≤ budget) × IsYesFrom (plain_verdict extent us n) c
 steady_yes extent us n budget h =
     let a : (u : LibraryUnit) × (slice_get us n ≡ Some u) × (verdict_of extent us n u budget ≡ says_yes) = yes_of extent us n budget (slice_get us n) h in
-    let s : (refused_at_once extent us n a.0 ≡ None) × (questions_of extent us n a.0 budget ≡ says_yes) = scanned_yes (refused_at_once extent us n a.0) (questions_of extent us n a.0 budget) a.2 in
+    let s : (scan_of us n a.0 ≡ None) × (questions_of extent us n a.0 budget ≡ says_yes) = scanned_yes (scan_of us n a.0) (questions_of extent us n a.0 budget) a.2 in
     let q : (c : ℕ) × (c ≤ budget) × IsYesFrom (questions_of extent us n a.0) c = questions_steady extent us n budget a.0 s.1 in
     let same : (b : ℕ) → plain_verdict extent us n b ≡ questions_of extent us n a.0 b =
     λ b. ap (λ o. elim o as (λ y. PlainVerdict) [ Some x ↦ verdict_of extent us n x b | None ↦ says_steps ]) a.1 ∙ ap (λ o. elim o as (λ y. PlainVerdict) [ Some r ↦ says_no r | None ↦ questions_of extent us n a.0 b ]) s.0 in
@@ -100,7 +96,7 @@ settled_scan None v v' h = h
 settled_at : (extent : Extent) (us : Library) (n b more : ℕ) (o : Option LibraryUnit) → b ≤ more →
     (elim o as (λ y. PlainVerdict) [ Some u ↦ verdict_of extent us n u b | None ↦ says_steps ] ≡ says_steps)
     ⊎ (elim o as (λ y. PlainVerdict) [ Some u ↦ verdict_of extent us n u more | None ↦ says_steps ] ≡ elim o as (λ y. PlainVerdict) [ Some u ↦ verdict_of extent us n u b | None ↦ says_steps ])
-settled_at extent us n b more (Some u) l = settled_scan (refused_at_once extent us n u) (questions_of extent us n u b) (questions_of extent us n u more) (settled_questions extent us n b more u l)
+settled_at extent us n b more (Some u) l = settled_scan (scan_of us n u) (questions_of extent us n u b) (questions_of extent us n u more) (settled_questions extent us n b more u l)
 settled_at extent us n b more None l = inl refl
 
 pub settled : (extent : Extent) (us : Library) (n b more : ℕ) → b ≤ more → (plain_verdict extent us n b ≡ says_steps) ⊎ (plain_verdict extent us n more ≡ plain_verdict extent us n b)
@@ -138,16 +134,10 @@ questions_give extent wider h us n budget (of_decl d) e =
 questions_give extent wider h us n budget (of_block b rs) e =
     yes_gives (block_outcome extent.nested extent.table us n b rs budget) (block_outcome wider.nested wider.table us n b rs budget) (block_gives extent.nested wider.nested h.nested extent.table wider.table h.table us n b rs budget) e
 
-past_both : (o p : Option Rule) → o ≡ None → p ≡ None → elim o as (λ y. Option Rule) [ Some r ↦ Some r | None ↦ p ] ≡ None
-past_both (Some r) p h i = absurd cc
-past_both None p h i = i
-
 pub yes_stays : (extent wider : Extent) → IsWidened extent wider → (us : Library) (n budget : ℕ) → plain_verdict extent us n budget ≡ says_yes → plain_verdict wider us n budget ≡ says_yes
 yes_stays extent wider h us n budget e =
     let a : (u : LibraryUnit) × (slice_get us n ≡ Some u) × (verdict_of extent us n u budget ≡ says_yes) = yes_of extent us n budget (slice_get us n) e in
-    let s : (refused_at_once extent us n a.0 ≡ None) × (questions_of extent us n a.0 budget ≡ says_yes) = scanned_yes (refused_at_once extent us n a.0) (questions_of extent us n a.0 budget) a.2 in
-    let o : (scan_of us n a.0 ≡ None) × (extent.unbuilt a.0 ≡ None) = first_none (scan_of us n a.0) (extent.unbuilt a.0) s.0 in
-    let past : refused_at_once wider us n a.0 ≡ None = past_both (scan_of us n a.0) (wider.unbuilt a.0) o.0 (h.units a.0 o.1) in
+    let s : (scan_of us n a.0 ≡ None) × (questions_of extent us n a.0 budget ≡ says_yes) = scanned_yes (scan_of us n a.0) (questions_of extent us n a.0 budget) a.2 in
     let there : plain_verdict wider us n budget ≡ verdict_of wider us n a.0 budget = ap (λ x. elim x as (λ y. PlainVerdict) [ Some u ↦ verdict_of wider us n u budget | None ↦ says_steps ]) a.1 in
-    let asked : verdict_of wider us n a.0 budget ≡ questions_of wider us n a.0 budget = ap (λ x. elim x as (λ y. PlainVerdict) [ Some r ↦ says_no r | None ↦ questions_of wider us n a.0 budget ]) past in
+    let asked : verdict_of wider us n a.0 budget ≡ questions_of wider us n a.0 budget = ap (λ x. elim x as (λ y. PlainVerdict) [ Some r ↦ says_no r | None ↦ questions_of wider us n a.0 budget ]) s.0 in
     there ∙ asked ∙ questions_give extent wider h us n budget a.0 s.1

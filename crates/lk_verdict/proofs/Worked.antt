@@ -6,7 +6,7 @@ use Rattle.lk_tree.specs.Bind.{open_at, close_at, bound}
 use Rattle.lk_tree.specs.Levels.{put_levels, put_in_level, level_for}
 use Rattle.lk_tree.specs.LevelTest.{level_le}
 use Rattle.lk_tree.specs.Spine.{head, args}
-use Rattle.lk_tree.specs.declared.rule.Rule.TheVariants.{UnknownConstant, UndeclaredLevel, DuplicateLevel, DuplicateName, LooseVariable, ValueType, WideLiteral, BuiltinShape, NestedForm}
+use Rattle.lk_tree.specs.declared.rule.Rule.TheVariants.{UnknownConstant, UndeclaredLevel, DuplicateLevel, DuplicateName, LooseVariable, ValueType, WideLiteral, QuotShape, NestedForm}
 use Rattle.lk_rulebook.specs.Place.{opaque_hint, abbreviation}
 use Rattle.lk_rulebook.specs.Units.{Body, as_axiom, as_def, as_thm, as_opaque, as_quot, LibraryUnit, of_decl, of_block, Library}
 use Rattle.lk_plain.specs.Answer.{answer_to_depth}
@@ -218,6 +218,7 @@ nested_not_built : plain_verdict built_extent (list_unit ∷ of_block tree_block
 unfolding answer_to_depth open_at close_at bound head args put_levels put_in_level level_for level_le tree_discrete level_discrete name_discrete part_discrete list_discrete both_discrete ℕ_discrete
 nested_not_built = refl
 
-quotient_not_built : plain_verdict built_extent built 8 1000 ≡ says_no BuiltinShape
+-- another constant than the four of quotients
+quotient_refused : plain_verdict built_extent built 8 1000 ≡ says_no QuotShape
 unfolding answer_to_depth open_at close_at bound head args put_levels put_in_level level_for level_le tree_discrete level_discrete name_discrete part_discrete list_discrete both_discrete ℕ_discrete
-quotient_not_built = refl
+quotient_refused = refl

@@ -1,5 +1,5 @@
 -- The plain verdict of a unit by an extent: the scan, then the unit's questions under one budget.
-use Rattle.std.specs.Prelude.{ℕ, ◌≡◌, ◌<◌, ◌≤◌, Bool, true, false, List, [], Option, Some, None, slice_get}
+use Rattle.std.specs.Prelude.{ℕ, ◌≡◌, ◌<◌, ◌≤◌, Bool, true, false, List, [], Some, None, slice_get}
 use Rattle.lk_tree.specs.declared.rule.Rule.{Rule}
 use Rattle.lk_rulebook.specs.Place.{Block, BlockRecursor}
 use Rattle.lk_rulebook.specs.Units.{LibraryUnit, of_decl, of_block, Library, Members, place_of}
@@ -23,16 +23,15 @@ verdict_by (answered v c t) = says_yes
 verdict_by (refused r) = says_no r
 verdict_by spent = says_steps
 
--- what is built: the table by which questions are answered, the rule by which a unit is refused that is not checked yet, and
--- whether nested occurrences are checked (else a block that has one is refused)
+-- how far a check goes: the table by which questions are answered, and whether nested occurrences are checked (else a block
+-- that has one is refused)
 pub record Extent : Type 0 where
   pub table : Table
-  pub unbuilt : LibraryUnit → Option Rule
   pub nested : Bool
 
--- all is built
+-- all is checked
 abbrev pub whole : Extent
-whole = record { table = steps; unbuilt = λ u. None; nested = true }
+whole = record { table = steps; nested = true }
 
 -- the check of a block as unit n, with nested occurrences or without
 abbrev pub block_outcome : Bool → Table → Library → ℕ → Block → List BlockRecursor → ℕ → Outcome (Shape × Members)
@@ -44,12 +43,9 @@ abbrev pub questions_of : Extent → Library → ℕ → LibraryUnit → ℕ →
 questions_of extent us n (of_decl d) budget = verdict_by (outcome_of (place_of us n []) (plain_answer extent.table (place_of us n [])) budget (unit_steps d))
 questions_of extent us n (of_block b rs) budget = verdict_by (block_outcome extent.nested extent.table us n b rs budget)
 
--- the rule by which u is refused with no question: the scan's, else the extent's
-abbrev pub refused_at_once : Extent → Library → ℕ → LibraryUnit → Option Rule
-refused_at_once extent us n u = elim (scan_of us n u) [ Some r ↦ Some r | None ↦ extent.unbuilt u ]
-
+-- the scan's rule comes first, with no question
 abbrev pub verdict_of : Extent → Library → ℕ → LibraryUnit → ℕ → PlainVerdict
-verdict_of extent us n u budget = elim (refused_at_once extent us n u) [ Some r ↦ says_no r | None ↦ questions_of extent us n u budget ]
+verdict_of extent us n u budget = elim (scan_of us n u) [ Some r ↦ says_no r | None ↦ questions_of extent us n u budget ]
 
 -- the plain verdict of unit n (beyond the last unit it is never yes)
 abbrev pub plain_verdict : Extent → Library → ℕ → ℕ → PlainVerdict
@@ -63,5 +59,4 @@ pub record IsYesFrom (f : ℕ → PlainVerdict) (c : ℕ) : Type 0 where
 -- what the one checks the other checks too, and answers by the rest of the same programs
 pub record IsWidened (extent wider : Extent) : Type 0 where
   pub table : IsPartOf extent.table wider.table
-  pub units : (u : LibraryUnit) → extent.unbuilt u ≡ None → wider.unbuilt u ≡ None
   pub nested : extent.nested ≡ true → wider.nested ≡ true
