@@ -9,3 +9,4 @@ pub mod Answered
 pub mod Partial
 pub mod Bare
 pub mod Found
+pub mod Parents

@@ -5,9 +5,11 @@ ghost use Rattle.lk_tree.specs.Tree.{Tree};
 ghost use Rattle.lk_rulebook.specs.Place.{Entry as PlainEntry};
 ghost use Rattle.lk_store.specs.Contents.{Contents};
 ghost use Rattle.lk_store.specs.Store.{contents_of};
-ghost use Rattle.lk_env.specs.Units.{type_at, constructor_at, IsUnitIn, AreUnitsIn, IsTypeIn, IsConstructorIn, IsRecursorIn, IsRuleIn};
+ghost use Rattle.lk_env.specs.Units.{type_at, block_at, constructor_at};
+ghost use Rattle.lk_env.specs.Units.{IsUnitIn, AreUnitsIn, IsTypeIn, IsConstructorIn, IsRecursorIn, IsRuleIn};
 ghost use Rattle.lk_env.specs.Entries.{plain_entry};
-ghost use Rattle.lk_env.specs.Lent.{recursor_in, constructor_in, parameters_in, given_recursor, HasRecursor, HasConstructor, HasCount};
+ghost use Rattle.lk_env.specs.Lent.{recursor_in, constructor_in, member_in, type_in, parameters_in};
+ghost use Rattle.lk_env.specs.Lent.{given_recursor, member_at, HasRecursor, HasMember, HasType, IsMemberIn, IsBlockTypeIn};
 
 use crate::entry::{Entry, Kind};
 use crate::library::Library;
@@ -70,17 +72,17 @@ pub fn recursor_of(library: &Library, entry: Entry) -> Option<(&Recursor, &[Recu
     recursor_among(library.units(), entry)
 }
 
-fn block_constructor(block: &Block, kind: Kind) -> Option<(&BlockType, &Constructor)>
+fn block_member(block: &Block, kind: Kind) -> Option<(&Block, &BlockType, &Constructor)>
     ensures value { (c : Contents) (T : Tree)
-        → HasConstructor c (Unit.Block block.now) kind T
-        (option_map (λ p. (type_at c p.0.now, constructor_at c p.1.now)) result) }
+        → HasMember c (Unit.Block block.now) kind T
+        (option_map (λ p. member_at c p.0.now p.1.now p.2.now) result) }
     ensures known { (c : Contents) → IsUnitIn c (Unit.Block block.now)
-        → IfSome result (λ p. IsTypeIn c p.0.now × IsConstructorIn c p.1.now) }
+        → IfSome result (λ p. IsMemberIn c p.0.now p.1.now p.2.now) }
 {
     match kind {
         Kind::Constructor { parent, number } => match block.types.get(parent) {
             Some(t) => match t.constructors.get(number) {
-                Some(k) => Some((t, k)),
+                Some(k) => Some((block, t, k)),
                 None => None,
             },
             None => None,
@@ -89,30 +91,41 @@ fn block_constructor(block: &Block, kind: Kind) -> Option<(&BlockType, &Construc
     }
 }
 
-fn unit_constructor(unit: &Unit, kind: Kind) -> Option<(&BlockType, &Constructor)>
-    ensures value { (c : Contents) (T : Tree)
-        → HasConstructor c unit.now kind T
-        (option_map (λ p. (type_at c p.0.now, constructor_at c p.1.now)) result) }
+fn unit_member(unit: &Unit, kind: Kind) -> Option<(&Block, &BlockType, &Constructor)>
+    ensures value { (c : Contents) (T : Tree) → HasMember c unit.now kind T
+        (option_map (λ p. member_at c p.0.now p.1.now p.2.now) result) }
     ensures known { (c : Contents) → IsUnitIn c unit.now
-        → IfSome result (λ p. IsTypeIn c p.0.now × IsConstructorIn c p.1.now) }
+        → IfSome result (λ p. IsMemberIn c p.0.now p.1.now p.2.now) }
 {
     match unit {
         Unit::Declaration(_) => None,
-        Unit::Block(block) => block_constructor(block, kind),
+        Unit::Block(block) => block_member(block, kind),
     }
 }
 
-fn constructor_among(units: &[Unit], entry: Entry) -> Option<(&BlockType, &Constructor)>
+fn member_among(units: &[Unit], entry: Entry) -> Option<(&Block, &BlockType, &Constructor)>
     ensures value { (c : Contents) → IfSome (plain_entry c units.now entry)
-        (λ e. constructor_in e.kind ≡ option_map
-        (λ p. (type_at c p.0.now, constructor_at c p.1.now)) result) }
+        (λ e. member_in e.kind
+        ≡ option_map (λ p. member_at c p.0.now p.1.now p.2.now) result) }
     ensures known { (c : Contents) → AreUnitsIn c units.now
-        → IfSome result (λ p. IsTypeIn c p.0.now × IsConstructorIn c p.1.now) }
+        → IfSome result (λ p. IsMemberIn c p.0.now p.1.now p.2.now) }
 {
     match units.get(entry.unit as usize) {
-        Some(unit) => unit_constructor(unit, entry.kind),
+        Some(unit) => unit_member(unit, entry.kind),
         None => None,
     }
+}
+
+/// The constructor of an entry, with its block and its type, where it is one. It takes no memory.
+pub fn member_of(library: &Library, entry: Entry) -> Option<(&Block, &BlockType, &Constructor)>
+    ensures value { (g : PlainEntry) → plain_entry (contents_of library.now.0) library.now.1 entry
+        ≡ Some g
+        → member_in g.kind ≡ option_map
+        (λ p. member_at (contents_of library.now.0) p.0.now p.1.now p.2.now) result }
+    ensures known { IfSome result
+        (λ p. IsMemberIn (contents_of library.now.0) p.0.now p.1.now p.2.now) }
+{
+    member_among(library.units(), entry)
 }
 
 /// The constructor of an entry, with its type, where it is one. It takes no memory.
@@ -128,15 +141,21 @@ pub fn constructor_of(library: &Library, entry: Entry) -> Option<(&BlockType, &C
     ensures known { IfSome result (λ p. IsTypeIn (contents_of library.now.0) p.0.now
         × IsConstructorIn (contents_of library.now.0) p.1.now) }
 {
-    constructor_among(library.units(), entry)
+    match member_of(library, entry) {
+        Some((_, ty, constructor)) => Some((ty, constructor)),
+        None => None,
+    }
 }
 
-fn block_parameters(block: &Block, kind: Kind) -> Option<u64>
-    ensures { (c : Contents) (T : Tree) → HasCount c (Unit.Block block.now) kind T result }
+fn block_type(block: &Block, kind: Kind) -> Option<(&Block, &BlockType)>
+    ensures value { (c : Contents) (T : Tree) → HasType c (Unit.Block block.now) kind T
+        (option_map (λ p. (block_at c p.0.now, type_at c p.1.now)) result) }
+    ensures known { (c : Contents) → IsUnitIn c (Unit.Block block.now)
+        → IfSome result (λ p. IsBlockTypeIn c p.0.now p.1.now) }
 {
     match kind {
         Kind::Type(i) => match block.types.get(i) {
-            Some(t) => Some(t.parameters),
+            Some(t) => Some((block, t)),
             None => None,
         },
         Kind::Declared(_) | Kind::Constructor { .. } | Kind::Recursor(_) | Kind::BareRecursor(_) =>
@@ -144,23 +163,43 @@ fn block_parameters(block: &Block, kind: Kind) -> Option<u64>
     }
 }
 
-fn unit_parameters(unit: &Unit, kind: Kind) -> Option<u64>
-    ensures { (c : Contents) (T : Tree) → HasCount c unit.now kind T result }
+fn unit_type(unit: &Unit, kind: Kind) -> Option<(&Block, &BlockType)>
+    ensures value { (c : Contents) (T : Tree) → HasType c unit.now kind T
+        (option_map (λ p. (block_at c p.0.now, type_at c p.1.now)) result) }
+    ensures known { (c : Contents) → IsUnitIn c unit.now
+        → IfSome result (λ p. IsBlockTypeIn c p.0.now p.1.now) }
 {
     match unit {
         Unit::Declaration(_) => None,
-        Unit::Block(block) => block_parameters(block, kind),
+        Unit::Block(block) => block_type(block, kind),
     }
 }
 
-fn parameters_among(units: &[Unit], entry: Entry) -> Option<u64>
-    ensures { (c : Contents) → IfSome (plain_entry c units.now entry)
-        (λ e. parameters_in e.kind ≡ result) }
+fn type_among(units: &[Unit], entry: Entry) -> Option<(&Block, &BlockType)>
+    ensures value { (c : Contents) → IfSome (plain_entry c units.now entry)
+        (λ e. type_in e.kind
+        ≡ option_map (λ p. (block_at c p.0.now, type_at c p.1.now)) result) }
+    ensures known { (c : Contents) → AreUnitsIn c units.now
+        → IfSome result (λ p. IsBlockTypeIn c p.0.now p.1.now) }
 {
     match units.get(entry.unit as usize) {
-        Some(unit) => unit_parameters(unit, entry.kind),
+        Some(unit) => unit_type(unit, entry.kind),
         None => None,
     }
+}
+
+/// The type of a block that an entry is, with its block, where it is one. It takes no memory.
+pub fn type_of(library: &Library, entry: Entry) -> Option<(&Block, &BlockType)>
+    ensures value { (g : PlainEntry) → plain_entry (contents_of library.now.0) library.now.1 entry
+        ≡ Some g
+        → type_in g.kind ≡ option_map (λ p. (
+          block_at (contents_of library.now.0) p.0.now,
+          type_at (contents_of library.now.0) p.1.now,
+        )) result }
+    ensures known { IfSome result
+        (λ p. IsBlockTypeIn (contents_of library.now.0) p.0.now p.1.now) }
+{
+    type_among(library.units(), entry)
 }
 
 /// The number of parameters of an entry that is a type of a block. It takes no memory.
@@ -168,5 +207,8 @@ pub fn parameter_count(library: &Library, entry: Entry) -> Option<u64>
     ensures { (g : PlainEntry) → plain_entry (contents_of library.now.0) library.now.1 entry
         ≡ Some g → result ≡ parameters_in g.kind }
 {
-    parameters_among(library.units(), entry)
+    match type_of(library, entry) {
+        Some((_, ty)) => Some(ty.parameters),
+        None => None,
+    }
 }

@@ -1,13 +1,11 @@
-use Rattle.std.proofs.Common.{◌≡◌, sym}
-use Rattle.lk_rulebook.specs.Place.{Entry as PlainEntry}
-use Rattle.lk_store.specs.Store.{contents_of}
-use Rattle.lk_env.specs.Entries.{plain_entry}
-use Rattle.lk_env.specs.Lent.{parameters_in}
-use Rattle.lk_env.proofs.Found.{of_some}
+use Rattle.std.proofs.Common.{ap, sym, ◌∙◌}
+use Rattle.std.specs.Prelude.{option_map}
+use Rattle.lk_rulebook.specs.Place.{Block, BlockType}
+use Rattle.lk_env.proofs.Parents.{parameters_are}
 use Rattle.lk_env.proofs.lent.parameter_count.Goals as goal
 
-pub returns : goal.returns
-returns c g h =
-    let base = contents_of c.args.library.now.0 in
-    sym (of_some (λ (y : PlainEntry). parameters_in y.kind ≡ c.parameters_among.result) (plain_entry base c.args.library.now.1 c.args.entry) g
-    (rw (← c.units.ensures.value) (c.parameters_among.ensures base)) h)
+pub returns-in-Some : goal.returns-in-Some
+returns-in-Some c g h = sym (parameters_are g.kind ∙ ap (option_map (λ (p : Block × BlockType). p.1.parameters)) (c.in-Some.ensures.value g h))
+
+pub returns-in-None : goal.returns-in-None
+returns-in-None c g h = sym (parameters_are g.kind ∙ ap (option_map (λ (p : Block × BlockType). p.1.parameters)) (c.in-None.ensures.value g h))
