@@ -1,22 +1,21 @@
 -- Look-ups that were made.
-use Rattle.std.proofs.Common.{◌≡◌, ℕ, true, false, List, Option, Some, None, refl, ap, sym, ◌∙◌, if◌then◌else◌}
+use Rattle.std.proofs.Common.{◌≡◌, ℕ, List, Option, Some, None, refl, ap, sym, ◌∙◌}
 use Rattle.std.specs.Prelude.{IsSome, IfErr, Result, Ok, Err}
 use Rattle.lk_tree.specs.Tree.{Name}
 use Rattle.lk_tree.specs.declared.rule.Rule.{Rule}
-use Rattle.lk_tree.specs.declared.rule.Rule.TheVariants.{UnknownConstant, BuiltinShape}
 use Rattle.lk_rulebook.specs.Place.{Place, Entry as PlainEntry}
-use Rattle.lk_plain.specs.Answer.{later, refusal}
-use Rattle.lk_plain.specs.Program.{Program, refuse, look}
-use Rattle.lk_plain.specs.Parts.{is_built_kind, where_built}
+use Rattle.lk_plain.specs.Answer.{later}
+use Rattle.lk_plain.specs.Program.{Program, look}
 use Rattle.lk_plain.specs.Erased.{Value, refuses, looked, erased}
+use Rattle.lk_plain.specs.Settled.{fails, settle_look, settle}
 use Rattle.lk_store.specs.Store.{contents_of}
 use Rattle.lk_store.specs.declared.tables.Tables.{Tables}
 use Rattle.lk_env.specs.declared.entry.Entry.{Entry}
 use Rattle.lk_env.specs.declared.entry.Site.{Site}
 use Rattle.lk_env.specs.declared.unit.Unit.{Unit as StoredUnit}
-use Rattle.lk_env.specs.Entries.{why, MeansNothing, IsMeaning, IsAnswer}
+use Rattle.lk_env.specs.Entries.{IsMeaning, IsAnswer}
 use Rattle.lk_env.specs.Places.{place_at}
-use Rattle.lk_ask.specs.Constants.{IsFound, IsRefused}
+use Rattle.lk_ask.specs.Constants.{IsFound, IsRefusedBy}
 
 -- what the library answers is what was found
 pub found_is : (l : Tables × List StoredUnit) (w : Place) (x : Name) (before last : Option ℕ) (e : Entry) → IsMeaning (contents_of l.0) l.1 w x e → last ≡ later before (Some e.unit) → IsFound l w x before e last
@@ -36,29 +35,21 @@ module _ {A : Type 0} (w : Place) (f : A → Value) (x : Name) where
       → erased w f before (look r x k) ≡ erased w f last (k h.entry)
   found_goes r k l before last e h = looked_found r before k (w.means x) h.entry h.means ∙ ap (λ u. erased w f u (k h.entry)) (sym h.looked)
 
-  -- and is refused where its kind is not built
-  pub found_unbuilt : (r : Rule) (k : PlainEntry → Program A) (l : Tables × List StoredUnit) (before last : Option ℕ) (e : Entry) → (h : IsFound l w x before e last) → is_built_kind h.entry.kind ≡ false
-      → erased w f before (look r x (where_built k)) ≡ refuses BuiltinShape
-  found_unbuilt r k l before last e h b =
-      found_goes r (where_built k) l before last e h ∙ ap (λ t. erased w f last (if t then k h.entry else refuse BuiltinShape)) b
-
-  pub found_built : (r : Rule) (k : PlainEntry → Program A) (l : Tables × List StoredUnit) (before last : Option ℕ) (e : Entry) → (h : IsFound l w x before e last) → is_built_kind h.entry.kind ≡ true
-      → erased w f before (look r x (where_built k)) ≡ erased w f last (k h.entry)
-  found_built r k l before last e h b =
-      found_goes r (where_built k) l before last e h ∙ ap (λ t. erased w f last (if t then k h.entry else refuse BuiltinShape)) b
-
   -- a look-up that finds nothing
-  pub refused_goes : (k : PlainEntry → Program A) (before : Option ℕ) (rule : Rule) → IsRefused w x rule → erased w f before (look UnknownConstant x k) ≡ refuses rule
-  refused_goes k before rule h =
-      ap (λ o. looked UnknownConstant before o (w.origin x) (w.flaw x) (λ u e. erased w f u (k e))) h.means ∙ ap refuses (sym h.rule)
+  pub refused_goes : (missing : Rule) (k : PlainEntry → Program A) (before : Option ℕ) (rule : Rule) → IsRefusedBy missing w x rule → erased w f before (look missing x k) ≡ refuses rule
+  refused_goes missing k before rule h =
+      ap (λ o. looked missing before o (w.origin x) (w.flaw x) (λ u e. erased w f u (k e))) h.means ∙ ap refuses (sym h.rule)
 
--- a name that means nothing is refused as the question is
-pub refused_as : (w : Place) (x : Name) (r : Rule) → MeansNothing w x r → IsRefused w x r
-refused_as w x r h = record { means = h.means; rule = h.rule ∙ go (w.flaw x) }
-  where
-    go : (f : Option Rule) → why f ≡ refusal UnknownConstant f
-    go None = refl
-    go (Some f) = refl
+-- the same of a program that asks nothing
+module _ {A : Type 0} (w : Place) (x : Name) where
+  pub found_settles : (r : Rule) (k : PlainEntry → Program A) (l : Tables × List StoredUnit) (before last : Option ℕ) (e : Entry) → (h : IsFound l w x before e last)
+      → settle w before (look r x k) ≡ settle w last (k h.entry)
+  found_settles r k l before last e h =
+      ap (λ o. settle_look r before o (w.origin x) (w.flaw x) (λ u g. settle w u (k g))) h.means ∙ ap (λ u. settle w u (k h.entry)) (sym h.looked)
+
+  pub refused_settles : (missing : Rule) (k : PlainEntry → Program A) (before : Option ℕ) (rule : Rule) → IsRefusedBy missing w x rule → settle w before (look missing x k) ≡ fails rule
+  refused_settles missing k before rule h =
+      ap (λ o. settle_look missing before o (w.origin x) (w.flaw x) (λ u g. settle w u (k g))) h.means ∙ ap fails (sym h.rule)
 
 -- a name that is refused at a site means nothing there
 pub refused_means : (l : Tables × List StoredUnit) (s : Site) (x : Name) (o : Result Entry Rule) → IsAnswer (contents_of l.0) l.1 (place_at l s) x o → IfErr o (λ r. (place_at l s).means x ≡ None)

@@ -21,10 +21,14 @@ pub record IsFound (l : Tables × List StoredUnit) (w : Place) (x : Name) (befor
   pub means : w.means x ≡ Some entry
   pub looked : last ≡ later before (Some (w.origin x))
 
--- the name means nothing at the place, or what gives it has a flaw
-pub record IsRefused (w : Place) (x : Name) (r : Rule) : Type 0 where
+-- the name means nothing at the place, or what gives it has a flaw; `missing` is the rule where nothing gives it
+pub record IsRefusedBy (missing : Rule) (w : Place) (x : Name) (r : Rule) : Type 0 where
   pub means : w.means x ≡ None
-  pub rule : r ≡ refusal UnknownConstant (w.flaw x)
+  pub rule : r ≡ refusal missing (w.flaw x)
+
+-- the same of a constant of a term
+abbrev pub IsRefused : Place → Name → Rule → Type 0
+IsRefused = IsRefusedBy UnknownConstant
 
 -- the number stands for the tree at these levels; there is none where the counts differ
 abbrev pub IsAtLevels : Contents → List Name → List Level → Tree → Option ℕ → Type 0

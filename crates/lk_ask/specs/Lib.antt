@@ -6,3 +6,6 @@ pub mod Sheets
 pub mod Gives
 pub mod Looks
 pub mod Asking
+pub mod Lines
+pub mod Settles
+pub mod Projections

@@ -1,18 +1,17 @@
 //! What the constants of a term mean in a library.
 
 ghost use Rattle.std.specs.Prelude.{◌≡◌, ◌<◌, List, length, IfOk, IfErr, IfSome, Some};
-ghost use Rattle.lk_rulebook.specs.Place.{Entry as PlainEntry};
-ghost use Rattle.lk_plain.specs.Parts.{is_built_kind};
-ghost use Rattle.lk_store.specs.Contents.{Contents, name_at, list_at, tree_at, Extends};
+ghost use Rattle.lk_tree.specs.Tree.{Name};
+ghost use Rattle.lk_rulebook.specs.Place.{Place, Entry as PlainEntry};
+ghost use Rattle.lk_store.specs.Contents.{name_at, list_at, tree_at, Extends};
 ghost use Rattle.lk_store.specs.Store.{contents_of};
 ghost use Rattle.lk_env.specs.Entries.{plain_entry, IsEntryIn};
 ghost use Rattle.lk_env.specs.Places.{place_at};
-ghost use Rattle.lk_env.specs.declared.unit.Unit.{Unit as StoredUnit};
-ghost use Rattle.lk_ask.specs.Constants.{IsFound, IsRefused, IsAtLevels, IsLevels};
+ghost use Rattle.lk_env.specs.Entries.{MeansNothing};
+ghost use Rattle.lk_ask.specs.Constants.{IsFound, IsRefusedBy, IsAtLevels, IsLevels};
 
-use lk_env::entry::{Entry, Kind, Site};
+use lk_env::entry::{Entry, Site};
 use lk_env::library::Library;
-use lk_env::unit::Body;
 use lk_meter::Meter;
 use lk_store::memory::NoMemory;
 use lk_store::node::ListNode;
@@ -21,12 +20,28 @@ use lk_subst::levels::put_levels_in;
 use lk_tree::rule::Rule;
 use std::alloc::Global;
 
-/// Looks a constant up: what its name means at the site. That its unit was looked at is noted.
+/// The rule by which a look-up is refused: `rule` is why the name means nothing, and `missing` the rule where nothing gives
+/// it.
+fn refusal(missing: Rule, rule: Rule) -> Rule
+    ensures { (w : Place) (x : Name) → MeansNothing w x rule → IsRefusedBy missing w x result }
+{
+    match rule {
+        Rule::UnknownConstant => missing,
+        _ => match missing {
+            Rule::QuotShape => Rule::QuotShape,
+            _ => rule,
+        },
+    }
+}
+
+/// Looks a constant up: what its name means at the site. That its unit was looked at is noted. Where nothing gives the name
+/// it is refused by the rule `missing`.
 pub(crate) fn look_up<T: Terms>(
     library: &Library,
     site: &Site,
     terms: &T,
     name: u64,
+    missing: Rule,
     meter: &mut Meter,
 ) -> Result<Entry, Rule>
     requires over { Extends (contents_of library.now.0) (T.contents terms.now) }
@@ -35,28 +50,15 @@ pub(crate) fn look_up<T: Terms>(
     ensures left { meter.new.left ≡ meter.old.left }
     ensures found { IfOk result (λ e. IsFound library.now (place_at library.now site.now)
         (name_at (T.contents terms.now) name) meter.old.last e meter.new.last) }
-    ensures refused { IfErr result (IsRefused (place_at library.now site.now)
+    ensures refused { IfErr result (IsRefusedBy missing (place_at library.now site.now)
         (name_at (T.contents terms.now) name)) }
 {
-    let entry = library.means(site, terms, name)?;
-    meter.note(entry.unit);
-    Ok(entry)
-}
-
-/// Whether constants of this kind are built.
-pub fn is_built(kind: Kind) -> bool
-    ensures { (c : Contents) (us : List StoredUnit) (e : Entry) (g : PlainEntry) → e.kind ≡ kind
-        → plain_entry c us e ≡ Some g → result ≡ is_built_kind g.kind }
-{
-    match kind {
-        Kind::Declared(body) => match body {
-            Body::Axiom | Body::Definition { .. } | Body::Theorem { .. } | Body::Opaque { .. } => {
-                true
-            }
-            Body::Quotient => false,
-        },
-        Kind::Type(_) | Kind::Constructor { .. } => true,
-        Kind::Recursor(_) | Kind::BareRecursor(_) => true,
+    match library.means(site, terms, name) {
+        Ok(entry) => {
+            meter.note(entry.unit);
+            Ok(entry)
+        }
+        Err(rule) => Err(refusal(missing, rule)),
     }
 }
 

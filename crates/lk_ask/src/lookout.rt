@@ -166,8 +166,15 @@ impl<'a, T: Terms> Looks for Lookout<'a, T> {
         self.library.means(&self.site, &self.terms, name)
     }
 
-    fn look(&mut self, name: u64) -> Result<Entry, Rule> {
-        look_up(self.library, &self.site, &self.terms, name, &mut self.meter)
+    fn look(&mut self, name: u64, missing: Rule) -> Result<Entry, Rule> {
+        look_up(
+            self.library,
+            &self.site,
+            &self.terms,
+            name,
+            missing,
+            &mut self.meter,
+        )
     }
 
     fn at_levels(&mut self, entry: Entry, levels: u64, e: u64) -> Result<Option<u64>, NoMemory> {

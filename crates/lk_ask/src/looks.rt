@@ -5,7 +5,7 @@ ghost use Rattle.lk_rulebook.specs.Place.{Entry as PlainEntry};
 ghost use Rattle.lk_store.specs.Contents.{name_at, list_at, tree_at, Extends};
 ghost use Rattle.lk_store.specs.Store.{contents_of};
 ghost use Rattle.lk_env.specs.Entries.{IsAnswer, IsEntryIn};
-ghost use Rattle.lk_ask.specs.Constants.{IsFound, IsRefused, IsAtLevels};
+ghost use Rattle.lk_ask.specs.Constants.{IsFound, IsRefusedBy, IsAtLevels};
 ghost use Rattle.lk_ask.specs.Looks.{Sight, entry_at, IsOver};
 
 use lk_env::entry::Entry;
@@ -44,7 +44,10 @@ pub trait Looks: Terms {
             (name_at (Self.contents self.now) name) ≡ None) };
 
     /// Looks a constant up: what its name means. That its unit was looked at is noted. It takes no memory.
-    fn look(&mut self, name: u64) -> Result<Entry, Rule>
+    ///
+    /// Where nothing gives the name it is refused by the rule `missing`: UnknownConstant for a constant of a term,
+    /// NoBuiltin or QuotShape for what the kernel itself needs.
+    fn look(&mut self, name: u64, missing: Rule) -> Result<Entry, Rule>
         requires { name < length (Self.contents self.old).names }
         ensures contents { Self.contents self.new ≡ Self.contents self.old }
         ensures stays { (sight (Self.rest self.new)).basis ≡ (sight (Self.rest self.old)).basis }
@@ -54,7 +57,7 @@ pub trait Looks: Terms {
         ensures found { IfOk result (λ e. IsFound (sight (Self.rest self.old)).basis.library
             (sight (Self.rest self.old)).basis.place (name_at (Self.contents self.old) name)
             (sight (Self.rest self.old)).last e (sight (Self.rest self.new)).last) }
-        ensures refused { IfErr result (IsRefused (sight (Self.rest self.old)).basis.place
+        ensures refused { IfErr result (IsRefusedBy missing (sight (Self.rest self.old)).basis.place
             (name_at (Self.contents self.old) name)) };
 
     /// A tree of a constant's unit at the levels that the constant has. There is none where they are not as many as the

@@ -10,3 +10,10 @@ pub enum Next<X: Drop, S: Drop> {
     Done(Answer<X>),
     No(Rule),
 }
+
+/// What a line of `Same` does next: it goes on, or it gives no answer, and what comes behind it is asked of these two.
+#[derive(Drop)]
+pub enum Line<X: Drop, S: Drop> {
+    Goes(Next<X, S>),
+    Behind { left: X, right: X },
+}

@@ -2,7 +2,7 @@ use Rattle.std.proofs.Common.{ap, subst, ◌∙◌}
 use Rattle.std.specs.Prelude.{IfOk, IfErr}
 use Rattle.lk_store.specs.Contents.{name_at}
 use Rattle.lk_env.specs.Places.{place_at}
-use Rattle.lk_ask.specs.Constants.{IsFound, IsRefused}
+use Rattle.lk_ask.specs.Constants.{IsFound, IsRefusedBy}
 use Rattle.lk_ask.proofs.lookout.LookoutLooks.look.Goals as goal
 
 pub returns-clause-found : goal.returns-clause-found
@@ -12,7 +12,7 @@ returns-clause-found g c =
 
 pub returns-clause-refused : goal.returns-clause-refused
 returns-clause-refused g c =
-    subst (λ s. IfErr c.look_up.result (IsRefused (place_at s.0 s.1) (name_at (g.T.Terms.contents s.2) c.args.name))) c.self.view_is c.look_up.ensures.refused
+    subst (λ s. IfErr c.look_up.result (IsRefusedBy c.args.missing (place_at s.0 s.1) (name_at (g.T.Terms.contents s.2) c.args.name))) c.self.view_is c.look_up.ensures.refused
 
 pub returns-clause-stays : goal.returns-clause-stays
 returns-clause-stays g c =
