@@ -19,4 +19,3 @@ pub mod Shaping
 pub mod EachField
 pub mod EachConstructor
 pub mod FromTheEnd
-pub mod TypeNames

@@ -1,6 +1,6 @@
 //! The shape of a block, once its types are checked: its constructors, and whether it may be eliminated into every universe.
 
-ghost use Rattle.std.specs.Prelude.{◌≡◌, ◌<◌, ◌++◌, ℕ, length, map, All, IfOk, OnOk};
+ghost use Rattle.std.specs.Prelude.{◌≡◌, ◌<◌, ℕ, length, map, All, IfOk};
 ghost use Rattle.lk_tree.specs.Tree.{param};
 ghost use Rattle.lk_store.specs.Contents.{Contents, name_at, level_at, tree_at, Extends, IsList};
 ghost use Rattle.lk_env.specs.Units.{type_at, IsTypeIn};
@@ -21,7 +21,7 @@ use crate::types::TypeParts;
 use lk_ask::asks::Asks;
 use lk_ask::stop::Stop;
 use lk_env::unit::BlockType;
-use lk_mentions::names::Names;
+use lk_mentions::names::names_of;
 use lk_store::memory::NoMemory;
 use std::alloc::Global;
 
@@ -36,24 +36,6 @@ fn level_names(types: &[BlockType]) -> &[u64]
         Some(first) => &first.levels,
         None => &[],
     }
-}
-
-fn push_names(names: &mut Vec<u64>, types: &[BlockType]) -> Result<(), NoMemory>
-    ensures { OnOk result (names.new.items ≡ names.old.items ++ map (λ t. t.name) types.now) }
-{
-    for t in types {
-        names.push(t.name)?;
-    }
-    Ok(())
-}
-
-/// The names of a block's types.
-pub fn names_of(alloc: Global, types: &[BlockType]) -> Result<Names, NoMemory>
-    ensures { IfOk result (λ names. names ≡ map (λ t. t.name) types.now) }
-{
-    let mut names = Vec::new(alloc);
-    push_names(&mut names, types)?;
-    Names::new(alloc, &names)
 }
 
 /// The list of a block's level parameters, as levels.

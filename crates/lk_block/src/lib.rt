@@ -22,4 +22,4 @@ mod spines;
 mod telescope;
 pub mod types;
 
-pub use block::{check_shape, names_of};
+pub use block::check_shape;

@@ -1,3 +1,6 @@
 pub mod Numbers
 pub mod Looked
 pub mod Heads
+pub mod Plainly
+pub mod Projecting
+pub mod TypeNames

@@ -3,3 +3,4 @@ pub mod Parts
 pub mod Walks
 pub mod Pis
 pub mod Fields
+pub mod Structures

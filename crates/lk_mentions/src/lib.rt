@@ -1,5 +1,5 @@
-//! Which names a term mentions, and whether the type of a constructor is that of a structure: walks over the parts of
-//! terms by their numbers, each part once, so that a term takes no longer than its parts in the store.
+//! Which names a term mentions, and which types are structures, as the types of their constructors say: walks over the
+//! parts of terms by their numbers, each part once, so that a term takes no longer than its parts in the store.
 #![tactic(auto)]
 
 pub mod fields;
@@ -7,4 +7,5 @@ mod mentioned;
 pub mod names;
 pub mod part;
 mod pis;
+pub mod structures;
 pub mod walk;

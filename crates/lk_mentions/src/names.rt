@@ -1,12 +1,13 @@
 //! Sets of names.
 
 ghost use Rattle.std.specs.Prelude.{◌≡◌, ◌<◌, ℕ, ◌==◌, All, IfOk, OnOk, true, if◌then◌else◌};
-ghost use Rattle.std.specs.Prelude.{length, nat_eq};
+ghost use Rattle.std.specs.Prelude.{◌++◌, length, map, nat_eq};
 ghost use Rattle.std.specs.HashSet.{contains};
 ghost use Rattle.lk_tree.specs.Mentions.{is_one_of};
 ghost use Rattle.lk_store.specs.Contents.{name_at};
 ghost use Rattle.lk_mentions.specs.Names.{any_number, names_at};
 
+use lk_env::unit::BlockType;
 use lk_store::memory::NoMemory;
 use lk_store::terms::Terms;
 use std::alloc::Global;
@@ -81,4 +82,22 @@ pub fn is_one_of<T: Terms>(terms: &T, names: &Names, name: u64) -> bool
 {
     let _names = terms.count_names();
     names.has(name)
+}
+
+fn push_names(names: &mut Vec<u64>, types: &[BlockType]) -> Result<(), NoMemory>
+    ensures { OnOk result (names.new.items ≡ names.old.items ++ map (λ t. t.name) types.now) }
+{
+    for t in types {
+        names.push(t.name)?;
+    }
+    Ok(())
+}
+
+/// The names of a block's types.
+pub fn names_of(alloc: Global, types: &[BlockType]) -> Result<Names, NoMemory>
+    ensures { IfOk result (λ names. names ≡ map (λ t. t.name) types.now) }
+{
+    let mut names = Vec::new(alloc);
+    push_names(&mut names, types)?;
+    Names::new(alloc, &names)
 }
