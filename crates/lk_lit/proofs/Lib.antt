@@ -1,0 +1,12 @@
+pub mod Naming
+pub mod Levels
+pub mod Settling
+pub mod ShapeForms
+pub mod CharLists
+pub mod ExpansionForms
+pub mod Operations
+pub mod Arguments
+pub mod Sheets
+pub mod Parts
+pub mod Halves
+pub mod TextForms

@@ -1,0 +1,12 @@
+pub mod Builtins
+pub mod Givens
+pub mod Shapes
+pub mod Characters
+pub mod Expansions
+pub mod Operations
+pub mod Values
+pub mod Answers
+pub mod Sheets
+pub mod Steps
+pub mod Literals
+pub mod Texts
