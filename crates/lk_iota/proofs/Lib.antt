@@ -1,6 +1,8 @@
 pub mod Sheets
-pub mod Giving
 pub mod Splits
-pub mod Forms
+pub mod OnlyRule
+pub mod Steady
 pub mod RightSides
+pub mod Looking
 pub mod Going
+pub mod Expanding

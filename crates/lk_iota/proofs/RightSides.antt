@@ -27,12 +27,13 @@ use Rattle.lk_env.specs.declared.unit.Unit.{Unit as StoredUnit}
 use Rattle.lk_env.specs.Units.{rule_at, IsRuleIn}
 use Rattle.lk_ask.specs.Constants.{IsAtLevels}
 use Rattle.lk_env.specs.Lent.{recursor_in, given_recursor}
+use Rattle.lk_constructor.specs.declared.constructor.AppliedConstructor.{AppliedConstructor}
+use Rattle.lk_constructor.specs.Applied.{IsApplied}
 use Rattle.lk_iota.specs.declared.major.Redex.{Redex}
-use Rattle.lk_iota.specs.declared.shape.Shape.{Shape}
 use Rattle.lk_iota.specs.Redexes.{PlainRedex, IsKnownRedex, IsRedex}
-use Rattle.lk_iota.specs.Shapes.{IsShape}
 use Rattle.lk_iota.specs.RightSides.{right_side}
-use Rattle.lk_iota.specs.Iotas.{at_ctor}
+use Rattle.lk_iota.specs.Expansions.{at_ctor}
+use Rattle.lk_iota.proofs.Steady.{front_steady, rest_steady}
 
 -- a rule that does not fit is passed
 pub rule_passed : (c : Contents) (rest more : List RecursorRule) (rule : RecursorRule) (x : Name)
@@ -98,14 +99,6 @@ right_applied w last g ls v u T xs ys zs many at is =
 
 module _ (c d : Contents) (x : Extends c d) (es : List ℕ)
     (es_in : All (λ e. e < length c.trees) es) where
-  pub front_steady : (n : ℕ) → map (tree_at d) (take n es) ≡ map (tree_at c) (take n es)
-  front_steady n = sym (take-map (tree_at d) n es) ∙ ap (take n) (trees-steady c d es x es_in)
-      ∙ take-map (tree_at c) n es
-
-  rest_steady : (n : ℕ) → map (tree_at d) (drop n es) ≡ map (tree_at c) (drop n es)
-  rest_steady n = sym (drop-map (tree_at d) n es) ∙ ap (drop n) (trees-steady c d es x es_in)
-      ∙ drop-map (tree_at c) n es
-
   pub rule_applied : (f : Contents) (w : Place) (last : Option ℕ) (g : PlainEntry) (ls : List Level)
       (v : Tree) (front next shared before : ℕ) (fs xs zs : List ℕ)
       → All (λ e. e < length c.trees) fs
@@ -116,9 +109,9 @@ module _ (c d : Contents) (x : Extends c d) (es : List ℕ)
       ≡ erased w a_tree last (right_side g ls v (map (tree_at c) (take shared es))
       (map (tree_at c) fs) (map (tree_at c) (drop (suc before) es)))
   rule_applied f w last g ls v front next shared before fs xs zs fs_in xs_are zs_are at is =
-      let first = ap (map (tree_at d)) xs_are ∙ front_steady shared in
+      let first = ap (map (tree_at d)) xs_are ∙ front_steady x es es_in shared in
       let fields = trees-steady c d fs x fs_in in
-      let others = ap (map (tree_at d)) zs_are ∙ rest_steady (suc before) in
+      let others = ap (map (tree_at d)) zs_are ∙ rest_steady x es es_in (suc before) in
       right_applied w last g ls v (tree_at d front) (tree_at f next)
       (map (tree_at c) (take shared es)) (map (tree_at c) fs)
       (map (tree_at c) (drop (suc before) es)) at.0 at.1.is
@@ -138,24 +131,23 @@ take_fewer (suc m) (suc n) (y ∷ ys) h = ap (λ r. y ∷ r) (take_fewer m n ys 
 
 module _ (c : Contents) (l : Tables × List StoredUnit) (u : Redex) (p : PlainRedex)
     (known : IsKnownRedex c u) (is : IsRedex c l u p)
-    (m : List Tree) (s : Shape) (b : CtorApp) (shape : IsShape c m s b) (subject : List ℕ)
-    (subject_are : map (tree_at c) subject ≡ m)
+    (s : AppliedConstructor) (b : CtorApp) (subject : List ℕ)
+    (applied : IsApplied c l (map (tree_at c) subject) s b)
     (rules : List RecursorRule) (rules_is : p.recursor.rules ≡ map (rule_at c) rules) (e : Tree)
     (o : Option RecursorRule) (count : ℕ) (count_is : count ≡ length subject)
     (fit : option_map (rule_at c) o
     ≡ fitting_rule (map (rule_at c) rules) (name_at c s.name) s.parameters count) where
   many : length b.args ≡ count
-  many = ap length (shape.args_are ∙ sym subject_are) ∙ length-map subject (tree_at c)
-      ∙ sym count_is
+  many = ap length applied.args_are ∙ length-map subject (tree_at c) ∙ sym count_is
 
   fitting_is : fitting_rule p.recursor.rules b.name b.ctor.parameters (length b.args)
       ≡ option_map (rule_at c) o
   fitting_is =
       ap (λ rs. fitting_rule rs b.name b.ctor.parameters (length b.args)) rules_is
       ∙ ap (λ x. fitting_rule (map (rule_at c) rules) x b.ctor.parameters (length b.args))
-      (sym shape.name_is)
+      (sym applied.name_is)
       ∙ ap (λ n. fitting_rule (map (rule_at c) rules) (name_at c s.name) n (length b.args))
-      (sym shape.parameters_are)
+      (sym applied.parameters_are)
       ∙ ap (λ n. fitting_rule (map (rule_at c) rules) (name_at c s.name) s.parameters n) many
       ∙ sym fit
 
@@ -183,8 +175,8 @@ module _ (c : Contents) (l : Tables × List StoredUnit) (u : Redex) (p : PlainRe
       ∙ ap (λ k. take k p.front) is.shared_is in
       let fields : map t (drop s.parameters subject) ≡ drop b.ctor.parameters b.args =
       sym (drop-map t s.parameters subject)
-      ∙ ap (drop s.parameters) (subject_are ∙ sym shape.args_are)
-      ∙ ap (λ k. drop k b.args) shape.parameters_are in
+      ∙ ap (drop s.parameters) (sym applied.args_are)
+      ∙ ap (λ k. drop k b.args) applied.parameters_are in
       let v = t rule.value in
       ap (λ ls. right_side p.entry ls v (map t (take u.shared es))
       (map t (drop s.parameters subject)) (map t (drop (suc u.before) es))) is.levels_are

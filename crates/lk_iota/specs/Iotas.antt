@@ -8,9 +8,8 @@ use Rattle.lk_plain.specs.Query.{whnf, same}
 use Rattle.lk_plain.specs.Program.{Program, done, refuse, ask, ◌>>=◌}
 use Rattle.lk_plain.specs.Erased.{Value, a_tree, Steps, gives, erased}
 use Rattle.lk_questions.specs.Iota.{CtorApp, only_ctor, to_ctor_when_k, levels_at, k_from}
-use Rattle.lk_questions.specs.Iota.{iota_at_ctor}
-use Rattle.lk_questions.specs.BuiltIota.{no_structure, as_ctor_app_built, iota_of_built, no_literal}
-use Rattle.lk_questions.specs.BuiltIota.{iota_after_k_built, iota_built}
+use Rattle.lk_questions.specs.Iota.{as_ctor_app, iota_of, iota_after_k, iota}
+use Rattle.lk_questions.specs.Strings.{literal_to_ctor}
 use Rattle.lk_store.specs.declared.memory.NoMemory.{NoMemory}
 use Rattle.lk_store.specs.Contents.{Contents, tree_at}
 use Rattle.lk_ask.specs.declared.next.Next.{Next}
@@ -20,17 +19,20 @@ use Rattle.lk_ask.specs.Nexts.{next_steps}
 use Rattle.lk_ask.specs.Sheets.{sheet_rest}
 use Rattle.lk_iota.specs.declared.sheet.IotaTermSheet.{IotaTermSheet}
 use Rattle.lk_iota.specs.declared.sheet.IotaTermSheet.TheVariants.{Passed, MajorType, MajorTypeForm}
-use Rattle.lk_iota.specs.declared.sheet.IotaTermSheet.TheVariants.{Candidate, Major}
+use Rattle.lk_iota.specs.declared.sheet.IotaTermSheet.TheVariants.{Candidate, Major, StructureType}
+use Rattle.lk_iota.specs.declared.sheet.IotaTermSheet.TheVariants.{StructureTypeForm, StructureSort}
+use Rattle.lk_iota.specs.declared.sheet.IotaTermSheet.TheVariants.{StructureSortForm}
 use Rattle.lk_iota.specs.declared.sheet.IotaTruthSheet.{IotaTruthSheet}
 use Rattle.lk_iota.specs.declared.sheet.IotaTruthSheet.TheVariants.{CandidateSame}
 use Rattle.lk_iota.specs.Sheets.{IotaSheet, map_iota_term, map_iota_truth, map_iota_sheet}
 use Rattle.lk_iota.specs.Sheets.{IsKnownIotaSheet}
 use Rattle.lk_iota.specs.Redexes.{PlainRedex, redex_at}
-use Rattle.lk_iota.specs.Shapes.{only_at}
+use Rattle.lk_iota.specs.OnlyRule.{only_at}
+use Rattle.lk_iota.specs.Expansions.{at_ctor, structure_rest, sort_rest}
 
 -- after K, which may have taken the major premise for a constructor
 abbrev pub after_k : Tree → PlainRedex → Option Tree → Program Tree
-after_k e p d = iota_after_k_built e p.entry p.levels p.recursor p.front p.major p.rest d
+after_k e p d = iota_after_k e p.entry p.levels p.recursor p.front p.major p.rest d
 
 -- e is this recursor applied, which has K
 abbrev pub with_k : Tree → PlainRedex → Program Tree
@@ -41,7 +43,7 @@ with_k e p = do
 
 -- e is this recursor applied
 abbrev pub of_redex : Tree → PlainRedex → Program Tree
-of_redex e p = iota_built e p.entry p.levels p.recursor p.front (Some p.major) p.rest
+of_redex e p = iota e p.entry p.levels p.recursor p.front (Some p.major) p.rest
 
 abbrev pub of_redex_if : Tree → Option PlainRedex → Program Tree
 of_redex_if e None = done e
@@ -49,28 +51,18 @@ of_redex_if e (Some p) = of_redex e p
 
 -- m stands for the major premise
 abbrev pub by_subject : Tree → PlainRedex → Tree → Program Tree
-by_subject e p m = iota_of_built e p.entry p.levels p.recursor p.front p.rest m
+by_subject e p m = iota_of e p.entry p.levels p.recursor p.front p.rest m
 
--- the constructor that is applied in place of the major premise
-abbrev pub at_ctor : Tree → PlainRedex → Option CtorApp → Program Tree
-at_ctor e p c = iota_at_ctor e p.entry p.levels p.recursor p.front p.rest c
-
--- the major premise is no constructor, or one that is applied
-abbrev pub by_app : Tree → PlainRedex → Option CtorApp → Program Tree
-by_app e p b = do
-  c ← as_ctor_app_built p.recursor b
-  at_ctor e p c
-
--- the major premise is none, and k the constructor of the only rule
-abbrev pub by_only : Tree → PlainRedex → Option CtorApp → Program Tree
-by_only e p k = do
-  c ← no_structure k
+-- m stands for the major premise, and is no constructor, or this one applied
+abbrev pub by_app : Tree → PlainRedex → Tree → Option CtorApp → Program Tree
+by_app e p m b = do
+  c ← as_ctor_app p.recursor m b
   at_ctor e p c
 
 -- m is the weak head form of the major premise
 abbrev pub by_form : Tree → PlainRedex → Tree → Program Tree
 by_form e p m = do
-  s ← no_literal m
+  s ← literal_to_ctor m
   by_subject e p s
 
 abbrev pub form_rest : Tree → Option PlainRedex → Tree → Program Tree
@@ -110,6 +102,14 @@ iota_term_rest w last (MajorTypeForm e) T = erased w a_tree last (type_rest w e 
 iota_term_rest w last (Candidate e T d) D =
     erased w a_tree last (ask (same T D) (λ equal. compared_rest e (redex_at w e) d equal))
 iota_term_rest w last (Major e) m = erased w a_tree last (form_rest e (redex_at w e) m)
+iota_term_rest w last (StructureType e m) T₀ =
+    erased w a_tree last (ask (whnf T₀) (λ T. structure_rest w e (redex_at w e) m T))
+iota_term_rest w last (StructureTypeForm e m) T =
+    erased w a_tree last (structure_rest w e (redex_at w e) m T)
+iota_term_rest w last (StructureSort e m T) S₀ =
+    erased w a_tree last (ask (whnf S₀) (λ S. sort_rest w e (redex_at w e) m T S))
+iota_term_rest w last (StructureSortForm e m T) S =
+    erased w a_tree last (sort_rest w e (redex_at w e) m T S)
 
 -- what goes on with yes or no
 abbrev pub iota_truth_rest : Place → Option ℕ → IotaTruthSheet Tree → Bool → Steps

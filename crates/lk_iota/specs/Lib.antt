@@ -1,5 +1,6 @@
 pub mod Sheets
 pub mod Redexes
-pub mod Shapes
+pub mod OnlyRule
 pub mod RightSides
+pub mod Expansions
 pub mod Iotas

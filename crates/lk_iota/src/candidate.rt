@@ -4,20 +4,23 @@ ghost use Rattle.std.specs.Prelude.{◌<◌, Some, List, length};
 ghost use Rattle.lk_tree.specs.Tree.{Tree};
 ghost use Rattle.lk_questions.specs.Iota.{CtorApp};
 ghost use Rattle.lk_store.specs.Contents.{list_at};
+ghost use Rattle.lk_constructor.specs.Applied.{IsKnownConstructor};
 ghost use Rattle.lk_iota.specs.Redexes.{PlainRedex, IsKnownRedex, StandsFor, IsAt};
-ghost use Rattle.lk_iota.specs.Shapes.{only_at, IsKnownShape, IsShape};
-ghost use Rattle.lk_iota.specs.Iotas.{at_levels, by_type as plain_type, by_type_if, Reduces};
+ghost use Rattle.lk_iota.specs.OnlyRule.{only_at, IsOnlyOf};
+ghost use Rattle.lk_iota.specs.Iotas.{at_levels, by_type as plain_type, by_type_if, compared_rest};
+ghost use Rattle.lk_iota.specs.Iotas.{Reduces};
 
 use crate::iota::IotaNext;
 use crate::major::Redex;
-use crate::shape::{Shape, only_constructor};
+use crate::only::only_constructor;
 use crate::sheet::IotaTermSheet;
-use crate::subject::ask_major;
+use crate::subject::{ask_major, by_subject};
 use lk_ask::looks::Looks;
 use lk_ask::next::Next;
 use lk_ask::query::Query;
 use lk_ask::sheet::Sheet;
-use lk_spine::{apply, args, head};
+use lk_constructor::{AppliedConstructor, levels_of_type};
+use lk_spine::{apply, args};
 use lk_store::memory::NoMemory;
 use lk_store::node::Node;
 use lk_tree::rule::Rule;
@@ -27,29 +30,29 @@ use lk_tree::rule::Rule;
 fn at_parameters<L: Looks>(
     looks: &mut L,
     redex: &Redex,
-    shape: Shape,
+    constructor: AppliedConstructor,
     levels: u64,
     e: u64,
     ty: u64,
 ) -> Result<IotaNext, NoMemory>
     requires redex_in { IsKnownRedex (L.contents looks.old) redex.now }
-    requires shape_in { IsKnownShape (L.contents looks.old) shape }
+    requires constructor_in { IsKnownConstructor (L.contents looks.old) constructor }
     requires levels_in { levels < length (L.contents looks.old).lists }
     requires e_in { e < length (L.contents looks.old).trees }
     requires ty_in { ty < length (L.contents looks.old).trees }
-    ensures { (xs : List Tree) (p : PlainRedex) (b : CtorApp)
+    ensures { (p : PlainRedex) (b : CtorApp)
         → IsAt L.contents L.rest L.sight looks.old e p
         → StandsFor L.contents L.rest L.sight looks.old redex.now p
-        → IsShape (L.contents looks.old) xs shape b
+        → IsOnlyOf L.contents L.rest L.sight looks.old constructor p b
         → Reduces L.contents L.rest L.sight looks.old looks.new result
         (λ t. at_levels (t e) p b (t ty) (Some (list_at (L.contents looks.old) levels))) }
 {
     let arguments = args(looks.alloc(), looks, ty)?;
-    if u128::from(shape.parameters) > arguments.len() as u128 {
+    if u128::from(constructor.parameters) > arguments.len() as u128 {
         return Ok(ask_major(redex, e));
     }
-    let front = looks.make(Node::Const(shape.name, levels))?;
-    let parameters = &arguments[..shape.parameters as usize];
+    let front = looks.make(Node::Const(constructor.name, levels))?;
+    let parameters = &arguments[..constructor.parameters as usize];
     let candidate = apply(looks, front, parameters)?;
     Ok(Next::Ask(
         Query::Infer(candidate),
@@ -66,31 +69,24 @@ fn at_parameters<L: Looks>(
 fn by_type<L: Looks>(
     looks: &mut L,
     redex: &Redex,
-    shape: Shape,
+    constructor: AppliedConstructor,
     e: u64,
     ty: u64,
 ) -> Result<IotaNext, NoMemory>
     requires redex_in { IsKnownRedex (L.contents looks.old) redex.now }
-    requires shape_in { IsKnownShape (L.contents looks.old) shape }
+    requires constructor_in { IsKnownConstructor (L.contents looks.old) constructor }
     requires e_in { e < length (L.contents looks.old).trees }
     requires ty_in { ty < length (L.contents looks.old).trees }
-    ensures { (xs : List Tree) (p : PlainRedex) (b : CtorApp)
+    ensures { (p : PlainRedex) (b : CtorApp)
         → IsAt L.contents L.rest L.sight looks.old e p
         → StandsFor L.contents L.rest L.sight looks.old redex.now p
-        → IsShape (L.contents looks.old) xs shape b
+        → IsOnlyOf L.contents L.rest L.sight looks.old constructor p b
         → Reduces L.contents L.rest L.sight looks.old looks.new result
         (λ t. plain_type (t e) p b (t ty)) }
 {
-    let front = head(looks, ty);
-    match looks.view(front) {
-        Node::Const(name, levels) => {
-            if looks.same_name(shape.inductive, name) {
-                at_parameters(looks, redex, shape, levels, e, ty)
-            } else {
-                Ok(ask_major(redex, e))
-            }
-        }
-        _ => Ok(ask_major(redex, e)),
+    match levels_of_type(looks, constructor.inductive, ty) {
+        Some(levels) => at_parameters(looks, redex, constructor, levels, e, ty),
+        None => Ok(ask_major(redex, e)),
     }
 }
 
@@ -111,7 +107,31 @@ pub(crate) fn after_type<L: Looks>(
         (only_at (L.sight (L.rest looks.old)).basis.place p.recursor.rules)) }
 {
     match only_constructor(looks, redex.entry) {
-        Some(shape) => by_type(looks, redex, shape, e, ty),
+        Some(constructor) => by_type(looks, redex, constructor, e, ty),
         None => Ok(Next::No(Rule::LooseVariable)),
+    }
+}
+
+/// A candidate whose type was compared with that of the major premise: it stands for it where they
+/// are the same.
+pub(crate) fn by_candidate<L: Looks>(
+    looks: &mut L,
+    redex: &Redex,
+    e: u64,
+    candidate: u64,
+    equal: bool,
+) -> Result<IotaNext, NoMemory>
+    requires redex_in { IsKnownRedex (L.contents looks.old) redex.now }
+    requires e_in { e < length (L.contents looks.old).trees }
+    requires candidate_in { candidate < length (L.contents looks.old).trees }
+    ensures { (p : PlainRedex) → IsAt L.contents L.rest L.sight looks.old e p
+        → StandsFor L.contents L.rest L.sight looks.old redex.now p
+        → Reduces L.contents L.rest L.sight looks.old looks.new result
+        (λ t. compared_rest (t e) (Some p) (t candidate) equal) }
+{
+    if equal {
+        by_subject(looks, redex, e, candidate)
+    } else {
+        Ok(ask_major(redex, e))
     }
 }

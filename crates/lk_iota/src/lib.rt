@@ -5,10 +5,12 @@
 mod candidate;
 pub mod iota;
 mod major;
+mod only;
+mod resume;
 mod rule;
-mod shape;
 pub mod sheet;
 mod start;
+mod structure;
 mod subject;
 
 pub use iota::{IotaNext, begin, resume_term, resume_truth};

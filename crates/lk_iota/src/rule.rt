@@ -9,19 +9,20 @@ ghost use Rattle.lk_questions.specs.Iota.{CtorApp, fitting_rule as plain_fitting
 ghost use Rattle.lk_store.specs.Contents.{name_at, list_at, tree_at};
 ghost use Rattle.lk_env.specs.Units.{rule_at, IsRuleIn};
 ghost use Rattle.lk_ask.specs.Looks.{entry_at, MakesTree};
+ghost use Rattle.lk_constructor.specs.Applied.{IsKnownConstructor, IsApplied};
 ghost use Rattle.lk_iota.specs.Redexes.{PlainRedex, IsKnownRedex, StandsFor};
-ghost use Rattle.lk_iota.specs.Shapes.{IsKnownShape, IsShape};
 ghost use Rattle.lk_iota.specs.RightSides.{right_side};
-ghost use Rattle.lk_iota.specs.Iotas.{at_ctor, Reduces};
+ghost use Rattle.lk_iota.specs.Expansions.{at_ctor};
+ghost use Rattle.lk_iota.specs.Iotas.{Reduces};
 
 use crate::iota::IotaNext;
 use crate::major::Redex;
-use crate::shape::Shape;
 use crate::sheet::IotaTermSheet;
 use lk_ask::looks::Looks;
 use lk_ask::next::Next;
 use lk_ask::query::{Answer, Query};
 use lk_ask::sheet::Sheet;
+use lk_constructor::AppliedConstructor;
 use lk_env::entry::Entry;
 use lk_env::lent::recursor_of;
 use lk_env::unit::RecursorRule;
@@ -38,34 +39,40 @@ fn makes(parameters: u64, fields: u64, count: usize) -> bool
 }
 
 /// Whether a rule is for this constructor, applied to so many arguments.
-fn fits<T: Terms>(terms: &T, rule: RecursorRule, shape: Shape, count: usize) -> bool
+fn fits<T: Terms>(
+    terms: &T,
+    rule: RecursorRule,
+    constructor: AppliedConstructor,
+    count: usize,
+) -> bool
     requires rule_in { rule.constructor < length (T.contents terms.now).names }
-    requires shape_in { IsKnownShape (T.contents terms.now) shape }
+    requires constructor_in { IsKnownConstructor (T.contents terms.now) constructor }
     ensures { result ≡ (same_name (name_at (T.contents terms.now) rule.constructor)
-        (name_at (T.contents terms.now) shape.name)
-        && nat_eq count (shape.parameters + rule.fields)) }
+        (name_at (T.contents terms.now) constructor.name)
+        && nat_eq count (constructor.parameters + rule.fields)) }
 {
-    terms.same_name(rule.constructor, shape.name) && makes(shape.parameters, rule.fields, count)
+    terms.same_name(rule.constructor, constructor.name)
+        && makes(constructor.parameters, rule.fields, count)
 }
 
 /// The first rule for this constructor, applied to so many arguments.
 fn fitting_rule<T: Terms>(
     terms: &T,
     rules: &[RecursorRule],
-    shape: Shape,
+    constructor: AppliedConstructor,
     count: usize,
 ) -> Option<RecursorRule>
     requires rules_in { All (IsRuleIn (T.contents terms.now)) rules.now }
-    requires shape_in { IsKnownShape (T.contents terms.now) shape }
+    requires constructor_in { IsKnownConstructor (T.contents terms.now) constructor }
     ensures known { IfSome result (IsRuleIn (T.contents terms.now)) }
-    ensures many { IfSome result (λ r. count ≡ shape.parameters + r.fields) }
+    ensures many { IfSome result (λ r. count ≡ constructor.parameters + r.fields) }
     ensures is { option_map (rule_at (T.contents terms.now)) result
         ≡ plain_fitting (map (rule_at (T.contents terms.now)) rules.now)
-        (name_at (T.contents terms.now) shape.name) shape.parameters count }
+        (name_at (T.contents terms.now) constructor.name) constructor.parameters count }
 {
     let mut rest = rules;
     'rules: while let Some((rule, more)) = rest.split_first() {
-        if fits(terms, *rule, shape, count) {
+        if fits(terms, *rule, constructor, count) {
             return Some(*rule);
         }
         rest = more;
@@ -135,31 +142,54 @@ fn by_rule<L: Looks>(
     Ok(Next::Ask(Query::Core(next), Sheet::Term(IotaTermSheet::Passed)))
 }
 
-/// A recursor whose major premise is a constructor applied, `m`: by the rule that fits.
-pub(crate) fn at_constructor<L: Looks>(
+/// A recursor whose major premise is a constructor applied to these: by the rule that fits.
+pub(crate) fn by_arguments<L: Looks>(
     looks: &mut L,
     redex: &Redex,
-    shape: Shape,
+    constructor: AppliedConstructor,
     e: u64,
-    m: u64,
+    arguments: &[u64],
 ) -> Result<IotaNext, NoMemory>
     requires redex_in { IsKnownRedex (L.contents looks.old) redex.now }
-    requires shape_in { IsKnownShape (L.contents looks.old) shape }
+    requires constructor_in { IsKnownConstructor (L.contents looks.old) constructor }
     requires e_in { e < length (L.contents looks.old).trees }
-    requires m_in { m < length (L.contents looks.old).trees }
+    requires arguments_in { All (λ x. x < length (L.contents looks.old).trees) arguments.now }
     ensures { (p : PlainRedex) (b : CtorApp)
         → StandsFor L.contents L.rest L.sight looks.old redex.now p
-        → IsShape (L.contents looks.old) (args_of (tree_at (L.contents looks.old) m)) shape b
+        → IsApplied (L.contents looks.old) (L.sight (L.rest looks.old)).basis.library
+        (map (tree_at (L.contents looks.old)) arguments.now) constructor b
         → Reduces L.contents L.rest L.sight looks.old looks.new result
         (λ t. at_ctor (t e) p (Some b)) }
 {
-    let subject = args(looks.alloc(), looks, m)?;
     let rules = rules_of(looks, redex.entry);
-    match fitting_rule(looks, rules, shape, subject.len()) {
+    match fitting_rule(looks, rules, constructor, arguments.len()) {
         Some(rule) => {
-            let (_, fields) = subject.split_at(shape.parameters as usize);
+            let (_, fields) = arguments.split_at(constructor.parameters as usize);
             by_rule(looks, redex, rule.value, fields)
         }
         None => Ok(Next::Done(Answer::Term(e))),
     }
+}
+
+/// A recursor whose major premise is a constructor applied, `m`.
+pub(crate) fn at_constructor<L: Looks>(
+    looks: &mut L,
+    redex: &Redex,
+    constructor: AppliedConstructor,
+    e: u64,
+    m: u64,
+) -> Result<IotaNext, NoMemory>
+    requires redex_in { IsKnownRedex (L.contents looks.old) redex.now }
+    requires constructor_in { IsKnownConstructor (L.contents looks.old) constructor }
+    requires e_in { e < length (L.contents looks.old).trees }
+    requires m_in { m < length (L.contents looks.old).trees }
+    ensures { (p : PlainRedex) (b : CtorApp)
+        → StandsFor L.contents L.rest L.sight looks.old redex.now p
+        → IsApplied (L.contents looks.old) (L.sight (L.rest looks.old)).basis.library
+        (args_of (tree_at (L.contents looks.old) m)) constructor b
+        → Reduces L.contents L.rest L.sight looks.old looks.new result
+        (λ t. at_ctor (t e) p (Some b)) }
+{
+    let arguments = args(looks.alloc(), looks, m)?;
+    by_arguments(looks, redex, constructor, e, &arguments)
 }

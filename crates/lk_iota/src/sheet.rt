@@ -14,6 +14,15 @@ pub enum IotaTermSheet<X: Drop> {
     Candidate { application: X, ty: X, candidate: X },
     /// After the weak head form of the major premise.
     Major { application: X },
+    /// After the type of `subject`, which stands for the major premise and is no constructor: it may
+    /// be taken for that of a structure.
+    StructureType { application: X, subject: X },
+    /// After the weak head form of that.
+    StructureTypeForm { application: X, subject: X },
+    /// After the type of `ty`, the type of the subject.
+    StructureSort { application: X, subject: X, ty: X },
+    /// After the weak head form of that.
+    StructureSortForm { application: X, subject: X, ty: X },
 }
 
 /// What waits for yes or no.

@@ -6,7 +6,7 @@ ghost use Rattle.lk_iota.specs.Iotas.{with_k as plain_with_k, of_redex, Reduces}
 
 use crate::iota::IotaNext;
 use crate::major::Redex;
-use crate::shape::look_only;
+use crate::only::look_only;
 use crate::sheet::IotaTermSheet;
 use crate::subject::ask_major;
 use lk_ask::looks::Looks;

@@ -1,6 +1,6 @@
 //! What stands for the major premise: its weak head form, or a constructor that K gave.
 
-ghost use Rattle.std.specs.Prelude.{◌≡◌, ◌<◌, ℕ, Ok, Option, Some, None, List, length};
+ghost use Rattle.std.specs.Prelude.{◌≡◌, ◌<◌, ℕ, Option, None, List, length};
 ghost use Rattle.lk_rulebook.specs.Place.{Place};
 ghost use Rattle.lk_plain.specs.Erased.{a_tree, erased};
 ghost use Rattle.lk_store.specs.Contents.{Contents, tree_at};
@@ -8,22 +8,24 @@ ghost use Rattle.lk_store.specs.declared.tables.Tables.{Tables};
 ghost use Rattle.lk_env.specs.declared.unit.Unit.{Unit as StoredUnit};
 ghost use Rattle.lk_ask.specs.Nexts.{IsKnownNext};
 ghost use Rattle.lk_iota.specs.Sheets.{IsKnownIotaSheet};
-ghost use Rattle.lk_iota.specs.Redexes.{PlainRedex, redex_at, IsKnownRedex, IsRedex, StandsFor};
+ghost use Rattle.lk_iota.specs.Redexes.{PlainRedex, redex_at, IsKnownRedex, IsRedex};
+ghost use Rattle.lk_iota.specs.Redexes.{StandsFor, IsAt};
 ghost use Rattle.lk_iota.specs.Iotas.{after_k, by_subject as plain_subject, by_app};
 ghost use Rattle.lk_iota.specs.Iotas.{by_form as plain_form, iota_next, Reduces};
 
 use crate::iota::IotaNext;
 use crate::major::Redex;
+use crate::only::look_only;
 use crate::rule::at_constructor;
-use crate::shape::{look_head, look_only};
 use crate::sheet::IotaTermSheet;
+use crate::structure::by_only;
 use lk_ask::looks::Looks;
 use lk_ask::next::Next;
 use lk_ask::query::{Answer, Query};
 use lk_ask::sheet::Sheet;
+use lk_constructor::look_head;
+use lk_lit::literal_to_ctor;
 use lk_store::memory::NoMemory;
-use lk_store::node::Node;
-use lk_tree::rule::Rule;
 
 /// Asks for the weak head form of the major premise.
 pub(crate) fn ask_major(redex: &Redex, e: u64) -> IotaNext
@@ -39,27 +41,27 @@ pub(crate) fn ask_major(redex: &Redex, e: u64) -> IotaNext
     )
 }
 
-/// A recursor whose major premise is no constructor, applied.
-fn no_constructor<L: Looks>(looks: &mut L, redex: &Redex, e: u64) -> IotaNext
+/// A recursor where `m` stands for its major premise and is no constructor, applied.
+fn no_constructor<L: Looks>(
+    looks: &mut L,
+    redex: &Redex,
+    e: u64,
+    m: u64,
+) -> Result<IotaNext, NoMemory>
     requires e_in { e < length (L.contents looks.old).trees }
-    ensures { (p : PlainRedex) → StandsFor L.contents L.rest L.sight looks.old redex.now p
-        → Reduces L.contents L.rest L.sight looks.old looks.new (Ok result)
-        (λ t. by_app (t e) p None) }
+    requires m_in { m < length (L.contents looks.old).trees }
+    ensures { (p : PlainRedex) → IsAt L.contents L.rest L.sight looks.old e p
+        → StandsFor L.contents L.rest L.sight looks.old redex.now p
+        → Reduces L.contents L.rest L.sight looks.old looks.new result
+        (λ t. by_app (t e) p (t m) None) }
 {
     let found = match look_only(looks, redex.entry) {
         Ok(found) => found,
-        Err(rule) => return Next::No(rule),
+        Err(rule) => return Ok(Next::No(rule)),
     };
     match found {
-        Some(shape) => {
-            // That it may be taken for a structure's constructor is not built yet.
-            if shape.structure {
-                Next::No(Rule::BuiltinShape)
-            } else {
-                Next::Done(Answer::Term(e))
-            }
-        }
-        None => Next::Done(Answer::Term(e)),
+        Some(constructor) => by_only(looks, constructor, e, m),
+        None => Ok(Next::Done(Answer::Term(e))),
     }
 }
 
@@ -73,7 +75,8 @@ pub(crate) fn by_subject<L: Looks>(
     requires redex_in { IsKnownRedex (L.contents looks.old) redex.now }
     requires e_in { e < length (L.contents looks.old).trees }
     requires m_in { m < length (L.contents looks.old).trees }
-    ensures { (p : PlainRedex) → StandsFor L.contents L.rest L.sight looks.old redex.now p
+    ensures { (p : PlainRedex) → IsAt L.contents L.rest L.sight looks.old e p
+        → StandsFor L.contents L.rest L.sight looks.old redex.now p
         → Reduces L.contents L.rest L.sight looks.old looks.new result
         (λ t. plain_subject (t e) p (t m)) }
 {
@@ -82,12 +85,13 @@ pub(crate) fn by_subject<L: Looks>(
         Err(rule) => return Ok(Next::No(rule)),
     };
     match found {
-        Some(shape) => at_constructor(looks, redex, shape, e, m),
-        None => Ok(no_constructor(looks, redex, e)),
+        Some(constructor) => at_constructor(looks, redex, constructor, e, m),
+        None => no_constructor(looks, redex, e, m),
     }
 }
 
-/// A recursor where `m` is the weak head form of its major premise.
+/// A recursor where `m` is the weak head form of its major premise: a literal is read as a
+/// constructor.
 pub(crate) fn by_form<L: Looks>(
     looks: &mut L,
     redex: &Redex,
@@ -97,14 +101,13 @@ pub(crate) fn by_form<L: Looks>(
     requires redex_in { IsKnownRedex (L.contents looks.old) redex.now }
     requires e_in { e < length (L.contents looks.old).trees }
     requires m_in { m < length (L.contents looks.old).trees }
-    ensures { (p : PlainRedex) → StandsFor L.contents L.rest L.sight looks.old redex.now p
+    ensures { (p : PlainRedex) → IsAt L.contents L.rest L.sight looks.old e p
+        → StandsFor L.contents L.rest L.sight looks.old redex.now p
         → Reduces L.contents L.rest L.sight looks.old looks.new result
         (λ t. plain_form (t e) p (t m)) }
 {
-    // A literal that stands for a constructor is not built yet.
-    match looks.view(m) {
-        Node::Lit(_) => Ok(Next::No(Rule::BuiltinShape)),
-        Node::Str(_) => Ok(Next::No(Rule::BuiltinShape)),
-        _ => by_subject(looks, redex, e, m),
+    match literal_to_ctor(looks, m)? {
+        Ok(subject) => by_subject(looks, redex, e, subject),
+        Err(rule) => Ok(Next::No(rule)),
     }
 }

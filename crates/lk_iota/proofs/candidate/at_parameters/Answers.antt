@@ -13,19 +13,19 @@ use Rattle.lk_subst.specs.Numbers.{trees-known}
 use Rattle.lk_iota.specs.declared.sheet.IotaTermSheet.TheVariants.{Candidate}
 use Rattle.lk_iota.specs.Iotas.{iota_term_rest}
 use Rattle.lk_ask.proofs.Steps.{gives_now}
-use Rattle.lk_iota.proofs.RightSides.{front_steady}
+use Rattle.lk_iota.proofs.Steady.{front_steady}
 use Rattle.lk_iota.proofs.Going.{too_few, candidate_asked}
 use Rattle.lk_iota.proofs.candidate.at_parameters.Goals as goal
 
 pub returns-then-from-len : goal.returns-then-from-len
-returns-then-from-len g c xs p b at is shape =
+returns-then-from-len g c p b at is only =
     let sight = g.L.Looks.sight (g.L.Terms.rest c.args.looks.now) in
     let d = g.L.Terms.contents c.args.looks.now in
     let ty = tree_at d c.args.ty in
     let items = c.in_ok-arguments.arguments.items in
     let many : length (args ty) ≡ length items =
     sym (ap length c.in_ok-arguments.ensures.are) ∙ length-map items (tree_at d) in
-    let parameters = shape.parameters_are in
+    let parameters = only.stands.parameters_are in
     let more = c.if-from-len.true in
     let few : length (args ty) < b.ctor.parameters = omega arith in
     gives_now c.args.looks.now _ _
@@ -40,12 +40,12 @@ apply-requires-clause-args_in g c =
     let f = g.L.Terms.contents c.make.new.self in
     let items = c.in_ok-arguments.arguments.items in
     let P : ℕ → Type 0 = λ e. e < length f.trees in
-    All-take P c.args.shape.parameters c.deref.result.now
+    All-take P c.args.constructor.parameters c.deref.result.now
     (subst (All P) (sym c.deref.ensures.value)
     (trees-known d f items c.make.ensures.keeps c.in_ok-arguments.ensures.known))
 
 pub returns : goal.returns
-returns g c xs p b at is shape =
+returns g c p b at is only =
     let sight = g.L.Looks.sight (g.L.Terms.rest c.args.looks.now) in
     let w = sight.basis.place in
     let d = g.L.Terms.contents c.args.looks.now in
@@ -57,19 +57,19 @@ returns g c xs p b at is shape =
     let items = c.in_ok-arguments.arguments.items in
     let many : length (args ty) ≡ length items =
     sym (ap length c.in_ok-arguments.ensures.are) ∙ length-map items (tree_at d) in
-    let parameters = shape.parameters_are in
+    let parameters = only.stands.parameters_are in
     let less = c.if-from-len.false in
     let enough : b.ctor.parameters ≤ length (args ty) = omega arith in
     let grown = Extends-trans _ _ _ c.make.ensures.keeps c.apply.ensures.keeps in
     let front : tree_at f c.in_ok-front.front ≡ const b.name ks =
-    c.in_ok-front.ensures.ok.is ∙ ap (λ x. const x ks) shape.name_is in
-    let values : map (tree_at f) (take c.args.shape.parameters c.deref.result.now)
+    c.in_ok-front.ensures.ok.is ∙ ap (λ x. const x ks) only.stands.name_is in
+    let values : map (tree_at f) (take c.args.constructor.parameters c.deref.result.now)
     ≡ take b.ctor.parameters (args ty) =
-    ap (λ ys. map (tree_at f) (take c.args.shape.parameters ys)) c.deref.ensures.value
-    ∙ front_steady d f c.make.ensures.keeps items c.in_ok-arguments.ensures.known
-    c.args.shape.parameters
-    ∙ sym (take-map (tree_at d) c.args.shape.parameters items)
-    ∙ ap (take c.args.shape.parameters) c.in_ok-arguments.ensures.are
+    ap (λ ys. map (tree_at f) (take c.args.constructor.parameters ys)) c.deref.ensures.value
+    ∙ front_steady c.make.ensures.keeps items c.in_ok-arguments.ensures.known
+    c.args.constructor.parameters
+    ∙ sym (take-map (tree_at d) c.args.constructor.parameters items)
+    ∙ ap (take c.args.constructor.parameters) c.in_ok-arguments.ensures.are
     ∙ ap (λ n. take n (args ty)) parameters in
     record {
       keeps = grown;
@@ -82,6 +82,6 @@ returns g c xs p b at is shape =
           (tree_at h c.in_ok-candidate.candidate) p b ks (grown.trees.same c.args.e c.requires.e_in)
           (grown.trees.same c.args.ty c.requires.ty_in)
           (c.in_ok-candidate.ensures.ok.is
-          ∙ ap (λ t. apply t (map (tree_at f) (take c.args.shape.parameters c.deref.result.now)))
+          ∙ ap (λ t. apply t (map (tree_at f) (take c.args.constructor.parameters c.deref.result.now)))
           front ∙ ap (apply (const b.name ks)) values) at enough;
     }

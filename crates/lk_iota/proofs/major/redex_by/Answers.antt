@@ -7,7 +7,7 @@ use Rattle.lk_store.specs.declared.tables.Tables.{Tables}
 use Rattle.lk_env.specs.declared.unit.Unit.{Unit as StoredUnit}
 use Rattle.lk_env.specs.Lent.{given_recursor}
 use Rattle.lk_iota.specs.Redexes.{split_at, redex_by, IsRedexIf}
-use Rattle.lk_iota.proofs.Giving.{entry_there}
+use Rattle.lk_constructor.proofs.Giving.{entry_there}
 use Rattle.lk_iota.proofs.Splits.{recursor_kind, redex_of_kind, no_redex_of_kind}
 use Rattle.lk_iota.proofs.major.redex_by.Goals as goal
 

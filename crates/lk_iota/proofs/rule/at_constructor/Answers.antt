@@ -1,44 +1,14 @@
-use Rattle.std.proofs.Common.{rules, ◌≡◌, suc, ap, map, subst, ◌∙◌, take, drop}
-use Rattle.lk_tree.specs.Spine.{args}
-use Rattle.lk_store.specs.Contents.{list_at, tree_at}
-use Rattle.lk_iota.specs.RightSides.{right_side}
-use Rattle.lk_iota.specs.Iotas.{Reduces}
-use Rattle.lk_ask.proofs.Steps.{gives_now}
-use Rattle.lk_iota.proofs.RightSides.{none_fits, one_fits}
+use Rattle.std.proofs.Common.{subst, sym, map}
+use Rattle.lk_store.specs.Contents.{tree_at}
+use Rattle.lk_constructor.specs.Applied.{IsApplied}
 use Rattle.lk_iota.proofs.rule.at_constructor.Goals as goal
 
-pub returns-in-Some : goal.returns-in-Some
-returns-in-Some g c p b is shape =
-    let sight = g.L.Looks.sight (g.L.Terms.rest c.args.looks.now) in
-    let d = g.L.Terms.contents c.args.looks.now in
-    let m = args (tree_at d c.args.m) in
-    let subject = c.in_ok-subject.subject.items in
-    let u = c.args.redex.now in
-    let fields : c.split_at.result.1.now ≡ drop c.args.shape.parameters subject =
-    c.split_at.ensures.back ∙ ap (drop c.args.shape.parameters) c.deref.ensures.value in
-    subst (λ s. Reduces g.L.Terms.contents g.L.Terms.rest g.L.Looks.sight c.args.looks.now
-    c.by_rule.new.looks c.by_rule.result (λ t. s))
-    (one_fits d sight.basis.library u p c.requires.redex_in is m c.args.shape b shape subject
-    c.in_ok-subject.ensures.are
-    c.rules_of-rules.result.now (c.rules_of-rules.ensures.value p.entry p.recursor is.entry_is
-    is.kind_is) (tree_at d c.args.e) c.fitting_rule.result c.len.result (search rules)
-    c.fitting_rule.ensures.is c.in-Some.rule c.in-Some.is)
-    (subst (λ fs. Reduces g.L.Terms.contents g.L.Terms.rest g.L.Looks.sight c.args.looks.now
-    c.by_rule.new.looks c.by_rule.result
-    (λ t. right_side p.entry (list_at d u.levels) (t c.in-Some.rule.value)
-    (map t (take u.shared u.arguments.items)) (map t fs)
-    (map t (drop (suc u.before) u.arguments.items))))
-    fields (c.by_rule.ensures p.entry is.entry_is))
-
 pub returns : goal.returns
-returns g c p b is shape =
-    let sight = g.L.Looks.sight (g.L.Terms.rest c.args.looks.now) in
+returns g c p b is applied =
+    let basis = (g.L.Looks.sight (g.L.Terms.rest c.args.looks.now)).basis in
     let d = g.L.Terms.contents c.args.looks.now in
-    let m = args (tree_at d c.args.m) in
-    let subject = c.in_ok-subject.subject.items in
-    gives_now c.args.looks.now _ _ c.requires.e_in
-    (none_fits d sight.basis.library c.args.redex.now p c.requires.redex_in is m c.args.shape b
-    shape subject c.in_ok-subject.ensures.are
-    c.rules_of-rules.result.now (c.rules_of-rules.ensures.value p.entry p.recursor is.entry_is
-    is.kind_is) (tree_at d c.args.e) c.fitting_rule.result c.len.result (search rules)
-    c.fitting_rule.ensures.is sight.basis.place sight.last c.in-None.is)
+    c.by_arguments.ensures p b is
+    (subst (λ xs. IsApplied d basis.library (map (tree_at d) xs) c.args.constructor b)
+    (sym c.deref.ensures.value)
+    (subst (λ xs. IsApplied d basis.library xs c.args.constructor b)
+    (sym c.in_ok-arguments.ensures.are) applied))

@@ -15,7 +15,7 @@ rules-preserved g c =
           c.rules.invariant.known;
       same =
           sym (rule_passed d c.rules.rest.now c.in-Some.more.now c.in-Some.rule.now
-          (name_at d c.args.shape.name) c.args.shape.parameters c.args.count c.fits.result rest
+          (name_at d c.args.constructor.name) c.args.constructor.parameters c.args.count c.fits.result rest
           c.fits.ensures c.if-fits.false)
           ∙ c.rules.invariant.same;
     }

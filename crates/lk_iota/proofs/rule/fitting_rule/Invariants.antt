@@ -10,9 +10,9 @@ invariant-rules g l =
     let c = g.T.Terms.contents l.terms in
     record {
       known : All (IsRuleIn c) l.rest;
-      same : fitting_rule (map (rule_at c) l.rest) (name_at c l.shape.name) l.shape.parameters
-          l.count ≡ fitting_rule (map (rule_at c) l.fn.rules) (name_at c l.shape.name)
-          l.shape.parameters l.count;
+      same : fitting_rule (map (rule_at c) l.rest) (name_at c l.constructor.name) l.constructor.parameters
+          l.count ≡ fitting_rule (map (rule_at c) l.fn.rules) (name_at c l.constructor.name)
+          l.constructor.parameters l.count;
     }
 
 abbrev pub decreases-rules : goal.decreases-rules

@@ -1,6 +1,6 @@
 use Rattle.std.proofs.Common.{sym, ◌∙◌}
 use Rattle.lk_store.specs.Store.{contents_of}
-use Rattle.lk_iota.proofs.Giving.{entry_there, over_there}
+use Rattle.lk_constructor.proofs.Giving.{entry_there, over_there}
 use Rattle.lk_iota.proofs.RightSides.{rules_are, no_rules, rules_steady}
 use Rattle.lk_iota.proofs.rule.rules_of.Goals as goal
 
