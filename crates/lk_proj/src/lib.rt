@@ -1,0 +1,13 @@
+//! Projections: the steps of `Infer` of a projection and of `Core` of one, as the table says them.
+#![tactic(auto)]
+
+mod fields;
+pub mod infer;
+mod node;
+mod occurs;
+mod parameters;
+pub mod reduce;
+pub mod sheet;
+mod sort;
+mod structure;
+mod subject;

@@ -1,0 +1,81 @@
+//! Types with exactly one constructor.
+
+ghost use Rattle.std.specs.Prelude.{◌≡◌, ◌<◌, List, Some, length, IfSome, option_map};
+ghost use Rattle.lk_rulebook.specs.Place.{Entry as PlainEntry, Block as PlainBlock};
+ghost use Rattle.lk_store.specs.Contents.{Contents};
+ghost use Rattle.lk_store.specs.Store.{contents_of};
+ghost use Rattle.lk_store.specs.declared.tables.Tables.{Tables};
+ghost use Rattle.lk_env.specs.declared.unit.Unit.{Unit as StoredUnit};
+ghost use Rattle.lk_env.specs.Units.{type_at, IsTypeIn};
+ghost use Rattle.lk_env.specs.Entries.{plain_entry};
+ghost use Rattle.lk_env.specs.Lent.{type_in};
+ghost use Rattle.lk_proj.specs.Structures.{structure_in, IsOnlyIn, IsStructureIf};
+
+use lk_env::entry::{Entry, Kind};
+use lk_env::lent::type_of;
+use lk_env::library::Library;
+use lk_env::unit::{BlockType, Constructor};
+
+/// What is asked of a type with exactly one constructor, beside that constructor.
+#[derive(Clone, Copy)]
+pub struct Structure {
+    pub constructor: Entry,
+    pub parameters: u64,
+    pub indices: u64,
+    /// How many fields the constructor has.
+    pub fields: u64,
+}
+
+/// The only constructor, where there is exactly one.
+fn only(constructors: &[Constructor]) -> Option<&Constructor>
+    ensures { IsOnlyIn constructors.now (option_map (λ k. k.now) result) }
+{
+    match constructors {
+        [constructor] => Some(constructor),
+        _ => None,
+    }
+}
+
+/// The type of this number of a block, where it has exactly one constructor.
+fn structure_by(ty: &BlockType, number: usize, unit: u32) -> Option<Structure>
+    ensures is { (l : Tables × List StoredUnit) (e : Entry) (g : PlainEntry) (b : PlainBlock)
+        → plain_entry (contents_of l.0) l.1 e ≡ Some g → type_in g.kind
+        ≡ Some (b, type_at (contents_of l.0) ty.now) → e.kind ≡ Kind.Type number
+        → e.unit ≡ unit → IsStructureIf l result (structure_in g.kind) }
+    ensures known { (c : Contents) → IsTypeIn c ty.now → IfSome result
+        (λ s. s.constructor.stated < length c.trees) }
+{
+    match only(&ty.constructors) {
+        Some(constructor) => Some(Structure {
+            constructor: Entry {
+                kind: Kind::Constructor {
+                    parent: number,
+                    number: 0,
+                },
+                stated: constructor.ty,
+                unit,
+            },
+            parameters: ty.parameters,
+            indices: ty.indices,
+            fields: constructor.fields,
+        }),
+        None => None,
+    }
+}
+
+/// The type with exactly one constructor that an entry is, where it is one. It takes no memory.
+pub(crate) fn structure_of(library: &Library, entry: Entry) -> Option<Structure>
+    ensures known { IfSome result
+        (λ s. s.constructor.stated < length (contents_of library.now.0).trees) }
+    ensures is { (g : PlainEntry) → plain_entry (contents_of library.now.0) library.now.1 entry
+        ≡ Some g → IsStructureIf library.now result (structure_in g.kind) }
+{
+    match entry.kind {
+        Kind::Type(number) => match type_of(library, entry) {
+            Some((_, ty)) => structure_by(ty, number, entry.unit),
+            None => None,
+        },
+        Kind::Declared(_) | Kind::Constructor { .. } | Kind::Recursor(_) | Kind::BareRecursor(_) =>
+            None,
+    }
+}
