@@ -3,4 +3,3 @@ pub mod Lambdas
 pub mod Opened
 pub mod Constants
 pub mod Rows
-pub mod Naming

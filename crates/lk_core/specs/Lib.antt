@@ -1,4 +1,3 @@
 pub mod Sheets
 pub mod Forms
 pub mod Lambdas
-pub mod Words

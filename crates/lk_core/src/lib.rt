@@ -3,6 +3,5 @@
 
 pub mod beta;
 pub mod core_form;
-mod operations;
 pub mod sheet;
 pub mod whnf;

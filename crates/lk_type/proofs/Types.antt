@@ -2,10 +2,9 @@
 use Rattle.std.proofs.Common.{◌≡◌, ℕ, List, Bool, true, false, nat_eq, length, Option, Some, None, ap, sym, subst, ◌∙◌}
 use Rattle.lk_tree.specs.Tree.{Name, Level, Tree, sort}
 use Rattle.lk_tree.specs.Levels.{put_levels}
-use Rattle.lk_tree.specs.declared.rule.Rule.TheVariants.{UnknownConstant, LevelCount, BuiltinShape}
+use Rattle.lk_tree.specs.declared.rule.Rule.TheVariants.{UnknownConstant, LevelCount}
 use Rattle.lk_rulebook.specs.Place.{Place}
 use Rattle.lk_plain.specs.Program.{Program, done, look}
-use Rattle.lk_plain.specs.Parts.{is_built_kind, where_built}
 use Rattle.lk_plain.specs.Erased.{Value, a_tree, Steps, gives, refuses, erased}
 use Rattle.lk_questions.specs.Steps.{given, with_params, with_levels}
 use Rattle.lk_store.specs.Contents.{Contents, tree_at}
@@ -15,7 +14,7 @@ use Rattle.lk_env.specs.declared.entry.Entry.{Entry}
 use Rattle.lk_env.specs.declared.unit.Unit.{Unit as StoredUnit}
 use Rattle.lk_ask.specs.Constants.{IsFound, IsAtLevels}
 use Rattle.lk_ask.proofs.Entries.{entry_type}
-use Rattle.lk_ask.proofs.Looking.{found_built, found_unbuilt}
+use Rattle.lk_ask.proofs.Looking.{found_goes}
 use Rattle.lk_type.specs.Types.{level_in, pi_rest, pi_sorted}
 
 -- the rest of a Pi, where S is a sort
@@ -32,22 +31,19 @@ not_given w f last b v e = ap (λ t. erased w f last (given t LevelCount (done v
 module _ (l : Tables × List StoredUnit) (w : Place) (x : Name) (before last : Option ℕ) (e : Entry) (h : IsFound l w x before e last) (ls : List Level) where
   -- the row of a constant
   abbrev row : Steps
-  row = erased w a_tree before (look UnknownConstant x (where_built λ g. with_levels g ls g.type))
+  row = erased w a_tree before (look UnknownConstant x (λ g. with_levels g ls g.type))
 
-  pub unbuilt_row : (b : Bool) → b ≡ is_built_kind h.entry.kind → b ≡ false → refuses BuiltinShape ≡ row
-  unbuilt_row b is off = sym (found_unbuilt w a_tree x UnknownConstant (λ g. with_levels g ls g.type) l before last e h (sym is ∙ off))
-
-  goes : (b : Bool) → b ≡ is_built_kind h.entry.kind → b ≡ true → row ≡ erased w a_tree last (with_params h.entry.levels ls h.entry.type)
-  goes b is on = found_built w a_tree x UnknownConstant (λ g. with_levels g ls g.type) l before last e h (sym is ∙ on)
+  goes : row ≡ erased w a_tree last (with_params h.entry.levels ls h.entry.type)
+  goes = found_goes w a_tree x UnknownConstant (λ g. with_levels g ls g.type) l before last e h
 
   module _ (c : Contents) (t : Tree) (is_t : t ≡ tree_at (contents_of l.0) e.stated) where
     type_is : h.entry.type ≡ t
     type_is = entry_type (contents_of l.0) l.1 e h.entry h.is ∙ sym is_t
 
-    pub typed_row : (b : Bool) → b ≡ is_built_kind h.entry.kind → b ≡ true → (r : ℕ) → IsAtLevels c h.entry.levels ls t (Some r) → gives last (a_tree (tree_at c r)) ≡ row
-    typed_row b is on r at =
+    pub typed_row : (r : ℕ) → IsAtLevels c h.entry.levels ls t (Some r) → gives last (a_tree (tree_at c r)) ≡ row
+    typed_row r at =
         let there : gives last (a_tree (tree_at c r)) ≡ gives last (a_tree (put_levels h.entry.levels ls h.entry.type)) = ap (λ y. gives last (a_tree y)) (at.1.is ∙ ap (put_levels h.entry.levels ls) (sym type_is)) in
-        there ∙ sym (given_is w a_tree last (nat_eq (length ls) (length h.entry.levels)) (put_levels h.entry.levels ls h.entry.type) at.0) ∙ sym (goes b is on)
+        there ∙ sym (given_is w a_tree last (nat_eq (length ls) (length h.entry.levels)) (put_levels h.entry.levels ls h.entry.type) at.0) ∙ sym goes
 
-    pub counted_row : (b : Bool) → b ≡ is_built_kind h.entry.kind → b ≡ true → IsAtLevels c h.entry.levels ls t None → refuses LevelCount ≡ row
-    counted_row b is on at = sym (not_given w a_tree last (nat_eq (length ls) (length h.entry.levels)) (put_levels h.entry.levels ls h.entry.type) at) ∙ sym (goes b is on)
+    pub counted_row : IsAtLevels c h.entry.levels ls t None → refuses LevelCount ≡ row
+    counted_row at = sym (not_given w a_tree last (nat_eq (length ls) (length h.entry.levels)) (put_levels h.entry.levels ls h.entry.type) at) ∙ sym goes

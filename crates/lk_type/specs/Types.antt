@@ -1,6 +1,6 @@
 -- What Infer goes on with, once the answer is there that it waits for.
-use Rattle.std.specs.Prelude.{ℕ, Bool, Option, None, Result}
-use Rattle.lk_tree.specs.Tree.{Tree, Level, zero_level, imax_level, sort, lam, pi, local}
+use Rattle.std.specs.Prelude.{◌≡◌, ◌<◌, ℕ, Bool, Option, None, Result, Ok, Err, length}
+use Rattle.lk_tree.specs.Tree.{Name, Tree, Level, zero_level, imax_level, sort, lam, pi, proj, local}
 use Rattle.lk_tree.specs.Bind.{opened, close, bound}
 use Rattle.lk_tree.specs.declared.rule.Rule.TheVariants.{NotAFunction, ArgumentType, LetType}
 use Rattle.lk_rulebook.specs.Place.{Place}
@@ -8,13 +8,19 @@ use Rattle.lk_plain.specs.Query.{whnf, infer, same}
 use Rattle.lk_plain.specs.Program.{Program, done, ask, asked, ◌>>=◌}
 use Rattle.lk_plain.specs.Erased.{Value, a_tree, Steps, gives, erased}
 use Rattle.lk_questions.specs.Steps.{given, as_sort, as_pi, sort_of}
+use Rattle.lk_questions.specs.Infer.{infer_steps}
+use Rattle.lk_questions.specs.Shapes.{nat_shape, string_shape}
+use Rattle.lk_rulebook.specs.Names.{named, nat, string}
 use Rattle.lk_store.specs.declared.memory.NoMemory.{NoMemory}
 use Rattle.lk_store.specs.Contents.{Contents, tree_at}
 use Rattle.lk_ask.specs.declared.next.Next.{Next}
 use Rattle.lk_ask.specs.Looks.{Sight}
 use Rattle.lk_ask.specs.Gives.{Gives}
+use Rattle.lk_ask.specs.Projections.{IsProjection}
 use Rattle.lk_ask.specs.Nexts.{next_steps}
 use Rattle.lk_ask.specs.Sheets.{sheet_rest}
+use Rattle.lk_type.specs.declared.infer.TypeStep.{TypeStep}
+use Rattle.lk_type.specs.declared.infer.TypeStep.TheVariants.{Goes, Projection}
 use Rattle.lk_type.specs.declared.sheet.TypeTermSheet.{TypeTermSheet}
 use Rattle.lk_type.specs.declared.sheet.TypeTermSheet.TheVariants.{Passed, LamDomain, LamDomainSort}
 use Rattle.lk_type.specs.declared.sheet.TypeTermSheet.TheVariants.{LamBody, PiDomain, PiDomainSort}
@@ -30,6 +36,13 @@ use Rattle.lk_type.specs.Sheets.{IsKnownTypeSheet}
 abbrev pub level_in : Tree → Level
 level_in (sort l) = l
 level_in _ = zero_level
+
+-- the type of a number, and of a text
+abbrev pub number_steps : Program Tree
+number_steps = nat_shape >>= λ u. done (named nat)
+
+abbrev pub text_steps : Program Tree
+text_steps = string_shape >>= λ u. done (named string)
 
 -- a lambda, once its domain has a sort
 abbrev pub lam_rest : Tree → Tree → Program Tree
@@ -123,6 +136,16 @@ Infers contents rest sight old new result program =
     Gives IsKnownTypeSheet type_next contents rest sight old new result
     (erased (sight (rest old)).basis.place a_tree (sight (rest old)).last
     (program (tree_at (contents old))))
+
+-- the first step of Infer of the term of this number does what its row does; or nothing was done, and it is a projection
+abbrev pub Begins : {S R B : Type 0} → (S → Contents) → (S → R) → (R → Sight B) → S → S
+    → Result TypeStep NoMemory → ℕ → Type 0
+Begins contents rest sight old new (Ok (Goes next)) e =
+    Infers contents rest sight old new (Ok next) (λ t. infer_steps (t e))
+Begins contents rest sight old new (Ok (Projection subject)) e =
+    (new ≡ old) × IsProjection (contents old) e subject
+Begins contents rest sight old new (Err error) e =
+    Infers contents rest sight old new (Err error) (λ t. infer_steps (t e))
 
 -- it does what the sheet goes on with, now that the term is there
 abbrev pub ResumesTerm : {S R B : Type 0} → (S → Contents) → (S → R) → (R → Sight B) → S → S

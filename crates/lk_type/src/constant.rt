@@ -2,12 +2,11 @@
 
 ghost use Rattle.std.specs.Prelude.{◌<◌, IfOk, length};
 ghost use Rattle.lk_tree.specs.Tree.{const};
-ghost use Rattle.lk_questions.specs.Built.{infer_row};
+ghost use Rattle.lk_questions.specs.Infer.{infer_steps};
 ghost use Rattle.lk_store.specs.Contents.{name_at, list_at};
 ghost use Rattle.lk_type.specs.Types.{Infers};
 
 use crate::infer::TypeNext;
-use lk_ask::constants::is_built;
 use lk_ask::looks::Looks;
 use lk_ask::next::Next;
 use lk_ask::query::Answer;
@@ -23,16 +22,13 @@ pub(crate) fn constant_type<L: Looks>(
     requires name_in { name < length (L.contents looks.old).names }
     requires levels_in { levels < length (L.contents looks.old).lists }
     ensures { Infers L.contents L.rest L.sight looks.old looks.new result
-        (λ t. infer_row (const (name_at (L.contents looks.old) name)
+        (λ t. infer_steps (const (name_at (L.contents looks.old) name)
         (list_at (L.contents looks.old) levels))) }
 {
-    let entry = match looks.look(name) {
+    let entry = match looks.look(name, Rule::UnknownConstant) {
         Ok(entry) => entry,
         Err(rule) => return Ok(Next::No(rule)),
     };
-    if !is_built(entry.kind) {
-        return Ok(Next::No(Rule::BuiltinShape));
-    }
     match looks.at_levels(entry, levels, entry.stated)? {
         Some(e) => Ok(Next::Done(Answer::Term(e))),
         None => Ok(Next::No(Rule::LevelCount)),

@@ -1,14 +1,14 @@
 //! `Infer`: its first step, and how it goes on.
 
 ghost use Rattle.std.specs.Prelude.{◌<◌, length};
-ghost use Rattle.lk_questions.specs.Built.{infer_row};
 ghost use Rattle.lk_type.specs.Sheets.{IsKnownTypeTerm, IsKnownTypeTruth};
-ghost use Rattle.lk_type.specs.Types.{Infers, ResumesTerm, ResumesTruth};
+ghost use Rattle.lk_type.specs.Types.{Begins, ResumesTerm, ResumesTruth};
 
 use crate::application::{application_end, function_form};
 use crate::binders::{lam_domain_sort, lam_end, pi_domain_sort};
 use crate::constant::constant_type;
 use crate::lets::{let_body, let_type_sort};
+use crate::literals::{number_type, text_type};
 use crate::sheet::{TypeTermSheet, TypeTruthSheet};
 use crate::sorts::{next_sort, pi_body_sort};
 use lk_ask::looks::Looks;
@@ -22,36 +22,44 @@ use lk_tree::rule::Rule;
 /// What `Infer` does next.
 pub type TypeNext = Next<u64, Sheet<TypeTermSheet<u64>, TypeTruthSheet<u64>>>;
 
-/// The first step of `Infer` of a term.
-pub fn begin<L: Looks>(looks: &mut L, e: u64) -> Result<TypeNext, NoMemory>
+/// The first step of `Infer`.
+pub enum TypeStep {
+    /// What comes next.
+    Goes(TypeNext),
+    /// It is a projection of this subject.
+    Projection { subject: u64 },
+}
+
+/// The first step of `Infer` of a term. A projection has steps of its own.
+pub fn begin<L: Looks>(looks: &mut L, e: u64) -> Result<TypeStep, NoMemory>
     requires e_in { e < length (L.contents looks.old).trees }
-    ensures { Infers L.contents L.rest L.sight looks.old looks.new result (λ t. infer_row (t e)) }
+    ensures { Begins L.contents L.rest L.sight looks.old looks.new result e }
 {
     match looks.view(e) {
-        Node::Var(_) => Ok(Next::No(Rule::LooseVariable)),
-        Node::Sort(level) => next_sort(looks, level),
-        Node::Local(_, ty) => Ok(Next::Done(Answer::Term(ty))),
-        Node::Const(name, levels) => constant_type(looks, name, levels),
-        Node::App(function, argument) => Ok(Next::Ask(
+        Node::Var(_) => Ok(TypeStep::Goes(Next::No(Rule::LooseVariable))),
+        Node::Sort(level) => Ok(TypeStep::Goes(next_sort(looks, level)?)),
+        Node::Local(_, ty) => Ok(TypeStep::Goes(Next::Done(Answer::Term(ty)))),
+        Node::Const(name, levels) => Ok(TypeStep::Goes(constant_type(looks, name, levels)?)),
+        Node::App(function, argument) => Ok(TypeStep::Goes(Next::Ask(
             Query::Infer(function),
             Sheet::Term(TypeTermSheet::Function { argument }),
-        )),
-        Node::Lam(domain, body) => Ok(Next::Ask(
+        ))),
+        Node::Lam(domain, body) => Ok(TypeStep::Goes(Next::Ask(
             Query::Infer(domain),
             Sheet::Term(TypeTermSheet::LamDomain { domain, body }),
-        )),
-        Node::Pi(domain, body) => Ok(Next::Ask(
+        ))),
+        Node::Pi(domain, body) => Ok(TypeStep::Goes(Next::Ask(
             Query::Infer(domain),
             Sheet::Term(TypeTermSheet::PiDomain { domain, body }),
-        )),
-        Node::Let(ty, value, body) => Ok(Next::Ask(
+        ))),
+        Node::Let(ty, value, body) => Ok(TypeStep::Goes(Next::Ask(
             Query::Infer(ty),
             Sheet::Term(TypeTermSheet::LetType { ty, value, body }),
-        )),
-        // Those of the other kinds are not built yet.
-        Node::Proj(_, _, _) | Node::Lit(_) | Node::Wide | Node::Str(_) => Ok(Next::No(
-            Rule::BuiltinShape,
-        )),
+        ))),
+        Node::Proj(_, _, subject) => Ok(TypeStep::Projection { subject }),
+        Node::Lit(_) => Ok(TypeStep::Goes(number_type(looks)?)),
+        Node::Str(_) => Ok(TypeStep::Goes(text_type(looks)?)),
+        Node::Wide => Ok(TypeStep::Goes(Next::No(Rule::WideLiteral))),
     }
 }
 

@@ -6,5 +6,6 @@ pub mod binders;
 pub mod constant;
 pub mod infer;
 mod lets;
+mod literals;
 pub mod sheet;
 pub mod sorts;

@@ -3,7 +3,7 @@
 ghost use Rattle.std.specs.Prelude.{◌<◌, IfOk, length};
 ghost use Rattle.lk_tree.specs.Tree.{sort as tree_sort, imax_level};
 ghost use Rattle.lk_plain.specs.Program.{done};
-ghost use Rattle.lk_questions.specs.Built.{infer_row};
+ghost use Rattle.lk_questions.specs.Infer.{infer_steps};
 ghost use Rattle.lk_store.specs.Contents.{level_at, tree_at, IsLevel};
 ghost use Rattle.lk_ask.specs.Looks.{Made};
 ghost use Rattle.lk_type.specs.Types.{level_in, pi_end, Infers};
@@ -20,7 +20,7 @@ use lk_tree::rule::Rule;
 pub(crate) fn next_sort<L: Looks>(looks: &mut L, level: u64) -> Result<TypeNext, NoMemory>
     requires { level < length (L.contents looks.old).levels }
     ensures { Infers L.contents L.rest L.sight looks.old looks.new result
-        (λ t. infer_row (tree_sort (level_at (L.contents looks.old) level))) }
+        (λ t. infer_steps (tree_sort (level_at (L.contents looks.old) level))) }
 {
     let above = looks.make_level(LevelNode::Succ(level))?;
     let e = looks.make(Node::Sort(above))?;

@@ -4,20 +4,8 @@ use Rattle.lk_store.specs.Contents.{list_at, tree_at}
 use Rattle.lk_store.specs.Store.{contents_of}
 use Rattle.lk_env.specs.Entries.{plain_entry}
 use Rattle.lk_ask.specs.Looks.{Basis}
-use Rattle.lk_type.proofs.Types.{unbuilt_row, typed_row, counted_row}
+use Rattle.lk_type.proofs.Types.{typed_row, counted_row}
 use Rattle.lk_type.proofs.constant.constant_type.Goals as goal
-
-pub returns-then-not-is_built : goal.returns-then-not-is_built
-returns-then-not-is_built g c =
-    let h = c.in-Ok.ensures.found in
-    let library = (g.L.Looks.sight (g.L.Terms.rest c.args.looks.now)).basis.library in
-    record {
-      keeps = search rules;
-      stays = search rules;
-      known = search rules;
-      steps = unbuilt_row library _ _ _ _ c.in-Ok.entry h (list_at (g.L.Terms.contents c.args.looks.now) c.args.levels) c.is_built.result
-          (c.is_built.ensures (contents_of library.0) library.1 c.in-Ok.entry h.entry refl h.is) (search rules);
-    }
 
 pub returns-in-Some : goal.returns-in-Some
 returns-in-Some g c =
@@ -33,7 +21,7 @@ returns-in-Some g c =
       known = search rules;
       steps = ap (λ r. gives (g.L.Looks.sight r).last (a_tree (tree_at (g.L.Terms.contents c.at_levels.new.self) c.in-Some.e))) c.at_levels.ensures.rest
           ∙ typed_row library _ _ _ _ c.in-Ok.entry h (list_at before c.args.levels) (g.L.Terms.contents c.at_levels.new.self) (tree_at before c.in-Ok.entry.stated) same
-          c.is_built.result (c.is_built.ensures (contents_of library.0) library.1 c.in-Ok.entry h.entry refl h.is) (search rules) c.in-Some.e at;
+          c.in-Some.e at;
     }
 
 pub returns-in-None : goal.returns-in-None
@@ -49,5 +37,5 @@ returns-in-None g c =
       stays = search rules;
       known = search rules;
       steps = counted_row library _ _ _ _ c.in-Ok.entry h (list_at before c.args.levels) (g.L.Terms.contents c.at_levels.new.self) (tree_at before c.in-Ok.entry.stated) same
-          c.is_built.result (c.is_built.ensures (contents_of library.0) library.1 c.in-Ok.entry h.entry refl h.is) (search rules) at;
+          at;
     }
