@@ -1,0 +1,7 @@
+use Rattle.lk_eta.specs.declared.sheet.Way.TheVariants.{Given}
+use Rattle.lk_eta.specs.Etas.{behind_way}
+use Rattle.lk_ask.proofs.LineSteps.{line_on}
+use Rattle.lk_eta.proofs.ways.begin.Goals as goal
+
+pub returns : goal.returns
+returns g c = line_on (behind_way Given) c.in_ok-line.ensures c.of_given.ensures
