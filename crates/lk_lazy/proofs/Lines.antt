@@ -20,7 +20,7 @@ use Rattle.lk_lazy.specs.declared.heads.Unfolding.{Unfolding}
 use Rattle.lk_lazy.specs.declared.sheet.LazySheet.{LazySheet}
 use Rattle.lk_lazy.specs.Heads.{looked_up, unfolding_at, IsHeadUnfolding, IsLookedUp, LooksUp}
 use Rattle.lk_lazy.specs.Lazies.{GoesLine, GivesLine}
-use Rattle.lk_lazy.proofs.Programs.{bind_bind}
+use Rattle.lk_plain.proofs.Binding.{bind_bind}
 
 -- the line looks two heads up
 line_looks : (a b : Tree) (r : Program Bool)

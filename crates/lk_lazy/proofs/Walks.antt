@@ -12,7 +12,8 @@ use Rattle.lk_store.specs.declared.node.Node.TheVariants.{Var, Sort, Const, App,
 use Rattle.lk_ask.specs.declared.sheet.Pair.{Pair}
 use Rattle.lk_ask.specs.Sheets.{map_pair, IsKnownPair}
 use Rattle.lk_lazy.specs.declared.spines.Paired.{Paired}
-use Rattle.lk_lazy.specs.Spines.{lefts, rights, IsSpineWalk, IsPaired}
+use Rattle.lk_ask.specs.Lines.{lefts, rights}
+use Rattle.lk_lazy.specs.Spines.{IsSpineWalk, IsPaired}
 
 pub args-app : (f a : Tree) → args (app f a) ≡ args f ++ a ∷ []
 unfolding args

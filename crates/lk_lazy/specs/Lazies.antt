@@ -20,7 +20,7 @@ use Rattle.lk_lazy.specs.declared.sheet.LazySheet.{LazySheet}
 use Rattle.lk_lazy.specs.declared.sheet.LazySheet.TheVariants.{Passed, Arguments}
 use Rattle.lk_lazy.specs.Heads.{unfolding_at}
 use Rattle.lk_lazy.specs.Sheets.{map_lazy, IsKnownLazy}
-use Rattle.lk_lazy.specs.Spines.{lefts, rights}
+use Rattle.lk_ask.specs.Lines.{lefts, rights}
 
 abbrev pub both_by : Tree → Tree → Option PlainUnfolding → Option PlainUnfolding → Program Bool
 both_by a b (Some u) (Some v) = unfold_both a b u v

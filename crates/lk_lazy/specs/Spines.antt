@@ -4,15 +4,9 @@ use Rattle.lk_tree.specs.Tree.{Tree}
 use Rattle.lk_tree.specs.Spine.{head, args}
 use Rattle.lk_store.specs.Contents.{Contents, tree_at}
 use Rattle.lk_ask.specs.declared.sheet.Pair.{Pair}
+use Rattle.lk_ask.specs.Lines.{lefts, rights}
 use Rattle.lk_ask.specs.Sheets.{map_pair, IsKnownPair}
 use Rattle.lk_lazy.specs.declared.spines.Paired.{Paired}
-
--- the left ones and the right ones of a stack of pairs, from the top down
-abbrev pub lefts : List (Pair Tree) → List Tree
-lefts ps = map (λ (p : Pair Tree). p.left) (reverse ps)
-
-abbrev pub rights : List (Pair Tree) → List Tree
-rights ps = map (λ (p : Pair Tree). p.right) (reverse ps)
 
 -- where the walk down two spines stands: the arguments that it left behind are on the stack
 pub record IsSpineWalk (c : Contents) (a b left right : ℕ) (pairs : List (Pair ℕ)) : Type 0 where

@@ -69,7 +69,7 @@ pub(crate) fn unfolding_of<L: Looks>(looks: &mut L, e: u64) -> Result<Option<Unf
     let front = head(looks, e);
     match looks.view(front) {
         Node::Const(name, levels) => {
-            let entry = looks.look(name)?;
+            let entry = looks.look(name, Rule::UnknownConstant)?;
             Ok(unfolding_by(name, levels, entry))
         }
         _ => Ok(None),

@@ -4,15 +4,14 @@ ghost use Rattle.std.specs.Prelude.{◌≡◌, ◌<◌, ℕ, IfOk, Option, lengt
 ghost use Rattle.lk_tree.specs.Tree.{Tree};
 ghost use Rattle.lk_rulebook.specs.Place.{Place};
 ghost use Rattle.lk_plain.specs.Erased.{truth, erased};
-ghost use Rattle.lk_questions.specs.Levels.{complete_test};
-ghost use Rattle.lk_questions.specs.Built.{same_headed};
+ghost use Rattle.lk_questions.specs.Same.{same_reduced};
 ghost use Rattle.lk_store.specs.Contents.{level_at};
 ghost use Rattle.lk_ask.specs.Nexts.{IsKnownNext};
 ghost use Rattle.lk_same.specs.Sames.{level_rest, form_rest, types_rest, same_next};
 ghost use Rattle.lk_same.specs.Sames.{Compares, ResumesTerm};
 ghost use Rattle.lk_same.specs.Sheets.{IsKnownProof, IsKnownSameSheet};
 
-use crate::headed::unfolded;
+use crate::lines::literals;
 use crate::same::SameNext;
 use crate::sheet::{ProofSheet, SameTermSheet, SameTruthSheet};
 use lk_ask::looks::Looks;
@@ -28,7 +27,7 @@ use lk_tree::rule::Rule;
 pub(crate) fn begin(left: u64, right: u64) -> SameNext
     ensures known { (n : ℕ) → left < n → right < n → IsKnownNext IsKnownSameSheet n result }
     ensures steps { (w : Place) (t : ℕ → Tree) (last : Option ℕ) → same_next w t last result
-        ≡ erased w truth last (same_headed complete_test (t left) (t right)) }
+        ≡ erased w truth last (same_reduced (t left) (t right)) }
 {
     Next::Ask(
         Query::Infer(left),
@@ -57,7 +56,7 @@ fn by_level<L: Looks>(
             Sheet::Term(SameTermSheet::Proof(ProofSheet::Right { left, right, ty })),
         ));
     }
-    unfolded(looks, left, right)
+    literals(looks, left, right)
 }
 
 /// Goes on with the weak head form that is to be the left type's sort.
@@ -96,7 +95,7 @@ pub(crate) fn by_types<L: Looks>(
     if equal {
         return Ok(Next::Done(Answer::Truth(true)));
     }
-    unfolded(looks, left, right)
+    literals(looks, left, right)
 }
 
 /// Goes on once the term is there that a sheet waits for.

@@ -1,8 +1,8 @@
 //! Whether two terms are the same: what `Same` asks, step by step, as the table says it.
 #![tactic(auto)]
 
-pub mod headed;
 pub mod irrelevance;
+pub mod lines;
 pub mod parts;
 pub mod same;
 pub mod shape;

@@ -1,14 +1,14 @@
 //! `Same`: its first step, and how it goes on.
 
 ghost use Rattle.std.specs.Prelude.{◌<◌, true, Ok, length};
-ghost use Rattle.lk_questions.specs.Built.{same_row};
+ghost use Rattle.lk_questions.specs.Same.{same_steps};
 ghost use Rattle.lk_same.specs.Sames.{bodies_rest, cores_rest, Compares};
 ghost use Rattle.lk_same.specs.Sames.{ResumesTerm, ResumesTruth};
 ghost use Rattle.lk_same.specs.Sheets.{IsKnownSameTerm, IsKnownSameTruth};
 
-use crate::headed::of_lazy;
 use crate::irrelevance;
-use crate::parts::after_pair;
+use crate::lines::{of_eta, of_lazy, of_literals};
+use crate::parts::{after_pair, after_subjects};
 use crate::shape::shape;
 use crate::sheet::{SameTermSheet, SameTruthSheet};
 use lk_ask::looks::Looks;
@@ -27,7 +27,7 @@ pub fn begin<L: Looks>(looks: &mut L, a: u64, b: u64) -> Result<SameNext, NoMemo
     requires a_in { a < length (L.contents looks.old).trees }
     requires b_in { b < length (L.contents looks.old).trees }
     ensures { Compares L.contents L.rest L.sight looks.old looks.new result
-        (λ t. same_row (t a) (t b)) }
+        (λ t. same_steps (t a) (t b)) }
 {
     if looks.same(a, b) {
         return Ok(Next::Done(Answer::Truth(true)));
@@ -115,6 +115,14 @@ pub fn resume_term<L: Looks>(
             Ok(after_cores(looks, left, right, form, e))
         }
         SameTermSheet::Proof(kept) => irrelevance::resume_term(looks, kept, e),
+        SameTermSheet::Literals(kept) => {
+            let line = lk_lit::literals::resume(looks, kept, e)?;
+            of_literals(looks, line)
+        }
+        SameTermSheet::Eta(kept) => {
+            let line = lk_eta::resume_term(looks, kept, e)?;
+            of_eta(looks, line)
+        }
     }
 }
 
@@ -135,11 +143,20 @@ pub fn resume_truth<L: Looks>(
             right,
             number,
         } => after_domains(looks, domain, left, right, number, yes),
-        SameTruthSheet::Parts { others } => Ok(after_pair(others, yes)),
+        SameTruthSheet::Parts {
+            left,
+            right,
+            others,
+        } => after_pair(looks, left, right, others, yes),
+        SameTruthSheet::Subjects { left, right } => after_subjects(looks, left, right, yes),
         SameTruthSheet::Types { left, right } => irrelevance::by_types(looks, left, right, yes),
         SameTruthSheet::Lazy(kept) => {
             let next = lk_lazy::resume(looks, kept, yes)?;
             Ok(of_lazy(next))
+        }
+        SameTruthSheet::Eta(kept) => {
+            let line = lk_eta::resume_truth(looks, kept, yes)?;
+            of_eta(looks, line)
         }
     }
 }

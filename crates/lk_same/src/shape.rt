@@ -1,14 +1,13 @@
 //! Two terms by their shape: sorts by their levels, binders by their domains and bodies, the others by their `Core`.
 
-ghost use Rattle.std.specs.Prelude.{◌≡◌, ◌<◌, ℕ, max, IfOk, Option, length};
-ghost use Rattle.lk_tree.specs.Tree.{Tree, sort, lam, pi};
+ghost use Rattle.std.specs.Prelude.{◌≡◌, ◌<◌, ℕ, max, Ok, IfOk, Option, length};
+ghost use Rattle.lk_tree.specs.Tree.{Tree, sort, lam, pi, lit, str};
 ghost use Rattle.lk_tree.specs.Bind.{bound};
 ghost use Rattle.lk_rulebook.specs.Place.{Place};
 ghost use Rattle.lk_plain.specs.Erased.{truth, erased};
-ghost use Rattle.lk_questions.specs.Levels.{complete_test as plain_test};
 ghost use Rattle.lk_questions.specs.Pairs.{same_bodies};
-ghost use Rattle.lk_questions.specs.Built.{built_by_reduction, same_shape};
-ghost use Rattle.lk_store.specs.Contents.{level_at, tree_at};
+ghost use Rattle.lk_questions.specs.Same.{by_reduction, by_shape};
+ghost use Rattle.lk_store.specs.Contents.{level_at, text_at, tree_at};
 ghost use Rattle.lk_ask.specs.Nexts.{IsKnownNext};
 ghost use Rattle.lk_same.specs.Sames.{same_next, Compares};
 ghost use Rattle.lk_same.specs.Sheets.{IsKnownSameSheet};
@@ -18,7 +17,7 @@ use crate::same::SameNext;
 use crate::sheet::{SameTermSheet, SameTruthSheet};
 use lk_ask::looks::Looks;
 use lk_ask::next::Next;
-use lk_ask::query::Query;
+use lk_ask::query::{Answer, Query};
 use lk_ask::sheet::Sheet;
 use lk_lazy::levels::are_equal;
 use lk_store::memory::NoMemory;
@@ -28,7 +27,7 @@ use lk_store::node::Node;
 fn reduced(a: u64, b: u64) -> SameNext
     ensures known { (n : ℕ) → a < n → b < n → IsKnownNext IsKnownSameSheet n result }
     ensures steps { (w : Place) (t : ℕ → Tree) (last : Option ℕ) → same_next w t last result
-        ≡ erased w truth last (built_by_reduction plain_test (t a) (t b)) }
+        ≡ erased w truth last (by_reduction (t a) (t b)) }
 {
     Next::Ask(
         Query::Core(a),
@@ -44,7 +43,7 @@ fn sort_and<L: Looks>(looks: &L, level: u64, a: u64, b: u64) -> Result<SameNext,
     requires a_is { sort (level_at (L.contents looks.now) level)
         ≡ tree_at (L.contents looks.now) a }
     ensures { Compares L.contents L.rest L.sight looks.now looks.now result
-        (λ t. same_shape plain_test (t a) (t b)) }
+        (λ t. by_shape (t a) (t b)) }
 {
     match looks.view(b) {
         Node::Sort(other) => {
@@ -116,7 +115,7 @@ fn lambda_and<L: Looks>(
     requires b_in { b < length (L.contents looks.now).trees }
     requires a_is { let t = tree_at (L.contents looks.now) in lam (t domain) (t body) ≡ t a }
     ensures { Compares L.contents L.rest L.sight looks.now looks.now result
-        (λ t. same_shape plain_test (t a) (t b)) }
+        (λ t. by_shape (t a) (t b)) }
 {
     match looks.view(b) {
         Node::Lam(other, right) => domains(looks, a, b, domain, body, other, right),
@@ -132,11 +131,40 @@ fn pi_and<L: Looks>(looks: &L, domain: u64, body: u64, a: u64, b: u64) -> Result
     requires b_in { b < length (L.contents looks.now).trees }
     requires a_is { let t = tree_at (L.contents looks.now) in pi (t domain) (t body) ≡ t a }
     ensures { Compares L.contents L.rest L.sight looks.now looks.now result
-        (λ t. same_shape plain_test (t a) (t b)) }
+        (λ t. by_shape (t a) (t b)) }
 {
     match looks.view(b) {
         Node::Pi(other, right) => domains(looks, a, b, domain, body, other, right),
         _ => Ok(reduced(a, b)),
+    }
+}
+
+/// A number and another term.
+fn number_and<L: Looks>(looks: &L, number: u128, a: u64, b: u64) -> SameNext
+    requires a_in { a < length (L.contents looks.now).trees }
+    requires b_in { b < length (L.contents looks.now).trees }
+    requires a_is { lit number ≡ tree_at (L.contents looks.now) a }
+    ensures { Compares L.contents L.rest L.sight looks.now looks.now (Ok result)
+        (λ t. by_shape (t a) (t b)) }
+{
+    match looks.view(b) {
+        Node::Lit(other) => Next::Done(Answer::Truth(number == other)),
+        _ => reduced(a, b),
+    }
+}
+
+/// A text and another term, which is another one.
+fn text_and<L: Looks>(looks: &L, text: u64, a: u64, b: u64) -> SameNext
+    requires a_in { a < length (L.contents looks.now).trees }
+    requires b_in { b < length (L.contents looks.now).trees }
+    requires text_in { text < length (L.contents looks.now).texts }
+    requires a_is { let c = L.contents looks.now in str (text_at c text) ≡ tree_at c a }
+    ensures { Compares L.contents L.rest L.sight looks.now looks.now (Ok result)
+        (λ t. by_shape (t a) (t b)) }
+{
+    match looks.view(b) {
+        Node::Str(_) => Next::Done(Answer::Truth(looks.same(a, b))),
+        _ => reduced(a, b),
     }
 }
 
@@ -145,12 +173,14 @@ pub(crate) fn shape<L: Looks>(looks: &L, a: u64, b: u64) -> Result<SameNext, NoM
     requires a_in { a < length (L.contents looks.now).trees }
     requires b_in { b < length (L.contents looks.now).trees }
     ensures { Compares L.contents L.rest L.sight looks.now looks.now result
-        (λ t. same_shape plain_test (t a) (t b)) }
+        (λ t. by_shape (t a) (t b)) }
 {
     match looks.view(a) {
         Node::Sort(level) => sort_and(looks, level, a, b),
         Node::Lam(domain, body) => lambda_and(looks, domain, body, a, b),
         Node::Pi(domain, body) => pi_and(looks, domain, body, a, b),
+        Node::Lit(number) => Ok(number_and(looks, number, a, b)),
+        Node::Str(text) => Ok(text_and(looks, text, a, b)),
         _ => Ok(reduced(a, b)),
     }
 }

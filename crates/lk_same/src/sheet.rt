@@ -2,7 +2,9 @@
 
 use lk_ask::sheet::Pair;
 use lk_ask::stack::Stack;
+use lk_eta::sheet::{EtaTermSheet, EtaTruthSheet};
 use lk_lazy::sheet::LazySheet;
+use lk_lit::sheet::LiteralsSheet;
 
 /// What the comparison of two terms as proofs keeps while it waits for a term. `ty` is the type of
 /// the left one.
@@ -27,6 +29,10 @@ pub enum SameTermSheet<X: Drop> {
     CoreRight { left: X, right: X, form: X },
     /// As proofs.
     Proof(ProofSheet<X>),
+    /// By literals.
+    Literals(LiteralsSheet<X>),
+    /// By eta.
+    Eta(EtaTermSheet<X>),
 }
 
 /// What it keeps while it waits for yes or no.
@@ -42,9 +48,17 @@ pub enum SameTruthSheet<X: Drop> {
         right: X,
         number: u64,
     },
-    /// After a pair. The others are still to be compared, the last one first.
+    /// Two terms part by part, after a pair of parts. The others are still to be compared, the last
+    /// one first.
     Parts {
+        left: X,
+        right: X,
         others: Stack<Pair<X>>,
+    },
+    /// Two projections, after their subjects.
+    Subjects {
+        left: X,
+        right: X,
     },
     /// Two proofs, after their types.
     Types {
@@ -53,4 +67,6 @@ pub enum SameTruthSheet<X: Drop> {
     },
     /// By unfolding.
     Lazy(LazySheet<X>),
+    /// By eta.
+    Eta(EtaTruthSheet<X>),
 }

@@ -10,6 +10,7 @@ returns-in_default g c =
     let d = g.L.Terms.contents c.args.looks.now in
     let t = tree_at d in
     let unlike = other_and d (t c.args.b) c.view.result (t c.args.a)
-    c.in_default.not-Sort c.in_default.not-Lam c.in_default.not-Pi c.view.ensures.tree in
+    c.in_default.not-Sort c.in_default.not-Lam c.in_default.not-Pi
+    c.in_default.not-Lit c.in_default.not-Str c.view.ensures.tree in
     gives_now _ _ _ (c.reduced.ensures.known _ c.requires.a_in c.requires.b_in)
     (c.reduced.ensures.steps _ _ _ ∙ ap (erased _ truth _) unlike)

@@ -1,9 +1,8 @@
 use Rattle.std.proofs.Common.{◌∙◌}
-use Rattle.lk_questions.specs.Levels.{complete_test}
-use Rattle.lk_questions.specs.Built.{same_parts}
 use Rattle.lk_store.specs.Contents.{tree_at}
-use Rattle.lk_same.proofs.Giving.{behind_line}
-use Rattle.lk_same.proofs.headed.unfolded.Goals as goal
+use Rattle.lk_same.specs.Sames.{then_parts}
+use Rattle.lk_same.proofs.Giving.{behind_trees}
+use Rattle.lk_same.proofs.lines.unfolded.Goals as goal
 
 pub returns-in-Some : goal.returns-in-Some
 returns-in-Some g c =
@@ -13,8 +12,7 @@ returns-in-Some g c =
       keeps = h.keeps;
       stays = h.stays;
       known = c.of_lazy.ensures.known _ h.known;
-      steps = c.of_lazy.ensures.steps _ _ _
-          ∙ h.goes (same_parts complete_test (t c.args.a) (t c.args.b));
+      steps = c.of_lazy.ensures.steps _ _ _ ∙ h.goes (then_parts (t c.args.a) (t c.args.b));
     }
 
 pub returns-in-None : goal.returns-in-None
@@ -22,4 +20,4 @@ returns-in-None g c =
     let h = rw c.in-None.is at c.in_ok-next.ensures in
     let a = h.keeps.trees.same c.args.a c.requires.a_in in
     let b = h.keeps.trees.same c.args.b c.requires.b_in in
-    behind_line _ _ _ _ _ _ h (rw (a, b) at c.parts.ensures)
+    behind_trees then_parts c.args.a c.args.b a b h c.parted.ensures
