@@ -1,4 +1,5 @@
 pub mod Sheets
+pub mod Constants
 pub mod Frames
 pub mod Links
 pub mod Lookouts

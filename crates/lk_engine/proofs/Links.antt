@@ -9,7 +9,7 @@ use Rattle.lk_plain.specs.Answer.{later}
 use Rattle.lk_plain.specs.Erased.{Value, Out, finished, stopped, used_up, seen, go_on, run_steps, out_of, steps_of}
 use Rattle.lk_plain.proofs.Erasing.{out-zero, out-step, seen_seen}
 use Rattle.lk_plain.proofs.Exact.{out_exact}
-use Rattle.lk_questions.specs.Built.{rows}
+use Rattle.lk_questions.specs.Table.{steps}
 use Rattle.lk_store.specs.Contents.{Contents, tree_at, Extends}
 use Rattle.lk_ask.specs.declared.query.Query.{Query}
 use Rattle.lk_ask.specs.declared.query.Query.TheVariants.{Core, Whnf, Infer, Same}
@@ -33,7 +33,7 @@ use Rattle.lk_engine.specs.Rests.{any_rest, next_of, query_steps, IsKnownFrame, 
 use Rattle.lk_engine.proofs.Frames.{any_from, query_steady, query_known, stack_known, links_steady}
 
 -- a question's row is its row in the table
-query_steps_is : (w : Place) (t : ℕ → Tree) (q : Query ℕ) → query_steps w t None q ≡ steps_of rows w (query_of t q)
+query_steps_is : (w : Place) (t : ℕ → Tree) (q : Query ℕ) → query_steps w t None q ≡ steps_of steps w (query_of t q)
 query_steps_is w t (Core e) = refl
 query_steps_is w t (Whnf e) = refl
 query_steps_is w t (Infer e) = refl
@@ -62,16 +62,16 @@ true_at w c es q kept h within = h.each (key_of q, kept) within q refl
 module _ (w : Place) (t : ℕ → Tree) where
   -- what waits for an answer, with this frame
   abbrev waiting : Frame → Out → Out
-  waiting f o = seen f.last (go_on o (λ v rest. run_steps (out_of rows w) (any_rest w None (map_any t f.sheet) v) rest))
+  waiting f o = seen f.last (go_on o (λ v rest. run_steps (out_of steps w) (any_rest w None (map_any t f.sheet) v) rest))
 
   -- one more question is asked
   links_push : (q : plain.Query) (b : ℕ) (fs : List Frame) (f : Frame) (asked : plain.Query) (left : ℕ)
-      → Linked w t q b fs (query_of t f.asker) f.budget → out_of rows w (query_of t f.asker) f.budget ≡ waiting f (out_of rows w asked left) → Linked w t q b (fs ++ f ∷ []) asked left
+      → Linked w t q b fs (query_of t f.asker) f.budget → out_of steps w (query_of t f.asker) f.budget ≡ waiting f (out_of steps w asked left) → Linked w t q b (fs ++ f ∷ []) asked left
   links_push q b [] f asked left h e = (h.0, h.1, (asked, left, rw (h.0, h.1) at e, (refl, refl)))
   links_push q b (g ∷ fs) f asked left h e = (h.0, h.1, (h.2.0, h.2.1, h.2.2, links_push h.2.0 h.2.1 fs f asked left h.2.3 e))
 
   links_pop : (q : plain.Query) (b : ℕ) (fs : List Frame) (f : Frame) (asked : plain.Query) (left : ℕ)
-      → Linked w t q b (fs ++ f ∷ []) asked left → Linked w t q b fs (query_of t f.asker) f.budget × (out_of rows w (query_of t f.asker) f.budget ≡ waiting f (out_of rows w asked left))
+      → Linked w t q b (fs ++ f ∷ []) asked left → Linked w t q b fs (query_of t f.asker) f.budget × (out_of steps w (query_of t f.asker) f.budget ≡ waiting f (out_of steps w asked left))
   links_pop q b [] f asked left h =
       let p = h.2.3.0 in
       let r = h.2.3.1 in
@@ -81,30 +81,30 @@ module _ (w : Place) (t : ℕ → Tree) where
       ((h.0, h.1, (h.2.0, h.2.1, h.2.2, r.0)), r.1)
 
   -- a stop goes through to the first question
-  links_stop : (q : plain.Query) (b : ℕ) (fs : List Frame) (asked : plain.Query) (left : ℕ) (s : Stop) → Linked w t q b fs asked left → IsStop (out_of rows w asked left) s → IsStop (out_of rows w q b) s
+  links_stop : (q : plain.Query) (b : ℕ) (fs : List Frame) (asked : plain.Query) (left : ℕ) (s : Stop) → Linked w t q b fs asked left → IsStop (out_of steps w asked left) s → IsStop (out_of steps w q b) s
   links_stop q b [] asked left s h e = rw (h.0, h.1) at e
   links_stop q b (f ∷ fs) asked left s h e = stops_behind f q b h.2.0 h.2.1 s h.2.2 (links_stop h.2.0 h.2.1 fs asked left s h.2.3 e)
     where
-      stops_behind : (f : Frame) (q : plain.Query) (b : ℕ) (r : plain.Query) (c : ℕ) (s : Stop) → out_of rows w q b ≡ waiting f (out_of rows w r c) → IsStop (out_of rows w r c) s → IsStop (out_of rows w q b) s
+      stops_behind : (f : Frame) (q : plain.Query) (b : ℕ) (r : plain.Query) (c : ℕ) (s : Stop) → out_of steps w q b ≡ waiting f (out_of steps w r c) → IsStop (out_of steps w r c) s → IsStop (out_of steps w q b) s
       stops_behind f q b r c (stop.No rule) h e = h ∙ ap (waiting f) e
       stops_behind f q b r c stop.Spent h e = h ∙ ap (waiting f) e
       stops_behind f q b r c stop.NoMemory h e = tt
 
   -- an answer goes to the frame that waits
-  waiting_goes : (f : Frame) (v : Value) (left : ℕ) (last last2 : Option ℕ) → last2 ≡ later f.last last → waiting f (finished v left last) ≡ run_steps (out_of rows w) (any_rest w last2 (map_any t f.sheet) v) left
+  waiting_goes : (f : Frame) (v : Value) (left : ℕ) (last last2 : Option ℕ) → last2 ≡ later f.last last → waiting f (finished v left last) ≡ run_steps (out_of steps w) (any_rest w last2 (map_any t f.sheet) v) left
   waiting_goes f v left last last2 e =
-      seen_seen f.last last (run_steps (out_of rows w) (any_rest w None (map_any t f.sheet) v) left)
-      ∙ ap (λ s. seen s (run_steps (out_of rows w) (any_rest w None (map_any t f.sheet) v) left)) (sym e)
+      seen_seen f.last last (run_steps (out_of steps w) (any_rest w None (map_any t f.sheet) v) left)
+      ∙ ap (λ s. seen s (run_steps (out_of steps w) (any_rest w None (map_any t f.sheet) v) left)) (sym e)
       ∙ sym (any_from w last2 left (map_any t f.sheet) v)
 
 -- a question is opened
 pub opened : (w : Place) (t u : ℕ → Tree) (q : Query ℕ) (next : Next ℕ (AnySheet ℕ)) (left left2 : ℕ) (last : Option ℕ) → 0 < left → left2 ≡ left - 1 → next_of w u last next ≡ query_steps w t None q
-    → run_steps (out_of rows w) (next_of w u last next) left2 ≡ out_of rows w (query_of t q) left
-opened w t u q next left left2 last l e p = ap (run_steps (out_of rows w) (next_of w u last next)) e ∙ ap (λ r. run_steps (out_of rows w) r (left - 1)) (p ∙ query_steps_is w t q) ∙ sym (out-step rows w (query_of t q) left l)
+    → run_steps (out_of steps w) (next_of w u last next) left2 ≡ out_of steps w (query_of t q) left
+opened w t u q next left left2 last l e p = ap (run_steps (out_of steps w) (next_of w u last next)) e ∙ ap (λ r. run_steps (out_of steps w) r (left - 1)) (p ∙ query_steps_is w t q) ∙ sym (out-step steps w (query_of t q) left l)
 
 -- nothing is left for it
-pub not_opened : (w : Place) (t : ℕ → Tree) (q : Query ℕ) (left : ℕ) → left < 1 → out_of rows w (query_of t q) left ≡ used_up
-not_opened w t q left h = let e : left ≡ 0 = omega arith in rw e (out-zero rows w (query_of t q))
+pub not_opened : (w : Place) (t : ℕ → Tree) (q : Query ℕ) (left : ℕ) → left < 1 → out_of steps w (query_of t q) left ≡ used_up
+not_opened w t q left h = let e : left ≡ 0 = omega arith in rw e (out-zero steps w (query_of t q))
 
 -- where the work stands: the first question is q under b, and the one that is worked on is `asked` under `budget`
 pub record IsLinked (w : Place) (q : plain.Query) (b : ℕ) (c : Contents) (stack : List Frame) (asked : Query ℕ) (budget : ℕ) (next : Next ℕ (AnySheet ℕ)) (left : ℕ) (last : Option ℕ) : Type 0 where
@@ -112,19 +112,19 @@ pub record IsLinked (w : Place) (q : plain.Query) (b : ℕ) (c : Contents) (stac
   pub asked_known : IsKnownQuery (length c.trees) asked
   pub known : IsKnownNext IsKnownAny (length c.trees) next
   pub links : Linked w (tree_at c) q b stack (query_of (tree_at c) asked) budget
-  pub runs : run_steps (out_of rows w) (next_of w (tree_at c) last next) left ≡ out_of rows w (query_of (tree_at c) asked) budget
+  pub runs : run_steps (out_of steps w) (next_of w (tree_at c) last next) left ≡ out_of steps w (query_of (tree_at c) asked) budget
 
 pub linked_begins : {c d : Contents} {next : Next ℕ (AnySheet ℕ)} {left : ℕ} {last : Option ℕ} (w : Place) (q : Query ℕ) (b : ℕ) → Extends c d → IsKnownQuery (length c.trees) q → IsKnownNext IsKnownAny (length d.trees) next
-    → run_steps (out_of rows w) (next_of w (tree_at d) last next) left ≡ out_of rows w (query_of (tree_at c) q) b → IsLinked w (query_of (tree_at c) q) b d [] q b next left last
+    → run_steps (out_of steps w) (next_of w (tree_at d) last next) left ≡ out_of steps w (query_of (tree_at c) q) b → IsLinked w (query_of (tree_at c) q) b d [] q b next left last
 linked_begins {c} {d} {next} {left} {last} w q b x h k e =
     let same = query_steady x q h in
-    record { stacked = λ i d h. absurd (omega arith); asked_known = query_known x q h; known = k; links = (same, refl); runs = e ∙ sym (ap (λ r. out_of rows w r b) same) }
+    record { stacked = λ i d h. absurd (omega arith); asked_known = query_known x q h; known = k; links = (same, refl); runs = e ∙ sym (ap (λ r. out_of steps w r b) same) }
 
 module _ {w : Place} {q : plain.Query} {b : ℕ} {c : Contents} {stack : List Frame} {asked : Query ℕ} {budget : ℕ} {next : Next ℕ (AnySheet ℕ)} {left : ℕ} {last : Option ℕ} (l : IsLinked w q b c stack asked budget next left last) where
   -- another question is asked
   pub linked_asks : {d : Contents} {other : Query ℕ} {sheet : AnySheet ℕ} {stack' : List Frame} {next' : Next ℕ (AnySheet ℕ)} {left' : ℕ} {last' : Option ℕ} → next ≡ Ask other sheet
       → stack' ≡ stack ++ record { asker = asked; budget = budget; sheet = sheet; last = last } ∷ [] → Extends c d → IsKnownNext IsKnownAny (length d.trees) next'
-      → run_steps (out_of rows w) (next_of w (tree_at d) last' next') left' ≡ out_of rows w (query_of (tree_at c) other) left → IsLinked w q b d stack' other left next' left' last'
+      → run_steps (out_of steps w) (next_of w (tree_at d) last' next') left' ≡ out_of steps w (query_of (tree_at c) other) left → IsLinked w q b d stack' other left next' left' last'
   linked_asks {d} {other} {sheet} {stack'} {next'} {left'} {last'} is pushed x k e =
       let frame : Frame = record { asker = asked; budget = budget; sheet = sheet; last = last } in
       let known = rw is at l.known in
@@ -141,17 +141,17 @@ module _ {w : Place} {q : plain.Query} {b : ℕ} {c : Contents} {stack : List Fr
       })
 
   -- what was asked is answered
-  pub linked_answers : {answer : Answer ℕ} → next ≡ Done answer → IsKnownAnswer (length c.trees) answer × (out_of rows w (query_of (tree_at c) asked) budget ≡ finished (value_at (tree_at c) answer) left last)
+  pub linked_answers : {answer : Answer ℕ} → next ≡ Done answer → IsKnownAnswer (length c.trees) answer × (out_of steps w (query_of (tree_at c) asked) budget ≡ finished (value_at (tree_at c) answer) left last)
   linked_answers {answer} is = (rw is at l.known, sym (rw is at l.runs))
 
   pub linked_left : {answer : Answer ℕ} → next ≡ Done answer → left ≤ budget
-  linked_left {answer} is = let h = (out_exact rows w (query_of (tree_at c) asked) budget (value_at (tree_at c) answer) left last (linked_answers is).1).0 in omega arith
+  linked_left {answer} is = let h = (out_exact steps w (query_of (tree_at c) asked) budget (value_at (tree_at c) answer) left last (linked_answers is).1).0 in omega arith
 
   pub linked_true : {answer : Answer ℕ} → next ≡ Done answer → IsTrueAt w c asked (record { answer = answer; cost = budget - left; top = last })
   linked_true {answer} is = record {
     query = l.asked_known;
     answer = (linked_answers is).0;
-    is = (out_exact rows w (query_of (tree_at c) asked) budget (value_at (tree_at c) answer) left last (linked_answers is).1).1;
+    is = (out_exact steps w (query_of (tree_at c) asked) budget (value_at (tree_at c) answer) left last (linked_answers is).1).1;
   }
 
   pub top_known : (stack' : List Frame) (frame : Frame) → stack ≡ stack' ++ frame ∷ [] → IsKnownFrame (length c.trees) frame
@@ -167,7 +167,7 @@ module _ {w : Place} {q : plain.Query} {b : ℕ} {c : Contents} {stack : List Fr
       let both = links_pop w (tree_at c) q b stack' frame (query_of (tree_at c) asked) budget links in
       let same = query_steady x frame.asker all.1.asker in
       let given = (linked_answers is).1 in
-      let asker_is : out_of rows w (query_of (tree_at c) frame.asker) frame.budget ≡ run_steps (out_of rows w) (any_rest w last2 (map_any (tree_at c) frame.sheet) (value_at (tree_at c) answer)) left =
+      let asker_is : out_of steps w (query_of (tree_at c) frame.asker) frame.budget ≡ run_steps (out_of steps w) (any_rest w last2 (map_any (tree_at c) frame.sheet) (value_at (tree_at c) answer)) left =
       both.1 ∙ ap (waiting w (tree_at c) frame) given ∙ waiting_goes w (tree_at c) frame (value_at (tree_at c) answer) left last last2 e in
       record {
         stacked = stack_known x stack' all.0;
@@ -178,21 +178,21 @@ module _ {w : Place} {q : plain.Query} {b : ℕ} {c : Contents} {stack : List Fr
       }
 
   -- why the first question has no answer
-  pub linked_stops : {other : Query ℕ} {sheet : AnySheet ℕ} (s : Stop) → next ≡ Ask other sheet → IsStop (out_of rows w (query_of (tree_at c) other) left) s → IsStop (out_of rows w q b) s
+  pub linked_stops : {other : Query ℕ} {sheet : AnySheet ℕ} (s : Stop) → next ≡ Ask other sheet → IsStop (out_of steps w (query_of (tree_at c) other) left) s → IsStop (out_of steps w q b) s
   linked_stops {other} {sheet} s is e = links_stop w (tree_at c) q b stack (query_of (tree_at c) asked) budget s l.links (go s e)
     where
-      runs : waiting w (tree_at c) (record { asker = asked; budget = budget; sheet = sheet; last = last }) (out_of rows w (query_of (tree_at c) other) left) ≡ out_of rows w (query_of (tree_at c) asked) budget
+      runs : waiting w (tree_at c) (record { asker = asked; budget = budget; sheet = sheet; last = last }) (out_of steps w (query_of (tree_at c) other) left) ≡ out_of steps w (query_of (tree_at c) asked) budget
       runs = rw is at l.runs
 
-      go : (s : Stop) → IsStop (out_of rows w (query_of (tree_at c) other) left) s → IsStop (out_of rows w (query_of (tree_at c) asked) budget) s
+      go : (s : Stop) → IsStop (out_of steps w (query_of (tree_at c) other) left) s → IsStop (out_of steps w (query_of (tree_at c) asked) budget) s
       go (stop.No r) e = sym runs ∙ ap (waiting w (tree_at c) (record { asker = asked; budget = budget; sheet = sheet; last = last })) e
       go stop.Spent e = sym runs ∙ ap (waiting w (tree_at c) (record { asker = asked; budget = budget; sheet = sheet; last = last })) e
       go stop.NoMemory e = tt
 
-  pub linked_refused : {rule : Rule} → next ≡ No rule → out_of rows w q b ≡ stopped rule
+  pub linked_refused : {rule : Rule} → next ≡ No rule → out_of steps w q b ≡ stopped rule
   linked_refused {rule} is = links_stop w (tree_at c) q b stack (query_of (tree_at c) asked) budget (stop.No rule) l.links (sym (rw is at l.runs))
 
-  pub linked_ends : {answer : Answer ℕ} → next ≡ Done answer → stack ≡ [] → IsKnownAnswer (length c.trees) answer × (out_of rows w q b ≡ finished (value_at (tree_at c) answer) left last)
+  pub linked_ends : {answer : Answer ℕ} → next ≡ Done answer → stack ≡ [] → IsKnownAnswer (length c.trees) answer × (out_of steps w q b ≡ finished (value_at (tree_at c) answer) left last)
   linked_ends {answer} is empty =
       let links = rw empty at l.links in
       let a = linked_answers is in

@@ -97,15 +97,21 @@ module _ {T R : Type 0} {contents : T → Contents} {rest : T → R} where
     others = ap rest h.terms;
   }
 
+  -- terms were made, and of what is seen no more than the last unit is another one
+  pub sight_stays : {old new : Seen T} → Extends (contents old.2) (contents new.2)
+      → (sight_at (new.0, new.1, new.3, rest new.2)).basis
+      ≡ (sight_at (old.0, old.1, old.3, rest old.2)).basis
+      → Stays contents rest old new
+  sight_stays keeps same = record {
+    library = ap (λ b. b.library) same;
+    site = ap (λ b. b.beside.0) same;
+    keeps = keeps;
+    others = ap (λ b. b.beside.1) same;
+  }
+
   pub step_stays : {old new : Seen T} {result : Result (Next ℕ (AnySheet ℕ)) Wanting} {does : Steps}
       → IsStep contents rest old new result does → Stays contents rest old new
-  step_stays h = record {
-    library = ap (λ b. b.library) h.stays;
-    site = ap (λ b. b.beside.0)
-        h.stays;
-    keeps = h.keeps;
-    others = ap (λ b. b.beside.1) h.stays;
-  }
+  step_stays h = sight_stays h.keeps h.stays
 
   -- a question is opened
   pub first_opens : {old between new : Seen T} {query : Query ℕ} {next : Next ℕ (AnySheet ℕ)}
@@ -210,6 +216,13 @@ still_stands h s e = record {
   base = h.others ∙ s.base ∙ ap (λ l. l.0) (sym h.library);
   entries_true = rw (place_stays h) e;
 }
+
+-- the same, where nothing else is kept
+pub looked_stands : {old new : Seen (Tables × Tables)} {entries : List (Key × Kept)}
+    → Stays (λ t. contents_of (over t.0 t.1)) (λ t. t.0) old new → Stands old entries
+    → Stands new entries
+looked_stands {old} {new} {entries} h s =
+    still_stands h s (entries_steady h.keeps (place_of old) entries s.entries_true)
 
 -- the same, after terms were made
 pub made_stands : {old new : Seen (Tables × Tables)} {entries : List (Key × Kept)}

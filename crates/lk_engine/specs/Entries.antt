@@ -2,7 +2,7 @@
 use Rattle.std.specs.Prelude.{◌≡◌, ℕ, List, length, Contains}
 use Rattle.lk_rulebook.specs.Place.{Place}
 use Rattle.lk_plain.specs.Erased.{out_of, IsAnsweredAt}
-use Rattle.lk_questions.specs.Built.{rows}
+use Rattle.lk_questions.specs.Table.{steps}
 use Rattle.lk_store.specs.Contents.{Contents, tree_at}
 use Rattle.lk_ask.specs.declared.query.Query.{Query}
 use Rattle.lk_ask.specs.declared.kept.Kept.{Kept}
@@ -15,7 +15,7 @@ use Rattle.lk_memo.specs.Keys.{key_of}
 pub record IsTrueAt (w : Place) (c : Contents) (q : Query ℕ) (kept : Kept) : Type 0 where
   pub query : IsKnownQuery (length c.trees) q
   pub answer : IsKnownAnswer (length c.trees) kept.answer
-  pub is : IsAnsweredAt (out_of rows w (query_of (tree_at c) q)) (value_at (tree_at c) kept.answer)
+  pub is : IsAnsweredAt (out_of steps w (query_of (tree_at c) q)) (value_at (tree_at c) kept.answer)
       kept.cost kept.top
 
 -- each entry is true of its question

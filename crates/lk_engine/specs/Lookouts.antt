@@ -2,7 +2,7 @@
 use Rattle.std.specs.Prelude.{◌≡◌, ◌≢◌, ◌<◌, ◌≤◌, ◌+◌, ◌-◌, ◌^◌, ℕ, List, Option, Result, Err, IfOk, OnOk, IfErr, length, Contains}
 use Rattle.lk_rulebook.specs.Place.{Place}
 use Rattle.lk_plain.specs.Erased.{Out, IsAnsweredAt, run_steps, out_of}
-use Rattle.lk_questions.specs.Built.{rows}
+use Rattle.lk_questions.specs.Table.{steps}
 use Rattle.lk_store.specs.declared.tables.Tables.{Tables}
 use Rattle.lk_store.specs.Contents.{Contents, tree_at, Extends}
 use Rattle.lk_store.specs.Store.{over, contents_of}
@@ -41,14 +41,14 @@ abbrev pub standing_at : Tables × List StoredUnit → Site
     → Standing ((Tables × List StoredUnit) × ℕ)
 standing_at library site = record {
   basis = (library, site.unit);
-  table = rows;
+  table = steps;
   place = place_at library site;
 }
 
 -- the plain answer of a question there
 abbrev pub out_at : {T : Type 0} → (T → Contents) → Seen T → Query ℕ → Out
 out_at contents s query =
-    out_of rows (place_of s) (query_of (tree_at (contents s.2)) query) s.3.left
+    out_of steps (place_of s) (query_of (tree_at (contents s.2)) query) s.3.left
 
 -- numbers stand for what they stood for, and of all else no more than the meter is another one
 pub record Stays {T R : Type 0} (contents : T → Contents) (rest : T → R)
@@ -92,7 +92,7 @@ pub record Opens {T R : Type 0} (contents : T → Contents) (rest : T → R) (ol
   pub stays : Stays contents rest old new
   pub known : IfOk result (IsKnownNext IsKnownAny (length (contents new.2).trees))
   pub runs : IfOk result
-      (λ next. run_steps (out_of rows (place_of old))
+      (λ next. run_steps (out_of steps (place_of old))
       (next_of (place_of old) (tree_at (contents new.2)) new.3.last next) new.3.left
       ≡ out_at contents old query)
   pub less : OnOk result (new.3.left < old.3.left)

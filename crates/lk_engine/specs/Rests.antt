@@ -4,8 +4,12 @@ use Rattle.lk_store.specs.declared.memory.NoMemory.{NoMemory}
 use Rattle.lk_store.specs.Contents.{Contents, tree_at}
 use Rattle.lk_tree.specs.Tree.{Tree}
 use Rattle.lk_rulebook.specs.Place.{Place}
+use Rattle.lk_plain.specs.Program.{Program}
 use Rattle.lk_plain.specs.Erased.{Value, a_tree, truth, Steps, erased, seen, go_on, run_steps, out_of}
-use Rattle.lk_questions.specs.Built.{core_row, whnf_row, infer_row, same_row, rows}
+use Rattle.lk_questions.specs.Core.{core_steps, whnf_steps}
+use Rattle.lk_questions.specs.Infer.{infer_steps}
+use Rattle.lk_questions.specs.Same.{same_steps}
+use Rattle.lk_questions.specs.Table.{steps}
 use Rattle.lk_ask.specs.declared.query.Query.{Query}
 use Rattle.lk_ask.specs.declared.query.Query.TheVariants.{Core, Whnf, Infer, Same}
 use Rattle.lk_ask.specs.declared.next.Next.{Next}
@@ -15,8 +19,11 @@ use Rattle.lk_ask.specs.Looks.{Sight}
 use Rattle.lk_ask.specs.Gives.{Gives}
 use Rattle.lk_ask.specs.Nexts.{next_steps, IsKnownNext}
 use Rattle.lk_ask.specs.Sheets.{sheet_rest}
-use Rattle.lk_iota.specs.Iotas.{iota_truth_rest}
-use Rattle.lk_core.specs.Forms.{core_term_rest}
+use Rattle.lk_core.specs.Forms.{core_rest}
+use Rattle.lk_iota.specs.Iotas.{iota_term_rest, iota_truth_rest}
+use Rattle.lk_proj.specs.Infers.{infer_rest}
+use Rattle.lk_proj.specs.Reductions.{core_rest as reduced_rest}
+use Rattle.lk_quot.specs.Cores.{quot_term_rest}
 use Rattle.lk_type.specs.Types.{type_term_rest, type_truth_rest}
 use Rattle.lk_same.specs.Sames.{same_term_rest, same_truth_rest}
 use Rattle.lk_engine.specs.declared.answering.Frame.{Frame}
@@ -28,13 +35,17 @@ use Rattle.lk_engine.specs.Sheets.{AnySheet, map_term, map_truth, map_any, IsKno
 
 -- what goes on with a term; last is the last unit that was looked at before
 abbrev pub term_rest : Place → Option ℕ → TermSheet Tree → Tree → Steps
-term_rest w last (term.Core s) v = core_term_rest w last s v
+term_rest w last (term.Core s) v = core_rest w last s v
+term_rest w last (term.Iota s) v = iota_term_rest w last s v
+term_rest w last (term.Quotient s) v = quot_term_rest w last s v
+term_rest w last (term.Reduced s) v = reduced_rest w last s v
 term_rest w last (term.Type s) v = type_term_rest w last s v
+term_rest w last (term.Projected s) v = infer_rest w last s v
 term_rest w last (term.Same s) v = same_term_rest w last s v
 
 -- what goes on with yes or no
 abbrev pub truth_rest : Place → Option ℕ → TruthSheet Tree → Bool → Steps
-truth_rest w last (truths.Core s) equal = iota_truth_rest w last s equal
+truth_rest w last (truths.Iota s) equal = iota_truth_rest w last s equal
 truth_rest w last (truths.Type s) equal = type_truth_rest w last s equal
 truth_rest w last (truths.Same s) equal = same_truth_rest w last s equal
 
@@ -47,10 +58,18 @@ next_of w t last next = next_steps (λ s. any_rest w None (map_any t s)) t last 
 
 -- what a question does, by its row
 abbrev pub query_steps : Place → (ℕ → Tree) → Option ℕ → Query ℕ → Steps
-query_steps w t last (Core e) = erased w a_tree last (core_row (t e))
-query_steps w t last (Whnf e) = erased w a_tree last (whnf_row (t e))
-query_steps w t last (Infer e) = erased w a_tree last (infer_row (t e))
-query_steps w t last (Same a b) = erased w truth last (same_row (t a) (t b))
+query_steps w t last (Core e) = erased w a_tree last (core_steps (t e))
+query_steps w t last (Whnf e) = erased w a_tree last (whnf_steps (t e))
+query_steps w t last (Infer e) = erased w a_tree last (infer_steps (t e))
+query_steps w t last (Same a b) = erased w truth last (same_steps (t a) (t b))
+
+-- a step does what the program does; t is what numbers stood for
+abbrev pub Does : {S R B A : Type 0} → (S → Contents) → (S → R) → (R → Sight B) → S → S
+    → Result (Next ℕ (AnySheet ℕ)) NoMemory → (A → Value) → ((ℕ → Tree) → Program A) → Type 0
+Does contents rest sight old new result value program =
+    Gives IsKnownAny next_of contents rest sight old new result
+    (erased (sight (rest old)).basis.place value (sight (rest old)).last
+    (program (tree_at (contents old))))
 
 -- a question's first step does what its row says; numbers stood for these trees
 abbrev pub Begins : {S R B : Type 0} → (S → Contents) → (S → R) → (R → Sight B) → S → S
@@ -96,7 +115,7 @@ Linked w t q b [] asked left = (asked ≡ q) × (left ≡ b)
 Linked w t q b (f ∷ fs) asked left =
     (query_of t f.asker ≡ q) × (f.budget ≡ b)
     × ((r : plain.Query) × (c : ℕ) ×
-    (out_of rows w q b ≡ seen f.last
-    (go_on (out_of rows w r c)
-    (λ v rest. run_steps (out_of rows w) (any_rest w None (map_any t f.sheet) v) rest))) ×
+    (out_of steps w q b ≡ seen f.last
+    (go_on (out_of steps w r c)
+    (λ v rest. run_steps (out_of steps w) (any_rest w None (map_any t f.sheet) v) rest))) ×
     Linked w t r c fs asked left)

@@ -15,6 +15,7 @@ use lk_env::entry::{Partial, Site};
 use lk_env::library::Library;
 use lk_memo::PrivateMemo;
 use lk_meter::Meter;
+use lk_quot::{Quotients, may_stand};
 use lk_store::memory::NoMemory;
 use lk_store::node::{LevelNode, ListNode, NameNode, Node};
 use lk_store::overlay::Overlay;
@@ -274,4 +275,10 @@ impl<'a> Asks for Engine<'a> {
       ap (λ r. standing_at r.0 r.1) h,
       ap (λ r. r.2.left) h,
     ) };
+}
+
+impl<'a> Quotients for Engine<'a> {
+    fn quotient(&mut self, name: u64, levels: &[u64], ty: u64) -> Result<(), Stop> {
+        may_stand(&mut self.lookout, name, levels, ty)
+    }
 }
