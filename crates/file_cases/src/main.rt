@@ -6,10 +6,10 @@
 //! `stdout` wants of the program is from elsewhere:
 //!
 //! - of a file, also of one with many spaces in front, how many units it states, or its first
-//!   fault: from a checker of exports that was written apart, in another language. Only that a tag
-//!   is unknown which the format has and `is_built` leaves out is from `is_built`;
+//!   fault: from a checker of exports that was written apart, in another language;
 //! - of a line, its fields: from the format's table of lines, by which each is written with one
-//!   space between fields, numbers without leading zeros, and the text of a name in quotes;
+//!   space between fields, numbers without leading zeros, a literal above 2^128 - 1 as `wide`, and
+//!   the text of a name or of a literal in quotes;
 //! - of a place and a length, the fault with a line feed and without: from the format's two limits;
 //! - of all files, how many further readings agree: 15 a file, 14 where it is one byte, 13 where it
 //!   is empty. The format lets the last line feed be missing and knows no pieces, so six sizes of

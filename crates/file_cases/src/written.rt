@@ -2,6 +2,7 @@
 //! without leading zeros. Of the tags those are written whose fields are all the kinds that a field
 //! may be due.
 use lk_lines::{BinderInfo, Declaration, Entry, LineError, ReducibilityHint, Said, read_line};
+use lk_num::Nat;
 use lk_token::next_line;
 use std::alloc::Global;
 use std::io;
@@ -27,11 +28,19 @@ fn write_counted(rt: &impl Print, numbers: &[u32]) -> io::Result<()> {
     write_numbers(rt, numbers)
 }
 
-/// Writes the text of a name, in quotes, since it may end in spaces.
+/// Writes a text in quotes, since it may end in spaces.
 fn write_text(rt: &impl Print, text: &[u8]) -> io::Result<()> {
     match std::str::from_utf8(text) {
         Ok(text) => print!(rt; " '{text}'"),
         Err(_) => print!(rt; " no text"),
+    }
+}
+
+/// Writes a number literal. Of one above 2^128 - 1 it is not known which it is.
+fn write_literal(rt: &impl Print, number: Nat) -> io::Result<()> {
+    match number {
+        Nat::Fits(n) => print!(rt; "#ELN {n}"),
+        Nat::Wide => print!(rt; "#ELN wide"),
     }
 }
 
@@ -65,6 +74,16 @@ fn write_entry(rt: &impl Print, entry: &Entry<'_>) -> io::Result<()> {
             binder_type,
             body,
         } => write_tagged(rt, lambda_tag(*info), &[*name, *binder_type, *body]),
+        Entry::Project {
+            structure,
+            field,
+            subject,
+        } => write_tagged(rt, "#EJ", &[*structure, *field, *subject]),
+        Entry::NatLiteral { number } => write_literal(rt, *number),
+        Entry::TextLiteral { text } => {
+            write_tagged(rt, "#ELS", &[])?;
+            write_text(rt, text)
+        }
         _ => print!(rt; "another entry"),
     }
 }
@@ -106,6 +125,14 @@ fn write_declaration(rt: &impl Print, declaration: &Declaration) -> io::Result<(
             parameters,
         } => {
             write_tagged(rt, "#THM", &[*name, *declared_type, *value])?;
+            write_numbers(rt, parameters)
+        }
+        Declaration::Quotient {
+            name,
+            declared_type,
+            parameters,
+        } => {
+            write_tagged(rt, "#QUOT", &[*name, *declared_type])?;
             write_numbers(rt, parameters)
         }
         Declaration::Recursor {

@@ -1,4 +1,4 @@
--- A file states what it may state today.
+-- No name that a file states holds a line feed.
 use Rattle.std.proofs.Common.{◌≡◌, ◌≢◌, ℕ, ◌==◌, Bool, true, false, List, [], ◌∷◌, length, Ok, Err, Some, None, refl, cond, arith}
 use Rattle.std.specs.Prelude.{IfOk}
 use Rattle.std.specs.declared.option.Option.{Option}
@@ -16,11 +16,11 @@ use Rattle.lk_rulebook.specs.Units.{Library}
 use Rattle.lk_tree.specs.Mentions.{same_name}
 use Rattle.lk_members.specs.Faults.{first_open}
 use Rattle.lk_members.specs.Plain.{PlainLine, library_stated}
-use Rattle.lk_units.specs.Built.{AreBuiltLines, AllBuilt}
-use Rattle.lk_units.proofs.BuiltUnits.{built_units}
+use Rattle.lk_units.proofs.Spellings.{AreSpelledLines, AreSpelledUnits}
+use Rattle.lk_units.proofs.SpelledUnits.{spelled_units}
 use Rattle.lk_units.specs.State.{State, take_item}
 use Rattle.lk_units.proofs.Kept.{Kept, kept_item, kept_begin}
-use Rattle.lk_units.proofs.Items.{plain_item}
+use Rattle.lk_units.proofs.Items.{spelled_item}
 use Rattle.lk_book.specs.Course.{Course, begin_course, passed, taken, unless, at_line, step}
 use Rattle.lk_book.specs.File.{lines_of, has_more, after, course_over, course_of, closed, units_stated, library_of}
 
@@ -63,7 +63,7 @@ kept_state c (Err w) h = tt
 kept_taken : (c : Course) (first : Bool) (line : List ℕ) (says : Says) → HasNoLineFeed line → said_of first line ≡ Ok says → Kept c.state → IfOk (taken c says) KeptCourse
 kept_taken c first line Blank h e k = k
 kept_taken c first line Version h e k = k
-kept_taken c first line (OfItem item) h e k = kept_state c (take_item c.number c.state item) (kept_item c.number c.state item (plain_item first line item h e) k)
+kept_taken c first line (OfItem item) h e k = kept_state c (take_item c.number c.state item) (kept_item c.number c.state item (spelled_item first line item h e) k)
 
 kept_said : (c : Course) (first : Bool) (line : List ℕ) (said : Result Says Word) → HasNoLineFeed line → said_of first line ≡ said → Kept c.state → IfOk (said >>= taken c) KeptCourse
 kept_said c first line (Ok says) h e k = kept_taken c first line says h e k
@@ -87,14 +87,14 @@ kept_course : (bytes : List ℕ) → IfOk (course_of bytes) KeptCourse
 unfolding course_of
 kept_course bytes = kept_over begin_course (lines_of bytes) (are_cut bytes) kept_begin
 
-closed_built : (o : Option ℕ) (lines : List PlainLine) (us : Library) → AreBuiltLines lines → closed o lines ≡ Ok us → AllBuilt us
-closed_built None lines us k e = let is : library_stated lines ≡ us = cc in rw (← is) (built_units lines k)
-closed_built (Some n) lines us k e = absurd (cc)
+closed_spelled : (o : Option ℕ) (lines : List PlainLine) (us : Library) → AreSpelledLines lines → closed o lines ≡ Ok us → AreSpelledUnits us
+closed_spelled None lines us k e = let is : library_stated lines ≡ us = cc in rw (← is) (spelled_units lines k)
+closed_spelled (Some n) lines us k e = absurd (cc)
 
-stated : (r : Result Course Fault) (us : Library) → IfOk r KeptCourse → after r (λ c. units_stated c.state.lines) ≡ Ok us → AllBuilt us
-stated (Ok c) us k e = closed_built (first_open same_name c.state.lines c.state.lines) c.state.lines us k.lines e
+stated : (r : Result Course Fault) (us : Library) → IfOk r KeptCourse → after r (λ c. units_stated c.state.lines) ≡ Ok us → AreSpelledUnits us
+stated (Ok c) us k e = closed_spelled (first_open same_name c.state.lines c.state.lines) c.state.lines us k.lines e
 stated (Err f) us k e = absurd (cc)
 
 -- what a file states
-pub library_kept : (bytes : List ℕ) (us : Library) → library_of bytes ≡ Ok us → AllBuilt us
+pub library_kept : (bytes : List ℕ) (us : Library) → library_of bytes ≡ Ok us → AreSpelledUnits us
 library_kept bytes us e = stated (course_of bytes) us (kept_course bytes) e

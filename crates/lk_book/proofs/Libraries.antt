@@ -1,7 +1,6 @@
 -- A library that was read.
-use Rattle.std.proofs.Common.{◌≡◌, ℕ, List, [], Option, Some, None, Ok, Err, Result, refl, ap, subst, sym, ◌∙◌}
+use Rattle.std.proofs.Common.{◌≡◌, ℕ, List, [], Some, None, Ok, Err, Result, ap, subst, sym, ◌∙◌}
 use Rattle.std.specs.Prelude.{nat_eq, map}
-use Rattle.lk_tree.specs.Mentions.{same_name}
 use Rattle.lk_rulebook.specs.Units.{Library}
 use Rattle.lk_store.specs.Contents.{Contents}
 use Rattle.lk_store.specs.Store.{contents_of}
@@ -13,7 +12,7 @@ use Rattle.lk_members.specs.declared.line.Line.{Line as StoredLine}
 use Rattle.lk_members.specs.Faults.{first_open}
 use Rattle.lk_members.specs.Units.{units_of}
 use Rattle.lk_members.specs.Stored.{lines_of, unit_stated, AreLinesIn}
-use Rattle.lk_members.specs.Plain.{PlainLine, lines_at}
+use Rattle.lk_members.specs.Plain.{lines_at}
 use Rattle.lk_members.proofs.Standing.{open_stands, library_stands}
 use Rattle.lk_lines.specs.declared.line.Fault.{Fault}
 use Rattle.lk_lines.specs.declared.words.Word.TheVariants.{BlockOpen}

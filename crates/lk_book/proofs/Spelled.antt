@@ -1,47 +1,20 @@
 -- No name of a library that is read holds a line feed.
-use Rattle.std.proofs.Common.{◌≡◌, ℕ, ◌==◌, nat_eq, true, ◌&&◌, List, [], ◌∷◌, ◌++◌, Ok, refl}
-use Rattle.std.specs.Prelude.{not}
-use Rattle.lk_tree.specs.Tree.{Name, text, number, Tree, var, sort, const, app, lam, pi, let_in}
+use Rattle.std.proofs.Common.{◌≡◌, ℕ, true, ◌&&◌, List, [], ◌∷◌, ◌++◌, Ok, refl}
+use Rattle.lk_tree.specs.Tree.{Name}
 use Rattle.lk_tree.proofs.Scans.{both_true, and_true}
 use Rattle.lk_rulebook.specs.Place.{Ctor, BlockType, Block, RecRule, BlockRecursor}
-use Rattle.lk_rulebook.specs.Units.{Body, as_axiom, as_def, as_thm, as_opaque, LibraryUnit, of_decl, of_block, Library, Members, type_entries, ctor_entries, all_ctor_entries, rec_members, members_of, Trees, body_trees, type_trees, ctor_trees, all_ctor_trees, rule_trees, rec_trees, trees_of}
-use Rattle.lk_rulebook.specs.Spelled.{no_lf, is_spelled, tree_spelled, names_spelled, all_spelled, library_spelled}
-use Rattle.lk_units.specs.Names.{is_plain, IsPlainName, Each}
-use Rattle.lk_units.specs.Built.{IsBuilt, IsBuiltBody, IsBuiltCtor, IsBuiltType, IsBuiltRule, IsBuiltRec, IsBuiltUnit, AllBuilt}
+use Rattle.lk_rulebook.specs.Units.{Body, as_axiom, as_def, as_thm, as_opaque, as_quot, LibraryUnit, of_decl, of_block, Library, Members, type_entries, ctor_entries, all_ctor_entries, rec_members, members_of, Trees, body_trees, type_trees, ctor_trees, all_ctor_trees, rule_trees, rec_trees, trees_of}
+use Rattle.lk_rulebook.specs.Spelled.{is_spelled, tree_spelled, names_spelled, all_spelled, library_spelled}
+use Rattle.lk_units.proofs.Spellings.{Each, IsSpelledBody, IsSpelledCtor, IsSpelledType, IsSpelledRule, IsSpelledRec, IsSpelledUnit, AreSpelledUnits}
 use Rattle.lk_book.specs.File.{library_of}
 use Rattle.lk_book.proofs.Kept.{library_kept}
 
-no_feed : (b : ℕ) → not (b == 10) ≡ true → not (nat_eq b 10) ≡ true
-no_feed b h = h
-
-plain_spelled : (bytes : List ℕ) → is_plain bytes ≡ true → no_lf bytes ≡ true
-plain_spelled [] h = refl
-plain_spelled (b ∷ bytes) h =
-    let x = both_true (not (b == 10)) (is_plain bytes) h in
-    and_true (not (nat_eq b 10)) (no_lf bytes) (no_feed b x.0) (plain_spelled bytes x.1)
-
-name_spelled : (n : Name) → IsPlainName n → is_spelled n ≡ true
-name_spelled [] h = refl
-name_spelled (text bytes ∷ parts) h = and_true (no_lf bytes) (is_spelled parts) (plain_spelled bytes h.0) (name_spelled parts h.1)
-name_spelled (number n ∷ parts) h = name_spelled parts h.1
-
-built_spelled : (e : Tree) → IsBuilt e → tree_spelled e ≡ true
-built_spelled (var i) b = refl
-built_spelled (sort l) b = refl
-built_spelled (const c ls) b = name_spelled c b.0
-built_spelled (app f a) b = and_true (tree_spelled f) (tree_spelled a) (built_spelled f b.0) (built_spelled a b.1)
-built_spelled (lam A e) b = and_true (tree_spelled A) (tree_spelled e) (built_spelled A b.0) (built_spelled e b.1)
-built_spelled (pi A e) b = and_true (tree_spelled A) (tree_spelled e) (built_spelled A b.0) (built_spelled e b.1)
-built_spelled (let_in A v e) b =
-    and_true (tree_spelled A) (tree_spelled v && tree_spelled e) (built_spelled A b.0.0) (and_true (tree_spelled v) (tree_spelled e) (built_spelled v b.0.1) (built_spelled e b.1))
-built_spelled _ b = absurd b
-
-body_spelled : (ps : List Name) (v : Body) → IsBuiltBody v → all_spelled (body_trees ps v) ≡ true
+body_spelled : (ps : List Name) (v : Body) → IsSpelledBody v → all_spelled (body_trees ps v) ≡ true
 body_spelled ps as_axiom b = refl
-body_spelled ps (as_def h v) b = and_true (tree_spelled v) true (built_spelled v b) refl
-body_spelled ps (as_thm v) b = and_true (tree_spelled v) true (built_spelled v b) refl
-body_spelled ps (as_opaque v) b = and_true (tree_spelled v) true (built_spelled v b) refl
-body_spelled ps _ b = absurd b
+body_spelled ps (as_def h v) b = and_true (tree_spelled v) true b refl
+body_spelled ps (as_thm v) b = and_true (tree_spelled v) true b refl
+body_spelled ps (as_opaque v) b = and_true (tree_spelled v) true b refl
+body_spelled ps as_quot b = refl
 
 names_append : (xs ys : Members) → names_spelled xs ≡ true → names_spelled ys ≡ true → names_spelled (xs ++ ys) ≡ true
 names_append [] ys h g = g
@@ -56,55 +29,55 @@ trees_append (x ∷ xs) ys h g =
     and_true (tree_spelled x.1) (all_spelled (xs ++ ys)) e.0 (trees_append xs ys e.1 g)
 
 module _ (b : Block) where
-  type_names : (ts : List BlockType) → Each IsBuiltType ts → names_spelled (type_entries b ts) ≡ true
+  type_names : (ts : List BlockType) → Each IsSpelledType ts → names_spelled (type_entries b ts) ≡ true
   type_names [] h = refl
-  type_names (t ∷ ts) h = and_true (is_spelled t.name) (names_spelled (type_entries b ts)) (name_spelled t.name h.0.0.0.0) (type_names ts h.1)
+  type_names (t ∷ ts) h = and_true (is_spelled t.name) (names_spelled (type_entries b ts)) h.0.0 (type_names ts h.1)
 
-  ctor_names : (t : BlockType) (cs : List Ctor) → Each IsBuiltCtor cs → names_spelled (ctor_entries b t cs) ≡ true
+  ctor_names : (t : BlockType) (cs : List Ctor) → Each IsSpelledCtor cs → names_spelled (ctor_entries b t cs) ≡ true
   ctor_names t [] h = refl
-  ctor_names t (c ∷ cs) h = and_true (is_spelled c.name) (names_spelled (ctor_entries b t cs)) (name_spelled c.name h.0.0.0.0) (ctor_names t cs h.1)
+  ctor_names t (c ∷ cs) h = and_true (is_spelled c.name) (names_spelled (ctor_entries b t cs)) h.0.0 (ctor_names t cs h.1)
 
-  all_ctor_names : (ts : List BlockType) → Each IsBuiltType ts → names_spelled (all_ctor_entries b ts) ≡ true
+  all_ctor_names : (ts : List BlockType) → Each IsSpelledType ts → names_spelled (all_ctor_entries b ts) ≡ true
   all_ctor_names [] h = refl
-  all_ctor_names (t ∷ ts) h = names_append (ctor_entries b t t.ctors) (all_ctor_entries b ts) (ctor_names t t.ctors h.0.1) (all_ctor_names ts h.1)
+  all_ctor_names (t ∷ ts) h = names_append (ctor_entries b t t.ctors) (all_ctor_entries b ts) (ctor_names t t.ctors h.0.2) (all_ctor_names ts h.1)
 
-rec_names : (rs : List BlockRecursor) → Each IsBuiltRec rs → names_spelled (rec_members rs) ≡ true
+rec_names : (rs : List BlockRecursor) → Each IsSpelledRec rs → names_spelled (rec_members rs) ≡ true
 rec_names [] h = refl
-rec_names (r ∷ rs) h = and_true (is_spelled r.name) (names_spelled (rec_members rs)) (name_spelled r.name h.0.0.0.0) (rec_names rs h.1)
+rec_names (r ∷ rs) h = and_true (is_spelled r.name) (names_spelled (rec_members rs)) h.0.0 (rec_names rs h.1)
 
-types_spelled : (ts : List BlockType) → Each IsBuiltType ts → all_spelled (type_trees ts) ≡ true
+types_spelled : (ts : List BlockType) → Each IsSpelledType ts → all_spelled (type_trees ts) ≡ true
 types_spelled [] h = refl
-types_spelled (t ∷ ts) h = and_true (tree_spelled t.type) (all_spelled (type_trees ts)) (built_spelled t.type h.0.0.1) (types_spelled ts h.1)
+types_spelled (t ∷ ts) h = and_true (tree_spelled t.type) (all_spelled (type_trees ts)) h.0.1 (types_spelled ts h.1)
 
-ctors_spelled : (cs : List Ctor) → Each IsBuiltCtor cs → all_spelled (ctor_trees cs) ≡ true
+ctors_spelled : (cs : List Ctor) → Each IsSpelledCtor cs → all_spelled (ctor_trees cs) ≡ true
 ctors_spelled [] h = refl
-ctors_spelled (c ∷ cs) h = and_true (tree_spelled c.type) (all_spelled (ctor_trees cs)) (built_spelled c.type h.0.0.1) (ctors_spelled cs h.1)
+ctors_spelled (c ∷ cs) h = and_true (tree_spelled c.type) (all_spelled (ctor_trees cs)) h.0.1 (ctors_spelled cs h.1)
 
-all_ctors_spelled : (ts : List BlockType) → Each IsBuiltType ts → all_spelled (all_ctor_trees ts) ≡ true
+all_ctors_spelled : (ts : List BlockType) → Each IsSpelledType ts → all_spelled (all_ctor_trees ts) ≡ true
 all_ctors_spelled [] h = refl
-all_ctors_spelled (t ∷ ts) h = trees_append (ctor_trees t.ctors) (all_ctor_trees ts) (ctors_spelled t.ctors h.0.1) (all_ctors_spelled ts h.1)
+all_ctors_spelled (t ∷ ts) h = trees_append (ctor_trees t.ctors) (all_ctor_trees ts) (ctors_spelled t.ctors h.0.2) (all_ctors_spelled ts h.1)
 
-rules_spelled : (ps : List Name) (rs : List RecRule) → Each IsBuiltRule rs → all_spelled (rule_trees ps rs) ≡ true
+rules_spelled : (ps : List Name) (rs : List RecRule) → Each IsSpelledRule rs → all_spelled (rule_trees ps rs) ≡ true
 rules_spelled ps [] h = refl
-rules_spelled ps (r ∷ rs) h = and_true (tree_spelled r.value) (all_spelled (rule_trees ps rs)) (built_spelled r.value h.0.1) (rules_spelled ps rs h.1)
+rules_spelled ps (r ∷ rs) h = and_true (tree_spelled r.value) (all_spelled (rule_trees ps rs)) h.0 (rules_spelled ps rs h.1)
 
-recs_spelled : (rs : List BlockRecursor) → Each IsBuiltRec rs → all_spelled (rec_trees rs) ≡ true
+recs_spelled : (rs : List BlockRecursor) → Each IsSpelledRec rs → all_spelled (rec_trees rs) ≡ true
 recs_spelled [] h = refl
 recs_spelled (r ∷ rs) h =
-    and_true (tree_spelled r.type) (all_spelled (rule_trees r.levels r.recursor.rules ++ rec_trees rs)) (built_spelled r.type h.0.0.1)
-    (trees_append (rule_trees r.levels r.recursor.rules) (rec_trees rs) (rules_spelled r.levels r.recursor.rules h.0.1) (recs_spelled rs h.1))
+    and_true (tree_spelled r.type) (all_spelled (rule_trees r.levels r.recursor.rules ++ rec_trees rs)) h.0.1
+    (trees_append (rule_trees r.levels r.recursor.rules) (rec_trees rs) (rules_spelled r.levels r.recursor.rules h.0.2) (recs_spelled rs h.1))
 
-unit_spelled : (u : LibraryUnit) → IsBuiltUnit u → (names_spelled (members_of u) && all_spelled (trees_of u)) ≡ true
+unit_spelled : (u : LibraryUnit) → IsSpelledUnit u → (names_spelled (members_of u) && all_spelled (trees_of u)) ≡ true
 unit_spelled (of_decl d) b =
-    let name = and_true (is_spelled d.name) true (name_spelled d.name b.0.0) refl in
-    let trees = and_true (tree_spelled d.type) (all_spelled (body_trees d.levels d.body)) (built_spelled d.type b.1.0) (body_spelled d.levels d.body b.1.1) in
+    let name = and_true (is_spelled d.name) true b.0 refl in
+    let trees = and_true (tree_spelled d.type) (all_spelled (body_trees d.levels d.body)) b.1 (body_spelled d.levels d.body b.2) in
     and_true (names_spelled (members_of (of_decl d))) (all_spelled (trees_of (of_decl d))) name trees
 unit_spelled (of_block b rs) h =
     let names = names_append (type_entries b b.types) (all_ctor_entries b b.types ++ rec_members rs) (type_names b b.types h.0) (names_append (all_ctor_entries b b.types) (rec_members rs) (all_ctor_names b b.types h.0) (rec_names rs h.1)) in
     let trees = trees_append (type_trees b.types) (all_ctor_trees b.types ++ rec_trees rs) (types_spelled b.types h.0) (trees_append (all_ctor_trees b.types) (rec_trees rs) (all_ctors_spelled b.types h.0) (recs_spelled rs h.1)) in
     and_true (names_spelled (members_of (of_block b rs))) (all_spelled (trees_of (of_block b rs))) names trees
 
-pub spelled : (us : Library) → AllBuilt us → library_spelled us ≡ true
+pub spelled : (us : Library) → AreSpelledUnits us → library_spelled us ≡ true
 spelled [] b = refl
 spelled (u ∷ us) b = and_true (names_spelled (members_of u) && all_spelled (trees_of u)) (library_spelled us) (unit_spelled u b.0) (spelled us b.1)
 

@@ -10,7 +10,7 @@ mod reader;
 
 pub use error::ReadError;
 pub use file::read_library;
-pub use laws::files_are_built;
+pub use laws::files_are_spelled;
 pub use reader::Reader;
 
 /// A file has at most this many bytes.

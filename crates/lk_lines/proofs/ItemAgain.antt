@@ -1,6 +1,6 @@
 -- What the fields of a line spell is what is read, and their first fault is what is told.
 use Rattle.std.proofs.Common.{◌≡◌, ℕ, ◌<◌, ◌^◌, true, false, List, [], ◌∷◌, Ok, Err, Some, None, refl, subst, inl, inr, arith}
-use Rattle.std.specs.Prelude.{◌≢◌}
+use Rattle.std.specs.Prelude.{◌≢◌, Contains}
 use Rattle.std.specs.declared.option.Option.{Option}
 use Rattle.std.proofs.lemmas.Bool.Decides.{nat_tests}
 use Rattle.std.specs.Char.{digit_value}
@@ -13,12 +13,12 @@ use Rattle.lk_lines.specs.declared.tags.EntryTag.TheVariants as entry
 use Rattle.lk_lines.specs.declared.tags.DeclarationTag.TheVariants as declaration
 use Rattle.lk_lines.specs.Values.{Value}
 use Rattle.lk_lines.specs.Table.{dues_of}
-use Rattle.lk_lines.specs.Tags.{tag_word, known_tag, numbered_tags, plain_tags, IsReadAmong}
+use Rattle.lk_lines.specs.Tags.{tag_word, find_tag, numbered_tags, plain_tags}
 use Rattle.lk_lines.specs.Reading.{number_at, read_dues}
 use Rattle.lk_lines.specs.Spelling.{FirstNumber, NoFirstNumber}
 use Rattle.lk_lines.specs.Items.{Item, tag_at, numbered_at, plain_at, item_at, is_tag, SpellsTagged, SpellsOwn, SpellsItem, TagFault, ItemFault}
 use Rattle.lk_lines.proofs.Numerals.{number_of-again, number_of-fault}
-use Rattle.lk_lines.proofs.ItemCases.{known_cases}
+use Rattle.lk_lines.proofs.ItemCases.{find_cases, numbered_led, plain_led, IsLed}
 use Rattle.lk_lines.proofs.DueAgain.{again}
 use Rattle.lk_lines.proofs.DueStops.{stops}
 
@@ -58,39 +58,39 @@ pub numeral_begins : (field : List ℕ) → IsNumeral 10 field → is_tag field 
 numeral_begins [] h = absurd (let lt = h.0 in omega arith)
 numeral_begins (c ∷ cs) h = let isnt : c ≡ 35 → ⊥ = no_mark c h.1.0 in grind (arith, nat_tests)
 
-tagged_again : (tags : List Tag) (t : Tag) (values : List Value) (text : List ℕ) (fields : List (List ℕ)) → SpellsTagged tags t values text fields
+tagged_again : (tags : List Tag) → ((t : Tag) → Contains tags t → IsLed tags t) → (t : Tag) (values : List Value) (text : List ℕ) (fields : List (List ℕ)) → SpellsTagged tags t values text fields
     → (more : List (List ℕ)) × (fields ≡ tag_word t ∷ more) × (tag_at tags fields ≡ Ok (t, more)) × (read_dues (dues_of t) text more ≡ Ok values)
 unfolding tag_at
-tagged_again tags t values text fields (known, more, q, s) = (more, q, rw (q, known) refl, again (dues_of t) text more values s)
+tagged_again tags led t values text fields (among, more, q, s) = (more, q, rw (q, led t among) refl, again (dues_of t) text more values s)
 
 own_again : (own : Option ℕ) (t : Tag) (values : List Value) (text : List ℕ) (fields : List (List ℕ)) → SpellsOwn own t values text fields → item_at text fields ≡ Ok (record { own = own; tag = t; values = values })
 unfolding item_at plain_at numbered_at number_at
-own_again None t values text fields s = let (more, q, e, is) = tagged_again plain_tags t values text fields s in
+own_again None t values text fields s = let (more, q, e, is) = tagged_again plain_tags plain_led t values text fields s in
     let e2 : tag_at plain_tags (tag_word t ∷ more) ≡ Ok (t, more) = subst (λ (f : List (List ℕ)). tag_at plain_tags f ≡ Ok (t, more)) q e in
     rw (q, tag_begins t, e2, is) refl
-own_again (Some n) t values text fields (rest, (field, p, h), s) = let (more, q, e, is) = tagged_again numbered_tags t values text rest s in
+own_again (Some n) t values text fields (rest, (field, p, h), s) = let (more, q, e, is) = tagged_again numbered_tags numbered_led t values text rest s in
     rw (p, numeral_begins field h.numeral, number_of-again (2 ^ 32) field n h, e, is) refl
 
 pub item_again : (item : Item) (text : List ℕ) (fields : List (List ℕ)) → SpellsItem item text fields → item_at text fields ≡ Ok item
 item_again item text fields s = own_again item.own item.tag item.values text fields s
 
-known_stop : (tags : List Tag) (word : List ℕ) → ((t : Tag) → IsReadAmong tags t → word ≢ tag_word t) → known_tag tags word ≡ Err UnknownTag
-known_stop tags word h = elim (known_cases tags word) [
-  | inl (t, e, q) ↦ absurd (h t (subst (λ (w : List ℕ). known_tag tags w ≡ Ok t) q e) q)
+find_stop : (tags : List Tag) (word : List ℕ) → ((t : Tag) → Contains tags t → word ≢ tag_word t) → find_tag tags word ≡ Err UnknownTag
+find_stop tags word h = elim (find_cases tags word) [
+  | inl (t, among, e, q) ↦ absurd (h t among q)
   | inr e ↦ e
 ]
 
 plain_stop : (text : List ℕ) (fields : List (List ℕ)) (w : Word) → TagFault plain_tags text fields w → plain_at text fields ≡ Err w
 unfolding plain_at tag_at
 plain_stop text [] w h = rw h refl
-plain_stop text (field ∷ fields) w (inl h) = rw (h.0, known_stop plain_tags field h.1) refl
-plain_stop text (field ∷ fields) w (inr (t, known, q, f)) = rw (q, known, stops (dues_of t) text fields w f) refl
+plain_stop text (field ∷ fields) w (inl h) = rw (h.0, find_stop plain_tags field h.1) refl
+plain_stop text (field ∷ fields) w (inr (t, among, q, f)) = rw (q, plain_led t among, stops (dues_of t) text fields w f) refl
 
 own_stop : (text : List ℕ) (fields more : List (List ℕ)) (own : ℕ) (w : Word) → FirstNumber (2 ^ 32) fields own more → TagFault numbered_tags text more w → numbered_at text fields ≡ Err w
 unfolding numbered_at tag_at number_at
 own_stop text fields [] own w (field, p, h) bad = rw (p, number_of-again (2 ^ 32) field own h, bad) refl
-own_stop text fields (f ∷ more) own w (field, p, h) (inl bad) = rw (p, number_of-again (2 ^ 32) field own h, bad.0, known_stop numbered_tags f bad.1) refl
-own_stop text fields (f ∷ more) own w (field, p, h) (inr (t, known, q, bad)) = rw (p, number_of-again (2 ^ 32) field own h, q, known, stops (dues_of t) text more w bad) refl
+own_stop text fields (f ∷ more) own w (field, p, h) (inl bad) = rw (p, number_of-again (2 ^ 32) field own h, bad.0, find_stop numbered_tags f bad.1) refl
+own_stop text fields (f ∷ more) own w (field, p, h) (inr (t, among, q, bad)) = rw (p, number_of-again (2 ^ 32) field own h, q, numbered_led t among, stops (dues_of t) text more w bad) refl
 
 numbered_stop : (text field : List ℕ) (fields : List (List ℕ)) (w : Word) → NoFirstNumber MissingField (2 ^ 32) (field ∷ fields) w → numbered_at text (field ∷ fields) ≡ Err w
 unfolding numbered_at number_at

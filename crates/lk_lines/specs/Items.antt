@@ -1,12 +1,12 @@
 -- A line of fields as an item of the file: how it is read, spelled, and what its first fault is.
-use Rattle.std.specs.Prelude.{ℕ, ◌≡◌, ◌≢◌, ◌^◌, ◌==◌, ◌⊎◌, Bool, true, false, List, [], ◌∷◌, Some, None, Result, Ok, Err, if◌then◌else◌, slice_index}
+use Rattle.std.specs.Prelude.{ℕ, ◌≡◌, ◌≢◌, ◌^◌, ◌==◌, ◌⊎◌, Bool, true, false, List, [], ◌∷◌, Some, None, Result, Ok, Err, if◌then◌else◌, slice_index, Contains}
 use Rattle.std.specs.declared.option.Option.{Option}
 use Rattle.lk_lines.specs.declared.words.Word.{Word}
 use Rattle.lk_lines.specs.declared.words.Word.TheVariants.{UnknownTag, MissingField}
 use Rattle.lk_lines.specs.declared.tags.Tag.{Tag}
 use Rattle.lk_lines.specs.Values.{Value}
 use Rattle.lk_lines.specs.Table.{dues_of}
-use Rattle.lk_lines.specs.Tags.{tag_word, numbered_tags, plain_tags, known_tag, IsReadAmong}
+use Rattle.lk_lines.specs.Tags.{tag_word, numbered_tags, plain_tags, find_tag}
 use Rattle.lk_lines.specs.Reading.{◌>>=◌, number_at, read_dues}
 use Rattle.lk_lines.specs.Spelling.{SpellsDues, FirstFault, FirstNumber, NoFirstNumber}
 
@@ -20,7 +20,7 @@ pub record Item : Type 0 where
 -- the tag that the first field is, and the fields behind it
 unfoldable pub tag_at : List Tag → List (List ℕ) → Result (Tag × List (List ℕ)) Word
 tag_at tags [] = Err MissingField
-tag_at tags (field ∷ fields) = known_tag tags field >>= λ t. Ok (t, fields)
+tag_at tags (field ∷ fields) = find_tag tags field >>= λ t. Ok (t, fields)
 
 -- a line that defines a number
 unfoldable pub numbered_at : List ℕ → List (List ℕ) → Result Item Word
@@ -48,7 +48,7 @@ item_at text (field ∷ fields) =
 
 -- The fields spell a tag of these and the values behind it.
 abbrev pub SpellsTagged : List Tag → Tag → List Value → List ℕ → List (List ℕ) → Type 0
-SpellsTagged tags t values text fields = IsReadAmong tags t × (more : List (List ℕ))
+SpellsTagged tags t values text fields = Contains tags t × (more : List (List ℕ))
     × (fields ≡ tag_word t ∷ more) × SpellsDues (dues_of t) text more values
 
 -- the same behind the number that the line defines, or without one
@@ -65,8 +65,8 @@ SpellsItem item text fields = SpellsOwn item.own item.tag item.values text field
 abbrev pub TagFault : List Tag → List ℕ → List (List ℕ) → Word → Type 0
 TagFault tags text [] w = w ≡ MissingField
 TagFault tags text (field ∷ fields) w =
-    ((w ≡ UnknownTag) × ((t : Tag) → IsReadAmong tags t → field ≢ tag_word t))
-    ⊎ ((t : Tag) × IsReadAmong tags t × (field ≡ tag_word t) × FirstFault (dues_of t) text fields w)
+    ((w ≡ UnknownTag) × ((t : Tag) → Contains tags t → field ≢ tag_word t))
+    ⊎ ((t : Tag) × Contains tags t × (field ≡ tag_word t) × FirstFault (dues_of t) text fields w)
 
 -- the first fault of the fields of a line; a line without fields is blank and has none
 abbrev pub ItemFault : List ℕ → List (List ℕ) → Word → Type 0

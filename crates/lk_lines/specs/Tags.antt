@@ -1,6 +1,5 @@
--- The tags of the format: their words, which of them have a number in front, and which are read
--- yet.
-use Rattle.std.specs.Prelude.{◌≡◌, ℕ, Bool, true, false, List, [], ◌∷◌, Result, Ok, Err, codes, if◌then◌else◌}
+-- The tags of the format: their words, and which of them have a number in front.
+use Rattle.std.specs.Prelude.{ℕ, List, [], ◌∷◌, Result, Ok, Err, codes, if◌then◌else◌}
 use Rattle.std.specs.Str.{bytes_eq}
 use Rattle.lk_lines.specs.declared.words.Word.{Word}
 use Rattle.lk_lines.specs.declared.words.Word.TheVariants.{UnknownTag}
@@ -8,7 +7,6 @@ use Rattle.lk_lines.specs.declared.tags.EntryTag.TheVariants as entry
 use Rattle.lk_lines.specs.declared.tags.DeclarationTag.TheVariants as declaration
 use Rattle.lk_lines.specs.declared.tags.Tag.{Tag}
 use Rattle.lk_lines.specs.declared.tags.Tag.TheVariants.{Entry, Declaration}
-use Rattle.lk_lines.specs.Reading.{◌>>=◌}
 
 -- the word of a tag
 abbrev pub tag_word : Tag → List ℕ
@@ -38,31 +36,6 @@ tag_word (Declaration declaration.Inductive) = codes "#IND"
 tag_word (Declaration declaration.Constructor) = codes "#CTOR"
 tag_word (Declaration declaration.Recursor) = codes "#REC"
 
--- Lines with these tags are read; any other tag is an unknown one until its line can be.
-abbrev pub is_built : Tag → Bool
-is_built (Entry entry.NameText) = true
-is_built (Entry entry.NameNumber) = true
-is_built (Entry entry.Successor) = true
-is_built (Entry entry.Max) = true
-is_built (Entry entry.Imax) = true
-is_built (Entry entry.Parameter) = true
-is_built (Entry entry.Sort) = true
-is_built (Entry entry.Constant) = true
-is_built (Entry entry.Apply) = true
-is_built (Entry entry.Variable) = true
-is_built (Entry entry.Lambda) = true
-is_built (Entry entry.Pi) = true
-is_built (Entry entry.Let) = true
-is_built (Entry entry.Rule) = true
-is_built (Declaration declaration.Axiom) = true
-is_built (Declaration declaration.Definition) = true
-is_built (Declaration declaration.Theorem) = true
-is_built (Declaration declaration.Opaque) = true
-is_built (Declaration declaration.Inductive) = true
-is_built (Declaration declaration.Constructor) = true
-is_built (Declaration declaration.Recursor) = true
-is_built t = false
-
 -- those of lines that define a number which are not often met
 abbrev pub rare_tags : List Tag
 rare_tags = Entry entry.Successor ∷ Entry entry.Max ∷ Entry entry.Imax ∷ Entry entry.Parameter
@@ -86,14 +59,3 @@ plain_tags = Declaration declaration.Theorem ∷ Declaration declaration.Definit
 abbrev pub find_tag : List Tag → List ℕ → Result Tag Word
 find_tag [] word = Err UnknownTag
 find_tag (t ∷ tags) word = if bytes_eq word (tag_word t) then Ok t else find_tag tags word
-
-abbrev pub only_built : Tag → Result Tag Word
-only_built t = if is_built t then Ok t else Err UnknownTag
-
--- the tag among these with this word, where lines with it are read
-unfoldable pub known_tag : List Tag → List ℕ → Result Tag Word
-known_tag tags word = find_tag tags word >>= λ t. only_built t
-
--- t is one of these tags, and lines with it are read
-abbrev pub IsReadAmong : List Tag → Tag → Type 0
-IsReadAmong tags t = known_tag tags (tag_word t) ≡ Ok t

@@ -2,7 +2,7 @@ ghost use Rattle.std.specs.Prelude.{◌≡◌, Ok, Err};
 ghost use Rattle.lk_lines.specs.Told.{Gives};
 ghost use Rattle.lk_token.specs.Fields.{fields_of};
 ghost use Rattle.lk_lines.specs.Items.{tag_at};
-ghost use Rattle.lk_lines.specs.Tags.{is_built, find_tag, known_tag, numbered_tags, rare_tags, plain_tags};
+ghost use Rattle.lk_lines.specs.Tags.{find_tag, numbered_tags, rare_tags, plain_tags};
 
 use crate::Word;
 use crate::steps::{FieldError, is};
@@ -48,55 +48,6 @@ pub enum DeclarationTag {
 pub enum Tag {
     Entry(EntryTag),
     Declaration(DeclarationTag),
-}
-
-fn entry_is_built(tag: EntryTag) -> bool
-    ensures { result ≡ is_built (Tag.Entry tag) }
-{
-    match tag {
-        EntryTag::NameText => true,
-        EntryTag::NameNumber => true,
-        EntryTag::Successor => true,
-        EntryTag::Max => true,
-        EntryTag::Imax => true,
-        EntryTag::Parameter => true,
-        EntryTag::Variable => true,
-        EntryTag::Sort => true,
-        EntryTag::Constant => true,
-        EntryTag::Apply => true,
-        EntryTag::Lambda => true,
-        EntryTag::Pi => true,
-        EntryTag::Let => true,
-        EntryTag::Project => false,
-        EntryTag::NatLiteral => false,
-        EntryTag::TextLiteral => false,
-        EntryTag::Rule => true,
-    }
-}
-
-fn declaration_is_built(tag: DeclarationTag) -> bool
-    ensures { result ≡ is_built (Tag.Declaration tag) }
-{
-    match tag {
-        DeclarationTag::Axiom => true,
-        DeclarationTag::Definition => true,
-        DeclarationTag::Theorem => true,
-        DeclarationTag::Opaque => true,
-        DeclarationTag::Quotient => false,
-        DeclarationTag::Inductive => true,
-        DeclarationTag::Constructor => true,
-        DeclarationTag::Recursor => true,
-    }
-}
-
-/// Whether lines with this tag are read yet. A tag that is not built is an unknown one.
-pub fn is_built(tag: Tag) -> bool
-    ensures { result ≡ is_built tag }
-{
-    match tag {
-        Tag::Entry(entry) => entry_is_built(entry),
-        Tag::Declaration(declaration) => declaration_is_built(declaration),
-    }
 }
 
 // The tag of this word, of those with a number in front. The commonest ones come first.
@@ -174,30 +125,6 @@ fn find_declaration(word: &[u8]) -> Result<DeclarationTag, FieldError>
     }
 }
 
-#[tactic(auto, unfolding(crate::specs::Tags::known_tag))]
-fn known_entry(word: &[u8]) -> Result<EntryTag, FieldError>
-    ensures { Gives (λ t. Tag.Entry t) result (known_tag numbered_tags word.now) }
-{
-    let tag = find_entry(word)?;
-    if entry_is_built(tag) {
-        Ok(tag)
-    } else {
-        Err(FieldError::Fault(Word::UnknownTag))
-    }
-}
-
-#[tactic(auto, unfolding(crate::specs::Tags::known_tag))]
-fn known_declaration(word: &[u8]) -> Result<DeclarationTag, FieldError>
-    ensures { Gives (λ t. Tag.Declaration t) result (known_tag plain_tags word.now) }
-{
-    let tag = find_declaration(word)?;
-    if declaration_is_built(tag) {
-        Ok(tag)
-    } else {
-        Err(FieldError::Fault(Word::UnknownTag))
-    }
-}
-
 /// The tag behind a line's number, and what is left of the line.
 #[tactic(auto, unfolding(crate::specs::Items::tag_at))]
 pub(crate) fn entry_tag(line: &[u8]) -> Result<(EntryTag, &[u8]), FieldError>
@@ -206,7 +133,7 @@ pub(crate) fn entry_tag(line: &[u8]) -> Result<(EntryTag, &[u8]), FieldError>
 {
     match next_field(line) {
         None => Err(FieldError::Fault(Word::MissingField)),
-        Some((field, rest)) => Ok((known_entry(field)?, rest)),
+        Some((field, rest)) => Ok((find_entry(field)?, rest)),
     }
 }
 
@@ -218,6 +145,6 @@ pub(crate) fn declaration_tag(line: &[u8]) -> Result<(DeclarationTag, &[u8]), Fi
 {
     match next_field(line) {
         None => Err(FieldError::Fault(Word::MissingField)),
-        Some((field, rest)) => Ok((known_declaration(field)?, rest)),
+        Some((field, rest)) => Ok((find_declaration(field)?, rest)),
     }
 }

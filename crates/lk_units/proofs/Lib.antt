@@ -4,7 +4,8 @@ pub mod Counting
 pub mod Lines
 pub mod Several
 pub mod Listing
+pub mod Spellings
 pub mod Kept
 pub mod Items
 pub mod Placing
-pub mod BuiltUnits
+pub mod SpelledUnits

@@ -12,7 +12,7 @@ use Rattle.lk_units.specs.declared.assembler.Assembler.{Assembler}
 use Rattle.lk_units.specs.declared.assembler.TakeError.{TakeError}
 use Rattle.lk_units.specs.declared.assembler.TakeError.TheVariants as errors
 use Rattle.lk_units.specs.State.{State, known, all_known, constant_tree, declaration_of, counted, with_line, declared}
-use Rattle.lk_units.specs.Held.{Holds, Fails, Makes, Follows}
+use Rattle.lk_units.specs.Held.{Fails, Follows}
 
 -- what follows a fault is that fault
 pub fails_then : {X Y : Type 0} (e : TakeError) (said : Result X Word) (next : X → Result Y Word) → Fails e said → Fails e (said >>= next)

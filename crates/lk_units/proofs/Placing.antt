@@ -1,5 +1,5 @@
 -- A line that is put behind those before it.
-use Rattle.std.proofs.Common.{◌≡◌, ℕ, List, [], ◌∷◌, ◌++◌, Option, Some, None, refl, sym, ap, ◌∙◌, Ok, Err, append_assoc}
+use Rattle.std.proofs.Common.{◌≡◌, ℕ, List, [], ◌∷◌, ◌++◌, Some, None, ap, ◌∙◌, Ok, Err, append_assoc}
 use Rattle.std.specs.Prelude.{nat_eq}
 use Rattle.std.proofs.lemmas.List.{map-append, append-nil}
 use Rattle.std.proofs.lemmas.List.Elements.{All-push}
@@ -14,9 +14,9 @@ use Rattle.lk_members.specs.declared.line.Said.{Said as StoredSaid}
 use Rattle.lk_members.specs.declared.line.Line.{Line as StoredLine}
 use Rattle.lk_members.specs.declared.members.Members.{Members}
 use Rattle.lk_members.specs.Faults.{fault_of}
-use Rattle.lk_members.specs.Stored.{NumberedLine, said_of, line_of, lines_of, IsSaidIn, AreLinesIn}
+use Rattle.lk_members.specs.Stored.{NumberedLine, said_of, line_of, lines_of, IsSaidIn}
 use Rattle.lk_members.specs.Indices.{IsIndexed}
-use Rattle.lk_members.specs.Finishing.{AreFaultless, IsFaultless}
+use Rattle.lk_members.specs.Finishing.{AreFaultless}
 use Rattle.lk_members.specs.Plain.{said_at, line_at, lines_at}
 use Rattle.lk_members.proofs.Standing.{fault_stands}
 use Rattle.lk_units.specs.declared.assembler.Assembler.{Assembler}

@@ -1,15 +1,17 @@
 -- What the numbers of a file stand for behind its lines so far, and what an item adds, or its fault.
 use Rattle.std.specs.Prelude.{ℕ, ◌==◌, ◌+◌, ◌-◌, ◌^◌, Bool, List, [], ◌∷◌, ◌++◌, Result, Ok, Err, Some, None, if◌then◌else◌, is_some, nat_lt}
 use Rattle.std.specs.declared.option.Option.{Option}
-use Rattle.lk_tree.specs.Tree.{Name, Part, text, number, Level, zero_level, succ_level, max_level, imax_level, param, Tree, var, sort, const, app, lam, pi, let_in}
+use Rattle.lk_tree.specs.Tree.{Name, Part, text, number, Level, zero_level, succ_level, max_level, imax_level, param, Tree, var, sort, const, app, lam, pi, let_in, proj, lit, wide, str}
 use Rattle.lk_tree.specs.Mentions.{same_name}
-use Rattle.lk_rulebook.specs.Place.{Hint, opaque_hint, abbreviation, regular, Ctor, RecRule, Recursor, BlockRecursor}
-use Rattle.lk_rulebook.specs.Units.{Body, as_axiom, as_def, as_thm, as_opaque, Decl}
+use Rattle.lk_rulebook.specs.Place.{Hint, opaque_hint, abbreviation, regular, RecRule}
+use Rattle.lk_rulebook.specs.Units.{Body, as_axiom, as_def, as_thm, as_opaque, as_quot}
 use Rattle.lk_members.specs.declared.fault.MemberFault.{MemberFault}
 use Rattle.lk_members.specs.declared.fault.MemberFault.TheVariants as faults
 use Rattle.lk_members.specs.Lines.{alone, a_type, a_ctor, a_recursor}
 use Rattle.lk_members.specs.Faults.{fault_of}
-use Rattle.lk_members.specs.Plain.{Head, PlainSaid, PlainLine}
+use Rattle.lk_members.specs.Plain.{PlainSaid, PlainLine}
+use Rattle.lk_num.specs.declared.numeral.Nat.{Nat}
+use Rattle.lk_num.specs.declared.numeral.Nat.TheVariants as nats
 use Rattle.lk_lines.specs.declared.line.ReducibilityHint.{ReducibilityHint}
 use Rattle.lk_lines.specs.declared.line.ReducibilityHint.TheVariants as hints
 use Rattle.lk_lines.specs.declared.words.Word.{Word}
@@ -101,6 +103,15 @@ constant_tree s n ls = known s.names n >>= λ name. (all_known s.levels ls >>= �
 abbrev pub application_tree : State → ℕ → ℕ → Result Tree Word
 application_tree s f a = known s.trees f >>= λ x. (known s.trees a >>= λ y. Ok (app x y))
 
+-- a projection, of which the structure's name and the subject are to stand for something
+abbrev pub projection_tree : State → ℕ → ℕ → ℕ → Result Tree Word
+projection_tree s n field e = known s.names n >>= λ name. (known s.trees e >>= λ x. Ok (proj name field x))
+
+-- a number literal; all above 2^128 - 1 are one tree
+abbrev pub number_literal : Nat → Tree
+number_literal (nats.Fits n) = lit n
+number_literal nats.Wide = wide
+
 -- a declaration with this body
 abbrev pub declaration_of : State → ℕ → ℕ → Result Body Word → List ℕ → Result PlainSaid Word
 declaration_of s n a said ps = known s.names n >>= λ name. (known s.trees a >>= λ type. (said >>= λ body.
@@ -122,6 +133,10 @@ valued_of s f n a v ps = declaration_of s n a (value_body s f v) ps
 
 abbrev pub axiom_of : State → ℕ → ℕ → List ℕ → Result PlainSaid Word
 axiom_of s n a ps = declaration_of s n a (Ok as_axiom) ps
+
+-- a constant of quotient types
+abbrev pub quotient_of : State → ℕ → ℕ → List ℕ → Result PlainSaid Word
+quotient_of s n a ps = declaration_of s n a (Ok as_quot) ps
 
 -- a rule of a recursor
 abbrev pub rule_of : State → ℕ → ℕ → ℕ → Result RecRule Word
@@ -156,8 +171,7 @@ recursor_said s n a ts counts rs ps =
       recursor = record { parameters = counts.parameters; indices = counts.indices; motives = counts.motives; minors = counts.minors; k = counts.k; rules = rules };
     }))))))
 
--- what the values behind each tag add; a line of any other kind is no line yet. A built tag with values of another shape
--- is given by no line, and the same word stands for it.
+-- What the values behind each tag add. No line gives a tag with values of another shape; UnknownTag stands for it.
 unfoldable pub entry_added : State → ℕ → EntryTag → List Value → Result State Word
 entry_added s own entry.NameText (value.Number p ∷ value.Bytes bytes ∷ []) = with_name s own (longer_name s p (text bytes))
 entry_added s own entry.NameNumber (value.Number p ∷ value.Number n ∷ []) = with_name s own (longer_name s p (number n))
@@ -172,25 +186,26 @@ entry_added s own entry.Apply (value.Number f ∷ value.Number a ∷ []) = with_
 entry_added s own entry.Lambda (value.OfInfo i ∷ value.Number n ∷ value.Number a ∷ value.Number b ∷ []) = with_tree s own (binder_tree s (λ A e. lam A e) n a b)
 entry_added s own entry.Pi (value.OfInfo i ∷ value.Number n ∷ value.Number a ∷ value.Number b ∷ []) = with_tree s own (binder_tree s (λ A e. pi A e) n a b)
 entry_added s own entry.Let (value.Number n ∷ value.Number a ∷ value.Number v ∷ value.Number b ∷ []) = with_tree s own (let_tree s n a v b)
+entry_added s own entry.Project (value.Number n ∷ value.Number field ∷ value.Number e ∷ []) = with_tree s own (projection_tree s n field e)
+entry_added s own entry.NatLiteral (value.Literal n ∷ []) = with_tree s own (Ok (number_literal n))
+entry_added s own entry.TextLiteral (value.Bytes bytes ∷ []) = with_tree s own (Ok (str bytes))
 entry_added s own entry.Rule (value.Number n ∷ value.Number fields ∷ value.Number v ∷ []) = with_rule s own (rule_of s n fields v)
 entry_added s own t values = Err UnknownTag
 
--- a member of a block
-unfoldable pub member_said : State → DeclarationTag → List Value → Result PlainSaid Word
-member_said s decl.Inductive (value.Number n ∷ value.Number a ∷ value.Number recursive ∷ value.Number nested ∷ value.Number parameters ∷ value.Number indices ∷ value.Numbers ts ∷ value.Numbers cs ∷ value.Numbers ps ∷ []) =
-    type_said s n a parameters indices ts cs ps
-member_said s decl.Constructor (value.Number n ∷ value.Number a ∷ value.Number p ∷ value.Number place ∷ value.Number parameters ∷ value.Number fields ∷ value.Numbers ps ∷ []) =
-    ctor_said s n a p place parameters fields ps
-member_said s decl.Recursor (value.Number n ∷ value.Number a ∷ value.Numbers ts ∷ value.Number parameters ∷ value.Number indices ∷ value.Number motives ∷ value.Number minors ∷ value.Numbers rs ∷ value.Flag k ∷ value.Numbers ps ∷ []) =
-    recursor_said s n a ts (record { parameters = parameters; indices = indices; motives = motives; minors = minors; k = k }) rs ps
-member_said s t values = Err UnknownTag
-
+-- What the values behind each tag state, in the same way.
 unfoldable pub declaration_said : State → DeclarationTag → List Value → Result PlainSaid Word
 declaration_said s decl.Definition (value.Number n ∷ value.Number a ∷ value.Number v ∷ value.OfHint h ∷ value.Numbers ps ∷ []) = valued_of s (λ e. as_def (hint_said h) e) n a v ps
 declaration_said s decl.Theorem (value.Number n ∷ value.Number a ∷ value.Number v ∷ value.Numbers ps ∷ []) = valued_of s (λ e. as_thm e) n a v ps
 declaration_said s decl.Opaque (value.Number n ∷ value.Number a ∷ value.Number v ∷ value.Numbers ps ∷ []) = valued_of s (λ e. as_opaque e) n a v ps
 declaration_said s decl.Axiom (value.Number n ∷ value.Number a ∷ value.Numbers ps ∷ []) = axiom_of s n a ps
-declaration_said s t values = member_said s t values
+declaration_said s decl.Quotient (value.Number n ∷ value.Number a ∷ value.Numbers ps ∷ []) = quotient_of s n a ps
+declaration_said s decl.Inductive (value.Number n ∷ value.Number a ∷ value.Number recursive ∷ value.Number nested ∷ value.Number parameters ∷ value.Number indices ∷ value.Numbers ts ∷ value.Numbers cs ∷ value.Numbers ps ∷ []) =
+    type_said s n a parameters indices ts cs ps
+declaration_said s decl.Constructor (value.Number n ∷ value.Number a ∷ value.Number p ∷ value.Number place ∷ value.Number parameters ∷ value.Number fields ∷ value.Numbers ps ∷ []) =
+    ctor_said s n a p place parameters fields ps
+declaration_said s decl.Recursor (value.Number n ∷ value.Number a ∷ value.Numbers ts ∷ value.Number parameters ∷ value.Number indices ∷ value.Number motives ∷ value.Number minors ∷ value.Numbers rs ∷ value.Flag k ∷ value.Numbers ps ∷ []) =
+    recursor_said s n a ts (record { parameters = parameters; indices = indices; motives = motives; minors = minors; k = k }) rs ps
+declaration_said s t values = Err UnknownTag
 
 -- items are counted, and there are fewer than 2^32
 abbrev pub counted : State → Result State Word

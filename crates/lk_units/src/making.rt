@@ -1,19 +1,20 @@
 //! What each kind of line makes.
 ghost use Rattle.std.specs.Prelude.{◌≡◌, ◌<◌, ◌++◌, ◌∷◌, [], length, map, All, IfOk, Ok, Result};
-ghost use Rattle.lk_tree.specs.Tree.{Level, text, number, var, const};
+ghost use Rattle.lk_tree.specs.Tree.{Level, text, number, var, const, str};
 ghost use Rattle.lk_rulebook.specs.Units.{Body as PlainBody};
 ghost use Rattle.lk_store.specs.Contents.{Contents, name_at, level_at, tree_at, level_of, tree_of, IsIn, IsLevelIn, IsName, IsList, Extends};
 ghost use Rattle.lk_env.specs.Units.{body_at, rule_at, IsBodyIn, IsRuleIn};
 ghost use Rattle.lk_members.specs.Stored.{IsSaidIn};
 ghost use Rattle.lk_members.specs.Plain.{said_at};
 ghost use Rattle.lk_lines.specs.declared.words.Word.{Word as LineWord};
-ghost use Rattle.lk_units.specs.State.{State, longer_name, successor_level, pair_level, parameter_level, sort_tree, constant_tree, application_tree, binder_tree, let_tree, rule_of, declaration_of, value_body, valued_of, axiom_of};
+ghost use Rattle.lk_units.specs.State.{State, longer_name, successor_level, pair_level, parameter_level, sort_tree, constant_tree, application_tree, binder_tree, let_tree, projection_tree, number_literal, rule_of, declaration_of, value_body, valued_of, axiom_of, quotient_of};
 ghost use Rattle.lk_units.specs.Held.{IsKnown, Holds, Makes, binder_of, pair_of, body_of};
 
 use crate::{Assembler, Binder, LevelPair, TakeError, ValueUse};
 use lk_env::unit::{Body, Declaration, RecursorRule};
 use lk_lines::Word;
 use lk_members::line::Said;
+use lk_num::Nat;
 use lk_store::memory::NoMemory;
 use lk_store::node::{LevelNode, ListNode, NameNode, Node};
 use lk_store::terms::Terms;
@@ -96,6 +97,30 @@ pub(crate) fn variable<T: Terms>(store: &mut T, index: u32) -> Result<u64, TakeE
     ensures made { Makes (tree_at (T.contents store.new)) result (Ok (var index)) }
 {
     make(store, Node::Var(u64::from(index)))
+}
+
+/// A number literal. All above 2^128 - 1 are one term.
+pub(crate) fn nat_literal<T: Terms>(store: &mut T, number: Nat) -> Result<u64, TakeError>
+    ensures keeps { Extends (T.contents store.old) (T.contents store.new) }
+    ensures rest { T.rest store.new ≡ T.rest store.old }
+    ensures known { IfOk result (λ e. e < length (T.contents store.new).trees) }
+    ensures made { Makes (tree_at (T.contents store.new)) result (Ok (number_literal number)) }
+{
+    match number {
+        Nat::Fits(n) => make(store, Node::Lit(n)),
+        Nat::Wide => make(store, Node::Wide),
+    }
+}
+
+/// A text literal.
+pub(crate) fn text_literal<T: Terms>(store: &mut T, bytes: Vec<u8>) -> Result<u64, TakeError>
+    ensures keeps { Extends (T.contents store.old) (T.contents store.new) }
+    ensures rest { T.rest store.new ≡ T.rest store.old }
+    ensures known { IfOk result (λ e. e < length (T.contents store.new).trees) }
+    ensures made { Makes (tree_at (T.contents store.new)) result (Ok (str bytes.items)) }
+{
+    let text = store.make_text(Text::new(bytes))?;
+    make(store, Node::Str(text))
 }
 
 /// The name with one more component, a text.
@@ -275,6 +300,32 @@ impl Assembler {
             return Err(TakeError::Fault(Word::IndexUnknown));
         };
         make(store, Node::Let(domain, value, body))
+    }
+
+    /// A projection.
+    #[tactic(auto, using(crate::proofs::Holding::found, crate::proofs::Holding::missing, crate::proofs::Holding::is_below, crate::proofs::Holding::unchanged))]
+    pub(crate) fn projection<T: Terms>(
+        &self,
+        store: &mut T,
+        structure: u32,
+        field: u32,
+        subject: u32,
+    ) -> Result<u64, TakeError>
+        requires { IsKnown self.now (T.contents store.old) }
+        ensures keeps { Extends (T.contents store.old) (T.contents store.new) }
+        ensures rest { T.rest store.new ≡ T.rest store.old }
+        ensures known { IfOk result (λ e. e < length (T.contents store.new).trees) }
+        ensures made { (s : State) → Holds self.now (T.contents store.old) s
+            → Makes (tree_at (T.contents store.new)) result
+            (projection_tree s structure field subject) }
+    {
+        let Some(structure) = self.by_name.find(structure) else {
+            return Err(TakeError::Fault(Word::IndexUnknown));
+        };
+        let Some(subject) = self.by_tree.find(subject) else {
+            return Err(TakeError::Fault(Word::IndexUnknown));
+        };
+        make(store, Node::Proj(structure, u64::from(field), subject))
     }
 
     /// The successor of a level.
@@ -493,5 +544,20 @@ impl Assembler {
             → Makes (said_at c) result (axiom_of s name ty parameters.now) }
     {
         self.declaration(alloc, name, ty, Ok(Body::Axiom), parameters)
+    }
+
+    /// A constant of quotient types.
+    pub(crate) fn quotient(
+        &self,
+        alloc: Global,
+        name: u32,
+        ty: u32,
+        parameters: &[u32],
+    ) -> Result<Said, TakeError>
+        ensures known { (c : Contents) → IsKnown self.now c → IfOk result (IsSaidIn c) }
+        ensures made { (c : Contents) (s : State) → Holds self.now c s
+            → Makes (said_at c) result (quotient_of s name ty parameters.now) }
+    {
+        self.declaration(alloc, name, ty, Ok(Body::Quotient), parameters)
     }
 }

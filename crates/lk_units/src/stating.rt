@@ -5,7 +5,7 @@ ghost use Rattle.lk_env.specs.Units.{rule_at, IsRuleIn};
 ghost use Rattle.lk_members.specs.Stored.{IsSaidIn};
 ghost use Rattle.lk_members.specs.Plain.{said_at};
 ghost use Rattle.lk_lines.specs.Views.{declaration_tag, declaration_values};
-ghost use Rattle.lk_units.specs.State.{State, all_known, type_said, ctor_said, recursor_said, member_said};
+ghost use Rattle.lk_units.specs.State.{State, all_known, type_said, ctor_said, recursor_said, declaration_said};
 ghost use Rattle.lk_units.specs.Held.{Below, IsKnown, Holds, Makes, counts_of, rule_at_place};
 
 use crate::{Assembler, TakeError};
@@ -213,13 +213,16 @@ impl Assembler {
     }
 
     /// What the line of a type states.
-    #[tactic(auto, unfolding(crate::specs::State::member_said))]
-    fn inductive_said(&self, alloc: Global, declaration: &Declaration) -> Result<Said, TakeError>
+    #[tactic(auto, unfolding(crate::specs::State::declaration_said))]
+    pub(crate) fn inductive_said(
+        &self,
+        alloc: Global,
+        declaration: &Declaration,
+    ) -> Result<Said, TakeError>
         requires tag { declaration_tag declaration.now ≡ DeclarationTag.Inductive }
-        requires rules { Below self.now.by_rule (length self.now.rules.items) }
         ensures known { (c : Contents) → IsKnown self.now c → IfOk result (IsSaidIn c) }
         ensures made { (c : Contents) (s : State) → Holds self.now c s
-            → Makes (said_at c) result (member_said s DeclarationTag.Inductive
+            → Makes (said_at c) result (declaration_said s DeclarationTag.Inductive
             (declaration_values declaration.now)) }
     {
         let Declaration::Inductive {
@@ -233,7 +236,7 @@ impl Assembler {
             ..
         } = declaration
         else {
-            return Err(TakeError::Fault(Word::UnknownTag));
+            unreachable!();
         };
         let counts = TypeCounts {
             parameters: *parameter_count,
@@ -251,13 +254,16 @@ impl Assembler {
     }
 
     /// What the line of a constructor states.
-    #[tactic(auto, unfolding(crate::specs::State::member_said))]
-    fn constructor_said(&self, alloc: Global, declaration: &Declaration) -> Result<Said, TakeError>
+    #[tactic(auto, unfolding(crate::specs::State::declaration_said))]
+    pub(crate) fn constructor_said(
+        &self,
+        alloc: Global,
+        declaration: &Declaration,
+    ) -> Result<Said, TakeError>
         requires tag { declaration_tag declaration.now ≡ DeclarationTag.Constructor }
-        requires rules { Below self.now.by_rule (length self.now.rules.items) }
         ensures known { (c : Contents) → IsKnown self.now c → IfOk result (IsSaidIn c) }
         ensures made { (c : Contents) (s : State) → Holds self.now c s
-            → Makes (said_at c) result (member_said s DeclarationTag.Constructor
+            → Makes (said_at c) result (declaration_said s DeclarationTag.Constructor
             (declaration_values declaration.now)) }
     {
         let Declaration::Constructor {
@@ -270,7 +276,7 @@ impl Assembler {
             parameters,
         } = declaration
         else {
-            return Err(TakeError::Fault(Word::UnknownTag));
+            unreachable!();
         };
         let counts = ConstructorCounts {
             place: *place,
@@ -281,13 +287,17 @@ impl Assembler {
     }
 
     /// What the line of a recursor states.
-    #[tactic(auto, unfolding(crate::specs::State::member_said))]
-    fn recursor_said(&self, alloc: Global, declaration: &Declaration) -> Result<Said, TakeError>
+    #[tactic(auto, unfolding(crate::specs::State::declaration_said))]
+    pub(crate) fn recursor_said(
+        &self,
+        alloc: Global,
+        declaration: &Declaration,
+    ) -> Result<Said, TakeError>
         requires tag { declaration_tag declaration.now ≡ DeclarationTag.Recursor }
         requires rules { Below self.now.by_rule (length self.now.rules.items) }
         ensures known { (c : Contents) → IsKnown self.now c → IfOk result (IsSaidIn c) }
         ensures made { (c : Contents) (s : State) → Holds self.now c s
-            → Makes (said_at c) result (member_said s DeclarationTag.Recursor
+            → Makes (said_at c) result (declaration_said s DeclarationTag.Recursor
             (declaration_values declaration.now)) }
     {
         let Declaration::Recursor {
@@ -303,7 +313,7 @@ impl Assembler {
             parameters,
         } = declaration
         else {
-            return Err(TakeError::Fault(Word::UnknownTag));
+            unreachable!();
         };
         let counts = RecursorCounts {
             parameters: *parameter_count,
@@ -321,30 +331,5 @@ impl Assembler {
             rules,
             parameters,
         )
-    }
-
-    /// What the line of a block's member states.
-    #[tactic(auto, unfolding(crate::specs::State::member_said))]
-    pub(crate) fn member_said(
-        &self,
-        alloc: Global,
-        declaration: &Declaration,
-    ) -> Result<Said, TakeError>
-        requires { Below self.now.by_rule (length self.now.rules.items) }
-        ensures known { (c : Contents) → IsKnown self.now c → IfOk result (IsSaidIn c) }
-        ensures made { (c : Contents) (s : State) → Holds self.now c s
-            → Makes (said_at c) result (member_said s (declaration_tag declaration.now)
-            (declaration_values declaration.now)) }
-    {
-        match declaration {
-            Declaration::Inductive { .. } => self.inductive_said(alloc, declaration),
-            Declaration::Constructor { .. } => self.constructor_said(alloc, declaration),
-            Declaration::Recursor { .. } => self.recursor_said(alloc, declaration),
-            Declaration::Axiom { .. }
-            | Declaration::Definition { .. }
-            | Declaration::Theorem { .. }
-            | Declaration::Opaque { .. }
-            | Declaration::Quotient { .. } => Err(TakeError::Fault(Word::UnknownTag)),
-        }
     }
 }

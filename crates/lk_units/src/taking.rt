@@ -1,6 +1,6 @@
 //! Items taken one after another.
 ghost use Rattle.std.specs.Prelude.{◌≡◌, ◌<◌, ℕ, length, IfOk, OnOk, Ok, Some, None, Result};
-ghost use Rattle.lk_tree.specs.Tree.{text, number, var};
+ghost use Rattle.lk_tree.specs.Tree.{text, number, var, str};
 ghost use Rattle.lk_rulebook.specs.Place.{RecRule};
 ghost use Rattle.lk_store.specs.Contents.{Contents, Extends};
 ghost use Rattle.lk_env.specs.Units.{hint_of, IsRuleIn, rule_at};
@@ -9,15 +9,16 @@ ghost use Rattle.lk_members.specs.Plain.{said_at};
 ghost use Rattle.lk_lines.specs.declared.words.Word.{Word as LineWord};
 ghost use Rattle.lk_lines.specs.declared.tags.Tag.TheVariants as tag;
 ghost use Rattle.lk_lines.specs.Views.{entry_tag, entry_values, declaration_tag, declaration_values};
-ghost use Rattle.lk_units.specs.State.{State, longer_name, successor_level, pair_level, parameter_level, sort_tree, constant_tree, application_tree, binder_tree, let_tree, rule_of, with_name, with_level, with_tree, with_rule, hint_said, valued_of, axiom_of, entry_added, declaration_said, with_line, take_item};
+ghost use Rattle.lk_units.specs.State.{State, longer_name, successor_level, pair_level, parameter_level, sort_tree, constant_tree, application_tree, binder_tree, let_tree, projection_tree, number_literal, rule_of, with_name, with_level, with_tree, with_rule, hint_said, valued_of, axiom_of, entry_added, declaration_said, with_line, take_item};
 ghost use Rattle.lk_units.specs.Held.{Below, IsKnown, Holds, Makes, Follows, rule_held, told, binder_of, pair_of, body_of};
 
-use crate::making::variable;
+use crate::making::{nat_literal, text_literal, variable};
 use crate::{Assembler, Binder, LevelPair, TakeError, ValueUse};
 use lk_env::unit::{Hint, RecursorRule};
 use lk_lines::{Declaration, Entry, ReducibilityHint, Word};
 use lk_members::fault::MemberFault;
 use lk_members::line::Said;
+use lk_num::Nat;
 use lk_store::terms::Terms;
 use std::alloc::Global;
 
@@ -275,6 +276,63 @@ impl Assembler {
         self.by_tree.put_new(own, made)
     }
 
+    // A line of a projection.
+    #[tactic(auto, using(crate::proofs::Putting::tree_known, crate::proofs::Putting::tree_follows))]
+    fn projection_line<T: Terms>(
+        &mut self,
+        store: &mut T,
+        own: u32,
+        structure: u32,
+        field: u32,
+        subject: u32,
+    ) -> Result<(), TakeError>
+        requires { IsKnown self.old (T.contents store.old) }
+        ensures keeps { Extends (T.contents store.old) (T.contents store.new) }
+        ensures rest { T.rest store.new ≡ T.rest store.old }
+        ensures known { OnOk result (IsKnown self.new (T.contents store.new)) }
+        ensures follows { (s : State) → Holds self.old (T.contents store.old) s
+            → Follows self.new (T.contents store.new) result
+            (with_tree s own (projection_tree s structure field subject)) }
+    {
+        let made = self.projection(store, structure, field, subject);
+        self.by_tree.put_new(own, made)
+    }
+
+    // A line of a number literal.
+    #[tactic(auto, using(crate::proofs::Putting::tree_known, crate::proofs::Putting::tree_follows))]
+    fn nat_line<T: Terms>(&mut self, store: &mut T, own: u32, number: Nat) -> Result<(), TakeError>
+        requires { IsKnown self.old (T.contents store.old) }
+        ensures keeps { Extends (T.contents store.old) (T.contents store.new) }
+        ensures rest { T.rest store.new ≡ T.rest store.old }
+        ensures known { OnOk result (IsKnown self.new (T.contents store.new)) }
+        ensures follows { (s : State) → Holds self.old (T.contents store.old) s
+            → Follows self.new (T.contents store.new) result
+            (with_tree s own (Ok (number_literal number))) }
+    {
+        let made = nat_literal(store, number);
+        self.by_tree.put_new(own, made)
+    }
+
+    // A line of a text literal.
+    #[tactic(auto, using(crate::proofs::Putting::tree_known, crate::proofs::Putting::tree_follows))]
+    fn string_line<T: Terms>(
+        &mut self,
+        store: &mut T,
+        own: u32,
+        bytes: Vec<u8>,
+    ) -> Result<(), TakeError>
+        requires { IsKnown self.old (T.contents store.old) }
+        ensures keeps { Extends (T.contents store.old) (T.contents store.new) }
+        ensures rest { T.rest store.new ≡ T.rest store.old }
+        ensures known { OnOk result (IsKnown self.new (T.contents store.new)) }
+        ensures follows { (s : State) → Holds self.old (T.contents store.old) s
+            → Follows self.new (T.contents store.new) result
+            (with_tree s own (Ok (str bytes.items))) }
+    {
+        let made = text_literal(store, bytes);
+        self.by_tree.put_new(own, made)
+    }
+
     // Adds the rule that a line made.
     fn push_rule(&mut self, made: Result<RecursorRule, TakeError>) -> Result<u64, TakeError>
         ensures known { OnOk result ((c : Contents) → IsKnown self.old c → IfOk made (IsRuleIn c)
@@ -370,14 +428,18 @@ impl Assembler {
                 value,
                 body,
             } => self.let_line(store, own, name, binder_type, value, body),
+            Entry::Project {
+                structure,
+                field,
+                subject,
+            } => self.projection_line(store, own, structure, field, subject),
+            Entry::NatLiteral { number } => self.nat_line(store, own, number),
+            Entry::TextLiteral { text } => self.string_line(store, own, text),
             Entry::Rule {
                 constructor,
                 field_count,
                 value,
             } => self.rule_line(own, constructor, field_count, value),
-            Entry::Project { .. } | Entry::NatLiteral { .. } | Entry::TextLiteral { .. } => Err(
-                TakeError::Fault(Word::UnknownTag),
-            ),
         }
     }
 
@@ -424,10 +486,14 @@ impl Assembler {
                 declared_type,
                 parameters,
             } => self.axiom(alloc, *name, *declared_type, parameters),
-            Declaration::Quotient { .. }
-            | Declaration::Inductive { .. }
-            | Declaration::Constructor { .. }
-            | Declaration::Recursor { .. } => self.member_said(alloc, declaration),
+            Declaration::Quotient {
+                name,
+                declared_type,
+                parameters,
+            } => self.quotient(alloc, *name, *declared_type, parameters),
+            Declaration::Inductive { .. } => self.inductive_said(alloc, declaration),
+            Declaration::Constructor { .. } => self.constructor_said(alloc, declaration),
+            Declaration::Recursor { .. } => self.recursor_said(alloc, declaration),
         }
     }
 

@@ -1,4 +1,3 @@
-use Rattle.lk_store.specs.Store.{contents_of}
 use Rattle.lk_book.proofs.Libraries.{told_library, made_library}
 use Rattle.lk_book.proofs.file.library_of.Goals as goal
 

@@ -1,4 +1,4 @@
-use Rattle.std.proofs.Common.{◌≡◌, ◌<◌, ℕ, ◌++◌, map, length}
+use Rattle.std.proofs.Common.{◌≡◌, ◌<◌, ◌++◌, map, length}
 use Rattle.std.specs.Prelude.{All}
 use Rattle.lk_units.specs.Held.{rule_at_place}
 use Rattle.lk_units.proofs.stating.rules_at.Given as goal

@@ -1,4 +1,4 @@
-use Rattle.std.proofs.Common.{rules, ap, ◌∙◌, ◌==◌, length, [], Some, None}
+use Rattle.std.proofs.Common.{rules, ap, ◌∙◌, ◌==◌, length, [], Some}
 use Rattle.std.specs.Prelude.{if◌then◌else◌}
 use Rattle.lk_tree.specs.Tree.{zero_level}
 use Rattle.lk_store.specs.Contents.{name_at, level_at}

@@ -1,4 +1,4 @@
-use Rattle.std.proofs.Common.{◌≡◌, ◌<◌, length, map, Ok, Err}
+use Rattle.std.proofs.Common.{◌<◌, length, Ok, Err}
 use Rattle.std.proofs.lemmas.List.Elements.{All-map, All-weaker}
 use Rattle.lk_env.specs.Units.{rule_at, IsRuleIn}
 use Rattle.lk_units.specs.Held.{rule_at_place, rule_held}
