@@ -1,5 +1,5 @@
-//! Tests of the crates between the stores and the program: the library and its scan, mentions, levels, the memo, the engine, and
-//! the checks of blocks. They stand in a crate of their own, so that none of those crates is proved a second time for them.
+//! Tests of the crates between the stores and the program: the library and its scan, mentions, levels, operations on numbers, the
+//! memo, the engine, and the checks of blocks. They stand in a crate of their own, so that none of those crates is proved a second time for them.
 #![tactic(auto)]
 
 #[cfg(test)]
@@ -14,6 +14,8 @@ mod library;
 mod memo;
 #[cfg(test)]
 mod mentions;
+#[cfg(test)]
+mod operations;
 #[cfg(test)]
 mod recursor_steps;
 #[cfg(test)]

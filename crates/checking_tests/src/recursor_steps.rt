@@ -16,7 +16,6 @@ use lk_store::base_store::BaseStore;
 use lk_store::memory::NoMemory;
 use lk_store::node::{LevelNode, ListNode, NameNode, Node};
 use lk_store::terms::Terms;
-use lk_tree::rule::Rule;
 use std::alloc::Global;
 use std::test::Fail;
 
@@ -262,13 +261,13 @@ fn steps_at_local<A: Asks>(asks: &mut A) -> Result<bool, NoMemory> {
     Ok(is_term(core(asks, e), minor))
 }
 
-/// Whether it is refused there.
-fn is_refused_at_local<A: Asks>(asks: &mut A) -> Result<bool, NoMemory> {
+/// Whether it stays as it is there: the type is a proposition, so no structure of data.
+fn stays_at_local<A: Asks>(asks: &mut A) -> Result<bool, NoMemory> {
     let minor = asks.make(Node::Lit(5))?;
     let ty = constant(asks, TYPE)?;
     let major = local(asks, ty)?;
     let e = redex(asks, minor, major)?;
-    Ok(matches!(core(asks, e), Err(Stop::No(Rule::BuiltinShape))))
+    Ok(is_term(core(asks, e), e))
 }
 
 fn constructor_steps(alloc: Global) -> Result<bool, NoMemory> {
@@ -287,12 +286,12 @@ fn k_steps(alloc: Global) -> Result<bool, NoMemory> {
     steps_at_local(&mut engine)
 }
 
-fn local_is_refused(alloc: Global) -> Result<bool, NoMemory> {
+fn local_stays(alloc: Global) -> Result<bool, NoMemory> {
     let library = library(alloc, false)?;
     let mut memo = PrivateMemo::new(alloc, 8)?;
     let mut engine = Engine::new(alloc, &library, &mut memo);
     engine.start(1, 100);
-    is_refused_at_local(&mut engine)
+    stays_at_local(&mut engine)
 }
 
 #[test]
@@ -308,7 +307,7 @@ fn a_recursor_with_k_steps_at_a_local(rt: HostRuntime) -> Result<(), Fail> {
 }
 
 #[test]
-fn what_may_be_a_structure_is_refused(rt: HostRuntime) -> Result<(), Fail> {
-    assert!(rt; local_is_refused(rt.alloc())?);
+fn a_recursor_stays_at_a_proof(rt: HostRuntime) -> Result<(), Fail> {
+    assert!(rt; local_stays(rt.alloc())?);
     Ok(())
 }

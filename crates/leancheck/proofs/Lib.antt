@@ -12,3 +12,4 @@ pub mod Files
 pub mod Started
 pub mod Staging
 pub mod PartsStay
+pub mod QuotientRuns

@@ -12,22 +12,21 @@ use Rattle.lk_block.specs.Agreeing.{Agrees}
 use Rattle.lk_block.specs.Stages.{block_stages}
 use Rattle.lk_block.proofs.Staged.{goes_by_stages}
 use Rattle.lk_rulebook.specs.Scan.{are_new, own_scan}
-use Rattle.lk_questions.specs.Built.{rows}
+use Rattle.lk_questions.specs.Table.{steps}
 use Rattle.lk_verdict.specs.GoodUnit.{IsClearLibrary}
 use Rattle.lk_verdict.specs.Verdict.{PlainVerdict, says_yes, says_no, says_steps, questions_of as plain_questions, verdict_by, verdict_of as plain_of, plain_verdict}
-use Rattle.lk_verdict.specs.Built.{unbuilt_body, built_extent}
+use Rattle.lk_verdict.specs.Built.{built_extent}
 use Rattle.lk_verdict.specs.Told.{Verdict, accepted, rejected, out_of_memory, told, IsVerdict}
-use Rattle.lk_sound.proofs.BuiltTable.{good_of_built}
+use Rattle.lk_sound.proofs.BuiltYes.{good_of_built}
 use Rattle.leancheck.specs.Rows.{questions_of, stages_verdict, row_verdict}
 
--- a scan of the names and of the unit's own lines, then the rule of what is not built, then the questions
-by_tests : (new : Bool) (own unbuilt : Option Rule) (q : PlainVerdict)
-    → told (elim (elim (if new then own else Some DuplicateName) as (λ y. Option Rule) [ Some r ↦ Some r | None ↦ unbuilt ]) as (λ y. PlainVerdict) [ Some r ↦ says_no r | None ↦ q ])
-    ≡ (if new then (elim own as (λ y. Verdict) [ Some r ↦ rejected r | None ↦ (elim unbuilt as (λ y. Verdict) [ Some r ↦ rejected r | None ↦ told q ]) ]) else rejected DuplicateName)
-by_tests false own unbuilt q = refl
-by_tests true (Some r) unbuilt q = refl
-by_tests true None None q = refl
-by_tests true None (Some r) q = refl
+-- a scan of the names and of the unit's own lines, then the questions
+by_tests : (new : Bool) (own : Option Rule) (q : PlainVerdict)
+    → told (elim (if new then own else Some DuplicateName) as (λ y. PlainVerdict) [ Some r ↦ says_no r | None ↦ q ])
+    ≡ (if new then (elim own as (λ y. Verdict) [ Some r ↦ rejected r | None ↦ told q ]) else rejected DuplicateName)
+by_tests false own q = refl
+by_tests true (Some r) q = refl
+by_tests true None q = refl
 
 agreed : {A : Type 0} (o : Outcome A) (p : Out) → Agrees o p → told (verdict_by o) ≡ stages_verdict p
 agreed (answered v c t) (finished u left last) h = refl
@@ -43,11 +42,11 @@ agreed spent used_up h = refl
 unit_is : (us : Library) (n budget : ℕ) (u : LibraryUnit) → told (plain_of built_extent us n u budget) ≡ row_verdict us budget n u
 unfolding questions_of
 unit_is us n budget (of_decl d) =
-    by_tests (are_new us n (members_of (of_decl d))) (own_scan (of_decl d)) (unbuilt_body d.body) (plain_questions built_extent us n (of_decl d) budget)
+    by_tests (are_new us n (members_of (of_decl d))) (own_scan (of_decl d)) (plain_questions built_extent us n (of_decl d) budget)
 unit_is us n budget (of_block b rs) =
-    by_tests (are_new us n (members_of (of_block b rs))) (own_scan (of_block b rs)) None (plain_questions built_extent us n (of_block b rs) budget)
+    by_tests (are_new us n (members_of (of_block b rs))) (own_scan (of_block b rs)) (plain_questions built_extent us n (of_block b rs) budget)
     ∙ ap (λ v. if are_new us n (members_of (of_block b rs)) then (elim (own_scan (of_block b rs)) as (λ y. Verdict) [ Some r ↦ rejected r | None ↦ v ]) else rejected DuplicateName)
-    (agreed (plain_flat rows us n b rs budget) (block_stages rows (λ p. place_of us n (partial_of (of_block b rs) p)) (suc budget) b rs budget) (goes_by_stages rows us n b rs budget))
+    (agreed (plain_flat steps us n b rs budget) (block_stages steps (λ p. place_of us n (partial_of (of_block b rs) p)) (suc budget) b rs budget) (goes_by_stages steps us n b rs budget))
 
 -- the plain verdict is found so
 plain_is : (us : Library) (n budget : ℕ) (u : LibraryUnit) → slice_get us n ≡ Some u → told (plain_verdict built_extent us n budget) ≡ row_verdict us budget n u

@@ -8,8 +8,7 @@ use Rattle.lk_plain.specs.Answer.{Outcome, answered, refused, spent, outcome_of,
 use Rattle.lk_plain.specs.Erased.{Out, Value, truth, finished, stopped, used_up, left_of, out_of}
 use Rattle.lk_plain.proofs.Erasing.{run_erased}
 use Rattle.lk_questions.specs.Declarations.{checked, unit_steps}
-use Rattle.lk_questions.specs.Built.{rows}
-use Rattle.lk_verdict.specs.Built.{unbuilt_body}
+use Rattle.lk_questions.specs.Table.{steps}
 use Rattle.lk_verdict.specs.Told.{accepted, rejected, out_of_steps}
 use Rattle.lk_ask.specs.declared.stop.Stop.{Stop}
 use Rattle.lk_ask.specs.declared.stop.Stop.TheVariants.{No, Spent, NoMemory}
@@ -20,7 +19,7 @@ use Rattle.lk_declaration.specs.Checked.{IsCheckOutcome}
 use Rattle.lk_declaration.proofs.Settled.{checked_on, checked_stop}
 use Rattle.lk_declaration.proofs.Stepwise.{courses_are_steps}
 use Rattle.lk_block.specs.Stages.{block_stages, ends}
-use Rattle.leancheck.specs.Rows.{verdict_of, questions_of, built_of, stages_verdict}
+use Rattle.leancheck.specs.Rows.{verdict_of, questions_of, stages_verdict}
 use Rattle.leancheck.specs.Held.{IsPlain, result_verdict}
 
 out_accepted : {A : Type 0} (f : A → Value) (b l : ℕ) (v : Value) (last : Option ℕ) (o : Outcome A) → left_of f b o ≡ finished v l last → verdict_of o ≡ accepted
@@ -39,31 +38,31 @@ out_spent f b (refused s) e = absurd (cc)
 out_spent f b spent e = refl
 
 -- the outcome of a unit's questions is the run of its program, with nothing after it
-unit_left : (w : Place) (b : ℕ) (d : Decl) → left_of (λ y. truth true) b (outcome_of w (plain_answer rows w) b (unit_steps d)) ≡ run_then (out_of rows w) w (unit_steps d) b ends
-unit_left w b d = run_erased rows w (λ y. truth true) (unit_steps d) b ∙ courses_are_steps rows w (unit_steps d) b
+unit_left : (w : Place) (b : ℕ) (d : Decl) → left_of (λ y. truth true) b (outcome_of w (plain_answer steps w) b (unit_steps d)) ≡ run_then (out_of steps w) w (unit_steps d) b ends
+unit_left w b d = run_erased steps w (λ y. truth true) (unit_steps d) b ∙ courses_are_steps steps w (unit_steps d) b
 
-questions_are : (w : Place) (b : ℕ) (d : Decl) (r : Result (Unit {0}) Stop) → IsCheckOutcome (run_then (out_of rows w) w (unit_steps d) b ends) r → IsPlain (questions_of w b d) (result_verdict r)
+questions_are : (w : Place) (b : ℕ) (d : Decl) (r : Result (Unit {0}) Stop) → IsCheckOutcome (run_then (out_of steps w) w (unit_steps d) b ends) r → IsPlain (questions_of w b d) (result_verdict r)
 unfolding questions_of
-questions_are w b d (Ok u) h = inl (sym (out_accepted (λ y. truth true) b h.0 (truth true) h.1 (outcome_of w (plain_answer rows w) b (unit_steps d)) (unit_left w b d ∙ h.2)))
-questions_are w b d (Err (No r)) h = inl (sym (out_rejected (λ y. truth true) b _ (outcome_of w (plain_answer rows w) b (unit_steps d)) (unit_left w b d ∙ h)))
-questions_are w b d (Err Spent) h = inl (sym (out_spent (λ y. truth true) b (outcome_of w (plain_answer rows w) b (unit_steps d)) (unit_left w b d ∙ h)))
+questions_are w b d (Ok u) h = inl (sym (out_accepted (λ y. truth true) b h.0 (truth true) h.1 (outcome_of w (plain_answer steps w) b (unit_steps d)) (unit_left w b d ∙ h.2)))
+questions_are w b d (Err (No r)) h = inl (sym (out_rejected (λ y. truth true) b _ (outcome_of w (plain_answer steps w) b (unit_steps d)) (unit_left w b d ∙ h)))
+questions_are w b d (Err Spent) h = inl (sym (out_spent (λ y. truth true) b (outcome_of w (plain_answer steps w) b (unit_steps d)) (unit_left w b d ∙ h)))
 questions_are w b d (Err NoMemory) h = inr refl
 
--- the verdict of a declaration whose kind is built, by what answers its questions
-pub questions_answered : {Base : Type 0} (s : Standing Base) (b left : ℕ) (d : Decl) (r : Result (Unit {0}) Stop) → s.table ≡ rows → unbuilt_body d.body ≡ None
-    → ComesTo s (unit_steps d) b (λ (u : Unit {0}). checked) left r → IsPlain (built_of s.place b d) (result_verdict r)
-questions_answered s b left d r is built h =
-    let of_rows : IsCheckOutcome (run_then (out_of rows s.place) s.place (unit_steps d) b ends) r = subst (λ t. IsCheckOutcome (run_then (out_of t s.place) s.place (unit_steps d) b ends) r) is (checked_gives r h) in
-    rw (built, built_of) (questions_are s.place b d r of_rows)
+-- the verdict of a declaration, by what answers its questions
+pub questions_answered : {Base : Type 0} (s : Standing Base) (b left : ℕ) (d : Decl) (r : Result (Unit {0}) Stop) → s.table ≡ steps
+    → ComesTo s (unit_steps d) b (λ (u : Unit {0}). checked) left r → IsPlain (questions_of s.place b d) (result_verdict r)
+questions_answered s b left d r is h =
+    let of_table : IsCheckOutcome (run_then (out_of steps s.place) s.place (unit_steps d) b ends) r = subst (λ t. IsCheckOutcome (run_then (out_of t s.place) s.place (unit_steps d) b ends) r) is (checked_gives r h) in
+    questions_are s.place b d r of_table
   where
     checked_gives : (r : Result (Unit {0}) Stop) → ComesTo s (unit_steps d) b (λ (u : Unit {0}). checked) left r → IsCheckOutcome (run_then (out_of s.table s.place) s.place (unit_steps d) b ends) r
     checked_gives (Ok u) h = checked_on s (unit_steps d) b checked left ends (Ok u) h (left, None, refl)
     checked_gives (Err stop) h = checked_stop s (unit_steps d) b ends stop h
 
 -- the verdict of a block, by what its stages come to
-pub stages_answered : (table : Table) (places : Partial → Place) (b : Block) (rs : List BlockRecursor) (left : ℕ) (r : Result (Unit {0}) Stop) → table ≡ rows
-    → IsCheckOutcome (block_stages table places (suc left) b rs left) r → IsPlain (stages_verdict (block_stages rows places (suc left) b rs left)) (result_verdict r)
-stages_answered table places b rs left r is h = checked_plain (block_stages rows places (suc left) b rs left) r (subst (λ t. IsCheckOutcome (block_stages t places (suc left) b rs left) r) is h)
+pub stages_answered : (table : Table) (places : Partial → Place) (b : Block) (rs : List BlockRecursor) (left : ℕ) (r : Result (Unit {0}) Stop) → table ≡ steps
+    → IsCheckOutcome (block_stages table places (suc left) b rs left) r → IsPlain (stages_verdict (block_stages steps places (suc left) b rs left)) (result_verdict r)
+stages_answered table places b rs left r is h = checked_plain (block_stages steps places (suc left) b rs left) r (subst (λ t. IsCheckOutcome (block_stages t places (suc left) b rs left) r) is h)
   where
     checked_plain : (o : Out) (r : Result (Unit {0}) Stop) → IsCheckOutcome o r → IsPlain (stages_verdict o) (result_verdict r)
     checked_plain o (Ok u) h = rw h.2 (inl refl)

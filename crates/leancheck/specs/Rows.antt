@@ -1,5 +1,4 @@
--- How a program finds the plain verdict of a unit: are its names new, is it without flaw in itself, is its kind built, and
--- then the questions.
+-- How a program finds the plain verdict of a unit: are its names new, is it without flaw in itself, and then the questions.
 use Rattle.std.specs.Prelude.{ℕ, suc, Some, None, if◌then◌else◌}
 use Rattle.lk_tree.specs.declared.rule.Rule.TheVariants.{DuplicateName}
 use Rattle.lk_rulebook.specs.Place.{Place}
@@ -8,9 +7,8 @@ use Rattle.lk_rulebook.specs.Scan.{are_new, own_scan}
 use Rattle.lk_plain.specs.Answer.{Outcome, outcome_of, plain_answer}
 use Rattle.lk_plain.specs.Erased.{Out, finished, stopped, used_up}
 use Rattle.lk_questions.specs.Declarations.{unit_steps}
-use Rattle.lk_questions.specs.Built.{rows}
+use Rattle.lk_questions.specs.Table.{steps}
 use Rattle.lk_verdict.specs.Verdict.{verdict_by}
-use Rattle.lk_verdict.specs.Built.{unbuilt_body}
 use Rattle.lk_verdict.specs.Told.{Verdict, accepted, rejected, out_of_steps, told}
 use Rattle.lk_env.specs.declared.entry.Partial.{Partial}
 use Rattle.lk_env.specs.declared.entry.Partial.TheVariants.{Nothing}
@@ -21,11 +19,7 @@ abbrev pub verdict_of : {A : Type 0} → Outcome A → Verdict
 verdict_of o = told (verdict_by o)
 
 unfoldable pub questions_of : Place → ℕ → Decl → Verdict
-questions_of w budget d = verdict_of (outcome_of w (plain_answer rows w) budget (unit_steps d))
-
--- a kind that is not built yet is refused without a question
-abbrev pub built_of : Place → ℕ → Decl → Verdict
-built_of w budget d = elim (unbuilt_body d.body) [ Some r ↦ rejected r | None ↦ questions_of w budget d ]
+questions_of w budget d = verdict_of (outcome_of w (plain_answer steps w) budget (unit_steps d))
 
 -- the verdict that the outcome of a block's stages gives
 abbrev pub stages_verdict : Out → Verdict
@@ -35,8 +29,8 @@ stages_verdict used_up = out_of_steps
 
 -- `places` tells what names mean, by what is partial of the unit
 abbrev pub asked_of : (Partial → Place) → ℕ → LibraryUnit → Verdict
-asked_of places budget (of_decl d) = built_of (places Nothing) budget d
-asked_of places budget (of_block b rs) = stages_verdict (block_stages rows places (suc budget) b rs budget)
+asked_of places budget (of_decl d) = questions_of (places Nothing) budget d
+asked_of places budget (of_block b rs) = stages_verdict (block_stages steps places (suc budget) b rs budget)
 
 -- the rule that its own lines break comes first
 abbrev pub scanned_of : (Partial → Place) → ℕ → LibraryUnit → Verdict

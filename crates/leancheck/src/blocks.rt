@@ -15,14 +15,15 @@ ghost use Rattle.lk_block.specs.Stages.{recursors_stage, shape_stage, flat_stage
 
 use lk_ask::asks::Asks;
 use lk_ask::stop::Stop;
+use lk_block::check_shape;
 use lk_block::counts::counts_agree;
 use lk_block::nested::check_flat;
 use lk_block::shape::Shape;
 use lk_block::sorts::check_sorts;
 use lk_block::types::{TypeParts, check_types};
-use lk_block::{check_shape, names_of};
 use lk_env::entry::Partial;
 use lk_env::unit::{Block, BlockType, Recursor};
+use lk_mentions::names::names_of;
 use lk_recursor::comparing::compare;
 use lk_tree::rule::Rule;
 use std::alloc::Global;

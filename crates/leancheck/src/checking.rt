@@ -2,29 +2,30 @@
 
 ghost use Rattle.std.specs.Prelude.{◌≡◌, ◌<◌, true, length, map, IfOk};
 ghost use Rattle.lk_rulebook.specs.Scan.{are_new};
-ghost use Rattle.lk_rulebook.specs.Units.{Decl, members_of, place_of};
+ghost use Rattle.lk_rulebook.specs.Units.{members_of, place_of};
 ghost use Rattle.lk_verdict.specs.GoodUnit.{IsClearLibrary};
-ghost use Rattle.lk_questions.specs.Built.{rows};
+ghost use Rattle.lk_questions.specs.Table.{steps as table};
 ghost use Rattle.lk_verdict.specs.Told.{AreVerdicts};
-ghost use Rattle.lk_store.specs.Contents.{tree_at};
 ghost use Rattle.lk_store.specs.Store.{contents_of};
 ghost use Rattle.lk_env.specs.declared.entry.Partial.{Partial as GivenMembers};
 ghost use Rattle.lk_env.specs.Places.{partial_of};
-ghost use Rattle.lk_env.specs.Units.{body_at, unit_at, library_of, IsBodyIn, IsUnitIn};
-ghost use Rattle.leancheck.specs.Rows.{built_of, asked_of, scanned_of, row_verdict};
+ghost use Rattle.lk_env.specs.Units.{declaration_at, unit_at, library_of};
+ghost use Rattle.lk_env.specs.Units.{IsStatedIn, IsBodyIn, IsUnitIn};
+ghost use Rattle.leancheck.specs.Rows.{questions_of, asked_of, scanned_of, row_verdict};
 ghost use Rattle.leancheck.specs.Standing.{StandsAt};
 ghost use Rattle.leancheck.specs.Held.{verdict, result_verdict, scan_verdict, IsPlain};
 
 use crate::blocks::check_block;
-use lk_ask::asks::Asks;
+use crate::quotients::check_quotient;
 use lk_ask::stop::Stop;
 use lk_declaration::{check_axiom, check_definition, check_opaque, check_theorem};
 use lk_engine::Engine;
 use lk_env::entry::Partial;
 use lk_env::library::Library;
-use lk_env::unit::{Body, Unit};
+use lk_env::unit::{Body, Declaration, Unit};
 use lk_memo::PrivateMemo;
 use lk_port::Gate;
+use lk_quot::Quotients;
 use lk_scan::names::are_new;
 use lk_scan::scan::{ScanError, scan};
 use lk_store::base_store::BaseStore;
@@ -58,22 +59,25 @@ fn verdict_of(outcome: Result<(), Stop>) -> Verdict
     }
 }
 
-/// The verdict of a declaration's questions. A kind that is not built yet is refused without a question.
-fn ask<A: Asks>(alloc: Global, asks: &mut A, ty: u64, body: Body) -> Verdict
-    requires table { (A.standing asks.old).table ≡ rows }
-    requires ty_in { ty < length (A.contents asks.old).trees }
-    requires body_in { IsBodyIn (A.contents asks.old) body }
-    ensures basis { (A.standing asks.new).basis ≡ (A.standing asks.old).basis }
-    ensures verdict { (d : Decl) → d.type ≡ tree_at (A.contents asks.old) ty → d.body
-        ≡ body_at (A.contents asks.old) body
-        → IsPlain (built_of (A.standing asks.old).place (A.left asks.old) d) result }
+/// The verdict of a declaration's questions.
+fn ask<Q: Quotients>(alloc: Global, asks: &mut Q, declaration: &Declaration) -> Verdict
+    requires table { (Q.standing asks.old).table ≡ table }
+    requires stated_in { IsStatedIn (Q.contents asks.old) declaration.now.name
+        declaration.now.levels.items declaration.now.ty }
+    requires body_in { IsBodyIn (Q.contents asks.old) declaration.now.body }
+    ensures basis { (Q.standing asks.new).basis ≡ (Q.standing asks.old).basis }
+    ensures verdict { IsPlain (questions_of (Q.standing asks.old).place (Q.left asks.old)
+        (declaration_at (Q.contents asks.old) declaration.now)) result }
 {
-    match body {
+    let ty = declaration.ty;
+    match declaration.body {
         Body::Axiom => verdict_of(check_axiom(asks, ty)),
         Body::Definition { value, .. } => verdict_of(check_definition(asks, ty, value)),
         Body::Theorem { proof } => verdict_of(check_theorem(alloc, asks, ty, proof)),
         Body::Opaque { value } => verdict_of(check_opaque(asks, ty, value)),
-        Body::Quotient => Verdict::No(Rule::BuiltinShape),
+        Body::Quotient => {
+            verdict_of(check_quotient(asks, declaration.name, &declaration.levels, ty))
+        }
     }
 }
 
@@ -88,28 +92,28 @@ fn refused(error: ScanError) -> Verdict
 }
 
 /// The verdict of a unit with which nothing is wrong in itself. Nothing of it is partial yet.
-fn judge_scanned<A: Asks>(alloc: Global, asks: &mut A, unit: &Unit) -> Verdict
-    requires table { (A.standing asks.old).table ≡ rows }
-    requires place { StandsAt A.places (A.standing asks.old) Partial.Nothing }
-    requires known { IsUnitIn (A.contents asks.old) unit.now }
-    ensures basis { (A.standing asks.new).basis ≡ (A.standing asks.old).basis }
-    ensures verdict { IsPlain (asked_of (A.places (A.standing asks.old).basis) (A.left asks.old)
-        (unit_at (A.contents asks.old) unit.now)) result }
+fn judge_scanned<Q: Quotients>(alloc: Global, asks: &mut Q, unit: &Unit) -> Verdict
+    requires table { (Q.standing asks.old).table ≡ table }
+    requires place { StandsAt Q.places (Q.standing asks.old) Partial.Nothing }
+    requires known { IsUnitIn (Q.contents asks.old) unit.now }
+    ensures basis { (Q.standing asks.new).basis ≡ (Q.standing asks.old).basis }
+    ensures verdict { IsPlain (asked_of (Q.places (Q.standing asks.old).basis) (Q.left asks.old)
+        (unit_at (Q.contents asks.old) unit.now)) result }
 {
     match unit {
-        Unit::Declaration(declaration) => ask(alloc, asks, declaration.ty, declaration.body),
+        Unit::Declaration(declaration) => ask(alloc, asks, declaration),
         Unit::Block(block) => verdict_of(check_block(alloc, asks, block)),
     }
 }
 
 /// The verdict of a unit whose names are new.
-fn judge_new<A: Asks>(alloc: Global, base: &BaseStore, asks: &mut A, unit: &Unit) -> Verdict
-    requires table { (A.standing asks.old).table ≡ rows }
-    requires same { A.contents asks.old ≡ contents_of base.now }
-    requires place { StandsAt A.places (A.standing asks.old) Partial.Nothing }
+fn judge_new<Q: Quotients>(alloc: Global, base: &BaseStore, asks: &mut Q, unit: &Unit) -> Verdict
+    requires table { (Q.standing asks.old).table ≡ table }
+    requires same { Q.contents asks.old ≡ contents_of base.now }
+    requires place { StandsAt Q.places (Q.standing asks.old) Partial.Nothing }
     requires known { IsUnitIn (contents_of base.now) unit.now }
-    ensures basis { (A.standing asks.new).basis ≡ (A.standing asks.old).basis }
-    ensures verdict { IsPlain (scanned_of (A.places (A.standing asks.old).basis) (A.left asks.old)
+    ensures basis { (Q.standing asks.new).basis ≡ (Q.standing asks.old).basis }
+    ensures verdict { IsPlain (scanned_of (Q.places (Q.standing asks.old).basis) (Q.left asks.old)
         (unit_at (contents_of base.now) unit.now)) result }
 {
     match scan(alloc, base, unit) {
@@ -119,23 +123,23 @@ fn judge_new<A: Asks>(alloc: Global, base: &BaseStore, asks: &mut A, unit: &Unit
 }
 
 /// The verdict of a unit, over what its library has, at its place and with what is left of a budget.
-fn judge<A: Asks>(
+fn judge<Q: Quotients>(
     alloc: Global,
     library: &Library,
-    asks: &mut A,
+    asks: &mut Q,
     number: u32,
     unit: &Unit,
 ) -> Verdict
-    requires table { (A.standing asks.old).table ≡ rows }
-    requires same { A.contents asks.old ≡ contents_of library.now.0 }
-    requires place { StandsAt A.places (A.standing asks.old) Partial.Nothing }
+    requires table { (Q.standing asks.old).table ≡ table }
+    requires same { Q.contents asks.old ≡ contents_of library.now.0 }
+    requires place { StandsAt Q.places (Q.standing asks.old) Partial.Nothing }
     requires places { are_new (library_of library.now) number
         (members_of (unit_at (contents_of library.now.0) unit.now)) ≡ true → (p : GivenMembers)
-        → A.places (A.standing asks.old).basis p ≡ place_of (library_of library.now) number
+        → Q.places (Q.standing asks.old).basis p ≡ place_of (library_of library.now) number
         (partial_of (unit_at (contents_of library.now.0) unit.now) p) }
     requires known { IsUnitIn (contents_of library.now.0) unit.now }
-    ensures basis { (A.standing asks.new).basis ≡ (A.standing asks.old).basis }
-    ensures verdict { IsPlain (row_verdict (library_of library.now) (A.left asks.old) number
+    ensures basis { (Q.standing asks.new).basis ≡ (Q.standing asks.old).basis }
+    ensures verdict { IsPlain (row_verdict (library_of library.now) (Q.left asks.old) number
         (unit_at (contents_of library.now.0) unit.now)) result }
 {
     match are_new(alloc, library, number, unit) {

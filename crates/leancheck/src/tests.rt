@@ -42,7 +42,7 @@ fn words_of(alloc: Global, line: &str) -> Result<Vec<String>, AllocError> {
 }
 
 // Whether a run on these words and bytes writes this, and ends so.
-fn is_row<R: Threads + Wait + Sync>(
+pub(crate) fn is_row<R: Threads + Wait + Sync>(
     rt: &R,
     alloc: Global,
     line: &str,
@@ -285,7 +285,7 @@ fn applications(rt: HostRuntime) -> Result<(), Fail> {
 #[test]
 fn files_with_a_fault(rt: HostRuntime) -> Result<(), Fail> {
     let alloc = rt.alloc();
-    let rows: [(&[u8], &[u8]); 8] = [
+    let rows: [(&[u8], &[u8]); 9] = [
         (b"3.0.0\n", b"bad line 1 BadVersion\n"),
         (b"0 #ES 0\n0 #ES 0\n", b"bad line 2 IndexTaken\n"),
         (b"\n0 #ES 7\n", b"bad line 2 IndexUnknown\n"),
@@ -294,6 +294,7 @@ fn files_with_a_fault(rt: HostRuntime) -> Result<(), Fail> {
         (b"0 #ES\n", b"bad line 1 MissingField\n"),
         (b"0 #ES 4294967296", b"bad line 1 NumberTooLarge\n"),
         (b"1 #NS 0 \xff", b"bad line 1 BadUtf8\n"),
+        (b"0 #ELS 68 zz", b"bad line 1 BadHex\n"),
     ];
     for (bytes, written) in rows {
         assert!(rt;

@@ -4,7 +4,7 @@ use Rattle.lk_questions.specs.Declarations.{checked}
 use Rattle.lk_env.specs.Units.{type_at}
 use Rattle.lk_inductive.specs.Flat.{flat_types}
 use Rattle.lk_declaration.specs.Courses.{ComesTo}
-use Rattle.lk_block.proofs.TypeNames.{names_are, names_known}
+use Rattle.lk_mentions.proofs.TypeNames.{names_are, names_known}
 use Rattle.leancheck.proofs.blocks.check_occurrences.Goals as goal
 
 pub check_flat-requires-clause-names_in : goal.check_flat-requires-clause-names_in

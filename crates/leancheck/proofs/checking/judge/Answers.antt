@@ -9,7 +9,7 @@ use Rattle.leancheck.proofs.checking.judge.Goals as goal
 
 pub returns-in-Ok-true-clause-verdict : goal.returns-in-Ok-true-clause-verdict
 returns-in-Ok-true-clause-verdict g c =
-    let places = g.A.Asks.places (g.A.Asks.standing c.args.asks.now).basis in
-    let left = g.A.Asks.left c.args.asks.now in
+    let places = g.Q.Asks.places (g.Q.Asks.standing c.args.asks.now).basis in
+    let left = g.Q.Asks.left c.args.asks.now in
     judged_new (library_of c.args.library.now) left c.args.number (unit_at (contents_of c.args.library.now.0) c.args.unit.now) c.in-Ok-true.field-0 places c.judge_new.result c.in-Ok-true.field-0-test c.in-Ok-true.ensures c.requires.places
     (subst (λ (t : Tables). IsPlain (scanned_of places left (unit_at (contents_of t) c.args.unit.now)) c.judge_new.result) c.base.ensures c.judge_new.ensures.verdict)
