@@ -5,3 +5,12 @@ program=$here/../crates/leancheck/out/leancheck
 work=$(mktemp -d)
 trap 'rm -rf "$work"' EXIT
 trap 'exit 1' HUP INT TERM
+
+# FILE RUNS [OTHER]: the program on a file that is all yes, beside another one where it is named.
+beside() {
+    if [ -n "$3" ]; then
+        python3 "$here/measure.py" "$1" "$2" -- other "$3" check -- leancheck "$program" check
+    else
+        python3 "$here/measure.py" "$1" "$2" -- leancheck "$program" check
+    fi
+}

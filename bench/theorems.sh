@@ -9,8 +9,4 @@ set -e
 here=$(CDPATH= cd -- "$(dirname -- "$0")" && pwd)
 . "$here/start.sh"
 python3 "$here/make.py" small "${2:-300000}" >"$work/small.export"
-if [ -n "$1" ]; then
-    python3 "$here/measure.py" "$work/small.export" "${3:-5}" -- other "$1" check -- leancheck "$program" check
-else
-    python3 "$here/measure.py" "$work/small.export" "${3:-5}" -- leancheck "$program" check
-fi
+beside "$work/small.export" "${3:-5}" "$1"
