@@ -18,6 +18,17 @@ use Rattle.lk_store.specs.declared.memory.NoMemory.{NoMemory as WantOfMemory}
 abbrev pub status_of : List Verdict → Status
 status_of vs = if nat_eq (count No vs) 0 then (if nat_eq (count Memory vs) 0 then AllYes else SomeMemory) else SomeNo
 
+-- the exit status, as a number
+abbrev pub code_of : Status → ℕ
+code_of AllYes = 0
+code_of SomeNo = 1
+code_of Usage = 2
+code_of BadFile = 3
+code_of ReadFault = 4
+code_of WriteFault = 5
+code_of NoMemory = 6
+code_of SomeMemory = 9
+
 -- the status of a run that wrote verdicts
 abbrev pub IsChecked : Status → Type 0
 IsChecked AllYes = Unit {0}
