@@ -5,6 +5,7 @@ use Rattle.lk_tree.specs.WellFormed.{IsWellFormed, LocalsWithin}
 use Rattle.lk_tree.specs.Spine.{IsHeadNormal}
 pub use Rattle.lk_tree.specs.WellFormed.{IsStated}
 use Rattle.lk_rulebook.specs.Place.{Place, Entry, Kind, RecRule, Ctor, BlockType, a_def, a_thm, an_axiom, an_opaque, a_quot, a_type, a_ctor, a_rec}
+use Rattle.lk_rulebook.specs.Lawful.{IsLawfulPlace}
 use Rattle.lk_rulebook.specs.Rules.{HasType, Reduces, IsDefEq}
 use Rattle.lk_plain.specs.Query.{Query, AnswerTo, core, whnf, infer, same}
 use Rattle.lk_plain.specs.Program.{Program, done, refuse, ask, look, Table}
@@ -67,6 +68,11 @@ KindStated a_quot = Unit {0}
 abbrev pub WellStated : Place → Type 0
 WellStated w = (c : Name) (e : Entry) → w.means c ≡ Some e → IsStated e.type × KindStated e.kind
 
+-- what w gives is stated so, and its operations on numbers have their laws
+pub record IsSoundPlace (w : Place) : Type 0 where
+  pub stated : WellStated w
+  pub lawful : IsLawfulPlace w
+
 -- each question's program is sound wherever it may be asked, and what it is done with means what the rule book says
 abbrev pub IsSoundTable : Table → Type 0
-IsSoundTable table = (w : Place) → WellStated w → (q : Query) → IsAskable q → IsSound w (table q) (IsJustified w q)
+IsSoundTable table = (w : Place) → IsSoundPlace w → (q : Query) → IsAskable q → IsSound w (table q) (IsJustified w q)

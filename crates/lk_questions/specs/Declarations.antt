@@ -8,6 +8,7 @@ use Rattle.lk_plain.specs.Query.{infer, same}
 use Rattle.lk_plain.specs.Program.{Program, done, refuse, asked, ◌>>=◌}
 use Rattle.lk_questions.specs.Steps.{given, sort_of}
 use Rattle.lk_questions.specs.QuotientUnits.{quot_steps}
+use Rattle.lk_questions.specs.NumberLaws.{lawful_op, law_steps}
 
 pub data Yes : Type 0 where
   checked : Yes
@@ -26,7 +27,9 @@ body_steps d as_axiom = do
   done checked
 body_steps d (as_def h value) = do
   l ← sort_of d.type
-  value_steps d.type value
+  y ← value_steps d.type value
+  u ← law_steps (lawful_op d.name) d.levels value
+  done checked
 body_steps d (as_opaque value) = do
   l ← sort_of d.type
   value_steps d.type value
@@ -40,7 +43,3 @@ body_steps d as_quot = do
 
 abbrev pub unit_steps : Decl → Program Yes
 unit_steps d = body_steps d d.body
-
--- a theorem of any name: its questions do not look at it
-abbrev pub theorem_decl : Tree → Tree → Decl
-theorem_decl type proof = record { name = []; levels = []; type = type; body = as_thm proof }

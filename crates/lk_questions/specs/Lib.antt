@@ -16,3 +16,4 @@ pub mod Steps
 pub mod Strings
 pub mod Table
 pub mod Declarations
+pub mod NumberLaws

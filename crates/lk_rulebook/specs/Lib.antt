@@ -3,6 +3,7 @@ pub mod Formers
 pub mod HeadSteps
 pub mod Literals
 pub mod Names
+pub mod NumberLaws
 pub mod Place
 pub mod Quotients
 pub mod Rules
@@ -13,3 +14,4 @@ pub mod Structures
 pub mod Units
 pub mod Spelled
 pub mod Derived
+pub mod Lawful

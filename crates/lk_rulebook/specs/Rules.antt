@@ -8,11 +8,12 @@ use Rattle.lk_tree.specs.Levels.{put_levels}
 use Rattle.lk_tree.specs.Spine.{apply, IsNeutral, IsHeadNormal}
 use Rattle.lk_tree.specs.WellFormed.{IsWellFormed, AllWellFormed}
 use Rattle.lk_tree.specs.Operations.{Op, op_value}
-use Rattle.lk_rulebook.specs.Place.{Place, Entry, a_ctor, a_def, a_thm, Hint, Block, BlockType, Ctor, RecRule}
-use Rattle.lk_rulebook.specs.Structures.{Structure, UnitLike, IsProjectable, IsIota, IsKRecursor, IsMajor, projections}
+use Rattle.lk_rulebook.specs.Place.{Place, Entry, a_def, a_thm, Hint}
+use Rattle.lk_rulebook.specs.Structures.{UnitLike, StructureAt, structure_type, structure_value, expanded, Projectable, projectable_type, ctor_type, CtorApp, ctor_app, RecApp, on_major, HasRule, rule_result, HasOnlyRule, KMajor, k_type}
 use Rattle.lk_rulebook.specs.Names.{named, nat, nat_zero, nat_succ, op_name, string, quot_mk, quot_lift, quot_ind}
 use Rattle.lk_rulebook.specs.Shapes.{HasNat, HasString}
-use Rattle.lk_rulebook.specs.Literals.{IsNumeral, IsOperation, IsResult, expansion, Expands, ReadsText, Reads}
+use Rattle.lk_rulebook.specs.NumberLaws.{Law, has_laws, stated_by}
+use Rattle.lk_rulebook.specs.Literals.{IsNumeral, IsOperation, CanBeStated, laws_in, IsResult, expansion, Expands, ReadsText, Reads}
 use Rattle.lk_rulebook.specs.Quotients.{IsQuot}
 use Rattle.std.specs.Str.{chars}
 
@@ -21,19 +22,38 @@ pub data HasValue (g : Entry) : Tree → Type 0 where
   of_def : {h : Hint} {v : Tree} → g.kind ≡ a_def h v → HasValue g v
   of_thm : {v : Tree} → g.kind ≡ a_thm v → HasValue g v
 
+-- c is given, and declares as many level parameters as there are levels
+pub record IsGivenAt (w : Place) (c : Name) (ls : List Level) : Type 0 where
+  pub entry : Entry
+  pub given : w.means c ≡ Some entry
+  pub levels_are : length ls ≡ length entry.levels
+
+-- e{ls}
+abbrev pub at_levels : {w : Place} {c : Name} {ls : List Level} → IsGivenAt w c ls → Tree → Tree
+at_levels {ls = ls} g e = put_levels g.entry.levels ls e
+
 -- levels equal in pairs
 pub data SameLevels : List Level → List Level → Type 0 where
   none : SameLevels [] []
   more : {l m : Level} {ls ms : List Level} → SameLevel l m → SameLevels ls ms → SameLevels (l ∷ ls) (m ∷ ms)
+
+-- field number `number` of a structure's subject, where the type of the subject has this sort
+pub record Field : Type 0 where
+  pub structure : Name
+  pub subject : Tree
+  pub sort : Level
+  pub number : ℕ
+
+abbrev pub IsInProp : Field → Type 0
+IsInProp f = SameLevel f.sort zero_level
 
 mutual
   -- e => A at w
   pub data HasType (w : Place) : Tree → Tree → Type 0 where
     t_sort : {l : Level} → HasType w (sort l) (sort (succ_level l))
     t_local : {k : ℕ} {T : Tree} → IsWellFormed (local k T) → HasType w (local k T) T
-    t_const : {c : Name} {ls : List Level} {g : Entry} →
-        w.means c ≡ Some g → length ls ≡ length g.levels → IsWellFormed (put_levels g.levels ls g.type) →
-        HasType w (const c ls) (put_levels g.levels ls g.type)
+    t_const : {c : Name} {ls : List Level} (g : IsGivenAt w c ls) →
+        IsWellFormed (at_levels g g.entry.type) → HasType w (const c ls) (at_levels g g.entry.type)
     t_app : {f a F A B A' : Tree} →
         HasType w f F → Reduces w F (pi A B) → HasType w a A' → IsDefEq w A' A → HasType w (app f a) (opened B a)
     t_lam : {A b B : Tree} {l : Level} {k : ℕ} →
@@ -48,12 +68,10 @@ mutual
         HasSort w A l → HasType w v V → IsDefEq w V A → HasType w (opened b v) B → HasType w (let_in A v b) B
     t_lit : {n : ℕ} → HasNat w → IsWellFormed (lit n) → HasType w (lit n) (named nat)
     t_str : {s : List ℕ} → HasString w → HasType w (str s) (named string)
-    t_proj : (S : Name) (ls : List Level) (bs : List Tree) (i : ℕ) (s T₀ T A : Tree) (l : Level) (p : IsProjectable w S ls bs) →
-        HasType w s T₀ → Reduces w T₀ (apply (const S ls) bs) → i < p.ctor.fields →
-        HasSort w (apply (const S ls) bs) l →
-        PastParameters w bs p.ind.parameters (put_levels p.ctor.levels ls p.ctor.type) T →
-        FieldOf w S s l 0 i T A →
-        HasType w (proj S i s) A
+    t_proj : (S : Projectable w) {i : ℕ} {e T₀ T A : Tree} {l : Level} →
+        HasType w e T₀ → Reduces w T₀ (projectable_type S) → i < S.ctor.fields → HasSort w (projectable_type S) l →
+        PastParameters w T S.ind.parameters S.args (ctor_type S) →
+        FieldOf w (record { structure = S.name; subject = e; sort = l; number = i }) A 0 T → HasType w (proj S.name i e) A
 
   -- sort(A) = l
   pub data HasSort (w : Place) : Tree → Level → Type 0 where
@@ -70,29 +88,20 @@ mutual
     r_head : {f g a : Tree} → Reduces w f g → IsWellFormed a → Reduces w (app f a) (app g a)
     r_beta : {A b a : Tree} → IsWellFormed (app (lam A b) a) → Reduces w (app (lam A b) a) (opened b a)
     r_zeta : {A v b : Tree} → IsWellFormed (let_in A v b) → Reduces w (let_in A v b) (opened b v)
-    r_delta : {c : Name} {ls : List Level} {g : Entry} {v : Tree} →
-        w.means c ≡ Some g → HasValue g v → length ls ≡ length g.levels → IsWellFormed (put_levels g.levels ls v) →
-        Reduces w (const c ls) (put_levels g.levels ls v)
-    r_proj : (S c : Name) (ks : List Level) (g : Entry) (block : Block) (ind : BlockType) (ctor : Ctor) (i : ℕ) (xs : List Tree) (s m x : Tree) →
-        Reduces w s m → ReadsText w m (apply (const c ks) xs) →
-        w.means c ≡ Some g → g.kind ≡ a_ctor block ind ctor → ind.name ≡ S → slice_get xs (ctor.parameters + i) ≡ Some x →
-        IsWellFormed x → Reduces w (proj S i s) x
-    r_major : (R : Name) (ls : List Level) (front : List Tree) {e m m' : Tree} →
-        IsMajor w R front → IsWellFormed (apply (const R ls) front) → Reduces w e m → Reads w m m' →
-        Reduces w (app (apply (const R ls) front) e) (app (apply (const R ls) front) m')
-    r_iota : (R c : Name) (ls ks : List Level) (front xs : List Tree) (result : Tree) →
-        IsIota w R c ls front xs result → IsWellFormed (app (apply (const R ls) front) (apply (const c ks) xs)) → IsWellFormed result →
-        Reduces w (app (apply (const R ls) front) (apply (const c ks) xs)) result
-    r_k : (R J c : Name) (ls ks : List Level) (front bs rest : List Tree) (e T₀ D : Tree) →
-        IsKRecursor w R J c front bs →
-        HasType w e T₀ → Reduces w T₀ (apply (const J ks) (bs ++ rest)) → HasType w (apply (const c ks) bs) D →
-        IsDefEq w (apply (const J ks) (bs ++ rest)) D → IsWellFormed (apply (const R ls) front) →
-        Reduces w (app (apply (const R ls) front) e) (app (apply (const R ls) front) (apply (const c ks) bs))
-    r_struct : (R : Name) (S : Structure w) (js ls : List Level) (front bs : List Tree) (m T₀ : Tree) →
-        (i : IsMajor w R front) (rule : RecRule) → i.recursor.rules ≡ rule ∷ [] → rule.ctor ≡ S.ctor_name → IsWellFormed (apply (const R js) front) →
-        length bs ≡ S.ctor.parameters →
-        HasType w m T₀ → Reduces w T₀ (apply (const S.ind.name ls) bs) → IsNotProp w (apply (const S.ind.name ls) bs) →
-        Reduces w (app (apply (const R js) front) m) (app (apply (const R js) front) (apply (const S.ctor_name ls) (bs ++ projections S.ind.name m 0 S.ctor.fields)))
+    r_delta : {c : Name} {ls : List Level} {v : Tree} (g : IsGivenAt w c ls) →
+        HasValue g.entry v → IsWellFormed (at_levels g v) → Reduces w (const c ls) (at_levels g v)
+    r_proj : (c : CtorApp w) {i : ℕ} {e m x : Tree} →
+        Reduces w e m → ReadsText w m (ctor_app c) → slice_get c.args (c.ctor.parameters + i) ≡ Some x → IsWellFormed x →
+        Reduces w (proj c.ind.name i e) x
+    r_major : (R : RecApp w) {e m m' : Tree} → Reduces w e m → Reads w m m' → Reduces w (on_major R e) (on_major R m')
+    r_iota : (R : RecApp w) (c : CtorApp w) (h : HasRule R c) →
+        IsWellFormed (ctor_app c) → IsWellFormed (rule_result R c h) → Reduces w (on_major R (ctor_app c)) (rule_result R c h)
+    r_k : (R : RecApp w) (k : KMajor R) {e T₀ D : Tree} →
+        HasType w e T₀ → Reduces w T₀ (k_type k) → HasType w (ctor_app k.ctor) D → IsDefEq w (k_type k) D →
+        Reduces w (on_major R e) (on_major R (ctor_app k.ctor))
+    r_struct : (R : RecApp w) (S : StructureAt w) {m T₀ : Tree} →
+        HasOnlyRule R S.structure.ctor_name → HasType w m T₀ → Reduces w T₀ (structure_type S) → IsNotProp w (structure_type S) →
+        Reduces w (on_major R m) (on_major R (expanded S m))
     r_quot_lift : (ls ks : List Level) {A r B f h e A' r' a : Tree} →
         IsQuot w quot_lift → IsQuot w quot_mk → AllWellFormed (A ∷ r ∷ B ∷ f ∷ h ∷ []) →
         Reduces w e (apply (const quot_mk ks) (A' ∷ r' ∷ a ∷ [])) →
@@ -101,8 +110,8 @@ mutual
         IsQuot w quot_ind → IsQuot w quot_mk → AllWellFormed (A ∷ r ∷ B ∷ h ∷ []) →
         Reduces w e (apply (const quot_mk ks) (A' ∷ r' ∷ a ∷ [])) →
         Reduces w (apply (const quot_ind ls) (A ∷ r ∷ B ∷ h ∷ e ∷ [])) (app h a)
-    r_op : (op : Op) (es : List Tree) (ns : List ℕ) (r : Tree) →
-        IsOperation w op → HasNat w → Numerals w es ns → IsResult w (op_value op ns) r →
+    r_op : (op : Op) (es : List Tree) (ns : List ℕ) (r : Tree) (o : IsOperation w op) →
+        HasNat w → MeetsLaws w op o.entry → Numerals w es ns → IsResult w (op_value op ns) r →
         Reduces w (apply (named (op_name op)) es) r
 
   -- a == b at w; steps of beta and zeta at the head come first, by e_reduce, before parts or types are compared
@@ -123,14 +132,8 @@ mutual
     e_proj : {S : Name} {i : ℕ} {s t : Tree} → IsDefEq w s t → IsDefEq w (proj S i s) (proj S i t)
     e_eta_left : {o T A B A' b : Tree} → IsNeutral o → HasType w o T → Reduces w T (pi A B) → IsDefEq w (lam A (app o (var 0))) (lam A' b) → IsDefEq w o (lam A' b)
     e_eta_right : {o T A B A' b : Tree} → IsNeutral o → HasType w o T → Reduces w T (pi A B) → IsDefEq w (lam A' b) (lam A (app o (var 0))) → IsDefEq w (lam A' b) o
-    e_struct_left : (S : Structure w) (ks : List Level) (ps xs : List Tree) (a A B : Tree) →
-        IsHeadNormal a → length ps ≡ S.ctor.parameters → length xs ≡ S.ctor.fields →
-        HasType w a A → HasType w (apply (const S.ctor_name ks) (ps ++ xs)) B → IsDefEq w A B → AllProject w S.ind.name a 0 xs →
-        IsDefEq w a (apply (const S.ctor_name ks) (ps ++ xs))
-    e_struct_right : (S : Structure w) (ks : List Level) (ps xs : List Tree) (a A B : Tree) →
-        IsHeadNormal a → length ps ≡ S.ctor.parameters → length xs ≡ S.ctor.fields →
-        HasType w a A → HasType w (apply (const S.ctor_name ks) (ps ++ xs)) B → IsDefEq w A B → AllProject w S.ind.name a 0 xs →
-        IsDefEq w (apply (const S.ctor_name ks) (ps ++ xs)) a
+    e_struct_left : (S : StructureAt w) (xs : List Tree) {a : Tree} → IsHeadNormal a → IsByFields w S xs a → IsDefEq w a (structure_value S xs)
+    e_struct_right : (S : StructureAt w) (xs : List Tree) {a : Tree} → IsHeadNormal a → IsByFields w S xs a → IsDefEq w (structure_value S xs) a
     e_unit : (U : UnitLike w) (ls : List Level) (bs : List Tree) (a b A B : Tree) →
         IsHeadNormal a → IsHeadNormal b → length bs ≡ U.ind.parameters →
         HasType w a A → Reduces w A (apply (const U.name ls) bs) → HasType w b B → IsDefEq w A B → IsDefEq w a b
@@ -142,6 +145,15 @@ mutual
     e_str_left : {s : List ℕ} {b : Tree} → Expands w s → IsDefEq w (expansion (chars s)) b → IsDefEq w (str s) b
     e_str_right : {s : List ℕ} {a : Tree} → Expands w s → IsDefEq w a (expansion (chars s)) → IsDefEq w a (str s)
 
+  -- the laws of the operation hold of what this entry gives: it has no level parameters, the laws can be stated, and their two
+  -- sides are equal
+  pub data MeetsLaws (w : Place) : Op → Entry → Type 0 where
+    meets : {op : Op} {g : Entry} → (has_laws op ≡ true → g.levels ≡ []) → CanBeStated w (stated_by op) → AllHold w (laws_in op g.kind) → MeetsLaws w op g
+
+  pub data AllHold (w : Place) : List Law → Type 0 where
+    no_more_laws : AllHold w []
+    holds : {law : Law} {laws : List Law} → IsDefEq w law.left law.right → AllHold w laws → AllHold w (law ∷ laws)
+
   -- each tree reduces to a numeral of its number
   pub data Numerals (w : Place) : List Tree → List ℕ → Type 0 where
     no_more_numerals : Numerals w [] []
@@ -152,6 +164,12 @@ mutual
   pub data IsNotProp (w : Place) : Tree → Type 0 where
     not_prop : {T : Tree} {l : Level} → HasSort w T l → (SameLevel l zero_level → ⊥) → IsNotProp w T
 
+  -- a has the type of the structure's value at these fields, and each of its projections equals the field
+  pub data IsByFields (w : Place) : (S : StructureAt w) → List Tree → Tree → Type 0 where
+    by_fields : {S : StructureAt w} {xs : List Tree} {a A B : Tree} →
+        length xs ≡ S.structure.ctor.fields → HasType w a A → HasType w (structure_value S xs) B → IsDefEq w A B →
+        AllProject w S.structure.ind.name a 0 xs → IsByFields w S xs a
+
   -- Proj(J, j, a) == x for each x, with j rising
   pub data AllProject (w : Place) : Name → Tree → ℕ → List Tree → Type 0 where
     no_more_fields : {J : Name} {a : Tree} {j : ℕ} → AllProject w J a j []
@@ -159,17 +177,16 @@ mutual
         IsDefEq w (proj J j a) x → AllProject w J a (suc j) xs → AllProject w J a j (x ∷ xs)
 
   -- T is left of r after n Pis, the first n of bs put in
-  pub data PastParameters (w : Place) : List Tree → ℕ → Tree → Tree → Type 0 where
-    no_more : {bs : List Tree} {r : Tree} → PastParameters w bs 0 r r
+  pub data PastParameters (w : Place) : Tree → ℕ → List Tree → Tree → Type 0 where
+    no_more : {T : Tree} {bs : List Tree} → PastParameters w T 0 bs T
     next : {b : Tree} {bs : List Tree} {n : ℕ} {r A B T : Tree} →
-        Reduces w r (pi A B) → PastParameters w bs n (opened B b) T → PastParameters w (b ∷ bs) (suc n) r T
+        Reduces w r (pi A B) → PastParameters w T n bs (opened B b) → PastParameters w T (suc n) (b ∷ bs) r
 
-  -- A is the domain of field number i of the structure s, where r begins with field number j; in Prop, which is where
-  -- l = 0, the domain is a proposition, and so is the domain of each earlier one whose variable the rest of the type mentions
-  pub data FieldOf (w : Place) : Name → Tree → Level → ℕ → ℕ → Tree → Tree → Type 0 where
-    here : {S : Name} {s : Tree} {l : Level} {i : ℕ} {r A B : Tree} →
-        Reduces w r (pi A B) → (SameLevel l zero_level → IsProposition w A) →
-        FieldOf w S s l i i r A
-    past : {S : Name} {s : Tree} {l : Level} {j i : ℕ} {r A B C : Tree} →
-        Reduces w r (pi A B) → (SameLevel l zero_level → has_var 0 B ≡ true → IsProposition w A) →
-        FieldOf w S s l (suc j) i (opened B (proj S j s)) C → FieldOf w S s l j i r C
+  -- A is the field's domain, where r begins with field number j; in Prop it is a proposition, and so is the domain of each
+  -- earlier field whose variable the rest of the type mentions
+  pub data FieldOf (w : Place) : Field → Tree → ℕ → Tree → Type 0 where
+    here : {f : Field} {r A B : Tree} →
+        Reduces w r (pi A B) → (IsInProp f → IsProposition w A) → FieldOf w f A f.number r
+    past : {f : Field} {j : ℕ} {r A D B : Tree} →
+        Reduces w r (pi D B) → (IsInProp f → has_var 0 B ≡ true → IsProposition w D) →
+        FieldOf w f A (suc j) (opened B (proj f.structure j f.subject)) → FieldOf w f A j r

@@ -35,7 +35,7 @@ pub enum Rule {
     WideLiteral,
     /// A built-in name is asked for that no unit before gives.
     NoBuiltin,
-    /// A built-in name is given in another shape, or what is asked is not built yet.
+    /// A built-in name is given in another shape.
     BuiltinShape,
     /// A quotient constant of another shape.
     QuotShape,
@@ -55,4 +55,6 @@ pub enum Rule {
     NestedForm,
     /// A stated recursor is not the one that the block has.
     RecursorDiffers,
+    /// A definition that is named as an operation on numbers, and breaks a law of it.
+    NatLaw,
 }

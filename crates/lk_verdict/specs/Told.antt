@@ -1,10 +1,11 @@
 -- What is said of each unit of a library.
-use Rattle.std.specs.Prelude.{ℕ, ◌≡◌, ◌⊎◌, ◌+◌, List, [], ◌∷◌}
+use Rattle.std.specs.Prelude.{ℕ, ◌≡◌, ◌<◌, ◌⊎◌, List, length, Some, slice_get}
 use Rattle.lk_tree.specs.declared.rule.Rule.{Rule}
-use Rattle.lk_rulebook.specs.Units.{Library}
+use Rattle.lk_rulebook.specs.Units.{LibraryUnit, Library}
 use Rattle.lk_verdict.specs.GoodUnit.{IsGoodUnit}
 use Rattle.lk_verdict.specs.Verdict.{PlainVerdict, says_yes, says_no, says_steps, plain_verdict}
 use Rattle.lk_verdict.specs.Built.{built_extent}
+use Rattle.lk_verdict.specs.Operations.{GivesOperation}
 
 -- a plain verdict, or that memory was wanting
 pub data Verdict : Type 0 where
@@ -18,14 +19,17 @@ told says_yes = accepted
 told (says_no r) = rejected r
 told says_steps = out_of_steps
 
--- the verdict v of unit n is the plain one of what is built, or says that memory was wanting; and where it says yes, the unit is good
-pub record IsVerdict (us : Library) (budget n : ℕ) (v : Verdict) : Type 0 where
-  pub plain : (v ≡ told (plain_verdict built_extent us n budget)) ⊎ (v ≡ out_of_memory)
-  pub good : v ≡ accepted → IsGoodUnit us n
+-- of the units before unit n, each that gives an operation on numbers with laws is said yes to
+abbrev pub OperationsAccepted : Library → List Verdict → ℕ → Type 0
+OperationsAccepted us vs n = (m : ℕ) (u : LibraryUnit) → m < n → slice_get us m ≡ Some u → GivesOperation u → slice_get vs m ≡ Some accepted
 
--- the verdicts of these units, of which the first is number n of all: one for each
-abbrev pub AreVerdicts : Library → ℕ → ℕ → Library → List Verdict → Type 0
-AreVerdicts all budget n [] [] = Unit {0}
-AreVerdicts all budget n [] (v ∷ vs) = ⊥
-AreVerdicts all budget n (u ∷ us) [] = ⊥
-AreVerdicts all budget n (u ∷ us) (v ∷ vs) = IsVerdict all budget n v × AreVerdicts all budget (n + 1) us vs
+-- v, the verdict of unit n among these verdicts, is the plain one of what is built, or says that memory was wanting; and where
+-- it says yes, the unit is good, if the operations before it are accepted
+pub record IsVerdict (us : Library) (budget : ℕ) (vs : List Verdict) (n : ℕ) (v : Verdict) : Type 0 where
+  pub plain : (v ≡ told (plain_verdict built_extent us n budget)) ⊎ (v ≡ out_of_memory)
+  pub good : v ≡ accepted → OperationsAccepted us vs n → IsGoodUnit us n
+
+-- the verdicts of a library's units, in their order
+pub record AreVerdicts (us : Library) (budget : ℕ) (vs : List Verdict) : Type 0 where
+  pub as_many : length vs ≡ length us
+  pub each : (n : ℕ) (v : Verdict) → slice_get vs n ≡ Some v → IsVerdict us budget vs n v

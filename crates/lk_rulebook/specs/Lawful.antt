@@ -1,0 +1,9 @@
+-- Places at which what gives an operation on numbers has the laws of the operation.
+use Rattle.lk_tree.specs.Operations.{Op}
+use Rattle.lk_rulebook.specs.Place.{Place}
+use Rattle.lk_rulebook.specs.Literals.{IsOperation}
+use Rattle.lk_rulebook.specs.Rules.{MeetsLaws}
+
+-- as where each def before it that gives one of them is derived
+abbrev pub IsLawfulPlace : Place → Type 0
+IsLawfulPlace w = (op : Op) (o : IsOperation w op) → MeetsLaws w op o.entry
