@@ -6,6 +6,7 @@ use Rattle.lk_tree.specs.WellFormed.{IsWellFormed}
 use Rattle.lk_tree.proofs.Spines.{neutral_applied, normal_neutral}
 use Rattle.lk_rulebook.specs.Place.{Place, Entry, Kind}
 use Rattle.lk_rulebook.specs.Names.{op_name, string}
+use Rattle.lk_rulebook.specs.Structures.{ctor_app}
 use Rattle.lk_rulebook.specs.Formers.{IsOfBlock, GivesNoBlock, IsFormer, SameFormer}
 use Rattle.lk_rulebook.proofs.Scopes.{well_formed_of_reduct, well_formed_of_equal}
 use Rattle.lk_rulebook.proofs.Sorts.{former_typed, sort_is_no_prop, no_pi, same_former}
@@ -87,15 +88,15 @@ forward (r_trans c d) xs r f = forward d xs (forward c xs r f) f
 forward (r_head {a = a} c h) xs r f = forward c (a ∷ xs) r f
 forward (r_beta h) xs {F} r f = past_step (in_spine xs by_beta) r (former_normal F f)
 forward (r_zeta h) xs {F} r f = past_step (in_spine xs by_zeta) r (former_normal F f)
-forward (r_delta {c = c} {ls = ls} m v n h) xs r f = absurd (constant_runs c ls [] xs r f)
-forward (r_proj S c ks g block ind ctor i ys s m x p q a1 a2 a3 a4 fx) xs r f = absurd (neutral_runs (proj S i s) xs tt (λ z. z) r f)
-forward (r_major R ls front {e = e} i h p q) xs r f = absurd (constant_runs R ls front (e ∷ xs) r f)
-forward (r_iota R c ls ks front ys result i h g) xs r f = absurd (constant_runs R ls front (apply (const c ks) ys ∷ xs) r f)
-forward (r_k R J c ls ks front bs rest e U D k he hr hd q h) xs r f = absurd (constant_runs R ls front (e ∷ xs) r f)
-forward (r_struct R s js ls front bs m U i rule o z h n hm p q) xs r f = absurd (constant_runs R js front (m ∷ xs) r f)
+forward (r_delta {c = c} {ls = ls} g v h) xs r f = absurd (constant_runs c ls [] xs r f)
+forward (r_proj c {i = i} {e = e} p q at fx) xs r f = absurd (neutral_runs (proj c.ind.name i e) xs tt (λ z. z) r f)
+forward (r_major R {e = e} p q) xs r f = absurd (constant_runs R.name R.levels R.front (e ∷ xs) r f)
+forward (r_iota R c i h g) xs r f = absurd (constant_runs R.name R.levels R.front (ctor_app c ∷ xs) r f)
+forward (r_k R k {e = e} he hr hd q) xs r f = absurd (constant_runs R.name R.levels R.front (e ∷ xs) r f)
+forward (r_struct R S {m = m} o hm p q) xs r f = absurd (constant_runs R.name R.levels R.front (m ∷ xs) r f)
 forward (r_quot_lift ls ks {A = A} {r = t} {B = B} {f = g} {h = h} {e = e} i j ff p) xs r f = absurd (constant_runs _ ls (A ∷ t ∷ B ∷ g ∷ h ∷ e ∷ []) xs r f)
 forward (r_quot_ind ls ks {A = A} {r = t} {B = B} {h = h} {e = e} i j ff p) xs r f = absurd (constant_runs _ ls (A ∷ t ∷ B ∷ h ∷ e ∷ []) xs r f)
-forward (r_op op es ns x i n s g) xs r f = absurd (constant_runs (op_name op) [] es xs r f)
+forward (r_op op es ns x o n l s g) xs r f = absurd (constant_runs (op_name op) [] es xs r f)
 
 -- steps are reductions
 step_reduces : {w : Place} {a b : Tree} → StepsTo a b → IsWellFormed a → Reduces w a b
@@ -141,8 +142,8 @@ apart_behind_steps (e_pi i j e h) r s f g = both_there (e_pi i j e h) tt tt r s 
 apart_behind_steps (e_proj e) r s f g = absurd (not_there r f tt (λ z. z))
 apart_behind_steps (e_eta_left v t h e) r s f g = absurd (not_there s g tt (λ z. z))
 apart_behind_steps (e_eta_right v t h e) r s f g = absurd (not_there r f tt (λ z. z))
-apart_behind_steps (e_struct_left i ks ps xs a A B v m n ha hb q p) r s f g = absurd (constant_runs i.ctor_name ks (ps ++ xs) [] s g)
-apart_behind_steps (e_struct_right i ks ps xs a A B v m n ha hb q p) r s f g = absurd (constant_runs i.ctor_name ks (ps ++ xs) [] r f)
+apart_behind_steps (e_struct_left S xs v h) r s f g = absurd (constant_runs S.structure.ctor_name S.levels (S.params ++ xs) [] s g)
+apart_behind_steps (e_struct_right S xs v h) r s f g = absurd (constant_runs S.structure.ctor_name S.levels (S.params ++ xs) [] r f)
 apart_behind_steps (e_unit i ls bs a b A B u v n ha p hb q) r s f g = both_there (e_unit i ls bs a b A B u v n ha p hb q) u v r s f g
 apart_behind_steps (e_proof u v ha p hb q) r s f g = both_there (e_proof u v ha p hb q) u v r s f g
 apart_behind_steps e_zero_left r s f g = absurd (not_there r f tt (λ z. z))
@@ -179,8 +180,8 @@ comes_along n (e_lam i j e h) r f = absurd (not_there r f tt (λ z. z))
 comes_along n (e_proj e) r f = absurd (not_there r f tt (λ z. z))
 comes_along n (e_eta_left {o = o} v t h e) r f = absurd (no_pi t h (is_former (normal_neutral o v) r f))
 comes_along n (e_eta_right v t h e) r f = absurd (not_there r f tt (λ z. z))
-comes_along {w} n (e_struct_left i ks ps xs a A B v m l ha hb q p) r f = absurd (no_member w n i.ctor_name i.entry i.given i.kind tt)
-comes_along {w} n (e_struct_right i ks ps xs a A B v m l ha hb q p) r f = absurd (no_member w n i.ctor_name i.entry i.given i.kind tt)
+comes_along {w} n (e_struct_left S xs v h) r f = let i = S.structure in absurd (no_member w n i.ctor_name i.entry i.given i.kind tt)
+comes_along {w} n (e_struct_right S xs v h) r f = let i = S.structure in absurd (no_member w n i.ctor_name i.entry i.given i.kind tt)
 comes_along {w} n (e_unit i ls bs a b A B u v l ha p hb q) r f = absurd (no_member w n i.name i.entry i.given i.kind tt)
 comes_along n (e_proof u v ha p hb q) r f =
     let t : _ = former_typed ha (is_former u r f) in

@@ -11,9 +11,9 @@ use Rattle.lk_tree.proofs.Lists.{AnyLocal, AllWithin, any_take, any_drop, any_at
 use Rattle.lk_rulebook.specs.Place.{Place}
 use Rattle.lk_rulebook.specs.Names.{named, op_name}
 use Rattle.lk_rulebook.proofs.Texts.{text_within, read_within, result_within}
-use Rattle.lk_rulebook.specs.Structures.{projections}
+use Rattle.lk_rulebook.specs.Structures.{expanded, projections, ctor_app, before_indices, on_major}
 use Rattle.lk_rulebook.specs.Stated.{GivesNoLocal}
-use Rattle.lk_rulebook.specs.Rules.{HasType, t_sort, t_local, t_const, t_app, t_lam, t_pi, t_let, t_lit, t_str, t_proj, Reduces, r_refl, r_trans, r_head, r_beta, r_zeta, r_delta, r_proj, r_major, r_iota, r_k, r_struct, r_quot_lift, r_quot_ind, r_op, FieldOf, here, past, PastParameters, no_more, next}
+use Rattle.lk_rulebook.specs.Rules.{HasType, t_sort, t_local, t_const, t_app, t_lam, t_pi, t_let, t_lit, t_str, t_proj, Reduces, r_refl, r_trans, r_head, r_beta, r_zeta, r_delta, r_proj, r_major, r_iota, r_k, r_struct, r_quot_lift, r_quot_ind, r_op, Field, FieldOf, here, past, PastParameters, no_more, next}
 
 -- opening keeps the Locals of the body
 local_kept : (k : ℕ) (T : Tree) (d : ℕ) (v b : Tree) → HasLocal k T b → HasLocal k T (open_at d v b)
@@ -78,7 +78,7 @@ mutual
   pub type_within : {w : Place} → GivesNoLocal w → {e A : Tree} → HasType w e A → LocalsWithin e A
   type_within s (t_sort {l = l}) = λ k T h. h
   type_within s (t_local f) = λ k T h. inr h
-  type_within s (t_const {c = c} {ls = ls} {g = g} m n f) = stated (const c ls) g.type g.levels ls (s.types c g m)
+  type_within s (t_const {c = c} {ls = ls} g f) = stated (const c ls) g.entry.type g.entry.levels ls (s.types c g.entry g.given)
   type_within s (t_app {f = f} {a = a} {F = F} {A = A} {B = B} h r x q) =
       within_open (app f a) B a (λ k T m. inl (type_within s h k T (reduct_within s r k T (inr m)))) (λ k T m. inr m)
   type_within s (t_lam {A = A} {b = b} {B = B} {k = k} i j a f) = lam_within A b B k i j (type_within s f)
@@ -87,9 +87,9 @@ mutual
       within_trans (let_in A v b) (opened b v) B (within_open (let_in A v b) b v (λ k T m. inr (inr m)) (λ k T m. inr (inl m))) (type_within s f)
   type_within s (t_lit h f) = λ k T m. absurd m
   type_within s (t_str h) = λ k T m. absurd m
-  type_within st (t_proj S ls bs i s U T A l pj e d q r f v) =
-      field_within st s v (past_within st s f (λ j X h. type_within st e j X (reduct_within st d j X (local_of_arg j X (const S ls) bs h)))
-      (stated s pj.ctor.type pj.ctor.levels ls (st.ctors S pj.entry pj.block pj.ind pj.ctor pj.given pj.kind pj.one_ctor)))
+  type_within s (t_proj S {e = e} he r i so p f) =
+      field_within s f (past_within s e p (λ j X h. type_within s he j X (reduct_within s r j X (local_of_arg j X (const S.name S.levels) S.args h)))
+      (stated e S.ctor.type S.ctor.levels S.levels (s.ctors S.name S.entry S.block S.ind S.ctor S.given S.kind S.one_ctor)))
 
   pub reduct_within : {w : Place} → GivesNoLocal w → {a b : Tree} → Reduces w a b → LocalsWithin a b
   reduct_within s (r_refl {a = a} f) = within_refl a
@@ -97,39 +97,43 @@ mutual
   reduct_within s (r_head c f) = λ k T. elim [ inl x ↦ inl (reduct_within s c k T x) | inr x ↦ inr x ]
   reduct_within s (r_beta {A = A} {b = b} {a = a} f) = within_open (app (lam A b) a) b a (λ k T m. inl (inr m)) (λ k T m. inr m)
   reduct_within s (r_zeta {A = A} {v = v} {b = b} f) = within_open (let_in A v b) b v (λ k T m. inr (inr m)) (λ k T m. inr (inl m))
-  reduct_within s (r_delta {c = c} {ls = ls} {g = g} {v = v} m h n f) = stated (const c ls) v g.levels ls (s.values c g v m h)
-  reduct_within st (r_proj S c ks g block ind ctor i xs s m x r rd a1 a2 a3 a4 fx) =
-      λ k T h. reduct_within st r k T (text_within rd k T (local_of_arg k T (const c ks) xs (any_at k T (ctor.parameters + i) xs x a4 h)))
-  reduct_within s (r_major R ls front {e = e} {m = m} {m' = m'} i f r rd) =
-      in_argument (apply (const R ls) front) e m' (within_trans e m m' (reduct_within s r) (read_within rd))
-  reduct_within s (r_iota R c ls ks front xs result i f g) = rw (i.result_is)
-      (let e : Tree = app (apply (const R ls) front) (apply (const c ks) xs) in
-      let v : Tree = put_levels i.rec_entry.levels ls i.rule.value in
-      let n : ℕ = i.recursor.parameters + i.recursor.motives + i.recursor.minors in
-      within_applied e (apply v (take n front)) (drop i.ctor.parameters xs)
-      (within_applied e v (take n front) (stated e i.rule.value i.rec_entry.levels ls (s.rules R i.rec_entry i.recursor i.rule i.rec_given i.rec_kind i.has_rule))
-      (λ k T h. inl (local_of_arg k T (const R ls) front (any_take k T n front h))))
-      (λ k T h. inr (local_of_arg k T (const c ks) xs (any_drop k T i.ctor.parameters xs h))))
-  reduct_within s (r_k R J c ls ks front bs rest e U D k he hr hd q f) = in_argument (apply (const R ls) front) e (apply (const c ks) bs)
-      (within_applied e (const c ks) bs (λ j T h. absurd h)
-      (λ j T h. type_within s he j T (reduct_within s hr j T (local_of_arg j T (const J ks) (bs ++ rest) (any_first j T bs rest h)))))
-  reduct_within s (r_struct R t js ls front bs m U i rule o z f n h r p) =
-      in_argument (apply (const R js) front) m (apply (const t.ctor_name ls) (bs ++ projections t.ind.name m 0 t.ctor.fields))
-      (within_applied m (const t.ctor_name ls) (bs ++ projections t.ind.name m 0 t.ctor.fields) (λ j T x. absurd x)
-      (λ j T x. elim (any_append j T bs (projections t.ind.name m 0 t.ctor.fields) x) [
-        | inl a ↦ type_within s h j T (reduct_within s r j T (local_of_arg j T (const t.ind.name ls) bs a))
+  reduct_within s (r_delta {c = c} {ls = ls} {v = v} g h f) = stated (const c ls) v g.entry.levels ls (s.values c g.entry v g.given h)
+  reduct_within s (r_proj c {i = i} {x = x} r rd at f) =
+      λ k T h. reduct_within s r k T (text_within rd k T (local_of_arg k T (const c.name c.levels) c.args (any_at k T (c.ctor.parameters + i) c.args x at h)))
+  reduct_within s (r_major R {e = e} {m = m} {m' = m'} r rd) =
+      in_argument (apply (const R.name R.levels) R.front) e m' (within_trans e m m' (reduct_within s r) (read_within rd))
+  reduct_within s (r_iota R c h f g) =
+      let e : Tree = on_major R (ctor_app c) in
+      let v : Tree = put_levels R.entry.levels R.levels h.rule.value in
+      let n : ℕ = before_indices R.recursor in
+      within_applied e (apply v (take n R.front)) (drop c.ctor.parameters c.args)
+      (within_applied e v (take n R.front) (stated e h.rule.value R.entry.levels R.levels (s.rules R.name R.entry R.recursor h.rule R.given R.kind h.is_rule))
+      (λ k T m. inl (local_of_arg k T (const R.name R.levels) R.front (any_take k T n R.front m))))
+      (λ k T m. inr (local_of_arg k T (const c.name c.levels) c.args (any_drop k T c.ctor.parameters c.args m)))
+  reduct_within s (r_k R k {e = e} he hr hd q) =
+      let c = k.ctor in
+      in_argument (apply (const R.name R.levels) R.front) e (ctor_app c)
+      (within_applied e (const c.name c.levels) c.args (λ j T h. absurd h)
+      (λ j T h. type_within s he j T (reduct_within s hr j T (local_of_arg j T (const c.ind.name c.levels) (c.args ++ k.rest) (any_first j T c.args k.rest h)))))
+  reduct_within s (r_struct R S {m = m} o h r p) =
+      let t = S.structure in
+      let fields : List Tree = projections t.ind.name m 0 t.ctor.fields in
+      in_argument (apply (const R.name R.levels) R.front) m (expanded S m)
+      (within_applied m (const t.ctor_name S.levels) (S.params ++ fields) (λ j T x. absurd x)
+      (λ j T x. elim (any_append j T S.params fields x) [
+        | inl a ↦ type_within s h j T (reduct_within s r j T (local_of_arg j T (const t.ind.name S.levels) S.params a))
         | inr b ↦ projections_within t.ind.name m 0 t.ctor.fields j T b
       ]))
   reduct_within s (r_quot_lift ls ks i j f r) = λ k T. elim [ inl x ↦ inl (inl (inr x)) | inr x ↦ inr (reduct_within s r k T (inr x)) ]
   reduct_within s (r_quot_ind ls ks i j f r) = λ k T. elim [ inl x ↦ inl (inr x) | inr x ↦ inr (reduct_within s r k T (inr x)) ]
-  reduct_within s (r_op op es ns r i h t g) = result_within (apply (named (op_name op)) es) g
+  reduct_within s (r_op op es ns r o h l t g) = result_within (apply (named (op_name op)) es) g
 
-  field_within : {w : Place} → GivesNoLocal w → {S : Name} (s : Tree) {l : Level} {j i : ℕ} {r A : Tree} → FieldOf w S s l j i r A → LocalsWithin s r → LocalsWithin s A
-  field_within st s (here c h) g = λ k T m. g k T (reduct_within st c k T (inl m))
-  field_within st s (past {S = S} {j = j} {B = B} c h f) g =
-      field_within st s f (within_open s B (proj S j s) (λ k T m. g k T (reduct_within st c k T (inr m))) (λ k T m. m))
+  field_within : {w : Place} → GivesNoLocal w → {x : Field} {A : Tree} {j : ℕ} {r : Tree} → FieldOf w x A j r → LocalsWithin x.subject r → LocalsWithin x.subject A
+  field_within s (here c h) g = λ k T m. g k T (reduct_within s c k T (inl m))
+  field_within s (past {f = x} {j = j} {B = B} c h f) g =
+      field_within s f (within_open x.subject B (proj x.structure j x.subject) (λ k T m. g k T (reduct_within s c k T (inr m))) (λ k T m. m))
 
-  past_within : {w : Place} → GivesNoLocal w → (s : Tree) {bs : List Tree} {n : ℕ} {r T : Tree} → PastParameters w bs n r T → AllWithin s bs → LocalsWithin s r → LocalsWithin s T
+  past_within : {w : Place} → GivesNoLocal w → (s : Tree) {T : Tree} {n : ℕ} {bs : List Tree} {r : Tree} → PastParameters w T n bs r → AllWithin s bs → LocalsWithin s r → LocalsWithin s T
   past_within st s no_more f g = g
   past_within st s (next {b = b} {B = B} c p) f g =
       past_within st s p (λ k X h. f k X (inr h)) (within_open s B b (λ k X m. g k X (reduct_within st c k X (inr m))) (λ k X m. f k X (inl m)))

@@ -2,23 +2,29 @@
 use Rattle.std.proofs.Common.{zero, suc, ℕ, ◌++◌, List, arith}
 use Rattle.lk_rulebook.specs.Names.{named, op_name}
 use Rattle.lk_rulebook.proofs.Texts.{read_fine, result_fine}
-use Rattle.lk_rulebook.specs.Structures.{projections}
+use Rattle.lk_rulebook.specs.Structures.{StructureAt, structure_type, expanded, projections}
 use Rattle.lk_tree.specs.Tree.{Name, Tree, var, app, lam, pi, const, local}
 use Rattle.lk_tree.specs.WellFormed.{IsWellFormed, AllWellFormed}
 use Rattle.lk_tree.proofs.Binding.{open_fine, fine_from_open, fine_more}
 use Rattle.lk_tree.proofs.Spines.{fine_apply, well_formed_of_apply, all_fine_append}
 use Rattle.lk_rulebook.specs.Place.{Place}
-use Rattle.lk_rulebook.specs.Rules.{HasType, t_sort, t_local, t_const, t_app, t_lam, t_pi, t_let, t_lit, t_str, t_proj, HasSort, has_sort, Reduces, r_refl, r_trans, r_head, r_beta, r_zeta, r_delta, r_proj, r_major, r_iota, r_k, r_struct, r_quot_lift, r_quot_ind, r_op, IsDefEq, e_refl, e_reduce, e_sort, e_const, e_app, e_lam, e_pi, e_proj, e_eta_left, e_eta_right, e_struct_left, e_struct_right, e_unit, e_proof, e_zero_left, e_zero_right, e_succ_left, e_succ_right, e_str_left, e_str_right, Numerals, no_more_numerals, numeral, FieldOf, here, past}
+use Rattle.lk_rulebook.specs.Rules.{HasType, t_sort, t_local, t_const, t_app, t_lam, t_pi, t_let, t_lit, t_str, t_proj, HasSort, has_sort, Reduces, r_refl, r_trans, r_head, r_beta, r_zeta, r_delta, r_proj, r_major, r_iota, r_k, r_struct, r_quot_lift, r_quot_ind, r_op, IsDefEq, e_refl, e_reduce, e_sort, e_const, e_app, e_lam, e_pi, e_proj, e_eta_left, e_eta_right, e_struct_left, e_struct_right, e_unit, e_proof, e_zero_left, e_zero_right, e_succ_left, e_succ_right, e_str_left, e_str_right, Numerals, no_more_numerals, numeral, by_fields, Field, FieldOf, here, past}
 
 projections_fine : (J : Name) (m : Tree) (j n : ℕ) → IsWellFormed m → AllWellFormed (projections J m j n)
 projections_fine J m j zero f = tt
 projections_fine J m j (suc n) f = (f, projections_fine J m (suc j) n f)
 
+expanded_fine : {w : Place} (S : StructureAt w) (m : Tree) → IsWellFormed (structure_type S) → IsWellFormed m → IsWellFormed (expanded S m)
+expanded_fine S m f g =
+    let s = S.structure in
+    fine_apply (const s.ctor_name S.levels) (S.params ++ projections s.ind.name m 0 s.ctor.fields) tt
+    (all_fine_append S.params (projections s.ind.name m 0 s.ctor.fields) (well_formed_of_apply (const s.ind.name S.levels) S.params f).1 (projections_fine s.ind.name m 0 s.ctor.fields g))
+
 mutual
   pub well_formed_of_type : {w : Place} {e A : Tree} → HasType w e A → IsWellFormed e × IsWellFormed A
   well_formed_of_type t_sort = (tt, tt)
   well_formed_of_type (t_local f) = (f, f.0)
-  well_formed_of_type (t_const m n f) = (tt, f)
+  well_formed_of_type (t_const g f) = (tt, f)
   well_formed_of_type (t_app {a = a} {A = A} {B = B} f r x q) = (((well_formed_of_type f).0, (well_formed_of_type x).0), open_fine 0 a B (well_formed_of_reduct r).1.1 (well_formed_of_type x).0)
   well_formed_of_type (t_lam {A = A} {b = b} {B = B} {k = k} i j a f) =
       ((well_formed_of_sort a, fine_from_open 0 (local k A) b (well_formed_of_type f).0), (well_formed_of_sort a, fine_from_open 0 (local k A) B (well_formed_of_type f).1))
@@ -26,7 +32,7 @@ mutual
   well_formed_of_type (t_let {v = v} {b = b} a x q f) = ((well_formed_of_sort a, (well_formed_of_type x).0, fine_from_open 0 v b (well_formed_of_type f).0), (well_formed_of_type f).1)
   well_formed_of_type (t_lit h f) = (f, tt)
   well_formed_of_type (t_str h) = (tt, tt)
-  well_formed_of_type (t_proj S ls bs i s U T A l pj e d q r f v) = ((well_formed_of_type e).0, well_formed_of_field v)
+  well_formed_of_type (t_proj S e r i s p f) = ((well_formed_of_type e).0, well_formed_of_field f)
 
   pub well_formed_of_sort : {w : Place} {A : Tree} {l : _} → HasSort w A l → IsWellFormed A
   well_formed_of_sort (has_sort t r) = (well_formed_of_type t).0
@@ -37,24 +43,17 @@ mutual
   well_formed_of_reduct (r_head c f) = (((well_formed_of_reduct c).0, f), ((well_formed_of_reduct c).1, f))
   well_formed_of_reduct (r_beta {b = b} {a = a} f) = (f, open_fine 0 a b f.0.1 f.1)
   well_formed_of_reduct (r_zeta {v = v} {b = b} f) = (f, open_fine 0 v b f.2 f.1)
-  well_formed_of_reduct (r_delta m v n f) = (tt, f)
-  well_formed_of_reduct (r_proj S c ks g block ind ctor i xs s m x r rd a1 a2 a3 a4 fx) = ((well_formed_of_reduct r).0, fx)
-  well_formed_of_reduct (r_major R ls front i f r rd) = ((f, (well_formed_of_reduct r).0), (f, read_fine rd (well_formed_of_reduct r).1))
-  well_formed_of_reduct (r_iota R c ls ks front xs result i f g) = (f, g)
-  well_formed_of_reduct (r_k R J c ls ks front bs rest e U D k he hr hd q f) = ((f, (well_formed_of_type he).0), (f, (well_formed_of_type hd).0))
-  well_formed_of_reduct (r_struct R s js ls front bs m U i rule o z f n h r p) = (
-    (f, (well_formed_of_type h).0),
-    (
-      f,
-      fine_apply (const s.ctor_name ls) (bs ++ projections s.ind.name m 0 s.ctor.fields) tt
-          (all_fine_append bs (projections s.ind.name m 0 s.ctor.fields) (well_formed_of_apply (const s.ind.name ls) bs (well_formed_of_reduct r).1).1 (projections_fine s.ind.name m 0 s.ctor.fields (well_formed_of_type h).0)),
-    ),
-  )
+  well_formed_of_reduct (r_delta g v f) = (tt, f)
+  well_formed_of_reduct (r_proj c r rd at f) = ((well_formed_of_reduct r).0, f)
+  well_formed_of_reduct (r_major R r rd) = ((R.fine, (well_formed_of_reduct r).0), (R.fine, read_fine rd (well_formed_of_reduct r).1))
+  well_formed_of_reduct (r_iota R c h f g) = ((R.fine, f), g)
+  well_formed_of_reduct (r_k R k he hr hd q) = ((R.fine, (well_formed_of_type he).0), (R.fine, (well_formed_of_type hd).0))
+  well_formed_of_reduct (r_struct R S {m = m} o h r p) = ((R.fine, (well_formed_of_type h).0), (R.fine, expanded_fine S m (well_formed_of_reduct r).1 (well_formed_of_type h).0))
   well_formed_of_reduct (r_quot_lift ls ks i j f r) =
       ((((((((tt, f.0), f.1.0), f.1.1.0), f.1.1.1.0), f.1.1.1.1.0), (well_formed_of_reduct r).0)), (f.1.1.1.0, (well_formed_of_reduct r).1.1))
   well_formed_of_reduct (r_quot_ind ls ks i j f r) =
       (((((((tt, f.0), f.1.0), f.1.1.0), f.1.1.1.0), (well_formed_of_reduct r).0)), (f.1.1.1.0, (well_formed_of_reduct r).1.1))
-  well_formed_of_reduct (r_op op es ns r i h s g) = (fine_apply (named (op_name op)) es tt (well_formed_of_numerals s), result_fine g)
+  well_formed_of_reduct (r_op op es ns r o h l s g) = (fine_apply (named (op_name op)) es tt (well_formed_of_numerals s), result_fine g)
 
   pub well_formed_of_equal : {w : Place} {a b : Tree} → IsDefEq w a b → IsWellFormed a × IsWellFormed b
   well_formed_of_equal (e_refl f) = (f, f)
@@ -69,8 +68,8 @@ mutual
   well_formed_of_equal (e_proj c) = well_formed_of_equal c
   well_formed_of_equal (e_eta_left v h r c) = ((well_formed_of_type h).0, (well_formed_of_equal c).1)
   well_formed_of_equal (e_eta_right v h r c) = ((well_formed_of_equal c).0, (well_formed_of_type h).0)
-  well_formed_of_equal (e_struct_left i ks ps xs a A B v m n ha hb q p) = ((well_formed_of_type ha).0, (well_formed_of_type hb).0)
-  well_formed_of_equal (e_struct_right i ks ps xs a A B v m n ha hb q p) = ((well_formed_of_type hb).0, (well_formed_of_type ha).0)
+  well_formed_of_equal (e_struct_left S xs v (by_fields n ha hb q p)) = ((well_formed_of_type ha).0, (well_formed_of_type hb).0)
+  well_formed_of_equal (e_struct_right S xs v (by_fields n ha hb q p)) = ((well_formed_of_type hb).0, (well_formed_of_type ha).0)
   well_formed_of_equal (e_unit i ls bs a b A B u v n ha r hb q) = ((well_formed_of_type ha).0, (well_formed_of_type hb).0)
   well_formed_of_equal (e_proof u v a p b q) = ((well_formed_of_type a).0, (well_formed_of_type b).0)
   well_formed_of_equal e_zero_left = (omega arith, tt)
@@ -84,7 +83,7 @@ mutual
   well_formed_of_numerals no_more_numerals = tt
   well_formed_of_numerals (numeral r i s) = ((well_formed_of_reduct r).0, well_formed_of_numerals s)
 
-  pub well_formed_of_field : {w : Place} {S : _} {s : Tree} {l : _} {j i : ℕ} {r A : Tree} → FieldOf w S s l j i r A → IsWellFormed A
+  pub well_formed_of_field : {w : Place} {f : Field} {A : Tree} {j : ℕ} {r : Tree} → FieldOf w f A j r → IsWellFormed A
   well_formed_of_field (here c h) = (well_formed_of_reduct c).1.0
   well_formed_of_field (past c h f) = well_formed_of_field f
 

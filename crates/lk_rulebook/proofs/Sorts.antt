@@ -21,39 +21,39 @@ former_stays (r_trans c d) h = former_stays c h ∙ former_stays d (subst IsForm
 former_stays (r_head c f) h = absurd h
 former_stays (r_beta f) h = absurd h
 former_stays (r_zeta f) h = absurd h
-former_stays (r_delta m v n f) h = absurd h
-former_stays (r_proj S c ks g block ind ctor i xs s m x r rd a1 a2 a3 a4 fx) h = absurd h
-former_stays (r_major R ls front i f r rd) h = absurd h
-former_stays (r_iota R c ls ks front xs result i f g) h = absurd h
-former_stays (r_k R J c ls ks front bs rest e U D k he hr hd q f) h = absurd h
-former_stays (r_struct R s js ls front bs m U i rule o z f n x r p) h = absurd h
+former_stays (r_delta g v f) h = absurd h
+former_stays (r_proj c r rd at f) h = absurd h
+former_stays (r_major R r rd) h = absurd h
+former_stays (r_iota R c i f g) h = absurd h
+former_stays (r_k R k he hr hd q) h = absurd h
+former_stays (r_struct R S o x r p) h = absurd h
 former_stays (r_quot_lift ls ks i j f r) h = absurd h
 former_stays (r_quot_ind ls ks i j f r) h = absurd h
-former_stays (r_op op es ns r i x s g) h = absurd (applied_former (named (op_name op)) es h)
+former_stays (r_op op es ns r o x l s g) h = absurd (applied_former (named (op_name op)) es h)
 
 pub former_typed : {w : Place} {e A : Tree} → HasType w e A → IsFormer e → (l : Level) × (A ≡ sort l)
 former_typed (t_sort {l = l}) h = (succ_level l, refl)
 former_typed (t_local f) h = absurd h
-former_typed (t_const m n f) h = absurd h
+former_typed (t_const g f) h = absurd h
 former_typed (t_app f r x q) h = absurd h
 former_typed (t_lam i j a f) h = absurd h
 former_typed (t_pi {u = u} {v = v} i a f) h = (imax_level u v, refl)
 former_typed (t_let a x q f) h = absurd h
 former_typed (t_lit x f) h = absurd h
 former_typed (t_str x) h = absurd h
-former_typed (t_proj S ls bs i s U T A l pj e d q r f v) h = absurd h
+former_typed (t_proj S e r i s p f) h = absurd h
 
 sort_typed : {w : Place} {e A : Tree} → HasType w e A → (l : Level) → e ≡ sort l → A ≡ sort (succ_level l)
 sort_typed (t_sort {l = m}) l e = cc
 sort_typed (t_local f) l e = absurd cc
-sort_typed (t_const m n f) l e = absurd cc
+sort_typed (t_const g f) l e = absurd cc
 sort_typed (t_app f r x q) l e = absurd cc
 sort_typed (t_lam i j a f) l e = absurd cc
 sort_typed (t_pi i a f) l e = absurd cc
 sort_typed (t_let a x q f) l e = absurd cc
 sort_typed (t_lit x f) l e = absurd cc
 sort_typed (t_str x) l e = absurd cc
-sort_typed (t_proj S ls bs i s U T A k pj y d q r f v) l e = absurd cc
+sort_typed (t_proj S y r i s p f) l e = absurd cc
 
 succ_not_zero : (l m : Level) → m ≡ succ_level l → SameLevel m zero_level → ⊥
 succ_not_zero l m e h = let i : SameLevel (succ_level l) zero_level = rw e at h in absurd (omega (arith, i (λ c. 0)))
@@ -107,8 +107,8 @@ same_former (e_pi {k = k} i j c d) f g = record { number = k; left = i; right = 
 same_former (e_proj c) f g = absurd f
 same_former (e_eta_left v h r c) f g = absurd (no_pi h r f)
 same_former (e_eta_right v h r c) f g = absurd (no_pi h r g)
-same_former (e_struct_left i ks ps xs a A B v m n ha hb q p) f g = absurd (applied_former (const i.ctor_name ks) (ps ++ xs) g)
-same_former (e_struct_right i ks ps xs a A B v m n ha hb q p) f g = absurd (applied_former (const i.ctor_name ks) (ps ++ xs) f)
+same_former (e_struct_left S xs v h) f g = absurd (applied_former (const S.structure.ctor_name S.levels) (S.params ++ xs) g)
+same_former (e_struct_right S xs v h) f g = absurd (applied_former (const S.structure.ctor_name S.levels) (S.params ++ xs) f)
 same_former (e_unit i ls bs a b A B u v n ha r hb q) f g = absurd (no_constant i.name ls bs ha r f)
 same_former (e_proof {A = A} u v a p b q) f g = absurd (sort_is_no_prop p (former_typed a f).0 (former_typed a f).1)
 same_former e_zero_left f g = absurd f

@@ -1,6 +1,6 @@
 -- The rule book: typing, reduction and conversion at a place, the least relations that meet the rules. Typing is directed by
 -- the form of the tree, reduction is directed, and conversion is neither symmetric nor transitive by rule.
-use Rattle.std.specs.Prelude.{ℕ, suc, ◌≡◌, ◌<◌, ◌≤◌, ◌+◌, List, [], ◌∷◌, ◌++◌, length, Some, slice_get, true}
+use Rattle.std.specs.Prelude.{ℕ, suc, ◌≡◌, ◌<◌, ◌≤◌, ◌+◌, List, [], ◌∷◌, length, Some, slice_get, true}
 use Rattle.lk_tree.specs.Tree.{Name, Level, zero_level, succ_level, imax_level, Tree, var, sort, const, app, lam, pi, let_in, proj, lit, str, local}
 use Rattle.lk_tree.specs.Level.{SameLevel}
 use Rattle.lk_tree.specs.Bind.{opened, bound, has_var}
