@@ -115,7 +115,12 @@ fn judge_scanned<Q: Quotients + Laws>(alloc: Global, asks: &mut Q, unit: &Unit) 
 }
 
 /// The verdict of a unit whose names are new.
-fn judge_new<Q: Quotients + Laws>(alloc: Global, base: &BaseStore, asks: &mut Q, unit: &Unit) -> Verdict
+fn judge_new<Q: Quotients + Laws>(
+    alloc: Global,
+    base: &BaseStore,
+    asks: &mut Q,
+    unit: &Unit,
+) -> Verdict
     requires table { (Q.standing asks.old).table ≡ table }
     requires same { Q.contents asks.old ≡ contents_of base.now }
     requires place { StandsAt Q.places (Q.standing asks.old) Partial.Nothing }

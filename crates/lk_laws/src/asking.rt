@@ -2,7 +2,6 @@
 
 ghost use Rattle.std.specs.Prelude.{◌≡◌, ◌<◌, ◌≤◌, Option, IfOk, length, option_map, map};
 ghost use Rattle.lk_tree.specs.Tree.{Tree};
-ghost use Rattle.lk_rulebook.specs.NumberLaws.{Law as PlainLaw};
 ghost use Rattle.lk_questions.specs.NumberLaws.{def_given, held_given, laws_hold};
 ghost use Rattle.lk_store.specs.Contents.{tree_at, Extends};
 ghost use Rattle.lk_ask.specs.Asking.{BuildsTree};
@@ -49,9 +48,9 @@ fn check_same<A: Asks>(asks: &mut A, left: u64, right: u64) -> Result<(), Stop>
     requires right_in { right < length (A.contents asks.old).trees }
     ensures keeps { Extends (A.contents asks.old) (A.contents asks.new) }
     ensures stays { A.standing asks.new ≡ A.standing asks.old }
-    ensures outcome { (law : PlainLaw) → law.left ≡ tree_at (A.contents asks.old) left
-        → law.right ≡ tree_at (A.contents asks.old) right
-        → ComesTo (A.standing asks.old) (sides_equal law) (A.left asks.old) (λ u. u)
+    ensures outcome { (a b : Tree) → tree_at (A.contents asks.old) left ≡ a
+        → tree_at (A.contents asks.old) right ≡ b
+        → ComesTo (A.standing asks.old) (sides_equal a b) (A.left asks.old) (λ u. u)
         (A.left asks.new) result }
 {
     if are_same(asks, left, right)? {
@@ -67,8 +66,8 @@ fn check_sides<A: Asks>(alloc: Global, asks: &mut A, law: Law, value: u64) -> Re
     ensures keeps { Extends (A.contents asks.old) (A.contents asks.new) }
     ensures stays { A.standing asks.new ≡ A.standing asks.old }
     ensures outcome { (v : Tree) → tree_at (A.contents asks.old) value ≡ v
-        → ComesTo (A.standing asks.old) (sides_equal (law_at v law)) (A.left asks.old) (λ u. u)
-        (A.left asks.new) result }
+        → ComesTo (A.standing asks.old) (sides_equal (side_tree v law.left) (side_tree v law.right))
+        (A.left asks.old) (λ u. u) (A.left asks.new) result }
 {
     let left = build(alloc, asks, law.left, value)?;
     let right = build(alloc, asks, law.right, value)?;

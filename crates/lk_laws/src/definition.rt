@@ -1,15 +1,15 @@
 //! The questions of a definition: its type has a sort, its value is of that type, and where it is named as an operation on
 //! numbers with laws, its value meets them.
 
-ghost use Rattle.std.specs.Prelude.{◌≡◌, ◌<◌, length, map, option_map};
-ghost use Rattle.lk_tree.specs.Tree.{Tree};
+ghost use Rattle.std.specs.Prelude.{◌≡◌, ◌<◌, List, length, map, option_map};
+ghost use Rattle.lk_tree.specs.Tree.{Name, Tree};
 ghost use Rattle.lk_rulebook.specs.Place.{Hint};
 ghost use Rattle.lk_rulebook.specs.Units.{Decl, as_def};
 ghost use Rattle.lk_questions.specs.Declarations.{checked, unit_steps};
 ghost use Rattle.lk_store.specs.Contents.{name_at, tree_at};
 ghost use Rattle.lk_declaration.specs.Courses.{ComesTo};
 ghost use Rattle.lk_laws.specs.Operations.{op_at};
-ghost use Rattle.lk_laws.specs.Steps.{lawful_steps, valued_steps, definition_steps};
+ghost use Rattle.lk_laws.specs.Steps.{lawful_steps, valued_steps};
 
 use crate::asking::check_operation;
 use crate::needs::Laws;
@@ -29,9 +29,9 @@ fn check_lawful<A: Laws>(
 ) -> Result<(), Stop>
     requires { value < length (A.contents asks.old).trees }
     ensures stays { A.standing asks.new ≡ A.standing asks.old }
-    ensures outcome { (v : Tree) → tree_at (A.contents asks.old) value ≡ v
-        → ComesTo (A.standing asks.old)
-        (lawful_steps (option_map op_at op) (length levels.now) v)
+    ensures outcome { (ps : List Name) (v : Tree) → length ps ≡ length levels.now
+        → tree_at (A.contents asks.old) value ≡ v
+        → ComesTo (A.standing asks.old) (lawful_steps (option_map op_at op) ps v)
         (A.left asks.old) (λ u. checked) (A.left asks.new) result }
 {
     match op {
@@ -52,9 +52,9 @@ fn check_valued<A: Laws>(
     requires ty_in { ty < length (A.contents asks.old).trees }
     requires value_in { value < length (A.contents asks.old).trees }
     ensures stays { A.standing asks.new ≡ A.standing asks.old }
-    ensures outcome { (type v : Tree) → tree_at (A.contents asks.old) ty ≡ type
-        → tree_at (A.contents asks.old) value ≡ v → ComesTo (A.standing asks.old)
-        (valued_steps (option_map op_at op) (length levels.now) type v)
+    ensures outcome { (ps : List Name) (type v : Tree) → length ps ≡ length levels.now
+        → tree_at (A.contents asks.old) ty ≡ type → tree_at (A.contents asks.old) value ≡ v
+        → ComesTo (A.standing asks.old) (valued_steps (option_map op_at op) ps type v)
         (A.left asks.old) (λ u. checked) (A.left asks.new) result }
 {
     check_value(asks, ty, value)?;
