@@ -45,15 +45,15 @@ local_stays (r_trans p q) h = local_stays q (local_stays p h)
 local_stays (r_head p f) h = local_stays p h
 local_stays (r_beta {b = b} {a = a} f) h = local_open 0 a b h
 local_stays (r_zeta f) h = absurd h
-local_stays (r_delta m y n f) h = absurd h
-local_stays (r_proj S c ks g block ind ctor i xs t m x r y a1 a2 a3 a4 fx) h = absurd h
-local_stays (r_major R ls front i f r y) h = absurd (local_head (const R ls) front h)
-local_stays (r_iota R c ls ks front xs result i f g) h = absurd (local_head (const R ls) front h)
-local_stays (r_k R K c ls ks front bs rest e U D i he hr hd q f) h = absurd (local_head (const R ls) front h)
-local_stays (r_struct R t js ls front bs m U i rule o z f n x r p) h = absurd (local_head (const R js) front h)
+local_stays (r_delta g y f) h = absurd h
+local_stays (r_proj c r y i f) h = absurd h
+local_stays (r_major R r y) h = absurd (local_head (const R.name R.levels) R.front h)
+local_stays (r_iota R c i f g) h = absurd (local_head (const R.name R.levels) R.front h)
+local_stays (r_k R k he hr hd q) h = absurd (local_head (const R.name R.levels) R.front h)
+local_stays (r_struct R t i x r p) h = absurd (local_head (const R.name R.levels) R.front h)
 local_stays (r_quot_lift ls ks q m f e) h = absurd h
 local_stays (r_quot_ind ls ks q m f e) h = absurd h
-local_stays (r_op op es ns r o n v y) h = absurd (local_head _ es h)
+local_stays (r_op op es ns r o n l v y) h = absurd (local_head _ es h)
 
 not_both : (c : Name) (a : Tree) → Heads c a → AtLocal a → ⊥
 not_both c (app f a) h k = not_both c f h k
@@ -77,8 +77,8 @@ rigid_not_local s (e_app u v e f) h k = rigid_not_local s e h k
 rigid_not_local {c = c} s (e_lam {A = A} {b = b} {b' = b'} {k = n} i j e f) h k = rigid_not_local s f (heads_open c 0 (local n A) b h) (local_open 0 (local n A) b' k)
 rigid_not_local s (e_eta_left v i r e) h k = rigid_not_local s e h k
 rigid_not_local s (e_eta_right v i r e) h k = rigid_not_local s e h k
-rigid_not_local s (e_struct_left i ks ps xs a A B v m n ha hb q p) h k = absurd (local_head (const i.ctor_name ks) (ps ++ xs) k)
-rigid_not_local s (e_struct_right i ks ps xs a A B v m n ha hb q p) h k = absurd (struct_head i ks (ps ++ xs) s h)
+rigid_not_local s (e_struct_left i xs v q) h k = absurd (local_head (const i.structure.ctor_name i.levels) (i.params ++ xs) k)
+rigid_not_local s (e_struct_right i xs v q) h k = absurd (struct_head i xs s h)
 rigid_not_local s (e_unit i ls bs a b A B u v n ha r hb q) h k = absurd (no_unit_like i (data_at i.name ls bs (heads_typed s ha h) r))
 rigid_not_local s (e_proof u v ha p hb q) h k = absurd (heads_no_prop s ha h p)
 rigid_not_local s e_zero_left h k = absurd k
@@ -101,8 +101,8 @@ former_not_local (e_refl {a = a} x) f k = go a f k
 former_not_local (e_reduce p q e) f k = former_not_local e (subst IsFormer (former_stays p f) f) (local_stays q k)
 former_not_local (e_eta_left v i r e) f k = former_no_pi i r f
 former_not_local (e_eta_right v i r e) f k = former_not_local e f k
-former_not_local (e_struct_left i ks ps xs a A B v m n ha hb q p) f k = absurd (local_head (const i.ctor_name ks) (ps ++ xs) k)
-former_not_local (e_struct_right i ks ps xs a A B v m n ha hb q p) f k = absurd (applied_former (const i.ctor_name ks) (ps ++ xs) f)
+former_not_local (e_struct_left i xs v q) f k = absurd (local_head (const i.structure.ctor_name i.levels) (i.params ++ xs) k)
+former_not_local (e_struct_right i xs v q) f k = absurd (applied_former (const i.structure.ctor_name i.levels) (i.params ++ xs) f)
 former_not_local (e_unit i ls bs a b A B u v n ha r hb q) f k = former_no_constant i.name ls bs ha r f
 former_not_local (e_proof u v ha p hb q) f k = sort_is_no_prop p (former_typed ha f).0 (former_typed ha f).1
 former_not_local (e_sort x) f k = absurd k
