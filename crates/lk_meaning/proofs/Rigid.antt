@@ -156,7 +156,7 @@ no_data_var w d i k A (below l e) h = subst (IsDataType w) e h
 no_data_var w d i k A (at l e) h = subst (IsDataType w) e h
 no_data_var w d i k A (above l e) h = subst (IsDataType w) e h
 
-data_from : (w : Place) (d k : ℕ) (A T : Tree) → IsDataType w (open_at d (local k A) T) → IsDataType w T
+pub data_from : (w : Place) (d k : ℕ) (A T : Tree) → IsDataType w (open_at d (local k A) T) → IsDataType w T
 unfolding open_at
 data_from w d k A (pi B C) h = data_from w (suc d) k A C h
 data_from w d k A (sort l) h = h
@@ -316,7 +316,7 @@ applied_stays s (r_op op es ns r o n l v y) h = absurd (no_operation s op es o h
 applied_stays s (r_k R k he hr hd q) h = absurd (stuck s R h)
 applied_stays s (r_struct R t i x r p) h = absurd (stuck s R h)
 
-data_stays : (w : Place) (T U : Tree) → IsDataType w T → Reduces w T U → T ≡ U
+pub data_stays : (w : Place) (T U : Tree) → IsDataType w T → Reduces w T U → T ≡ U
 data_stays w (pi A B) U h r = former_stays r tt
 data_stays w (sort l) U h r = former_stays r tt
 data_stays w (app f a) U h r = applied_stays (data_type_name h.1) r h.2
@@ -386,6 +386,9 @@ mutual
   typed_no_prop (t_lit x f) d r z = absurd d
   typed_no_prop (t_str x) d r z = absurd d
   typed_no_prop (t_proj S e y q f x v) d r z = absurd d
+
+pub data_no_proposition : {w : Place} {T : Tree} → IsProposition w T → IsDataType w T → ⊥
+data_no_proposition (is_prop i z) d = data_no_prop i d z
 
 -- what has a rigid head reduces to what has it
 pub rigid_value : {w : Place} {c d : Name} {ls : List Level} {v : Tree} → IsRigid w c → c ≡ d → (g : IsGivenAt w d ls) → HasValue g.entry v → ⊥
@@ -504,7 +507,7 @@ heads_typed s (t_let a x q f) h = absurd h
 heads_typed s (t_proj S e r q d p v) h = absurd h
 
 pub heads_no_prop : {w : Place} {c : Name} {e A : Tree} → IsRigid w c → HasType w e A → Heads c e → IsProposition w A → ⊥
-heads_no_prop s t h (is_prop i z) = data_no_prop i (heads_typed s t h) z
+heads_no_prop s t h p = data_no_proposition p (heads_typed s t h)
 
 -- a data type that reduces to J applied is J applied
 pub data_at : {w : Place} {A : Tree} (J : Name) (ls : List Level) (bs : List Tree) → IsDataType w A → Reduces w A (apply (const J ls) bs) → IsDataName w J
