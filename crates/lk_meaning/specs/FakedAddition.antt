@@ -1,6 +1,6 @@
 -- The place after inductive Nat : Type | zero : Nat | succ : Nat -> Nat, and a Nat.add that does not add.
 use Rattle.std.specs.Prelude.{[], ◌∷◌}
-use Rattle.lk_tree.specs.Tree.{zero_level, succ_level, Tree, sort, app, lam, pi}
+use Rattle.lk_tree.specs.Tree.{Name, zero_level, succ_level, Tree, sort, app, lam, pi}
 use Rattle.lk_tree.specs.Operations.{add}
 use Rattle.lk_rulebook.specs.Place.{Place, Entry, Hint, Block, BlockType, Ctor, a_type, a_ctor}
 use Rattle.lk_rulebook.specs.Names.{named, nat, nat_zero, nat_succ, op_name}
@@ -44,6 +44,9 @@ after_nat = place_of (nat_unit ∷ []) 1 []
 abbrev pub always_one : Tree
 always_one = lam (named nat) (lam (named nat) (app (named nat_succ) (named nat_zero)))
 
--- def Nat.add : Nat -> Nat -> Nat := fun a b => Nat.succ Nat.zero
+-- def c : Nat -> Nat -> Nat := fun a b => Nat.succ Nat.zero
+abbrev pub always_one_as : Name → Hint → Decl
+always_one_as c h = record { name = c; levels = []; type = pi (named nat) to_nat; body = as_def h always_one }
+
 abbrev pub faked_addition : Hint → Decl
-faked_addition h = record { name = op_name add; levels = []; type = pi (named nat) to_nat; body = as_def h always_one }
+faked_addition h = always_one_as (op_name add) h

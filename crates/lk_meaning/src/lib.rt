@@ -4,7 +4,7 @@
 
 ghost use Rattle.std.specs.Prelude.{ℕ, ◌≡◌};
 ghost use Rattle.lk_tree.specs.Tree.{Name, Tree};
-ghost use Rattle.lk_tree.specs.Operations.{add};
+ghost use Rattle.lk_tree.specs.Operations.{Op, add};
 ghost use Rattle.lk_rulebook.specs.Place.{Place, Hint};
 ghost use Rattle.lk_rulebook.specs.Names.{named, nat_succ, op_name};
 ghost use Rattle.lk_rulebook.specs.Units.{Decl, as_def};
@@ -16,7 +16,7 @@ ghost use Rattle.lk_meaning.specs.Families.{IsFamily, IsChoice};
 ghost use Rattle.lk_rulebook.specs.HeadSteps.{RunsTo};
 ghost use Rattle.lk_meaning.specs.TypeForms.{IsTypeForm, SameTypeForm};
 ghost use Rattle.lk_meaning.specs.Falsehood.{falsehood};
-ghost use Rattle.lk_meaning.specs.FakedAddition.{after_nat, faked_addition};
+ghost use Rattle.lk_meaning.specs.FakedAddition.{after_nat, always_one_as, faked_addition};
 ghost use Rattle.lk_meaning.specs.Booleans.{yes_name, no_name, after_b, after_again};
 
 /// Inductive types with arguments that are equal are one inductive type at equal levels, with arguments that are equal pair by
@@ -95,11 +95,14 @@ pub fn rigid_is_no_local()
         → IsDefEq w a b → HeadsLocal k T a → Heads c b → ⊥ }
 {}
 
-/// No def named Nat.add is derived, at any place, whose value has a rigid constant at its head: by the first law of addition the
+/// No def named Nat.add is derived, at any place, whose value has a rigid constant at its head, under lambdas: by the first law the
 /// value at a Local and zero would be that Local. So after `inductive Nat : Type | zero : Nat | succ : Nat -> Nat` the
-/// declaration `def Nat.add : Nat -> Nat -> Nat := fun a b => Nat.succ Nat.zero` is not derived, whatever its hint.
+/// declaration `def Nat.add : Nat -> Nat -> Nat := fun a b => Nat.succ Nat.zero` is not derived, whatever its hint, though it is
+/// by each name but those of the operations on numbers.
 pub fn faked_addition_is_not_derived()
     ensures constant { (w : Place) (c : Name) (d : Decl) (h : Hint) (v : Tree) → IsRigid w c
         → Heads c v → d.name ≡ op_name add → d.body ≡ as_def h v → DeclDerived w d → ⊥ }
     ensures always_one { (h : Hint) → DeclDerived after_nat (faked_addition h) → ⊥ }
+    ensures by_another_name { (c : Name) (h : Hint) → ((op : Op) → op_name op ≡ c → ⊥)
+        → DeclDerived after_nat (always_one_as c h) }
 {}
