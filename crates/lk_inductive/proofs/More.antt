@@ -326,7 +326,7 @@ mutual
   pub more_no_proof : (w w' : Place) → IsWithin w w' → {T : Tree} → IsNotProp w T → IsNotProp w' T
   more_no_proof w w' i (not_prop t h) = not_prop (more_sort w w' i t) h
 
-  more_by_fields : (w w' : Place) → IsWithin w w' → {S : StructureAt w} {xs : List Tree} {a : Tree} → IsByFields w S xs a → IsByFields w' (more_structure_at w w' i S) xs a
+  more_by_fields : (w w' : Place) (i : IsWithin w w') → {S : StructureAt w} {xs : List Tree} {a : Tree} → IsByFields w S xs a → IsByFields w' (more_structure_at w w' i S) xs a
   more_by_fields w w' i (by_fields n ha hb q p) = by_fields n (more_type w w' i ha) (more_type w w' i hb) (more_equal w w' i q) (more_project w w' i p)
 
   more_project : (w w' : Place) → IsWithin w w' → {J : Name} {a : Tree} {j : ℕ} {xs : List Tree} → AllProject w J a j xs → AllProject w' J a j xs
