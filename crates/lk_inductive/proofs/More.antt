@@ -1,11 +1,10 @@
 -- Derivations stay where more is given.
-use Rattle.std.proofs.Common.{ℕ, ◌≡◌, inl, inr, refl, List, [], ◌∷◌, length, Option, Some, None, true}
-use Rattle.lk_tree.specs.Tree.{Name, Level, Tree, const, app}
+use Rattle.std.proofs.Common.{ℕ, ◌≡◌, inl, inr, refl, List, [], ◌∷◌, Option, Some, None, true}
+use Rattle.lk_tree.specs.Tree.{Name, Level, Tree, const}
 use Rattle.lk_tree.specs.Levels.{put_levels}
-use Rattle.lk_tree.specs.Spine.{apply}
 use Rattle.lk_tree.specs.WellFormed.{IsWellFormed}
-use Rattle.lk_rulebook.specs.Place.{Place, Entry, Block, BlockType, Ctor, Recursor, RecRule, Kind, a_def, a_quot, a_type, a_ctor, a_rec}
-use Rattle.lk_rulebook.specs.Structures.{IsRuleOf, Structure, UnitLike, StructureAt, Projectable, CtorApp, RecApp, on_major, HasRule, HasOnlyRule, KMajor}
+use Rattle.lk_rulebook.specs.Place.{Place, Entry, Block, BlockType, Ctor, Recursor, RecRule, a_quot, a_type, a_ctor, a_rec}
+use Rattle.lk_rulebook.specs.Structures.{IsRuleOf, Structure, UnitLike, StructureAt, Projectable, CtorApp, RecApp, on_major}
 use Rattle.lk_rulebook.specs.Names.{nat, string, bool_name, op_name, quot_mk, quot_lift, quot_ind}
 use Rattle.lk_rulebook.specs.Shapes.{Given, AllGiven, HasNat, HasString}
 use Rattle.lk_rulebook.specs.NumberLaws.{Law, stated_by}
