@@ -57,7 +57,7 @@ const_more w w' i {c = c} {ls = ls} g f = elim (i c g.entry g.given) [
 abbrev more_valued : (w w' : Place) → IsWithin w w' → {c : Name} {ls : List Level} {v : Tree} (g : IsGivenAt w c ls) → HasValue g.entry v → IsGivenAt w' c ls
 more_valued w w' i {c = c} {v = v} g h = record { entry = g.entry; given = value_kept w w' i c g.entry v g.given h; levels_are = g.levels_are }
 
-more_nat : (w w' : Place) → IsWithin w w' → HasNat w → HasNat w'
+pub more_nat : (w w' : Place) → IsWithin w w' → HasNat w → HasNat w'
 more_nat w w' i h = record {
   entry = h.entry;
   block = h.block;
