@@ -10,7 +10,6 @@ pub mod MoreNested
 pub mod Plain
 pub mod ReadBack
 pub mod SettledTasks
-pub mod SoundPlaces
 pub mod PartTasks
 pub mod TaskLaws
 pub mod Tasks
