@@ -32,13 +32,13 @@ unmarked (m ∷ ms) c h k = go (unmarked ms c h.1 k) (name_discrete m.0 c)
     go f (yes x) = absurd (h.0 (rw x k))
     go f (no x) = f
 
-none_marked : (i m : ℕ) (us : Library) (c : Name) → IsClearLibrary us → IsMarked c → first_giving i (take m us) c ≡ None
+pub none_marked : (i m : ℕ) (us : Library) (c : Name) → IsClearLibrary us → IsMarked c → first_giving i (take m us) c ≡ None
 none_marked i zero us c h k = refl
 none_marked i (suc m) [] c h k = refl
 none_marked i (suc m) (u ∷ us) c h k =
     ap (λ o. first_of_two (at_unit i u o) (first_giving (suc i) (take m us) c)) (unmarked (members_of u) c h.0.names k) ∙ none_marked (suc i) m us c h.1 k
 
-aux_marked : {w : Place} {s : Setting} {ms : List (Name × Original)} {auxs : List Aux} {i : ℕ} {ts : List BlockType} → AuxTypes w s ms auxs i ts → (c : Name) (e : Entry) → given_by (bare_entries ts) c ≡ Some e → IsMarked c
+pub aux_marked : {w : Place} {s : Setting} {ms : List (Name × Original)} {auxs : List Aux} {i : ℕ} {ts : List BlockType} → AuxTypes w s ms auxs i ts → (c : Name) (e : Entry) → given_by (bare_entries ts) c ≡ Some e → IsMarked c
 aux_marked (no_aux n) c e g = absurd cc
 aux_marked (aux_more {t = t} {ts = ts} n h k) c e g = go _ (aux_marked k c e) (name_discrete t.name c) g
   where
