@@ -21,7 +21,8 @@ use Rattle.lk_inductive.specs.NestedRelation.{IsMarked, AuxTypes, aux_more}
 use Rattle.lk_inductive.proofs.More.{more_laws}
 use Rattle.lk_inductive.proofs.Partials.{half_within}
 use Rattle.lk_verdict.specs.Operations.{GivesOperation}
-use Rattle.lk_verdict.specs.GoodUnit.{UnitDerived, declaration, IsGoodUnit, NamesClear, IsClearLibrary}
+use Rattle.lk_verdict.proofs.NestedStays.{none_marked}
+use Rattle.lk_verdict.specs.GoodUnit.{UnitDerived, declaration, IsGoodUnit, IsClearLibrary}
 use Rattle.lk_sound.proofs.Pieces.{Some_inj}
 
 -- an operation without laws has none to meet
@@ -251,26 +252,12 @@ block_fresh us n b rs h =
       all_append (IsFresh us n) (all_ctor_entries b b.types) (rec_entries rs) (both_of New NoDef (all_ctor_entries b b.types) rest.0 (all_ctors_no_def b b.types)) (without_rules us n rs rest.1),
     )
 
--- no unit of a clear library gives a marked name, so auxiliary types are fresh
-no_marked : (ms : Members) (c : Name) → NamesClear ms → IsMarked c → given_by ms c ≡ None
-no_marked [] c h m = refl
-no_marked (x ∷ ms) c h m = go (no_marked ms c h.1 m) (name_discrete x.0 c)
-  where
-    go : given_by ms c ≡ None → (d : Dec (x.0 ≡ c)) → elim d as (λ y. Option Entry) [ yes z ↦ Some x.1 | no f ↦ given_by ms c ] ≡ None
-    go k (yes z) = absurd (h.0 (subst IsMarked (sym z) m))
-    go k (no f) = k
-
-marked_new : (i n : ℕ) (us : Library) (c : Name) → IsClearLibrary us → IsMarked c → first_giving i (take n us) c ≡ None
-marked_new i zero us c h m = refl
-marked_new i (suc n) [] c h m = refl
-marked_new i (suc n) (u ∷ us) c h m =
-    ap (λ g. first_of_two (at_unit i u g) (first_giving (suc i) (take n us) c)) (no_marked (members_of u) c h.0.names m) ∙ marked_new (suc i) n us c h.1 m
-
+-- auxiliary types are fresh: no unit of a clear library gives a marked name
 pub aux_fresh : (us : Library) (n : ℕ) → IsClearLibrary us → (w : Place) (s : Setting) (ms : List (Name × Original)) (auxs : List Aux) (i : ℕ) (ts : List BlockType) → AuxTypes w s ms auxs i ts → AllMembers (IsFresh us n) (bare_entries ts)
 aux_fresh us n cl w s ms auxs i [] h = tt
 aux_fresh us n cl w s ms auxs i (t ∷ ts) (aux_more f a r) =
     let marked : IsMarked t.name = (Part.number i ∷ [], inl a.name) in
-    ((marked_new 0 n us t.name cl marked, refl), aux_fresh us n cl w s ms auxs (suc i) ts r)
+    ((none_marked 0 n us t.name cl marked, refl), aux_fresh us n cl w s ms auxs (suc i) ts r)
 
 pub fresh_append : (us : Library) (n : ℕ) (xs ys : Members) → AllMembers (IsFresh us n) xs → AllMembers (IsFresh us n) ys → AllMembers (IsFresh us n) (xs ++ ys)
 fresh_append us n xs ys h k = all_append (IsFresh us n) xs ys h k
