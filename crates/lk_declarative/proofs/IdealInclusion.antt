@@ -3,7 +3,6 @@ use Rattle.std.proofs.Common.{ℕ, suc, ◌≡◌, ◌<◌, ◌≤◌, ◌+◌, 
 use Rattle.std.specs.Prelude.{Bool, true, false, ◌^◌}
 use Rattle.lk_tree.specs.Tree.{Name, Level, zero_level, Tree, var, sort, const, app, lam, pi, let_in, proj, lit, local}
 use Rattle.lk_tree.specs.Bind.{opened, open_at, bound, has_var}
-use Rattle.lk_tree.specs.Level.{SameLevel}
 use Rattle.lk_tree.specs.Spine.{apply}
 use Rattle.lk_tree.specs.WellFormed.{IsWellFormed, AllWellFormed}
 use Rattle.lk_tree.proofs.Lists.{AnyLocal, local_of_apply, local_of_arg}
@@ -11,9 +10,10 @@ use Rattle.lk_tree.specs.Operations.{Op, succ, log2, add, sub, mul, div, modulo,
 use Rattle.lk_rulebook.specs.Place.{Place, Ctor}
 use Rattle.lk_rulebook.specs.Names.{named, nat, nat_succ, op_name, quot_lift, quot_ind}
 use Rattle.lk_rulebook.specs.Shapes.{HasNat}
+use Rattle.lk_rulebook.specs.Structures.{StructureAt, structure_type, structure_value, projectable_type, ctor_app, RecApp, KMajor, k_type}
 use Rattle.lk_rulebook.specs.Literals.{IsNumeral, of_lit, of_zero, IsOperation, IsResult, ReadsText, as_it_is, as_text, Reads, by_text, as_zero, as_succ}
 use Rattle.lk_tree.proofs.Spines.{well_formed_of_apply}
-use Rattle.lk_rulebook.specs.Rules.{HasType, t_sort, t_local, t_const, t_app, t_lam, t_pi, t_let, t_lit, t_str, t_proj, HasSort, has_sort, IsProposition, is_prop, Reduces, r_refl, r_trans, r_head, r_beta, r_zeta, r_delta, r_proj, r_major, r_iota, r_k, r_struct, r_quot_lift, r_quot_ind, r_op, IsDefEq, e_refl, e_reduce, e_sort, e_const, e_app, e_lam, e_pi, e_proj, e_eta_left, e_eta_right, e_struct_left, e_struct_right, e_unit, e_proof, e_zero_left, e_zero_right, e_succ_left, e_succ_right, e_str_left, e_str_right, Numerals, no_more_numerals, numeral, IsNotProp, not_prop, AllProject, no_more_fields, project, PastParameters, no_more, next, FieldOf, here, past}
+use Rattle.lk_rulebook.specs.Rules.{HasType, t_sort, t_local, t_const, t_app, t_lam, t_pi, t_let, t_lit, t_str, t_proj, HasSort, has_sort, IsProposition, is_prop, Reduces, r_refl, r_trans, r_head, r_beta, r_zeta, r_delta, r_proj, r_major, r_iota, r_k, r_struct, r_quot_lift, r_quot_ind, r_op, IsDefEq, e_refl, e_reduce, e_sort, e_const, e_app, e_lam, e_pi, e_proj, e_eta_left, e_eta_right, e_struct_left, e_struct_right, e_unit, e_proof, e_zero_left, e_zero_right, e_succ_left, e_succ_right, e_str_left, e_str_right, Numerals, no_more_numerals, numeral, IsNotProp, not_prop, IsByFields, by_fields, AllProject, no_more_fields, project, PastParameters, no_more, next, Field, IsInProp, FieldOf, here, past}
 use Rattle.lk_declarative.specs.Guarded.{IdealType, typed_sort, typed_local, typed_const, typed_app, typed_lam, typed_pi, typed_let, typed_lit, typed_str, typed_proj, typed_conv, IdealEquals, same_refl, same_sym, same_trans, same_sort, same_const, same_app, same_lam, same_pi, same_proj, same_beta, same_zeta, same_delta, same_iota, same_proj_ctor, same_lit_zero, same_lit_succ, same_quot_lift, same_quot_ind, same_op, same_str, same_eta, same_struct_eta, same_unit, same_struct_ext, same_proof, GuardedExpands, no_proposition_at, GuardedProjects, none_projects, next_projects, GuardedParameters, past_none, past_one, GuardedField, field_here, field_past}
 use Rattle.lk_declarative.specs.Expected.{LawfulLocals, Fits, Expected}
 use Rattle.lk_declarative.proofs.GuardedScopes.{well_formed_of_type}
@@ -114,32 +114,32 @@ successor_kept h k (n ∷ m ∷ ns) r g t = absurd (no_result g refl)
 -- an operation on literals
 operation_kept : {w : Place} → Expected w → (op : Op) (ns : List ℕ) (r X : Tree) → IsOperation w op → HasNat w → AllWellFormed (map lit ns) → IsResult w (op_value op ns) r →
     IdealType w (apply (named (op_name op)) (map lit ns)) X → Kept w (apply (named (op_name op)) (map lit ns)) r X
-operation_kept h succ ns r X i k f g t = successor_kept h k ns r g t
-operation_kept h log2 ns r X i k f g t = record { equal = same_op log2 ns r i i.kind k f g; typed = h.computed log2 ns r X i i.kind k g t }
-operation_kept h add ns r X i k f g t = record { equal = same_op add ns r i i.kind k f g; typed = h.computed add ns r X i i.kind k g t }
-operation_kept h sub ns r X i k f g t = record { equal = same_op sub ns r i i.kind k f g; typed = h.computed sub ns r X i i.kind k g t }
-operation_kept h mul ns r X i k f g t = record { equal = same_op mul ns r i i.kind k f g; typed = h.computed mul ns r X i i.kind k g t }
-operation_kept h div ns r X i k f g t = record { equal = same_op div ns r i i.kind k f g; typed = h.computed div ns r X i i.kind k g t }
-operation_kept h modulo ns r X i k f g t = record { equal = same_op modulo ns r i i.kind k f g; typed = h.computed modulo ns r X i i.kind k g t }
-operation_kept h gcd ns r X i k f g t = record { equal = same_op gcd ns r i i.kind k f g; typed = h.computed gcd ns r X i i.kind k g t }
-operation_kept h beq ns r X i k f g t = record { equal = same_op beq ns r i i.kind k f g; typed = h.computed beq ns r X i i.kind k g t }
-operation_kept h ble ns r X i k f g t = record { equal = same_op ble ns r i i.kind k f g; typed = h.computed ble ns r X i i.kind k g t }
-operation_kept h land ns r X i k f g t = record { equal = same_op land ns r i i.kind k f g; typed = h.computed land ns r X i i.kind k g t }
-operation_kept h lor ns r X i k f g t = record { equal = same_op lor ns r i i.kind k f g; typed = h.computed lor ns r X i i.kind k g t }
-operation_kept h xor ns r X i k f g t = record { equal = same_op xor ns r i i.kind k f g; typed = h.computed xor ns r X i i.kind k g t }
-operation_kept h shift_left ns r X i k f g t = record { equal = same_op shift_left ns r i i.kind k f g; typed = h.computed shift_left ns r X i i.kind k g t }
-operation_kept h shift_right ns r X i k f g t = record { equal = same_op shift_right ns r i i.kind k f g; typed = h.computed shift_right ns r X i i.kind k g t }
-operation_kept h pow ns r X i k f g t = record { equal = same_op pow ns r i i.kind k f g; typed = h.computed pow ns r X i i.kind k g t }
+operation_kept h succ ns r X o k f g t = successor_kept h k ns r g t
+operation_kept h log2 ns r X o k f g t = record { equal = same_op log2 ns r o o.kind k f g; typed = h.computed log2 ns r X o o.kind k g t }
+operation_kept h add ns r X o k f g t = record { equal = same_op add ns r o o.kind k f g; typed = h.computed add ns r X o o.kind k g t }
+operation_kept h sub ns r X o k f g t = record { equal = same_op sub ns r o o.kind k f g; typed = h.computed sub ns r X o o.kind k g t }
+operation_kept h mul ns r X o k f g t = record { equal = same_op mul ns r o o.kind k f g; typed = h.computed mul ns r X o o.kind k g t }
+operation_kept h div ns r X o k f g t = record { equal = same_op div ns r o o.kind k f g; typed = h.computed div ns r X o o.kind k g t }
+operation_kept h modulo ns r X o k f g t = record { equal = same_op modulo ns r o o.kind k f g; typed = h.computed modulo ns r X o o.kind k g t }
+operation_kept h gcd ns r X o k f g t = record { equal = same_op gcd ns r o o.kind k f g; typed = h.computed gcd ns r X o o.kind k g t }
+operation_kept h beq ns r X o k f g t = record { equal = same_op beq ns r o o.kind k f g; typed = h.computed beq ns r X o o.kind k g t }
+operation_kept h ble ns r X o k f g t = record { equal = same_op ble ns r o o.kind k f g; typed = h.computed ble ns r X o o.kind k g t }
+operation_kept h land ns r X o k f g t = record { equal = same_op land ns r o o.kind k f g; typed = h.computed land ns r X o o.kind k g t }
+operation_kept h lor ns r X o k f g t = record { equal = same_op lor ns r o o.kind k f g; typed = h.computed lor ns r X o o.kind k g t }
+operation_kept h xor ns r X o k f g t = record { equal = same_op xor ns r o o.kind k f g; typed = h.computed xor ns r X o o.kind k g t }
+operation_kept h shift_left ns r X o k f g t = record { equal = same_op shift_left ns r o o.kind k f g; typed = h.computed shift_left ns r X o o.kind k g t }
+operation_kept h shift_right ns r X o k f g t = record { equal = same_op shift_right ns r o o.kind k f g; typed = h.computed shift_right ns r X o o.kind k g t }
+operation_kept h pow ns r X o k f g t = record { equal = same_op pow ns r o o.kind k f g; typed = h.computed pow ns r X o o.kind k g t }
 
 any_first : (k : ℕ) (T : Tree) (xs ys : List Tree) → AnyLocal k T xs → AnyLocal k T (xs ++ ys)
 any_first k T [] ys h = absurd h
 any_first k T (x ∷ xs) ys (inl h) = inl h
 any_first k T (x ∷ xs) ys (inr h) = inr (any_first k T xs ys h)
 
-lawful_built : {w : Place} (J c : Name) (ks : List Level) (bs rest : List Tree) → LawfulLocals w (apply (const J ks) (bs ++ rest)) → LawfulLocals w (apply (const c ks) bs)
-lawful_built J c ks bs rest f k X m = elim (local_of_apply k X (const c ks) bs m) [
+lawful_built : {w : Place} {R : RecApp w} (k : KMajor R) → LawfulLocals w (k_type k) → LawfulLocals w (ctor_app k.ctor)
+lawful_built k f n X m = let c = k.ctor in elim (local_of_apply n X (const c.name c.levels) c.args m) [
   | inl z ↦ absurd z
-  | inr y ↦ f k X (local_of_arg k X (const J ks) (bs ++ rest) (any_first k X bs rest y))
+  | inr y ↦ f n X (local_of_arg n X (const c.ind.name c.levels) (c.args ++ k.rest) (any_first n X c.args k.rest y))
 ]
 
 abbrev pub AllTyped : Place → List Tree → Type 0
@@ -164,9 +164,13 @@ eta_typed {w = w} {o = o} {A = A} {B = B} t p =
     let x : IdealType w (local k A) A = typed_local ((well_formed_of_type p.domain_typed).0, omega (arith, p.above)) p.domain_typed in
     typed_lam {k = k} (omega (arith, p.above)) (omega (arith, p.above)) p.domain_typed (rw (closed_stays 0 (local k A) o (well_formed_of_type t).0) (typed_app t x))
 
-field_order : {w : Place} {S : Name} {s : Tree} {l : Level} {j i : ℕ} {r A : Tree} → FieldOf w S s l j i r A → j ≤ i
+field_order : {w : Place} {f : Field} {A : Tree} {j : ℕ} {r : Tree} → FieldOf w f A j r → j ≤ f.number
 field_order (here c h) = omega arith
-field_order (past {j = j} {i = i} c h f) = let g : suc j ≤ i = field_order f in omega arith
+field_order (past {f = f} {j = j} c h d) = let g : suc j ≤ f.number = field_order d in omega arith
+
+-- another field of the same structure
+abbrev other_field : Field → ℕ → Field
+other_field f n = record { structure = f.structure; subject = f.subject; sort = f.sort; number = n }
 
 -- the rest of a telescope, where what is put in has the domain for a type or is not used
 next_body : {w : Place} → Expected w → {A B : Tree} (p : PiParts w A B) (x : Tree) → (has_var 0 B ≡ true → IdealType w x A) → IdealType w (opened B x) (sort p.level)
@@ -176,11 +180,15 @@ next_body {w = w} h {A = A} {B = B} p x f = go (has_var 0 B) refl
     go true e = body_at h p (f e)
     go false e = rw (unused 0 x (local p.number A) B e) p.body_typed
 
+-- the recursor at its arguments before the major premise
+abbrev rec_app : {w : Place} → RecApp w → Tree
+rec_app R = apply (const R.name R.levels) R.front
+
 mutual
   pub ideal_type : {w : Place} → Expected w → {e A : Tree} → HasType w e A → LawfulLocals w e → IdealType w e A
   ideal_type h t_sort g = typed_sort
   ideal_type h (t_local {k = k} {T = T} f) g = typed_local f (g k T (inl (refl, refl))).1
-  ideal_type h (t_const m n f) g = typed_const m n f
+  ideal_type h (t_const c f) g = typed_const c f
   ideal_type {w = w} h (t_app {f = f} {a = a} {F = F} {A = A} {B = B} {A' = A'} d r x q) g =
       let tf : IdealType w f F = ideal_type h d (λ k X m. g k X (inl m)) in
       let kf : Kept w F (pi A B) _ = kept h r (h.sorted tf).1 in
@@ -199,14 +207,14 @@ mutual
       typed_let ta (typed_conv tx (equal h q (h.sorted tx).1 ta) ta) (ideal_type h f (lawful_open b v (λ n X m. g n X (inr (inr m))) (λ n X m. g n X (inr (inl m)))))
   ideal_type h (t_lit k f) g = typed_lit k f
   ideal_type h (t_str k) g = typed_str k
-  ideal_type {w = w} h (t_proj S ls bs i s U T A l pj d r q t f v) g =
-      let ts : IdealType w s U = ideal_type h d g in
-      let ks : Kept w U (apply (const S ls) bs) _ = kept h r (h.sorted ts).1 in
-      let tt₁ : IdealType w s (apply (const S ls) bs) = typed_conv ts ks.equal ks.typed in
-      let tl : IdealType w (apply (const S ls) bs) (sort l) = ideal_sort h t (lawful ks.typed) in
-      let cs : _ = h.constructors S ls bs l pj tl in
-      let ps : _ = ideal_parameters h f cs.0.1 cs.1 in
-      typed_proj S ls bs i s T A l pj tt₁ q tl ps.0 (ideal_field h pj.ctor.fields T (λ j C lt x. typed_proj S ls bs j s T C l pj tt₁ lt tl ps.0 x) (λ j C x. x) ps.1.1 q v)
+  ideal_type {w = w} h (t_proj S {e = e} {T₀ = U} {T = T} {l = l} d r i t p v) g =
+      let te : IdealType w e U = ideal_type h d g in
+      let ks : Kept w U (projectable_type S) _ = kept h r (h.sorted te).1 in
+      let tj : IdealType w e (projectable_type S) = typed_conv te ks.equal ks.typed in
+      let tl : IdealType w (projectable_type S) (sort l) = ideal_sort h t (lawful ks.typed) in
+      let cs : _ = h.constructors S tl in
+      let ps : _ = ideal_parameters h p cs.0.1 cs.1 in
+      typed_proj S tj i tl ps.0 (ideal_field h S.ctor.fields T (λ j C lt x. typed_proj S tj lt tl ps.0 x) (λ j C x. x) ps.1.1 i v)
 
   pub ideal_sort : {w : Place} → Expected w → {A : Tree} {l : Level} → HasSort w A l → LawfulLocals w A → IdealType w A (sort l)
   ideal_sort {w = w} h (has_sort {A = A} {S = S} t r) g =
@@ -228,40 +236,38 @@ mutual
       record { equal = same_app k.equal (same_refl fa); typed = typed_conv (typed_app k.typed p.argument) p.result (h.sorted t).1 }
   kept h (r_beta f) t = beta_kept h t
   kept h (r_zeta f) t = zeta_kept h f t
-  kept h {A = X} (r_delta {c = c} {ls = ls} {g = g} {v = v} m x n f) t = record { equal = same_delta m x n f; typed = h.values c ls g v X m x n t }
-  kept {w = w} h {A = X} (r_proj S c ks g block ind ctor i xs s v x r rd m k n o fx) t =
-      let p : ProjParts w s = parts t in
-      let d : Kept w s v p.type = kept h r p.typed in
-      let e : Kept w v (apply (const c ks) xs) p.type = text_kept h rd d.typed in
-      let q : Kept w s (apply (const c ks) xs) p.type = record { equal = same_trans d.equal e.equal; typed = e.typed } in
-      let pm : IdealType w (proj S i (apply (const c ks) xs)) X = h.replaced S i s (apply (const c ks) xs) p.type X t p.typed q.equal q.typed in
+  kept h (r_delta g v f) t = record { equal = same_delta g v f; typed = h.values g v t }
+  kept {w = w} h {A = X} (r_proj c {i = i} {e = e} {m = m} r rd x f) t =
+      let p : ProjParts w e = parts t in
+      let d : Kept w e m p.type = kept h r p.typed in
+      let k : Kept w m (ctor_app c) p.type = text_kept h rd d.typed in
+      let q : IdealEquals w e (ctor_app c) = same_trans d.equal k.equal in
+      let tm : IdealType w (proj c.ind.name i (ctor_app c)) X = h.replaced c.ind.name i e (ctor_app c) p.type X t p.typed q k.typed in
       record {
-        equal = same_trans (same_proj (λ e. t) q.equal) (same_proj_ctor S c ks g block ind ctor i xs x X (λ e. pm) m k n o (well_formed_of_type q.typed).0 fx);
-        typed = h.fields S c ks g block ind ctor i xs x X m k n o pm;
+        equal = same_trans (same_proj (λ z. t) q) (same_proj_ctor c (λ z. tm) x (well_formed_of_type k.typed).0 f);
+        typed = h.fields c x tm;
       }
-  kept {w = w} h {A = X} (r_major R ls front {e = e} i f r rd) t =
-      let p : AppParts w (apply (const R ls) front) e X = parts t in
+  kept {w = w} h {A = X} (r_major R {e = e} r rd) t =
+      let p : AppParts w (rec_app R) e X = parts t in
       let q : _ = kept h r p.argument in
       let m : _ = read_kept h rd q.typed in
       at_argument h p t m.typed (same_trans q.equal m.equal)
-  kept h {A = X} (r_iota R c ls ks front xs result i f g) t =
-      record { equal = same_iota R c ls ks front xs result i f g; typed = h.results R c ls ks front xs result X i t }
-  kept {w = w} h {A = X} (r_k R J c ls ks front bs rest e U D k he hr hd q f) t =
-      let p : AppParts w (apply (const R ls) front) e X = parts t in
+  kept h (r_iota R c i f g) t = record { equal = same_iota R c i f g; typed = h.results R c i t }
+  kept {w = w} h {A = X} (r_k R k {e = e} {T₀ = U} {D = D} he hr hd q) t =
+      let p : AppParts w (rec_app R) e X = parts t in
       let te : IdealType w e U = ideal_type h he (lawful p.argument) in
-      let n : Kept w U (apply (const J ks) (bs ++ rest)) _ = kept h hr (h.sorted te).1 in
-      let ti : IdealType w e (apply (const J ks) (bs ++ rest)) = typed_conv te n.equal n.typed in
-      let td : IdealType w (apply (const c ks) bs) D = ideal_type h hd (lawful_built J c ks bs rest (lawful n.typed)) in
-      let tj : IdealType w (apply (const c ks) bs) (apply (const J ks) (bs ++ rest)) = typed_conv td (same_sym (equal h q n.typed (h.sorted td).1)) n.typed in
-      at_argument h p t (typed_conv tj (h.one_type ti p.argument) (pi_of h p).domain_typed) (same_proof ti tj (h.proofs R J c front bs rest ks _ k n.typed))
-  kept {w = w} h {A = X} (r_struct R s js ls front bs m U i rule o z f n hm r np) t =
-      let p : AppParts w (apply (const R js) front) m X = parts t in
+      let n : Kept w U (k_type k) _ = kept h hr (h.sorted te).1 in
+      let ti : IdealType w e (k_type k) = typed_conv te n.equal n.typed in
+      let td : IdealType w (ctor_app k.ctor) D = ideal_type h hd (lawful_built k (lawful n.typed)) in
+      let tj : IdealType w (ctor_app k.ctor) (k_type k) = typed_conv td (same_sym (equal h q n.typed (h.sorted td).1)) n.typed in
+      at_argument h p t (typed_conv tj (h.one_type ti p.argument) (pi_of h p).domain_typed) (same_proof ti tj (h.proofs R k n.typed))
+  kept {w = w} h {A = X} (r_struct R S {m = m} {T₀ = U} o hm r np) t =
+      let p : AppParts w (rec_app R) m X = parts t in
       let tm : IdealType w m U = ideal_type h hm (lawful p.argument) in
-      let q : Kept w U (apply (const s.ind.name ls) bs) _ = kept h r (h.sorted tm).1 in
-      let ti : IdealType w m (apply (const s.ind.name ls) bs) = typed_conv tm q.equal q.typed in
-      let x : GuardedExpands true w s.ctor (apply (const s.ind.name ls) bs) = ideal_expands h np (lawful q.typed) in
-      at_argument h p t (typed_conv (h.expanded s ls bs m n ti x) (h.one_type ti p.argument) (pi_of h p).domain_typed)
-      (same_struct_eta s ls bs m n ti x)
+      let q : Kept w U (structure_type S) _ = kept h r (h.sorted tm).1 in
+      let ti : IdealType w m (structure_type S) = typed_conv tm q.equal q.typed in
+      let x : GuardedExpands true w S.structure.ctor (structure_type S) = ideal_expands h np (lawful q.typed) in
+      at_argument h p t (typed_conv (h.written_out S ti x) (h.one_type ti p.argument) (pi_of h p).domain_typed) (same_struct_eta S ti x)
   kept {w = w} h {A = X} (r_quot_lift ls ks {A = A} {r = r} {B = B} {f = f} {h = g} {e = e} i j ff d) t =
       let p : AppParts w (apply (const quot_lift ls) (A ∷ r ∷ B ∷ f ∷ g ∷ [])) e X = parts t in
       let q : _ = kept h d p.argument in
@@ -280,9 +286,9 @@ mutual
         equal = same_trans k.equal (same_quot_ind ls ks i j (ff.0, (ff.1.0, (ff.1.1.0, (ff.1.1.1.0, (m.0.0.1, (m.0.1, (m.1, tt))))))));
         typed = h.induced ls ks i j k.typed;
       }
-  kept {w = w} h {A = X} (r_op op es ns r i n s g) t =
+  kept {w = w} h {A = X} (r_op op es ns r o n l s g) t =
       let k : Kept w (apply (named (op_name op)) es) (apply (named (op_name op)) (map lit ns)) X = numerals_kept h n s (named (op_name op)) t in
-      let u : Kept w (apply (named (op_name op)) (map lit ns)) r X = operation_kept h op ns r X i n (well_formed_of_apply (named (op_name op)) (map lit ns) (well_formed_of_type k.typed).0).1 g k.typed in
+      let u : Kept w (apply (named (op_name op)) (map lit ns)) r X = operation_kept h op ns r X o n (well_formed_of_apply (named (op_name op)) (map lit ns) (well_formed_of_type k.typed).0).1 g k.typed in
       record { equal = same_trans k.equal u.equal; typed = u.typed }
 
   numerals_kept : {w : Place} → Expected w → HasNat w → {es : List Tree} {ns : List ℕ} → Numerals w es ns → (f : Tree) {X : Tree} → IdealType w (apply f es) X → Kept w (apply f es) (apply f (map lit ns)) X
@@ -337,24 +343,8 @@ mutual
       let k : Kept w T (pi A B) _ = kept h r (h.sorted to).1 in
       let ti : IdealType w o (pi A B) = typed_conv to k.equal k.typed in
       same_trans (equal h c t (eta_typed ti (parts k.typed))) (same_sym (same_eta ti))
-  equal {w = w} h (e_struct_left i ks ps xs a A B v m n ha hb q p) t u =
-      let ta : IdealType w a A = ideal_type h ha (lawful t) in
-      let tb : IdealType w (apply (const i.ctor_name ks) (ps ++ xs)) B = ideal_type h hb (lawful u) in
-      let sb : IdealType w B _ = (h.sorted tb).1 in
-      let tc : IdealType w a B = typed_conv ta (equal h q (h.sorted ta).1 sb) sb in
-      elim (h.members i ks ps xs a B m n tc tb) [
-        | inl z ↦ same_proof tc tb z
-        | inr f ↦ same_struct_ext i ks ps xs a B m n tc tb (ideal_projects h p (λ j lt. f j (omega arith)) (all_typed_after w ps xs (typed_args (const i.ctor_name ks) (ps ++ xs) tb).1))
-      ]
-  equal {w = w} h (e_struct_right i ks ps xs a A B v m n ha hb q p) t u =
-      let ta : IdealType w a A = ideal_type h ha (lawful u) in
-      let tb : IdealType w (apply (const i.ctor_name ks) (ps ++ xs)) B = ideal_type h hb (lawful t) in
-      let sb : IdealType w B _ = (h.sorted tb).1 in
-      let tc : IdealType w a B = typed_conv ta (equal h q (h.sorted ta).1 sb) sb in
-      same_sym (elim (h.members i ks ps xs a B m n tc tb) [
-        | inl z ↦ same_proof tc tb z
-        | inr f ↦ same_struct_ext i ks ps xs a B m n tc tb (ideal_projects h p (λ j lt. f j (omega arith)) (all_typed_after w ps xs (typed_args (const i.ctor_name ks) (ps ++ xs) tb).1))
-      ])
+  equal h (e_struct_left S xs v f) t u = by_fields_equal h S xs f (lawful t) (lawful u)
+  equal h (e_struct_right S xs v f) t u = same_sym (by_fields_equal h S xs f (lawful u) (lawful t))
   equal {w = w} h (e_unit i ls bs a b A B o v n ha r hb q) t u =
       let ta : IdealType w a A = ideal_type h ha (lawful t) in
       let tb : IdealType w b B = ideal_type h hb (lawful u) in
@@ -380,16 +370,29 @@ mutual
   equal h (e_str_left x c) t u = same_trans (same_str x) (equal h c (h.texts x) u)
   equal h (e_str_right x c) t u = same_trans (equal h c t (h.texts x)) (same_sym (same_str x))
 
+  by_fields_equal : {w : Place} → Expected w → (S : StructureAt w) (xs : List Tree) {a : Tree} → IsByFields w S xs a →
+      LawfulLocals w a → LawfulLocals w (structure_value S xs) → IdealEquals w a (structure_value S xs)
+  by_fields_equal {w = w} h S xs (by_fields {a = a} {A = A} {B = B} n ha hb q p) f g =
+      let ta : IdealType w a A = ideal_type h ha f in
+      let tb : IdealType w (structure_value S xs) B = ideal_type h hb g in
+      let sb : IdealType w B _ = (h.sorted tb).1 in
+      let tc : IdealType w a B = typed_conv ta (equal h q (h.sorted ta).1 sb) sb in
+      let ts : _ = typed_args (const S.structure.ctor_name S.levels) (S.params ++ xs) tb in
+      elim (h.members S xs n tc tb) [
+        | inl z ↦ same_proof tc tb z
+        | inr x ↦ same_struct_ext S xs n tc tb (ideal_projects h p (λ j lt. x j (omega arith)) (all_typed_after w S.params xs ts.1))
+      ]
+
   pub ideal_projects : {w : Place} → Expected w → {J : Name} {a : Tree} {j : ℕ} {xs : List Tree} → AllProject w J a j xs →
       ((i : ℕ) → i < j + length xs → (U : Tree) × IdealType w (proj J i a) U) → AllTyped w xs → GuardedProjects true w J a j xs
   ideal_projects h no_more_fields f t = none_projects
   ideal_projects h (project {j = j} {xs = xs} c p) f t =
       next_projects (equal h c (f j (omega arith)).1 t.0.1) (ideal_projects h p (λ i lt. f i (omega arith)) t.1)
 
-  pub ideal_parameters : {w : Place} → Expected w → {bs : List Tree} {n : ℕ} {r T : Tree} {m : Level} → PastParameters w bs n r T → IdealType w r (sort m) → Fits w bs n r →
-      GuardedParameters true w bs n r T × ((l : Level) × IdealType w T (sort l))
+  pub ideal_parameters : {w : Place} → Expected w → {T : Tree} {n : ℕ} {bs : List Tree} {r : Tree} {m : Level} → PastParameters w T n bs r → IdealType w r (sort m) → Fits w n bs r →
+      GuardedParameters true w T n bs r × ((l : Level) × IdealType w T (sort l))
   ideal_parameters h {m = m} no_more t f = (past_none, (m, t))
-  ideal_parameters {w = w} h {m = m} (next {b = b} {bs = bs} {n = n} {r = r} {A = A} {B = B} {T = T} c d) t f =
+  ideal_parameters {w = w} h {m = m} (next {r = r} {A = A} {B = B} c d) t f =
       let k : Kept w r (pi A B) (sort m) = kept h c t in
       let p : PiParts w A B = parts k.typed in
       let x : _ = f A B m k.equal k.typed in
@@ -397,19 +400,19 @@ mutual
       (past_one k.equal y.0, y.1)
 
   -- R is where the fields begin
-  pub ideal_field : {w : Place} → Expected w → {S : Name} {s : Tree} {l : Level} {j i : ℕ} {r A : Tree} {m : Level} (fields : ℕ) (R : Tree) →
-      ((n : ℕ) (C : Tree) → n < fields → GuardedField true w S s l 0 n R C → IdealType w (proj S n s) C) →
-      ((n : ℕ) (C : Tree) → GuardedField true w S s l j n r C → GuardedField true w S s l 0 n R C) →
-      IdealType w r (sort m) → i < fields → FieldOf w S s l j i r A → GuardedField true w S s l j i r A
-  ideal_field {w = w} h {m = m} fields R f g t lt (here {A = A} {B = B} c x) =
+  pub ideal_field : {w : Place} → Expected w → {f : Field} {A : Tree} {j : ℕ} {r : Tree} {m : Level} (fields : ℕ) (R : Tree) →
+      ((n : ℕ) (C : Tree) → n < fields → GuardedField true w (other_field f n) C 0 R → IdealType w (proj f.structure n f.subject) C) →
+      ((n : ℕ) (C : Tree) → GuardedField true w (other_field f n) C j r → GuardedField true w (other_field f n) C 0 R) →
+      IdealType w r (sort m) → f.number < fields → FieldOf w f A j r → GuardedField true w f A j r
+  ideal_field {w = w} h fields R typed back t lt (here c x) =
       let k : _ = kept h c t in
-      let p : PiParts w A B = parts k.typed in
+      let p : PiParts w _ _ = parts k.typed in
       field_here k.equal (λ z. ideal_prop h (x z) (lawful p.domain_typed))
-  ideal_field {w = w} h {m = m} fields R f g t lt (past {S = S} {s = s} {l = l} {j = j} {i = i} {r = r} {A = A} {B = B} c x d) =
-      let k : Kept w r (pi A B) (sort m) = kept h c t in
-      let p : PiParts w A B = parts k.typed in
-      let y : (SameLevel l zero_level → has_var 0 B ≡ true → IdealType w A (sort zero_level)) = λ z e. ideal_prop h (x z e) (lawful p.domain_typed) in
-      let o : suc j ≤ i = field_order d in
-      field_past k.equal y
-      (ideal_field h fields R f (λ n C v. g n C (field_past k.equal y v))
-      (next_body h p (proj S j s) (λ e. f j A (omega arith) (g j A (field_here k.equal (λ z. y z e))))) lt d)
+  ideal_field {w = w} h {m = m} fields R typed back t lt (past {f = f} {j = j} {r = r} {D = D} {B = B} c x d) =
+      let k : Kept w r (pi D B) (sort m) = kept h c t in
+      let p : PiParts w D B = parts k.typed in
+      let y : (IsInProp f → has_var 0 B ≡ true → IdealType w D (sort zero_level)) = λ z e. ideal_prop h (x z e) (lawful p.domain_typed) in
+      let o : suc j ≤ f.number = field_order d in
+      let s : Tree = proj f.structure j f.subject in
+      let ts : (has_var 0 B ≡ true → IdealType w s D) = λ e. typed j D (omega arith) (back j D (field_here {f = other_field f j} k.equal (λ z. y z e))) in
+      field_past k.equal y (ideal_field h fields R typed (λ n C v. back n C (field_past {f = other_field f n} k.equal y v)) (next_body h p s ts) lt d)

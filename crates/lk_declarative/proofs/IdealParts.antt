@@ -73,14 +73,14 @@ converted (local k T) c p = tt
 pub parts : {w : Place} {e T : Tree} → IdealType w e T → Parts w e T
 parts typed_sort = tt
 parts (typed_local f t) = tt
-parts (typed_const m n f) = tt
+parts (typed_const g f) = tt
 parts (typed_app {A = A} {B = B} f x) = record { domain = A; body = B; function = f; argument = x; result = same_refl (well_formed_of_type (typed_app f x)).1 }
 parts (typed_lam {B = B} {l = l} i j a f) = record { level = l; body = B; domain_typed = a; typed = typed_lam i j a f }
 parts (typed_pi {u = u} {v = v} {k = k} i a f) = record { domain_level = u; level = v; number = k; above = i; domain_typed = a; body_typed = f }
 parts (typed_let {B = B} a x f) = record { type = B; body_typed = f; result = same_refl (well_formed_of_type f).1 }
 parts (typed_lit h f) = record { has_nat = h; result = same_refl tt }
 parts (typed_str h) = tt
-parts (typed_proj S ls bs i s T A l pj e q r f v) = record { type = _; typed = e }
+parts (typed_proj S e i s p f) = record { type = _; typed = e }
 parts (typed_conv {e = e} t c s) = converted e c (parts t)
 
 -- opening keeps the Locals of the body
@@ -109,7 +109,7 @@ pub lawful : {w : Place} {e T : Tree} → IdealType w e T → LawfulLocals w e
 lawful typed_sort k X h = absurd h
 lawful (typed_local {k = j} {T = T} {l = l} f t) k X (inl e) = rw (e.1) (l, t)
 lawful (typed_local f t) k X (inr h) = lawful t k X h
-lawful (typed_const m n f) k X h = absurd h
+lawful (typed_const g f) k X h = absurd h
 lawful (typed_app f x) k X (inl h) = lawful f k X h
 lawful (typed_app f x) k X (inr h) = lawful x k X h
 lawful (typed_lam i j a f) k X (inl h) = lawful a k X h
@@ -121,7 +121,7 @@ lawful (typed_let a x f) k X (inr (inl h)) = lawful x k X h
 lawful (typed_let {v = v} {b = b} a x f) k X (inr (inr h)) = lawful f k X (local_kept k X 0 v b h)
 lawful (typed_lit n f) k X h = absurd h
 lawful (typed_str n) k X h = absurd h
-lawful (typed_proj S ls bs i s T A l pj e q r f v) k X h = lawful e k X h
+lawful (typed_proj S e i s p f) k X h = lawful e k X h
 lawful (typed_conv t c s) k X h = lawful t k X h
 
 pub lawful_open : {w : Place} (b v : Tree) → LawfulLocals w b → LawfulLocals w v → LawfulLocals w (opened b v)

@@ -6,7 +6,7 @@ use Rattle.lk_tree.specs.WellFormed.{IsWellFormed, AllWellFormed}
 use Rattle.lk_tree.specs.Spine.{apply}
 use Rattle.lk_tree.specs.Operations.{Op, succ, log2, add, sub, mul, div, modulo, gcd, beq, ble, land, lor, xor, shift_left, shift_right, pow, op_value}
 use Rattle.lk_rulebook.specs.Place.{Place, Ctor}
-use Rattle.lk_rulebook.specs.Rules.{HasType, t_sort, t_local, t_const, t_app, t_lam, t_pi, t_let, t_lit, t_str, t_proj, HasSort, has_sort, IsProposition, is_prop, Reduces, r_refl, r_trans, r_head, r_beta, r_zeta, r_delta, r_proj, r_major, r_iota, r_k, r_struct, r_quot_lift, r_quot_ind, r_op, IsDefEq, e_refl, e_reduce, e_sort, e_const, e_app, e_lam, e_pi, e_proj, e_eta_left, e_eta_right, e_struct_left, e_struct_right, e_unit, e_proof, e_zero_left, e_zero_right, e_succ_left, e_succ_right, e_str_left, e_str_right, Numerals, no_more_numerals, numeral, IsNotProp, not_prop, AllProject, no_more_fields, project, PastParameters, no_more, next, FieldOf, here, past}
+use Rattle.lk_rulebook.specs.Rules.{HasType, t_sort, t_local, t_const, t_app, t_lam, t_pi, t_let, t_lit, t_str, t_proj, HasSort, has_sort, IsProposition, is_prop, Reduces, r_refl, r_trans, r_head, r_beta, r_zeta, r_delta, r_proj, r_major, r_iota, r_k, r_struct, r_quot_lift, r_quot_ind, r_op, IsDefEq, e_refl, e_reduce, e_sort, e_const, e_app, e_lam, e_pi, e_proj, e_eta_left, e_eta_right, e_struct_left, e_struct_right, e_unit, e_proof, e_zero_left, e_zero_right, e_succ_left, e_succ_right, e_str_left, e_str_right, Numerals, no_more_numerals, numeral, IsNotProp, not_prop, by_fields, AllProject, no_more_fields, project, PastParameters, no_more, next, Field, FieldOf, here, past}
 use Rattle.lk_rulebook.specs.Names.{named, nat_succ, op_name}
 use Rattle.lk_rulebook.specs.Shapes.{HasNat}
 use Rattle.lk_rulebook.specs.Literals.{IsNumeral, of_lit, of_zero, IsOperation, IsResult, ReadsText, as_it_is, as_text, Reads, by_text, as_zero, as_succ}
@@ -39,36 +39,35 @@ successor_converts (n ∷ m ∷ ns) r g = absurd (no_result g refl)
 -- an operation on literals
 operation_converts : {w : Place} (op : Op) (ns : List ℕ) (r : Tree) → IsOperation w op → HasNat w → AllWellFormed (map lit ns) → IsResult w (op_value op ns) r →
     Converts w (apply (named (op_name op)) (map lit ns)) r
-operation_converts succ ns r i h f g = successor_converts ns r g
-operation_converts log2 ns r i h f g = conv_op log2 ns r i i.kind h f g
-operation_converts add ns r i h f g = conv_op add ns r i i.kind h f g
-operation_converts sub ns r i h f g = conv_op sub ns r i i.kind h f g
-operation_converts mul ns r i h f g = conv_op mul ns r i i.kind h f g
-operation_converts div ns r i h f g = conv_op div ns r i i.kind h f g
-operation_converts modulo ns r i h f g = conv_op modulo ns r i i.kind h f g
-operation_converts gcd ns r i h f g = conv_op gcd ns r i i.kind h f g
-operation_converts beq ns r i h f g = conv_op beq ns r i i.kind h f g
-operation_converts ble ns r i h f g = conv_op ble ns r i i.kind h f g
-operation_converts land ns r i h f g = conv_op land ns r i i.kind h f g
-operation_converts lor ns r i h f g = conv_op lor ns r i i.kind h f g
-operation_converts xor ns r i h f g = conv_op xor ns r i i.kind h f g
-operation_converts shift_left ns r i h f g = conv_op shift_left ns r i i.kind h f g
-operation_converts shift_right ns r i h f g = conv_op shift_right ns r i i.kind h f g
-operation_converts pow ns r i h f g = conv_op pow ns r i i.kind h f g
+operation_converts succ ns r o h f g = successor_converts ns r g
+operation_converts log2 ns r o h f g = conv_op log2 ns r o o.kind h f g
+operation_converts add ns r o h f g = conv_op add ns r o o.kind h f g
+operation_converts sub ns r o h f g = conv_op sub ns r o o.kind h f g
+operation_converts mul ns r o h f g = conv_op mul ns r o o.kind h f g
+operation_converts div ns r o h f g = conv_op div ns r o o.kind h f g
+operation_converts modulo ns r o h f g = conv_op modulo ns r o o.kind h f g
+operation_converts gcd ns r o h f g = conv_op gcd ns r o o.kind h f g
+operation_converts beq ns r o h f g = conv_op beq ns r o o.kind h f g
+operation_converts ble ns r o h f g = conv_op ble ns r o o.kind h f g
+operation_converts land ns r o h f g = conv_op land ns r o o.kind h f g
+operation_converts lor ns r o h f g = conv_op lor ns r o o.kind h f g
+operation_converts xor ns r o h f g = conv_op xor ns r o o.kind h f g
+operation_converts shift_left ns r o h f g = conv_op shift_left ns r o o.kind h f g
+operation_converts shift_right ns r o h f g = conv_op shift_right ns r o o.kind h f g
+operation_converts pow ns r o h f g = conv_op pow ns r o o.kind h f g
 
 mutual
   pub has_type : {w : Place} {e A : Tree} → HasType w e A → IsDeclared w e A
   has_type t_sort = type_sort
   has_type (t_local f) = type_local f
-  has_type (t_const m n f) = type_const m n f
+  has_type (t_const g f) = type_const g f
   has_type (t_app f r x q) = type_app (type_conv (has_type f) (converts r)) (type_conv (has_type x) (equal_converts q))
   has_type (t_lam i j a f) = type_lam i j (sort_has_type a) (has_type f)
   has_type (t_pi i a f) = type_pi i (sort_has_type a) (sort_has_type f)
   has_type (t_let a x q f) = type_let (sort_has_type a) (type_conv (has_type x) (equal_converts q)) (has_type f)
   has_type (t_lit h f) = type_lit h f
   has_type (t_str h) = type_str h
-  has_type (t_proj S ls bs i s U T A l pj e d q r f v) =
-      type_proj S ls bs i s T A l pj (type_conv (has_type e) (converts d)) q (sort_has_type r) (after_parameters f) (field_domain v)
+  has_type (t_proj S e r i s p f) = type_proj S (type_conv (has_type e) (converts r)) i (sort_has_type s) (after_parameters p) (field_domain f)
 
   pub sort_has_type : {w : Place} {A : Tree} {l : Level} → HasSort w A l → IsDeclared w A (sort l)
   sort_has_type (has_sort t r) = type_conv (has_type t) (converts r)
@@ -82,17 +81,14 @@ mutual
   converts (r_head c f) = conv_app (converts c) (conv_refl f)
   converts (r_beta f) = conv_beta f
   converts (r_zeta f) = conv_zeta f
-  converts (r_delta m v n f) = conv_delta m v n f
-  converts (r_proj S c ks g block ind ctor i xs s v x r rd m k n o fx) =
+  converts (r_delta g v f) = conv_delta g v f
+  converts (r_proj c r rd at f) =
       let q : _ = conv_trans (converts r) (text_converts rd (well_formed_of_conversion (converts r)).1) in
-      conv_trans (conv_proj q) (conv_proj_ctor S c ks g block ind ctor i xs x m k n o (well_formed_of_conversion q).1 fx)
-  converts (r_major R ls front i f r rd) = conv_app (conv_refl f) (conv_trans (converts r) (read_converts rd (well_formed_of_conversion (converts r)).1))
-  converts (r_iota R c ls ks front xs result i f g) = conv_iota R c ls ks front xs result i f g
-  converts (r_k R J c ls ks front bs rest e T D k he hr hd q f) =
-      let r : _ = converts hr in
-      conv_k R J c ls ks front bs rest e k (type_conv (has_type he) r) (type_conv (has_type hd) (conv_sym (equal_converts q))) f
-  converts (r_struct R s js ls front bs m T i rule o z f n h r p) =
-      conv_app (conv_refl f) (conv_struct_eta s ls bs m n (type_conv (has_type h) (converts r)) (may_expand p))
+      conv_trans (conv_proj q) (conv_proj_ctor c at (well_formed_of_conversion q).1 f)
+  converts (r_major R r rd) = conv_app (conv_refl R.fine) (conv_trans (converts r) (read_converts rd (well_formed_of_conversion (converts r)).1))
+  converts (r_iota R c h f g) = conv_iota R c h f g
+  converts (r_k R k he hr hd q) = conv_k R k (type_conv (has_type he) (converts hr)) (type_conv (has_type hd) (conv_sym (equal_converts q)))
+  converts (r_struct R S o h r p) = conv_app (conv_refl R.fine) (conv_struct_eta S (type_conv (has_type h) (converts r)) (may_expand p))
   converts (r_quot_lift ls ks i j f r) =
       let q : _ = converts r in
       let m : _ = (well_formed_of_conversion q).1 in
@@ -103,9 +99,9 @@ mutual
       let m : _ = (well_formed_of_conversion q).1 in
       conv_trans (conv_app (conv_refl ((((tt, f.0), f.1.0), f.1.1.0), f.1.1.1.0)) q)
       (conv_quot_ind ls ks i j (f.0, (f.1.0, (f.1.1.0, (f.1.1.1.0, (m.0.0.1, (m.0.1, (m.1, tt))))))))
-  converts (r_op op es ns r i h s g) =
+  converts (r_op op es ns r o h l s g) =
       let q : _ = numerals_convert s (conv_refl {a = named (op_name op)} tt) in
-      conv_trans q (operation_converts op ns r i h (well_formed_of_apply (named (op_name op)) (map lit ns) (well_formed_of_conversion q).1).1 g)
+      conv_trans q (operation_converts op ns r o h (well_formed_of_apply (named (op_name op)) (map lit ns) (well_formed_of_conversion q).1).1 g)
 
   numerals_convert : {w : Place} {es : List Tree} {ns : List ℕ} → Numerals w es ns → {f g : Tree} → Converts w f g → Converts w (apply f es) (apply g (map lit ns))
   numerals_convert no_more_numerals c = c
@@ -122,10 +118,10 @@ mutual
   equal_converts (e_proj c) = conv_proj (equal_converts c)
   equal_converts (e_eta_left v h r c) = conv_trans (conv_eta (type_conv (has_type h) (converts r))) (equal_converts c)
   equal_converts (e_eta_right v h r c) = conv_trans (equal_converts c) (conv_sym (conv_eta (type_conv (has_type h) (converts r))))
-  equal_converts (e_struct_left i ks ps xs a A B v m n ha hb q p) =
-      conv_struct_ext i ks ps xs a B m n (type_conv (has_type ha) (equal_converts q)) (has_type hb) (each_projects p)
-  equal_converts (e_struct_right i ks ps xs a A B v m n ha hb q p) =
-      conv_sym (conv_struct_ext i ks ps xs a B m n (type_conv (has_type ha) (equal_converts q)) (has_type hb) (each_projects p))
+  equal_converts (e_struct_left S xs v (by_fields n ha hb q p)) =
+      conv_struct_ext S xs n (type_conv (has_type ha) (equal_converts q)) (has_type hb) (each_projects p)
+  equal_converts (e_struct_right S xs v (by_fields n ha hb q p)) =
+      conv_sym (conv_struct_ext S xs n (type_conv (has_type ha) (equal_converts q)) (has_type hb) (each_projects p))
   equal_converts (e_unit i ls bs a b A B u v n ha r hb q) =
       conv_unit i ls bs a b n (type_conv (has_type ha) (converts r)) (type_conv (has_type hb) (conv_trans (conv_sym (equal_converts q)) (converts r)))
   equal_converts (e_proof u v a p b q) = conv_proof (has_type a) (type_conv (has_type b) (conv_sym (equal_converts q))) (is_proposition p)
@@ -143,10 +139,10 @@ mutual
   each_projects no_more_fields = none_left
   each_projects (project c p) = first_projects (equal_converts c) (each_projects p)
 
-  pub after_parameters : {w : Place} {bs : List Tree} {n : ℕ} {r T : Tree} → PastParameters w bs n r T → AfterParameters w bs n r T
+  pub after_parameters : {w : Place} {T : Tree} {n : ℕ} {bs : List Tree} {r : Tree} → PastParameters w T n bs r → AfterParameters w T n bs r
   after_parameters no_more = after_none
   after_parameters (next c p) = after_one (converts c) (after_parameters p)
 
-  pub field_domain : {w : Place} {S : Name} {s : Tree} {l : Level} {j i : ℕ} {r A : Tree} → FieldOf w S s l j i r A → FieldDomain w S s l j i r A
+  pub field_domain : {w : Place} {f : Field} {A : Tree} {j : ℕ} {r : Tree} → FieldOf w f A j r → FieldDomain w f A j r
   field_domain (here c h) = this_field (converts c) (λ z. is_proposition (h z))
   field_domain (past c h f) = later_field (converts c) (λ z v. is_proposition (h z v)) (field_domain f)

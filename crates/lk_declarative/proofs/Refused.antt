@@ -7,6 +7,7 @@ use Rattle.lk_tree.specs.Spine.{apply}
 use Rattle.lk_tree.proofs.Binding.{Opening, opening, below, at, above}
 use Rattle.lk_rulebook.specs.Place.{Place}
 use Rattle.lk_rulebook.specs.Names.{named, op_name}
+use Rattle.lk_rulebook.specs.Structures.{structure_value}
 use Rattle.lk_rulebook.specs.Formers.{IsFormer, SamePi}
 use Rattle.lk_rulebook.proofs.Sorts.{former_stays, former_typed, sort_is_no_prop, same_former}
 use Rattle.lk_rulebook.specs.Rules.{HasType, t_sort, t_local, t_const, t_app, t_lam, t_pi, t_let, t_lit, t_str, t_proj, Reduces, r_refl, r_trans, r_head, r_beta, r_zeta, r_delta, r_proj, r_major, r_iota, r_k, r_struct, r_quot_lift, r_quot_ind, r_op, IsDefEq, e_refl, e_reduce, e_sort, e_const, e_app, e_lam, e_pi, e_proj, e_eta_left, e_eta_right, e_struct_left, e_struct_right, e_unit, e_proof, e_zero_left, e_zero_right, e_succ_left, e_succ_right, e_str_left, e_str_right}
@@ -51,27 +52,27 @@ variable_stays (r_trans c d) h = variable_stays c h ∙ variable_stays d (subst 
 variable_stays (r_head c f) h = absurd h
 variable_stays (r_beta f) h = absurd h
 variable_stays (r_zeta f) h = absurd h
-variable_stays (r_delta m v n f) h = absurd h
-variable_stays (r_proj S c ks g block ind ctor i xs s m x r rd a1 a2 a3 a4 fx) h = absurd h
-variable_stays (r_major R ls front i f r rd) h = absurd h
-variable_stays (r_iota R c ls ks front xs result i f g) h = absurd h
-variable_stays (r_k R J c ls ks front bs rest e U D k he hr hd q f) h = absurd h
-variable_stays (r_struct R s js ls front bs m U i rule o z f n x r p) h = absurd h
+variable_stays (r_delta g v f) h = absurd h
+variable_stays (r_proj c r rd e f) h = absurd h
+variable_stays (r_major R r rd) h = absurd h
+variable_stays (r_iota R c i f g) h = absurd h
+variable_stays (r_k R k he hr hd q) h = absurd h
+variable_stays (r_struct R S o x r p) h = absurd h
 variable_stays (r_quot_lift ls ks i j f r) h = absurd h
 variable_stays (r_quot_ind ls ks i j f r) h = absurd h
-variable_stays (r_op op es ns r i x s g) h = absurd (applied_variable (named (op_name op)) es h)
+variable_stays (r_op op es ns r o x l s g) h = absurd (applied_variable (named (op_name op)) es h)
 
 variable_typed : {w : Place} {e A : Tree} → HasType w e A → IsVariable e → (l : Level) × (A ≡ sort l)
 variable_typed t_sort h = absurd h
 variable_typed (t_local {T = T} f) h = a_sort T h
-variable_typed (t_const m n f) h = absurd h
+variable_typed (t_const g f) h = absurd h
 variable_typed (t_app f r x q) h = absurd h
 variable_typed (t_lam i j a f) h = absurd h
 variable_typed (t_pi i a f) h = absurd h
 variable_typed (t_let a x q f) h = absurd h
 variable_typed (t_lit x f) h = absurd h
 variable_typed (t_str x) h = absurd h
-variable_typed (t_proj S ls bs i s U T A l pj e d q r f v) h = absurd h
+variable_typed (t_proj S e r i s p f) h = absurd h
 
 sort_is_no_pi : {w : Place} {T A B : Tree} → (l : Level) × (T ≡ sort l) → Reduces w T (pi A B) → ⊥
 sort_is_no_pi {T = T} s r =
@@ -96,9 +97,9 @@ pi_is_no_variable (e_pi i j c d) f g = absurd g
 pi_is_no_variable (e_proj c) f g = absurd f
 pi_is_no_variable (e_eta_left {o = o} v h r c) f g = sort_is_no_pi (former_typed h (a_former o f)) r
 pi_is_no_variable (e_eta_right v h r c) f g = sort_is_no_pi (variable_typed h g) r
-pi_is_no_variable (e_struct_left i ks ps xs a A B v m n ha hb q p) f g = absurd (applied_variable (const i.ctor_name ks) (ps ++ xs) g)
-pi_is_no_variable (e_struct_right i ks ps xs a A B v m n ha hb q p) f g =
-    absurd (applied_former (const i.ctor_name ks) (ps ++ xs) (a_former (apply (const i.ctor_name ks) (ps ++ xs)) f))
+pi_is_no_variable (e_struct_left S xs v h) f g = absurd (applied_variable (const S.structure.ctor_name S.levels) (S.params ++ xs) g)
+pi_is_no_variable (e_struct_right S xs v h) f g =
+    absurd (applied_former (const S.structure.ctor_name S.levels) (S.params ++ xs) (a_former (structure_value S xs) f))
 pi_is_no_variable (e_unit i ls bs a b A B u v n ha r hb q) f g = sort_is_no_constant i.name ls bs (former_typed ha (a_former a f)) r
 pi_is_no_variable (e_proof {a = a} u v ha p hb q) f g = let s : _ = former_typed ha (a_former a f) in sort_is_no_prop p s.0 s.1
 pi_is_no_variable e_zero_left f g = absurd f
@@ -116,14 +117,14 @@ LamType w _ A = Unit {0}
 lam_typed : {w : Place} {e A : Tree} → HasType w e A → LamType w e A
 lam_typed t_sort = tt
 lam_typed (t_local f) = tt
-lam_typed (t_const m n f) = tt
+lam_typed (t_const g f) = tt
 lam_typed (t_app f r x q) = tt
 lam_typed (t_lam {B = B} {k = k} i j a f) = (B, k, refl, f)
 lam_typed (t_pi i a f) = tt
 lam_typed (t_let a x q f) = tt
 lam_typed (t_lit x f) = tt
 lam_typed (t_str x) = tt
-lam_typed (t_proj S ls bs i s U T A l pj e d q r f v) = tt
+lam_typed (t_proj S e r i s p f) = tt
 
 var_is_no_pi : (i k : ℕ) (T : Tree) → Opening 0 i (local k T) → IsPi (open_var 0 (local k T) i) → ⊥
 var_is_no_pi i k T (below l e) f = rw e at f

@@ -4,31 +4,30 @@
 -- They depart from the textbook's declarative rules in this: the type of a lambda is stated closed, and opened with the Local of
 -- its binder, whose number bounds the lambda and its type; structure eta reads what is structure-like at the constructor, and
 -- for structures without fields at the type; what a unit with a loose variable or a wide literal gives means nothing.
-use Rattle.std.specs.Prelude.{ℕ, suc, ◌≡◌, ◌<◌, ◌≤◌, ◌+◌, List, [], ◌∷◌, ◌++◌, length, map, Some, slice_get, true}
+-- What is asked of constants, structures, constructors and recursors is said by the rule book's own records.
+use Rattle.std.specs.Prelude.{ℕ, suc, ◌≡◌, ◌<◌, ◌≤◌, ◌+◌, List, [], ◌∷◌, length, map, Some, slice_get, true}
 use Rattle.lk_tree.specs.Tree.{Name, Level, zero_level, succ_level, imax_level, Tree, var, sort, const, app, lam, pi, let_in, proj, lit, str, local}
 use Rattle.lk_tree.specs.Level.{SameLevel}
 use Rattle.lk_tree.specs.Bind.{opened, bound, has_var}
-use Rattle.lk_tree.specs.Levels.{put_levels}
 use Rattle.lk_tree.specs.Spine.{apply}
 use Rattle.lk_tree.specs.WellFormed.{IsWellFormed, AllWellFormed}
-use Rattle.lk_rulebook.specs.Place.{Place, Entry, a_ctor, Block, BlockType, Ctor}
-use Rattle.lk_rulebook.specs.Structures.{Structure, UnitLike, IsProjectable, IsIota, IsKRecursor, projections}
+use Rattle.lk_rulebook.specs.Place.{Place, Ctor}
+use Rattle.lk_rulebook.specs.Structures.{UnitLike, StructureAt, structure_type, structure_value, expanded, Projectable, projectable_type, ctor_type, CtorApp, ctor_app, RecApp, on_major, HasRule, rule_result, KMajor, k_type}
 use Rattle.lk_rulebook.specs.Names.{named, nat, nat_zero, nat_succ, op_name, string, quot_mk, quot_lift, quot_ind}
 use Rattle.lk_rulebook.specs.Shapes.{HasNat, HasString}
 use Rattle.lk_rulebook.specs.Literals.{by_def, IsOperation, IsResult, expansion, Expands}
 use Rattle.lk_rulebook.specs.Quotients.{IsQuot}
 use Rattle.lk_tree.specs.Operations.{Op, op_value}
 use Rattle.std.specs.Str.{chars}
-use Rattle.lk_rulebook.specs.Rules.{HasValue, SameLevels}
+use Rattle.lk_rulebook.specs.Rules.{HasValue, IsGivenAt, at_levels, SameLevels, Field, IsInProp}
 
 mutual
   -- e : A at w
   pub data IsDeclared (w : Place) : Tree → Tree → Type 0 where
     type_sort : {l : Level} → IsDeclared w (sort l) (sort (succ_level l))
     type_local : {k : ℕ} {T : Tree} → IsWellFormed (local k T) → IsDeclared w (local k T) T
-    type_const : {c : Name} {ls : List Level} {g : Entry} →
-        w.means c ≡ Some g → length ls ≡ length g.levels → IsWellFormed (put_levels g.levels ls g.type) →
-        IsDeclared w (const c ls) (put_levels g.levels ls g.type)
+    type_const : {c : Name} {ls : List Level} (g : IsGivenAt w c ls) →
+        IsWellFormed (at_levels g g.entry.type) → IsDeclared w (const c ls) (at_levels g g.entry.type)
     type_app : {f a A B : Tree} → IsDeclared w f (pi A B) → IsDeclared w a A → IsDeclared w (app f a) (opened B a)
     -- B is stated closed, and opened with the Local of the binder
     type_lam : {A b B : Tree} {l : Level} {k : ℕ} →
@@ -43,12 +42,10 @@ mutual
         IsDeclared w A (sort l) → IsDeclared w v A → IsDeclared w (opened b v) B → IsDeclared w (let_in A v b) B
     type_lit : {n : ℕ} → HasNat w → IsWellFormed (lit n) → IsDeclared w (lit n) (named nat)
     type_str : {s : List ℕ} → HasString w → IsDeclared w (str s) (named string)
-    type_proj : (S : Name) (ls : List Level) (bs : List Tree) (i : ℕ) (s T A : Tree) (l : Level) (p : IsProjectable w S ls bs) →
-        IsDeclared w s (apply (const S ls) bs) → i < p.ctor.fields →
-        IsDeclared w (apply (const S ls) bs) (sort l) →
-        AfterParameters w bs p.ind.parameters (put_levels p.ctor.levels ls p.ctor.type) T →
-        FieldDomain w S s l 0 i T A →
-        IsDeclared w (proj S i s) A
+    type_proj : (S : Projectable w) {i : ℕ} {e T A : Tree} {l : Level} →
+        IsDeclared w e (projectable_type S) → i < S.ctor.fields → IsDeclared w (projectable_type S) (sort l) →
+        AfterParameters w T S.ind.parameters S.args (ctor_type S) →
+        FieldDomain w (record { structure = S.name; subject = e; sort = l; number = i }) A 0 T → IsDeclared w (proj S.name i e) A
     type_conv : {e A B : Tree} → IsDeclared w e A → Converts w A B → IsDeclared w e B
 
   -- a ~ b at w
@@ -70,15 +67,13 @@ mutual
     conv_proj : {S : Name} {i : ℕ} {s t : Tree} → Converts w s t → Converts w (proj S i s) (proj S i t)
     conv_beta : {A b a : Tree} → IsWellFormed (app (lam A b) a) → Converts w (app (lam A b) a) (opened b a)
     conv_zeta : {A v b : Tree} → IsWellFormed (let_in A v b) → Converts w (let_in A v b) (opened b v)
-    conv_delta : {c : Name} {ls : List Level} {g : Entry} {v : Tree} →
-        w.means c ≡ Some g → HasValue g v → length ls ≡ length g.levels → IsWellFormed (put_levels g.levels ls v) →
-        Converts w (const c ls) (put_levels g.levels ls v)
-    conv_iota : (R c : Name) (ls ks : List Level) (front xs : List Tree) (result : Tree) →
-        IsIota w R c ls front xs result → IsWellFormed (app (apply (const R ls) front) (apply (const c ks) xs)) → IsWellFormed result →
-        Converts w (app (apply (const R ls) front) (apply (const c ks) xs)) result
-    conv_proj_ctor : (S c : Name) (ks : List Level) (g : Entry) (block : Block) (ind : BlockType) (ctor : Ctor) (i : ℕ) (xs : List Tree) (x : Tree) →
-        w.means c ≡ Some g → g.kind ≡ a_ctor block ind ctor → ind.name ≡ S → slice_get xs (ctor.parameters + i) ≡ Some x →
-        IsWellFormed (apply (const c ks) xs) → IsWellFormed x → Converts w (proj S i (apply (const c ks) xs)) x
+    conv_delta : {c : Name} {ls : List Level} {v : Tree} (g : IsGivenAt w c ls) →
+        HasValue g.entry v → IsWellFormed (at_levels g v) → Converts w (const c ls) (at_levels g v)
+    conv_iota : (R : RecApp w) (c : CtorApp w) (h : HasRule R c) →
+        IsWellFormed (ctor_app c) → IsWellFormed (rule_result R c h) → Converts w (on_major R (ctor_app c)) (rule_result R c h)
+    conv_proj_ctor : (c : CtorApp w) {i : ℕ} {x : Tree} →
+        slice_get c.args (c.ctor.parameters + i) ≡ Some x → IsWellFormed (ctor_app c) → IsWellFormed x →
+        Converts w (proj c.ind.name i (ctor_app c)) x
     conv_lit_zero : Converts w (lit 0) (named nat_zero)
     conv_lit_succ : {n : ℕ} → IsWellFormed (lit (suc n)) → Converts w (lit (suc n)) (app (named nat_succ) (lit n))
     conv_quot_lift : (ls ks : List Level) {A r B f h A' r' a : Tree} →
@@ -87,28 +82,24 @@ mutual
     conv_quot_ind : (ls ks : List Level) {A r B h A' r' a : Tree} →
         IsQuot w quot_ind → IsQuot w quot_mk → AllWellFormed (A ∷ r ∷ B ∷ h ∷ A' ∷ r' ∷ a ∷ []) →
         Converts w (apply (const quot_ind ls) (A ∷ r ∷ B ∷ h ∷ apply (const quot_mk ks) (A' ∷ r' ∷ a ∷ []) ∷ [])) (app h a)
-    -- of an operation that is given by a def: what the successor makes of a literal is conv_lit_succ
-    conv_op : (op : Op) (ns : List ℕ) (r : Tree) (i : IsOperation w op) → by_def i.entry.kind ≡ true → HasNat w → AllWellFormed (map lit ns) → IsResult w (op_value op ns) r →
+    -- Of an operation that is given by a def: what the successor makes of a literal is conv_lit_succ. The rule book asks, beside
+    -- this, that the operation's laws hold of the def; this relation is the wider one, and trusts the def by its name.
+    conv_op : (op : Op) (ns : List ℕ) (r : Tree) (o : IsOperation w op) → by_def o.entry.kind ≡ true →
+        HasNat w → AllWellFormed (map lit ns) → IsResult w (op_value op ns) r →
         Converts w (apply (named (op_name op)) (map lit ns)) r
     conv_str : {s : List ℕ} → Expands w s → Converts w (str s) (expansion (chars s))
     conv_eta : {o A B : Tree} → IsDeclared w o (pi A B) → Converts w o (lam A (app o (var 0)))
-    conv_struct_eta : (S : Structure w) (ls : List Level) (bs : List Tree) (m : Tree) →
-        length bs ≡ S.ctor.parameters →
-        IsDeclared w m (apply (const S.ind.name ls) bs) → MayExpand w S.ctor (apply (const S.ind.name ls) bs) →
-        Converts w m (apply (const S.ctor_name ls) (bs ++ projections S.ind.name m 0 S.ctor.fields))
+    conv_struct_eta : (S : StructureAt w) {m : Tree} →
+        IsDeclared w m (structure_type S) → MayExpand w S.structure.ctor (structure_type S) → Converts w m (expanded S m)
     conv_unit : (U : UnitLike w) (ls : List Level) (bs : List Tree) (a b : Tree) →
         length bs ≡ U.ind.parameters →
         IsDeclared w a (apply (const U.name ls) bs) → IsDeclared w b (apply (const U.name ls) bs) → Converts w a b
-    conv_struct_ext : (S : Structure w) (ks : List Level) (ps xs : List Tree) (a T : Tree) →
-        length ps ≡ S.ctor.parameters → length xs ≡ S.ctor.fields →
-        IsDeclared w a T → IsDeclared w (apply (const S.ctor_name ks) (ps ++ xs)) T → EachProjects w S.ind.name a 0 xs →
-        Converts w a (apply (const S.ctor_name ks) (ps ++ xs))
+    conv_struct_ext : (S : StructureAt w) (xs : List Tree) {a T : Tree} →
+        length xs ≡ S.structure.ctor.fields → IsDeclared w a T → IsDeclared w (structure_value S xs) T →
+        EachProjects w S.structure.ind.name a 0 xs → Converts w a (structure_value S xs)
     conv_proof : {a b A : Tree} → IsDeclared w a A → IsDeclared w b A → IsDeclared w A (sort zero_level) → Converts w a b
-    conv_k : (R J c : Name) (ls ks : List Level) (front bs rest : List Tree) (e : Tree) →
-        IsKRecursor w R J c front bs →
-        IsDeclared w e (apply (const J ks) (bs ++ rest)) → IsDeclared w (apply (const c ks) bs) (apply (const J ks) (bs ++ rest)) →
-        IsWellFormed (apply (const R ls) front) →
-        Converts w (app (apply (const R ls) front) e) (app (apply (const R ls) front) (apply (const c ks) bs))
+    conv_k : (R : RecApp w) (k : KMajor R) {e : Tree} →
+        IsDeclared w e (k_type k) → IsDeclared w (ctor_app k.ctor) (k_type k) → Converts w (on_major R e) (on_major R (ctor_app k.ctor))
 
   -- there are no fields, or T is no proposition
   pub data MayExpand (w : Place) : Ctor → Tree → Type 0 where
@@ -122,17 +113,16 @@ mutual
         Converts w (proj J j a) x → EachProjects w J a (suc j) xs → EachProjects w J a j (x ∷ xs)
 
   -- T is left of r after n Pis, the first n of bs put in
-  pub data AfterParameters (w : Place) : List Tree → ℕ → Tree → Tree → Type 0 where
-    after_none : {bs : List Tree} {r : Tree} → AfterParameters w bs 0 r r
+  pub data AfterParameters (w : Place) : Tree → ℕ → List Tree → Tree → Type 0 where
+    after_none : {T : Tree} {bs : List Tree} → AfterParameters w T 0 bs T
     after_one : {b : Tree} {bs : List Tree} {n : ℕ} {r A B T : Tree} →
-        Converts w r (pi A B) → AfterParameters w bs n (opened B b) T → AfterParameters w (b ∷ bs) (suc n) r T
+        Converts w r (pi A B) → AfterParameters w T n bs (opened B b) → AfterParameters w T (suc n) (b ∷ bs) r
 
-  -- A is the domain of field number i of the structure s, where r begins with field number j; in Prop, which is where
-  -- l = 0, the domain is a proposition, and so is the domain of each earlier one whose variable the rest of the type mentions
-  pub data FieldDomain (w : Place) : Name → Tree → Level → ℕ → ℕ → Tree → Tree → Type 0 where
-    this_field : {S : Name} {s : Tree} {l : Level} {i : ℕ} {r A B : Tree} →
-        Converts w r (pi A B) → (SameLevel l zero_level → IsDeclared w A (sort zero_level)) →
-        FieldDomain w S s l i i r A
-    later_field : {S : Name} {s : Tree} {l : Level} {j i : ℕ} {r A B C : Tree} →
-        Converts w r (pi A B) → (SameLevel l zero_level → has_var 0 B ≡ true → IsDeclared w A (sort zero_level)) →
-        FieldDomain w S s l (suc j) i (opened B (proj S j s)) C → FieldDomain w S s l j i r C
+  -- A is the field's domain, where r begins with field number j; in Prop it is a proposition, and so is the domain of each
+  -- earlier field whose variable the rest of the type mentions
+  pub data FieldDomain (w : Place) : Field → Tree → ℕ → Tree → Type 0 where
+    this_field : {f : Field} {r A B : Tree} →
+        Converts w r (pi A B) → (IsInProp f → IsDeclared w A (sort zero_level)) → FieldDomain w f A f.number r
+    later_field : {f : Field} {j : ℕ} {r A D B : Tree} →
+        Converts w r (pi D B) → (IsInProp f → has_var 0 B ≡ true → IsDeclared w D (sort zero_level)) →
+        FieldDomain w f A (suc j) (opened B (proj f.structure j f.subject)) → FieldDomain w f A j r

@@ -1,20 +1,19 @@
 -- What is expected of the ideal rules at a place whose units are lawful, and whose operations and String are what their names
 -- say; not shown at any place.
-use Rattle.std.specs.Prelude.{ℕ, zero, suc, ◌≡◌, ◌<◌, ◌⊎◌, ◌+◌, List, [], ◌∷◌, ◌++◌, length, map, Some, slice_get, true}
+use Rattle.std.specs.Prelude.{ℕ, zero, suc, ◌≡◌, ◌<◌, ◌⊎◌, ◌+◌, List, [], ◌∷◌, length, map, Some, slice_get, true}
 use Rattle.lk_tree.specs.Tree.{Name, Level, zero_level, Tree, sort, const, app, lam, pi, proj, lit}
 use Rattle.lk_tree.specs.Bind.{opened}
-use Rattle.lk_tree.specs.Levels.{put_levels}
 use Rattle.lk_tree.specs.Spine.{apply}
 use Rattle.lk_tree.specs.WellFormed.{HasLocal}
-use Rattle.lk_rulebook.specs.Place.{Place, Entry, a_ctor, Block, BlockType, Ctor}
-use Rattle.lk_rulebook.specs.Structures.{Structure, IsProjectable, IsIota, IsKRecursor, projections}
+use Rattle.lk_rulebook.specs.Place.{Place}
+use Rattle.lk_rulebook.specs.Structures.{StructureAt, structure_type, structure_value, expanded, Projectable, projectable_type, ctor_type, CtorApp, ctor_app, RecApp, on_major, HasRule, rule_result, KMajor, k_type}
 use Rattle.lk_rulebook.specs.Names.{named, nat, nat_zero, nat_succ, op_name, string, quot_mk, quot_lift, quot_ind}
 use Rattle.lk_rulebook.specs.Shapes.{HasNat}
 use Rattle.lk_rulebook.specs.Literals.{by_def, IsOperation, IsResult, expansion, Expands}
 use Rattle.lk_rulebook.specs.Quotients.{IsQuot}
 use Rattle.lk_tree.specs.Operations.{Op, op_value}
 use Rattle.std.specs.Str.{chars}
-use Rattle.lk_rulebook.specs.Rules.{HasValue}
+use Rattle.lk_rulebook.specs.Rules.{HasValue, IsGivenAt, at_levels}
 use Rattle.lk_declarative.specs.Guarded.{IdealType, IdealEquals, GuardedExpands}
 
 -- each Local's type has a sort
@@ -22,10 +21,10 @@ abbrev pub LawfulLocals : Place → Tree → Type 0
 LawfulLocals w e = (k : ℕ) (T : Tree) → HasLocal k T e → (l : Level) × IdealType w T (sort l)
 
 -- each of the first n of bs has the type of the next domain of r
-abbrev pub Fits : Place → List Tree → ℕ → Tree → Type 0
-Fits w bs zero r = Unit {0}
-Fits w [] (suc n) r = Unit {0}
-Fits w (b ∷ bs) (suc n) r = (A B : Tree) (l : Level) → IdealEquals w r (pi A B) → IdealType w (pi A B) (sort l) → IdealType w b A × Fits w bs n (opened B b)
+abbrev pub Fits : Place → ℕ → List Tree → Tree → Type 0
+Fits w zero bs r = Unit {0}
+Fits w (suc n) [] r = Unit {0}
+Fits w (suc n) (b ∷ bs) r = (A B : Tree) (l : Level) → IdealEquals w r (pi A B) → IdealType w (pi A B) (sort l) → IdealType w b A × Fits w n bs (opened B b)
 
 pub record Expected (w : Place) : Type 0 where
   -- of the rules: types have sorts, a tree has one type, equal Pis have equal domains (Pi injectivity), and a body may be opened
@@ -36,13 +35,10 @@ pub record Expected (w : Place) : Type 0 where
   pub bodies : {A b B a : Tree} → IdealType w (lam A b) (pi A B) → IdealType w a A → IdealType w (opened b a) (opened B a)
   -- of what the units give: a value has the types of its name, what a recursor's rule gives those of the redex, and a field
   -- those of the projection
-  pub values : (c : Name) (ls : List Level) (g : Entry) (v X : Tree) →
-      w.means c ≡ Some g → HasValue g v → length ls ≡ length g.levels → IdealType w (const c ls) X → IdealType w (put_levels g.levels ls v) X
-  pub results : (R c : Name) (ls ks : List Level) (front xs : List Tree) (result X : Tree) →
-      IsIota w R c ls front xs result → IdealType w (app (apply (const R ls) front) (apply (const c ks) xs)) X → IdealType w result X
-  pub fields : (S c : Name) (ks : List Level) (g : Entry) (block : Block) (ind : BlockType) (ctor : Ctor) (i : ℕ) (xs : List Tree) (x X : Tree) →
-      w.means c ≡ Some g → g.kind ≡ a_ctor block ind ctor → ind.name ≡ S → slice_get xs (ctor.parameters + i) ≡ Some x →
-      IdealType w (proj S i (apply (const c ks) xs)) X → IdealType w x X
+  pub values : {c : Name} {ls : List Level} {v X : Tree} (g : IsGivenAt w c ls) → HasValue g.entry v → IdealType w (const c ls) X → IdealType w (at_levels g v) X
+  pub results : (R : RecApp w) (c : CtorApp w) (h : HasRule R c) {X : Tree} → IdealType w (on_major R (ctor_app c)) X → IdealType w (rule_result R c h) X
+  pub fields : (c : CtorApp w) {i : ℕ} {x X : Tree} → slice_get c.args (c.ctor.parameters + i) ≡ Some x →
+      IdealType w (proj c.ind.name i (ctor_app c)) X → IdealType w x X
   -- a projection keeps its types where the structure is replaced by an equal one
   pub replaced : (S : Name) (i : ℕ) (s m U X : Tree) → IdealType w (proj S i s) X → IdealType w s U → IdealEquals w s m → IdealType w m U → IdealType w (proj S i m) X
   pub numbers : HasNat w → IdealType w (named nat_zero) (named nat) × IdealType w (named nat_succ) (pi (named nat) (named nat))
@@ -51,21 +47,17 @@ pub record Expected (w : Place) : Type 0 where
       IdealType w (apply (const quot_lift ls) (A ∷ r ∷ B ∷ f ∷ h ∷ apply (const quot_mk ks) (A' ∷ r' ∷ a ∷ []) ∷ [])) X → IdealType w (app f a) X
   pub induced : (ls ks : List Level) {A r B h A' r' a X : Tree} → IsQuot w quot_ind → IsQuot w quot_mk →
       IdealType w (apply (const quot_ind ls) (A ∷ r ∷ B ∷ h ∷ apply (const quot_mk ks) (A' ∷ r' ∷ a ∷ []) ∷ [])) X → IdealType w (app h a) X
-  pub computed : (op : Op) (ns : List ℕ) (r X : Tree) (i : IsOperation w op) → by_def i.entry.kind ≡ true → HasNat w → IsResult w (op_value op ns) r → IdealType w (apply (named (op_name op)) (map lit ns)) X → IdealType w r X
+  pub computed : (op : Op) (ns : List ℕ) (r X : Tree) (o : IsOperation w op) → by_def o.entry.kind ≡ true → HasNat w → IsResult w (op_value op ns) r → IdealType w (apply (named (op_name op)) (map lit ns)) X → IdealType w r X
   pub texts : {s : List ℕ} → Expands w s → IdealType w (expansion (chars s)) (named string)
   -- the type of a major premise of a recursor with k 1 is a proposition
-  pub proofs : (R J c : Name) (front bs rest : List Tree) (ks : List Level) (l : Level) → IsKRecursor w R J c front bs →
-      IdealType w (apply (const J ks) (bs ++ rest)) (sort l) → IdealType w (apply (const J ks) (bs ++ rest)) (sort zero_level)
+  pub proofs : (R : RecApp w) (k : KMajor R) {l : Level} → IdealType w (k_type k) (sort l) → IdealType w (k_type k) (sort zero_level)
   -- what structure eta makes of m has the type of m
-  pub expanded : (S : Structure w) (ls : List Level) (bs : List Tree) (m : Tree) →
-      length bs ≡ S.ctor.parameters → IdealType w m (apply (const S.ind.name ls) bs) → GuardedExpands true w S.ctor (apply (const S.ind.name ls) bs) →
-      IdealType w (apply (const S.ctor_name ls) (bs ++ projections S.ind.name m 0 S.ctor.fields)) (apply (const S.ind.name ls) bs)
+  pub written_out : (S : StructureAt w) {m : Tree} →
+      IdealType w m (structure_type S) → GuardedExpands true w S.structure.ctor (structure_type S) → IdealType w (expanded S m) (structure_type S)
   -- a member of a structure-like type is a proof, or has all its projections
-  pub members : (S : Structure w) (ks : List Level) (ps xs : List Tree) (a B : Tree) →
-      length ps ≡ S.ctor.parameters → length xs ≡ S.ctor.fields →
-      IdealType w a B → IdealType w (apply (const S.ctor_name ks) (ps ++ xs)) B →
-      IdealType w B (sort zero_level) ⊎ ((j : ℕ) → j < S.ctor.fields → (U : Tree) × IdealType w (proj S.ind.name j a) U)
+  pub members : (S : StructureAt w) (xs : List Tree) {a B : Tree} → length xs ≡ S.structure.ctor.fields →
+      IdealType w a B → IdealType w (structure_value S xs) B →
+      IdealType w B (sort zero_level) ⊎ ((j : ℕ) → j < S.structure.ctor.fields → (U : Tree) × IdealType w (proj S.structure.ind.name j a) U)
   -- the constructor of a structure has a type that has a sort, and the parameters of the structure's type fit it
-  pub constructors : (S : Name) (ls : List Level) (bs : List Tree) (l : Level) (p : IsProjectable w S ls bs) →
-      IdealType w (apply (const S ls) bs) (sort l) →
-      ((m : Level) × IdealType w (put_levels p.ctor.levels ls p.ctor.type) (sort m)) × Fits w bs p.ind.parameters (put_levels p.ctor.levels ls p.ctor.type)
+  pub constructors : (S : Projectable w) {l : Level} → IdealType w (projectable_type S) (sort l) →
+      ((m : Level) × IdealType w (ctor_type S) (sort m)) × Fits w S.ind.parameters S.args (ctor_type S)

@@ -7,7 +7,7 @@ ghost use Rattle.std.specs.Prelude.{ℕ, List, false};
 ghost use Rattle.lk_tree.specs.Tree.{Name, Level, zero_level, Tree, sort};
 ghost use Rattle.lk_tree.specs.WellFormed.{IsWellFormed};
 ghost use Rattle.lk_rulebook.specs.Place.{Place, Ctor};
-ghost use Rattle.lk_rulebook.specs.Rules.{HasType, HasSort, IsProposition, Reduces, IsDefEq, IsNotProp, AllProject, PastParameters, FieldOf};
+ghost use Rattle.lk_rulebook.specs.Rules.{HasType, HasSort, IsProposition, Reduces, IsDefEq, IsNotProp, AllProject, PastParameters, Field, FieldOf};
 ghost use Rattle.lk_declarative.specs.Declared.{IsDeclared, Converts, MayExpand, EachProjects, AfterParameters, FieldDomain};
 ghost use Rattle.lk_declarative.specs.Falsehood.{truth, simple_proof, falsehood};
 ghost use Rattle.lk_declarative.specs.Guarded.{GuardedType, IdealType, IdealEquals};
@@ -35,10 +35,10 @@ pub fn derivations_are_declared()
     ensures no_propositions { (w : Place) (c : Ctor) (T : Tree) → IsNotProp w T → MayExpand w c T }
     ensures projections { (w : Place) (J : Name) (a : Tree) (j : ℕ) (xs : List Tree)
         → AllProject w J a j xs → EachProjects w J a j xs }
-    ensures parameters { (w : Place) (bs : List Tree) (n : ℕ) (r T : Tree)
-        → PastParameters w bs n r T → AfterParameters w bs n r T }
-    ensures fields { (w : Place) (S : Name) (s : Tree) (l : Level) (j i : ℕ) (r A : Tree)
-        → FieldOf w S s l j i r A → FieldDomain w S s l j i r A }
+    ensures parameters { (w : Place) (T : Tree) (n : ℕ) (bs : List Tree) (r : Tree)
+        → PastParameters w T n bs r → AfterParameters w T n bs r }
+    ensures fields { (w : Place) (f : Field) (A : Tree) (j : ℕ) (r : Tree) → FieldOf w f A j r
+        → FieldDomain w f A j r }
 {}
 
 /// The declarative rules relate everything: any two closed, well scoped trees are convertible, a tree that has a type
@@ -76,7 +76,7 @@ pub fn guarded_beta_is_not_enough()
 ///
 /// Expectations are used thus. Each step in which a type is reduced rests on `sorted`. Beta rests on `domains`, `one_type`
 /// and `bodies`; equality under a binder on `bodies`; delta, iota and projections on `values`, `results`, `fields` and
-/// `replaced`; K and structure eta of a major premise on `one_type` with `proofs` and `expanded`; structure eta of equality
+/// `replaced`; K and structure eta of a major premise on `one_type` with `proofs` and `written_out`; structure eta of equality
 /// on `members`; the type of a projection on `constructors`; literals and operations on `numbers`, `texts` and `computed`;
 /// quotients on `lifted` and `induced`.
 pub fn derivations_are_ideal_where_expected()

@@ -6,6 +6,7 @@ pub mod Fuel
 pub mod Partials
 pub mod More
 pub mod MoreBlocks
+pub mod MoreNested
 pub mod Plain
 pub mod ReadBack
 pub mod SettledTasks

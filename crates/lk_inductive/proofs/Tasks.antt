@@ -6,7 +6,7 @@ use Rattle.lk_tree.specs.declared.rule.Rule.{Rule}
 use Rattle.lk_plain.specs.Query.{Query, AnswerTo}
 use Rattle.lk_plain.specs.Program.{Program, done, refuse, ask, look}
 use Rattle.lk_plain.specs.Answer.{Outcome, answered, refused, spent, after, and_then, looked_up, later, IfAnswered}
-use Rattle.lk_plain.specs.Sound.{IsAskable, IsJustified, IsSound, WellStated}
+use Rattle.lk_plain.specs.Sound.{IsAskable, IsJustified, IsSound, IsSoundPlace}
 use Rattle.lk_plain.specs.Laws.{IsSteady}
 use Rattle.lk_plain.proofs.Outcomes.{if_and_then, if_found, if_map, found_there, and_then_same, found_same}
 use Rattle.lk_plain.proofs.Budgets.{steady_ask, steady_look}
@@ -16,7 +16,7 @@ Asker : Type 0
 Asker = (q : Query) → ℕ → Outcome (AnswerTo q)
 
 pub sound_run_task : {A : Type 0} (places : Members → Place) (f : Place → (q : Query) → ℕ → Outcome (AnswerTo q)) (P : A → Members → Type 0) →
-    ((w : Place) → WellStated w → (q : Query) (left : ℕ) → IsAskable q → IfAnswered (f w q left) (λ v c t. IsJustified w q v)) →
+    ((w : Place) → IsSoundPlace w → (q : Query) (left : ℕ) → IsAskable q → IfAnswered (f w q left) (λ v c t. IsJustified w q v)) →
     (h : Members) (left : ℕ) (p : Task A) → IsSoundTask places h p P → IfAnswered (run_task places f h left p) (λ v c t. P v.0 v.1)
 sound_run_task places f P ok h left (done_with v) s = s
 sound_run_task places f P ok h left (stopped r) s = tt
@@ -29,7 +29,7 @@ sound_run_task places f P ok h left (with_partial ms t) s = sound_run_task place
 
 -- a program that is sound at the place that stands is sound as a task
 pub sound_here : {A : Type 0} (places : Members → Place) (h : Members) (p : Program A) (P : A → Type 0) (Q : A → Members → Type 0) →
-    WellStated (places h) → ((v : A) → P v → Q v h) → IsSound (places h) p P → IsSoundTask places h (here p) Q
+    IsSoundPlace (places h) → ((v : A) → P v → Q v h) → IsSound (places h) p P → IsSoundTask places h (here p) Q
 sound_here places h (done v) P Q ok i s = i v s
 sound_here places h (refuse r) P Q ok i s = tt
 sound_here places h (ask q k) P Q ok i s = (ok, s.0, λ v m. sound_here places h (k v) P Q ok i (s.1 v m))

@@ -7,7 +7,7 @@ use Rattle.lk_rulebook.specs.Units.{Members}
 use Rattle.lk_plain.specs.Query.{Query, AnswerTo}
 use Rattle.lk_plain.specs.Program.{Program, done, refuse, ask, look}
 use Rattle.lk_plain.specs.Answer.{Outcome, answered, refused, and_then, looked_up}
-use Rattle.lk_plain.specs.Sound.{IsAskable, IsJustified, WellStated}
+use Rattle.lk_plain.specs.Sound.{IsAskable, IsJustified, IsSoundPlace}
 
 -- with_partial ms t: from here on these names are partial too
 pub data Task (A : Type 0) : Type 0 where
@@ -43,10 +43,10 @@ run_task places f h left (asking q k) = and_then (f (places h) q left) (λ v c. 
 run_task places f h left (looking r c k) = looked_up r ((places h).means c) ((places h).origin c) ((places h).flaw c) (λ e. run_task places f h left (k e))
 run_task places f h left (with_partial ms t) = run_task places f (h ++ ms) left t
 
--- whatever true answers come, only what may be asked is asked, each place is well stated, and the end has the property
+-- whatever true answers come, only what may be asked is asked, each place is sound, and the end has the property
 abbrev pub IsSoundTask : {A : Type 0} → (Members → Place) → Members → Task A → (A → Members → Type 0) → Type 0
 IsSoundTask places h (done_with v) P = P v h
 IsSoundTask places h (stopped r) P = Unit {0}
-IsSoundTask places h (asking q k) P = WellStated (places h) × IsAskable q × ((v : AnswerTo q) → IsJustified (places h) q v → IsSoundTask places h (k v) P)
+IsSoundTask places h (asking q k) P = IsSoundPlace (places h) × IsAskable q × ((v : AnswerTo q) → IsJustified (places h) q v → IsSoundTask places h (k v) P)
 IsSoundTask places h (looking r c k) P = (e : Entry) → (places h).means c ≡ Some e → IsSoundTask places h (k e) P
 IsSoundTask places h (with_partial ms t) P = IsSoundTask places (h ++ ms) t P

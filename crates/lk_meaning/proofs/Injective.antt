@@ -1,5 +1,5 @@
 -- Equal applications of one rigid constant have equal levels and equal arguments, whatever eta does to them.
-use Rattle.std.proofs.Common.{◌∙◌, ℕ, suc, ◌≡◌, ◌≤◌, ◌<◌, List, [], ◌∷◌, ◌++◌, refl, sym, subst, ap, arith}
+use Rattle.std.proofs.Common.{◌∙◌, ℕ, suc, ◌≡◌, ◌≤◌, ◌<◌, List, [], ◌∷◌, refl, sym, subst, ap, arith}
 use Rattle.lk_tree.specs.Tree.{Name, Level, Tree, var, sort, const, app, lam, pi, let_in, proj, lit, wide, str, local}
 use Rattle.lk_tree.specs.Bind.{open_at, open_var, opened}
 use Rattle.lk_tree.specs.WellFormed.{IsWellFormedUnder, IsWellFormed}
@@ -94,18 +94,18 @@ long_stays {c = c} r ns (r_beta {A = A} {b = b} {a = t} x) o s h =
     let j : OfLam i.front b = of_lam c (front_applied c o i.front t i.is s) i.rest A b refl in
     rw (i.is, opened_inner j.inner b t j.fine j.is) (under j.rest)
 long_stays {c = c} r ns (r_zeta f) o s h = absurd (long_heads c s h)
-long_stays {c = c} r ns (r_delta m y n f) o s h = absurd (rigid_value r (long_heads c s h) m y)
-long_stays {c = c} r ns (r_proj S d ks g block ind ctor i xs t m x p y a1 a2 a3 a4 fx) o s h = absurd (long_heads c s h)
-long_stays {c = c} r ns (r_major R ls front i f p y) o s h = absurd (rigid_rec r R ls front i.rec_entry i.recursor i.rec_given i.rec_kind (long_heads c s h))
-long_stays {c = c} r ns (r_iota R d ls ks front xs result i f g) o s h = absurd (rigid_rec r R ls front i.rec_entry i.recursor i.rec_given i.rec_kind (long_heads c s h))
+long_stays {c = c} r ns (r_delta g y f) o s h = absurd (rigid_value r (long_heads c s h) g y)
+long_stays {c = c} r ns (r_proj d p y i f) o s h = absurd (long_heads c s h)
+long_stays {c = c} r ns (r_major R p y) o s h = absurd (rigid_rec r R (long_heads c s h))
+long_stays {c = c} r ns (r_iota R d i f g) o s h = absurd (rigid_rec r R (long_heads c s h))
 long_stays {c = c} r ns (r_quot_lift ls ks q m f e) o s h = absurd (rigid_quot r q (long_heads c s h))
 long_stays {c = c} r ns (r_quot_ind ls ks q m f e) o s h = absurd (rigid_quot r q (long_heads c s h))
-long_stays {w} {c} r ns (r_op op es nums t i n v y) o s h =
+long_stays {w} {c} r ns (r_op op es nums t i n l v y) o s h =
     let e : c ≡ op_name op = heads_applied c (named (op_name op)) es (long_heads c s h) in
     let j : op ≡ succ = only_succ r op i e in
     absurd (ns (subst (IsOperation w) j i) (e ∙ ap op_name j))
-long_stays {c = c} r ns (r_k R K d ls ks front bs rest e U D i he hr hd q f) o s h = absurd (rigid_rec r R ls front i.rec_entry i.recursor i.rec_given i.rec_kind (long_heads c s h))
-long_stays {c = c} r ns (r_struct R t js ls front bs m U i rule x z f n y p q) o s h = absurd (rigid_rec r R js front i.rec_entry i.recursor i.rec_given i.rec_kind (long_heads c s h))
+long_stays {c = c} r ns (r_k R k he hr hd q) o s h = absurd (rigid_rec r R (long_heads c s h))
+long_stays {c = c} r ns (r_struct R t i x p q) o s h = absurd (rigid_rec r R (long_heads c s h))
 
 same_levels : (ls : List Level) → SameLevels ls ls
 same_levels [] = none
@@ -179,8 +179,8 @@ injective {w} {c} z ns (e_lam {A = A} {A' = A'} {b = b} {b' = b'} {k = m} i j d 
     same_front n o p x x refl refl
 injective z ns (e_eta_left v i u e) o p s r h k = injective z ns e o p s r (longer (well_formed_of_type i).0 h) k
 injective z ns (e_eta_right v i u e) o p s r h k = injective z ns e o p s r h (longer (well_formed_of_type i).0 k)
-injective {c = c} z ns (e_struct_left i ks ps xs a A B v m n ha hb q t) o p s r h k = absurd (struct_head i ks (ps ++ xs) z (long_heads c r k))
-injective {c = c} z ns (e_struct_right i ks ps xs a A B v m n ha hb q t) o p s r h k = absurd (struct_head i ks (ps ++ xs) z (long_heads c s h))
+injective {c = c} z ns (e_struct_left i xs v q) o p s r h k = absurd (struct_head i xs z (long_heads c r k))
+injective {c = c} z ns (e_struct_right i xs v q) o p s r h k = absurd (struct_head i xs z (long_heads c s h))
 injective {c = c} z ns (e_unit i ls bs a b A B v l n ha u hb q) o p s r h k = absurd (no_unit_like i (data_at i.name ls bs (heads_typed z ha (long_heads c s h)) u))
 injective {c = c} z ns (e_proof v l ha x hb q) o p s r h k = absurd (heads_no_prop z ha (long_heads c s h) x)
 injective {c = c} z ns e_zero_left o p s r h k = absurd (lit_not c 0 o s h)

@@ -1,7 +1,9 @@
 pub mod Apart
 pub mod Booleans
+pub mod FakedAddition
 pub mod Families
 pub mod Injective
+pub mod Locals
 pub mod NoProof
 pub mod Rigid
 pub mod TypeForms

@@ -6,8 +6,8 @@ use Rattle.lk_tree.specs.Levels.{put_levels, put_in_level, level_for}
 use Rattle.lk_tree.specs.Spine.{apply}
 use Rattle.lk_tree.specs.Bind.{open_at, open_var}
 use Rattle.lk_tree.proofs.Binding.{Opening, below, at, above, opening}
-use Rattle.lk_rulebook.specs.Place.{Place, Entry, Block, BlockType, Ctor, Kind, Recursor, a_type, a_ctor, a_rec, a_def, a_thm, an_axiom, an_opaque, a_quot}
-use Rattle.lk_rulebook.specs.Structures.{Structure, UnitLike}
+use Rattle.lk_rulebook.specs.Place.{Place, Entry, Block, BlockType, Ctor, Kind, a_type, a_ctor, a_rec, a_def, a_thm, an_axiom, an_opaque, a_quot}
+use Rattle.lk_rulebook.specs.Structures.{UnitLike, StructureAt, structure_value, RecApp}
 use Rattle.lk_tree.specs.Operations.{Op, succ, log2, add, sub, mul, div, modulo, gcd, beq, ble, land, lor, xor, shift_left, shift_right, pow, Value, number, op_value}
 use Rattle.lk_rulebook.specs.Names.{named, op_name}
 use Rattle.lk_rulebook.specs.Literals.{by_def, may_give, IsOperation, IsResult, a_number, a_truth}
@@ -15,7 +15,7 @@ use Rattle.lk_rulebook.specs.Quotients.{IsQuot}
 use Rattle.lk_rulebook.specs.Shapes.{HasNat, nat, nat_succ}
 use Rattle.lk_rulebook.specs.Formers.{IsFormer}
 use Rattle.lk_rulebook.proofs.Sorts.{former_stays, former_typed, sort_is_no_prop}
-use Rattle.lk_rulebook.specs.Rules.{HasValue, of_def, of_thm, HasType, t_sort, t_local, t_const, t_app, t_lam, t_pi, t_let, t_lit, t_str, t_proj, HasSort, has_sort, IsProposition, is_prop, Reduces, r_refl, r_trans, r_head, r_beta, r_zeta, r_delta, r_proj, r_major, r_iota, r_k, r_struct, r_quot_lift, r_quot_ind, r_op, IsDefEq, e_refl, e_reduce, e_sort, e_const, e_app, e_lam, e_pi, e_proj, e_eta_left, e_eta_right, e_struct_left, e_struct_right, e_unit, e_proof, e_zero_left, e_zero_right, e_succ_left, e_succ_right, e_str_left, e_str_right}
+use Rattle.lk_rulebook.specs.Rules.{HasValue, of_def, of_thm, IsGivenAt, HasType, t_sort, t_local, t_const, t_app, t_lam, t_pi, t_let, t_lit, t_str, t_proj, HasSort, has_sort, IsProposition, is_prop, Reduces, r_refl, r_trans, r_head, r_beta, r_zeta, r_delta, r_proj, r_major, r_iota, r_k, r_struct, r_quot_lift, r_quot_ind, r_op, IsDefEq, e_refl, e_reduce, e_sort, e_const, e_app, e_lam, e_pi, e_proj, e_eta_left, e_eta_right, e_struct_left, e_struct_right, e_unit, e_proof, e_zero_left, e_zero_right, e_succ_left, e_succ_right, e_str_left, e_str_right}
 use Rattle.lk_meaning.specs.Rigid.{Heads, IsApplied, EndsInType, IsDataName, IsDataType, IsRigid}
 
 pub heads_applied : (c : Name) (h : Tree) (xs : List Tree) → Heads c (apply h xs) → Heads c h
@@ -156,7 +156,7 @@ no_data_var w d i k A (below l e) h = subst (IsDataType w) e h
 no_data_var w d i k A (at l e) h = subst (IsDataType w) e h
 no_data_var w d i k A (above l e) h = subst (IsDataType w) e h
 
-data_from : (w : Place) (d k : ℕ) (A T : Tree) → IsDataType w (open_at d (local k A) T) → IsDataType w T
+pub data_from : (w : Place) (d k : ℕ) (A T : Tree) → IsDataType w (open_at d (local k A) T) → IsDataType w T
 unfolding open_at
 data_from w d k A (pi B C) h = data_from w (suc d) k A C h
 data_from w d k A (sort l) h = h
@@ -280,9 +280,8 @@ pub applied_of : (J : Name) (h : Tree) (xs : List Tree) → IsApplied J (apply h
 applied_of J h [] f = f
 applied_of J h (a ∷ xs) f = applied_of J (app h a) xs f
 
-stuck : {w : Place} {J : Name} → IsTypeName w J → (R : Name) (ls : List Level) (front : List Tree) (g : Entry) (r : Recursor) →
-    w.means R ≡ Some g → g.kind ≡ a_rec r → IsApplied J (apply (const R ls) front) → ⊥
-stuck {w} {J = J} s R ls front g r m k h = type_no_rec g s.block s.own (ap (λ x. x.kind) (one_entry w (sym (applied_of J (const R ls) front h)) m s.given) ∙ s.kind) r k
+stuck : {w : Place} {J : Name} → IsTypeName w J → (R : RecApp w) → IsApplied J (apply (const R.name R.levels) R.front) → ⊥
+stuck {w} {J = J} s R h = type_no_rec R.entry s.block s.own (ap (λ x. x.kind) (one_entry w (sym (applied_of J (const R.name R.levels) R.front h)) R.given s.given) ∙ s.kind) R.recursor R.kind
 
 -- a type is no operation, and no quotient's constant
 type_gives_none : (op : Op) (b : Block) (i : BlockType) → may_give op (a_type b i) ≡ true → ⊥
@@ -307,17 +306,17 @@ applied_stays {J = J} s (r_trans c d) h = applied_stays s c h ∙ applied_stays 
 applied_stays s (r_head {a = a} c f) h = ap (λ g. app g a) (applied_stays s c h)
 applied_stays s (r_beta f) h = absurd h
 applied_stays s (r_zeta f) h = absurd h
-applied_stays {w} s (r_delta {g = g} {v = v} m y n f) h = absurd (type_no_value g s.block s.own (ap (λ x. x.kind) (one_entry w (sym h) m s.given) ∙ s.kind) v y)
-applied_stays s (r_proj S c ks g block ind ctor i xs t m x r y a1 a2 a3 a4 fx) h = absurd h
-applied_stays {J = J} s (r_major R ls front i f r y) h = absurd (stuck s R ls front i.rec_entry i.recursor i.rec_given i.rec_kind h)
-applied_stays s (r_iota R c ls ks front xs result i f g) h = absurd (stuck s R ls front i.rec_entry i.recursor i.rec_given i.rec_kind h)
+applied_stays {w} s (r_delta {v = v} g y f) h = absurd (type_no_value g.entry s.block s.own (ap (λ x. x.kind) (one_entry w (sym h) g.given s.given) ∙ s.kind) v y)
+applied_stays s (r_proj c r y i f) h = absurd h
+applied_stays {J = J} s (r_major R r y) h = absurd (stuck s R h)
+applied_stays s (r_iota R c i f g) h = absurd (stuck s R h)
 applied_stays s (r_quot_lift ls ks q m f e) h = absurd (no_quot s q h)
 applied_stays s (r_quot_ind ls ks q m f e) h = absurd (no_quot s q h)
-applied_stays s (r_op op es ns r o n v y) h = absurd (no_operation s op es o h)
-applied_stays s (r_k R K c ls ks front bs rest e U D i he hr hd q f) h = absurd (stuck s R ls front i.rec_entry i.recursor i.rec_given i.rec_kind h)
-applied_stays s (r_struct R t js ls front bs m U i rule o z f n x r p) h = absurd (stuck s R js front i.rec_entry i.recursor i.rec_given i.rec_kind h)
+applied_stays s (r_op op es ns r o n l v y) h = absurd (no_operation s op es o h)
+applied_stays s (r_k R k he hr hd q) h = absurd (stuck s R h)
+applied_stays s (r_struct R t i x r p) h = absurd (stuck s R h)
 
-data_stays : (w : Place) (T U : Tree) → IsDataType w T → Reduces w T U → T ≡ U
+pub data_stays : (w : Place) (T U : Tree) → IsDataType w T → Reduces w T U → T ≡ U
 data_stays w (pi A B) U h r = former_stays r tt
 data_stays w (sort l) U h r = former_stays r tt
 data_stays w (app f a) U h r = applied_stays (data_type_name h.1) r h.2
@@ -333,7 +332,7 @@ data_stays w (local k T) U h r = absurd h
 
 -- the type of a type applied is Pis that end in a Sort above Prop
 applied_type : {w : Place} {J : Name} {e A : Tree} → IsDataName w J → HasType w e A → IsApplied J e → EndsInType A
-applied_type {w} s (t_const {ls = ls} {g = g} m n f) h = ends_put g.levels ls g.type (subst (λ x. EndsInType x.type) (one_entry w h s.given m) s.above_prop)
+applied_type {w} s (t_const {ls = ls} g f) h = ends_put g.entry.levels ls g.entry.type (subst (λ x. EndsInType x.type) (one_entry w h s.given g.given) s.above_prop)
 applied_type s (t_app {a = a} {F = F} {A = A} {B = B} f r x q) h =
     let i : EndsInType F = applied_type s f h in
     let e : F ≡ pi A B = former_stays r (ends_former F i) in
@@ -345,7 +344,7 @@ applied_type s (t_pi i a f) h = absurd h
 applied_type s (t_let a x q f) h = absurd h
 applied_type s (t_lit x f) h = absurd h
 applied_type s (t_str x) h = absurd h
-applied_type s (t_proj S ls bs i t U T A l pj e d q r f v) h = absurd h
+applied_type s (t_proj S e r q d p v) h = absurd h
 
 sort_ends : (l : Level) (S : Tree) → S ≡ sort l → EndsInType S → SameLevel l zero_level → ⊥
 sort_ends l S e h z = subst EndsInType e h (λ n. 0) (z (λ n. 0))
@@ -379,22 +378,24 @@ mutual
   typed_no_prop {l = l} (t_sort {l = m}) d r z = above_zero m l (sort_level (succ_level m) l (former_stays r tt)) z
   typed_no_prop {w} {l = l} (t_pi {A = A} {B = B} {u = u} {v = v} {k = k} i a f) d r z =
       data_no_prop f (data_open w 0 (local k A) B d) (body_zero u v l (sort_level (imax_level u v) l (former_stays r tt)) z)
-  typed_no_prop (t_const m n f) d r z = applied_no_prop d.1 (t_const m n f) d.2 r z
+  typed_no_prop (t_const g f) d r z = applied_no_prop d.1 (t_const g f) d.2 r z
   typed_no_prop (t_app f p x q) d r z = applied_no_prop d.1 (t_app f p x q) d.2 r z
   typed_no_prop (t_local f) d r z = absurd d
   typed_no_prop (t_lam i j a f) d r z = absurd d
   typed_no_prop (t_let a x q f) d r z = absurd d
   typed_no_prop (t_lit x f) d r z = absurd d
   typed_no_prop (t_str x) d r z = absurd d
-  typed_no_prop (t_proj S ls bs i t U T A l pj e y q f x v) d r z = absurd d
+  typed_no_prop (t_proj S e y q f x v) d r z = absurd d
+
+pub data_no_proposition : {w : Place} {T : Tree} → IsProposition w T → IsDataType w T → ⊥
+data_no_proposition (is_prop i z) d = data_no_prop i d z
 
 -- what has a rigid head reduces to what has it
-pub rigid_value : {w : Place} {c d : Name} {g : Entry} {v : Tree} → IsRigid w c → c ≡ d → w.means d ≡ Some g → HasValue g v → ⊥
-rigid_value {w} {v = v} s e m y = s.no_value v (subst (λ g. HasValue g v) (one_entry w (sym e) m s.given) y)
+pub rigid_value : {w : Place} {c d : Name} {ls : List Level} {v : Tree} → IsRigid w c → c ≡ d → (g : IsGivenAt w d ls) → HasValue g.entry v → ⊥
+rigid_value {w} {v = v} s e g y = s.no_value v (subst (λ x. HasValue x v) (one_entry w (sym e) g.given s.given) y)
 
-pub rigid_rec : {w : Place} {c : Name} → IsRigid w c → (R : Name) (ls : List Level) (front : List Tree) (g : Entry) (r : Recursor) →
-    w.means R ≡ Some g → g.kind ≡ a_rec r → Heads c (apply (const R ls) front) → ⊥
-rigid_rec {w} {c} s R ls front g r m k h = s.no_recursor r (ap (λ x. x.kind) (one_entry w (heads_applied c (const R ls) front h) s.given m) ∙ k)
+pub rigid_rec : {w : Place} {c : Name} → IsRigid w c → (R : RecApp w) → Heads c (apply (const R.name R.levels) R.front) → ⊥
+rigid_rec {w} {c} s R h = s.no_recursor R.recursor (ap (λ x. x.kind) (one_entry w (heads_applied c (const R.name R.levels) R.front h) s.given R.given) ∙ R.kind)
 
 pub rigid_quot : {w : Place} {c q : Name} → IsRigid w c → IsQuot w q → c ≡ q → ⊥
 rigid_quot {w} s o h = s.no_quotient (ap (λ x. x.kind) (one_entry w h s.given o.given) ∙ o.kind)
@@ -463,15 +464,15 @@ heads_stay s (r_trans p q) h = heads_stay s q (heads_stay s p h)
 heads_stay s (r_head p f) h = heads_stay s p h
 heads_stay {c = c} s (r_beta {b = b} {a = a} f) h = heads_open c 0 a b h
 heads_stay s (r_zeta f) h = absurd h
-heads_stay s (r_delta m y n f) h = absurd (rigid_value s h m y)
-heads_stay s (r_proj S c ks g block ind ctor i xs t m x r y a1 a2 a3 a4 fx) h = absurd h
-heads_stay s (r_major R ls front i f r y) h = h
-heads_stay s (r_iota R c ls ks front xs result i f g) h = absurd (rigid_rec s R ls front i.rec_entry i.recursor i.rec_given i.rec_kind h)
+heads_stay s (r_delta g y f) h = absurd (rigid_value s h g y)
+heads_stay s (r_proj c r y i f) h = absurd h
+heads_stay s (r_major R r y) h = h
+heads_stay s (r_iota R c i f g) h = absurd (rigid_rec s R h)
 heads_stay s (r_quot_lift ls ks q m f e) h = absurd (rigid_quot s q h)
 heads_stay s (r_quot_ind ls ks q m f e) h = absurd (rigid_quot s q h)
-heads_stay s (r_op op es ns r o n v y) h = heads_op s op es ns r o y h
-heads_stay s (r_k R K c ls ks front bs rest e U D i he hr hd q f) h = h
-heads_stay s (r_struct R t js ls front bs m U i rule o z f n x r p) h = h
+heads_stay s (r_op op es ns r o n l v y) h = heads_op s op es ns r o y h
+heads_stay s (r_k R k he hr hd q) h = h
+heads_stay s (r_struct R t i x r p) h = h
 
 one_above : (l : Level) (T : Tree) → T ≡ sort l → SameLevel l (succ_level zero_level) → EndsInType T
 one_above l T e h = subst EndsInType (sym e) (λ σ z. absurd (let i : level_value σ l ≡ 1 = h σ in omega arith))
@@ -492,7 +493,7 @@ nat_data h = record {
 
 -- the type of what has a rigid head is a data type
 pub heads_typed : {w : Place} {c : Name} {e A : Tree} → IsRigid w c → HasType w e A → Heads c e → IsDataType w A
-heads_typed {w} s (t_const {ls = ls} {g = g} m n f) h = data_put w g.levels ls g.type (subst (λ x. IsDataType w x.type) (one_entry w h s.given m) s.type)
+heads_typed {w} s (t_const {ls = ls} g f) h = data_put w g.entry.levels ls g.entry.type (subst (λ x. IsDataType w x.type) (one_entry w h s.given g.given) s.type)
 heads_typed {w} s (t_app {a = a} {F = F} {A = A} {B = B} f r x q) h =
     let i : IsDataType w F = heads_typed s f h in
     data_open w 0 a B (subst (IsDataType w) (data_stays w F (pi A B) i r) i)
@@ -503,10 +504,10 @@ heads_typed s t_sort h = absurd h
 heads_typed s (t_local f) h = absurd h
 heads_typed s (t_pi i a f) h = absurd h
 heads_typed s (t_let a x q f) h = absurd h
-heads_typed s (t_proj S ls bs i t U T A l pj e d q r f v) h = absurd h
+heads_typed s (t_proj S e r q d p v) h = absurd h
 
 pub heads_no_prop : {w : Place} {c : Name} {e A : Tree} → IsRigid w c → HasType w e A → Heads c e → IsProposition w A → ⊥
-heads_no_prop s t h (is_prop i z) = data_no_prop i (heads_typed s t h) z
+heads_no_prop s t h p = data_no_proposition p (heads_typed s t h)
 
 -- a data type that reduces to J applied is J applied
 pub data_at : {w : Place} {A : Tree} (J : Name) (ls : List Level) (bs : List Tree) → IsDataType w A → Reduces w A (apply (const J ls) bs) → IsDataName w J
@@ -521,8 +522,8 @@ no_unit_like {w} U s =
     let e : s.own ≡ U.ind = own_type s.block U.block s.own U.ind (sym s.kind ∙ (ap (λ x. x.kind) (one_entry w refl s.given U.given) ∙ U.kind)) in
     s.no_unit U.ctor (ap (λ t. t.ctors) e ∙ U.one_ctor) U.no_fields
 
-pub struct_head : {w : Place} {c : Name} (S : Structure w) (ks : List Level) (zs : List Tree) → IsRigid w c → Heads c (apply (const S.ctor_name ks) zs) → ⊥
-struct_head {w} {c} S ks zs s h = s.no_structure S (sym (heads_applied c (const S.ctor_name ks) zs h))
+pub struct_head : {w : Place} {c : Name} (S : StructureAt w) (xs : List Tree) → IsRigid w c → Heads c (structure_value S xs) → ⊥
+struct_head {w} {c} S xs s h = s.no_structure S.structure (sym (heads_applied c (const S.structure.ctor_name S.levels) (S.params ++ xs) h))
 
 pub one_head : {w : Place} {c d : Name} {a b : Tree} → IsRigid w c → IsRigid w d → IsDefEq w a b → Heads c a → Heads d b → c ≡ d
 one_head {c = c} {d = d} s t (e_refl {a = a} x) h k = heads_one c d a h k
@@ -532,8 +533,8 @@ one_head s t (e_app u v e f) h k = one_head s t e h k
 one_head {c = c} {d = d} s t (e_lam {A = A} {b = b} {b' = b'} {k = n} i j e f) h k = one_head s t f (heads_open c 0 (local n A) b h) (heads_open d 0 (local n A) b' k)
 one_head s t (e_eta_left v i r e) h k = one_head s t e h k
 one_head s t (e_eta_right v i r e) h k = one_head s t e h k
-one_head s t (e_struct_left i ks ps xs a A B v m n ha hb q p) h k = absurd (struct_head i ks (ps ++ xs) t k)
-one_head s t (e_struct_right i ks ps xs a A B v m n ha hb q p) h k = absurd (struct_head i ks (ps ++ xs) s h)
+one_head s t (e_struct_left i xs v q) h k = absurd (struct_head i xs t k)
+one_head s t (e_struct_right i xs v q) h k = absurd (struct_head i xs s h)
 one_head s t (e_unit i ls bs a b A B u v n ha r hb q) h k = absurd (no_unit_like i (data_at i.name ls bs (heads_typed s ha h) r))
 one_head s t (e_proof u v ha p hb q) h k = absurd (heads_no_prop s ha h p)
 one_head s t e_zero_left h k = h ∙ sym k
@@ -582,8 +583,8 @@ former_first {d = d} t (e_refl {a = a} x) f k = former_no_heads d a f k
 former_first t (e_reduce p q e) f k = former_first t e (subst IsFormer (former_stays p f) f) (heads_stay t q k)
 former_first t (e_eta_left v i r e) f k = former_no_pi i r f
 former_first t (e_eta_right v i r e) f k = former_first t e f k
-former_first t (e_struct_left i ks ps xs a A B v m n ha hb q p) f k = struct_head i ks (ps ++ xs) t k
-former_first t (e_struct_right i ks ps xs a A B v m n ha hb q p) f k = absurd (applied_former (const i.ctor_name ks) (ps ++ xs) f)
+former_first t (e_struct_left i xs v q) f k = struct_head i xs t k
+former_first t (e_struct_right i xs v q) f k = absurd (applied_former (const i.structure.ctor_name i.levels) (i.params ++ xs) f)
 former_first t (e_unit i ls bs a b A B u v n ha r hb q) f k = former_no_constant i.name ls bs ha r f
 former_first t (e_proof {A = A} u v ha p hb q) f k = sort_is_no_prop p (former_typed ha f).0 (former_typed ha f).1
 former_first t (e_sort x) f k = absurd k
@@ -604,8 +605,8 @@ former_second {c = c} s (e_refl {a = a} x) h f = former_no_heads c a f h
 former_second s (e_reduce p q e) h f = former_second s e (heads_stay s p h) (subst IsFormer (former_stays q f) f)
 former_second s (e_eta_left v i r e) h f = former_second s e h f
 former_second s (e_eta_right v i r e) h f = former_no_pi i r f
-former_second s (e_struct_left i ks ps xs a A B v m n ha hb q p) h f = absurd (applied_former (const i.ctor_name ks) (ps ++ xs) f)
-former_second s (e_struct_right i ks ps xs a A B v m n ha hb q p) h f = struct_head i ks (ps ++ xs) s h
+former_second s (e_struct_left i xs v q) h f = absurd (applied_former (const i.structure.ctor_name i.levels) (i.params ++ xs) f)
+former_second s (e_struct_right i xs v q) h f = struct_head i xs s h
 former_second s (e_unit i ls bs a b A B u v n ha r hb q) h f = no_unit_like i (data_at i.name ls bs (heads_typed s ha h) r)
 former_second s (e_proof u v ha p hb q) h f = heads_no_prop s ha h p
 former_second s (e_sort x) h f = absurd h

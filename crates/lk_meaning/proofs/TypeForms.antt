@@ -53,15 +53,15 @@ forward_family s (r_trans c d) xs r h = forward_family s d xs (forward_family s 
 forward_family s (r_head {a = a} c x) xs r h = forward_family s c (a ∷ xs) r h
 forward_family {J = J} s (r_beta x) xs {F} r h = past_step (in_spine xs by_beta) r (applied_normal J F h)
 forward_family {J = J} s (r_zeta x) xs {F} r h = past_step (in_spine xs by_zeta) r (applied_normal J F h)
-forward_family s (r_delta m v n x) xs r h = at_rest s (r_delta m v n x) tt xs r h
-forward_family s (r_proj S c ks g block ind ctor i ys t m x p q a1 a2 a3 a4 fx) xs r h = at_rest s (r_proj S c ks g block ind ctor i ys t m x p q a1 a2 a3 a4 fx) tt xs r h
-forward_family s (r_major R ls front i x p q) xs r h = at_rest s (r_major R ls front i x p q) (neutral_applied (const R ls) front tt) xs r h
-forward_family s (r_iota R c ls ks front ys result i x g) xs r h = at_rest s (r_iota R c ls ks front ys result i x g) (neutral_applied (const R ls) front tt) xs r h
-forward_family s (r_k R K c ls ks front bs rest e U D k he hr hd q x) xs r h = at_rest s (r_k R K c ls ks front bs rest e U D k he hr hd q x) (neutral_applied (const R ls) front tt) xs r h
-forward_family s (r_struct R t js ls front bs m U i rule o z x n hm p q) xs r h = at_rest s (r_struct R t js ls front bs m U i rule o z x n hm p q) (neutral_applied (const R js) front tt) xs r h
+forward_family s (r_delta g v x) xs r h = at_rest s (r_delta g v x) tt xs r h
+forward_family s (r_proj c p q i x) xs r h = at_rest s (r_proj c p q i x) tt xs r h
+forward_family s (r_major R p q) xs r h = at_rest s (r_major R p q) (neutral_applied (const R.name R.levels) R.front tt) xs r h
+forward_family s (r_iota R c i x g) xs r h = at_rest s (r_iota R c i x g) (neutral_applied (const R.name R.levels) R.front tt) xs r h
+forward_family s (r_k R k he hr hd q) xs r h = at_rest s (r_k R k he hr hd q) (neutral_applied (const R.name R.levels) R.front tt) xs r h
+forward_family s (r_struct R t o hm p q) xs r h = at_rest s (r_struct R t o hm p q) (neutral_applied (const R.name R.levels) R.front tt) xs r h
 forward_family s (r_quot_lift ls ks i j ff p) xs r h = at_rest s (r_quot_lift ls ks i j ff p) tt xs r h
 forward_family s (r_quot_ind ls ks i j ff p) xs r h = at_rest s (r_quot_ind ls ks i j ff p) tt xs r h
-forward_family s (r_op op es ns x i n v g) xs r h = at_rest s (r_op op es ns x i n v g) (neutral_applied (named (op_name op)) es tt) xs r h
+forward_family s (r_op op es ns x i n m v g) xs r h = at_rest s (r_op op es ns x i n m v g) (neutral_applied (named (op_name op)) es tt) xs r h
 
 forward_form : {w : Place} {a b F : Tree} → IsTypeForm w F → Reduces w a b → RunsTo a F → RunsTo b F
 forward_form (by_former f) c r = forward c [] r f
@@ -93,10 +93,10 @@ forms_apart (e_pi i j e d) r s f g = at_once (e_pi i j e d) tt tt r s f g
 forms_apart (e_proj e) r s f g = at_once (e_proj e) tt tt r s f g
 forms_apart (e_eta_left {o = o} v t h e) r s f g = at_once (e_eta_left v t h e) (normal_neutral o v) tt r s f g
 forms_apart (e_eta_right {o = o} v t h e) r s f g = at_once (e_eta_right v t h e) tt (normal_neutral o v) r s f g
-forms_apart (e_struct_left i ks ps xs a A B v m n ha hb q p) r s f g =
-    at_once (e_struct_left i ks ps xs a A B v m n ha hb q p) v (constant_normal i.ctor_name ks (ps ++ xs)) r s f g
-forms_apart (e_struct_right i ks ps xs a A B v m n ha hb q p) r s f g =
-    at_once (e_struct_right i ks ps xs a A B v m n ha hb q p) (constant_normal i.ctor_name ks (ps ++ xs)) v r s f g
+forms_apart (e_struct_left i xs v q) r s f g =
+    at_once (e_struct_left i xs v q) v (constant_normal i.structure.ctor_name i.levels (i.params ++ xs)) r s f g
+forms_apart (e_struct_right i xs v q) r s f g =
+    at_once (e_struct_right i xs v q) (constant_normal i.structure.ctor_name i.levels (i.params ++ xs)) v r s f g
 forms_apart (e_unit i ls bs a b A B u v n ha p hb q) r s f g = at_once (e_unit i ls bs a b A B u v n ha p hb q) u v r s f g
 forms_apart (e_proof u v ha p hb q) r s f g = at_once (e_proof u v ha p hb q) u v r s f g
 forms_apart e_zero_left r s f g = at_once e_zero_left tt tt r s f g

@@ -1,4 +1,5 @@
 pub mod Booleans
+pub mod FakedAddition
 pub mod Falsehood
 pub mod Families
 pub mod Rigid

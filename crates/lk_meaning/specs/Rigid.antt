@@ -1,6 +1,6 @@
 -- Constants that never unfold, and whose trees are no proofs.
 use Rattle.std.specs.Prelude.{ℕ, zero, suc, ◌≡◌, List, [], ◌∷◌, Some}
-use Rattle.lk_tree.specs.Tree.{Name, Level, Tree, sort, const, app, lam, pi, lit}
+use Rattle.lk_tree.specs.Tree.{Name, Level, Tree, sort, const, app, lam, pi, lit, local}
 use Rattle.lk_tree.specs.Level.{level_value}
 use Rattle.lk_rulebook.specs.Place.{Place, Entry, Block, BlockType, Ctor, Recursor, a_type, a_rec, a_quot}
 use Rattle.lk_rulebook.specs.Structures.{Structure}
@@ -57,6 +57,13 @@ pub record IsRigid (w : Place) (c : Name) : Type 0 where
   pub no_quotient : entry.kind ≡ a_quot → ⊥
   pub type : IsDataType w entry.type
   pub no_structure : (S : Structure w) → S.ctor_name ≡ c → ⊥
+
+-- Local(k, T) stands at the head, under arguments and lambdas
+abbrev pub HeadsLocal : ℕ → Tree → Tree → Type 0
+HeadsLocal k T (app f a) = HeadsLocal k T f
+HeadsLocal k T (lam A b) = HeadsLocal k T b
+HeadsLocal k T (local j U) = (k ≡ j) × (T ≡ U)
+HeadsLocal k T _ = ⊥
 
 -- one constant at equal levels, applied to arguments that are equal pair by pair
 pub data SameSpine (w : Place) : Tree → Tree → Type 0 where

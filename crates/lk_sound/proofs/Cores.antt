@@ -16,7 +16,7 @@ use Rattle.lk_questions.specs.Steps.{with_levels, value_of, is_same_tree}
 use Rattle.lk_questions.specs.Core.{lambdas, beta, core_applied, core_steps, unfolded, stepped, whnf_headed, whnf_steps}
 use Rattle.lk_questions.specs.Literals.{literal_step}
 use Rattle.lk_sound.proofs.LiteralSteps.{IfStep, sound_literal_step}
-use Rattle.lk_plain.specs.Sound.{IsSound, IsJustified, WellStated}
+use Rattle.lk_plain.specs.Sound.{IsSound, IsJustified, WellStated, IsSoundPlace}
 use Rattle.lk_plain.proofs.Soundness.{sound_bind}
 use Rattle.lk_sound.proofs.Goes.{sound_if, GoesTo, goes_on, core_stays, core_on, goes_applied, unfolds, beta_goes}
 use Rattle.lk_sound.proofs.Iotas.{sound_core_constant, sound_core_proj}
@@ -83,14 +83,14 @@ sound_stepped : (w : Place) (e c : Tree) → GoesTo w e c → (next : Program Tr
 sound_stepped w e c ec next h None i = h
 sound_stepped w e c ec next h (Some r) i = goes_on w e c r ec i
 
-sound_whnf_headed : (w : Place) → WellStated w → (e c : Tree) → GoesTo w e c → (h : Tree) → apply h (args c) ≡ c → AllWellFormed (args c) → IsSound w (whnf_headed c h) (IsJustified w (whnf e))
+sound_whnf_headed : (w : Place) → IsSoundPlace w → (e c : Tree) → GoesTo w e c → (h : Tree) → apply h (args c) ≡ c → AllWellFormed (args c) → IsSound w (whnf_headed c h) (IsJustified w (whnf e))
 sound_whnf_headed w ok e c ec (const f ls) eq fx = λ g m.
     let next : Program Tree = unfolded g (const f ls) c (value_of g.kind) in
-    sound_bind w (literal_step c f ls g) (λ r. stepped r next) (IfStep w c) (IsJustified w (whnf e)) (sound_literal_step w c f ls g m eq fx)
-    (sound_stepped w e c ec next (sound_unfolded w ok f ls g m e c ec eq fx (value_of g.kind) refl))
+    sound_bind w (literal_step c f ls g) (λ r. stepped r next) (IfStep w c) (IsJustified w (whnf e)) (sound_literal_step w ok.lawful c f ls g m eq fx)
+    (sound_stepped w e c ec next (sound_unfolded w ok.stated f ls g m e c ec eq fx (value_of g.kind) refl))
 sound_whnf_headed w ok e c ec _ eq fx = ec
 
-pub sound_whnf : (w : Place) → WellStated w → (e : Tree) → IsWellFormed e → IsSound w (whnf_steps e) (IsJustified w (whnf e))
+pub sound_whnf : (w : Place) → IsSoundPlace w → (e : Tree) → IsWellFormed e → IsSound w (whnf_steps e) (IsJustified w (whnf e))
 sound_whnf w ok e f = (
   f,
   λ c ec.

@@ -11,7 +11,7 @@ use Rattle.lk_rulebook.proofs.Scopes.{well_formed_of_type}
 use Rattle.lk_plain.specs.Program.{done, Table}
 use Rattle.lk_questions.specs.Steps.{sort_of}
 use Rattle.lk_plain.specs.Answer.{IfAnswered, outcome_of, plain_answer}
-use Rattle.lk_plain.specs.Sound.{IsSound, WellStated, IsSoundTable}
+use Rattle.lk_plain.specs.Sound.{IsSound, IsSoundPlace, IsSoundTable}
 use Rattle.lk_rulebook.specs.Units.{Body, as_axiom, as_def, as_thm, as_opaque, as_quot, Decl}
 use Rattle.lk_questions.specs.Declarations.{checked, value_steps, body_steps, unit_steps}
 use Rattle.lk_rulebook.specs.Derived.{BodyWellFormed, DeclWellFormed, IsOf, BodyDerived, DeclDerived}
@@ -22,6 +22,8 @@ use Rattle.lk_sound.proofs.WholeTable.{ans_sound}
 use Rattle.lk_rulebook.specs.Quotients.{IsQuotient}
 use Rattle.lk_questions.specs.QuotientUnits.{quot_steps}
 use Rattle.lk_sound.proofs.QuotChecks.{sound_quot_steps}
+use Rattle.lk_questions.specs.NumberLaws.{lawful_op, law_steps}
+use Rattle.lk_sound.proofs.NumberLaws.{sound_law_steps, lawful_of}
 
 sound_value : (w : Place) (type value : Tree) (P : Type 0) → IsWellFormed type → IsWellFormed value → (IsOf w value type → P) → IsSound w (value_steps type value) (λ y. P)
 sound_value w type value P ft fv h =
@@ -31,8 +33,12 @@ sound_body : (w : Place) (d : Decl) (b : Body) → IsWellFormed d.type → BodyW
 sound_body w d as_axiom f g =
     sound_bind w (sort_of d.type) (λ l. done checked) (λ l. HasSort w d.type l) (λ y. (l : Level) × HasSort w d.type l × BodyDerived w d l as_axiom) (sound_sort_of w d.type f) (λ l h. (l, h, tt))
 sound_body w d (as_def i value) f g =
-    sound_bind w (sort_of d.type) (λ l. value_steps d.type value) (λ l. HasSort w d.type l) (λ y. (l : Level) × HasSort w d.type l × BodyDerived w d l (as_def i value)) (sound_sort_of w d.type f)
-    (λ l h. sound_value w d.type value ((l : Level) × HasSort w d.type l × IsOf w value d.type) f g (λ v. (l, h, v)))
+    sound_bind w (sort_of d.type) _ (λ l. HasSort w d.type l) (λ y. (l : Level) × HasSort w d.type l × BodyDerived w d l (as_def i value)) (sound_sort_of w d.type f)
+    (λ l h. sound_bind w (value_steps d.type value) _ (λ y. IsOf w value d.type) (λ y. (l : Level) × HasSort w d.type l × BodyDerived w d l (as_def i value))
+    (sound_value w d.type value (IsOf w value d.type) f g (λ v. v))
+    (λ y v. sound_bind w (law_steps (lawful_op d.name) d.levels value) (λ u. done checked) _ (λ y. (l : Level) × HasSort w d.type l × BodyDerived w d l (as_def i value))
+    (sound_law_steps w d.levels d.type i value g (lawful_op d.name))
+    (λ u laws. (l, h, (v, lawful_of w d i value laws)))))
 sound_body w d (as_opaque value) f g =
     sound_bind w (sort_of d.type) (λ l. value_steps d.type value) (λ l. HasSort w d.type l) (λ y. (l : Level) × HasSort w d.type l × BodyDerived w d l (as_opaque value)) (sound_sort_of w d.type f)
     (λ l h. sound_value w d.type value ((l : Level) × HasSort w d.type l × IsOf w value d.type) f g (λ v. (l, h, v)))
@@ -49,5 +55,5 @@ sound_body w d (as_thm value) f g =
 sound_unit : (w : Place) (d : Decl) → DeclWellFormed d → IsSound w (unit_steps d) (λ y. DeclDerived w d)
 sound_unit w d f = sound_map w (unit_steps d) (λ y. (l : Level) × HasSort w d.type l × BodyDerived w d l d.body) (λ y. DeclDerived w d) (λ y h. record { level = h.0; sorted = h.1; body = h.2 }) (sound_body w d d.body f.0 f.1)
 
-pub yes_is_good : (table : Table) → IsSoundTable table → (w : Place) → WellStated w → (d : Decl) (b : ℕ) → DeclWellFormed d → IfAnswered (outcome_of w (plain_answer table w) b (unit_steps d)) (λ y c t. DeclDerived w d)
+pub yes_is_good : (table : Table) → IsSoundTable table → (w : Place) → IsSoundPlace w → (d : Decl) (b : ℕ) → DeclWellFormed d → IfAnswered (outcome_of w (plain_answer table w) b (unit_steps d)) (λ y c t. DeclDerived w d)
 yes_is_good table s w ok d b f = sound_run w (plain_answer table w) (λ y. DeclDerived w d) (λ q left a. ans_sound table s w ok q left a) (unit_steps d) b (sound_unit w d f)

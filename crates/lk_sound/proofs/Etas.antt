@@ -7,8 +7,8 @@ use Rattle.lk_tree.specs.WellFormed.{IsWellFormed, AllWellFormed}
 use Rattle.lk_tree.proofs.Spines.{well_formed_of_apply}
 use Rattle.lk_tree.proofs.Lists.{fine_drop, length_taken}
 use Rattle.lk_rulebook.specs.Place.{Place}
-use Rattle.lk_rulebook.specs.Structures.{Structure, is_structure_like}
-use Rattle.lk_rulebook.specs.Rules.{HasType, IsDefEq, e_struct_left, e_struct_right, AllProject, no_more_fields, project}
+use Rattle.lk_rulebook.specs.Structures.{StructureAt, is_structure_like}
+use Rattle.lk_rulebook.specs.Rules.{HasType, IsDefEq, e_struct_left, e_struct_right, IsByFields, by_fields, AllProject, no_more_fields, project}
 use Rattle.lk_rulebook.proofs.Scopes.{well_formed_of_type}
 use Rattle.lk_plain.specs.Program.{done}
 use Rattle.lk_questions.specs.Iota.{CtorApp, ctor_app_of, has_one_ctor}
@@ -51,23 +51,24 @@ eta_ext w ok a b na k j y A B ha hb q all =
     let hk : HasType w (apply (const k.name k.levels) (take p k.args ++ drop p k.args)) B = rw u at hb in
     let m : length (take p k.args) ≡ p = length_taken p k.args (omega (arith, count)) in
     let n : length (drop p k.args) ≡ k.ctor.fields = length-drop p k.args ∙ omega (arith, count) in
-    let s : Structure w =
-    record {
-      ctor_name = k.name;
-      block = k.block;
-      ind = k.ind;
-      ctor = k.ctor;
-      one_ctor = the_ctor k.ctor k.ind.ctors more.0 (listed_of k.entry k.block k.ind k.ctor j.kind (ok k.name k.entry j.given).1);
-      like = more.1;
-      entry = k.entry;
-      given = j.given;
-      kind = j.kind;
+    let S : StructureAt w = record {
+      structure = record {
+        ctor_name = k.name;
+        block = k.block;
+        ind = k.ind;
+        ctor = k.ctor;
+        one_ctor = the_ctor k.ctor k.ind.ctors more.0 (listed_of k.entry k.block k.ind k.ctor j.kind (ok k.name k.entry j.given).1);
+        like = more.1;
+        entry = k.entry;
+        given = j.given;
+        kind = j.kind;
+      };
+      levels = k.levels;
+      params = take p k.args;
+      params_are = m;
     } in
-    let c : IsDefEq w a (apply (const k.name k.levels) (take p k.args ++ drop p k.args)) =
-    e_struct_left s k.levels (take p k.args) (drop p k.args) a A B na m n ha hk q all in
-    let d : IsDefEq w (apply (const k.name k.levels) (take p k.args ++ drop p k.args)) a =
-    e_struct_right s k.levels (take p k.args) (drop p k.args) a A B na m n ha hk q all in
-    (rw u c, rw u d)
+    let h : IsByFields w S (drop p k.args) a = by_fields n ha hk q all in
+    (rw u (e_struct_left S (drop p k.args) na h), rw u (e_struct_right S (drop p k.args) na h))
 
 sound_eta_struct : (w : Place) → WellStated w → (a b : Tree) → IsWellFormed a → IsWellFormed b → IsHeadNormal a → (o : Option CtorApp) → IfCtorApp w b o → (C : Type 0) → (IsDefEq w a b × IsDefEq w b a → C) → SoundLine w (eta_struct a b o) C
 sound_eta_struct w ok a b fa fb na None j C h = tt

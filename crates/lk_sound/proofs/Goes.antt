@@ -63,6 +63,6 @@ pub unfolds : (w : Place) → WellStated w → (c : Name) (ls : List Level) (g :
     length ls ≡ length g.levels → GoesTo w (const c ls) (put_levels g.levels ls v)
 unfolds w ok c ls g v m h count =
     let s : IsStated v = value_stated g.kind v (ok c g m).1 h in (
-      r_delta m (has_value g g.kind v refl h) count (fine_put_levels g.levels ls 0 v s.0),
+      r_delta (record { entry = g; given = m; levels_are = count }) (has_value g g.kind v refl h) (fine_put_levels g.levels ls 0 v s.0),
       no_local (const c ls) (put_levels g.levels ls v) (rw (bound_put_levels g.levels ls v) s.1),
     )

@@ -14,7 +14,7 @@ use Rattle.lk_tree.proofs.Zero.{zero_level_same, not_zero_level}
 use Rattle.lk_tree.proofs.Within.{within_refl, within_trans, within_open, apply_head_args, no_local, bound_put_levels, fine_put_levels}
 use Rattle.lk_tree.proofs.Lists.{AllWithin, local_of_arg}
 use Rattle.lk_rulebook.specs.Place.{Place, Entry, Kind, Block, BlockType, Ctor, a_type}
-use Rattle.lk_rulebook.specs.Rules.{Reduces, HasSort, IsProposition, is_prop, t_proj, PastParameters, no_more, next, FieldOf, here, past}
+use Rattle.lk_rulebook.specs.Rules.{Reduces, HasSort, IsProposition, is_prop, t_proj, PastParameters, no_more, next, Field, FieldOf, here, past}
 use Rattle.lk_rulebook.proofs.Scopes.{well_formed_of_type, well_formed_of_reduct}
 use Rattle.lk_plain.specs.Query.{infer}
 use Rattle.lk_plain.specs.Program.{done}
@@ -37,12 +37,12 @@ kept_open s v A B R r w k g e h =
     (open_fine 0 v B f.1 h.0, within_open s B v (λ j T m. k.1 j T (g.1 j T (rw e (inr m)))) h.1)
 
 sound_past : (w : Place) (s : Tree) (bs : List Tree) (n : ℕ) (r : Tree) → AllWellFormed bs → AllWithin s bs → Kept s r →
-    IsSound w (past_parameters bs n r) (λ t. PastParameters w bs n r t × Kept s t)
+    IsSound w (past_parameters bs n r) (λ t. PastParameters w t n bs r × Kept s t)
 sound_past w s bs zero r f l k = (no_more, k)
 sound_past w s (b ∷ bs) (suc n) r f l k = (
   k.0,
   λ R m. sound_pi w BadProjection R (λ p. past_parameters bs n (opened p.1 b)) _ (λ A B e.
-      sound_map w (past_parameters bs n (opened B b)) (λ t. PastParameters w bs n (opened B b) t × Kept s t) _
+      sound_map w (past_parameters bs n (opened B b)) (λ t. PastParameters w t n bs (opened B b) × Kept s t) _
       (λ t h. (next (rw e at m.0) h.0, h.1))
       (sound_past w s bs n (opened B b) f.1 (λ j T x. l j T (inr x)) (kept_open s b A B R r w k m e (f.0, λ j T x. l j T (inl x))))),
 )
@@ -66,11 +66,15 @@ true_or_not false = inr refl
 zero_then : (l : Level) → SameLevel l zero_level → is_zero_level l ≡ true
 zero_then l h = elim (true_or_not (is_zero_level l)) [ inl e ↦ e | inr e ↦ absurd (not_zero_level l e h) ]
 
-here_at : (w : Place) (S : Name) (s : Tree) (l : Level) (j i : ℕ) (r A B : Tree) → j + 0 ≡ i → Reduces w r (pi A B) → (SameLevel l zero_level → IsProposition w A) → FieldOf w S s l j i r A
-here_at w S s l j i r A B e c h = let f : j ≡ i = omega (arith, e) in subst (λ x. FieldOf w S s l j x r A) f (here c h)
+-- the field of s that is asked for
+abbrev field_of : Name → Tree → Level → ℕ → Field
+field_of S s l i = record { structure = S; subject = s; sort = l; number = i }
+
+here_at : (w : Place) (S : Name) (s : Tree) (l : Level) (j i : ℕ) (r A B : Tree) → j + 0 ≡ i → Reduces w r (pi A B) → (SameLevel l zero_level → IsProposition w A) → FieldOf w (field_of S s l i) A j r
+here_at w S s l j i r A B e c h = let f : i ≡ j = omega (arith, e) in subst (λ x. FieldOf w (field_of S s l i) A x r) f (here c h)
 
 sound_field : (w : Place) (S : Name) (s : Tree) → IsWellFormed s → (l : Level) (j i n : ℕ) (r : Tree) → j + n ≡ i → Kept s r →
-    IsSound w (field_type S s (is_zero_level l) j n r) (λ A. FieldOf w S s l j i r A × LocalsWithin s A)
+    IsSound w (field_type S s (is_zero_level l) j n r) (λ A. FieldOf w (field_of S s l i) A j r × LocalsWithin s A)
 sound_field w S s fs l j i zero r e k = (
   k.0,
   λ R m. sound_pi w BadProjection R _ _ (λ A B eR.
@@ -87,7 +91,7 @@ sound_field w S s fs l j i (suc n) r e k = (
       let fA : IsWellFormed A = (well_formed_of_reduct c).1.0 in
       sound_bind w (is_prop_if (is_zero_level l && has_var 0 B) A) _ _ _ (sound_prop w (is_zero_level l && has_var 0 B) A fA)
       (λ ok h. sound_given w ok PropProjection (field_type S s (is_zero_level l) (suc j) n (opened B (proj S j s))) _
-      (λ y. sound_map w (field_type S s (is_zero_level l) (suc j) n (opened B (proj S j s))) (λ C. FieldOf w S s l (suc j) i (opened B (proj S j s)) C × LocalsWithin s C) _
+      (λ y. sound_map w (field_type S s (is_zero_level l) (suc j) n (opened B (proj S j s))) (λ C. FieldOf w (field_of S s l i) C (suc j) (opened B (proj S j s)) × LocalsWithin s C) _
       (λ C g. (past c (λ z v. h y (both (is_zero_level l) (has_var 0 B) (zero_then l z) v)) g.0, g.1))
       (sound_field w S s fs l (suc j) i n (opened B (proj S j s)) (omega (arith, e)) (kept_open s (proj S j s) A B R r w k m eR (fs, within_refl s)))))),
 )
@@ -125,11 +129,12 @@ sound_struct w ok S i s T fs hT wT ls eT g mg block ind kg (c ∷ []) ec =
     (λ l hl. sound_bind w (with_params c.levels ls c.type) _ (λ r. (r ≡ ty) × (length ls ≡ length c.levels)) (IsJustified w (infer (proj S i s)))
     (sound_with_params w c.levels ls c.type (λ r. (r ≡ ty) × (length ls ≡ length c.levels)) (λ count. (refl, count)))
     (λ r er. let kr : Kept s r = rw er.0 (fine_put_levels c.levels ls 0 c.type st.0, no_local s ty (bound_put_levels c.levels ls c.type ∙ st.1)) in
-    sound_bind w (past_parameters (args T) ind.parameters r) _ (λ u. PastParameters w (args T) ind.parameters r u × Kept s u) (IsJustified w (infer (proj S i s)))
+    sound_bind w (past_parameters (args T) ind.parameters r) _ (λ u. PastParameters w u ind.parameters (args T) r × Kept s u) (IsJustified w (infer (proj S i s)))
     (sound_past w s (args T) ind.parameters r fargs (λ k U m. wT k U (rw (← eT) (local_of_arg k U (const S ls) (args T) m))) kr)
-    (λ u hu. sound_map w (field_type S s (is_zero_level l) 0 i u) (λ A. FieldOf w S s l 0 i u A × LocalsWithin s A) (IsJustified w (infer (proj S i s)))
+    (λ u hu. sound_map w (field_type S s (is_zero_level l) 0 i u) (λ A. FieldOf w (field_of S s l i) A 0 u × LocalsWithin s A) (IsJustified w (infer (proj S i s)))
     (λ A hA. (
-      t_proj S ls (args T) i s hT.between u A l (record { entry = g; block = block; ind = ind; ctor = c; given = mg; kind = kg; args_are = count_is (args T) ind c i t; one_ctor = ec; levels_are = er.1 }) hT.types (rw eT hT.reduces) (below_is (args T) ind c i t) (rw eT hl) (rw er.0 at hu.0) hA.0,
+      t_proj (record { name = S; levels = ls; args = args T; entry = g; block = block; ind = ind; ctor = c; given = mg; kind = kg; args_are = count_is (args T) ind c i t; one_ctor = ec; levels_are = er.1 })
+          hT.types (rw eT hT.reduces) (below_is (args T) ind c i t) (rw eT hl) (rw er.0 at hu.0) hA.0,
       hA.1,
     ))
     (sound_field w S s fs l 0 i i u (omega arith) hu.1)))))

@@ -51,7 +51,7 @@ infer_sort w l = (t_sort, λ j S h. h)
 infer_const : (w : Place) → WellStated w → (c : Name) (ls : List Level) → IsSound w (infer_steps (const c ls)) (IsJustified w (infer (const c ls)))
 infer_const w ok c ls = λ g m. sound_with_levels w g ls g.type (IsJustified w (infer (const c ls)))
     (λ count. let s : IsStated g.type = (ok c g m).0 in (
-      t_const m count (fine_put_levels g.levels ls 0 g.type s.0),
+      t_const (record { entry = g; given = m; levels_are = count }) (fine_put_levels g.levels ls 0 g.type s.0),
       no_local (const c ls) (put_levels g.levels ls g.type) (rw (bound_put_levels g.levels ls g.type) s.1),
     ))
 

@@ -7,7 +7,7 @@ use Rattle.lk_questions.specs.Steps.{sort_of}
 use Rattle.lk_sound.proofs.Pieces.{sound_sort_of, TypesTo, well_formed_of_to}
 use Rattle.lk_tree.specs.Level.{is_zero_level}
 use Rattle.lk_tree.proofs.Zero.{not_zero_level}
-use Rattle.lk_rulebook.specs.Structures.{projections, is_structure_like, IsMajor}
+use Rattle.lk_rulebook.specs.Structures.{projections, is_structure_like, CtorApp as GivenCtorApp, ctor_app, RecApp, on_major, HasRule, rule_result, before_indices, KMajor, StructureAt}
 use Rattle.lk_rulebook.specs.Rules.{r_struct, not_prop}
 use Rattle.std.specs.Prelude.{◌&&◌}
 use Rattle.std.proofs.Common.{Bool, List, None, Option, Some, [], arith, drop, false, if◌then◌else◌, inl, inr, length, nat_eq, nat_le, refl, suc, sym, take, take-append-drop, true, zero, ℕ, ◌++◌, ◌+◌, ◌∙◌, ◌∷◌, ◌≡◌, ◌⊎◌}
@@ -23,7 +23,7 @@ use Rattle.lk_tree.proofs.Lists.{fine_take, fine_drop, fine_at, any_take, any_dr
 use Rattle.lk_rulebook.specs.Place.{Place, Entry, Kind, Recursor, RecRule, a_quot, a_ctor, a_rec}
 use Rattle.lk_tree.specs.Mentions.{same_name}
 use Rattle.lk_rulebook.specs.Structures.{IsRuleOf, before_major}
-use Rattle.lk_rulebook.specs.Rules.{HasSort, Reduces, r_major, r_proj, r_iota, r_k}
+use Rattle.lk_rulebook.specs.Rules.{HasSort, r_major, r_proj, r_iota, r_k}
 use Rattle.lk_rulebook.proofs.Scopes.{well_formed_of_type, well_formed_of_reduct}
 use Rattle.lk_plain.specs.Query.{core}
 use Rattle.lk_plain.specs.Program.{done}
@@ -61,6 +61,10 @@ pub record IsCtorApp (w : Place) (m : Tree) (b : CtorApp) : Type 0 where
   pub given : w.means b.name ≡ Some b.entry
   pub kind : b.entry.kind ≡ a_ctor b.block b.ind b.ctor
 
+-- the same in the rule book's terms
+abbrev pub given_app : {w : Place} {m : Tree} (b : CtorApp) → IsCtorApp w m b → GivenCtorApp w
+given_app b j = record { name = b.name; levels = b.levels; args = b.args; entry = b.entry; block = b.block; ind = b.ind; ctor = b.ctor; given = j.given; kind = j.kind }
+
 abbrev pub IfCtorApp : Place → Tree → Option CtorApp → Type 0
 IfCtorApp w m None = Unit {0}
 IfCtorApp w m (Some b) = IsCtorApp w m b
@@ -85,7 +89,7 @@ sound_picked w S i s v m b f g rd j e (Some x) h =
     let fm : IsWellFormed (apply (const b.name b.levels) b.args) = rw t at (text_fine rd (well_formed_of_reduct g.0).1) in
     let fx : IsWellFormed x = fine_at (b.ctor.parameters + i) b.args x (well_formed_of_apply (const b.name b.levels) b.args fm).1 h in
     let all : GoesTo w (proj S i s) x = (
-      r_proj S b.name b.levels b.entry b.block b.ind b.ctor i b.args s v x g.0 (rw t at rd) j.given j.kind e h fx,
+      rw e at (r_proj (given_app b j) {i = i} {e = s} g.0 (rw t at rd) h fx),
       λ k T n. g.1 k T (text_within rd k T (rw t (local_of_arg k T (const b.name b.levels) b.args (any_at k T (b.ctor.parameters + i) b.args x h n)))),
     ) in
     (fx, λ u n. core_on w (proj S i s) x u all n)
@@ -134,75 +138,55 @@ fitting (r ∷ rs) c p n rule e = fitting_at r rs c p n rule (fitting rs c p n r
 rules_of : (g : Entry) (r : Recursor) → g.kind ≡ a_rec r → KindStated g.kind → RulesStated r.rules
 rules_of g r e s = let t : KindStated (a_rec r) = rw e at s in t
 
-abbrev iota_result : Entry → List Level → Recursor → RecRule → List Tree → CtorApp → Tree
-iota_result g ls r rule front b = apply (apply (put_levels g.levels ls rule.value) (take (r.parameters + r.motives + r.minors) front)) (drop b.ctor.parameters b.args)
+-- a recursor that is found, at the arguments before its major premise
+abbrev rec_app : (w : Place) (R : Name) (ls : List Level) (g : Entry) → w.means R ≡ Some g → (r : Recursor) → g.kind ≡ a_rec r →
+    (front : List Tree) → length front ≡ before_major r → IsWellFormed (apply (const R ls) front) → RecApp w
+rec_app w R ls g mg r kr front count fine = record { name = R; levels = ls; front = front; entry = g; recursor = r; given = mg; kind = kr; front_is = count; fine = fine }
 
-iota_step : (w : Place) → WellStated w → (R : Name) (ls : List Level) (g : Entry) → w.means R ≡ Some g → (r : Recursor) → g.kind ≡ a_rec r →
-    (front : List Tree) → length front ≡ before_major r → (m : Tree) (b : CtorApp) → IsCtorApp w m b →
-    (rule : RecRule) → IsFitting r.rules b.name b.ctor.parameters (length b.args) rule → length ls ≡ length g.levels →
-    IsWellFormed (app (apply (const R ls) front) m) → GoesTo w (app (apply (const R ls) front) m) (iota_result g ls r rule front b)
-iota_step w ok R ls g mg r kr front count m b j rule has levels f =
-    let t : m ≡ apply (const b.name b.levels) b.args = j.tree_is in
-    let s : IsStated rule.value = rule_stated r.rules rule (rules_of g r kr (ok R g mg).1) has.listed in
-    let v : Tree = put_levels g.levels ls rule.value in
-    let n : ℕ = r.parameters + r.motives + r.minors in
-    let fine : IsWellFormed (app (apply (const R ls) front) (apply (const b.name b.levels) b.args)) = rw t at f in
-    let ffront : AllWellFormed front = (well_formed_of_apply (const R ls) front fine.0).1 in
-    let fargs : AllWellFormed b.args = (well_formed_of_apply (const b.name b.levels) b.args fine.1).1 in
-    let fv : IsWellFormed v = fine_put_levels g.levels ls 0 rule.value s.0 in
-    let fresult : IsWellFormed (iota_result g ls r rule front b) =
-    fine_apply (apply v (take n front)) (drop b.ctor.parameters b.args) (fine_apply v (take n front) fv (fine_take n front ffront)) (fine_drop b.ctor.parameters b.args fargs) in
-    let c : Reduces w (app (apply (const R ls) front) (apply (const b.name b.levels) b.args)) (iota_result g ls r rule front b) =
-    r_iota R b.name ls b.levels front b.args (iota_result g ls r rule front b)
-    (record {
-      rec_entry = g;
-      recursor = r;
-      rule = rule;
-      ctor_entry = b.entry;
-      block = b.block;
-      ind = b.ind;
-      ctor = b.ctor;
-      rec_given = mg;
-      rec_kind = kr;
-      has_rule = has.listed;
-      rule_is = has.for_ctor;
-      ctor_given = j.given;
-      ctor_kind = j.kind;
-      levels = levels;
-      front_is = count;
-      args_are = has.fits;
-      result_is = refl;
-    }) fine fresult in
-    let l : LocalsWithin (app (apply (const R ls) front) (apply (const b.name b.levels) b.args)) (iota_result g ls r rule front b) =
-    within_applied (app (apply (const R ls) front) (apply (const b.name b.levels) b.args)) (apply v (take n front)) (drop b.ctor.parameters b.args)
-    (within_applied (app (apply (const R ls) front) (apply (const b.name b.levels) b.args)) v (take n front)
-    (no_local (app (apply (const R ls) front) (apply (const b.name b.levels) b.args)) v (bound_put_levels g.levels ls rule.value ∙ s.1))
-    (λ k T h. inl (local_of_arg k T (const R ls) front (any_take k T n front h))))
-    (λ k T h. inr (local_of_arg k T (const b.name b.levels) b.args (any_drop k T b.ctor.parameters b.args h))) in
-    rw t (c, l)
+-- R ls front
+abbrev front_of : {w : Place} → RecApp w → Tree
+front_of R = apply (const R.name R.levels) R.front
 
-sound_by_rule : (w : Place) → WellStated w → (R : Name) (ls : List Level) (g : Entry) → w.means R ≡ Some g → (r : Recursor) → g.kind ≡ a_rec r →
-    (front : List Tree) → length front ≡ before_major r → (rest : List Tree) (e m : Tree) → GoesTo w e (apply (app (apply (const R ls) front) m) rest) → IsCore e →
-    (b : CtorApp) → IsCtorApp w m b → (rule : Option RecRule) → fitting_rule r.rules b.name b.ctor.parameters (length b.args) ≡ rule →
-    IsSound w (by_rule e g ls r front rest b rule) (IsJustified w (core e))
-sound_by_rule w ok R ls g mg r kr front count rest e m ge fe b j None h = core_stays w e fe
-sound_by_rule w ok R ls g mg r kr front count rest e m ge fe b j (Some rule) h =
-    let has : IsFitting r.rules b.name b.ctor.parameters (length b.args) rule = fitting r.rules b.name b.ctor.parameters (length b.args) rule h in
-    let fa : IsWellFormed (app (apply (const R ls) front) m) × AllWellFormed rest = well_formed_of_apply (app (apply (const R ls) front) m) rest (well_formed_of_reduct ge.0).1 in
-    sound_bind w (with_levels g ls rule.value) _ (λ v. GoesTo w e (apply (apply (apply v (take (r.parameters + r.motives + r.minors) front)) (drop b.ctor.parameters b.args)) rest)) (IsJustified w (core e))
-    (sound_with_levels w g ls rule.value _
-    (λ levels. goes_on w e (apply (app (apply (const R ls) front) m) rest) _ ge
-    (goes_applied w (app (apply (const R ls) front) m) _ rest fa.1 (iota_step w ok R ls g mg r kr front count m b j rule has levels fa.0))))
+iota_step : (w : Place) → WellStated w → (R : RecApp w) (c : GivenCtorApp w) (h : HasRule R c) → IsWellFormed (ctor_app c) → GoesTo w (on_major R (ctor_app c)) (rule_result R c h)
+iota_step w ok R c h fc =
+    let s : IsStated h.rule.value = rule_stated R.recursor.rules h.rule (rules_of R.entry R.recursor R.kind (ok R.name R.entry R.given).1) h.is_rule in
+    let v : Tree = put_levels R.entry.levels R.levels h.rule.value in
+    let n : ℕ = before_indices R.recursor in
+    let e : Tree = on_major R (ctor_app c) in
+    let ffront : AllWellFormed R.front = (well_formed_of_apply (const R.name R.levels) R.front R.fine).1 in
+    let fargs : AllWellFormed c.args = (well_formed_of_apply (const c.name c.levels) c.args fc).1 in
+    let fv : IsWellFormed v = fine_put_levels R.entry.levels R.levels 0 h.rule.value s.0 in
+    let fresult : IsWellFormed (rule_result R c h) =
+    fine_apply (apply v (take n R.front)) (drop c.ctor.parameters c.args) (fine_apply v (take n R.front) fv (fine_take n R.front ffront)) (fine_drop c.ctor.parameters c.args fargs) in (
+      r_iota R c h fc fresult,
+      within_applied e (apply v (take n R.front)) (drop c.ctor.parameters c.args)
+          (within_applied e v (take n R.front)
+          (no_local e v (bound_put_levels R.entry.levels R.levels h.rule.value ∙ s.1))
+          (λ k T m. inl (local_of_arg k T (const R.name R.levels) R.front (any_take k T n R.front m))))
+          (λ k T m. inr (local_of_arg k T (const c.name c.levels) c.args (any_drop k T c.ctor.parameters c.args m))),
+    )
+
+sound_by_rule : (w : Place) → WellStated w → (R : RecApp w) (rest : List Tree) (e m : Tree) → GoesTo w e (apply (on_major R m) rest) → IsCore e →
+    (b : CtorApp) → IsCtorApp w m b → (rule : Option RecRule) → fitting_rule R.recursor.rules b.name b.ctor.parameters (length b.args) ≡ rule →
+    IsSound w (by_rule e R.entry R.levels R.recursor R.front rest b rule) (IsJustified w (core e))
+sound_by_rule w ok R rest e m ge fe b j None h = core_stays w e fe
+sound_by_rule w ok R rest e m ge fe b j (Some rule) h =
+    let c : GivenCtorApp w = given_app b j in
+    let has : IsFitting R.recursor.rules b.name b.ctor.parameters (length b.args) rule = fitting R.recursor.rules b.name b.ctor.parameters (length b.args) rule h in
+    let on_ctor : GoesTo w e (apply (on_major R (ctor_app c)) rest) = rw j.tree_is at ge in
+    let fa : IsWellFormed (on_major R (ctor_app c)) × AllWellFormed rest = well_formed_of_apply (on_major R (ctor_app c)) rest (well_formed_of_reduct on_ctor.0).1 in
+    sound_bind w (with_levels R.entry R.levels rule.value) _ (λ v. GoesTo w e (apply (apply (apply v (take (before_indices R.recursor) R.front)) (drop b.ctor.parameters b.args)) rest)) (IsJustified w (core e))
+    (sound_with_levels w R.entry R.levels rule.value _
+    (λ levels. goes_on w e (apply (on_major R (ctor_app c)) rest) _ on_ctor
+    (goes_applied w (on_major R (ctor_app c)) _ rest fa.1
+    (iota_step w ok R c (record { rule = rule; is_rule = has.listed; for_ctor = has.for_ctor; levels_are = levels; args_are = has.fits }) fa.0.1))))
     (λ v gv. ((well_formed_of_reduct gv.0).1, λ u gu. core_on w e _ u gv gu))
 
 -- the major premise m in the place of m'
-abbrev at_major : (w : Place) (R : Name) (g : Entry) → w.means R ≡ Some g → (r : Recursor) → g.kind ≡ a_rec r → (front : List Tree) → length front ≡ before_major r → IsMajor w R front
-at_major w R g mg r kr front count = record { rec_entry = g; recursor = r; rec_given = mg; rec_kind = kr; front_is = count }
-
-major_goes : (w : Place) (R : Name) (ls : List Level) (front : List Tree) (m m' : Tree) (rest : List Tree) → IsMajor w R front → IsWellFormed (apply (const R ls) front) → AllWellFormed rest → (v : Tree) → GoesTo w m v → Reads w v m' →
-    GoesTo w (apply (app (apply (const R ls) front) m) rest) (apply (app (apply (const R ls) front) m') rest)
-major_goes w R ls front m m' rest i fh fr v g rd = goes_applied w (app (apply (const R ls) front) m) (app (apply (const R ls) front) m') rest fr
-    (r_major R ls front i fh g.0 rd, λ k T. elim [ inl x ↦ inl x | inr x ↦ inr (g.1 k T (read_within rd k T x)) ])
+major_goes : (w : Place) (R : RecApp w) (m m' : Tree) (rest : List Tree) → AllWellFormed rest → (v : Tree) → GoesTo w m v → Reads w v m' →
+    GoesTo w (apply (on_major R m) rest) (apply (on_major R m') rest)
+major_goes w R m m' rest fr v g rd = goes_applied w (on_major R m) (on_major R m') rest fr
+    (r_major R g.0 rd, λ k T. elim [ inl x ↦ inl x | inr x ↦ inr (g.1 k T (read_within rd k T x)) ])
 
 -- K
 pub same_name_levels : (J : Name) (T : Tree) (ks : List Level) → (h : Tree) → head T ≡ h → levels_at J h ≡ Some ks → head T ≡ const J ks
@@ -249,11 +233,10 @@ abbrev IfTaken : Place → Tree → Tree → Option Tree → Type 0
 IfTaken w h major None = Unit {0}
 IfTaken w h major (Some d) = GoesTo w (app h major) (app h d)
 
-sound_k_from : (w : Place) (R : Name) (ls : List Level) (g : Entry) → w.means R ≡ Some g → (r : Recursor) → g.kind ≡ a_rec r → r.k ≡ true →
-    (front : List Tree) → length front ≡ before_major r → IsWellFormed (apply (const R ls) front) → (major T : Tree) → TypesTo w major T → LocalsWithin major T →
-    (b : CtorApp) → IsOnly w r b → (o : Option (List Level)) → levels_at b.ind.name (head T) ≡ o → IsSound w (k_from b T o) (IfTaken w (apply (const R ls) front) major)
-sound_k_from w R ls g mg r kr kk front count fh major T hT wT b j None h = tt
-sound_k_from w R ls g mg r kr kk front count fh major T hT wT b j (Some ks) h =
+sound_k_from : (w : Place) (R : RecApp w) → R.recursor.k ≡ true → (major T : Tree) → TypesTo w major T → LocalsWithin major T →
+    (b : CtorApp) → IsOnly w R.recursor b → (o : Option (List Level)) → levels_at b.ind.name (head T) ≡ o → IsSound w (k_from b T o) (IfTaken w (front_of R) major)
+sound_k_from w R kk major T hT wT b j None h = tt
+sound_k_from w R kk major T hT wT b j (Some ks) h =
     let p : ℕ = b.ctor.parameters in
     let e : head T ≡ const b.ind.name ks = same_name_levels b.ind.name T ks (head T) refl h in
     let t : apply (const b.ind.name ks) (args T) ≡ T = rw e at (apply_head_args T) in
@@ -261,35 +244,23 @@ sound_k_from w R ls g mg r kr kk front count fh major T hT wT b j (Some ks) h =
     let fargs : AllWellFormed (args T) = (well_formed_of_apply (const b.ind.name ks) (args T) (rw t fT)).1 in
     let d : Tree = apply (const b.name ks) (take p (args T)) in
     let fd : IsWellFormed d = fine_apply (const b.name ks) (take p (args T)) tt (fine_take p (args T) fargs) in
-    sound_if w (nat_le p (length (args T))) _ (done None) (IfTaken w (apply (const R ls) front) major)
+    sound_if w (nat_le p (length (args T))) _ (done None) (IfTaken w (front_of R) major)
     (λ enough. (
       fd,
       λ D mD. (
         (fT, (well_formed_of_type mD.0).1),
-        λ equal mE. sound_if w equal (done (Some d)) (done None) (IfTaken w (apply (const R ls) front) major)
+        λ equal mE. sound_if w equal (done (Some d)) (done None) (IfTaken w (front_of R) major)
             (λ y.
             let at : apply (const b.ind.name ks) (take p (args T) ++ drop p (args T)) ≡ T = rw take-append-drop t in
-            let some : length (take p (args T)) ≡ p = length_taken p (args T) (grind (arith, nat_tests, enough)) in (
-              r_k R b.ind.name b.name ls ks front (take p (args T)) (drop p (args T)) major hT.between D
-                  (record {
-                    rec_entry = g;
-                    recursor = r;
-                    rule = j.rule;
-                    ctor_entry = b.entry;
-                    block = b.block;
-                    ind = b.ind;
-                    ctor = b.ctor;
-                    rec_given = mg;
-                    rec_kind = kr;
-                    k_is = kk;
-                    one_rule = j.one;
-                    rule_is = j.named;
-                    ctor_given = j.given;
-                    ctor_kind = j.kind;
-                    parent = refl;
-                    front_is = count;
-                    parameters_are = some;
-                  }) hT.types (rw at hT.reduces) mD.0 (rw at (of_yes equal y mE)) fh,
+            let some : length (take p (args T)) ≡ p = length_taken p (args T) (grind (arith, nat_tests, enough)) in
+            let k : KMajor R = record {
+              ctor = record { name = b.name; levels = ks; args = take p (args T); entry = b.entry; block = b.block; ind = b.ind; ctor = b.ctor; given = j.given; kind = j.kind };
+              rest = drop p (args T);
+              k_is = kk;
+              only = record { rule = j.rule; one_rule = j.one; for_ctor = j.named };
+              params_are = some;
+            } in (
+              r_k R k hT.types (rw at hT.reduces) mD.0 (rw at (of_yes equal y mE)),
               λ k S. elim [
                 | inl x ↦ inl x
                 | inr x ↦ inr (wT k S (rw (← t) (local_of_arg k S (const b.ind.name ks) (args T) (any_take k S p (args T)
@@ -321,26 +292,32 @@ abbrev IfGoesToCtorApp : Place → Tree → Tree → Option CtorApp → Type 0
 IfGoesToCtorApp w h m None = Unit {0}
 IfGoesToCtorApp w h m (Some b) = GoesToCtorApp w h m b
 
-expands : (w : Place) → WellStated w → (R : Name) (js : List Level) (front : List Tree) → (im : IsMajor w R front) → IsWellFormed (apply (const R js) front) → (r : Recursor) → im.recursor ≡ r → (m T : Tree) → TypesTo w m T → LocalsWithin m T → (k : CtorApp) → IsOnly w r k → (ls : List Level) → apply (const k.ind.name ls) (args T) ≡ T →
+expands : (w : Place) → WellStated w → (R : RecApp w) (m T : Tree) → TypesTo w m T → LocalsWithin m T → (k : CtorApp) → IsOnly w R.recursor k → (ls : List Level) → apply (const k.ind.name ls) (args T) ≡ T →
     builds_structure k ≡ true → nat_eq (length (args T)) k.ctor.parameters ≡ true → (l : Level) → HasSort w T l → is_zero_level l ≡ false →
-    GoesToCtorApp w (apply (const R js) front) m (expanded k ls m (args T))
-expands w ok R js front im fh r er m T hT wT k j ls eT like yes_count l hl nz =
+    GoesToCtorApp w (front_of R) m (expanded k ls m (args T))
+expands w ok R m T hT wT k j ls eT like yes_count l hl nz =
     let t : (has_one_ctor k.ind.ctors ≡ true) × (is_structure_like k.block k.ind k.ctor ≡ true) = both (has_one_ctor k.ind.ctors) (is_structure_like k.block k.ind k.ctor) like in
     let count : length (args T) ≡ k.ctor.parameters = grind (arith, nat_tests) in
     let ps : List Tree = projections k.ind.name m 0 k.ctor.fields in
+    let S : StructureAt w = record {
+      structure = record {
+        ctor_name = k.name;
+        block = k.block;
+        ind = k.ind;
+        ctor = k.ctor;
+        one_ctor = the_ctor k.ctor k.ind.ctors t.0 (listed_of k.entry k.block k.ind k.ctor j.kind (ok k.name k.entry j.given).1);
+        like = t.1;
+        entry = k.entry;
+        given = j.given;
+        kind = j.kind;
+      };
+      levels = ls;
+      params = args T;
+      params_are = count;
+    } in
     record {
       goes = (
-        r_struct R (record {
-          ctor_name = k.name;
-          block = k.block;
-          ind = k.ind;
-          ctor = k.ctor;
-          one_ctor = the_ctor k.ctor k.ind.ctors t.0 (listed_of k.entry k.block k.ind k.ctor j.kind (ok k.name k.entry j.given).1);
-          like = t.1;
-          entry = k.entry;
-          given = j.given;
-          kind = j.kind;
-        }) js ls front (args T) m hT.between im j.rule (rw er j.one) j.named fh count hT.types (rw eT hT.reduces) (not_prop {l = l} (rw eT hl) (not_zero_level l nz)),
+        r_struct R S (record { rule = j.rule; one_rule = j.one; for_ctor = j.named }) hT.types (rw eT hT.reduces) (not_prop {l = l} (rw eT hl) (not_zero_level l nz)),
         λ k' T'. elim [
           | inl x ↦ inl x
           | inr x ↦ inr (within_applied m (const k.name ls) (args T ++ ps) (λ i S h. absurd h)
@@ -353,82 +330,76 @@ expands w ok R js front im fh r er m T hT wT k j ls eT like yes_count l hl nz =
       is_ctor_app = record { tree_is = refl; given = j.given; kind = j.kind };
     }
 
-sound_expand_at : (w : Place) → WellStated w → (R : Name) (js : List Level) (front : List Tree) → (im : IsMajor w R front) → IsWellFormed (apply (const R js) front) → (r : Recursor) → im.recursor ≡ r → (m T : Tree) → TypesTo w m T → LocalsWithin m T → (k : CtorApp) → IsOnly w r k → builds_structure k ≡ true → (o : Option (List Level)) → levels_at k.ind.name (head T) ≡ o →
-    IsSound w (expand_at k m T o) (IfGoesToCtorApp w (apply (const R js) front) m)
-sound_expand_at w ok R js front im fh r er m T hT wT k j like None h = tt
-sound_expand_at w ok R js front im fh r er m T hT wT k j like (Some ls) h =
+sound_expand_at : (w : Place) → WellStated w → (R : RecApp w) (m T : Tree) → TypesTo w m T → LocalsWithin m T → (k : CtorApp) → IsOnly w R.recursor k → builds_structure k ≡ true → (o : Option (List Level)) → levels_at k.ind.name (head T) ≡ o →
+    IsSound w (expand_at k m T o) (IfGoesToCtorApp w (front_of R) m)
+sound_expand_at w ok R m T hT wT k j like None h = tt
+sound_expand_at w ok R m T hT wT k j like (Some ls) h =
     let e : head T ≡ const k.ind.name ls = same_name_levels k.ind.name T ls (head T) refl h in
     let eT : apply (const k.ind.name ls) (args T) ≡ T = rw e at (apply_head_args T) in
-    sound_if w (nat_eq (length (args T)) k.ctor.parameters) _ (done None) (IfGoesToCtorApp w (apply (const R js) front) m)
-    (λ t. sound_bind w (sort_of T) _ (λ l. HasSort w T l) (IfGoesToCtorApp w (apply (const R js) front) m) (sound_sort_of w T (well_formed_of_to hT))
-    (λ l hl. sound_if w (is_zero_level l) (done None) (done (Some (expanded k ls m (args T)))) (IfGoesToCtorApp w (apply (const R js) front) m)
-    (λ z. tt) (λ z. expands w ok R js front im fh r er m T hT wT k j ls eT like t l hl z)))
+    sound_if w (nat_eq (length (args T)) k.ctor.parameters) _ (done None) (IfGoesToCtorApp w (front_of R) m)
+    (λ t. sound_bind w (sort_of T) _ (λ l. HasSort w T l) (IfGoesToCtorApp w (front_of R) m) (sound_sort_of w T (well_formed_of_to hT))
+    (λ l hl. sound_if w (is_zero_level l) (done None) (done (Some (expanded k ls m (args T)))) (IfGoesToCtorApp w (front_of R) m)
+    (λ z. tt) (λ z. expands w ok R m T hT wT k j ls eT like t l hl z)))
     (λ t. tt)
 
-sound_to_ctor_when_structure : (w : Place) → WellStated w → (R : Name) (js : List Level) (front : List Tree) → (im : IsMajor w R front) → IsWellFormed (apply (const R js) front) → (r : Recursor) → im.recursor ≡ r → (m : Tree) → IsWellFormed m → (k : Option CtorApp) → IfOnly w r k → IsSound w (to_ctor_when_structure m k) (IfGoesToCtorApp w (apply (const R js) front) m)
-sound_to_ctor_when_structure w ok R js front im fh r er m f None j = tt
-sound_to_ctor_when_structure w ok R js front im fh r er m f (Some k) j =
-    sound_if w (builds_structure k) _ (done None) (IfGoesToCtorApp w (apply (const R js) front) m)
+sound_to_ctor_when_structure : (w : Place) → WellStated w → (R : RecApp w) (m : Tree) → IsWellFormed m → (k : Option CtorApp) → IfOnly w R.recursor k → IsSound w (to_ctor_when_structure m k) (IfGoesToCtorApp w (front_of R) m)
+sound_to_ctor_when_structure w ok R m f None j = tt
+sound_to_ctor_when_structure w ok R m f (Some k) j =
+    sound_if w (builds_structure k) _ (done None) (IfGoesToCtorApp w (front_of R) m)
     (λ like. (
       f,
       λ S mS. (
         (well_formed_of_type mS.0).1,
-        λ T mT. sound_expand_at w ok R js front im fh r er m T (record { between = S; types = mS.0; reduces = mT.0 }) (within_trans m S T mS.1 mT.1) k j like (levels_at k.ind.name (head T)) refl,
+        λ T mT. sound_expand_at w ok R m T (record { between = S; types = mS.0; reduces = mT.0 }) (within_trans m S T mS.1 mT.1) k j like (levels_at k.ind.name (head T)) refl,
       ),
     ))
     (λ like. tt)
 
-sound_as_ctor_app : (w : Place) → WellStated w → (R : Name) (js : List Level) (front : List Tree) → (im : IsMajor w R front) → IsWellFormed (apply (const R js) front) → (r : Recursor) → im.recursor ≡ r → (m : Tree) → IsWellFormed m → (b : Option CtorApp) → IfCtorApp w m b → IsSound w (as_ctor_app r m b) (IfGoesToCtorApp w (apply (const R js) front) m)
-sound_as_ctor_app w ok R js front im fh r er m f (Some b) j =
-    record { goes = rw (← j.tree_is) (stays w (app (apply (const R js) front) m) (fh, f)); is_ctor_app = record { tree_is = refl; given = j.given; kind = j.kind } }
-sound_as_ctor_app w ok R js front im fh r er m f None j =
-    sound_bind w (only_ctor r.rules) (λ k. to_ctor_when_structure m k) (IfOnly w r) (IfGoesToCtorApp w (apply (const R js) front) m) (sound_only w r r.rules refl) (λ k i. sound_to_ctor_when_structure w ok R js front im fh r er m f k i)
+sound_as_ctor_app : (w : Place) → WellStated w → (R : RecApp w) (m : Tree) → IsWellFormed m → (b : Option CtorApp) → IfCtorApp w m b → IsSound w (as_ctor_app R.recursor m b) (IfGoesToCtorApp w (front_of R) m)
+sound_as_ctor_app w ok R m f (Some b) j =
+    record { goes = rw (← j.tree_is) (stays w (on_major R m) (R.fine, f)); is_ctor_app = record { tree_is = refl; given = j.given; kind = j.kind } }
+sound_as_ctor_app w ok R m f None j =
+    sound_bind w (only_ctor R.recursor.rules) (λ k. to_ctor_when_structure m k) (IfOnly w R.recursor) (IfGoesToCtorApp w (front_of R) m) (sound_only w R.recursor R.recursor.rules refl) (λ k i. sound_to_ctor_when_structure w ok R m f k i)
 
-sound_with_ctor_app : (w : Place) → WellStated w → (R : Name) (ls : List Level) (g : Entry) → w.means R ≡ Some g → (r : Recursor) → g.kind ≡ a_rec r →
-    (front : List Tree) → length front ≡ before_major r → (rest : List Tree) (e m : Tree) → GoesTo w e (apply (app (apply (const R ls) front) m) rest) → IsCore e →
-    (b : Option CtorApp) → IfGoesToCtorApp w (apply (const R ls) front) m b → IsSound w (iota_at_ctor e g ls r front rest b) (IsJustified w (core e))
-sound_with_ctor_app w ok R ls g mg r kr front count rest e m ge fe None j = core_stays w e fe
-sound_with_ctor_app w ok R ls g mg r kr front count rest e m ge fe (Some b) j =
+sound_with_ctor_app : (w : Place) → WellStated w → (R : RecApp w) (rest : List Tree) (e m : Tree) → GoesTo w e (apply (on_major R m) rest) → IsCore e →
+    (b : Option CtorApp) → IfGoesToCtorApp w (front_of R) m b → IsSound w (iota_at_ctor e R.entry R.levels R.recursor R.front rest b) (IsJustified w (core e))
+sound_with_ctor_app w ok R rest e m ge fe None j = core_stays w e fe
+sound_with_ctor_app w ok R rest e m ge fe (Some b) j =
     let m' : Tree = apply (const b.name b.levels) b.args in
-    let fa : IsWellFormed (app (apply (const R ls) front) m) × AllWellFormed rest = well_formed_of_apply (app (apply (const R ls) front) m) rest (well_formed_of_reduct ge.0).1 in
-    sound_by_rule w ok R ls g mg r kr front count rest e m'
-    (goes_on w e (apply (app (apply (const R ls) front) m) rest) (apply (app (apply (const R ls) front) m') rest) ge
-    (goes_applied w (app (apply (const R ls) front) m) (app (apply (const R ls) front) m') rest fa.1 j.goes))
-    fe b j.is_ctor_app (fitting_rule r.rules b.name b.ctor.parameters (length b.args)) refl
+    let fa : IsWellFormed (on_major R m) × AllWellFormed rest = well_formed_of_apply (on_major R m) rest (well_formed_of_reduct ge.0).1 in
+    sound_by_rule w ok R rest e m'
+    (goes_on w e (apply (on_major R m) rest) (apply (on_major R m') rest) ge (goes_applied w (on_major R m) (on_major R m') rest fa.1 j.goes))
+    fe b j.is_ctor_app (fitting_rule R.recursor.rules b.name b.ctor.parameters (length b.args)) refl
 
-sound_iota_of : (w : Place) → WellStated w → (R : Name) (ls : List Level) (g : Entry) → w.means R ≡ Some g → (r : Recursor) → g.kind ≡ a_rec r →
-    (front : List Tree) → length front ≡ before_major r → (rest : List Tree) (e m : Tree) → GoesTo w e (apply (app (apply (const R ls) front) m) rest) → IsCore e →
-    IsSound w (iota_of e g ls r front rest m) (IsJustified w (core e))
-sound_iota_of w ok R ls g mg r kr front count rest e m ge fe =
-    let fa : IsWellFormed (app (apply (const R ls) front) m) × AllWellFormed rest = well_formed_of_apply (app (apply (const R ls) front) m) rest (well_formed_of_reduct ge.0).1 in
+sound_iota_of : (w : Place) → WellStated w → (R : RecApp w) (rest : List Tree) (e m : Tree) → GoesTo w e (apply (on_major R m) rest) → IsCore e →
+    IsSound w (iota_of e R.entry R.levels R.recursor R.front rest m) (IsJustified w (core e))
+sound_iota_of w ok R rest e m ge fe =
+    let fa : IsWellFormed (on_major R m) × AllWellFormed rest = well_formed_of_apply (on_major R m) rest (well_formed_of_reduct ge.0).1 in
     sound_bind w (ctor_app_of (head m) (args m)) _ (IfCtorApp w m) (IsJustified w (core e)) (sound_ctor_app_of w m)
-    (λ b j. sound_bind w (as_ctor_app r m b) (λ c. iota_at_ctor e g ls r front rest c) (IfGoesToCtorApp w (apply (const R ls) front) m) (IsJustified w (core e)) (sound_as_ctor_app w ok R ls front (at_major w R g mg r kr front count) fa.0.0 r refl m fa.0.1 b j)
-    (λ c i. sound_with_ctor_app w ok R ls g mg r kr front count rest e m ge fe c i))
+    (λ b j. sound_bind w (as_ctor_app R.recursor m b) (λ c. iota_at_ctor e R.entry R.levels R.recursor R.front rest c) (IfGoesToCtorApp w (front_of R) m) (IsJustified w (core e)) (sound_as_ctor_app w ok R m fa.0.1 b j)
+    (λ c i. sound_with_ctor_app w ok R rest e m ge fe c i))
 
-sound_k_step : (w : Place) (R : Name) (ls : List Level) (g : Entry) → w.means R ≡ Some g → (r : Recursor) → g.kind ≡ a_rec r → r.k ≡ true →
-    (front : List Tree) → length front ≡ before_major r → IsWellFormed (apply (const R ls) front) → (major : Tree) → IsWellFormed major →
-    (b : Option CtorApp) → IfOnly w r b → IsSound w (to_ctor_when_k r major b) (IfTaken w (apply (const R ls) front) major)
-sound_k_step w R ls g mg r kr kk front count fh major fm None j = tt
-sound_k_step w R ls g mg r kr kk front count fh major fm (Some b) j = (
+sound_k_step : (w : Place) (R : RecApp w) → R.recursor.k ≡ true → (major : Tree) → IsWellFormed major →
+    (b : Option CtorApp) → IfOnly w R.recursor b → IsSound w (to_ctor_when_k R.recursor major b) (IfTaken w (front_of R) major)
+sound_k_step w R kk major fm None j = tt
+sound_k_step w R kk major fm (Some b) j = (
   fm,
   λ S mS. (
     (well_formed_of_type mS.0).1,
-    λ T mT.
-        sound_k_from w R ls g mg r kr kk front count fh major T (record { between = S; types = mS.0; reduces = mT.0 }) (within_trans major S T mS.1 mT.1) b j (levels_at b.ind.name (head T)) refl,
+    λ T mT. sound_k_from w R kk major T (record { between = S; types = mS.0; reduces = mT.0 }) (within_trans major S T mS.1 mT.1) b j (levels_at b.ind.name (head T)) refl,
   ),
 )
 
-sound_after_k : (w : Place) → WellStated w → (R : Name) (ls : List Level) (g : Entry) → w.means R ≡ Some g → (r : Recursor) → g.kind ≡ a_rec r →
-    (front : List Tree) → length front ≡ before_major r → (major : Tree) (rest : List Tree) (e : Tree) → apply (app (apply (const R ls) front) major) rest ≡ e → IsCore e →
-    (d : Option Tree) → IfTaken w (apply (const R ls) front) major d → IsSound w (iota_after_k e g ls r front major rest d) (IsJustified w (core e))
-sound_after_k w ok R ls g mg r kr front count major rest e eq fe (Some d) t =
-    let fa : IsWellFormed (app (apply (const R ls) front) major) × AllWellFormed rest = well_formed_of_apply (app (apply (const R ls) front) major) rest (rw eq fe.0) in
-    sound_iota_of w ok R ls g mg r kr front count rest e d (rw (← eq) (goes_applied w (app (apply (const R ls) front) major) (app (apply (const R ls) front) d) rest fa.1 t)) fe
-sound_after_k w ok R ls g mg r kr front count major rest e eq fe None t =
-    let fa : IsWellFormed (app (apply (const R ls) front) major) × AllWellFormed rest = well_formed_of_apply (app (apply (const R ls) front) major) rest (rw eq fe.0) in (
+sound_after_k : (w : Place) → WellStated w → (R : RecApp w) (major : Tree) (rest : List Tree) (e : Tree) → apply (on_major R major) rest ≡ e → IsCore e →
+    (d : Option Tree) → IfTaken w (front_of R) major d → IsSound w (iota_after_k e R.entry R.levels R.recursor R.front major rest d) (IsJustified w (core e))
+sound_after_k w ok R major rest e eq fe (Some d) t =
+    let fa : IsWellFormed (on_major R major) × AllWellFormed rest = well_formed_of_apply (on_major R major) rest (rw eq fe.0) in
+    sound_iota_of w ok R rest e d (rw (← eq) (goes_applied w (on_major R major) (on_major R d) rest fa.1 t)) fe
+sound_after_k w ok R major rest e eq fe None t =
+    let fa : IsWellFormed (on_major R major) × AllWellFormed rest = well_formed_of_apply (on_major R major) rest (rw eq fe.0) in (
       fa.0.1,
-      λ v gv. sound_bind w (literal_to_ctor v) (λ m. iota_of e g ls r front rest m) (λ m. Reads w v m) (IsJustified w (core e)) (sound_literal_to_ctor w v)
-          (λ m rd. sound_iota_of w ok R ls g mg r kr front count rest e m (rw (← eq) (major_goes w R ls front major m rest (at_major w R g mg r kr front count) fa.0.0 fa.1 v gv rd)) fe),
+      λ v gv. sound_bind w (literal_to_ctor v) (λ m. iota_of e R.entry R.levels R.recursor R.front rest m) (λ m. Reads w v m) (IsJustified w (core e)) (sound_literal_to_ctor w v)
+          (λ m rd. sound_iota_of w ok R rest e m (rw (← eq) (major_goes w R major m rest fa.1 v gv rd)) fe),
     )
 
 sound_iota : (w : Place) → WellStated w → (R : Name) (ls : List Level) (g : Entry) → w.means R ≡ Some g → (r : Recursor) → g.kind ≡ a_rec r →
@@ -441,12 +412,13 @@ sound_iota w ok R ls g mg r kr xs e eq fe (Some major) h =
     let at : apply (app (apply (const R ls) front) major) rest ≡ e = split_at (before_major r) (const R ls) major xs h ∙ eq in
     let count : length front ≡ before_major r = length_before (before_major r) major xs h in
     let fa : IsWellFormed (app (apply (const R ls) front) major) × AllWellFormed rest = well_formed_of_apply (app (apply (const R ls) front) major) rest (rw at fe.0) in
+    let K : RecApp w = rec_app w R ls g mg r kr front count fa.0.0 in
     sound_if w r.k _ (iota_after_k e g ls r front major rest None) (IsJustified w (core e))
     (λ kk. sound_bind w (only_ctor r.rules) _ (IfOnly w r) (IsJustified w (core e)) (sound_only w r r.rules refl)
     (λ b j. sound_bind w (to_ctor_when_k r major b) (λ d. iota_after_k e g ls r front major rest d) (IfTaken w (apply (const R ls) front) major) (IsJustified w (core e))
-    (sound_k_step w R ls g mg r kr kk front count fa.0.0 major fa.0.1 b j)
-    (λ d t. sound_after_k w ok R ls g mg r kr front count major rest e at fe d t)))
-    (λ kk. sound_after_k w ok R ls g mg r kr front count major rest e at fe None tt)
+    (sound_k_step w K kk major fa.0.1 b j)
+    (λ d t. sound_after_k w ok K major rest e at fe d t)))
+    (λ kk. sound_after_k w ok K major rest e at fe None tt)
 
 pub sound_core_constant : (w : Place) → WellStated w → (R : Name) (ls : List Level) (g : Entry) → w.means R ≡ Some g →
     (e : Tree) (xs : List Tree) → apply (const R ls) xs ≡ e → IsCore e → AllWellFormed xs → (k : Kind) → g.kind ≡ k → IsSound w (core_constant e R ls xs g k) (IsJustified w (core e))

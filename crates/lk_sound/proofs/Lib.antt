@@ -39,3 +39,5 @@ pub mod BuiltYes
 pub mod GoodUnits
 pub mod LevelTests
 pub mod SameParts
+pub mod NumberLaws
+pub mod Lawful

@@ -18,15 +18,16 @@ use Rattle.lk_questions.specs.Pairs.{goes_on}
 use Rattle.lk_questions.specs.LiteralLines.{step_of, same_first, same_second, NatCtor, is_zero, is_succ, nat_ctor, lit_first, lit_second, same_numbers, step_first, step_second, by_literals, is_made, text_first, text_second, by_string}
 use Rattle.lk_plain.specs.Sound.{IsSound}
 use Rattle.lk_plain.proofs.Soundness.{sound_bind}
+use Rattle.lk_rulebook.specs.Lawful.{IsLawfulPlace}
 use Rattle.lk_sound.proofs.Pieces.{same_name_right, if_yes_map}
 use Rattle.lk_sound.proofs.Goes.{sound_if}
 use Rattle.lk_sound.proofs.Lines.{IfAnswers, SoundLine, sound_or_line, sound_answers}
 use Rattle.lk_sound.proofs.LiteralSteps.{IfStep, sound_literal_step}
 use Rattle.lk_sound.proofs.Readings.{IfExpands, sound_expansion_of}
 
-sound_step_of : (w : Place) (e h : Tree) → IsWellFormed e → apply h (args e) ≡ e → IsSound w (step_of e h) (IfStep w e)
-sound_step_of w e (const f ls) fe eq = λ g m. sound_literal_step w e f ls g m eq (well_formed_of_apply (const f ls) (args e) (rw eq fe)).1
-sound_step_of w e _ fe eq = tt
+sound_step_of : (w : Place) → IsLawfulPlace w → (e h : Tree) → IsWellFormed e → apply h (args e) ≡ e → IsSound w (step_of e h) (IfStep w e)
+sound_step_of w law e (const f ls) fe eq = λ g m. sound_literal_step w law e f ls g m eq (well_formed_of_apply (const f ls) (args e) (rw eq fe)).1
+sound_step_of w law e _ fe eq = tt
 
 sound_first : (w : Place) (a b : Tree) → IsWellFormed b → (o : Option Tree) → IfStep w a o → SoundLine w (same_first o b) (IsDefEq w a b)
 sound_first w a b fb None i = tt
@@ -38,13 +39,13 @@ sound_second w a b fa None i = tt
 sound_second w a b fa (Some r) i = sound_answers w (asked (same a r)) (IsDefEq w a b)
     ((fa, (well_formed_of_reduct i.0).1), λ e m. if_yes_map e (λ c. e_reduce (r_refl fa) i.0 c) m)
 
-sound_step_first : (w : Place) (a b : Tree) → IsWellFormed a → IsWellFormed b → SoundLine w (step_first a b) (IsDefEq w a b)
-sound_step_first w a b fa fb = sound_bind w (step_of a (head a)) (λ r. same_first r b) (IfStep w a) (λ o. IfAnswers o (IsDefEq w a b))
-    (sound_step_of w a (head a) fa (apply_head_args a)) (sound_first w a b fb)
+sound_step_first : (w : Place) → IsLawfulPlace w → (a b : Tree) → IsWellFormed a → IsWellFormed b → SoundLine w (step_first a b) (IsDefEq w a b)
+sound_step_first w law a b fa fb = sound_bind w (step_of a (head a)) (λ r. same_first r b) (IfStep w a) (λ o. IfAnswers o (IsDefEq w a b))
+    (sound_step_of w law a (head a) fa (apply_head_args a)) (sound_first w a b fb)
 
-sound_step_second : (w : Place) (a b : Tree) → IsWellFormed a → IsWellFormed b → SoundLine w (step_second a b) (IsDefEq w a b)
-sound_step_second w a b fa fb = sound_bind w (step_of b (head b)) (λ r. same_second a r) (IfStep w b) (λ o. IfAnswers o (IsDefEq w a b))
-    (sound_step_of w b (head b) fb (apply_head_args b)) (sound_second w a b fa)
+sound_step_second : (w : Place) → IsLawfulPlace w → (a b : Tree) → IsWellFormed a → IsWellFormed b → SoundLine w (step_second a b) (IsDefEq w a b)
+sound_step_second w law a b fa fb = sound_bind w (step_of b (head b)) (λ r. same_second a r) (IfStep w b) (λ o. IfAnswers o (IsDefEq w a b))
+    (sound_step_of w law b (head b) fb (apply_head_args b)) (sound_second w a b fa)
 
 -- the tree is zero or a successor
 abbrev IfNatCtor : Tree → Option NatCtor → Type 0
@@ -93,9 +94,9 @@ sound_numbers w (lit n) b fa fb = sound_lit_first w n b fa fb (nat_ctor b) (nat_
 sound_numbers w a (lit n) fa fb = sound_lit_second w n a fb fa (nat_ctor a) (nat_ctor_right a)
 sound_numbers w _ _ fa fb = tt
 
-pub sound_by_literals : (w : Place) (a b : Tree) → IsWellFormed a → IsWellFormed b → SoundLine w (by_literals a b) (IsDefEq w a b)
-sound_by_literals w a b fa fb = sound_or_line w (step_first a b) _ (IsDefEq w a b) (sound_step_first w a b fa fb)
-    (sound_or_line w (step_second a b) (same_numbers a b) (IsDefEq w a b) (sound_step_second w a b fa fb) (sound_numbers w a b fa fb))
+pub sound_by_literals : (w : Place) → IsLawfulPlace w → (a b : Tree) → IsWellFormed a → IsWellFormed b → SoundLine w (by_literals a b) (IsDefEq w a b)
+sound_by_literals w law a b fa fb = sound_or_line w (step_first a b) _ (IsDefEq w a b) (sound_step_first w law a b fa fb)
+    (sound_or_line w (step_second a b) (same_numbers a b) (IsDefEq w a b) (sound_step_second w law a b fa fb) (sound_numbers w a b fa fb))
 
 -- a text on one side
 text_left : (w : Place) (s : List ℕ) (b : Tree) → IsWellFormed b → (o : Option Tree) → IfExpands w s o → SoundLine w (same_first o b) (IsDefEq w (str s) b)

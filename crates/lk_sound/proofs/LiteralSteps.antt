@@ -11,6 +11,7 @@ use Rattle.lk_rulebook.specs.Names.{named, nat_zero, op_name}
 use Rattle.lk_tree.specs.Mentions.{same_name}
 use Rattle.lk_rulebook.specs.Shapes.{HasNat}
 use Rattle.lk_rulebook.specs.Literals.{IsNumeral, of_lit, of_zero, may_give, IsOperation, IsResult, a_number, a_truth}
+use Rattle.lk_rulebook.specs.Lawful.{IsLawfulPlace}
 use Rattle.lk_rulebook.specs.Rules.{r_op, Numerals, no_more_numerals, numeral}
 use Rattle.lk_rulebook.proofs.Texts.{result_within}
 use Rattle.lk_plain.specs.Program.{done}
@@ -66,15 +67,15 @@ abbrev pub IfStep : Place → Tree → Option Tree → Type 0
 IfStep w c None = Unit {0}
 IfStep w c (Some r) = GoesTo w c r
 
-sound_computed : (w : Place) (op : Op) → IsOperation w op → (es : List Tree) (o : Option (List ℕ)) → IfNumerals w es o → IsSound w (computed op o) (IfStep w (apply (named (op_name op)) es))
-sound_computed w op i es None s = tt
-sound_computed w op i es (Some ns) s =
+sound_computed : (w : Place) → IsLawfulPlace w → (op : Op) → IsOperation w op → (es : List Tree) (o : Option (List ℕ)) → IfNumerals w es o → IsSound w (computed op o) (IfStep w (apply (named (op_name op)) es))
+sound_computed w law op i es None s = tt
+sound_computed w law op i es (Some ns) s =
     sound_bind w nat_shape (λ u. result_of (op_value op ns)) (λ u. HasNat w) (IfStep w (apply (named (op_name op)) es)) (sound_nat_shape w)
     (λ u h. sound_map w (result_of (op_value op ns)) (IfResult w (op_value op ns)) (IfStep w (apply (named (op_name op)) es)) (finish h) (sound_result_of w (op_value op ns)))
   where
     finish : HasNat w → (o : Option Tree) → IfResult w (op_value op ns) o → IfStep w (apply (named (op_name op)) es) o
     finish h None r = tt
-    finish h (Some x) r = (r_op op es ns x i h s r, result_within (apply (named (op_name op)) es) r)
+    finish h (Some x) r = (r_op op es ns x i h (law op i) s r, result_within (apply (named (op_name op)) es) r)
 
 op_named_at : (op : Op) (rest : List Op) (f : Name) (o : Op) → (op_named rest f ≡ Some o → op_name o ≡ f) → (b : Bool) → same_name (op_name op) f ≡ b → (if b then Some op else op_named rest f) ≡ Some o → op_name o ≡ f
 op_named_at op rest f o h true e i = let j : op ≡ o = Some_inj i in rw (← j) (same_name_right (op_name op) f e)
@@ -84,20 +85,20 @@ op_named_right : (os : List Op) (f : Name) (o : Op) → op_named os f ≡ Some o
 op_named_right [] f o e = absurd cc
 op_named_right (op ∷ rest) f o e = op_named_at op rest f o (op_named_right rest f o) (same_name (op_name op) f) refl e
 
-sound_op_step : (w : Place) (f : Name) (g : Entry) → w.means f ≡ Some g → (o : Option Op) → ((op : Op) → o ≡ Some op → op_name op ≡ f) → (xs : List Tree) → AllWellFormed xs →
+sound_op_step : (w : Place) → IsLawfulPlace w → (f : Name) (g : Entry) → w.means f ≡ Some g → (o : Option Op) → ((op : Op) → o ≡ Some op → op_name op ≡ f) → (xs : List Tree) → AllWellFormed xs →
     IsSound w (op_step o g.kind xs) (IfStep w (apply (named f) xs))
-sound_op_step w f g m None h xs fx = tt
-sound_op_step w f g m (Some op) h xs fx =
+sound_op_step w law f g m None h xs fx = tt
+sound_op_step w law f g m (Some op) h xs fx =
     let e : op_name op ≡ f = h op refl in
     sound_if w (may_give op g.kind && nat_eq (length xs) (arity op)) _ (done None) (IfStep w (apply (named f) xs))
     (λ y. sound_bind w (numerals xs) (λ ns. computed op ns) (IfNumerals w xs) (IfStep w (apply (named f) xs)) (sound_numerals w xs fx)
-    (λ ns s. rw (← e) (sound_computed w op (record { entry = g; given = rw e m; kind = (halves (may_give op g.kind) (nat_eq (length xs) (arity op)) y).0 }) xs ns s)))
+    (λ ns s. rw (← e) (sound_computed w law op (record { entry = g; given = rw e m; kind = (halves (may_give op g.kind) (nat_eq (length xs) (arity op)) y).0 }) xs ns s)))
     (λ y. tt)
 
-pub sound_literal_step : (w : Place) (c : Tree) (f : Name) (ls : List Level) (g : Entry) → w.means f ≡ Some g → apply (const f ls) (args c) ≡ c → AllWellFormed (args c) → IsSound w (literal_step c f ls g) (IfStep w c)
-sound_literal_step w c f [] g m e fx =
+pub sound_literal_step : (w : Place) → IsLawfulPlace w → (c : Tree) (f : Name) (ls : List Level) (g : Entry) → w.means f ≡ Some g → apply (const f ls) (args c) ≡ c → AllWellFormed (args c) → IsSound w (literal_step c f ls g) (IfStep w c)
+sound_literal_step w law c f [] g m e fx =
     sound_if w (nat_eq (bound c) 0) (op_step (op_named ops f) g.kind (args c)) (done None) (IfStep w c)
     (λ y. sound_map w (op_step (op_named ops f) g.kind (args c)) (IfStep w (apply (named f) (args c))) (IfStep w c) (λ o s. rw e at s)
-    (sound_op_step w f g m (op_named ops f) (op_named_right ops f) (args c) fx))
+    (sound_op_step w law f g m (op_named ops f) (op_named_right ops f) (args c) fx))
     (λ y. tt)
-sound_literal_step w c f (l ∷ ls) g m e fx = tt
+sound_literal_step w law c f (l ∷ ls) g m e fx = tt

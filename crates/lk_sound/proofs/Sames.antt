@@ -3,7 +3,7 @@ use Rattle.lk_tree.specs.Tree.{Name, Level}
 use Rattle.lk_rulebook.specs.Rules.{HasType, HasSort, Reduces, IsDefEq}
 use Rattle.lk_rulebook.specs.Place.{Entry, Kind, a_def, a_thm}
 use Rattle.lk_rulebook.proofs.Scopes.{well_formed_of_type}
-use Rattle.lk_plain.specs.Sound.{WellStated}
+use Rattle.lk_plain.specs.Sound.{WellStated, IsSoundPlace}
 use Rattle.lk_questions.specs.Steps.{value_of, with_levels}
 use Rattle.lk_sound.proofs.Pieces.{sound_with_levels}
 use Rattle.std.proofs.Common.{ℕ, ◌≡◌, Bool, true, false, ◌&&◌, nat_eq, length, List, ◌∷◌, Option, Some, None, refl}
@@ -198,16 +198,16 @@ sound_by_unfolding w ok a b fa fb =
     (λ u i. sound_bind w (unfolding_of (head b)) (λ v. by_ranks a b u v) (IfUnfolding w (head b)) (λ o. IfAnswers o (IsDefEq w a b)) (sound_unfolding_of w (head b))
     (λ v j. sound_by_ranks w ok a b fa fb u v i j))
 
-sound_reduced : (w : Place) → WellStated w → (a b : Tree) → IsWellFormed a → IsWellFormed b → IsHeadNormal a → IsHeadNormal b → IsSound w (same_reduced a b) (IsJustified w (same a b))
+sound_reduced : (w : Place) → IsSoundPlace w → (a b : Tree) → IsWellFormed a → IsWellFormed b → IsHeadNormal a → IsHeadNormal b → IsSound w (same_reduced a b) (IsJustified w (same a b))
 sound_reduced w ok a b fa fb na nb =
     let C : Type 0 = IsDefEq w a b in
     sound_or_else w (by_proof_irrelevance a b) _ C (sound_by_proof_irrelevance w a b fa fb na nb)
-    (sound_or_else w (by_literals a b) _ C (sound_by_literals w a b fa fb)
-    (sound_or_else w (by_unfolding a b) _ C (sound_by_unfolding w ok a b fa fb)
+    (sound_or_else w (by_literals a b) _ C (sound_by_literals w ok.lawful a b fa fb)
+    (sound_or_else w (by_unfolding a b) _ C (sound_by_unfolding w ok.stated a b fa fb)
     (sound_or_else w (by_parts a b) _ C (sound_by_parts w a b fa fb na nb)
     (sound_or_else w (by_function_eta a b) _ C (sound_by_function_eta w a b fa fb na nb)
-    (sound_or_else w (by_structure_eta a b) _ C (sound_by_structure_eta w ok a b fa fb na C (λ p. p.0))
-    (sound_or_else w (by_structure_eta b a) _ C (sound_by_structure_eta w ok b a fb fa nb C (λ p. p.1))
+    (sound_or_else w (by_structure_eta a b) _ C (sound_by_structure_eta w ok.stated a b fa fb na C (λ p. p.0))
+    (sound_or_else w (by_structure_eta b a) _ C (sound_by_structure_eta w ok.stated b a fb fa nb C (λ p. p.1))
     (sound_or_else w (by_unit_eta a b) _ C (sound_by_unit_eta w a b fa fb na nb)
     (sound_or_else w (by_string a b) (done false) C (sound_by_string w a b fa fb) tt))))))))
 
@@ -219,7 +219,7 @@ same_str : (w : Place) (s t : List ℕ) → (b : Bool) → is_same_tree (str s) 
 same_str w s t true h = rw (← same_tree (str s) (str t) h) (e_refl tt)
 same_str w s t false h = tt
 
-sound_by_shape : (w : Place) → WellStated w → (a b : Tree) → IsWellFormed a → IsWellFormed b → IsSound w (by_shape a b) (IsJustified w (same a b))
+sound_by_shape : (w : Place) → IsSoundPlace w → (a b : Tree) → IsWellFormed a → IsWellFormed b → IsSound w (by_shape a b) (IsJustified w (same a b))
 sound_by_shape w ok (sort l) (sort m) f g = sorts_same complete_test complete_is_a_test w l m
 sound_by_shape w ok (lam A b) (lam A' b') f g = lambdas_same w A b A' b' f g
 sound_by_shape w ok (pi A B) (pi A' B') f g = pis_same w A B A' B' f g
@@ -227,7 +227,7 @@ sound_by_shape w ok (lit m) (lit n) f g = same_lit w m n f (nat_eq m n) refl
 sound_by_shape w ok (str s) (str t) f g = same_str w s t (is_same_tree (str s) (str t)) refl
 sound_by_shape w ok a b f g = cores_same w a b (same_reduced a b) f g (λ na nb. sound_reduced w ok a b f g na nb)
 
-pub sound_same : (w : Place) → WellStated w → (a b : Tree) → IsWellFormed a → IsWellFormed b → IsSound w (same_steps a b) (IsJustified w (same a b))
+pub sound_same : (w : Place) → IsSoundPlace w → (a b : Tree) → IsWellFormed a → IsWellFormed b → IsSound w (same_steps a b) (IsJustified w (same a b))
 sound_same w ok a b fa fb =
     sound_if w (is_same_tree a b) (done true) (by_shape a b) (IsJustified w (same a b))
     (λ t. rw (← same_tree a b t) (e_refl fa))
