@@ -30,7 +30,8 @@ module _ (answer : Query → ℕ → Out) (w : Place) (law : Law) (laws : List L
       let sides = asked (same law.left law.right) in
       let all : Bool → _ = λ equal. given equal NatLaw (laws_hold laws) in
       let one : Bool → _ = λ equal. given equal NatLaw (done tt) in
-      bind_same answer w (held_given law.holds) (λ u. sides >>= all) (λ u. sides_equal law.left law.right) b k next
+      bind_same answer w (held_given law.holds) (λ u. sides >>= all)
+      (λ u. sides_equal law.left law.right) b k next
       (λ u left. bind_same answer w sides all one left k next equal_then)
 
 -- the first law, and then those behind it

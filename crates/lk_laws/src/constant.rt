@@ -93,7 +93,8 @@ pub(crate) fn make_constant<T: Terms>(
     terms: &mut T,
     constant: Constant,
 ) -> Result<u64, NoMemory>
-    ensures { MakesTree T.contents T.rest terms.old terms.new result (λ _. plain_constant constant) }
+    ensures { MakesTree T.contents T.rest terms.old terms.new result
+        (λ _. plain_constant constant) }
 {
     let name = make_name(alloc, terms, constant)?;
     named(terms, name)

@@ -7,7 +7,7 @@ mod constant;
 pub mod definition;
 mod given;
 pub mod needs;
-pub mod operation;
+mod operation;
 mod sides;
 mod table;
 

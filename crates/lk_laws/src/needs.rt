@@ -38,7 +38,7 @@ pub trait Laws: Asks {
             result };
 }
 
-/// The same of whoever looks names up, by the rule that refuses it.
+/// What laws rest on, looked up: it is so, or this rule refuses it.
 fn met<L: Looks>(looks: &mut L, needed: Needed) -> Result<Result<(), Rule>, NoMemory>
     ensures { Meets L.contents L.rest L.sight looks.old looks.new result (needed_steps needed) }
 {
@@ -49,7 +49,7 @@ fn met<L: Looks>(looks: &mut L, needed: Needed) -> Result<Result<(), Rule>, NoMe
     }
 }
 
-/// The same, of whoever looks names up.
+/// That what laws rest on is so, for whoever looks names up.
 pub fn is_given<L: Looks>(looks: &mut L, needed: Needed) -> Result<(), Stop>
     ensures keeps { Extends (L.contents looks.old) (L.contents looks.new) }
     ensures stays { (L.sight (L.rest looks.new)).basis ≡ (L.sight (L.rest looks.old)).basis }

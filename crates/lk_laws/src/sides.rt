@@ -178,7 +178,8 @@ pub(crate) fn make_side<T: Terms>(
     value: u64,
 ) -> Result<u64, NoMemory>
     requires { value < length (T.contents terms.old).trees }
-    ensures { MakesTree T.contents T.rest terms.old terms.new result (λ t. side_tree (t value) side) }
+    ensures { MakesTree T.contents T.rest terms.old terms.new result
+        (λ t. side_tree (t value) side) }
 {
     match side {
         Side::Plain(number) => make_number(alloc, terms, number),

@@ -16,5 +16,7 @@ returns-in-Some-clause-outcome g c ps v count is =
     let op = op_at c.in-Some.op in
     subst (λ o. ComesTo s (lawful_steps (option_map op_at o) ps v) left (λ (u : Unit {0}). checked)
     end r) (sym c.in-Some.is)
-    (subst (λ n. ComesTo s (op_laws op n v >>= λ u. done checked) left (λ (u : Unit {0}). checked) end r) (sym count)
-    (laws_checked s (op_laws op (length c.args.levels.now) v) left end r (c.check_operation.ensures.outcome v is)))
+    (subst (λ n. ComesTo s (op_laws op n v >>= λ u. done checked) left
+    (λ (u : Unit {0}). checked) end r) (sym count)
+    (laws_checked s (op_laws op (length c.args.levels.now) v) left end r
+    (c.check_operation.ensures.outcome v is)))
