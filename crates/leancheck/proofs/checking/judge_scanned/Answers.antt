@@ -1,4 +1,4 @@
-use Rattle.std.proofs.Common.{map, refl, subst}
+use Rattle.std.proofs.Common.{map, subst}
 use Rattle.lk_env.specs.Units.{declaration_at, block_at, recursor_at}
 use Rattle.leancheck.specs.Rows.{questions_of}
 use Rattle.leancheck.specs.Held.{IsPlain}
