@@ -70,5 +70,5 @@ plain_yes us budget n v (inr e) yes = absurd cc
 pub good_of_plain : (us : Library) → IsClearLibrary us → (budget : ℕ) (vs : List Verdict) → ((n : ℕ) (v : Verdict) → slice_get vs n ≡ Some v → IsPlainVerdict us budget n v) →
     (n : ℕ) (v : Verdict) → slice_get vs n ≡ Some v → v ≡ accepted → OperationsAccepted us vs n → IsGoodUnit us n
 good_of_plain us clear budget vs each n v at yes before =
-    good_of_built us n budget clear (λ m u below there gives. (budget, plain_yes us budget m accepted (each m accepted (before m u below there gives)) refl))
+    good_of_built us n budget clear (λ m below gives. (budget, plain_yes us budget m accepted (each m accepted (before m below gives)) refl))
     (plain_yes us budget n v (each n v at) yes)

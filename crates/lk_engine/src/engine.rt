@@ -15,6 +15,7 @@ use lk_env::entry::{Partial, Site};
 use lk_env::library::Library;
 use lk_memo::PrivateMemo;
 use lk_meter::Meter;
+use lk_laws::{Laws, Needed, is_given};
 use lk_quot::{Quotients, may_stand};
 use lk_store::memory::NoMemory;
 use lk_store::node::{LevelNode, ListNode, NameNode, Node};
@@ -280,5 +281,11 @@ impl<'a> Asks for Engine<'a> {
 impl<'a> Quotients for Engine<'a> {
     fn quotient(&mut self, name: u64, levels: &[u64], ty: u64) -> Result<(), Stop> {
         may_stand(&mut self.lookout, name, levels, ty)
+    }
+}
+
+impl<'a> Laws for Engine<'a> {
+    fn need(&mut self, needed: Needed) -> Result<(), Stop> {
+        is_given(&mut self.lookout, needed)
     }
 }
