@@ -18,112 +18,124 @@ pub(crate) struct Law {
     pub right: Side,
 }
 
+const ADD: &[Law] = &[
+    Law {
+        holds: None,
+        left: Side::Value(Number::X, Number::Zero),
+        right: Side::Plain(Number::X),
+    },
+    Law {
+        holds: None,
+        left: Side::Value(Number::X, Number::AfterY),
+        right: Side::AfterValue,
+    },
+];
+
+const SUB: &[Law] = &[
+    Law {
+        holds: Some(Constant::Pred),
+        left: Side::Before(Number::Zero),
+        right: Side::Plain(Number::Zero),
+    },
+    Law {
+        holds: Some(Constant::Pred),
+        left: Side::Before(Number::AfterX),
+        right: Side::Plain(Number::X),
+    },
+    Law {
+        holds: None,
+        left: Side::Value(Number::X, Number::Zero),
+        right: Side::Plain(Number::X),
+    },
+    Law {
+        holds: Some(Constant::Pred),
+        left: Side::Value(Number::X, Number::AfterY),
+        right: Side::BeforeValue,
+    },
+];
+
+const MUL: &[Law] = &[
+    Law {
+        holds: None,
+        left: Side::Value(Number::X, Number::Zero),
+        right: Side::Plain(Number::Zero),
+    },
+    Law {
+        holds: Some(Constant::Operation(LawfulOp::Add)),
+        left: Side::Value(Number::X, Number::AfterY),
+        right: Side::WithValue(Constant::Operation(LawfulOp::Add)),
+    },
+];
+
+const POW: &[Law] = &[
+    Law {
+        holds: None,
+        left: Side::Value(Number::X, Number::Zero),
+        right: Side::Plain(Number::One),
+    },
+    Law {
+        holds: Some(Constant::Operation(LawfulOp::Mul)),
+        left: Side::Value(Number::X, Number::AfterY),
+        right: Side::WithValue(Constant::Operation(LawfulOp::Mul)),
+    },
+];
+
+const BEQ: &[Law] = &[
+    Law {
+        holds: Some(Constant::True),
+        left: Side::Value(Number::Zero, Number::Zero),
+        right: Side::Truth(Constant::True),
+    },
+    Law {
+        holds: Some(Constant::False),
+        left: Side::Value(Number::Zero, Number::AfterY),
+        right: Side::Truth(Constant::False),
+    },
+    Law {
+        holds: Some(Constant::False),
+        left: Side::Value(Number::AfterX, Number::Zero),
+        right: Side::Truth(Constant::False),
+    },
+    Law {
+        holds: None,
+        left: Side::Value(Number::AfterX, Number::AfterY),
+        right: Side::Value(Number::X, Number::Y),
+    },
+];
+
+const BLE: &[Law] = &[
+    Law {
+        holds: Some(Constant::True),
+        left: Side::Value(Number::Zero, Number::Zero),
+        right: Side::Truth(Constant::True),
+    },
+    Law {
+        holds: Some(Constant::True),
+        left: Side::Value(Number::Zero, Number::AfterY),
+        right: Side::Truth(Constant::True),
+    },
+    Law {
+        holds: Some(Constant::False),
+        left: Side::Value(Number::AfterX, Number::Zero),
+        right: Side::Truth(Constant::False),
+    },
+    Law {
+        holds: None,
+        left: Side::Value(Number::AfterX, Number::AfterY),
+        right: Side::Value(Number::X, Number::Y),
+    },
+];
+
 /// The laws of an operation.
 pub(crate) fn laws_of(op: LawfulOp) -> &'static [Law]
     ensures { (v : Tree) → map (law_at v) result.now ≡ laws_of (op_at op) v }
 {
     match op {
-        LawfulOp::Add => &[
-            Law {
-                holds: None,
-                left: Side::Value(Number::X, Number::Zero),
-                right: Side::Plain(Number::X),
-            },
-            Law {
-                holds: None,
-                left: Side::Value(Number::X, Number::AfterY),
-                right: Side::AfterValue,
-            },
-        ],
-        LawfulOp::Sub => &[
-            Law {
-                holds: Some(Constant::Pred),
-                left: Side::Before(Number::Zero),
-                right: Side::Plain(Number::Zero),
-            },
-            Law {
-                holds: Some(Constant::Pred),
-                left: Side::Before(Number::AfterX),
-                right: Side::Plain(Number::X),
-            },
-            Law {
-                holds: None,
-                left: Side::Value(Number::X, Number::Zero),
-                right: Side::Plain(Number::X),
-            },
-            Law {
-                holds: Some(Constant::Pred),
-                left: Side::Value(Number::X, Number::AfterY),
-                right: Side::BeforeValue,
-            },
-        ],
-        LawfulOp::Mul => &[
-            Law {
-                holds: None,
-                left: Side::Value(Number::X, Number::Zero),
-                right: Side::Plain(Number::Zero),
-            },
-            Law {
-                holds: Some(Constant::Operation(LawfulOp::Add)),
-                left: Side::Value(Number::X, Number::AfterY),
-                right: Side::WithValue(Constant::Operation(LawfulOp::Add)),
-            },
-        ],
-        LawfulOp::Pow => &[
-            Law {
-                holds: None,
-                left: Side::Value(Number::X, Number::Zero),
-                right: Side::Plain(Number::One),
-            },
-            Law {
-                holds: Some(Constant::Operation(LawfulOp::Mul)),
-                left: Side::Value(Number::X, Number::AfterY),
-                right: Side::WithValue(Constant::Operation(LawfulOp::Mul)),
-            },
-        ],
-        LawfulOp::Beq => &[
-            Law {
-                holds: Some(Constant::True),
-                left: Side::Value(Number::Zero, Number::Zero),
-                right: Side::Truth(Constant::True),
-            },
-            Law {
-                holds: Some(Constant::False),
-                left: Side::Value(Number::Zero, Number::AfterY),
-                right: Side::Truth(Constant::False),
-            },
-            Law {
-                holds: Some(Constant::False),
-                left: Side::Value(Number::AfterX, Number::Zero),
-                right: Side::Truth(Constant::False),
-            },
-            Law {
-                holds: None,
-                left: Side::Value(Number::AfterX, Number::AfterY),
-                right: Side::Value(Number::X, Number::Y),
-            },
-        ],
-        LawfulOp::Ble => &[
-            Law {
-                holds: Some(Constant::True),
-                left: Side::Value(Number::Zero, Number::Zero),
-                right: Side::Truth(Constant::True),
-            },
-            Law {
-                holds: Some(Constant::True),
-                left: Side::Value(Number::Zero, Number::AfterY),
-                right: Side::Truth(Constant::True),
-            },
-            Law {
-                holds: Some(Constant::False),
-                left: Side::Value(Number::AfterX, Number::Zero),
-                right: Side::Truth(Constant::False),
-            },
-            Law {
-                holds: None,
-                left: Side::Value(Number::AfterX, Number::AfterY),
-                right: Side::Value(Number::X, Number::Y),
-            },
-        ],
+        LawfulOp::Add => ADD,
+        LawfulOp::Sub => SUB,
+        LawfulOp::Mul => MUL,
+        LawfulOp::Pow => POW,
+        LawfulOp::Beq => BEQ,
+        LawfulOp::Ble => BLE,
     }
 }
