@@ -9,6 +9,7 @@ pub mod MoreBlocks
 pub mod Plain
 pub mod ReadBack
 pub mod SettledTasks
+pub mod SoundPlaces
 pub mod PartTasks
 pub mod TaskLaws
 pub mod Tasks

@@ -13,6 +13,7 @@ use Rattle.lk_plain.specs.Program.{Program, done, refuse, asked, ◌>>=◌}
 use Rattle.lk_questions.specs.Steps.{given, as_pi, sort_of, is_same_tree}
 use Rattle.lk_questions.specs.Levels.{tested}
 use Rattle.lk_questions.specs.Declarations.{Yes, checked}
+pub use Rattle.lk_inductive.specs.Arguments.{after_params}
 use Rattle.lk_inductive.specs.Block.{levels_of, parameters_of, Frame, frame_of, FieldKind, plain, recursive, under, Field, CtorShape, TypeShape, Shape, domain}
 
 -- each member of the block states these level parameters and this number of parameters, each constructor its parent and its
@@ -114,12 +115,6 @@ all_ctor_sorts (t ∷ ts) = do
   s ← ctor_sorts t.ctors
   ss ← all_ctor_sorts ts
   done (s ∷ ss)
-
--- what is left of the arguments after these, where they begin with these
-abbrev pub after_params : List Tree → List Tree → Option (List Tree)
-after_params [] xs = Some xs
-after_params (p ∷ ps) [] = None
-after_params (p ∷ ps) (x ∷ xs) = if is_same_tree p x then after_params ps xs else None
 
 abbrev pub mention_none : List Name → List Tree → Bool
 mention_none ns [] = true

@@ -1,6 +1,8 @@
+pub mod Arguments
 pub mod Block
 pub mod BlockSteps
 pub mod Compare
+pub mod Enlarged
 pub mod Flat
 pub mod FlatTask
 pub mod Grows
@@ -8,6 +10,7 @@ pub mod Nested
 pub mod NestedRelation
 pub mod NestedTask
 pub mod Restore
+pub mod RecursorRelation
 pub mod Recursors
 pub mod Relation
 pub mod Task

@@ -1,13 +1,12 @@
--- Nested occurrences: the larger block.
+-- Nested occurrences: the walk that builds the larger block.
 use Rattle.std.specs.Prelude.{ℕ, zero, suc, ◌+◌, Bool, true, false, ◌&&◌, ◌||◌, not, nat_eq, nat_le, List, [], ◌∷◌, ◌++◌, length, map, Option, Some, None, if◌then◌else◌}
-use Rattle.lk_tree.specs.Tree.{Name, Part, Level, param, Tree, var, const, app, lam, pi, let_in, proj, local}
+use Rattle.lk_tree.specs.Tree.{Name, Level, param, Tree, var, const, app, lam, pi, let_in, proj, local}
 use Rattle.lk_tree.specs.LevelTest.{level_test}
 use Rattle.lk_tree.specs.Bind.{opened, close}
 use Rattle.lk_tree.specs.Levels.{put_levels}
 use Rattle.lk_tree.specs.Spine.{apply, head, args}
 use Rattle.lk_tree.specs.declared.rule.Rule.TheVariants.{UnknownConstant, LevelCount, BlockShape, NestedForm}
 use Rattle.lk_rulebook.specs.Place.{Kind, Block, BlockType, Ctor, a_type}
-use Rattle.lk_rulebook.specs.Units.{Members}
 use Rattle.lk_tree.specs.Mentions.{same_name, is_one_of}
 use Rattle.lk_plain.specs.Program.{Program, done, refuse, look, ◌>>=◌}
 use Rattle.lk_questions.specs.Steps.{given, is_same_tree}
@@ -15,32 +14,7 @@ use Rattle.lk_questions.specs.Levels.{tested}
 use Rattle.lk_questions.specs.Declarations.{Yes, checked}
 use Rattle.lk_inductive.specs.BlockSteps.{mention_none, is_among, as_level}
 use Rattle.lk_inductive.specs.Recursors.{number, pis}
-
--- J ls b1 .. bq for a type J of an earlier block, and what J's stated trees become at ls and b1 .. bq: its type past the
--- parameters, that type's indices and the level of its Sort, and its constructors' types past the parameters
-pub record Aux : Type 0 where
-  pub name : Name
-  pub own : BlockType
-  pub levels : List Level
-  pub args : List Tree
-  pub type : Tree
-  pub indices : List Tree
-  pub sort : Level
-  pub ctors : List Tree
-
--- the block's types, its level parameters, and P0 ..
-pub record Setting : Type 0 where
-  pub names : List Name
-  pub levels : List Name
-  pub params : List Tree
-
--- the name of auxiliary type i, and of its constructor c; their first components hold LF and differ, so no two of these
--- names and of the recursors' are one, whatever c is
-abbrev pub aux_name : ℕ → Name
-aux_name i = Part.text (10 ∷ []) ∷ Part.number i ∷ []
-
-abbrev pub aux_ctor : ℕ → Name → Name
-aux_ctor i c = Part.text (10 ∷ 10 ∷ []) ∷ Part.number i ∷ c
+pub use Rattle.lk_inductive.specs.Enlarged.{Aux, Setting, aux_name, aux_ctor, aux_from, Larger, larger_block, bare, bare_entries}
 
 -- a variable that n binders leave loose
 abbrev pub is_loose : ℕ → Tree → Bool
@@ -249,11 +223,6 @@ aux_ctors s i (c ∷ cs) (r ∷ rs) as_ = do
 aux_ctors s i [] rs as_ = done ([], as_)
 aux_ctors s i (c ∷ cs) [] as_ = done ([], as_)
 
-abbrev pub aux_from : List Aux → ℕ → Option Aux
-aux_from [] i = None
-aux_from (a ∷ as_) zero = Some a
-aux_from (a ∷ as_) (suc i) = aux_from as_ i
-
 abbrev pub aux_type : Setting → ℕ → Aux → List Ctor → BlockType
 aux_type s i a cs = record { name = aux_name i; levels = s.levels; type = pis s.params a.type; parameters = length s.params; indices = a.own.indices; ctors = cs }
 
@@ -268,15 +237,6 @@ next_aux next s i as_ (Some a) = do
 abbrev pub aux_types : ℕ → Setting → ℕ → List Aux → Program (List BlockType × List Aux)
 aux_types zero s i as_ = refuse NestedForm
 aux_types (suc n) s i as_ = next_aux (aux_types n s) s i as_ (aux_from as_ i)
-
--- the block's own types, the auxiliary ones, and what each of these stands for
-pub record Larger : Type 0 where
-  pub own : List BlockType
-  pub aux : List BlockType
-  pub auxs : List Aux
-
-abbrev pub larger_block : Larger → Block
-larger_block l = record { types = l.own ++ l.aux }
 
 -- the walk
 abbrev pub enlarge : Setting → List BlockType → Program Larger
@@ -295,11 +255,3 @@ aux_sorts l (a ∷ as_) = do
 abbrev pub aux_indices : List Aux → List (List Tree)
 aux_indices [] = []
 aux_indices (a ∷ as_) = a.indices ∷ aux_indices as_
-
--- an auxiliary type as it is partial: without constructors
-abbrev pub bare : BlockType → BlockType
-bare t = record t { ctors = [] }
-
-abbrev pub bare_entries : List BlockType → Members
-bare_entries [] = []
-bare_entries (t ∷ ts) = (t.name, record { levels = t.levels; type = t.type; kind = a_type (record { types = bare t ∷ [] }) (bare t) }) ∷ bare_entries ts

@@ -10,10 +10,9 @@ use Rattle.lk_rulebook.specs.Units.{Members}
 use Rattle.lk_inductive.specs.Block.{Shape}
 use Rattle.lk_inductive.specs.Relation.{IsAmong, IsBlock, CountsAgree}
 use Rattle.lk_inductive.specs.Recursors.{number, pis, BlockRecursor, recursors_by}
-use Rattle.lk_inductive.specs.Compare.{AreRecs}
-use Rattle.lk_inductive.specs.Nested.{Aux, Setting, Larger, larger_block, aux_name, aux_ctor, aux_from, bare_entries}
-use Rattle.lk_inductive.specs.Restore.{Original, first_name, all_stand, restore}
-use Rattle.lk_inductive.specs.NestedTask.{setting_of, restoring_of}
+use Rattle.lk_inductive.specs.RecursorRelation.{AreRecs}
+use Rattle.lk_inductive.specs.Enlarged.{Aux, Setting, Larger, larger_block, aux_name, aux_ctor, aux_from, bare_entries, setting_of}
+use Rattle.lk_inductive.specs.Restore.{Original, first_name, all_stand, restore, restoring_of}
 use Rattle.lk_inductive.specs.Whole.{partial_types, partial_members, TypesSorted, AllCtorsSorted}
 
 -- r is the stated tree past its first Pis, with these put in

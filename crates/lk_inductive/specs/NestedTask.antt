@@ -1,25 +1,19 @@
 -- The whole check of a block, in its order: counts, types, sorts of the constructors' types, nested occurrences, constructors,
 -- large elimination, recursors.
 use Rattle.std.specs.Prelude.{ℕ, suc, List, [], ◌++◌}
-use Rattle.lk_tree.specs.Tree.{Tree}
-use Rattle.lk_rulebook.specs.Place.{Block, type_names}
+use Rattle.lk_rulebook.specs.Place.{Block}
 use Rattle.lk_rulebook.specs.Units.{Members, Library, place_of}
 use Rattle.lk_plain.specs.Answer.{Outcome, plain_answer}
 use Rattle.lk_plain.specs.Program.{Table}
-use Rattle.lk_inductive.specs.Block.{levels_of, parameters_of, Shape}
+use Rattle.lk_inductive.specs.Block.{parameters_of, Shape}
 use Rattle.lk_inductive.specs.BlockSteps.{TypeParts, counts_steps, types_steps, all_ctor_sorts, shape_steps}
-use Rattle.lk_inductive.specs.Recursors.{BlockRecursor, Restoring, recursors_by}
+use Rattle.lk_inductive.specs.Recursors.{BlockRecursor, recursors_by}
 use Rattle.lk_inductive.specs.Compare.{compare_steps}
 use Rattle.lk_inductive.specs.Nested.{Setting, Larger, larger_block, enlarge, aux_sorts, aux_indices, bare_entries}
-use Rattle.lk_inductive.specs.Restore.{first_name, all_stand, restoring}
 use Rattle.lk_inductive.specs.Whole.{partial_types, partial_members}
+pub use Rattle.lk_inductive.specs.Enlarged.{setting_of}
+pub use Rattle.lk_inductive.specs.Restore.{restoring_of}
 use Rattle.lk_inductive.specs.Task.{Task, done_with, here, give_partial, ◌>>=◌, run_task}
-
-abbrev pub setting_of : Block → List Tree → Setting
-setting_of b ps = record { names = type_names b.types; levels = levels_of b; params = ps }
-
-abbrev pub restoring_of : Block → Setting → Larger → Restoring
-restoring_of b s lg = restoring (all_stand (first_name b.types) 0 lg.auxs) s
 
 -- the recursors
 abbrev pub nested_recs : Block → List BlockRecursor → Setting → Larger → Shape → Task Shape

@@ -3,12 +3,12 @@
 use Rattle.std.specs.Prelude.{ℕ, zero, suc, ◌+◌, ◌/◌, ◌%◌, nat_lt, List, [], ◌∷◌, ◌++◌, map, Option, Some, None, if◌then◌else◌}
 use Rattle.lk_tree.specs.Tree.{Name, Part, Level, param, Tree, const, app, lam, pi, let_in, proj}
 use Rattle.lk_tree.specs.Spine.{apply}
-use Rattle.lk_rulebook.specs.Place.{BlockType, Ctor}
+use Rattle.lk_rulebook.specs.Place.{Block, BlockType, Ctor}
 use Rattle.lk_tree.specs.Mentions.{same_name}
-use Rattle.lk_questions.specs.Steps.{is_same_tree}
-use Rattle.lk_inductive.specs.BlockSteps.{after_params}
+use Rattle.lk_rulebook.specs.SameTree.{is_same_tree}
+use Rattle.lk_inductive.specs.Arguments.{after_params}
 use Rattle.lk_inductive.specs.Recursors.{rec_name, Restoring}
-use Rattle.lk_inductive.specs.Nested.{Aux, Setting, aux_name, aux_ctor}
+use Rattle.lk_inductive.specs.Enlarged.{Aux, Setting, Larger, aux_name, aux_ctor}
 
 -- what stands for a constant of the larger block: J or its constructor, at ls and b1 ..; or a recursor by its name alone
 pub data Original : Type 0 where
@@ -73,3 +73,6 @@ name_back c (Some (renamed_as R)) = R
 -- the recursors of the larger block, read back
 abbrev pub restoring : List (Name × Original) → Setting → Restoring
 restoring ms s = record { named = λ c. name_back c (stands_for ms c); tree = λ e. restore ms s e [] }
+
+abbrev pub restoring_of : Block → Setting → Larger → Restoring
+restoring_of b s lg = restoring (all_stand (first_name b.types) 0 lg.auxs) s

@@ -43,7 +43,7 @@ run_task places f h left (asking q k) = and_then (f (places h) q left) (λ v c. 
 run_task places f h left (looking r c k) = looked_up r ((places h).means c) ((places h).origin c) ((places h).flaw c) (λ e. run_task places f h left (k e))
 run_task places f h left (with_partial ms t) = run_task places f (h ++ ms) left t
 
--- whatever true answers come, only what may be asked is asked, each place is well stated, and the end has the property
+-- whatever true answers come, only what may be asked is asked, each place is sound, and the end has the property
 abbrev pub IsSoundTask : {A : Type 0} → (Members → Place) → Members → Task A → (A → Members → Type 0) → Type 0
 IsSoundTask places h (done_with v) P = P v h
 IsSoundTask places h (stopped r) P = Unit {0}

@@ -5,11 +5,12 @@ use Rattle.lk_rulebook.specs.Place.{Place, Block, BlockType, Ctor}
 use Rattle.lk_rulebook.specs.Units.{Members}
 pub use Rattle.lk_rulebook.specs.Units.{partial_types, partial_members}
 use Rattle.lk_rulebook.specs.Rules.{HasSort}
-use Rattle.lk_plain.specs.Sound.{IsStated, TypesStated, RulesStated}
+use Rattle.lk_tree.specs.WellFormed.{IsStated}
+use Rattle.lk_rulebook.specs.WellStated.{TypesStated, RulesStated}
 use Rattle.lk_inductive.specs.Block.{Shape}
 use Rattle.lk_inductive.specs.Relation.{IsBlock, CountsAgree}
 use Rattle.lk_inductive.specs.Recursors.{BlockRecursor, recursors}
-use Rattle.lk_inductive.specs.Compare.{AreRecs}
+use Rattle.lk_inductive.specs.RecursorRelation.{AreRecs}
 
 abbrev pub CtorsSorted : Place → List Ctor → Type 0
 CtorsSorted w [] = Unit {0}

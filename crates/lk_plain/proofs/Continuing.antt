@@ -1,9 +1,9 @@
 -- A program that goes on with the value of another one.
 use Rattle.std.proofs.Common.{◌≡◌, ℕ, Option, None, refl, ap}
 use Rattle.std.proofs.Math.Path.{fun_ext}
-use Rattle.lk_rulebook.specs.Place.{Place, Entry}
+use Rattle.lk_rulebook.specs.Place.{Place}
 use Rattle.lk_plain.specs.Program.{Program, done, refuse, ask, look, ◌>>=◌}
-use Rattle.lk_plain.specs.Erased.{Value, Steps, asks, with_answer, looked, erased, erased_then}
+use Rattle.lk_plain.specs.Erased.{Value, asks, with_answer, looked, erased, erased_then}
 
 pub then_is : {R A : Type 0} (w : Place) (f : A → Value) (h : R → Program A) (t : Option ℕ) (p : Program R) → erased_then w (λ u v. erased w f u (h v)) t p ≡ erased w f t (p >>= h)
 then_is w f h t (done v) = refl

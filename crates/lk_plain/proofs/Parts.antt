@@ -1,12 +1,12 @@
 -- A part of a sound table is sound, and what it answers the table answers.
-use Rattle.std.proofs.Common.{ℕ, zero, suc, ◌≡◌, ◌-◌, Bool, true, false, Option, Some, None, refl, ap, if◌then◌else◌}
+use Rattle.std.proofs.Common.{ℕ, zero, suc, ◌≡◌, ◌-◌, Option, Some, None, refl, ap}
 use Rattle.lk_tree.specs.declared.rule.Rule.{Rule}
 use Rattle.lk_rulebook.specs.Place.{Place, Entry}
 use Rattle.lk_plain.specs.Query.{Query, AnswerTo}
 use Rattle.lk_plain.specs.Program.{Program, done, refuse, ask, look, Table, ◌>>=◌}
 use Rattle.lk_plain.specs.Answer.{Outcome, answered, refused, spent, after, and_then, looked_up, IfAnswered, outcome_of, answer_to_depth, plain_answer}
 use Rattle.lk_plain.specs.Sound.{IsJustified, IsSound, IsSoundTable}
-use Rattle.lk_plain.specs.Parts.{restricted, IsPart, stops, ends, asks, looks, IsPartOf}
+use Rattle.lk_plain.specs.Parts.{IsPart, stops, ends, asks, looks, IsPartOf}
 
 -- each program is a part of itself
 pub part_itself : {A : Type 0} (p : Program A) → IsPart p p
@@ -22,13 +22,6 @@ part_bind _ _ k l (ends {v = v}) h = h v
 part_bind _ _ k l (asks {k = f} {whole = g} i) h = asks (λ v. part_bind (f v) (g v) k l (i v) h)
 part_bind _ _ k l (looks {k = f} {whole = g} i) h = looks (λ e. part_bind (f e) (g e) k l (i e) h)
 
-pub part_restricted : (built : Query → Bool) (r : Rule) (part table : Table) → IsPartOf part table → IsPartOf (restricted built r part) table
-part_restricted built r part table h q = go (built q)
-  where
-    go : (b : Bool) → IsPart (if b then part q else refuse r) (table q)
-    go true = h q
-    go false = stops
-
 -- a part of a sound program is sound
 pub sound_part : {A : Type 0} (w : Place) (p whole : Program A) (P : A → Type 0) → IsPart p whole → IsSound w whole P → IsSound w p P
 sound_part w _ _ P stops s = tt
@@ -38,9 +31,6 @@ sound_part w _ _ P (looks {k = k} {whole = l} h) s = λ e m. sound_part w (k e) 
 
 pub sound_part_of : (part table : Table) → IsPartOf part table → IsSoundTable table → IsSoundTable part
 sound_part_of part table h s w ok q a = sound_part w (part q) (table q) (IsJustified w q) (h q) (s w ok q a)
-
-pub sound_restricted : (built : Query → Bool) (r : Rule) (table : Table) → IsSoundTable table → IsSoundTable (restricted built r table)
-sound_restricted built r table s = sound_part_of (restricted built r table) table (part_restricted built r table table (λ q. part_itself (table q))) s
 
 -- what o answers o' answers too
 abbrev pub Gives : {A : Type 0} → Outcome A → Outcome A → Type 0

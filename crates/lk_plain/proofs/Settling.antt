@@ -1,11 +1,11 @@
 -- A program that asks nothing, and whatever goes on with its value.
-use Rattle.std.proofs.Common.{◌≡◌, ℕ, Option, Some, None, refl, ap, sym, ◌∙◌}
+use Rattle.std.proofs.Common.{◌≡◌, ℕ, Option, Some, None}
 use Rattle.lk_tree.specs.declared.rule.Rule.{Rule}
 use Rattle.lk_rulebook.specs.Place.{Place, Entry}
-use Rattle.lk_plain.specs.Answer.{later, refusal}
+use Rattle.lk_plain.specs.Answer.{later}
 use Rattle.lk_plain.specs.Program.{Program, done, refuse, ask, look, ◌>>=◌}
-use Rattle.lk_plain.specs.Erased.{Value, Steps, gives, refuses, looked, erased, erased_then}
-use Rattle.lk_plain.specs.Settled.{Settled, comes, fails, asks_first, settle_look, settle}
+use Rattle.lk_plain.specs.Erased.{Value, Steps, refuses, looked, erased, erased_then}
+use Rattle.lk_plain.specs.Settled.{comes, fails, settle_look, settle}
 
 module _ (w : Place) where
   -- a step that goes on with the value

@@ -1,14 +1,9 @@
--- Parts of a table, built row by row: its programs, except that they may be refused earlier.
-use Rattle.std.specs.Prelude.{Bool, true, false, if◌then◌else◌}
+-- Parts of a table: its programs, except that they may be refused earlier.
 use Rattle.lk_tree.specs.Tree.{Name}
 use Rattle.lk_tree.specs.declared.rule.Rule.{Rule}
 use Rattle.lk_rulebook.specs.Place.{Entry}
 use Rattle.lk_plain.specs.Query.{Query, AnswerTo}
 use Rattle.lk_plain.specs.Program.{Program, done, refuse, ask, look, Table}
-
--- the questions that are built do what they do in the table, and the others are refused by r
-abbrev pub restricted : (Query → Bool) → Rule → Table → Table
-restricted built r table q = if built q then table q else refuse r
 
 -- p does what its whole does, except that it may be refused earlier
 pub data IsPart {A : Type 0} : Program A → Program A → Type 0 where

@@ -2,15 +2,14 @@
 //! caches. The laws hold of every table.
 #![tactic(auto)]
 
-ghost use Rattle.std.specs.Prelude.{◌≡◌, ℕ, suc, Bool, None};
+ghost use Rattle.std.specs.Prelude.{◌≡◌, ℕ, suc, None};
 ghost use Rattle.lk_plain.specs.Answer.{answered, spent, after, outcome_of, plain_answer, IfAnswered};
 ghost use Rattle.lk_plain.specs.Laws.{IsSteady, IsBelow, Keeps, GivesTheSame, SameOutcome, IsSettled};
-ghost use Rattle.lk_plain.specs.Parts.{restricted, IsPartOf};
+ghost use Rattle.lk_plain.specs.Parts.{IsPartOf};
 ghost use Rattle.lk_plain.specs.Program.{Table};
 ghost use Rattle.lk_plain.specs.Query.{Query};
 ghost use Rattle.lk_plain.specs.Sound.{IsSoundTable};
 ghost use Rattle.lk_rulebook.specs.Place.{Place};
-ghost use Rattle.lk_tree.specs.declared.rule.Rule.{Rule};
 
 /// With nothing left no question is answered. With one more than b left it is opened, and what it asks is answered with what is
 /// left.
@@ -47,7 +46,7 @@ pub fn plain_answers_agree()
 {}
 
 /// What a part answers its table answers too, at the same cost, and a part of a sound table is sound. A table is a part of
-/// itself, and a part is one still where it is restricted to some questions.
+/// itself.
 pub fn parts_are_sound()
     ensures sound { (part table : Table) → IsPartOf part table → IsSoundTable table
         → IsSoundTable part }
@@ -55,6 +54,4 @@ pub fn parts_are_sound()
         → IfAnswered (plain_answer part w q b)
         (λ v c t. plain_answer table w q b ≡ answered v c t) }
     ensures itself { (table : Table) → IsPartOf table table }
-    ensures restricts { (built : Query → Bool) (r : Rule) (part table : Table)
-        → IsPartOf part table → IsPartOf (restricted built r part) table }
 {}

@@ -1,5 +1,5 @@
 -- The questions of a declaration that is a unit of its own.
-use Rattle.std.specs.Prelude.{[], if◌then◌else◌}
+use Rattle.std.specs.Prelude.{if◌then◌else◌}
 use Rattle.lk_tree.specs.Tree.{Tree}
 use Rattle.lk_tree.specs.Level.{is_zero_level}
 use Rattle.lk_tree.specs.declared.rule.Rule.TheVariants.{ValueType, TheoremNotProp}

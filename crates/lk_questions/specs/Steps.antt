@@ -1,19 +1,13 @@
 -- Pieces that several questions share.
 use Rattle.std.specs.Prelude.{Bool, true, false, nat_eq, List, length, Option, Some, None}
-use Rattle.lk_tree.specs.Tree.{Name, Level, Tree, tree_discrete, sort, pi}
+use Rattle.lk_tree.specs.Tree.{Name, Level, Tree, sort, pi}
 use Rattle.lk_tree.specs.declared.rule.Rule.{Rule}
 use Rattle.lk_tree.specs.declared.rule.Rule.TheVariants.{LevelCount, NotASort}
 use Rattle.lk_tree.specs.Levels.{put_levels}
 use Rattle.lk_rulebook.specs.Place.{Entry, Kind, a_def, a_thm, an_axiom, an_opaque, a_quot, a_type, a_ctor, a_rec}
+pub use Rattle.lk_rulebook.specs.SameTree.{decided, is_same_tree}
 use Rattle.lk_plain.specs.Query.{whnf, infer}
 use Rattle.lk_plain.specs.Program.{Program, done, refuse, asked, ◌>>=◌}
-
-abbrev pub decided : {A : Type 0} → Dec A → Bool
-decided (yes a) = true
-decided (no f) = false
-
-abbrev pub is_same_tree : Tree → Tree → Bool
-is_same_tree a b = decided (tree_discrete a b)
 
 -- p where the test holds, else refused by r
 abbrev pub given : {A : Type 0} → Bool → Rule → Program A → Program A

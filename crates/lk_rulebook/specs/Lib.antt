@@ -15,3 +15,5 @@ pub mod Units
 pub mod Spelled
 pub mod Derived
 pub mod Lawful
+pub mod SameTree
+pub mod WellStated

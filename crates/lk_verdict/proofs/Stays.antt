@@ -14,7 +14,7 @@ use Rattle.lk_inductive.specs.Block.{Shape}
 use Rattle.lk_inductive.specs.Compare.{rec_entries}
 use Rattle.lk_inductive.specs.Whole.{partial_types, partial_members, BlockDerived}
 use Rattle.lk_inductive.proofs.Partials.{first_entry, given_append}
-use Rattle.lk_inductive.proofs.More.{more_type, more_sort, more_equal}
+use Rattle.lk_inductive.proofs.More.{more_type, more_sort, more_equal, more_nat, more_laws}
 use Rattle.lk_inductive.proofs.MoreBlocks.{more_good, block_after}
 
 -- each name that w gives means the same at w'
@@ -59,7 +59,9 @@ more_of w w' g v t h = record { inferred = h.inferred; types = more_type w w' (w
 
 more_body : (w w' : Place) → Gives w w' → (d : Decl) (l : Level) (b : Body) → BodyDerived w d l b → BodyDerived w' d l b
 more_body w w' g d l as_axiom h = tt
-more_body w w' g d l (as_def i v) h = more_of w w' g v d.type h
+more_body w w' g d l (as_def i v) h =
+    let j : IsWithin w w' = within w w' g in
+    (more_of w w' g v d.type h.0, λ op e k. let m = h.1 op e k in (more_nat w w' j m.0, more_laws w w' j m.1))
 more_body w w' g d l (as_thm v) h = (more_of w w' g v d.type h.0, h.1)
 more_body w w' g d l (as_opaque v) h = more_of w w' g v d.type h
 more_body w w' g d l as_quot h = record { constant = h.constant; name_is = h.name_is; type_is = h.type_is; rests = more_rests w w' g h.constant h.rests }

@@ -2,7 +2,7 @@
 use Rattle.std.specs.Prelude.{List, [], ◌∷◌}
 use Rattle.lk_tree.specs.Tree.{Name, text, number, Level, zero_level, succ_level, param, Tree, var, sort, const, pi, local}
 use Rattle.lk_rulebook.specs.Place.{Ctor, BlockType, Block, BlockRecursor, opaque_hint}
-use Rattle.lk_inductive.specs.Nested.{aux_name}
+use Rattle.lk_inductive.specs.Enlarged.{aux_name}
 use Rattle.lk_rulebook.specs.Units.{Decl, as_def, LibraryUnit, of_decl, of_block, Library}
 
 abbrev pub prop : Tree

@@ -1,4 +1,4 @@
-use Rattle.lk_plain.proofs.Parts.{sound_part_of, ans_gives, part_itself, part_restricted}
+use Rattle.lk_plain.proofs.Parts.{sound_part_of, ans_gives, part_itself}
 use Rattle.lk_plain.proofs.parts_are_sound.Goals as goal
 
 pub returns : goal.returns
@@ -6,5 +6,4 @@ returns c = record {
   sound = λ part table h s. sound_part_of part table h s;
   agree = λ part table w q b h. ans_gives part table h w q b;
   itself = λ table q. part_itself (table q);
-  restricts = λ built r part table h. part_restricted built r part table h;
 }
