@@ -1,49 +1,42 @@
 -- Unit after unit.
-use Rattle.std.proofs.Common.{◌≡◌, ℕ, suc, ◌+◌, inl, inr, List, [], ◌∷◌, ◌++◌, length, map, refl, ap, sym, subst, ◌∙◌, arith, append_assoc}
+use Rattle.std.proofs.Common.{◌≡◌, ℕ, zero, suc, ◌+◌, ◌⊎◌, inl, inr, List, [], ◌∷◌, ◌++◌, length, map, refl, ap, sym, subst, ◌∙◌, arith, append_assoc}
 use Rattle.std.specs.Prelude.{slice_get, Some}
 use Rattle.std.proofs.lemmas.List.{map-append, length-map, append-nil, length-append}
 use Rattle.lk_rulebook.specs.Units.{LibraryUnit, Library}
 use Rattle.lk_verdict.specs.GoodUnit.{IsClearLibrary}
-use Rattle.lk_verdict.specs.Told.{Verdict, IsVerdict, AreVerdicts}
+use Rattle.lk_verdict.specs.Told.{Verdict, IsPlainVerdict, AreVerdicts}
 use Rattle.lk_store.specs.Contents.{Contents}
 use Rattle.lk_env.specs.declared.unit.Unit.{Unit as StoredUnit}
 use Rattle.lk_env.specs.Units.{unit_at, library_at}
 use Rattle.leancheck.specs.Rows.{row_verdict}
 use Rattle.leancheck.specs.declared.checking.Verdict.{Verdict as HeldVerdict}
 use Rattle.leancheck.specs.Held.{verdict, IsPlain}
-use Rattle.leancheck.proofs.Scanning.{verdict_plain, verdict_memory}
+use Rattle.leancheck.proofs.Scanning.{found_plain, good_of_plain}
 
-are_push : (steps : ℕ) (all : Library) (k : ℕ) (done : Library) (vs : List Verdict) (u : LibraryUnit) (v : Verdict) → AreVerdicts all steps k done vs → IsVerdict all steps (k + length done) v → AreVerdicts all steps k (done ++ u ∷ []) (vs ++ v ∷ [])
-are_push steps all k [] [] u v a h = let e : k + 0 ≡ k = omega arith in (subst (λ m. IsVerdict all steps m v) e h, tt)
-are_push steps all k [] (w ∷ vs) u v a h = absurd a
-are_push steps all k (x ∷ done) [] u v a h = absurd a
-are_push steps all k (x ∷ done) (w ∷ vs) u v a h =
-    let e : k + suc (length done) ≡ (k + 1) + length done = omega arith in
-    (a.0, are_push steps all (k + 1) done vs u v a.1 (subst (λ m. IsVerdict all steps m v) e h))
-
-are_length : (steps : ℕ) (all : Library) (n : ℕ) (us : Library) (vs : List Verdict) → AreVerdicts all steps n us vs → length us ≡ length vs
-are_length steps all n [] [] a = refl
-are_length steps all n [] (v ∷ vs) a = absurd a
-are_length steps all n (u ∷ us) [] a = absurd a
-are_length steps all n (u ∷ us) (v ∷ vs) a = ap suc (are_length steps all (n + 1) us vs a.1)
+-- the item of a list that is one longer
+last_or_before : {A : Type 0} (xs : List A) (x : A) (n : ℕ) (y : A) → slice_get (xs ++ x ∷ []) n ≡ Some y → (slice_get xs n ≡ Some y) ⊎ ((n ≡ length xs) × (x ≡ y))
+last_or_before [] x zero y e = inr (refl, cc)
+last_or_before [] x (suc n) y e = absurd cc
+last_or_before (z ∷ xs) x zero y e = inl e
+last_or_before (z ∷ xs) x (suc n) y e = elim (last_or_before xs x n y e) [ inl h ↦ inl h | inr h ↦ inr (ap suc h.0, h.1) ]
 
 unit_there : (done : Library) (u : LibraryUnit) (more : Library) → slice_get (done ++ u ∷ more) (length done) ≡ Some u
 unit_there [] u more = refl
 unit_there (x ∷ done) u more = unit_there done u more
 
-verdict_is : (steps : ℕ) (all : Library) → IsClearLibrary all → (n : ℕ) (u : LibraryUnit) (v : HeldVerdict) → slice_get all n ≡ Some u → IsPlain (row_verdict all steps n u) v → IsVerdict all steps n (verdict v)
-verdict_is steps all c n u v there (inl e) = verdict_plain all c steps n u (verdict v) there e
-verdict_is steps all c n u v there (inr e) = verdict_memory all steps n (verdict v) e
+verdict_is : (steps : ℕ) (all : Library) (n : ℕ) (u : LibraryUnit) (v : HeldVerdict) → slice_get all n ≡ Some u → IsPlain (row_verdict all steps n u) v → IsPlainVerdict all steps n (verdict v)
+verdict_is steps all n u v there (inl e) = inl (found_plain all steps n u (verdict v) there e)
+verdict_is steps all n u v there (inr e) = inr e
 
 -- the verdicts of the units that are done, in front of those that are left
 pub record Progress (steps : ℕ) (c : Contents) (units : List StoredUnit) (vs : List HeldVerdict) (rest : List StoredUnit) : Type 0 where
   pub done : List StoredUnit
   pub split : units ≡ done ++ rest
   pub count : length done ≡ length vs
-  pub are : IsClearLibrary (library_at c units) → AreVerdicts (library_at c units) steps 0 (library_at c done) (map verdict vs)
+  pub each : (n : ℕ) (v : Verdict) → slice_get (map verdict vs) n ≡ Some v → IsPlainVerdict (library_at c units) steps n v
 
 pub progress_begin : (steps : ℕ) (c : Contents) (units rest : List StoredUnit) → rest ≡ units → Progress steps c units [] rest
-progress_begin steps c units rest e = record { done = []; split = sym e; count = refl; are = λ clear. tt }
+progress_begin steps c units rest e = record { done = []; split = sym e; count = refl; each = λ n v at. absurd cc }
 
 -- the first unit of those that are left stands at the number of those that are done
 pub next_stands : (steps : ℕ) (c : Contents) (units : List StoredUnit) (vs : List HeldVerdict) (rest more : List StoredUnit) (u : StoredUnit) (n : ℕ)
@@ -58,23 +51,21 @@ next_stands steps c units vs rest more u n p cut number =
 pub progress_more : (steps : ℕ) (c : Contents) (units : List StoredUnit) (vs new : List HeldVerdict) (v : HeldVerdict) (n : ℕ) (u : StoredUnit) (rest more : List StoredUnit)
     → Progress steps c units vs rest → rest ≡ u ∷ more → new ≡ vs ++ v ∷ [] → n ≡ length vs → IsPlain (row_verdict (library_at c units) steps n (unit_at c u)) v → Progress steps c units new more
 progress_more steps c units vs new v n u rest more p cut pushed count judged =
-    let whole : units ≡ p.done ++ u ∷ more = p.split ∙ ap (λ l. p.done ++ l) cut in
     let all = library_at c units in
-    let said = library_at c p.done in
-    let parted : all ≡ said ++ unit_at c u ∷ library_at c more = ap (library_at c) whole ∙ map-append (unit_at c) p.done (u ∷ more) in
+    let there : slice_get all n ≡ Some (unit_at c u) = next_stands steps c units vs rest more u n p cut count in
+    let is : IsPlainVerdict all steps n (verdict v) = verdict_is steps all n (unit_at c u) v there judged in
     record {
       done = p.done ++ u ∷ [];
-      split = whole ∙ sym (append_assoc p.done (u ∷ []) more);
+      split = p.split ∙ ap (λ l. p.done ++ l) cut ∙ sym (append_assoc p.done (u ∷ []) more);
       count = length-append p.done (u ∷ []) ∙ ap (λ n. n + 1) p.count ∙ sym (length-append vs (v ∷ [])) ∙ ap length (sym pushed);
-      are = λ clear.
-          let are = p.are clear in
-          let number : n ≡ length said = count ∙ sym (length-map vs verdict) ∙ sym (are_length steps all 0 said (map verdict vs) are) in
-          let there : slice_get all n ≡ Some (unit_at c u) = ap (λ x. slice_get x n) parted ∙ ap (slice_get (said ++ unit_at c u ∷ library_at c more)) number ∙ unit_there said (unit_at c u) (library_at c more) in
-          let is = verdict_is steps all clear n (unit_at c u) v there judged in
-          let from_zero : n ≡ 0 + length said = number ∙ omega arith in
-          let longer = are_push steps all 0 said (map verdict vs) (unit_at c u) (verdict v) are (subst (λ m. IsVerdict all steps m (verdict v)) from_zero is) in
-          let by_units = subst (λ l. AreVerdicts all steps 0 l (map verdict vs ++ verdict v ∷ [])) (sym (map-append (unit_at c) p.done (u ∷ []))) longer in
-          subst (λ w. AreVerdicts all steps 0 (library_at c (p.done ++ u ∷ [])) w) (sym (ap (map verdict) pushed ∙ map-append verdict vs (v ∷ []))) by_units;
+      each = λ m w at.
+          let longer : slice_get (map verdict vs ++ verdict v ∷ []) m ≡ Some w = ap (λ l. slice_get l m) (sym (ap (map verdict) pushed ∙ map-append verdict vs (v ∷ []))) ∙ at in
+          elim (last_or_before (map verdict vs) (verdict v) m w longer) [
+            | inl before ↦ p.each m w before
+            | inr last ↦
+                let here : m ≡ n = last.0 ∙ length-map vs verdict ∙ sym count in
+                subst (λ k. IsPlainVerdict all steps k w) (sym here) (subst (λ x. IsPlainVerdict all steps n x) last.1 is)
+          ];
     }
 
 pub none_left : (rest : List StoredUnit) → length rest ≡ 0 → rest ≡ []
@@ -82,7 +73,10 @@ none_left [] e = refl
 none_left (u ∷ rest) e = absurd (omega arith)
 
 -- behind the last unit
-pub progress_done : (steps : ℕ) (c : Contents) (units : List StoredUnit) (vs : List HeldVerdict) (rest : List StoredUnit) → rest ≡ [] → Progress steps c units vs rest → IsClearLibrary (library_at c units) → AreVerdicts (library_at c units) steps 0 (library_at c units) (map verdict vs)
+pub progress_done : (steps : ℕ) (c : Contents) (units : List StoredUnit) (vs : List HeldVerdict) (rest : List StoredUnit) → rest ≡ [] → Progress steps c units vs rest → IsClearLibrary (library_at c units) → AreVerdicts (library_at c units) steps (map verdict vs)
 progress_done steps c units vs rest none p clear =
     let whole : units ≡ p.done = p.split ∙ ap (λ l. p.done ++ l) none ∙ append-nil p.done in
-    subst (λ l. AreVerdicts (library_at c units) steps 0 (library_at c l) (map verdict vs)) (sym whole) (p.are clear)
+    record {
+      as_many = length-map vs verdict ∙ sym p.count ∙ sym (ap length whole) ∙ sym (length-map units (unit_at c));
+      each = λ n v at. record { plain = p.each n v at; good = λ yes before. good_of_plain (library_at c units) clear steps (map verdict vs) p.each n v at yes before };
+    }

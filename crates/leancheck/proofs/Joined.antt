@@ -16,7 +16,7 @@ use Rattle.leancheck.specs.Ends.{status_of, IsReport}
 
 -- what is made of the library that bytes state belongs to the bytes
 pub joined : (steps : ℕ) (bytes : List ℕ) (c : Contents) (units : List StoredUnit) (vs vs2 vs3 : List HeldVerdict) (text : List ℕ) (status : Status) → library_of bytes ≡ Ok (library_at c units)
-    → (IsClearLibrary (library_at c units) → AreVerdicts (library_at c units) steps 0 (library_at c units) (map verdict vs))
+    → (IsClearLibrary (library_at c units) → AreVerdicts (library_at c units) steps (map verdict vs))
     → vs2 ≡ vs → text ≡ report_text (library_at c units) (map verdict vs2) → vs3 ≡ vs → status ≡ status_of (map verdict vs3) → IsReport steps bytes status text
 joined steps bytes c units vs vs2 vs3 text status reads are e2 written e3 ends = record {
   library = library_at c units;

@@ -1,5 +1,5 @@
 -- How a program finds the plain verdict of a unit is right.
-use Rattle.std.proofs.Common.{ℕ, suc, ◌≡◌, inl, inr, Bool, true, false, Option, Some, None, refl, ap, sym, ◌∙◌}
+use Rattle.std.proofs.Common.{ℕ, suc, ◌≡◌, inl, inr, Bool, true, false, List, Option, Some, None, refl, ap, sym, ◌∙◌}
 use Rattle.std.specs.Prelude.{slice_get, if◌then◌else◌}
 use Rattle.lk_tree.specs.declared.rule.Rule.{Rule}
 use Rattle.lk_tree.specs.declared.rule.Rule.TheVariants.{DuplicateName}
@@ -13,10 +13,10 @@ use Rattle.lk_block.specs.Stages.{block_stages}
 use Rattle.lk_block.proofs.Staged.{goes_by_stages}
 use Rattle.lk_rulebook.specs.Scan.{are_new, own_scan}
 use Rattle.lk_questions.specs.Table.{steps}
-use Rattle.lk_verdict.specs.GoodUnit.{IsClearLibrary}
+use Rattle.lk_verdict.specs.GoodUnit.{IsClearLibrary, IsGoodUnit}
 use Rattle.lk_verdict.specs.Verdict.{PlainVerdict, says_yes, says_no, says_steps, questions_of as plain_questions, verdict_by, verdict_of as plain_of, plain_verdict}
 use Rattle.lk_verdict.specs.Built.{built_extent}
-use Rattle.lk_verdict.specs.Told.{Verdict, accepted, rejected, out_of_memory, told, IsVerdict}
+use Rattle.lk_verdict.specs.Told.{Verdict, accepted, rejected, told, IsPlainVerdict, OperationsAccepted}
 use Rattle.lk_sound.proofs.BuiltYes.{good_of_built}
 use Rattle.leancheck.specs.Rows.{questions_of, stages_verdict, row_verdict}
 
@@ -58,11 +58,17 @@ told_yes says_yes e = refl
 told_yes (says_no r) e = absurd (cc)
 told_yes says_steps e = absurd (cc)
 
--- a verdict that is found so, and one that says memory
-pub verdict_plain : (us : Library) → IsClearLibrary us → (budget n : ℕ) (u : LibraryUnit) (v : Verdict) → slice_get us n ≡ Some u → v ≡ row_verdict us budget n u → IsVerdict us budget n v
-verdict_plain us clear budget n u v there e =
-    let plain = e ∙ sym (plain_is us n budget u there) in
-    record { plain = inl plain; good = λ yes. good_of_built us n budget clear (told_yes (plain_verdict built_extent us n budget) (sym plain ∙ yes)) }
+-- a verdict that is found so is the plain one
+pub found_plain : (us : Library) (budget n : ℕ) (u : LibraryUnit) (v : Verdict) → slice_get us n ≡ Some u → v ≡ row_verdict us budget n u → v ≡ told (plain_verdict built_extent us n budget)
+found_plain us budget n u v there e = e ∙ sym (plain_is us n budget u there)
 
-pub verdict_memory : (us : Library) (budget n : ℕ) (v : Verdict) → v ≡ out_of_memory → IsVerdict us budget n v
-verdict_memory us budget n v e = record { plain = inr e; good = λ yes. absurd (cc) }
+plain_yes : (us : Library) (budget n : ℕ) (v : Verdict) → IsPlainVerdict us budget n v → v ≡ accepted → plain_verdict built_extent us n budget ≡ says_yes
+plain_yes us budget n v (inl e) yes = told_yes (plain_verdict built_extent us n budget) (sym e ∙ yes)
+plain_yes us budget n v (inr e) yes = absurd cc
+
+-- a yes is good, where the operations before it are accepted
+pub good_of_plain : (us : Library) → IsClearLibrary us → (budget : ℕ) (vs : List Verdict) → ((n : ℕ) (v : Verdict) → slice_get vs n ≡ Some v → IsPlainVerdict us budget n v) →
+    (n : ℕ) (v : Verdict) → slice_get vs n ≡ Some v → v ≡ accepted → OperationsAccepted us vs n → IsGoodUnit us n
+good_of_plain us clear budget vs each n v at yes before =
+    good_of_built us n budget clear (λ m u below there gives. (budget, plain_yes us budget m accepted (each m accepted (before m u below there gives)) refl))
+    (plain_yes us budget n v (each n v at) yes)

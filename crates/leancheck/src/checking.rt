@@ -160,8 +160,7 @@ fn judge_all<G: Gate>(
 ) -> Result<Vec<Verdict>, NoMemory>
     requires { engine.old.0 ≡ library.now }
     ensures { IfOk result (λ v. IsClearLibrary (library_of library.now)
-        → AreVerdicts (library_of library.now) steps 0 (library_of library.now)
-        (map verdict v.items)) }
+        → AreVerdicts (library_of library.now) steps (map verdict v.items)) }
 {
     let mut verdicts = Vec::new(alloc);
     let mut rest = library.units();
@@ -187,8 +186,7 @@ pub fn check_all<G: Gate>(
     gate: &G,
 ) -> Result<Vec<Verdict>, NoMemory>
     ensures { IfOk result (λ v. IsClearLibrary (library_of library.now)
-        → AreVerdicts (library_of library.now) steps 0 (library_of library.now)
-        (map verdict v.items)) }
+        → AreVerdicts (library_of library.now) steps (map verdict v.items)) }
 {
     let mut memo = PrivateMemo::new(alloc, kept)?;
     let mut engine = Engine::new(alloc, library, &mut memo);

@@ -10,7 +10,7 @@ use Rattle.lk_rulebook.specs.Names.{named, op_name}
 use Rattle.lk_rulebook.specs.Rules.{Field}
 use Rattle.lk_rulebook.proofs.Texts.{expansion_fine, result_fine}
 use Rattle.lk_declarative.specs.Guarded.{GuardedType, typed_sort, typed_local, typed_const, typed_app, typed_lam, typed_pi, typed_let, typed_lit, typed_str, typed_proj, typed_conv, GuardedEquals, same_refl, same_sym, same_trans, same_sort, same_const, same_app, same_lam, same_pi, same_proj, same_beta, same_zeta, same_delta, same_iota, same_proj_ctor, same_lit_zero, same_lit_succ, same_quot_lift, same_quot_ind, same_op, same_str, same_eta, same_struct_eta, same_unit, same_struct_ext, same_proof, same_k, GuardedField, field_here, field_past}
-use Rattle.lk_declarative.proofs.Scopes.{expanded_fine}
+use Rattle.lk_rulebook.proofs.Scopes.{expanded_fine}
 
 smaller_literal : (n : ℕ) → suc n < 2 ^ 128 → n < 2 ^ 128
 smaller_literal n h = omega arith

@@ -1,26 +1,16 @@
 -- What the declarative rules relate is closed and well scoped.
-use Rattle.std.proofs.Common.{zero, suc, ℕ, ◌<◌, ◌++◌, map, arith}
+use Rattle.std.proofs.Common.{suc, ℕ, ◌<◌, map, arith}
 use Rattle.std.specs.Prelude.{◌^◌}
-use Rattle.lk_rulebook.specs.Structures.{StructureAt, structure_type, expanded, projections}
-use Rattle.lk_tree.specs.Tree.{Name, Tree, const, lit, local}
-use Rattle.lk_tree.specs.WellFormed.{IsWellFormed, AllWellFormed}
+use Rattle.lk_tree.specs.Tree.{Tree, lit, local}
+use Rattle.lk_tree.specs.WellFormed.{IsWellFormed}
 use Rattle.lk_tree.proofs.Binding.{open_fine, fine_from_open, fine_more}
-use Rattle.lk_tree.proofs.Spines.{fine_apply, well_formed_of_apply, all_fine_append}
+use Rattle.lk_tree.proofs.Spines.{fine_apply}
 use Rattle.lk_rulebook.specs.Place.{Place}
+use Rattle.lk_rulebook.proofs.Scopes.{expanded_fine}
 use Rattle.lk_rulebook.specs.Names.{named, op_name}
 use Rattle.lk_rulebook.specs.Rules.{Field}
 use Rattle.lk_rulebook.proofs.Texts.{expansion_fine, result_fine}
 use Rattle.lk_declarative.specs.Declared.{IsDeclared, type_sort, type_local, type_const, type_app, type_lam, type_pi, type_let, type_lit, type_str, type_proj, type_conv, Converts, conv_refl, conv_sym, conv_trans, conv_sort, conv_const, conv_app, conv_lam, conv_pi, conv_proj, conv_beta, conv_zeta, conv_delta, conv_iota, conv_proj_ctor, conv_lit_zero, conv_lit_succ, conv_quot_lift, conv_quot_ind, conv_op, conv_str, conv_eta, conv_struct_eta, conv_unit, conv_struct_ext, conv_proof, conv_k, FieldDomain, this_field, later_field}
-
-projections_fine : (J : Name) (m : Tree) (j n : ℕ) → IsWellFormed m → AllWellFormed (projections J m j n)
-projections_fine J m j zero f = tt
-projections_fine J m j (suc n) f = (f, projections_fine J m (suc j) n f)
-
-pub expanded_fine : {w : Place} (S : StructureAt w) (m : Tree) → IsWellFormed (structure_type S) → IsWellFormed m → IsWellFormed (expanded S m)
-expanded_fine S m f g =
-    let s = S.structure in
-    fine_apply (const s.ctor_name S.levels) (S.params ++ projections s.ind.name m 0 s.ctor.fields) tt
-    (all_fine_append S.params (projections s.ind.name m 0 s.ctor.fields) (well_formed_of_apply (const s.ind.name S.levels) S.params f).1 (projections_fine s.ind.name m 0 s.ctor.fields g))
 
 smaller_literal : (n : ℕ) → suc n < 2 ^ 128 → n < 2 ^ 128
 smaller_literal n h = omega arith

@@ -6,10 +6,10 @@ pub mod Fuel
 pub mod Partials
 pub mod More
 pub mod MoreBlocks
+pub mod MoreNested
 pub mod Plain
 pub mod ReadBack
 pub mod SettledTasks
-pub mod SoundPlaces
 pub mod PartTasks
 pub mod TaskLaws
 pub mod Tasks

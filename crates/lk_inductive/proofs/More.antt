@@ -22,7 +22,7 @@ kept w w' i c e m h = elim (i c e m) [
   | inr g ↦ absurd (h g.2.recursor g.2.kind g.2.no_rules)
 ]
 
-type_kept : (w w' : Place) → IsWithin w w' → (c : Name) (e : Entry) (block : Block) (ind : BlockType) → w.means c ≡ Some e → e.kind ≡ a_type block ind → w'.means c ≡ Some e
+pub type_kept : (w w' : Place) → IsWithin w w' → (c : Name) (e : Entry) (block : Block) (ind : BlockType) → w.means c ≡ Some e → e.kind ≡ a_type block ind → w'.means c ≡ Some e
 type_kept w w' i c e block ind m k = kept w w' i c e m (λ r h z. cc)
 
 ctor_kept : (w w' : Place) → IsWithin w w' → (c : Name) (e : Entry) (block : Block) (ind : BlockType) (ctor : Ctor) → w.means c ≡ Some e → e.kind ≡ a_ctor block ind ctor → w'.means c ≡ Some e

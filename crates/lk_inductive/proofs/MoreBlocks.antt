@@ -115,7 +115,7 @@ pub more_recs : (w w' : Place) → IsWithin w w' → (rs ss : List BlockRecursor
 more_recs w w' i rs [] h = tt
 more_recs w w' i rs (s ∷ ss) h = (more_one_of w w' i s rs h.0, more_recs w w' i rs ss h.1)
 
-more_types_sorted : (w w' : Place) → IsWithin w w' → (ts : List BlockType) → TypesSorted w ts → TypesSorted w' ts
+pub more_types_sorted : (w w' : Place) → IsWithin w w' → (ts : List BlockType) → TypesSorted w ts → TypesSorted w' ts
 more_types_sorted w w' i [] h = tt
 more_types_sorted w w' i (t ∷ ts) h = ((h.0.0, more_sort w w' i h.0.1), more_types_sorted w w' i ts h.1)
 
@@ -123,7 +123,7 @@ more_ctors_sorted : (w w' : Place) → IsWithin w w' → (cs : List Ctor) → Ct
 more_ctors_sorted w w' i [] h = tt
 more_ctors_sorted w w' i (c ∷ cs) h = ((h.0.0, more_sort w w' i h.0.1), more_ctors_sorted w w' i cs h.1)
 
-more_all_sorted : (w w' : Place) → IsWithin w w' → (ts : List BlockType) → AllCtorsSorted w ts → AllCtorsSorted w' ts
+pub more_all_sorted : (w w' : Place) → IsWithin w w' → (ts : List BlockType) → AllCtorsSorted w ts → AllCtorsSorted w' ts
 more_all_sorted w w' i [] h = tt
 more_all_sorted w w' i (t ∷ ts) h = (more_ctors_sorted w w' i t.ctors h.0, more_all_sorted w w' i ts h.1)
 

@@ -14,7 +14,7 @@ projections_fine : (J : Name) (m : Tree) (j n : ℕ) → IsWellFormed m → AllW
 projections_fine J m j zero f = tt
 projections_fine J m j (suc n) f = (f, projections_fine J m (suc j) n f)
 
-expanded_fine : {w : Place} (S : StructureAt w) (m : Tree) → IsWellFormed (structure_type S) → IsWellFormed m → IsWellFormed (expanded S m)
+pub expanded_fine : {w : Place} (S : StructureAt w) (m : Tree) → IsWellFormed (structure_type S) → IsWellFormed m → IsWellFormed (expanded S m)
 expanded_fine S m f g =
     let s = S.structure in
     fine_apply (const s.ctor_name S.levels) (S.params ++ projections s.ind.name m 0 s.ctor.fields) tt

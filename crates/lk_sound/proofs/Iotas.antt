@@ -23,7 +23,7 @@ use Rattle.lk_tree.proofs.Lists.{fine_take, fine_drop, fine_at, any_take, any_dr
 use Rattle.lk_rulebook.specs.Place.{Place, Entry, Kind, Recursor, RecRule, a_quot, a_ctor, a_rec}
 use Rattle.lk_tree.specs.Mentions.{same_name}
 use Rattle.lk_rulebook.specs.Structures.{IsRuleOf, before_major}
-use Rattle.lk_rulebook.specs.Rules.{HasSort, Reduces, r_major, r_proj, r_iota, r_k}
+use Rattle.lk_rulebook.specs.Rules.{HasSort, r_major, r_proj, r_iota, r_k}
 use Rattle.lk_rulebook.proofs.Scopes.{well_formed_of_type, well_formed_of_reduct}
 use Rattle.lk_plain.specs.Query.{core}
 use Rattle.lk_plain.specs.Program.{done}

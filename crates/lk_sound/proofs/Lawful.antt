@@ -2,12 +2,12 @@
 use Rattle.std.proofs.Common.{ℕ, zero, suc, ◌≡◌, ◌<◌, ◌≤◌, ◌⊎◌, inl, inr, Bool, true, false, List, [], ◌∷◌, ◌++◌, take, Option, Some, None, refl, sym, ap, subst, ◌∙◌, arith}
 use Rattle.std.specs.Prelude.{option_and_then, slice_get}
 use Rattle.lk_tree.specs.Tree.{Name, name_discrete, Part, Tree}
-use Rattle.lk_tree.specs.Operations.{Op, succ, log2, add, sub, mul, div, modulo, gcd, beq, ble, land, lor, xor, shift_left, shift_right, pow}
+use Rattle.lk_tree.specs.Operations.{Op, succ, add, sub, mul, beq, ble, pow}
 use Rattle.lk_tree.specs.declared.rule.Rule.{Rule}
-use Rattle.lk_rulebook.specs.Place.{Place, Entry, Kind, an_axiom, a_def, a_thm, an_opaque, a_quot, a_type, a_ctor, a_rec, Hint, Ctor, BlockType, Block, BlockRecursor}
+use Rattle.lk_rulebook.specs.Place.{Place, Entry, Kind, a_def, Hint, Ctor, BlockType, Block, BlockRecursor}
 use Rattle.lk_rulebook.specs.Names.{op_name}
 use Rattle.lk_rulebook.specs.NumberLaws.{has_laws, laws_of, stated_by}
-use Rattle.lk_rulebook.specs.Literals.{by_def, may_give, IsOperation, CanBeStated, laws_in}
+use Rattle.lk_rulebook.specs.Literals.{by_def, may_give, CanBeStated, laws_in}
 use Rattle.lk_rulebook.specs.Lawful.{IsLawfulPlace}
 use Rattle.lk_rulebook.specs.Rules.{MeetsLaws, meets, AllHold, no_more_laws}
 use Rattle.lk_rulebook.specs.Units.{Body, as_axiom, as_def, as_thm, as_opaque, as_quot, Decl, LibraryUnit, of_decl, of_block, Library, Members, members_of, kind_of, type_entries, ctor_entries, all_ctor_entries, rec_members, rec_entries, partial_types, partial_members, Found, given_by, first_of_two, at_unit, at_partial, flaw_of, flawless, first_giving, place_of}
@@ -17,11 +17,12 @@ use Rattle.lk_plain.proofs.Places.{prefix_gives, found_entry}
 use Rattle.lk_inductive.specs.Grows.{IsWithin}
 use Rattle.lk_inductive.specs.Nested.{Aux, Setting, bare_entries}
 use Rattle.lk_inductive.specs.Restore.{Original}
-use Rattle.lk_inductive.specs.NestedRelation.{IsMarked, AuxTypes, no_aux, aux_more}
+use Rattle.lk_inductive.specs.NestedRelation.{IsMarked, AuxTypes, aux_more}
 use Rattle.lk_inductive.proofs.More.{more_laws}
 use Rattle.lk_inductive.proofs.Partials.{half_within}
 use Rattle.lk_verdict.specs.Operations.{GivesOperation}
-use Rattle.lk_verdict.specs.GoodUnit.{UnitDerived, declaration, IsGoodUnit, NamesClear, IsClearLibrary}
+use Rattle.lk_verdict.proofs.NestedStays.{none_marked}
+use Rattle.lk_verdict.specs.GoodUnit.{UnitDerived, declaration, IsGoodUnit, IsClearLibrary}
 use Rattle.lk_sound.proofs.Pieces.{Some_inj}
 
 -- an operation without laws has none to meet
@@ -100,7 +101,7 @@ module _ (us : Library) (n : ℕ) (h : Members) (fresh : AllMembers (IsFresh us 
       go has (Some x) i m =
           let same : x ≡ o.entry = Some_inj m in
           let no_def : by_def x.kind ≡ false = (given_member (IsFresh us n) h (op_name op) x fresh i).1 in
-          let def : by_def x.kind ≡ true = rw same (gives_def op o.entry.kind has o.kind) in
+          let def : by_def x.kind ≡ true = subst (λ y. by_def y.kind ≡ true) (sym same) (gives_def op o.entry.kind has o.kind) in
           absurd cc
       go has None i m = more_laws (place_of us n []) (place_of us n h) within_half (lawful op (record { entry = o.entry; given = m; kind = o.kind }))
 
@@ -184,7 +185,7 @@ gives_op (of_decl d) op e g k = go (name_discrete d.name (op_name op)) g
     go : (x : Dec (d.name ≡ op_name op)) → elim x as (λ y. Option Entry) [ yes z ↦ Some entry | no f ↦ None ] ≡ Some e → GivesDef (of_decl d) op e
     go (yes z) h =
         let same : entry ≡ e = Some_inj h in
-        let b : IsDefBody d.body = def_body d.body (rw same k) in
+        let b : IsDefBody d.body = def_body d.body (subst (λ y. by_def y.kind ≡ true) (sym same) k) in
         record { decl = d; body = b; unit_is = refl; name_is = sym z; entry_is = ap (λ y. record { levels = d.levels; type = d.type; kind = kind_of y }) (sym b.is) ∙ same }
     go (no f) h = absurd cc
 
@@ -251,26 +252,12 @@ block_fresh us n b rs h =
       all_append (IsFresh us n) (all_ctor_entries b b.types) (rec_entries rs) (both_of New NoDef (all_ctor_entries b b.types) rest.0 (all_ctors_no_def b b.types)) (without_rules us n rs rest.1),
     )
 
--- no unit of a clear library gives a marked name, so auxiliary types are fresh
-no_marked : (ms : Members) (c : Name) → NamesClear ms → IsMarked c → given_by ms c ≡ None
-no_marked [] c h m = refl
-no_marked (x ∷ ms) c h m = go (no_marked ms c h.1 m) (name_discrete x.0 c)
-  where
-    go : given_by ms c ≡ None → (d : Dec (x.0 ≡ c)) → elim d as (λ y. Option Entry) [ yes z ↦ Some x.1 | no f ↦ given_by ms c ] ≡ None
-    go k (yes z) = absurd (h.0 (subst IsMarked (sym z) m))
-    go k (no f) = k
-
-marked_new : (i n : ℕ) (us : Library) (c : Name) → IsClearLibrary us → IsMarked c → first_giving i (take n us) c ≡ None
-marked_new i zero us c h m = refl
-marked_new i (suc n) [] c h m = refl
-marked_new i (suc n) (u ∷ us) c h m =
-    ap (λ g. first_of_two (at_unit i u g) (first_giving (suc i) (take n us) c)) (no_marked (members_of u) c h.0.names m) ∙ marked_new (suc i) n us c h.1 m
-
+-- auxiliary types are fresh: no unit of a clear library gives a marked name
 pub aux_fresh : (us : Library) (n : ℕ) → IsClearLibrary us → (w : Place) (s : Setting) (ms : List (Name × Original)) (auxs : List Aux) (i : ℕ) (ts : List BlockType) → AuxTypes w s ms auxs i ts → AllMembers (IsFresh us n) (bare_entries ts)
 aux_fresh us n cl w s ms auxs i [] h = tt
 aux_fresh us n cl w s ms auxs i (t ∷ ts) (aux_more f a r) =
     let marked : IsMarked t.name = (Part.number i ∷ [], inl a.name) in
-    ((marked_new 0 n us t.name cl marked, refl), aux_fresh us n cl w s ms auxs (suc i) ts r)
+    ((none_marked 0 n us t.name cl marked, refl), aux_fresh us n cl w s ms auxs (suc i) ts r)
 
 pub fresh_append : (us : Library) (n : ℕ) (xs ys : Members) → AllMembers (IsFresh us n) xs → AllMembers (IsFresh us n) ys → AllMembers (IsFresh us n) (xs ++ ys)
 fresh_append us n xs ys h k = all_append (IsFresh us n) xs ys h k

@@ -1,5 +1,5 @@
 -- A def that answers yes to the laws of the operation that it is named as has them.
-use Rattle.std.proofs.Common.{ℕ, ◌≡◌, true, nat_eq, length, List, [], ◌∷◌, Option, Some, None, refl, subst, sym, arith}
+use Rattle.std.proofs.Common.{ℕ, ◌≡◌, true, nat_eq, length, List, [], ◌∷◌, Option, Some, None, refl, subst, arith}
 use Rattle.lk_tree.specs.Tree.{Name, name_discrete, part_discrete, Tree, local}
 use Rattle.lk_tree.specs.Decide.{list_discrete, both_discrete}
 use Rattle.lk_tree.specs.Bind.{bound}
@@ -36,27 +36,27 @@ laws_fine : (op : Op) (v : Tree) → IsWellFormed v → AllFine (laws_of op v)
 laws_fine add v f =
     let x = number_fine 0 in
     let y = number_fine 1 in
-    ((((f, x), tt), x), (((f, x), (tt, y)), (tt, ((f, x), y))), tt)
+    ((((f, x), tt), x), ((((f, x), (tt, y)), (tt, ((f, x), y))), tt))
 laws_fine sub v f =
     let x = number_fine 0 in
     let y = number_fine 1 in
-    (((tt, tt), tt), ((tt, (tt, x)), x), (((f, x), tt), x), (((f, x), (tt, y)), (tt, ((f, x), y))), tt)
+    (((tt, tt), tt), (((tt, (tt, x)), x), ((((f, x), tt), x), ((((f, x), (tt, y)), (tt, ((f, x), y))), tt))))
 laws_fine mul v f =
     let x = number_fine 0 in
     let y = number_fine 1 in
-    ((((f, x), tt), tt), (((f, x), (tt, y)), ((tt, ((f, x), y)), x)), tt)
+    ((((f, x), tt), tt), ((((f, x), (tt, y)), ((tt, ((f, x), y)), x)), tt))
 laws_fine pow v f =
     let x = number_fine 0 in
     let y = number_fine 1 in
-    ((((f, x), tt), (tt, tt)), (((f, x), (tt, y)), ((tt, ((f, x), y)), x)), tt)
+    ((((f, x), tt), (tt, tt)), ((((f, x), (tt, y)), ((tt, ((f, x), y)), x)), tt))
 laws_fine beq v f =
     let x = number_fine 0 in
     let y = number_fine 1 in
-    ((((f, tt), tt), tt), (((f, tt), (tt, y)), tt), (((f, (tt, x)), tt), tt), (((f, (tt, x)), (tt, y)), ((f, x), y)), tt)
+    ((((f, tt), tt), tt), ((((f, tt), (tt, y)), tt), ((((f, (tt, x)), tt), tt), ((((f, (tt, x)), (tt, y)), ((f, x), y)), tt))))
 laws_fine ble v f =
     let x = number_fine 0 in
     let y = number_fine 1 in
-    ((((f, tt), tt), tt), (((f, tt), (tt, y)), tt), (((f, (tt, x)), tt), tt), (((f, (tt, x)), (tt, y)), ((f, x), y)), tt)
+    ((((f, tt), tt), tt), ((((f, tt), (tt, y)), tt), ((((f, (tt, x)), tt), tt), ((((f, (tt, x)), (tt, y)), ((f, x), y)), tt))))
 laws_fine _ v f = tt
 
 sound_held : (w : Place) (o : Option Name) → IsSound w (held_given o) (λ u. Unit {0})

@@ -1,19 +1,24 @@
 -- Verdicts of whole blocks: with a recursor, with a field of functions, with nested occurrences.
-use Rattle.std.proofs.Common.{◌≡◌, [], ◌∷◌, refl}
-use Rattle.lk_tree.specs.Tree.{Tree, tree_discrete, level_discrete, name_discrete, part_discrete, var, app, pi}
+use Rattle.std.proofs.Common.{ℕ, zero, suc, ◌≡◌, ◌<◌, [], ◌∷◌, Some, refl, ◌∙◌, arith}
+use Rattle.std.specs.Prelude.{slice_get}
+use Rattle.lk_tree.specs.Tree.{zero_level, succ_level, Tree, tree_discrete, level_discrete, name_discrete, part_discrete, var, const, app, lam, pi}
+use Rattle.lk_tree.specs.Operations.{add}
 use Rattle.lk_tree.specs.Decide.{list_discrete, both_discrete}
 use Rattle.lk_tree.specs.Bind.{open_at, close_at, bound}
 use Rattle.lk_tree.specs.Levels.{put_levels, put_in_level, level_for}
 use Rattle.lk_tree.specs.LevelTest.{level_le}
 use Rattle.lk_tree.specs.Spine.{head, args}
-use Rattle.lk_tree.specs.declared.rule.Rule.TheVariants.{DuplicateName, NotPositive, RecursorDiffers}
-use Rattle.lk_rulebook.specs.Names.{nat, nat_succ, named}
-use Rattle.lk_rulebook.specs.Units.{of_block, Library}
+use Rattle.lk_tree.specs.declared.rule.Rule.TheVariants.{DuplicateName, NotPositive, RecursorDiffers, NatLaw}
+use Rattle.lk_rulebook.specs.Place.{abbreviation}
+use Rattle.lk_rulebook.specs.Names.{dotted, nat, nat_zero, nat_succ, named, op_name}
+use Rattle.lk_rulebook.specs.Units.{LibraryUnit, of_decl, of_block, as_def, Library}
 use Rattle.lk_plain.specs.Answer.{answer_to_depth}
 use Rattle.lk_inductive.proofs.Worked.{nat_block}
 use Rattle.lk_inductive.proofs.WorkedBlocks.{u, s_type, nat_rec_with, n_unit, t_name, t_block, of_functions}
 use Rattle.lk_inductive.proofs.WorkedNested.{list_unit, tree_block, tree_recs}
 use Rattle.lk_verdict.specs.GoodUnit.{IsGoodUnit}
+use Rattle.lk_verdict.specs.Operations.{GivesOperation}
+use Rattle.lk_sound.proofs.Pieces.{Some_inj}
 use Rattle.lk_verdict.proofs.Spelled.{spelled_clear}
 use Rattle.lk_sound.proofs.WholeTable.{sound_steps}
 use Rattle.lk_sound.proofs.GoodUnits.{good_of_yes}
@@ -69,7 +74,34 @@ tree_short : plain_verdict whole (list_unit ∷ of_block tree_block tree_recs �
 unfolding answer_to_depth open_at close_at bound head args put_levels put_in_level level_for level_le tree_discrete level_discrete name_discrete list_discrete both_discrete part_discrete ℕ_discrete
 tree_short = refl
 
+-- no operation on numbers comes before it
+no_operation : (m : ℕ) (u : LibraryUnit) → m < 1 → slice_get (list_unit ∷ of_block tree_block tree_recs ∷ []) m ≡ Some u → GivesOperation u → ⊥
+no_operation zero u l at g = let e : list_unit ≡ of_decl g.decl = Some_inj at ∙ g.unit_is in absurd cc
+no_operation (suc m) u l at g = absurd (omega (arith, l))
+
 -- so it is good
 tree_good : IsGoodUnit (list_unit ∷ of_block tree_block tree_recs ∷ []) 1
 unfolding open_at close_at bound head args put_levels put_in_level level_for tree_discrete level_discrete name_discrete list_discrete both_discrete part_discrete ℕ_discrete
-tree_good = good_of_yes whole sound_steps (list_unit ∷ of_block tree_block tree_recs ∷ []) 1 939 (spelled_clear (list_unit ∷ of_block tree_block tree_recs ∷ []) refl) tree_yes
+tree_good = good_of_yes whole sound_steps (list_unit ∷ of_block tree_block tree_recs ∷ []) 1 939 (spelled_clear (list_unit ∷ of_block tree_block tree_recs ∷ []) refl) (λ m u l at g. absurd (no_operation m u l at g)) tree_yes
+
+-- Nat, and def Nat.add with this value
+abbrev additions : Tree → Library
+additions value = of_block nat_block (nat_rec_with s_type ∷ [])
+    ∷ of_decl (record { name = op_name add; levels = []; type = pi (named nat) (pi (named nat) (named nat)); body = as_def abbreviation value })
+    ∷ []
+
+-- fun x y => Nat.rec.{1} (fun t => Nat) x (fun n h => Nat.succ h) y
+abbrev addition : Tree
+addition = lam (named nat) (lam (named nat) (
+    app (app (app (app (const (dotted "Nat" "rec") (succ_level zero_level ∷ [])) (lam (named nat) (named nat))) (var 1))
+    (lam (named nat) (lam (named nat) (app (named nat_succ) (var 0))))) (var 0)
+    ))
+
+addition_yes : plain_verdict whole (additions addition) 1 1000 ≡ says_yes
+unfolding answer_to_depth open_at close_at bound head args put_levels put_in_level level_for level_le tree_discrete level_discrete name_discrete list_discrete both_discrete part_discrete ℕ_discrete
+addition_yes = refl
+
+-- what is always one is no addition
+faked_no : plain_verdict whole (additions (lam (named nat) (lam (named nat) (app (named nat_succ) (named nat_zero))))) 1 1000 ≡ says_no NatLaw
+unfolding answer_to_depth open_at close_at bound head args put_levels put_in_level level_for level_le tree_discrete level_discrete name_discrete list_discrete both_discrete part_discrete ℕ_discrete
+faked_no = refl

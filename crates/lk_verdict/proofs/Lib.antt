@@ -1,5 +1,6 @@
 pub mod Clears
 pub mod Earlier
+pub mod NestedStays
 pub mod Refusals
 pub mod Spelled
 pub mod Stays

@@ -18,10 +18,10 @@ use Rattle.lk_inductive.proofs.More.{more_type, more_sort, more_equal, more_nat,
 use Rattle.lk_inductive.proofs.MoreBlocks.{more_good, block_after}
 
 -- each name that w gives means the same at w'
-abbrev Gives : Place → Place → Type 0
+abbrev pub Gives : Place → Place → Type 0
 Gives w w' = (c : Name) (e : Entry) → w.means c ≡ Some e → w'.means c ≡ Some e
 
-later_gives : (us : Library) (n m : ℕ) → n ≤ m → Gives (place_of us n []) (place_of us m [])
+pub later_gives : (us : Library) (n m : ℕ) → n ≤ m → Gives (place_of us n []) (place_of us m [])
 later_gives us n m l c e h =
     let f : (f : Found) × (first_giving 0 (take n us) c ≡ Some f) = found_entry (first_giving 0 (take n us) c) e h in
     ap (option_and_then flawless) (prefix_gives 0 n m us c f.0 l f.1) ∙ (ap (option_and_then flawless) (sym f.1) ∙ h)
@@ -106,12 +106,12 @@ completes_after xs ys zs h c e g = go (given_by xs c) refl (sym (given_append xs
         let q : given_by ys c ≡ Some e = ap (λ y. first_entry y (given_by ys c)) (sym i) ∙ k in
         elim (h c e q) [ inl y ↦ inl (at None (Some e) i y) | inr y ↦ inr (y.0, at None (Some y.0) i y.1, y.2) ]
 
-completes_block : (b : Block) (rs : List BlockRecursor) → Completes (partial_types b ++ partial_members b rs) (members_of (of_block b rs))
+pub completes_block : (b : Block) (rs : List BlockRecursor) → Completes (partial_types b ++ partial_members b rs) (members_of (of_block b rs))
 completes_block b rs =
     completes_after (type_entries b b.types) (all_ctor_entries b b.types ++ rec_entries rs) (all_ctor_entries b b.types ++ rec_members rs)
     (completes_after (all_ctor_entries b b.types) (rec_entries rs) (rec_members rs) (completes_recs rs))
 
-new_given : (us : Library) (n : ℕ) (ms : Members) (c : Name) (e : Entry) → AreNew us n ms → given_by ms c ≡ Some e → first_giving 0 (take n us) c ≡ None
+pub new_given : (us : Library) (n : ℕ) (ms : Members) (c : Name) (e : Entry) → AreNew us n ms → given_by ms c ≡ Some e → first_giving 0 (take n us) c ≡ None
 new_given us n [] c e h g = absurd cc
 new_given us n (m ∷ ms) c e h g = go (new_given us n ms c e h.2) (name_discrete m.0 c) g
   where

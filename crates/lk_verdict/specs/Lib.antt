@@ -1,5 +1,6 @@
 pub mod Attacks
 pub mod GoodUnit
+pub mod Later
 pub mod Verdict
 pub mod Built
 pub mod Operations

@@ -23,10 +23,13 @@ told says_steps = out_of_steps
 abbrev pub OperationsAccepted : Library → List Verdict → ℕ → Type 0
 OperationsAccepted us vs n = (m : ℕ) (u : LibraryUnit) → m < n → slice_get us m ≡ Some u → GivesOperation u → slice_get vs m ≡ Some accepted
 
--- v, the verdict of unit n among these verdicts, is the plain one of what is built, or says that memory was wanting; and where
--- it says yes, the unit is good, if the operations before it are accepted
+-- v is the plain verdict of unit n, of what is built, or says that memory was wanting
+abbrev pub IsPlainVerdict : Library → ℕ → ℕ → Verdict → Type 0
+IsPlainVerdict us budget n v = (v ≡ told (plain_verdict built_extent us n budget)) ⊎ (v ≡ out_of_memory)
+
+-- v is what is said of unit n beside these verdicts: where it says yes, and the operations before it are accepted, the unit is good
 pub record IsVerdict (us : Library) (budget : ℕ) (vs : List Verdict) (n : ℕ) (v : Verdict) : Type 0 where
-  pub plain : (v ≡ told (plain_verdict built_extent us n budget)) ⊎ (v ≡ out_of_memory)
+  pub plain : IsPlainVerdict us budget n v
   pub good : v ≡ accepted → OperationsAccepted us vs n → IsGoodUnit us n
 
 -- the verdicts of a library's units, in their order

@@ -3,7 +3,7 @@
 
 ghost use Rattle.std.specs.Prelude.{◌≡◌, ℕ, [], List, Some, take, slice_get, ◌≤◌, ◌<◌, ◌⊎◌, true};
 ghost use Rattle.lk_inductive.specs.Block.{Shape};
-ghost use Rattle.lk_inductive.specs.Recursors.{BlockRecursor};
+ghost use Rattle.lk_inductive.specs.NestedRelation.{NestedDerived};
 ghost use Rattle.lk_inductive.specs.Whole.{BlockDerived};
 ghost use Rattle.lk_plain.specs.Answer.{answered};
 ghost use Rattle.lk_rulebook.specs.Derived.{DeclDerived};
@@ -15,6 +15,7 @@ ghost use Rattle.lk_questions.specs.Table.{steps};
 ghost use Rattle.lk_verdict.specs.Attacks.{shadowed, doubled, undeclared, of_local, hidden};
 ghost use Rattle.lk_verdict.specs.Built.{built_extent};
 ghost use Rattle.lk_verdict.specs.GoodUnit.{IsGoodUnit, IsClearLibrary};
+ghost use Rattle.lk_verdict.specs.Later.{later_place};
 ghost use Rattle.lk_verdict.specs.Verdict.{says_yes, says_steps, Extent, plain_verdict, IsYesFrom, IsWidened};
 
 /// A yes comes exactly where the budget is at least its cost, and below it the verdict is steps. No verdict but steps changes
@@ -42,8 +43,10 @@ pub fn verdicts_rest_on_earlier_units()
         ≡ slice_get vs n → IsGoodUnit us n → IsGoodUnit vs n }
 {}
 
-/// What is derived of a unit stays derived at later places, where its own names are given too: of declarations, and of blocks
-/// without nested occurrences.
+/// What is derived of a unit stays derived at later places, where its own names are given too: of declarations, of blocks
+/// without nested occurrences, and of blocks with them. In the third case auxiliary types stand for nested occurrences. They are
+/// partial while the block is checked, and no unit of a clear library gives their names: so they stay partial at the later place,
+/// where what units give goes before what is partial.
 pub fn good_units_stay()
     ensures declarations { (us : Library) (n m : ℕ) (d : Decl) → n ≤ m
         → DeclDerived (place_of us n []) d → DeclDerived (place_of us m []) d }
@@ -51,6 +54,10 @@ pub fn good_units_stay()
         → n < m
         → slice_get us n ≡ Some (of_block b rs) → IsScanned us n (of_block b rs) →
         BlockDerived (place_of us n) b rs s → BlockDerived (λ h. place_of us m []) b rs s }
+    ensures nested { (us : Library) (n m : ℕ) (b : Block) (rs : List BlockRecursor) (s : Shape)
+        → n < m → IsClearLibrary us
+        → slice_get us n ≡ Some (of_block b rs) → IsScanned us n (of_block b rs) →
+        NestedDerived (place_of us n) b rs s → NestedDerived (later_place us m) b rs s }
 {}
 
 /// That a library is clear is met by each library none of whose members and constants has a name that holds LF.
