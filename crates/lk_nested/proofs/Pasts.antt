@@ -94,16 +94,16 @@ stated_stops j n (local k T) r h = cc
 abbrev pub LeadsStated : ℕ → ℕ → Tree → List Tree → ℕ → ℕ → Tree → Type 0
 LeadsStated j n r ps i m s = stated_pis j n r ≡ (stated_pis i m s >>= λ t. done (ps ++ t.0, t.1))
 
-bind_ext : {A B : Type 0} (p : Program A) (f g : A → Program B) → ((v : A) → f v ≡ g v) → (p >>= f) ≡ (p >>= g)
+pub bind_ext : {A B : Type 0} (p : Program A) (f g : A → Program B) → ((v : A) → f v ≡ g v) → (p >>= f) ≡ (p >>= g)
 bind_ext p f g h = ap (λ k. p >>= k) (fun_ext h)
 
-bind_assoc : {A B C : Type 0} (p : Program A) (f : A → Program B) (g : B → Program C) → (p >>= f >>= g) ≡ (p >>= λ v. f v >>= g)
+pub bind_assoc : {A B C : Type 0} (p : Program A) (f : A → Program B) (g : B → Program C) → (p >>= f >>= g) ≡ (p >>= λ v. f v >>= g)
 bind_assoc (done v) f g = refl
 bind_assoc (refuse r) f g = refl
 bind_assoc (ask q k) f g = ap (ask q) (fun_ext (λ v. bind_assoc (k v) f g))
 bind_assoc (look r c k) f g = ap (look r c) (fun_ext (λ e. bind_assoc (k e) f g))
 
-bind_done : {A : Type 0} (p : Program A) (f : A → Program A) → ((v : A) → f v ≡ done v) → (p >>= f) ≡ p
+pub bind_done : {A : Type 0} (p : Program A) (f : A → Program A) → ((v : A) → f v ≡ done v) → (p >>= f) ≡ p
 bind_done (done v) f h = h v
 bind_done (refuse r) f h = refl
 bind_done (ask q k) f h = ap (ask q) (fun_ext (λ v. bind_done (k v) f h))

@@ -1,0 +1,8 @@
+//! The larger block of a block with nested occurrences: an auxiliary type for each, and what it stands for.
+#![tactic(auto)]
+
+pub mod auxiliary;
+pub mod ends;
+pub mod instance;
+pub mod levels;
+pub mod naming;
