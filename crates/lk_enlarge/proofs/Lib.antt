@@ -1,2 +1,6 @@
 pub mod Instances
 pub mod Steady
+pub mod PartsMade
+pub mod Families
+pub mod Forms
+pub mod Others

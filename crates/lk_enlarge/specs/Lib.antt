@@ -2,3 +2,4 @@ pub mod Naming
 pub mod Places
 pub mod Auxiliaries
 pub mod Ends
+pub mod Parts

@@ -3,6 +3,8 @@
 
 pub mod auxiliary;
 pub mod ends;
+pub mod family;
 pub mod instance;
 pub mod levels;
 pub mod naming;
+pub mod parts;
