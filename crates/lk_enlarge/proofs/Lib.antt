@@ -4,3 +4,4 @@ pub mod PartsMade
 pub mod Families
 pub mod Forms
 pub mod Others
+pub mod Numbers

@@ -1,6 +1,7 @@
 //! The larger block of a block with nested occurrences: an auxiliary type for each, and what it stands for.
 #![tactic(auto)]
 
+pub mod among;
 pub mod auxiliary;
 pub mod ends;
 pub mod family;
