@@ -1,13 +1,17 @@
 -- An auxiliary type as the definitions make it, by its parts.
-use Rattle.std.proofs.Common.{◌≡◌, Bool, true, false, List, [], ◌∷◌, length, refl, sym, ap, ◌∙◌, if◌then◌else◌}
+use Rattle.std.proofs.Common.{◌≡◌, ◌+◌, ◌++◌, suc, None, Bool, true, false, List, [], ◌∷◌, length, refl, sym, ap, ◌∙◌, if◌then◌else◌}
 use Rattle.lk_tree.specs.Tree.{Name, Level, Tree}
 use Rattle.lk_tree.specs.Mentions.{same_name}
 use Rattle.lk_rulebook.specs.Place.{Block, BlockType}
 use Rattle.lk_plain.specs.Program.{Program, done, ◌>>=◌}
 use Rattle.lk_inductive.specs.BlockSteps.{as_level}
 use Rattle.lk_inductive.specs.Enlarged.{Aux, Setting}
-use Rattle.lk_inductive.specs.Nested.{at_args, stated_pis, ctors_at, aux_of, others_of, family_of}
+use Rattle.lk_inductive.specs.Nested.{at_args, stated_pis, ctors_at, aux_of, others_of, family_of, other_count, aux_applied, met}
 use Rattle.lk_nested.proofs.Pasts.{bind_ext, bind_assoc}
+use Rattle.std.specs.Prelude.{nat_le}
+use Rattle.lk_tree.specs.declared.rule.Rule.TheVariants.{NestedForm}
+use Rattle.lk_questions.specs.Steps.{given}
+use Rattle.lk_enlarge.specs.Made.{made_form}
 use Rattle.lk_enlarge.specs.Ends.{end_form}
 use Rattle.lk_enlarge.specs.Parts.{PlainParts, parts_form, whole_parts, aux_with, aux_form, other_auxs, more_others, family_form}
 
@@ -48,3 +52,8 @@ module _ (s : Setting) (ls : List Level) (bs : List Tree) (J : Name) where
   family_is b t =
       ap (λ p. p >>= λ a. more_others (length s.params) ls bs J (a ∷ []) b.types) (form_is s ls bs J t)
       ∙ ap (λ p. aux_of s ls bs J t >>= λ a. p >>= λ as_. done (a ∷ as_)) (others_are b.types)
+
+-- as the definitions make it
+pub made_is : (s : Setting) (as_ : List Aux) (J : Name) (ls : List Level) (bs : List Tree) (b : Block) (t : BlockType) → made_form s as_ J ls bs b.types t ≡ met s as_ J ls bs b t None
+made_is s as_ J ls bs b t =
+    ap (λ p. given (nat_le (length as_ + suc (other_count J b.types)) 1024) NestedForm (p >>= λ ms. done (aux_applied s (length as_), as_ ++ ms))) (family_is s ls bs J b t)

@@ -5,3 +5,4 @@ pub mod Families
 pub mod Forms
 pub mod Others
 pub mod Numbers
+pub mod MadeParts

@@ -3,3 +3,5 @@ pub mod Places
 pub mod Auxiliaries
 pub mod Ends
 pub mod Parts
+pub mod Settings
+pub mod Made

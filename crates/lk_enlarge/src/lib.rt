@@ -7,5 +7,7 @@ pub mod ends;
 pub mod family;
 pub mod instance;
 pub mod levels;
+pub mod made;
 pub mod naming;
 pub mod parts;
+pub mod setting;
