@@ -6,3 +6,4 @@ pub mod Forms
 pub mod Others
 pub mod Numbers
 pub mod MadeParts
+pub mod Occurring

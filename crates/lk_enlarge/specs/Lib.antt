@@ -5,3 +5,4 @@ pub mod Ends
 pub mod Parts
 pub mod Settings
 pub mod Made
+pub mod Met

@@ -8,6 +8,7 @@ pub mod family;
 pub mod instance;
 pub mod levels;
 pub mod made;
+pub mod meet;
 pub mod naming;
 pub mod parts;
 pub mod setting;
