@@ -19,11 +19,12 @@ fn is_kept(found: Option<Kept>) -> bool {
 }
 
 #[test]
-fn an_answer_is_found_above_its_last_unit(rt: HostRuntime) -> Result<(), Fail> {
+fn an_answer_is_found_until_all_is_forgotten(rt: HostRuntime) -> Result<(), Fail> {
     let mut memo = PrivateMemo::new(rt.alloc(), 1)?;
     memo.keep(Query::Core(3), KEPT)?;
-    assert!(rt; is_kept(memo.find(Query::Core(3), 5)));
-    assert!(rt; memo.find(Query::Core(3), 4).is_none());
+    assert!(rt; is_kept(memo.find(Query::Core(3))));
+    memo.clear();
+    assert!(rt; memo.find(Query::Core(3)).is_none());
     Ok(())
 }
 
@@ -32,7 +33,7 @@ fn the_last_answer_stays(rt: HostRuntime) -> Result<(), Fail> {
     let mut memo = PrivateMemo::new(rt.alloc(), 1)?;
     memo.keep(Query::Core(3), KEPT)?;
     memo.keep(Query::Same(3, 4), KEPT)?;
-    assert!(rt; memo.find(Query::Core(3), 5).is_none());
-    assert!(rt; is_kept(memo.find(Query::Same(3, 4), 5)));
+    assert!(rt; memo.find(Query::Core(3)).is_none());
+    assert!(rt; is_kept(memo.find(Query::Same(3, 4))));
     Ok(())
 }

@@ -63,12 +63,12 @@ pub found_plain : (us : Library) (budget n : ℕ) (u : LibraryUnit) (v : Verdict
 found_plain us budget n u v there e = e ∙ sym (plain_is us n budget u there)
 
 plain_yes : (us : Library) (budget n : ℕ) (v : Verdict) → IsPlainVerdict us budget n v → v ≡ accepted → plain_verdict built_extent us n budget ≡ says_yes
-plain_yes us budget n v (inl e) yes = told_yes (plain_verdict built_extent us n budget) (sym e ∙ yes)
-plain_yes us budget n v (inr e) yes = absurd cc
+plain_yes us budget n v (inl e) says = told_yes (plain_verdict built_extent us n budget) (sym e ∙ says)
+plain_yes us budget n v (inr e) says = absurd cc
 
 -- a yes is good, where the operations before it are accepted
 pub good_of_plain : (us : Library) → IsClearLibrary us → (budget : ℕ) (vs : List Verdict) → ((n : ℕ) (v : Verdict) → slice_get vs n ≡ Some v → IsPlainVerdict us budget n v) →
     (n : ℕ) (v : Verdict) → slice_get vs n ≡ Some v → v ≡ accepted → OperationsAccepted us vs n → IsGoodUnit us n
-good_of_plain us clear budget vs each n v at yes before =
-    good_of_built us n budget clear (λ m u below there gives. (budget, plain_yes us budget m accepted (each m accepted (before m u below there gives)) refl))
-    (plain_yes us budget n v (each n v at) yes)
+good_of_plain us clear budget vs each n v at says before =
+    good_of_built us n budget clear (λ m below gives. (budget, plain_yes us budget m accepted (each m accepted (before m below gives)) refl))
+    (plain_yes us budget n v (each n v at) says)

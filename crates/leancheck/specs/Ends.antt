@@ -41,8 +41,8 @@ IsChecked WriteFault = ⊥
 IsChecked NoMemory = ⊥
 
 -- the bytes spell a library, and the text has a verdict for each of its units, the plain one under these steps or memory, and
--- their summary; a unit whose verdict is yes is good, where so is that of each unit before it that gives an operation on numbers
--- with laws; the status belongs to the verdicts
+-- their summary; a unit whose verdict is yes is good, where each unit before it that gives an operation on numbers with laws says
+-- yes too; the status belongs to the verdicts
 pub record IsReport (steps : ℕ) (bytes : List ℕ) (status : Status) (text : List ℕ) : Type 0 where
   pub library : Library
   pub verdicts : List Verdict

@@ -4,7 +4,7 @@ use Rattle.lk_tree.specs.Tree.{Name, Part, text, number}
 use Rattle.lk_lines.specs.declared.line.Fault.{Fault}
 use Rattle.lk_lines.specs.Words.{word_text}
 use Rattle.lk_tree.specs.declared.rule.Rule.{Rule}
-use Rattle.lk_tree.specs.declared.rule.Rule.TheVariants.{UnknownConstant, LevelCount, UndeclaredLevel, DuplicateLevel, DuplicateName, LooseVariable, NotASort, NotAFunction, ArgumentType, LetType, ValueType, TheoremNotProp, BadProjection, PropProjection, WideLiteral, NoBuiltin, BuiltinShape, QuotShape, LevelWidth, BlockShape, ParameterDiffers, ConstructorResult, NotPositive, FieldUniverse, NestedForm, RecursorDiffers}
+use Rattle.lk_tree.specs.declared.rule.Rule.TheVariants.{UnknownConstant, LevelCount, UndeclaredLevel, DuplicateLevel, DuplicateName, LooseVariable, NotASort, NotAFunction, ArgumentType, LetType, ValueType, TheoremNotProp, BadProjection, PropProjection, WideLiteral, NoBuiltin, BuiltinShape, QuotShape, LevelWidth, BlockShape, ParameterDiffers, ConstructorResult, NotPositive, FieldUniverse, NestedForm, RecursorDiffers, NatLaw}
 use Rattle.leancheck.specs.declared.report.Kind.{Kind}
 use Rattle.leancheck.specs.declared.report.Kind.TheVariants.{Yes, No, Memory}
 use Rattle.lk_rulebook.specs.Units.{Body, as_axiom, as_def, as_thm, as_opaque, as_quot, LibraryUnit, of_decl, of_block, Library, Members, members_of}
@@ -58,6 +58,7 @@ rule_word NotPositive = codes "NotPositive"
 rule_word FieldUniverse = codes "FieldUniverse"
 rule_word NestedForm = codes "NestedForm"
 rule_word RecursorDiffers = codes "RecursorDiffers"
+rule_word NatLaw = codes "NatLaw"
 
 abbrev pub body_word : Body → List ℕ
 body_word as_axiom = codes "axiom"

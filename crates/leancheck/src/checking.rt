@@ -18,11 +18,12 @@ ghost use Rattle.leancheck.specs.Held.{verdict, result_verdict, scan_verdict, Is
 use crate::blocks::check_block;
 use crate::quotients::check_quotient;
 use lk_ask::stop::Stop;
-use lk_declaration::{check_axiom, check_definition, check_opaque, check_theorem};
+use lk_declaration::{check_axiom, check_opaque, check_theorem};
 use lk_engine::Engine;
 use lk_env::entry::Partial;
 use lk_env::library::Library;
 use lk_env::unit::{Body, Declaration, Unit};
+use lk_laws::{Laws, check_definition};
 use lk_memo::PrivateMemo;
 use lk_port::Gate;
 use lk_quot::Quotients;
@@ -60,7 +61,7 @@ fn verdict_of(outcome: Result<(), Stop>) -> Verdict
 }
 
 /// The verdict of a declaration's questions.
-fn ask<Q: Quotients>(alloc: Global, asks: &mut Q, declaration: &Declaration) -> Verdict
+fn ask<Q: Quotients + Laws>(alloc: Global, asks: &mut Q, declaration: &Declaration) -> Verdict
     requires table { (Q.standing asks.old).table ≡ table }
     requires stated_in { IsStatedIn (Q.contents asks.old) declaration.now.name
         declaration.now.levels.items declaration.now.ty }
@@ -72,7 +73,14 @@ fn ask<Q: Quotients>(alloc: Global, asks: &mut Q, declaration: &Declaration) -> 
     let ty = declaration.ty;
     match declaration.body {
         Body::Axiom => verdict_of(check_axiom(asks, ty)),
-        Body::Definition { value, .. } => verdict_of(check_definition(asks, ty, value)),
+        Body::Definition { value, .. } => verdict_of(check_definition(
+            alloc,
+            asks,
+            declaration.name,
+            &declaration.levels,
+            ty,
+            value,
+        )),
         Body::Theorem { proof } => verdict_of(check_theorem(alloc, asks, ty, proof)),
         Body::Opaque { value } => verdict_of(check_opaque(asks, ty, value)),
         Body::Quotient => {
@@ -92,7 +100,7 @@ fn refused(error: ScanError) -> Verdict
 }
 
 /// The verdict of a unit with which nothing is wrong in itself. Nothing of it is partial yet.
-fn judge_scanned<Q: Quotients>(alloc: Global, asks: &mut Q, unit: &Unit) -> Verdict
+fn judge_scanned<Q: Quotients + Laws>(alloc: Global, asks: &mut Q, unit: &Unit) -> Verdict
     requires table { (Q.standing asks.old).table ≡ table }
     requires place { StandsAt Q.places (Q.standing asks.old) Partial.Nothing }
     requires known { IsUnitIn (Q.contents asks.old) unit.now }
@@ -107,7 +115,12 @@ fn judge_scanned<Q: Quotients>(alloc: Global, asks: &mut Q, unit: &Unit) -> Verd
 }
 
 /// The verdict of a unit whose names are new.
-fn judge_new<Q: Quotients>(alloc: Global, base: &BaseStore, asks: &mut Q, unit: &Unit) -> Verdict
+fn judge_new<Q: Quotients + Laws>(
+    alloc: Global,
+    base: &BaseStore,
+    asks: &mut Q,
+    unit: &Unit,
+) -> Verdict
     requires table { (Q.standing asks.old).table ≡ table }
     requires same { Q.contents asks.old ≡ contents_of base.now }
     requires place { StandsAt Q.places (Q.standing asks.old) Partial.Nothing }
@@ -123,7 +136,7 @@ fn judge_new<Q: Quotients>(alloc: Global, base: &BaseStore, asks: &mut Q, unit: 
 }
 
 /// The verdict of a unit, over what its library has, at its place and with what is left of a budget.
-fn judge<Q: Quotients>(
+fn judge<Q: Quotients + Laws>(
     alloc: Global,
     library: &Library,
     asks: &mut Q,

@@ -163,6 +163,7 @@ fn word_of(rule: Rule) -> &'static [u8]
         Rule::FieldUniverse => b"FieldUniverse",
         Rule::NestedForm => b"NestedForm",
         Rule::RecursorDiffers => b"RecursorDiffers",
+        Rule::NatLaw => b"NatLaw",
     }
 }
 

@@ -59,10 +59,38 @@ const QUOTIENTS_BEFORE_EQUALITY: &[u8] =
 const QUOTIENTS_BEFORE_EQUALITY_TOLD: &[u8] =
     b"yes quot 0 Quot\nyes quot 1 Quot.mk\nno quot 2 Quot.lift\n  why QuotShape\nyes block 3 Eq\nyes quot 4 Quot.ind\nunits 5 yes 4 no 1 memory 0\n";
 
+// `Nat.add` by recursion meets its laws; the laws of `Nat.sub` hold `Nat.pred`, which nothing gives.
+const LAWFUL_SUM: &[u8] =
+    b"1 #NS 0 Nat\n1 #US 0\n0 #ES 1\n2 #NS 1 zero\n3 #NS 1 succ\n#IND 1 0 0 0 0 0 1 1 2 2 3\n1 #EC 1\n#CTOR 2 1 1 0 0 0\n2 #EP #BD 0 1 1\n#CTOR 3 2 1 1 0 1\n4 #NS 1 rec\n5 #NS 0 u\n2 #UP 5\n3 #ES 2\n4 #EP #BD 0 1 3\n5 #EV 0\n6 #EC 2\n7 #EA 5 6\n8 #EV 2\n9 #EA 8 5\n10 #EV 3\n11 #EC 3\n12 #EV 1\n13 #EA 11 12\n14 #EA 10 13\n15 #EP #BD 0 9 14\n16 #EP #BD 0 1 15\n17 #EA 10 5\n18 #EP #BD 0 1 17\n19 #EP #BD 0 16 18\n20 #EP #BD 0 7 19\n21 #EP #BD 0 4 20\n22 #EL #BD 0 16 12\n23 #EL #BD 0 7 22\n24 #EL #BD 0 4 23\n0 #RR 2 0 24\n25 #EA 12 5\n26 #EC 4 2\n27 #EA 26 10\n28 #EA 27 8\n29 #EA 28 12\n30 #EA 29 5\n31 #EA 25 30\n32 #EL #BD 0 1 31\n33 #EL #BD 0 16 32\n34 #EL #BD 0 7 33\n35 #EL #BD 0 4 34\n1 #RR 3 1 35\n#REC 4 21 1 1 0 0 1 2 2 0 1 0 5\n36 #EC 4 1\n37 #EL #BD 0 1 1\n38 #EA 36 37\n39 #EA 38 12\n40 #EA 11 5\n41 #EL #BD 0 1 40\n42 #EL #BD 0 1 41\n43 #EA 39 42\n44 #EA 43 5\n45 #EL #BD 0 1 44\n46 #EL #BD 0 1 45\n6 #NS 1 add\n47 #EP #BD 0 1 2\n#DEF 6 47 46 R 1\n48 #EL #BD 0 1 12\n49 #EL #BD 0 1 48\n7 #NS 1 sub\n#DEF 7 47 49 R 1\n";
+
+const LAWFUL_SUM_TOLD: &[u8] =
+    b"yes block 0 Nat\nyes def 1 Nat.add\nno def 2 Nat.sub\n  why NoBuiltin\nunits 3 yes 2 no 1 memory 0\n";
+
+// `Nat.add` that gives its first number.
+const FAKED_SUM: &[u8] =
+    b"1 #NS 0 Nat\n1 #US 0\n0 #ES 1\n2 #NS 1 zero\n3 #NS 1 succ\n#IND 1 0 0 0 0 0 1 1 2 2 3\n1 #EC 1\n#CTOR 2 1 1 0 0 0\n2 #EP #BD 0 1 1\n#CTOR 3 2 1 1 0 1\n4 #NS 1 rec\n5 #NS 0 u\n2 #UP 5\n3 #ES 2\n4 #EP #BD 0 1 3\n5 #EV 0\n6 #EC 2\n7 #EA 5 6\n8 #EV 2\n9 #EA 8 5\n10 #EV 3\n11 #EC 3\n12 #EV 1\n13 #EA 11 12\n14 #EA 10 13\n15 #EP #BD 0 9 14\n16 #EP #BD 0 1 15\n17 #EA 10 5\n18 #EP #BD 0 1 17\n19 #EP #BD 0 16 18\n20 #EP #BD 0 7 19\n21 #EP #BD 0 4 20\n22 #EL #BD 0 16 12\n23 #EL #BD 0 7 22\n24 #EL #BD 0 4 23\n0 #RR 2 0 24\n25 #EA 12 5\n26 #EC 4 2\n27 #EA 26 10\n28 #EA 27 8\n29 #EA 28 12\n30 #EA 29 5\n31 #EA 25 30\n32 #EL #BD 0 1 31\n33 #EL #BD 0 16 32\n34 #EL #BD 0 7 33\n35 #EL #BD 0 4 34\n1 #RR 3 1 35\n#REC 4 21 1 1 0 0 1 2 2 0 1 0 5\n36 #EL #BD 0 1 12\n37 #EL #BD 0 1 36\n6 #NS 1 add\n38 #EP #BD 0 1 2\n#DEF 6 38 37 R 1\n";
+
+const FAKED_SUM_TOLD: &[u8] =
+    b"yes block 0 Nat\nno def 1 Nat.add\n  why NatLaw\nunits 2 yes 1 no 1 memory 0\n";
+
+// `Nat.pow` by recursion over `Nat.mul`, which is an axiom.
+const POWER_OVER_AXIOM: &[u8] =
+    b"1 #NS 0 Nat\n1 #US 0\n0 #ES 1\n2 #NS 1 zero\n3 #NS 1 succ\n#IND 1 0 0 0 0 0 1 1 2 2 3\n1 #EC 1\n#CTOR 2 1 1 0 0 0\n2 #EP #BD 0 1 1\n#CTOR 3 2 1 1 0 1\n4 #NS 1 rec\n5 #NS 0 u\n2 #UP 5\n3 #ES 2\n4 #EP #BD 0 1 3\n5 #EV 0\n6 #EC 2\n7 #EA 5 6\n8 #EV 2\n9 #EA 8 5\n10 #EV 3\n11 #EC 3\n12 #EV 1\n13 #EA 11 12\n14 #EA 10 13\n15 #EP #BD 0 9 14\n16 #EP #BD 0 1 15\n17 #EA 10 5\n18 #EP #BD 0 1 17\n19 #EP #BD 0 16 18\n20 #EP #BD 0 7 19\n21 #EP #BD 0 4 20\n22 #EL #BD 0 16 12\n23 #EL #BD 0 7 22\n24 #EL #BD 0 4 23\n0 #RR 2 0 24\n25 #EA 12 5\n26 #EC 4 2\n27 #EA 26 10\n28 #EA 27 8\n29 #EA 28 12\n30 #EA 29 5\n31 #EA 25 30\n32 #EL #BD 0 1 31\n33 #EL #BD 0 16 32\n34 #EL #BD 0 7 33\n35 #EL #BD 0 4 34\n1 #RR 3 1 35\n#REC 4 21 1 1 0 0 1 2 2 0 1 0 5\n6 #NS 1 mul\n36 #EP #BD 0 1 2\n#AX 6 36\n37 #EC 4 1\n38 #EL #BD 0 1 1\n39 #EA 37 38\n40 #EA 11 6\n41 #EA 39 40\n42 #EC 6\n43 #EA 42 5\n44 #EA 43 10\n45 #EL #BD 0 1 44\n46 #EL #BD 0 1 45\n47 #EA 41 46\n48 #EA 47 5\n49 #EL #BD 0 1 48\n50 #EL #BD 0 1 49\n7 #NS 1 pow\n#DEF 7 36 50 R 1\n";
+
+const POWER_OVER_AXIOM_TOLD: &[u8] =
+    b"yes block 0 Nat\nyes axiom 1 Nat.mul\nno def 2 Nat.pow\n  why NatLaw\nunits 3 yes 2 no 1 memory 0\n";
+
+// `Nat.add` before any `Nat`.
+const SUM_BEFORE_NUMBERS: &[u8] =
+    b"1 #NS 0 a\n0 #ES 0\n#AX 1 0\n1 #EC 1\n2 #NS 0 Nat\n3 #NS 2 add\n#DEF 3 0 1 R 1\n";
+
+const SUM_BEFORE_NUMBERS_TOLD: &[u8] =
+    b"yes axiom 0 a\nno def 1 Nat.add\n  why NoBuiltin\nunits 2 yes 1 no 1 memory 0\n";
+
 #[test]
 fn rows_of_the_table(rt: HostRuntime) -> Result<(), Fail> {
     let alloc = rt.alloc();
-    let rows: [(&[u8], &[u8]); 8] = [
+    let rows: [(&[u8], &[u8]); 12] = [
         (IRRELEVANCE, IRRELEVANCE_TOLD),
         (ETA, ETA_TOLD),
         (STRUCTURES, STRUCTURES_TOLD),
@@ -71,6 +99,10 @@ fn rows_of_the_table(rt: HostRuntime) -> Result<(), Fail> {
         (BUILTIN_SHAPE, BUILTIN_SHAPE_TOLD),
         (QUOTIENTS, QUOTIENTS_TOLD),
         (QUOTIENTS_BEFORE_EQUALITY, QUOTIENTS_BEFORE_EQUALITY_TOLD),
+        (LAWFUL_SUM, LAWFUL_SUM_TOLD),
+        (FAKED_SUM, FAKED_SUM_TOLD),
+        (POWER_OVER_AXIOM, POWER_OVER_AXIOM_TOLD),
+        (SUM_BEFORE_NUMBERS, SUM_BEFORE_NUMBERS_TOLD),
     ];
     for (bytes, written) in rows {
         assert!(rt;

@@ -1,8 +1,7 @@
 //! The questions of a declaration: its type has a sort, and its value is of that type.
 
 ghost use Rattle.std.specs.Prelude.{◌≡◌, ◌<◌, length};
-ghost use Rattle.lk_rulebook.specs.Place.{Hint};
-ghost use Rattle.lk_rulebook.specs.Units.{Decl, as_axiom, as_def, as_thm, as_opaque};
+ghost use Rattle.lk_rulebook.specs.Units.{Decl, as_axiom, as_thm, as_opaque};
 ghost use Rattle.lk_questions.specs.Declarations.{checked, unit_steps, value_steps};
 ghost use Rattle.lk_store.specs.Contents.{tree_at, Extends};
 ghost use Rattle.lk_declaration.specs.Asked.{agreeing_steps, typed_steps};
@@ -19,6 +18,7 @@ use std::alloc::Global;
 fn check_agrees<A: Asks>(asks: &mut A, found: u64, ty: u64) -> Result<(), Stop>
     requires found_in { found < length (A.contents asks.old).trees }
     requires ty_in { ty < length (A.contents asks.old).trees }
+    ensures keeps { Extends (A.contents asks.old) (A.contents asks.new) }
     ensures stays { A.standing asks.new ≡ A.standing asks.old }
     ensures outcome { ComesTo (A.standing asks.old)
         (agreeing_steps (tree_at (A.contents asks.old) ty) (tree_at (A.contents asks.old) found))
@@ -31,10 +31,11 @@ fn check_agrees<A: Asks>(asks: &mut A, found: u64, ty: u64) -> Result<(), Stop>
     }
 }
 
-/// That the value is of the type.
-fn check_value<A: Asks>(asks: &mut A, ty: u64, value: u64) -> Result<(), Stop>
+/// That the value is of the type (`ValueType`).
+pub fn check_value<A: Asks>(asks: &mut A, ty: u64, value: u64) -> Result<(), Stop>
     requires ty_in { ty < length (A.contents asks.old).trees }
     requires value_in { value < length (A.contents asks.old).trees }
+    ensures keeps { Extends (A.contents asks.old) (A.contents asks.new) }
     ensures stays { A.standing asks.new ≡ A.standing asks.old }
     ensures outcome { ComesTo (A.standing asks.old)
         (value_steps (tree_at (A.contents asks.old) ty) (tree_at (A.contents asks.old) value))
@@ -67,20 +68,6 @@ fn check_typed<A: Asks>(asks: &mut A, ty: u64, value: u64) -> Result<(), Stop>
 {
     sort_of(asks, ty)?;
     check_value(asks, ty, value)
-}
-
-/// Asks the questions of a definition: its type has a sort (`NotASort`), and its value is of that
-/// type (`ValueType`). Its hint is not looked at.
-pub fn check_definition<A: Asks>(asks: &mut A, ty: u64, value: u64) -> Result<(), Stop>
-    requires ty_in { ty < length (A.contents asks.old).trees }
-    requires value_in { value < length (A.contents asks.old).trees }
-    ensures stays { A.standing asks.new ≡ A.standing asks.old }
-    ensures outcome { (d : Decl) (h : Hint) → d.type ≡ tree_at (A.contents asks.old) ty
-        → d.body ≡ as_def h (tree_at (A.contents asks.old) value)
-        → ComesTo (A.standing asks.old) (unit_steps d)
-        (A.left asks.old) (λ u. checked) (A.left asks.new) result }
-{
-    check_typed(asks, ty, value)
 }
 
 /// Asks the questions of an opaque: its type has a sort (`NotASort`), and its value is of that type

@@ -1,5 +1,5 @@
-//! The questions of a declaration, asked one after another of whoever answers them, and the single
-//! questions of which the checks of blocks are made too. Each clause says what a program gives,
+//! The questions of an axiom, an opaque and a theorem, asked one after another of whoever answers
+//! them, and the single questions of which the checks of definitions and of blocks are made too. Each clause says what a program gives,
 //! whatever comes next.
 #![tactic(auto)]
 
@@ -7,4 +7,4 @@ pub mod asking;
 pub mod declaration;
 pub mod laws;
 
-pub use declaration::{check_axiom, check_definition, check_opaque, check_theorem};
+pub use declaration::{check_axiom, check_opaque, check_theorem, check_value};

@@ -26,7 +26,8 @@ use Rattle.lk_ask.specs.Outcomes.{IsStop}
 use Rattle.lk_engine.specs.Sheets.{AnySheet, map_any, IsKnownAny}
 use Rattle.lk_memo.specs.declared.key.Key.{Key}
 use Rattle.lk_memo.specs.Keys.{key_of}
-use Rattle.lk_memo.proofs.Keys.{key_of-injective}
+use Rattle.lk_memo.specs.Entries.{kept_of}
+use Rattle.lk_memo.proofs.Keys.{found_key, key_of-injective}
 use Rattle.lk_engine.specs.declared.answering.Frame.{Frame}
 use Rattle.lk_engine.specs.Entries.{IsTrueAt, AreTrue}
 use Rattle.lk_engine.specs.Rests.{any_rest, next_of, query_steps, IsKnownFrame, Linked}
@@ -56,8 +57,8 @@ pub entries_fewer : (w : Place) (c : Contents) (es fs : List (Key × Kept)) → 
 entries_fewer w c es fs h fewer = record { each = λ e within r same. h.each e (fewer e within) r same }
 
 -- an entry that the memo gave
-pub true_at : (w : Place) (c : Contents) (es : List (Key × Kept)) (q : Query ℕ) (kept : Kept) → AreTrue w c es → Contains es (key_of q, kept) → IsTrueAt w c q kept
-true_at w c es q kept h within = h.each (key_of q, kept) within q refl
+pub true_at : (w : Place) (c : Contents) (es : List (Key × Kept)) (q : Query ℕ) (kept : Kept) → AreTrue w c es → kept_of es q ≡ Some kept → IsTrueAt w c q kept
+true_at w c es q kept h is = h.each (key_of q, kept) (found_key es (key_of q) kept is) q refl
 
 module _ (w : Place) (t : ℕ → Tree) where
   -- what waits for an answer, with this frame

@@ -1,8 +1,6 @@
 -- What a step, an answer that is kept, and a question leave of a lookout, and what they come to.
-use Rattle.std.proofs.Common.{◌≡◌, ◌≢◌, ℕ, ◌<◌, List, Option, None, Ok, Err, Result, ap, sym, ◌∙◌, arith}
-use Rattle.std.specs.Prelude.{IfOk, IfErr, Contains}
-use Rattle.lk_tree.specs.Tree.{Tree}
-use Rattle.lk_rulebook.specs.Place.{Place}
+use Rattle.std.proofs.Common.{◌≡◌, ◌≢◌, ℕ, ◌<◌, List, None, Ok, Err, Result, ap, sym, ◌∙◌, arith}
+use Rattle.std.specs.Prelude.{IfOk, IfErr}
 use Rattle.lk_plain.specs.Erased.{Steps}
 use Rattle.lk_store.specs.declared.tables.Tables.{Tables}
 use Rattle.lk_store.specs.declared.memory.NoMemory.{NoMemory as Wanting}
@@ -10,7 +8,6 @@ use Rattle.lk_store.specs.Contents.{Contents, tree_at, Extends}
 use Rattle.lk_store.specs.Store.{over, contents_of}
 use Rattle.lk_store.proofs.Extending.{Extends-trans}
 use Rattle.lk_store.proofs.Made.{Extends-self}
-use Rattle.lk_env.specs.declared.entry.Partial.TheVariants.{Nothing}
 use Rattle.lk_env.specs.declared.entry.Site.{Site}
 use Rattle.lk_env.specs.declared.unit.Unit.{Unit as StoredUnit}
 use Rattle.lk_env.specs.Places.{place_at}
@@ -171,30 +168,26 @@ module _ {T R : Type 0} {contents : T → Contents} {rest : T → R} where
   }
 
   pub repeat_answers : {old new : Seen T} {query : Query ℕ} {kept : Kept}
-      {result : Result (Answer ℕ) Stop} {entries later : List (Key × Kept)}
+      {result : Result (Answer ℕ) Stop} {later : List (Key × Kept)}
       → Repeats old new result kept → IsTrueAt (place_of old) (contents old.2) query kept
       → AreTrue (place_of old) (contents old.2) later
-      → ((e : Key × Kept) → Contains later e → Contains entries e)
-      → Answers contents rest old new entries later result query
-  repeat_answers {old} {new} {query} {kept} {result} r h true_later fewer = record {
+      → Answers contents rest old new later result query
+  repeat_answers {old} {new} {query} {kept} {result} r h true_later = record {
     stays = metered_stays r.stays;
     entries_true = rw r.stays.terms true_later;
-    unkept = λ p. fewer;
     known = kept_known _ kept.answer result r.answer (rw r.stays.terms h.answer);
     outcome = rw r.stays.terms (r.exact (contents old.2) _ h.is);
     nothing_left = λ l. repeat_has_memory r;
   }
 
   -- a question has no answer
-  pub halts : {old new : Seen T} {query : Query ℕ} {stop : Stop} {entries later : List (Key × Kept)}
+  pub halts : {old new : Seen T} {query : Query ℕ} {stop : Stop} {later : List (Key × Kept)}
       → Stays contents rest old new → AreTrue (place_of old) (contents new.2) later
-      → (old.1.partial ≢ Nothing → (e : Key × Kept) → Contains later e → Contains entries e)
       → IsStop (out_at contents old query) stop → (old.3.left ≡ 0 → stop ≢ NoMemory)
-      → Answers contents rest old new entries later (Err stop) query
-  halts s e u h n = record {
+      → Answers contents rest old new later (Err stop) query
+  halts s e h n = record {
     stays = s;
     entries_true = e;
-    unkept = u;
     known = tt;
     outcome = h;
     nothing_left = λ l same. n l (cc);

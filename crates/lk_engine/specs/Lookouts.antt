@@ -1,5 +1,5 @@
 -- Questions over a lookout: what they leave as it was, and what they come to.
-use Rattle.std.specs.Prelude.{◌≡◌, ◌≢◌, ◌<◌, ◌≤◌, ◌+◌, ◌-◌, ◌^◌, ℕ, List, Option, Result, Err, IfOk, OnOk, IfErr, length, Contains}
+use Rattle.std.specs.Prelude.{◌≡◌, ◌≢◌, ◌<◌, ◌≤◌, ◌+◌, ◌-◌, ◌^◌, ℕ, List, Option, Some, Result, Err, IfOk, OnOk, IfErr, length}
 use Rattle.lk_rulebook.specs.Place.{Place}
 use Rattle.lk_plain.specs.Erased.{Out, IsAnsweredAt, run_steps, out_of}
 use Rattle.lk_questions.specs.Table.{steps}
@@ -22,7 +22,7 @@ use Rattle.lk_ask.specs.Questions.{query_of, value_at, IsKnownAnswer}
 use Rattle.lk_ask.specs.Nexts.{IsKnownNext}
 use Rattle.lk_ask.specs.Outcomes.{IsExactly, IsStop}
 use Rattle.lk_memo.specs.declared.key.Key.{Key}
-use Rattle.lk_memo.specs.Entries.{IsKept}
+use Rattle.lk_memo.specs.Entries.{kept_of}
 use Rattle.lk_engine.specs.Entries.{AreTrue}
 use Rattle.lk_engine.specs.Rests.{next_of}
 use Rattle.lk_engine.specs.Sheets.{AnySheet, IsKnownAny}
@@ -98,14 +98,11 @@ pub record Opens {T R : Type 0} (contents : T → Contents) (rest : T → R) (ol
   pub less : OnOk result (new.3.left < old.3.left)
   pub err : IfErr result (IsStop (out_at contents old query))
 
--- a question is answered by its plain answer, and exactly its cost is spent; what is kept is true,
--- and while members are partial nothing is kept anew
+-- a question is answered by its plain answer, and exactly its cost is spent; what is kept is true
 pub record Answers {T R : Type 0} (contents : T → Contents) (rest : T → R) (old new : Seen T)
-    (entries later : List (Key × Kept)) (result : Result (Answer ℕ) Stop)
-    (query : Query ℕ) : Type 0 where
+    (later : List (Key × Kept)) (result : Result (Answer ℕ) Stop) (query : Query ℕ) : Type 0 where
   pub stays : Stays contents rest old new
   pub entries_true : AreTrue (place_of old) (contents new.2) later
-  pub unkept : old.1.partial ≢ Nothing → (e : Key × Kept) → Contains later e → Contains entries e
   pub known : IfOk result (IsKnownAnswer (length (contents new.2).trees))
   pub outcome : IsExactly (contents new.2) (out_at contents old query) new.3.left new.3.last result
   pub nothing_left : old.3.left ≡ 0 → result ≢ Err NoMemory
@@ -113,9 +110,9 @@ pub record Answers {T R : Type 0} (contents : T → Contents) (rest : T → R) (
 -- a question whose answer is kept takes one turn, and no memory
 pub record AnswersKept {T : Type 0} (old new : Seen T) (entries : List (Key × Kept))
     (result : Result (Answer ℕ) Stop) (query : Query ℕ) : Type 0 where
-  pub turns : (kept : Kept) → IsKept entries query old.1.unit kept → old.3.turns < 2 ^ 64 - 1
+  pub turns : (kept : Kept) → kept_of entries query ≡ Some kept → old.3.turns < 2 ^ 64 - 1
       → new.3.turns ≡ old.3.turns + 1
-  pub memory : (kept : Kept) → IsKept entries query old.1.unit kept → result ≢ Err NoMemory
+  pub memory : (kept : Kept) → kept_of entries query ≡ Some kept → result ≢ Err NoMemory
 
 -- a lookout over the library's store looks from this unit, of which nothing is partial; its store
 -- has what the library has, and this budget is left
@@ -127,7 +124,8 @@ pub record Restarts (old new : Seen (Tables × Tables)) (unit budget : ℕ) : Ty
   pub left : new.3.left ≡ budget
   pub turns : new.3.turns ≡ 0
 
--- a lookout over the library's store, and what is kept of its questions, which is true
+-- a lookout over the library's store, and what is kept of its questions, which is true at the place
+-- that stands, whatever was looked at for it
 pub record Stands (s : Seen (Tables × Tables)) (entries : List (Key × Kept)) : Type 0 where
   pub base : s.2.0 ≡ s.0.0
   pub entries_true : AreTrue (place_of s) (contents_of (over s.2.0 s.2.1)) entries

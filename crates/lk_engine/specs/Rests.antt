@@ -17,7 +17,7 @@ use Rattle.lk_plain.specs.Query as plain
 use Rattle.lk_ask.specs.Questions.{query_of, IsKnownQuery}
 use Rattle.lk_ask.specs.Looks.{Sight}
 use Rattle.lk_ask.specs.Gives.{Gives}
-use Rattle.lk_ask.specs.Nexts.{next_steps, IsKnownNext}
+use Rattle.lk_ask.specs.Nexts.{next_steps}
 use Rattle.lk_ask.specs.Sheets.{sheet_rest}
 use Rattle.lk_core.specs.Forms.{core_rest}
 use Rattle.lk_iota.specs.Iotas.{iota_term_rest, iota_truth_rest}

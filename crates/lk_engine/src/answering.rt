@@ -1,12 +1,12 @@
 //! The loop that answers a question, by a stack of what waits for answers.
 
-ghost use Rattle.std.specs.Prelude.{◌≡◌, ◌≢◌, ◌≤◌, ◌-◌, ◌⊎◌, length, Contains, Err};
+ghost use Rattle.std.specs.Prelude.{◌≡◌, ◌≤◌, ◌-◌, ◌⊎◌, length, Contains, Err};
 ghost use Rattle.lk_ask.specs.Questions.{IsKnownQuery};
 ghost use Rattle.lk_memo.specs.Keys.{key_of};
 ghost use Rattle.lk_engine.specs.Entries.{AreTrue};
 ghost use Rattle.lk_engine.specs.Lookouts.{place_of, Repeats, Opens, Answers, AnswersKept};
 
-use crate::paying::{last, left, note_before, pay, site};
+use crate::paying::{last, left, note_before, pay};
 use crate::sheet::AnySheet;
 use crate::steps::{AnyNext, begin, resume};
 use lk_ask::kept::Kept;
@@ -15,7 +15,6 @@ use lk_ask::looks::Looks;
 use lk_ask::next::Next;
 use lk_ask::query::{Answer, Query};
 use lk_ask::stop::Stop;
-use lk_env::entry::Partial;
 use lk_memo::PrivateMemo;
 use lk_store::terms::Terms;
 
@@ -59,18 +58,15 @@ fn open<T: Terms>(
     ensures opens { Opens T.contents T.rest lookout.old lookout.new result query }
     ensures entries { AreTrue (place_of lookout.old) (T.contents lookout.new.2)
         memo.new.cache.entries }
-    ensures unkept { (e : _) → Contains memo.new.cache.entries e
-        → Contains memo.old.cache.entries e }
 {
-    match memo.find(query, site(lookout).unit) {
+    match memo.find(query) {
         Some(kept) => Ok(Next::Done(repeat(lookout, kept)?)),
         None => first_step(lookout, query),
     }
 }
 
-/// Keeps an answer, where finding it is less than asking anew. While members are partial none is
-/// kept: it may rest on them, and would be true at that place alone. Where there is no room the
-/// memo stays as it is.
+/// Keeps an answer, where finding it is less than asking anew. Where there is no room the memo
+/// stays as it is.
 fn keep<T: Terms>(
     memo: &mut PrivateMemo,
     lookout: &Lookout<'_, T>,
@@ -79,7 +75,7 @@ fn keep<T: Terms>(
     answer: Answer<u64>,
 )
     requires { lookout.now.3.left ≤ budget }
-    ensures entries { (e : _) → Contains memo.new.cache.entries e
+    ensures { (e : _) → Contains memo.new.cache.entries e
         → Contains memo.old.cache.entries e ⊎ (e ≡ (
           key_of query,
           record {
@@ -88,18 +84,11 @@ fn keep<T: Terms>(
             top = lookout.now.3.last;
           },
         )) }
-    ensures unkept { lookout.now.1.partial ≢ Partial.Nothing → (e : _)
-        → Contains memo.new.cache.entries e → Contains memo.old.cache.entries e }
 {
-    match site(lookout).partial {
-        Partial::Nothing => {
-            let cost = budget - left(lookout);
-            let top = last(lookout);
-            if cost > 1 {
-                let _kept = memo.keep(query, Kept { answer, cost, top });
-            }
-        }
-        Partial::Types | Partial::Members => {}
+    let cost = budget - left(lookout);
+    let top = last(lookout);
+    if cost > 1 {
+        let _kept = memo.keep(query, Kept { answer, cost, top });
     }
 }
 
@@ -112,8 +101,8 @@ fn work<T: Terms>(
     requires query_in { IsKnownQuery (length (T.contents lookout.old.2).trees) query }
     requires entries { AreTrue (place_of lookout.old) (T.contents lookout.old.2)
         memo.old.cache.entries }
-    ensures { Answers T.contents T.rest lookout.old lookout.new memo.old.cache.entries
-        memo.new.cache.entries result query }
+    ensures { Answers T.contents T.rest lookout.old lookout.new memo.new.cache.entries
+        result query }
 {
     let mut stack: Vec<Frame> = Vec::new(lookout.alloc());
     let mut asked = query;
@@ -165,11 +154,11 @@ pub fn answer<T: Terms>(
     requires query_in { IsKnownQuery (length (T.contents lookout.old.2).trees) query }
     requires entries { AreTrue (place_of lookout.old) (T.contents lookout.old.2)
         memo.old.cache.entries }
-    ensures answers { Answers T.contents T.rest lookout.old lookout.new memo.old.cache.entries
-        memo.new.cache.entries result query }
+    ensures answers { Answers T.contents T.rest lookout.old lookout.new memo.new.cache.entries
+        result query }
     ensures kept { AnswersKept lookout.old lookout.new memo.old.cache.entries result query }
 {
-    match memo.find(query, site(lookout).unit) {
+    match memo.find(query) {
         Some(kept) => repeat(lookout, kept),
         None => work(lookout, memo, query),
     }

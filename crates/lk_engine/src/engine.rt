@@ -13,6 +13,7 @@ use lk_ask::query::{Answer, Query};
 use lk_ask::stop::Stop;
 use lk_env::entry::{Partial, Site};
 use lk_env::library::Library;
+use lk_laws::{Laws, Needed, is_given};
 use lk_memo::PrivateMemo;
 use lk_meter::Meter;
 use lk_quot::{Quotients, may_stand};
@@ -280,5 +281,11 @@ impl<'a> Asks for Engine<'a> {
 impl<'a> Quotients for Engine<'a> {
     fn quotient(&mut self, name: u64, levels: &[u64], ty: u64) -> Result<(), Stop> {
         may_stand(&mut self.lookout, name, levels, ty)
+    }
+}
+
+impl<'a> Laws for Engine<'a> {
+    fn need(&mut self, needed: Needed) -> Result<(), Stop> {
+        is_given(&mut self.lookout, needed)
     }
 }

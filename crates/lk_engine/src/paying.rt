@@ -6,15 +6,7 @@ ghost use Rattle.lk_engine.specs.Lookouts.{Metered, Pays};
 
 use lk_ask::lookout::Lookout;
 use lk_ask::stop::Stop;
-use lk_env::entry::Site;
 use lk_store::terms::Terms;
-
-/// From where the library is seen.
-pub(crate) fn site<T: Terms>(lookout: &Lookout<'_, T>) -> Site
-    ensures { result ≡ lookout.now.1 }
-{
-    lookout.site
-}
 
 /// How many steps are left.
 pub(crate) fn left<T: Terms>(lookout: &Lookout<'_, T>) -> u128

@@ -1,5 +1,5 @@
 -- A def named Nat.add whose value has a rigid constant at its head is not derived.
-use Rattle.std.proofs.Common.{arith, ◌≡◌, [], ◌∷◌, refl, sym, subst}
+use Rattle.std.proofs.Common.{arith, ◌≡◌, true, [], ◌∷◌, refl, sym, subst}
 use Rattle.lk_tree.specs.Decide.{list_discrete, both_discrete}
 use Rattle.lk_tree.specs.Tree.{Name, name_discrete, part_discrete, Level, zero_level, succ_level, imax_level, Tree, app, lam, pi}
 use Rattle.lk_tree.specs.Bind.{open_at, bound}
@@ -7,7 +7,7 @@ use Rattle.lk_tree.specs.Levels.{put_levels, put_in_level}
 use Rattle.lk_tree.specs.Operations.{Op, add}
 use Rattle.lk_rulebook.specs.Place.{Place, Entry, Hint, a_def, Ctor}
 use Rattle.lk_rulebook.specs.Names.{named, nat, nat_zero, nat_succ, op_name}
-use Rattle.lk_rulebook.specs.NumberLaws.{laws_of}
+use Rattle.lk_rulebook.specs.NumberLaws.{has_laws, laws_of}
 use Rattle.lk_rulebook.specs.Literals.{laws_in}
 use Rattle.lk_rulebook.specs.Units.{Decl, as_def}
 use Rattle.lk_rulebook.specs.Derived.{DeclDerived, BodyDerived}
@@ -84,9 +84,9 @@ value_typed : HasType after_nat always_one (pi (named nat) to_nat)
 unfolding open_at bound
 value_typed = t_lam {k = 0} (omega arith) (omega arith) nat_sort inner_typed
 
-pub derived_by_another_name : (c : Name) (h : Hint) → ((op : Op) → op_name op ≡ c → ⊥) → DeclDerived after_nat (always_one_as c h)
+pub derived_by_another_name : (c : Name) (h : Hint) → ((op : Op) → has_laws op ≡ true → op_name op ≡ c → ⊥) → DeclDerived after_nat (always_one_as c h)
 derived_by_another_name c h other = record {
   level = imax_level level_one (imax_level level_one level_one);
   sorted = type_sort;
-  body = (record { inferred = pi (named nat) to_nat; types = value_typed; equals = e_refl (tt, (tt, tt)) }, λ op e l. absurd (other op e));
+  body = (record { inferred = pi (named nat) to_nat; types = value_typed; equals = e_refl (tt, (tt, tt)) }, λ op e has. absurd (other op has e));
 }

@@ -2,9 +2,10 @@
 // Sort, and of constructors whose stated type, as spelled, is Pis ending in such a type.
 #![tactic(auto)]
 
-ghost use Rattle.std.specs.Prelude.{ℕ, ◌≡◌};
+ghost use Rattle.std.specs.Prelude.{ℕ, ◌≡◌, true};
 ghost use Rattle.lk_tree.specs.Tree.{Name, Tree};
 ghost use Rattle.lk_tree.specs.Operations.{Op, add};
+ghost use Rattle.lk_rulebook.specs.NumberLaws.{has_laws};
 ghost use Rattle.lk_rulebook.specs.Place.{Place, Hint};
 ghost use Rattle.lk_rulebook.specs.Names.{named, nat_succ, op_name};
 ghost use Rattle.lk_rulebook.specs.Units.{Decl, as_def};
@@ -87,7 +88,8 @@ pub fn rigid_is_injective()
 {}
 
 /// No tree with a rigid constant at its head equals one with a Local at its head, whatever they are applied to and whatever
-/// lambdas stand before them. Where the Local stands in the tree on the left, this is said of a Local whose type is a data type.
+/// lambdas stand before them. Where the Local stands in the tree on the left, this is said of a Local whose type is, as spelled,
+/// Pis ending in a Sort or in a data type.
 pub fn rigid_is_no_local()
     ensures first { (w : Place) (c : Name) (k : ℕ) (T a b : Tree) → IsRigid w c → IsDefEq w a b
         → Heads c a → HeadsLocal k T b → ⊥ }
@@ -98,11 +100,12 @@ pub fn rigid_is_no_local()
 /// No def named Nat.add is derived, at any place, whose value has a rigid constant at its head, under lambdas: by the first law the
 /// value at a Local and zero would be that Local. So after `inductive Nat : Type | zero : Nat | succ : Nat -> Nat` the
 /// declaration `def Nat.add : Nat -> Nat -> Nat := fun a b => Nat.succ Nat.zero` is not derived, whatever its hint, though it is
-/// by each name but those of the operations on numbers.
+/// by each name but those of the six operations that have laws.
 pub fn faked_addition_is_not_derived()
     ensures constant { (w : Place) (c : Name) (d : Decl) (h : Hint) (v : Tree) → IsRigid w c
         → Heads c v → d.name ≡ op_name add → d.body ≡ as_def h v → DeclDerived w d → ⊥ }
     ensures always_one { (h : Hint) → DeclDerived after_nat (faked_addition h) → ⊥ }
-    ensures by_another_name { (c : Name) (h : Hint) → ((op : Op) → op_name op ≡ c → ⊥)
+    ensures by_another_name { (c : Name) (h : Hint)
+        → ((op : Op) → has_laws op ≡ true → op_name op ≡ c → ⊥)
         → DeclDerived after_nat (always_one_as c h) }
 {}

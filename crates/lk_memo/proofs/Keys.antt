@@ -36,6 +36,7 @@ pair_is : {A B : Type 0} (e : A × B) (a : A) (b : B) → e.0 ≡ a → e.1 ≡ 
 pair_is (x, y) a b p q = let p' : x ≡ a = p in let q' : y ≡ b = q in cc
 
 module _ {V : Type 0} where
+  -- what stands under a key is one of the entries
   pub found_key : (es : List (Key × V)) (k : Key) (v : V) → lookup (same_key k) es ≡ Some v → Contains es (k, v)
   found_key es k v h =
       let p = Contains-lookup (same_key k) es v h in

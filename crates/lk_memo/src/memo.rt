@@ -1,10 +1,8 @@
 //! The memo.
 
-ghost use Rattle.std.specs.Prelude.{◌≡◌, ◌⊎◌, None, IfSome, IfOk, OnOk, OnErr, ℕ, Contains, [], true, false};
-ghost use Rattle.lk_plain.specs.Laws.{IsBelow};
-ghost use Rattle.lk_ask.specs.declared.kept.Kept.{Kept as Answered};
+ghost use Rattle.std.specs.Prelude.{◌≡◌, ◌⊎◌, Some, IfOk, OnOk, OnErr, Contains, []};
 ghost use Rattle.lk_memo.specs.Keys.{key_of};
-ghost use Rattle.lk_memo.specs.Entries.{IsKept};
+ghost use Rattle.lk_memo.specs.Entries.{kept_of};
 
 use crate::key::{Key, key_of};
 use lk_ask::kept::Kept;
@@ -18,17 +16,6 @@ use std::num::NonZeroUsize;
 #[derive(Drop)]
 pub struct PrivateMemo {
     pub cache: LruCache<Key, Kept>,
-}
-
-/// Whether only units below this one were looked at.
-fn is_below(top: Option<u32>, unit: u32) -> bool
-    ensures below { result ≡ true → IsBelow top unit }
-    ensures above { result ≡ false → IsBelow top unit → ⊥ }
-{
-    match top {
-        None => true,
-        Some(last) => last < unit,
-    }
 }
 
 impl PrivateMemo {
@@ -53,33 +40,20 @@ impl PrivateMemo {
         self.cache.clear();
     }
 
-    /// What is kept of a question, where only units below this one were looked at for it. It takes no memory.
-    pub fn find(&mut self, query: Query<u64>, unit: u32) -> Option<Kept>
-        ensures found { IfSome result (λ kept. Contains self.old.cache.entries
-            (key_of query, kept)) }
-        ensures kept { IfSome result (λ kept. IsKept self.old.cache.entries query unit kept) }
-        ensures none { result ≡ None → (kept : Answered)
-            → IsKept self.old.cache.entries query unit kept → ⊥ }
+    /// What is kept of a question. It takes no memory.
+    pub fn find(&mut self, query: Query<u64>) -> Option<Kept>
+        ensures kept { result ≡ kept_of self.old.cache.entries query }
         ensures entries { (e : _) → Contains self.new.cache.entries e
             → Contains self.old.cache.entries e }
     {
-        let kept = match self.cache.get(&key_of(query)) {
-            Some(kept) => *kept,
-            None => return None,
-        };
-        if is_below(kept.top, unit) {
-            Some(kept)
-        } else {
-            None
-        }
+        self.cache.get(&key_of(query)).copied()
     }
 
     /// Keeps an answer. Where memory is wanting the memo is as before.
     pub fn keep(&mut self, query: Query<u64>, kept: Kept) -> Result<(), NoMemory>
         ensures entries { (e : _) → Contains self.new.cache.entries e
             → Contains self.old.cache.entries e ⊎ (e ≡ (key_of query, kept)) }
-        ensures kept { OnOk result ((unit : ℕ) → IsBelow kept.top unit
-            → IsKept self.new.cache.entries query unit kept) }
+        ensures kept { OnOk result (kept_of self.new.cache.entries query ≡ Some kept) }
         ensures refused { OnErr result (self.new.cache ≡ self.old.cache) }
     {
         match self.cache.put(key_of(query), kept) {

@@ -4,6 +4,6 @@ use Rattle.lk_rulebook.specs.Place.{Place}
 use Rattle.lk_rulebook.specs.Literals.{IsOperation}
 use Rattle.lk_rulebook.specs.Rules.{MeetsLaws}
 
--- as where each def before it that gives one of them is derived
+-- so it is where each def that gives an operation with laws says yes
 abbrev pub IsLawfulPlace : Place → Type 0
 IsLawfulPlace w = (op : Op) (o : IsOperation w op) → MeetsLaws w op o.entry

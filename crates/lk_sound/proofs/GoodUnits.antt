@@ -61,9 +61,9 @@ good_below : (k : ℕ) (extent : Extent) → IsSoundTable extent.table → (us :
 good_below zero extent sound us cl n budget l ops h = absurd (omega arith)
 good_below (suc k) extent sound us cl n budget l ops h =
     good_at extent sound us n budget
-    (lawful_at us n (λ m u below at gives.
-    let y : (b : ℕ) × (plain_verdict extent us m b ≡ says_yes) = ops m u below at gives in
-    good_below k extent sound us cl m y.0 (omega arith) (λ i v j. ops i v (omega arith)) y.1))
+    (lawful_at us n (λ m below gives.
+    let y : (b : ℕ) × (plain_verdict extent us m b ≡ says_yes) = ops m below gives in
+    good_below k extent sound us cl m y.0 (omega arith) (λ i j. ops i (omega arith)) y.1))
     cl h
 
 pub good_of_yes : (extent : Extent) → IsSoundTable extent.table → (us : Library) (n budget : ℕ) → IsClearLibrary us → OperationsYes extent us n → plain_verdict extent us n budget ≡ says_yes → IsGoodUnit us n
@@ -73,4 +73,4 @@ good_of_yes extent sound us n budget cl ops h = good_below (suc n) extent sound 
 pub all_good : (extent : Extent) → IsSoundTable extent.table → (us : Library) → IsClearLibrary us → ((n : ℕ) → n < length us → (b : ℕ) × (plain_verdict extent us n b ≡ says_yes)) → (n : ℕ) → n < length us → IsGoodUnit us n
 all_good extent sound us cl yes_all n l =
     let y : (b : ℕ) × (plain_verdict extent us n b ≡ says_yes) = yes_all n l in
-    good_of_yes extent sound us n y.0 cl (λ m u below at gives. yes_all m (omega arith)) y.1
+    good_of_yes extent sound us n y.0 cl (λ m below gives. yes_all m (omega arith)) y.1

@@ -105,30 +105,42 @@ module _ (us : Library) (n : ℕ) (h : Members) (fresh : AllMembers (IsFresh us 
           absurd cc
       go has None i m = more_laws (place_of us n []) (place_of us n h) within_half (lawful op (record { entry = o.entry; given = m; kind = o.kind }))
 
--- the unit before unit n that gives the name
-record IsGiver (us : Library) (n : ℕ) (c : Name) (e : Entry) : Type 0 where
+-- the unit before unit n that gives the name first, where the first unit has number i
+record IsGiver (i : ℕ) (us : Library) (n : ℕ) (c : Name) (e : Entry) : Type 0 where
   number : ℕ
   unit : LibraryUnit
   below : number < n
   at : slice_get us number ≡ Some unit
+  first : first_giving i (take number us) c ≡ None
+  fine : flaw_of unit ≡ None
   gives : given_by (members_of unit) c ≡ Some e
 
-giver : (i n : ℕ) (us : Library) (c : Name) (e : Entry) → option_and_then flawless (first_giving i (take n us) c) ≡ Some e → IsGiver us n c e
+unflawed : (x e : Entry) (o : Option Rule) → elim o as (λ y. Option Entry) [ None ↦ Some x | Some r ↦ None ] ≡ Some e → (o ≡ None) × (x ≡ e)
+unflawed x e None k = (refl, Some_inj k)
+unflawed x e (Some r) k = absurd cc
+
+giver : (i n : ℕ) (us : Library) (c : Name) (e : Entry) → option_and_then flawless (first_giving i (take n us) c) ≡ Some e → IsGiver i us n c e
 giver i zero us c e h = absurd cc
 giver i (suc n) [] c e h = absurd cc
 giver i (suc n) (u ∷ us) c e h = go (given_by (members_of u) c) refl (giver (suc i) n us c e) h
   where
-    unflawed : (x : Entry) (o : Option Rule) → elim o as (λ y. Option Entry) [ None ↦ Some x | Some r ↦ None ] ≡ Some e → x ≡ e
-    unflawed x None k = Some_inj k
-    unflawed x (Some r) k = absurd cc
-
-    go : (g : Option Entry) → given_by (members_of u) c ≡ g → (option_and_then flawless (first_giving (suc i) (take n us) c) ≡ Some e → IsGiver us n c e) →
-        option_and_then flawless (first_of_two (at_unit i u g) (first_giving (suc i) (take n us) c)) ≡ Some e → IsGiver (u ∷ us) (suc n) c e
-    go (Some x) j r k = record { number = 0; unit = u; below = omega arith; at = refl; gives = j ∙ ap Some (unflawed x (flaw_of u) k) }
+    go : (g : Option Entry) → given_by (members_of u) c ≡ g → (option_and_then flawless (first_giving (suc i) (take n us) c) ≡ Some e → IsGiver (suc i) us n c e) →
+        option_and_then flawless (first_of_two (at_unit i u g) (first_giving (suc i) (take n us) c)) ≡ Some e → IsGiver i (u ∷ us) (suc n) c e
+    go (Some x) j r k =
+        let q : (flaw_of u ≡ None) × (x ≡ e) = unflawed x e (flaw_of u) k in
+        record { number = 0; unit = u; below = omega arith; at = refl; first = refl; fine = q.0; gives = j ∙ ap Some q.1 }
     go None j r k =
-        let g : IsGiver us n c e = r k in
+        let g : IsGiver (suc i) us n c e = r k in
         let l : g.number < n = g.below in
-        record { number = suc g.number; unit = g.unit; below = omega (arith, l); at = g.at; gives = g.gives }
+        record {
+          number = suc g.number;
+          unit = g.unit;
+          below = omega (arith, l);
+          at = g.at;
+          first = ap (λ o. first_of_two (at_unit i u o) (first_giving (suc i) (take g.number us) c)) j ∙ g.first;
+          fine = g.fine;
+          gives = g.gives;
+        }
 
 -- no member of a block is a def
 abbrev NoDef : Name → Entry → Type 0
@@ -205,14 +217,25 @@ good_laws us m u op e has at g good =
     subst (λ x. MeetsLaws (place_of us m []) op x) g.entry_is (b.1 op g.name_is has).1
 
 -- where each earlier unit that gives an operation with laws is good, the operations have their laws
-pub lawful_at : (us : Library) (n : ℕ) → ((m : ℕ) (u : LibraryUnit) → m < n → slice_get us m ≡ Some u → GivesOperation u → IsGoodUnit us m) → IsLawfulPlace (place_of us n [])
+pub lawful_at : (us : Library) (n : ℕ) → ((m : ℕ) → m < n → GivesOperation us m → IsGoodUnit us m) → IsLawfulPlace (place_of us n [])
 lawful_at us n good op o = elim (true_or_not (has_laws op)) [
   | inr other ↦ no_laws (place_of us n []) op o.entry other
   | inl has ↦
-      let g : IsGiver us n (op_name op) o.entry = giver 0 n us (op_name op) o.entry o.given in
+      let g : IsGiver 0 us n (op_name op) o.entry = giver 0 n us (op_name op) o.entry o.given in
       let d : GivesDef g.unit op o.entry = gives_op g.unit op o.entry g.gives (gives_def op o.entry.kind has o.kind) in
-      let gives : GivesOperation g.unit = record { op = op; decl = d.decl; hint = d.body.hint; value = d.body.value; lawful = has; unit_is = d.unit_is; name_is = d.name_is; body_is = d.body.is } in
-      let laws : MeetsLaws (place_of us g.number []) op o.entry = good_laws us g.number g.unit op o.entry has g.at d (good g.number g.unit g.below g.at gives) in
+      let gives : GivesOperation us g.number = record {
+        op = op;
+        decl = d.decl;
+        hint = d.body.hint;
+        value = d.body.value;
+        lawful = has;
+        at = g.at ∙ ap Some d.unit_is;
+        name_is = d.name_is;
+        body_is = d.body.is;
+        first = subst (λ c. first_giving 0 (take g.number us) c ≡ None) d.name_is g.first;
+        flawless = subst (λ u. flaw_of u ≡ None) d.unit_is g.fine;
+      } in
+      let laws : MeetsLaws (place_of us g.number []) op o.entry = good_laws us g.number g.unit op o.entry has g.at d (good g.number g.below gives) in
       let l : g.number < n = g.below in
       more_laws (place_of us g.number []) (place_of us n []) (later_within us g.number n (omega (arith, l))) laws
 ]

@@ -1,6 +1,5 @@
 -- Verdicts of whole blocks: with a recursor, with a field of functions, with nested occurrences.
-use Rattle.std.proofs.Common.{ℕ, zero, suc, ◌≡◌, ◌<◌, [], ◌∷◌, Some, refl, ◌∙◌, arith}
-use Rattle.std.specs.Prelude.{slice_get}
+use Rattle.std.proofs.Common.{ℕ, zero, suc, ◌≡◌, ◌<◌, [], ◌∷◌, refl, arith}
 use Rattle.lk_tree.specs.Tree.{zero_level, succ_level, Tree, tree_discrete, level_discrete, name_discrete, part_discrete, var, const, app, lam, pi}
 use Rattle.lk_tree.specs.Operations.{add}
 use Rattle.lk_tree.specs.Decide.{list_discrete, both_discrete}
@@ -11,7 +10,7 @@ use Rattle.lk_tree.specs.Spine.{head, args}
 use Rattle.lk_tree.specs.declared.rule.Rule.TheVariants.{DuplicateName, NotPositive, RecursorDiffers, NatLaw}
 use Rattle.lk_rulebook.specs.Place.{abbreviation}
 use Rattle.lk_rulebook.specs.Names.{dotted, nat, nat_zero, nat_succ, named, op_name}
-use Rattle.lk_rulebook.specs.Units.{LibraryUnit, of_decl, of_block, as_def, Library}
+use Rattle.lk_rulebook.specs.Units.{of_decl, of_block, as_def, Library}
 use Rattle.lk_plain.specs.Answer.{answer_to_depth}
 use Rattle.lk_inductive.proofs.Worked.{nat_block}
 use Rattle.lk_inductive.proofs.WorkedBlocks.{u, s_type, nat_rec_with, n_unit, t_name, t_block, of_functions}
@@ -75,14 +74,14 @@ unfolding answer_to_depth open_at close_at bound head args put_levels put_in_lev
 tree_short = refl
 
 -- no operation on numbers comes before it
-no_operation : (m : ℕ) (u : LibraryUnit) → m < 1 → slice_get (list_unit ∷ of_block tree_block tree_recs ∷ []) m ≡ Some u → GivesOperation u → ⊥
-no_operation zero u l at g = let e : list_unit ≡ of_decl g.decl = Some_inj at ∙ g.unit_is in absurd cc
-no_operation (suc m) u l at g = absurd (omega (arith, l))
+no_operation : (m : ℕ) → m < 1 → GivesOperation (list_unit ∷ of_block tree_block tree_recs ∷ []) m → ⊥
+no_operation zero l g = let e : list_unit ≡ of_decl g.decl = Some_inj g.at in absurd cc
+no_operation (suc m) l g = absurd (omega (arith, l))
 
 -- so it is good
 tree_good : IsGoodUnit (list_unit ∷ of_block tree_block tree_recs ∷ []) 1
 unfolding open_at close_at bound head args put_levels put_in_level level_for tree_discrete level_discrete name_discrete list_discrete both_discrete part_discrete ℕ_discrete
-tree_good = good_of_yes whole sound_steps (list_unit ∷ of_block tree_block tree_recs ∷ []) 1 939 (spelled_clear (list_unit ∷ of_block tree_block tree_recs ∷ []) refl) (λ m u l at g. absurd (no_operation m u l at g)) tree_yes
+tree_good = good_of_yes whole sound_steps (list_unit ∷ of_block tree_block tree_recs ∷ []) 1 939 (spelled_clear (list_unit ∷ of_block tree_block tree_recs ∷ []) refl) (λ m l g. absurd (no_operation m l g)) tree_yes
 
 -- Nat, and def Nat.add with this value
 abbrev additions : Tree → Library

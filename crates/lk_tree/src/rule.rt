@@ -55,6 +55,7 @@ pub enum Rule {
     NestedForm,
     /// A stated recursor is not the one that the block has.
     RecursorDiffers,
-    /// A definition that is named as an operation on numbers, and breaks a law of it.
+    /// A definition that is named as an operation on numbers, and breaks a law of it, or has level parameters, or the operation by
+    /// which its laws are stated is given by no definition.
     NatLaw,
 }

@@ -1,7 +1,7 @@
 -- What is said of each unit of a library.
 use Rattle.std.specs.Prelude.{ℕ, ◌≡◌, ◌<◌, ◌⊎◌, List, length, Some, slice_get}
 use Rattle.lk_tree.specs.declared.rule.Rule.{Rule}
-use Rattle.lk_rulebook.specs.Units.{LibraryUnit, Library}
+use Rattle.lk_rulebook.specs.Units.{Library}
 use Rattle.lk_verdict.specs.GoodUnit.{IsGoodUnit}
 use Rattle.lk_verdict.specs.Verdict.{PlainVerdict, says_yes, says_no, says_steps, plain_verdict}
 use Rattle.lk_verdict.specs.Built.{built_extent}
@@ -21,7 +21,7 @@ told says_steps = out_of_steps
 
 -- of the units before unit n, each that gives an operation on numbers with laws is said yes to
 abbrev pub OperationsAccepted : Library → List Verdict → ℕ → Type 0
-OperationsAccepted us vs n = (m : ℕ) (u : LibraryUnit) → m < n → slice_get us m ≡ Some u → GivesOperation u → slice_get vs m ≡ Some accepted
+OperationsAccepted us vs n = (m : ℕ) → m < n → GivesOperation us m → slice_get vs m ≡ Some accepted
 
 -- v is the plain verdict of unit n, of what is built, or says that memory was wanting
 abbrev pub IsPlainVerdict : Library → ℕ → ℕ → Verdict → Type 0

@@ -7,7 +7,8 @@ use Rattle.lk_store.specs.Contents.{name_at, tree_at}
 use Rattle.lk_declaration.specs.Asked.{axiom_steps}
 use Rattle.lk_declaration.specs.Courses.{ComesTo, Halts}
 use Rattle.lk_declaration.proofs.Running.{gives_on, halts_first}
-use Rattle.leancheck.proofs.QuotientRuns.{goes, halts, quotient_is}
+use Rattle.lk_laws.proofs.Runs.{goes, halts}
+use Rattle.leancheck.proofs.QuotientRuns.{quotient_is}
 use Rattle.leancheck.proofs.quotients.check_quotient.Goals as goal
 
 pub returns-in_err-quotient-clause-outcome : goal.returns-in_err-quotient-clause-outcome

@@ -1,3 +1,4 @@
+use Rattle.std.proofs.Common.{sym, ◌∙◌}
 use Rattle.std.proofs.lemmas.Result.{err_from_is_err_and}
 use Rattle.lk_engine.proofs.Frames.{entries_steady}
 use Rattle.lk_engine.proofs.Links.{entries_fewer, true_at}
@@ -8,7 +9,7 @@ pub returns-in_err-repeat-in-Some-clause-opens : goal.returns-in_err-repeat-in-S
 returns-in_err-repeat-in-Some-clause-opens g c =
     let p = err_from_is_err_and c.from_residual.result c.from_residual.ensures.1 in
     rw (p.1, p.2) (repeat_stops c.in_err-repeat-in-Some.ensures
-    (true_at _ _ _ _ _ c.requires.entries c.in-Some.ensures.found))
+    (true_at _ _ _ _ _ c.requires.entries (sym c.find.ensures.kept ∙ c.in-Some.is)))
 
 pub returns-in_err-repeat-in-Some-clause-entries : goal.returns-in_err-repeat-in-Some-clause-entries
 returns-in_err-repeat-in-Some-clause-entries g c = rw c.repeat.ensures.stays.terms
@@ -16,7 +17,7 @@ returns-in_err-repeat-in-Some-clause-entries g c = rw c.repeat.ensures.stays.ter
 
 pub returns-in_ok-repeat-in-Some-clause-opens : goal.returns-in_ok-repeat-in-Some-clause-opens
 returns-in_ok-repeat-in-Some-clause-opens g c = repeat_opens c.in_ok-repeat-in-Some.ensures
-    (true_at _ _ _ _ _ c.requires.entries c.in-Some.ensures.found)
+    (true_at _ _ _ _ _ c.requires.entries (sym c.find.ensures.kept ∙ c.in-Some.is))
 
 pub returns-in_ok-repeat-in-Some-clause-entries : goal.returns-in_ok-repeat-in-Some-clause-entries
 returns-in_ok-repeat-in-Some-clause-entries g c = rw c.repeat.ensures.stays.terms

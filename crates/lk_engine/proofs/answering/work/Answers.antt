@@ -9,7 +9,7 @@ pub returns-in_err-next : goal.returns-in_err-next
 returns-in_err-next g c =
     let h = rw c.in_err-next.was at c.first_step.ensures.opens in
     let p = err_from_is_err_and c.from_residual.result c.from_residual.ensures.1 in
-    rw (p.1, p.2) (halts h.stays (entries_steady h.stays.keeps _ _ c.requires.entries) (λ p e k. k)
+    rw (p.1, p.2) (halts h.stays (entries_steady h.stays.keeps _ _ c.requires.entries)
     h.err (λ l. has_memory c.first_step.result _ c.in_err-next.was
     (c.first_step.ensures.nothing_left l)))
 
@@ -19,7 +19,6 @@ work-init g c =
     record {
       stays = h.stays;
       entries = entries_steady h.stays.keeps _ _ c.requires.entries;
-      unkept = λ p e k. k;
       linked =
           let none : c.new-stack.result.items ≡ [] = search rules in
           rw (none, c.left-budget.ensures)
@@ -37,7 +36,6 @@ returns-in_err-next-in-Ask g c =
     c.from_residual-in_err-next-in-Ask.ensures.1 in
     rw (p.1, p.2) (halts (stays_on c.work.invariant.stays h.stays)
     (rw place at c.«open».ensures.entries)
-    (λ p e k. c.work.invariant.unkept p e (c.«open».ensures.unkept e k))
     (linked_stops c.work.invariant.linked _ c.in-Ask.is (rw place at h.err))
     (λ l same. absurd (not_spent c.first_step.result _ c.in_ok-next.was
     (c.first_step.ensures.nothing_left l))))
@@ -49,7 +47,6 @@ work-preserved-in-Ask g c =
     record {
       stays = stays_on c.work.invariant.stays h.stays;
       entries = rw place at c.«open».ensures.entries;
-      unkept = λ p e k. c.work.invariant.unkept p e (c.«open».ensures.unkept e k);
       linked = rw c.left-budget-in-Ask.ensures
           (linked_asks c.work.invariant.linked c.in-Ask.is (search rules) h.stays.keeps h.known
           (rw place at h.runs));
@@ -63,9 +60,8 @@ returns-in-None g c =
     let ends = linked_ends c.work.invariant.linked c.in-Done.is (search rules) in
     record {
       stays = c.work.invariant.stays;
-      entries_true = entries_more _ _ _ _ _ _ c.work.invariant.entries c.keep.ensures.entries
+      entries_true = entries_more _ _ _ _ _ _ c.work.invariant.entries c.keep.ensures
           (linked_true c.work.invariant.linked c.in-Done.is);
-      unkept = λ p e k. c.work.invariant.unkept p e (c.keep.ensures.unkept (search rules) e k);
       known = ends.0;
       outcome = ends.1;
       nothing_left = λ l same. absurd (cc);
@@ -83,9 +79,9 @@ returns-in_err-next-in-Some g c =
     c.from_residual-in_err-next-in-Some.ensures.1 in
     rw (p.1, p.2) (halts (stays_on {new = c.resume.new.looks} c.work.invariant.stays stays)
     (entries_steady stays.keeps _ _
-    (entries_more _ _ _ _ _ _ c.work.invariant.entries c.keep.ensures.entries
+    (entries_more _ _ _ _ _ _ c.work.invariant.entries c.keep.ensures
     (linked_true c.work.invariant.linked c.in-Done.is)))
-    (λ p e k. c.work.invariant.unkept p e (c.keep.ensures.unkept (search rules) e k)) tt
+    tt
     (λ l same. absurd (not_spent c.first_step.result _ c.in_ok-next.was
     (c.first_step.ensures.nothing_left l))))
 
@@ -101,9 +97,8 @@ work-preserved g c =
     record {
       stays = stays_on {new = c.resume.new.looks} c.work.invariant.stays stays;
       entries = entries_steady stays.keeps _ _
-          (entries_more _ _ _ _ _ _ c.work.invariant.entries c.keep.ensures.entries
+          (entries_more _ _ _ _ _ _ c.work.invariant.entries c.keep.ensures
           (linked_true c.work.invariant.linked c.in-Done.is));
-      unkept = λ p e k. c.work.invariant.unkept p e (c.keep.ensures.unkept (search rules) e k);
       linked = rw left (linked_resumes c.work.invariant.linked c.pop.new.self.items c.in-Some.frame
           c.in-Done.is (search rules) note.last stays.keeps h.known
           (rw (place, note.stays.terms) at h.steps));
@@ -111,7 +106,7 @@ work-preserved g c =
 
 pub returns-in-No : goal.returns-in-No
 returns-in-No g c =
-    halts c.work.invariant.stays c.work.invariant.entries c.work.invariant.unkept
+    halts c.work.invariant.stays c.work.invariant.entries
     (linked_refused c.work.invariant.linked c.in-No.is)
     (λ l same. absurd (not_spent c.first_step.result _ c.in_ok-next.was
     (c.first_step.ensures.nothing_left l)))

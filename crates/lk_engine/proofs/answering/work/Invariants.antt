@@ -1,10 +1,6 @@
-use Rattle.std.proofs.Common.{◌≢◌, ◌+◌, ◌*◌, vec_len}
-use Rattle.std.specs.Prelude.{Contains}
+use Rattle.std.proofs.Common.{◌+◌, ◌*◌, vec_len}
 use Rattle.lk_store.specs.Contents.{tree_at}
-use Rattle.lk_env.specs.declared.entry.Partial.TheVariants.{Nothing}
-use Rattle.lk_ask.specs.declared.kept.Kept.{Kept}
 use Rattle.lk_ask.specs.Questions.{query_of}
-use Rattle.lk_memo.specs.declared.key.Key.{Key}
 use Rattle.lk_engine.specs.Entries.{AreTrue}
 use Rattle.lk_engine.specs.Lookouts.{place_of, Stays}
 use Rattle.lk_engine.proofs.Links.{IsLinked}
@@ -17,8 +13,6 @@ invariant-work g l =
     record {
       stays : Stays contents g.T.Terms.rest began l.lookout;
       entries : AreTrue (place_of began) (contents l.lookout.2) l.memo.cache.entries;
-      unkept : began.1.partial ≢ Nothing → (e : Key × Kept) → Contains l.memo.cache.entries e
-          → Contains l.fn.memo.cache.entries e;
       linked : IsLinked (place_of began) (query_of (tree_at (contents began.2)) l.fn.query)
           began.3.left (contents l.lookout.2) l.stack.items l.asked l.budget l.next l.lookout.3.left
           l.lookout.3.last;

@@ -1,4 +1,4 @@
-use Rattle.std.proofs.Common.{refl, sym, rules, ◌∙◌}
+use Rattle.std.proofs.Common.{sym, rules, ◌∙◌}
 use Rattle.lk_store.specs.Store.{contents_of}
 use Rattle.lk_ask.proofs.Steps.{wrapped}
 use Rattle.lk_engine.proofs.Constants.{by_recursor, by_quotient_unit}

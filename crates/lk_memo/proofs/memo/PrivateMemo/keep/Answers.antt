@@ -4,6 +4,6 @@ use Rattle.lk_memo.proofs.memo.PrivateMemo.keep.Goals as goal
 pub returns-in-Ok : goal.returns-in-Ok
 returns-in-Ok c = record {
   entries = λ e h. put_key c.args.self.now.cache _ c.args.kept e (rw (c.in-Ok.ensures.entries, c.key_of.ensures) at h);
-  kept = λ unit below. record { stands = rw (c.in-Ok.ensures.entries, c.key_of.ensures) (put_found c.args.self.now.cache _ c.args.kept); below = below };
+  kept = rw (c.in-Ok.ensures.entries, c.key_of.ensures) (put_found c.args.self.now.cache _ c.args.kept);
   refused = tt;
 }

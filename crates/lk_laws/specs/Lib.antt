@@ -1,0 +1,4 @@
+pub mod Operations
+pub mod Sides
+pub mod Needs
+pub mod Steps

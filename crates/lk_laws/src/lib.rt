@@ -1,0 +1,15 @@
+//! The laws of operations on numbers, which are asked of a definition that is named as one: what they rest on is given, and
+//! both sides of each are equal.
+#![tactic(auto)]
+
+mod asking;
+mod constant;
+pub mod definition;
+mod given;
+pub mod needs;
+mod operation;
+mod sides;
+mod table;
+
+pub use definition::check_definition;
+pub use needs::{Laws, Needed, is_given};
