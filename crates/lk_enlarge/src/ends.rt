@@ -41,7 +41,10 @@ pub fn end_of<T: Terms>(
         (λ x. x < length (T.contents terms.new).trees) t.0.items) }
     ensures level_known { IfOk result (λ t. t.1 < length (T.contents terms.new).levels) }
     ensures end { Settles (end_form first count (tree_at (T.contents terms.old) e))
-        (λ t. (map (tree_at (T.contents terms.new)) t.0.items, level_at (T.contents terms.new) t.1))
+        (λ t. (
+          map (tree_at (T.contents terms.new)) t.0.items,
+          level_at (T.contents terms.new) t.1,
+        ))
         result }
 {
     let opened = stated_pis(alloc, terms, first, count, e)?;

@@ -33,8 +33,8 @@ fn auxiliary_with(
     instance: u64,
     parts: Parts,
 ) -> Result<Auxiliary, NoMemory>
-    ensures known { IfOk result (λ a. (c : Contents) → name < length c.names → IsTypeIn c own.now
-        → list < length c.lists → All (λ x. x < length c.trees) arguments.now
+    ensures known { IfOk result (λ a. (c : Contents) → name < length c.names
+        → IsTypeIn c own.now → list < length c.lists → All (λ x. x < length c.trees) arguments.now
         → IsTree c instance (apply (const (name_at c name) (list_at c list))
         (map (tree_at c) arguments.now)) → ArePartsIn c parts → IsAuxiliaryIn c a) }
     ensures value { IfOk result (λ a. (c : Contents) → aux_at c a
@@ -135,7 +135,8 @@ fn add_other<T: Terms>(
     ensures known { OnOk result (All (IsAuxiliaryIn (T.contents terms.new)) found.new.items) }
     ensures other { Settles (one_other first (levels_of (T.contents terms.old) at.now)
         (arguments_of (T.contents terms.old) at.now) (name_at (T.contents terms.old) name)
-        (auxs_at (T.contents terms.old) found.old.items) (type_at (T.contents terms.old) stated.now))
+        (auxs_at (T.contents terms.old) found.old.items)
+        (type_at (T.contents terms.old) stated.now))
         (λ u. auxs_at (T.contents terms.new) found.new.items) result }
 {
     if names_equal(terms, name, stated.name) {

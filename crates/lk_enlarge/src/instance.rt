@@ -38,7 +38,8 @@ pub fn at_args<T: Terms>(
     ensures rest { T.rest terms.new ≡ T.rest terms.old }
     ensures known { IfOk result (λ r. r < length (T.contents terms.new).trees) }
     ensures made { Settles (at_args (levels_of (T.contents terms.old) at.now)
-        (arguments_of (T.contents terms.old) at.now) (map (name_at (T.contents terms.old)) names.now)
+        (arguments_of (T.contents terms.old) at.now)
+        (map (name_at (T.contents terms.old)) names.now)
         (tree_at (T.contents terms.old) e)) (tree_at (T.contents terms.new)) result }
 {
     if at.levels.len() != names.len() {

@@ -39,7 +39,8 @@ fn make_for<F: Families>(
     ensures tree_known { IfOk result (λ r. r < length (F.contents asks.new).trees) }
     ensures known { OnOk result (All (IsAuxiliaryIn (F.contents asks.new)) auxs.new.items) }
     ensures made { IsMadeFor (F.standing asks.old).place
-        (setting_at (F.contents asks.old) setting.now) (tree_at (F.contents asks.old) e) (map (tree_at (F.contents asks.old)) arguments.now)
+        (setting_at (F.contents asks.old) setting.now) (tree_at (F.contents asks.old) e)
+        (map (tree_at (F.contents asks.old)) arguments.now)
         (auxs_at (F.contents asks.old) auxs.old.items)
         (λ r. (tree_at (F.contents asks.new) r, auxs_at (F.contents asks.new) auxs.new.items))
         result }
