@@ -7,3 +7,4 @@ pub mod Others
 pub mod Numbers
 pub mod MadeParts
 pub mod Occurring
+pub mod Meetings
