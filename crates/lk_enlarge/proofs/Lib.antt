@@ -8,3 +8,6 @@ pub mod Numbers
 pub mod MadeParts
 pub mod Occurring
 pub mod Meetings
+pub mod Unmets
+pub mod Loops
+pub mod Grown
