@@ -1,6 +1,6 @@
 -- What comes of an occurrence that is met, by its arguments and its number among the auxiliary types.
-use Rattle.std.proofs.Common.{◌≡◌, ℕ, ◌+◌, Bool, true, false, List, Option, None, Some, Result, Ok, Err, refl, sym, ap, subst, ◌∙◌}
-use Rattle.lk_tree.specs.Tree.{Name, Level, Tree, const}
+use Rattle.std.proofs.Common.{◌≡◌, ℕ, true, false, List, Option, None, Some, Result, Ok, Err, sym, ap, subst, ◌∙◌}
+use Rattle.lk_tree.specs.Tree.{Tree, const}
 use Rattle.lk_tree.specs.Spine.{apply, head, args}
 use Rattle.lk_tree.proofs.Within.{apply_head_args}
 use Rattle.lk_tree.specs.declared.rule.Rule.TheVariants.{NestedForm}

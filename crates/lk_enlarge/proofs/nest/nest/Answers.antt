@@ -1,4 +1,4 @@
-use Rattle.std.proofs.Common.{◌≡◌, ◌<◌, ℕ, List, Option, Some, None, Ok, map, sym, ap, subst, ◌∙◌}
+use Rattle.std.proofs.Common.{◌≡◌, ◌<◌, ℕ, List, Option, Some, None, Ok, sym, ap, subst, ◌∙◌}
 use Rattle.std.proofs.lemmas.Result.{err_from_is_err_and}
 use Rattle.lk_tree.specs.Tree.{Tree}
 use Rattle.lk_inductive.specs.Enlarged.{Aux}
@@ -10,7 +10,7 @@ use Rattle.lk_nested.specs.Halts.{IsStopped, IsFirst}
 use Rattle.lk_nested.specs.Joined.{AreMet, occurrences}
 use Rattle.lk_nested.specs.Pairs.{pairs_at}
 use Rattle.lk_nested.specs.Swaps.{swapped, pairs-steady}
-use Rattle.lk_nested.specs.Unmet.{nothing, first_unmet}
+use Rattle.lk_nested.specs.Unmet.{first_unmet}
 use Rattle.lk_enlarge.specs.Auxiliaries.{auxs_at}
 use Rattle.lk_enlarge.specs.Settings.{setting_at}
 use Rattle.lk_enlarge.proofs.Grown.{setting_known, first_steady, meets_steady, pushed_are, pushed_known}
