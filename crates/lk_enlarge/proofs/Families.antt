@@ -1,10 +1,9 @@
 -- Parts of auxiliary types, while the store grows.
-use Rattle.std.proofs.Common.{◌≡◌, ℕ, ◌<◌, List, length, map, All, refl, sym, ap, subst, ◌∙◌, arith}
+use Rattle.std.proofs.Common.{◌≡◌, ℕ, ◌<◌, List, length, map, All, refl, ap, ◌∙◌, arith}
 use Rattle.lk_tree.specs.Tree.{const}
 use Rattle.lk_tree.specs.Spine.{apply}
 use Rattle.lk_env.specs.declared.unit.BlockType.{BlockType}
 use Rattle.lk_env.specs.Units.{type_at, IsTypeIn}
-use Rattle.lk_inductive.specs.Enlarged.{Aux}
 use Rattle.lk_store.specs.Contents.{Contents, name_at, list_at, tree_at, Extends, IsTree}
 use Rattle.lk_subst.specs.Numbers.{trees-steady, trees-known}
 use Rattle.lk_block.proofs.Stays.{type_stays}

@@ -1,5 +1,5 @@
 -- An auxiliary type as the definitions make it, by its parts.
-use Rattle.std.proofs.Common.{◌≡◌, ◌+◌, ◌++◌, suc, None, Bool, true, false, List, [], ◌∷◌, length, refl, sym, ap, ◌∙◌, if◌then◌else◌}
+use Rattle.std.proofs.Common.{◌≡◌, ◌+◌, ◌++◌, suc, None, Bool, true, false, List, [], ◌∷◌, length, refl, ap, ◌∙◌, if◌then◌else◌}
 use Rattle.lk_tree.specs.Tree.{Name, Level, Tree}
 use Rattle.lk_tree.specs.Mentions.{same_name}
 use Rattle.lk_rulebook.specs.Place.{Block, BlockType}
@@ -13,7 +13,7 @@ use Rattle.lk_tree.specs.declared.rule.Rule.TheVariants.{NestedForm}
 use Rattle.lk_questions.specs.Steps.{given}
 use Rattle.lk_enlarge.specs.Made.{made_form}
 use Rattle.lk_enlarge.specs.Ends.{end_form}
-use Rattle.lk_enlarge.specs.Parts.{PlainParts, parts_form, whole_parts, aux_with, aux_form, other_auxs, more_others, family_form}
+use Rattle.lk_enlarge.specs.Parts.{parts_form, aux_with, aux_form, other_auxs, more_others, family_form}
 
 module _ (s : Setting) (ls : List Level) (bs : List Tree) (c : Name) (t : BlockType) where
   with_ctors : Tree → List Tree → Level → Program Aux

@@ -1,5 +1,5 @@
 -- Constructors' types at levels and arguments, one after another.
-use Rattle.std.proofs.Common.{◌≡◌, ℕ, List, [], ◌∷◌, ◌++◌, length, map, refl, sym, ap, subst, ◌∙◌, append_assoc, true, arith}
+use Rattle.std.proofs.Common.{◌≡◌, List, [], ◌∷◌, ◌++◌, length, map, refl, sym, ap, ◌∙◌, append_assoc, true, arith}
 use Rattle.std.specs.Prelude.{nat_eq}
 use Rattle.std.proofs.lemmas.Bool.Decides.{nat_tests}
 use Rattle.std.proofs.lemmas.List.{append-nil, length-map}
@@ -9,7 +9,7 @@ use Rattle.lk_tree.specs.declared.rule.Rule.TheVariants.{LevelCount, BlockShape}
 use Rattle.lk_questions.specs.Steps.{given}
 use Rattle.lk_tree.specs.declared.rule.Rule.{Rule}
 use Rattle.lk_rulebook.specs.Place.{Ctor}
-use Rattle.lk_plain.specs.Program.{Program, done, refuse, ◌>>=◌}
+use Rattle.lk_plain.specs.Program.{done, refuse, ◌>>=◌}
 use Rattle.lk_inductive.specs.Nested.{has_pis, past_pis, at_args, ctors_at}
 use Rattle.lk_nested.proofs.Pasts.{bind_ext, bind_assoc, bind_done}
 

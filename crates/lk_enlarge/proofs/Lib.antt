@@ -7,3 +7,7 @@ pub mod Others
 pub mod Numbers
 pub mod MadeParts
 pub mod Occurring
+pub mod Meetings
+pub mod Unmets
+pub mod Loops
+pub mod Grown

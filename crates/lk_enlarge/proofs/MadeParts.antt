@@ -1,13 +1,13 @@
 -- A family behind the auxiliary types that are there.
-use Rattle.std.proofs.Common.{◌≡◌, ℕ, ◌<◌, ◌+◌, ◌++◌, suc, true, List, length, map, All, refl, sym, ap, ◌∙◌, arith}
+use Rattle.std.proofs.Common.{◌≡◌, ℕ, ◌+◌, ◌++◌, suc, true, List, length, map, All, sym, ap, ◌∙◌}
 use Rattle.std.specs.Prelude.{nat_le}
-use Rattle.std.proofs.lemmas.List.{length-map, map-append}
+use Rattle.std.proofs.lemmas.List.{map-append}
 use Rattle.std.proofs.lemmas.List.Elements.{All-append}
 use Rattle.lk_tree.specs.Tree.{Name, Level, Tree, const, param}
 use Rattle.lk_tree.specs.Spine.{apply}
 use Rattle.lk_tree.specs.declared.rule.Rule.TheVariants.{NestedForm}
 use Rattle.lk_rulebook.specs.Place.{BlockType}
-use Rattle.lk_plain.specs.Program.{Program, done, ◌>>=◌}
+use Rattle.lk_plain.specs.Program.{done, ◌>>=◌}
 use Rattle.lk_questions.specs.Steps.{given}
 use Rattle.lk_inductive.specs.Enlarged.{Aux, Setting as PlainSetting, aux_name}
 use Rattle.lk_inductive.specs.Nested.{other_count, aux_applied}

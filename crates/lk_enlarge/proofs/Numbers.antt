@@ -1,5 +1,5 @@
 -- Auxiliary types by number, and types counted, one after another.
-use Rattle.std.proofs.Common.{◌≡◌, ℕ, suc, ◌+◌, Bool, true, false, List, [], ◌∷◌, Option, None, Some, refl, sym, ap, subst, ◌∙◌, arith}
+use Rattle.std.proofs.Common.{◌≡◌, ℕ, suc, Bool, true, false, List, ◌∷◌, Some, refl, sym, ap, ◌∙◌}
 use Rattle.std.specs.Prelude.{if◌then◌else◌, IsTrue, ◌↔◌}
 use Rattle.lk_tree.specs.Tree.{Name, Level, Tree, const, tree_discrete}
 use Rattle.lk_tree.specs.Spine.{apply}
@@ -10,7 +10,7 @@ use Rattle.lk_inductive.specs.Enlarged.{Aux}
 use Rattle.lk_inductive.specs.Nested.{same_aux, aux_at, other_count}
 
 -- a test of two trees decides as the definition does
-tree_decides : (r : Bool) (t u : Tree) → (IsTrue r ↔ (t ≡ u)) → r ≡ is_same_tree t u
+pub tree_decides : (r : Bool) (t u : Tree) → (IsTrue r ↔ (t ≡ u)) → r ≡ is_same_tree t u
 tree_decides r t u h = go r (tree_discrete t u) h
   where
     go : (s : Bool) (d : Dec (t ≡ u)) → (IsTrue s ↔ (t ≡ u)) → s ≡ decided d

@@ -2,13 +2,12 @@
 use Rattle.std.proofs.Common.{◌≡◌, Bool, true, false, ◌||◌, List, length, Option, Some, None, refl, sym, ap, ◌∙◌, if◌then◌else◌}
 use Rattle.std.specs.Prelude.{nat_eq}
 use Rattle.lk_tree.specs.Tree.{Name, Level, Tree, var, sort, const, app, lam, pi, let_in, proj, lit, wide, str, local}
-use Rattle.lk_tree.specs.Spine.{apply, head, args}
+use Rattle.lk_tree.specs.Spine.{head, args}
 use Rattle.lk_tree.specs.Mentions.{is_one_of}
-use Rattle.lk_tree.specs.declared.rule.Rule.{Rule}
 use Rattle.lk_rulebook.specs.Place.{Place, Entry, Kind, Block, BlockType, an_axiom, a_def, a_thm, an_opaque, a_quot, a_type, a_ctor, a_rec}
 use Rattle.lk_inductive.specs.BlockSteps.{mention_none}
 use Rattle.lk_env.specs.Lent.{type_in}
-use Rattle.lk_nested.specs.Occurrences.{Test, passes, occurs, fails, kind_test, entry_test, head_test, test_at, is_occurrence}
+use Rattle.lk_nested.specs.Occurrences.{Test, passes, occurs, kind_test, entry_test, head_test, test_at, is_occurrence}
 
 -- J at ls, of this block and this line
 pub record Occurs (w : Place) (h : Tree) (q : Test) : Type 0 where

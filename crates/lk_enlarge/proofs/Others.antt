@@ -6,11 +6,11 @@ use Rattle.lk_tree.specs.Tree.{Name, Level, Tree}
 use Rattle.lk_tree.specs.Mentions.{same_name}
 use Rattle.lk_tree.specs.declared.rule.Rule.{Rule}
 use Rattle.lk_rulebook.specs.Place.{BlockType as PlainType}
-use Rattle.lk_plain.specs.Program.{Program, done, refuse, ◌>>=◌}
+use Rattle.lk_plain.specs.Program.{done, refuse, ◌>>=◌}
 use Rattle.lk_env.specs.declared.unit.BlockType.{BlockType}
 use Rattle.lk_env.specs.Units.{type_at, IsTypeIn}
 use Rattle.lk_inductive.specs.Enlarged.{Aux}
-use Rattle.lk_store.specs.Contents.{Contents, name_at, tree_at, Extends}
+use Rattle.lk_store.specs.Contents.{Contents, name_at, Extends}
 use Rattle.lk_subst.specs.Numbers.{trees-steady, trees-known}
 use Rattle.lk_block.proofs.Stays.{all_stay, type_stays, type_in_stays, types_stay}
 use Rattle.lk_nested.proofs.Pasts.{bind_ext, bind_assoc}

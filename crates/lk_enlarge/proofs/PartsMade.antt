@@ -1,10 +1,9 @@
 -- The parts of an auxiliary type, one after another.
-use Rattle.std.proofs.Common.{◌≡◌, ℕ, List, refl, ap, ◌∙◌}
+use Rattle.std.proofs.Common.{◌≡◌, ℕ, List, ap, ◌∙◌}
 use Rattle.lk_tree.specs.Tree.{Name, Level, Tree}
 use Rattle.lk_tree.specs.declared.rule.Rule.{Rule}
 use Rattle.lk_rulebook.specs.Place.{BlockType}
 use Rattle.lk_plain.specs.Program.{Program, done, refuse, ◌>>=◌}
-use Rattle.lk_inductive.specs.Enlarged.{Aux}
 use Rattle.lk_inductive.specs.Nested.{at_args, ctors_at}
 use Rattle.lk_enlarge.specs.Ends.{end_form}
 use Rattle.lk_enlarge.specs.Parts.{PlainParts, parts_form, whole_parts, aux_with, aux_form}

@@ -1,5 +1,5 @@
 -- Auxiliary types by the numbers of a store.
-use Rattle.std.specs.Prelude.{ℕ, ◌<◌, List, map, length, All}
+use Rattle.std.specs.Prelude.{◌<◌, List, map, length, All}
 use Rattle.lk_tree.specs.Tree.{const}
 use Rattle.lk_tree.specs.Spine.{apply}
 use Rattle.lk_store.specs.Contents.{Contents, name_at, level_at, list_at, tree_at, IsTree}

@@ -1,5 +1,5 @@
 -- Levels and arguments by the numbers of a store.
-use Rattle.std.specs.Prelude.{ℕ, ◌<◌, List, map, length, All}
+use Rattle.std.specs.Prelude.{◌<◌, List, map, length, All}
 use Rattle.lk_tree.specs.Tree.{Level, Tree}
 use Rattle.lk_store.specs.Contents.{Contents, level_at, tree_at}
 use Rattle.lk_enlarge.specs.declared.instance.At.{At}

@@ -1,5 +1,5 @@
 -- What the walk for nested occurrences knows of a block, by the numbers of a store.
-use Rattle.std.specs.Prelude.{ℕ, ◌<◌, List, map, length, All}
+use Rattle.std.specs.Prelude.{◌<◌, map, length, All}
 use Rattle.lk_tree.specs.Tree.{param}
 use Rattle.lk_inductive.specs.Enlarged.{Setting as PlainSetting}
 use Rattle.lk_mentions.specs.Names.{names_at}

@@ -34,7 +34,8 @@ fn auxiliary_with(
     parts: Parts,
 ) -> Result<Auxiliary, NoMemory>
     ensures known { IfOk result (λ a. (c : Contents) → name < length c.names
-        → IsTypeIn c own.now → list < length c.lists → All (λ x. x < length c.trees) arguments.now
+        → IsTypeIn c own.now → list < length c.lists
+        → All (λ x. x < length c.trees) arguments.now
         → IsTree c instance (apply (const (name_at c name) (list_at c list))
         (map (tree_at c) arguments.now)) → ArePartsIn c parts → IsAuxiliaryIn c a) }
     ensures value { IfOk result (λ a. (c : Contents) → aux_at c a

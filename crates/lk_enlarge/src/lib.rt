@@ -1,7 +1,7 @@
 //! A block with nested occurrences is made larger here: each occurrence gets an auxiliary type, which is what an earlier type
-//! becomes at the occurrence's levels and arguments, with the others of that type's block. So far the auxiliary types of one
-//! occurrence are made, found again by number, and applied to the parameters. The loop over the occurrences of a block is still
-//! to be written.
+//! becomes at the occurrence's levels and arguments, with the others of that type's block. So far each occurrence in one tree is
+//! replaced by its auxiliary type (`nest`). The loop over the constructors of a block, and the larger block that comes of it, are
+//! still to be written.
 #![tactic(auto)]
 
 pub mod among;
@@ -13,5 +13,6 @@ pub mod levels;
 pub mod made;
 pub mod meet;
 pub mod naming;
+pub mod nest;
 pub mod parts;
 pub mod setting;

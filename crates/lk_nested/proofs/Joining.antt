@@ -110,7 +110,7 @@ module _ (w : Place) (s : Setting) where
           ∙ sym (then_assoc (nests w s v D.1) (λ u. then_found (nests w s b u.1) (λ c. found ((u.0, c.0), c.1))) (λ x. found (let_in D.0 x.0.0 x.0.1, x.1)))
 
   -- what a walk comes to, by the first occurrence that was not met
-  pub goes : {X : Type 0} → First → X → (List Aux → Finding (X × List Aux)) → List Aux → Finding (X × List Aux)
+  unfoldable pub goes : {X : Type 0} → First → X → (List Aux → Finding (X × List Aux)) → List Aux → Finding (X × List Aux)
   goes nothing t p as_ = found (t, as_)
   goes (new o) t p as_ = then_found (meets w s o as_) (λ r. p r.1)
   goes (refused_by r) t p as_ = refused r

@@ -1,6 +1,5 @@
-use Rattle.std.proofs.Common.{◌≡◌, ◌+◌, suc, map, sym, ap, ◌∙◌, arith}
+use Rattle.std.proofs.Common.{map, sym, ap, ◌∙◌, arith}
 use Rattle.lk_env.specs.Units.{type_at, IsTypeIn}
-use Rattle.lk_inductive.specs.Nested.{other_count}
 use Rattle.lk_store.specs.Contents.{name_at}
 use Rattle.lk_block.proofs.Counted.{rest_have}
 use Rattle.lk_enlarge.proofs.Numbers.{count_same, count_other}

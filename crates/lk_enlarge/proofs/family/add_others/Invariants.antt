@@ -1,4 +1,4 @@
-use Rattle.std.proofs.Common.{◌≡◌, ◌<◌, length, map, All}
+use Rattle.std.proofs.Common.{◌≡◌, length, map, All}
 use Rattle.lk_env.specs.Units.{type_at, IsTypeIn}
 use Rattle.lk_store.specs.Contents.{name_at, Extends}
 use Rattle.lk_enlarge.specs.Auxiliaries.{auxs_at, IsAuxiliaryIn}

@@ -1,5 +1,4 @@
-use Rattle.std.proofs.Common.{◌<◌, length, map, sym, ap, ◌∙◌, arith}
-use Rattle.std.proofs.lemmas.List.Elements.{All-weaker}
+use Rattle.std.proofs.Common.{sym, ap, ◌∙◌, arith}
 use Rattle.lk_env.specs.Units.{type_at}
 use Rattle.lk_plain.specs.Program.{done}
 use Rattle.lk_store.specs.Contents.{name_at}

@@ -3,11 +3,11 @@ use Rattle.std.proofs.lemmas.Result.{err_from_is_err_and}
 use Rattle.lk_declaration.specs.Courses.{Refuses}
 use Rattle.lk_env.specs.Units.{type_at}
 use Rattle.lk_inductive.specs.Enlarged.{Aux}
-use Rattle.lk_plain.specs.Program.{Program, refuse, ◌>>=◌}
+use Rattle.lk_plain.specs.Program.{Program, ◌>>=◌}
 use Rattle.lk_store.specs.Contents.{name_at}
 use Rattle.lk_nested.proofs.Pasts.{refuses_too}
 use Rattle.lk_enlarge.specs.Auxiliaries.{aux_at, auxs_at}
-use Rattle.lk_enlarge.specs.Parts.{aux_form, more_others, family_form}
+use Rattle.lk_enlarge.specs.Parts.{more_others, family_form}
 use Rattle.lk_enlarge.specs.Places.{levels_of, arguments_of}
 use Rattle.lk_enlarge.proofs.Others.{more_steady}
 use Rattle.lk_enlarge.proofs.Steady.{levels_stay}

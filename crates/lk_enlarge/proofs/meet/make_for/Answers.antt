@@ -1,8 +1,8 @@
-use Rattle.std.proofs.Common.{◌≡◌, List, Some, map, sym, ap, subst, ◌∙◌}
+use Rattle.std.proofs.Common.{List, map, sym, ap, subst, ◌∙◌}
 use Rattle.std.specs.Prelude.{option_map}
 use Rattle.lk_declaration.specs.Courses.{Settles}
 use Rattle.lk_env.specs.Units.{type_at}
-use Rattle.lk_family.specs.Families.{HasFamily, family_at}
+use Rattle.lk_family.specs.Families.{family_at}
 use Rattle.lk_inductive.specs.Enlarged.{Aux}
 use Rattle.lk_mentions.specs.Names.{names_at}
 use Rattle.lk_plain.specs.Program.{Program}

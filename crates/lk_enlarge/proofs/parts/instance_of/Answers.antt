@@ -1,5 +1,4 @@
-use Rattle.std.proofs.Common.{◌≡◌, ℕ, List, map, ap, IfOk, Ok, Err, Result, ◌∙◌}
-use Rattle.lk_tree.specs.Tree.{Tree}
+use Rattle.std.proofs.Common.{map, ap, ◌∙◌}
 use Rattle.lk_tree.specs.Spine.{apply}
 use Rattle.lk_store.specs.Contents.{tree_at}
 use Rattle.lk_subst.specs.Numbers.{trees-steady}

@@ -1,4 +1,4 @@
-use Rattle.std.proofs.Common.{map, sym, ap, subst, refl, ◌∙◌, List, arith}
+use Rattle.std.proofs.Common.{map, sym, subst, refl, ◌∙◌, List, arith}
 use Rattle.std.proofs.lemmas.Result.{err_from_is_err_and}
 use Rattle.lk_declaration.specs.Courses.{Refuses}
 use Rattle.lk_plain.specs.Program.{Program}
