@@ -18,7 +18,7 @@ pub mod parameters;
 mod positive;
 pub mod shape;
 pub mod sorts;
-mod spines;
+pub mod spines;
 mod telescope;
 pub mod types;
 

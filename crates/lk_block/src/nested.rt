@@ -35,7 +35,7 @@ use std::alloc::Global;
 
 /// What is kept of the terms that were walked, so that a part which terms share is walked once.
 #[derive(Drop)]
-struct Walked {
+pub struct Walked {
     /// Those that mention no type of the block.
     pub clear: Table<Met>,
     /// Those that hold no nested occurrence.
@@ -55,7 +55,7 @@ fn constant_in(node: Node) -> Option<u64>
 }
 
 /// The name of a term that is a constant.
-fn constant_name<T: Terms>(terms: &T, e: u64) -> Option<u64>
+pub fn constant_name<T: Terms>(terms: &T, e: u64) -> Option<u64>
     requires { e < length (T.contents terms.now).trees }
     ensures known { IfSome result (λ n. n < length (T.contents terms.now).names) }
     ensures name { named_at (T.contents terms.now) result
@@ -110,7 +110,7 @@ fn is_nested_type<A: Asks>(
 }
 
 /// Whether an application is a nested occurrence itself.
-fn is_nested_application<A: Asks>(
+pub fn is_nested_application<A: Asks>(
     alloc: Global,
     asks: &A,
     names: &Names,
@@ -214,7 +214,7 @@ impl<'a, A: Asks> Seek for Nested<'a, A> {
 }
 
 /// Whether a term holds a nested occurrence. The walk takes the outermost first.
-fn holds_nested<A: Asks>(
+pub fn holds_nested<A: Asks>(
     alloc: Global,
     asks: &A,
     names: &Names,

@@ -15,7 +15,7 @@ pub fn number_after(number: u64) -> Result<u64, NoMemory>
 }
 
 /// Keeps what a number was taken for, and tells the next number.
-pub(crate) fn keep<T: Drop>(kept: &mut Vec<T>, value: T, number: u64) -> Result<u64, NoMemory>
+pub fn keep<T: Drop>(kept: &mut Vec<T>, value: T, number: u64) -> Result<u64, NoMemory>
     ensures kept { OnOk result (kept.new.items ≡ kept.old.items ++ value ∷ []) }
     ensures next { IfOk result (λ n. n ≡ suc number) }
 {

@@ -52,7 +52,7 @@ fn function_in(node: Node) -> Option<u64>
 }
 
 /// The function of a term that is an application.
-pub(crate) fn function_of<T: Terms>(terms: &T, e: u64) -> Option<u64>
+pub fn function_of<T: Terms>(terms: &T, e: u64) -> Option<u64>
     requires { e < length (T.contents terms.now).trees }
     ensures known { IfSome result (λ f. f < length (T.contents terms.now).trees) }
     ensures function { function_at (T.contents terms.now) result

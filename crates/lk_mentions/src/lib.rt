@@ -6,6 +6,6 @@ pub mod fields;
 mod mentioned;
 pub mod names;
 pub mod part;
-mod pis;
+pub mod pis;
 pub mod structures;
 pub mod walk;

@@ -1,0 +1,60 @@
+-- What is known of a block and of what was met, while the store grows.
+use Rattle.std.proofs.Common.{◌≡◌, ℕ, ◌<◌, List, [], ◌∷◌, ◌++◌, length, map, refl, sym, ap, ◌∙◌, arith}
+use Rattle.std.proofs.lemmas.List.{map-append}
+use Rattle.std.proofs.lemmas.List.Elements.{All-same, All-push}
+use Rattle.lk_tree.specs.Tree.{Tree, param}
+use Rattle.lk_rulebook.specs.Place.{Place}
+use Rattle.lk_inductive.specs.Enlarged.{Aux}
+use Rattle.lk_store.specs.Contents.{Contents, name_at, tree_at, Extends}
+use Rattle.lk_subst.specs.Numbers.{values-steady, values-known, trees-steady, trees-known}
+use Rattle.lk_mentions.specs.Names.{names_at}
+use Rattle.lk_nested.specs.declared.swap.Pair.{Pair}
+use Rattle.lk_nested.specs.Joined.{meets, occurrences}
+use Rattle.lk_nested.specs.Pairs.{pair_at, pairs_at, IsPairIn, ArePairsIn}
+use Rattle.lk_nested.specs.Swaps.{pairs-steady, pairs-known}
+use Rattle.lk_nested.specs.Unmet.{first_unmet}
+use Rattle.lk_enlarge.specs.declared.setting.Setting.{Setting}
+use Rattle.lk_enlarge.specs.Settings.{setting_at, IsSettingIn}
+
+module _ (c d : Contents) (x : Extends c d) where
+  module _ (s : Setting) (h : IsSettingIn c s) where
+    levels_stay : map (name_at d) s.levels.now ≡ map (name_at c) s.levels.now
+    levels_stay = values-steady [] c.names d.names s.levels.now x.names h.levels_in
+
+    pub setting_stays : setting_at d s ≡ setting_at c s
+    setting_stays = rw (values-steady [] c.names d.names s.names.now x.names h.names_in, levels_stay, trees-steady c d s.parameters.now x h.parameters_in) refl
+
+    pub setting_known : IsSettingIn d s
+    setting_known = record {
+      names_in = values-known [] c.names d.names s.names.now x.names h.names_in;
+      levels_in = values-known [] c.names d.names s.levels.now x.names h.levels_in;
+      own_levels_are = record {
+        known = (let l = h.own_levels_are.known in let longer = x.lists.longer in omega arith);
+        is = x.lists.same s.own_levels h.own_levels_are.known ∙ h.own_levels_are.is ∙ ap (map param) (sym levels_stay);
+      };
+      parameters_in = trees-known c d s.parameters.now x h.parameters_in;
+    }
+
+    pub first_steady : (v w : Place) → v ≡ w → (ps qs : List Pair) → qs ≡ ps → (e : ℕ) → e < length c.trees
+        → first_unmet v (names_at d s.names.now) (occurrences (pairs_at d qs)) (tree_at d e) ≡ first_unmet w (names_at c s.names.now) (occurrences (pairs_at d ps)) (tree_at c e)
+    first_steady v w place ps qs same e known =
+        ap (λ y. first_unmet y (names_at d s.names.now) (occurrences (pairs_at d qs)) (tree_at d e)) place
+        ∙ ap (λ ns. first_unmet w ns (occurrences (pairs_at d qs)) (tree_at d e)) (values-steady [] c.names d.names s.names.now x.names h.names_in)
+        ∙ ap (λ ps. first_unmet w (names_at c s.names.now) (occurrences (pairs_at d ps)) (tree_at d e)) same
+        ∙ ap (first_unmet w (names_at c s.names.now) (occurrences (pairs_at d ps))) (x.trees.same e known)
+
+    pub meets_steady : (v w : Place) → v ≡ w → (o : Tree) (as_ : List Aux) → meets v (setting_at d s) o as_ ≡ meets w (setting_at c s) o as_
+    meets_steady v w place o as_ = ap (λ y. meets y (setting_at d s) o as_) place ∙ ap (λ s. meets w s o as_) setting_stays
+
+  module _ (ps qs : List Pair) (p : Pair) (pushed : qs ≡ ps ++ p ∷ []) (known : ArePairsIn c ps) where
+    pub pushed_are : p.from < length c.trees → pairs_at d qs ≡ pairs_at c ps ++ (tree_at c p.from, tree_at d p.to) ∷ []
+    pushed_are from_in =
+        ap (pairs_at d) pushed
+        ∙ map-append (pair_at d) ps (p ∷ [])
+        ∙ ap (λ y. y ++ (tree_at d p.from, tree_at d p.to) ∷ []) (pairs-steady c d x ps known)
+        ∙ ap (λ t. pairs_at c ps ++ (t, tree_at d p.to) ∷ []) (x.trees.same p.from from_in)
+
+    pub pushed_known : p.from < length c.trees → p.to < length d.trees → ArePairsIn d qs
+    pushed_known from_in to_in =
+        All-same (IsPairIn d) qs (ps ++ p ∷ []) pushed
+        (All-push (IsPairIn d) ps p (pairs-known c d ps x known) (record { from_in = (let longer = x.trees.longer in omega arith); to_in = to_in }))

@@ -1,0 +1,13 @@
+pub mod Instances
+pub mod Steady
+pub mod PartsMade
+pub mod Families
+pub mod Forms
+pub mod Others
+pub mod Numbers
+pub mod MadeParts
+pub mod Occurring
+pub mod Meetings
+pub mod Unmets
+pub mod Loops
+pub mod Grown

@@ -1,0 +1,18 @@
+//! A block with nested occurrences is made larger here: each occurrence gets an auxiliary type, which is what an earlier type
+//! becomes at the occurrence's levels and arguments, with the others of that type's block. So far each occurrence in one tree is
+//! replaced by its auxiliary type (`nest`). The loop over the constructors of a block, and the larger block that comes of it, are
+//! still to be written.
+#![tactic(auto)]
+
+pub mod among;
+pub mod auxiliary;
+pub mod ends;
+pub mod family;
+pub mod instance;
+pub mod levels;
+pub mod made;
+pub mod meet;
+pub mod naming;
+pub mod nest;
+pub mod parts;
+pub mod setting;

@@ -1,0 +1,61 @@
+//! Each occurrence in a tree replaced by its auxiliary type.
+
+ghost use Rattle.std.specs.Prelude.{◌≡◌, ◌<◌, length, All, IfOk, OnOk};
+ghost use Rattle.lk_block.specs.Findings.{Finds};
+ghost use Rattle.lk_store.specs.Contents.{tree_at, Extends};
+ghost use Rattle.lk_nested.specs.Joined.{nests, AreMet};
+ghost use Rattle.lk_nested.specs.Pairs.{pairs_at, ArePairsIn};
+ghost use Rattle.lk_enlarge.specs.Auxiliaries.{auxs_at, IsAuxiliaryIn};
+ghost use Rattle.lk_enlarge.specs.Settings.{setting_at, IsSettingIn};
+
+use crate::auxiliary::Auxiliary;
+use crate::meet::meet;
+use crate::setting::Setting;
+use lk_ask::stop::Stop;
+use lk_family::Families;
+use lk_nested::swap::{Pair, swap};
+use lk_nested::unmet::find_unmet;
+use std::alloc::Global;
+
+/// A tree with its auxiliary type in the place of each occurrence. Those that were met before, with what takes their place, are
+/// given, and those that are met here are added.
+pub fn nest<F: Families>(
+    alloc: Global,
+    asks: &mut F,
+    setting: &Setting<'_>,
+    auxs: &mut Vec<Auxiliary>,
+    pairs: &mut Vec<Pair>,
+    e: u64,
+) -> Result<u64, Stop>
+    requires setting_in { IsSettingIn (F.contents asks.old) setting.now }
+    requires auxs_in { All (IsAuxiliaryIn (F.contents asks.old)) auxs.old.items }
+    requires pairs_in { ArePairsIn (F.contents asks.old) pairs.old.items }
+    requires met { AreMet (F.standing asks.old).place
+        (setting_at (F.contents asks.old) setting.now)
+        (auxs_at (F.contents asks.old) auxs.old.items)
+        (pairs_at (F.contents asks.old) pairs.old.items) }
+    requires e_in { e < length (F.contents asks.old).trees }
+    ensures keeps { Extends (F.contents asks.old) (F.contents asks.new) }
+    ensures rest { F.rest asks.new ≡ F.rest asks.old }
+    ensures tree_known { IfOk result (λ r. r < length (F.contents asks.new).trees) }
+    ensures known { OnOk result (All (IsAuxiliaryIn (F.contents asks.new)) auxs.new.items) }
+    ensures pairs_known { OnOk result (ArePairsIn (F.contents asks.new) pairs.new.items) }
+    ensures met { OnOk result (AreMet (F.standing asks.old).place
+        (setting_at (F.contents asks.old) setting.now)
+        (auxs_at (F.contents asks.new) auxs.new.items)
+        (pairs_at (F.contents asks.new) pairs.new.items)) }
+    ensures nests { Finds (nests (F.standing asks.old).place
+        (setting_at (F.contents asks.old) setting.now) (tree_at (F.contents asks.old) e)
+        (auxs_at (F.contents asks.old) auxs.old.items))
+        (λ r. (tree_at (F.contents asks.new) r, auxs_at (F.contents asks.new) auxs.new.items))
+        result }
+{
+    'unmet: while let Some(o) = find_unmet(alloc, asks, setting.names, pairs, e)? {
+        let to = meet(alloc, asks, setting, auxs, o)?;
+        match pairs.push(Pair { from: o, to }) {
+            Ok(_) => {}
+            Err(_) => return Err(Stop::NoMemory),
+        }
+    }
+    Ok(swap(alloc, asks, pairs, e)?)
+}

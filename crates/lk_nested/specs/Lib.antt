@@ -1,0 +1,10 @@
+pub mod Swaps
+pub mod Pairs
+pub mod Occurrences
+pub mod Unmet
+pub mod Joined
+pub mod Halts
+pub mod Sights
+pub mod HeldFirsts
+pub mod Past
+pub mod Foreign
