@@ -1,0 +1,18 @@
+-- A stated constructor with its occurrences replaced.
+use Rattle.std.specs.Prelude.{Bool, List}
+use Rattle.lk_tree.specs.Tree.{Tree}
+use Rattle.lk_rulebook.specs.Place.{Place, Ctor}
+use Rattle.lk_inductive.specs.Enlarged.{Aux, Setting}
+use Rattle.lk_inductive.specs.Nested.{held_ctor, own_ctor}
+use Rattle.lk_block.specs.Findings.{Finding, finding}
+
+-- with another type
+abbrev pub typed : Ctor → Tree → Ctor
+typed c t = record c { type = t }
+
+-- what is found of it, once it is known whether it holds an occurrence
+abbrev pub held : Place → Setting → Ctor → Bool → List Aux → Finding (Ctor × List Aux)
+held w s c h as_ = finding w (held_ctor s c as_ h)
+
+abbrev pub owns : Place → Setting → Ctor → List Aux → Finding (Ctor × List Aux)
+owns w s c as_ = finding w (own_ctor s c as_)
