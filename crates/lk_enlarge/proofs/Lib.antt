@@ -13,3 +13,4 @@ pub mod Loops
 pub mod Grown
 pub mod Opening
 pub mod Owning
+pub mod Owned

@@ -3,7 +3,7 @@ use Rattle.std.specs.Prelude.{Bool, List}
 use Rattle.lk_tree.specs.Tree.{Tree}
 use Rattle.lk_rulebook.specs.Place.{Place, Ctor}
 use Rattle.lk_inductive.specs.Enlarged.{Aux, Setting}
-use Rattle.lk_inductive.specs.Nested.{held_ctor, own_ctor}
+use Rattle.lk_inductive.specs.Nested.{held_ctor, own_ctor, own_ctors}
 use Rattle.lk_block.specs.Findings.{Finding, finding}
 
 -- with another type
@@ -16,3 +16,7 @@ held w s c h as_ = finding w (held_ctor s c as_ h)
 
 abbrev pub owns : Place → Setting → Ctor → List Aux → Finding (Ctor × List Aux)
 owns w s c as_ = finding w (own_ctor s c as_)
+
+-- what is found of several, one after another
+abbrev pub all_owns : Place → Setting → List Ctor → List Aux → Finding (List Ctor × List Aux)
+all_owns w s cs as_ = finding w (own_ctors s cs as_)

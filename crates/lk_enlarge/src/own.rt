@@ -9,7 +9,7 @@ ghost use Rattle.lk_store.specs.Contents.{Contents, tree_at, Extends};
 ghost use Rattle.lk_nested.specs.Joined.{AreMet};
 ghost use Rattle.lk_nested.specs.Pairs.{pairs_at, ArePairsIn};
 ghost use Rattle.lk_enlarge.specs.Auxiliaries.{auxs_at, IsAuxiliaryIn};
-ghost use Rattle.lk_enlarge.specs.Owns.{typed, held, owns};
+ghost use Rattle.lk_enlarge.specs.Owns.{typed, held, owns, all_owns};
 ghost use Rattle.lk_enlarge.specs.Settings.{setting_at, IsSettingIn};
 
 use crate::auxiliary::Auxiliary;
@@ -147,4 +147,52 @@ pub fn own_ctor<F: Families>(
         return held_ctor(alloc, asks, setting, auxs, pairs, stated);
     }
     Ok(copy_constructor(alloc, stated)?)
+}
+
+/// Stated constructors with an auxiliary type in the place of each occurrence, one after another.
+pub fn own_ctors<F: Families>(
+    alloc: Global,
+    asks: &mut F,
+    setting: &Setting<'_>,
+    auxs: &mut Vec<Auxiliary>,
+    pairs: &mut Vec<Pair>,
+    stated: &[Constructor],
+) -> Result<Vec<Constructor>, Stop>
+    requires setting_in { IsSettingIn (F.contents asks.old) setting.now }
+    requires auxs_in { All (IsAuxiliaryIn (F.contents asks.old)) auxs.old.items }
+    requires pairs_in { ArePairsIn (F.contents asks.old) pairs.old.items }
+    requires met { AreMet (F.standing asks.old).place
+        (setting_at (F.contents asks.old) setting.now)
+        (auxs_at (F.contents asks.old) auxs.old.items)
+        (pairs_at (F.contents asks.old) pairs.old.items) }
+    requires stated_in { All (IsConstructorIn (F.contents asks.old)) stated.now }
+    ensures keeps { Extends (F.contents asks.old) (F.contents asks.new) }
+    ensures rest { F.rest asks.new ≡ F.rest asks.old }
+    ensures made_known { IfOk result (λ v. All (IsConstructorIn (F.contents asks.new)) v.items) }
+    ensures known { OnOk result (All (IsAuxiliaryIn (F.contents asks.new)) auxs.new.items) }
+    ensures pairs_known { OnOk result (ArePairsIn (F.contents asks.new) pairs.new.items) }
+    ensures met { OnOk result (AreMet (F.standing asks.old).place
+        (setting_at (F.contents asks.old) setting.now)
+        (auxs_at (F.contents asks.new) auxs.new.items)
+        (pairs_at (F.contents asks.new) pairs.new.items)) }
+    ensures owns { Finds (all_owns (F.standing asks.old).place
+        (setting_at (F.contents asks.old) setting.now)
+        (map (constructor_at (F.contents asks.old)) stated.now)
+        (auxs_at (F.contents asks.old) auxs.old.items)) (λ v. (
+          map (constructor_at
+              (F.contents asks.new)) v.items,
+          auxs_at (F.contents asks.new) auxs.new.items,
+        )) result }
+{
+    let mut made: Vec<Constructor> = Vec::new(alloc);
+    let mut left = stated;
+    'constructors: while let Some((first, more)) = left.split_first() {
+        let constructor = own_ctor(alloc, asks, setting, auxs, pairs, first)?;
+        match made.push(constructor) {
+            Ok(_) => {}
+            Err(_) => return Err(Stop::NoMemory),
+        }
+        left = more;
+    }
+    Ok(made)
 }
