@@ -3,7 +3,7 @@ use Rattle.std.proofs.Common.{◌≡◌, List, [], ◌∷◌, ◌++◌, refl, sy
 use Rattle.std.proofs.lemmas.List.{append-nil}
 use Rattle.lk_tree.specs.Tree.{Tree}
 use Rattle.lk_rulebook.specs.Place.{Place, Ctor}
-use Rattle.lk_plain.specs.Program.{Program, done, ◌>>=◌}
+use Rattle.lk_plain.specs.Program.{done, ◌>>=◌}
 use Rattle.lk_ask.specs.declared.stop.Stop.{Stop}
 use Rattle.lk_ask.specs.declared.stop.Stop.TheVariants.{No, Spent, NoMemory}
 use Rattle.lk_inductive.specs.Enlarged.{Aux, Setting}
@@ -23,9 +23,6 @@ use Rattle.lk_enlarge.proofs.Grown.{setting_stays}
 module _ (w : Place) (s : Setting) where
   behind : List Ctor → List Ctor × List Aux → Finding (List Ctor × List Aux)
   behind front ds = found (front ++ ds.0, ds.1)
-
-  after : Ctor → List Ctor × List Aux → Program (List Ctor × List Aux)
-  after d ds = done (d ∷ ds.0, ds.1)
 
   -- those of cs are, after these, those of ds
   pub LeadsOwn : List Ctor → List Aux → List Ctor → List Ctor → List Aux → Type 0
