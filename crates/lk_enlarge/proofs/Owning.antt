@@ -2,18 +2,18 @@
 use Rattle.std.proofs.Common.{◌≡◌, Bool, true, false, List, length, ap, ◌∙◌}
 use Rattle.lk_tree.specs.Tree.{Tree}
 use Rattle.lk_tree.specs.declared.rule.Rule.TheVariants.{BlockShape}
-use Rattle.lk_rulebook.specs.Place.{Place, Ctor}
+use Rattle.lk_rulebook.specs.Place.{Place, Ctor, BlockType}
 use Rattle.lk_plain.specs.Program.{Program, done, ◌>>=◌}
 use Rattle.lk_questions.specs.Steps.{given}
 use Rattle.lk_ask.specs.declared.stop.Stop.{Stop}
 use Rattle.lk_ask.specs.declared.stop.Stop.TheVariants.{No, Spent, NoMemory}
 use Rattle.lk_inductive.specs.Enlarged.{Aux, Setting}
-use Rattle.lk_inductive.specs.Nested.{has_pis, holds_nested, nest_past, held_ctor}
+use Rattle.lk_inductive.specs.Nested.{has_pis, holds_nested, nest_past, held_ctor, own_ctors}
 use Rattle.lk_block.specs.Findings.{found, refused, finding, FindsNothing}
 use Rattle.lk_block.specs.Nestings.{nested_in}
 use Rattle.lk_nested.proofs.Thens.{then_found, bind_found}
 use Rattle.lk_enlarge.specs.Opened.{nests_past}
-use Rattle.lk_enlarge.specs.Owns.{typed, held, owns}
+use Rattle.lk_enlarge.specs.Owns.{typed, held, owns, all_owns, with_ctors, type_owns}
 
 module _ (w : Place) (s : Setting) (c : Ctor) (as_ : List Aux) where
   with_type : Tree × List Aux → Program (Ctor × List Aux)
@@ -48,3 +48,15 @@ module _ (w : Place) (s : Setting) (c : Ctor) (as_ : List Aux) where
   own_stops (No r) h = own_then ∙ ap (λ f. then_found f (λ h. held w s c h as_)) h
   own_stops Spent h = absurd h
   own_stops NoMemory h = tt
+
+module _ (w : Place) (s : Setting) (t : BlockType) (as_ : List Aux) where
+  type_then : type_owns w s t as_ ≡ then_found (all_owns w s t.ctors as_) (λ cs. found (with_ctors t cs.0, cs.1))
+  type_then = bind_found w (own_ctors s t.ctors as_) (λ cs. done (with_ctors t cs.0, cs.1))
+
+  pub type_found : (cs : List Ctor × List Aux) → all_owns w s t.ctors as_ ≡ found cs → type_owns w s t as_ ≡ found (with_ctors t cs.0, cs.1)
+  type_found cs h = type_then ∙ ap (λ f. then_found f (λ cs. found (with_ctors t cs.0, cs.1))) h
+
+  pub type_stops : (stop : Stop) → FindsNothing (all_owns w s t.ctors as_) stop → FindsNothing (type_owns w s t as_) stop
+  type_stops (No r) h = type_then ∙ ap (λ f. then_found f (λ cs. found (with_ctors t cs.0, cs.1))) h
+  type_stops Spent h = absurd h
+  type_stops NoMemory h = tt

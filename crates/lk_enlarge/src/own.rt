@@ -3,13 +3,13 @@
 ghost use Rattle.std.specs.Prelude.{◌≡◌, ◌<◌, true, length, map, All, IfOk, OnOk};
 ghost use Rattle.lk_block.specs.Findings.{Finds};
 ghost use Rattle.lk_block.specs.Nestings.{nested_in};
-ghost use Rattle.lk_env.specs.Units.{constructor_at, IsConstructorIn};
+ghost use Rattle.lk_env.specs.Units.{constructor_at, type_at, IsConstructorIn, IsTypeIn};
 ghost use Rattle.lk_mentions.specs.Names.{names_at};
 ghost use Rattle.lk_store.specs.Contents.{Contents, tree_at, Extends};
 ghost use Rattle.lk_nested.specs.Joined.{AreMet};
 ghost use Rattle.lk_nested.specs.Pairs.{pairs_at, ArePairsIn};
 ghost use Rattle.lk_enlarge.specs.Auxiliaries.{auxs_at, IsAuxiliaryIn};
-ghost use Rattle.lk_enlarge.specs.Owns.{typed, held, owns, all_owns};
+ghost use Rattle.lk_enlarge.specs.Owns.{typed, held, owns, all_owns, with_ctors, type_owns};
 ghost use Rattle.lk_enlarge.specs.Settings.{setting_at, IsSettingIn};
 
 use crate::auxiliary::Auxiliary;
@@ -18,7 +18,7 @@ use crate::setting::Setting;
 use lk_ask::asks::Asks;
 use lk_ask::stop::Stop;
 use lk_block::nested::{Walked, holds_nested};
-use lk_env::unit::Constructor;
+use lk_env::unit::{BlockType, Constructor};
 use lk_family::Families;
 use lk_family::copies::copy_constructor;
 use lk_mentions::names::Names;
@@ -195,4 +195,65 @@ pub fn own_ctors<F: Families>(
         left = more;
     }
     Ok(made)
+}
+
+/// A copy of a type, with other constructors.
+fn with_constructors(
+    alloc: Global,
+    stated: &BlockType,
+    constructors: Vec<Constructor>,
+) -> Result<BlockType, NoMemory>
+    ensures value { IfOk result (λ t. (c : Contents) → type_at c t ≡ with_ctors
+        (type_at c stated.now) (map (constructor_at c) constructors.items)) }
+    ensures known { IfOk result (λ t. (c : Contents) → IsTypeIn c stated.now
+        → All (IsConstructorIn c) constructors.items → IsTypeIn c t) }
+{
+    let levels = Vec::from_slice(alloc, &stated.levels)?;
+    Ok(BlockType {
+        name: stated.name,
+        levels,
+        ty: stated.ty,
+        parameters: stated.parameters,
+        indices: stated.indices,
+        constructors,
+    })
+}
+
+/// A stated type with an auxiliary type in the place of each occurrence in its constructors.
+pub fn own_type<F: Families>(
+    alloc: Global,
+    asks: &mut F,
+    setting: &Setting<'_>,
+    auxs: &mut Vec<Auxiliary>,
+    pairs: &mut Vec<Pair>,
+    stated: &BlockType,
+) -> Result<BlockType, Stop>
+    requires setting_in { IsSettingIn (F.contents asks.old) setting.now }
+    requires auxs_in { All (IsAuxiliaryIn (F.contents asks.old)) auxs.old.items }
+    requires pairs_in { ArePairsIn (F.contents asks.old) pairs.old.items }
+    requires met { AreMet (F.standing asks.old).place
+        (setting_at (F.contents asks.old) setting.now)
+        (auxs_at (F.contents asks.old) auxs.old.items)
+        (pairs_at (F.contents asks.old) pairs.old.items) }
+    requires stated_in { IsTypeIn (F.contents asks.old) stated.now }
+    ensures keeps { Extends (F.contents asks.old) (F.contents asks.new) }
+    ensures rest { F.rest asks.new ≡ F.rest asks.old }
+    ensures type_known { IfOk result (IsTypeIn (F.contents asks.new)) }
+    ensures known { OnOk result (All (IsAuxiliaryIn (F.contents asks.new)) auxs.new.items) }
+    ensures pairs_known { OnOk result (ArePairsIn (F.contents asks.new) pairs.new.items) }
+    ensures met { OnOk result (AreMet (F.standing asks.old).place
+        (setting_at (F.contents asks.old) setting.now)
+        (auxs_at (F.contents asks.new) auxs.new.items)
+        (pairs_at (F.contents asks.new) pairs.new.items)) }
+    ensures owns { Finds (type_owns (F.standing asks.old).place
+        (setting_at (F.contents asks.old) setting.now)
+        (type_at (F.contents asks.old) stated.now)
+        (auxs_at (F.contents asks.old) auxs.old.items)) (λ t. (
+          type_at
+              (F.contents asks.new) t,
+          auxs_at (F.contents asks.new) auxs.new.items,
+        )) result }
+{
+    let made = own_ctors(alloc, asks, setting, auxs, pairs, &stated.constructors)?;
+    Ok(with_constructors(alloc, stated, made)?)
 }
