@@ -1,4 +1,4 @@
-//! A stated constructor with an auxiliary type in the place of each occurrence.
+//! The stated constructors of a type, with an auxiliary type in the place of each occurrence.
 
 ghost use Rattle.std.specs.Prelude.{◌≡◌, ◌<◌, true, length, map, All, IfOk, OnOk};
 ghost use Rattle.lk_block.specs.Findings.{Finds};
