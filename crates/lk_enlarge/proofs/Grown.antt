@@ -1,5 +1,5 @@
 -- What is known of a block and of what was met, while the store grows.
-use Rattle.std.proofs.Common.{◌≡◌, ℕ, ◌<◌, List, [], ◌∷◌, ◌++◌, length, map, refl, sym, ap, ◌∙◌, arith}
+use Rattle.std.proofs.Common.{◌≡◌, ℕ, ◌<◌, List, [], ◌∷◌, ◌++◌, length, map, All, refl, sym, ap, subst, ◌∙◌, arith}
 use Rattle.std.proofs.lemmas.List.{map-append}
 use Rattle.std.proofs.lemmas.List.Elements.{All-same, All-push}
 use Rattle.lk_tree.specs.Tree.{Tree, param}
@@ -9,12 +9,15 @@ use Rattle.lk_store.specs.Contents.{Contents, name_at, tree_at, Extends}
 use Rattle.lk_subst.specs.Numbers.{values-steady, values-known, trees-steady, trees-known}
 use Rattle.lk_mentions.specs.Names.{names_at}
 use Rattle.lk_nested.specs.declared.swap.Pair.{Pair}
-use Rattle.lk_nested.specs.Joined.{meets, occurrences}
+use Rattle.lk_nested.specs.Joined.{meets, nests, AreMet, occurrences}
 use Rattle.lk_nested.specs.Pairs.{pair_at, pairs_at, IsPairIn, ArePairsIn}
 use Rattle.lk_nested.specs.Swaps.{pairs-steady, pairs-known}
 use Rattle.lk_nested.specs.Unmet.{first_unmet}
 use Rattle.lk_enlarge.specs.declared.setting.Setting.{Setting}
+use Rattle.lk_enlarge.specs.declared.auxiliary.Auxiliary.{Auxiliary}
+use Rattle.lk_enlarge.specs.Auxiliaries.{auxs_at, IsAuxiliaryIn}
 use Rattle.lk_enlarge.specs.Settings.{setting_at, IsSettingIn}
+use Rattle.lk_enlarge.proofs.Others.{auxs_stay}
 
 module _ (c d : Contents) (x : Extends c d) where
   module _ (s : Setting) (h : IsSettingIn c s) where
@@ -45,6 +48,20 @@ module _ (c d : Contents) (x : Extends c d) where
 
     pub meets_steady : (v w : Place) → v ≡ w → (o : Tree) (as_ : List Aux) → meets v (setting_at d s) o as_ ≡ meets w (setting_at c s) o as_
     meets_steady v w place o as_ = ap (λ y. meets y (setting_at d s) o as_) place ∙ ap (λ s. meets w s o as_) setting_stays
+
+    module _ (v w : Place) (place : v ≡ w) (as_ : List Auxiliary) (as_in : All (IsAuxiliaryIn c) as_) where
+      pub met_stays : (ps : List Pair) → ArePairsIn c ps → AreMet w (setting_at c s) (auxs_at c as_) (pairs_at c ps) → AreMet v (setting_at d s) (auxs_at d as_) (pairs_at d ps)
+      met_stays ps known met =
+          subst (λ y. AreMet y (setting_at d s) (auxs_at d as_) (pairs_at d ps)) (sym place)
+          (subst (λ z. AreMet w z (auxs_at d as_) (pairs_at d ps)) (sym setting_stays)
+          (subst (λ bs. AreMet w (setting_at c s) bs (pairs_at d ps)) (sym (auxs_stay c d x as_ as_in))
+          (subst (AreMet w (setting_at c s) (auxs_at c as_)) (sym (pairs-steady c d x ps known)) met)))
+
+      pub nests_steady : (t : Tree) → nests v (setting_at d s) t (auxs_at d as_) ≡ nests w (setting_at c s) t (auxs_at c as_)
+      nests_steady t =
+          ap (λ y. nests y (setting_at d s) t (auxs_at d as_)) place
+          ∙ ap (λ z. nests w z t (auxs_at d as_)) setting_stays
+          ∙ ap (nests w (setting_at c s) t) (auxs_stay c d x as_ as_in)
 
   module _ (ps qs : List Pair) (p : Pair) (pushed : qs ≡ ps ++ p ∷ []) (known : ArePairsIn c ps) where
     pub pushed_are : p.from < length c.trees → pairs_at d qs ≡ pairs_at c ps ++ (tree_at c p.from, tree_at d p.to) ∷ []

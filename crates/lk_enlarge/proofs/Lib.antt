@@ -11,3 +11,6 @@ pub mod Meetings
 pub mod Unmets
 pub mod Loops
 pub mod Grown
+pub mod Opening
+pub mod Owning
+pub mod Owned

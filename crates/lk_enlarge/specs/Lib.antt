@@ -6,3 +6,5 @@ pub mod Parts
 pub mod Settings
 pub mod Made
 pub mod Met
+pub mod Opened
+pub mod Owns
