@@ -61,15 +61,15 @@ module _ (c : Contents) (us : List StoredUnit) (i : ℕ) (u : StoredUnit) (l : i
       let at : found_at (library_at c us) (i, j) ≡ None = found_stands j ∙ ap (at_unit i (unit_at c u)) none in
       rw at (record { means = refl; rule = refl; unknown = λ is. refl })
 
-  judged_answer : (e : Entry) (y : PlainEntry) (n : ℕ) (x : Name) (f : Option Rule) → e.unit ≡ i → plain_entry c us e ≡ Some y
+  judged_answer : (e : Entry) (y : PlainEntry) (n : ℕ) (x : Name) (f : Option Rule) → e.origin ≡ i → plain_entry c us e ≡ Some y
       → (f ≡ Some UnknownConstant → ⊥)
       → IsAnswer c us (place_by n (λ z. Some (record { unit = i; flaw = f; entry = y }))) x (judged f e)
-  judged_answer e y n x None unit stands other = record { given = refl; means = sym stands; unit = sym unit }
-  judged_answer e y n x (Some r) unit stands other = record { means = refl; rule = refl; unknown = λ is. absurd (other (ap (λ q. Some q) is)) }
+  judged_answer e y n x None origin stands other = record { given = refl; means = sym stands; origin = sym origin }
+  judged_answer e y n x (Some r) origin stands other = record { means = refl; rule = refl; unknown = λ is. absurd (other (ap (λ q. Some q) is)) }
 
-  pub answered : (j n : ℕ) (x : Name) (e : Entry) (flaws : List (Option Rule)) (r : Result Entry Rule) → length flaws ≡ length us → AreFlaws c us flaws → e.unit ≡ i → IsMember c u j e
+  pub answered : (j n : ℕ) (x : Name) (e : Entry) (flaws : List (Option Rule)) (r : Result Entry Rule) → length flaws ≡ length us → AreFlaws c us flaws → e.unit ≡ i → e.origin ≡ i → IsMember c u j e
       → r ≡ judged (get_or flaws i None) e → IsAnswer c us (place_by n (λ y. found_at (library_at c us) (i, j))) x r
-  answered j n x e flaws r same are unit s is_judged =
+  answered j n x e flaws r same are unit origin s is_judged =
       rw (is_judged, found_stands j) (go (entry_at (unit_at c u) j) refl s.given)
     where
       stands : plain_entry c us e ≡ entry_at (unit_at c u) j
@@ -80,7 +80,7 @@ module _ (c : Contents) (us : List StoredUnit) (i : ℕ) (u : StoredUnit) (l : i
 
       go : (o : Option PlainEntry) → entry_at (unit_at c u) j ≡ o → IsSome o → IsAnswer c us (place_by n (λ y. at_unit i (unit_at c u) o)) x (judged (get_or flaws i None) e)
       go None h k = absurd cc
-      go (Some y) h k = rw (← flaw_stands flaws same are) (judged_answer e y n x (get_or flaws i None) unit (stands ∙ h) (λ is. none_unknown _ _ (sym (flaw_stands flaws same are) ∙ is)))
+      go (Some y) h k = rw (← flaw_stands flaws same are) (judged_answer e y n x (get_or flaws i None) origin (stands ∙ h) (λ is. none_unknown _ _ (sym (flaw_stands flaws same are) ∙ is)))
 
 -- Below unit n the library is as if it ended there.
 taken : {A : Type 0} (us : List A) (n i : ℕ) → i < n → slice_get (take n us) i ≡ slice_get us i
@@ -107,13 +107,13 @@ given_before us n x o h =
 -- the answer at a place that has what o has
 pub answered_at : (c : Contents) (us : List StoredUnit) (lib : Library) (n : ℕ) (partial : Members) (x : Name) (o : Option Found) (r : Result Entry Rule)
     → first_of_two (at_partial n (given_by partial x)) (first_giving 0 (take n lib) x) ≡ o → IsAnswer c us (place_by n (λ y. o)) x r → IsAnswer c us (place_of lib n partial) x r
-answered_at c us lib n partial x o (Ok e) h answer = record { given = rw h answer.given; means = rw h answer.means; unit = rw h answer.unit }
+answered_at c us lib n partial x o (Ok e) h answer = record { given = rw h answer.given; means = rw h answer.means; origin = rw h answer.origin }
 answered_at c us lib n partial x o (Err r) h answer = record { means = rw h answer.means; rule = rw h answer.rule; unknown = λ is. rw h (answer.unknown is) }
 
 -- what stands for the partial entry of a member answers for it
 pub partial_answered : (c : Contents) (us : List StoredUnit) (u : StoredUnit) (n : ℕ) (x : Name) (o : Option PlainEntry) (e : Entry)
-    → slice_get us n ≡ Some u → e.unit ≡ n → Stands c u o e → IsAnswer c us (place_by n (λ y. at_partial n o)) x (Ok e)
-partial_answered c us u n x o e at unit s = go o s.given s.member
+    → slice_get us n ≡ Some u → e.unit ≡ n → e.origin ≡ n → Stands c u o e → IsAnswer c us (place_by n (λ y. at_partial n o)) x (Ok e)
+partial_answered c us u n x o e at unit origin s = go o s.given s.member
   where
     stands : plain_entry c us e ≡ entry_of c (unit_at c u) e.kind (tree_at c e.stated)
     stands =
@@ -122,4 +122,4 @@ partial_answered c us u n x o e at unit s = go o s.given s.member
 
     go : (o : Option PlainEntry) → IsSome o → o ≡ entry_of c (unit_at c u) e.kind (tree_at c e.stated) → IsAnswer c us (place_by n (λ y. at_partial n o)) x (Ok e)
     go None given is = absurd cc
-    go (Some y) given is = record { given = refl; means = is ∙ sym stands; unit = sym unit }
+    go (Some y) given is = record { given = refl; means = is ∙ sym stands; origin = sym origin }

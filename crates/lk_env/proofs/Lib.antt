@@ -9,4 +9,8 @@ pub mod Answered
 pub mod Partial
 pub mod Bare
 pub mod Found
+pub mod Lending
 pub mod Parents
+pub mod Stays
+pub mod Scoped
+pub mod Meanings

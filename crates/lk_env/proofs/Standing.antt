@@ -24,7 +24,7 @@ use Rattle.lk_env.specs.Places.{entry_at}
 use Rattle.lk_env.specs.Entries.{entry_of, IsEntryIn}
 use Rattle.lk_env.specs.Member.{recursor_entry_at, IsConstructorAt, IsMember, IsMemberIfAny}
 
-get_left : {A : Type 0} (xs ys : List A) (i : ℕ) (x : A) → slice_get xs i ≡ Some x → slice_get (xs ++ ys) i ≡ Some x
+pub get_left : {A : Type 0} (xs ys : List A) (i : ℕ) (x : A) → slice_get xs i ≡ Some x → slice_get (xs ++ ys) i ≡ Some x
 get_left [] ys i x h = absurd cc
 get_left (y ∷ xs) ys zero x h = h
 get_left (y ∷ xs) ys (suc i) x h = get_left xs ys i x h
@@ -33,7 +33,7 @@ get_right : {A : Type 0} (xs ys : List A) (i : ℕ) → slice_get (xs ++ ys) (le
 get_right {A} [] ys i = let e : 0 + i ≡ i = omega arith in ap (slice_get ys) e
 get_right (x ∷ xs) ys i = let e : length (x ∷ xs) + i ≡ suc (length xs + i) = omega arith in ap (slice_get ((x ∷ xs) ++ ys)) e ∙ get_right xs ys i
 
-holds_at : {A : Type 0} (P : A → Type 0) (xs : List A) (i : ℕ) (x : A) → slice_get xs i ≡ Some x → All P xs → P x
+pub holds_at : {A : Type 0} (P : A → Type 0) (xs : List A) (i : ℕ) (x : A) → slice_get xs i ≡ Some x → All P xs → P x
 holds_at P xs i x h all = subst P (get_or_from_slice_get xs i x x h) (All-get_or P xs i x (slice_get_within xs i x h) all)
 
 is_member : (c : Contents) (u : StoredUnit) (j : ℕ) (e : Entry) (y : PlainEntry) → entry_at (unit_at c u) j ≡ Some y → entry_of c (unit_at c u) e.kind (tree_at c e.stated) ≡ Some y
@@ -123,11 +123,11 @@ module _ (c : Contents) where
         let at : j ≡ length (type_entries plain plain.types) + i = omega (arith, count, e) in
         ap (slice_get (members_of (unit_at c (unit.Block b)))) at ∙ get_right (type_entries plain plain.types) (all_ctor_entries plain plain.types ++ rec_members recs) i
 
-    pub type_member : (n i : ℕ) (t : BlockType) → slice_get b.types.items i ≡ Some t → IsMember c (unit.Block b) i (record { kind = kind.Type i; stated = t.ty; unit = n })
+    pub type_member : (n i : ℕ) (t : BlockType) → slice_get b.types.items i ≡ Some t → IsMember c (unit.Block b) i (record { kind = kind.Type i; stated = t.ty; unit = n; origin = n })
     type_member n i t h =
         let at = nth_plain i t h in
         let y : PlainEntry = type_entry plain (type_at c t) in
-        is_member c (unit.Block b) i (record { kind = kind.Type i; stated = t.ty; unit = n }) y
+        is_member c (unit.Block b) i (record { kind = kind.Type i; stated = t.ty; unit = n; origin = n }) y
         (ap (option_map (λ (m : Name × PlainEntry). m.1)) (get_left (type_entries plain plain.types) (all_ctor_entries plain plain.types ++ rec_members recs) i (name_at c t.name, y)
         (nth_type plain plain.types i ∙ ap (option_map (λ (t : PlainType). (t.name, type_entry plain t))) at)))
         (ap (option_map (λ (p : PlainType). record { levels = p.levels; type = tree_at c t.ty; kind = a_type plain p })) at)

@@ -57,7 +57,7 @@ pub record MeansNothing (w : Place) (x : Name) (r : Rule) : Type 0 where
 pub record IsMeaning (c : Contents) (us : List StoredUnit) (w : Place) (x : Name) (e : Entry) : Type 0 where
   pub given : IsSome (w.means x)
   pub means : w.means x ≡ plain_entry c us e
-  pub unit : w.origin x ≡ e.unit
+  pub origin : w.origin x ≡ e.origin
 
 -- the answer to a look-up of the name at the place
 abbrev pub IsAnswer : Contents → List StoredUnit → Place → Name → Result Entry Rule → Type 0

@@ -5,3 +5,4 @@ pub mod Entries
 pub mod Scan
 pub mod Member
 pub mod Lent
+pub mod Scopes

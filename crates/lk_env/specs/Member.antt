@@ -29,7 +29,7 @@ pub record IsConstructorAt (types : List BlockType) (place : ℕ) (e : Entry) : 
   pub place_is : length (flat_map constructor_names (take parent types)) + number ≡ place
 
 abbrev pub recursor_entry_at : ℕ → ℕ → Recursor → Entry
-recursor_entry_at unit i r = record { kind = kind.Recursor i; stated = r.ty; unit = unit }
+recursor_entry_at unit i r = record { kind = kind.Recursor i; stated = r.ty; unit = unit; origin = unit }
 
 -- which member it is while its unit is partial
 abbrev pub bare_kind : Kind → Kind

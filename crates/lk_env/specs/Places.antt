@@ -77,3 +77,35 @@ partial_at us s = elim (slice_get us s.unit) [ None ↦ [] | Some u ↦ new_amon
 -- the place of a site in the library of a store's tables and units; where names of a unit are not new, they are not partial
 abbrev pub place_at : Tables × List StoredUnit → Site → Place
 place_at l s = place_of (library_of l) s.unit (partial_at (library_of l) s)
+
+-- the types of what is partial of a unit, and the rest
+abbrev pub partial_first : LibraryUnit → Partial → Members
+partial_first u Nothing = []
+partial_first (of_decl d) Types = []
+partial_first (of_decl d) AllMembers = []
+partial_first (of_block b rs) Types = partial_types b
+partial_first (of_block b rs) AllMembers = partial_types b
+
+abbrev pub partial_last : LibraryUnit → Partial → Members
+partial_last u Nothing = []
+partial_last u Types = []
+partial_last (of_decl d) AllMembers = []
+partial_last (of_block b rs) AllMembers = partial_members b rs
+
+-- what is partial of a unit, and auxiliary types behind its types
+abbrev pub partial_beside : LibraryUnit → Partial → Members → Members
+partial_beside u p aux = (partial_first u p ++ aux) ++ partial_last u p
+
+-- the same of the unit at a site, where names of the unit that are not new are not partial
+abbrev pub first_at : Library → Site → Members
+first_at us s = elim (slice_get us s.unit) [ None ↦ [] | Some u ↦ new_among us s.unit (partial_first u s.partial) ]
+
+abbrev pub last_at : Library → Site → Members
+last_at us s = elim (slice_get us s.unit) [ None ↦ [] | Some u ↦ new_among us s.unit (partial_last u s.partial) ]
+
+abbrev pub beside_at : Library → Site → Members → Members
+beside_at us s aux = (first_at us s ++ aux) ++ last_at us s
+
+-- the place of a site, with auxiliary types
+abbrev pub place_beside : Tables × List StoredUnit → Site → Members → Place
+place_beside l s aux = place_of (library_of l) s.unit (beside_at (library_of l) s aux)

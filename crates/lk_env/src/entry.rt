@@ -13,13 +13,15 @@ pub enum Kind {
     BareRecursor(usize),
 }
 
-/// A member of a unit, by numbers: which it is, its type, and the number of its unit, which has its level parameters
-/// and all else that its line states.
+/// A member of a unit, by numbers: which it is, its type, and the unit that has its level parameters and all else that
+/// its line states.
 #[derive(Clone, Copy)]
 pub struct Entry {
     pub kind: Kind,
     pub stated: u64,
     pub unit: u32,
+    /// The unit that gives it: the same one, save that an auxiliary type is given by the unit at work.
+    pub origin: u32,
 }
 
 /// Which members of a unit are partial: given while the unit itself is checked.

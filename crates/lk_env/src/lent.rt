@@ -1,9 +1,9 @@
-//! What an entry of a block has, lent from the library.
+//! What an entry has, lent by who lends its unit.
 
-ghost use Rattle.std.specs.Prelude.{◌≡◌, All, IfSome, Some, option_map};
+ghost use Rattle.std.specs.Prelude.{◌≡◌, ◌<◌, length, map, All, IfSome, Some, option_map};
 ghost use Rattle.lk_tree.specs.Tree.{Tree};
 ghost use Rattle.lk_rulebook.specs.Place.{Entry as PlainEntry};
-ghost use Rattle.lk_store.specs.Contents.{Contents};
+ghost use Rattle.lk_store.specs.Contents.{Contents, name_at};
 ghost use Rattle.lk_store.specs.Store.{contents_of};
 ghost use Rattle.lk_env.specs.Units.{type_at, block_at, constructor_at};
 ghost use Rattle.lk_env.specs.Units.{IsUnitIn, AreUnitsIn, IsTypeIn, IsConstructorIn, IsRecursorIn, IsRuleIn};
@@ -12,7 +12,8 @@ ghost use Rattle.lk_env.specs.Lent.{recursor_in, constructor_in, member_in, type
 ghost use Rattle.lk_env.specs.Lent.{given_recursor, member_at, HasRecursor, HasMember, HasType, IsMemberIn, IsBlockTypeIn};
 
 use crate::entry::{Entry, Kind};
-use crate::library::Library;
+use crate::lends::Lends;
+use crate::parameters::parameters_in;
 use crate::unit::{Block, BlockType, Constructor, Recursor, RecursorRule, Unit};
 
 fn block_recursor(block: &Block, kind: Kind) -> Option<(&Recursor, &[RecursorRule])>
@@ -48,28 +49,19 @@ fn unit_recursor(unit: &Unit, kind: Kind) -> Option<(&Recursor, &[RecursorRule])
     }
 }
 
-fn recursor_among(units: &[Unit], entry: Entry) -> Option<(&Recursor, &[RecursorRule])>
-    ensures value { (c : Contents) → IfSome (plain_entry c units.now entry)
-        (λ e. recursor_in e.kind ≡ option_map (λ p. given_recursor c p.0.now p.1.now) result) }
-    ensures known { (c : Contents) → AreUnitsIn c units.now
-        → IfSome result (λ p. IsRecursorIn c p.0.now × All (IsRuleIn c) p.1.now) }
+/// The recursor of an entry, where it is one, with the rules that are given: none while it is partial. It takes no memory.
+pub fn recursor_of<L: Lends>(library: &L, entry: Entry) -> Option<(&Recursor, &[RecursorRule])>
+    ensures value { (g : PlainEntry) → plain_entry (contents_of (L.lent library.now).0) (L.lent library.now).1 entry
+        ≡ Some g
+        → recursor_in g.kind ≡ option_map
+        (λ p. given_recursor (contents_of (L.lent library.now).0) p.0.now p.1.now) result }
+    ensures known { IfSome result (λ p. IsRecursorIn (contents_of (L.lent library.now).0) p.0.now
+        × All (IsRuleIn (contents_of (L.lent library.now).0)) p.1.now) }
 {
-    match units.get(entry.unit as usize) {
+    match library.unit(entry.unit) {
         Some(unit) => unit_recursor(unit, entry.kind),
         None => None,
     }
-}
-
-/// The recursor of an entry, where it is one, with the rules that are given: none while it is partial. It takes no memory.
-pub fn recursor_of(library: &Library, entry: Entry) -> Option<(&Recursor, &[RecursorRule])>
-    ensures value { (g : PlainEntry) → plain_entry (contents_of library.now.0) library.now.1 entry
-        ≡ Some g
-        → recursor_in g.kind ≡ option_map
-        (λ p. given_recursor (contents_of library.now.0) p.0.now p.1.now) result }
-    ensures known { IfSome result (λ p. IsRecursorIn (contents_of library.now.0) p.0.now
-        × All (IsRuleIn (contents_of library.now.0)) p.1.now) }
-{
-    recursor_among(library.units(), entry)
 }
 
 fn block_member(block: &Block, kind: Kind) -> Option<(&Block, &BlockType, &Constructor)>
@@ -103,43 +95,33 @@ fn unit_member(unit: &Unit, kind: Kind) -> Option<(&Block, &BlockType, &Construc
     }
 }
 
-fn member_among(units: &[Unit], entry: Entry) -> Option<(&Block, &BlockType, &Constructor)>
-    ensures value { (c : Contents) → IfSome (plain_entry c units.now entry)
-        (λ e. member_in e.kind
-        ≡ option_map (λ p. member_at c p.0.now p.1.now p.2.now) result) }
-    ensures known { (c : Contents) → AreUnitsIn c units.now
-        → IfSome result (λ p. IsMemberIn c p.0.now p.1.now p.2.now) }
+/// The constructor of an entry, with its block and its type, where it is one. It takes no memory.
+pub fn member_of<L: Lends>(library: &L, entry: Entry) -> Option<(&Block, &BlockType, &Constructor)>
+    ensures value { (g : PlainEntry) → plain_entry (contents_of (L.lent library.now).0) (L.lent library.now).1 entry
+        ≡ Some g
+        → member_in g.kind ≡ option_map
+        (λ p. member_at (contents_of (L.lent library.now).0) p.0.now p.1.now p.2.now) result }
+    ensures known { IfSome result
+        (λ p. IsMemberIn (contents_of (L.lent library.now).0) p.0.now p.1.now p.2.now) }
 {
-    match units.get(entry.unit as usize) {
+    match library.unit(entry.unit) {
         Some(unit) => unit_member(unit, entry.kind),
         None => None,
     }
 }
 
-/// The constructor of an entry, with its block and its type, where it is one. It takes no memory.
-pub fn member_of(library: &Library, entry: Entry) -> Option<(&Block, &BlockType, &Constructor)>
-    ensures value { (g : PlainEntry) → plain_entry (contents_of library.now.0) library.now.1 entry
-        ≡ Some g
-        → member_in g.kind ≡ option_map
-        (λ p. member_at (contents_of library.now.0) p.0.now p.1.now p.2.now) result }
-    ensures known { IfSome result
-        (λ p. IsMemberIn (contents_of library.now.0) p.0.now p.1.now p.2.now) }
-{
-    member_among(library.units(), entry)
-}
-
 /// The constructor of an entry, with its type, where it is one. It takes no memory.
-pub fn constructor_of(library: &Library, entry: Entry) -> Option<(&BlockType, &Constructor)>
-    ensures value { (g : PlainEntry) → plain_entry (contents_of library.now.0) library.now.1 entry
+pub fn constructor_of<L: Lends>(library: &L, entry: Entry) -> Option<(&BlockType, &Constructor)>
+    ensures value { (g : PlainEntry) → plain_entry (contents_of (L.lent library.now).0) (L.lent library.now).1 entry
         ≡ Some g
         → constructor_in g.kind ≡ option_map
         (λ p. (
-          type_at (contents_of library.now.0) p.0.now,
+          type_at (contents_of (L.lent library.now).0) p.0.now,
           constructor_at
-              (contents_of library.now.0) p.1.now,
+              (contents_of (L.lent library.now).0) p.1.now,
         )) result }
-    ensures known { IfSome result (λ p. IsTypeIn (contents_of library.now.0) p.0.now
-        × IsConstructorIn (contents_of library.now.0) p.1.now) }
+    ensures known { IfSome result (λ p. IsTypeIn (contents_of (L.lent library.now).0) p.0.now
+        × IsConstructorIn (contents_of (L.lent library.now).0) p.1.now) }
 {
     match member_of(library, entry) {
         Some((_, ty, constructor)) => Some((ty, constructor)),
@@ -175,40 +157,43 @@ fn unit_type(unit: &Unit, kind: Kind) -> Option<(&Block, &BlockType)>
     }
 }
 
-fn type_among(units: &[Unit], entry: Entry) -> Option<(&Block, &BlockType)>
-    ensures value { (c : Contents) → IfSome (plain_entry c units.now entry)
-        (λ e. type_in e.kind
-        ≡ option_map (λ p. (block_at c p.0.now, type_at c p.1.now)) result) }
-    ensures known { (c : Contents) → AreUnitsIn c units.now
-        → IfSome result (λ p. IsBlockTypeIn c p.0.now p.1.now) }
+/// The type of a block that an entry is, with its block, where it is one. It takes no memory.
+pub fn type_of<L: Lends>(library: &L, entry: Entry) -> Option<(&Block, &BlockType)>
+    ensures value { (g : PlainEntry) → plain_entry (contents_of (L.lent library.now).0) (L.lent library.now).1 entry
+        ≡ Some g
+        → type_in g.kind ≡ option_map (λ p. (
+          block_at (contents_of (L.lent library.now).0) p.0.now,
+          type_at (contents_of (L.lent library.now).0) p.1.now,
+        )) result }
+    ensures known { IfSome result
+        (λ p. IsBlockTypeIn (contents_of (L.lent library.now).0) p.0.now p.1.now) }
 {
-    match units.get(entry.unit as usize) {
+    match library.unit(entry.unit) {
         Some(unit) => unit_type(unit, entry.kind),
         None => None,
     }
 }
 
-/// The type of a block that an entry is, with its block, where it is one. It takes no memory.
-pub fn type_of(library: &Library, entry: Entry) -> Option<(&Block, &BlockType)>
-    ensures value { (g : PlainEntry) → plain_entry (contents_of library.now.0) library.now.1 entry
-        ≡ Some g
-        → type_in g.kind ≡ option_map (λ p. (
-          block_at (contents_of library.now.0) p.0.now,
-          type_at (contents_of library.now.0) p.1.now,
-        )) result }
-    ensures known { IfSome result
-        (λ p. IsBlockTypeIn (contents_of library.now.0) p.0.now p.1.now) }
-{
-    type_among(library.units(), entry)
-}
-
 /// The number of parameters of an entry that is a type of a block. It takes no memory.
-pub fn parameter_count(library: &Library, entry: Entry) -> Option<u64>
-    ensures { (g : PlainEntry) → plain_entry (contents_of library.now.0) library.now.1 entry
+pub fn parameter_count<L: Lends>(library: &L, entry: Entry) -> Option<u64>
+    ensures { (g : PlainEntry) → plain_entry (contents_of (L.lent library.now).0) (L.lent library.now).1 entry
         ≡ Some g → result ≡ parameters_in g.kind }
 {
     match type_of(library, entry) {
         Some((_, ty)) => Some(ty.parameters),
         None => None,
+    }
+}
+
+/// The level parameters of an entry, by the numbers of their names. It takes no memory.
+pub fn levels_of<L: Lends>(library: &L, entry: Entry) -> &[u64]
+    ensures value { (g : PlainEntry) → plain_entry (contents_of (L.lent library.now).0)
+        (L.lent library.now).1 entry ≡ Some g
+        → g.levels ≡ map (name_at (contents_of (L.lent library.now).0)) result.now }
+    ensures known { All (λ n. n < length (contents_of (L.lent library.now).0).names) result.now }
+{
+    match library.unit(entry.unit) {
+        Some(unit) => parameters_in(unit, entry.kind),
+        None => &[],
     }
 }

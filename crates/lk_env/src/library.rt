@@ -4,7 +4,6 @@
 use crate::entry::{Entry, Site};
 use crate::index::index_of;
 use crate::member::{member_entry, partial_entry};
-use crate::parameters::parameters_in;
 use crate::position::Position;
 use crate::scan::flaws_of;
 use crate::unit::Unit;
@@ -46,14 +45,14 @@ impl Model for Library {
         × AreFlaws (contents_of l.base) l.units.items l.flaws.items };
 }
 
-ghost use Rattle.std.specs.Prelude.{◌≡◌, ℕ, ◌<◌, length, map, option_map, All, IfOk, IfSome};
+ghost use Rattle.std.specs.Prelude.{◌≡◌, ℕ, ◌<◌, length, map, option_map, IfOk};
 ghost use Rattle.lk_tree.specs.Tree.{Name as PlainName};
 ghost use Rattle.lk_rulebook.specs.Units.{at_partial, place_by};
 ghost use Rattle.lk_store.specs.Contents.{Contents, name_at, name_of, IsNameIn};
 ghost use Rattle.lk_env.specs.Units.{library_at, AreUnitsIn};
 ghost use Rattle.lk_env.specs.Places.{position_below, own_member, found_at, partial_entry_in};
 ghost use Rattle.lk_env.specs.Index.{pair_of};
-ghost use Rattle.lk_env.specs.Entries.{plain_entry, judged, IsEntryIn, IsAnswer};
+ghost use Rattle.lk_env.specs.Entries.{judged, IsEntryIn, IsAnswer};
 ghost use Rattle.lk_env.specs.Scan.{AreFlaws};
 
 /// The position, where its unit is one of the first ones.
@@ -118,18 +117,6 @@ fn partial_in(units: &[Unit], site: &Site, member: usize) -> Result<Entry, Rule>
             None => Err(Rule::UnknownConstant),
         },
         None => Err(Rule::UnknownConstant),
-    }
-}
-
-fn level_parameters(units: &[Unit], entry: Entry) -> &[u64]
-    ensures value { (c : Contents)
-        → IfSome (plain_entry c units.now entry) (λ e. e.levels ≡ map (name_at c) result.now) }
-    ensures known { (c : Contents) → AreUnitsIn c units.now
-        → All (λ n. n < length c.names) result.now }
-{
-    match units.get(entry.unit as usize) {
-        Some(unit) => parameters_in(unit, entry.kind),
-        None => &[],
     }
 }
 
@@ -252,15 +239,6 @@ impl Library {
         // the library does not have.
         let _names = terms.count_names();
         Err(Rule::UnknownConstant)
-    }
-
-    /// The level parameters of an entry, by the numbers of their names. It takes no memory.
-    pub fn levels(&self, entry: Entry) -> &[u64]
-        ensures value { IfSome (plain_entry (contents_of self.now.0) self.now.1 entry)
-            (λ e. e.levels ≡ map (name_at (contents_of self.now.0)) result.now) }
-        ensures known { All (λ n. n < length (contents_of self.now.0).names) result.now }
-    {
-        level_parameters(&self.units, entry)
     }
 
     /// What `position_of` says, of the name that a node makes of its parts. It need not be in the

@@ -11,12 +11,14 @@ use crate::unit::{Block, BlockType, Declaration, Recursor, Unit};
 
 fn declaration_entry(unit: u32, declaration: &Declaration) -> Entry
     ensures unit { result.unit ≡ unit }
+    ensures origin { result.origin ≡ unit }
     ensures member { (c : Contents) → IsMember c (Unit.Declaration declaration.now) 0 result }
 {
     Entry {
         kind: Kind::Declared(declaration.body),
         stated: declaration.ty,
         unit,
+        origin: unit,
     }
 }
 
@@ -24,6 +26,7 @@ fn declaration_entry(unit: u32, declaration: &Declaration) -> Entry
 /// places remain.
 fn constructor_entry(unit: u32, types: &[BlockType], place: usize) -> Result<Entry, usize>
     ensures unit { IfOk result (λ e. e.unit ≡ unit) }
+    ensures origin { IfOk result (λ e. e.origin ≡ unit) }
     ensures found { IfOk result (IsConstructorAt types.now place) }
     ensures past { IfErr result (λ rest. length (flat_map constructor_names types.now) + rest
         ≡ place) }
@@ -40,6 +43,7 @@ fn constructor_entry(unit: u32, types: &[BlockType], place: usize) -> Result<Ent
                 kind,
                 stated: constructors[rest].ty,
                 unit,
+                origin: unit,
             });
         }
         rest -= constructors.len();
@@ -49,6 +53,7 @@ fn constructor_entry(unit: u32, types: &[BlockType], place: usize) -> Result<Ent
 
 fn recursor_entry(unit: u32, recursors: &[Recursor], i: usize) -> Option<Entry>
     ensures unit { IfSome result (λ e. e.unit ≡ unit) }
+    ensures origin { IfSome result (λ e. e.origin ≡ unit) }
     ensures entry { result ≡ option_map (recursor_entry_at unit i) (slice_get recursors.now i) }
 {
     match recursors.get(i) {
@@ -56,6 +61,7 @@ fn recursor_entry(unit: u32, recursors: &[Recursor], i: usize) -> Option<Entry>
             kind: Kind::Recursor(i),
             stated: r.ty,
             unit,
+            origin: unit,
         }),
         None => None,
     }
@@ -64,6 +70,7 @@ fn recursor_entry(unit: u32, recursors: &[Recursor], i: usize) -> Option<Entry>
 /// The entry of a member of a block, if it has so many.
 fn block_entry(unit: u32, block: &Block, member: usize) -> Option<Entry>
     ensures unit { IfSome result (λ e. e.unit ≡ unit) }
+    ensures origin { IfSome result (λ e. e.origin ≡ unit) }
     ensures member { (c : Contents) → IsMemberIfAny c (Unit.Block block.now) member result }
 {
     let types = block.types.as_slice();
@@ -72,6 +79,7 @@ fn block_entry(unit: u32, block: &Block, member: usize) -> Option<Entry>
             kind: Kind::Type(member),
             stated: types[member].ty,
             unit,
+            origin: unit,
         });
     }
     match constructor_entry(unit, types, member - types.len()) {
@@ -83,6 +91,7 @@ fn block_entry(unit: u32, block: &Block, member: usize) -> Option<Entry>
 /// The entry of a unit's member, if it has so many.
 pub(crate) fn member_entry(number: u32, unit: &Unit, member: usize) -> Option<Entry>
     ensures unit { IfSome result (λ e. e.unit ≡ number) }
+    ensures origin { IfSome result (λ e. e.origin ≡ number) }
     ensures member { (c : Contents) → IsMemberIfAny c unit.now member result }
 {
     match unit {
@@ -100,6 +109,7 @@ pub(crate) fn member_entry(number: u32, unit: &Unit, member: usize) -> Option<En
 /// The entry as it is while its unit is partial: a recursor without its rules.
 fn bare(entry: Entry) -> Entry
     ensures unit { result.unit ≡ entry.unit }
+    ensures origin { result.origin ≡ entry.origin }
     ensures stated { result.stated ≡ entry.stated }
     ensures kind { result.kind ≡ bare_kind entry.kind }
 {
@@ -108,6 +118,7 @@ fn bare(entry: Entry) -> Entry
             kind: Kind::BareRecursor(i),
             stated: entry.stated,
             unit: entry.unit,
+            origin: entry.origin,
         },
         _ => entry,
     }
@@ -125,6 +136,7 @@ fn is_type(kind: Kind) -> bool
 /// The entry as it is partial, if it is.
 fn as_partial(partial: Partial, entry: Entry) -> Option<Entry>
     ensures unit { IfSome result (λ e. e.unit ≡ entry.unit) }
+    ensures origin { IfSome result (λ e. e.origin ≡ entry.origin) }
     ensures member { (c : Contents) (b : Block) (j : ℕ) → IsMember c (Unit.Block b) j entry
         → IsPartialIfAny c (Unit.Block b) partial j result }
 {
@@ -149,6 +161,7 @@ pub(crate) fn partial_entry(
     member: usize,
 ) -> Option<Entry>
     ensures unit { IfSome result (λ e. e.unit ≡ number) }
+    ensures origin { IfSome result (λ e. e.origin ≡ number) }
     ensures member { (c : Contents) → IsPartialIfAny c unit.now partial member result }
 {
     match unit {

@@ -10,7 +10,7 @@ returns-in-Some-clause-known c = λ d known.
 pub returns-in-Some-clause-answer : goal.returns-in-Some-clause-answer
 returns-in-Some-clause-answer c = λ d are n x.
     answered d c.args.units.now c.args.position.unit c.index-units-i.result c.if-i-units.false c.index-units-i.is c.args.position.member n x c.in-Some.entry c.args.flaws.now c.flawless.result
-    c.requires are c.in-Some.ensures.unit (c.in-Some.ensures.member d) c.flawless.ensures
+    c.requires are c.in-Some.ensures.unit c.in-Some.ensures.origin (c.in-Some.ensures.member d) c.flawless.ensures
 
 pub returns-in-None-clause-answer : goal.returns-in-None-clause-answer
 returns-in-None-clause-answer c = λ d are n x.

@@ -1,0 +1,23 @@
+use Rattle.std.proofs.Common.{◌≡◌, map, sym}
+use Rattle.lk_rulebook.specs.Place.{Entry as PlainEntry}
+use Rattle.lk_store.specs.Contents.{name_at, tree_at}
+use Rattle.lk_store.specs.Store.{contents_of}
+use Rattle.lk_env.specs.Entries.{plain_entry}
+use Rattle.lk_env.proofs.Found.{of_some}
+use Rattle.lk_env.proofs.Lending.{entry_there, not_there}
+use Rattle.lk_env.proofs.lent.levels_of.Goals as goal
+
+pub returns-in-Some-clause-value : goal.returns-in-Some-clause-value
+returns-in-Some-clause-value g c p h =
+    let lent = g.L.Lends.lent c.args.library.now in
+    let base = contents_of lent.0 in
+    of_some (λ (y : PlainEntry). y.levels ≡ map (name_at base) c.parameters_in.result.now) (plain_entry base lent.1 c.args.entry) p
+    (rw (entry_there base lent.1 c.args.entry c.in-Some.unit.now (sym c.in-Some.ensures.value)) (c.parameters_in.ensures.levels base (tree_at base c.args.entry.stated))) h
+
+pub returns-in-Some-clause-known : goal.returns-in-Some-clause-known
+returns-in-Some-clause-known g c = c.parameters_in.ensures.known (contents_of (g.L.Lends.lent c.args.library.now).0) c.in-Some.ensures.known
+
+pub returns-in-None-clause-value : goal.returns-in-None-clause-value
+returns-in-None-clause-value g c p h =
+    let lent = g.L.Lends.lent c.args.library.now in
+    absurd (not_there (contents_of lent.0) lent.1 c.args.entry p (sym c.in-None.ensures.value) h)
