@@ -26,15 +26,12 @@ taken_more c numbers numbers2 rest first others ls t pushed h i e =
     let all : map (level_at c) (numbers ++ first ∷ []) ++ list_at c others ≡ ls = rw map-append (append_assoc (map (level_at c) numbers) (level_at c first ∷ []) (list_at c others) ∙ ap (λ r. map (level_at c) numbers ++ r) e ∙ t.are) in
     rw pushed (record { known = All-push (λ l. l < length c.levels) numbers first t.known h; are = all; rest_in = i })
 
--- the level parameters of an entry, by their numbers
-entry_params : (o : Option PlainEntry) (names : List Name) (g : PlainEntry) → IfSome o (λ y. y.levels ≡ names) → o ≡ Some g → g.levels ≡ names
-entry_params o names g h e = rw e at h
-
+-- a tree at the levels that a constant has
 pub at_levels_is : (c d f : Contents) (o : Option PlainEntry) (params values : List ℕ) (ls : List Level) (t : Tree) (r : ℕ) (g : PlainEntry)
-    → Extends c d → All (λ n. n < length c.names) params → IfSome o (λ y. y.levels ≡ map (name_at c) params) → IsLevels d values ls → length values ≡ length params
+    → Extends c d → All (λ n. n < length c.names) params → ((y : PlainEntry) → o ≡ Some y → y.levels ≡ map (name_at c) params) → IsLevels d values ls → length values ≡ length params
     → IsTree f r (put_levels (map (name_at d) params) (map (level_at d) values) t) → o ≡ Some g → IsAtLevels f g.levels ls t (Some r)
 at_levels_is c d f o params values ls t r g x known declared levels count made e =
-    let names : g.levels ≡ map (name_at c) params = entry_params o (map (name_at c) params) g declared e in
+    let names : g.levels ≡ map (name_at c) params = declared g e in
     let same : map (name_at d) params ≡ g.levels = values-steady [] c.names d.names params x.names known ∙ sym names in
     let as_many : length ls ≡ length g.levels =
     ap length (sym levels.are) ∙ length-map values (level_at d) ∙ count ∙ sym (length-map params (name_at c)) ∙ ap length (sym names) in

@@ -11,19 +11,17 @@ use Rattle.lk_plain.specs.Settled.{fails, settle_look, settle}
 use Rattle.lk_store.specs.Store.{contents_of}
 use Rattle.lk_store.specs.declared.tables.Tables.{Tables}
 use Rattle.lk_env.specs.declared.entry.Entry.{Entry}
-use Rattle.lk_env.specs.declared.entry.Site.{Site}
 use Rattle.lk_env.specs.declared.unit.Unit.{Unit as StoredUnit}
 use Rattle.lk_env.specs.Entries.{IsMeaning, IsAnswer}
-use Rattle.lk_env.specs.Places.{place_at}
 use Rattle.lk_ask.specs.Constants.{IsFound, IsRefusedBy}
 
 -- what the library answers is what was found
-pub found_is : (l : Tables × List StoredUnit) (w : Place) (x : Name) (before last : Option ℕ) (e : Entry) → IsMeaning (contents_of l.0) l.1 w x e → last ≡ later before (Some e.unit) → IsFound l w x before e last
+pub found_is : (l : Tables × List StoredUnit) (w : Place) (x : Name) (before last : Option ℕ) (e : Entry) → IsMeaning (contents_of l.0) l.1 w x e → last ≡ later before (Some e.origin) → IsFound l w x before e last
 found_is l w x before last e m looked_at = go (w.means x) refl m.given
   where
     go : (o : Option PlainEntry) → w.means x ≡ o → IsSome o → IsFound l w x before e last
     go None h s = absurd (cc)
-    go (Some g) h s = record { entry = g; is = sym m.means ∙ h; means = h; looked = looked_at ∙ ap (λ u. later before (Some u)) (sym m.unit) }
+    go (Some g) h s = record { entry = g; is = sym m.means ∙ h; means = h; looked = looked_at ∙ ap (λ u. later before (Some u)) (sym m.origin) }
 
 module _ {A : Type 0} (w : Place) (f : A → Value) (x : Name) where
   looked_found : (r : Rule) (before : Option ℕ) (k : PlainEntry → Program A) (o : Option PlainEntry) (g : PlainEntry) → o ≡ Some g
@@ -51,7 +49,7 @@ module _ {A : Type 0} (w : Place) (x : Name) where
   refused_settles missing k before rule h =
       ap (λ o. settle_look missing before o (w.origin x) (w.flaw x) (λ u g. settle w u (k g))) h.means ∙ ap fails (sym h.rule)
 
--- a name that is refused at a site means nothing there
-pub refused_means : (l : Tables × List StoredUnit) (s : Site) (x : Name) (o : Result Entry Rule) → IsAnswer (contents_of l.0) l.1 (place_at l s) x o → IfErr o (λ r. (place_at l s).means x ≡ None)
-refused_means l s x (Ok e) h = tt
-refused_means l s x (Err r) h = h.means
+-- a name that is refused at a place means nothing there
+pub refused_means : (l : Tables × List StoredUnit) (w : Place) (x : Name) (o : Result Entry Rule) → IsAnswer (contents_of l.0) l.1 w x o → IfErr o (λ r. w.means x ≡ None)
+refused_means l w x (Ok e) h = tt
+refused_means l w x (Err r) h = h.means

@@ -2,6 +2,7 @@
 use Rattle.std.specs.Prelude.{◌≡◌, ℕ, IfOk, Result}
 use Rattle.lk_tree.specs.Tree.{Tree}
 use Rattle.lk_rulebook.specs.Place.{Place}
+use Rattle.lk_rulebook.specs.Units.{Members}
 use Rattle.lk_plain.specs.Program.{Table}
 use Rattle.lk_store.specs.declared.memory.NoMemory.{NoMemory}
 use Rattle.lk_store.specs.Contents.{Contents, Extends, IsTree}
@@ -13,9 +14,9 @@ pub record Standing (B : Type 0) : Type 0 where
   pub table : Table
   pub place : Place
 
--- the same, where so much of the unit at work is partial
-abbrev pub given : {B : Type 0} → (B → Partial → Place) → Standing B → Partial → Standing B
-given places s partial = record { basis = s.basis; table = s.table; place = places s.basis partial }
+-- the same, where so much of the unit at work is partial, and auxiliary types beside
+abbrev pub given : {B : Type 0} → (B → Partial → Members → Place) → Standing B → Partial → Members → Standing B
+given places s partial aux = record { basis = s.basis; table = s.table; place = places s.basis partial aux }
 
 -- numbers stand for what they stood for, questions are answered as before, under what was left, and the number stands for this
 -- tree, of what numbers stood for

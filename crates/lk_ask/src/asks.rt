@@ -1,6 +1,6 @@
 //! Who answers questions.
 
-ghost use Rattle.std.specs.Prelude.{◌≡◌, ◌<◌, ℕ, length, IfOk, IfErr};
+ghost use Rattle.std.specs.Prelude.{◌≡◌, ◌<◌, ℕ, [], length, map, All, IfOk, IfErr, OnOk};
 ghost use Rattle.lk_rulebook.specs.Place.{Place};
 ghost use Rattle.lk_plain.specs.Erased.{out_of};
 ghost use Rattle.lk_store.specs.Contents.{name_at, tree_at, Extends};
@@ -10,10 +10,15 @@ ghost use Rattle.lk_ask.specs.Questions.{query_of, IsKnownQuery, IsKnownAnswer};
 ghost use Rattle.lk_ask.specs.Outcomes.{IsOutcome};
 ghost use Rattle.lk_ask.specs.Constants.{IsRefused};
 ghost use Rattle.lk_env.specs.Lent.{HasParameters};
+ghost use Rattle.lk_env.specs.Scopes.{alone_members};
+ghost use Rattle.lk_env.specs.Units.{type_at, IsTypeIn};
+ghost use Rattle.lk_rulebook.specs.Units.{Members};
 
 use crate::query::{Answer, Query};
 use crate::stop::Stop;
 use lk_env::entry::Partial;
+use lk_env::unit::BlockType;
+use lk_store::memory::NoMemory;
 use lk_store::terms::Terms;
 use lk_tree::rule::Rule;
 
@@ -28,8 +33,9 @@ pub trait Asks: Terms {
     /// How many steps are left.
     ghost left: { Self → ℕ };
 
-    /// What names mean where so much of the unit at work is partial: given while the unit itself is checked.
-    ghost places: { Self.Basis → GivenMembers → Place };
+    /// What names mean where so much of the unit at work is partial, given while the unit itself is checked, and auxiliary types
+    /// beside.
+    ghost places: { Self.Basis → GivenMembers → Members → Place };
 
     /// The plain answer of a question under what is left, and exactly its cost is spent. A question is refused, or the
     /// budget used up, where that is so of the plain answer.
@@ -52,10 +58,19 @@ pub trait Asks: Terms {
         ensures refused { IfErr result (IsRefused (standing self.now).place
             (name_at (Self.contents self.now) name)) };
 
-    /// From here on so much of the unit at work is partial. It takes no memory and no step.
+    /// From here on so much of the unit at work is partial, and no auxiliary type. It takes no memory and no step.
     fn give(&mut self, partial: Partial)
         ensures contents { Self.contents self.new ≡ Self.contents self.old }
-        ensures standing { standing self.new ≡ given places (standing self.old) partial }
+        ensures standing { standing self.new ≡ given places (standing self.old) partial [] }
+        ensures left { left self.new ≡ left self.old };
+
+    /// From here on so much of the unit at work is partial, and these types of a block beside, each alone and without its
+    /// constructors. It takes no step.
+    fn give_beside(&mut self, partial: Partial, types: &[BlockType]) -> Result<(), NoMemory>
+        requires { All (IsTypeIn (Self.contents self.old)) types.now }
+        ensures contents { Self.contents self.new ≡ Self.contents self.old }
+        ensures standing { OnOk result (standing self.new ≡ given places (standing self.old) partial
+            (alone_members (map (type_at (Self.contents self.old)) types.now))) }
         ensures left { left self.new ≡ left self.old };
 
     /// Whoever changes terms alone changes nothing of how questions are answered.

@@ -6,12 +6,14 @@ ghost use Rattle.lk_rulebook.specs.Place.{Place, Entry as PlainEntry};
 ghost use Rattle.lk_store.specs.Contents.{name_at, list_at, tree_at, Extends};
 ghost use Rattle.lk_store.specs.Store.{contents_of};
 ghost use Rattle.lk_env.specs.Entries.{plain_entry, IsEntryIn};
-ghost use Rattle.lk_env.specs.Places.{place_at};
+ghost use Rattle.lk_env.specs.Scopes.{place_in};
 ghost use Rattle.lk_env.specs.Entries.{MeansNothing};
 ghost use Rattle.lk_ask.specs.Constants.{IsFound, IsRefusedBy, IsAtLevels, IsLevels};
 
 use lk_env::entry::{Entry, Site};
-use lk_env::library::Library;
+use lk_env::lends::Lends;
+use lk_env::lent::levels_of as parameters_of;
+use lk_env::scope::Scope;
 use lk_meter::Meter;
 use lk_store::memory::NoMemory;
 use lk_store::node::ListNode;
@@ -37,25 +39,26 @@ fn refusal(missing: Rule, rule: Rule) -> Rule
 /// Looks a constant up: what its name means at the site. That its unit was looked at is noted. Where nothing gives the name
 /// it is refused by the rule `missing`.
 pub(crate) fn look_up<T: Terms>(
-    library: &Library,
+    scope: &Scope<'_>,
     site: &Site,
     terms: &T,
     name: u64,
     missing: Rule,
     meter: &mut Meter,
 ) -> Result<Entry, Rule>
-    requires over { Extends (contents_of library.now.0) (T.contents terms.now) }
+    requires over { Extends (contents_of scope.now.0) (T.contents terms.now) }
     requires name_in { name < length (T.contents terms.now).names }
-    ensures known { IfOk result (IsEntryIn (contents_of library.now.0)) }
+    ensures known { IfOk result (IsEntryIn (contents_of scope.now.0)) }
     ensures left { meter.new.left ≡ meter.old.left }
-    ensures found { IfOk result (λ e. IsFound library.now (place_at library.now site.now)
+    ensures found { IfOk result (λ e. IsFound (scope.now.0, scope.now.1)
+        (place_in scope.now site.now)
         (name_at (T.contents terms.now) name) meter.old.last e meter.new.last) }
-    ensures refused { IfErr result (IsRefusedBy missing (place_at library.now site.now)
+    ensures refused { IfErr result (IsRefusedBy missing (place_in scope.now site.now)
         (name_at (T.contents terms.now) name)) }
 {
-    match library.means(site, terms, name) {
+    match scope.means(site, terms, name) {
         Ok(entry) => {
-            meter.note(entry.unit);
+            meter.note(entry.origin);
             Ok(entry)
         }
         Err(rule) => Err(refusal(missing, rule)),
@@ -79,26 +82,26 @@ fn levels_of<T: Terms>(alloc: Global, terms: &T, levels: u64) -> Result<Vec<u64>
 
 /// A tree of a constant's unit at the levels that the constant has. There is none where they are not as many as the
 /// unit has level parameters.
-pub(crate) fn at_levels<T: Terms>(
+pub(crate) fn at_levels<L: Lends, T: Terms>(
     alloc: Global,
-    library: &Library,
+    library: &L,
     terms: &mut T,
     entry: Entry,
     levels: u64,
     e: u64,
 ) -> Result<Option<u64>, NoMemory>
-    requires over { Extends (contents_of library.now.0) (T.contents terms.old) }
+    requires over { Extends (contents_of (L.lent library.now).0) (T.contents terms.old) }
     requires levels_in { levels < length (T.contents terms.old).lists }
     requires e_in { e < length (T.contents terms.old).trees }
     ensures keeps { Extends (T.contents terms.old) (T.contents terms.new) }
     ensures rest { T.rest terms.new ≡ T.rest terms.old }
     ensures known { IfOk result (λ r. IfSome r (λ t. t < length (T.contents terms.new).trees)) }
     ensures ok { IfOk result (λ r. (g : PlainEntry)
-        → plain_entry (contents_of library.now.0) library.now.1 entry ≡ Some g
+        → plain_entry (contents_of (L.lent library.now).0) (L.lent library.now).1 entry ≡ Some g
         → IsAtLevels (T.contents terms.new) g.levels (list_at (T.contents terms.old) levels)
         (tree_at (T.contents terms.old) e) r) }
 {
-    let params = library.levels(entry);
+    let params = parameters_of(library, entry);
     let values = levels_of(alloc, terms, levels)?;
     if values.len() != params.len() {
         return Ok(None);

@@ -3,7 +3,7 @@
 use crate::constants::{at_levels, look_up};
 use crate::looks::Looks;
 use lk_env::entry::{Entry, Site};
-use lk_env::library::Library;
+use lk_env::scope::Scope;
 use lk_meter::Meter;
 use lk_store::memory::NoMemory;
 use lk_store::node::{LevelNode, ListNode, NameNode, Node};
@@ -14,11 +14,11 @@ use lk_tree::rule::Rule;
 use std::alloc::Global;
 use std::marker::Model;
 
-/// A store that has what the library has, from where the library is seen, and what is left of a budget.
+/// A store that has what a scope has, from where that is seen, and what is left of a budget.
 #[derive(Drop)]
 pub struct Lookout<'a, T: Terms> {
     pub alloc: Global,
-    pub library: &'a Library,
+    pub scope: Scope<'a>,
     pub site: Site,
     pub terms: T,
     pub meter: Meter,
@@ -33,16 +33,17 @@ impl<'a, T: Terms> Model for Lookout<'a, T> {
     ghost use Rattle.lk_env.specs.declared.unit.Unit.{Unit as StoredUnit};
     ghost use Rattle.lk_meter.specs.declared.meter.Meter.{Meter as Metered};
 
-    ghost Value = { (Tables × List StoredUnit) × LookedFrom × T × Metered };
+    ghost Value = { (Tables × List StoredUnit × (Tables × List StoredUnit) × List StoredUnit)
+        × LookedFrom × T × Metered };
 
-    ghost view = { λ s. (s.library.now, s.site, s.terms, s.meter) };
+    ghost view = { λ s. (s.scope, s.site, s.terms, s.meter) };
 
-    ghost invariant = { λ s. Extends (contents_of s.library.now.0) (T.contents s.terms) };
+    ghost invariant = { λ s. Extends (contents_of s.scope.0) (T.contents s.terms) };
 }
 
 impl<'a, T: Terms> Terms for Lookout<'a, T> {
-    /// All but the terms: the library, from where it is seen, what is left of the budget, and what the store has beside them.
-    type Rest = (Library, Site, Meter, T::Rest);
+    /// All but the terms: the scope, from where it is seen, what is left of the budget, and what the store has beside them.
+    type Rest = (Scope<'a>, Site, Meter, T::Rest);
 
     ghost rest = { λ s. (s.0, s.1, s.3, T.rest s.2) };
 
@@ -138,18 +139,20 @@ impl<'a, T: Terms> Terms for Lookout<'a, T> {
 }
 
 impl<'a, T: Terms> Looks for Lookout<'a, T> {
-    /// From where the library is seen, and what the store has beside its terms.
-    type Beside = (Site, T::Rest);
+    /// The scope, from where it is seen, and what the store has beside its terms.
+    type Beside = (Scope<'a>, Site, T::Rest);
 
-    ghost use Rattle.lk_env.specs.Places.{place_at};
+    type Scope = Scope<'a>;
+
+    ghost use Rattle.lk_env.specs.Scopes.{place_in};
 
     ghost sight = { λ r. record {
       basis = record {
-        library = r.0;
-        place = place_at r.0 r.1;
+        library = (r.0.0, r.0.1);
+        place = place_in r.0 r.1;
         left = r.2.left;
         beside =
-            (r.1, r.3);
+            (r.0, r.1, r.3);
       };
       last = r.2.last;
     } };
@@ -158,17 +161,17 @@ impl<'a, T: Terms> Looks for Lookout<'a, T> {
         self.alloc
     }
 
-    fn library(&self) -> &Library {
-        self.library
+    fn scope(&self) -> &Scope<'a> {
+        &self.scope
     }
 
     fn means(&self, name: u64) -> Result<Entry, Rule> {
-        self.library.means(&self.site, &self.terms, name)
+        self.scope.means(&self.site, &self.terms, name)
     }
 
     fn look(&mut self, name: u64, missing: Rule) -> Result<Entry, Rule> {
         look_up(
-            self.library,
+            &self.scope,
             &self.site,
             &self.terms,
             name,
@@ -178,6 +181,6 @@ impl<'a, T: Terms> Looks for Lookout<'a, T> {
     }
 
     fn at_levels(&mut self, entry: Entry, levels: u64, e: u64) -> Result<Option<u64>, NoMemory> {
-        at_levels(self.alloc, self.library, &mut self.terms, entry, levels, e)
+        at_levels(self.alloc, &self.scope, &mut self.terms, entry, levels, e)
     }
 }

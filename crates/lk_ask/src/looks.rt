@@ -9,7 +9,7 @@ ghost use Rattle.lk_ask.specs.Constants.{IsFound, IsRefusedBy, IsAtLevels};
 ghost use Rattle.lk_ask.specs.Looks.{Sight, entry_at, IsOver};
 
 use lk_env::entry::Entry;
-use lk_env::library::Library;
+use lk_env::lends::Lends;
 use lk_store::memory::NoMemory;
 use lk_store::terms::Terms;
 use lk_tree::rule::Rule;
@@ -26,9 +26,12 @@ pub trait Looks: Terms {
     /// Where memory comes from.
     fn alloc(&self) -> Global;
 
-    /// The library.
-    fn library(&self) -> &Library
-        ensures is { result.now ≡ (sight (Self.rest self.now)).basis.library }
+    /// Who lends units: the library, and auxiliary types beside it.
+    type Scope: Lends;
+
+    /// The units, lent.
+    fn scope(&self) -> &Self::Scope
+        ensures is { Self.Scope.lent result.now ≡ (sight (Self.rest self.now)).basis.library }
         ensures over { IsOver Self.contents Self.rest sight self.now };
 
     /// What a name means that was looked up before: nothing is noted. It takes no memory.

@@ -1,6 +1,6 @@
 -- What names mean in a scope: auxiliary types beside the partial members of the unit at work.
-use Rattle.std.proofs.Common.{◌≡◌, ℕ, zero, suc, ◌+◌, ◌<◌, Bool, true, false, List, [], ◌∷◌, ◌++◌, length, take, map, nat_lt, Option, Some, None, Result, Ok, Err, All, refl, ap, sym, subst, ◌∙◌, arith}
-use Rattle.std.specs.Prelude.{IfOk, IfSome, IsSome, option_map, option_and_then, slice_get, if◌then◌else◌}
+use Rattle.std.proofs.Common.{◌≡◌, ℕ, ◌+◌, ◌<◌, Bool, true, false, List, [], ◌∷◌, ◌++◌, length, take, map, nat_lt, Option, Some, None, Result, Ok, Err, All, refl, ap, sym, subst, ◌∙◌, arith}
+use Rattle.std.specs.Prelude.{IfOk, option_map, option_and_then, slice_get, if◌then◌else◌}
 use Rattle.std.proofs.lemmas.Bool.Decides.{nat_tests}
 use Rattle.std.proofs.lemmas.List.{append_assoc}
 use Rattle.std.proofs.lemmas.List.Elements.{All-nil, All-cons, All-same, All-head, All-tail}
@@ -66,11 +66,12 @@ module _ (c : Contents) (x : Name) where
 
   pub alone_later : (u : StoredUnit) (us : List StoredUnit) (number : ℕ) (o : Option Entry) → AnswersAlone c u x None → AnswersAmong c (number + 1) us x o → AnswersAmong c number (u ∷ us) x o
   alone_later u us number None a h = given_both (partial_of (unit_at c u) Types) (auxiliary_members c us) x ∙ ap (λ o. or_else o (given_by (auxiliary_members c us) x)) a ∙ h
-  alone_later u us number (Some e) a h =
-      (h.0,
-      given_both (partial_of (unit_at c u) Types) (auxiliary_members c us) x ∙ ap (λ o. or_else o (given_by (auxiliary_members c us) x)) a ∙ h.1,
-      h.2,
-      (λ before count. ap (λ vs. plain_entry c vs e) (sym (append_assoc before (u ∷ []) us)) ∙ h.3 (before ++ u ∷ []) (longer before ∙ ap (λ n. n + 1) count)))
+  alone_later u us number (Some e) a h = (
+    h.0,
+    given_both (partial_of (unit_at c u) Types) (auxiliary_members c us) x ∙ ap (λ o. or_else o (given_by (auxiliary_members c us) x)) a ∙ h.1,
+    h.2,
+    (λ before count. ap (λ vs. plain_entry c vs e) (sym (append_assoc before (u ∷ []) us)) ∙ h.3 (before ++ u ∷ []) (longer before ∙ ap (λ n. n + 1) count)),
+  )
     where
       longer : (before : List StoredUnit) → length (before ++ u ∷ []) ≡ length before + 1
       longer [] = refl
@@ -82,12 +83,13 @@ pub alone_is : (t own : BlockType) (b : Block) → b.types.items ≡ own ∷ [] 
 alone_is t own b types recursors name levels ty parameters indices constructors = record {
   alone = record { block = b; type = own; is = refl; types = types };
   is = λ c. rw (types, recursors, name, levels, ty, parameters, indices, constructors) refl;
-  known = λ c h.
-      (All-same (IsTypeIn c) b.types.items (own ∷ []) types (All-cons (IsTypeIn c) own [] (record {
-        stated = record { name_in = rw name h.stated.name_in; levels_in = rw levels h.stated.levels_in; ty_in = rw ty h.stated.ty_in };
-        constructors_in = All-same (IsConstructorIn c) own.constructors.items [] constructors (All-nil (IsConstructorIn c));
-      }) (All-nil (IsTypeIn c))),
-      All-same (IsRecursorIn c) b.recursors.items [] recursors (All-nil (IsRecursorIn c)));
+  known = λ c h. (
+    All-same (IsTypeIn c) b.types.items (own ∷ []) types (All-cons (IsTypeIn c) own [] (record {
+      stated = record { name_in = rw name h.stated.name_in; levels_in = rw levels h.stated.levels_in; ty_in = rw ty h.stated.ty_in };
+      constructors_in = All-same (IsConstructorIn c) own.constructors.items [] constructors (All-nil (IsConstructorIn c));
+    }) (All-nil (IsTypeIn c))),
+    All-same (IsRecursorIn c) b.recursors.items [] recursors (All-nil (IsRecursorIn c)),
+  );
 }
 
 pub alone_pushed : (done : List BlockType) (made : List StoredUnit) (t : BlockType) (u : StoredUnit) → AreAloneOf done made → IsAloneOf t u → AreAloneOf (done ++ t ∷ []) (made ++ u ∷ [])
@@ -120,13 +122,14 @@ pub alone_has : (c : Contents) (x : Name) (b : Block) (t : BlockType) (e : Entry
 alone_has c x b t e types name kind_is stated known =
     let plain : PlainBlock = block_at c b in
     let p : PlainEntry = record { levels = map (name_at c) t.levels.items; type = tree_at c t.ty; kind = a_type plain (type_at c t) } in
-    let ty_in : t.ty < length c.trees = (All-head (IsTypeIn c) t [] (All-same (IsTypeIn c) (t ∷ []) b.types.items (sym types) known.0)).stated.ty_in in
-    (p,
-    ap (λ ts. given_by (type_entries plain (map (type_at c) ts)) x) types ∙ go p (name_discrete (name_at c t.name) x) name,
-    ap (λ k. entry_of c (unit_at c (unit.Block b)) k (tree_at c e.stated)) kind_is
-    ∙ ap (λ n. entry_of c (unit_at c (unit.Block b)) (kind.Type 0) (tree_at c n)) stated
-    ∙ ap (λ ts. option_map (λ (s : PlainType). record { levels = s.levels; type = tree_at c t.ty; kind = a_type plain s }) (slice_get (map (type_at c) ts) 0)) types,
-    record { kind_in = rw kind_is tt; stated_in = rw stated ty_in })
+    let ty_in : t.ty < length c.trees = (All-head (IsTypeIn c) t [] (All-same (IsTypeIn c) (t ∷ []) b.types.items (sym types) known.0)).stated.ty_in in (
+      p,
+      ap (λ ts. given_by (type_entries plain (map (type_at c) ts)) x) types ∙ go p (name_discrete (name_at c t.name) x) name,
+      ap (λ k. entry_of c (unit_at c (unit.Block b)) k (tree_at c e.stated)) kind_is
+          ∙ ap (λ n. entry_of c (unit_at c (unit.Block b)) (kind.Type 0) (tree_at c n)) stated
+          ∙ ap (λ ts. option_map (λ (s : PlainType). record { levels = s.levels; type = tree_at c t.ty; kind = a_type plain s }) (slice_get (map (type_at c) ts) 0)) types,
+      record { kind_in = rw kind_is tt; stated_in = rw stated ty_in },
+    )
   where
     go : (p : PlainEntry) (d : Dec (name_at c t.name ≡ x)) → name_at c t.name ≡ x → elim d as (λ y. Option PlainEntry) [ yes e ↦ Some p | no f ↦ None ] ≡ Some p
     go p (yes e) h = refl

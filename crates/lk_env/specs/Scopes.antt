@@ -1,5 +1,5 @@
 -- Auxiliary types of a block that is at work, beside a library: each is a block of its own, of that one type, without constructors.
-use Rattle.std.specs.Prelude.{◌≡◌, ◌<◌, ℕ, List, [], ◌∷◌, ◌++◌, Option, Some, None, length, All}
+use Rattle.std.specs.Prelude.{◌≡◌, ℕ, List, [], ◌∷◌, ◌++◌, Option, Some, None, length, All}
 use Rattle.lk_tree.specs.Tree.{Name}
 use Rattle.lk_rulebook.specs.Place.{Entry as PlainEntry, Place, BlockType as PlainType}
 use Rattle.lk_rulebook.specs.Units.{Members, LibraryUnit, of_block, given_by}

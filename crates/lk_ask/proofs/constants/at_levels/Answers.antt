@@ -7,7 +7,8 @@ use Rattle.lk_ask.proofs.constants.at_levels.Goals as goal
 
 pub returns-clause-ok : goal.returns-clause-ok
 returns-clause-ok g c e h =
-    let base = contents_of c.args.library.now.0 in
+    let lent = g.L.Lends.lent c.args.library.now in
+    let base = contents_of lent.0 in
     let before = g.T.Terms.contents c.args.terms.now in
-    at_levels_is base before (g.T.Terms.contents c.put_levels_in.new.terms) (plain_entry base c.args.library.now.1 c.args.entry) c.levels-params.result.now c.in_ok-values.values.items
-    (list_at before c.args.levels) (tree_at before c.args.e) c.in_ok-r.r e c.requires.over c.levels-params.ensures.known c.levels-params.ensures.value c.in_ok-values.ensures (search rules) (search rules) h
+    at_levels_is base before (g.T.Terms.contents c.put_levels_in.new.terms) (plain_entry base lent.1 c.args.entry) c.levels_of-params.result.now c.in_ok-values.values.items
+    (list_at before c.args.levels) (tree_at before c.args.e) c.in_ok-r.r e c.requires.over c.levels_of-params.ensures.known c.levels_of-params.ensures.value c.in_ok-values.ensures (search rules) (search rules) h

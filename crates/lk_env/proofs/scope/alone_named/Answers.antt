@@ -1,9 +1,6 @@
-use Rattle.std.proofs.Common.{◌≡◌, ℕ, Some, None, ◌∷◌, [], refl, sym, ap, subst, ◌∙◌}
+use Rattle.std.proofs.Common.{refl, sym, ap, subst, ◌∙◌}
 use Rattle.std.specs.Prelude.{slice_get}
-use Rattle.lk_tree.specs.Tree.{Name}
-use Rattle.lk_store.specs.Contents.{Contents, name_at, Extends}
-use Rattle.lk_env.specs.declared.unit.BlockType.{BlockType}
-use Rattle.lk_env.specs.declared.unit.Block.{Block}
+use Rattle.lk_store.specs.Contents.{name_at}
 use Rattle.lk_env.specs.declared.unit.Unit.TheVariants as unit
 use Rattle.lk_env.specs.Units.{IsUnitIn}
 use Rattle.lk_env.proofs.Scoped.{alone_has, alone_lacks, alone_name, one_type, no_type, no_declaration}

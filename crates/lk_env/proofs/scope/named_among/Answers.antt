@@ -1,6 +1,6 @@
-use Rattle.std.proofs.Common.{◌≡◌, ◌<◌, ◌+◌, Some, None, sym, subst, arith}
+use Rattle.std.proofs.Common.{Some, None, sym, subst, arith}
 use Rattle.lk_store.specs.Contents.{name_at}
-use Rattle.lk_env.specs.Units.{IsUnitIn, AreUnitsIn}
+use Rattle.lk_env.specs.Units.{IsUnitIn}
 use Rattle.lk_env.specs.Scopes.{IsAlone, AnswersAmong}
 use Rattle.lk_env.proofs.Scoped.{alone_first, alone_later, none_found, rest_of, first_of}
 use Rattle.lk_env.proofs.scope.named_among.Goals as goal

@@ -1,4 +1,4 @@
-use Rattle.std.proofs.Common.{◌≡◌, ◌<◌, ◌+◌, length}
+use Rattle.std.proofs.Common.{◌<◌, ◌+◌, length}
 use Rattle.std.specs.Prelude.{◌^◌, Option}
 use Rattle.lk_store.specs.Contents.{Contents, name_at, Extends}
 use Rattle.lk_env.specs.declared.entry.Entry.{Entry}

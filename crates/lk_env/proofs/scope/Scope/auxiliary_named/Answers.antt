@@ -1,5 +1,5 @@
-use Rattle.std.proofs.Common.{◌≡◌, length, ap, sym, subst, ◌∙◌}
-use Rattle.lk_store.specs.Contents.{Contents, name_at, Extends}
+use Rattle.std.proofs.Common.{◌≡◌, length, ap, subst, ◌∙◌}
+use Rattle.lk_store.specs.Contents.{Contents, name_at}
 use Rattle.lk_store.specs.Store.{over, contents_of}
 use Rattle.lk_env.specs.Units.{AreUnitsIn}
 use Rattle.lk_env.specs.Scopes.{AnswersAmong}

@@ -1,13 +1,8 @@
-use Rattle.std.proofs.Common.{◌≡◌, List, Some, None, Ok, Err, Result, refl, ap, sym, subst, ◌∙◌}
-use Rattle.std.specs.Prelude.{IfOk}
-use Rattle.lk_tree.specs.declared.rule.Rule.{Rule}
-use Rattle.lk_store.specs.Contents.{Contents, name_at, Extends}
+use Rattle.std.proofs.Common.{Ok, Err, subst}
+use Rattle.lk_store.specs.Contents.{name_at}
 use Rattle.lk_store.specs.Store.{over, contents_of}
-use Rattle.lk_env.specs.declared.entry.Entry.{Entry}
-use Rattle.lk_env.specs.Units.{AreUnitsIn}
-use Rattle.lk_env.specs.Entries.{IsEntryIn, IsAnswer}
+use Rattle.lk_env.specs.Entries.{IsAnswer}
 use Rattle.lk_env.specs.Places.{place_at}
-use Rattle.lk_env.specs.Scopes.{Scoped, AnswersAmong, place_in, of_types}
 use Rattle.lk_env.proofs.Meanings.{none_means, own_means, auxiliary_means, known_in}
 use Rattle.lk_env.proofs.scope.Scope.means.Goals as goal
 
