@@ -10,7 +10,7 @@ ghost use Rattle.lk_block.specs.Fields.{kind_form, field_form, next_field};
 
 use crate::asking::pi_of;
 use crate::frame::Frame;
-use crate::numbers::{keep, number_after};
+use lk_lists::numbers::{keep, number_after};
 use crate::positive::walk;
 use crate::shape::{Field, FieldKind};
 use crate::telescope::open_local;

@@ -15,7 +15,7 @@ ghost use Rattle.lk_block.specs.Positive.{kind_with, member_step, under_step, in
 
 use crate::frame::Frame;
 use crate::members::{Member, as_member};
-use crate::numbers::keep;
+use lk_lists::numbers::keep;
 use crate::shape::{FieldKind, Recursion};
 use crate::telescope::open_local;
 use lk_ask::asks::Asks;
