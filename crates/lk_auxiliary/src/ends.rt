@@ -6,8 +6,8 @@ ghost use Rattle.lk_inductive.specs.BlockSteps.{as_level};
 ghost use Rattle.lk_declaration.specs.Courses.{Settles};
 ghost use Rattle.lk_auxiliary.specs.Ends.{end_form};
 
-use lk_ask::stop::Stop;
 use crate::past::stated_pis;
+use lk_ask::stop::Stop;
 use lk_store::node::Node;
 use lk_store::terms::Terms;
 use lk_tree::rule::Rule;

@@ -7,9 +7,9 @@ ghost use Rattle.lk_inductive.specs.Nested.{at_args, ctors_at};
 ghost use Rattle.lk_declaration.specs.Courses.{Settles};
 ghost use Rattle.lk_auxiliary.specs.Places.{IsAtIn, levels_of, arguments_of};
 
+use crate::past::{has_pis, past_pis};
 use lk_ask::stop::Stop;
 use lk_env::unit::Constructor;
-use crate::past::{has_pis, past_pis};
 use lk_store::terms::Terms;
 use lk_subst::levels::put_levels_in;
 use lk_tree::rule::Rule;

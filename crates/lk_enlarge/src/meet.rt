@@ -10,11 +10,11 @@ ghost use Rattle.lk_nested.specs.Occurrences.{is_occurrence, test_at};
 ghost use Rattle.lk_auxiliary.specs.Auxiliaries.{auxs_at, IsAuxiliaryIn};
 ghost use Rattle.lk_auxiliary.specs.Settings.{setting_at, IsSettingIn};
 
+use lk_ask::stop::Stop;
 use lk_auxiliary::among::{auxiliary_applied, number_of};
 use lk_auxiliary::auxiliary::Auxiliary;
 use lk_auxiliary::made::make;
 use lk_auxiliary::setting::Setting;
-use lk_ask::stop::Stop;
 use lk_family::Families;
 use lk_nested::foreign::may_nest;
 use lk_spine::{args, head};

@@ -8,10 +8,10 @@ ghost use Rattle.lk_nested.specs.Pairs.{pairs_at, ArePairsIn};
 ghost use Rattle.lk_auxiliary.specs.Auxiliaries.{auxs_at, IsAuxiliaryIn};
 ghost use Rattle.lk_auxiliary.specs.Settings.{setting_at, IsSettingIn};
 
-use lk_auxiliary::auxiliary::Auxiliary;
 use crate::meet::meet;
-use lk_auxiliary::setting::Setting;
 use lk_ask::stop::Stop;
+use lk_auxiliary::auxiliary::Auxiliary;
+use lk_auxiliary::setting::Setting;
 use lk_family::Families;
 use lk_nested::swap::{Pair, swap};
 use lk_nested::unmet::find_unmet;

@@ -14,10 +14,10 @@ ghost use Rattle.lk_auxiliary.specs.Auxiliaries.{auxs_at, IsAuxiliaryIn};
 ghost use Rattle.lk_enlarge.specs.Opened.{past_local, past_locals, nests_past};
 ghost use Rattle.lk_auxiliary.specs.Settings.{setting_at, IsSettingIn};
 
-use lk_auxiliary::auxiliary::Auxiliary;
 use crate::nest::nest;
-use lk_auxiliary::setting::Setting;
 use lk_ask::stop::Stop;
+use lk_auxiliary::auxiliary::Auxiliary;
+use lk_auxiliary::setting::Setting;
 use lk_family::Families;
 use lk_mentions::pis::head_pi;
 use lk_nested::swap::Pair;

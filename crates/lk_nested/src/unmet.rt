@@ -13,11 +13,11 @@ ghost use Rattle.lk_nested.specs.Halts.{IsTested, IsMetTest, IsFirst};
 ghost use Rattle.lk_nested.specs.Sights.{AreSeen};
 
 use crate::halt::Halt;
+use crate::nested::is_nested_application;
+use crate::spines::{Spine, function_of, keep_function, spine_of};
 use crate::swap::{Pair, instead};
 use lk_ask::asks::Asks;
 use lk_ask::stop::Stop;
-use crate::nested::is_nested_application;
-use crate::spines::{Spine, function_of, keep_function, spine_of};
 use lk_mentions::names::Names;
 use lk_mentions::part::Met;
 use lk_rows::table::Table;
