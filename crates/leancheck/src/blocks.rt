@@ -17,7 +17,7 @@ use lk_ask::asks::Asks;
 use lk_ask::stop::Stop;
 use lk_block::check_shape;
 use lk_block::counts::counts_agree;
-use lk_block::nested::check_flat;
+use lk_nested::nested::check_flat;
 use lk_block::shape::Shape;
 use lk_block::sorts::check_sorts;
 use lk_block::types::{TypeParts, check_types};

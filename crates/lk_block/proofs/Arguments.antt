@@ -21,16 +21,6 @@ pub clear_next : (c : Contents) (ks : List ℕ) (rest more : List ℕ) (x : ℕ)
     → mention_none (names_at c ks) (map (tree_at c) rest) ≡ mention_none (names_at c ks) (map (tree_at c) more)
 clear_next c ks rest more x e h = rw e (ap (λ b. b && mention_none (names_at c ks) (map (tree_at c) more)) h)
 
--- a test of two trees decides as the definition does
-pub tree_decides : (r : Bool) (a b : Tree) → (IsTrue r ↔ (a ≡ b)) → r ≡ is_same_tree a b
-tree_decides r a b h = go r (tree_discrete a b) h
-  where
-    go : (s : Bool) (d : Dec (a ≡ b)) → (IsTrue s ↔ (a ≡ b)) → s ≡ decided d
-    go true (yes e) i = refl
-    go true (no f) i = absurd (f (i.0 refl))
-    go false (yes e) i = i.1 e
-    go false (no f) i = refl
-
 -- the first argument is the first parameter, or not
 pub params_next : (f : ℕ → Tree) (left right ps xs : List ℕ) (p x : ℕ) → left ≡ p ∷ ps → right ≡ x ∷ xs → is_same_tree (f p) (f x) ≡ true → after_params (map f left) (map f right) ≡ after_params (map f ps) (map f xs)
 params_next f left right ps xs p x e g h = rw (e, g) (ap (λ b. if b then after_params (map f ps) (map f xs) else None) h)

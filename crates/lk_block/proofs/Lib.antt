@@ -1,16 +1,10 @@
-pub mod Counted
 pub mod Telescopes
 pub mod Overs
 pub mod Ends
 pub mod Firsts
 pub mod Staged
-pub mod Stays
 pub mod Sorted
 pub mod Smallness
-pub mod Findings
-pub mod Applied
-pub mod Walking
-pub mod Flats
 pub mod Arguments
 pub mod Frames
 pub mod Walks
@@ -18,4 +12,5 @@ pub mod OpenedMentions
 pub mod Shaping
 pub mod EachField
 pub mod EachConstructor
-pub mod FromTheEnd
+pub mod Agreed
+pub mod ParameterLevels

@@ -21,12 +21,7 @@ use Rattle.lk_declaration.specs.Courses.{run_then, Goes, Halts}
 use Rattle.lk_block.specs.Shapes.{field_at, constructor_shape_at, type_shape_at, IsFieldIn, IsConstructorShapeIn, IsTypeShapeIn}
 use Rattle.lk_block.specs.Smalls.{small_form}
 use Rattle.lk_declaration.proofs.Running.{run_bind, halts_first, ends_at}
-use Rattle.lk_block.proofs.Arguments.{tree_decides}
 use Rattle.lk_declaration.proofs.Leading.{Splits}
-
-module _ (f : ℕ → Tree) (x : Tree) (xs : List ℕ) (y : ℕ) (more : List ℕ) (is : xs ≡ y ∷ more) (r : Bool) (decides : IsTrue r ↔ (x ≡ f y)) where
-  pub among_later : r ≡ false → is_among x (map f xs) ≡ is_among x (map f more)
-  among_later h = rw is (ap (λ b. b || is_among x (map f more)) (sym (tree_decides r x (f y) decides) ∙ h))
 
 -- one field, and then the others
 pub small_split : (is is' : List Tree) (fs : List plain.Field) (f : plain.Field) (more : List plain.Field) (x : Tree) → fs ≡ f ∷ more → is' ≡ is → x ≡ f.variable

@@ -6,9 +6,6 @@ pub mod Stages
 pub mod Agreeing
 pub mod Sorts
 pub mod Smalls
-pub mod Findings
-pub mod Nestings
-pub mod Held
 pub mod Frames
 pub mod Members
 pub mod Positive

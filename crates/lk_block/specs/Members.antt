@@ -11,10 +11,6 @@ abbrev pub own_name : List Level → Tree → Option Name
 own_name us (const T ls) = if is_same_tree (const T ls) (const T us) then Some T else None
 own_name us _ = None
 
-abbrev pub named_at : Contents → Option ℕ → Option Name
-named_at c (Some n) = Some (name_at c n)
-named_at c None = None
-
 abbrev pub member_at : Contents → Option Member → Option (Name × List Tree)
 member_at c None = None
 member_at c (Some m) = Some (name_at c m.name, map (tree_at c) m.indices.items)

@@ -12,7 +12,6 @@ ghost use Rattle.lk_block.specs.Parts.{lists_at, AreListsIn};
 ghost use Rattle.lk_block.specs.Shapes.{constructor_shape_at, type_shape_at, AreTreesIn, IsConstructorShapeIn, IsTypeShapeIn};
 ghost use Rattle.lk_block.specs.Constructors.{result_form, rest_form, constructor_form, type_form};
 
-use crate::counts::names_equal;
 use crate::fields::fields;
 use crate::frame::Frame;
 use crate::members::{Member, as_member};
@@ -22,6 +21,7 @@ use lk_ask::asks::Asks;
 use lk_ask::stop::Stop;
 use lk_declaration::asking::form_of;
 use lk_env::unit::{BlockType, Constructor};
+use lk_lists::names::names_equal;
 use lk_store::terms::Terms;
 use lk_tree::rule::Rule;
 use std::alloc::Global;

@@ -10,18 +10,8 @@ ghost use Rattle.lk_inductive.specs.BlockSteps.{same_names, ctor_agrees, ctors_a
 ghost use Rattle.lk_block.specs.Counts.{type_agrees};
 
 use lk_env::unit::{Block, BlockType, Constructor};
+use lk_lists::names::names_equal;
 use lk_store::terms::Terms;
-
-/// Whether two names are equal.
-#[tactic(auto, using(crate::proofs::Counted::name_decides))]
-pub fn names_equal<T: Terms>(terms: &T, name: u64, other: u64) -> bool
-    requires name_in { name < length (T.contents terms.now).names }
-    requires other_in { other < length (T.contents terms.now).names }
-    ensures { result ≡ same_name (name_at (T.contents terms.now) name)
-        (name_at (T.contents terms.now) other) }
-{
-    terms.same_name(name, other)
-}
 
 /// Whether two lists of names are equal.
 fn names_agree<T: Terms>(terms: &T, first: &[u64], second: &[u64]) -> bool

@@ -10,7 +10,6 @@ ghost use Rattle.lk_block.specs.Fields.{kind_form, field_form, next_field};
 
 use crate::asking::pi_of;
 use crate::frame::Frame;
-use crate::numbers::{keep, number_after};
 use crate::positive::walk;
 use crate::shape::{Field, FieldKind};
 use crate::telescope::open_local;
@@ -18,6 +17,7 @@ use lk_ask::asks::Asks;
 use lk_ask::stop::Stop;
 use lk_declaration::asking::{is_at_most, sort_of};
 use lk_level_order::zero::is_zero;
+use lk_lists::numbers::{keep, number_after};
 use lk_tree::rule::Rule;
 use std::alloc::Global;
 

@@ -11,14 +11,11 @@ mod fields;
 mod frame;
 pub mod laws;
 mod members;
-pub mod nested;
-pub mod numbers;
 mod over;
 pub mod parameters;
 mod positive;
 pub mod shape;
 pub mod sorts;
-pub mod spines;
 mod telescope;
 pub mod types;
 

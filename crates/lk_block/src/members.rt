@@ -8,13 +8,14 @@ ghost use Rattle.lk_env.specs.Units.{IsTypeIn};
 ghost use Rattle.lk_mentions.specs.Names.{names_at};
 ghost use Rattle.lk_inductive.specs.BlockSteps.{after_params, mention_none, is_listed, plain_indices, as_member};
 ghost use Rattle.lk_block.specs.Frames.{listed_at, frame_at, IsFrameIn};
-ghost use Rattle.lk_block.specs.Members.{own_name, named_at, member_at, IsMemberIn};
+ghost use Rattle.lk_lists.specs.Names.{named_at};
+ghost use Rattle.lk_block.specs.Members.{own_name, member_at, IsMemberIn};
 
-use crate::counts::names_equal;
 use crate::frame::Frame;
 use lk_ask::asks::Asks;
 use lk_ask::building::build;
 use lk_env::unit::BlockType;
+use lk_lists::names::names_equal;
 use lk_mentions::names::Names;
 use lk_mentions::part::Met;
 use lk_mentions::walk::is_clear;

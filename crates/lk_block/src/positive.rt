@@ -15,12 +15,12 @@ ghost use Rattle.lk_block.specs.Positive.{kind_with, member_step, under_step, in
 
 use crate::frame::Frame;
 use crate::members::{Member, as_member};
-use crate::numbers::keep;
 use crate::shape::{FieldKind, Recursion};
 use crate::telescope::open_local;
 use lk_ask::asks::Asks;
 use lk_ask::stop::Stop;
 use lk_declaration::asking::form_of;
+use lk_lists::numbers::keep;
 use lk_mentions::names::Names;
 use lk_mentions::walk::mentions;
 use lk_store::memory::NoMemory;

@@ -9,10 +9,10 @@ ghost use Rattle.lk_declaration.specs.Courses.{ComesTo};
 ghost use Rattle.lk_block.specs.Forms.{local_form};
 
 use crate::asking::pi_of;
-use crate::numbers::keep;
 use lk_ask::asks::Asks;
 use lk_ask::building::{build, open};
 use lk_ask::stop::Stop;
+use lk_lists::numbers::keep;
 use lk_store::memory::NoMemory;
 use lk_store::node::Node;
 use std::alloc::Global;

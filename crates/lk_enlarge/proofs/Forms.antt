@@ -7,13 +7,13 @@ use Rattle.lk_plain.specs.Program.{Program, done, ◌>>=◌}
 use Rattle.lk_inductive.specs.BlockSteps.{as_level}
 use Rattle.lk_inductive.specs.Enlarged.{Aux, Setting}
 use Rattle.lk_inductive.specs.Nested.{at_args, stated_pis, ctors_at, aux_of, others_of, family_of, other_count, aux_applied, met}
-use Rattle.lk_nested.proofs.Pasts.{bind_ext, bind_assoc}
+use Rattle.lk_auxiliary.proofs.Pasts.{bind_ext, bind_assoc}
 use Rattle.std.specs.Prelude.{nat_le}
 use Rattle.lk_tree.specs.declared.rule.Rule.TheVariants.{NestedForm}
 use Rattle.lk_questions.specs.Steps.{given}
-use Rattle.lk_enlarge.specs.Made.{made_form}
-use Rattle.lk_enlarge.specs.Ends.{end_form}
-use Rattle.lk_enlarge.specs.Parts.{parts_form, aux_with, aux_form, other_auxs, more_others, family_form}
+use Rattle.lk_auxiliary.specs.Made.{made_form}
+use Rattle.lk_auxiliary.specs.Ends.{end_form}
+use Rattle.lk_auxiliary.specs.Parts.{parts_form, aux_with, aux_form, other_auxs, more_others, family_form}
 
 module _ (s : Setting) (ls : List Level) (bs : List Tree) (c : Name) (t : BlockType) where
   with_ctors : Tree → List Tree → Level → Program Aux

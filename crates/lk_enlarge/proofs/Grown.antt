@@ -13,11 +13,11 @@ use Rattle.lk_nested.specs.Joined.{meets, nests, AreMet, occurrences}
 use Rattle.lk_nested.specs.Pairs.{pair_at, pairs_at, IsPairIn, ArePairsIn}
 use Rattle.lk_nested.specs.Swaps.{pairs-steady, pairs-known}
 use Rattle.lk_nested.specs.Unmet.{first_unmet}
-use Rattle.lk_enlarge.specs.declared.setting.Setting.{Setting}
-use Rattle.lk_enlarge.specs.declared.auxiliary.Auxiliary.{Auxiliary}
-use Rattle.lk_enlarge.specs.Auxiliaries.{auxs_at, IsAuxiliaryIn}
-use Rattle.lk_enlarge.specs.Settings.{setting_at, IsSettingIn}
-use Rattle.lk_enlarge.proofs.Others.{auxs_stay}
+use Rattle.lk_auxiliary.specs.declared.setting.Setting.{Setting}
+use Rattle.lk_auxiliary.specs.declared.auxiliary.Auxiliary.{Auxiliary}
+use Rattle.lk_auxiliary.specs.Auxiliaries.{auxs_at, IsAuxiliaryIn}
+use Rattle.lk_auxiliary.specs.Settings.{setting_at, IsSettingIn}
+use Rattle.lk_auxiliary.proofs.Others.{auxs_stay}
 
 module _ (c d : Contents) (x : Extends c d) where
   module _ (s : Setting) (h : IsSettingIn c s) where

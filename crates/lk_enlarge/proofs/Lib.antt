@@ -1,11 +1,4 @@
-pub mod Instances
-pub mod Steady
-pub mod PartsMade
-pub mod Families
 pub mod Forms
-pub mod Others
-pub mod Numbers
-pub mod MadeParts
 pub mod Occurring
 pub mod Meetings
 pub mod Unmets

@@ -7,7 +7,7 @@ use Rattle.lk_rulebook.specs.Place.{Place}
 use Rattle.lk_inductive.specs.Enlarged.{Aux, Setting}
 use Rattle.lk_ask.specs.declared.stop.Stop.{Stop}
 use Rattle.lk_ask.specs.declared.stop.Stop.TheVariants.{No, Spent, NoMemory}
-use Rattle.lk_block.specs.Findings.{found, FindsNothing}
+use Rattle.lk_nested.specs.Findings.{found, FindsNothing}
 use Rattle.lk_nested.proofs.Joining.{goes, still_met, walk_is}
 use Rattle.lk_nested.proofs.Meeting.{meeting}
 use Rattle.lk_nested.proofs.Thens.{then_found}

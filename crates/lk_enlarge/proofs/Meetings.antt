@@ -12,10 +12,10 @@ use Rattle.lk_inductive.specs.Nested.{may_nest, aux_at, aux_applied, met}
 use Rattle.lk_ask.specs.declared.stop.Stop.{Stop}
 use Rattle.lk_ask.specs.declared.stop.Stop.TheVariants.{No, Spent, NoMemory}
 use Rattle.lk_declaration.specs.Courses.{Settles}
-use Rattle.lk_block.specs.Findings.{found, refused, finding, Finds}
+use Rattle.lk_nested.specs.Findings.{found, refused, finding, Finds}
 use Rattle.lk_nested.specs.Occurrences.{test_at, is_occurrence}
 use Rattle.lk_nested.specs.Joined.{meets_by, meets}
-use Rattle.lk_enlarge.specs.Made.{made_form}
+use Rattle.lk_auxiliary.specs.Made.{made_form}
 use Rattle.lk_enlarge.specs.Met.{IsMadeFor, IsNumbered}
 use Rattle.lk_enlarge.proofs.Forms.{made_is}
 use Rattle.lk_enlarge.proofs.Occurring.{Occurs, occurring}

@@ -13,9 +13,9 @@ use Rattle.lk_inductive.specs.Block.{domain}
 use Rattle.lk_inductive.specs.Enlarged.{Aux, Setting}
 use Rattle.lk_inductive.specs.Nested.{nest, nest_past}
 use Rattle.lk_inductive.specs.Recursors.{number, pis}
-use Rattle.lk_block.proofs.Counted.{none_left}
-use Rattle.lk_block.specs.Findings.{found, finding, FindsNothing}
-use Rattle.lk_nested.proofs.Pasts.{bind_ext, bind_assoc, bind_done}
+use Rattle.lk_lists.proofs.Lists.{none_left}
+use Rattle.lk_nested.specs.Findings.{found, finding, FindsNothing}
+use Rattle.lk_auxiliary.proofs.Pasts.{bind_ext, bind_assoc, bind_done}
 use Rattle.lk_nested.proofs.Thens.{then_found, bind_found}
 use Rattle.lk_nested.specs.Joined.{nests}
 use Rattle.lk_enlarge.specs.Opened.{past_local, past_locals, nests_past}

@@ -8,16 +8,16 @@ use Rattle.lk_ask.specs.declared.stop.Stop.{Stop}
 use Rattle.lk_ask.specs.declared.stop.Stop.TheVariants.{No, Spent, NoMemory}
 use Rattle.lk_inductive.specs.Enlarged.{Aux, Setting}
 use Rattle.lk_inductive.specs.Nested.{own_ctor, own_ctors}
-use Rattle.lk_block.specs.Findings.{Finding, found, refused, asking, finding, FindsNothing}
+use Rattle.lk_nested.specs.Findings.{Finding, found, refused, asking, finding, FindsNothing}
 use Rattle.lk_nested.proofs.Thens.{then_found, bind_found, then_ext, then_assoc}
 use Rattle.lk_nested.specs.Joined.{AreMet}
 use Rattle.lk_env.specs.declared.unit.Constructor.{Constructor}
 use Rattle.lk_env.specs.Units.{constructor_at, IsConstructorIn}
 use Rattle.lk_store.specs.Contents.{Contents, Extends}
-use Rattle.lk_block.proofs.Stays.{constructor_stays, names_in_stay}
+use Rattle.lk_lists.proofs.Stays.{constructor_stays, names_in_stay}
 use Rattle.lk_enlarge.specs.Owns.{owns, all_owns}
-use Rattle.lk_enlarge.specs.declared.setting.Setting.{Setting as CodeSetting}
-use Rattle.lk_enlarge.specs.Settings.{setting_at, IsSettingIn}
+use Rattle.lk_auxiliary.specs.declared.setting.Setting.{Setting as CodeSetting}
+use Rattle.lk_auxiliary.specs.Settings.{setting_at, IsSettingIn}
 use Rattle.lk_enlarge.proofs.Grown.{setting_stays}
 
 module _ (w : Place) (s : Setting) where

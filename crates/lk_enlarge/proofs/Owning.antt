@@ -9,8 +9,8 @@ use Rattle.lk_ask.specs.declared.stop.Stop.{Stop}
 use Rattle.lk_ask.specs.declared.stop.Stop.TheVariants.{No, Spent, NoMemory}
 use Rattle.lk_inductive.specs.Enlarged.{Aux, Setting}
 use Rattle.lk_inductive.specs.Nested.{has_pis, holds_nested, nest_past, held_ctor, own_ctors}
-use Rattle.lk_block.specs.Findings.{found, refused, finding, FindsNothing}
-use Rattle.lk_block.specs.Nestings.{nested_in}
+use Rattle.lk_nested.specs.Findings.{found, refused, finding, FindsNothing}
+use Rattle.lk_nested.specs.Nestings.{nested_in}
 use Rattle.lk_nested.proofs.Thens.{then_found, bind_found}
 use Rattle.lk_enlarge.specs.Opened.{nests_past}
 use Rattle.lk_enlarge.specs.Owns.{typed, held, owns, all_owns, with_ctors, type_owns}

@@ -6,7 +6,7 @@ use Rattle.lk_rulebook.specs.SameTree.{is_same_tree}
 use Rattle.lk_inductive.specs.BlockSteps.{is_among}
 use Rattle.lk_nested.specs.Occurrences.{Test, passes, occurs, fails, test_at, is_occurrence}
 use Rattle.lk_nested.specs.Unmet.{First, nothing, new, refused_by, first_of, by_test, first_unmet}
-use Rattle.lk_enlarge.proofs.Numbers.{tree_decides}
+use Rattle.lk_inductive.proofs.Among.{tree_decides}
 
 abbrev pub fresh : Bool → ℕ
 fresh true = 0

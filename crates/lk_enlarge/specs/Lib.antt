@@ -1,10 +1,3 @@
-pub mod Naming
-pub mod Places
-pub mod Auxiliaries
-pub mod Ends
-pub mod Parts
-pub mod Settings
-pub mod Made
 pub mod Met
 pub mod Opened
 pub mod Owns

@@ -8,7 +8,7 @@ use Rattle.lk_inductive.specs.Nested.{aux_at}
 use Rattle.lk_ask.specs.declared.stop.Stop.{Stop}
 use Rattle.lk_declaration.specs.Courses.{Settles}
 use Rattle.lk_nested.specs.Occurrences.{occurs, test_at}
-use Rattle.lk_enlarge.specs.Made.{made_form}
+use Rattle.lk_auxiliary.specs.Made.{made_form}
 
 -- of the type that its test tells
 abbrev pub IsMadeFor : {X : Type 0} → Place → Setting → Tree → List Tree → List Aux → (X → Tree × List Aux) → Result X Stop → Type 0

@@ -8,7 +8,7 @@ use Rattle.lk_plain.specs.Program.{Program, done, refuse, ◌>>=◌}
 use Rattle.lk_inductive.specs.Enlarged.{Aux, Setting}
 use Rattle.lk_inductive.specs.Nested.{nest_past}
 use Rattle.lk_inductive.specs.Recursors.{number}
-use Rattle.lk_block.specs.Findings.{Finding, finding}
+use Rattle.lk_nested.specs.Findings.{Finding, finding}
 
 -- the parameter's Local with the stated domain, and the body, opened with the parameter
 abbrev pub past_local : Tree → Tree → Program (Tree × Tree)

@@ -5,7 +5,7 @@ use Rattle.lk_rulebook.specs.Place.{Place, Ctor, BlockType}
 use Rattle.lk_plain.specs.Program.{Program, done, ◌>>=◌}
 use Rattle.lk_inductive.specs.Enlarged.{Aux, Setting}
 use Rattle.lk_inductive.specs.Nested.{held_ctor, own_ctor, own_ctors}
-use Rattle.lk_block.specs.Findings.{Finding, finding}
+use Rattle.lk_nested.specs.Findings.{Finding, finding}
 
 -- with another type
 abbrev pub typed : Ctor → Tree → Ctor

@@ -1,20 +1,9 @@
-//! A block with nested occurrences is made larger here: each occurrence gets an auxiliary type, which is what an earlier type
-//! becomes at the occurrence's levels and arguments, with the others of that type's block. So far each occurrence in one tree is
-//! replaced by its auxiliary type (`nest`), and so each in the constructors of one type of the block (`own_type`). The loop over
-//! a block's types, the auxiliary constructors, and the larger block that comes of it, are still to be written.
+//! A block with nested occurrences is made larger here: each occurrence gets an auxiliary type. So far each occurrence in one
+//! tree is replaced by its auxiliary type (`nest`), and so each in the constructors of one type of the block (`own_type`). The
+//! loop over a block's types, the auxiliary constructors, and the larger block that comes of it, are still to be written.
 #![tactic(auto)]
 
-pub mod among;
-pub mod auxiliary;
-pub mod ends;
-pub mod family;
-pub mod instance;
-pub mod levels;
-pub mod made;
 pub mod meet;
-pub mod naming;
 pub mod nest;
 pub mod own;
-pub mod parts;
 pub mod past;
-pub mod setting;

@@ -1,20 +1,20 @@
 //! A nested occurrence that is met.
 
 ghost use Rattle.std.specs.Prelude.{◌≡◌, ◌<◌, true, length, map, All, IfOk, OnOk};
-ghost use Rattle.lk_block.specs.Findings.{Finds};
+ghost use Rattle.lk_nested.specs.Findings.{Finds};
 ghost use Rattle.lk_store.specs.Contents.{tree_at, Extends};
 ghost use Rattle.lk_mentions.specs.Names.{names_at};
 ghost use Rattle.lk_enlarge.specs.Met.{IsMadeFor};
 ghost use Rattle.lk_nested.specs.Joined.{meets};
 ghost use Rattle.lk_nested.specs.Occurrences.{is_occurrence, test_at};
-ghost use Rattle.lk_enlarge.specs.Auxiliaries.{auxs_at, IsAuxiliaryIn};
-ghost use Rattle.lk_enlarge.specs.Settings.{setting_at, IsSettingIn};
+ghost use Rattle.lk_auxiliary.specs.Auxiliaries.{auxs_at, IsAuxiliaryIn};
+ghost use Rattle.lk_auxiliary.specs.Settings.{setting_at, IsSettingIn};
 
-use crate::among::{auxiliary_applied, number_of};
-use crate::auxiliary::Auxiliary;
-use crate::made::make;
-use crate::setting::Setting;
 use lk_ask::stop::Stop;
+use lk_auxiliary::among::{auxiliary_applied, number_of};
+use lk_auxiliary::auxiliary::Auxiliary;
+use lk_auxiliary::made::make;
+use lk_auxiliary::setting::Setting;
 use lk_family::Families;
 use lk_nested::foreign::may_nest;
 use lk_spine::{args, head};

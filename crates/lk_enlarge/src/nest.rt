@@ -1,17 +1,17 @@
 //! Each occurrence in a tree replaced by its auxiliary type.
 
 ghost use Rattle.std.specs.Prelude.{◌≡◌, ◌<◌, length, All, IfOk, OnOk};
-ghost use Rattle.lk_block.specs.Findings.{Finds};
+ghost use Rattle.lk_nested.specs.Findings.{Finds};
 ghost use Rattle.lk_store.specs.Contents.{tree_at, Extends};
 ghost use Rattle.lk_nested.specs.Joined.{nests, AreMet};
 ghost use Rattle.lk_nested.specs.Pairs.{pairs_at, ArePairsIn};
-ghost use Rattle.lk_enlarge.specs.Auxiliaries.{auxs_at, IsAuxiliaryIn};
-ghost use Rattle.lk_enlarge.specs.Settings.{setting_at, IsSettingIn};
+ghost use Rattle.lk_auxiliary.specs.Auxiliaries.{auxs_at, IsAuxiliaryIn};
+ghost use Rattle.lk_auxiliary.specs.Settings.{setting_at, IsSettingIn};
 
-use crate::auxiliary::Auxiliary;
 use crate::meet::meet;
-use crate::setting::Setting;
 use lk_ask::stop::Stop;
+use lk_auxiliary::auxiliary::Auxiliary;
+use lk_auxiliary::setting::Setting;
 use lk_family::Families;
 use lk_nested::swap::{Pair, swap};
 use lk_nested::unmet::find_unmet;

@@ -1,28 +1,28 @@
 //! The stated constructors of a type, with an auxiliary type in the place of each occurrence.
 
 ghost use Rattle.std.specs.Prelude.{◌≡◌, ◌<◌, true, length, map, All, IfOk, OnOk};
-ghost use Rattle.lk_block.specs.Findings.{Finds};
-ghost use Rattle.lk_block.specs.Nestings.{nested_in};
+ghost use Rattle.lk_nested.specs.Findings.{Finds};
+ghost use Rattle.lk_nested.specs.Nestings.{nested_in};
 ghost use Rattle.lk_env.specs.Units.{constructor_at, type_at, IsConstructorIn, IsTypeIn};
 ghost use Rattle.lk_mentions.specs.Names.{names_at};
 ghost use Rattle.lk_store.specs.Contents.{Contents, tree_at, Extends};
 ghost use Rattle.lk_nested.specs.Joined.{AreMet};
 ghost use Rattle.lk_nested.specs.Pairs.{pairs_at, ArePairsIn};
-ghost use Rattle.lk_enlarge.specs.Auxiliaries.{auxs_at, IsAuxiliaryIn};
+ghost use Rattle.lk_auxiliary.specs.Auxiliaries.{auxs_at, IsAuxiliaryIn};
 ghost use Rattle.lk_enlarge.specs.Owns.{typed, held, owns, all_owns, with_ctors, type_owns};
-ghost use Rattle.lk_enlarge.specs.Settings.{setting_at, IsSettingIn};
+ghost use Rattle.lk_auxiliary.specs.Settings.{setting_at, IsSettingIn};
 
-use crate::auxiliary::Auxiliary;
 use crate::past::nest_past;
-use crate::setting::Setting;
 use lk_ask::asks::Asks;
 use lk_ask::stop::Stop;
-use lk_block::nested::{Walked, holds_nested};
+use lk_auxiliary::auxiliary::Auxiliary;
+use lk_auxiliary::past::has_pis;
+use lk_auxiliary::setting::Setting;
 use lk_env::unit::{BlockType, Constructor};
 use lk_family::Families;
 use lk_family::copies::copy_constructor;
 use lk_mentions::names::Names;
-use lk_nested::past::has_pis;
+use lk_nested::nested::{Walked, holds_nested};
 use lk_nested::swap::Pair;
 use lk_rows::table::Table;
 use lk_store::memory::NoMemory;

@@ -3,21 +3,21 @@
 ghost use Rattle.std.specs.Prelude.{◌≡◌, ◌<◌, length, map, All, IfOk, OnOk};
 ghost use Rattle.lk_tree.specs.Tree.{pi};
 ghost use Rattle.lk_tree.specs.Bind.{close as closed};
-ghost use Rattle.lk_block.specs.Findings.{Finds};
+ghost use Rattle.lk_nested.specs.Findings.{Finds};
 ghost use Rattle.lk_store.specs.Contents.{tree_at, Extends, IsTree};
 ghost use Rattle.lk_declaration.specs.Courses.{Settles};
 ghost use Rattle.lk_inductive.specs.Block.{domain};
 ghost use Rattle.lk_inductive.specs.Recursors.{number, pis};
 ghost use Rattle.lk_nested.specs.Joined.{AreMet};
 ghost use Rattle.lk_nested.specs.Pairs.{pairs_at, ArePairsIn};
-ghost use Rattle.lk_enlarge.specs.Auxiliaries.{auxs_at, IsAuxiliaryIn};
+ghost use Rattle.lk_auxiliary.specs.Auxiliaries.{auxs_at, IsAuxiliaryIn};
 ghost use Rattle.lk_enlarge.specs.Opened.{past_local, past_locals, nests_past};
-ghost use Rattle.lk_enlarge.specs.Settings.{setting_at, IsSettingIn};
+ghost use Rattle.lk_auxiliary.specs.Settings.{setting_at, IsSettingIn};
 
-use crate::auxiliary::Auxiliary;
 use crate::nest::nest;
-use crate::setting::Setting;
 use lk_ask::stop::Stop;
+use lk_auxiliary::auxiliary::Auxiliary;
+use lk_auxiliary::setting::Setting;
 use lk_family::Families;
 use lk_mentions::pis::head_pi;
 use lk_nested::swap::Pair;

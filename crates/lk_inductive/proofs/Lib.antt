@@ -1,4 +1,5 @@
 pub mod After
+pub mod Among
 pub mod Enough
 pub mod FlatBlocks
 pub mod FlatParts

@@ -14,7 +14,7 @@ use Rattle.lk_plain.specs.Program.{Program, done, look, ◌>>=◌}
 use Rattle.lk_inductive.specs.BlockSteps.{mention_none, is_among}
 use Rattle.lk_inductive.specs.Enlarged.{Aux, Setting}
 use Rattle.lk_inductive.specs.Nested.{replaced, at_kind, at_head, nest}
-use Rattle.lk_block.specs.Findings.{Finding, found, refused, asking, looked, finding}
+use Rattle.lk_nested.specs.Findings.{Finding, found, refused, asking, looked, finding}
 use Rattle.lk_nested.proofs.Thens.{then_found, bind_found, then_ext, then_assoc}
 use Rattle.lk_nested.specs.Swaps.{instead, or_built, swapped}
 use Rattle.lk_nested.specs.Occurrences.{Test, passes, occurs, fails, kind_test, entry_test, head_test, test_at, is_occurrence}

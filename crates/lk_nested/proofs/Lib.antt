@@ -2,6 +2,9 @@ pub mod Thens
 pub mod Meeting
 pub mod Joining
 pub mod Tests
-pub mod Pasts
 pub mod Only
 pub mod Swapping
+pub mod Findings
+pub mod Applied
+pub mod Walking
+pub mod Flats

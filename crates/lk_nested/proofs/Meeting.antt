@@ -13,7 +13,7 @@ use Rattle.lk_questions.specs.Steps.{given}
 use Rattle.lk_inductive.specs.BlockSteps.{as_level}
 use Rattle.lk_inductive.specs.Enlarged.{Aux, Setting}
 use Rattle.lk_inductive.specs.Nested.{may_nest, same_aux, aux_at, at_args, stated_pis, ctors_at, aux_of, others_of, family_of, other_count, aux_applied, met, replaced}
-use Rattle.lk_block.specs.Findings.{Finding, found, finding}
+use Rattle.lk_nested.specs.Findings.{Finding, found, finding}
 use Rattle.lk_nested.proofs.Thens.{bind_found, came_of}
 use Rattle.lk_nested.specs.Occurrences.{Test, passes, occurs, fails, test_at}
 use Rattle.lk_nested.specs.Joined.{meets_by, meets}

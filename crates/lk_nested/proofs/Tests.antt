@@ -13,8 +13,8 @@ use Rattle.lk_inductive.specs.Nested.{holds_kind, holds_head}
 use Rattle.lk_ask.specs.declared.stop.Stop.{Stop}
 use Rattle.lk_ask.specs.declared.stop.Stop.TheVariants.{No, Spent, NoMemory}
 use Rattle.lk_store.specs.Contents.{Contents, tree_at}
-use Rattle.lk_block.specs.Findings.{Finding, found, refused, looked, finding}
-use Rattle.lk_block.specs.Nestings.{IsHeadTest, function_of}
+use Rattle.lk_nested.specs.Findings.{Finding, found, refused, looked, finding}
+use Rattle.lk_nested.specs.Nestings.{IsHeadTest, function_of}
 use Rattle.lk_nested.specs.Occurrences.{Test, passes, occurs, fails, kind_test, entry_test, head_test, test_at, is_occurrence}
 use Rattle.lk_nested.specs.Unmet.{First, nothing, new, refused_by, by_test, first_unmet}
 use Rattle.lk_mentions.specs.declared.part.Met.{Met}

@@ -5,7 +5,7 @@ use Rattle.lk_tree.specs.Spine.{args}
 use Rattle.lk_rulebook.specs.Place.{Place}
 use Rattle.lk_inductive.specs.Enlarged.{Aux, Setting}
 use Rattle.lk_inductive.specs.Nested.{replaced, nest}
-use Rattle.lk_block.specs.Findings.{Finding, found, refused, asking, finding}
+use Rattle.lk_nested.specs.Findings.{Finding, found, refused, asking, finding}
 use Rattle.lk_nested.specs.Occurrences.{Test, passes, occurs, fails, test_at, is_occurrence}
 
 -- what takes the place of an occurrence, and the auxiliary types then

@@ -6,5 +6,7 @@ pub mod Joined
 pub mod Halts
 pub mod Sights
 pub mod HeldFirsts
-pub mod Past
 pub mod Foreign
+pub mod Findings
+pub mod Nestings
+pub mod Held

@@ -6,7 +6,7 @@ use Rattle.lk_store.specs.Contents.{Contents, tree_at}
 use Rattle.lk_mentions.specs.declared.part.Met.{Met}
 use Rattle.lk_mentions.specs.Names.{names_at}
 use Rattle.lk_mentions.specs.Walks.{AreClear}
-use Rattle.lk_block.specs.Nestings.{AreSpines}
+use Rattle.lk_nested.specs.Nestings.{AreSpines}
 use Rattle.lk_nested.specs.declared.unmet.Seen.{Seen}
 use Rattle.lk_nested.specs.Unmet.{nothing, first_unmet}
 

@@ -1,9 +1,10 @@
-//! Nested occurrences of a block's types in the terms of a store: the first one that is not known, and the terms in which
-//! others stand in their place.
+//! Nested occurrences of a block's types in the terms of a store: whether there is one, the first one that is not known, and
+//! the terms in which others stand in their place.
 #![tactic(auto)]
 
 pub mod foreign;
 pub mod halt;
-pub mod past;
+pub mod nested;
+pub mod spines;
 pub mod swap;
 pub mod unmet;

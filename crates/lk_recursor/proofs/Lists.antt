@@ -12,8 +12,8 @@ use Rattle.lk_inductive.specs.Recursors.{number, pis, lams, arrows}
 use Rattle.lk_recursor.specs.declared.binders.Binder.{Binder}
 use Rattle.lk_recursor.specs.declared.binders.Binder.TheVariants.{Pi, Lam}
 use Rattle.lk_recursor.specs.Binders.{bind, bound_by}
-use Rattle.lk_block.proofs.Counted.{none_left}
-pub use Rattle.lk_block.proofs.FromTheEnd.{all_last, all_others}
+use Rattle.lk_lists.proofs.Lists.{none_left}
+pub use Rattle.lk_lists.proofs.Lists.{all_last, all_others}
 
 pub pis-append : (xs ys : List Tree) (e : Tree) → pis (xs ++ ys) e ≡ pis xs (pis ys e)
 pis-append [] ys e = refl

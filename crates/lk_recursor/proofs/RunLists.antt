@@ -9,7 +9,7 @@ use Rattle.lk_recursor.specs.declared.binders.Binder.{Binder}
 use Rattle.lk_recursor.specs.declared.binders.Binder.TheVariants.{Pi, Lam}
 use Rattle.lk_recursor.specs.Binders.{bind, bound_by, AreRun}
 use Rattle.lk_recursor.specs.Runs.{close_run_at}
-use Rattle.lk_block.proofs.Counted.{none_left}
+use Rattle.lk_lists.proofs.Lists.{none_left}
 use Rattle.lk_recursor.proofs.Lists.{bound-none}
 use Rattle.lk_recursor.proofs.Closed.{close_run_at-none, close_run_at-next}
 

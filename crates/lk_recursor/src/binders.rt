@@ -11,7 +11,7 @@ ghost use Rattle.lk_recursor.specs.Binders.{bind, bound_by, AreRun};
 ghost use Rattle.lk_recursor.specs.Runs.{close_run_at};
 
 use crate::runs::{Run, close_run};
-use lk_block::numbers::number_after;
+use lk_lists::numbers::number_after;
 use lk_store::memory::NoMemory;
 use lk_store::node::Node;
 use lk_store::terms::Terms;

@@ -11,9 +11,9 @@ ghost use Rattle.lk_block.specs.Shapes.{constructor_shape_at, IsConstructorShape
 ghost use Rattle.lk_recursor.specs.Comparisons.{stated_of, own_of, IsComparison};
 
 use crate::own::Comparison;
-use lk_block::counts::names_equal;
 use lk_block::shape::ConstructorShape;
 use lk_env::unit::RecursorRule;
+use lk_lists::names::names_equal;
 use lk_store::terms::Terms;
 
 /// Whether a rule is for this constructor, with as many fields.

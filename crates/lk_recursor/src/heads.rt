@@ -10,8 +10,8 @@ ghost use Rattle.lk_block.specs.Shapes.{type_shape_at, shape_at, IsTypeShapeIn, 
 ghost use Rattle.lk_recursor.specs.Fronts.{AreHeads};
 
 use crate::binders::{Binder, locals_of, over_locals};
-use lk_block::counts::names_equal;
 use lk_block::shape::{Shape, TypeShape};
+use lk_lists::names::names_equal;
 use lk_spine::apply;
 use lk_store::memory::NoMemory;
 use lk_store::node::{ListNode, Node};

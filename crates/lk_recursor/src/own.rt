@@ -10,9 +10,9 @@ ghost use Rattle.lk_recursor.specs.Comparisons.{own_at, AreNames, IsOwnRecursor}
 
 use crate::front::Front;
 use crate::levels::recursor_name;
-use lk_block::counts::names_equal;
 use lk_block::shape::{ConstructorShape, Shape, TypeShape};
 use lk_env::unit::Recursor;
+use lk_lists::names::names_equal;
 use lk_store::memory::NoMemory;
 use lk_store::terms::Terms;
 use std::alloc::Global;

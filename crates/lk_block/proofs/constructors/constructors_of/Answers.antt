@@ -11,7 +11,7 @@ use Rattle.lk_env.specs.Units.{constructor_at, IsConstructorIn}
 use Rattle.lk_block.specs.Frames.{frame_at}
 use Rattle.lk_block.specs.Shapes.{constructor_shape_at, IsConstructorShapeIn}
 use Rattle.lk_block.specs.Constructors.{constructor_form, constructors_form}
-use Rattle.lk_block.proofs.Counted.{rest_have, first_has, none_left}
+use Rattle.lk_lists.proofs.Lists.{rest_have, first_has, none_left}
 use Rattle.lk_block.proofs.Frames.{frame-steady}
 use Rattle.lk_declaration.proofs.Leading.{leads_here, leads_on, leads_stop, leads_end}
 use Rattle.lk_block.proofs.Shaping.{constructor-steady, constructors-known, each-push}

@@ -1,7 +1,8 @@
 use Rattle.std.proofs.Common.{length, map, ap, sym, ◌∙◌, arith}
 use Rattle.lk_store.specs.Contents.{name_at}
 use Rattle.lk_env.specs.Units.{constructor_at, IsConstructorIn}
-use Rattle.lk_block.proofs.Counted.{rest_have, constructors_next}
+use Rattle.lk_lists.proofs.Lists.{rest_have}
+use Rattle.lk_block.proofs.Agreed.{constructors_next}
 use Rattle.lk_block.proofs.counts.constructors_agree.Goals as goal
 
 pub constructors-preserved : goal.constructors-preserved

@@ -1,6 +1,7 @@
 use Rattle.std.proofs.Common.{◌<◌, length, sym, ◌∙◌}
 use Rattle.lk_store.specs.Contents.{name_at}
-use Rattle.lk_block.proofs.Counted.{rest_have, names_next}
+use Rattle.lk_lists.proofs.Lists.{rest_have}
+use Rattle.lk_block.proofs.Agreed.{names_next}
 use Rattle.lk_block.proofs.counts.names_agree.Goals as goal
 
 pub names-preserved : goal.names-preserved

@@ -1,7 +1,8 @@
 use Rattle.std.proofs.Common.{map, sym, ◌∙◌}
 use Rattle.lk_store.specs.Contents.{name_at}
 use Rattle.lk_env.specs.Units.{type_at, IsTypeIn}
-use Rattle.lk_block.proofs.Counted.{rest_have, types_next}
+use Rattle.lk_lists.proofs.Lists.{rest_have}
+use Rattle.lk_block.proofs.Agreed.{types_next}
 use Rattle.lk_block.proofs.counts.types_agree.Goals as goal
 
 pub types-preserved : goal.types-preserved

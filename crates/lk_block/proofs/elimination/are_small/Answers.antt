@@ -8,7 +8,7 @@ use Rattle.lk_store.proofs.Extending.{Extends-trans}
 use Rattle.lk_subst.specs.Numbers.{trees-steady}
 use Rattle.lk_block.specs.Shapes.{field_at, IsFieldIn}
 use Rattle.lk_block.specs.Smalls.{small_form}
-use Rattle.lk_block.proofs.Counted.{rest_have, first_has, none_left}
+use Rattle.lk_lists.proofs.Lists.{rest_have, first_has, none_left}
 use Rattle.lk_declaration.proofs.Leading.{leads_on, leads_stop, leads_end}
 use Rattle.lk_block.proofs.Smallness.{small_split}
 use Rattle.lk_block.proofs.elimination.are_small.Goals as goal

@@ -1,7 +1,7 @@
 use Rattle.std.proofs.Common.{◌<◌, length, ◌∙◌}
 use Rattle.lk_store.specs.Contents.{tree_at}
-use Rattle.lk_block.proofs.Counted.{rest_have}
-use Rattle.lk_block.proofs.Smallness.{among_later}
+use Rattle.lk_lists.proofs.Lists.{rest_have}
+use Rattle.lk_inductive.proofs.Among.{among_later}
 use Rattle.lk_block.proofs.elimination.is_among.Goals as goal
 
 pub others-preserved : goal.others-preserved

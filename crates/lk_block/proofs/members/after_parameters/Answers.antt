@@ -1,7 +1,8 @@
 use Rattle.std.proofs.Common.{◌<◌, length, sym, ◌∙◌}
 use Rattle.lk_store.specs.Contents.{tree_at}
-use Rattle.lk_block.proofs.Counted.{rest_have}
-use Rattle.lk_block.proofs.Arguments.{tree_decides, params_next}
+use Rattle.lk_lists.proofs.Lists.{rest_have}
+use Rattle.lk_inductive.proofs.Among.{tree_decides}
+use Rattle.lk_block.proofs.Arguments.{params_next}
 use Rattle.lk_block.proofs.members.after_parameters.Goals as goal
 
 pub parameters-preserved : goal.parameters-preserved

@@ -4,7 +4,8 @@ use Rattle.lk_inductive.specs.Block.{Frame}
 use Rattle.lk_inductive.specs.BlockSteps.{after_params, plain_indices}
 use Rattle.lk_store.specs.Contents.{name_at, tree_at}
 use Rattle.lk_block.specs.Frames.{frame_at}
-use Rattle.lk_block.specs.Members.{own_name, named_at, member_at}
+use Rattle.lk_lists.specs.Names.{named_at}
+use Rattle.lk_block.specs.Members.{own_name, member_at}
 use Rattle.lk_block.proofs.Frames.{frame-steady}
 use Rattle.lk_block.proofs.Arguments.{member_named}
 use Rattle.lk_block.proofs.members.as_member.Goals as goal

@@ -1,7 +1,7 @@
 use Rattle.std.proofs.Common.{sym, ◌∙◌}
 use Rattle.lk_store.specs.Contents.{name_at}
 use Rattle.lk_env.specs.Units.{IsTypeIn}
-use Rattle.lk_block.proofs.Counted.{rest_have}
+use Rattle.lk_lists.proofs.Lists.{rest_have}
 use Rattle.lk_block.proofs.Arguments.{listed_next}
 use Rattle.lk_block.proofs.members.is_listed.Goals as goal
 

@@ -1,5 +1,5 @@
 use Rattle.std.proofs.Common.{◌<◌, length, sym, ◌∙◌}
-use Rattle.lk_block.proofs.Counted.{rest_have}
+use Rattle.lk_lists.proofs.Lists.{rest_have}
 use Rattle.lk_block.proofs.Arguments.{clear_next}
 use Rattle.lk_block.proofs.members.mention_none.Goals as goal
 

@@ -2,7 +2,7 @@ use Rattle.std.proofs.Common.{◌<◌, length, map, ap, ◌∙◌}
 use Rattle.std.proofs.lemmas.Result.{err_from_is_err_and}
 use Rattle.lk_store.specs.Contents.{tree_at}
 use Rattle.lk_store.proofs.Extending.{Extends-trans}
-use Rattle.lk_block.proofs.Counted.{rest_have, first_has, none_left}
+use Rattle.lk_lists.proofs.Lists.{rest_have, first_has, none_left}
 use Rattle.lk_block.proofs.Overs.{over_next, over_halt, over_end}
 use Rattle.lk_block.proofs.over.over.Goals as goal
 

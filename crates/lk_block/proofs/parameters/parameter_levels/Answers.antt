@@ -2,7 +2,8 @@ use Rattle.std.proofs.Common.{◌<◌, ◌∷◌, length, map, ap, ◌∙◌}
 use Rattle.lk_tree.specs.Tree.{Name, param}
 use Rattle.lk_store.specs.Contents.{name_at, list_at}
 use Rattle.lk_store.proofs.Extending.{Extends-trans}
-use Rattle.lk_block.proofs.FromTheEnd.{all_last, all_others, parameters_next}
+use Rattle.lk_lists.proofs.Lists.{all_last, all_others}
+use Rattle.lk_block.proofs.ParameterLevels.{parameters_next}
 use Rattle.lk_block.proofs.parameters.parameter_levels.Goals as goal
 
 pub names-preserved : goal.names-preserved

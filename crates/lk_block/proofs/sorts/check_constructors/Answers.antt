@@ -7,7 +7,7 @@ use Rattle.lk_store.specs.Contents.{level_at, tree_at}
 use Rattle.lk_store.proofs.Extending.{Extends-trans}
 use Rattle.lk_env.specs.Units.{constructor_at, IsConstructorIn}
 use Rattle.lk_block.specs.Sorts.{constructors_form}
-use Rattle.lk_block.proofs.Counted.{rest_have, first_has, none_left}
+use Rattle.lk_lists.proofs.Lists.{rest_have, first_has, none_left}
 use Rattle.lk_declaration.proofs.Leading.{leads_on, leads_stop, leads_end}
 use Rattle.lk_block.proofs.Sorted.{constructors_split}
 use Rattle.lk_block.proofs.sorts.check_constructors.Goals as goal

@@ -7,7 +7,7 @@ use Rattle.lk_env.specs.Units.{type_at, IsTypeIn}
 use Rattle.lk_subst.specs.Numbers.{trees-steady}
 use Rattle.lk_block.specs.Forms.{next_form}
 use Rattle.lk_block.specs.Parts.{lists_at}
-use Rattle.lk_block.proofs.Counted.{rest_have, first_has, none_left}
+use Rattle.lk_lists.proofs.Lists.{rest_have, first_has, none_left}
 use Rattle.lk_block.proofs.Firsts.{form_kept, lists-known, lists-push, types_next, types_halt, types_end}
 use Rattle.lk_block.proofs.types.more_types.Goals as goal
 

@@ -9,9 +9,9 @@ use Rattle.lk_plain.specs.Program.{Program}
 use Rattle.lk_rulebook.specs.Place.{Block, BlockType}
 use Rattle.lk_store.specs.Contents.{name_at, list_at, tree_at}
 use Rattle.lk_tree.specs.Tree.{Tree}
-use Rattle.lk_enlarge.specs.Auxiliaries.{auxs_at}
-use Rattle.lk_enlarge.specs.Made.{made_form}
-use Rattle.lk_enlarge.specs.Settings.{setting_at}
+use Rattle.lk_auxiliary.specs.Auxiliaries.{auxs_at}
+use Rattle.lk_auxiliary.specs.Made.{made_form}
+use Rattle.lk_auxiliary.specs.Settings.{setting_at}
 use Rattle.lk_enlarge.proofs.Occurring.{told_is, some_is}
 use Rattle.lk_enlarge.proofs.meet.make_for.Goals as goal
 

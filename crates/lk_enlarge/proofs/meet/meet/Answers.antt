@@ -3,13 +3,13 @@ use Rattle.lk_tree.specs.Tree.{Tree, const}
 use Rattle.lk_tree.specs.Spine.{apply}
 use Rattle.lk_inductive.specs.Enlarged.{Aux, aux_name}
 use Rattle.lk_inductive.specs.Nested.{may_nest, aux_at}
-use Rattle.lk_block.specs.Findings.{found}
+use Rattle.lk_nested.specs.Findings.{found}
 use Rattle.lk_store.specs.Contents.{tree_at}
-use Rattle.lk_enlarge.specs.Auxiliaries.{auxs_at}
+use Rattle.lk_auxiliary.specs.Auxiliaries.{auxs_at}
 use Rattle.lk_enlarge.specs.Met.{IsMadeFor, IsNumbered}
-use Rattle.lk_enlarge.specs.Settings.{setting_at}
+use Rattle.lk_auxiliary.specs.Settings.{setting_at}
 use Rattle.lk_enlarge.proofs.Meetings.{met_again, met_first}
-use Rattle.lk_enlarge.proofs.Others.{auxs_stay, auxs_known}
+use Rattle.lk_auxiliary.proofs.Others.{auxs_stay, auxs_known}
 use Rattle.lk_enlarge.proofs.meet.meet.Goals as goal
 
 pub returns-in-Some-clause-known : goal.returns-in-Some-clause-known

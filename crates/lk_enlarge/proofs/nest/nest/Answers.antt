@@ -2,7 +2,7 @@ use Rattle.std.proofs.Common.{◌≡◌, ◌<◌, ℕ, List, Option, Some, None,
 use Rattle.std.proofs.lemmas.Result.{err_from_is_err_and}
 use Rattle.lk_tree.specs.Tree.{Tree}
 use Rattle.lk_inductive.specs.Enlarged.{Aux}
-use Rattle.lk_block.specs.Findings.{found, FindsNothing}
+use Rattle.lk_nested.specs.Findings.{found, FindsNothing}
 use Rattle.lk_mentions.specs.Names.{names_at}
 use Rattle.lk_store.specs.Contents.{tree_at}
 use Rattle.lk_store.proofs.Extending.{Extends-trans}
@@ -11,11 +11,11 @@ use Rattle.lk_nested.specs.Joined.{AreMet, occurrences}
 use Rattle.lk_nested.specs.Pairs.{pairs_at}
 use Rattle.lk_nested.specs.Swaps.{swapped, pairs-steady}
 use Rattle.lk_nested.specs.Unmet.{first_unmet}
-use Rattle.lk_enlarge.specs.Auxiliaries.{auxs_at}
-use Rattle.lk_enlarge.specs.Settings.{setting_at}
+use Rattle.lk_auxiliary.specs.Auxiliaries.{auxs_at}
+use Rattle.lk_auxiliary.specs.Settings.{setting_at}
 use Rattle.lk_enlarge.proofs.Grown.{setting_known, first_steady, meets_steady, pushed_are, pushed_known}
 use Rattle.lk_enlarge.proofs.Loops.{CameTo, came_end, came_refused, came_stops, came_on, came_nearer}
-use Rattle.lk_enlarge.proofs.Others.{auxs_stay, auxs_known}
+use Rattle.lk_auxiliary.proofs.Others.{auxs_stay, auxs_known}
 use Rattle.lk_enlarge.proofs.Unmets.{unmet_count, new_occurs}
 use Rattle.lk_enlarge.proofs.nest.nest.Goals as goal
 

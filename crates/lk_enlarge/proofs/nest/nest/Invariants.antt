@@ -2,8 +2,8 @@ use Rattle.std.proofs.Common.{◌≡◌, All}
 use Rattle.lk_store.specs.Contents.{tree_at, Extends}
 use Rattle.lk_nested.specs.Joined.{occurrences}
 use Rattle.lk_nested.specs.Pairs.{pairs_at, ArePairsIn}
-use Rattle.lk_enlarge.specs.Auxiliaries.{auxs_at, IsAuxiliaryIn}
-use Rattle.lk_enlarge.specs.Settings.{setting_at}
+use Rattle.lk_auxiliary.specs.Auxiliaries.{auxs_at, IsAuxiliaryIn}
+use Rattle.lk_auxiliary.specs.Settings.{setting_at}
 use Rattle.lk_enlarge.proofs.Loops.{CameTo}
 use Rattle.lk_enlarge.proofs.Unmets.{unmet_count}
 use Rattle.lk_enlarge.proofs.nest.nest.Given as goal

@@ -2,14 +2,14 @@ use Rattle.std.proofs.Common.{◌≡◌, true, length, sym, ap, ◌∙◌}
 use Rattle.std.proofs.lemmas.List.{length-map}
 use Rattle.std.proofs.lemmas.Result.{err_from_is_err_and}
 use Rattle.lk_rulebook.specs.Place.{Ctor}
-use Rattle.lk_block.specs.Findings.{found}
-use Rattle.lk_block.proofs.Stays.{constructor_stays}
+use Rattle.lk_nested.specs.Findings.{found}
+use Rattle.lk_lists.proofs.Stays.{constructor_stays}
 use Rattle.lk_env.specs.Units.{constructor_at}
 use Rattle.lk_inductive.specs.Nested.{has_pis}
 use Rattle.lk_store.specs.Contents.{tree_at}
-use Rattle.lk_enlarge.specs.Auxiliaries.{auxs_at}
+use Rattle.lk_auxiliary.specs.Auxiliaries.{auxs_at}
 use Rattle.lk_enlarge.specs.Owns.{typed}
-use Rattle.lk_enlarge.specs.Settings.{setting_at}
+use Rattle.lk_auxiliary.specs.Settings.{setting_at}
 use Rattle.lk_enlarge.proofs.Owning.{held_stops, held_found}
 use Rattle.lk_enlarge.proofs.own.held_ctor.Goals as goal
 

@@ -2,11 +2,11 @@ use Rattle.std.proofs.Common.{true, false, List, sym, ap, subst, ◌∙◌}
 use Rattle.std.proofs.lemmas.Result.{err_from_is_err_and}
 use Rattle.lk_rulebook.specs.Place.{Ctor}
 use Rattle.lk_inductive.specs.Enlarged.{Aux}
-use Rattle.lk_block.specs.Findings.{Finds, Finding, found}
+use Rattle.lk_nested.specs.Findings.{Finds, Finding, found}
 use Rattle.lk_env.specs.Units.{constructor_at}
 use Rattle.lk_env.specs.declared.unit.Constructor.{Constructor}
-use Rattle.lk_enlarge.specs.Auxiliaries.{auxs_at}
-use Rattle.lk_enlarge.specs.Settings.{setting_at}
+use Rattle.lk_auxiliary.specs.Auxiliaries.{auxs_at}
+use Rattle.lk_auxiliary.specs.Settings.{setting_at}
 use Rattle.lk_enlarge.proofs.Owning.{own_is, own_stops}
 use Rattle.lk_enlarge.proofs.own.own_ctor.Goals as goal
 

@@ -2,14 +2,14 @@ use Rattle.std.proofs.Common.{◌∷◌, ◌++◌, [], map, refl, sym, ap, subst
 use Rattle.std.proofs.lemmas.List.{map-append}
 use Rattle.std.proofs.lemmas.List.Elements.{All-nil, All-same, All-push, All-weaker}
 use Rattle.std.proofs.lemmas.Result.{err_from_is_err_and}
-use Rattle.lk_block.specs.Findings.{FindsNothing}
-use Rattle.lk_block.proofs.Counted.{rest_have, first_has, none_left}
-use Rattle.lk_block.proofs.Stays.{constructors_stay}
+use Rattle.lk_nested.specs.Findings.{FindsNothing}
+use Rattle.lk_lists.proofs.Lists.{rest_have, first_has, none_left}
+use Rattle.lk_lists.proofs.Stays.{constructors_stay}
 use Rattle.lk_env.specs.Units.{constructor_at, IsConstructorIn}
 use Rattle.lk_store.proofs.Extending.{Extends-trans}
 use Rattle.lk_nested.specs.Pairs.{pairs_at}
-use Rattle.lk_enlarge.specs.Auxiliaries.{auxs_at}
-use Rattle.lk_enlarge.specs.Settings.{setting_at}
+use Rattle.lk_auxiliary.specs.Auxiliaries.{auxs_at}
+use Rattle.lk_auxiliary.specs.Settings.{setting_at}
 use Rattle.lk_enlarge.proofs.Grown.{setting_known}
 use Rattle.lk_enlarge.proofs.Owned.{own_first, own_next, own_stopped, own_end, owns_steady, constructor_known, met_on, met_back}
 use Rattle.lk_enlarge.proofs.own.own_ctors.Goals as goal

@@ -3,8 +3,8 @@ use Rattle.lk_env.specs.Units.{constructor_at, IsConstructorIn}
 use Rattle.lk_store.specs.Contents.{Extends}
 use Rattle.lk_nested.specs.Joined.{AreMet}
 use Rattle.lk_nested.specs.Pairs.{pairs_at, ArePairsIn}
-use Rattle.lk_enlarge.specs.Auxiliaries.{auxs_at, IsAuxiliaryIn}
-use Rattle.lk_enlarge.specs.Settings.{setting_at}
+use Rattle.lk_auxiliary.specs.Auxiliaries.{auxs_at, IsAuxiliaryIn}
+use Rattle.lk_auxiliary.specs.Settings.{setting_at}
 use Rattle.lk_enlarge.proofs.Owned.{LeadsOwn}
 use Rattle.lk_enlarge.proofs.own.own_ctors.Given as goal
 

@@ -1,12 +1,12 @@
 use Rattle.std.proofs.Common.{◌≡◌, map, sym, ap, subst, ◌∙◌}
 use Rattle.std.proofs.lemmas.Result.{err_from_is_err_and}
 use Rattle.lk_rulebook.specs.Place.{BlockType}
-use Rattle.lk_block.specs.Findings.{found, FindsNothing}
-use Rattle.lk_block.proofs.Stays.{type_stays, type_in_stays}
+use Rattle.lk_nested.specs.Findings.{found, FindsNothing}
+use Rattle.lk_lists.proofs.Stays.{type_stays, type_in_stays}
 use Rattle.lk_env.specs.Units.{constructor_at, type_at}
-use Rattle.lk_enlarge.specs.Auxiliaries.{auxs_at}
+use Rattle.lk_auxiliary.specs.Auxiliaries.{auxs_at}
 use Rattle.lk_enlarge.specs.Owns.{all_owns, with_ctors}
-use Rattle.lk_enlarge.specs.Settings.{setting_at}
+use Rattle.lk_auxiliary.specs.Settings.{setting_at}
 use Rattle.lk_enlarge.proofs.Owning.{type_found, type_stops}
 use Rattle.lk_enlarge.proofs.own.own_type.Goals as goal
 

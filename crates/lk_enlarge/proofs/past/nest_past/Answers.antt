@@ -3,17 +3,17 @@ use Rattle.std.proofs.lemmas.Result.{err_from_is_err_and}
 use Rattle.lk_tree.specs.Tree.{Tree}
 use Rattle.lk_inductive.specs.Enlarged.{Aux}
 use Rattle.lk_inductive.specs.Recursors.{pis}
-use Rattle.lk_block.specs.Findings.{found, FindsNothing}
+use Rattle.lk_nested.specs.Findings.{found, FindsNothing}
 use Rattle.lk_store.specs.Contents.{tree_at}
 use Rattle.lk_subst.specs.Numbers.{trees-steady}
 use Rattle.lk_nested.specs.Joined.{AreMet}
 use Rattle.lk_nested.specs.Pairs.{pairs_at}
 use Rattle.lk_nested.specs.Swaps.{pairs-steady}
-use Rattle.lk_enlarge.specs.Auxiliaries.{auxs_at}
-use Rattle.lk_enlarge.specs.Settings.{setting_at}
+use Rattle.lk_auxiliary.specs.Auxiliaries.{auxs_at}
+use Rattle.lk_auxiliary.specs.Settings.{setting_at}
 use Rattle.lk_enlarge.proofs.Grown.{setting_known, setting_stays, met_stays, nests_steady}
 use Rattle.lk_enlarge.proofs.Opening.{not_past, past_stops, past_found}
-use Rattle.lk_enlarge.proofs.Others.{auxs_stay, auxs_known}
+use Rattle.lk_auxiliary.proofs.Others.{auxs_stay, auxs_known}
 use Rattle.lk_enlarge.proofs.past.nest_past.Goals as goal
 
 pub returns-in_err-locals-clause-nests : goal.returns-in_err-locals-clause-nests

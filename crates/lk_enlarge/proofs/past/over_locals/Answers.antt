@@ -5,7 +5,7 @@ use Rattle.lk_store.specs.Contents.{tree_at}
 use Rattle.lk_store.proofs.Extending.{Extends-trans}
 use Rattle.lk_inductive.specs.Block.{domain}
 use Rattle.lk_inductive.specs.Recursors.{number, pis}
-use Rattle.lk_block.proofs.FromTheEnd.{all_last, all_others}
+use Rattle.lk_lists.proofs.Lists.{all_last, all_others}
 use Rattle.lk_enlarge.proofs.Opening.{pis_next, pis_end}
 use Rattle.lk_enlarge.proofs.past.over_locals.Goals as goal
 

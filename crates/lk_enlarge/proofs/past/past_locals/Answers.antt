@@ -5,8 +5,8 @@ use Rattle.std.proofs.lemmas.Result.{err_from_is_err_and}
 use Rattle.lk_store.specs.Contents.{tree_at}
 use Rattle.lk_store.proofs.Extending.{Extends-trans}
 use Rattle.lk_subst.specs.Numbers.{trees-steady}
-use Rattle.lk_block.proofs.Counted.{rest_have, first_has, none_left}
-use Rattle.lk_nested.proofs.Pasts.{refuses_too}
+use Rattle.lk_lists.proofs.Lists.{rest_have, first_has, none_left}
+use Rattle.lk_auxiliary.proofs.Pasts.{refuses_too}
 use Rattle.lk_enlarge.specs.Opened.{past_local, past_locals}
 use Rattle.lk_enlarge.proofs.Opening.{past_first, past_on, past_refused, past_end}
 use Rattle.lk_enlarge.proofs.past.past_locals.Goals as goal

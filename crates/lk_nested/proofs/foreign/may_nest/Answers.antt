@@ -1,6 +1,6 @@
 use Rattle.std.proofs.Common.{◌<◌, length, map, sym, ◌∙◌}
 use Rattle.lk_store.specs.Contents.{tree_at}
-use Rattle.lk_block.proofs.Counted.{rest_have}
+use Rattle.lk_lists.proofs.Lists.{rest_have}
 use Rattle.lk_nested.proofs.Only.{nest_next, nest_loose}
 use Rattle.lk_nested.proofs.foreign.may_nest.Goals as goal
 

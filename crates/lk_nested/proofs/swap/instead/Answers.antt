@@ -1,6 +1,6 @@
 use Rattle.std.proofs.Common.{ap, ◌∙◌}
 use Rattle.lk_store.specs.Contents.{tree_at}
-use Rattle.lk_block.proofs.Counted.{rest_have}
+use Rattle.lk_lists.proofs.Lists.{rest_have}
 use Rattle.lk_nested.specs.Pairs.{pair_at, pairs_at, IsPairIn}
 use Rattle.lk_nested.specs.Swaps.{instead}
 use Rattle.lk_nested.proofs.Swapping.{instead_next}

@@ -1,7 +1,7 @@
 use Rattle.std.proofs.Common.{sym, ap, subst, ◌∙◌}
 use Rattle.lk_store.specs.Contents.{tree_at}
 use Rattle.lk_mentions.specs.Names.{names_at}
-use Rattle.lk_block.specs.Nestings.{function_of}
+use Rattle.lk_nested.specs.Nestings.{function_of}
 use Rattle.lk_nested.specs.Halts.{IsTested}
 use Rattle.lk_nested.specs.Occurrences.{test_at}
 use Rattle.lk_nested.proofs.Tests.{applied}

@@ -4,7 +4,7 @@ use Rattle.lk_tree.specs.Tree.{local}
 use Rattle.lk_store.specs.Contents.{tree_at}
 use Rattle.lk_store.proofs.Extending.{Extends-trans}
 use Rattle.lk_inductive.specs.Recursors.{locals_from}
-use Rattle.lk_block.proofs.Counted.{first_has}
+use Rattle.lk_lists.proofs.Lists.{first_has}
 use Rattle.lk_recursor.proofs.Lists.{pushed_more, pushed_known}
 use Rattle.lk_recursor.proofs.binders.locals_of.Goals as goal
 

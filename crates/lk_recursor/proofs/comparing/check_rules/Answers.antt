@@ -7,7 +7,7 @@ use Rattle.lk_env.specs.Units.{rule_at, IsRuleIn}
 use Rattle.lk_inductive.specs.Recursors.{rules_of, as_they_are}
 use Rattle.lk_inductive.specs.Compare.{rules_steps}
 use Rattle.lk_block.specs.Shapes.{shape_at, constructor_shape_at, IsConstructorShapeIn}
-use Rattle.lk_block.proofs.Counted.{rest_have, first_has}
+use Rattle.lk_lists.proofs.Lists.{rest_have, first_has}
 use Rattle.lk_recursor.specs.Comparisons.{stated_of, own_of, renamed_value, rule_form}
 use Rattle.lk_block.proofs.Shaping.{constructor-known}
 use Rattle.lk_recursor.proofs.Compared.{comparison-known}

@@ -1,7 +1,7 @@
 use Rattle.std.proofs.Common.{sym, ◌∙◌}
 use Rattle.lk_env.specs.Units.{IsRuleIn}
 use Rattle.lk_block.specs.Shapes.{IsConstructorShapeIn}
-use Rattle.lk_block.proofs.Counted.{rest_have}
+use Rattle.lk_lists.proofs.Lists.{rest_have}
 use Rattle.lk_recursor.proofs.Agreeing.{no_constructor_left, no_minor_left, rules_more}
 use Rattle.lk_recursor.proofs.counts.rules_agree.Goals as goal
 

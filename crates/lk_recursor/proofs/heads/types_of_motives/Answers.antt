@@ -6,7 +6,7 @@ use Rattle.lk_store.proofs.Extending.{Extends-trans}
 use Rattle.lk_inductive.specs.Block as plain
 use Rattle.lk_inductive.specs.Recursors.{motive_type}
 use Rattle.lk_block.specs.Shapes.{type_shape_at, shape_at, IsTypeShapeIn}
-use Rattle.lk_block.proofs.Counted.{first_has}
+use Rattle.lk_lists.proofs.Lists.{first_has}
 use Rattle.lk_recursor.proofs.Lists.{pushed_more, pushed_known}
 use Rattle.lk_block.proofs.Shaping.{type-steady, type-known, shape-steady}
 use Rattle.lk_recursor.proofs.Steady.{levels-steady}

@@ -6,7 +6,7 @@ use Rattle.lk_store.proofs.Extending.{Extends-trans}
 use Rattle.lk_inductive.specs.Block as plain
 use Rattle.lk_inductive.specs.Recursors.{minor_type}
 use Rattle.lk_block.specs.Shapes.{constructor_shape_at, type_shape_at, shape_at, IsConstructorShapeIn}
-use Rattle.lk_block.proofs.Counted.{first_has}
+use Rattle.lk_lists.proofs.Lists.{first_has}
 use Rattle.lk_recursor.proofs.Lists.{pushed_more, pushed_known}
 use Rattle.lk_block.proofs.Shaping.{shape-steady, type-steady, type-known, constructor-steady, constructor-known}
 use Rattle.lk_recursor.proofs.Steady.{heads-steady}

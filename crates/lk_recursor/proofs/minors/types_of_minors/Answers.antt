@@ -5,7 +5,7 @@ use Rattle.lk_store.proofs.Extending.{Extends-trans}
 use Rattle.lk_inductive.specs.Block as plain
 use Rattle.lk_inductive.specs.Recursors.{minor_type, minor_types}
 use Rattle.lk_block.specs.Shapes.{type_shape_at, shape_at, IsTypeShapeIn}
-use Rattle.lk_block.proofs.Counted.{first_has}
+use Rattle.lk_lists.proofs.Lists.{first_has}
 use Rattle.lk_recursor.proofs.FieldLists.{added_more}
 use Rattle.lk_block.proofs.Shaping.{shape-steady, type-steady, type-known}
 use Rattle.lk_recursor.proofs.Steady.{heads-steady}

@@ -2,7 +2,7 @@ use Rattle.std.proofs.Common.{◌<◌, length, drop, ap, sym, ◌∙◌}
 use Rattle.std.proofs.lemmas.List.Elements.{All-same, All-drop}
 use Rattle.lk_store.specs.Contents.{name_at}
 use Rattle.lk_block.specs.Shapes.{IsTypeShapeIn}
-use Rattle.lk_block.proofs.Counted.{rest_have}
+use Rattle.lk_lists.proofs.Lists.{rest_have}
 use Rattle.lk_recursor.proofs.Named.{names_more, named_next}
 use Rattle.lk_recursor.proofs.own.named.Goals as goal
 

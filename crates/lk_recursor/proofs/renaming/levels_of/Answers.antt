@@ -3,7 +3,7 @@ use Rattle.std.proofs.lemmas.List.Elements.{All-same, All-push}
 use Rattle.lk_tree.specs.Tree.{param, zero_level}
 use Rattle.lk_store.proofs.Extending.{Extends-trans}
 use Rattle.lk_subst.specs.Numbers.{values-known}
-use Rattle.lk_block.proofs.Counted.{rest_have, first_has}
+use Rattle.lk_lists.proofs.Lists.{rest_have, first_has}
 use Rattle.lk_recursor.proofs.Compared.{levels_more}
 use Rattle.lk_recursor.proofs.renaming.levels_of.Goals as goal
 

@@ -5,7 +5,7 @@ use Rattle.lk_store.proofs.Extending.{Extends-trans}
 use Rattle.lk_inductive.specs.Block as plain
 use Rattle.lk_inductive.specs.Recursors.{inductions}
 use Rattle.lk_block.specs.Shapes.{field_at, shape_at, IsFieldIn}
-use Rattle.lk_block.proofs.Counted.{first_has}
+use Rattle.lk_lists.proofs.Lists.{first_has}
 use Rattle.lk_block.proofs.Shaping.{shape-steady, field-steady, field-known}
 use Rattle.lk_recursor.proofs.Steady.{front-steady}
 use Rattle.lk_recursor.proofs.FieldLists.{inductions-cons, added_more}

@@ -1,9 +1,0 @@
-use Rattle.std.proofs.Common.{ap, ◌∙◌}
-use Rattle.lk_block.specs.Nestings.{function_at}
-use Rattle.lk_block.proofs.Applied.{node_applied}
-use Rattle.lk_block.proofs.spines.function_of.Goals as goal
-
-pub returns-clause-function : goal.returns-clause-function
-returns-clause-function g c =
-    let s = g.T.Terms.contents c.args.terms.now in
-    ap (function_at s) c.function_in.ensures ∙ node_applied s c.view.result c.args.e c.view.ensures.tree
