@@ -6,7 +6,7 @@ use Rattle.lk_env.specs.declared.unit.BlockType.{BlockType}
 use Rattle.lk_env.specs.Units.{type_at, IsTypeIn}
 use Rattle.lk_store.specs.Contents.{Contents, name_at, list_at, tree_at, Extends, IsTree}
 use Rattle.lk_subst.specs.Numbers.{trees-steady, trees-known}
-use Rattle.lk_lists.proofs.Stays.{type_stays}
+use Rattle.lk_env.proofs.Stays.{type_stays}
 use Rattle.lk_auxiliary.specs.declared.instance.At.{At}
 use Rattle.lk_auxiliary.specs.declared.parts.Parts.{Parts}
 use Rattle.lk_auxiliary.specs.Parts.{parts_at, parts_form, aux_with, ArePartsIn}

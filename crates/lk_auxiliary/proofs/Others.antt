@@ -12,7 +12,7 @@ use Rattle.lk_env.specs.Units.{type_at, IsTypeIn}
 use Rattle.lk_inductive.specs.Enlarged.{Aux}
 use Rattle.lk_store.specs.Contents.{Contents, name_at, Extends}
 use Rattle.lk_subst.specs.Numbers.{trees-steady, trees-known}
-use Rattle.lk_lists.proofs.Stays.{all_stay, type_stays, type_in_stays, types_stay}
+use Rattle.lk_env.proofs.Stays.{all_stay, type_stays, type_in_stays, types_stay}
 use Rattle.lk_auxiliary.proofs.Pasts.{bind_ext, bind_assoc}
 use Rattle.lk_auxiliary.specs.declared.auxiliary.Auxiliary.{Auxiliary}
 use Rattle.lk_auxiliary.specs.declared.instance.At.{At}

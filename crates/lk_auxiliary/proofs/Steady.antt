@@ -6,7 +6,7 @@ use Rattle.lk_plain.specs.Program.{done}
 use Rattle.lk_inductive.specs.Nested.{at_args, ctors_at}
 use Rattle.lk_env.specs.declared.unit.Constructor.{Constructor}
 use Rattle.lk_env.specs.Units.{constructor_at, IsConstructorIn}
-use Rattle.lk_lists.proofs.Stays.{constructors_stay}
+use Rattle.lk_env.proofs.Stays.{constructors_stay}
 use Rattle.lk_store.specs.Contents.{Contents, name_at, level_at, tree_at, Extends, IsTree}
 use Rattle.lk_store.specs.declared.memory.NoMemory.{NoMemory}
 use Rattle.lk_subst.specs.Numbers.{values-steady, trees-steady, trees-known, values-known}

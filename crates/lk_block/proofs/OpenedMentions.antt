@@ -5,7 +5,7 @@ use Rattle.lk_tree.specs.Tree.{Name, Tree, var, sort, const, app, lam, pi, let_i
 use Rattle.lk_tree.specs.Bind.{open_at, opened}
 use Rattle.lk_tree.specs.Mentions.{mentions}
 use Rattle.lk_store.specs.Contents.{Contents, name_at, tree_at, Extends}
-use Rattle.lk_lists.proofs.Stays.{names_stay}
+use Rattle.lk_env.proofs.Stays.{names_stay}
 
 module _ (ns : List Name) (v : Tree) (none : mentions ns v ≡ false) where
   opened_var : (below here : Bool) (i j : ℕ) → mentions ns (if below then var i else (if here then v else var j)) ≡ false

@@ -11,7 +11,7 @@ use Rattle.lk_block.specs.declared.shape.ConstructorShape.{ConstructorShape}
 use Rattle.lk_block.specs.declared.shape.TypeShape.{TypeShape}
 use Rattle.lk_block.specs.declared.shape.Shape.{Shape}
 use Rattle.lk_block.specs.Shapes.{kind_at, field_at, constructor_shape_at, type_shape_at, shape_at, IsKindIn, IsFieldIn, IsConstructorShapeIn, IsTypeShapeIn, IsShapeIn}
-use Rattle.lk_lists.proofs.Stays.{all_stay, names_stay, names_in_stay}
+use Rattle.lk_env.proofs.Stays.{all_stay, names_stay, names_in_stay}
 
 -- one more thing
 pub each-push : {X Y : Type 0} (P : X → Type 0) (f g : X → Y) (xs : List X) (y : X) → ((x : X) → P x → f x ≡ g x) → All P xs → map f (xs ++ y ∷ []) ≡ map g xs ++ f y ∷ []

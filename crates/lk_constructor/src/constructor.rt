@@ -38,7 +38,7 @@ fn constructor_by<L: Looks>(looks: &L, name: u64, entry: Entry) -> Option<Applie
         → IsAppliedIf (L.contents looks.now) (L.sight (L.rest looks.now)).basis.library xs result
         (ctor_app_by (name_at (L.contents looks.now) name) ks xs g g.kind) }
 {
-    match constructor_of(looks.library(), entry) {
+    match constructor_of(looks.scope(), entry) {
         Some((ty, constructor)) => Some(AppliedConstructor {
             name,
             inductive: ty.name,

@@ -1,16 +1,18 @@
 -- What a step, an answer that is kept, and a question leave of a lookout, and what they come to.
-use Rattle.std.proofs.Common.{◌≡◌, ◌≢◌, ℕ, ◌<◌, List, None, Ok, Err, Result, ap, sym, ◌∙◌, arith}
+use Rattle.std.proofs.Common.{◌≡◌, ◌≢◌, ℕ, ◌<◌, List, None, Ok, Err, Result, refl, ap, sym, ◌∙◌, arith}
 use Rattle.std.specs.Prelude.{IfOk, IfErr}
 use Rattle.lk_plain.specs.Erased.{Steps}
+use Rattle.lk_rulebook.specs.Units.{Members}
+use Rattle.lk_questions.specs.Table.{steps}
 use Rattle.lk_store.specs.declared.tables.Tables.{Tables}
 use Rattle.lk_store.specs.declared.memory.NoMemory.{NoMemory as Wanting}
 use Rattle.lk_store.specs.Contents.{Contents, tree_at, Extends}
 use Rattle.lk_store.specs.Store.{over, contents_of}
 use Rattle.lk_store.proofs.Extending.{Extends-trans}
 use Rattle.lk_store.proofs.Made.{Extends-self}
+use Rattle.lk_env.specs.declared.entry.Partial.{Partial}
 use Rattle.lk_env.specs.declared.entry.Site.{Site}
-use Rattle.lk_env.specs.declared.unit.Unit.{Unit as StoredUnit}
-use Rattle.lk_env.specs.Places.{place_at}
+use Rattle.lk_env.specs.Scopes.{Scoped, place_in}
 use Rattle.lk_meter.specs.declared.meter.Meter.{Meter}
 use Rattle.lk_ask.specs.declared.kept.Kept.{Kept}
 use Rattle.lk_ask.specs.declared.next.Next.{Next}
@@ -26,20 +28,19 @@ use Rattle.lk_ask.specs.Outcomes.{IsStop}
 use Rattle.lk_engine.specs.Sheets.{AnySheet, IsKnownAny}
 use Rattle.lk_memo.specs.declared.key.Key.{Key}
 use Rattle.lk_engine.specs.Entries.{IsTrueAt, AreTrue}
-use Rattle.lk_engine.specs.Lookouts.{Seen, place_of, standing_at, out_at, Stays, Metered, Pays, Repeats, Opens, Answers, Stands}
+use Rattle.lk_engine.specs.Lookouts.{Seen, place_of, standing_at, places_at, out_at, GivesMembers, Stays, Metered, Pays, Repeats, Opens, Answers, Stands}
 use Rattle.lk_engine.specs.Rests.{next_of, query_steps}
 use Rattle.lk_engine.proofs.Frames.{entries_steady}
 use Rattle.lk_engine.proofs.Links.{opened, not_opened}
 
 -- what a lookout sees, by all but its terms
-abbrev pub sight_at : {R : Type 0} → (Tables × List StoredUnit) × Site × Meter × R
-    → Sight (Site × R)
+abbrev pub sight_at : {R : Type 0} → Scoped × Site × Meter × R → Sight (Scoped × Site × R)
 sight_at r = record {
   basis = record {
-    library = r.0;
-    place = place_at r.0 r.1;
+    library = (r.0.0, r.0.1);
+    place = place_in r.0 r.1;
     left = r.2.left;
-    beside = (r.1, r.3);
+    beside = (r.0, r.1, r.3);
   };
   last = r.2.last;
 }
@@ -100,10 +101,10 @@ module _ {T R : Type 0} {contents : T → Contents} {rest : T → R} where
       ≡ (sight_at (old.0, old.1, old.3, rest old.2)).basis
       → Stays contents rest old new
   sight_stays keeps same = record {
-    library = ap (λ b. b.library) same;
-    site = ap (λ b. b.beside.0) same;
+    library = ap (λ b. b.beside.0) same;
+    site = ap (λ b. b.beside.1) same;
     keeps = keeps;
-    others = ap (λ b. b.beside.1) same;
+    others = ap (λ b. b.beside.2) same;
   }
 
   pub step_stays : {old new : Seen T} {result : Result (Next ℕ (AnySheet ℕ)) Wanting} {does : Steps}
@@ -206,7 +207,7 @@ pub still_stands : {old new : Seen (Tables × Tables)} {entries later : List (Ke
     → Stays (λ t. contents_of (over t.0 t.1)) (λ t. t.0) old new → Stands old entries
     → AreTrue (place_of old) (contents_of (over new.2.0 new.2.1)) later → Stands new later
 still_stands h s e = record {
-  base = h.others ∙ s.base ∙ ap (λ l. l.0) (sym h.library);
+  base = h.others ∙ s.base ∙ ap (λ l. l.2.0) (sym h.library);
   entries_true = rw (place_stays h) e;
 }
 
@@ -219,7 +220,7 @@ looked_stands {old} {new} {entries} h s =
 
 -- the same, after terms were made
 pub made_stands : {old new : Seen (Tables × Tables)} {entries : List (Key × Kept)}
-    → ◌≡◌ {A = (Tables × List StoredUnit) × Site × Meter × Tables} (new.0, new.1, new.3, new.2.0)
+    → ◌≡◌ {A = Scoped × Site × Meter × Tables} (new.0, new.1, new.3, new.2.0)
     (old.0, old.1, old.3, old.2.0)
     → Extends (contents_of (over old.2.0 old.2.1)) (contents_of (over new.2.0 new.2.1))
     → Stands old entries → Stands new entries
@@ -231,3 +232,16 @@ made_stands {old} {new} {entries} h x s =
       others = ap
           (λ r. r.3) h;
     }) s (entries_steady x (place_of old) entries s.entries_true)
+
+-- what is given is how questions are answered from then on
+pub gives_standing : {old new : Seen (Tables × Tables)} {partial : Partial} {aux : Members} → GivesMembers old new partial aux
+    → standing_at new.0 new.1 ≡ record { basis = (old.0.2, old.1.unit); table = steps; place = places_at (old.0.2, old.1.unit) partial aux }
+gives_standing {old} {new} {partial} {aux} h = rw (h.library, h.site, h.auxiliary) refl
+
+-- nothing is kept where what is partial changes
+pub gives_stands : {old new : Seen (Tables × Tables)} {partial : Partial} {aux : Members} {entries later : List (Key × Kept)} → GivesMembers old new partial aux → Stands old entries
+    → AreTrue (place_of new) (contents_of (over new.2.0 new.2.1)) later → Stands new later
+gives_stands {old} {new} h s e = record {
+  base = ap (λ p. p.0.0) h.others ∙ s.base ∙ ap (λ l. l.0) (sym h.library);
+  entries_true = e;
+}

@@ -1,15 +1,18 @@
 -- Questions over a lookout: what they leave as it was, and what they come to.
-use Rattle.std.specs.Prelude.{◌≡◌, ◌≢◌, ◌<◌, ◌≤◌, ◌+◌, ◌-◌, ◌^◌, ℕ, List, Option, Some, Result, Err, IfOk, OnOk, IfErr, length}
+use Rattle.std.specs.Prelude.{◌≡◌, ◌≢◌, ◌<◌, ◌≤◌, ◌+◌, ◌-◌, ◌^◌, ℕ, List, [], Option, Some, Result, Err, IfOk, OnOk, IfErr, length}
 use Rattle.lk_rulebook.specs.Place.{Place}
+use Rattle.lk_rulebook.specs.Units.{Members}
 use Rattle.lk_plain.specs.Erased.{Out, IsAnsweredAt, run_steps, out_of}
 use Rattle.lk_questions.specs.Table.{steps}
 use Rattle.lk_store.specs.declared.tables.Tables.{Tables}
 use Rattle.lk_store.specs.Contents.{Contents, tree_at, Extends}
 use Rattle.lk_store.specs.Store.{over, contents_of}
+use Rattle.lk_env.specs.declared.entry.Partial.{Partial}
 use Rattle.lk_env.specs.declared.entry.Partial.TheVariants.{Nothing}
 use Rattle.lk_env.specs.declared.entry.Site.{Site}
 use Rattle.lk_env.specs.declared.unit.Unit.{Unit as StoredUnit}
-use Rattle.lk_env.specs.Places.{place_at}
+use Rattle.lk_env.specs.Places.{place_beside}
+use Rattle.lk_env.specs.Scopes.{Scoped, auxiliary_members, place_in}
 use Rattle.lk_meter.specs.declared.meter.Meter.{Meter}
 use Rattle.lk_ask.specs.Asking.{Standing}
 use Rattle.lk_ask.specs.declared.kept.Kept.{Kept}
@@ -27,23 +30,26 @@ use Rattle.lk_engine.specs.Entries.{AreTrue}
 use Rattle.lk_engine.specs.Rests.{next_of}
 use Rattle.lk_engine.specs.Sheets.{AnySheet, IsKnownAny}
 
--- what a lookout over a store stands for: the library, from where it is seen, the store, and what
--- is left of a budget
+-- what a lookout over a store stands for: the scope, from where it is seen, the store, and what is
+-- left of a budget
 abbrev pub Seen : Type 0 → Type 0
-Seen T = (Tables × List StoredUnit) × Site × T × Meter
+Seen T = Scoped × Site × T × Meter
 
 -- what names mean from there
 abbrev pub place_of : {T : Type 0} → Seen T → Place
-place_of s = place_at s.0 s.1
+place_of s = place_in s.0 s.1
 
 -- how questions are answered from there; no call changes the library and the number of the unit
-abbrev pub standing_at : Tables × List StoredUnit → Site
-    → Standing ((Tables × List StoredUnit) × ℕ)
-standing_at library site = record {
-  basis = (library, site.unit);
+abbrev pub standing_at : Scoped → Site → Standing ((Tables × List StoredUnit) × ℕ)
+standing_at scope site = record {
+  basis = (scope.2, site.unit);
   table = steps;
-  place = place_at library site;
+  place = place_in scope site;
 }
+
+-- what names mean at a unit of a library, where so much of it is partial, and auxiliary types beside
+abbrev pub places_at : (Tables × List StoredUnit) × ℕ → Partial → Members → Place
+places_at b p aux = place_beside b.0 (record { unit = b.1; partial = p }) aux
 
 -- the plain answer of a question there
 abbrev pub out_at : {T : Type 0} → (T → Contents) → Seen T → Query ℕ → Out
@@ -114,18 +120,27 @@ pub record AnswersKept {T : Type 0} (old new : Seen T) (entries : List (Key × K
       → new.3.turns ≡ old.3.turns + 1
   pub memory : (kept : Kept) → kept_of entries query ≡ Some kept → result ≢ Err NoMemory
 
--- a lookout over the library's store looks from this unit, of which nothing is partial; its store
--- has what the library has, and this budget is left
+-- a lookout over the library's store looks from this unit, of which nothing is partial, with no
+-- auxiliary types; its store has what the library has, and this budget is left
 pub record Restarts (old new : Seen (Tables × Tables)) (unit budget : ℕ) : Type 0 where
-  pub library : new.0 ≡ old.0
+  pub library : new.0.2 ≡ old.0.2
+  pub auxiliary : new.0.3 ≡ []
   pub site : new.1 ≡ record { unit = unit; partial = Nothing }
   pub base : new.2.0 ≡ old.2.0
   pub contents : contents_of (over new.2.0 new.2.1) ≡ contents_of old.2.0
   pub left : new.3.left ≡ budget
   pub turns : new.3.turns ≡ 0
 
+-- from here on so much of the unit is partial, and these auxiliary types beside
+pub record GivesMembers (old new : Seen (Tables × Tables)) (partial : Partial)
+    (aux : Members) : Type 0 where
+  pub library : new.0.2 ≡ old.0.2
+  pub auxiliary : auxiliary_members (contents_of new.0.0) new.0.3 ≡ aux
+  pub site : new.1 ≡ record { unit = old.1.unit; partial = partial }
+  pub others : (new.2, new.3) ≡ (old.2, old.3)
+
 -- a lookout over the library's store, and what is kept of its questions, which is true at the place
 -- that stands, whatever was looked at for it
 pub record Stands (s : Seen (Tables × Tables)) (entries : List (Key × Kept)) : Type 0 where
-  pub base : s.2.0 ≡ s.0.0
+  pub base : s.2.0 ≡ s.0.2.0
   pub entries_true : AreTrue (place_of s) (contents_of (over s.2.0 s.2.1)) entries

@@ -1,11 +1,14 @@
 //! The engine: a store over that of a library in which questions are answered, as a unit of the
 //! library may ask them.
 
-ghost use Rattle.std.specs.Prelude.{◌≡◌};
+ghost use Rattle.std.specs.Prelude.{◌≡◌, [], map, All, OnOk, IfErr};
 ghost use Rattle.lk_store.specs.Store.{over, contents_of};
-ghost use Rattle.lk_engine.specs.Lookouts.{Restarts};
+ghost use Rattle.lk_env.specs.Scopes.{alone_members};
+ghost use Rattle.lk_env.specs.Units.{type_at, IsTypeIn};
+ghost use Rattle.lk_engine.specs.Lookouts.{Restarts, GivesMembers};
 
 use crate::answering::answer;
+use crate::families::family_of;
 use crate::parameters::parameters_at;
 use lk_ask::asks::Asks;
 use lk_ask::lookout::Lookout;
@@ -13,6 +16,9 @@ use lk_ask::query::{Answer, Query};
 use lk_ask::stop::Stop;
 use lk_env::entry::{Partial, Site};
 use lk_env::library::Library;
+use lk_env::scope::Scope;
+use lk_env::unit::BlockType;
+use lk_family::{Families, Family};
 use lk_laws::{Laws, Needed, is_given};
 use lk_memo::PrivateMemo;
 use lk_meter::Meter;
@@ -44,7 +50,8 @@ impl<'a> Model for Engine<'a> {
     ghost use Rattle.lk_meter.specs.declared.meter.Meter.{Meter as Metered};
     ghost use Rattle.lk_engine.specs.Lookouts.{Stands};
 
-    ghost Value = { (Tables × List StoredUnit) × LookedFrom × (Tables × Tables) × Metered };
+    ghost Value = { (Tables × List StoredUnit × (Tables × List StoredUnit) × List StoredUnit)
+        × LookedFrom × (Tables × Tables) × Metered };
 
     ghost view = { λ s. s.lookout };
 
@@ -58,31 +65,45 @@ impl Drop for Engine<'_> {
     }
 }
 
-/// Looks from this unit, of which nothing is partial, with an empty store over the library's and
-/// this budget.
+/// Looks from this unit, of which nothing is partial, with no auxiliary types, an empty store over
+/// the library's and this budget.
 fn restart(lookout: &mut Lookout<'_, Overlay<'_>>, unit: u32, budget: u128)
-    requires { lookout.old.2.0 ≡ lookout.old.0.0 }
+    requires { lookout.old.2.0 ≡ lookout.old.0.2.0 }
     ensures { Restarts lookout.old lookout.new unit budget }
 {
     let partial = Partial::Nothing;
+    let library = lookout.scope.library();
     lookout.site = Site { unit, partial };
     lookout.terms.clear();
+    lookout.scope = Scope::new(lookout.alloc, library, &lookout.terms);
     lookout.meter = Meter::new(budget);
 }
 
-/// From here on so much of the unit at work is partial.
+/// From here on so much of the unit at work is partial, and no auxiliary type.
 fn give_in(lookout: &mut Lookout<'_, Overlay<'_>>, partial: Partial)
-    ensures { lookout.new ≡ (
-      lookout.old.0,
-      record {
-        unit = lookout.old.1.unit;
-        partial = partial;
-      },
-      lookout.old.2,
-      lookout.old.3,
-    ) }
+    ensures { GivesMembers lookout.old lookout.new partial [] }
 {
+    let library = lookout.scope.library();
+    lookout.scope = Scope::new(lookout.alloc, library, &lookout.terms);
     lookout.site.partial = partial;
+}
+
+/// From here on so much of the unit at work is partial, and these types beside.
+fn give_beside_in(
+    lookout: &mut Lookout<'_, Overlay<'_>>,
+    partial: Partial,
+    types: &[BlockType],
+) -> Result<(), NoMemory>
+    requires { All (IsTypeIn (contents_of (over lookout.old.2.0 lookout.old.2.1))) types.now }
+    ensures gives { OnOk result (GivesMembers lookout.old lookout.new partial
+        (alone_members (map (type_at (contents_of (over lookout.old.2.0 lookout.old.2.1)))
+        types.now))) }
+    ensures refused { IfErr result (λ e. lookout.new ≡ lookout.old) }
+{
+    let library = lookout.scope.library();
+    lookout.scope = Scope::beside(lookout.alloc, library, &lookout.terms, types)?;
+    lookout.site.partial = partial;
+    Ok(())
 }
 
 /// How many turns were taken.
@@ -96,7 +117,8 @@ impl<'a> Engine<'a> {
     /// An engine at the first unit, with nothing to spend. The memo is emptied. It takes no memory.
     #[tactic(auto, using(crate::proofs::Frames::nothing_kept))]
     pub fn new(alloc: Global, library: &'a Library, memo: &'a mut PrivateMemo) -> Self
-        ensures library { result.0 ≡ library.now }
+        ensures library { result.0.2 ≡ library.now }
+        ensures auxiliary { result.0.3 ≡ [] }
         ensures unit { result.1.unit ≡ 0 }
         ensures partial { result.1.partial ≡ Partial.Nothing }
         ensures contents { contents_of (over result.2.0 result.2.1) ≡ contents_of library.now.0 }
@@ -104,14 +126,15 @@ impl<'a> Engine<'a> {
         ensures turns { result.3.turns ≡ 0 }
     {
         memo.clear();
+        let terms = Overlay::new(alloc, library.base());
         let lookout = Lookout {
             alloc,
-            library,
+            scope: Scope::new(alloc, library, &terms),
             site: Site {
                 unit: 0,
                 partial: Partial::Nothing,
             },
-            terms: Overlay::new(alloc, library.base()),
+            terms,
             meter: Meter::new(0),
         };
         Engine { lookout, memo }
@@ -122,11 +145,12 @@ impl<'a> Engine<'a> {
     /// nothing that grows with the library.
     #[tactic(auto, using(crate::proofs::Frames::nothing_kept))]
     pub fn start(&mut self, unit: u32, budget: u128)
-        ensures library { self.new.0 ≡ self.old.0 }
+        ensures library { self.new.0.2 ≡ self.old.0.2 }
+        ensures auxiliary { self.new.0.3 ≡ [] }
         ensures unit { self.new.1.unit ≡ unit }
         ensures partial { self.new.1.partial ≡ Partial.Nothing }
         ensures contents { contents_of (over self.new.2.0 self.new.2.1)
-            ≡ contents_of self.old.0.0 }
+            ≡ contents_of self.old.0.2.0 }
         ensures left { self.new.3.left ≡ budget }
         ensures turns { self.new.3.turns ≡ 0 }
     {
@@ -146,9 +170,9 @@ impl<'a> Engine<'a> {
 impl<'a> Terms for Engine<'a> {
     ghost use Rattle.lk_store.specs.Store.{over, contents_of};
 
-    /// All but the terms: the library, from where it is seen, what is left of the budget, and the
+    /// All but the terms: the scope, from where it is seen, what is left of the budget, and the
     /// library's tables.
-    type Rest = (Library, Site, Meter, Tables);
+    type Rest = (Scope<'a>, Site, Meter, Tables);
 
     ghost rest = { λ s. (s.0, s.1, s.3, s.2.0) };
 
@@ -245,8 +269,7 @@ impl<'a> Terms for Engine<'a> {
 
 impl<'a> Asks for Engine<'a> {
     ghost use Rattle.std.proofs.Common.{ap};
-    ghost use Rattle.lk_env.specs.Places.{place_at};
-    ghost use Rattle.lk_engine.specs.Lookouts.{standing_at};
+    ghost use Rattle.lk_engine.specs.Lookouts.{standing_at, places_at};
 
     /// The library and the number of the unit at work.
     type Basis = (Library, u32);
@@ -255,7 +278,7 @@ impl<'a> Asks for Engine<'a> {
 
     ghost left = { λ s. s.3.left };
 
-    ghost places = { λ b p. place_at b.0 (record { unit = b.1; partial = p }) };
+    ghost places = { places_at };
 
     fn ask(&mut self, query: Query<u64>) -> Result<Answer<u64>, Stop> {
         let memo = &mut *self.memo;
@@ -272,10 +295,23 @@ impl<'a> Asks for Engine<'a> {
         self.memo.clear();
     }
 
+    #[tactic(auto, using(crate::proofs::Frames::nothing_kept))]
+    fn give_beside(&mut self, partial: Partial, types: &[BlockType]) -> Result<(), NoMemory> {
+        let given = give_beside_in(&mut self.lookout, partial, types);
+        self.memo.clear();
+        given
+    }
+
     ghost decided = { λ a b h. (
       ap (λ r. standing_at r.0 r.1) h,
       ap (λ r. r.2.left) h,
     ) };
+}
+
+impl<'a> Families for Engine<'a> {
+    fn family(&self, alloc: Global, name: u64) -> Result<Option<Family>, Stop> {
+        family_of(&self.lookout, alloc, name)
+    }
 }
 
 impl<'a> Quotients for Engine<'a> {

@@ -22,5 +22,5 @@ pub fn parameters_at<T: Terms>(lookout: &Lookout<'_, T>, name: u64) -> Result<Op
         (name_at (T.contents lookout.now.2) name)) }
 {
     let entry = lookout.means(name)?;
-    Ok(parameter_count(lookout.library(), entry))
+    Ok(parameter_count(lookout.scope(), entry))
 }

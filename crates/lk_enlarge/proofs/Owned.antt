@@ -14,7 +14,7 @@ use Rattle.lk_nested.specs.Joined.{AreMet}
 use Rattle.lk_env.specs.declared.unit.Constructor.{Constructor}
 use Rattle.lk_env.specs.Units.{constructor_at, IsConstructorIn}
 use Rattle.lk_store.specs.Contents.{Contents, Extends}
-use Rattle.lk_lists.proofs.Stays.{constructor_stays, names_in_stay}
+use Rattle.lk_env.proofs.Stays.{constructor_stays, names_in_stay}
 use Rattle.lk_enlarge.specs.Owns.{owns, all_owns}
 use Rattle.lk_auxiliary.specs.declared.setting.Setting.{Setting as CodeSetting}
 use Rattle.lk_auxiliary.specs.Settings.{setting_at, IsSettingIn}

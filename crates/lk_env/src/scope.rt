@@ -217,7 +217,8 @@ impl<'a> Scope<'a> {
 
     /// The library.
     pub fn library(&self) -> &'a Library
-        ensures { result.now ≡ self.now.2 }
+        ensures is { result.now ≡ self.now.2 }
+        ensures over { Extends (contents_of self.now.2.0) (contents_of self.now.0) }
     {
         self.library
     }

@@ -23,7 +23,7 @@ fn constructor_by<L: Looks>(looks: &L, entry: Entry) -> Option<Structure>
     ensures { (g : PlainEntry) → entry_at (L.sight (L.rest looks.now)).basis entry ≡ Some g
         → IsStructureIf (L.contents looks.now) result (constructor_in g.kind) }
 {
-    match constructor_of(looks.library(), entry) {
+    match constructor_of(looks.scope(), entry) {
         Some((ty, constructor)) => Some(Structure {
             inductive: ty.name,
             parameters: constructor.parameters,
@@ -64,7 +64,7 @@ pub(crate) fn is_full<L: Looks>(looks: &L, entry: Entry, e: u64) -> Result<bool,
     if !has_arguments(looks, e, count) {
         return Ok(false);
     }
-    match structure_of(looks.alloc(), looks.library(), looks, entry)? {
+    match structure_of(looks.alloc(), looks.scope(), looks, entry)? {
         Some(_) => Ok(true),
         None => Ok(false),
     }

@@ -47,7 +47,7 @@ fn is_unit_like<L: Looks>(looks: &L, entry: Entry, e: u64) -> Result<bool, NoMem
         → IfOk result (λ r. r
         ≡ is_unit_like_at g.kind (args (tree_at (L.contents looks.now) e))) }
 {
-    match unit_parameters_of(looks.alloc(), looks.library(), looks, entry)? {
+    match unit_parameters_of(looks.alloc(), looks.scope(), looks, entry)? {
         Some(count) => Ok(has_arguments(looks, e, count as u128)),
         None => Ok(false),
     }

@@ -97,7 +97,7 @@ pub(crate) fn redex_by<L: Looks>(
         (plain_redex_by (list_at (L.contents looks.now) levels)
         (args_of (tree_at (L.contents looks.now) e)) g g.kind)) }
 {
-    match recursor_of(looks.library(), entry) {
+    match recursor_of(looks.scope(), entry) {
         Some((recursor, _)) => {
             let arguments = args(looks.alloc(), looks, e)?;
             Ok(split(entry, levels, recursor, arguments))

@@ -87,7 +87,7 @@ pub(crate) fn rules_of<L: Looks>(looks: &L, entry: Entry) -> &[RecursorRule]
         → entry_at (L.sight (L.rest looks.now)).basis entry ≡ Some g → g.kind ≡ a_rec r
         → r.rules ≡ map (rule_at (L.contents looks.now)) result.now }
 {
-    match recursor_of(looks.library(), entry) {
+    match recursor_of(looks.scope(), entry) {
         Some((_, rules)) => rules,
         None => &[],
     }

@@ -46,7 +46,7 @@ pub(crate) fn by_only<L: Looks>(
         → Reduces L.contents L.rest L.sight looks.now looks.now result
         (λ t. plain_only (t e) p (t m) (Some k)) }
 {
-    match structure_of(looks.alloc(), looks.library(), looks, constructor.entry)? {
+    match structure_of(looks.alloc(), looks.scope(), looks, constructor.entry)? {
         Some(_) => Ok(Next::Ask(
             Query::Infer(m),
             Sheet::Term(IotaTermSheet::StructureType {

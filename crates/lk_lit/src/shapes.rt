@@ -25,7 +25,7 @@ use crate::constant::{is_named, is_nat_to_nat};
 use crate::given::look_builtin;
 use lk_ask::looks::Looks;
 use lk_env::entry::Entry;
-use lk_env::lent::type_of;
+use lk_env::lent::{levels_of, type_of};
 use lk_env::unit::{Block, BlockType, Constructor};
 use lk_level_order::compared::{LevelError, equal};
 use lk_store::memory::NoMemory;
@@ -86,7 +86,7 @@ pub(crate) fn inductive<L: Looks>(looks: &L, entry: Entry) -> Option<(&Block, &B
         IfSome result (λ p. IsBlockTypeIn b p.0.now p.1.now) }
     ensures over { IsOver L.contents L.rest L.sight looks.now }
 {
-    type_of(looks.library(), entry)
+    type_of(looks.scope(), entry)
 }
 
 /// How many level parameters an entry has.
@@ -94,7 +94,7 @@ fn count_levels<L: Looks>(looks: &L, entry: Entry) -> usize
     ensures { (g : PlainEntry) → entry_at (L.sight (L.rest looks.now)).basis entry ≡ Some g
         → result ≡ length g.levels }
 {
-    looks.library().levels(entry).len()
+    levels_of(looks.scope(), entry).len()
 }
 
 /// Whether an entry is a type that stands alone in its block, and has no level parameters.

@@ -13,8 +13,8 @@ ghost use Rattle.lk_mentions.specs.Structures.{IsOnlyIn, IsStructureIf};
 use crate::fields::has_plain_fields;
 use crate::names::names_of;
 use lk_env::entry::Entry;
+use lk_env::lends::Lends;
 use lk_env::lent::{member_of, type_of};
-use lk_env::library::Library;
 use lk_env::unit::{Block, BlockType, Constructor};
 use lk_store::memory::NoMemory;
 use lk_store::node::Node;
@@ -31,21 +31,21 @@ pub struct Structure {
 }
 
 /// Whether a type is structure-like, beside having just this constructor.
-fn is_like<T: Terms>(
+fn is_like<L: Lends, T: Terms>(
     alloc: Global,
-    library: &Library,
+    library: &L,
     terms: &T,
     block: &Block,
     ty: &BlockType,
     constructor: &Constructor,
 ) -> Result<bool, NoMemory>
-    requires over { Extends (contents_of library.now.0) (T.contents terms.now) }
-    requires block_in { All (IsTypeIn (contents_of library.now.0)) block.now.types.items }
-    requires constructor_in { IsConstructorIn (contents_of library.now.0) constructor.now }
+    requires over { Extends (contents_of (L.lent library.now).0) (T.contents terms.now) }
+    requires block_in { All (IsTypeIn (contents_of (L.lent library.now).0)) block.now.types.items }
+    requires constructor_in { IsConstructorIn (contents_of (L.lent library.now).0) constructor.now }
     ensures { IfOk result (λ r. r ≡ is_structure_like
-        (block_at (contents_of library.now.0) block.now)
-        (type_at (contents_of library.now.0) ty.now)
-        (constructor_at (contents_of library.now.0) constructor.now)) }
+        (block_at (contents_of (L.lent library.now).0) block.now)
+        (type_at (contents_of (L.lent library.now).0) ty.now)
+        (constructor_at (contents_of (L.lent library.now).0) constructor.now)) }
 {
     if ty.indices != 0 {
         return Ok(false);
@@ -62,16 +62,16 @@ fn is_like<T: Terms>(
 }
 
 /// The structure that an entry is the constructor of, where it is one.
-pub fn structure_of<T: Terms>(
+pub fn structure_of<L: Lends, T: Terms>(
     alloc: Global,
-    library: &Library,
+    library: &L,
     terms: &T,
     entry: Entry,
 ) -> Result<Option<Structure>, NoMemory>
-    requires over { Extends (contents_of library.now.0) (T.contents terms.now) }
+    requires over { Extends (contents_of (L.lent library.now).0) (T.contents terms.now) }
     ensures known { IfOk result (λ s. IfSome s
         (λ s. s.inductive < length (T.contents terms.now).names)) }
-    ensures is { (g : PlainEntry) → plain_entry (contents_of library.now.0) library.now.1 entry
+    ensures is { (g : PlainEntry) → plain_entry (contents_of (L.lent library.now).0) (L.lent library.now).1 entry
         ≡ Some g
         → IfOk result (λ s. IsStructureIf (T.contents terms.now) s (structure_in g.kind)) }
 {
@@ -95,21 +95,21 @@ pub fn structure_of<T: Terms>(
 }
 
 /// The number of parameters of a type with just this constructor, where it is a structure without fields.
-fn unit_by<T: Terms>(
+fn unit_by<L: Lends, T: Terms>(
     alloc: Global,
-    library: &Library,
+    library: &L,
     terms: &T,
     block: &Block,
     ty: &BlockType,
     constructor: &Constructor,
 ) -> Result<Option<u64>, NoMemory>
-    requires over { Extends (contents_of library.now.0) (T.contents terms.now) }
-    requires block_in { All (IsTypeIn (contents_of library.now.0)) block.now.types.items }
-    requires constructor_in { IsConstructorIn (contents_of library.now.0) constructor.now }
+    requires over { Extends (contents_of (L.lent library.now).0) (T.contents terms.now) }
+    requires block_in { All (IsTypeIn (contents_of (L.lent library.now).0)) block.now.types.items }
+    requires constructor_in { IsConstructorIn (contents_of (L.lent library.now).0) constructor.now }
     ensures { IfOk result (λ n. n ≡ unit_with
-        (block_at (contents_of library.now.0) block.now)
-        (type_at (contents_of library.now.0) ty.now)
-        (constructor_at (contents_of library.now.0) constructor.now)) }
+        (block_at (contents_of (L.lent library.now).0) block.now)
+        (type_at (contents_of (L.lent library.now).0) ty.now)
+        (constructor_at (contents_of (L.lent library.now).0) constructor.now)) }
 {
     if constructor.fields == 0 && is_like(alloc, library, terms, block, ty, constructor)? {
         Ok(Some(ty.parameters))
@@ -129,14 +129,14 @@ fn only(constructors: &[Constructor]) -> Option<&Constructor>
 }
 
 /// The number of parameters of a type that is a structure without fields, where an entry is such a type.
-pub fn unit_parameters_of<T: Terms>(
+pub fn unit_parameters_of<L: Lends, T: Terms>(
     alloc: Global,
-    library: &Library,
+    library: &L,
     terms: &T,
     entry: Entry,
 ) -> Result<Option<u64>, NoMemory>
-    requires over { Extends (contents_of library.now.0) (T.contents terms.now) }
-    ensures { (g : PlainEntry) → plain_entry (contents_of library.now.0) library.now.1 entry
+    requires over { Extends (contents_of (L.lent library.now).0) (T.contents terms.now) }
+    ensures { (g : PlainEntry) → plain_entry (contents_of (L.lent library.now).0) (L.lent library.now).1 entry
         ≡ Some g → IfOk result (λ n. n ≡ unit_in g.kind) }
 {
     match type_of(library, entry) {

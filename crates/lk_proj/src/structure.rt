@@ -13,7 +13,7 @@ ghost use Rattle.lk_proj.specs.Structures.{structure_in, IsOnlyIn, IsStructureIf
 
 use lk_env::entry::{Entry, Kind};
 use lk_env::lent::type_of;
-use lk_env::library::Library;
+use lk_env::lends::Lends;
 use lk_env::unit::{BlockType, Constructor};
 
 /// What is asked of a type with exactly one constructor, beside that constructor.
@@ -54,6 +54,7 @@ fn structure_by(ty: &BlockType, number: usize, unit: u32) -> Option<Structure>
                 },
                 stated: constructor.ty,
                 unit,
+                origin: unit,
             },
             parameters: ty.parameters,
             indices: ty.indices,
@@ -64,11 +65,11 @@ fn structure_by(ty: &BlockType, number: usize, unit: u32) -> Option<Structure>
 }
 
 /// The type with exactly one constructor that an entry is, where it is one. It takes no memory.
-pub(crate) fn structure_of(library: &Library, entry: Entry) -> Option<Structure>
+pub(crate) fn structure_of<L: Lends>(library: &L, entry: Entry) -> Option<Structure>
     ensures known { IfSome result
-        (λ s. s.constructor.stated < length (contents_of library.now.0).trees) }
-    ensures is { (g : PlainEntry) → plain_entry (contents_of library.now.0) library.now.1 entry
-        ≡ Some g → IsStructureIf library.now result (structure_in g.kind) }
+        (λ s. s.constructor.stated < length (contents_of (L.lent library.now).0).trees) }
+    ensures is { (g : PlainEntry) → plain_entry (contents_of (L.lent library.now).0) (L.lent library.now).1 entry
+        ≡ Some g → IsStructureIf (L.lent library.now) result (structure_in g.kind) }
 {
     match entry.kind {
         Kind::Type(number) => match type_of(library, entry) {

@@ -88,7 +88,7 @@ fn by_name<L: Looks>(
         Ok(entry) => entry,
         Err(rule) => return Ok(Next::No(rule)),
     };
-    match structure_of(looks.library(), entry) {
+    match structure_of(looks.scope(), entry) {
         Some(structure) => by_structure(looks, p, structure, levels, ty),
         None => Ok(Next::No(Rule::BadProjection)),
     }

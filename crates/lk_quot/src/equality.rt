@@ -22,8 +22,8 @@ use crate::names::is_dotted;
 use crate::types::{at_variable, over_elements, relation};
 use lk_ask::looks::Looks;
 use lk_env::entry::Entry;
-use lk_env::lent::type_of;
-use lk_env::library::Library;
+use lk_env::lent::{levels_of, type_of};
+use lk_env::lends::Lends;
 use lk_env::unit::BlockType;
 use lk_store::memory::NoMemory;
 use lk_store::node::{LevelNode, Node};
@@ -86,13 +86,13 @@ fn constructor_part(ty: &BlockType) -> Option<Part>
 }
 
 /// What is read of an entry that may be `Eq`. There is none where it cannot be.
-fn parts_of(library: &Library, entry: Entry) -> Option<Parts>
-    requires { IsEntryIn (contents_of library.now.0) entry }
-    ensures known { IfSome result (ArePartsIn (contents_of library.now.0)) }
-    ensures is { (g : PlainEntry) → plain_entry (contents_of library.now.0) library.now.1 entry
-        ≡ Some g → plain_is_eq g g.kind ≡ are_eq_parts (contents_of library.now.0) result }
+fn parts_of<L: Lends>(library: &L, entry: Entry) -> Option<Parts>
+    requires { IsEntryIn (contents_of (L.lent library.now).0) entry }
+    ensures known { IfSome result (ArePartsIn (contents_of (L.lent library.now).0)) }
+    ensures is { (g : PlainEntry) → plain_entry (contents_of (L.lent library.now).0) (L.lent library.now).1 entry
+        ≡ Some g → plain_is_eq g g.kind ≡ are_eq_parts (contents_of (L.lent library.now).0) result }
 {
-    let level = only(library.levels(entry))?;
+    let level = only(levels_of(library, entry))?;
     let (block, ty) = type_of(library, entry)?;
     let constructor = constructor_part(ty)?;
     if !have_one_constructor(&block.types) {
@@ -200,7 +200,7 @@ pub(crate) fn is_eq<L: Looks>(looks: &mut L, entry: Entry) -> Result<bool, NoMem
         → entry_at (L.sight (L.rest looks.old)).basis entry ≡ Some g
         → b ≡ plain_is_eq g g.kind) }
 {
-    match parts_of(looks.library(), entry) {
+    match parts_of(looks.scope(), entry) {
         Some(parts) => are_eq(looks, parts),
         None => Ok(false),
     }

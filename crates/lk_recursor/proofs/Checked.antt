@@ -18,7 +18,7 @@ use Rattle.lk_recursor.specs.declared.own.Shared.{Shared}
 use Rattle.lk_recursor.specs.declared.own.OwnRecursor.{OwnRecursor}
 use Rattle.lk_recursor.specs.declared.own.Comparison.{Comparison}
 use Rattle.lk_recursor.specs.Comparisons.{own_at, stated_of, own_of, renamed_value, rule_form, parts_form, IsShared, IsOwnRecursor, IsComparison}
-use Rattle.lk_lists.proofs.Stays.{recursor_stays, recursors_stay}
+use Rattle.lk_env.proofs.Stays.{recursor_stays, recursors_stay}
 use Rattle.lk_block.proofs.Shaping.{constructor-steady, shape-steady}
 use Rattle.lk_recursor.proofs.Compared.{own-steady, stated_of-steady, own_of-steady}
 use Rattle.lk_recursor.proofs.Leading.{rules_then}

@@ -13,7 +13,7 @@ use Rattle.lk_recursor.specs.declared.own.Shared.{Shared}
 use Rattle.lk_recursor.specs.declared.own.OwnRecursor.{OwnRecursor}
 use Rattle.lk_recursor.specs.declared.own.Comparison.{Comparison}
 use Rattle.lk_recursor.specs.Comparisons.{own_at, AreNames, IsShared, IsOwnRecursor, stated_of, own_of, IsComparison}
-use Rattle.lk_lists.proofs.Stays.{all_stay, names_stay, names_in_stay, recursor_stays, recursor_in_stays}
+use Rattle.lk_env.proofs.Stays.{all_stay, names_stay, names_in_stay, recursor_stays, recursor_in_stays}
 use Rattle.lk_block.proofs.Shaping.{type-steady, type-known, shape-steady, shape-known}
 use Rattle.lk_recursor.proofs.Steady.{front-steady}
 

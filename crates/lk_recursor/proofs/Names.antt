@@ -5,7 +5,7 @@ use Rattle.std.proofs.lemmas.List.Elements.{All-cons, All-same}
 use Rattle.lk_store.specs.Contents.{Contents, name_at, Extends, IsName}
 use Rattle.lk_inductive.specs.Block as plain
 use Rattle.lk_inductive.specs.Recursors.{motive_level, rec_params}
-use Rattle.lk_lists.proofs.Stays.{names_stay, names_in_stay}
+use Rattle.lk_env.proofs.Stays.{names_stay, names_in_stay}
 
 -- with the one that large elimination adds
 pub names_large : (c d : Contents) (grown : Extends c d) (first : ℕ) (own all : List ℕ) (p : plain.Shape) → All (λ n. n < length c.names) own → p.levels ≡ map (name_at c) own

@@ -6,7 +6,7 @@ use Rattle.lk_spine.specs.Reading.{AreTrees}
 use Rattle.lk_subst.specs.Numbers.{trees-steady, trees-known}
 use Rattle.lk_block.specs.declared.shape.Shape.{Shape}
 use Rattle.lk_block.specs.Shapes.{shape_at, IsShapeIn}
-use Rattle.lk_lists.proofs.Stays.{names_stay, names_in_stay}
+use Rattle.lk_env.proofs.Stays.{names_stay, names_in_stay}
 use Rattle.lk_block.proofs.Shaping.{shape-steady}
 use Rattle.lk_inductive.specs.Block as plain
 use Rattle.lk_inductive.specs.Recursors.{shape_bound, rec_params, motives, minors}

@@ -7,7 +7,7 @@ use Rattle.lk_block.specs.Shapes.{shape_at}
 use Rattle.lk_block.specs.Stages.{recursors_stage}
 use Rattle.lk_block.specs.Wholes.{block_of}
 use Rattle.leancheck.proofs.Staging.{stage_stop, stage_on, moved_thrice, same_table, same_basis}
-use Rattle.lk_lists.proofs.Stays.{recursors_stay, recursors_in_stay}
+use Rattle.lk_env.proofs.Stays.{recursors_stay, recursors_in_stay}
 use Rattle.lk_declaration.specs.Checked.{IsCheckOutcome}
 use Rattle.std.specs.Prelude.{All}
 use Rattle.std.proofs.lemmas.Result.{err_from_is_err_and}

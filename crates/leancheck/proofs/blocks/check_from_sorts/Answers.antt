@@ -8,7 +8,7 @@ use Rattle.lk_block.specs.Parts.{parts_at}
 use Rattle.lk_declaration.specs.Courses.{Goes}
 use Rattle.lk_declaration.specs.Checked.{IsCheckOutcome}
 use Rattle.lk_block.specs.Stages.{flat_stage}
-use Rattle.lk_lists.proofs.Stays.{types_stay, types_in_stay, recursors_stay, recursors_in_stay}
+use Rattle.lk_env.proofs.Stays.{types_stay, types_in_stay, recursors_stay, recursors_in_stay}
 use Rattle.lk_declaration.proofs.Within.{goes_within}
 use Rattle.lk_block.specs.Wholes.{block_of}
 use Rattle.lk_block.specs.Sorts.{sorts_form}

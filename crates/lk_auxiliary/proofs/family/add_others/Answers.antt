@@ -7,7 +7,7 @@ use Rattle.lk_plain.specs.Program.{Program}
 use Rattle.lk_store.specs.Contents.{name_at}
 use Rattle.lk_store.proofs.Extending.{Extends-trans}
 use Rattle.lk_lists.proofs.Lists.{rest_have, first_has}
-use Rattle.lk_lists.proofs.Stays.{type_in_stays}
+use Rattle.lk_env.proofs.Stays.{type_in_stays}
 use Rattle.lk_auxiliary.proofs.Pasts.{refuses_too}
 use Rattle.lk_auxiliary.specs.Auxiliaries.{auxs_at}
 use Rattle.lk_auxiliary.specs.Parts.{one_other, more_others}

@@ -4,7 +4,7 @@ use Rattle.lk_plain.specs.Program.{done}
 use Rattle.lk_store.specs.Contents.{name_at}
 use Rattle.lk_store.proofs.Extending.{Extends-trans}
 use Rattle.lk_subst.specs.Numbers.{trees-known}
-use Rattle.lk_lists.proofs.Stays.{type_in_stays}
+use Rattle.lk_env.proofs.Stays.{type_in_stays}
 use Rattle.lk_auxiliary.specs.Parts.{parts_at, aux_with}
 use Rattle.lk_auxiliary.specs.Places.{levels_of, arguments_of}
 use Rattle.lk_auxiliary.proofs.Families.{parts_stay, parts_known, aux_steady, instance_stays}

@@ -13,7 +13,7 @@ use Rattle.lk_block.specs.Shapes.{type_shape_at, shape_at}
 use Rattle.lk_block.specs.Wholes.{shapes_form, shape_with, large_form}
 use Rattle.lk_declaration.proofs.Running.{goes_on, ends_at, halts_first, halts_later}
 use Rattle.lk_block.proofs.Shaping.{types-steady, types-known}
-use Rattle.lk_lists.proofs.Stays.{types_stay, types_in_stay}
+use Rattle.lk_env.proofs.Stays.{types_stay, types_in_stay}
 use Rattle.lk_block.proofs.block.check_shape.Goals as goal
 
 pub returns-in_err-shapes-clause-outcome : goal.returns-in_err-shapes-clause-outcome

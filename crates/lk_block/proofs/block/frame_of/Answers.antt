@@ -5,7 +5,7 @@ use Rattle.lk_subst.specs.Numbers.{trees-steady, trees-known}
 use Rattle.lk_inductive.specs.Block.{counts_of}
 use Rattle.lk_mentions.proofs.TypeNames.{names_are, names_known}
 use Rattle.lk_block.proofs.Frames.{frame_same}
-use Rattle.lk_lists.proofs.Stays.{types_stay, types_in_stay}
+use Rattle.lk_env.proofs.Stays.{types_stay, types_in_stay}
 use Rattle.lk_block.proofs.block.frame_of.Goals as goal
 
 pub returns-clause-known : goal.returns-clause-known

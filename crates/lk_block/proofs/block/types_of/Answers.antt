@@ -7,7 +7,7 @@ use Rattle.lk_block.specs.Parts.{lists_at}
 use Rattle.lk_block.specs.Wholes.{shapes_form}
 use Rattle.lk_block.proofs.Firsts.{lists-steady}
 use Rattle.lk_declaration.proofs.Moves.{gives_moved}
-use Rattle.lk_lists.proofs.Stays.{types_stay}
+use Rattle.lk_env.proofs.Stays.{types_stay}
 use Rattle.lk_block.proofs.block.types_of.Goals as goal
 
 pub returns-clause-outcome : goal.returns-clause-outcome

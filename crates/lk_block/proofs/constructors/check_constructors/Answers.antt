@@ -18,7 +18,7 @@ use Rattle.lk_block.specs.Parts.{lists_at}
 use Rattle.lk_block.specs.Shapes.{type_shape_at, IsTypeShapeIn}
 use Rattle.lk_block.specs.Constructors.{type_form, shapes_form}
 use Rattle.lk_lists.proofs.Lists.{rest_have, first_has, none_left}
-use Rattle.lk_lists.proofs.Stays.{type_in_stays, constructors_stay}
+use Rattle.lk_env.proofs.Stays.{type_in_stays, constructors_stay}
 use Rattle.lk_block.proofs.Frames.{frame-steady}
 use Rattle.lk_declaration.proofs.Leading.{leads_on, leads_stop, leads_end}
 use Rattle.lk_block.proofs.Shaping.{type-steady, types-known, each-push}

@@ -1,7 +1,7 @@
 use Rattle.std.proofs.Common.{map, sym, ◌∙◌}
 use Rattle.lk_store.specs.Contents.{name_at, tree_at}
 use Rattle.lk_block.proofs.OpenedMentions.{body_mentions}
-use Rattle.lk_lists.proofs.Stays.{names_stay}
+use Rattle.lk_env.proofs.Stays.{names_stay}
 use Rattle.lk_block.proofs.positive.step_under.Goals as goal
 
 pub returns-clause-under : goal.returns-clause-under

@@ -6,7 +6,7 @@ use Rattle.lk_store.proofs.Extending.{Extends-trans}
 use Rattle.lk_env.specs.Units.{constructor_at, type_at, IsTypeIn}
 use Rattle.lk_block.specs.Sorts.{constructors_form, sorts_form}
 use Rattle.lk_lists.proofs.Lists.{rest_have, first_has, none_left}
-use Rattle.lk_lists.proofs.Stays.{type_in_stays}
+use Rattle.lk_env.proofs.Stays.{type_in_stays}
 use Rattle.lk_declaration.proofs.Leading.{leads_on, leads_stop, leads_end}
 use Rattle.lk_block.proofs.Sorted.{types_split, constructors_kept}
 use Rattle.lk_block.proofs.sorts.check_sorts.Goals as goal

@@ -7,7 +7,7 @@ use Rattle.lk_store.specs.Store.{contents_of}
 use Rattle.lk_env.specs.declared.entry.Entry.{Entry}
 use Rattle.lk_env.specs.declared.unit.Unit.{Unit as StoredUnit}
 use Rattle.lk_env.specs.Entries.{plain_entry, IsMeaning}
-use Rattle.lk_env.specs.Places.{place_at}
+use Rattle.lk_env.specs.Scopes.{place_in}
 use Rattle.lk_env.specs.Lent.{parameters_in, HasParameters}
 use Rattle.lk_engine.proofs.parameters.parameters_at.Goals as goal
 
@@ -24,6 +24,6 @@ has_parameters c us w x e count m is = go (w.means x) refl m.given
 pub returns-clause-found : goal.returns-clause-found
 returns-clause-found g c =
     let l = c.args.lookout.now.0 in
-    has_parameters (contents_of l.0) l.1 (place_at l c.args.lookout.now.1) _ c.in_ok-entry.entry
+    has_parameters (contents_of l.0) l.1 (place_in l c.args.lookout.now.1) _ c.in_ok-entry.entry
     c.parameter_count.result
-    c.in_ok-entry.ensures.answer (rw c.library.ensures.is at c.parameter_count.ensures)
+    c.in_ok-entry.ensures.answer (rw c.scope.ensures.is at c.parameter_count.ensures)

@@ -3,7 +3,7 @@ use Rattle.std.proofs.lemmas.List.{length-map}
 use Rattle.std.proofs.lemmas.Result.{err_from_is_err_and}
 use Rattle.lk_rulebook.specs.Place.{Ctor}
 use Rattle.lk_nested.specs.Findings.{found}
-use Rattle.lk_lists.proofs.Stays.{constructor_stays}
+use Rattle.lk_env.proofs.Stays.{constructor_stays}
 use Rattle.lk_env.specs.Units.{constructor_at}
 use Rattle.lk_inductive.specs.Nested.{has_pis}
 use Rattle.lk_store.specs.Contents.{tree_at}

@@ -4,7 +4,7 @@ use Rattle.std.proofs.lemmas.List.Elements.{All-nil, All-same, All-push, All-wea
 use Rattle.std.proofs.lemmas.Result.{err_from_is_err_and}
 use Rattle.lk_nested.specs.Findings.{FindsNothing}
 use Rattle.lk_lists.proofs.Lists.{rest_have, first_has, none_left}
-use Rattle.lk_lists.proofs.Stays.{constructors_stay}
+use Rattle.lk_env.proofs.Stays.{constructors_stay}
 use Rattle.lk_env.specs.Units.{constructor_at, IsConstructorIn}
 use Rattle.lk_store.proofs.Extending.{Extends-trans}
 use Rattle.lk_nested.specs.Pairs.{pairs_at}

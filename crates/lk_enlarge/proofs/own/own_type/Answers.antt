@@ -2,7 +2,7 @@ use Rattle.std.proofs.Common.{◌≡◌, map, sym, ap, subst, ◌∙◌}
 use Rattle.std.proofs.lemmas.Result.{err_from_is_err_and}
 use Rattle.lk_rulebook.specs.Place.{BlockType}
 use Rattle.lk_nested.specs.Findings.{found, FindsNothing}
-use Rattle.lk_lists.proofs.Stays.{type_stays, type_in_stays}
+use Rattle.lk_env.proofs.Stays.{type_stays, type_in_stays}
 use Rattle.lk_env.specs.Units.{constructor_at, type_at}
 use Rattle.lk_auxiliary.specs.Auxiliaries.{auxs_at}
 use Rattle.lk_enlarge.specs.Owns.{all_owns, with_ctors}

@@ -15,14 +15,14 @@ pub returns-in_ok-arguments-in-Some-clause-is : goal.returns-in_ok-arguments-in-
 returns-in_ok-arguments-in-Some-clause-is g c p h =
     let basis = (g.L.Looks.sight (g.L.Terms.rest c.args.looks.now)).basis in
     let d = g.L.Terms.contents c.args.looks.now in
-    let l = c.library.result.now in
+    let l = (g.L.Scope.Lends.lent c.scope.result.now) in
     let ls = list_at d c.args.levels in
     let xs = args (tree_at d c.args.e) in
     let r = given_recursor (contents_of l.0) c.in-Some.recursor.now c.in-Some.field-0-1.now in
-    let there = entry_there basis l c.args.entry p c.library.ensures.is h in
+    let there = entry_there basis l c.args.entry p c.scope.ensures.is h in
     let kind : p.kind ≡ a_rec r = recursor_kind p.kind r (c.in-Some.ensures.value p there) in
     subst (λ (k : Tables × List StoredUnit). IsRedexIf d k c.split.result (redex_by ls xs p p.kind))
-    c.library.ensures.is
+    c.scope.ensures.is
     (redex_of_kind d l c.split.result ls xs p p.kind r kind
     (subst (λ ys. IsRedexIf d l c.split.result (split_at ls p r ys))
     c.in_ok-arguments-in-Some.ensures.are
@@ -33,5 +33,5 @@ returns-in-None-clause-is g c p h =
     let basis = (g.L.Looks.sight (g.L.Terms.rest c.args.looks.now)).basis in
     let d = g.L.Terms.contents c.args.looks.now in
     no_redex_of_kind d basis.library (list_at d c.args.levels) (args (tree_at d c.args.e)) p p.kind
-    (c.in-None.ensures.value p (entry_there basis c.library.result.now c.args.entry p
-    c.library.ensures.is h))
+    (c.in-None.ensures.value p (entry_there basis (g.L.Scope.Lends.lent c.scope.result.now) c.args.entry p
+    c.scope.ensures.is h))

@@ -7,16 +7,16 @@ use Rattle.lk_iota.proofs.rule.rules_of.Goals as goal
 pub returns-in-Some-clause-value : goal.returns-in-Some-clause-value
 returns-in-Some-clause-value g c p r h kind =
     let basis = (g.L.Looks.sight (g.L.Terms.rest c.args.looks.now)).basis in
-    let l = c.library.result.now in
+    let l = (g.L.Scope.Lends.lent c.scope.result.now) in
     let d = g.L.Terms.contents c.args.looks.now in
     let rules = c.in-Some.rules.now in
     rules_are (contents_of l.0) p.kind r c.in-Some.field-0-0.now rules
-    (c.in-Some.ensures.value p (entry_there basis l c.args.entry p c.library.ensures.is h)) kind
+    (c.in-Some.ensures.value p (entry_there basis l c.args.entry p c.scope.ensures.is h)) kind
     ∙ sym (rules_steady (contents_of l.0) d rules
-    (over_there basis l d c.library.ensures.is c.library.ensures.over) c.in-Some.ensures.known.1)
+    (over_there basis l d c.scope.ensures.is c.scope.ensures.over) c.in-Some.ensures.known.1)
 
 pub returns-in-None-clause-value : goal.returns-in-None-clause-value
 returns-in-None-clause-value g c p r h kind =
     let basis = (g.L.Looks.sight (g.L.Terms.rest c.args.looks.now)).basis in
     absurd (no_rules p.kind r (c.in-None.ensures.value p
-    (entry_there basis c.library.result.now c.args.entry p c.library.ensures.is h)) kind)
+    (entry_there basis (g.L.Scope.Lends.lent c.scope.result.now) c.args.entry p c.scope.ensures.is h)) kind)

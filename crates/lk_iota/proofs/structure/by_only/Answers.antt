@@ -8,8 +8,8 @@ pub returns-in-Some : goal.returns-in-Some
 returns-in-Some g c p k at only =
     let sight = g.L.Looks.sight (g.L.Terms.rest c.args.looks.now) in
     let d = g.L.Terms.contents c.args.looks.now in
-    let there = entry_there sight.basis c.library.result.now c.args.constructor.entry k.entry
-    c.library.ensures.is only.stands.entry_is in
+    let there = entry_there sight.basis (g.L.Scope.Lends.lent c.scope.result.now) c.args.constructor.entry k.entry
+    c.scope.ensures.is only.stands.entry_is in
     let is = builds d k k.entry.kind only.stands.kind_is c.in-Some.field-0
     (rw c.in-Some.is at c.in_ok-structure_of.ensures.is k.entry there) in
     gives_now c.args.looks.now _ _ (c.requires.m_in, (c.requires.e_in, c.requires.m_in))
@@ -20,8 +20,8 @@ pub returns-in-None : goal.returns-in-None
 returns-in-None g c p k at only =
     let sight = g.L.Looks.sight (g.L.Terms.rest c.args.looks.now) in
     let d = g.L.Terms.contents c.args.looks.now in
-    let there = entry_there sight.basis c.library.result.now c.args.constructor.entry k.entry
-    c.library.ensures.is only.stands.entry_is in
+    let there = entry_there sight.basis (g.L.Scope.Lends.lent c.scope.result.now) c.args.constructor.entry k.entry
+    c.scope.ensures.is only.stands.entry_is in
     let is = builds_none d k k.entry.kind only.stands.kind_is
     (rw c.in-None.is at c.in_ok-structure_of.ensures.is k.entry there) in
     gives_now c.args.looks.now _ _ c.requires.e_in

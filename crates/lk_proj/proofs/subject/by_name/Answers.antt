@@ -14,10 +14,10 @@ use Rattle.lk_proj.proofs.subject.by_name.Goals as goal
 
 pub by_structure-requires-clause-structure_in : goal.by_structure-requires-clause-structure_in
 by_structure-requires-clause-structure_in g c =
-    stated_known c.library.result.now (g.L.Looks.sight (g.L.Terms.rest
+    stated_known (g.L.Scope.Lends.lent c.scope.result.now) (g.L.Looks.sight (g.L.Terms.rest
     c.look.new.self)).basis.library
-    (g.L.Terms.contents c.look.new.self) c.in-Some.structure c.library.ensures.is
-    c.library.ensures.over
+    (g.L.Terms.contents c.look.new.self) c.in-Some.structure c.scope.ensures.is
+    c.scope.ensures.over
     c.in-Some.ensures.known
 
 pub returns-in-Some : goal.returns-in-Some
@@ -28,9 +28,9 @@ returns-in-Some g c =
     let w = sight.basis.place in
     let p = c.args.p in
     let h = c.in-Ok.ensures.found in
-    let l = c.library.result.now in
+    let l = (g.L.Scope.Lends.lent c.scope.result.now) in
     let m = looked.basis.library in
-    let is = c.library.ensures.is in
+    let is = c.scope.ensures.is in
     let S = name_at before p.structure in
     let s = tree_at before p.subject in
     let T = tree_at before c.args.ty in
@@ -40,7 +40,7 @@ returns-in-Some g c =
     let found = some_structure l c.in-Some.structure _ (c.in-Some.ensures.is h.entry at) in
     let q = found.0 in
     let known = c.in-Some.ensures.known in
-    let over = c.library.ensures.over in
+    let over = c.scope.ensures.over in
     same_steps (sym
     (found_goes w a_tree S UnknownConstant (λ (y : PlainEntry). of_kind S p.field s T ls y.kind)
     sight.basis.library
@@ -66,9 +66,9 @@ returns-in-None g c =
     let s = tree_at before p.subject in
     let T = tree_at before c.args.ty in
     let ls = list_at before c.args.levels in
-    let at = entry_there sight.basis c.library.result.now c.in-Ok.entry h.entry
-    (c.library.ensures.is ∙ ap (λ (b : Basis _). b.library) c.look.ensures.stays) h.is in
-    let none = none_structure c.library.result.now _ (c.in-None.ensures.is h.entry at) in
+    let at = entry_there sight.basis (g.L.Scope.Lends.lent c.scope.result.now) c.in-Ok.entry h.entry
+    (c.scope.ensures.is ∙ ap (λ (b : Basis _). b.library) c.look.ensures.stays) h.is in
+    let none = none_structure (g.L.Scope.Lends.lent c.scope.result.now) _ (c.in-None.ensures.is h.entry at) in
     record {
       keeps = search rules;
       stays = search rules;

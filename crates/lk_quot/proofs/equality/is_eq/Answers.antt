@@ -15,19 +15,19 @@ pub returns-in-Some-clause-ok : goal.returns-in-Some-clause-ok
 returns-in-Some-clause-ok g c =
     let basis = (g.L.Looks.sight (g.L.Terms.rest c.args.looks.now)).basis in
     let d = g.L.Terms.contents c.args.looks.now in
-    let base = contents_of c.library.result.now.0 in
+    let base = contents_of (g.L.Scope.Lends.lent c.scope.result.now).0 in
     let p = c.in-Some.parts in
     let over : Extends base d =
-    subst (λ (l : Tables × List StoredUnit). Extends (contents_of l.0) d) (sym c.library.ensures.is)
-    c.library.ensures.over in
+    subst (λ (l : Tables × List StoredUnit). Extends (contents_of l.0) d) (sym c.scope.ensures.is)
+    c.scope.ensures.over in
     answered_as c.are_eq.result (are_eq_parts d (Some p))
     (λ b. (e : PlainEntry) → entry_at basis c.args.entry ≡ Some e → b ≡ is_eq e e.kind)
     c.are_eq.ensures.ok (λ e h. parts_steady base d over p c.in-Some.ensures.known
     ∙ sym (c.in-Some.ensures.is e (subst (λ (l : Tables × List StoredUnit).
-    plain_entry (contents_of l.0) l.1 c.args.entry ≡ Some e) (sym c.library.ensures.is) h)))
+    plain_entry (contents_of l.0) l.1 c.args.entry ≡ Some e) (sym c.scope.ensures.is) h)))
 
 pub returns-in-None-clause-ok : goal.returns-in-None-clause-ok
 returns-in-None-clause-ok g c e h =
     let basis = (g.L.Looks.sight (g.L.Terms.rest c.args.looks.now)).basis in
     sym (c.in-None.ensures.is e (subst (λ (l : Tables × List StoredUnit).
-    plain_entry (contents_of l.0) l.1 c.args.entry ≡ Some e) (sym c.library.ensures.is) h))
+    plain_entry (contents_of l.0) l.1 c.args.entry ≡ Some e) (sym c.scope.ensures.is) h))

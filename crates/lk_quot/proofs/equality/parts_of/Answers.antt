@@ -14,45 +14,45 @@ use Rattle.lk_quot.proofs.Parts.{one_count}
 use Rattle.lk_quot.proofs.equality.parts_of.Goals as goal
 
 pub returns-in_err-block-clause-is : goal.returns-in_err-block-clause-is
-returns-in_err-block-clause-is c g h =
-    no_type g g.kind (c.in_err-block.ensures.value g h)
-    ∙ sym (ap (are_eq_parts (contents_of c.args.library.now.0))
+returns-in_err-block-clause-is g c e h =
+    no_type e e.kind (c.in_err-block.ensures.value e h)
+    ∙ sym (ap (are_eq_parts (contents_of (g.L.Lends.lent c.args.library.now).0))
     c.from_residual-in_err-block.ensures)
 
 pub returns-in_err-constructor-clause-is : goal.returns-in_err-constructor-clause-is
-returns-in_err-constructor-clause-is c g h =
-    let base = contents_of c.args.library.now.0 in
-    no_refl g (block_at base c.in_ok-block.block.now) (type_at base c.in_ok-block.ty.now) g.kind
-    (c.in_ok-block.ensures.value g h) (c.in_err-constructor.ensures.is base)
+returns-in_err-constructor-clause-is g c e h =
+    let base = contents_of (g.L.Lends.lent c.args.library.now).0 in
+    no_refl e (block_at base c.in_ok-block.block.now) (type_at base c.in_ok-block.ty.now) e.kind
+    (c.in_ok-block.ensures.value e h) (c.in_err-constructor.ensures.is base)
     ∙ sym (ap (are_eq_parts base) c.from_residual-in_err-constructor.ensures)
 
 pub returns-then-not-have_one_constructor-clause-is :
     goal.returns-then-not-have_one_constructor-clause-is
-returns-then-not-have_one_constructor-clause-is c g h =
-    let base = contents_of c.args.library.now.0 in
+returns-then-not-have_one_constructor-clause-is g c e h =
+    let base = contents_of (g.L.Lends.lent c.args.library.now).0 in
     let b = c.in_ok-block.block.now in
     let count : nat_eq (length (ctors_from (map (type_at base) b.types.items))) 1 ≡ false =
     ap (λ n. nat_eq n 1) (counted base b.types.items)
     ∙ sym (c.have_one_constructor.ensures
     ∙ ap (λ ts. nat_eq (sum_by constructor_count ts) 1) c.deref.ensures.value)
     ∙ c.if-not-have_one_constructor.true in
-    other_count g (block_at base b) (type_at base c.in_ok-block.ty.now) g.kind
-    (c.in_ok-block.ensures.value g h) count
+    other_count e (block_at base b) (type_at base c.in_ok-block.ty.now) e.kind
+    (c.in_ok-block.ensures.value e h) count
 
 pub returns-clause-known : goal.returns-clause-known
-returns-clause-known c =
-    let base = contents_of c.args.library.now.0 in
+returns-clause-known g c =
+    let base = contents_of (g.L.Lends.lent c.args.library.now).0 in
     record {
-      level_in = only_in (length base.names) c.levels.result.now c.in_ok-level.level.now
-          c.levels.ensures.known c.in_ok-level.ensures;
+      level_in = only_in (length base.names) c.levels_of.result.now c.in_ok-level.level.now
+          c.levels_of.ensures.known c.in_ok-level.ensures;
       ty_in = c.requires.stated_in;
       constructor_in = c.in_ok-constructor.ensures.known base c.in_ok-block.ensures.known.type_in;
     }
 
 pub returns-clause-is : goal.returns-clause-is
-returns-clause-is c g h =
-    let base = contents_of c.args.library.now.0 in
-    let us = c.args.library.now.1 in
+returns-clause-is g c e h =
+    let base = contents_of (g.L.Lends.lent c.args.library.now).0 in
+    let us = (g.L.Lends.lent c.args.library.now).1 in
     let b = c.in_ok-block.block.now in
     let u = c.in_ok-level.level.now in
     let count : nat_eq (length (ctors_from (map (type_at base) b.types.items))) 1 ≡ true =
@@ -60,11 +60,10 @@ returns-clause-is c g h =
     ∙ sym (c.have_one_constructor.ensures
     ∙ ap (λ ts. nat_eq (sum_by constructor_count ts) 1) c.deref.ensures.value)
     ∙ c.if-not-have_one_constructor.false in
-    let levels : g.levels ≡ name_at base u ∷ [] =
-    of_some (λ (y : PlainEntry). y.levels ≡ map (name_at base) c.levels.result.now)
-    (plain_entry base us c.args.entry) g c.levels.ensures.value h
-    ∙ ap (map (name_at base)) (only_is c.levels.result.now u c.in_ok-level.ensures) in
-    one_count g (block_at base b) (type_at base c.in_ok-block.ty.now) g.kind
-    (c.in_ok-block.ensures.value g h) (name_at base u ∷ []) (tree_at base c.args.entry.stated)
+    let levels : e.levels ≡ name_at base u ∷ [] =
+    c.levels_of.ensures.value e h
+    ∙ ap (map (name_at base)) (only_is c.levels_of.result.now u c.in_ok-level.ensures) in
+    one_count e (block_at base b) (type_at base c.in_ok-block.ty.now) e.kind
+    (c.in_ok-block.ensures.value e h) (name_at base u ∷ []) (tree_at base c.args.entry.stated)
     (is_refl_part base (Some c.in_ok-constructor.constructor)) levels
-    (entry_type base us c.args.entry g h) (c.in_ok-constructor.ensures.is base) count
+    (entry_type base us c.args.entry e h) (c.in_ok-constructor.ensures.is base) count

@@ -8,7 +8,7 @@ use Rattle.lk_inductive.specs.Recursors.{recursors}
 use Rattle.lk_inductive.specs.Compare.{rec_named, compare_found, compare_steps}
 use Rattle.lk_block.specs.Shapes.{shape_at}
 use Rattle.lk_lists.proofs.Lists.{rest_have, first_has}
-use Rattle.lk_lists.proofs.Stays.{recursor_in_stays}
+use Rattle.lk_env.proofs.Stays.{recursor_in_stays}
 use Rattle.lk_recursor.proofs.Compared.{shared-known}
 use Rattle.lk_recursor.proofs.Checked.{recursors_step, none_stated}
 use Rattle.lk_declaration.proofs.Leading.{split_bind, leads_on, leads_stop, leads_end}

@@ -7,7 +7,7 @@ use Rattle.lk_env.specs.Units.{recursor_at}
 use Rattle.lk_inductive.specs.Compare.{rec_steps}
 use Rattle.lk_block.specs.Shapes.{shape_at}
 use Rattle.lk_recursor.specs.Comparisons.{own_at}
-use Rattle.lk_lists.proofs.Stays.{recursor_in_stays, names_stay}
+use Rattle.lk_env.proofs.Stays.{recursor_in_stays, names_stay}
 use Rattle.lk_recursor.proofs.Compared.{shared-known, own-known}
 use Rattle.lk_recursor.proofs.Checked.{pair-steady}
 use Rattle.lk_declaration.proofs.Moves.{gives_moved}

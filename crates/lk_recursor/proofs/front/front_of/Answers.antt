@@ -8,7 +8,7 @@ use Rattle.lk_inductive.specs.Block as plain
 use Rattle.lk_inductive.specs.Recursors.{minors, rec_params, shape_bound}
 use Rattle.lk_block.specs.Shapes.{shape_at, type_shape_at}
 use Rattle.lk_recursor.proofs.Fronts.{front_made}
-use Rattle.lk_lists.proofs.Stays.{names_stay, names_in_stay}
+use Rattle.lk_env.proofs.Stays.{names_stay, names_in_stay}
 use Rattle.lk_block.proofs.Shaping.{shape-steady, shape-known}
 use Rattle.lk_recursor.proofs.Steady.{list-steady, heads-steady}
 use Rattle.lk_recursor.proofs.front.front_of.Goals as goal

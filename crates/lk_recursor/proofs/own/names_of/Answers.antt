@@ -4,7 +4,7 @@ use Rattle.lk_inductive.specs.Recursors.{rec_name}
 use Rattle.lk_store.proofs.Extending.{Extends-trans}
 use Rattle.lk_block.specs.Shapes.{IsTypeShapeIn}
 use Rattle.lk_lists.proofs.Lists.{rest_have, first_has}
-use Rattle.lk_lists.proofs.Stays.{names_in_stay}
+use Rattle.lk_env.proofs.Stays.{names_in_stay}
 use Rattle.lk_recursor.proofs.Compared.{own_names_more, own_names_end}
 use Rattle.lk_recursor.proofs.own.names_of.Goals as goal
 

@@ -1,7 +1,9 @@
-use Rattle.std.proofs.Common.{ap, ◌∙◌}
-use Rattle.lk_engine.specs.Lookouts.{standing_at}
+use Rattle.std.proofs.Common.{[], ap, ◌∙◌}
+use Rattle.lk_questions.specs.Table.{steps}
+use Rattle.lk_engine.specs.Lookouts.{places_at}
+use Rattle.lk_engine.proofs.Lookouts.{gives_standing}
 use Rattle.lk_engine.proofs.engine.EngineAsks.give.Goals as goal
 
 pub returns-clause-standing : goal.returns-clause-standing
-returns-clause-standing c = ap (λ s. standing_at s.0 s.1) c.give_in.ensures ∙ ap
-    (λ s. standing_at s.0 (record { unit = s.1.unit; partial = c.args.partial })) c.self.view_is
+returns-clause-standing c = gives_standing c.give_in.ensures ∙ ap
+    (λ s. record { basis = (s.0.2, s.1.unit); table = steps; place = places_at (s.0.2, s.1.unit) c.args.partial [] }) c.self.view_is

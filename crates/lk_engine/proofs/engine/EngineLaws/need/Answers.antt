@@ -1,7 +1,7 @@
 use Rattle.std.proofs.Common.{None, ap, subst, ◌∙◌}
 use Rattle.lk_plain.specs.Settled.{settle}
 use Rattle.lk_store.specs.Store.{over, contents_of}
-use Rattle.lk_env.specs.Places.{place_at}
+use Rattle.lk_env.specs.Scopes.{place_in}
 use Rattle.lk_quot.specs.Units.{IsMet}
 use Rattle.lk_laws.specs.Needs.{needed_steps}
 use Rattle.lk_engine.specs.Lookouts.{standing_at, Stays}
@@ -22,5 +22,5 @@ returns-clause-stays c =
 
 pub returns-clause-outcome : goal.returns-clause-outcome
 returns-clause-outcome c =
-    subst (λ s. IsMet (settle (place_at s.0 s.1) None (needed_steps c.args.needed))
+    subst (λ s. IsMet (settle (place_in s.0 s.1) None (needed_steps c.args.needed))
     c.is_given.result) c.self.view_is c.is_given.ensures.outcome

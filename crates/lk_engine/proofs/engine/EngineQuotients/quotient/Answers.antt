@@ -3,7 +3,7 @@ use Rattle.lk_plain.specs.Settled.{settle}
 use Rattle.lk_questions.specs.QuotientUnits.{quot_steps}
 use Rattle.lk_store.specs.Contents.{name_at, tree_at}
 use Rattle.lk_store.specs.Store.{over, contents_of}
-use Rattle.lk_env.specs.Places.{place_at}
+use Rattle.lk_env.specs.Scopes.{place_in}
 use Rattle.lk_quot.specs.Units.{IsMet}
 use Rattle.lk_engine.specs.Lookouts.{standing_at, Stays}
 use Rattle.lk_engine.proofs.Lookouts.{sight_stays, standing_stays, looked_stands}
@@ -23,6 +23,6 @@ returns-clause-stays c =
 
 pub returns-clause-outcome : goal.returns-clause-outcome
 returns-clause-outcome c = subst (λ s. let k = contents_of (over s.2.0 s.2.1) in
-    IsMet (settle (place_at s.0 s.1) None (quot_steps (name_at k c.args.name)
+    IsMet (settle (place_in s.0 s.1) None (quot_steps (name_at k c.args.name)
     (map (name_at k) c.args.levels.now) (tree_at k c.args.ty))) c.may_stand.result)
     c.self.view_is c.may_stand.ensures.outcome
