@@ -1,7 +1,6 @@
 -- Names, constructors and types that agree, and those that are left.
-use Rattle.std.proofs.Common.{◌≡◌, ◌+◌, ℕ, suc, Bool, true, false, List, [], ◌∷◌, map, length, All, refl, ap, subst, ◌∙◌, ◌&&◌, ◌↔◌, IsTrue, arith}
-use Rattle.std.proofs.lemmas.List.Elements.{All-head, All-tail}
-use Rattle.lk_tree.specs.Tree.{Name, name_discrete}
+use Rattle.std.proofs.Common.{◌≡◌, ◌+◌, ℕ, suc, true, List, ◌∷◌, map, ap, ◌∙◌, ◌&&◌, arith}
+use Rattle.lk_tree.specs.Tree.{Name}
 use Rattle.lk_tree.specs.Mentions.{same_name}
 use Rattle.lk_rulebook.specs.Place.{BlockType, Ctor}
 use Rattle.lk_inductive.specs.BlockSteps.{same_names, ctor_agrees, ctors_agree, types_agree}

@@ -1,8 +1,8 @@
 -- Types that are listed, terms that mention no name, and arguments past the parameters.
-use Rattle.std.proofs.Common.{◌≡◌, ◌↔◌, ◌&&◌, ◌||◌, ℕ, Bool, true, false, IsTrue, List, ◌∷◌, map, Some, None, nat_eq, if◌then◌else◌, refl, ap}
-use Rattle.lk_tree.specs.Tree.{Name, Tree, tree_discrete, const}
+use Rattle.std.proofs.Common.{◌≡◌, ◌&&◌, ◌||◌, ℕ, Bool, true, false, List, ◌∷◌, map, Some, None, nat_eq, if◌then◌else◌, ap}
+use Rattle.lk_tree.specs.Tree.{Name, Tree, const}
 use Rattle.lk_tree.specs.Mentions.{same_name}
-use Rattle.lk_questions.specs.Steps.{decided, is_same_tree}
+use Rattle.lk_questions.specs.Steps.{is_same_tree}
 use Rattle.lk_store.specs.Contents.{Contents, name_at, tree_at}
 use Rattle.lk_env.specs.declared.unit.BlockType.{BlockType}
 use Rattle.lk_mentions.specs.Names.{names_at}

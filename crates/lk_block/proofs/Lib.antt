@@ -13,4 +13,5 @@ pub mod Shaping
 pub mod EachField
 pub mod EachConstructor
 pub mod Agreed
+pub mod Locals
 pub mod ParameterLevels

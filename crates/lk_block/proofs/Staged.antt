@@ -1,24 +1,26 @@
 -- A task runs as its pieces run one after another.
-use Rattle.std.proofs.Common.{◌≡◌, ℕ, suc, ◌-◌, ◌++◌, true, Option, None, Some, List, [], refl, sym, subst}
+use Rattle.std.proofs.Common.{◌≡◌, ℕ, suc, ◌-◌, ◌++◌, true, Option, None, Some, List, [], refl, sym, subst, ◌∙◌}
+use Rattle.std.proofs.lemmas.List.{append-nil}
 use Rattle.lk_tree.specs.declared.rule.Rule.{Rule}
-use Rattle.lk_rulebook.specs.Place.{Place, Entry, Block, BlockRecursor, type_names}
-use Rattle.lk_rulebook.specs.Units.{Members, of_block, place_of, partial_types, partial_members}
+use Rattle.lk_rulebook.specs.Place.{Place, Entry, Block, BlockRecursor}
+use Rattle.lk_rulebook.specs.Units.{Members, Library, of_block, place_of, partial_types, partial_members}
 use Rattle.lk_plain.specs.Query.{Query, AnswerTo, core, whnf, infer, same}
 use Rattle.lk_plain.specs.Program.{Program, Table, done, refuse, ask, look}
 use Rattle.lk_plain.specs.Answer.{Outcome, answered, refused, spent, after, and_then, looked_up, plain_answer}
 use Rattle.lk_plain.specs.Erased.{truth, value_of, Out, finished, stopped, used_up, seen, go_on, left_of, out_of}
-use Rattle.lk_env.specs.declared.entry.Partial.{Partial}
-use Rattle.lk_env.specs.Places.{partial_of}
+use Rattle.lk_env.specs.Places.{partial_beside}
 use Rattle.lk_inductive.specs.Block.{parameters_of, Shape}
 use Rattle.lk_inductive.specs.BlockSteps.{TypeParts, counts_steps, types_steps, all_ctor_sorts, shape_steps}
-use Rattle.lk_inductive.specs.Recursors.{recursors}
+use Rattle.lk_inductive.specs.Recursors.{recursors_by}
 use Rattle.lk_inductive.specs.Compare.{compare_steps}
-use Rattle.lk_inductive.specs.Flat.{flat_types}
-use Rattle.lk_inductive.specs.FlatTask.{flat_recs}
+use Rattle.lk_inductive.specs.Enlarged.{Larger, larger_block, setting_of, bare_entries}
+use Rattle.lk_inductive.specs.Nested.{enlarge, aux_sorts}
+use Rattle.lk_inductive.specs.NestedTask.{nested_recs, nested_shape, whole_task}
+use Rattle.lk_inductive.specs.Restore.{restoring_of}
 use Rattle.lk_inductive.specs.Task.{Task, done_with, here, give_partial, ◌>>=◌, run_task}
-use Rattle.lk_block.specs.Stages.{recursors_stage, shape_stage, flat_stage, sorts_stage, types_stage}
+use Rattle.lk_block.specs.Stages.{Places, larger_parts, recursors_stage, shape_stage, auxiliary_stage, larger_stage, sorts_stage, types_stage, block_stages}
 use Rattle.lk_declaration.specs.Courses.{answer_then, look_then, run_then}
-use Rattle.lk_block.specs.Agreeing.{Agrees, FlatGoesByStages}
+use Rattle.lk_block.specs.Agreeing.{Agrees, GoesByStages}
 
 after_agrees : {A : Type 0} (c : ℕ) (t s : Option ℕ) (o : Outcome A) (p : Out) → Agrees o p → Agrees (after c t o) (seen s p)
 after_agrees c t s (answered v d u) (finished w left last) h = tt
@@ -62,36 +64,71 @@ module _ (places : Members → Place) (table : Table) {A B : Type 0} (h : Member
       looked_agrees r ((places h).means c) ((places h).origin c) ((places h).flaw c) (λ e. run_task places (λ w. plain_answer table w) h left (here (f e) >>= k)) (λ e. run_then (out_of table (places h)) (places h) (f e) left K)
       (λ e. piece_agrees (f e) left)
 
-pub goes_by_stages : FlatGoesByStages
-goes_by_stages table us n b rs budget =
-    let places : Members → Place = place_of us n in
-    let given : Partial → Place = λ p. place_of us n (partial_of (of_block b rs) p) in
-    piece_agrees places table [] (λ y. whole_rest b rs (suc budget)) (λ y rest. types_stage table given (suc budget) b rs rest)
-    (λ y rest.
-    piece_agrees places table [] (types_rest b rs (suc budget)) (sorts_stage table given (suc budget) b rs)
-    (λ ts rest.
-    piece_agrees places table (partial_types b) (λ ls. sorts_rest b rs (suc budget) ts) (λ ls rest. flat_stage table given (suc budget) b rs ts rest)
-    (λ ls rest.
-    piece_agrees places table (partial_types b) (λ z. flat_rest b rs (suc budget) ts) (λ z rest. shape_stage table given (suc budget) b rs ts rest)
-    (λ z rest.
-    piece_agrees places table (partial_types b) (flat_recs b rs) (recursors_stage table given rs)
-    (λ s rest.
-    piece_agrees places table (partial_types b ++ partial_members b rs) (λ y. done_with s) (λ y left. finished (truth true) left None)
-    (λ y left. tt) (compare_steps (recursors s) rs) rest)
-    (shape_steps (suc budget) b ts) rest)
-    (flat_types (type_names b.types) b.types) rest)
-    (all_ctor_sorts b.types) rest)
-    (types_steps (parameters_of b) b.types) rest)
-    (counts_steps b) budget
-  where
-    flat_rest : Block → List BlockRecursor → ℕ → TypeParts → Task Shape
-    flat_rest b rs fuel ts = here (shape_steps fuel b ts) >>= flat_recs b rs
+  -- the same where what is partial is told in another way
+  stage_agrees : (h' : Members) → h ≡ h' → (p : Program A) (left : ℕ) → Agrees (run_task places (λ w. plain_answer table w) h left (here p >>= k)) (run_then (out_of table (places h')) (places h') p left K)
+  stage_agrees h' e p left = subst (λ x. Agrees (run_task places (λ w. plain_answer table w) h left (here p >>= k)) (run_then (out_of table (places x)) (places x) p left K)) e (piece_agrees p left)
 
-    sorts_rest : Block → List BlockRecursor → ℕ → TypeParts → Task Shape
-    sorts_rest b rs fuel ts = here (flat_types (type_names b.types) b.types) >>= λ z. flat_rest b rs fuel ts
+-- no auxiliary type is partial, or nothing after them
+beside_nothing : (ms : Members) → ms ≡ (ms ++ []) ++ []
+beside_nothing ms = sym (append-nil (ms ++ []) ∙ append-nil ms)
 
-    types_rest : Block → List BlockRecursor → ℕ → TypeParts → Task Shape
-    types_rest b rs fuel ts = give_partial (partial_types b) >>= λ h. here (all_ctor_sorts b.types) >>= λ ls. sorts_rest b rs fuel ts
+beside : (ms aux : Members) → ms ++ aux ≡ (ms ++ aux) ++ []
+beside ms aux = sym (append-nil (ms ++ aux))
 
-    whole_rest : Block → List BlockRecursor → ℕ → Task Shape
-    whole_rest b rs fuel = here (types_steps (parameters_of b) b.types) >>= types_rest b rs fuel
+module _ (table : Table) (us : Library) (n : ℕ) (b : Block) (rs : List BlockRecursor) (fuel : ℕ) where
+  abbrev places : Members → Place
+  places = place_of us n
+
+  abbrev given : Places
+  given p aux = place_of us n (partial_beside (of_block b rs) p aux)
+
+  abbrev types : Members
+  types = partial_types b
+
+  module _ (ts : TypeParts) (lg : Larger) where
+    abbrev bare : Members
+    bare = bare_entries lg.aux
+
+    compare_agrees : (s : Shape) (left : ℕ) → Agrees (run_task places (λ w. plain_answer table w) (types ++ bare) left (nested_recs b rs (setting_of b ts.params) lg s)) (recursors_stage table given b rs ts lg s left)
+    compare_agrees s left =
+        piece_agrees places table ((types ++ bare) ++ partial_members b rs) (λ y. done_with s) (λ y left. finished (truth true) left None) (λ y left. tt)
+        (compare_steps (recursors_by (restoring_of b (setting_of b ts.params) lg) s) rs) left
+
+    shape_agrees : (left : ℕ) → Agrees (run_task places (λ w. plain_answer table w) types left (nested_shape fuel b rs ts lg)) (shape_stage table given fuel b rs ts lg left)
+    shape_agrees left =
+        stage_agrees places table (types ++ bare) (nested_recs b rs (setting_of b ts.params) lg) (recursors_stage table given b rs ts lg) compare_agrees
+        ((types ++ bare) ++ []) (beside types bare) (shape_steps fuel (larger_block lg) (larger_parts ts lg)) left
+
+    auxiliary_agrees : (left : ℕ) → Agrees (run_task places (λ w. plain_answer table w) types left (here (aux_sorts ts.sort lg.auxs) >>= λ z. nested_shape fuel b rs ts lg)) (auxiliary_stage table given fuel b rs ts lg left)
+    auxiliary_agrees left =
+        stage_agrees places table types (λ z. nested_shape fuel b rs ts lg) (λ z rest. shape_stage table given fuel b rs ts lg rest) (λ z rest. shape_agrees rest)
+        ((types ++ []) ++ []) (beside_nothing types) (aux_sorts ts.sort lg.auxs) left
+
+  module _ (ts : TypeParts) where
+    abbrev larger_rest : Task Shape
+    larger_rest = here (enlarge (setting_of b ts.params) b.types) >>= λ lg. here (aux_sorts ts.sort lg.auxs) >>= λ z. nested_shape fuel b rs ts lg
+
+    larger_agrees : (left : ℕ) → Agrees (run_task places (λ w. plain_answer table w) types left larger_rest) (larger_stage table given fuel b rs ts left)
+    larger_agrees left =
+        stage_agrees places table types (λ lg. here (aux_sorts ts.sort lg.auxs) >>= λ z. nested_shape fuel b rs ts lg) (auxiliary_stage table given fuel b rs ts) (auxiliary_agrees ts)
+        ((types ++ []) ++ []) (beside_nothing types) (enlarge (setting_of b ts.params) b.types) left
+
+    abbrev sorts_rest : Task Shape
+    sorts_rest = give_partial types >>= λ h. here (all_ctor_sorts b.types) >>= λ ls. larger_rest
+
+    sorts_agree : (left : ℕ) → Agrees (run_task places (λ w. plain_answer table w) [] left sorts_rest) (sorts_stage table given fuel b rs ts left)
+    sorts_agree left =
+        stage_agrees places table types (λ ls. larger_rest) (λ ls rest. larger_stage table given fuel b rs ts rest) (λ ls rest. larger_agrees rest)
+        ((types ++ []) ++ []) (beside_nothing types) (all_ctor_sorts b.types) left
+
+  abbrev types_rest : Task Shape
+  types_rest = here (types_steps (parameters_of b) b.types) >>= sorts_rest
+
+  types_agree : (left : ℕ) → Agrees (run_task places (λ w. plain_answer table w) [] left types_rest) (types_stage table given fuel b rs left)
+  types_agree left = piece_agrees places table [] sorts_rest (sorts_stage table given fuel b rs) sorts_agree (types_steps (parameters_of b) b.types) left
+
+  all_agree : (left : ℕ) → Agrees (run_task places (λ w. plain_answer table w) [] left (whole_task fuel b rs)) (block_stages table given fuel b rs left)
+  all_agree left = piece_agrees places table [] (λ y. types_rest) (λ y rest. types_stage table given fuel b rs rest) (λ y rest. types_agree rest) (counts_steps b) left
+
+pub goes_by_stages : GoesByStages
+goes_by_stages table us n b rs budget = all_agree table us n b rs (suc budget) budget

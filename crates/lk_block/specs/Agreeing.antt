@@ -5,8 +5,8 @@ use Rattle.lk_rulebook.specs.Units.{Library, of_block, place_of}
 use Rattle.lk_plain.specs.Answer.{Outcome, answered, refused, spent}
 use Rattle.lk_plain.specs.Erased.{Out, finished, stopped, used_up}
 use Rattle.lk_plain.specs.Program.{Table}
-use Rattle.lk_env.specs.Places.{partial_of}
-use Rattle.lk_inductive.specs.FlatTask.{plain_flat}
+use Rattle.lk_env.specs.Places.{partial_beside}
+use Rattle.lk_inductive.specs.NestedTask.{plain_whole}
 use Rattle.lk_block.specs.Stages.{block_stages}
 
 -- both are an answer, one refusal, or the budget is used up
@@ -17,6 +17,6 @@ Agrees spent used_up = Unit {0}
 Agrees _ _ = ⊥
 
 -- so it is with the plain outcome of a block as unit n and that of its stages
-abbrev pub FlatGoesByStages : Type 0
-FlatGoesByStages = (table : Table) (us : Library) (n : ℕ) (b : Block) (rs : List BlockRecursor) (budget : ℕ)
-    → Agrees (plain_flat table us n b rs budget) (block_stages table (λ p. place_of us n (partial_of (of_block b rs) p)) (suc budget) b rs budget)
+abbrev pub GoesByStages : Type 0
+GoesByStages = (table : Table) (us : Library) (n : ℕ) (b : Block) (rs : List BlockRecursor) (budget : ℕ)
+    → Agrees (plain_whole table us n b rs budget) (block_stages table (λ p aux. place_of us n (partial_beside (of_block b rs) p aux)) (suc budget) b rs budget)

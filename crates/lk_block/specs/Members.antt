@@ -1,5 +1,5 @@
 -- A term as a type of the block, applied to the block's parameters and to indices.
-use Rattle.std.specs.Prelude.{ℕ, ◌<◌, List, length, map, Option, Some, None, if◌then◌else◌}
+use Rattle.std.specs.Prelude.{◌<◌, List, length, map, Option, Some, None, if◌then◌else◌}
 use Rattle.lk_tree.specs.Tree.{Name, Level, Tree, const}
 use Rattle.lk_questions.specs.Steps.{is_same_tree}
 use Rattle.lk_store.specs.Contents.{Contents, name_at, tree_at}

@@ -1,19 +1,13 @@
 -- A block by its types alone, and its constructors and large elimination as the code asks them.
 use Rattle.std.specs.Prelude.{ℕ, Bool, List}
 use Rattle.lk_tree.specs.Tree.{Level, Tree}
-use Rattle.lk_rulebook.specs.Place.{Block, BlockType, type_names}
+use Rattle.lk_rulebook.specs.Place.{Block, BlockType}
 use Rattle.lk_plain.specs.Program.{Program, done, ◌>>=◌}
-use Rattle.lk_questions.specs.Declarations.{Yes}
 use Rattle.lk_inductive.specs.Block.{levels_of, frame_of, TypeShape, Shape}
 use Rattle.lk_inductive.specs.BlockSteps.{shapes_steps, large_steps}
-use Rattle.lk_inductive.specs.Flat.{flat_types}
 
 abbrev pub block_of : List BlockType → Block
 block_of ts = record { types = ts }
-
--- that no occurrence is nested
-abbrev pub flat_form : List BlockType → Program Yes
-flat_form ts = flat_types (type_names ts) ts
 
 -- the constructors of a block with these parameters, this level and these indices
 abbrev pub shapes_form : ℕ → List BlockType → List Tree → Level → List (List Tree) → Program (List TypeShape)

@@ -3,6 +3,7 @@
 ghost use Rattle.std.specs.Prelude.{◌≡◌, ◌<◌, ◌∷◌, [], length, map, All, IfOk};
 ghost use Rattle.lk_store.specs.Contents.{level_at, tree_at, Extends};
 ghost use Rattle.lk_env.specs.Units.{type_at, IsTypeIn};
+ghost use Rattle.lk_inductive.specs.Block.{AreLocals};
 ghost use Rattle.lk_inductive.specs.BlockSteps.{type_end, types_steps};
 ghost use Rattle.lk_declaration.specs.Courses.{ComesTo};
 ghost use Rattle.lk_block.specs.Forms.{end_form, next_form};
@@ -257,11 +258,8 @@ fn add_others<A: Asks>(
     })
 }
 
-/// The checks of a block's types, each of which has this number of parameters: each has a sort (`NotASort`), all have the
-/// parameters of the first (`ParameterDiffers`), and past parameters and indices a sort of one level stands (`BlockShape`, as
-/// where a Pi is missing or there is no type; `LevelWidth` where the levels cannot be compared). What a question refuses is
-/// handed on.
-pub fn check_types<A: Asks>(
+/// The parts of a block whose types each have this number of parameters.
+fn find_parts<A: Asks>(
     alloc: Global,
     asks: &mut A,
     parameters: u64,
@@ -284,4 +282,28 @@ pub fn check_types<A: Asks>(
             }
         }
     }
+}
+
+/// The checks of a block's types, each of which has this number of parameters: each has a sort (`NotASort`), all have the
+/// parameters of the first (`ParameterDiffers`), and past parameters and indices a sort of one level stands (`BlockShape`, as
+/// where a Pi is missing or there is no type; `LevelWidth` where the levels cannot be compared). What a question refuses is
+/// handed on.
+#[tactic(auto, using(crate::proofs::Locals::found_locals))]
+pub fn check_types<A: Asks>(
+    alloc: Global,
+    asks: &mut A,
+    parameters: u64,
+    types: &[BlockType],
+) -> Result<TypeParts, Stop>
+    requires { All (IsTypeIn (A.contents asks.old)) types.now }
+    ensures keeps { Extends (A.contents asks.old) (A.contents asks.new) }
+    ensures stays { A.standing asks.new ≡ A.standing asks.old }
+    ensures known { IfOk result (ArePartsIn (A.contents asks.new)) }
+    ensures locals { IfOk result (λ p. AreLocals
+        (map (tree_at (A.contents asks.new)) p.parameters.items)) }
+    ensures outcome { ComesTo (A.standing asks.old)
+        (types_steps parameters (map (type_at (A.contents asks.old)) types.now)) (A.left asks.old)
+        (parts_at (A.contents asks.new)) (A.left asks.new) result }
+{
+    find_parts(alloc, asks, parameters, types)
 }

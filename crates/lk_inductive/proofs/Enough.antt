@@ -4,45 +4,17 @@ use Rattle.std.proofs.lemmas.Bool.Decides.{nat_tests}
 use Rattle.lk_tree.specs.Tree.{Name, Level, Tree, var, sort, const, app, lam, pi, let_in, proj, lit, wide, str, local}
 use Rattle.lk_tree.specs.Bind.{opened}
 use Rattle.lk_tree.specs.Spine.{head, args}
-use Rattle.lk_tree.specs.declared.rule.Rule.{Rule}
 use Rattle.lk_tree.specs.declared.rule.Rule.TheVariants.{UnknownConstant, BlockShape, NestedForm}
-use Rattle.lk_rulebook.specs.Place.{Place, Entry, Kind, Block, BlockType, Ctor, a_type}
+use Rattle.lk_rulebook.specs.Place.{Place, Kind, Block, BlockType, Ctor, a_type}
 use Rattle.lk_tree.specs.Mentions.{same_name, is_one_of}
 use Rattle.lk_plain.specs.Query.{Query, AnswerTo}
 use Rattle.lk_plain.specs.Program.{Program, done, refuse, ask, look, ◌>>=◌}
 use Rattle.lk_plain.specs.Answer.{Outcome, answered, refused, spent, and_then, IfAnswered, outcome_of}
-use Rattle.lk_questions.specs.Steps.{given}
 use Rattle.lk_plain.proofs.Outcomes.{if_and_then, if_found}
 use Rattle.lk_inductive.specs.BlockSteps.{mention_none}
 use Rattle.lk_inductive.specs.Nested.{Aux, Setting, may_nest, aux_at, has_pis, aux_of, others_of, family_of, other_count, aux_applied, met, replaced, at_kind, at_head, nest, holds_nested, nest_past, held_ctor, own_ctor, own_ctors, own_types, aux_ctors, aux_from, next_aux, aux_types, Larger, enlarge}
+use Rattle.lk_inductive.proofs.Always.{Always, always_any, always_bind, always_given, always_if}
 use Rattle.lk_inductive.proofs.Fuel.{run_bind, Same, same_bind}
-
--- whatever answers come, what p is done with has the property
-abbrev Always : {A : Type 0} → Program A → (A → Type 0) → Type 0
-Always (done v) P = P v
-Always (refuse r) P = Unit {0}
-Always (ask q k) P = (v : AnswerTo q) → Always (k v) P
-Always (look r c k) P = (e : Entry) → Always (k e) P
-
-always_any : {A : Type 0} (p : Program A) → Always p (λ v. Unit {0})
-always_any (done v) = tt
-always_any (refuse r) = tt
-always_any (ask q k) = λ v. always_any (k v)
-always_any (look r c k) = λ e. always_any (k e)
-
-always_bind : {A B : Type 0} (p : Program A) (k : A → Program B) (Q : A → Type 0) (P : B → Type 0) → Always p Q → ((v : A) → Q v → Always (k v) P) → Always (p >>= k) P
-always_bind (done v) k Q P s h = h v s
-always_bind (refuse r) k Q P s h = tt
-always_bind (ask q f) k Q P s h = λ v. always_bind (f v) k Q P (s v) h
-always_bind (look r c f) k Q P s h = λ e. always_bind (f e) k Q P (s e) h
-
-always_given : {A : Type 0} (b : Bool) (r : Rule) (p : Program A) (P : A → Type 0) → (b ≡ true → Always p P) → Always (given b r p) P
-always_given true r p P h = h refl
-always_given false r p P h = tt
-
-always_if : {A : Type 0} (b : Bool) (p q : Program A) (P : A → Type 0) → Always p P → Always q P → Always (if b then p else q) P
-always_if true p q P h i = h
-always_if false p q P h i = i
 
 run_always : {A : Type 0} (w : Place) (f : (q : Query) → ℕ → Outcome (AnswerTo q)) (b : ℕ) (p : Program A) (P : A → Type 0) → Always p P → IfAnswered (outcome_of w f b p) (λ v c t. P v)
 run_always w f b (done v) P h = h

@@ -1,14 +1,14 @@
 pub mod After
+pub mod Always
 pub mod Among
 pub mod Enough
-pub mod FlatBlocks
-pub mod FlatParts
 pub mod Fuel
 pub mod Partials
 pub mod More
 pub mod MoreBlocks
 pub mod MoreNested
 pub mod Plain
+pub mod NothingNested
 pub mod ReadBack
 pub mod SettledTasks
 pub mod PartTasks

@@ -8,7 +8,6 @@ use Rattle.lk_plain.specs.Answer.{Outcome, plain_answer}
 use Rattle.lk_plain.specs.Parts.{IsPartOf}
 use Rattle.lk_plain.proofs.Parts.{Gives, gives_then, gives_found, ans_gives}
 use Rattle.lk_inductive.specs.Task.{Task, done_with, stopped, asking, looking, with_partial, run_task}
-use Rattle.lk_inductive.specs.FlatTask.{flat_task, plain_flat}
 use Rattle.lk_inductive.specs.NestedTask.{whole_task, plain_whole}
 
 pub task_gives : {A : Type 0} (places : Members → Place) (f g : Place → (q : Query) → ℕ → Outcome (AnswerTo q)) → ((w : Place) (q : Query) (b : ℕ) → Gives (f w q b) (g w q b)) →
@@ -24,7 +23,3 @@ task_gives places f g i h b (with_partial ms t) = task_gives places f g i (h ++ 
 
 pub plain_gives : (part table : Table) → IsPartOf part table → (us : Library) (n : ℕ) (b : Block) (stated : List BlockRecursor) (budget : ℕ) → Gives (plain_whole part us n b stated budget) (plain_whole table us n b stated budget)
 plain_gives part table h us n b stated budget = task_gives (place_of us n) (λ w. plain_answer part w) (λ w. plain_answer table w) (λ w q i. ans_gives part table h w q i) [] budget (whole_task (suc budget) b stated)
-
--- where nested occurrences are refused
-pub flat_gives : (part table : Table) → IsPartOf part table → (us : Library) (n : ℕ) (b : Block) (stated : List BlockRecursor) (budget : ℕ) → Gives (plain_flat part us n b stated budget) (plain_flat table us n b stated budget)
-flat_gives part table h us n b stated budget = task_gives (place_of us n) (λ w. plain_answer part w) (λ w. plain_answer table w) (λ w q i. ans_gives part table h w q i) [] budget (flat_task (suc budget) b stated)

@@ -1,6 +1,6 @@
 -- The plain verdict of a block is steady: it comes exactly where the budget is at least its cost.
 use Rattle.std.proofs.Common.{ℕ, suc, ◌≡◌, ◌≤◌, ◌<◌, ◌+◌, ◌-◌, ◌++◌, List, [], Option, None, refl, ap, ◌∙◌, arith}
-use Rattle.lk_rulebook.specs.Place.{Place, Block, type_names}
+use Rattle.lk_rulebook.specs.Place.{Place, Block}
 use Rattle.lk_rulebook.specs.Units.{Members, LibraryUnit, place_of}
 use Rattle.lk_plain.specs.Query.{Query, AnswerTo}
 use Rattle.lk_plain.specs.Program.{Table, Program, done, refuse, ask, look}
@@ -11,8 +11,6 @@ use Rattle.lk_plain.proofs.Budgets.{ans_steady}
 use Rattle.lk_inductive.specs.Block.{parameters_of}
 use Rattle.lk_inductive.specs.BlockSteps.{TypeParts, counts_steps, types_steps, all_ctor_sorts, shape_steps}
 use Rattle.lk_inductive.specs.Recursors.{BlockRecursor}
-use Rattle.lk_inductive.specs.Flat.{flat_types}
-use Rattle.lk_inductive.specs.FlatTask.{flat_recs, flat_task, plain_flat}
 use Rattle.lk_inductive.specs.Nested.{Larger, larger_block, enlarge, aux_sorts, aux_indices, bare_entries}
 use Rattle.lk_inductive.specs.NestedTask.{setting_of, nested_recs, nested_shape, whole_task, plain_whole}
 use Rattle.lk_inductive.specs.Whole.{partial_types}
@@ -126,23 +124,3 @@ fueled_steady table us n task free budget =
 pub plain_steady : (table : Table) (us : List LibraryUnit) (n : ℕ) (b : Block) (stated : List BlockRecursor) (budget : ℕ) →
     IfAnswered (plain_whole table us n b stated budget) (IsSteady (plain_whole table us n b stated) budget)
 plain_steady table us n b stated budget = fueled_steady table us n (λ fuel. whole_task fuel b stated) (whole_fuel b stated) budget
-
--- where nested occurrences are refused
-same_flat : (places : Members → Place) (f : Place → (q : Query) → ℕ → Outcome (AnswerTo q)) → ((w : Place) → Costs (f w)) →
-    (most m n : ℕ) → most < m → most < n → (b : Block) (stated : List BlockRecursor) → SameTask places f most (flat_task m b stated) (flat_task n b stated)
-same_flat places f cost most m n lm ln b stated =
-    same_then places f most (here (counts_steps b)) (here (counts_steps b)) _ _ (same_itself places f most (here (counts_steps b)))
-    (λ y. same_then places f most (here (types_steps (parameters_of b) b.types)) (here (types_steps (parameters_of b) b.types)) _ _ (same_itself places f most (here (types_steps (parameters_of b) b.types)))
-    (λ ts. same_then places f most (give_partial (partial_types b)) (give_partial (partial_types b)) _ _ (same_itself places f most (give_partial (partial_types b)))
-    (λ hs. same_then places f most (here (all_ctor_sorts b.types)) (here (all_ctor_sorts b.types)) _ _ (same_itself places f most (here (all_ctor_sorts b.types)))
-    (λ ls. same_then places f most (here (flat_types (type_names b.types) b.types)) (here (flat_types (type_names b.types) b.types)) _ _ (same_itself places f most (here (flat_types (type_names b.types) b.types)))
-    (λ z. same_then places f most (here (shape_steps m b ts)) (here (shape_steps n b ts)) _ _
-    (same_here places f most (shape_steps m b ts) (shape_steps n b ts) (λ w. same_shape w (f w) (cost w) most m n lm ln b ts))
-    (λ s. same_itself places f most (flat_recs b stated s)))))))
-
-pub flat_fuel : (b : Block) (stated : List BlockRecursor) → NeedsNoFuel (λ fuel. flat_task fuel b stated)
-flat_fuel b stated = record { same = λ places f cost most m n lm ln. same_flat places f cost most m n lm ln b stated }
-
-pub flat_steady : (table : Table) (us : List LibraryUnit) (n : ℕ) (b : Block) (stated : List BlockRecursor) (budget : ℕ) →
-    IfAnswered (plain_flat table us n b stated budget) (IsSteady (plain_flat table us n b stated) budget)
-flat_steady table us n b stated budget = fueled_steady table us n (λ fuel. flat_task fuel b stated) (flat_fuel b stated) budget

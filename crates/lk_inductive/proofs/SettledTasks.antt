@@ -8,9 +8,8 @@ use Rattle.lk_plain.specs.Laws.{IsSettled}
 use Rattle.lk_plain.specs.Program.{Table}
 use Rattle.lk_plain.proofs.Settled.{Settles, settled_then, settled_found, ans_settled}
 use Rattle.lk_inductive.specs.Task.{Task, done_with, stopped, asking, looking, with_partial, run_task}
-use Rattle.lk_inductive.specs.FlatTask.{flat_task, plain_flat}
 use Rattle.lk_inductive.specs.NestedTask.{whole_task, plain_whole}
-use Rattle.lk_inductive.proofs.Plain.{NeedsNoFuel, whole_fuel, flat_fuel, at_fuel, fueled, same_fuel}
+use Rattle.lk_inductive.proofs.Plain.{NeedsNoFuel, whole_fuel, at_fuel, fueled, same_fuel}
 
 pub task_settled : {A : Type 0} (places : Members → Place) (f : Place → (q : Query) → ℕ → Outcome (AnswerTo q)) → ((w : Place) (q : Query) → IsSettled (f w q)) → (h : Members) (t : Task A) → IsSettled (λ b. run_task places f h b t)
 task_settled places f s h (done_with v) b i l = inr refl
@@ -33,7 +32,3 @@ fueled_settled table us n task free i more l =
 
 pub plain_settled : (table : Table) (us : Library) (n : ℕ) (b : Block) (stated : List BlockRecursor) → IsSettled (plain_whole table us n b stated)
 plain_settled table us n b stated = fueled_settled table us n (λ fuel. whole_task fuel b stated) (whole_fuel b stated)
-
--- where nested occurrences are refused
-pub flat_settled : (table : Table) (us : Library) (n : ℕ) (b : Block) (stated : List BlockRecursor) → IsSettled (plain_flat table us n b stated)
-flat_settled table us n b stated = fueled_settled table us n (λ fuel. flat_task fuel b stated) (flat_fuel b stated)

@@ -3,8 +3,6 @@ pub mod Block
 pub mod BlockSteps
 pub mod Compare
 pub mod Enlarged
-pub mod Flat
-pub mod FlatTask
 pub mod Grows
 pub mod Nested
 pub mod NestedRelation

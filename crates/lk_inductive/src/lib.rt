@@ -3,7 +3,6 @@
 
 ghost use Rattle.std.specs.Prelude.{◌≡◌, ℕ, suc, None, ◌++◌, [], List, Some, take, slice_get};
 ghost use Rattle.lk_inductive.specs.Block.{Shape};
-ghost use Rattle.lk_inductive.specs.FlatTask.{plain_flat};
 ghost use Rattle.lk_inductive.specs.Grows.{IsWithin, Completes};
 ghost use Rattle.lk_inductive.specs.NestedTask.{plain_whole};
 ghost use Rattle.lk_inductive.specs.Recursors.{BlockRecursor};
@@ -51,30 +50,4 @@ pub fn plain_block_is_steady()
         (stated : List BlockRecursor)
         (budget : ℕ) → IfAnswered (plain_whole table us n b stated budget)
         (IsSteady (plain_whole table us n b stated) budget) }
-{}
-
-/// What is answered of a block where nested occurrences are refused, the whole check answers too, at the same cost.
-pub fn flat_block_is_whole()
-    ensures { (table : Table) (us : List LibraryUnit) (n : ℕ) (b : Block)
-        (stated : List BlockRecursor)
-        (budget : ℕ) → IfAnswered (plain_flat table us n b stated budget)
-        (λ v c t. plain_whole table us n b stated budget ≡ answered v c t) }
-{}
-
-/// Where nested occurrences are refused, what a part answers of a block its table answers too, at the same cost.
-pub fn flat_parts_agree()
-    ensures { (part table : Table) (us : List LibraryUnit) (n : ℕ) (b : Block)
-        (stated : List BlockRecursor)
-        (budget : ℕ) → IsPartOf part table
-        → IfAnswered (plain_flat part us n b stated budget)
-        (λ v c t. plain_flat table us n b stated budget ≡ answered v c t) }
-{}
-
-/// Where nested occurrences are refused, the plain verdict of a block comes exactly where the budget is at least its cost, and is
-/// the same under each such budget.
-pub fn plain_flat_is_steady()
-    ensures { (table : Table) (us : List LibraryUnit) (n : ℕ) (b : Block)
-        (stated : List BlockRecursor)
-        (budget : ℕ) → IfAnswered (plain_flat table us n b stated budget)
-        (IsSteady (plain_flat table us n b stated) budget) }
 {}

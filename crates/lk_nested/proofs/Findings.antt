@@ -1,9 +1,9 @@
 -- What a program that asks nothing finds, and what its run gives.
-use Rattle.std.proofs.Common.{◌≡◌, ℕ, Bool, true, false, Option, None, Some, Ok, Err, Result, refl, sym, ap, ◌∙◌}
+use Rattle.std.proofs.Common.{◌≡◌, ℕ, Bool, true, false, Option, None, Some, Ok, Err, Result, refl, sym, ap}
 use Rattle.lk_tree.specs.declared.rule.Rule.{Rule}
 use Rattle.lk_rulebook.specs.Place.{Place, Entry}
 use Rattle.lk_plain.specs.Query.{Query}
-use Rattle.lk_plain.specs.Program.{Program, done, refuse, ask, look, ◌>>=◌}
+use Rattle.lk_plain.specs.Program.{Program, done, refuse, ask, look}
 use Rattle.lk_plain.specs.Answer.{refusal}
 use Rattle.lk_plain.specs.Erased.{Out, stopped, seen, out_of}
 use Rattle.lk_inductive.specs.Nested.{either_holds}
@@ -11,7 +11,7 @@ use Rattle.lk_ask.specs.declared.stop.Stop.{Stop}
 use Rattle.lk_ask.specs.declared.stop.Stop.TheVariants.{No, Spent, NoMemory}
 use Rattle.lk_ask.specs.Asking.{Standing}
 use Rattle.lk_declaration.specs.Courses.{look_then, run_then, Passes, ComesTo}
-use Rattle.lk_nested.specs.Findings.{Finding, found, refused, asking, looked, finding, then_held, Finds}
+use Rattle.lk_nested.specs.Findings.{Finding, found, refused, looked, finding, then_held, Finds}
 use Rattle.lk_declaration.proofs.Running.{passes_same, passes_on, halts_nowhere}
 
 found_same : {A : Type 0} (x y : A) → found x ≡ found y → x ≡ y
@@ -30,28 +30,6 @@ either_found w (refuse r) q = refl
 either_found w (ask s f) q = refl
 either_found w (look r c f) q =
     sym (looked_then (λ x. then_held x (finding w q)) (w.means c) (w.flaw c) r (λ e. finding w (f e)) (λ e. finding w (either_holds (f e) q)) (λ s. refl) (λ e. sym (either_found w (f e) q)))
-
-pub then_found : {A B : Type 0} → Finding A → (A → Finding B) → Finding B
-then_found (found v) k = k v
-then_found (refused r) k = refused r
-then_found asking k = asking
-
--- the one and then the other
-bind_found : {A B : Type 0} (w : Place) (p : Program A) (f : A → Program B) → finding w (p >>= f) ≡ then_found (finding w p) (λ v. finding w (f v))
-unfolding then_found
-bind_found w (done v) f = refl
-bind_found w (refuse r) f = refl
-bind_found w (ask s g) f = refl
-bind_found w (look r c g) f =
-    sym (looked_then (λ x. then_found x (λ v. finding w (f v))) (w.means c) (w.flaw c) r (λ e. finding w (g e)) (λ e. finding w (g e >>= f)) (λ s. refl) (λ e. sym (bind_found w (g e) f)))
-
-pub goes_finding : {A B : Type 0} (w : Place) (p : Program A) (f : A → Program B) (v : A) → finding w p ≡ found v → finding w (p >>= f) ≡ finding w (f v)
-unfolding then_found
-goes_finding w p f v h = bind_found w p f ∙ ap (λ x. then_found x (λ u. finding w (f u))) h
-
-pub stops_finding : {A B : Type 0} (w : Place) (p : Program A) (f : A → Program B) (r : Rule) → finding w p ≡ refused r → finding w (p >>= f) ≡ refused r
-unfolding then_found
-stops_finding w p f r h = bind_found w p f ∙ ap (λ x. then_found x (λ u. finding w (f u))) h
 
 module _ {A : Type 0} (answer : Query → ℕ → Out) (w : Place) where
   look_passes : (r : Rule) (o : Option Entry) (unit : ℕ) (flaw : Option Rule) (g : Entry → Finding A) (k : Entry → Out) (v : A) (out : Out)

@@ -7,4 +7,3 @@ pub mod Swapping
 pub mod Findings
 pub mod Applied
 pub mod Walking
-pub mod Flats

@@ -1,17 +1,13 @@
 //! Whether a type of a block occurs nested in the types of its constructors: among the arguments of
 //! another type, which has just these arguments as its parameters.
 
-ghost use Rattle.std.specs.Prelude.{◌≡◌, ◌<◌, Some, false, length, map, All, IfOk, IfSome};
+ghost use Rattle.std.specs.Prelude.{◌≡◌, ◌<◌, Some, false, length, All, IfOk, IfSome};
 ghost use Rattle.lk_tree.specs.Mentions.{is_one_of};
 ghost use Rattle.lk_tree.specs.Spine.{head, args};
-ghost use Rattle.lk_questions.specs.Declarations.{checked};
-ghost use Rattle.lk_inductive.specs.Flat.{flat_ctors, flat_types};
 ghost use Rattle.lk_store.specs.Contents.{name_at, tree_at};
-ghost use Rattle.lk_env.specs.Units.{constructor_at, type_at, IsConstructorIn, IsTypeIn};
 ghost use Rattle.lk_mentions.specs.Names.{names_at};
 ghost use Rattle.lk_mentions.specs.Walks.{AreClear};
-ghost use Rattle.lk_declaration.specs.Courses.{ComesTo};
-ghost use Rattle.lk_nested.specs.Findings.{finding, Finds};
+ghost use Rattle.lk_nested.specs.Findings.{Finds};
 ghost use Rattle.lk_lists.specs.Names.{named_at};
 ghost use Rattle.lk_nested.specs.Nestings.{constant_in, constant_name, nested_in, AreWalked};
 ghost use Rattle.lk_nested.specs.Nestings.{IsSpine, IsHeadTest, IsTreeTest};
@@ -19,7 +15,6 @@ ghost use Rattle.lk_nested.specs.Nestings.{IsSpine, IsHeadTest, IsTreeTest};
 use crate::spines::{Spine, function_of, keep_function, spine_of};
 use lk_ask::asks::Asks;
 use lk_ask::stop::Stop;
-use lk_env::unit::{BlockType, Constructor};
 use lk_mentions::names::{Names, is_one_of};
 use lk_mentions::part::Met;
 use lk_mentions::walk::is_clear;
@@ -30,7 +25,6 @@ use lk_seek::visit::Visit;
 use lk_seek::walk::seek;
 use lk_store::node::Node;
 use lk_store::terms::Terms;
-use lk_tree::rule::Rule;
 use std::alloc::Global;
 
 /// What is kept of the terms that were walked, so that a part which terms share is walked once.
@@ -233,77 +227,4 @@ pub fn holds_nested<A: Asks>(
 {
     let seeker = Nested { alloc, asks, names };
     seek(alloc, &seeker, walked, e)
-}
-
-/// None of these constructors' types holds a nested occurrence.
-fn check_constructors<A: Asks>(
-    alloc: Global,
-    asks: &A,
-    names: &Names,
-    walked: &mut Walked,
-    constructors: &[Constructor],
-) -> Result<(), Stop>
-    requires names_in { All (λ n. n < length (A.contents asks.now).names) names.now }
-    requires constructors_in { All (IsConstructorIn (A.contents asks.now)) constructors.now }
-    requires walked { AreWalked (A.standing asks.now).place
-        (A.contents asks.now) names.now walked.old }
-    ensures walked { IfOk result (λ r. AreWalked (A.standing asks.now).place
-        (A.contents asks.now) names.now walked.new) }
-    ensures found { Finds (finding (A.standing asks.now).place
-        (flat_ctors (names_at (A.contents asks.now) names.now)
-        (map (constructor_at (A.contents asks.now)) constructors.now))) (λ u. checked) result }
-{
-    let mut rest = constructors;
-    'constructors: while let Some((constructor, more)) = rest.split_first() {
-        let nested = holds_nested(alloc, asks, names, walked, constructor.ty)?;
-        if nested {
-            return Err(Stop::No(Rule::NestedForm));
-        }
-        rest = more;
-    }
-    Ok(())
-}
-
-/// No constructor's type holds a nested occurrence of these names, type by type.
-fn check_types<A: Asks>(
-    alloc: Global,
-    asks: &A,
-    names: &Names,
-    types: &[BlockType],
-) -> Result<(), Stop>
-    requires names_in { All (λ n. n < length (A.contents asks.now).names) names.now }
-    requires types_in { All (IsTypeIn (A.contents asks.now)) types.now }
-    ensures { Finds (finding (A.standing asks.now).place
-        (flat_types (names_at (A.contents asks.now) names.now)
-        (map (type_at (A.contents asks.now)) types.now))) (λ u. checked) result }
-{
-    let mut walked = Walked {
-        clear: Table::new(alloc),
-        flat: Table::new(alloc),
-        spines: Table::new(alloc),
-    };
-    let mut rest = types;
-    'types: while let Some((stated, more)) = rest.split_first() {
-        check_constructors(alloc, asks, names, &mut walked, &stated.constructors)?;
-        rest = more;
-    }
-    Ok(())
-}
-
-/// No constructor's type holds a nested occurrence of these names (`NestedForm`). It takes no step. A
-/// name that is not given is refused as a look-up of it is.
-pub fn check_flat<A: Asks>(
-    alloc: Global,
-    asks: &A,
-    names: &Names,
-    types: &[BlockType],
-) -> Result<(), Stop>
-    requires names_in { All (λ n. n < length (A.contents asks.now).names) names.now }
-    requires types_in { All (IsTypeIn (A.contents asks.now)) types.now }
-    ensures outcome { ComesTo (A.standing asks.now)
-        (flat_types (names_at (A.contents asks.now) names.now)
-        (map (type_at (A.contents asks.now)) types.now)) (A.left asks.now) (λ u. checked)
-        (A.left asks.now) result }
-{
-    check_types(alloc, asks, names, types)
 }

@@ -7,6 +7,7 @@ use Rattle.lk_rulebook.specs.Scan.{IsScanned, scan_of}
 use Rattle.lk_rulebook.specs.Derived.{BodyWellFormed, DeclDerived}
 use Rattle.lk_rulebook.proofs.Scans.{scan_right, AllStated, scanned_stated}
 use Rattle.lk_plain.specs.Answer.{outcome_of, plain_answer}
+use Rattle.lk_plain.specs.Program.{Table}
 use Rattle.lk_plain.specs.Sound.{IsSoundPlace, IsSoundTable}
 use Rattle.lk_rulebook.specs.Lawful.{IsLawfulPlace}
 use Rattle.lk_verdict.specs.Operations.{OperationsYes}
@@ -18,9 +19,9 @@ use Rattle.lk_inductive.specs.Nested.{Aux}
 use Rattle.lk_inductive.specs.NestedTask.{plain_whole}
 use Rattle.lk_inductive.specs.NestedRelation.{NestedDerived}
 use Rattle.lk_verdict.specs.GoodUnit.{UnitDerived, declaration, block, nested, IsGoodUnit, IsClearLibrary}
-use Rattle.lk_verdict.specs.Verdict.{says_yes, Extent, questions_of, verdict_of, plain_verdict}
+use Rattle.lk_verdict.specs.Verdict.{says_yes, questions_of, verdict_of, plain_verdict}
 use Rattle.lk_verdict.proofs.Clears.{block_clear, clear_at}
-use Rattle.lk_verdict.proofs.Verdicts.{IsAnswer, yes_answer, scanned_yes, yes_of, yes_of_whole}
+use Rattle.lk_verdict.proofs.Verdicts.{IsAnswer, yes_answer, scanned_yes, yes_of}
 use Rattle.lk_sound.proofs.Declarations.{yes_is_good}
 use Rattle.lk_sound.proofs.WholeYes.{yes_whole}
 use Rattle.lk_sound.proofs.NoNested.{nothing_nested}
@@ -37,40 +38,39 @@ either_block : (us : Library) (n : ℕ) (b : Block) (rs : List BlockRecursor) (s
 either_block us n b rs s st g [] e = block (nothing_nested (place_of us n) b rs s st g e)
 either_block us n b rs s st g (a ∷ as_) e = nested g
 
-derived : (extent : Extent) → IsSoundTable extent.table → (us : Library) (n budget : ℕ) (u : LibraryUnit) → IsSoundPlace (place_of us n []) → IsClearLibrary us → slice_get us n ≡ Some u → IsScanned us n u → questions_of extent us n u budget ≡ says_yes → UnitDerived us n u
-derived extent sound us n budget (of_decl d) ok cl at sc e =
+derived : (table : Table) → IsSoundTable table → (us : Library) (n budget : ℕ) (u : LibraryUnit) → IsSoundPlace (place_of us n []) → IsClearLibrary us → slice_get us n ≡ Some u → IsScanned us n u → questions_of table us n u budget ≡ says_yes → UnitDerived us n u
+derived table sound us n budget (of_decl d) ok cl at sc e =
     let st : AllStated (trees_of (of_decl d)) = scanned_stated (trees_of (of_decl d)) sc.trees in
     let w : Place = place_of us n [] in
-    declaration (yes_answer (outcome_of w (plain_answer extent.table w) budget (unit_steps d)) (λ y c t. DeclDerived w d) (yes_is_good extent.table sound w ok d budget (st.0.0, body_fine d.levels d.body st.1)) e).has
-derived extent sound us n budget (of_block b rs) ok cl at sc e =
+    declaration (yes_answer (outcome_of w (plain_answer table w) budget (unit_steps d)) (λ y c t. DeclDerived w d) (yes_is_good table sound w ok d budget (st.0.0, body_fine d.levels d.body st.1)) e).has
+derived table sound us n budget (of_block b rs) ok cl at sc e =
     let st : BlockStated b rs = block_stated b rs (scanned_stated (trees_of (of_block b rs)) sc.trees) in
-    let a : IsAnswer (plain_whole extent.table us n b rs budget) (λ v c t. NestedDerived (place_of us n) b rs v.0) =
-    yes_answer (plain_whole extent.table us n b rs budget) (λ v c t. NestedDerived (place_of us n) b rs v.0) (yes_whole extent.table sound us n b rs budget ok cl sc.names st (block_clear b rs (clear_at us n (of_block b rs) cl at).trees))
-    (yes_of_whole extent.nested extent.table us n b rs budget e) in
+    let a : IsAnswer (plain_whole table us n b rs budget) (λ v c t. NestedDerived (place_of us n) b rs v.0) =
+    yes_answer (plain_whole table us n b rs budget) (λ v c t. NestedDerived (place_of us n) b rs v.0) (yes_whole table sound us n b rs budget ok cl sc.names st (block_clear b rs (clear_at us n (of_block b rs) cl at).trees)) e in
     either_block us n b rs a.value.0 st a.has a.has.larger.auxs refl
 
-good_at : (extent : Extent) → IsSoundTable extent.table → (us : Library) (n budget : ℕ) → IsLawfulPlace (place_of us n []) → IsClearLibrary us → plain_verdict extent us n budget ≡ says_yes → IsGoodUnit us n
-good_at extent sound us n budget lawful cl h =
-    let a : (u : LibraryUnit) × (slice_get us n ≡ Some u) × (verdict_of extent us n u budget ≡ says_yes) = yes_of extent us n budget (slice_get us n) h in
-    let s : (scan_of us n a.0 ≡ None) × (questions_of extent us n a.0 budget ≡ says_yes) = scanned_yes (scan_of us n a.0) (questions_of extent us n a.0 budget) a.2 in
+good_at : (table : Table) → IsSoundTable table → (us : Library) (n budget : ℕ) → IsLawfulPlace (place_of us n []) → IsClearLibrary us → plain_verdict table us n budget ≡ says_yes → IsGoodUnit us n
+good_at table sound us n budget lawful cl h =
+    let a : (u : LibraryUnit) × (slice_get us n ≡ Some u) × (verdict_of table us n u budget ≡ says_yes) = yes_of table us n budget (slice_get us n) h in
+    let s : (scan_of us n a.0 ≡ None) × (questions_of table us n a.0 budget ≡ says_yes) = scanned_yes (scan_of us n a.0) (questions_of table us n a.0 budget) a.2 in
     let sc : IsScanned us n a.0 = scan_right us n a.0 s.0 in
-    record { unit = a.0; given = a.1; scanned = sc; clear = clear_at us n a.0 cl a.1; derived = derived extent sound us n budget a.0 (record { stated = all_well_stated us n; lawful = lawful }) cl a.1 sc s.1 }
+    record { unit = a.0; given = a.1; scanned = sc; clear = clear_at us n a.0 cl a.1; derived = derived table sound us n budget a.0 (record { stated = all_well_stated us n; lawful = lawful }) cl a.1 sc s.1 }
 
 -- the operations before unit n are derived first, and so have their laws there
-good_below : (k : ℕ) (extent : Extent) → IsSoundTable extent.table → (us : Library) → IsClearLibrary us → (n budget : ℕ) → n < k → OperationsYes extent us n → plain_verdict extent us n budget ≡ says_yes → IsGoodUnit us n
-good_below zero extent sound us cl n budget l ops h = absurd (omega arith)
-good_below (suc k) extent sound us cl n budget l ops h =
-    good_at extent sound us n budget
+good_below : (k : ℕ) (table : Table) → IsSoundTable table → (us : Library) → IsClearLibrary us → (n budget : ℕ) → n < k → OperationsYes table us n → plain_verdict table us n budget ≡ says_yes → IsGoodUnit us n
+good_below zero table sound us cl n budget l ops h = absurd (omega arith)
+good_below (suc k) table sound us cl n budget l ops h =
+    good_at table sound us n budget
     (lawful_at us n (λ m below gives.
-    let y : (b : ℕ) × (plain_verdict extent us m b ≡ says_yes) = ops m below gives in
-    good_below k extent sound us cl m y.0 (omega arith) (λ i j. ops i (omega arith)) y.1))
+    let y : (b : ℕ) × (plain_verdict table us m b ≡ says_yes) = ops m below gives in
+    good_below k table sound us cl m y.0 (omega arith) (λ i j. ops i (omega arith)) y.1))
     cl h
 
-pub good_of_yes : (extent : Extent) → IsSoundTable extent.table → (us : Library) (n budget : ℕ) → IsClearLibrary us → OperationsYes extent us n → plain_verdict extent us n budget ≡ says_yes → IsGoodUnit us n
-good_of_yes extent sound us n budget cl ops h = good_below (suc n) extent sound us cl n budget (omega arith) ops h
+pub good_of_yes : (table : Table) → IsSoundTable table → (us : Library) (n budget : ℕ) → IsClearLibrary us → OperationsYes table us n → plain_verdict table us n budget ≡ says_yes → IsGoodUnit us n
+good_of_yes table sound us n budget cl ops h = good_below (suc n) table sound us cl n budget (omega arith) ops h
 
 -- where each unit says yes, each is good
-pub all_good : (extent : Extent) → IsSoundTable extent.table → (us : Library) → IsClearLibrary us → ((n : ℕ) → n < length us → (b : ℕ) × (plain_verdict extent us n b ≡ says_yes)) → (n : ℕ) → n < length us → IsGoodUnit us n
-all_good extent sound us cl yes_all n l =
-    let y : (b : ℕ) × (plain_verdict extent us n b ≡ says_yes) = yes_all n l in
-    good_of_yes extent sound us n y.0 cl (λ m below gives. yes_all m (omega arith)) y.1
+pub all_good : (table : Table) → IsSoundTable table → (us : Library) → IsClearLibrary us → ((n : ℕ) → n < length us → (b : ℕ) × (plain_verdict table us n b ≡ says_yes)) → (n : ℕ) → n < length us → IsGoodUnit us n
+all_good table sound us cl yes_all n l =
+    let y : (b : ℕ) × (plain_verdict table us n b ≡ says_yes) = yes_all n l in
+    good_of_yes table sound us n y.0 cl (λ m below gives. yes_all m (omega arith)) y.1

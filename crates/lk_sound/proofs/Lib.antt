@@ -35,7 +35,6 @@ pub mod WholeYes
 pub mod BlockYes
 pub mod Statedness
 pub mod WorkedUnits
-pub mod BuiltYes
 pub mod GoodUnits
 pub mod LevelTests
 pub mod SameParts

@@ -12,6 +12,7 @@ use Rattle.lk_rulebook.specs.Place.{abbreviation}
 use Rattle.lk_rulebook.specs.Names.{dotted, nat, nat_zero, nat_succ, named, op_name}
 use Rattle.lk_rulebook.specs.Units.{of_decl, of_block, as_def, Library}
 use Rattle.lk_plain.specs.Answer.{answer_to_depth}
+use Rattle.lk_questions.specs.Table.{steps}
 use Rattle.lk_inductive.proofs.Worked.{nat_block}
 use Rattle.lk_inductive.proofs.WorkedBlocks.{u, s_type, nat_rec_with, n_unit, t_name, t_block, of_functions}
 use Rattle.lk_inductive.proofs.WorkedNested.{list_unit, tree_block, tree_recs}
@@ -21,55 +22,45 @@ use Rattle.lk_sound.proofs.Pieces.{Some_inj}
 use Rattle.lk_verdict.proofs.Spelled.{spelled_clear}
 use Rattle.lk_sound.proofs.WholeTable.{sound_steps}
 use Rattle.lk_sound.proofs.GoodUnits.{good_of_yes}
-use Rattle.lk_verdict.specs.Built.{built_extent}
-use Rattle.lk_verdict.specs.Verdict.{says_yes, says_no, says_steps, whole, plain_verdict}
+use Rattle.lk_verdict.specs.Verdict.{says_yes, says_no, says_steps, plain_verdict}
 use native.Mathlib.Decide.{ℕ_discrete}
 
 -- Nat with Nat.rec, whose minor for succ is this
 abbrev nats : Tree → Library
 nats minor = of_block nat_block (nat_rec_with minor ∷ []) ∷ []
 
-nat_yes : plain_verdict whole (nats s_type) 0 237 ≡ says_yes
+nat_yes : plain_verdict steps (nats s_type) 0 237 ≡ says_yes
 unfolding answer_to_depth open_at close_at bound head args put_levels put_in_level level_for level_le tree_discrete level_discrete name_discrete list_discrete both_discrete part_discrete ℕ_discrete
 nat_yes = refl
 
-nat_short : plain_verdict whole (nats s_type) 0 236 ≡ says_steps
+nat_short : plain_verdict steps (nats s_type) 0 236 ≡ says_steps
 unfolding answer_to_depth open_at close_at bound head args put_levels put_in_level level_for level_le tree_discrete level_discrete name_discrete list_discrete both_discrete part_discrete ℕ_discrete
 nat_short = refl
 
-nat_no : plain_verdict whole (nats (pi (named nat) (app (var 2) (app (named nat_succ) (var 0))))) 0 1000 ≡ says_no RecursorDiffers
+nat_no : plain_verdict steps (nats (pi (named nat) (app (var 2) (app (named nat_succ) (var 0))))) 0 1000 ≡ says_no RecursorDiffers
 unfolding answer_to_depth open_at close_at bound head args put_levels put_in_level level_for level_le tree_discrete level_discrete name_discrete list_discrete both_discrete part_discrete ℕ_discrete
 nat_no = refl
 
--- by what the program checks today
-nat_built : plain_verdict built_extent (nats s_type) 0 237 ≡ says_yes
-unfolding answer_to_depth open_at close_at bound head args put_levels put_in_level level_for level_le tree_discrete level_discrete name_discrete list_discrete both_discrete part_discrete ℕ_discrete
-nat_built = refl
-
-nat_built_short : plain_verdict built_extent (nats s_type) 0 236 ≡ says_steps
-unfolding answer_to_depth open_at close_at bound head args put_levels put_in_level level_for level_le tree_discrete level_discrete name_discrete list_discrete both_discrete part_discrete ℕ_discrete
-nat_built_short = refl
-
 -- its recursor stated twice
-rec_twice : plain_verdict whole (of_block nat_block (nat_rec_with s_type ∷ nat_rec_with s_type ∷ []) ∷ []) 0 1000 ≡ says_no DuplicateName
+rec_twice : plain_verdict steps (of_block nat_block (nat_rec_with s_type ∷ nat_rec_with s_type ∷ []) ∷ []) 0 1000 ≡ says_no DuplicateName
 unfolding name_discrete list_discrete both_discrete part_discrete ℕ_discrete
 rec_twice = refl
 
 -- an axiom N, then mk : (N -> T) -> T, and mk : ((T -> N) -> T) -> T
-functions_yes : plain_verdict whole (n_unit ∷ of_block of_functions [] ∷ []) 1 37 ≡ says_yes
+functions_yes : plain_verdict steps (n_unit ∷ of_block of_functions [] ∷ []) 1 37 ≡ says_yes
 unfolding answer_to_depth open_at close_at bound head args put_levels put_in_level level_for level_le tree_discrete level_discrete name_discrete list_discrete both_discrete part_discrete ℕ_discrete
 functions_yes = refl
 
-functions_no : plain_verdict whole (n_unit ∷ of_block (t_block (pi (pi (pi (named t_name) (named u)) (named t_name)) (named t_name))) [] ∷ []) 1 1000 ≡ says_no NotPositive
+functions_no : plain_verdict steps (n_unit ∷ of_block (t_block (pi (pi (pi (named t_name) (named u)) (named t_name)) (named t_name))) [] ∷ []) 1 1000 ≡ says_no NotPositive
 unfolding answer_to_depth open_at close_at bound head args put_levels put_in_level level_for level_le tree_discrete level_discrete name_discrete list_discrete both_discrete part_discrete ℕ_discrete
 functions_no = refl
 
 -- List, then Tree with node : List Tree -> Tree and both recursors
-tree_yes : plain_verdict whole (list_unit ∷ of_block tree_block tree_recs ∷ []) 1 939 ≡ says_yes
+tree_yes : plain_verdict steps (list_unit ∷ of_block tree_block tree_recs ∷ []) 1 939 ≡ says_yes
 unfolding answer_to_depth open_at close_at bound head args put_levels put_in_level level_for level_le tree_discrete level_discrete name_discrete list_discrete both_discrete part_discrete ℕ_discrete
 tree_yes = refl
 
-tree_short : plain_verdict whole (list_unit ∷ of_block tree_block tree_recs ∷ []) 1 938 ≡ says_steps
+tree_short : plain_verdict steps (list_unit ∷ of_block tree_block tree_recs ∷ []) 1 938 ≡ says_steps
 unfolding answer_to_depth open_at close_at bound head args put_levels put_in_level level_for level_le tree_discrete level_discrete name_discrete list_discrete both_discrete part_discrete ℕ_discrete
 tree_short = refl
 
@@ -81,7 +72,7 @@ no_operation (suc m) l g = absurd (omega (arith, l))
 -- so it is good
 tree_good : IsGoodUnit (list_unit ∷ of_block tree_block tree_recs ∷ []) 1
 unfolding open_at close_at bound head args put_levels put_in_level level_for tree_discrete level_discrete name_discrete list_discrete both_discrete part_discrete ℕ_discrete
-tree_good = good_of_yes whole sound_steps (list_unit ∷ of_block tree_block tree_recs ∷ []) 1 939 (spelled_clear (list_unit ∷ of_block tree_block tree_recs ∷ []) refl) (λ m l g. absurd (no_operation m l g)) tree_yes
+tree_good = good_of_yes steps sound_steps (list_unit ∷ of_block tree_block tree_recs ∷ []) 1 939 (spelled_clear (list_unit ∷ of_block tree_block tree_recs ∷ []) refl) (λ m l g. absurd (no_operation m l g)) tree_yes
 
 -- Nat, and def Nat.add with this value
 abbrev additions : Tree → Library
@@ -96,11 +87,11 @@ addition = lam (named nat) (lam (named nat) (
     (lam (named nat) (lam (named nat) (app (named nat_succ) (var 0))))) (var 0)
     ))
 
-addition_yes : plain_verdict whole (additions addition) 1 1000 ≡ says_yes
+addition_yes : plain_verdict steps (additions addition) 1 1000 ≡ says_yes
 unfolding answer_to_depth open_at close_at bound head args put_levels put_in_level level_for level_le tree_discrete level_discrete name_discrete list_discrete both_discrete part_discrete ℕ_discrete
 addition_yes = refl
 
 -- what is always one is no addition
-faked_no : plain_verdict whole (additions (lam (named nat) (lam (named nat) (app (named nat_succ) (named nat_zero))))) 1 1000 ≡ says_no NatLaw
+faked_no : plain_verdict steps (additions (lam (named nat) (lam (named nat) (app (named nat_succ) (named nat_zero))))) 1 1000 ≡ says_no NatLaw
 unfolding answer_to_depth open_at close_at bound head args put_levels put_in_level level_for level_le tree_discrete level_discrete name_discrete list_discrete both_discrete part_discrete ℕ_discrete
 faked_no = refl

@@ -18,10 +18,9 @@ ghost use Rattle.lk_rulebook.specs.Units.{Decl, Members, Library, of_block, memb
 ghost use Rattle.lk_questions.specs.Declarations.{unit_steps};
 ghost use Rattle.lk_questions.specs.Levels.{IsLevelTest, complete_test};
 ghost use Rattle.lk_questions.specs.Table.{steps};
-ghost use Rattle.lk_verdict.specs.Built.{built_extent};
 ghost use Rattle.lk_verdict.specs.GoodUnit.{IsGoodUnit, IsClearLibrary};
 ghost use Rattle.lk_verdict.specs.Operations.{OperationsYes};
-ghost use Rattle.lk_verdict.specs.Verdict.{says_yes, Extent, whole, plain_verdict};
+ghost use Rattle.lk_verdict.specs.Verdict.{says_yes, plain_verdict};
 
 /// The whole table is sound.
 pub fn whole_table_is_sound()
@@ -79,28 +78,22 @@ pub fn places_are_well_stated()
     ensures no_local { (us : Library) (n : ℕ) → GivesNoLocal (place_of us n []) }
 {}
 
-/// A unit that is answered yes under any budget, by an extent whose table is sound, is good where the units before it that give
+/// A unit that is answered yes under any budget, by a table that is sound, is good where the units before it that give
 /// an operation on numbers with laws say yes too: its names are new, its scan holds, and it is derived from the units before it,
 /// as the file states them. The whole table is such. Where each unit of a library says yes, each is good.
 pub fn yes_unit_is_good()
-    ensures each { (extent : Extent) (us : Library) (n budget : ℕ) → IsSoundTable extent.table
-        → IsClearLibrary us → OperationsYes extent us n
-        → plain_verdict extent us n budget ≡ says_yes → IsGoodUnit us n }
-    ensures whole { (us : Library) (n budget : ℕ) → IsClearLibrary us → OperationsYes whole us n
-        → plain_verdict whole us n budget ≡ says_yes → IsGoodUnit us n }
-    ensures library { (extent : Extent) (us : Library) → IsSoundTable extent.table
+    ensures each { (table : Table) (us : Library) (n budget : ℕ) → IsSoundTable table
+        → IsClearLibrary us → OperationsYes table us n
+        → plain_verdict table us n budget ≡ says_yes → IsGoodUnit us n }
+    ensures whole { (us : Library) (n budget : ℕ) → IsClearLibrary us → OperationsYes steps us n
+        → plain_verdict steps us n budget ≡ says_yes → IsGoodUnit us n }
+    ensures library { (table : Table) (us : Library) → IsSoundTable table
         → IsClearLibrary us
-        → ((n : ℕ) → n < length us → (b : ℕ) × (plain_verdict extent us n b ≡ says_yes))
+        → ((n : ℕ) → n < length us → (b : ℕ) × (plain_verdict table us n b ≡ says_yes))
         → (n : ℕ) → n < length us → IsGoodUnit us n }
 {}
 
 /// Where the complete test of levels says yes, the two levels are equal under every assignment.
 pub fn level_tests_are_sound()
     ensures { IsLevelTest complete_test }
-{}
-
-/// A unit to which what the program checks today says yes is good, where it says yes to the operations before it.
-pub fn built_yes_is_good()
-    ensures { (us : Library) (n budget : ℕ) → IsClearLibrary us → OperationsYes built_extent us n
-        → plain_verdict built_extent us n budget ≡ says_yes → IsGoodUnit us n }
 {}

@@ -1,8 +1,8 @@
 -- A unit's verdict, and whether it is good, rest on the units up to it alone.
-use Rattle.std.proofs.Common.{ℕ, suc, ◌≡◌, ◌&&◌, Bool, true, false, List, [], ◌∷◌, take, Option, Some, None, refl, sym, ap, ◌∙◌, subst, if◌then◌else◌}
+use Rattle.std.proofs.Common.{ℕ, suc, ◌≡◌, ◌&&◌, [], ◌∷◌, take, Option, Some, None, refl, sym, ap, ◌∙◌, subst, if◌then◌else◌}
 use Rattle.std.specs.Prelude.{slice_get}
 use Rattle.lk_tree.specs.declared.rule.Rule.TheVariants.{DuplicateName}
-use Rattle.lk_rulebook.specs.Place.{Place, Block, BlockRecursor}
+use Rattle.lk_rulebook.specs.Place.{Place}
 use Rattle.lk_rulebook.specs.Units.{LibraryUnit, of_decl, of_block, Library, Members, members_of, given_by, first_of_two, at_partial, first_giving, place_by}
 use Rattle.lk_rulebook.specs.Scan.{AreNew, is_none, are_new, own_scan, scan_of}
 use Rattle.lk_plain.specs.Answer.{outcome_of, plain_answer}
@@ -11,11 +11,10 @@ use Rattle.lk_questions.specs.Declarations.{unit_steps}
 use Rattle.lk_rulebook.specs.Derived.{DeclDerived}
 use Rattle.lk_inductive.specs.Whole.{BlockDerived}
 use Rattle.lk_inductive.specs.NestedRelation.{NestedDerived}
-use Rattle.lk_inductive.specs.FlatTask.{flat_task}
 use Rattle.lk_inductive.specs.NestedTask.{whole_task}
 use Rattle.lk_inductive.specs.Task.{run_task}
 use Rattle.lk_verdict.specs.GoodUnit.{UnitDerived, declaration, block, nested, IsGoodUnit}
-use Rattle.lk_verdict.specs.Verdict.{PlainVerdict, says_no, says_steps, verdict_by, Extent, block_outcome, questions_of, verdict_of, plain_verdict}
+use Rattle.lk_verdict.specs.Verdict.{PlainVerdict, says_no, says_steps, verdict_by, questions_of, verdict_of, plain_verdict}
 
 -- the place of unit n after these units
 abbrev after_units : ℕ → Library → Members → Place
@@ -45,23 +44,19 @@ good_too us vs n e f g = record {
   derived = derived_too us vs n g.unit e g.derived;
 }
 
-same_block : (nested : Bool) (table : Table) (us vs : Library) (n : ℕ) → take n us ≡ take n vs → (b : Block) (rs : List BlockRecursor) (budget : ℕ) → block_outcome nested table us n b rs budget ≡ block_outcome nested table vs n b rs budget
-same_block true table us vs n e b rs budget = ap (λ xs. run_task (after_units n xs) (λ w. plain_answer table w) [] budget (whole_task (suc budget) b rs)) e
-same_block false table us vs n e b rs budget = ap (λ xs. run_task (after_units n xs) (λ w. plain_answer table w) [] budget (flat_task (suc budget) b rs)) e
+same_questions : (table : Table) (us vs : Library) (n : ℕ) → take n us ≡ take n vs → (u : LibraryUnit) (budget : ℕ) → questions_of table us n u budget ≡ questions_of table vs n u budget
+same_questions table us vs n e (of_decl d) budget = ap (λ xs. verdict_by (outcome_of (after_units n xs []) (plain_answer table (after_units n xs [])) budget (unit_steps d))) e
+same_questions table us vs n e (of_block b rs) budget = ap (λ xs. verdict_by (run_task (after_units n xs) (λ w. plain_answer table w) [] budget (whole_task (suc budget) b rs))) e
 
-same_questions : (extent : Extent) (us vs : Library) (n : ℕ) → take n us ≡ take n vs → (u : LibraryUnit) (budget : ℕ) → questions_of extent us n u budget ≡ questions_of extent vs n u budget
-same_questions extent us vs n e (of_decl d) budget = ap (λ xs. verdict_by (outcome_of (after_units n xs []) (plain_answer extent.table (after_units n xs [])) budget (unit_steps d))) e
-same_questions extent us vs n e (of_block b rs) budget = ap verdict_by (same_block extent.nested extent.table us vs n e b rs budget)
+same_of : (table : Table) (us vs : Library) (n : ℕ) → take n us ≡ take n vs → (u : LibraryUnit) (budget : ℕ) → verdict_of table us n u budget ≡ verdict_of table vs n u budget
+same_of table us vs n e u budget =
+    ap (λ b. elim (if b then own_scan u else Some DuplicateName) as (λ y. PlainVerdict) [ Some r ↦ says_no r | None ↦ questions_of table us n u budget ]) (same_new us vs n e (members_of u))
+    ∙ ap (λ v. elim (scan_of vs n u) as (λ y. PlainVerdict) [ Some r ↦ says_no r | None ↦ v ]) (same_questions table us vs n e u budget)
 
-same_of : (extent : Extent) (us vs : Library) (n : ℕ) → take n us ≡ take n vs → (u : LibraryUnit) (budget : ℕ) → verdict_of extent us n u budget ≡ verdict_of extent vs n u budget
-same_of extent us vs n e u budget =
-    ap (λ b. elim (if b then own_scan u else Some DuplicateName) as (λ y. PlainVerdict) [ Some r ↦ says_no r | None ↦ questions_of extent us n u budget ]) (same_new us vs n e (members_of u))
-    ∙ ap (λ v. elim (scan_of vs n u) as (λ y. PlainVerdict) [ Some r ↦ says_no r | None ↦ v ]) (same_questions extent us vs n e u budget)
+same_at : (table : Table) (us vs : Library) (n budget : ℕ) → take n us ≡ take n vs → (o : Option LibraryUnit) →
+    elim o as (λ y. PlainVerdict) [ Some u ↦ verdict_of table us n u budget | None ↦ says_steps ] ≡ elim o as (λ y. PlainVerdict) [ Some u ↦ verdict_of table vs n u budget | None ↦ says_steps ]
+same_at table us vs n budget e (Some u) = same_of table us vs n e u budget
+same_at table us vs n budget e None = refl
 
-same_at : (extent : Extent) (us vs : Library) (n budget : ℕ) → take n us ≡ take n vs → (o : Option LibraryUnit) →
-    elim o as (λ y. PlainVerdict) [ Some u ↦ verdict_of extent us n u budget | None ↦ says_steps ] ≡ elim o as (λ y. PlainVerdict) [ Some u ↦ verdict_of extent vs n u budget | None ↦ says_steps ]
-same_at extent us vs n budget e (Some u) = same_of extent us vs n e u budget
-same_at extent us vs n budget e None = refl
-
-pub same_verdict : (extent : Extent) (us vs : Library) (n budget : ℕ) → take n us ≡ take n vs → slice_get us n ≡ slice_get vs n → plain_verdict extent us n budget ≡ plain_verdict extent vs n budget
-same_verdict extent us vs n budget e f = same_at extent us vs n budget e (slice_get us n) ∙ ap (λ o. elim o as (λ y. PlainVerdict) [ Some u ↦ verdict_of extent vs n u budget | None ↦ says_steps ]) f
+pub same_verdict : (table : Table) (us vs : Library) (n budget : ℕ) → take n us ≡ take n vs → slice_get us n ≡ slice_get vs n → plain_verdict table us n budget ≡ plain_verdict table vs n budget
+same_verdict table us vs n budget e f = same_at table us vs n budget e (slice_get us n) ∙ ap (λ o. elim o as (λ y. PlainVerdict) [ Some u ↦ verdict_of table vs n u budget | None ↦ says_steps ]) f

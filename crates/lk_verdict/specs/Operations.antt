@@ -6,7 +6,8 @@ use Rattle.lk_rulebook.specs.Place.{Hint}
 use Rattle.lk_rulebook.specs.Names.{op_name}
 use Rattle.lk_rulebook.specs.NumberLaws.{has_laws}
 use Rattle.lk_rulebook.specs.Units.{Decl, as_def, of_decl, Library, flaw_of, first_giving}
-use Rattle.lk_verdict.specs.Verdict.{Extent, says_yes, plain_verdict}
+use Rattle.lk_plain.specs.Program.{Table}
+use Rattle.lk_verdict.specs.Verdict.{says_yes, plain_verdict}
 
 -- unit m gives an operation with laws: it is a def of that name, the first unit that gives the name, and has no flaw
 pub record GivesOperation (us : Library) (m : ℕ) : Type 0 where
@@ -22,5 +23,5 @@ pub record GivesOperation (us : Library) (m : ℕ) : Type 0 where
   pub flawless : flaw_of (of_decl decl) ≡ None
 
 -- each such unit before unit n is answered yes under some budget
-abbrev pub OperationsYes : Extent → Library → ℕ → Type 0
-OperationsYes extent us n = (m : ℕ) → m < n → GivesOperation us m → (budget : ℕ) × (plain_verdict extent us m budget ≡ says_yes)
+abbrev pub OperationsYes : Table → Library → ℕ → Type 0
+OperationsYes table us n = (m : ℕ) → m < n → GivesOperation us m → (budget : ℕ) × (plain_verdict table us m budget ≡ says_yes)

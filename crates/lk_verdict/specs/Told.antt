@@ -2,9 +2,9 @@
 use Rattle.std.specs.Prelude.{ℕ, ◌≡◌, ◌<◌, ◌⊎◌, List, length, Some, slice_get}
 use Rattle.lk_tree.specs.declared.rule.Rule.{Rule}
 use Rattle.lk_rulebook.specs.Units.{Library}
+use Rattle.lk_questions.specs.Table.{steps}
 use Rattle.lk_verdict.specs.GoodUnit.{IsGoodUnit}
 use Rattle.lk_verdict.specs.Verdict.{PlainVerdict, says_yes, says_no, says_steps, plain_verdict}
-use Rattle.lk_verdict.specs.Built.{built_extent}
 use Rattle.lk_verdict.specs.Operations.{GivesOperation}
 
 -- a plain verdict, or that memory was wanting
@@ -23,9 +23,9 @@ told says_steps = out_of_steps
 abbrev pub OperationsAccepted : Library → List Verdict → ℕ → Type 0
 OperationsAccepted us vs n = (m : ℕ) → m < n → GivesOperation us m → slice_get vs m ≡ Some accepted
 
--- v is the plain verdict of unit n, of what is built, or says that memory was wanting
+-- v is the plain verdict of unit n, by the whole table, or says that memory was wanting
 abbrev pub IsPlainVerdict : Library → ℕ → ℕ → Verdict → Type 0
-IsPlainVerdict us budget n v = (v ≡ told (plain_verdict built_extent us n budget)) ⊎ (v ≡ out_of_memory)
+IsPlainVerdict us budget n v = (v ≡ told (plain_verdict steps us n budget)) ⊎ (v ≡ out_of_memory)
 
 -- v is what is said of unit n beside these verdicts: where it says yes, and the operations before it are accepted, the unit is good
 pub record IsVerdict (us : Library) (budget : ℕ) (vs : List Verdict) (n : ℕ) (v : Verdict) : Type 0 where

@@ -1,16 +1,11 @@
--- The plain verdict of a unit by an extent: the scan, then the unit's questions under one budget.
-use Rattle.std.specs.Prelude.{ℕ, ◌≡◌, ◌<◌, ◌≤◌, Bool, true, false, List, [], Some, None, slice_get}
+-- The plain verdict of a unit by a table: the scan, then the unit's questions under one budget.
+use Rattle.std.specs.Prelude.{ℕ, ◌≡◌, ◌<◌, ◌≤◌, [], Some, None, slice_get}
 use Rattle.lk_tree.specs.declared.rule.Rule.{Rule}
-use Rattle.lk_rulebook.specs.Place.{Block, BlockRecursor}
-use Rattle.lk_rulebook.specs.Units.{LibraryUnit, of_decl, of_block, Library, Members, place_of}
+use Rattle.lk_rulebook.specs.Units.{LibraryUnit, of_decl, of_block, Library, place_of}
 use Rattle.lk_rulebook.specs.Scan.{scan_of}
 use Rattle.lk_plain.specs.Answer.{Outcome, answered, refused, spent, outcome_of, plain_answer}
 use Rattle.lk_plain.specs.Program.{Table}
-use Rattle.lk_plain.specs.Parts.{IsPartOf}
-use Rattle.lk_questions.specs.Table.{steps}
 use Rattle.lk_questions.specs.Declarations.{unit_steps}
-use Rattle.lk_inductive.specs.Block.{Shape}
-use Rattle.lk_inductive.specs.FlatTask.{plain_flat}
 use Rattle.lk_inductive.specs.NestedTask.{plain_whole}
 
 pub data PlainVerdict : Type 0 where
@@ -23,40 +18,20 @@ verdict_by (answered v c t) = says_yes
 verdict_by (refused r) = says_no r
 verdict_by spent = says_steps
 
--- how far a check goes: the table by which questions are answered, and whether nested occurrences are checked (else a block
--- that has one is refused)
-pub record Extent : Type 0 where
-  pub table : Table
-  pub nested : Bool
-
--- all is checked
-abbrev pub whole : Extent
-whole = record { table = steps; nested = true }
-
--- the check of a block as unit n, with nested occurrences or without
-abbrev pub block_outcome : Bool → Table → Library → ℕ → Block → List BlockRecursor → ℕ → Outcome (Shape × Members)
-block_outcome true table us n b rs budget = plain_whole table us n b rs budget
-block_outcome false table us n b rs budget = plain_flat table us n b rs budget
-
 -- what the questions of u as unit n say
-abbrev pub questions_of : Extent → Library → ℕ → LibraryUnit → ℕ → PlainVerdict
-questions_of extent us n (of_decl d) budget = verdict_by (outcome_of (place_of us n []) (plain_answer extent.table (place_of us n [])) budget (unit_steps d))
-questions_of extent us n (of_block b rs) budget = verdict_by (block_outcome extent.nested extent.table us n b rs budget)
+abbrev pub questions_of : Table → Library → ℕ → LibraryUnit → ℕ → PlainVerdict
+questions_of table us n (of_decl d) budget = verdict_by (outcome_of (place_of us n []) (plain_answer table (place_of us n [])) budget (unit_steps d))
+questions_of table us n (of_block b rs) budget = verdict_by (plain_whole table us n b rs budget)
 
 -- the scan's rule comes first, with no question
-abbrev pub verdict_of : Extent → Library → ℕ → LibraryUnit → ℕ → PlainVerdict
-verdict_of extent us n u budget = elim (scan_of us n u) [ Some r ↦ says_no r | None ↦ questions_of extent us n u budget ]
+abbrev pub verdict_of : Table → Library → ℕ → LibraryUnit → ℕ → PlainVerdict
+verdict_of table us n u budget = elim (scan_of us n u) [ Some r ↦ says_no r | None ↦ questions_of table us n u budget ]
 
 -- the plain verdict of unit n (beyond the last unit it is never yes)
-abbrev pub plain_verdict : Extent → Library → ℕ → ℕ → PlainVerdict
-plain_verdict extent us n budget = elim (slice_get us n) [ Some u ↦ verdict_of extent us n u budget | None ↦ says_steps ]
+abbrev pub plain_verdict : Table → Library → ℕ → ℕ → PlainVerdict
+plain_verdict table us n budget = elim (slice_get us n) [ Some u ↦ verdict_of table us n u budget | None ↦ says_steps ]
 
 -- yes comes exactly where the budget is at least c, and steps below
 pub record IsYesFrom (f : ℕ → PlainVerdict) (c : ℕ) : Type 0 where
   pub enough : (b : ℕ) → c ≤ b → f b ≡ says_yes
   pub too_little : (b : ℕ) → b < c → f b ≡ says_steps
-
--- what the one checks the other checks too, and answers by the rest of the same programs
-pub record IsWidened (extent wider : Extent) : Type 0 where
-  pub table : IsPartOf extent.table wider.table
-  pub nested : extent.nested ≡ true → wider.nested ≡ true

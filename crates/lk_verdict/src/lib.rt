@@ -6,6 +6,8 @@ ghost use Rattle.lk_inductive.specs.Block.{Shape};
 ghost use Rattle.lk_inductive.specs.NestedRelation.{NestedDerived};
 ghost use Rattle.lk_inductive.specs.Whole.{BlockDerived};
 ghost use Rattle.lk_plain.specs.Answer.{answered};
+ghost use Rattle.lk_plain.specs.Parts.{IsPartOf};
+ghost use Rattle.lk_plain.specs.Program.{Table};
 ghost use Rattle.lk_rulebook.specs.Derived.{DeclDerived};
 ghost use Rattle.lk_rulebook.specs.Place.{Block, BlockType, BlockRecursor};
 ghost use Rattle.lk_rulebook.specs.Scan.{IsScanned};
@@ -13,32 +15,31 @@ ghost use Rattle.lk_rulebook.specs.Spelled.{library_spelled};
 ghost use Rattle.lk_rulebook.specs.Units.{Decl, place_of, of_block, Library};
 ghost use Rattle.lk_questions.specs.Table.{steps};
 ghost use Rattle.lk_verdict.specs.Attacks.{shadowed, doubled, undeclared, of_local, hidden};
-ghost use Rattle.lk_verdict.specs.Built.{built_extent};
 ghost use Rattle.lk_verdict.specs.GoodUnit.{IsGoodUnit, IsClearLibrary};
 ghost use Rattle.lk_verdict.specs.Later.{later_place};
-ghost use Rattle.lk_verdict.specs.Verdict.{says_yes, says_steps, Extent, plain_verdict, IsYesFrom, IsWidened};
+ghost use Rattle.lk_verdict.specs.Verdict.{says_yes, says_steps, plain_verdict, IsYesFrom};
 
 /// A yes comes exactly where the budget is at least its cost, and below it the verdict is steps. No verdict but steps changes
 /// with a greater budget.
 pub fn plain_verdict_is_steady()
-    ensures yes { (extent : Extent) (us : Library) (n budget : ℕ) → plain_verdict extent us n budget
-        ≡ says_yes → (c : ℕ) × (c ≤ budget) × IsYesFrom (plain_verdict extent us n) c }
-    ensures settled { (extent : Extent) (us : Library) (n budget more : ℕ) → budget ≤ more
-        → (plain_verdict extent us n budget ≡ says_steps)
-        ⊎ (plain_verdict extent us n more ≡ plain_verdict extent us n budget) }
+    ensures yes { (table : Table) (us : Library) (n budget : ℕ) → plain_verdict table us n budget
+        ≡ says_yes → (c : ℕ) × (c ≤ budget) × IsYesFrom (plain_verdict table us n) c }
+    ensures settled { (table : Table) (us : Library) (n budget more : ℕ) → budget ≤ more
+        → (plain_verdict table us n budget ≡ says_steps)
+        ⊎ (plain_verdict table us n more ≡ plain_verdict table us n budget) }
 {}
 
-/// A unit that is answered yes by an extent is answered yes by each wider one.
-pub fn extents_agree()
-    ensures { (extent wider : Extent) (us : Library) (n budget : ℕ) → IsWidened extent wider
-        → plain_verdict extent us n budget ≡ says_yes → plain_verdict wider us n budget ≡ says_yes }
+/// A unit that a part of a table answers yes is answered yes by the table.
+pub fn parts_agree()
+    ensures { (part table : Table) (us : Library) (n budget : ℕ) → IsPartOf part table
+        → plain_verdict part us n budget ≡ says_yes → plain_verdict table us n budget ≡ says_yes }
 {}
 
 /// The verdict of a unit, and whether it is good, rest on the units up to it alone.
 pub fn verdicts_rest_on_earlier_units()
-    ensures verdict { (extent : Extent) (us vs : Library) (n budget : ℕ) → take n us ≡ take n vs
-        → slice_get us n ≡ slice_get vs n → plain_verdict extent us n budget
-        ≡ plain_verdict extent vs n budget }
+    ensures verdict { (table : Table) (us vs : Library) (n budget : ℕ) → take n us ≡ take n vs
+        → slice_get us n ≡ slice_get vs n → plain_verdict table us n budget
+        ≡ plain_verdict table vs n budget }
     ensures good { (us vs : Library) (n : ℕ) → take n us ≡ take n vs → slice_get us n
         ≡ slice_get vs n → IsGoodUnit us n → IsGoodUnit vs n }
 {}
