@@ -1,0 +1,6 @@
+pub mod Firsts
+pub mod Params
+pub mod Marking
+pub mod Kept
+pub mod Spines
+pub mod Steps
