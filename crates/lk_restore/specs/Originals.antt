@@ -48,6 +48,10 @@ IsStanding c s (Renamed n R) = Unit {0}
 abbrev pub AreStanding : Contents → Setting → List Original → Type 0
 AreStanding c s os = All (IsStanding c s) os
 
+-- the name that a constant has in the file
+abbrev pub read_name : Contents → List Original → Name → Name
+read_name c os n = plain.name_back n (plain.stands_for (originals_at c os) n)
+
 -- where something stands for something, the parameters are Locals
 abbrev pub AreReadOver : List Original → List Tree → Type 0
 AreReadOver [] ps = Unit {0}
@@ -56,6 +60,11 @@ AreReadOver (o ∷ os) ps = AreLocals ps
 -- the levels and the parameters that terms of a shape are read back at
 abbrev pub setting_of : Shape → Setting
 setting_of p = record { names = []; levels = p.levels; params = p.params }
+
+pub record AreOriginals (c : Contents) (p : Shape) (os : List Original) : Type 0 where
+  pub known : AreOriginalsIn c os
+  pub standing : AreStanding c (setting_of p) os
+  pub over : AreReadOver os p.params
 
 abbrev pub restoring_at : Contents → List Original → Shape → Restoring
 restoring_at c os p = plain.restoring (originals_at c os) (setting_of p)

@@ -3,8 +3,7 @@
 ghost use Rattle.std.specs.Prelude.{◌≡◌, ◌<◌, length, IfSome, option_map};
 ghost use Rattle.lk_tree.specs.Mentions.{same_name};
 ghost use Rattle.lk_store.specs.Contents.{name_at};
-ghost use Rattle.lk_inductive.specs.Restore.{name_back, stands_for};
-ghost use Rattle.lk_restore.specs.Originals.{number_of, originals_at, AreOriginalsIn, IsOriginalIn};
+ghost use Rattle.lk_restore.specs.Originals.{number_of, read_name, AreOriginalsIn, IsOriginalIn};
 ghost use Rattle.lk_restore.specs.Marks.{mark_at, marks_at, first};
 
 use lk_store::terms::Terms;
@@ -72,9 +71,7 @@ pub fn original_name<T: Terms>(terms: &T, originals: &[Original], name: u64) -> 
     requires name_in { name < length (T.contents terms.now).names }
     ensures known { result < length (T.contents terms.now).names }
     ensures is { name_at (T.contents terms.now) result
-        ≡ name_back (name_at (T.contents terms.now) name)
-        (stands_for (originals_at (T.contents terms.now) originals.now)
-        (name_at (T.contents terms.now) name)) }
+        ≡ read_name (T.contents terms.now) originals.now (name_at (T.contents terms.now) name) }
 {
     match first(terms, originals, name) {
         None => name,

@@ -131,6 +131,7 @@ pub fn restore<T: Terms>(
     requires e_in { e < length (T.contents terms.old).trees }
     ensures keeps { Extends (T.contents terms.old) (T.contents terms.new) }
     ensures rest { T.rest terms.new ≡ T.rest terms.old }
+    ensures known { IfOk result (λ r. r < length (T.contents terms.new).trees) }
     ensures ok { (s : Setting) → AreStanding (T.contents terms.old) s originals.now
         → AreReadOver originals.now s.params → IfOk result (λ r. IsTree (T.contents terms.new) r
         (restore (originals_at (T.contents terms.old) originals.now) s
