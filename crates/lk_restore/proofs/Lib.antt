@@ -4,3 +4,5 @@ pub mod Marking
 pub mod Kept
 pub mod Spines
 pub mod Steps
+pub mod Aside
+pub mod Applied

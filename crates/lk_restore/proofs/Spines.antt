@@ -20,7 +20,7 @@ head_is : (c : Name) (ls : List Level) (xs : List Tree) → head (apply (const c
 unfolding head
 head_is c ls xs = head-apply (const c ls) xs
 
-args_are : (c : Name) (ls : List Level) (xs : List Tree) → args (apply (const c ls) xs) ≡ xs
+pub args_are : (c : Name) (ls : List Level) (xs : List Tree) → args (apply (const c ls) xs) ≡ xs
 unfolding args
 args_are c ls xs = args-apply (const c ls) xs
 

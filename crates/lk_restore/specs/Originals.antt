@@ -68,3 +68,7 @@ pub record AreOriginals (c : Contents) (p : Shape) (os : List Original) : Type 0
 
 abbrev pub restoring_at : Contents → List Original → Shape → Restoring
 restoring_at c os p = plain.restoring (originals_at c os) (setting_of p)
+
+-- the levels and the parameters of the setting alone count, and not its names
+abbrev pub ReadsAs : Type 0
+ReadsAs = (c : Contents) (os : List Original) (p : Shape) (ms : List (Name × plain.Original)) (s : Setting) → originals_at c os ≡ ms → p.levels ≡ s.levels → p.params ≡ s.params → restoring_at c os p ≡ plain.restoring ms s
