@@ -53,7 +53,8 @@ pub(crate) fn first<T: Terms>(terms: &T, originals: &[Original], name: u64) -> O
     requires name_in { name < length (T.contents terms.now).names }
     ensures known { IfSome result (IsOriginalIn (T.contents terms.now)) }
     ensures is { option_map (mark_at (T.contents terms.now)) result
-        ≡ first (marks_at (T.contents terms.now) originals.now) (name_at (T.contents terms.now) name) }
+        ≡ first (marks_at (T.contents terms.now) originals.now)
+        (name_at (T.contents terms.now) name) }
 {
     let mut rest = originals;
     'originals: while let Some((original, more)) = rest.split_first() {
