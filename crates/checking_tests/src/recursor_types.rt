@@ -117,7 +117,7 @@ fn tells_recursor<T: Terms>(alloc: Global, terms: &mut T, shape: &Shape) -> Resu
     requires { IsShapeIn (T.contents terms.old) shape.now }
 {
     let k = by_k(alloc, terms, shape)?;
-    let front = front_of(alloc, terms, shape)?;
+    let front = front_of(alloc, terms, shape, &[])?;
     if !k || front.names.len() != 0 {
         return Ok(false);
     }
@@ -131,7 +131,7 @@ fn tells_recursor_type<T: Terms>(
 ) -> Result<bool, NoMemory>
     requires { IsShapeIn (T.contents terms.old) shape.now }
 {
-    let front = front_of(alloc, terms, shape)?;
+    let front = front_of(alloc, terms, shape, &[])?;
     tells_type(alloc, terms, shape, &front)
 }
 

@@ -44,7 +44,7 @@ fn check_recursors<A: Asks>(
         (shape_at (A.contents asks.old) shape.now) (A.left asks.old)) result }
 {
     asks.give(Partial::Members);
-    compare(alloc, asks, shape, stated)
+    compare(alloc, asks, &[], shape, stated)
 }
 
 /// The shape, which is the constructors and large elimination, and then the recursors. The types are given.

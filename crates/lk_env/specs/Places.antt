@@ -52,23 +52,6 @@ partial_of (of_decl d) AllMembers = []
 partial_of (of_block b rs) Types = partial_types b
 partial_of (of_block b rs) AllMembers = partial_types b ++ partial_members b rs
 
--- the types of what is partial of a unit, and the rest
-abbrev pub partial_first : LibraryUnit → Partial → Members
-partial_first u Nothing = []
-partial_first (of_decl d) p = []
-partial_first (of_block b rs) Types = partial_types b
-partial_first (of_block b rs) AllMembers = partial_types b
-
-abbrev pub partial_last : LibraryUnit → Partial → Members
-partial_last u Nothing = []
-partial_last u Types = []
-partial_last (of_decl d) AllMembers = []
-partial_last (of_block b rs) AllMembers = partial_members b rs
-
--- the same with auxiliary types between
-abbrev pub partial_beside : LibraryUnit → Partial → Members → Members
-partial_beside u p aux = (partial_first u p ++ aux) ++ partial_last u p
-
 -- the entry of a unit's member as it is partial
 abbrev pub partial_entry_at : LibraryUnit → Partial → ℕ → Option Entry
 partial_entry_at u p j = option_map (λ m. m.1) (slice_get (partial_of u p) j)

@@ -8,6 +8,7 @@ use Rattle.lk_inductive.specs.Block as plain
 use Rattle.lk_inductive.specs.Recursors.{shape_bound, rec_params, motives, minors}
 use Rattle.lk_block.specs.declared.shape.Shape.{Shape}
 use Rattle.lk_block.specs.Shapes.{shape_at}
+use Rattle.lk_restore.specs.Originals.{AreOriginals}
 use Rattle.lk_recursor.specs.declared.binders.Binder.{Binder}
 use Rattle.lk_recursor.specs.Binders.{bound_by}
 use Rattle.lk_recursor.specs.declared.heads.Heads.{Heads}
@@ -23,13 +24,14 @@ module _ (c : Contents) (s : Shape) (p : plain.Shape) (same : shape_at c s ≡ p
   }
 
   pub front_made : (f : Front) → AreHeads c s f.heads → All (λ n. n < length c.names) f.names.items → map (name_at c) f.names.items ≡ rec_params p → IsList c f.levels (map param (rec_params p))
-      → AreTrees c f.minors.items (minors p) → f.major ≡ shape_bound p + (length p.types + length (minors p)) → IsFront c s f
-  front_made f heads names_in names levels minors_are major = record {
+      → AreTrees c f.minors.items (minors p) → f.major ≡ shape_bound p + (length p.types + length (minors p)) → AreOriginals c p f.originals.now → IsFront c s f
+  front_made f heads names_in names levels minors_are major originals_are = record {
     heads_are = heads;
     names_in = names_in;
     names_are = names ∙ ap rec_params (sym same);
     levels_are = subst (λ (q : plain.Shape). IsList c f.levels (map param (rec_params q))) (sym same) levels;
     minors_are = subst (λ (q : plain.Shape). AreTrees c f.minors.items (minors q)) (sym same) minors_are;
+    originals_are = subst (λ (q : plain.Shape). AreOriginals c q f.originals.now) (sym same) originals_are;
     major_is = subst (λ (q : plain.Shape). f.major ≡ shape_bound q + (length q.types + length (minors q))) (sym same) major;
   }
 

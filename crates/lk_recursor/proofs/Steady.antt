@@ -9,10 +9,12 @@ use Rattle.lk_block.specs.Shapes.{shape_at, IsShapeIn}
 use Rattle.lk_env.proofs.Stays.{names_stay, names_in_stay}
 use Rattle.lk_block.proofs.Shaping.{shape-steady}
 use Rattle.lk_inductive.specs.Block as plain
-use Rattle.lk_inductive.specs.Recursors.{shape_bound, rec_params, motives, minors}
+use Rattle.lk_inductive.specs.Recursors.{Restoring, shape_bound, rec_params, motives, minors, recursors_by}
 use Rattle.lk_recursor.specs.declared.heads.Heads.{Heads}
 use Rattle.lk_recursor.specs.declared.front.Front.{Front}
-use Rattle.lk_recursor.specs.Fronts.{AreHeads, IsFront}
+use Rattle.lk_restore.specs.Originals.{AreOriginals, restoring_at}
+use Rattle.lk_restore.specs.Steady.{originals-stay, restoring-steady}
+use Rattle.lk_recursor.specs.Fronts.{AreHeads, IsFront, read_by, own_recursors}
 
 module _ (c d : Contents) (grown : Extends c d) where
   pub list-steady : (l : ℕ) (levels : List Level) → IsList c l levels → IsList d l levels
@@ -42,5 +44,13 @@ module _ (c d : Contents) (grown : Extends c d) where
         names_are = names_stay c d grown f.names.items was.names_in ∙ was.names_are ∙ ap rec_params same;
         levels_are = subst (λ (p : plain.Shape). IsList d f.levels (map param (rec_params p))) same (list-steady f.levels (map param (rec_params (shape_at c s))) was.levels_are);
         minors_are = subst (λ (p : plain.Shape). AreTrees d f.minors.items (minors p)) same (AreTrees-steady f.minors.items (minors (shape_at c s)) was.minors_are);
+        originals_are = subst (λ (p : plain.Shape). AreOriginals d p f.originals.now) same (originals-stay c d grown (shape_at c s) f.originals.now was.originals_are);
         major_is = subst (λ (p : plain.Shape). f.major ≡ shape_bound p + (length p.types + length (minors p))) same was.major_is;
       }
+
+  -- names and trees are read back as before
+  pub read_by-steady : (s : Shape) (f : Front) → IsShapeIn c s → IsFront c s f → read_by d s f ≡ read_by c s f
+  read_by-steady s f known was = ap (restoring_at d f.originals.now) (shape-steady c d grown s known) ∙ restoring-steady c d grown (shape_at c s) f.originals.now was.originals_are
+
+  pub own_recursors-steady : (s : Shape) (f : Front) → IsShapeIn c s → IsFront c s f → own_recursors d s f ≡ own_recursors c s f
+  own_recursors-steady s f known was = ap (λ (w : Restoring). recursors_by w (shape_at d s)) (read_by-steady s f known was) ∙ ap (recursors_by (read_by c s f)) (shape-steady c d grown s known)

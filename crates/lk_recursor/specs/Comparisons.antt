@@ -10,28 +10,28 @@ use Rattle.lk_store.specs.Contents.{Contents, name_at, level_at, tree_at}
 use Rattle.lk_env.specs.Units.{recursor_at, IsRecursorIn}
 use Rattle.lk_inductive.specs.Block as plain
 use Rattle.lk_inductive.specs.Compare.{renamed, rules_steps}
-use Rattle.lk_inductive.specs.Recursors.{BlockRecursor, as_they_are, rec_name, rec_of, rule_value, is_k}
+use Rattle.lk_inductive.specs.Recursors.{BlockRecursor, Restoring, rec_name, rec_of, rule_value, is_k}
 use Rattle.lk_block.specs.Shapes.{shape_at, constructor_shape_at, type_shape_at, AreTreesIn, IsShapeIn, IsTypeShapeIn}
 use Rattle.lk_block.specs.declared.shape.ConstructorShape.{ConstructorShape}
 use Rattle.lk_block.specs.declared.shape.TypeShape.{TypeShape}
-use Rattle.lk_recursor.specs.Fronts.{IsFront}
+use Rattle.lk_recursor.specs.Fronts.{IsFront, read_by}
 use Rattle.lk_recursor.specs.declared.own.Shared.{Shared}
 use Rattle.lk_recursor.specs.declared.own.OwnRecursor.{OwnRecursor}
 use Rattle.lk_recursor.specs.declared.own.Comparison.{Comparison}
 
--- the names of these types' recursors
-pub record AreNames (c : Contents) (names : List ℕ) (types : List TypeShape) : Type 0 where
+-- the names of these types' recursors, read back
+pub record AreNames (c : Contents) (w : Restoring) (names : List ℕ) (types : List TypeShape) : Type 0 where
   pub known : All (λ n. n < length c.names) names
-  pub are : map (name_at c) names ≡ map (λ (t : TypeShape). rec_name (name_at c t.name)) types
+  pub are : map (name_at c) names ≡ map (λ (t : TypeShape). w.named (rec_name (name_at c t.name))) types
 
 pub record IsShared (c : Contents) (s : Shared) : Type 0 where
   pub shape_in : IsShapeIn c s.shape.now
   pub front_is : IsFront c s.shape.now s.front.now
-  pub names_are : AreNames c s.names.now s.shape.now.types.items
+  pub names_are : AreNames c (read_by c s.shape.now s.front.now) s.names.now s.shape.now.types.items
   pub k_is : s.k ≡ is_k (shape_at c s.shape.now)
 
-abbrev pub own_at : Contents → plain.Shape → OwnRecursor → BlockRecursor
-own_at c s r = rec_of as_they_are s (map (tree_at c) r.minors.now) (type_shape_at c r.of.now)
+abbrev pub own_at : Contents → Restoring → plain.Shape → OwnRecursor → BlockRecursor
+own_at c w s r = rec_of w s (map (tree_at c) r.minors.now) (type_shape_at c r.of.now)
 
 pub record IsOwnRecursor (c : Contents) (r : OwnRecursor) : Type 0 where
   pub of_in : IsTypeShapeIn c r.of.now
@@ -41,7 +41,7 @@ abbrev pub stated_of : Contents → Comparison → BlockRecursor
 stated_of c x = recursor_at c x.stated.now
 
 abbrev pub own_of : Contents → Comparison → BlockRecursor
-own_of c x = own_at c (shape_at c x.shared.shape.now) x.own
+own_of c x = own_at c (read_by c x.shared.shape.now x.shared.front.now) (shape_at c x.shared.shape.now) x.own
 
 pub record IsComparison (c : Contents) (x : Comparison) : Type 0 where
   pub shared_is : IsShared c x.shared
@@ -56,7 +56,7 @@ renamed_type c x = renamed (stated_of c x) (own_of c x) (own_of c x).type
 
 -- the same of the value of a rule, by its minor premise and its constructor
 abbrev pub renamed_value : Contents → Comparison → ℕ → ConstructorShape → Tree
-renamed_value c x m k = renamed (stated_of c x) (own_of c x) (rule_value as_they_are (shape_at c x.shared.shape.now) (tree_at c m) (constructor_shape_at c k))
+renamed_value c x m k = renamed (stated_of c x) (own_of c x) (rule_value (read_by c x.shared.shape.now x.shared.front.now) (shape_at c x.shared.shape.now) (tree_at c m) (constructor_shape_at c k))
 
 -- two trees that are to be the same
 abbrev pub same_form : Tree → Tree → Program Yes

@@ -3,46 +3,55 @@
 ghost use Rattle.std.specs.Prelude.{◌≡◌, ◌<◌, length, map, All, IfOk};
 ghost use Rattle.lk_tree.specs.Tree.{param};
 ghost use Rattle.lk_store.specs.Contents.{name_at, level_at, Extends, IsTree};
-ghost use Rattle.lk_block.specs.Shapes.{IsShapeIn, IsTypeShapeIn, IsConstructorShapeIn};
-ghost use Rattle.lk_recursor.specs.Fronts.{IsFront};
+ghost use Rattle.lk_block.specs.Shapes.{shape_at, IsShapeIn, IsConstructorShapeIn};
+ghost use Rattle.lk_restore.specs.Originals.{AreOriginals};
+ghost use Rattle.lk_recursor.specs.Fronts.{IsFront, read_by};
 ghost use Rattle.lk_recursor.specs.Comparisons.{AreNames, renamed_type, renamed_value, IsComparison};
 
 use crate::front::{Front, front_of};
 use crate::own::{Comparison, names_of};
 use crate::renaming::{levels_of, renamed_rule, renamed_type};
 use lk_ask::asks::Asks;
-use lk_block::shape::{ConstructorShape, Shape, TypeShape};
+use lk_block::shape::{ConstructorShape, Shape};
+use lk_restore::Original;
 use lk_store::memory::NoMemory;
 use std::alloc::Global;
 
 /// What all recursors of a block share, made between questions.
-pub(crate) fn front_between<A: Asks>(
+pub(crate) fn front_between<'a, A: Asks>(
     alloc: Global,
     asks: &mut A,
     shape: &Shape,
-) -> Result<Front, NoMemory>
-    requires { IsShapeIn (A.contents asks.old) shape.now }
+    originals: &'a [Original],
+) -> Result<Front<'a>, NoMemory>
+    requires shape_in { IsShapeIn (A.contents asks.old) shape.now }
+    requires originals_are { AreOriginals (A.contents asks.old)
+        (shape_at (A.contents asks.old) shape.now) originals.now }
     ensures keeps { Extends (A.contents asks.old) (A.contents asks.new) }
     ensures stays { A.standing asks.new ≡ A.standing asks.old }
     ensures left { A.left asks.new ≡ A.left asks.old }
+    ensures originals { IfOk result (λ f. f.originals.now ≡ originals.now) }
     ensures ok { IfOk result (IsFront (A.contents asks.new) shape.now) }
 {
-    front_of(alloc, asks, shape)
+    front_of(alloc, asks, shape, originals)
 }
 
-/// The names of the recursors of these types, made between questions.
+/// The names of the recursors of a block's types, read back, made between questions.
 pub(crate) fn names_between<A: Asks>(
     alloc: Global,
     asks: &mut A,
-    types: &[TypeShape],
+    shape: &Shape,
+    front: &Front,
 ) -> Result<Vec<u64>, NoMemory>
-    requires { All (IsTypeShapeIn (A.contents asks.old)) types.now }
+    requires shape_in { IsShapeIn (A.contents asks.old) shape.now }
+    requires front_is { IsFront (A.contents asks.old) shape.now front.now }
     ensures keeps { Extends (A.contents asks.old) (A.contents asks.new) }
     ensures stays { A.standing asks.new ≡ A.standing asks.old }
     ensures left { A.left asks.new ≡ A.left asks.old }
-    ensures ok { IfOk result (λ ns. AreNames (A.contents asks.new) ns.items types.now) }
+    ensures ok { IfOk result (λ ns. AreNames (A.contents asks.new)
+        (read_by (A.contents asks.new) shape.now front.now) ns.items shape.now.types.items) }
 {
-    names_of(alloc, asks, types)
+    names_of(alloc, asks, shape, front)
 }
 
 /// The parameters of these names, as levels, made between questions.

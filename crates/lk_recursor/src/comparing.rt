@@ -4,11 +4,12 @@ ghost use Rattle.std.specs.Prelude.{◌≡◌, ◌<◌, length, map, All};
 ghost use Rattle.lk_questions.specs.Declarations.{checked};
 ghost use Rattle.lk_store.specs.Contents.{name_at, tree_at, Extends};
 ghost use Rattle.lk_env.specs.Units.{recursor_at, IsRecursorIn};
-ghost use Rattle.lk_inductive.specs.Recursors.{recursors};
+ghost use Rattle.lk_inductive.specs.Recursors.{recursors_by};
 ghost use Rattle.lk_inductive.specs.Compare.{rules_steps, rec_steps, rec_named, compare_found, compare_steps};
 ghost use Rattle.lk_declaration.specs.Courses.{ComesTo};
 ghost use Rattle.lk_block.specs.Shapes.{shape_at, IsShapeIn, IsConstructorShapeIn};
-ghost use Rattle.lk_recursor.specs.Fronts.{IsFront};
+ghost use Rattle.lk_restore.specs.Originals.{restoring_at, AreOriginals};
+ghost use Rattle.lk_recursor.specs.Fronts.{IsFront, read_by, own_recursors};
 ghost use Rattle.lk_recursor.specs.Comparisons.{own_at, stated_of, own_of, renamed_type, renamed_value, same_form, rule_form, parts_form, trees_form, IsShared, IsOwnRecursor, IsComparison};
 
 use crate::between::{front_between, levels_between, names_between, rule_between, type_between};
@@ -21,6 +22,7 @@ use lk_ask::stop::Stop;
 use lk_block::shape::{ConstructorShape, Shape};
 use lk_declaration::asking::{are_same, sort_of, type_of};
 use lk_env::unit::Recursor;
+use lk_restore::Original;
 use lk_tree::rule::Rule;
 use std::alloc::Global;
 
@@ -194,9 +196,10 @@ fn check_found<A: Asks>(
     ensures stays { A.standing asks.new ≡ A.standing asks.old }
     ensures outcome { ComesTo (A.standing asks.old)
         (rec_steps (recursor_at (A.contents asks.old) stated.now)
-        (own_at (A.contents asks.old) (shape_at
-        (A.contents asks.old) shared.now.shape.now) own.entry)) (A.left asks.old) (λ u. checked)
-        (A.left asks.new) result }
+        (own_at (A.contents asks.old)
+        (read_by (A.contents asks.old) shared.now.shape.now shared.now.front.now)
+        (shape_at (A.contents asks.old) shared.now.shape.now) own.entry)) (A.left asks.old)
+        (λ u. checked) (A.left asks.new) result }
 {
     let levels = levels_between(alloc, asks, &stated.levels)?;
     let pair = Comparison {
@@ -221,17 +224,11 @@ fn check_recursor<A: Asks>(
     ensures stays { A.standing asks.new ≡ A.standing asks.old }
     ensures outcome { ComesTo (A.standing asks.old)
         (compare_found (recursor_at (A.contents asks.old) stated.now)
-        (rec_named (recursors (shape_at (A.contents asks.old) shared.now.shape.now))
+        (rec_named (own_recursors (A.contents asks.old) shared.now.shape.now shared.now.front.now)
         (name_at (A.contents asks.old) stated.now.name))) (A.left asks.old) (λ u. checked)
         (A.left asks.new) result }
 {
-    match named(
-        asks,
-        shared.names,
-        &shared.shape.types,
-        &shared.front.minors,
-        stated.name,
-    ) {
+    match named(asks, shared, stated.name) {
         None => Err(Stop::No(Rule::RecursorDiffers)),
         Some(own) => check_found(alloc, asks, shared, own, stated),
     }
@@ -249,7 +246,8 @@ fn check_all<A: Asks>(
     ensures keeps { Extends (A.contents asks.old) (A.contents asks.new) }
     ensures stays { A.standing asks.new ≡ A.standing asks.old }
     ensures outcome { ComesTo (A.standing asks.old)
-        (compare_steps (recursors (shape_at (A.contents asks.old) shared.now.shape.now))
+        (compare_steps (own_recursors (A.contents asks.old) shared.now.shape.now
+        shared.now.front.now)
         (map (recursor_at (A.contents asks.old)) stated.now)) (A.left asks.old) (λ u. checked)
         (A.left asks.new) result }
 {
@@ -275,11 +273,11 @@ fn compare_with<A: Asks>(
     ensures keeps { Extends (A.contents asks.old) (A.contents asks.new) }
     ensures stays { A.standing asks.new ≡ A.standing asks.old }
     ensures outcome { ComesTo (A.standing asks.old)
-        (compare_steps (recursors (shape_at (A.contents asks.old) shape.now))
+        (compare_steps (own_recursors (A.contents asks.old) shape.now front.now)
         (map (recursor_at (A.contents asks.old)) stated.now)) (A.left asks.old) (λ u. checked)
         (A.left asks.new) result }
 {
-    let names = names_between(alloc, asks, &shape.types)?;
+    let names = names_between(alloc, asks, shape, front)?;
     let k = by_k(alloc, asks, shape)?;
     let shared = Shared {
         shape,
@@ -290,8 +288,8 @@ fn compare_with<A: Asks>(
     check_all(alloc, asks, &shared, stated)
 }
 
-/// The stated recursors, in their order, against those of the block's shape. A recursor that is not stated is not missed,
-/// and not made.
+/// The stated recursors, in their order, against those of the block's shape, read back. A recursor that is not stated is not
+/// missed, and not made.
 ///
 /// Each has the name of one of these, its counts, its k and its rules' constructors and numbers of fields, a type that has a
 /// sort (`NotASort`) and is the same, and in each rule a value that has a type and is the same (`RecursorDiffers`). What a
@@ -299,21 +297,26 @@ fn compare_with<A: Asks>(
 pub fn compare<A: Asks>(
     alloc: Global,
     asks: &mut A,
+    originals: &[Original],
     shape: &Shape,
     stated: &[Recursor],
 ) -> Result<(), Stop>
     requires shape_in { IsShapeIn (A.contents asks.old) shape.now }
+    requires originals_are { AreOriginals (A.contents asks.old)
+        (shape_at (A.contents asks.old) shape.now) originals.now }
     requires stated_in { All (IsRecursorIn (A.contents asks.old)) stated.now }
     ensures keeps { Extends (A.contents asks.old) (A.contents asks.new) }
     ensures stays { A.standing asks.new ≡ A.standing asks.old }
     ensures outcome { ComesTo (A.standing asks.old)
-        (compare_steps (recursors (shape_at (A.contents asks.old) shape.now))
+        (compare_steps (recursors_by (restoring_at (A.contents asks.old) originals.now
+        (shape_at (A.contents asks.old) shape.now))
+        (shape_at (A.contents asks.old) shape.now))
         (map (recursor_at (A.contents asks.old)) stated.now)) (A.left asks.old) (λ u. checked)
         (A.left asks.new) result }
 {
     if stated.is_empty() {
         return Ok(());
     }
-    let front = front_between(alloc, asks, shape)?;
+    let front = front_between(alloc, asks, shape, originals)?;
     compare_with(alloc, asks, shape, &front, stated)
 }

@@ -5,41 +5,54 @@ ghost use Rattle.lk_tree.specs.Mentions.{same_name};
 ghost use Rattle.lk_store.specs.Contents.{name_at, tree_at};
 ghost use Rattle.lk_env.specs.Units.{rule_at, IsRuleIn};
 ghost use Rattle.lk_inductive.specs.Block.{Shape as PlainShape};
-ghost use Rattle.lk_inductive.specs.Recursors.{rules_of, as_they_are};
+ghost use Rattle.lk_inductive.specs.Recursors.{rules_of};
 ghost use Rattle.lk_inductive.specs.Compare.{same_rules, same_counts};
 ghost use Rattle.lk_block.specs.Shapes.{constructor_shape_at, IsConstructorShapeIn};
+ghost use Rattle.lk_restore.specs.Originals.{read_name, restoring_at, AreOriginalsIn};
 ghost use Rattle.lk_recursor.specs.Comparisons.{stated_of, own_of, IsComparison};
 
 use crate::own::Comparison;
+use lk_lists::names::names_equal;
 use lk_block::shape::ConstructorShape;
 use lk_env::unit::RecursorRule;
-use lk_lists::names::names_equal;
+use lk_restore::Original;
+use lk_restore::originals::original_name;
 use lk_store::terms::Terms;
 
-/// Whether a rule is for this constructor, with as many fields.
-fn rule_agrees<T: Terms>(terms: &T, rule: &RecursorRule, constructor: &ConstructorShape) -> bool
+/// Whether a rule is for this constructor, read back, with as many fields.
+fn rule_agrees<T: Terms>(
+    terms: &T,
+    originals: &[Original],
+    rule: &RecursorRule,
+    constructor: &ConstructorShape,
+) -> bool
+    requires originals_in { AreOriginalsIn (T.contents terms.now) originals.now }
     requires rule_in { IsRuleIn (T.contents terms.now) rule.now }
     requires constructor_in { IsConstructorShapeIn (T.contents terms.now) constructor.now }
     ensures { result ≡ (same_name (name_at (T.contents terms.now) rule.now.constructor)
-        (name_at (T.contents terms.now) constructor.now.name) && nat_eq rule.now.fields
+        (read_name (T.contents terms.now) originals.now
+        (name_at (T.contents terms.now) constructor.now.name)) && nat_eq rule.now.fields
         (length constructor.now.fields.items)) }
 {
-    names_equal(terms, rule.constructor, constructor.name)
-        && rule.fields == constructor.fields.len() as u64
+    let name = original_name(terms, originals, constructor.name);
+    names_equal(terms, rule.constructor, name) && rule.fields == constructor.fields.len() as u64
 }
 
-/// Whether the rules are for these constructors, in their order, with as many fields. Each constructor has a minor premise.
+/// Whether the rules are for these constructors, read back, in their order, with as many fields. Each constructor has a minor premise.
 fn rules_agree<T: Terms>(
     terms: &T,
+    originals: &[Original],
     rules: &[RecursorRule],
     minors: &[u64],
     constructors: &[ConstructorShape],
 ) -> bool
+    requires originals_in { AreOriginalsIn (T.contents terms.now) originals.now }
     requires rules_in { All (IsRuleIn (T.contents terms.now)) rules.now }
     requires constructors_in { All (IsConstructorShapeIn (T.contents terms.now)) constructors.now }
     ensures { (s : PlainShape) → result ≡ same_rules
         (map (rule_at (T.contents terms.now)) rules.now)
-        (rules_of as_they_are s (map (tree_at (T.contents terms.now)) minors.now)
+        (rules_of (restoring_at (T.contents terms.now) originals.now s) s
+        (map (tree_at (T.contents terms.now)) minors.now)
         (map (constructor_shape_at (T.contents terms.now)) constructors.now)) }
 {
     let mut left = rules;
@@ -51,7 +64,7 @@ fn rules_agree<T: Terms>(
             Some((_, more_premises)) => match left.split_first() {
                 None => return false,
                 Some((rule, more)) => {
-                    if !rule_agrees(terms, rule, constructor) {
+                    if !rule_agrees(terms, originals, rule, constructor) {
                         return false;
                     }
                     left = more;
@@ -62,6 +75,24 @@ fn rules_agree<T: Terms>(
         }
     }
     left.is_empty()
+}
+
+/// Whether the rules of a stated recursor are for the constructors of the block's own, in their order, with as many fields.
+fn own_rules_agree<T: Terms>(terms: &T, pair: &Comparison) -> bool
+    requires { IsComparison (T.contents terms.now) pair.now }
+    ensures { result ≡ same_rules
+        (map (rule_at (T.contents terms.now)) pair.now.stated.now.rules.items)
+        (own_of (T.contents terms.now) pair.now).recursor.rules }
+{
+    let own = pair.own;
+    let originals = pair.shared.front.originals;
+    rules_agree(
+        terms,
+        originals,
+        &pair.stated.rules,
+        own.minors,
+        &own.of.constructors,
+    )
 }
 
 /// Whether a stated recursor has the counts, the K and the rules, except their values, of the block's own.
@@ -79,10 +110,5 @@ pub fn counts_agree<T: Terms>(terms: &T, pair: &Comparison) -> bool
         && ((stated.motives == shape.types.len() as u64
             && stated.minors == front.minors.len() as u64)
             && ((stated.k == pair.shared.k && stated.levels.len() == front.names.len())
-                && rules_agree(
-                    terms,
-                    &stated.rules,
-                    pair.own.minors,
-                    &pair.own.of.constructors,
-                )))
+                && own_rules_agree(terms, pair)))
 }

@@ -6,7 +6,8 @@ ghost use Rattle.lk_store.specs.Contents.{tree_at, Extends, IsTree};
 ghost use Rattle.lk_inductive.specs.Recursors.{front as front_locals, motives, minors, shape_bound};
 ghost use Rattle.lk_block.specs.Shapes.{shape_at, IsShapeIn};
 ghost use Rattle.lk_recursor.specs.Binders.{bound_by};
-ghost use Rattle.lk_recursor.specs.Fronts.{AreHeads, IsFront};
+ghost use Rattle.lk_restore.specs.Originals.{AreOriginals};
+ghost use Rattle.lk_recursor.specs.Fronts.{AreHeads, IsFront, read_by};
 
 use crate::binders::{Binder, over_locals};
 use crate::bounds::bound_of;
@@ -15,6 +16,7 @@ use crate::levels::{elimination_level, level_names};
 use crate::minors::minors_of;
 use lk_block::parameters::parameter_levels;
 use lk_block::shape::Shape;
+use lk_restore::{Original, restore};
 use lk_spine::apply;
 use lk_store::memory::NoMemory;
 use lk_store::terms::Terms;
@@ -22,7 +24,7 @@ use std::alloc::Global;
 
 /// What all recursors of a block share. All numbers are those of one store.
 #[derive(Drop)]
-pub struct Front {
+pub struct Front<'a> {
     pub heads: Heads,
     /// The names of a recursor's level parameters.
     pub names: Vec<u64>,
@@ -32,6 +34,8 @@ pub struct Front {
     pub minors: Vec<u64>,
     /// The number of the Local for a major premise. It is above those of all other Locals.
     pub major: u64,
+    /// What constants of the block stand for.
+    pub originals: &'a [Original],
 }
 
 /// The number of the Local after so many.
@@ -68,10 +72,18 @@ fn heads_of<T: Terms>(
 }
 
 /// What all recursors of a block of this shape share.
-pub fn front_of<T: Terms>(alloc: Global, terms: &mut T, shape: &Shape) -> Result<Front, NoMemory>
-    requires { IsShapeIn (T.contents terms.old) shape.now }
+pub fn front_of<'a, T: Terms>(
+    alloc: Global,
+    terms: &mut T,
+    shape: &Shape,
+    originals: &'a [Original],
+) -> Result<Front<'a>, NoMemory>
+    requires shape_in { IsShapeIn (T.contents terms.old) shape.now }
+    requires originals_are { AreOriginals (T.contents terms.old)
+        (shape_at (T.contents terms.old) shape.now) originals.now }
     ensures keeps { Extends (T.contents terms.old) (T.contents terms.new) }
     ensures rest { T.rest terms.new ≡ T.rest terms.old }
+    ensures originals { IfOk result (λ f. f.originals.now ≡ originals.now) }
     ensures ok { IfOk result (IsFront (T.contents terms.new) shape.now) }
 {
     let first = bound_of(terms, shape)?;
@@ -87,10 +99,11 @@ pub fn front_of<T: Terms>(alloc: Global, terms: &mut T, shape: &Shape) -> Result
         levels,
         minors,
         major,
+        originals,
     })
 }
 
-/// Binders over a tree: for the parameters, the motives and the minor premises.
+/// Binders over a tree: for the motives and the minor premises, and over what is read back then, for the parameters.
 pub(crate) fn over_front<T: Terms>(
     alloc: Global,
     terms: &mut T,
@@ -106,13 +119,15 @@ pub(crate) fn over_front<T: Terms>(
     ensures rest { T.rest terms.new ≡ T.rest terms.old }
     ensures ok { IfOk result (λ r. IsTree (T.contents terms.new) r
         (bound_by binder (shape_at (T.contents terms.old) shape.now).params
+        ((read_by (T.contents terms.old) shape.now front.now).tree
         (bound_by binder (motives (shape_at (T.contents terms.old) shape.now)
         ++ minors (shape_at (T.contents terms.old) shape.now))
-        (tree_at (T.contents terms.old) e)))) }
+        (tree_at (T.contents terms.old) e))))) }
 {
     let inner = over_locals(alloc, terms, binder, &front.minors, e)?;
     let middle = over_locals(alloc, terms, binder, &front.heads.motives, inner)?;
-    let made = over_locals(alloc, terms, binder, &shape.parameters, middle)?;
+    let read = restore(alloc, terms, front.originals, middle)?;
+    let made = over_locals(alloc, terms, binder, &shape.parameters, read)?;
     Ok(made)
 }
 

@@ -2,9 +2,9 @@
 
 ghost use Rattle.std.specs.Prelude.{◌≡◌, ◌∷◌, [], map, IfOk};
 ghost use Rattle.lk_store.specs.Contents.{tree_at, Extends, IsTree};
-ghost use Rattle.lk_inductive.specs.Recursors.{rec_type, is_k, major, pis, as_they_are};
+ghost use Rattle.lk_inductive.specs.Recursors.{rec_type, is_k, major, pis};
 ghost use Rattle.lk_block.specs.Shapes.{shape_at, type_shape_at, IsShapeIn, IsTypeShapeIn};
-ghost use Rattle.lk_recursor.specs.Fronts.{IsFront};
+ghost use Rattle.lk_recursor.specs.Fronts.{IsFront, read_by};
 ghost use Rattle.lk_recursor.specs.Hypotheses.{major_end};
 
 use crate::binders::{Binder, over_local, over_locals};
@@ -62,7 +62,7 @@ fn end_of<T: Terms>(
     Ok(made)
 }
 
-/// The type of the recursor of a type.
+/// The type of the recursor of a type, read back.
 pub fn recursor_type<T: Terms>(
     alloc: Global,
     terms: &mut T,
@@ -76,7 +76,8 @@ pub fn recursor_type<T: Terms>(
     ensures keeps { Extends (T.contents terms.old) (T.contents terms.new) }
     ensures rest { T.rest terms.new ≡ T.rest terms.old }
     ensures ok { IfOk result (λ e. IsTree (T.contents terms.new) e
-        (rec_type as_they_are (shape_at (T.contents terms.old) shape.now)
+        (rec_type (read_by (T.contents terms.old) shape.now front.now)
+        (shape_at (T.contents terms.old) shape.now)
         (type_shape_at (T.contents terms.old) of.now))) }
 {
     let end = end_of(alloc, terms, shape, front, of)?;

@@ -5,9 +5,9 @@ ghost use Rattle.lk_tree.specs.Tree.{const, app, param};
 ghost use Rattle.lk_tree.specs.Spine.{apply as applied};
 ghost use Rattle.lk_store.specs.Contents.{name_at, tree_at, Extends, IsTree};
 ghost use Rattle.lk_spine.specs.Reading.{AreTrees};
-ghost use Rattle.lk_inductive.specs.Recursors.{inductions, rule_value, as_they_are};
+ghost use Rattle.lk_inductive.specs.Recursors.{inductions, rule_value};
 ghost use Rattle.lk_block.specs.Shapes.{AreTreesIn, field_at, shape_at, constructor_shape_at, IsFieldIn, IsRecursionIn, IsShapeIn, IsConstructorShapeIn};
-ghost use Rattle.lk_recursor.specs.Fronts.{IsFront};
+ghost use Rattle.lk_recursor.specs.Fronts.{IsFront, read_by};
 ghost use Rattle.lk_recursor.specs.Hypotheses.{recursor_at, induction, rule_end};
 
 use crate::binders::{Binder, over_locals};
@@ -193,7 +193,7 @@ fn minor_applied<T: Terms>(
     Ok(made)
 }
 
-/// The value of the rule for a constructor, whose minor premise is given.
+/// The value of the rule for a constructor, whose minor premise is given, read back.
 pub fn rule_value<T: Terms>(
     alloc: Global,
     terms: &mut T,
@@ -209,7 +209,8 @@ pub fn rule_value<T: Terms>(
     ensures keeps { Extends (T.contents terms.old) (T.contents terms.new) }
     ensures rest { T.rest terms.new ≡ T.rest terms.old }
     ensures ok { IfOk result (λ e. IsTree (T.contents terms.new) e
-        (rule_value as_they_are (shape_at (T.contents terms.old) shape.now)
+        (rule_value (read_by (T.contents terms.old) shape.now front.now)
+        (shape_at (T.contents terms.old) shape.now)
         (tree_at (T.contents terms.old) minor)
         (constructor_shape_at (T.contents terms.old) constructor.now))) }
 {

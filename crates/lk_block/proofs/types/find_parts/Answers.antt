@@ -3,10 +3,6 @@ use Rattle.lk_env.specs.Units.{type_at, IsTypeIn}
 use Rattle.lk_block.specs.Parts.{parts_at}
 use Rattle.lk_lists.proofs.Lists.{rest_have}
 use Rattle.lk_block.proofs.Firsts.{types_stop, types_give, types_kept}
-<<<<<<< HEAD:crates/lk_block/proofs/types/check_types/Answers.antt
-use Rattle.lk_env.proofs.Stays.{types_in_stay}
-use Rattle.lk_block.proofs.types.check_types.Goals as goal
-=======
 use Rattle.lk_env.proofs.Stays.{types_in_stay}
 use Rattle.lk_block.proofs.types.find_parts.Goals as goal
 

@@ -1,16 +1,15 @@
 use Rattle.std.proofs.Common.{◌≡◌, length, map, All}
 use Rattle.lk_store.specs.Contents.{Extends}
 use Rattle.lk_env.specs.Units.{recursor_at, IsRecursorIn}
-use Rattle.lk_inductive.specs.Recursors.{recursors}
 use Rattle.lk_inductive.specs.Compare.{compare_steps}
-use Rattle.lk_block.specs.Shapes.{shape_at}
 use Rattle.lk_declaration.proofs.Leading.{Leads}
+use Rattle.lk_recursor.specs.Fronts.{own_recursors}
 use Rattle.lk_recursor.proofs.comparing.check_all.Given as goal
 
 abbrev pub invariant-stated : goal.invariant-stated
 invariant-stated g l =
     let before = g.A.Terms.contents l.fn.asks in
-    let all = recursors (shape_at before l.fn.shared.shape.now) in
+    let all = own_recursors before l.fn.shared.shape.now l.fn.shared.front.now in
     record {
       keeps : Extends before (g.A.Terms.contents l.asks);
       same_standing : g.A.Asks.standing l.asks ≡ g.A.Asks.standing l.fn.asks;

@@ -6,6 +6,7 @@ use Rattle.lk_store.specs.Contents.{name_at, level_at}
 use Rattle.lk_env.specs.Units.{recursor_at}
 use Rattle.lk_inductive.specs.Compare.{rec_steps}
 use Rattle.lk_block.specs.Shapes.{shape_at}
+use Rattle.lk_recursor.specs.Fronts.{read_by}
 use Rattle.lk_recursor.specs.Comparisons.{own_at}
 use Rattle.lk_env.proofs.Stays.{recursor_in_stays, names_stay}
 use Rattle.lk_recursor.proofs.Compared.{shared-known, own-known}
@@ -33,8 +34,10 @@ returns-clause-outcome g c =
     let before = g.A.Terms.contents c.args.asks.now in
     let between = g.A.Terms.contents c.levels_between.new.asks in
     let shape = c.args.shared.now.shape.now in
+    let front = c.args.shared.now.front.now in
     let made = c.in_ok-levels.ensures in
     gives_moved (g.A.Asks.standing c.args.asks.now) (g.A.Asks.standing c.levels_between.new.asks) made.stays
-    (rec_steps (recursor_at before c.args.stated.now) (own_at before (shape_at before shape) c.args.own)) (rec_steps (recursor_at between c.args.stated.now) (own_at between (shape_at between shape) c.args.own))
-    (pair-steady before between made.keeps shape c.requires.shared_is.shape_in c.args.stated.now c.args.own c.requires.stated_in c.requires.own_is)
+    (rec_steps (recursor_at before c.args.stated.now) (own_at before (read_by before shape front) (shape_at before shape) c.args.own))
+    (rec_steps (recursor_at between c.args.stated.now) (own_at between (read_by between shape front) (shape_at between shape) c.args.own))
+    (pair-steady before between made.keeps shape front c.requires.shared_is.shape_in c.requires.shared_is.front_is c.args.stated.now c.args.own c.requires.stated_in c.requires.own_is)
     (g.A.Asks.left c.args.asks.now) (g.A.Asks.left c.levels_between.new.asks) made.left (λ u. checked) (g.A.Asks.left c.check_pair.new.asks) c.check_pair.result c.check_pair.ensures.outcome

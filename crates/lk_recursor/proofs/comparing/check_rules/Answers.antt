@@ -4,10 +4,11 @@ use Rattle.lk_questions.specs.Declarations.{Yes, checked}
 use Rattle.lk_store.specs.Contents.{tree_at}
 use Rattle.lk_store.proofs.Extending.{Extends-trans}
 use Rattle.lk_env.specs.Units.{rule_at, IsRuleIn}
-use Rattle.lk_inductive.specs.Recursors.{rules_of, as_they_are}
+use Rattle.lk_inductive.specs.Recursors.{rules_of}
 use Rattle.lk_inductive.specs.Compare.{rules_steps}
 use Rattle.lk_block.specs.Shapes.{shape_at, constructor_shape_at, IsConstructorShapeIn}
 use Rattle.lk_lists.proofs.Lists.{rest_have, first_has}
+use Rattle.lk_recursor.specs.Fronts.{read_by}
 use Rattle.lk_recursor.specs.Comparisons.{stated_of, own_of, renamed_value, rule_form}
 use Rattle.lk_block.proofs.Shaping.{constructor-known}
 use Rattle.lk_recursor.proofs.Compared.{comparison-known}
@@ -24,10 +25,11 @@ returns-in-None-clause-outcome g c =
     let stated = stated_of before pair in
     let own = own_of before pair in
     let shape = shape_at before pair.shared.shape.now in
+    let back = read_by before pair.shared.shape.now pair.shared.front.now in
     let all = rules_steps stated own stated.recursor.rules own.recursor.rules in
-    let rest = rules_steps stated own (map (rule_at before) c.rules.rules.now) (rules_of as_they_are shape (map (tree_at before) c.rules.minors.now) (map (constructor_shape_at before) c.rules.constructors.now)) in
+    let rest = rules_steps stated own (map (rule_at before) c.rules.rules.now) (rules_of back shape (map (tree_at before) c.rules.minors.now) (map (constructor_shape_at before) c.rules.constructors.now)) in
     leads_end (g.A.Asks.standing c.args.asks.now) all (g.A.Asks.left c.args.asks.now) rest (g.A.Asks.left c.rules.asks) checked inv.leads
-    (no_minor before stated own shape c.rules.rules.now c.rules.minors.now c.rules.constructors.now c.in-None.ensures.cases)
+    (no_minor before stated own back shape c.rules.rules.now c.rules.minors.now c.rules.constructors.now c.in-None.ensures.cases)
 
 pub returns-in-None-split_first-clause-outcome : goal.returns-in-None-split_first-clause-outcome
 returns-in-None-split_first-clause-outcome g c =
@@ -38,10 +40,11 @@ returns-in-None-split_first-clause-outcome g c =
     let stated = stated_of before pair in
     let own = own_of before pair in
     let shape = shape_at before pair.shared.shape.now in
+    let back = read_by before pair.shared.shape.now pair.shared.front.now in
     let all = rules_steps stated own stated.recursor.rules own.recursor.rules in
-    let rest = rules_steps stated own (map (rule_at before) c.rules.rules.now) (rules_of as_they_are shape (map (tree_at before) c.rules.minors.now) (map (constructor_shape_at before) c.rules.constructors.now)) in
+    let rest = rules_steps stated own (map (rule_at before) c.rules.rules.now) (rules_of back shape (map (tree_at before) c.rules.minors.now) (map (constructor_shape_at before) c.rules.constructors.now)) in
     leads_end (g.A.Asks.standing c.args.asks.now) all (g.A.Asks.left c.args.asks.now) rest (g.A.Asks.left c.rules.asks) checked inv.leads
-    (no_constructor before stated own shape c.rules.rules.now c.rules.minors.now c.rules.constructors.now c.in-None-split_first.ensures.cases)
+    (no_constructor before stated own back shape c.rules.rules.now c.rules.minors.now c.rules.constructors.now c.in-None-split_first.ensures.cases)
 
 pub returns-clause-outcome : goal.returns-clause-outcome
 returns-clause-outcome g c =
@@ -52,10 +55,11 @@ returns-clause-outcome g c =
     let stated = stated_of before pair in
     let own = own_of before pair in
     let shape = shape_at before pair.shared.shape.now in
+    let back = read_by before pair.shared.shape.now pair.shared.front.now in
     let all = rules_steps stated own stated.recursor.rules own.recursor.rules in
-    let rest = rules_steps stated own (map (rule_at before) c.rules.rules.now) (rules_of as_they_are shape (map (tree_at before) c.rules.minors.now) (map (constructor_shape_at before) c.rules.constructors.now)) in
+    let rest = rules_steps stated own (map (rule_at before) c.rules.rules.now) (rules_of back shape (map (tree_at before) c.rules.minors.now) (map (constructor_shape_at before) c.rules.constructors.now)) in
     leads_end (g.A.Asks.standing c.args.asks.now) all (g.A.Asks.left c.args.asks.now) rest (g.A.Asks.left c.rules.asks) checked inv.leads
-    (no_rule before stated own shape c.rules.rules.now c.rules.minors.now c.rules.constructors.now c.in_default.ensures.cases)
+    (no_rule before stated own back shape c.rules.rules.now c.rules.minors.now c.rules.constructors.now c.in_default.ensures.cases)
 
 pub check_rule-requires-clause-pair_is : goal.check_rule-requires-clause-pair_is
 check_rule-requires-clause-pair_is g c =
@@ -103,9 +107,10 @@ returns-in_err-check_rule-in-Some-split_first-2-clause-outcome g c =
     let stated = stated_of before pair in
     let own = own_of before pair in
     let shape = shape_at before pair.shared.shape.now in
+    let back = read_by before pair.shared.shape.now pair.shared.front.now in
     let all = rules_steps stated own stated.recursor.rules own.recursor.rules in
-    let rest = rules_steps stated own (map (rule_at before) c.rules.rules.now) (rules_of as_they_are shape (map (tree_at before) c.rules.minors.now) (map (constructor_shape_at before) c.rules.constructors.now)) in
-    let more = rules_steps stated own (map (rule_at before) c.in-Some.more_rules.now) (rules_of as_they_are shape (map (tree_at before) c.in-Some-split_first.more_minors.now) (map (constructor_shape_at before) c.in-Some-split_first-2.others.now)) in
+    let rest = rules_steps stated own (map (rule_at before) c.rules.rules.now) (rules_of back shape (map (tree_at before) c.rules.minors.now) (map (constructor_shape_at before) c.rules.constructors.now)) in
+    let more = rules_steps stated own (map (rule_at before) c.in-Some.more_rules.now) (rules_of back shape (map (tree_at before) c.in-Some-split_first.more_minors.now) (map (constructor_shape_at before) c.in-Some-split_first-2.others.now)) in
     let step = rules_step before now inv.keeps pair c.requires c.rules.rules.now c.in-Some.more_rules.now c.in-Some.rule.now c.rules.minors.now c.in-Some-split_first.more_minors.now c.in-Some-split_first.minor.now
     c.rules.constructors.now c.in-Some-split_first-2.others.now c.in-Some-split_first-2.constructor.now c.in-Some.ensures.cases.0 c.in-Some-split_first.ensures.cases.0 c.in-Some-split_first-2.ensures.cases.0 rule_in.value_in minor_in constructor_in in
     let form = rule_form (tree_at now c.in-Some.rule.now.value) (renamed_value now pair c.in-Some-split_first.minor.now c.in-Some-split_first-2.constructor.now) in
@@ -125,9 +130,10 @@ rules-preserved g c =
     let stated = stated_of before pair in
     let own = own_of before pair in
     let shape = shape_at before pair.shared.shape.now in
+    let back = read_by before pair.shared.shape.now pair.shared.front.now in
     let all = rules_steps stated own stated.recursor.rules own.recursor.rules in
-    let rest = rules_steps stated own (map (rule_at before) c.rules.rules.now) (rules_of as_they_are shape (map (tree_at before) c.rules.minors.now) (map (constructor_shape_at before) c.rules.constructors.now)) in
-    let more = rules_steps stated own (map (rule_at before) c.in-Some.more_rules.now) (rules_of as_they_are shape (map (tree_at before) c.in-Some-split_first.more_minors.now) (map (constructor_shape_at before) c.in-Some-split_first-2.others.now)) in
+    let rest = rules_steps stated own (map (rule_at before) c.rules.rules.now) (rules_of back shape (map (tree_at before) c.rules.minors.now) (map (constructor_shape_at before) c.rules.constructors.now)) in
+    let more = rules_steps stated own (map (rule_at before) c.in-Some.more_rules.now) (rules_of back shape (map (tree_at before) c.in-Some-split_first.more_minors.now) (map (constructor_shape_at before) c.in-Some-split_first-2.others.now)) in
     let step = rules_step before now inv.keeps pair c.requires c.rules.rules.now c.in-Some.more_rules.now c.in-Some.rule.now c.rules.minors.now c.in-Some-split_first.more_minors.now c.in-Some-split_first.minor.now
     c.rules.constructors.now c.in-Some-split_first-2.others.now c.in-Some-split_first-2.constructor.now c.in-Some.ensures.cases.0 c.in-Some-split_first.ensures.cases.0 c.in-Some-split_first-2.ensures.cases.0 rule_in.value_in minor_in constructor_in in
     let form = rule_form (tree_at now c.in-Some.rule.now.value) (renamed_value now pair c.in-Some-split_first.minor.now c.in-Some-split_first-2.constructor.now) in

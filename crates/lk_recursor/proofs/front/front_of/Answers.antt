@@ -7,6 +7,7 @@ use Rattle.lk_spine.specs.Reading.{AreTrees}
 use Rattle.lk_inductive.specs.Block as plain
 use Rattle.lk_inductive.specs.Recursors.{minors, rec_params, shape_bound}
 use Rattle.lk_block.specs.Shapes.{shape_at, type_shape_at}
+use Rattle.lk_restore.specs.Steady.{originals-stay}
 use Rattle.lk_recursor.proofs.Fronts.{front_made}
 use Rattle.lk_env.proofs.Stays.{names_stay, names_in_stay}
 use Rattle.lk_block.proofs.Shaping.{shape-steady, shape-known}
@@ -18,7 +19,7 @@ heads_of-requires-clause-first_is g c =
     let before = g.T.Terms.contents c.args.terms.now in
     let first = g.T.Terms.contents c.level_names.new.terms in
     let second = g.T.Terms.contents c.parameter_levels.new.terms in
-    c.in_ok-first.ensures ∙ ap shape_bound (sym (shape-steady before second (Extends-trans before first second c.in_ok-names.ensures.keeps c.in_ok-levels.ensures.keeps) c.args.shape.now c.requires))
+    c.in_ok-first.ensures ∙ ap shape_bound (sym (shape-steady before second (Extends-trans before first second c.in_ok-names.ensures.keeps c.in_ok-levels.ensures.keeps) c.args.shape.now c.requires.shape_in))
 
 pub minors_of-requires-clause-first_is : goal.minors_of-requires-clause-first_is
 minors_of-requires-clause-first_is g c =
@@ -34,7 +35,7 @@ minors_of-requires-clause-first_is g c =
     let many : c.len.result ≡ length s.types.items = search rules in
     let types = length-map s.types.items (type_shape_at before) in
     let here : c.in_ok-first_minor.first_minor ≡ shape_bound p + length p.types = omega arith in
-    subst (λ (q : plain.Shape). c.in_ok-first_minor.first_minor ≡ shape_bound q + length q.types) (sym (shape-steady before third grown s c.requires)) here
+    subst (λ (q : plain.Shape). c.in_ok-first_minor.first_minor ≡ shape_bound q + length q.types) (sym (shape-steady before third grown s c.requires.shape_in)) here
 
 pub returns-clause-ok : goal.returns-clause-ok
 returns-clause-ok g c =
@@ -55,7 +56,7 @@ returns-clause-ok g c =
     let ns = c.in_ok-names.names in
     let ls = c.in_ok-levels.levels in
     let ms = c.in_ok-minors.minors in
-    let minors_are = subst (λ (q : plain.Shape). AreTrees after ms.items (minors q)) (shape-steady before third to_third s c.requires) last.ok in
+    let minors_are = subst (λ (q : plain.Shape). AreTrees after ms.items (minors q)) (shape-steady before third to_third s c.requires.shape_in) last.ok in
     let first_is : c.in_ok-first.first ≡ shape_bound p = c.in_ok-first.ensures in
     let past : c.in_ok-first_minor.first_minor ≡ c.in_ok-first.first + c.len.result = c.in_ok-first_minor.ensures in
     let past_all : c.in_ok-major.major ≡ c.in_ok-first_minor.first_minor + c.len-2.result = c.in_ok-major.ensures in
@@ -63,11 +64,12 @@ returns-clause-ok g c =
     let many_minors : c.len-2.result ≡ length ms.items = search rules in
     let types = length-map s.types.items (type_shape_at before) in
     let all : length (minors p) ≡ length ms.items = ap length (sym minors_are.are) ∙ length-map ms.items (tree_at after) in
-    front_made after s p (shape-steady before after (Extends-trans before third after to_third last.keeps) s c.requires)
-    (record { heads = c.in_ok-heads.heads; names = ns; levels = ls; minors = ms; major = c.in_ok-major.major })
-    (heads-steady third after last.keeps s c.in_ok-heads.heads (shape-known before third to_third s c.requires) heads.ok)
+    front_made after s p (shape-steady before after (Extends-trans before third after to_third last.keeps) s c.requires.shape_in)
+    (record { heads = c.in_ok-heads.heads; names = ns; levels = ls; minors = ms; major = c.in_ok-major.major; originals = c.args.originals })
+    (heads-steady third after last.keeps s c.in_ok-heads.heads (shape-known before third to_third s c.requires.shape_in) heads.ok)
     (names_in_stay first after from_first ns.items names.known)
     (names_stay first after from_first ns.items names.known ∙ names.ok)
     (list-steady second after from_second ls (map param (rec_params p))
     (subst (λ xs. IsList second ls (map param xs)) (ap (map (name_at first)) c.deref.ensures.value ∙ names.ok) levels.ok))
     minors_are (omega arith)
+    (originals-stay before after (Extends-trans before third after to_third last.keeps) p c.args.originals.now c.requires.originals_are)

@@ -1,8 +1,9 @@
 use Rattle.std.specs.Prelude.{IfOk}
 use Rattle.std.proofs.Common.{subst}
 use Rattle.lk_store.specs.Contents.{tree_at, IsTree}
-use Rattle.lk_inductive.specs.Recursors.{rule_value, as_they_are}
+use Rattle.lk_inductive.specs.Recursors.{rule_value}
 use Rattle.lk_block.specs.Shapes.{shape_at, constructor_shape_at}
+use Rattle.lk_recursor.specs.Fronts.{read_by}
 use Rattle.lk_recursor.proofs.Compared.{comparison-known, renamed-steady}
 use Rattle.lk_recursor.proofs.renaming.renamed_rule.Goals as goal
 
@@ -16,4 +17,4 @@ returns-clause-ok g c =
     let after = g.T.Terms.contents c.renamed.new.terms in
     subst (λ t. IfOk c.renamed.result (λ e. IsTree after e t))
     (renamed-steady before between c.in_ok-made.ensures.keeps c.args.pair.now c.requires.pair_is c.in_ok-made.made
-    (rule_value as_they_are (shape_at before c.args.pair.now.shared.shape.now) (tree_at before c.args.minor) (constructor_shape_at before c.args.constructor.now)) c.in_ok-made.ensures.ok.is) c.renamed.ensures.ok
+    (rule_value (read_by before c.args.pair.now.shared.shape.now c.args.pair.now.shared.front.now) (shape_at before c.args.pair.now.shared.shape.now) (tree_at before c.args.minor) (constructor_shape_at before c.args.constructor.now)) c.in_ok-made.ensures.ok.is) c.renamed.ensures.ok

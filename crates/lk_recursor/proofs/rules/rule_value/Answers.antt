@@ -3,10 +3,12 @@ use Rattle.lk_store.specs.Contents.{tree_at}
 use Rattle.lk_store.proofs.Extending.{Extends-trans}
 use Rattle.lk_subst.specs.Numbers.{trees-known}
 use Rattle.lk_inductive.specs.Block as plain
-use Rattle.lk_inductive.specs.Recursors.{lams, motives, minors, variables}
+use Rattle.lk_inductive.specs.Recursors.{Restoring, lams, motives, minors, variables}
 use Rattle.lk_block.specs.declared.shape.Field.{Field}
 use Rattle.lk_block.specs.Shapes.{shape_at, constructor_shape_at}
 use Rattle.lk_recursor.specs.declared.binders.Binder.TheVariants.{Lam}
+use Rattle.lk_restore.specs.Originals.{restoring_at}
+use Rattle.lk_restore.specs.Steady.{restoring-steady}
 use Rattle.lk_recursor.specs.Hypotheses.{rule_end}
 use Rattle.lk_recursor.proofs.FieldLists.{variables_at, variables_in}
 use Rattle.lk_recursor.proofs.Fronts.{bound_then}
@@ -45,6 +47,8 @@ returns-clause-ok g c =
     let fields = c.args.constructor.now.fields.items in
     let end = c.in_ok-end.ensures in
     let body = c.in_ok-body.ensures in
+    let os = c.args.front.now.originals.now in
+    let grown = Extends-trans before first second end.keeps body.keeps in
     let made = c.in_ok-made.ensures.ok in
     let xs = variables C.fields in
     let inner = c.deref-2.ensures.value ∙ c.in_ok-variables.ensures ∙ ap (map (λ (f : Field). f.variable)) c.deref.ensures.value in
@@ -58,6 +62,7 @@ returns-clause-ok g c =
       known = made.known;
       is =
           made.is
-          ∙ ap (λ (q : plain.Shape). lams q.params (lams (motives q ++ minors q) (tree_at second c.in_ok-body.body))) (shape-steady before second (Extends-trans before first second end.keeps body.keeps) s c.requires.shape_in)
-          ∙ ap (λ e. lams p.params (lams (motives p ++ minors p) e)) body_is;
+          ∙ ap (λ (q : plain.Shape). lams q.params ((restoring_at second os q).tree (lams (motives q ++ minors q) (tree_at second c.in_ok-body.body)))) (shape-steady before second grown s c.requires.shape_in)
+          ∙ ap (λ (w : Restoring). lams p.params (w.tree (lams (motives p ++ minors p) (tree_at second c.in_ok-body.body)))) (restoring-steady before second grown p os c.requires.front_is.originals_are)
+          ∙ ap (λ e. lams p.params ((restoring_at before os p).tree (lams (motives p ++ minors p) e))) body_is;
     }

@@ -1,0 +1,3 @@
+pub mod Originals
+pub mod Marks
+pub mod Steady
