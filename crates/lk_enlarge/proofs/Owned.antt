@@ -12,10 +12,11 @@ use Rattle.lk_block.specs.Findings.{Finding, found, refused, asking, finding, Fi
 use Rattle.lk_nested.proofs.Thens.{then_found, bind_found, then_ext, then_assoc}
 use Rattle.lk_nested.specs.Joined.{AreMet}
 use Rattle.lk_env.specs.declared.unit.Constructor.{Constructor}
-use Rattle.lk_env.specs.Units.{constructor_at, IsConstructorIn}
+use Rattle.lk_env.specs.declared.unit.BlockType.{BlockType}
+use Rattle.lk_env.specs.Units.{constructor_at, type_at, IsConstructorIn, IsTypeIn}
 use Rattle.lk_store.specs.Contents.{Contents, Extends}
-use Rattle.lk_block.proofs.Stays.{constructor_stays, names_in_stay}
-use Rattle.lk_enlarge.specs.Owns.{owns, all_owns}
+use Rattle.lk_block.proofs.Stays.{constructor_stays, type_stays, names_in_stay}
+use Rattle.lk_enlarge.specs.Owns.{owns, all_owns, type_owns}
 use Rattle.lk_enlarge.specs.declared.setting.Setting.{Setting as CodeSetting}
 use Rattle.lk_enlarge.specs.Settings.{setting_at, IsSettingIn}
 use Rattle.lk_enlarge.proofs.Grown.{setting_stays}
@@ -73,6 +74,13 @@ owns_steady c d x s h v w place k known as_ =
     ap (λ y. owns y (setting_at d s) (constructor_at d k) as_) place
     ∙ ap (λ z. owns w z (constructor_at d k) as_) (setting_stays c d x s h)
     ∙ ap (λ z. owns w (setting_at c s) z as_) (constructor_stays c d x k known)
+
+pub type_owns_steady : (c d : Contents) (x : Extends c d) (s : CodeSetting) (h : IsSettingIn c s) (v w : Place) → v ≡ w → (t : BlockType) → IsTypeIn c t → (as_ : List Aux)
+    → type_owns v (setting_at d s) (type_at d t) as_ ≡ type_owns w (setting_at c s) (type_at c t) as_
+type_owns_steady c d x s h v w place t known as_ =
+    ap (λ y. type_owns y (setting_at d s) (type_at d t) as_) place
+    ∙ ap (λ z. type_owns w z (type_at d t) as_) (setting_stays c d x s h)
+    ∙ ap (λ z. type_owns w (setting_at c s) z as_) (type_stays c d x t known)
 
 pub constructor_known : (c d : Contents) → Extends c d → (k : Constructor) → IsConstructorIn c k → IsConstructorIn d k
 constructor_known c d x k h = record {

@@ -6,9 +6,13 @@
 
 pub mod among;
 pub mod auxiliary;
+pub mod auxiliary_types;
+pub mod components;
+pub mod draft;
 pub mod ends;
 pub mod family;
 pub mod instance;
+pub mod larger;
 pub mod levels;
 pub mod made;
 pub mod meet;
@@ -18,3 +22,5 @@ pub mod own;
 pub mod parts;
 pub mod past;
 pub mod setting;
+pub mod sorts;
+pub mod types;
