@@ -1,10 +1,8 @@
 -- What auxiliary types are made of stays, while the store grows.
-use Rattle.std.proofs.Common.{◌≡◌, ℕ, ◌<◌, List, [], ◌∷◌, ◌++◌, map, length, All, Option, Some, None, refl, sym, ap, subst, ◌∙◌, arith}
+use Rattle.std.proofs.Common.{◌≡◌, ℕ, List, map, All, Option, Some, None, refl, sym, ap, subst, ◌∙◌, arith}
 use Rattle.std.specs.Prelude.{option_map}
-use Rattle.std.proofs.lemmas.List.Elements.{All-weaker}
-use Rattle.lk_tree.specs.Tree.{Tree}
 use Rattle.lk_rulebook.specs.Place.{Place}
-use Rattle.lk_inductive.specs.Enlarged.{Aux, Setting as PlainSetting, aux_from}
+use Rattle.lk_inductive.specs.Enlarged.{Aux, Setting as PlainSetting}
 use Rattle.lk_store.specs.Contents.{Contents, Extends}
 use Rattle.lk_block.proofs.Stays.{all_stay}
 use Rattle.lk_nested.specs.declared.swap.Pair.{Pair}
@@ -16,7 +14,7 @@ use Rattle.lk_enlarge.specs.declared.draft.Draft.{Draft}
 use Rattle.lk_enlarge.specs.declared.draft.Outline.{Outline}
 use Rattle.lk_enlarge.specs.declared.setting.Setting.{Setting}
 use Rattle.lk_enlarge.specs.Auxiliaries.{auxs_at, IsAuxiliaryIn}
-use Rattle.lk_enlarge.specs.Drafts.{PlainOutline, draft_at, outline_at, outline_of, draft_nests, outline_nests, next_nests, IsDraftIn, IsOutlineIn}
+use Rattle.lk_enlarge.specs.Drafts.{PlainOutline, draft_at, outline_at, outline_of, draft_nests, next_nests, IsDraftIn, IsOutlineIn}
 use Rattle.lk_enlarge.specs.Settings.{setting_at, IsSettingIn}
 use Rattle.lk_enlarge.proofs.Grown.{setting_stays}
 use Rattle.lk_enlarge.proofs.Others.{auxs_stay}

@@ -1,5 +1,5 @@
 -- Constructors and types without an occurrence stay as they are.
-use Rattle.std.proofs.Common.{◌≡◌, Bool, true, false, List, [], ◌∷◌, refl, sym, ap, ◌∙◌}
+use Rattle.std.proofs.Common.{◌≡◌, Bool, true, false, List, [], ◌∷◌, refl, ap, ◌∙◌}
 use Rattle.lk_tree.specs.declared.rule.Rule.{Rule}
 use Rattle.lk_rulebook.specs.Place.{Place, Ctor, BlockType}
 use Rattle.lk_plain.specs.Program.{Program, done, ◌>>=◌}
@@ -12,7 +12,7 @@ use Rattle.lk_block.specs.Nestings.{nested_in}
 use Rattle.lk_nested.proofs.Thens.{then_found, bind_found}
 use Rattle.lk_enlarge.specs.Each.{each}
 use Rattle.lk_enlarge.specs.Larger.{any_hold, ctors_hold, types_hold}
-use Rattle.lk_enlarge.specs.Owns.{held, owns, own_type, type_owns}
+use Rattle.lk_enlarge.specs.Owns.{owns, own_type, type_owns}
 use Rattle.lk_enlarge.proofs.Each.{own_each, types_each}
 use Rattle.lk_enlarge.proofs.Owning.{own_is, own_stops, type_found, type_stops}
 

@@ -20,3 +20,4 @@ pub mod Drafts
 pub mod DraftsStay
 pub mod SortTests
 pub mod Holding
+pub mod Outlines

@@ -152,8 +152,10 @@ fn nest_drafts<F: Families>(
         (setting_at (F.contents asks.old) setting.now) number
         (map (draft_at (F.contents asks.old)) drafts.now)
         (auxs_at (F.contents asks.old) auxs.old.items))
-        (λ v. (map (constructor_at (F.contents asks.new)) v.items,
-        auxs_at (F.contents asks.new) auxs.new.items)) result }
+        (λ v. (
+          map (constructor_at (F.contents asks.new)) v.items,
+          auxs_at (F.contents asks.new) auxs.new.items,
+        )) result }
 {
     let mut made: Vec<Constructor> = Vec::new(alloc);
     let mut left = drafts;
@@ -287,8 +289,10 @@ fn nest_next<F: Families>(
     ensures nests { Finds (next_nests (F.standing asks.old).place
         (setting_at (F.contents asks.old) setting.now) number
         (auxs_at (F.contents asks.old) auxs.old.items))
-        (λ o. (option_map (type_at (F.contents asks.new)) o,
-        auxs_at (F.contents asks.new) auxs.new.items)) result }
+        (λ o. (
+          option_map (type_at (F.contents asks.new)) o,
+          auxs_at (F.contents asks.new) auxs.new.items,
+        )) result }
 {
     match find_outline(alloc, auxs, number)? {
         None => Ok(None),
@@ -326,8 +330,10 @@ pub fn auxiliary_types<F: Families>(
     ensures nests { Finds (types_nest (F.standing asks.old).place
         (setting_at (F.contents asks.old) setting.now)
         (auxs_at (F.contents asks.old) auxs.old.items))
-        (λ v. (map (type_at (F.contents asks.new)) v.items,
-        auxs_at (F.contents asks.new) auxs.new.items)) result }
+        (λ v. (
+          map (type_at (F.contents asks.new)) v.items,
+          auxs_at (F.contents asks.new) auxs.new.items,
+        )) result }
 {
     let mut made: Vec<BlockType> = Vec::new(alloc);
     let mut number = 0;

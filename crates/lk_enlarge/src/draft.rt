@@ -32,11 +32,7 @@ pub struct Outline {
 }
 
 /// Constructors with what their types have become.
-fn drafts_of(
-    alloc: Global,
-    stated: &[Constructor],
-    types: &[u64],
-) -> Result<Vec<Draft>, NoMemory>
+fn drafts_of(alloc: Global, stated: &[Constructor], types: &[u64]) -> Result<Vec<Draft>, NoMemory>
     ensures value { IfOk result (λ v. (c : Contents) → map (draft_at c) v.items
         ≡ drafts_of (map (constructor_at c) stated.now) (map (tree_at c) types.now)) }
     ensures known { IfOk result (λ v. (c : Contents) → All (IsConstructorIn c) stated.now

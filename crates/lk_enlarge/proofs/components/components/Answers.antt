@@ -1,4 +1,4 @@
-use Rattle.std.proofs.Common.{◌++◌, ap, sym, ◌∙◌, rules, refl}
+use Rattle.std.proofs.Common.{◌++◌, ap, ◌∙◌, rules, refl}
 use Rattle.lk_tree.specs.Tree.{text, number}
 use Rattle.lk_store.specs.Contents.{name_at, text_at}
 use Rattle.lk_enlarge.specs.Components.{behind}
