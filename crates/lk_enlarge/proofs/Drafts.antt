@@ -112,9 +112,6 @@ module _ (w : Place) (s : Setting) (i : ℕ) (o : PlainOutline) (as_ : List Aux)
 
 -- the type of a number, by what is found of its outline
 module _ (w : Place) (s : Setting) (i : ℕ) (as_ : List Aux) where
-  pub next_none : aux_from as_ i ≡ None → next_nests w s i as_ ≡ found (None, as_)
-  next_none h = ap (λ o. finding w (next_by s i as_ o)) h
-
   module _ (a : Aux) (h : aux_from as_ i ≡ Some a) where
     next_then : next_nests w s i as_ ≡ then_found (outline_nests w s i (outline_of a) as_) (λ t. found (Some t.0, t.1))
     next_then = ap (λ o. finding w (next_by s i as_ o)) h ∙ bind_found w (nest_outline s i (outline_of a) as_) (λ t. done (Some t.0, t.1))

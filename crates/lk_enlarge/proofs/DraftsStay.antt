@@ -57,7 +57,3 @@ module _ (c d : Contents) (x : Extends c d) where
 pub outlined_by : (p : Option PlainOutline) (o : Option Aux) (y : PlainOutline) → p ≡ option_map outline_of o → p ≡ Some y → (a : Aux) × (o ≡ Some a) × (outline_of a ≡ y)
 outlined_by p None y h i = absurd cc
 outlined_by p (Some a) y h i = (a, refl, (let e : Some (outline_of a) ≡ Some y = sym h ∙ i in cc))
-
-pub none_by : (p : Option PlainOutline) (o : Option Aux) → p ≡ option_map outline_of o → p ≡ None → o ≡ None
-none_by p None h i = refl
-none_by p (Some a) h i = absurd cc

@@ -1,12 +1,12 @@
 //! What an auxiliary type is made of, as it stands in the list of these. It is copied out of it, since the list grows meanwhile.
 
-ghost use Rattle.std.specs.Prelude.{◌≡◌, map, option_map, All, IfOk, IfSome};
+ghost use Rattle.std.specs.Prelude.{◌≡◌, ◌<◌, length, map, option_map, All, IfOk, IfSome};
 ghost use Rattle.lk_env.specs.Units.{constructor_at, IsConstructorIn};
 ghost use Rattle.lk_inductive.specs.Enlarged.{aux_from};
 ghost use Rattle.lk_store.specs.Contents.{Contents, tree_at};
-ghost use Rattle.std.specs.Prelude.{◌<◌, length};
 ghost use Rattle.lk_enlarge.specs.Auxiliaries.{aux_at, auxs_at, IsAuxiliaryIn};
-ghost use Rattle.lk_enlarge.specs.Drafts.{draft_at, drafts_of, outline_at, outline_of, IsDraftIn, IsOutlineIn};
+ghost use Rattle.lk_enlarge.specs.Drafts.{draft_at, drafts_of, outline_at, outline_of};
+ghost use Rattle.lk_enlarge.specs.Drafts.{IsDraftIn, IsOutlineIn};
 
 use crate::auxiliary::Auxiliary;
 use lk_env::unit::Constructor;
