@@ -2,7 +2,7 @@
 
 ghost use Rattle.std.specs.Prelude.{◌≡◌, ◌<◌, ◌++◌, length, IfOk};
 ghost use Rattle.lk_store.specs.Contents.{name_at, Extends, IsName};
-ghost use Rattle.lk_inductive.specs.Enlarged.{aux_name, aux_ctor};
+ghost use Rattle.lk_inductive.specs.Enlarged.{aux_name};
 ghost use Rattle.lk_auxiliary.specs.Naming.{marked};
 
 use lk_store::memory::NoMemory;
@@ -12,7 +12,7 @@ use lk_store::text::Text;
 use std::alloc::Global;
 
 /// The name of these bytes and a number.
-fn marked<T: Terms>(terms: &mut T, bytes: Vec<u8>, number: u64) -> Result<u64, NoMemory>
+pub fn marked<T: Terms>(terms: &mut T, bytes: Vec<u8>, number: u64) -> Result<u64, NoMemory>
     ensures keeps { Extends (T.contents terms.old) (T.contents terms.new) }
     ensures rest { T.rest terms.new ≡ T.rest terms.old }
     ensures ok { IfOk result (λ n. IsName (T.contents terms.new) n (marked bytes.items number)) }

@@ -7,3 +7,10 @@ pub mod Grown
 pub mod Opening
 pub mod Owning
 pub mod Owned
+pub mod Each
+pub mod Behind
+pub mod Drafts
+pub mod DraftsStay
+pub mod SortTests
+pub mod Holding
+pub mod Outlines

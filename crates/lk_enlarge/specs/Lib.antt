@@ -1,3 +1,7 @@
 pub mod Met
 pub mod Opened
 pub mod Owns
+pub mod Each
+pub mod Drafts
+pub mod Components
+pub mod Larger

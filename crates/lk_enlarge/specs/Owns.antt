@@ -4,7 +4,7 @@ use Rattle.lk_tree.specs.Tree.{Tree}
 use Rattle.lk_rulebook.specs.Place.{Place, Ctor, BlockType}
 use Rattle.lk_plain.specs.Program.{Program, done, ◌>>=◌}
 use Rattle.lk_inductive.specs.Enlarged.{Aux, Setting}
-use Rattle.lk_inductive.specs.Nested.{held_ctor, own_ctor, own_ctors}
+use Rattle.lk_inductive.specs.Nested.{held_ctor, own_ctor, own_ctors, own_types}
 use Rattle.lk_nested.specs.Findings.{Finding, finding}
 
 -- with another type
@@ -32,3 +32,7 @@ own_type s t as_ = own_ctors s t.ctors as_ >>= λ cs. done (with_ctors t cs.0, c
 
 abbrev pub type_owns : Place → Setting → BlockType → List Aux → Finding (BlockType × List Aux)
 type_owns w s t as_ = finding w (own_type s t as_)
+
+-- a block's own types
+abbrev pub types_own : Place → Setting → List BlockType → List Aux → Finding (List BlockType × List Aux)
+types_own w s ts as_ = finding w (own_types s ts as_)

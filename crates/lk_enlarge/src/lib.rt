@@ -1,9 +1,16 @@
-//! A block with nested occurrences is made larger here: each occurrence gets an auxiliary type. So far each occurrence in one
-//! tree is replaced by its auxiliary type (`nest`), and so each in the constructors of one type of the block (`own_type`). The
-//! loop over a block's types, the auxiliary constructors, and the larger block that comes of it, are still to be written.
+//! A block with nested occurrences is made larger here: each occurrence gets an auxiliary type, which is what an earlier type
+//! becomes at the occurrence's levels and arguments, with the others of that type's block. `enlarge` gives the block's own types
+//! with an auxiliary type in the place of each occurrence, the auxiliary types, made in the same way, and what each of these
+//! stands for; and nothing where there is no occurrence. `check_sorts` compares the auxiliary types' sorts with the block's.
 #![tactic(auto)]
 
+pub mod auxiliary_types;
+pub mod components;
+pub mod draft;
+pub mod larger;
 pub mod meet;
 pub mod nest;
 pub mod own;
 pub mod past;
+pub mod sorts;
+pub mod types;

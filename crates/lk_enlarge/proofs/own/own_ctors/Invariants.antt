@@ -1,11 +1,12 @@
 use Rattle.std.proofs.Common.{◌≡◌, length, map, All}
 use Rattle.lk_env.specs.Units.{constructor_at, IsConstructorIn}
+use Rattle.lk_inductive.specs.Nested.{own_ctor}
 use Rattle.lk_store.specs.Contents.{Extends}
 use Rattle.lk_nested.specs.Joined.{AreMet}
 use Rattle.lk_nested.specs.Pairs.{pairs_at, ArePairsIn}
 use Rattle.lk_auxiliary.specs.Auxiliaries.{auxs_at, IsAuxiliaryIn}
 use Rattle.lk_auxiliary.specs.Settings.{setting_at}
-use Rattle.lk_enlarge.proofs.Owned.{LeadsOwn}
+use Rattle.lk_enlarge.proofs.Each.{LeadsEach}
 use Rattle.lk_enlarge.proofs.own.own_ctors.Given as goal
 
 abbrev pub invariant-constructors : goal.invariant-constructors
@@ -22,7 +23,7 @@ invariant-constructors g l =
       met : AreMet w plain (auxs_at now l.auxs.items) (pairs_at now l.pairs.items);
       made_in : All (IsConstructorIn now) l.made.items;
       left_in : All (IsConstructorIn before) l.left;
-      leads : LeadsOwn w plain (map (constructor_at before) l.fn.stated) (auxs_at before l.fn.auxs.items)
+      leads : LeadsEach w (own_ctor plain) (map (constructor_at before) l.fn.stated) (auxs_at before l.fn.auxs.items)
           (map (constructor_at now) l.made.items) (map (constructor_at before) l.left) (auxs_at now l.auxs.items);
     }
 

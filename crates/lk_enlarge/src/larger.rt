@@ -1,0 +1,144 @@
+//! The larger block: a block whose nested occurrences have auxiliary types in their place, and these.
+
+ghost use Rattle.std.specs.Prelude.{◌≡◌, ◌<◌, length, map, All, IfOk, IfSome};
+ghost use Rattle.lk_inductive.specs.Nested.{enlarge as enlarged};
+ghost use Rattle.lk_nested.specs.Findings.{finding, Finds};
+ghost use Rattle.lk_nested.specs.Nestings.{AreWalked};
+ghost use Rattle.lk_env.specs.Units.{constructor_at, type_at, IsConstructorIn, IsTypeIn};
+ghost use Rattle.lk_mentions.specs.Names.{names_at};
+ghost use Rattle.lk_store.specs.Contents.{Extends};
+ghost use Rattle.lk_enlarge.specs.Larger.{larger_at, larger_or, ctors_hold, types_hold, IsLargerIn};
+ghost use Rattle.lk_auxiliary.specs.Settings.{setting_at, IsSettingIn};
+
+use lk_auxiliary::auxiliary::Auxiliary;
+use crate::auxiliary_types::auxiliary_types;
+use lk_auxiliary::setting::Setting;
+use crate::types::own_types;
+use lk_ask::asks::Asks;
+use lk_ask::stop::Stop;
+use lk_nested::nested::{Walked, holds_nested};
+use lk_env::unit::{BlockType, Constructor};
+use lk_family::Families;
+use lk_mentions::names::Names;
+use lk_nested::swap::Pair;
+use lk_rows::table::Table;
+use std::alloc::Global;
+
+/// The block's own types with an auxiliary type in the place of each occurrence, the auxiliary types, and what each of these
+/// stands for.
+#[derive(Drop)]
+pub struct Larger {
+    pub own: Vec<BlockType>,
+    pub auxiliary: Vec<BlockType>,
+    pub stand: Vec<Auxiliary>,
+}
+
+/// Whether one of these constructors' types holds a nested occurrence. What was walked is not walked again.
+fn constructors_hold<A: Asks>(
+    alloc: Global,
+    asks: &A,
+    names: &Names,
+    walked: &mut Walked,
+    constructors: &[Constructor],
+) -> Result<bool, Stop>
+    requires names_in { All (λ n. n < length (A.contents asks.now).names) names.now }
+    requires constructors_in { All (IsConstructorIn (A.contents asks.now)) constructors.now }
+    requires walked { AreWalked (A.standing asks.now).place
+        (A.contents asks.now) names.now walked.old }
+    ensures walked { IfOk result (λ r. AreWalked (A.standing asks.now).place
+        (A.contents asks.now) names.now walked.new) }
+    ensures hold { Finds (ctors_hold (A.standing asks.now).place
+        (names_at (A.contents asks.now) names.now)
+        (map (constructor_at (A.contents asks.now)) constructors.now)) (λ r. r) result }
+{
+    let mut left = constructors;
+    'constructors: while let Some((constructor, more)) = left.split_first() {
+        if holds_nested(alloc, asks, names, walked, constructor.ty)? {
+            return Ok(true);
+        }
+        left = more;
+    }
+    Ok(false)
+}
+
+/// Whether a constructor of one of these types holds a nested occurrence.
+fn types_hold<A: Asks>(
+    alloc: Global,
+    asks: &A,
+    names: &Names,
+    types: &[BlockType],
+) -> Result<bool, Stop>
+    requires names_in { All (λ n. n < length (A.contents asks.now).names) names.now }
+    requires types_in { All (IsTypeIn (A.contents asks.now)) types.now }
+    ensures { Finds (types_hold (A.standing asks.now).place
+        (names_at (A.contents asks.now) names.now)
+        (map (type_at (A.contents asks.now)) types.now)) (λ r. r) result }
+{
+    let mut walked = Walked {
+        clear: Table::new(alloc),
+        flat: Table::new(alloc),
+        spines: Table::new(alloc),
+    };
+    let mut left = types;
+    'types: while let Some((stated, more)) = left.split_first() {
+        if constructors_hold(alloc, asks, names, &mut walked, &stated.constructors)? {
+            return Ok(true);
+        }
+        left = more;
+    }
+    Ok(false)
+}
+
+/// The larger block, where there are occurrences.
+fn make_larger<F: Families>(
+    alloc: Global,
+    asks: &mut F,
+    setting: &Setting<'_>,
+    types: &[BlockType],
+) -> Result<Larger, Stop>
+    requires setting_in { IsSettingIn (F.contents asks.old) setting.now }
+    requires types_in { All (IsTypeIn (F.contents asks.old)) types.now }
+    ensures keeps { Extends (F.contents asks.old) (F.contents asks.new) }
+    ensures rest { F.rest asks.new ≡ F.rest asks.old }
+    ensures known { IfOk result (IsLargerIn (F.contents asks.new)) }
+    ensures enlarges { Finds (finding (F.standing asks.old).place
+        (enlarged (setting_at (F.contents asks.old) setting.now)
+        (map (type_at (F.contents asks.old)) types.now)))
+        (larger_at (F.contents asks.new)) result }
+{
+    let mut stand: Vec<Auxiliary> = Vec::new(alloc);
+    let mut pairs: Vec<Pair> = Vec::new(alloc);
+    let own = own_types(alloc, asks, setting, &mut stand, &mut pairs, types)?;
+    let auxiliary = auxiliary_types(alloc, asks, setting, &mut stand, &mut pairs)?;
+    Ok(Larger {
+        own,
+        auxiliary,
+        stand,
+    })
+}
+
+/// The larger block; none where no constructor holds an occurrence, so that the block is itself the larger one. Then nothing is
+/// copied.
+pub fn enlarge<F: Families>(
+    alloc: Global,
+    asks: &mut F,
+    setting: &Setting<'_>,
+    types: &[BlockType],
+) -> Result<Option<Larger>, Stop>
+    requires setting_in { IsSettingIn (F.contents asks.old) setting.now }
+    requires types_in { All (IsTypeIn (F.contents asks.old)) types.now }
+    ensures keeps { Extends (F.contents asks.old) (F.contents asks.new) }
+    ensures rest { F.rest asks.new ≡ F.rest asks.old }
+    ensures known { IfOk result (λ o. IfSome o (IsLargerIn (F.contents asks.new))) }
+    ensures enlarges { Finds (finding (F.standing asks.old).place
+        (enlarged (setting_at (F.contents asks.old) setting.now)
+        (map (type_at (F.contents asks.old)) types.now)))
+        (larger_or (F.contents asks.new) (map (type_at (F.contents asks.old)) types.now))
+        result }
+{
+    if !types_hold(alloc, asks, setting.names, types)? {
+        return Ok(None);
+    }
+    let made = make_larger(alloc, asks, setting, types)?;
+    Ok(Some(made))
+}
