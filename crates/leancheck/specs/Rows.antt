@@ -1,5 +1,5 @@
 -- How a program finds the plain verdict of a unit: are its names new, is it without flaw in itself, and then the questions.
-use Rattle.std.specs.Prelude.{ℕ, suc, Some, None, if◌then◌else◌}
+use Rattle.std.specs.Prelude.{ℕ, suc, [], Some, None, if◌then◌else◌}
 use Rattle.lk_tree.specs.declared.rule.Rule.TheVariants.{DuplicateName}
 use Rattle.lk_rulebook.specs.Place.{Place}
 use Rattle.lk_rulebook.specs.Units.{Decl, LibraryUnit, of_decl, of_block, Library, members_of, place_of}
@@ -10,10 +10,9 @@ use Rattle.lk_questions.specs.Declarations.{unit_steps}
 use Rattle.lk_questions.specs.Table.{steps}
 use Rattle.lk_verdict.specs.Verdict.{verdict_by}
 use Rattle.lk_verdict.specs.Told.{Verdict, accepted, rejected, out_of_steps, told}
-use Rattle.lk_env.specs.declared.entry.Partial.{Partial}
 use Rattle.lk_env.specs.declared.entry.Partial.TheVariants.{Nothing}
-use Rattle.lk_env.specs.Places.{partial_of}
-use Rattle.lk_block.specs.Stages.{block_stages}
+use Rattle.lk_env.specs.Places.{partial_beside}
+use Rattle.lk_block.specs.Stages.{Places, block_stages}
 
 abbrev pub verdict_of : {A : Type 0} → Outcome A → Verdict
 verdict_of o = told (verdict_by o)
@@ -27,15 +26,15 @@ stages_verdict (finished v left last) = accepted
 stages_verdict (stopped r) = rejected r
 stages_verdict used_up = out_of_steps
 
--- `places` tells what names mean, by what is partial of the unit
-abbrev pub asked_of : (Partial → Place) → ℕ → LibraryUnit → Verdict
-asked_of places budget (of_decl d) = questions_of (places Nothing) budget d
+-- `places` tells what names mean, by what is partial of the unit, and by the auxiliary types beside it
+abbrev pub asked_of : Places → ℕ → LibraryUnit → Verdict
+asked_of places budget (of_decl d) = questions_of (places Nothing []) budget d
 asked_of places budget (of_block b rs) = stages_verdict (block_stages steps places (suc budget) b rs budget)
 
 -- the rule that its own lines break comes first
-abbrev pub scanned_of : (Partial → Place) → ℕ → LibraryUnit → Verdict
+abbrev pub scanned_of : Places → ℕ → LibraryUnit → Verdict
 scanned_of places budget u = elim (own_scan u) [ Some r ↦ rejected r | None ↦ asked_of places budget u ]
 
 -- the verdict of u as unit n
 abbrev pub row_verdict : Library → ℕ → ℕ → LibraryUnit → Verdict
-row_verdict us budget n u = if are_new us n (members_of u) then scanned_of (λ p. place_of us n (partial_of u p)) budget u else rejected DuplicateName
+row_verdict us budget n u = if are_new us n (members_of u) then scanned_of (λ p aux. place_of us n (partial_beside u p aux)) budget u else rejected DuplicateName
