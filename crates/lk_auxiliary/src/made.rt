@@ -24,7 +24,7 @@ use lk_tree::rule::Rule;
 use std::alloc::Global;
 
 /// The most auxiliary types that a block may have.
-const MOST: u64 = 1024;
+pub const MOST: u64 = 1024;
 
 /// Whether there is room for one more type and its others after so many.
 fn has_room(count: u64, others: u64) -> bool

@@ -14,8 +14,9 @@ use Rattle.lk_auxiliary.proofs.Pasts.{bind_ext, bind_assoc}
 use Rattle.lk_nested.proofs.Thens.{then_found, bind_found}
 use Rattle.lk_nested.specs.Joined.{nests}
 use Rattle.lk_enlarge.specs.Each.{each}
-use Rattle.lk_enlarge.specs.Drafts.{PlainDraft, PlainOutline, drafts_of, outline_of, drafted, outlined, nest_draft, nest_outline, next_by, nest_next}
-use Rattle.lk_enlarge.specs.Drafts.{draft_nests, drafts_nest, outline_nests, next_nests}
+use Rattle.lk_enlarge.specs.Drafts.{PlainDraft, PlainOutline, drafts_of, outline_of}
+use Rattle.lk_enlarge.specs.DraftsNested.{drafted, outlined, nest_draft, nest_outline, next_by, nest_next}
+use Rattle.lk_enlarge.specs.DraftsNested.{draft_nests, drafts_nest, outline_nests, next_nests}
 use Rattle.lk_enlarge.proofs.Each.{behind, behind_none, behind_one}
 
 module _ (s : Setting) (i : ℕ) where

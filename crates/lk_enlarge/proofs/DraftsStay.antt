@@ -14,7 +14,8 @@ use Rattle.lk_enlarge.specs.declared.draft.Draft.{Draft}
 use Rattle.lk_enlarge.specs.declared.draft.Outline.{Outline}
 use Rattle.lk_auxiliary.specs.declared.setting.Setting.{Setting}
 use Rattle.lk_auxiliary.specs.Auxiliaries.{auxs_at, IsAuxiliaryIn}
-use Rattle.lk_enlarge.specs.Drafts.{PlainOutline, draft_at, outline_at, outline_of, draft_nests, next_nests, IsDraftIn, IsOutlineIn}
+use Rattle.lk_enlarge.specs.Drafts.{PlainOutline, draft_at, outline_at, outline_of, IsDraftIn, IsOutlineIn}
+use Rattle.lk_enlarge.specs.DraftsNested.{draft_nests, next_nests}
 use Rattle.lk_auxiliary.specs.Settings.{setting_at, IsSettingIn}
 use Rattle.lk_enlarge.proofs.Grown.{setting_stays}
 use Rattle.lk_auxiliary.proofs.Others.{auxs_stay}

@@ -7,14 +7,15 @@ ghost use Rattle.lk_store.specs.Contents.{Contents, name_at, tree_at, Extends};
 ghost use Rattle.lk_nested.specs.Joined.{AreMet};
 ghost use Rattle.lk_nested.specs.Pairs.{pairs_at, ArePairsIn};
 ghost use Rattle.lk_auxiliary.specs.Auxiliaries.{auxs_at, IsAuxiliaryIn};
-ghost use Rattle.lk_enlarge.specs.Drafts.{draft_at, outline_at, ctor_with, type_with, drafted, outlined};
-ghost use Rattle.lk_enlarge.specs.Drafts.{draft_nests, drafts_nest, outline_nests, next_nests, types_nest};
-ghost use Rattle.lk_enlarge.specs.Drafts.{IsDraftIn, IsOutlineIn};
+ghost use Rattle.lk_enlarge.specs.Drafts.{draft_at, outline_at, IsDraftIn, IsOutlineIn};
+ghost use Rattle.lk_enlarge.specs.DraftsNested.{ctor_with, type_with, drafted, outlined};
+ghost use Rattle.lk_enlarge.specs.DraftsNested.{draft_nests, drafts_nest, outline_nests, next_nests, types_nest};
 ghost use Rattle.lk_auxiliary.specs.Settings.{setting_at, IsSettingIn};
 
 use lk_auxiliary::auxiliary::Auxiliary;
 use crate::components::name_of_constructor;
 use crate::draft::{Draft, Outline, find_outline};
+use lk_auxiliary::made::MOST;
 use lk_auxiliary::naming::name_of_type;
 use crate::nest::nest;
 use crate::past::over_locals;
@@ -27,9 +28,6 @@ use lk_store::memory::NoMemory;
 use lk_store::terms::Terms;
 use lk_tree::rule::Rule;
 use std::alloc::Global;
-
-/// How many auxiliary types are made at most: one more than there may be.
-const MOST: u64 = 1025;
 
 /// The constructor of this name, parent and type, which has the place and the fields of a draft.
 fn constructor_with(
@@ -303,7 +301,7 @@ fn nest_next<F: Families>(
     }
 }
 
-/// The auxiliary types, in order, with those that are added on the way.
+/// The auxiliary types, in order, with those that are added on the way. There are never more than `MOST`.
 pub fn auxiliary_types<F: Families>(
     alloc: Global,
     asks: &mut F,
@@ -337,7 +335,7 @@ pub fn auxiliary_types<F: Families>(
 {
     let mut made: Vec<BlockType> = Vec::new(alloc);
     let mut number = 0;
-    'types: while number < MOST {
+    'types: while number <= MOST {
         match nest_next(alloc, asks, setting, auxs, pairs, number)? {
             None => return Ok(made),
             Some(ty) => match made.push(ty) {

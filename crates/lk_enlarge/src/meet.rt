@@ -51,13 +51,13 @@ fn make_for<F: Families>(
         result }
 {
     let start = head(asks, e);
-    if let Node::Const(name, list) = asks.view(start) {
-        if let Some(family) = asks.family(alloc, name)? {
-            return make(alloc, asks, setting, auxs, name, list, arguments, &family);
-        }
+    match asks.view(start) {
+        Node::Const(name, list) => match asks.family(alloc, name)? {
+            Some(family) => make(alloc, asks, setting, auxs, name, list, arguments, &family),
+            None => unreachable!(),
+        },
+        _ => unreachable!(),
     }
-    // An occurrence has a type of a block at its head.
-    Err(Stop::NoMemory)
 }
 
 /// The auxiliary type that comes to stand for an occurrence, applied to the parameters: the one that stands for it already, or

@@ -5,7 +5,8 @@ use Rattle.lk_inductive.specs.Enlarged.{aux_name, aux_ctor}
 use Rattle.lk_inductive.specs.Recursors.{pis}
 use Rattle.lk_store.specs.Contents.{name_at, tree_at}
 use Rattle.lk_store.proofs.Extending.{Extends-trans}
-use Rattle.lk_enlarge.specs.Drafts.{draft_at, ctor_with, drafted}
+use Rattle.lk_enlarge.specs.Drafts.{draft_at}
+use Rattle.lk_enlarge.specs.DraftsNested.{ctor_with, drafted}
 use Rattle.lk_auxiliary.specs.Settings.{setting_at}
 use Rattle.lk_enlarge.proofs.DraftsStay.{draft_stays}
 use Rattle.lk_enlarge.proofs.Grown.{setting_stays, setting_known}

@@ -6,7 +6,8 @@ use Rattle.lk_env.specs.Units.{constructor_at}
 use Rattle.lk_inductive.specs.Enlarged.{Aux}
 use Rattle.lk_store.specs.Contents.{tree_at}
 use Rattle.lk_auxiliary.specs.Auxiliaries.{auxs_at}
-use Rattle.lk_enlarge.specs.Drafts.{draft_at, drafted}
+use Rattle.lk_enlarge.specs.Drafts.{draft_at}
+use Rattle.lk_enlarge.specs.DraftsNested.{drafted}
 use Rattle.lk_auxiliary.specs.Settings.{setting_at}
 use Rattle.lk_enlarge.proofs.Drafts.{draft_found, draft_stops}
 use Rattle.lk_enlarge.proofs.DraftsStay.{draft_stays, draft_known, met_grown}

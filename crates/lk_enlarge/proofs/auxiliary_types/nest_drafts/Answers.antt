@@ -9,7 +9,8 @@ use Rattle.lk_env.specs.Units.{constructor_at, IsConstructorIn}
 use Rattle.lk_store.proofs.Extending.{Extends-trans}
 use Rattle.lk_nested.specs.Pairs.{pairs_at}
 use Rattle.lk_auxiliary.specs.Auxiliaries.{auxs_at}
-use Rattle.lk_enlarge.specs.Drafts.{draft_at, nest_draft, IsDraftIn}
+use Rattle.lk_enlarge.specs.Drafts.{draft_at, IsDraftIn}
+use Rattle.lk_enlarge.specs.DraftsNested.{nest_draft}
 use Rattle.lk_auxiliary.specs.Settings.{setting_at}
 use Rattle.lk_enlarge.proofs.Grown.{setting_known}
 use Rattle.lk_enlarge.proofs.Each.{each_first, each_next, each_stopped, each_end}

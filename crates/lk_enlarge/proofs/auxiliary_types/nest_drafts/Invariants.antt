@@ -5,7 +5,8 @@ use Rattle.lk_nested.specs.Joined.{AreMet}
 use Rattle.lk_nested.specs.Pairs.{pairs_at, ArePairsIn}
 use Rattle.lk_auxiliary.specs.Auxiliaries.{auxs_at, IsAuxiliaryIn}
 use Rattle.lk_auxiliary.specs.Settings.{setting_at}
-use Rattle.lk_enlarge.specs.Drafts.{draft_at, nest_draft, IsDraftIn}
+use Rattle.lk_enlarge.specs.Drafts.{draft_at, IsDraftIn}
+use Rattle.lk_enlarge.specs.DraftsNested.{nest_draft}
 use Rattle.lk_enlarge.proofs.Each.{LeadsEach}
 use Rattle.lk_enlarge.proofs.auxiliary_types.nest_drafts.Given as goal
 

@@ -5,7 +5,8 @@ use Rattle.lk_nested.specs.Findings.{found, FindsNothing}
 use Rattle.lk_env.specs.Units.{type_at}
 use Rattle.lk_inductive.specs.Enlarged.{aux_from}
 use Rattle.lk_auxiliary.specs.Auxiliaries.{auxs_at, IsAuxiliaryIn}
-use Rattle.lk_enlarge.specs.Drafts.{outline_at, outline_of, outline_nests, IsOutlineIn}
+use Rattle.lk_enlarge.specs.Drafts.{outline_at, outline_of, IsOutlineIn}
+use Rattle.lk_enlarge.specs.DraftsNested.{outline_nests}
 use Rattle.lk_auxiliary.specs.Settings.{setting_at}
 use Rattle.lk_enlarge.proofs.Drafts.{next_found, next_stops}
 use Rattle.lk_enlarge.proofs.DraftsStay.{outlined_by}

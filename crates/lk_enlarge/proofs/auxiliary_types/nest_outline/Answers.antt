@@ -5,7 +5,8 @@ use Rattle.lk_nested.specs.Findings.{found, FindsNothing}
 use Rattle.lk_env.specs.Units.{constructor_at, type_at}
 use Rattle.lk_inductive.specs.Enlarged.{Aux}
 use Rattle.lk_auxiliary.specs.Auxiliaries.{auxs_at}
-use Rattle.lk_enlarge.specs.Drafts.{draft_at, outline_at, outlined, drafts_nest}
+use Rattle.lk_enlarge.specs.Drafts.{draft_at, outline_at}
+use Rattle.lk_enlarge.specs.DraftsNested.{outlined, drafts_nest}
 use Rattle.lk_auxiliary.specs.Settings.{setting_at}
 use Rattle.lk_enlarge.proofs.Drafts.{outline_found, outline_stops}
 use Rattle.lk_enlarge.proofs.DraftsStay.{outline_stays, met_grown}

@@ -7,7 +7,8 @@ use Rattle.lk_inductive.specs.Enlarged.{aux_name}
 use Rattle.lk_inductive.specs.Recursors.{pis}
 use Rattle.lk_store.specs.Contents.{name_at, tree_at}
 use Rattle.lk_store.proofs.Extending.{Extends-trans}
-use Rattle.lk_enlarge.specs.Drafts.{outline_at, type_with, outlined}
+use Rattle.lk_enlarge.specs.Drafts.{outline_at}
+use Rattle.lk_enlarge.specs.DraftsNested.{type_with, outlined}
 use Rattle.lk_auxiliary.specs.Settings.{setting_at}
 use Rattle.lk_enlarge.proofs.Grown.{setting_stays, setting_known}
 use Rattle.lk_enlarge.proofs.Owned.{constructor_known}

@@ -7,7 +7,7 @@ use Rattle.lk_env.specs.Units.{type_at}
 use Rattle.lk_inductive.specs.Enlarged.{Aux}
 use Rattle.lk_nested.specs.Pairs.{pairs_at}
 use Rattle.lk_auxiliary.specs.Auxiliaries.{auxs_at}
-use Rattle.lk_enlarge.specs.Drafts.{types_nest}
+use Rattle.lk_enlarge.specs.DraftsNested.{types_nest}
 use Rattle.lk_enlarge.specs.Owns.{types_own}
 use Rattle.lk_auxiliary.specs.Settings.{setting_at}
 use Rattle.lk_enlarge.proofs.Grown.{setting_stays, setting_known}

@@ -15,8 +15,8 @@ use Rattle.lk_auxiliary.specs.Settings.{setting_at}
 use Rattle.lk_enlarge.proofs.Occurring.{told_is, some_is}
 use Rattle.lk_enlarge.proofs.meet.make_for.Goals as goal
 
-pub returns-in-Some-clause-made : goal.returns-in-Some-clause-made
-returns-in-Some-clause-made g c = λ J ls b t is.
+pub returns-clause-made : goal.returns-clause-made
+returns-clause-made g c = λ J ls b t is.
     let s = g.F.Terms.contents c.args.asks.now in
     let after = g.F.Terms.contents c.make.new.terms in
     let w = (g.F.Asks.standing c.args.asks.now).place in
@@ -24,8 +24,8 @@ returns-in-Some-clause-made g c = λ J ls b t is.
     let x = name_at s c.in-Const.name in
     let ms = list_at s c.in-Const.list in
     let family = c.in-Some.family in
-    let told = c.in_ok-family.ensures.family in
-    let known = told_is w ns (tree_at s c.args.e) c.requires.occurs J ls b t is x ms (c.in-Const.ensures.tree ∙ c.head-start.ensures.is) (option_map (family_at s) c.in_ok-family.field-0) told.0 told.1 told.2 in
+    let told = c.in_ok-family-in-Const.ensures.family in
+    let known = told_is w ns (tree_at s c.args.e) c.requires.occurs J ls b t is x ms (c.in-Const.ensures.tree ∙ c.head-start.ensures.is) (option_map (family_at s) c.in_ok-family-in-Const.field-0) told.0 told.1 told.2 in
     let pair = some_is (family_at s family) (b, t) (sym (ap (option_map (family_at s)) c.in-Some.is) ∙ known.2) in
     let plain = setting_at s c.args.setting.now in
     let auxs = auxs_at s c.args.auxs.now.items in
