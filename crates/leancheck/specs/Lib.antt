@@ -6,3 +6,4 @@ pub mod Text
 pub mod Words
 pub mod Rows
 pub mod Standing
+pub mod Larger

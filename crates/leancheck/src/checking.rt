@@ -2,13 +2,13 @@
 
 ghost use Rattle.std.specs.Prelude.{◌≡◌, ◌<◌, true, length, map, IfOk};
 ghost use Rattle.lk_rulebook.specs.Scan.{are_new};
-ghost use Rattle.lk_rulebook.specs.Units.{members_of, place_of};
+ghost use Rattle.lk_rulebook.specs.Units.{members_of, place_of, Members};
 ghost use Rattle.lk_verdict.specs.GoodUnit.{IsClearLibrary};
 ghost use Rattle.lk_questions.specs.Table.{steps as table};
 ghost use Rattle.lk_verdict.specs.Told.{AreVerdicts};
 ghost use Rattle.lk_store.specs.Store.{contents_of};
 ghost use Rattle.lk_env.specs.declared.entry.Partial.{Partial as GivenMembers};
-ghost use Rattle.lk_env.specs.Places.{partial_of};
+ghost use Rattle.lk_env.specs.Places.{partial_beside};
 ghost use Rattle.lk_env.specs.Units.{declaration_at, unit_at, library_of};
 ghost use Rattle.lk_env.specs.Units.{IsStatedIn, IsBodyIn, IsUnitIn};
 ghost use Rattle.leancheck.specs.Rows.{questions_of, asked_of, scanned_of, row_verdict};
@@ -23,6 +23,7 @@ use lk_engine::Engine;
 use lk_env::entry::Partial;
 use lk_env::library::Library;
 use lk_env::unit::{Body, Declaration, Unit};
+use lk_family::Families;
 use lk_laws::{Laws, check_definition};
 use lk_memo::PrivateMemo;
 use lk_port::Gate;
@@ -100,9 +101,9 @@ fn refused(error: ScanError) -> Verdict
 }
 
 /// The verdict of a unit with which nothing is wrong in itself. Nothing of it is partial yet.
-fn judge_scanned<Q: Quotients + Laws>(alloc: Global, asks: &mut Q, unit: &Unit) -> Verdict
+fn judge_scanned<Q: Quotients + Laws + Families>(alloc: Global, asks: &mut Q, unit: &Unit) -> Verdict
     requires table { (Q.standing asks.old).table ≡ table }
-    requires place { StandsAt Q.places (Q.standing asks.old) Partial.Nothing }
+    requires place { StandsAt Q.places (Q.standing asks.old) Partial.Nothing [] }
     requires known { IsUnitIn (Q.contents asks.old) unit.now }
     ensures basis { (Q.standing asks.new).basis ≡ (Q.standing asks.old).basis }
     ensures verdict { IsPlain (asked_of (Q.places (Q.standing asks.old).basis) (Q.left asks.old)
@@ -115,7 +116,7 @@ fn judge_scanned<Q: Quotients + Laws>(alloc: Global, asks: &mut Q, unit: &Unit) 
 }
 
 /// The verdict of a unit whose names are new.
-fn judge_new<Q: Quotients + Laws>(
+fn judge_new<Q: Quotients + Laws + Families>(
     alloc: Global,
     base: &BaseStore,
     asks: &mut Q,
@@ -123,7 +124,7 @@ fn judge_new<Q: Quotients + Laws>(
 ) -> Verdict
     requires table { (Q.standing asks.old).table ≡ table }
     requires same { Q.contents asks.old ≡ contents_of base.now }
-    requires place { StandsAt Q.places (Q.standing asks.old) Partial.Nothing }
+    requires place { StandsAt Q.places (Q.standing asks.old) Partial.Nothing [] }
     requires known { IsUnitIn (contents_of base.now) unit.now }
     ensures basis { (Q.standing asks.new).basis ≡ (Q.standing asks.old).basis }
     ensures verdict { IsPlain (scanned_of (Q.places (Q.standing asks.old).basis) (Q.left asks.old)
@@ -136,7 +137,7 @@ fn judge_new<Q: Quotients + Laws>(
 }
 
 /// The verdict of a unit, over what its library has, at its place and with what is left of a budget.
-fn judge<Q: Quotients + Laws>(
+fn judge<Q: Quotients + Laws + Families>(
     alloc: Global,
     library: &Library,
     asks: &mut Q,
@@ -145,11 +146,12 @@ fn judge<Q: Quotients + Laws>(
 ) -> Verdict
     requires table { (Q.standing asks.old).table ≡ table }
     requires same { Q.contents asks.old ≡ contents_of library.now.0 }
-    requires place { StandsAt Q.places (Q.standing asks.old) Partial.Nothing }
+    requires place { StandsAt Q.places (Q.standing asks.old) Partial.Nothing [] }
     requires places { are_new (library_of library.now) number
         (members_of (unit_at (contents_of library.now.0) unit.now)) ≡ true → (p : GivenMembers)
-        → Q.places (Q.standing asks.old).basis p ≡ place_of (library_of library.now) number
-        (partial_of (unit_at (contents_of library.now.0) unit.now) p) }
+        (aux : Members) → Q.places (Q.standing asks.old).basis p aux
+        ≡ place_of (library_of library.now) number
+        (partial_beside (unit_at (contents_of library.now.0) unit.now) p aux) }
     requires known { IsUnitIn (contents_of library.now.0) unit.now }
     ensures basis { (Q.standing asks.new).basis ≡ (Q.standing asks.old).basis }
     ensures verdict { IsPlain (row_verdict (library_of library.now) (Q.left asks.old) number
@@ -171,7 +173,7 @@ fn judge_all<G: Gate>(
     steps: u128,
     gate: &G,
 ) -> Result<Vec<Verdict>, NoMemory>
-    requires { engine.old.0 ≡ library.now }
+    requires { engine.old.0.2 ≡ library.now }
     ensures { IfOk result (λ v. IsClearLibrary (library_of library.now)
         → AreVerdicts (library_of library.now) steps (map verdict v.items)) }
 {

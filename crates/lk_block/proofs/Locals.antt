@@ -83,7 +83,7 @@ module _ (answer : Query → ℕ → Out) (w : Place) {A : Type 0} (test : A →
       go false i = absurd i
 
 -- a test that whatever a program is done with meets is met by what it gives
-given_meets : {A Base : Type 0} (t : Standing Base) (p : Program A) (b : ℕ) (v : A) (left : ℕ) (test : A → Bool) → Always p (λ v. test v ≡ true) → Goes t p b v left → test v ≡ true
+pub given_meets : {A Base : Type 0} (t : Standing Base) (p : Program A) (b : ℕ) (v : A) (left : ℕ) (test : A → Bool) → Always p (λ v. test v ≡ true) → Goes t p b v left → test v ≡ true
 given_meets {A} t p b v left test always goes =
     let answer : Query → ℕ → Out = out_of t.table t.place in
     let passes = goes.on (told answer t.place test) in

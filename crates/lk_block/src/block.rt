@@ -26,7 +26,7 @@ use lk_store::memory::NoMemory;
 use std::alloc::Global;
 
 /// The names of the level parameters that the first type of a block states.
-fn level_names(types: &[BlockType]) -> &[u64]
+pub fn level_names(types: &[BlockType]) -> &[u64]
     ensures names { (c : Contents) → map (name_at c) result.now
         ≡ levels_of (block_of (map (type_at c) types.now)) }
     ensures known { (c : Contents) → All (IsTypeIn c) types.now
@@ -39,7 +39,7 @@ fn level_names(types: &[BlockType]) -> &[u64]
 }
 
 /// The list of a block's level parameters, as levels.
-fn own_levels<A: Asks>(asks: &mut A, types: &[BlockType]) -> Result<u64, NoMemory>
+pub fn own_levels<A: Asks>(asks: &mut A, types: &[BlockType]) -> Result<u64, NoMemory>
     requires { All (IsTypeIn (A.contents asks.old)) types.now }
     ensures keeps { Extends (A.contents asks.old) (A.contents asks.new) }
     ensures stays { A.standing asks.new ≡ A.standing asks.old }

@@ -67,7 +67,7 @@ impl Drop for Engine<'_> {
 
 /// Looks from this unit, of which nothing is partial, with no auxiliary types, an empty store over
 /// the library's and this budget.
-fn restart(lookout: &mut Lookout<'_, Overlay<'_>>, unit: u32, budget: u128)
+fn restart<'a>(lookout: &mut Lookout<'a, Overlay<'a>>, unit: u32, budget: u128)
     requires { lookout.old.2.0 ≡ lookout.old.0.2.0 }
     ensures { Restarts lookout.old lookout.new unit budget }
 {
@@ -80,7 +80,7 @@ fn restart(lookout: &mut Lookout<'_, Overlay<'_>>, unit: u32, budget: u128)
 }
 
 /// From here on so much of the unit at work is partial, and no auxiliary type.
-fn give_in(lookout: &mut Lookout<'_, Overlay<'_>>, partial: Partial)
+fn give_in<'a>(lookout: &mut Lookout<'a, Overlay<'a>>, partial: Partial)
     ensures { GivesMembers lookout.old lookout.new partial [] }
 {
     let library = lookout.scope.library();
@@ -89,8 +89,8 @@ fn give_in(lookout: &mut Lookout<'_, Overlay<'_>>, partial: Partial)
 }
 
 /// From here on so much of the unit at work is partial, and these types beside.
-fn give_beside_in(
-    lookout: &mut Lookout<'_, Overlay<'_>>,
+fn give_beside_in<'a>(
+    lookout: &mut Lookout<'a, Overlay<'a>>,
     partial: Partial,
     types: &[BlockType],
 ) -> Result<(), NoMemory>
