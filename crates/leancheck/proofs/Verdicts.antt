@@ -60,7 +60,7 @@ questions_answered s b left d r is h =
     checked_gives (Err stop) h = checked_stop s (unit_steps d) b ends stop h
 
 -- the verdict of a block, by what its stages come to
-pub stages_answered : (table : Table) (places : Partial → Place) (b : Block) (rs : List BlockRecursor) (left : ℕ) (r : Result (Unit {0}) Stop) → table ≡ steps
+pub stages_answered : (table : Table) (places : Places) (b : Block) (rs : List BlockRecursor) (left : ℕ) (r : Result (Unit {0}) Stop) → table ≡ steps
     → IsCheckOutcome (block_stages table places (suc left) b rs left) r → IsPlain (stages_verdict (block_stages steps places (suc left) b rs left)) (result_verdict r)
 stages_answered table places b rs left r is h = checked_plain (block_stages steps places (suc left) b rs left) r (subst (λ t. IsCheckOutcome (block_stages t places (suc left) b rs left) r) is h)
   where

@@ -9,7 +9,7 @@ abbrev pub invariant-loop-unit : goal.invariant-loop-unit
 invariant-loop-unit g l =
     let c = contents_of l.fn.library.0 in
     record {
-      over : l.engine.0 ≡ l.fn.library;
+      over : l.engine.0.2 ≡ l.fn.library;
       known : All (IsUnitIn c) l.rest;
       progress : Progress l.fn.steps c l.fn.library.1 l.verdicts.items l.rest;
     }
