@@ -1,5 +1,5 @@
 //! Tests of the crates between the stores and the program: the library and its scan, mentions, levels, operations on numbers, the
-//! memo, the engine, and the checks of blocks. They stand in a crate of their own, so that none of those crates is proved a second time for them.
+//! memo, the engine, terms that are read back, and the checks of blocks. They stand in a crate of their own, so that none of those crates is proved a second time for them.
 #![tactic(auto)]
 
 #[cfg(test)]
@@ -20,5 +20,7 @@ mod operations;
 mod recursor_steps;
 #[cfg(test)]
 mod recursor_types;
+#[cfg(test)]
+mod restored;
 #[cfg(test)]
 mod scan;

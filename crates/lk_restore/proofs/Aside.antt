@@ -1,17 +1,18 @@
--- What trees are read back by, whatever names a setting has.
+-- What trees are read back by, whatever names a setting has, and where nothing stands for anything.
 use Rattle.std.proofs.Common.{◌≡◌, List, [], ◌∷◌, refl, sym, ap, ◌∙◌}
 use Rattle.std.proofs.Math.Path.{fun_ext}
 use Rattle.std.proofs.lemmas.List.Elements.{All-nil}
 use Rattle.lk_tree.specs.Tree.{Name, Tree, var, sort, const, app, lam, pi, let_in, proj, lit, wide, str, local}
 use Rattle.lk_tree.specs.Spine.{apply}
-use Rattle.lk_inductive.specs.Block.{Shape}
+use Rattle.lk_inductive.specs.Block.{Shape, AreLocals}
 use Rattle.lk_inductive.specs.Enlarged.{Setting}
-use Rattle.lk_inductive.specs.Recursors.{Restoring}
+use Rattle.lk_inductive.specs.Recursors.{Restoring, minors, recursors, recursors_by}
+use Rattle.lk_inductive.proofs.ReadBack.{same_recs}
 use Rattle.lk_inductive.specs.Restore as plain
 use Rattle.lk_inductive.specs.Restore.{restore, restoring, stands_for, name_back}
 use Rattle.lk_store.specs.Contents.{Contents}
 use Rattle.lk_restore.specs.declared.originals.Original.{Original}
-use Rattle.lk_restore.specs.Originals.{originals_at, IsOriginalIn, IsStanding, setting_of, restoring_at, AreOriginals}
+use Rattle.lk_restore.specs.Originals.{originals_at, AreReadOver, IsOriginalIn, IsStanding, setting_of, restoring_at, AreOriginals}
 
 module _ (ms : List (Name × plain.Original)) (ns ls : List Name) (ps : List Tree) where
   abbrev s : Setting
@@ -58,3 +59,11 @@ reads_as c os p ms s are levels params =
 -- nothing stands for anything
 pub none_stand : (c : Contents) (p : Shape) → AreOriginals c p []
 none_stand c p = record { known = All-nil (IsOriginalIn c); standing = All-nil (IsStanding c (setting_of p)); over = tt }
+
+pub recursors_stay : (c : Contents) (p : Shape) → recursors_by (restoring_at c [] p) p ≡ recursors p
+recursors_stay c p = same_recs p (setting_of p) (minors p) p.types
+
+-- over Locals anything is read back
+pub over_locals : (os : List Original) (ps : List Tree) → AreLocals ps → AreReadOver os ps
+over_locals [] ps h = tt
+over_locals (o ∷ os) ps h = h

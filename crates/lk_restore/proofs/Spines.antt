@@ -129,9 +129,6 @@ module _ (s : Setting) (ms : List (Name × Original)) where
     unfolding read
     constant c ls = ap (λ m. or_built (instead all all (const c ls)) (constant_back c ls m)) (first_is s ms c) ∙ go (tree_discrete (const c ls) (at_own s c))
       where
-        made : Tree
-        made = constant_back c ls (option_map (mark_of s c) (stands_for ms c))
-
         go : (d : Dec (const c ls ≡ at_own s c)) → or_built (instead all all (const c ls)) (constant_back c ls (option_map (mark_of s c) (stands_for ms c))) ≡ put_back s c ls [] (stands_for ms c)
         go (yes e) =
             ap (λ o. or_built o (constant_back c ls (option_map (mark_of s c) (stands_for ms c)))) (ap (instead all all) e ∙ own_instead s ms c)

@@ -4,7 +4,7 @@ use Rattle.lk_tree.specs.Tree.{Name, Level, param, Tree, const, app}
 use Rattle.lk_tree.specs.Spine.{apply, args}
 use Rattle.lk_inductive.specs.Block.{Shape, AreLocals}
 use Rattle.lk_inductive.specs.Enlarged.{Setting}
-use Rattle.lk_inductive.specs.Recursors.{Restoring}
+use Rattle.lk_inductive.specs.Recursors.{Restoring, recursors, recursors_by}
 use Rattle.lk_inductive.specs.Restore as plain
 use Rattle.lk_store.specs.Contents.{Contents, name_at, tree_at}
 use Rattle.lk_restore.specs.declared.originals.Original.{Original}
@@ -72,3 +72,7 @@ restoring_at c os p = plain.restoring (originals_at c os) (setting_of p)
 -- the levels and the parameters of the setting alone count, and not its names
 abbrev pub ReadsAs : Type 0
 ReadsAs = (c : Contents) (os : List Original) (p : Shape) (ms : List (Name × plain.Original)) (s : Setting) → originals_at c os ≡ ms → p.levels ≡ s.levels → p.params ≡ s.params → restoring_at c os p ≡ plain.restoring ms s
+
+-- with nothing to read back recursors are as they are
+abbrev pub StayAsTheyAre : Type 0
+StayAsTheyAre = (c : Contents) (p : Shape) → recursors_by (restoring_at c [] p) p ≡ recursors p
