@@ -101,7 +101,11 @@ fn refused(error: ScanError) -> Verdict
 }
 
 /// The verdict of a unit with which nothing is wrong in itself. Nothing of it is partial yet.
-fn judge_scanned<Q: Quotients + Laws + Families>(alloc: Global, asks: &mut Q, unit: &Unit) -> Verdict
+fn judge_scanned<Q: Quotients + Laws + Families>(
+    alloc: Global,
+    asks: &mut Q,
+    unit: &Unit,
+) -> Verdict
     requires table { (Q.standing asks.old).table ≡ table }
     requires place { StandsAt Q.places (Q.standing asks.old) Partial.Nothing [] }
     requires known { IsUnitIn (Q.contents asks.old) unit.now }

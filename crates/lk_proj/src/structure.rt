@@ -12,8 +12,8 @@ ghost use Rattle.lk_env.specs.Lent.{type_in};
 ghost use Rattle.lk_proj.specs.Structures.{structure_in, IsOnlyIn, IsStructureIf};
 
 use lk_env::entry::{Entry, Kind};
-use lk_env::lent::type_of;
 use lk_env::lends::Lends;
+use lk_env::lent::type_of;
 use lk_env::unit::{BlockType, Constructor};
 
 /// What is asked of a type with exactly one constructor, beside that constructor.

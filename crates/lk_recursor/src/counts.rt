@@ -12,9 +12,9 @@ ghost use Rattle.lk_restore.specs.Originals.{read_name, restoring_at, AreOrigina
 ghost use Rattle.lk_recursor.specs.Comparisons.{stated_of, own_of, IsComparison};
 
 use crate::own::Comparison;
-use lk_lists::names::names_equal;
 use lk_block::shape::ConstructorShape;
 use lk_env::unit::RecursorRule;
+use lk_lists::names::names_equal;
 use lk_restore::Original;
 use lk_restore::originals::original_name;
 use lk_store::terms::Terms;

@@ -11,9 +11,9 @@ ghost use Rattle.lk_recursor.specs.Comparisons.{own_at, AreNames, IsShared, IsOw
 
 use crate::front::Front;
 use crate::levels::recursor_name;
-use lk_lists::names::names_equal;
 use lk_block::shape::{ConstructorShape, Shape, TypeShape};
 use lk_env::unit::Recursor;
+use lk_lists::names::names_equal;
 use lk_restore::Original;
 use lk_restore::originals::original_name;
 use lk_store::memory::NoMemory;
