@@ -5,3 +5,4 @@ pub mod Each
 pub mod Drafts
 pub mod Components
 pub mod Larger
+pub mod Originals
