@@ -12,14 +12,14 @@ ghost use Rattle.lk_enlarge.specs.Drafts.{draft_nests, drafts_nest, outline_nest
 ghost use Rattle.lk_enlarge.specs.Drafts.{IsDraftIn, IsOutlineIn};
 ghost use Rattle.lk_auxiliary.specs.Settings.{setting_at, IsSettingIn};
 
+use lk_auxiliary::auxiliary::Auxiliary;
 use crate::components::name_of_constructor;
 use crate::draft::{Draft, Outline, find_outline};
+use lk_auxiliary::naming::name_of_type;
 use crate::nest::nest;
 use crate::past::over_locals;
-use lk_ask::stop::Stop;
-use lk_auxiliary::auxiliary::Auxiliary;
-use lk_auxiliary::naming::name_of_type;
 use lk_auxiliary::setting::Setting;
+use lk_ask::stop::Stop;
 use lk_env::unit::{BlockType, Constructor};
 use lk_family::Families;
 use lk_nested::swap::Pair;

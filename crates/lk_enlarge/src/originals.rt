@@ -38,7 +38,7 @@ fn text_after<T: Terms>(terms: &mut T, name: u64, bytes: Vec<u8>) -> Result<u64,
     Ok(made)
 }
 
-/// The last component of the name of the recursor of a number.
+/// The last component of the name that a numbered recursor has in the file.
 fn numbered(alloc: Global, number: u64) -> Result<Vec<u8>, NoMemory>
     ensures { IfOk result (λ v. v.items ≡ codes "rec_" ++ digits (suc number) number []) }
 {
@@ -147,7 +147,7 @@ fn stand_recursor<T: Terms>(
     Ok(Original::Renamed { name, to })
 }
 
-/// What the constructor of the auxiliary type of a number stands for that has a constructor's name behind its own two components.
+/// What a constructor of the auxiliary type of a number stands for: the constructor of this name, after which it is called.
 fn stand_constructor<T: Terms>(
     alloc: Global,
     terms: &mut T,

@@ -7,8 +7,8 @@ ghost use Rattle.lk_store.specs.Contents.{level_at};
 ghost use Rattle.lk_declaration.specs.Courses.{Settles};
 ghost use Rattle.lk_auxiliary.specs.Auxiliaries.{auxs_at, IsAuxiliaryIn};
 
-use lk_ask::stop::Stop;
 use lk_auxiliary::auxiliary::Auxiliary;
+use lk_ask::stop::Stop;
 use lk_declaration::asking::levels_equal;
 use lk_store::terms::Terms;
 use lk_tree::rule::Rule;

@@ -10,10 +10,10 @@ ghost use Rattle.lk_auxiliary.specs.Auxiliaries.{auxs_at, IsAuxiliaryIn};
 ghost use Rattle.lk_enlarge.specs.Owns.{types_own};
 ghost use Rattle.lk_auxiliary.specs.Settings.{setting_at, IsSettingIn};
 
-use crate::own::own_type;
-use lk_ask::stop::Stop;
 use lk_auxiliary::auxiliary::Auxiliary;
+use crate::own::own_type;
 use lk_auxiliary::setting::Setting;
+use lk_ask::stop::Stop;
 use lk_env::unit::BlockType;
 use lk_family::Families;
 use lk_nested::swap::Pair;

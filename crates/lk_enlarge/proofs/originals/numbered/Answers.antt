@@ -1,5 +1,4 @@
 use Rattle.std.proofs.Common.{◌++◌, codes, sym, ap, ◌∙◌}
-use Rattle.std.specs.String.{string_bytes, string_vec}
 use Rattle.lk_enlarge.proofs.Decimals.{digits_written}
 use Rattle.lk_enlarge.proofs.originals.numbered.Goals as goal
 

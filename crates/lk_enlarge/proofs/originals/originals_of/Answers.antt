@@ -6,9 +6,10 @@ use Rattle.lk_store.proofs.Extending.{Extends-trans}
 use Rattle.lk_auxiliary.specs.Auxiliaries.{aux_at, auxs_at, IsAuxiliaryIn}
 use Rattle.lk_auxiliary.specs.Settings.{setting_at}
 use Rattle.lk_auxiliary.proofs.Others.{aux_stays, aux_known}
-use Rattle.lk_enlarge.specs.Originals.{Adds, one_stands}
+use Rattle.lk_enlarge.specs.Originals.{Adds, StandFor, one_stands}
 use Rattle.lk_enlarge.proofs.Grown.{setting_stays, setting_known}
 use Rattle.lk_enlarge.proofs.Adding.{adds_as, more_added, end_added}
+use Rattle.lk_enlarge.proofs.originals.originals_of.Given as given
 use Rattle.lk_enlarge.proofs.originals.originals_of.Goals as goal
 
 pub add_type-requires-clause-setting_in : goal.add_type-requires-clause-setting_in
@@ -52,29 +53,22 @@ auxs-preserved g c =
           (subst (λ j. Adds after d own ms ns (all_stand first j (auxs_at before more))) c.in_ok-number.ensures h)));
     }
 
-pub returns-clause-known : goal.returns-clause-known
-returns-clause-known g c =
+-- once none are left
+ended : (g : given.Over) (c : goal.In_default g) → StandFor (g.T.Terms.contents c.auxs.terms) (setting_at (g.T.Terms.contents c.args.terms.now) c.args.setting.now)
+    (all_stand (name_at (g.T.Terms.contents c.args.terms.now) c.args.first) 0 (auxs_at (g.T.Terms.contents c.args.terms.now) c.args.stand.now)) c.auxs.originals.items
+ended g c =
     let before = g.T.Terms.contents c.args.terms.now in
     let first = name_at before c.args.first in
     let left = all_stand first c.auxs.number (auxs_at before c.auxs.left.now) in
     let all = all_stand first 0 (auxs_at before c.args.stand.now) in
     let none = ap (all_stand first c.auxs.number) (none_left (aux_at before) c.auxs.left.now c.in_default.ensures.cases) in
-    (end_added before (g.T.Terms.contents c.auxs.terms) (setting_at before c.args.setting.now) c.auxs.originals.items left all none c.auxs.invariant.leads).known
+    end_added before (g.T.Terms.contents c.auxs.terms) (setting_at before c.args.setting.now) c.auxs.originals.items left all none c.auxs.invariant.leads
+
+pub returns-clause-known : goal.returns-clause-known
+returns-clause-known g c = (ended g c).known
 
 pub returns-clause-are : goal.returns-clause-are
-returns-clause-are g c =
-    let before = g.T.Terms.contents c.args.terms.now in
-    let first = name_at before c.args.first in
-    let left = all_stand first c.auxs.number (auxs_at before c.auxs.left.now) in
-    let all = all_stand first 0 (auxs_at before c.args.stand.now) in
-    let none = ap (all_stand first c.auxs.number) (none_left (aux_at before) c.auxs.left.now c.in_default.ensures.cases) in
-    (end_added before (g.T.Terms.contents c.auxs.terms) (setting_at before c.args.setting.now) c.auxs.originals.items left all none c.auxs.invariant.leads).are
+returns-clause-are g c = (ended g c).are
 
 pub returns-clause-standing : goal.returns-clause-standing
-returns-clause-standing g c =
-    let before = g.T.Terms.contents c.args.terms.now in
-    let first = name_at before c.args.first in
-    let left = all_stand first c.auxs.number (auxs_at before c.auxs.left.now) in
-    let all = all_stand first 0 (auxs_at before c.args.stand.now) in
-    let none = ap (all_stand first c.auxs.number) (none_left (aux_at before) c.auxs.left.now c.in_default.ensures.cases) in
-    (end_added before (g.T.Terms.contents c.auxs.terms) (setting_at before c.args.setting.now) c.auxs.originals.items left all none c.auxs.invariant.leads).standing
+returns-clause-standing g c = (ended g c).standing

@@ -1,5 +1,4 @@
 use Rattle.std.proofs.Common.{ap, ◌∙◌}
-use Rattle.lk_inductive.specs.Enlarged.{aux_name}
 use Rattle.lk_store.specs.Contents.{name_at}
 use Rattle.lk_auxiliary.specs.Auxiliaries.{aux_at}
 use Rattle.lk_auxiliary.specs.Settings.{setting_at}
