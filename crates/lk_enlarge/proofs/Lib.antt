@@ -14,3 +14,5 @@ pub mod DraftsStay
 pub mod SortTests
 pub mod Holding
 pub mod Outlines
+pub mod Decimals
+pub mod Adding

@@ -6,3 +6,4 @@ pub mod Drafts
 pub mod DraftsNested
 pub mod Components
 pub mod Larger
+pub mod Originals

@@ -10,6 +10,7 @@ pub mod draft;
 pub mod larger;
 pub mod meet;
 pub mod nest;
+pub mod originals;
 pub mod own;
 pub mod past;
 pub mod sorts;
