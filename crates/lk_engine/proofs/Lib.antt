@@ -4,4 +4,4 @@ pub mod Frames
 pub mod Links
 pub mod Lookouts
 pub mod Outcomes
-pub mod Families
+pub mod Copied
