@@ -69,6 +69,7 @@ pub trait Asks: Terms {
     fn give_beside(&mut self, partial: Partial, types: &[BlockType]) -> Result<(), NoMemory>
         requires { All (IsTypeIn (Self.contents self.old)) types.now }
         ensures contents { Self.contents self.new ≡ Self.contents self.old }
+        ensures basis { (standing self.new).basis ≡ (standing self.old).basis }
         ensures standing { OnOk result (standing self.new ≡ given places (standing self.old) partial
             (alone_members (map (type_at (Self.contents self.old)) types.now))) }
         ensures left { left self.new ≡ left self.old };

@@ -242,6 +242,6 @@ gives_standing {old} {new} {partial} {aux} h = rw (h.library, h.site, h.auxiliar
 pub gives_stands : {old new : Seen (Tables × Tables)} {partial : Partial} {aux : Members} {entries later : List (Key × Kept)} → GivesMembers old new partial aux → Stands old entries
     → AreTrue (place_of new) (contents_of (over new.2.0 new.2.1)) later → Stands new later
 gives_stands {old} {new} h s e = record {
-  base = ap (λ p. p.0.0) h.others ∙ s.base ∙ ap (λ l. l.0) (sym h.library);
+  base = ap (λ t. t.0) h.terms ∙ s.base ∙ ap (λ l. l.0) (sym h.library);
   entries_true = e;
 }

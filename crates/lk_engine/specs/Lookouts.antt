@@ -137,7 +137,8 @@ pub record GivesMembers (old new : Seen (Tables × Tables)) (partial : Partial)
   pub library : new.0.2 ≡ old.0.2
   pub auxiliary : auxiliary_members (contents_of new.0.0) new.0.3 ≡ aux
   pub site : new.1 ≡ record { unit = old.1.unit; partial = partial }
-  pub others : (new.2, new.3) ≡ (old.2, old.3)
+  pub terms : new.2 ≡ old.2
+  pub meter : new.3 ≡ old.3
 
 -- a lookout over the library's store, and what is kept of its questions, which is true at the place
 -- that stands, whatever was looked at for it

@@ -1,8 +1,12 @@
-use Rattle.std.proofs.Common.{◌≡◌, sym, subst}
+use Rattle.std.proofs.Common.{sym, ap, subst, ◌∙◌}
+use Rattle.lk_store.specs.Contents.{Extends}
+use Rattle.lk_store.specs.Store.{contents_of}
 use Rattle.lk_store.proofs.Made.{Extends-self}
 use Rattle.lk_engine.proofs.engine.restart.Goals as goal
 
+pub new-requires : goal.new-requires
+new-requires c = ?
+
 pub invariant_of-lookout : goal.invariant_of-lookout
 invariant_of-lookout c =
-    let base = subst (λ s. s.2.0 ≡ s.0.0) (sym c.lookout.view_is) c.requires in
-    rw (c.clear.ensures.contents, base) (Extends-self _)
+    subst (λ t. Extends (contents_of t) _) (sym c.new.ensures.tables) (Extends-self _)
