@@ -1,8 +1,8 @@
 -- The block of a type, copied, is that of what its name means.
-use Rattle.std.proofs.Common.{◌≡◌, List, Option, Some, None, Ok, map, refl, ap, sym, ◌∙◌}
+use Rattle.std.proofs.Common.{◌≡◌, List, Option, Some, None, Ok, map, refl, sym, ◌∙◌}
 use Rattle.std.specs.Prelude.{IsSome}
 use Rattle.lk_tree.specs.Tree.{Name}
-use Rattle.lk_rulebook.specs.Place.{Place, Entry as PlainEntry, Block as PlainBlock, BlockType as PlainType}
+use Rattle.lk_rulebook.specs.Place.{Place, Entry as PlainEntry}
 use Rattle.lk_store.specs.Contents.{Contents, Extends}
 use Rattle.lk_env.specs.declared.entry.Entry.{Entry}
 use Rattle.lk_env.specs.declared.unit.Block.{Block}

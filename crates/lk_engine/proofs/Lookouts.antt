@@ -1,6 +1,6 @@
 -- What a step, an answer that is kept, and a question leave of a lookout, and what they come to.
 use Rattle.std.proofs.Common.{◌≡◌, ◌≢◌, ℕ, ◌<◌, List, None, Ok, Err, Result, refl, ap, sym, ◌∙◌, arith}
-use Rattle.std.specs.Prelude.{IfOk, IfErr}
+use Rattle.std.specs.Prelude.{IfOk, IfErr, OnOk}
 use Rattle.lk_plain.specs.Erased.{Steps}
 use Rattle.lk_rulebook.specs.Units.{Members}
 use Rattle.lk_questions.specs.Table.{steps}
@@ -245,3 +245,15 @@ gives_stands {old} {new} h s e = record {
   base = ap (λ t. t.0) h.terms ∙ s.base ∙ ap (λ l. l.0) (sym h.library);
   entries_true = e;
 }
+
+-- what is given beside, where there was memory, is how questions are answered from then on
+pub gives_beside : (old new : Seen (Tables × Tables)) (partial : Partial) (aux : Members) (r : Result (Unit {0}) Wanting) → OnOk r (GivesMembers old new partial aux)
+    → OnOk r (standing_at new.0 new.1 ≡ record { basis = (old.0.2, old.1.unit); table = steps; place = places_at (old.0.2, old.1.unit) partial aux })
+gives_beside old new partial aux (Ok u) h = gives_standing h
+gives_beside old new partial aux (Err e) h = tt
+
+-- and who is at work stays in any case
+pub gives_basis : (old new : Seen (Tables × Tables)) (partial : Partial) (aux : Members) (r : Result (Unit {0}) Wanting) → OnOk r (GivesMembers old new partial aux)
+    → IfErr r (λ e. new ≡ old) → (standing_at new.0 new.1).basis ≡ (standing_at old.0 old.1).basis
+gives_basis old new partial aux (Ok u) h e = rw (h.library, h.site) refl
+gives_basis old new partial aux (Err x) h e = ap (λ s. (s.0.2, s.1.unit)) e

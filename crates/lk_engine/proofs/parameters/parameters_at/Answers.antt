@@ -1,9 +1,10 @@
-use Rattle.std.proofs.Common.{◌≡◌, ℕ, List, Option, Some, None, refl, sym, ◌∙◌}
+use Rattle.std.proofs.Common.{◌≡◌, ℕ, List, Option, Some, None, refl, sym, subst, ◌∙◌}
 use Rattle.std.specs.Prelude.{IsSome}
 use Rattle.lk_tree.specs.Tree.{Name}
 use Rattle.lk_rulebook.specs.Place.{Place, Entry as PlainEntry}
 use Rattle.lk_store.specs.Contents.{Contents}
 use Rattle.lk_store.specs.Store.{contents_of}
+use Rattle.lk_store.specs.declared.tables.Tables.{Tables}
 use Rattle.lk_env.specs.declared.entry.Entry.{Entry}
 use Rattle.lk_env.specs.declared.unit.Unit.{Unit as StoredUnit}
 use Rattle.lk_env.specs.Entries.{plain_entry, IsMeaning}
@@ -26,4 +27,7 @@ returns-clause-found g c =
     let l = c.args.lookout.now.0 in
     has_parameters (contents_of l.0) l.1 (place_in l c.args.lookout.now.1) _ c.in_ok-entry.entry
     c.parameter_count.result
-    c.in_ok-entry.ensures.answer (rw c.scope.ensures.is at c.parameter_count.ensures)
+    c.in_ok-entry.ensures.answer
+    (subst (λ (k : Tables × List StoredUnit). (y : PlainEntry)
+    → plain_entry (contents_of k.0) k.1 c.in_ok-entry.entry ≡ Some y
+    → c.parameter_count.result ≡ parameters_in y.kind) c.scope.ensures.is c.parameter_count.ensures)
