@@ -13,3 +13,10 @@ pub mod Started
 pub mod Staging
 pub mod PartsStay
 pub mod QuotientRuns
+pub mod GivenShape
+pub mod Besides
+pub mod Itself
+pub mod Enlarging
+pub mod LargerParts
+pub mod Settings
+pub mod StageMoves

@@ -1,7 +1,6 @@
 -- What stands for a block once it is enlarged, by the numbers of a store: all its types, what is known of them, its auxiliary
 -- types, and what their names stand for.
 use Rattle.std.specs.Prelude.{◌≡◌, ℕ, List, [], ◌++◌, map}
-use Rattle.lk_tree.specs.Tree.{Tree}
 use Rattle.lk_rulebook.specs.Place.{Block as PlainBlock}
 use Rattle.lk_plain.specs.Program.{Table}
 use Rattle.lk_plain.specs.Erased.{Out}
@@ -27,9 +26,9 @@ use Rattle.lk_restore.specs.declared.originals.Original.{Original}
 use Rattle.lk_restore.specs.Originals.{originals_at, restoring_at, AreOriginalsIn, AreStanding, AreReadOver}
 
 -- so does a larger block stand for a block
-pub record IsEnlargedTo (c : Contents) (b : PlainBlock) (ts : PlainParts) (lg : Larger) (types : List BlockType) (parts : TypeParts) (aux : List BlockType) (os : List Original) : Type 0 where
-  pub types : map (type_at c) types ≡ lg.own ++ lg.aux
-  pub parts : parts_at c parts ≡ larger_parts ts lg
+pub record IsEnlargedTo (c : Contents) (b : PlainBlock) (ts : PlainParts) (lg : Larger) (us : List BlockType) (ps : TypeParts) (aux : List BlockType) (os : List Original) : Type 0 where
+  pub types : map (type_at c) us ≡ lg.own ++ lg.aux
+  pub parts : parts_at c ps ≡ larger_parts ts lg
   pub auxiliary : map (type_at c) aux ≡ lg.aux
   pub originals : originals_at c os ≡ all_stand (first_name b.types) 0 lg.auxs
   pub levels : levels_of (larger_block lg) ≡ levels_of b

@@ -3,7 +3,7 @@
 ghost use Rattle.std.specs.Prelude.{◌≡◌, ◌<◌, ℕ, suc, [], map, All};
 ghost use Rattle.lk_env.specs.Units.{block_at, type_at, recursor_at, IsTypeIn, IsRecursorIn};
 ghost use Rattle.lk_inductive.specs.Block.{parameters_of as stated_parameters, AreLocals};
-ghost use Rattle.lk_store.specs.Contents.{tree_at};
+ghost use Rattle.lk_store.specs.Contents.{Contents, tree_at};
 ghost use Rattle.lk_block.specs.Parts.{parts_at, ArePartsIn};
 ghost use Rattle.lk_declaration.specs.Checked.{IsCheckOutcome};
 ghost use Rattle.leancheck.specs.Standing.{StandsAt};

@@ -157,9 +157,8 @@ fn all_types(own: Vec<BlockType>, auxiliary: Vec<BlockType>) -> Result<Vec<Block
     ensures { IfOk result (λ v. v.items ≡ own.items ++ auxiliary.items) }
 {
     let mut types = own;
-    for ty in auxiliary {
-        types.push(ty)?;
-    }
+    let mut behind = auxiliary;
+    types.append(&mut behind)?;
     Ok(types)
 }
 

@@ -1,4 +1,4 @@
-use Rattle.std.proofs.Common.{map, refl, ap, sym, subst, ◌∙◌, arith}
+use Rattle.std.proofs.Common.{[], map, refl, ap, sym, subst, ◌∙◌, arith}
 use Rattle.std.specs.Prelude.{All}
 use Rattle.std.proofs.lemmas.Result.{err_from_is_err_and}
 use Rattle.lk_env.specs.Units.{block_at, type_at, recursor_at, IsTypeIn}
@@ -26,7 +26,7 @@ returns-in_err-parts-clause-outcome g c fuel enough =
     let places = g.A.Asks.places s.basis in
     let types = map (type_at at) c.args.block.now.types.items in
     let p = err_from_is_err_and c.from_residual.result c.from_residual.ensures.1 in
-    rw (p.1, p.2) (stage_stop t s places Nothing
+    rw (p.1, p.2) (stage_stop t s places Nothing []
     (types_steps (parameters_of (block_of types)) types) _ _ _ refl c.requires.place
     (ap (λ n. types_steps n (map (type_at at) c.deref-2.result.now)) (c.stated_parameters-parameters.ensures at) ∙ ap (λ ts. types_steps (parameters_of (block_of (map (type_at at) ts))) (map (type_at at) c.deref-2.result.now)) c.deref.ensures.value
     ∙ ap (λ ts. types_steps (parameters_of (block_of types)) (map (type_at at) ts)) c.deref-2.ensures.value) refl
@@ -53,7 +53,7 @@ returns-clause-outcome g c fuel enough =
     ∙ ap (λ ts. types_steps (parameters_of (block_of types)) (map (type_at at) ts)) c.deref-2.ensures.value in
     let goes = subst (λ p. Goes s p before (parts_at grown c.in_ok-parts.parts) left) same c.in_ok-parts.ensures.outcome in
     let less = goes_within s form before (parts_at grown c.in_ok-parts.parts) left goes in
-    stage_on t s places Nothing form form _ _ refl c.requires.place refl refl
+    stage_on t s places Nothing [] form form _ _ refl c.requires.place refl refl
     (sorts_stage t places fuel (block_at at c.args.block.now) (map (recursor_at at) c.args.block.now.recursors.items)) (parts_at grown c.in_ok-parts.parts) left c.give_types.result goes
     (moved_four (λ u ps b rs. IsCheckOutcome (sorts_stage u ps fuel b rs (parts_at grown c.in_ok-parts.parts) left) c.give_types.result) (same_table c.in_ok-parts.ensures.stays) (ap (g.A.Asks.places) (same_basis c.in_ok-parts.ensures.stays))
     (ap block_of (types_stay at grown c.in_ok-parts.ensures.keeps c.args.block.now.types.items c.requires.types_in))

@@ -1,7 +1,8 @@
-use Rattle.std.proofs.Common.{◌<◌, map, All, ap, sym, subst, ◌∙◌}
-use Rattle.lk_store.specs.Contents.{Contents}
+use Rattle.std.proofs.Common.{◌<◌, [], map, All, ap, sym, subst, ◌∙◌}
+use Rattle.lk_store.specs.Contents.{Contents, tree_at}
 use Rattle.lk_env.specs.Units.{block_at, recursor_at, IsTypeIn, IsRecursorIn}
 use Rattle.lk_env.specs.declared.entry.Partial.TheVariants.{Types}
+use Rattle.lk_inductive.specs.Block.{AreLocals}
 use Rattle.lk_block.specs.Parts.{parts_at, ArePartsIn}
 use Rattle.lk_declaration.specs.Checked.{IsCheckOutcome}
 use Rattle.lk_block.specs.Stages.{sorts_stage}
@@ -17,8 +18,11 @@ check_from_sorts-requires-clause-stated_in g c = subst (λ (d : Contents). All (
 pub check_from_sorts-requires-clause-parts_in : goal.check_from_sorts-requires-clause-parts_in
 check_from_sorts-requires-clause-parts_in g c = subst (λ (d : Contents). ArePartsIn d c.args.parts) (sym c.give.ensures.contents) c.requires.parts_in
 
+pub check_from_sorts-requires-clause-locals : goal.check_from_sorts-requires-clause-locals
+check_from_sorts-requires-clause-locals g c = subst (λ (d : Contents). AreLocals (map (tree_at d) c.args.parts.parameters.items)) (sym c.give.ensures.contents) c.requires.locals
+
 pub check_from_sorts-requires-clause-place : goal.check_from_sorts-requires-clause-place
-check_from_sorts-requires-clause-place g c = same_place c.give.ensures.standing ∙ ap (λ b. g.A.Asks.places b Types) (sym (same_basis c.give.ensures.standing))
+check_from_sorts-requires-clause-place g c = same_place c.give.ensures.standing ∙ ap (λ b. g.A.Asks.places b Types []) (sym (same_basis c.give.ensures.standing))
 
 pub returns-clause-outcome : goal.returns-clause-outcome
 returns-clause-outcome g c fuel enough =
