@@ -1,6 +1,6 @@
 //! The verdicts of a library's units, in their order.
 
-ghost use Rattle.std.specs.Prelude.{◌≡◌, ◌<◌, true, length, map, IfOk};
+ghost use Rattle.std.specs.Prelude.{◌≡◌, ◌<◌, [], true, length, map, IfOk};
 ghost use Rattle.lk_rulebook.specs.Scan.{are_new};
 ghost use Rattle.lk_rulebook.specs.Units.{members_of, place_of, Members};
 ghost use Rattle.lk_verdict.specs.GoodUnit.{IsClearLibrary};
