@@ -1,9 +1,9 @@
 -- What is known of every larger block that the walk finds: it has the levels of the block.
-use Rattle.std.proofs.Common.{◌≡◌, ℕ, List, [], ◌∷◌, ◌++◌, map, Option, None, Some, Ok, Err, Result, refl, subst, IfOk}
+use Rattle.std.proofs.Common.{◌≡◌, List, [], ◌∷◌, ◌++◌, Option, None, Some, Ok, Err, Result, refl, subst, IfOk}
 use Rattle.std.specs.Prelude.{IfSome}
 use Rattle.lk_tree.specs.Tree.{Name}
 use Rattle.lk_tree.specs.declared.rule.Rule.{Rule}
-use Rattle.lk_rulebook.specs.Place.{Place, Entry, Block, BlockType}
+use Rattle.lk_rulebook.specs.Place.{Place, Entry, BlockType}
 use Rattle.lk_plain.specs.Program.{Program, done, refuse, ask, look}
 use Rattle.lk_ask.specs.declared.stop.Stop.{Stop}
 use Rattle.lk_inductive.specs.Block.{levels_of}

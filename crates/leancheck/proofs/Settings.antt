@@ -3,7 +3,7 @@ use Rattle.std.proofs.Common.{◌≡◌, ◌<◌, ℕ, List, length, map, All, a
 use Rattle.lk_tree.specs.Tree.{Name, Tree, param}
 use Rattle.lk_store.specs.Contents.{Contents, name_at, tree_at, IsList}
 use Rattle.lk_env.specs.declared.unit.Block.{Block}
-use Rattle.lk_env.specs.Units.{block_at, IsTypeIn}
+use Rattle.lk_env.specs.Units.{block_at}
 use Rattle.lk_inductive.specs.Block.{levels_of}
 use Rattle.lk_inductive.specs.Enlarged.{Setting as PlainSetting, setting_of}
 use Rattle.lk_mentions.proofs.TypeNames.{numbers_of, names_are}

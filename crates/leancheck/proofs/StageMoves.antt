@@ -1,14 +1,13 @@
 -- Stages from the larger block on, told of what is equal, and of what a store stands for once it has grown.
-use Rattle.std.proofs.Common.{◌≡◌, ℕ, List, [], ◌∷◌, map, Result, refl, ap, sym, subst, ◌∙◌, All}
+use Rattle.std.proofs.Common.{◌≡◌, ℕ, List, [], ◌∷◌, map, Result, refl, ap, subst, ◌∙◌}
 use Rattle.std.proofs.lemmas.List.Elements.{All-weaker}
-use Rattle.lk_tree.specs.Tree.{Tree, Name, param, const}
+use Rattle.lk_tree.specs.Tree.{Tree, param, const}
 use Rattle.lk_tree.specs.Spine.{apply}
 use Rattle.lk_rulebook.specs.Place.{Block, BlockRecursor}
 use Rattle.lk_plain.specs.Program.{Table}
-use Rattle.lk_plain.specs.Erased.{Out}
 use Rattle.lk_ask.specs.declared.stop.Stop.{Stop}
-use Rattle.lk_store.specs.Contents.{Contents, name_at, tree_at, Extends}
-use Rattle.lk_env.proofs.Stays.{types_stay, types_in_stay}
+use Rattle.lk_store.specs.Contents.{Contents, name_at, Extends}
+use Rattle.lk_env.proofs.Stays.{types_stay}
 use Rattle.lk_inductive.specs.Block.{AreLocals}
 use Rattle.lk_inductive.specs.BlockSteps.{TypeParts as PlainParts}
 use Rattle.lk_inductive.specs.Enlarged.{Setting, Larger as PlainLarger}
@@ -18,7 +17,7 @@ use Rattle.lk_enlarge.specs.declared.larger.Larger.{Larger}
 use Rattle.lk_enlarge.specs.Larger.{larger_at, IsLargerIn}
 use Rattle.lk_restore.specs.declared.originals.Original.{Original}
 use Rattle.lk_restore.specs.declared.originals.Original.TheVariants.{Applied, Renamed}
-use Rattle.lk_restore.specs.Originals.{IsStanding, AreStanding, AreReadOver, at_own}
+use Rattle.lk_restore.specs.Originals.{IsStanding, AreStanding, AreReadOver}
 use Rattle.lk_block.specs.Stages.{Places, shape_stage, auxiliary_stage, larger_stage}
 use Rattle.leancheck.proofs.Staging.{moved_five}
 

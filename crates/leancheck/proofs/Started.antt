@@ -1,5 +1,5 @@
 -- What names mean while a unit is at work.
-use Rattle.std.proofs.Common.{◌≡◌, ℕ, Bool, true, false, List, [], ◌∷◌, ◌++◌, Option, None, Some, refl, ap, sym, ◌∙◌}
+use Rattle.std.proofs.Common.{◌≡◌, ℕ, Bool, true, false, List, [], ◌∷◌, ◌++◌, None, Some, refl, ap, sym, ◌∙◌}
 use Rattle.std.specs.Prelude.{slice_get, if◌then◌else◌}
 use Rattle.lk_rulebook.specs.Scan.{is_none, are_new}
 use Rattle.lk_rulebook.specs.Units.{LibraryUnit, of_decl, of_block, Library, Members, members_of, first_giving, place_of}
@@ -9,7 +9,7 @@ use Rattle.lk_env.specs.declared.entry.Partial.TheVariants.{Nothing, Types, Memb
 use Rattle.lk_env.specs.declared.entry.Site.{Site}
 use Rattle.lk_env.specs.declared.unit.Unit.{Unit as StoredUnit}
 use Rattle.lk_env.specs.Units.{library_of}
-use Rattle.lk_env.specs.Places.{partial_of, partial_first, partial_last, partial_beside, new_among, first_at, last_at, beside_at, place_beside}
+use Rattle.lk_env.specs.Places.{partial_of, partial_first, partial_last, partial_beside, new_among, beside_at, place_beside}
 use Rattle.lk_env.specs.Scopes.{only_types}
 use Rattle.lk_env.proofs.Partial as partial
 use Rattle.lk_env.proofs.Scoped.{parted}

@@ -13,12 +13,11 @@ use Rattle.lk_verdict.specs.Told.{accepted, rejected, out_of_steps}
 use Rattle.lk_ask.specs.declared.stop.Stop.{Stop}
 use Rattle.lk_ask.specs.declared.stop.Stop.TheVariants.{No, Spent, NoMemory}
 use Rattle.lk_ask.specs.Asking.{Standing}
-use Rattle.lk_env.specs.declared.entry.Partial.{Partial}
 use Rattle.lk_declaration.specs.Courses.{run_then, ComesTo}
 use Rattle.lk_declaration.specs.Checked.{IsCheckOutcome}
 use Rattle.lk_declaration.proofs.Settled.{checked_on, checked_stop}
 use Rattle.lk_declaration.proofs.Stepwise.{courses_are_steps}
-use Rattle.lk_block.specs.Stages.{block_stages, ends}
+use Rattle.lk_block.specs.Stages.{Places, block_stages, ends}
 use Rattle.leancheck.specs.Rows.{verdict_of, questions_of, stages_verdict}
 use Rattle.leancheck.specs.Held.{IsPlain, result_verdict}
 

@@ -1,6 +1,4 @@
-use Rattle.std.proofs.Common.{map, ap, sym, subst, ◌<◌, All, ◌∙◌, []}
-use Rattle.lk_plain.specs.Program.{done}
-use Rattle.lk_questions.specs.Declarations.{checked}
+use Rattle.std.proofs.Common.{map, ap, sym, subst, ◌<◌, ◌∙◌, []}
 use Rattle.lk_store.specs.Contents.{tree_at, level_at}
 use Rattle.lk_subst.specs.Numbers.{trees-steady}
 use Rattle.lk_env.specs.Units.{block_at, type_at, recursor_at}

@@ -1,4 +1,4 @@
-use Rattle.std.proofs.Common.{◌≡◌, map, ap, sym, subst, All, ◌++◌, ◌∙◌, arith}
+use Rattle.std.proofs.Common.{map, ap, sym, subst, All, ◌∙◌, arith}
 use Rattle.std.proofs.lemmas.List.{map-append}
 use Rattle.lk_store.specs.Contents.{tree_at}
 use Rattle.lk_env.specs.Units.{block_at, type_at, recursor_at, IsTypeIn}

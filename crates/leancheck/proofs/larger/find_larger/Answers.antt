@@ -4,7 +4,6 @@ use Rattle.lk_store.specs.Contents.{tree_at}
 use Rattle.lk_inductive.specs.Enlarged.{setting_of}
 use Rattle.lk_inductive.specs.Nested.{enlarge as enlarged}
 use Rattle.lk_mentions.proofs.TypeNames.{names_known}
-use Rattle.lk_nested.specs.Findings.{finding, Finds}
 use Rattle.lk_nested.proofs.Findings.{finds_gives}
 use Rattle.lk_enlarge.specs.Larger.{larger_or}
 use Rattle.leancheck.proofs.Enlarging.{larger_levels, finds_moved}

@@ -1,11 +1,6 @@
-use Rattle.std.proofs.Common.{◌<◌, ℕ, length, All, subst, sym, ap, ◌∙◌}
-use Rattle.std.specs.Prelude.{Vec}
-use Rattle.std.specs.declared.alloc.Global.{Global}
-use Rattle.std.proofs.lemmas.List.Elements.{All-push}
-use Rattle.lk_store.specs.Contents.{Contents}
-use Rattle.lk_lists.proofs.Lists.{first_has, rest_have}
+use Rattle.std.proofs.Common.{◌∙◌}
+use Rattle.lk_lists.proofs.Lists.{rest_have}
 use Rattle.lk_auxiliary.specs.Auxiliaries.{IsAuxiliaryIn}
-use Rattle.lk_block.specs.Parts.{AreListsIn}
 use Rattle.leancheck.proofs.LargerParts.{lists_next, lists_known}
 use Rattle.leancheck.proofs.larger.larger_parts.Goals as goal
 
