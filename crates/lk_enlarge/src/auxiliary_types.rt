@@ -112,7 +112,10 @@ fn nest_draft<F: Families>(
     ensures nests { Finds (draft_nests (F.standing asks.old).place
         (setting_at (F.contents asks.old) setting.now) number
         (draft_at (F.contents asks.old) draft) (auxs_at (F.contents asks.old) auxs.old.items))
-        (λ k. (constructor_at (F.contents asks.new) k, auxs_at (F.contents asks.new) auxs.new.items))
+        (λ k. (
+          constructor_at (F.contents asks.new) k,
+          auxs_at (F.contents asks.new) auxs.new.items,
+        ))
         result }
 {
     let e = nest(alloc, asks, setting, auxs, pairs, draft.ty)?;

@@ -51,8 +51,8 @@ fn unit_recursor(unit: &Unit, kind: Kind) -> Option<(&Recursor, &[RecursorRule])
 
 /// The recursor of an entry, where it is one, with the rules that are given: none while it is partial. It takes no memory.
 pub fn recursor_of<L: Lends>(library: &L, entry: Entry) -> Option<(&Recursor, &[RecursorRule])>
-    ensures value { (g : PlainEntry) → plain_entry (contents_of (L.lent library.now).0) (L.lent library.now).1 entry
-        ≡ Some g
+    ensures value { (g : PlainEntry)
+        → plain_entry (contents_of (L.lent library.now).0) (L.lent library.now).1 entry ≡ Some g
         → recursor_in g.kind ≡ option_map
         (λ p. given_recursor (contents_of (L.lent library.now).0) p.0.now p.1.now) result }
     ensures known { IfSome result (λ p. IsRecursorIn (contents_of (L.lent library.now).0) p.0.now
@@ -97,8 +97,8 @@ fn unit_member(unit: &Unit, kind: Kind) -> Option<(&Block, &BlockType, &Construc
 
 /// The constructor of an entry, with its block and its type, where it is one. It takes no memory.
 pub fn member_of<L: Lends>(library: &L, entry: Entry) -> Option<(&Block, &BlockType, &Constructor)>
-    ensures value { (g : PlainEntry) → plain_entry (contents_of (L.lent library.now).0) (L.lent library.now).1 entry
-        ≡ Some g
+    ensures value { (g : PlainEntry)
+        → plain_entry (contents_of (L.lent library.now).0) (L.lent library.now).1 entry ≡ Some g
         → member_in g.kind ≡ option_map
         (λ p. member_at (contents_of (L.lent library.now).0) p.0.now p.1.now p.2.now) result }
     ensures known { IfSome result
@@ -112,8 +112,8 @@ pub fn member_of<L: Lends>(library: &L, entry: Entry) -> Option<(&Block, &BlockT
 
 /// The constructor of an entry, with its type, where it is one. It takes no memory.
 pub fn constructor_of<L: Lends>(library: &L, entry: Entry) -> Option<(&BlockType, &Constructor)>
-    ensures value { (g : PlainEntry) → plain_entry (contents_of (L.lent library.now).0) (L.lent library.now).1 entry
-        ≡ Some g
+    ensures value { (g : PlainEntry)
+        → plain_entry (contents_of (L.lent library.now).0) (L.lent library.now).1 entry ≡ Some g
         → constructor_in g.kind ≡ option_map
         (λ p. (
           type_at (contents_of (L.lent library.now).0) p.0.now,
@@ -159,8 +159,8 @@ fn unit_type(unit: &Unit, kind: Kind) -> Option<(&Block, &BlockType)>
 
 /// The type of a block that an entry is, with its block, where it is one. It takes no memory.
 pub fn type_of<L: Lends>(library: &L, entry: Entry) -> Option<(&Block, &BlockType)>
-    ensures value { (g : PlainEntry) → plain_entry (contents_of (L.lent library.now).0) (L.lent library.now).1 entry
-        ≡ Some g
+    ensures value { (g : PlainEntry)
+        → plain_entry (contents_of (L.lent library.now).0) (L.lent library.now).1 entry ≡ Some g
         → type_in g.kind ≡ option_map (λ p. (
           block_at (contents_of (L.lent library.now).0) p.0.now,
           type_at (contents_of (L.lent library.now).0) p.1.now,
@@ -176,8 +176,9 @@ pub fn type_of<L: Lends>(library: &L, entry: Entry) -> Option<(&Block, &BlockTyp
 
 /// The number of parameters of an entry that is a type of a block. It takes no memory.
 pub fn parameter_count<L: Lends>(library: &L, entry: Entry) -> Option<u64>
-    ensures { (g : PlainEntry) → plain_entry (contents_of (L.lent library.now).0) (L.lent library.now).1 entry
-        ≡ Some g → result ≡ parameters_in g.kind }
+    ensures { (g : PlainEntry)
+        → plain_entry (contents_of (L.lent library.now).0) (L.lent library.now).1 entry ≡ Some g
+        → result ≡ parameters_in g.kind }
 {
     match type_of(library, entry) {
         Some((_, ty)) => Some(ty.parameters),

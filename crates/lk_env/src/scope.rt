@@ -199,7 +199,8 @@ impl<'a> Scope<'a> {
         ensures library { IfOk result (λ s. s.2 ≡ library.now) }
         ensures auxiliary { IfOk result (λ s. auxiliary_members
             (contents_of (over store.now.0 store.now.1)) s.3
-            ≡ alone_members (map (type_at (contents_of (over store.now.0 store.now.1))) types.now)) }
+            ≡ alone_members
+            (map (type_at (contents_of (over store.now.0 store.now.1))) types.now)) }
     {
         let auxiliary = all_alone(alloc, types)?;
         let Some(count) = library.units().len().checked_add(auxiliary.len()) else {

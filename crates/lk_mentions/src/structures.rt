@@ -71,8 +71,8 @@ pub fn structure_of<L: Lends, T: Terms>(
     requires over { Extends (contents_of (L.lent library.now).0) (T.contents terms.now) }
     ensures known { IfOk result (λ s. IfSome s
         (λ s. s.inductive < length (T.contents terms.now).names)) }
-    ensures is { (g : PlainEntry) → plain_entry (contents_of (L.lent library.now).0) (L.lent library.now).1 entry
-        ≡ Some g
+    ensures is { (g : PlainEntry)
+        → plain_entry (contents_of (L.lent library.now).0) (L.lent library.now).1 entry ≡ Some g
         → IfOk result (λ s. IsStructureIf (T.contents terms.now) s (structure_in g.kind)) }
 {
     match member_of(library, entry) {
@@ -136,8 +136,9 @@ pub fn unit_parameters_of<L: Lends, T: Terms>(
     entry: Entry,
 ) -> Result<Option<u64>, NoMemory>
     requires over { Extends (contents_of (L.lent library.now).0) (T.contents terms.now) }
-    ensures { (g : PlainEntry) → plain_entry (contents_of (L.lent library.now).0) (L.lent library.now).1 entry
-        ≡ Some g → IfOk result (λ n. n ≡ unit_in g.kind) }
+    ensures { (g : PlainEntry)
+        → plain_entry (contents_of (L.lent library.now).0) (L.lent library.now).1 entry ≡ Some g
+        → IfOk result (λ n. n ≡ unit_in g.kind) }
 {
     match type_of(library, entry) {
         Some((block, ty)) => match only(&ty.constructors) {

@@ -68,8 +68,9 @@ fn structure_by(ty: &BlockType, number: usize, unit: u32) -> Option<Structure>
 pub(crate) fn structure_of<L: Lends>(library: &L, entry: Entry) -> Option<Structure>
     ensures known { IfSome result
         (λ s. s.constructor.stated < length (contents_of (L.lent library.now).0).trees) }
-    ensures is { (g : PlainEntry) → plain_entry (contents_of (L.lent library.now).0) (L.lent library.now).1 entry
-        ≡ Some g → IsStructureIf (L.lent library.now) result (structure_in g.kind) }
+    ensures is { (g : PlainEntry)
+        → plain_entry (contents_of (L.lent library.now).0) (L.lent library.now).1 entry ≡ Some g
+        → IsStructureIf (L.lent library.now) result (structure_in g.kind) }
 {
     match entry.kind {
         Kind::Type(number) => match type_of(library, entry) {

@@ -89,8 +89,9 @@ fn constructor_part(ty: &BlockType) -> Option<Part>
 fn parts_of<L: Lends>(library: &L, entry: Entry) -> Option<Parts>
     requires { IsEntryIn (contents_of (L.lent library.now).0) entry }
     ensures known { IfSome result (ArePartsIn (contents_of (L.lent library.now).0)) }
-    ensures is { (g : PlainEntry) → plain_entry (contents_of (L.lent library.now).0) (L.lent library.now).1 entry
-        ≡ Some g → plain_is_eq g g.kind ≡ are_eq_parts (contents_of (L.lent library.now).0) result }
+    ensures is { (g : PlainEntry)
+        → plain_entry (contents_of (L.lent library.now).0) (L.lent library.now).1 entry ≡ Some g
+        → plain_is_eq g g.kind ≡ are_eq_parts (contents_of (L.lent library.now).0) result }
 {
     let level = only(levels_of(library, entry))?;
     let (block, ty) = type_of(library, entry)?;
