@@ -2,7 +2,7 @@
 use Rattle.std.proofs.Common.{◌≡◌, ℕ, List, [], ◌∷◌, ◌++◌, length, map, drop, refl, All, ◌<◌, sym, ap, subst, ◌∙◌, append_assoc}
 use Rattle.std.specs.Prelude.{Vec}
 use Rattle.std.specs.declared.alloc.Global.{Global}
-use Rattle.std.proofs.lemmas.List.{append-nil, map-append}
+use Rattle.std.proofs.lemmas.List.{map-append}
 use Rattle.std.proofs.lemmas.List.Elements.{All-push}
 use Rattle.lk_store.specs.Contents.{Contents, tree_at}
 use Rattle.lk_inductive.specs.BlockSteps.{TypeParts as PlainParts}
@@ -27,9 +27,6 @@ module _ (c : Contents) (indices : List (Vec ℕ Global)) where
   lists_known longer v rest more first pushed same split own stand =
       let last : All (λ x. x < length c.trees) v.items = subst (All (λ x. x < length c.trees)) (sym same) (first_has (IsAuxiliaryIn c) rest first more split stand).indices_in in
       subst (AreListsIn c) (sym pushed) (All-push (λ (ys : Vec ℕ Global). All (λ x. x < length c.trees) ys.items) indices v own last)
-
-  pub lists_end : (rest : List Auxiliary) → rest ≡ [] → lists_at c indices ++ aux_indices (auxs_at c rest) ≡ lists_at c indices
-  lists_end rest none = ap (λ as_. lists_at c indices ++ aux_indices (auxs_at c as_)) none ∙ append-nil (lists_at c indices)
 
 -- the second part, where the first has so many
 passed : {X : Type 0} (xs ys : List X) → drop (length xs) (xs ++ ys) ≡ ys
