@@ -176,6 +176,7 @@ range_rises n = λ k l.
     omega (arith, a, b)
 
 pub axioms_listed : (us : Library) (n : ℕ) → IsListOf (IsAxiomOf us n) (axioms_of us n)
+unfolding axioms_of
 axioms_listed us n = record { rising = IsStrictlyIncreasing-filter (has_axiom us n) (range_with_len 0 (suc n)) (range_rises (suc n)); each = each; all = all }
   where
     each : (k : ℕ) → Contains (axioms_of us n) k → IsAxiomOf us n k

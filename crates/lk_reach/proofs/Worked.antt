@@ -51,9 +51,9 @@ proj_mentions = record { unit = _; stands = refl; name = name 97; has = inl refl
 
 -- computed
 b_has_both : axioms_of three 2 ≡ 0 ∷ 2 ∷ []
-unfolding name_discrete part_discrete list_discrete both_discrete ℕ_discrete
+unfolding axioms_of name_discrete part_discrete list_discrete both_discrete ℕ_discrete
 b_has_both = refl
 
 c_has_a : axioms_of three 1 ≡ 0 ∷ []
-unfolding name_discrete part_discrete list_discrete both_discrete ℕ_discrete
+unfolding axioms_of name_discrete part_discrete list_discrete both_discrete ℕ_discrete
 c_has_a = refl

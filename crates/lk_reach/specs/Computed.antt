@@ -40,5 +40,5 @@ abbrev pub has_axiom : Library → ℕ → ℕ → Bool
 has_axiom us n k = axiom_at (slice_get us k) && reaches_within n us n k
 
 -- the axioms of unit n, in the order of the units
-abbrev pub axioms_of : Library → ℕ → List ℕ
+unfoldable pub axioms_of : Library → ℕ → List ℕ
 axioms_of us n = filter (has_axiom us n) (range_with_len 0 (suc n))
