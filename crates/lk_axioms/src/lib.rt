@@ -3,6 +3,7 @@
 #![tactic(auto)]
 
 pub mod axioms;
+mod merge;
 mod sets;
 
 pub use axioms::{AxiomSets, uses};
