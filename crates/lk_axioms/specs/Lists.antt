@@ -1,6 +1,7 @@
 -- The axioms of each unit of a library, and sets by their numbers.
 use Rattle.std.specs.Prelude.{ℕ, ◌≡◌, ◌<◌, ◌≤◌, ◌⊎◌, List, [], length, map, slice_index_or}
 use Rattle.std.specs.List.{Contains, range_with_len}
+use Rattle.std.specs.List.Sorted.{IsStrictlyIncreasing}
 use Rattle.lk_rulebook.specs.Units.{Library}
 use Rattle.lk_reach.specs.Computed.{axioms_of}
 
@@ -27,4 +28,5 @@ pub record IsUnion (xs ys zs : List ℕ) : Type 0 where
 pub record IsUnited (old new : List (List ℕ)) (a b r : ℕ) : Type 0 where
   pub keeps : Keeps old new
   pub set_in : r < length new
+  pub rising : IsStrictlyIncreasing (set_at new r)
   pub union : IsUnion (set_at old a) (set_at old b) (set_at new r)

@@ -3,7 +3,10 @@
 #![tactic(auto)]
 
 pub mod axioms;
+mod finding;
+mod gathering;
 mod merge;
 mod sets;
+mod visit;
 
 pub use axioms::{AxiomSets, uses};

@@ -83,13 +83,15 @@ impl Sets {
         requires b_in { b < length self.old }
         ensures { IfOk result (IsUnited self.old self.new a b) }
     {
-        if a == b || self.get(b).is_empty() {
+        let xs = self.get(a);
+        let ys = self.get(b);
+        if a == b || ys.is_empty() {
             return Ok(a);
         }
-        if self.get(a).is_empty() {
+        if xs.is_empty() {
             return Ok(b);
         }
-        let list = merge(alloc, self.get(a), self.get(b))?;
+        let list = merge(alloc, xs, ys)?;
         self.add_union(a, b, list)
     }
 }

@@ -1,0 +1,34 @@
+-- What is known once the units before unit n are done.
+use Rattle.std.specs.Prelude.{ℕ, ◌≡◌, ◌<◌, List, [], length, slice_index_or}
+use Rattle.lk_rulebook.specs.Units.{Library}
+use Rattle.lk_store.specs.Contents.{Contents, tree_at}
+use Rattle.lk_axioms.specs.declared.finding.Finding.{Finding}
+use Rattle.lk_axioms.specs.declared.gathering.Gathering.{Gathering}
+use Rattle.lk_axioms.specs.Lists.{set_at, Keeps}
+use Rattle.lk_axioms.specs.Gives.{TreeGives, IsFinding, IsJoined, cell_at, IsKnown, IsSetOfUnit}
+
+pub record IsRight (c : Contents) (us : Library) (n : ℕ) (g : Gathering) : Type 0 where
+  pub empty_in : 0 < length g.sets
+  pub empty : set_at g.sets 0 ≡ []
+  pub one_each : length g.cells.items ≡ length c.trees
+  pub cells : (e : ℕ) → e < length c.trees → IsFinding (TreeGives us (tree_at c e)) n g.sets (cell_at g.cells.items e)
+  pub count : length g.units.items ≡ n
+  pub units : (m : ℕ) → m < n → IsSetOfUnit us g.sets m (slice_index_or g.units.items m 0)
+
+-- what is known stays known
+abbrev pub StaysKnown : ℕ → Gathering → Gathering → Type 0
+StaysKnown n old new = (e : ℕ) → IsKnown n old.cells.items e → IsKnown n new.cells.items e
+
+-- sets may have come, and a finding of P is made that holds at unit n
+pub record IsMade (P : ℕ → ℕ → Type 0) (n : ℕ) (old new : Gathering) (f : Finding) : Type 0 where
+  pub keeps : Keeps old.sets new.sets
+  pub cells : new.cells.items ≡ old.cells.items
+  pub units : new.units.items ≡ old.units.items
+  pub finding : IsFinding P n new.sets f
+  pub known : n < f.below
+
+-- two findings are joined, and nothing else is new
+pub record AreJoined (old new : Gathering) (a b r : Finding) : Type 0 where
+  pub joined : IsJoined old.sets new.sets a b r
+  pub cells : new.cells.items ≡ old.cells.items
+  pub units : new.units.items ≡ old.units.items

@@ -1,0 +1,123 @@
+//! The walk that gathers axioms, tree by tree.
+
+ghost use Rattle.std.specs.Prelude.{◌≡◌, ◌<◌, ◌+◌, length, IfOk, OnOk};
+ghost use Rattle.lk_store.specs.Contents.{name_at, tree_at, tree_of, IsIn};
+ghost use Rattle.lk_store.specs.Store.{contents_of};
+ghost use Rattle.lk_seek.specs.Trees.{parts_back};
+ghost use Rattle.lk_env.specs.Units.{library_of};
+ghost use Rattle.lk_axioms.specs.Gives.{NameGives, TreeGives, IsFinding, cell_at, IsKnown, AreKnown};
+ghost use Rattle.lk_axioms.specs.Gathered.{IsRight, StaysKnown, IsMade, AreJoined};
+ghost use Rattle.lk_axioms.specs.Walks.{IsNodeOf, IsEntered};
+
+use crate::finding::{Finding, NOTHING, join};
+use crate::sets::Sets;
+use crate::visit::{Visit, open};
+use lk_env::library::Library;
+use lk_store::base_store::BaseStore;
+use lk_store::memory::NoMemory;
+use lk_store::node::Node;
+use std::alloc::Global;
+
+/// What is known while the units are gone through in their order.
+#[derive(Drop)]
+pub(crate) struct Gathering {
+    pub sets: Sets,
+    /// What was found in each tree of the store.
+    pub cells: Vec<Finding>,
+    /// The number of each unit's set, of the units that are done.
+    pub units: Vec<u32>,
+}
+
+/// The axioms of the first unit that gives the name, if it is a unit before this one.
+fn named(library: &Library, gathering: &Gathering, unit: u32, name: u64) -> Finding
+    requires right { IsRight (contents_of library.now.0) (library_of library.now) unit gathering.now }
+    requires name_in { name < length (contents_of library.now.0).names }
+    requires few { unit + 1 < 4294967296 }
+    ensures finding { IsFinding (NameGives (library_of library.now)
+        (name_at (contents_of library.now.0) name)) unit gathering.now.sets result }
+    ensures known { unit < result.below }
+{
+    match library.position_of(name) {
+        None => NOTHING,
+        Some(p) if p.unit < unit => Finding {
+            set: gathering.units[p.unit as usize],
+            below: u32::MAX,
+        },
+        Some(p) => Finding {
+            set: 0,
+            below: p.unit.saturating_add(1),
+        },
+    }
+}
+
+/// A finding and that of a tree together.
+fn join_with(
+    alloc: Global,
+    gathering: &mut Gathering,
+    a: Finding,
+    e: u64,
+) -> Result<Finding, NoMemory>
+    requires a_in { a.set < length gathering.old.sets }
+    requires e_in { e < length gathering.old.cells.items }
+    requires cell_in { (cell_at gathering.old.cells.items e).set < length gathering.old.sets }
+    ensures { IfOk result (AreJoined gathering.old gathering.new a
+        (cell_at gathering.old.cells.items e)) }
+{
+    join(
+        alloc,
+        &mut gathering.sets,
+        a,
+        gathering.cells[e as usize],
+    )
+}
+
+/// What was found in two trees together.
+fn join_parts(
+    alloc: Global,
+    gathering: &mut Gathering,
+    a: u64,
+    b: u64,
+) -> Result<Finding, NoMemory>
+    requires a_in { a < length gathering.old.cells.items }
+    requires a_cell_in { (cell_at gathering.old.cells.items a).set < length gathering.old.sets }
+    requires b_in { b < length gathering.old.cells.items }
+    requires b_cell_in { (cell_at gathering.old.cells.items b).set < length gathering.old.sets }
+    ensures { IfOk result (AreJoined gathering.old gathering.new
+        (cell_at gathering.old.cells.items a) (cell_at gathering.old.cells.items b)) }
+{
+    let first = gathering.cells[a as usize];
+    join_with(alloc, gathering, first, b)
+}
+
+/// What is found in the tree of a node whose parts are known.
+fn find_in_node(
+    alloc: Global,
+    library: &Library,
+    gathering: &mut Gathering,
+    unit: u32,
+    node: Node,
+) -> Result<Finding, NoMemory>
+    requires right { IsRight (contents_of library.now.0) (library_of library.now) unit gathering.old }
+    requires few { unit + 1 < 4294967296 }
+    requires node_in { IsIn (contents_of library.now.0) node }
+    requires parts { AreKnown unit gathering.old.cells.items (parts_back node) }
+    ensures { IfOk result (IsMade (TreeGives (library_of library.now)
+        (tree_of (contents_of library.now.0) node)) unit gathering.old gathering.new) }
+{
+    match node {
+        Node::Var(_) | Node::Sort(_) | Node::Lit(_) | Node::Wide | Node::Str(_) => Ok(NOTHING),
+        Node::Local(_, _) => Ok(NOTHING),
+        Node::Const(name, _) => Ok(named(library, gathering, unit, name)),
+        Node::Proj(name, _, e) => {
+            let own = named(library, gathering, unit, name);
+            join_with(alloc, gathering, own, e)
+        }
+        Node::App(a, b) => join_parts(alloc, gathering, a, b),
+        Node::Lam(a, b) => join_parts(alloc, gathering, a, b),
+        Node::Pi(a, b) => join_parts(alloc, gathering, a, b),
+        Node::Let(a, b, c) => {
+            let two = join_parts(alloc, gathering, a, b)?;
+            join_with(alloc, gathering, two, c)
+        }
+    }
+}
