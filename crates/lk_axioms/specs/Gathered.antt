@@ -32,3 +32,9 @@ pub record AreJoined (old new : Gathering) (a b r : Finding) : Type 0 where
   pub joined : IsJoined old.sets new.sets a b r
   pub cells : new.cells.items ≡ old.cells.items
   pub units : new.units.items ≡ old.units.items
+
+-- what a tree leads to is known
+pub record IsLeft (c : Contents) (us : Library) (n e : ℕ) (old new : Gathering) : Type 0 where
+  pub right : IsRight c us n new
+  pub stays : StaysKnown n old new
+  pub known : IsKnown n new.cells.items e

@@ -6,7 +6,7 @@ ghost use Rattle.lk_store.specs.Store.{contents_of};
 ghost use Rattle.lk_seek.specs.Trees.{parts_back};
 ghost use Rattle.lk_env.specs.Units.{library_of};
 ghost use Rattle.lk_axioms.specs.Gives.{NameGives, TreeGives, IsFinding, cell_at, IsKnown, AreKnown};
-ghost use Rattle.lk_axioms.specs.Gathered.{IsRight, StaysKnown, IsMade, AreJoined};
+ghost use Rattle.lk_axioms.specs.Gathered.{IsRight, IsMade, AreJoined, IsLeft};
 ghost use Rattle.lk_axioms.specs.Walks.{IsNodeOf, IsEntered};
 
 use crate::finding::{Finding, NOTHING, join};
@@ -120,4 +120,69 @@ fn find_in_node(
             join_with(alloc, gathering, two, c)
         }
     }
+}
+
+/// Keeps what is found in a tree whose parts are known.
+fn leave(
+    alloc: Global,
+    library: &Library,
+    gathering: &mut Gathering,
+    unit: u32,
+    e: u64,
+    node: Node,
+) -> Result<(), NoMemory>
+    requires right { IsRight (contents_of library.now.0) (library_of library.now) unit gathering.old }
+    requires few { unit + 1 < 4294967296 }
+    requires is_node { IsNodeOf (contents_of library.now.0) e node }
+    requires parts { AreKnown unit gathering.old.cells.items (parts_back node) }
+    ensures { OnOk result (IsLeft (contents_of library.now.0) (library_of library.now) unit e
+        gathering.old gathering.new) }
+{
+    let finding = find_in_node(alloc, library, gathering, unit, node)?;
+    gathering.cells[e as usize] = finding;
+    Ok(())
+}
+
+/// Opens a tree, unless what was found in it is known.
+fn enter(
+    base: &BaseStore,
+    gathering: &Gathering,
+    stack: &mut Vec<Visit>,
+    unit: u32,
+    e: u64,
+) -> Result<(), NoMemory>
+    requires one_each { length gathering.now.cells.items ≡ length (contents_of base.now).trees }
+    requires tree_in { e < length (contents_of base.now).trees }
+    ensures { OnOk result (IsEntered (contents_of base.now) unit gathering.now.cells.items e
+        stack.old.items stack.new.items) }
+{
+    if unit < gathering.cells[e as usize].below {
+        return Ok(());
+    }
+    open(base, stack, e)
+}
+
+/// Gathers what a tree leads to: a walk over its parts, which opens those where it is not known.
+pub(crate) fn gather(
+    alloc: Global,
+    library: &Library,
+    gathering: &mut Gathering,
+    unit: u32,
+    tree: u64,
+) -> Result<(), NoMemory>
+    requires right { IsRight (contents_of library.now.0) (library_of library.now) unit gathering.old }
+    requires few { unit + 1 < 4294967296 }
+    requires tree_in { tree < length (contents_of library.now.0).trees }
+    ensures { OnOk result (IsLeft (contents_of library.now.0) (library_of library.now) unit tree
+        gathering.old gathering.new) }
+{
+    let mut stack: Vec<Visit> = Vec::new(alloc);
+    stack.push(Visit::Enter(tree))?;
+    'walk: while let Some(visit) = stack.pop() {
+        match visit {
+            Visit::Enter(e) => enter(library.base(), gathering, &mut stack, unit, e)?,
+            Visit::Leave(e, node) => leave(alloc, library, gathering, unit, e, node)?,
+        }
+    }
+    Ok(())
 }
