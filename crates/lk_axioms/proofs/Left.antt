@@ -1,5 +1,5 @@
 -- What is known stays known while sets come and findings are kept.
-use Rattle.std.proofs.Common.{ℕ, ◌≡◌, ◌≢◌, ◌<◌, ◌⊎◌, inl, inr, List, length, get_or, set, refl, sym, ap, subst, ◌∙◌, arith, get_or-set_same, get_or-set_other}
+use Rattle.std.proofs.Common.{ℕ, ◌≡◌, ◌≢◌, ◌<◌, inl, inr, length, get_or, set, sym, ap, subst, ◌∙◌, arith, get_or-set_same, get_or-set_other}
 use Rattle.std.proofs.lemmas.Bool.{cases_eq}
 use Rattle.std.proofs.Math.ListN.{length-set}
 use Rattle.lk_rulebook.specs.Units.{Library}
@@ -72,4 +72,4 @@ module _ (c : Contents) (us : Library) (n : ℕ) (old mid new : Gathering) (e : 
   ]
 
   pub left : IsLeft c us n e old new
-  left = record { right = kept_right; stays = stays; known = known_here }
+  left = record { right = kept_right; keeps = subst (Keeps old.sets) (sym sets) m.keeps; stays = stays; known = known_here }

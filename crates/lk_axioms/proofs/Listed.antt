@@ -1,6 +1,5 @@
 -- Lists of just the numbers with a property, and findings.
-use Rattle.std.proofs.Common.{ℕ, zero, suc, ◌≡◌, ◌+◌, ◌<◌, ◌≤◌, ◌⊎◌, inl, inr, List, [], ◌∷◌, length, min, refl, sym, subst, ◌∙◌, arith}
-use Rattle.std.specs.List.{Contains}
+use Rattle.std.proofs.Common.{ℕ, ◌+◌, ◌⊎◌, inl, inr, List, [], refl, sym, subst, ◌∙◌, arith}
 use Rattle.std.specs.List.Sorted.{IsStrictlyIncreasing}
 use Rattle.lk_reach.specs.Axioms.{IsListOf}
 use Rattle.lk_axioms.specs.declared.finding.Finding.{Finding}
@@ -46,5 +45,5 @@ pub finds_both : (P Q R : ℕ → ℕ → Type 0) (n : ℕ) (old new : List (Lis
 finds_both P Q R n old new a b r p q j from left right = record {
   set_in = j.united.set_in;
   holds = λ m l below. union_listed (P m) (Q m) (R m) (set_at old a.set) (set_at old b.set) (set_at new r.set) j.united.rising j.united.union
-    (p.holds m l (omega (arith, below, j.below))) (q.holds m l (omega (arith, below, j.below))) (from m) (left m) (right m);
+      (p.holds m l (omega (arith, below, j.below))) (q.holds m l (omega (arith, below, j.below))) (from m) (left m) (right m);
 }

@@ -1,5 +1,5 @@
 -- What a name gives, by the unit that gives it first.
-use Rattle.std.proofs.Common.{ℕ, zero, suc, ◌≡◌, ◌+◌, ◌<◌, ◌≤◌, List, [], take, nat_lt, Option, Some, None, length, refl, sym, ap, subst, ◌∙◌, arith}
+use Rattle.std.proofs.Common.{ℕ, ◌≡◌, ◌+◌, ◌<◌, ◌≤◌, List, [], take, nat_lt, Option, Some, None, length, refl, sym, ap, subst, ◌∙◌, arith}
 use Rattle.std.specs.Prelude.{option_map}
 use Rattle.std.proofs.lemmas.Bool.{cond-true, cond-false, lt-ltb, le-ltb}
 use Rattle.lk_tree.specs.Tree.{Name}
@@ -8,7 +8,6 @@ use Rattle.lk_reach.specs.Axioms.{IsListOf, IsAxiomOf}
 use Rattle.lk_env.specs.Places.{position_in, position_below}
 use Rattle.lk_env.proofs.Given.{unit_is}
 use Rattle.lk_env.proofs.Before.{position_before_is}
-use Rattle.lk_axioms.specs.declared.finding.Finding.{Finding}
 use Rattle.lk_axioms.specs.Lists.{set_at}
 use Rattle.lk_axioms.specs.Gives.{NameGives, IsFinding, IsSetOfUnit}
 use Rattle.lk_axioms.proofs.Listed.{none_listed, listed_as}

@@ -1,5 +1,5 @@
 -- What the trees of nodes give.
-use Rattle.std.proofs.Common.{ℕ, ◌≡◌, ◌+◌, ◌<◌, ◌≤◌, ◌⊎◌, inl, inr, Bool, true, false, List, [], ◌∷◌, length, refl, sym, ap, subst, ◌∙◌, arith}
+use Rattle.std.proofs.Common.{ℕ, ◌≡◌, ◌<◌, ◌⊎◌, inl, inr, Bool, true, false, List, [], ◌∷◌, length, refl, sym, subst, ◌∙◌, arith}
 use Rattle.std.specs.Prelude.{◌||◌}
 use Rattle.lk_tree.specs.Tree.{Name, name_discrete, Level, Tree, const, app}
 use Rattle.lk_tree.specs.Mentions.{mentions}
@@ -7,10 +7,10 @@ use Rattle.lk_rulebook.specs.Units.{Library}
 use Rattle.lk_reach.specs.Axioms.{IsListOf}
 use Rattle.lk_axioms.specs.declared.finding.Finding.{Finding}
 use Rattle.lk_axioms.specs.declared.gathering.Gathering.{Gathering}
-use Rattle.lk_axioms.specs.Lists.{set_at, Keeps}
+use Rattle.lk_axioms.specs.Lists.{set_at}
 use Rattle.lk_axioms.specs.Gives.{NameGives, TreeGives, IsFinding}
 use Rattle.lk_axioms.specs.Gathered.{IsMade, AreJoined}
-use Rattle.lk_axioms.proofs.Listed.{none_listed, Keeps-refl, Keeps-trans, still, finds_as, finds_both}
+use Rattle.lk_axioms.proofs.Listed.{none_listed, Keeps-refl, Keeps-trans, finds_as, finds_both}
 
 one_true : (a b : Bool) → (a || b) ≡ true → (a ≡ true) ⊎ (b ≡ true)
 one_true true b h = inl refl

@@ -1,7 +1,7 @@
 -- What is found in a node, by what is known of its parts.
-use Rattle.std.proofs.Common.{ℕ, ◌≡◌, ◌+◌, ◌<◌, ◌≤◌, List, [], ◌∷◌, length, Result, Ok, Err, refl, sym, ap, subst, ◌∙◌, arith}
+use Rattle.std.proofs.Common.{ℕ, ◌≡◌, ◌<◌, [], ◌∷◌, length, Result, Ok, Err, refl, sym, ap, subst}
 use Rattle.std.specs.Prelude.{IfOk}
-use Rattle.lk_tree.specs.Tree.{Name, Tree, const, app}
+use Rattle.lk_tree.specs.Tree.{Tree, const, app}
 use Rattle.lk_tree.specs.Mentions.{mentions}
 use Rattle.lk_rulebook.specs.Units.{Library}
 use Rattle.lk_store.specs.Contents.{Contents, name_at, list_at, tree_at, tree_of, IsIn}
@@ -16,7 +16,7 @@ use Rattle.lk_axioms.specs.Gathered.{IsRight, IsMade, AreJoined}
 use Rattle.lk_axioms.proofs.Listed.{still}
 use Rattle.lk_axioms.proofs.Nodes.{or_assoc, IsLike, found_name, made_here, made_as, made_two, made_after}
 
-if_ok : {A : Type 0} (P Q : A → Type 0) (r : Result A NoMemory) → ((x : A) → P x → Q x) → IfOk r P → IfOk r Q
+pub if_ok : {A : Type 0} (P Q : A → Type 0) (r : Result A NoMemory) → ((x : A) → P x → Q x) → IfOk r P → IfOk r Q
 if_ok P Q (Ok x) f h = f x h
 if_ok P Q (Err e) f h = tt
 
@@ -63,10 +63,10 @@ module _ (c : Contents) (us : Library) (n : ℕ) (g : Gathering) (right : IsRigh
         let first : Tree = app (tree_at c x) (tree_at c v) in
         let whole : Tree = tree_of c (node.Let x v b) in
         let made : IsMade (TreeGives us first) n g mid two =
-          made_two us (tree_at c x) (tree_at c v) n g mid (cell_at g.cells.items x) (cell_at g.cells.items v) two (right.cells x here.0) known.1.1.0 (right.cells v here.1) known.1.0 j in
+        made_two us (tree_at c x) (tree_at c v) n g mid (cell_at g.cells.items x) (cell_at g.cells.items v) two (right.cells x here.0) known.1.1.0 (right.cells v here.1) known.1.0 j in
         let same : cell_at mid.cells.items b ≡ cell_at g.cells.items b = ap (λ cells. cell_at cells b) made.cells in
         let last : IsFinding (TreeGives us (tree_at c b)) n mid.sets (cell_at mid.cells.items b) =
-          subst (IsFinding (TreeGives us (tree_at c b)) n mid.sets) (sym same) (still (TreeGives us (tree_at c b)) n g.sets mid.sets (cell_at g.cells.items b) made.keeps (right.cells b here.2)) in
+        subst (IsFinding (TreeGives us (tree_at c b)) n mid.sets) (sym same) (still (TreeGives us (tree_at c b)) n g.sets mid.sets (cell_at g.cells.items b) made.keeps (right.cells b here.2)) in
         let below : n < (cell_at mid.cells.items b).below = subst (λ f. n < f.below) (sym same) known.0 in
         let like : IsLike whole (app first (tree_at c b)) = record { mentioned = λ z. or_assoc (mentions (z ∷ []) (tree_at c x)) (mentions (z ∷ []) (tree_at c v)) (mentions (z ∷ []) (tree_at c b)) } in
         rw e (if_ok (AreJoined mid new two (cell_at mid.cells.items b)) (IsMade (TreeGives us whole) n g new) r

@@ -1,21 +1,16 @@
 -- A walk that is under way: what waits on its stack.
-use Rattle.std.proofs.Common.{ℕ, ◌≡◌, ◌≢◌, ◌+◌, ◌<◌, ◌≤◌, ◌⊎◌, inl, inr, List, [], ◌∷◌, ◌++◌, map, length, get_or, set, refl, sym, ap, subst, ◌∙◌, arith, get_or-set_same, get_or-set_other}
-use Rattle.std.proofs.Math.ListN.{length-set}
+use Rattle.std.proofs.Common.{ℕ, ◌≡◌, ◌+◌, ◌<◌, ◌⊎◌, inl, inr, List, [], ◌∷◌, ◌++◌, map, length, refl, sym, ap, subst, ◌∙◌, arith}
 use Rattle.std.proofs.lemmas.List.{append-nil}
-use Rattle.std.proofs.lemmas.Bool.{cases_eq}
-use Rattle.lk_tree.specs.Tree.{Tree}
-use Rattle.lk_rulebook.specs.Units.{Library}
 use Rattle.lk_store.specs.Contents.{Contents, tree_at, tree_of, IsIn}
 use Rattle.lk_store.specs.declared.node.Node.{Node}
 use Rattle.lk_store.specs.declared.node.Node.TheVariants as node
 use Rattle.lk_seek.specs.Costs.{tree_cost}
 use Rattle.lk_seek.specs.Trees.{parts_back}
 use Rattle.lk_axioms.specs.declared.finding.Finding.{Finding}
-use Rattle.lk_axioms.specs.declared.gathering.Gathering.{Gathering}
 use Rattle.lk_axioms.specs.declared.visit.Visit.{Visit}
 use Rattle.lk_axioms.specs.declared.visit.Visit.TheVariants.{Enter, Leave}
 use Rattle.lk_axioms.specs.Gives.{IsKnown, AreKnown}
-use Rattle.lk_axioms.specs.Walks.{IsNodeOf, IsOpened, IsEntered}
+use Rattle.lk_axioms.specs.Walks.{IsNodeOf, IsEntered}
 
 -- a tree waits on the stack
 abbrev pub Waits : ℕ → List Visit → Type 0

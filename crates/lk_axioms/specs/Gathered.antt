@@ -1,11 +1,13 @@
 -- What is known once the units before unit n are done.
-use Rattle.std.specs.Prelude.{ℕ, ◌≡◌, ◌<◌, List, [], length, slice_index_or}
+use Rattle.std.specs.Prelude.{ℕ, ◌≡◌, ◌<◌, List, [], ◌∷◌, length, slice_index_or}
+use Rattle.std.specs.List.Sorted.{IsStrictlyIncreasing}
 use Rattle.lk_rulebook.specs.Units.{Library}
+use Rattle.lk_reach.specs.Axioms.{IsListOf}
 use Rattle.lk_store.specs.Contents.{Contents, tree_at}
 use Rattle.lk_axioms.specs.declared.finding.Finding.{Finding}
 use Rattle.lk_axioms.specs.declared.gathering.Gathering.{Gathering}
-use Rattle.lk_axioms.specs.Lists.{set_at, Keeps}
-use Rattle.lk_axioms.specs.Gives.{TreeGives, IsFinding, IsJoined, cell_at, IsKnown, IsSetOfUnit}
+use Rattle.lk_axioms.specs.Lists.{set_at, Keeps, IsUnion}
+use Rattle.lk_axioms.specs.Gives.{TreeGives, TreesGive, IsFinding, IsJoined, cell_at, IsKnown, IsSetOfUnit}
 
 pub record IsRight (c : Contents) (us : Library) (n : ℕ) (g : Gathering) : Type 0 where
   pub empty_in : 0 < length g.sets
@@ -36,5 +38,24 @@ pub record AreJoined (old new : Gathering) (a b r : Finding) : Type 0 where
 -- what a tree leads to is known
 pub record IsLeft (c : Contents) (us : Library) (n e : ℕ) (old new : Gathering) : Type 0 where
   pub right : IsRight c us n new
+  pub keeps : Keeps old.sets new.sets
   pub stays : StaysKnown n old new
   pub known : IsKnown n new.cells.items e
+
+-- a set is what these trees lead to at unit n
+pub record AreGathered (c : Contents) (us : Library) (n : ℕ) (es : List ℕ) (new : Gathering) (set : ℕ) : Type 0 where
+  pub right : IsRight c us n new
+  pub set_in : set < length new.sets
+  pub listed : IsListOf (TreesGive c us es n) (set_at new.sets set)
+
+-- a set is that of unit n
+pub record IsUnitGathered (c : Contents) (us : Library) (n : ℕ) (new : Gathering) (set : ℕ) : Type 0 where
+  pub right : IsRight c us n new
+  pub unit_set : IsSetOfUnit us new.sets n set
+
+-- the unit's own number is added to a set
+pub record HasItself (old new : List (List ℕ)) (n set r : ℕ) : Type 0 where
+  pub keeps : Keeps old new
+  pub set_in : r < length new
+  pub rising : IsStrictlyIncreasing (set_at new r)
+  pub union : IsUnion (set_at old set) (n ∷ []) (set_at new r)

@@ -1,8 +1,7 @@
 -- The walk through a tree, its last visit on top.
-use Rattle.std.specs.Prelude.{ℕ, ◌≡◌, ◌<◌, ◌+◌, ◌⊎◌, List, [], ◌∷◌, ◌++◌, map, length}
+use Rattle.std.specs.Prelude.{ℕ, ◌≡◌, ◌<◌, ◌⊎◌, List, ◌∷◌, ◌++◌, map, length}
 use Rattle.lk_store.specs.Contents.{Contents, tree_at, tree_of, IsIn}
 use Rattle.lk_store.specs.declared.node.Node.{Node}
-use Rattle.lk_seek.specs.Costs.{tree_cost}
 use Rattle.lk_seek.specs.Trees.{parts_back}
 use Rattle.lk_axioms.specs.declared.visit.Visit.{Visit}
 use Rattle.lk_axioms.specs.declared.visit.Visit.TheVariants.{Enter, Leave}

@@ -1,14 +1,18 @@
 //! The axioms of each unit of a library.
 
-ghost use Rattle.std.specs.Prelude.{◌≡◌, ◌<◌, [], length, IfOk, slice_index_or};
+ghost use Rattle.std.specs.Prelude.{◌≡◌, ◌<◌, [], length, map, All, IfOk, slice_index_or};
 ghost use Rattle.lk_env.specs.Units.{library_of};
-ghost use Rattle.lk_axioms.specs.Lists.{axiom_lists};
+ghost use Rattle.lk_axioms.specs.Lists.{axiom_lists, set_at};
 
+use crate::gathering::Gathering;
 use crate::sets::Sets;
+use crate::units::gather_units;
 use lk_env::library::Library;
 use lk_store::memory::NoMemory;
+use lk_store::terms::Terms;
 use std::alloc::Global;
 use std::marker::Model;
+use std::mem::drop;
 
 /// For each unit its axioms. Units with the same axioms mostly share one set.
 #[derive(Drop)]
@@ -39,9 +43,21 @@ impl AxiomSets {
     }
 }
 
+/// The sets as they were gathered.
+fn finish(gathering: Gathering) -> AxiomSets
+    requires { All (λ k. k < length gathering.sets) gathering.units.items }
+    ensures { result ≡ map (set_at gathering.sets) gathering.units.items }
+{
+    let Gathering { sets, cells, units } = gathering;
+    drop(cells);
+    AxiomSets { sets, units }
+}
+
 /// The axioms of each unit: itself where it is one, and all that its names lead to.
 pub fn uses(alloc: Global, library: &Library) -> Result<AxiomSets, NoMemory>
     ensures { IfOk result (λ sets. sets ≡ axiom_lists (library_of library.now)) }
 {
-    Err(NoMemory)
+    let mut gathering = Gathering::new(alloc, library.base().len())?;
+    gather_units(alloc, library, &mut gathering)?;
+    Ok(finish(gathering))
 }

@@ -21,6 +21,9 @@ pub(crate) const NOTHING: Finding = Finding {
     below: u32::MAX,
 };
 
+/// Of a tree that was not walked yet. It holds at no unit.
+pub(crate) const NOWHERE: Finding = Finding { set: 0, below: 0 };
+
 /// The finding of two together.
 pub(crate) fn join(
     alloc: Global,

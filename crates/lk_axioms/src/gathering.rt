@@ -1,7 +1,8 @@
 //! The walk that gathers axioms, tree by tree.
 
-ghost use Rattle.std.specs.Prelude.{◌≡◌, ◌<◌, ◌+◌, length, IfOk, OnOk};
-ghost use Rattle.lk_store.specs.Contents.{name_at, tree_at, tree_of, IsIn};
+ghost use Rattle.std.specs.Prelude.{◌≡◌, ◌<◌, ◌+◌, List, length, IfOk, OnOk};
+ghost use Rattle.lk_rulebook.specs.Units.{LibraryUnit};
+ghost use Rattle.lk_store.specs.Contents.{Contents, name_at, tree_at, tree_of, IsIn};
 ghost use Rattle.lk_store.specs.Store.{contents_of};
 ghost use Rattle.lk_seek.specs.Trees.{parts_back};
 ghost use Rattle.lk_env.specs.Units.{library_of};
@@ -9,7 +10,7 @@ ghost use Rattle.lk_axioms.specs.Gives.{NameGives, TreeGives, IsFinding, cell_at
 ghost use Rattle.lk_axioms.specs.Gathered.{IsRight, IsMade, AreJoined, IsLeft};
 ghost use Rattle.lk_axioms.specs.Walks.{IsNodeOf, IsEntered};
 
-use crate::finding::{Finding, NOTHING, join};
+use crate::finding::{Finding, NOTHING, NOWHERE, join};
 use crate::sets::Sets;
 use crate::visit::{Visit, open};
 use lk_env::library::Library;
@@ -26,6 +27,23 @@ pub(crate) struct Gathering {
     pub cells: Vec<Finding>,
     /// The number of each unit's set, of the units that are done.
     pub units: Vec<u32>,
+}
+
+impl Gathering {
+    /// Nothing is known yet of so many trees, and no unit is done.
+    pub(crate) fn new(alloc: Global, trees: u64) -> Result<Gathering, NoMemory>
+        ensures { IfOk result (λ g. (c : Contents) (us : List LibraryUnit)
+            → length c.trees ≡ trees → IsRight c us 0 g) }
+    {
+        let sets = Sets::new(alloc)?;
+        let mut cells = Vec::new(alloc);
+        cells.resize(trees as usize, NOWHERE)?;
+        Ok(Gathering {
+            sets,
+            cells,
+            units: Vec::new(alloc),
+        })
+    }
 }
 
 /// The axioms of the first unit that gives the name, if it is a unit before this one.
@@ -63,21 +81,11 @@ fn join_with(
     ensures { IfOk result (AreJoined gathering.old gathering.new a
         (cell_at gathering.old.cells.items e)) }
 {
-    join(
-        alloc,
-        &mut gathering.sets,
-        a,
-        gathering.cells[e as usize],
-    )
+    join(alloc, &mut gathering.sets, a, gathering.cells[e as usize])
 }
 
 /// What was found in two trees together.
-fn join_parts(
-    alloc: Global,
-    gathering: &mut Gathering,
-    a: u64,
-    b: u64,
-) -> Result<Finding, NoMemory>
+fn join_parts(alloc: Global, gathering: &mut Gathering, a: u64, b: u64) -> Result<Finding, NoMemory>
     requires a_in { a < length gathering.old.cells.items }
     requires a_cell_in { (cell_at gathering.old.cells.items a).set < length gathering.old.sets }
     requires b_in { b < length gathering.old.cells.items }

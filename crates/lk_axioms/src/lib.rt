@@ -7,6 +7,8 @@ mod finding;
 mod gathering;
 mod merge;
 mod sets;
+mod stated;
+mod units;
 mod visit;
 
 pub use axioms::{AxiomSets, uses};
