@@ -1,9 +1,13 @@
 -- What is known once the units before unit n are done.
-use Rattle.std.specs.Prelude.{ℕ, ◌≡◌, ◌<◌, List, [], ◌∷◌, length, slice_index_or}
+use Rattle.std.specs.Prelude.{ℕ, ◌≡◌, ◌<◌, ◌+◌, List, [], ◌∷◌, length, slice_index_or}
 use Rattle.std.specs.List.Sorted.{IsStrictlyIncreasing}
 use Rattle.lk_rulebook.specs.Units.{Library}
 use Rattle.lk_reach.specs.Axioms.{IsListOf}
 use Rattle.lk_store.specs.Contents.{Contents, tree_at}
+use Rattle.lk_store.specs.Store.{contents_of}
+use Rattle.lk_store.specs.declared.tables.Tables.{Tables}
+use Rattle.lk_env.specs.declared.unit.Unit.{Unit as StoredUnit}
+use Rattle.lk_env.specs.Units.{library_of}
 use Rattle.lk_axioms.specs.declared.finding.Finding.{Finding}
 use Rattle.lk_axioms.specs.declared.gathering.Gathering.{Gathering}
 use Rattle.lk_axioms.specs.Lists.{set_at, Keeps, IsUnion}
@@ -16,6 +20,14 @@ pub record IsRight (c : Contents) (us : Library) (n : ℕ) (g : Gathering) : Typ
   pub cells : (e : ℕ) → e < length c.trees → IsFinding (TreeGives us (tree_at c e)) n g.sets (cell_at g.cells.items e)
   pub count : length g.units.items ≡ n
   pub units : (m : ℕ) → m < n → IsSetOfUnit us g.sets m (slice_index_or g.units.items m 0)
+
+-- the same of the library of a store's tables and units
+abbrev pub IsRightFor : Tables × List StoredUnit → ℕ → Gathering → Type 0
+IsRightFor l n g = IsRight (contents_of l.0) (library_of l) n g
+
+-- the number of a unit, of fewer than 2 ^ 32
+abbrev pub IsUnitNumber : ℕ → Type 0
+IsUnitNumber n = n + 1 < 4294967296
 
 -- what is known stays known
 abbrev pub StaysKnown : ℕ → Gathering → Gathering → Type 0

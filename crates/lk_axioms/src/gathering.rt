@@ -7,7 +7,8 @@ ghost use Rattle.lk_store.specs.Store.{contents_of};
 ghost use Rattle.lk_seek.specs.Trees.{parts_back};
 ghost use Rattle.lk_env.specs.Units.{library_of};
 ghost use Rattle.lk_axioms.specs.Gives.{NameGives, TreeGives, IsFinding, cell_at, IsKnown, AreKnown};
-ghost use Rattle.lk_axioms.specs.Gathered.{IsRight, IsMade, AreJoined, IsLeft};
+ghost use Rattle.lk_axioms.specs.Gathered.{IsRight, IsRightFor, IsUnitNumber, IsMade};
+ghost use Rattle.lk_axioms.specs.Gathered.{AreJoined, IsLeft};
 ghost use Rattle.lk_axioms.specs.Walks.{IsNodeOf, IsEntered};
 
 use crate::finding::{Finding, NOTHING, NOWHERE, join};
@@ -48,9 +49,9 @@ impl Gathering {
 
 /// The axioms of the first unit that gives the name, if it is a unit before this one.
 fn named(library: &Library, gathering: &Gathering, unit: u32, name: u64) -> Finding
-    requires right { IsRight (contents_of library.now.0) (library_of library.now) unit gathering.now }
+    requires right { IsRightFor library.now unit gathering.now }
     requires name_in { name < length (contents_of library.now.0).names }
-    requires few { unit + 1 < 4294967296 }
+    requires few { IsUnitNumber unit }
     ensures finding { IsFinding (NameGives (library_of library.now)
         (name_at (contents_of library.now.0) name)) unit gathering.now.sets result }
     ensures known { unit < result.below }
@@ -105,8 +106,8 @@ fn find_in_node(
     unit: u32,
     node: Node,
 ) -> Result<Finding, NoMemory>
-    requires right { IsRight (contents_of library.now.0) (library_of library.now) unit gathering.old }
-    requires few { unit + 1 < 4294967296 }
+    requires right { IsRightFor library.now unit gathering.old }
+    requires few { IsUnitNumber unit }
     requires node_in { IsIn (contents_of library.now.0) node }
     requires parts { AreKnown unit gathering.old.cells.items (parts_back node) }
     ensures { IfOk result (IsMade (TreeGives (library_of library.now)
@@ -139,8 +140,8 @@ fn leave(
     e: u64,
     node: Node,
 ) -> Result<(), NoMemory>
-    requires right { IsRight (contents_of library.now.0) (library_of library.now) unit gathering.old }
-    requires few { unit + 1 < 4294967296 }
+    requires right { IsRightFor library.now unit gathering.old }
+    requires few { IsUnitNumber unit }
     requires is_node { IsNodeOf (contents_of library.now.0) e node }
     requires parts { AreKnown unit gathering.old.cells.items (parts_back node) }
     ensures { OnOk result (IsLeft (contents_of library.now.0) (library_of library.now) unit e
@@ -178,8 +179,8 @@ pub(crate) fn gather(
     unit: u32,
     tree: u64,
 ) -> Result<(), NoMemory>
-    requires right { IsRight (contents_of library.now.0) (library_of library.now) unit gathering.old }
-    requires few { unit + 1 < 4294967296 }
+    requires right { IsRightFor library.now unit gathering.old }
+    requires few { IsUnitNumber unit }
     requires tree_in { tree < length (contents_of library.now.0).trees }
     ensures { OnOk result (IsLeft (contents_of library.now.0) (library_of library.now) unit tree
         gathering.old gathering.new) }
@@ -188,8 +189,12 @@ pub(crate) fn gather(
     stack.push(Visit::Enter(tree))?;
     'walk: while let Some(visit) = stack.pop() {
         match visit {
-            Visit::Enter(e) => enter(library.base(), gathering, &mut stack, unit, e)?,
-            Visit::Leave(e, node) => leave(alloc, library, gathering, unit, e, node)?,
+            Visit::Enter(e) => {
+                enter(library.base(), gathering, &mut stack, unit, e)?;
+            }
+            Visit::Leave(e, node) => {
+                leave(alloc, library, gathering, unit, e, node)?;
+            }
         }
     }
     Ok(())

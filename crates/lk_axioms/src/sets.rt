@@ -59,8 +59,7 @@ impl Sets {
         Ok(set)
     }
 
-    /// The number of a set that is the union of two: one of theirs, where it has the other's numbers
-    /// too.
+    /// The number of a set that is the union of two: one of theirs, where that has all numbers.
     fn add_union(&mut self, a: u32, b: u32, list: Vec<u32>) -> Result<u32, NoMemory>
         requires a_in { a < length self.old }
         requires b_in { b < length self.old }

@@ -5,7 +5,8 @@ ghost use Rattle.lk_reach.specs.Axioms.{is_axiom as is_axiom_unit};
 ghost use Rattle.lk_store.specs.Contents.{Contents};
 ghost use Rattle.lk_store.specs.Store.{contents_of};
 ghost use Rattle.lk_env.specs.Units.{unit_at, library_of, IsUnitIn};
-ghost use Rattle.lk_axioms.specs.Gathered.{IsRight, AreGathered, IsUnitGathered, HasItself};
+ghost use Rattle.lk_axioms.specs.Gathered.{IsRightFor, IsUnitNumber, AreGathered, IsUnitGathered};
+ghost use Rattle.lk_axioms.specs.Gathered.{HasItself};
 
 use crate::gathering::{Gathering, gather};
 use crate::sets::Sets;
@@ -23,8 +24,8 @@ fn gather_trees(
     unit: u32,
     trees: &[u64],
 ) -> Result<u32, NoMemory>
-    requires right { IsRight (contents_of library.now.0) (library_of library.now) unit gathering.old }
-    requires few { unit + 1 < 4294967296 }
+    requires right { IsRightFor library.now unit gathering.old }
+    requires few { IsUnitNumber unit }
     requires trees_in { All (λ e. e < length (contents_of library.now.0).trees) trees.now }
     ensures { IfOk result (AreGathered (contents_of library.now.0) (library_of library.now) unit
         trees.now gathering.new) }
@@ -65,8 +66,8 @@ fn gather_unit(
     unit: u32,
     stated: &Unit,
 ) -> Result<u32, NoMemory>
-    requires right { IsRight (contents_of library.now.0) (library_of library.now) unit gathering.old }
-    requires few { unit + 1 < 4294967296 }
+    requires right { IsRightFor library.now unit gathering.old }
+    requires few { IsUnitNumber unit }
     requires stands { slice_get (library_of library.now) unit
         ≡ Some (unit_at (contents_of library.now.0) stated.now) }
     requires stated_in { IsUnitIn (contents_of library.now.0) stated.now }
@@ -90,13 +91,12 @@ fn push_unit(
     unit: u32,
     stated: &Unit,
 ) -> Result<(), NoMemory>
-    requires right { IsRight (contents_of library.now.0) (library_of library.now) unit gathering.old }
-    requires few { unit + 1 < 4294967296 }
+    requires right { IsRightFor library.now unit gathering.old }
+    requires few { IsUnitNumber unit }
     requires stands { slice_get (library_of library.now) unit
         ≡ Some (unit_at (contents_of library.now.0) stated.now) }
     requires stated_in { IsUnitIn (contents_of library.now.0) stated.now }
-    ensures { OnOk result (IsRight (contents_of library.now.0) (library_of library.now) (unit + 1)
-        gathering.new) }
+    ensures { OnOk result (IsRightFor library.now (unit + 1) gathering.new) }
 {
     let set = gather_unit(alloc, library, gathering, unit, stated)?;
     gathering.units.push(set)?;
@@ -109,9 +109,8 @@ pub(crate) fn gather_units(
     library: &Library,
     gathering: &mut Gathering,
 ) -> Result<(), NoMemory>
-    requires { IsRight (contents_of library.now.0) (library_of library.now) 0 gathering.old }
-    ensures { OnOk result (IsRight (contents_of library.now.0) (library_of library.now)
-        (length library.now.1) gathering.new) }
+    requires { IsRightFor library.now 0 gathering.old }
+    ensures { OnOk result (IsRightFor library.now (length library.now.1) gathering.new) }
 {
     let units = library.units();
     if units.len() > u32::MAX as usize {

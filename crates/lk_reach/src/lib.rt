@@ -14,8 +14,8 @@ pub fn reached_units_are_earlier()
     ensures reached { (us : Library) (n k : ℕ) → Reaches us n k → k ≤ n }
 {}
 
-/// The axioms of a unit are those of the units that it mentions, and itself where it is one: so they
-/// can be gathered in the order of the units.
+/// The axioms of a unit are those of the units that it mentions, and itself where it is one: so
+/// they can be gathered in the order of the units.
 pub fn axioms_are_gathered()
     ensures own { (us : Library) (n : ℕ) → IsAxiomUnit us n → IsAxiomOf us n n }
     ensures mentioned { (us : Library) (n m k : ℕ) → Mentions us n m → IsAxiomOf us m k
