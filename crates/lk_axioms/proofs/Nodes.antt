@@ -5,24 +5,13 @@ use Rattle.lk_tree.specs.Tree.{Name, name_discrete, Level, Tree, const, app}
 use Rattle.lk_tree.specs.Mentions.{mentions}
 use Rattle.lk_rulebook.specs.Units.{Library}
 use Rattle.lk_reach.specs.Axioms.{IsListOf}
+use Rattle.lk_reach.proofs.Computed.{one_true, or_left, or_right}
 use Rattle.lk_axioms.specs.declared.finding.Finding.{Finding}
 use Rattle.lk_axioms.specs.declared.gathering.Gathering.{Gathering}
 use Rattle.lk_axioms.specs.Lists.{set_at}
 use Rattle.lk_axioms.specs.Gives.{NameGives, TreeGives, IsFinding}
 use Rattle.lk_axioms.specs.Gathered.{IsMade, AreJoined}
 use Rattle.lk_axioms.proofs.Listed.{none_listed, Keeps-refl, Keeps-trans, finds_as, finds_both}
-
-one_true : (a b : Bool) → (a || b) ≡ true → (a ≡ true) ⊎ (b ≡ true)
-one_true true b h = inl refl
-one_true false b h = inr h
-
-or_left : (a b : Bool) → a ≡ true → (a || b) ≡ true
-or_left true b h = refl
-or_left false b h = absurd cc
-
-or_right : (a b : Bool) → b ≡ true → (a || b) ≡ true
-or_right true b h = refl
-or_right false b h = h
 
 pub or_assoc : (a b d : Bool) → (a || (b || d)) ≡ ((a || b) || d)
 or_assoc true b d = refl

@@ -1,4 +1,4 @@
--- What is known once the units before unit n are done.
+-- What is known while the units are gone through in their order.
 use Rattle.std.specs.Prelude.{ℕ, ◌≡◌, ◌<◌, ◌+◌, List, [], ◌∷◌, length, slice_index_or}
 use Rattle.std.specs.List.Sorted.{IsStrictlyIncreasing}
 use Rattle.lk_rulebook.specs.Units.{Library}
@@ -13,6 +13,7 @@ use Rattle.lk_axioms.specs.declared.gathering.Gathering.{Gathering}
 use Rattle.lk_axioms.specs.Lists.{set_at, Keeps, IsUnion}
 use Rattle.lk_axioms.specs.Gives.{TreeGives, TreesGive, IsFinding, IsJoined, cell_at, IsKnown, IsSetOfUnit}
 
+-- the units before unit n are done: their sets are their axioms, and what is kept of a tree is right from unit n on
 pub record IsRight (c : Contents) (us : Library) (n : ℕ) (g : Gathering) : Type 0 where
   pub empty_in : 0 < length g.sets
   pub empty : set_at g.sets 0 ≡ []

@@ -57,3 +57,27 @@ b_has_both = refl
 c_has_a : axioms_of three 1 ≡ 0 ∷ []
 unfolding axioms_of name_discrete part_discrete list_discrete both_discrete ℕ_discrete
 c_has_a = refl
+
+-- axiom a : b; axiom b : Prop: a name that a later unit gives adds nothing
+abbrev later : Library
+later = stated 97 (const (name 98) []) as_axiom ∷ stated 98 (sort zero_level) as_axiom ∷ []
+
+later_adds_nothing : axioms_of later 0 ≡ 0 ∷ []
+unfolding axioms_of name_discrete part_discrete list_discrete both_discrete ℕ_discrete
+later_adds_nothing = refl
+
+-- a constant of quotient types q : Prop; def c : Prop := q
+abbrev over_quotient : Library
+over_quotient = stated 97 (sort zero_level) as_quot ∷ stated 98 (sort zero_level) (as_def abbreviation (const (name 97) [])) ∷ []
+
+quotient_adds_nothing : axioms_of over_quotient 1 ≡ []
+unfolding axioms_of name_discrete part_discrete list_discrete both_discrete ℕ_discrete
+quotient_adds_nothing = refl
+
+-- two units of one name: the first is meant
+abbrev given_twice : Library
+given_twice = stated 97 (sort zero_level) (as_def abbreviation (sort zero_level)) ∷ stated 97 (sort zero_level) as_axiom ∷ stated 98 (const (name 97) []) as_axiom ∷ []
+
+first_is_meant : axioms_of given_twice 2 ≡ 2 ∷ []
+unfolding axioms_of name_discrete part_discrete list_discrete both_discrete ℕ_discrete
+first_is_meant = refl
