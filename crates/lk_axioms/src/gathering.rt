@@ -6,7 +6,7 @@ ghost use Rattle.lk_store.specs.Contents.{Contents, name_at, tree_at, tree_of, I
 ghost use Rattle.lk_store.specs.Store.{contents_of};
 ghost use Rattle.lk_seek.specs.Trees.{parts_back};
 ghost use Rattle.lk_env.specs.Units.{library_of};
-ghost use Rattle.lk_axioms.specs.Gives.{NameGives, TreeGives, IsFinding, cell_at, IsKnown, AreKnown};
+ghost use Rattle.lk_axioms.specs.Gives.{NameGives, TreeGives, IsFinding, cell_at, AreKnown};
 ghost use Rattle.lk_axioms.specs.Gathered.{IsRight, IsRightFor, IsUnitNumber, IsMade};
 ghost use Rattle.lk_axioms.specs.Gathered.{AreJoined, IsLeft};
 ghost use Rattle.lk_axioms.specs.Walks.{IsNodeOf, IsEntered};
