@@ -18,6 +18,9 @@ use Rattle.lk_auxiliary.specs.declared.auxiliary.Auxiliary.{Auxiliary}
 use Rattle.lk_auxiliary.specs.Auxiliaries.{auxs_at, IsAuxiliaryIn}
 use Rattle.lk_auxiliary.specs.Settings.{setting_at, IsSettingIn}
 use Rattle.lk_auxiliary.proofs.Others.{auxs_stay}
+use Rattle.lk_nested.proofs.Marking.{marks_stay, owns_stay}
+use Rattle.lk_enlarge.specs.declared.kept.Kept.{Kept}
+use Rattle.lk_enlarge.specs.Kept.{IsKept}
 
 module _ (c d : Contents) (x : Extends c d) where
   module _ (s : Setting) (h : IsSettingIn c s) where
@@ -36,6 +39,12 @@ module _ (c d : Contents) (x : Extends c d) where
         is = x.lists.same s.own_levels h.own_levels_are.known ∙ h.own_levels_are.is ∙ ap (map param) (sym levels_stay);
       };
       parameters_in = trees-known c d s.parameters.now x h.parameters_in;
+    }
+
+    pub kept_stays : (k : Kept) → IsKept c s k → IsKept d s k
+    kept_stays k kept = record {
+      marks = marks_stay c d x s.names.now h.names_in k.marks kept.marks;
+      own = owns_stay c d x s.parameters.now h.parameters_in k.own kept.own;
     }
 
     pub first_steady : (v w : Place) → v ≡ w → (ps qs : List Pair) → qs ≡ ps → (e : ℕ) → e < length c.trees

@@ -7,7 +7,9 @@ ghost use Rattle.lk_nested.specs.Joined.{nests, AreMet};
 ghost use Rattle.lk_nested.specs.Pairs.{pairs_at, ArePairsIn};
 ghost use Rattle.lk_auxiliary.specs.Auxiliaries.{auxs_at, IsAuxiliaryIn};
 ghost use Rattle.lk_auxiliary.specs.Settings.{setting_at, IsSettingIn};
+ghost use Rattle.lk_enlarge.specs.Kept.{IsKept};
 
+use crate::kept::Kept;
 use crate::meet::meet;
 use lk_ask::stop::Stop;
 use lk_auxiliary::auxiliary::Auxiliary;
@@ -25,11 +27,13 @@ pub fn nest<F: Families>(
     setting: &Setting<'_>,
     auxs: &mut Vec<Auxiliary>,
     pairs: &mut Vec<Pair>,
+    kept: &mut Kept,
     e: u64,
 ) -> Result<u64, Stop>
     requires setting_in { IsSettingIn (F.contents asks.old) setting.now }
     requires auxs_in { All (IsAuxiliaryIn (F.contents asks.old)) auxs.old.items }
     requires pairs_in { ArePairsIn (F.contents asks.old) pairs.old.items }
+    requires kept_in { IsKept (F.contents asks.old) setting.now kept.old }
     requires met { AreMet (F.standing asks.old).place
         (setting_at (F.contents asks.old) setting.now)
         (auxs_at (F.contents asks.old) auxs.old.items)
@@ -40,6 +44,7 @@ pub fn nest<F: Families>(
     ensures tree_known { IfOk result (λ r. r < length (F.contents asks.new).trees) }
     ensures known { OnOk result (All (IsAuxiliaryIn (F.contents asks.new)) auxs.new.items) }
     ensures pairs_known { OnOk result (ArePairsIn (F.contents asks.new) pairs.new.items) }
+    ensures kept_in { OnOk result (IsKept (F.contents asks.new) setting.now kept.new) }
     ensures met { OnOk result (AreMet (F.standing asks.old).place
         (setting_at (F.contents asks.old) setting.now)
         (auxs_at (F.contents asks.new) auxs.new.items)
@@ -50,8 +55,8 @@ pub fn nest<F: Families>(
         (λ r. (tree_at (F.contents asks.new) r, auxs_at (F.contents asks.new) auxs.new.items))
         result }
 {
-    'unmet: while let Some(o) = find_unmet(alloc, asks, setting.names, pairs, e)? {
-        let to = meet(alloc, asks, setting, auxs, o)?;
+    'unmet: while let Some(o) = find_unmet(alloc, asks, setting.names, &mut kept.marks, pairs, e)? {
+        let to = meet(alloc, asks, setting, auxs, kept, o)?;
         match pairs.push(Pair { from: o, to }) {
             Ok(_) => {}
             Err(_) => return Err(Stop::NoMemory),

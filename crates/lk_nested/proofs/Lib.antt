@@ -7,3 +7,5 @@ pub mod Swapping
 pub mod Findings
 pub mod Applied
 pub mod Walking
+pub mod Marking
+pub mod Quiet

@@ -1,3 +1,4 @@
+pub mod Marks
 pub mod Swaps
 pub mod Pairs
 pub mod Occurrences

@@ -5,7 +5,6 @@ use Rattle.lk_rulebook.specs.Place.{Place}
 use Rattle.lk_store.specs.Contents.{Contents, tree_at}
 use Rattle.lk_mentions.specs.declared.part.Met.{Met}
 use Rattle.lk_mentions.specs.Names.{names_at}
-use Rattle.lk_mentions.specs.Walks.{AreClear}
 use Rattle.lk_nested.specs.Nestings.{AreSpines}
 use Rattle.lk_nested.specs.declared.unmet.Seen.{Seen}
 use Rattle.lk_nested.specs.Unmet.{nothing, first_unmet}
@@ -15,6 +14,5 @@ abbrev pub AreDone : Place → List Name → List Tree → Contents → List Met
 AreDone w ns met c done = All (λ (m : Met). first_unmet w ns met (tree_at c m.tree) ≡ nothing) done
 
 pub record AreSeen (w : Place) (c : Contents) (ks : List ℕ) (met : List Tree) (s : Seen) : Type 0 where
-  pub clear : AreClear c ks s.clear
   pub done : AreDone w (names_at c ks) met c s.done
   pub spines : AreSpines c s.spines

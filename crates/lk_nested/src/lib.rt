@@ -4,6 +4,7 @@
 
 pub mod foreign;
 pub mod halt;
+pub mod marks;
 pub mod nested;
 pub mod spines;
 pub mod swap;

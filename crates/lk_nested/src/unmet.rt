@@ -1,9 +1,10 @@
 //! The first nested occurrence in a term that was not met.
 
-ghost use Rattle.std.specs.Prelude.{◌≡◌, ◌<◌, length, map, All, IfOk};
+ghost use Rattle.std.specs.Prelude.{◌≡◌, ◌<◌, true, length, All, IfOk};
+ghost use Rattle.lk_tree.specs.Mentions.{mentions};
 ghost use Rattle.lk_store.specs.Contents.{tree_at};
 ghost use Rattle.lk_mentions.specs.Names.{names_at};
-ghost use Rattle.lk_mentions.specs.Walks.{AreClear};
+ghost use Rattle.lk_nested.specs.Marks.{AreMarked};
 ghost use Rattle.lk_nested.specs.Nestings.{AreSpines};
 ghost use Rattle.lk_nested.specs.Pairs.{pairs_at, ArePairsIn};
 ghost use Rattle.lk_nested.specs.Joined.{occurrences};
@@ -13,6 +14,7 @@ ghost use Rattle.lk_nested.specs.Halts.{IsTested, IsMetTest, IsFirst};
 ghost use Rattle.lk_nested.specs.Sights.{AreSeen};
 
 use crate::halt::Halt;
+use crate::marks::{Mark, is_mentioning, mark_parts};
 use crate::nested::is_nested_application;
 use crate::spines::{Spine, function_of, keep_function, spine_of};
 use crate::swap::{Pair, instead};
@@ -32,28 +34,25 @@ use std::alloc::Global;
 /// What is kept of the terms that were walked, so that a part which terms share is walked once.
 #[derive(Drop)]
 pub struct Seen {
-    /// Those that mention no type of the block.
-    pub clear: Table<Met>,
     /// Those in which nothing is new.
     pub done: Table<Met>,
     /// The heads of applications.
     pub spines: Table<Spine>,
 }
 
-/// Whether a term is a nested occurrence itself. What is at its head is kept for its function.
+/// Whether a term that mentions a type of the block is a nested occurrence itself. What is at its head is kept for its
+/// function.
 fn is_occurrence<A: Asks>(
-    alloc: Global,
     asks: &A,
     names: &Names,
-    clear: &mut Table<Met>,
     spines: &mut Table<Spine>,
     e: u64,
 ) -> Result<bool, Stop>
     requires names_in { All (λ n. n < length (A.contents asks.now).names) names.now }
     requires tree_in { e < length (A.contents asks.now).trees }
-    requires clear { AreClear (A.contents asks.now) names.now clear.old }
     requires spines { AreSpines (A.contents asks.now) spines.old }
-    ensures clear { IfOk result (λ r. AreClear (A.contents asks.now) names.now clear.new) }
+    requires mentioning { mentions (names_at (A.contents asks.now) names.now)
+        (tree_at (A.contents asks.now) e) ≡ true }
     ensures spines { IfOk result (λ r. AreSpines (A.contents asks.now) spines.new) }
     ensures test { IsTested (test_at (A.standing asks.now).place
         (names_at (A.contents asks.now) names.now) (tree_at (A.contents asks.now) e)) result }
@@ -63,32 +62,32 @@ fn is_occurrence<A: Asks>(
         Some(f) => {
             let spine = spine_of(asks, spines, e)?;
             keep_function(asks, spines, spine, f)?;
-            is_nested_application(alloc, asks, names, clear, spine)
+            is_nested_application(asks, names, spine)
         }
     }
 }
 
-/// Whether a term is a nested occurrence itself that was met. One that was not met ends the search.
+/// Whether a term that mentions a type of the block is a nested occurrence itself that was met. One that was not met ends the
+/// search.
 fn is_met<A: Asks>(
-    alloc: Global,
     asks: &A,
     names: &Names,
     pairs: &[Pair],
-    seen: &mut Seen,
+    spines: &mut Table<Spine>,
     e: u64,
 ) -> Result<bool, Halt>
     requires names_in { All (λ n. n < length (A.contents asks.now).names) names.now }
     requires pairs_in { ArePairsIn (A.contents asks.now) pairs.now }
     requires tree_in { e < length (A.contents asks.now).trees }
-    requires seen { AreSeen (A.standing asks.now).place (A.contents asks.now) names.now
-        (occurrences (pairs_at (A.contents asks.now) pairs.now)) seen.old }
-    ensures seen { IfOk result (λ r. AreSeen (A.standing asks.now).place (A.contents asks.now)
-        names.now (occurrences (pairs_at (A.contents asks.now) pairs.now)) seen.new) }
+    requires spines { AreSpines (A.contents asks.now) spines.old }
+    requires mentioning { mentions (names_at (A.contents asks.now) names.now)
+        (tree_at (A.contents asks.now) e) ≡ true }
+    ensures spines { IfOk result (λ r. AreSpines (A.contents asks.now) spines.new) }
     ensures test { let c = A.contents asks.now in
         IsMetTest (A.standing asks.now).place (names_at c names.now)
         (occurrences (pairs_at c pairs.now)) c (tree_at c e) result }
 {
-    if !is_occurrence(alloc, asks, names, &mut seen.clear, &mut seen.spines, e)? {
+    if !is_occurrence(asks, names, spines, e)? {
         return Ok(false);
     }
     match instead(asks, pairs, e) {
@@ -103,8 +102,11 @@ struct Unmet<'a, A: Asks> {
     pub alloc: Global,
     pub asks: &'a A,
     pub names: &'a Names,
+    pub marks: &'a Table<Mark>,
     pub pairs: &'a [Pair],
     ghost names_in: { All (λ n. n < length (A.contents asks.now).names) names.now },
+    ghost marks_are: { AreMarked (A.contents asks.now)
+        (names_at (A.contents asks.now) names.now) marks.now },
     ghost pairs_in: { ArePairsIn (A.contents asks.now) pairs.now },
 }
 
@@ -140,7 +142,10 @@ impl<'a, A: Asks> Seek for Unmet<'a, A> {
         if let Some(_) = seen.done.find(&e) {
             return Ok(false);
         }
-        if is_met(self.alloc, self.asks, self.names, self.pairs, seen, e)? {
+        if !is_mentioning(self.alloc, self.asks, self.names, self.marks, e)? {
+            return Ok(false);
+        }
+        if is_met(self.asks, self.names, self.pairs, &mut seen.spines, e)? {
             return Ok(false);
         }
         open(stack, e, node)?;
@@ -155,15 +160,18 @@ impl<'a, A: Asks> Seek for Unmet<'a, A> {
     }
 }
 
-/// The first nested occurrence in a term that was not met.
-pub fn find_unmet<A: Asks>(
+/// The first nested occurrence that was not met, in a term of which all parts are marked.
+fn seek_unmet<A: Asks>(
     alloc: Global,
     asks: &A,
     names: &Names,
+    marks: &Table<Mark>,
     pairs: &[Pair],
     e: u64,
 ) -> Result<Option<u64>, Stop>
     requires names_in { All (λ n. n < length (A.contents asks.now).names) names.now }
+    requires marks { AreMarked (A.contents asks.now)
+        (names_at (A.contents asks.now) names.now) marks.now }
     requires pairs_in { ArePairsIn (A.contents asks.now) pairs.now }
     requires tree_in { e < length (A.contents asks.now).trees }
     ensures { let c = A.contents asks.now in
@@ -171,7 +179,6 @@ pub fn find_unmet<A: Asks>(
         (occurrences (pairs_at c pairs.now)) (tree_at c e)) result }
 {
     let mut seen = Seen {
-        clear: Table::new(alloc),
         done: Table::new(alloc),
         spines: Table::new(alloc),
     };
@@ -179,6 +186,7 @@ pub fn find_unmet<A: Asks>(
         alloc,
         asks,
         names,
+        marks,
         pairs,
     };
     match seek(alloc, &seeker, &mut seen, e) {
@@ -187,4 +195,28 @@ pub fn find_unmet<A: Asks>(
         Err(Halt::Met(o)) => Ok(Some(o)),
         Err(Halt::Stopped(stop)) => Err(stop),
     }
+}
+
+/// The first nested occurrence in a term that was not met. The term's parts are marked first.
+pub fn find_unmet<A: Asks>(
+    alloc: Global,
+    asks: &A,
+    names: &Names,
+    marks: &mut Table<Mark>,
+    pairs: &[Pair],
+    e: u64,
+) -> Result<Option<u64>, Stop>
+    requires names_in { All (λ n. n < length (A.contents asks.now).names) names.now }
+    requires marks { AreMarked (A.contents asks.now)
+        (names_at (A.contents asks.now) names.now) marks.old }
+    requires pairs_in { ArePairsIn (A.contents asks.now) pairs.now }
+    requires tree_in { e < length (A.contents asks.now).trees }
+    ensures marks { IfOk result (λ r. AreMarked (A.contents asks.now)
+        (names_at (A.contents asks.now) names.now) marks.new) }
+    ensures first { let c = A.contents asks.now in
+        IsFirst c (first_unmet (A.standing asks.now).place (names_at c names.now)
+        (occurrences (pairs_at c pairs.now)) (tree_at c e)) result }
+{
+    mark_parts(alloc, asks, names, marks, e)?;
+    seek_unmet(alloc, asks, names, marks, pairs, e)
 }

@@ -13,7 +13,7 @@ use Rattle.lk_nested.specs.Swaps.{swapped, pairs-steady}
 use Rattle.lk_nested.specs.Unmet.{first_unmet}
 use Rattle.lk_auxiliary.specs.Auxiliaries.{auxs_at}
 use Rattle.lk_auxiliary.specs.Settings.{setting_at}
-use Rattle.lk_enlarge.proofs.Grown.{setting_known, first_steady, meets_steady, pushed_are, pushed_known}
+use Rattle.lk_enlarge.proofs.Grown.{setting_known, kept_stays, first_steady, meets_steady, pushed_are, pushed_known}
 use Rattle.lk_enlarge.proofs.Loops.{CameTo, came_end, came_refused, came_stops, came_on, came_nearer}
 use Rattle.lk_auxiliary.proofs.Others.{auxs_stay, auxs_known}
 use Rattle.lk_enlarge.proofs.Unmets.{unmet_count, new_occurs}
@@ -35,7 +35,7 @@ returns-in_err-o-clause-nests g c =
     let stop = c.in_err-o.field-0.0 in
     let p = err_from_is_err_and c.from_residual.result c.from_residual.ensures.1 in
     rw (p.1, p.2) (came_refused w (setting_at before c.args.setting.now) (tree_at before c.args.e) (auxs_at before c.args.auxs.now.items) (auxs_at now c.unmet.auxs.items) (pairs_at now c.unmet.pairs.items) was.came stop
-    (subst (λ f. IsStopped f stop) first c.in_err-o.ensures))
+    (subst (λ f. IsStopped f stop) first c.in_err-o.ensures.first))
 
 pub meet-requires-clause-setting_in : goal.meet-requires-clause-setting_in
 meet-requires-clause-setting_in g c = setting_known (g.F.Terms.contents c.args.asks.now) (g.F.Terms.contents c.unmet.asks) c.unmet.invariant.keeps c.args.setting.now c.requires.setting_in
@@ -46,7 +46,7 @@ meet-requires-clause-occurs g c =
     let v = (g.F.Asks.standing c.unmet.asks).place in
     let ns = names_at now c.args.setting.now.names.now in
     let met = occurrences (pairs_at now c.deref.result.now) in
-    let is = subst (λ x. IsFirst now (first_unmet v ns met (tree_at now c.args.e)) (Ok x)) c.in-Some.is c.in_ok-o.ensures in
+    let is = subst (λ x. IsFirst now (first_unmet v ns met (tree_at now c.args.e)) (Ok x)) c.in-Some.is c.in_ok-o.ensures.first in
     new_occurs v ns met (tree_at now c.in-Some.o) (tree_at now c.args.e) is.1
 
 pub returns-in_err-to-clause-nests : goal.returns-in_err-to-clause-nests
@@ -58,7 +58,7 @@ returns-in_err-to-clause-nests g c =
     let v = (g.F.Asks.standing c.unmet.asks).place in
     let place = ap (λ x. x.place) (g.met.F.Asks.decided c.unmet.asks c.args.asks.now was.same_rest).0 in
     let first = first_steady before now was.keeps c.args.setting.now c.requires.setting_in v w place c.unmet.pairs.items c.deref.result.now c.deref.ensures.value c.args.e c.requires.e_in in
-    let is = subst (λ x. IsFirst now (first_unmet v (names_at now c.args.setting.now.names.now) (occurrences (pairs_at now c.deref.result.now)) (tree_at now c.args.e)) (Ok x)) c.in-Some.is c.in_ok-o.ensures in
+    let is = subst (λ x. IsFirst now (first_unmet v (names_at now c.args.setting.now.names.now) (occurrences (pairs_at now c.deref.result.now)) (tree_at now c.args.e)) (Ok x)) c.in-Some.is c.in_ok-o.ensures.first in
     let o = tree_at now c.in-Some.o in
     let stop = c.in_err-to.field-0.0 in
     let p = err_from_is_err_and c.from_residual-in_err-to.result c.from_residual-in_err-to.ensures.1 in
@@ -75,7 +75,7 @@ unmet-smaller g c =
     let v = (g.F.Asks.standing c.unmet.asks).place in
     let place = ap (λ x. x.place) (g.met.F.Asks.decided c.unmet.asks c.args.asks.now was.same_rest).0 in
     let first = first_steady before now was.keeps c.args.setting.now c.requires.setting_in v w place c.unmet.pairs.items c.deref.result.now c.deref.ensures.value c.args.e c.requires.e_in in
-    let is = subst (λ x. IsFirst now (first_unmet v (names_at now c.args.setting.now.names.now) (occurrences (pairs_at now c.deref.result.now)) (tree_at now c.args.e)) (Ok x)) c.in-Some.is c.in_ok-o.ensures in
+    let is = subst (λ x. IsFirst now (first_unmet v (names_at now c.args.setting.now.names.now) (occurrences (pairs_at now c.deref.result.now)) (tree_at now c.args.e)) (Ok x)) c.in-Some.is c.in_ok-o.ensures.first in
     let o = tree_at now c.in-Some.o in
     let E = tree_at before c.args.e in
     let ps = pairs_at now c.unmet.pairs.items in
@@ -93,7 +93,7 @@ unmet-preserved g c =
     let v = (g.F.Asks.standing c.unmet.asks).place in
     let place = ap (λ x. x.place) (g.met.F.Asks.decided c.unmet.asks c.args.asks.now was.same_rest).0 in
     let first = first_steady before now was.keeps c.args.setting.now c.requires.setting_in v w place c.unmet.pairs.items c.deref.result.now c.deref.ensures.value c.args.e c.requires.e_in in
-    let is = subst (λ x. IsFirst now (first_unmet v (names_at now c.args.setting.now.names.now) (occurrences (pairs_at now c.deref.result.now)) (tree_at now c.args.e)) (Ok x)) c.in-Some.is c.in_ok-o.ensures in
+    let is = subst (λ x. IsFirst now (first_unmet v (names_at now c.args.setting.now.names.now) (occurrences (pairs_at now c.deref.result.now)) (tree_at now c.args.e)) (Ok x)) c.in-Some.is c.in_ok-o.ensures.first in
     let o = tree_at now c.in-Some.o in
     let t = tree_at after c.in_ok-to.to in
     let grown = c.in_ok-to.ensures.keeps in
@@ -108,6 +108,7 @@ unmet-preserved g c =
       same_rest = c.in_ok-to.ensures.rest ∙ was.same_rest;
       auxs_in = c.in_ok-to.ensures.known;
       pairs_in = pushed_known now after grown c.unmet.pairs.items c.push.new.self.items (record { from = c.in-Some.o; to = c.in_ok-to.to }) c.in-Ok.ensures.items was.pairs_in is.0 c.in_ok-to.ensures.tree_known;
+      kept_in = c.in_ok-to.ensures.kept_in;
       came = subst (CameTo w plain E start bs)
           (sym (pushed_are now after grown c.unmet.pairs.items c.push.new.self.items (record { from = c.in-Some.o; to = c.in_ok-to.to }) c.in-Ok.ensures.items was.pairs_in is.0))
           (came_on w plain E start as_ ps was.came o (sym first ∙ is.1) t bs
@@ -139,7 +140,7 @@ returns-clause-nests g c =
     let v = (g.F.Asks.standing c.unmet.asks).place in
     let place = ap (λ x. x.place) (g.met.F.Asks.decided c.unmet.asks c.args.asks.now was.same_rest).0 in
     let first = first_steady before now was.keeps c.args.setting.now c.requires.setting_in v w place c.unmet.pairs.items c.deref.result.now c.deref.ensures.value c.args.e c.requires.e_in in
-    let is = subst (λ x. IsFirst now (first_unmet v (names_at now c.args.setting.now.names.now) (occurrences (pairs_at now c.deref.result.now)) (tree_at now c.args.e)) (Ok x)) (none_of c.in_ok-o.field-0 c.in_default.not-Some) c.in_ok-o.ensures in
+    let is = subst (λ x. IsFirst now (first_unmet v (names_at now c.args.setting.now.names.now) (occurrences (pairs_at now c.deref.result.now)) (tree_at now c.args.e)) (Ok x)) (none_of c.in_ok-o.field-0 c.in_default.not-Some) c.in_ok-o.ensures.first in
     let ps = pairs_at now c.unmet.pairs.items in
     let as_ = auxs_at now c.unmet.auxs.items in
     let grown = c.in_ok-swap.ensures.keeps in
@@ -147,3 +148,11 @@ returns-clause-nests g c =
     came_end w (setting_at before c.args.setting.now) (tree_at before c.args.e) (auxs_at before c.args.auxs.now.items) as_ ps was.came (sym first ∙ is)
     ∙ ap (λ (t : Tree). found (t, as_)) (sym tree)
     ∙ ap (λ (x : List Aux). found (tree_at after c.in_ok-swap.field-0, x)) (sym (auxs_stay now after grown c.unmet.auxs.items was.auxs_in))
+
+pub returns-clause-kept_in : goal.returns-clause-kept_in
+returns-clause-kept_in g c =
+    let before = g.F.Terms.contents c.args.asks.now in
+    let now = g.F.Terms.contents c.unmet.asks in
+    let was = c.unmet.invariant in
+    kept_stays now (g.F.Terms.contents c.swap.new.terms) c.in_ok-swap.ensures.keeps c.args.setting.now (setting_known before now was.keeps c.args.setting.now c.requires.setting_in)
+    (record { marks = c.find_unmet.new.marks; own = c.unmet.kept.own }) (record { marks = c.in_ok-o.ensures.marks; own = was.kept_in.own })

@@ -4,6 +4,7 @@ use Rattle.lk_nested.specs.Joined.{occurrences}
 use Rattle.lk_nested.specs.Pairs.{pairs_at, ArePairsIn}
 use Rattle.lk_auxiliary.specs.Auxiliaries.{auxs_at, IsAuxiliaryIn}
 use Rattle.lk_auxiliary.specs.Settings.{setting_at}
+use Rattle.lk_enlarge.specs.Kept.{IsKept}
 use Rattle.lk_enlarge.proofs.Loops.{CameTo}
 use Rattle.lk_enlarge.proofs.Unmets.{unmet_count}
 use Rattle.lk_enlarge.proofs.nest.nest.Given as goal
@@ -17,6 +18,7 @@ invariant-unmet g l =
       same_rest : g.F.Terms.rest l.asks ≡ g.F.Terms.rest l.fn.asks;
       auxs_in : All (IsAuxiliaryIn now) l.auxs.items;
       pairs_in : ArePairsIn now l.pairs.items;
+      kept_in : IsKept now l.fn.setting l.kept;
       came : CameTo (g.F.Asks.standing l.fn.asks).place (setting_at before l.fn.setting) (tree_at before l.fn.e)
           (auxs_at before l.fn.auxs.items) (auxs_at now l.auxs.items) (pairs_at now l.pairs.items);
     }

@@ -15,4 +15,4 @@ returns-in_ok-keep_function-in-Some-clause-test g c =
     let w = (g.A.Asks.standing c.args.asks.now).place in
     let ns = names_at s c.args.names.now in
     subst (λ x. IsTested (test_at w ns (tree_at s x)) c.is_nested_application.result) at
-    (applied w ns (tree_at s spine.tree) (tree_at s c.in-Some.f) c.is_nested_application.result (ap (λ x. function_of (tree_at s x)) at ∙ sym c.in-Some.ensures.function) c.is_nested_application.ensures.test)
+    (applied w ns (tree_at s spine.tree) (tree_at s c.in-Some.f) c.is_nested_application.result (ap (λ x. function_of (tree_at s x)) at ∙ sym c.in-Some.ensures.function) c.is_nested_application.ensures)
