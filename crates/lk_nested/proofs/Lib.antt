@@ -9,3 +9,5 @@ pub mod Applied
 pub mod Walking
 pub mod Marking
 pub mod Quiet
+pub mod Taking
+pub mod Gathering

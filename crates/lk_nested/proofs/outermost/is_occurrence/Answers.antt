@@ -5,7 +5,7 @@ use Rattle.lk_nested.specs.Nestings.{function_of}
 use Rattle.lk_nested.specs.Halts.{IsTested}
 use Rattle.lk_nested.specs.Occurrences.{test_at}
 use Rattle.lk_nested.proofs.Tests.{applied}
-use Rattle.lk_nested.proofs.unmet.is_occurrence.Goals as goal
+use Rattle.lk_nested.proofs.outermost.is_occurrence.Goals as goal
 
 pub returns-in_ok-keep_function-in-Some-clause-test : goal.returns-in_ok-keep_function-in-Some-clause-test
 returns-in_ok-keep_function-in-Some-clause-test g c =
