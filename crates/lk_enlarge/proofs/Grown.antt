@@ -1,5 +1,5 @@
 -- What is known of a block and of what was met, while the store grows.
-use Rattle.std.proofs.Common.{◌≡◌, ℕ, ◌<◌, List, [], ◌∷◌, ◌++◌, length, map, All, refl, sym, ap, subst, ◌∙◌, arith}
+use Rattle.std.proofs.Common.{◌≡◌, ◌<◌, List, [], ◌∷◌, ◌++◌, length, map, All, refl, sym, ap, subst, ◌∙◌, arith}
 use Rattle.std.proofs.lemmas.List.{map-append}
 use Rattle.std.proofs.lemmas.List.Elements.{All-same, All-push}
 use Rattle.lk_tree.specs.Tree.{Tree, param}
@@ -7,17 +7,18 @@ use Rattle.lk_rulebook.specs.Place.{Place}
 use Rattle.lk_inductive.specs.Enlarged.{Aux}
 use Rattle.lk_store.specs.Contents.{Contents, name_at, tree_at, Extends}
 use Rattle.lk_subst.specs.Numbers.{values-steady, values-known, trees-steady, trees-known}
-use Rattle.lk_mentions.specs.Names.{names_at}
 use Rattle.lk_nested.specs.declared.swap.Pair.{Pair}
-use Rattle.lk_nested.specs.Joined.{meets, nests, AreMet, occurrences}
+use Rattle.lk_nested.specs.Joined.{meets, nests, AreMet}
 use Rattle.lk_nested.specs.Pairs.{pair_at, pairs_at, IsPairIn, ArePairsIn}
 use Rattle.lk_nested.specs.Swaps.{pairs-steady, pairs-known}
-use Rattle.lk_nested.specs.Unmet.{first_unmet}
 use Rattle.lk_auxiliary.specs.declared.setting.Setting.{Setting}
 use Rattle.lk_auxiliary.specs.declared.auxiliary.Auxiliary.{Auxiliary}
 use Rattle.lk_auxiliary.specs.Auxiliaries.{auxs_at, IsAuxiliaryIn}
 use Rattle.lk_auxiliary.specs.Settings.{setting_at, IsSettingIn}
 use Rattle.lk_auxiliary.proofs.Others.{auxs_stay}
+use Rattle.lk_nested.proofs.Marking.{marks_stay, owns_stay}
+use Rattle.lk_enlarge.specs.declared.kept.Kept.{Kept}
+use Rattle.lk_enlarge.specs.Kept.{IsKept}
 
 module _ (c d : Contents) (x : Extends c d) where
   module _ (s : Setting) (h : IsSettingIn c s) where
@@ -38,13 +39,11 @@ module _ (c d : Contents) (x : Extends c d) where
       parameters_in = trees-known c d s.parameters.now x h.parameters_in;
     }
 
-    pub first_steady : (v w : Place) → v ≡ w → (ps qs : List Pair) → qs ≡ ps → (e : ℕ) → e < length c.trees
-        → first_unmet v (names_at d s.names.now) (occurrences (pairs_at d qs)) (tree_at d e) ≡ first_unmet w (names_at c s.names.now) (occurrences (pairs_at d ps)) (tree_at c e)
-    first_steady v w place ps qs same e known =
-        ap (λ y. first_unmet y (names_at d s.names.now) (occurrences (pairs_at d qs)) (tree_at d e)) place
-        ∙ ap (λ ns. first_unmet w ns (occurrences (pairs_at d qs)) (tree_at d e)) (values-steady [] c.names d.names s.names.now x.names h.names_in)
-        ∙ ap (λ ps. first_unmet w (names_at c s.names.now) (occurrences (pairs_at d ps)) (tree_at d e)) same
-        ∙ ap (first_unmet w (names_at c s.names.now) (occurrences (pairs_at d ps))) (x.trees.same e known)
+    pub kept_stays : (k : Kept) → IsKept c s k → IsKept d s k
+    kept_stays k kept = record {
+      marks = marks_stay c d x s.names.now h.names_in k.marks kept.marks;
+      own = owns_stay c d x s.parameters.now h.parameters_in k.own kept.own;
+    }
 
     pub meets_steady : (v w : Place) → v ≡ w → (o : Tree) (as_ : List Aux) → meets v (setting_at d s) o as_ ≡ meets w (setting_at c s) o as_
     meets_steady v w place o as_ = ap (λ y. meets y (setting_at d s) o as_) place ∙ ap (λ s. meets w s o as_) setting_stays

@@ -16,3 +16,4 @@ pub mod Holding
 pub mod Outlines
 pub mod Decimals
 pub mod Adding
+pub mod Telling

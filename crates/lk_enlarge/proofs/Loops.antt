@@ -1,6 +1,5 @@
 -- The walk for occurrences goes on past the first one that was not met, once it is met.
-use Rattle.std.proofs.Common.{◌≡◌, ◌<◌, true, List, [], ◌∷◌, ◌++◌, sym, ap, subst, ◌∙◌}
-use Rattle.std.proofs.lemmas.List.{map-append}
+use Rattle.std.proofs.Common.{◌≡◌, true, List, [], ◌∷◌, ◌++◌, sym, ap, subst, ◌∙◌}
 use Rattle.std.proofs.lemmas.List.Elements.{All-push}
 use Rattle.lk_tree.specs.Tree.{Tree}
 use Rattle.lk_rulebook.specs.Place.{Place}
@@ -16,7 +15,7 @@ use Rattle.lk_nested.specs.Joined.{meets, nests, IsMet, AreMet, occurrences}
 use Rattle.lk_nested.specs.Occurrences.{test_at, is_occurrence}
 use Rattle.lk_nested.specs.Swaps.{swapped}
 use Rattle.lk_nested.specs.Unmet.{nothing, new, first_unmet}
-use Rattle.lk_enlarge.proofs.Unmets.{unmet_count, fewer, new_occurs}
+use Rattle.lk_enlarge.proofs.Unmets.{new_occurs}
 
 module _ (w : Place) (s : Setting) (ps : List (Tree × Tree)) (e : Tree) (as_ : List Aux) (met : AreMet w s as_ ps) where
   -- none is left
@@ -64,6 +63,3 @@ module _ (w : Place) (s : Setting) (e : Tree) (start as_ : List Aux) (ps : List 
       leads = came.leads ∙ leads_on w s ps e as_ came.met o first (t, bs) h;
       met = one_more w s ps e as_ came.met o first (new_occurs w s.names (occurrences ps) o e first) (t, bs) h;
     }
-
-    pub came_nearer : (t : Tree) → unmet_count (occurrences (ps ++ (o, t) ∷ [])) e < unmet_count (occurrences ps) e
-    came_nearer t = subst (λ x. unmet_count x e < unmet_count (occurrences ps) e) (sym (map-append (λ p. p.0) ps ((o, t) ∷ []))) (fewer w s.names (occurrences ps) o e first)

@@ -1,4 +1,5 @@
 pub mod Met
+pub mod Kept
 pub mod Opened
 pub mod Owns
 pub mod Each

@@ -11,9 +11,11 @@ ghost use Rattle.lk_enlarge.specs.Drafts.{draft_at, outline_at, IsDraftIn, IsOut
 ghost use Rattle.lk_enlarge.specs.DraftsNested.{ctor_with, type_with, drafted, outlined};
 ghost use Rattle.lk_enlarge.specs.DraftsNested.{draft_nests, drafts_nest, outline_nests, next_nests, types_nest};
 ghost use Rattle.lk_auxiliary.specs.Settings.{setting_at, IsSettingIn};
+ghost use Rattle.lk_enlarge.specs.Kept.{IsKept};
 
 use crate::components::name_of_constructor;
 use crate::draft::{Draft, Outline, find_outline};
+use crate::kept::Kept;
 use crate::nest::nest;
 use crate::past::over_locals;
 use lk_ask::stop::Stop;
@@ -89,12 +91,14 @@ fn nest_draft<F: Families>(
     setting: &Setting<'_>,
     auxs: &mut Vec<Auxiliary>,
     pairs: &mut Vec<Pair>,
+    kept: &mut Kept,
     number: u64,
     draft: Draft,
 ) -> Result<Constructor, Stop>
     requires setting_in { IsSettingIn (F.contents asks.old) setting.now }
     requires auxs_in { All (IsAuxiliaryIn (F.contents asks.old)) auxs.old.items }
     requires pairs_in { ArePairsIn (F.contents asks.old) pairs.old.items }
+    requires kept_in { IsKept (F.contents asks.old) setting.now kept.old }
     requires met { AreMet (F.standing asks.old).place
         (setting_at (F.contents asks.old) setting.now)
         (auxs_at (F.contents asks.old) auxs.old.items)
@@ -105,6 +109,7 @@ fn nest_draft<F: Families>(
     ensures made_known { IfOk result (IsConstructorIn (F.contents asks.new)) }
     ensures known { OnOk result (All (IsAuxiliaryIn (F.contents asks.new)) auxs.new.items) }
     ensures pairs_known { OnOk result (ArePairsIn (F.contents asks.new) pairs.new.items) }
+    ensures kept_in { OnOk result (IsKept (F.contents asks.new) setting.now kept.new) }
     ensures met { OnOk result (AreMet (F.standing asks.old).place
         (setting_at (F.contents asks.old) setting.now)
         (auxs_at (F.contents asks.new) auxs.new.items)
@@ -118,7 +123,7 @@ fn nest_draft<F: Families>(
         ))
         result }
 {
-    let e = nest(alloc, asks, setting, auxs, pairs, draft.ty)?;
+    let e = nest(alloc, asks, setting, auxs, pairs, kept, draft.ty)?;
     Ok(constructor_of(alloc, asks, setting, number, draft, e)?)
 }
 
@@ -129,12 +134,14 @@ fn nest_drafts<F: Families>(
     setting: &Setting<'_>,
     auxs: &mut Vec<Auxiliary>,
     pairs: &mut Vec<Pair>,
+    kept: &mut Kept,
     number: u64,
     drafts: &[Draft],
 ) -> Result<Vec<Constructor>, Stop>
     requires setting_in { IsSettingIn (F.contents asks.old) setting.now }
     requires auxs_in { All (IsAuxiliaryIn (F.contents asks.old)) auxs.old.items }
     requires pairs_in { ArePairsIn (F.contents asks.old) pairs.old.items }
+    requires kept_in { IsKept (F.contents asks.old) setting.now kept.old }
     requires met { AreMet (F.standing asks.old).place
         (setting_at (F.contents asks.old) setting.now)
         (auxs_at (F.contents asks.old) auxs.old.items)
@@ -145,6 +152,7 @@ fn nest_drafts<F: Families>(
     ensures made_known { IfOk result (λ v. All (IsConstructorIn (F.contents asks.new)) v.items) }
     ensures known { OnOk result (All (IsAuxiliaryIn (F.contents asks.new)) auxs.new.items) }
     ensures pairs_known { OnOk result (ArePairsIn (F.contents asks.new) pairs.new.items) }
+    ensures kept_in { OnOk result (IsKept (F.contents asks.new) setting.now kept.new) }
     ensures met { OnOk result (AreMet (F.standing asks.old).place
         (setting_at (F.contents asks.old) setting.now)
         (auxs_at (F.contents asks.new) auxs.new.items)
@@ -161,7 +169,7 @@ fn nest_drafts<F: Families>(
     let mut made: Vec<Constructor> = Vec::new(alloc);
     let mut left = drafts;
     'constructors: while let Some((first, more)) = left.split_first() {
-        let constructor = nest_draft(alloc, asks, setting, auxs, pairs, number, *first)?;
+        let constructor = nest_draft(alloc, asks, setting, auxs, pairs, kept, number, *first)?;
         match made.push(constructor) {
             Ok(_) => {}
             Err(_) => return Err(Stop::NoMemory),
@@ -230,12 +238,14 @@ fn nest_outline<F: Families>(
     setting: &Setting<'_>,
     auxs: &mut Vec<Auxiliary>,
     pairs: &mut Vec<Pair>,
+    kept: &mut Kept,
     number: u64,
     outline: &Outline,
 ) -> Result<BlockType, Stop>
     requires setting_in { IsSettingIn (F.contents asks.old) setting.now }
     requires auxs_in { All (IsAuxiliaryIn (F.contents asks.old)) auxs.old.items }
     requires pairs_in { ArePairsIn (F.contents asks.old) pairs.old.items }
+    requires kept_in { IsKept (F.contents asks.old) setting.now kept.old }
     requires met { AreMet (F.standing asks.old).place
         (setting_at (F.contents asks.old) setting.now)
         (auxs_at (F.contents asks.old) auxs.old.items)
@@ -246,6 +256,7 @@ fn nest_outline<F: Families>(
     ensures made_known { IfOk result (IsTypeIn (F.contents asks.new)) }
     ensures known { OnOk result (All (IsAuxiliaryIn (F.contents asks.new)) auxs.new.items) }
     ensures pairs_known { OnOk result (ArePairsIn (F.contents asks.new) pairs.new.items) }
+    ensures kept_in { OnOk result (IsKept (F.contents asks.new) setting.now kept.new) }
     ensures met { OnOk result (AreMet (F.standing asks.old).place
         (setting_at (F.contents asks.old) setting.now)
         (auxs_at (F.contents asks.new) auxs.new.items)
@@ -258,7 +269,7 @@ fn nest_outline<F: Families>(
         result }
 {
     let drafts = &outline.constructors;
-    let constructors = nest_drafts(alloc, asks, setting, auxs, pairs, number, drafts)?;
+    let constructors = nest_drafts(alloc, asks, setting, auxs, pairs, kept, number, drafts)?;
     Ok(type_of(alloc, asks, setting, number, outline, constructors)?)
 }
 
@@ -269,11 +280,13 @@ fn nest_next<F: Families>(
     setting: &Setting<'_>,
     auxs: &mut Vec<Auxiliary>,
     pairs: &mut Vec<Pair>,
+    kept: &mut Kept,
     number: u64,
 ) -> Result<Option<BlockType>, Stop>
     requires setting_in { IsSettingIn (F.contents asks.old) setting.now }
     requires auxs_in { All (IsAuxiliaryIn (F.contents asks.old)) auxs.old.items }
     requires pairs_in { ArePairsIn (F.contents asks.old) pairs.old.items }
+    requires kept_in { IsKept (F.contents asks.old) setting.now kept.old }
     requires met { AreMet (F.standing asks.old).place
         (setting_at (F.contents asks.old) setting.now)
         (auxs_at (F.contents asks.old) auxs.old.items)
@@ -283,6 +296,7 @@ fn nest_next<F: Families>(
     ensures made_known { IfOk result (λ o. IfSome o (IsTypeIn (F.contents asks.new))) }
     ensures known { OnOk result (All (IsAuxiliaryIn (F.contents asks.new)) auxs.new.items) }
     ensures pairs_known { OnOk result (ArePairsIn (F.contents asks.new) pairs.new.items) }
+    ensures kept_in { OnOk result (IsKept (F.contents asks.new) setting.now kept.new) }
     ensures met { OnOk result (AreMet (F.standing asks.old).place
         (setting_at (F.contents asks.old) setting.now)
         (auxs_at (F.contents asks.new) auxs.new.items)
@@ -298,7 +312,7 @@ fn nest_next<F: Families>(
     match find_outline(alloc, auxs, number)? {
         None => Ok(None),
         Some(outline) => {
-            let ty = nest_outline(alloc, asks, setting, auxs, pairs, number, &outline)?;
+            let ty = nest_outline(alloc, asks, setting, auxs, pairs, kept, number, &outline)?;
             Ok(Some(ty))
         }
     }
@@ -311,10 +325,12 @@ pub fn auxiliary_types<F: Families>(
     setting: &Setting<'_>,
     auxs: &mut Vec<Auxiliary>,
     pairs: &mut Vec<Pair>,
+    kept: &mut Kept,
 ) -> Result<Vec<BlockType>, Stop>
     requires setting_in { IsSettingIn (F.contents asks.old) setting.now }
     requires auxs_in { All (IsAuxiliaryIn (F.contents asks.old)) auxs.old.items }
     requires pairs_in { ArePairsIn (F.contents asks.old) pairs.old.items }
+    requires kept_in { IsKept (F.contents asks.old) setting.now kept.old }
     requires met { AreMet (F.standing asks.old).place
         (setting_at (F.contents asks.old) setting.now)
         (auxs_at (F.contents asks.old) auxs.old.items)
@@ -324,6 +340,7 @@ pub fn auxiliary_types<F: Families>(
     ensures made_known { IfOk result (λ v. All (IsTypeIn (F.contents asks.new)) v.items) }
     ensures known { OnOk result (All (IsAuxiliaryIn (F.contents asks.new)) auxs.new.items) }
     ensures pairs_known { OnOk result (ArePairsIn (F.contents asks.new) pairs.new.items) }
+    ensures kept_in { OnOk result (IsKept (F.contents asks.new) setting.now kept.new) }
     ensures met { OnOk result (AreMet (F.standing asks.old).place
         (setting_at (F.contents asks.old) setting.now)
         (auxs_at (F.contents asks.new) auxs.new.items)
@@ -339,7 +356,7 @@ pub fn auxiliary_types<F: Families>(
     let mut made: Vec<BlockType> = Vec::new(alloc);
     let mut number = 0;
     'types: while number <= MOST {
-        match nest_next(alloc, asks, setting, auxs, pairs, number)? {
+        match nest_next(alloc, asks, setting, auxs, pairs, kept, number)? {
             None => return Ok(made),
             Some(ty) => match made.push(ty) {
                 Ok(_) => {}

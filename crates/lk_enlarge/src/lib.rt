@@ -9,6 +9,7 @@
 pub mod auxiliary_types;
 pub mod components;
 pub mod draft;
+pub mod kept;
 pub mod larger;
 pub mod meet;
 pub mod nest;

@@ -9,7 +9,9 @@ ghost use Rattle.lk_nested.specs.Joined.{meets};
 ghost use Rattle.lk_nested.specs.Occurrences.{is_occurrence, test_at};
 ghost use Rattle.lk_auxiliary.specs.Auxiliaries.{auxs_at, IsAuxiliaryIn};
 ghost use Rattle.lk_auxiliary.specs.Settings.{setting_at, IsSettingIn};
+ghost use Rattle.lk_enlarge.specs.Kept.{IsKept};
 
+use crate::kept::Kept;
 use lk_ask::stop::Stop;
 use lk_auxiliary::among::{auxiliary_applied, number_of};
 use lk_auxiliary::auxiliary::Auxiliary;
@@ -67,10 +69,12 @@ pub fn meet<F: Families>(
     asks: &mut F,
     setting: &Setting<'_>,
     auxs: &mut Vec<Auxiliary>,
+    kept: &mut Kept,
     e: u64,
 ) -> Result<u64, Stop>
     requires setting_in { IsSettingIn (F.contents asks.old) setting.now }
     requires auxs_in { All (IsAuxiliaryIn (F.contents asks.old)) auxs.old.items }
+    requires kept_in { IsKept (F.contents asks.old) setting.now kept.old }
     requires e_in { e < length (F.contents asks.old).trees }
     requires occurs { is_occurrence (test_at (F.standing asks.old).place
         (names_at (F.contents asks.old) setting.now.names.now)
@@ -79,6 +83,7 @@ pub fn meet<F: Families>(
     ensures rest { F.rest asks.new ≡ F.rest asks.old }
     ensures tree_known { IfOk result (λ r. r < length (F.contents asks.new).trees) }
     ensures known { OnOk result (All (IsAuxiliaryIn (F.contents asks.new)) auxs.new.items) }
+    ensures kept_in { OnOk result (IsKept (F.contents asks.new) setting.now kept.new) }
     ensures meets { Finds (meets (F.standing asks.old).place
         (setting_at (F.contents asks.old) setting.now) (tree_at (F.contents asks.old) e)
         (auxs_at (F.contents asks.old) auxs.old.items))
@@ -86,7 +91,7 @@ pub fn meet<F: Families>(
         result }
 {
     let arguments = args(alloc, asks, e)?;
-    if !may_nest(alloc, asks, setting.parameters, &arguments)? {
+    if !may_nest(alloc, asks, setting.parameters, &mut kept.own, &arguments)? {
         return Err(Stop::No(Rule::NestedForm));
     }
     match number_of(asks, auxs, e)? {

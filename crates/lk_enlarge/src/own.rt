@@ -2,6 +2,7 @@
 
 ghost use Rattle.std.specs.Prelude.{◌≡◌, ◌<◌, true, length, map, All, IfOk, OnOk};
 ghost use Rattle.lk_nested.specs.Findings.{Finds};
+ghost use Rattle.lk_nested.specs.Marks.{AreMarked};
 ghost use Rattle.lk_nested.specs.Nestings.{nested_in};
 ghost use Rattle.lk_env.specs.Units.{constructor_at, type_at, IsConstructorIn, IsTypeIn};
 ghost use Rattle.lk_mentions.specs.Names.{names_at};
@@ -11,7 +12,9 @@ ghost use Rattle.lk_nested.specs.Pairs.{pairs_at, ArePairsIn};
 ghost use Rattle.lk_auxiliary.specs.Auxiliaries.{auxs_at, IsAuxiliaryIn};
 ghost use Rattle.lk_enlarge.specs.Owns.{typed, held, owns, all_owns, with_ctors, type_owns};
 ghost use Rattle.lk_auxiliary.specs.Settings.{setting_at, IsSettingIn};
+ghost use Rattle.lk_enlarge.specs.Kept.{IsKept};
 
+use crate::kept::Kept;
 use crate::past::nest_past;
 use lk_ask::asks::Asks;
 use lk_ask::stop::Stop;
@@ -22,6 +25,7 @@ use lk_env::unit::{BlockType, Constructor};
 use lk_family::Families;
 use lk_family::copies::copy_constructor;
 use lk_mentions::names::Names;
+use lk_nested::marks::Mark;
 use lk_nested::nested::{Walked, holds_nested};
 use lk_nested::swap::Pair;
 use lk_rows::table::Table;
@@ -31,19 +35,28 @@ use lk_tree::rule::Rule;
 use std::alloc::Global;
 
 /// Whether a type holds a nested occurrence of one of the names.
-fn holds<A: Asks>(alloc: Global, asks: &A, names: &Names, e: u64) -> Result<bool, Stop>
+fn holds<A: Asks>(
+    alloc: Global,
+    asks: &A,
+    names: &Names,
+    marks: &mut Table<Mark>,
+    e: u64,
+) -> Result<bool, Stop>
     requires names_in { All (λ n. n < length (A.contents asks.now).names) names.now }
     requires tree_in { e < length (A.contents asks.now).trees }
-    ensures { Finds (nested_in (A.standing asks.now).place
+    requires marks { AreMarked (A.contents asks.now)
+        (names_at (A.contents asks.now) names.now) marks.old }
+    ensures marks { IfOk result (λ r. AreMarked (A.contents asks.now)
+        (names_at (A.contents asks.now) names.now) marks.new) }
+    ensures found { Finds (nested_in (A.standing asks.now).place
         (names_at (A.contents asks.now) names.now)
         (tree_at (A.contents asks.now) e)) (λ r. r) result }
 {
     let mut walked = Walked {
-        clear: Table::new(alloc),
         flat: Table::new(alloc),
         spines: Table::new(alloc),
     };
-    holds_nested(alloc, asks, names, &mut walked, e)
+    holds_nested(alloc, asks, names, marks, &mut walked, e)
 }
 
 /// A copy of a constructor, with another type.
@@ -72,11 +85,13 @@ fn held_ctor<F: Families>(
     setting: &Setting<'_>,
     auxs: &mut Vec<Auxiliary>,
     pairs: &mut Vec<Pair>,
+    kept: &mut Kept,
     stated: &Constructor,
 ) -> Result<Constructor, Stop>
     requires setting_in { IsSettingIn (F.contents asks.old) setting.now }
     requires auxs_in { All (IsAuxiliaryIn (F.contents asks.old)) auxs.old.items }
     requires pairs_in { ArePairsIn (F.contents asks.old) pairs.old.items }
+    requires kept_in { IsKept (F.contents asks.old) setting.now kept.old }
     requires met { AreMet (F.standing asks.old).place
         (setting_at (F.contents asks.old) setting.now)
         (auxs_at (F.contents asks.old) auxs.old.items)
@@ -87,6 +102,7 @@ fn held_ctor<F: Families>(
     ensures constructor_known { IfOk result (IsConstructorIn (F.contents asks.new)) }
     ensures known { OnOk result (All (IsAuxiliaryIn (F.contents asks.new)) auxs.new.items) }
     ensures pairs_known { OnOk result (ArePairsIn (F.contents asks.new) pairs.new.items) }
+    ensures kept_in { OnOk result (IsKept (F.contents asks.new) setting.now kept.new) }
     ensures met { OnOk result (AreMet (F.standing asks.old).place
         (setting_at (F.contents asks.old) setting.now)
         (auxs_at (F.contents asks.new) auxs.new.items)
@@ -103,7 +119,7 @@ fn held_ctor<F: Families>(
     if !has_pis(asks, setting.parameters.len() as u64, stated.ty) {
         return Err(Stop::No(Rule::BlockShape));
     }
-    let ty = nest_past(alloc, asks, setting, auxs, pairs, stated.ty)?;
+    let ty = nest_past(alloc, asks, setting, auxs, pairs, kept, stated.ty)?;
     Ok(with_type(alloc, stated, ty)?)
 }
 
@@ -115,11 +131,13 @@ pub fn own_ctor<F: Families>(
     setting: &Setting<'_>,
     auxs: &mut Vec<Auxiliary>,
     pairs: &mut Vec<Pair>,
+    kept: &mut Kept,
     stated: &Constructor,
 ) -> Result<Constructor, Stop>
     requires setting_in { IsSettingIn (F.contents asks.old) setting.now }
     requires auxs_in { All (IsAuxiliaryIn (F.contents asks.old)) auxs.old.items }
     requires pairs_in { ArePairsIn (F.contents asks.old) pairs.old.items }
+    requires kept_in { IsKept (F.contents asks.old) setting.now kept.old }
     requires met { AreMet (F.standing asks.old).place
         (setting_at (F.contents asks.old) setting.now)
         (auxs_at (F.contents asks.old) auxs.old.items)
@@ -130,6 +148,7 @@ pub fn own_ctor<F: Families>(
     ensures constructor_known { IfOk result (IsConstructorIn (F.contents asks.new)) }
     ensures known { OnOk result (All (IsAuxiliaryIn (F.contents asks.new)) auxs.new.items) }
     ensures pairs_known { OnOk result (ArePairsIn (F.contents asks.new) pairs.new.items) }
+    ensures kept_in { OnOk result (IsKept (F.contents asks.new) setting.now kept.new) }
     ensures met { OnOk result (AreMet (F.standing asks.old).place
         (setting_at (F.contents asks.old) setting.now)
         (auxs_at (F.contents asks.new) auxs.new.items)
@@ -143,8 +162,8 @@ pub fn own_ctor<F: Families>(
           auxs_at (F.contents asks.new) auxs.new.items,
         )) result }
 {
-    if holds(alloc, asks, setting.names, stated.ty)? {
-        return held_ctor(alloc, asks, setting, auxs, pairs, stated);
+    if holds(alloc, asks, setting.names, &mut kept.marks, stated.ty)? {
+        return held_ctor(alloc, asks, setting, auxs, pairs, kept, stated);
     }
     Ok(copy_constructor(alloc, stated)?)
 }
@@ -156,11 +175,13 @@ pub fn own_ctors<F: Families>(
     setting: &Setting<'_>,
     auxs: &mut Vec<Auxiliary>,
     pairs: &mut Vec<Pair>,
+    kept: &mut Kept,
     stated: &[Constructor],
 ) -> Result<Vec<Constructor>, Stop>
     requires setting_in { IsSettingIn (F.contents asks.old) setting.now }
     requires auxs_in { All (IsAuxiliaryIn (F.contents asks.old)) auxs.old.items }
     requires pairs_in { ArePairsIn (F.contents asks.old) pairs.old.items }
+    requires kept_in { IsKept (F.contents asks.old) setting.now kept.old }
     requires met { AreMet (F.standing asks.old).place
         (setting_at (F.contents asks.old) setting.now)
         (auxs_at (F.contents asks.old) auxs.old.items)
@@ -171,6 +192,7 @@ pub fn own_ctors<F: Families>(
     ensures made_known { IfOk result (λ v. All (IsConstructorIn (F.contents asks.new)) v.items) }
     ensures known { OnOk result (All (IsAuxiliaryIn (F.contents asks.new)) auxs.new.items) }
     ensures pairs_known { OnOk result (ArePairsIn (F.contents asks.new) pairs.new.items) }
+    ensures kept_in { OnOk result (IsKept (F.contents asks.new) setting.now kept.new) }
     ensures met { OnOk result (AreMet (F.standing asks.old).place
         (setting_at (F.contents asks.old) setting.now)
         (auxs_at (F.contents asks.new) auxs.new.items)
@@ -187,7 +209,7 @@ pub fn own_ctors<F: Families>(
     let mut made: Vec<Constructor> = Vec::new(alloc);
     let mut left = stated;
     'constructors: while let Some((first, more)) = left.split_first() {
-        let constructor = own_ctor(alloc, asks, setting, auxs, pairs, first)?;
+        let constructor = own_ctor(alloc, asks, setting, auxs, pairs, kept, first)?;
         match made.push(constructor) {
             Ok(_) => {}
             Err(_) => return Err(Stop::NoMemory),
@@ -226,11 +248,13 @@ pub fn own_type<F: Families>(
     setting: &Setting<'_>,
     auxs: &mut Vec<Auxiliary>,
     pairs: &mut Vec<Pair>,
+    kept: &mut Kept,
     stated: &BlockType,
 ) -> Result<BlockType, Stop>
     requires setting_in { IsSettingIn (F.contents asks.old) setting.now }
     requires auxs_in { All (IsAuxiliaryIn (F.contents asks.old)) auxs.old.items }
     requires pairs_in { ArePairsIn (F.contents asks.old) pairs.old.items }
+    requires kept_in { IsKept (F.contents asks.old) setting.now kept.old }
     requires met { AreMet (F.standing asks.old).place
         (setting_at (F.contents asks.old) setting.now)
         (auxs_at (F.contents asks.old) auxs.old.items)
@@ -241,6 +265,7 @@ pub fn own_type<F: Families>(
     ensures type_known { IfOk result (IsTypeIn (F.contents asks.new)) }
     ensures known { OnOk result (All (IsAuxiliaryIn (F.contents asks.new)) auxs.new.items) }
     ensures pairs_known { OnOk result (ArePairsIn (F.contents asks.new) pairs.new.items) }
+    ensures kept_in { OnOk result (IsKept (F.contents asks.new) setting.now kept.new) }
     ensures met { OnOk result (AreMet (F.standing asks.old).place
         (setting_at (F.contents asks.old) setting.now)
         (auxs_at (F.contents asks.new) auxs.new.items)
@@ -254,6 +279,14 @@ pub fn own_type<F: Families>(
           auxs_at (F.contents asks.new) auxs.new.items,
         )) result }
 {
-    let made = own_ctors(alloc, asks, setting, auxs, pairs, &stated.constructors)?;
+    let made = own_ctors(
+        alloc,
+        asks,
+        setting,
+        auxs,
+        pairs,
+        kept,
+        &stated.constructors,
+    )?;
     Ok(with_constructors(alloc, stated, made)?)
 }

@@ -13,7 +13,9 @@ ghost use Rattle.lk_nested.specs.Pairs.{pairs_at, ArePairsIn};
 ghost use Rattle.lk_auxiliary.specs.Auxiliaries.{auxs_at, IsAuxiliaryIn};
 ghost use Rattle.lk_enlarge.specs.Opened.{past_local, past_locals, nests_past};
 ghost use Rattle.lk_auxiliary.specs.Settings.{setting_at, IsSettingIn};
+ghost use Rattle.lk_enlarge.specs.Kept.{IsKept};
 
+use crate::kept::Kept;
 use crate::nest::nest;
 use lk_ask::stop::Stop;
 use lk_auxiliary::auxiliary::Auxiliary;
@@ -153,11 +155,13 @@ pub fn nest_past<F: Families>(
     setting: &Setting<'_>,
     auxs: &mut Vec<Auxiliary>,
     pairs: &mut Vec<Pair>,
+    kept: &mut Kept,
     e: u64,
 ) -> Result<u64, Stop>
     requires setting_in { IsSettingIn (F.contents asks.old) setting.now }
     requires auxs_in { All (IsAuxiliaryIn (F.contents asks.old)) auxs.old.items }
     requires pairs_in { ArePairsIn (F.contents asks.old) pairs.old.items }
+    requires kept_in { IsKept (F.contents asks.old) setting.now kept.old }
     requires met { AreMet (F.standing asks.old).place
         (setting_at (F.contents asks.old) setting.now)
         (auxs_at (F.contents asks.old) auxs.old.items)
@@ -168,6 +172,7 @@ pub fn nest_past<F: Families>(
     ensures tree_known { IfOk result (λ r. r < length (F.contents asks.new).trees) }
     ensures known { OnOk result (All (IsAuxiliaryIn (F.contents asks.new)) auxs.new.items) }
     ensures pairs_known { OnOk result (ArePairsIn (F.contents asks.new) pairs.new.items) }
+    ensures kept_in { OnOk result (IsKept (F.contents asks.new) setting.now kept.new) }
     ensures met { OnOk result (AreMet (F.standing asks.old).place
         (setting_at (F.contents asks.old) setting.now)
         (auxs_at (F.contents asks.new) auxs.new.items)
@@ -179,6 +184,6 @@ pub fn nest_past<F: Families>(
         result }
 {
     let (locals, inner) = past_locals(alloc, asks, setting.parameters, e)?;
-    let nested = nest(alloc, asks, setting, auxs, pairs, inner)?;
+    let nested = nest(alloc, asks, setting, auxs, pairs, kept, inner)?;
     Ok(over_locals(alloc, asks, &locals, nested)?)
 }

@@ -9,7 +9,9 @@ ghost use Rattle.lk_nested.specs.Pairs.{pairs_at, ArePairsIn};
 ghost use Rattle.lk_auxiliary.specs.Auxiliaries.{auxs_at, IsAuxiliaryIn};
 ghost use Rattle.lk_enlarge.specs.Owns.{types_own};
 ghost use Rattle.lk_auxiliary.specs.Settings.{setting_at, IsSettingIn};
+ghost use Rattle.lk_enlarge.specs.Kept.{IsKept};
 
+use crate::kept::Kept;
 use crate::own::own_type;
 use lk_ask::stop::Stop;
 use lk_auxiliary::auxiliary::Auxiliary;
@@ -26,11 +28,13 @@ pub fn own_types<F: Families>(
     setting: &Setting<'_>,
     auxs: &mut Vec<Auxiliary>,
     pairs: &mut Vec<Pair>,
+    kept: &mut Kept,
     stated: &[BlockType],
 ) -> Result<Vec<BlockType>, Stop>
     requires setting_in { IsSettingIn (F.contents asks.old) setting.now }
     requires auxs_in { All (IsAuxiliaryIn (F.contents asks.old)) auxs.old.items }
     requires pairs_in { ArePairsIn (F.contents asks.old) pairs.old.items }
+    requires kept_in { IsKept (F.contents asks.old) setting.now kept.old }
     requires met { AreMet (F.standing asks.old).place
         (setting_at (F.contents asks.old) setting.now)
         (auxs_at (F.contents asks.old) auxs.old.items)
@@ -41,6 +45,7 @@ pub fn own_types<F: Families>(
     ensures made_known { IfOk result (λ v. All (IsTypeIn (F.contents asks.new)) v.items) }
     ensures known { OnOk result (All (IsAuxiliaryIn (F.contents asks.new)) auxs.new.items) }
     ensures pairs_known { OnOk result (ArePairsIn (F.contents asks.new) pairs.new.items) }
+    ensures kept_in { OnOk result (IsKept (F.contents asks.new) setting.now kept.new) }
     ensures met { OnOk result (AreMet (F.standing asks.old).place
         (setting_at (F.contents asks.old) setting.now)
         (auxs_at (F.contents asks.new) auxs.new.items)
@@ -57,7 +62,7 @@ pub fn own_types<F: Families>(
     let mut made: Vec<BlockType> = Vec::new(alloc);
     let mut left = stated;
     'types: while let Some((first, more)) = left.split_first() {
-        let ty = own_type(alloc, asks, setting, auxs, pairs, first)?;
+        let ty = own_type(alloc, asks, setting, auxs, pairs, kept, first)?;
         match made.push(ty) {
             Ok(_) => {}
             Err(_) => return Err(Stop::NoMemory),

@@ -189,7 +189,7 @@ module _ (ns : List Name) where
   none_append [] a = and_true (not (mentions ns a))
   none_append (x ∷ xs) a = ap (λ b. not (mentions ns x) && b) (none_append xs a) ∙ and_assoc (not (mentions ns x)) (mention_none ns xs) (not (mentions ns a))
 
-  none_applied : (f a : Tree) → mention_none ns (args (app f a)) ≡ (mention_none ns (args f) && not (mentions ns a))
+  pub none_applied : (f a : Tree) → mention_none ns (args (app f a)) ≡ (mention_none ns (args f) && not (mentions ns a))
   unfolding args
   none_applied f a = none_append (args f) a
 
@@ -219,6 +219,21 @@ kind_matches a_quot xs next h = absurd cc
 kind_matches (a_type b t) xs next h = let same : length xs ≡ t.parameters = cc in let is : nat_eq (length xs) t.parameters ≡ true = grind (arith, nat_tests) in ap (λ (b : Bool). if b then done true else next) is
 kind_matches (a_ctor b t k) xs next h = absurd cc
 kind_matches (a_rec r) xs next h = absurd cc
+
+-- any other kind, and a type with another number of parameters
+kind_differs : (k : Kind) (xs : List Tree) (next : Program Bool) → (Some (length xs) ≡ parameters_in k → ⊥) → holds_kind xs k next ≡ next
+kind_differs an_axiom xs next h = refl
+kind_differs (a_def g v) xs next h = refl
+kind_differs (a_thm v) xs next h = refl
+kind_differs (an_opaque v) xs next h = refl
+kind_differs a_quot xs next h = refl
+kind_differs (a_type b t) xs next h = go (nat_eq (length xs) t.parameters) refl
+  where
+    go : (same : Bool) → nat_eq (length xs) t.parameters ≡ same → (if same then done true else next) ≡ next
+    go true is = absurd (h (let e : length xs ≡ t.parameters = grind (arith, nat_tests) in ap (λ n. Some n) e))
+    go false is = refl
+kind_differs (a_ctor b t k) xs next h = refl
+kind_differs (a_rec r) xs next h = refl
 
 named_head : List Name → Name → List Tree → Program Bool → Program Bool
 named_head ns J xs next = if is_one_of ns J || mention_none ns xs then next else look UnknownConstant J λ g. holds_kind xs g.kind next
@@ -252,32 +267,36 @@ module _ (w : Place) (ns : List Name) (h : Tree) (xs : List Tree) (J : Name) (na
     looks_up : (next : Program Bool) (o : Option Entry) → w.means J ≡ o → finding w (look UnknownConstant J λ g. holds_kind xs g.kind next) ≡ looked o (w.flaw J) UnknownConstant (λ g. finding w (holds_kind xs g.kind next))
     looks_up next o is = ap (λ x. looked x (w.flaw J) UnknownConstant (λ g. finding w (holds_kind xs g.kind next))) is
 
-    -- no argument mentions one of the names
-    pub test_clear : mention_none ns xs ≡ true → IsHeadTest w ns h xs (Ok false)
-    test_clear is = λ next. ap (finding w) (decided_head true next is)
-
     -- it is a type with just so many parameters, and an argument mentions one
     pub test_nested : (p : ℕ) → mention_none ns xs ≡ false → HasParameters w J (Some p) → length xs ≡ p → IsHeadTest w ns h xs (Ok true)
     test_nested p is has count = λ next.
         ap (finding w) (decided_head false next is) ∙ looks_up next (Some has.entry) has.means
         ∙ ap (finding w) (kind_matches has.entry.kind xs next (ap (λ n. Some n) count ∙ has.count_is))
 
+    -- it is none
+    pub test_other : (count : Option ℕ) → mention_none ns xs ≡ false → HasParameters w J count → (Some (length xs) ≡ count → ⊥) → IsHeadTest w ns h xs (Ok false)
+    test_other count is has differs = λ next.
+        ap (finding w) (decided_head false next is) ∙ looks_up next (Some has.entry) has.means
+        ∙ ap (finding w) (kind_differs has.entry.kind xs next (λ e. differs (e ∙ sym has.count_is)))
+
     -- the look-up is refused
     pub test_refused : (r : Rule) → mention_none ns xs ≡ false → IsRefused w J r → IsHeadTest w ns h xs (Err (No r))
     test_refused r is missing = λ next.
         ap (finding w) (decided_head false next is) ∙ looks_up next None missing.means ∙ ap (λ s. refused s) (sym missing.rule)
 
--- a constant at the head of t that is none of the names: clear is whether t mentions none of them
-module _ (w : Place) (ns : List Name) (t : Tree) (J : Name) (named : constant_name (head t) ≡ Some J) (other : is_one_of ns J ≡ false) where
-  pub test_exact : (p : ℕ) (clear : Bool) → HasParameters w J (Some p) → length (args t) ≡ p → clear ≡ not (mentions ns t) → IsHeadTest w ns (head t) (args t) (Ok (not clear))
-  test_exact p true has count is = test_clear w ns (head t) (args t) J named other (mentions_spine ns t J named other ∙ sym is)
-  test_exact p false has count is = test_nested w ns (head t) (args t) J named other p (mentions_spine ns t J named other ∙ sym is) has count
+-- a constant at the head of t that is none of the names, where t mentions one of them
+module _ (w : Place) (ns : List Name) (t : Tree) (J : Name) (named : constant_name (head t) ≡ Some J) (other : is_one_of ns J ≡ false) (mentioning : mentions ns t ≡ true) where
+  some_argument_mentions : mention_none ns (args t) ≡ false
+  some_argument_mentions = mentions_spine ns t J named other ∙ ap not mentioning
 
-  pub test_unmentioned : (clear : Bool) → clear ≡ not (mentions ns t) → clear ≡ true → IsHeadTest w ns (head t) (args t) (Ok false)
-  test_unmentioned clear is h = test_clear w ns (head t) (args t) J named other (mentions_spine ns t J named other ∙ sym is ∙ h)
+  pub test_exact : (p : ℕ) → HasParameters w J (Some p) → length (args t) ≡ p → IsHeadTest w ns (head t) (args t) (Ok true)
+  test_exact p has count = test_nested w ns (head t) (args t) J named other p some_argument_mentions has count
 
-  pub test_missing : (clear : Bool) (r : Rule) → clear ≡ not (mentions ns t) → clear ≡ false → IsRefused w J r → IsHeadTest w ns (head t) (args t) (Err (No r))
-  test_missing clear r is h missing = test_refused w ns (head t) (args t) J named other r (mentions_spine ns t J named other ∙ sym is ∙ h) missing
+  pub test_counted : (count : Option ℕ) → HasParameters w J count → (Some (length (args t)) ≡ count → ⊥) → IsHeadTest w ns (head t) (args t) (Ok false)
+  test_counted count has differs = test_other w ns (head t) (args t) J named other count some_argument_mentions has differs
+
+  pub test_missing : (r : Rule) → IsRefused w J r → IsHeadTest w ns (head t) (args t) (Err (No r))
+  test_missing r missing = test_refused w ns (head t) (args t) J named other r some_argument_mentions missing
 
 -- what is no application
 pub test_unapplied : (w : Place) (ns : List Name) (t : Tree) → function_of t ≡ None → nested_in w ns t ≡ nested_below w ns t

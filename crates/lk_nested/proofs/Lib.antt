@@ -7,3 +7,7 @@ pub mod Swapping
 pub mod Findings
 pub mod Applied
 pub mod Walking
+pub mod Marking
+pub mod Quiet
+pub mod Taking
+pub mod Gathering

@@ -25,7 +25,7 @@ given_found w false r p v h = absurd cc
 found_is : {A : Type 0} (x y : A) → found x ≡ found y → x ≡ y
 found_is x y h = cc
 
-tree_itself : (t : Tree) → is_same_tree t t ≡ true
+pub tree_itself : (t : Tree) → is_same_tree t t ≡ true
 tree_itself t = go (tree_discrete t t)
   where
     go : (d : Dec (t ≡ t)) → decided d ≡ true

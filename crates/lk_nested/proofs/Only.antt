@@ -63,7 +63,7 @@ loose_is n (local k T) = grind (arith, nat_tests)
 
 -- a tree that was looked through
 pub tree_own : (ps : List Tree) (c : Contents) (e : ℕ) (met : List Met) (i : ℕ) → AreOwn ps c met → i < length met → ((d : Met) → (slice_index_or met i d).tree ≡ e) → has_foreign ps (tree_at c e) ≡ false
-tree_own ps c e met i own l is = let d : Met = record { tree = e } in sym (ap (λ x. has_foreign ps (tree_at c x)) (is d)) ∙ own i d l
+tree_own ps c e met i own l is = let d : Met = record { tree = e } in sym (ap (λ x. has_foreign ps (tree_at c x)) (is d)) ∙ (own i d l).own
 
 -- one argument after another
 module _ (ps : List Tree) (f : ℕ → Tree) (rest more : List ℕ) (x : ℕ) (split : rest ≡ x ∷ more) where

@@ -1,6 +1,6 @@
 -- A head's test, by what the test for any nested occurrence says.
-use Rattle.std.proofs.Common.{◌≡◌, ℕ, ◌<◌, Bool, true, false, List, Option, Some, None, Ok, Err, Result, refl, sym, ap, ◌∙◌}
-use Rattle.std.specs.Prelude.{◌||◌, nat_eq, length, slice_index_or, if◌then◌else◌}
+use Rattle.std.proofs.Common.{◌≡◌, Bool, true, false, List, Option, Some, None, Ok, Err, Result, refl, sym, ap, ◌∙◌}
+use Rattle.std.specs.Prelude.{◌||◌, nat_eq, length, if◌then◌else◌}
 use Rattle.lk_tree.specs.Tree.{Name, Level, Tree, var, sort, const, app, lam, pi, let_in, proj, lit, wide, str, local}
 use Rattle.lk_tree.specs.Spine.{head, args}
 use Rattle.lk_tree.specs.Mentions.{is_one_of}
@@ -12,13 +12,10 @@ use Rattle.lk_inductive.specs.BlockSteps.{mention_none, is_among}
 use Rattle.lk_inductive.specs.Nested.{holds_kind, holds_head}
 use Rattle.lk_ask.specs.declared.stop.Stop.{Stop}
 use Rattle.lk_ask.specs.declared.stop.Stop.TheVariants.{No, Spent, NoMemory}
-use Rattle.lk_store.specs.Contents.{Contents, tree_at}
 use Rattle.lk_nested.specs.Findings.{Finding, found, refused, looked, finding}
 use Rattle.lk_nested.specs.Nestings.{IsHeadTest, function_of}
 use Rattle.lk_nested.specs.Occurrences.{Test, passes, occurs, fails, kind_test, entry_test, head_test, test_at, is_occurrence}
 use Rattle.lk_nested.specs.Unmet.{First, nothing, new, refused_by, by_test, first_unmet}
-use Rattle.lk_mentions.specs.declared.part.Met.{Met}
-use Rattle.lk_nested.specs.Sights.{AreDone}
 use Rattle.lk_nested.specs.Halts.{IsTested, first_below}
 
 module _ (w : Place) where
@@ -159,21 +156,3 @@ module _ (w : Place) (ns : List Name) (met : List Tree) where
   occurring wide known h is = absurd cc
   occurring (str s) known h is = absurd cc
   occurring (local k T) known h is = absurd cc
-
-  pub failing : (t : Tree) (r : Rule) → test_at w ns t ≡ fails r → first_unmet w ns met t ≡ refused_by r
-  failing (app f a) r h = ap (λ q. by_test q (is_among (app f a) met) (app f a) (first_below w ns met (app f a))) h
-  failing (lam A b) r h = absurd cc
-  failing (pi A B) r h = absurd cc
-  failing (let_in A v b) r h = absurd cc
-  failing (proj S i s) r h = absurd cc
-  failing (const c ls) r h = absurd cc
-  failing (var i) r h = absurd cc
-  failing (sort l) r h = absurd cc
-  failing (lit n) r h = absurd cc
-  failing wide r h = absurd cc
-  failing (str s) r h = absurd cc
-  failing (local k T) r h = absurd cc
-
--- a tree that was looked through
-pub tree_done : (w : Place) (ns : List Name) (met : List Tree) (c : Contents) (e : ℕ) (done_ : List Met) (i : ℕ) → AreDone w ns met c done_ → i < length done_ → ((d : Met) → (slice_index_or done_ i d).tree ≡ e) → first_unmet w ns met (tree_at c e) ≡ nothing
-tree_done w ns met c e done_ i known l is = let d : Met = record { tree = e } in sym (ap (λ x. first_unmet w ns met (tree_at c x)) (is d)) ∙ known i d l

@@ -1,5 +1,5 @@
 -- Locals other than these in a tree. The types of Locals do not count.
-use Rattle.std.specs.Prelude.{◌≡◌, ℕ, Bool, false, not, ◌||◌, List, All}
+use Rattle.std.specs.Prelude.{◌≡◌, ℕ, ◌<◌, Bool, false, not, ◌||◌, List, length, All}
 use Rattle.lk_tree.specs.Tree.{Tree, app, lam, pi, let_in, proj, local}
 use Rattle.lk_inductive.specs.BlockSteps.{is_among}
 use Rattle.lk_store.specs.declared.memory.NoMemory.{NoMemory}
@@ -21,6 +21,10 @@ has_foreign ps _ = false
 abbrev pub foreign : List Tree → Contents → Sought ℕ NoMemory
 foreign ps c = in_trees truth (has_foreign ps) c
 
--- no tree that was looked through has one
+-- a tree that was looked through has none
+pub record IsOwn (ps : List Tree) (c : Contents) (m : Met) : Type 0 where
+  pub known : m.tree < length c.trees
+  pub own : has_foreign ps (tree_at c m.tree) ≡ false
+
 abbrev pub AreOwn : List Tree → Contents → List Met → Type 0
-AreOwn ps c met = All (λ (m : Met). has_foreign ps (tree_at c m.tree) ≡ false) met
+AreOwn ps c met = All (IsOwn ps c) met

@@ -3,10 +3,8 @@ use Rattle.std.proofs.Common.{◌≡◌, refl, ap}
 use Rattle.lk_seek.specs.Sought.{AreFindings}
 use Rattle.lk_store.specs.Contents.{Contents}
 use Rattle.lk_ask.specs.declared.stop.Stop.TheVariants.{No, Spent, NoMemory}
-use Rattle.lk_nested.specs.declared.halt.Halt.{Halt}
-use Rattle.lk_nested.specs.declared.halt.Halt.TheVariants.{Met, Stopped}
 use Rattle.lk_nested.specs.Unmet.{First, nothing, new, refused_by, first_of}
-use Rattle.lk_nested.specs.Halts.{IsHalt, firsts}
+use Rattle.lk_nested.specs.Halts.{Halt, met, halted, IsHalt, firsts}
 
 first_assoc : (a b d : First) → first_of (first_of a b) d ≡ first_of a (first_of b d)
 first_assoc nothing b d = refl
@@ -19,10 +17,10 @@ first_last (new o) = refl
 first_last (refused_by r) = refl
 
 halts_first : (c : Contents) (a b : First) (h : Halt) → IsHalt c a h → IsHalt c (first_of a b) h
-halts_first c a b (Met o) h = (h.0, ap (λ x. first_of x b) h.1)
-halts_first c a b (Stopped (No r)) h = ap (λ x. first_of x b) h
-halts_first c a b (Stopped Spent) h = absurd h
-halts_first c a b (Stopped NoMemory) h = tt
+halts_first c a b (met o) h = (h.0, ap (λ x. first_of x b) h.1)
+halts_first c a b (halted (No r)) h = ap (λ x. first_of x b) h
+halts_first c a b (halted Spent) h = absurd h
+halts_first c a b (halted NoMemory) h = tt
 
 pub first_laws : (c : Contents) → AreFindings (firsts c)
 first_laws c = record { first = λ a. refl; next = λ a. refl; last = first_last; assoc = first_assoc; stops = halts_first c }

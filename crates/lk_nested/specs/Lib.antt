@@ -1,12 +1,13 @@
+pub mod Marks
 pub mod Swaps
 pub mod Pairs
 pub mod Occurrences
 pub mod Unmet
 pub mod Joined
 pub mod Halts
-pub mod Sights
 pub mod HeldFirsts
 pub mod Foreign
 pub mod Findings
 pub mod Nestings
 pub mod Held
+pub mod Outermost

@@ -12,7 +12,6 @@ use Rattle.lk_seek.specs.Sought.{Findings, Sought}
 use Rattle.lk_seek.specs.Trees.{in_trees}
 use Rattle.lk_mentions.specs.declared.part.Met.{Met}
 use Rattle.lk_mentions.specs.Names.{names_at}
-use Rattle.lk_mentions.specs.Walks.{AreClear}
 use Rattle.lk_ask.specs.declared.stop.Stop.{Stop}
 use Rattle.lk_nested.specs.declared.spines.Spine.{Spine}
 use Rattle.lk_nested.specs.declared.nested.Walked.{Walked}
@@ -88,6 +87,5 @@ AreFlat w ns c met = All (λ (m : Met). nested_in w ns (tree_at c m.tree) ≡ fo
 
 -- what is kept of the trees that were walked
 pub record AreWalked (w : Place) (c : Contents) (ks : List ℕ) (t : Walked) : Type 0 where
-  pub clear : AreClear c ks t.clear
   pub flat : AreFlat w (names_at c ks) c t.flat
   pub spines : AreSpines c t.spines

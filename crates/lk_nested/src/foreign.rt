@@ -83,6 +83,10 @@ impl<'a, T: Terms> Seek for Foreign<'a, T> {
     }
 
     fn keep(&self, met: &mut Table<Met>, e: u64) -> Result<(), NoMemory> {
+        // What stands beyond the terms of today may become any term.
+        if e >= self.terms.len() {
+            return Ok(());
+        }
         met.push(Met { tree: e })?;
         Ok(())
     }
@@ -111,26 +115,30 @@ fn has_only<T: Terms>(
     Ok(!found)
 }
 
-/// Whether terms hold no loose variable, and no Local but the parameters.
+/// Whether terms hold no loose variable, and no Local but the parameters. What was met in such terms is not walked again.
 pub fn may_nest<T: Terms>(
     alloc: Global,
     terms: &T,
     parameters: &[u64],
+    met: &mut Table<Met>,
     trees: &[u64],
 ) -> Result<bool, NoMemory>
     requires parameters_in { All (λ x. x < length (T.contents terms.now).trees) parameters.now }
     requires trees_in { All (λ x. x < length (T.contents terms.now).trees) trees.now }
-    ensures { IfOk result (λ r. r
+    requires met { AreOwn (map (tree_at (T.contents terms.now)) parameters.now)
+        (T.contents terms.now) met.old }
+    ensures met { IfOk result (λ r. AreOwn (map (tree_at (T.contents terms.now)) parameters.now)
+        (T.contents terms.now) met.new) }
+    ensures nest { IfOk result (λ r. r
         ≡ may_nest (map (tree_at (T.contents terms.now)) parameters.now)
         (map (tree_at (T.contents terms.now)) trees.now)) }
 {
-    let mut met: Table<Met> = Table::new(alloc);
     let mut rest = trees;
     'trees: while let Some((tree, more)) = rest.split_first() {
         if terms.loose_bound(*tree) != 0 {
             return Ok(false);
         }
-        if !has_only(alloc, terms, parameters, &mut met, *tree)? {
+        if !has_only(alloc, terms, parameters, met, *tree)? {
             return Ok(false);
         }
         rest = more;

@@ -3,8 +3,8 @@
 #![tactic(auto)]
 
 pub mod foreign;
-pub mod halt;
+pub mod marks;
 pub mod nested;
+pub mod outermost;
 pub mod spines;
 pub mod swap;
-pub mod unmet;

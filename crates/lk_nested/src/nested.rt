@@ -1,23 +1,24 @@
 //! Whether a type of a block occurs nested in the types of its constructors: among the arguments of
 //! another type, which has just these arguments as its parameters.
 
-ghost use Rattle.std.specs.Prelude.{◌≡◌, ◌<◌, Some, false, length, All, IfOk, IfSome};
-ghost use Rattle.lk_tree.specs.Mentions.{is_one_of};
+ghost use Rattle.std.specs.Prelude.{◌≡◌, ◌<◌, Some, true, false, List, length, All, IfOk, IfSome};
+ghost use Rattle.lk_tree.specs.Tree.{Name};
+ghost use Rattle.lk_tree.specs.Mentions.{is_one_of, mentions};
 ghost use Rattle.lk_tree.specs.Spine.{head, args};
 ghost use Rattle.lk_store.specs.Contents.{name_at, tree_at};
 ghost use Rattle.lk_mentions.specs.Names.{names_at};
-ghost use Rattle.lk_mentions.specs.Walks.{AreClear};
 ghost use Rattle.lk_nested.specs.Findings.{Finds};
+ghost use Rattle.lk_nested.specs.Marks.{AreMarked};
 ghost use Rattle.lk_lists.specs.Names.{named_at};
 ghost use Rattle.lk_nested.specs.Nestings.{constant_in, constant_name, nested_in, AreWalked};
-ghost use Rattle.lk_nested.specs.Nestings.{IsSpine, IsHeadTest, IsTreeTest};
+ghost use Rattle.lk_nested.specs.Nestings.{IsSpine, IsHeadTest, IsTreeTest, AreSpines};
 
+use crate::marks::{Mark, is_mentioning, mark_parts};
 use crate::spines::{Spine, function_of, keep_function, spine_of};
 use lk_ask::asks::Asks;
 use lk_ask::stop::Stop;
 use lk_mentions::names::{Names, is_one_of};
 use lk_mentions::part::Met;
-use lk_mentions::walk::is_clear;
 use lk_rows::table::Table;
 use lk_seek::Seek;
 use lk_seek::tree::{is_leaf, open};
@@ -30,8 +31,6 @@ use std::alloc::Global;
 /// What is kept of the terms that were walked, so that a part which terms share is walked once.
 #[derive(Drop)]
 pub struct Walked {
-    /// Those that mention no type of the block.
-    pub clear: Table<Met>,
     /// Those that hold no nested occurrence.
     pub flat: Table<Met>,
     /// The heads of applications.
@@ -58,28 +57,16 @@ pub fn constant_name<T: Terms>(terms: &T, e: u64) -> Option<u64>
     constant_in(terms.view(e))
 }
 
-/// Whether a constant that is no type of the block, applied to arguments, is a nested occurrence:
-/// one of the arguments mentions a type of the block, and the constant is a type with this number of
-/// parameters.
-fn is_nested_type<A: Asks>(
-    alloc: Global,
-    asks: &A,
-    names: &Names,
-    clear: &mut Table<Met>,
-    name: u64,
-    spine: Spine,
-) -> Result<bool, Stop>
-    requires names_in { All (λ n. n < length (A.contents asks.now).names) names.now }
+/// Whether a constant that is no type of the block, applied to arguments one of which mentions a type of the block, is a
+/// nested occurrence: the constant is a type with this number of parameters.
+fn is_nested_type<A: Asks>(asks: &A, name: u64, spine: Spine) -> Result<bool, Stop>
     requires name_in { name < length (A.contents asks.now).names }
-    requires tree_in { spine.tree < length (A.contents asks.now).trees }
     requires spine { IsSpine (A.contents asks.now) spine.tree spine }
-    requires named { constant_name (head (tree_at (A.contents asks.now) spine.tree))
-        ≡ Some (name_at (A.contents asks.now) name) }
-    requires other { is_one_of (names_at (A.contents asks.now) names.now)
-        (name_at (A.contents asks.now) name) ≡ false }
-    requires clear { AreClear (A.contents asks.now) names.now clear.old }
-    ensures clear { IfOk result (λ r. AreClear (A.contents asks.now) names.now clear.new) }
-    ensures test { IsHeadTest (A.standing asks.now).place (names_at (A.contents asks.now) names.now)
+    ensures { (ns : List Name) → constant_name (head (tree_at (A.contents asks.now) spine.tree))
+        ≡ Some (name_at (A.contents asks.now) name)
+        → is_one_of ns (name_at (A.contents asks.now) name) ≡ false
+        → mentions ns (tree_at (A.contents asks.now) spine.tree) ≡ true
+        → IsHeadTest (A.standing asks.now).place ns
         (head (tree_at (A.contents asks.now) spine.tree))
         (args (tree_at (A.contents asks.now) spine.tree)) result }
 {
@@ -89,34 +76,20 @@ fn is_nested_type<A: Asks>(
             if parameters != spine.count {
                 return Ok(false);
             }
-            let is_clear = is_clear(alloc, asks, names, clear, spine.tree)?;
-            Ok(!is_clear)
+            Ok(true)
         }
-        Err(rule) => {
-            let is_clear = is_clear(alloc, asks, names, clear, spine.tree)?;
-            if is_clear {
-                Ok(false)
-            } else {
-                Err(Stop::No(rule))
-            }
-        }
+        Err(rule) => Err(Stop::No(rule)),
     }
 }
 
-/// Whether an application is a nested occurrence itself.
-pub fn is_nested_application<A: Asks>(
-    alloc: Global,
-    asks: &A,
-    names: &Names,
-    clear: &mut Table<Met>,
-    spine: Spine,
-) -> Result<bool, Stop>
+/// Whether an application that mentions a type of the block is a nested occurrence itself.
+pub fn is_nested_application<A: Asks>(asks: &A, names: &Names, spine: Spine) -> Result<bool, Stop>
     requires names_in { All (λ n. n < length (A.contents asks.now).names) names.now }
     requires tree_in { spine.tree < length (A.contents asks.now).trees }
     requires spine { IsSpine (A.contents asks.now) spine.tree spine }
-    requires clear { AreClear (A.contents asks.now) names.now clear.old }
-    ensures clear { IfOk result (λ r. AreClear (A.contents asks.now) names.now clear.new) }
-    ensures test { IsHeadTest (A.standing asks.now).place (names_at (A.contents asks.now) names.now)
+    requires mentioning { mentions (names_at (A.contents asks.now) names.now)
+        (tree_at (A.contents asks.now) spine.tree) ≡ true }
+    ensures { IsHeadTest (A.standing asks.now).place (names_at (A.contents asks.now) names.now)
         (head (tree_at (A.contents asks.now) spine.tree))
         (args (tree_at (A.contents asks.now) spine.tree)) result }
 {
@@ -126,34 +99,34 @@ pub fn is_nested_application<A: Asks>(
             if is_one_of(asks, names, name) {
                 return Ok(false);
             }
-            is_nested_type(alloc, asks, names, clear, name, spine)
+            is_nested_type(asks, name, spine)
         }
     }
 }
 
-/// Whether a term is a nested occurrence itself. What is at its head is kept for its function.
+/// Whether a term that mentions a type of the block is a nested occurrence itself. What is at its head is kept for its
+/// function.
 fn is_nested<A: Asks>(
-    alloc: Global,
     asks: &A,
     names: &Names,
-    walked: &mut Walked,
+    spines: &mut Table<Spine>,
     e: u64,
 ) -> Result<bool, Stop>
     requires names_in { All (λ n. n < length (A.contents asks.now).names) names.now }
     requires tree_in { e < length (A.contents asks.now).trees }
-    requires walked { AreWalked (A.standing asks.now).place
-        (A.contents asks.now) names.now walked.old }
-    ensures walked { IfOk result (λ r. AreWalked (A.standing asks.now).place
-        (A.contents asks.now) names.now walked.new) }
+    requires spines { AreSpines (A.contents asks.now) spines.old }
+    requires mentioning { mentions (names_at (A.contents asks.now) names.now)
+        (tree_at (A.contents asks.now) e) ≡ true }
+    ensures spines { IfOk result (λ r. AreSpines (A.contents asks.now) spines.new) }
     ensures test { IsTreeTest (A.standing asks.now).place (names_at (A.contents asks.now) names.now)
         (tree_at (A.contents asks.now) e) result }
 {
     match function_of(asks, e) {
         None => Ok(false),
         Some(f) => {
-            let spine = spine_of(asks, &walked.spines, e)?;
-            keep_function(asks, &mut walked.spines, spine, f)?;
-            is_nested_application(alloc, asks, names, &mut walked.clear, spine)
+            let spine = spine_of(asks, spines, e)?;
+            keep_function(asks, spines, spine, f)?;
+            is_nested_application(asks, names, spine)
         }
     }
 }
@@ -164,7 +137,10 @@ struct Nested<'a, A: Asks> {
     pub alloc: Global,
     pub asks: &'a A,
     pub names: &'a Names,
+    pub marks: &'a Table<Mark>,
     ghost names_in: { All (λ n. n < length (A.contents asks.now).names) names.now },
+    ghost marks_are: { AreMarked (A.contents asks.now)
+        (names_at (A.contents asks.now) names.now) marks.now },
 }
 
 impl<'a, A: Asks> Seek for Nested<'a, A> {
@@ -194,7 +170,10 @@ impl<'a, A: Asks> Seek for Nested<'a, A> {
         if let Some(_) = walked.flat.find(&e) {
             return Ok(false);
         }
-        if is_nested(self.alloc, self.asks, self.names, walked, e)? {
+        if !is_mentioning(self.alloc, self.asks, self.names, self.marks, e)? {
+            return Ok(false);
+        }
+        if is_nested(self.asks, self.names, &mut walked.spines, e)? {
             return Ok(true);
         }
         open(stack, e, node)?;
@@ -207,16 +186,19 @@ impl<'a, A: Asks> Seek for Nested<'a, A> {
     }
 }
 
-/// Whether a term holds a nested occurrence. The walk takes the outermost first.
-pub fn holds_nested<A: Asks>(
+/// Whether a term of which all parts are marked holds a nested occurrence. The walk takes the outermost first.
+fn seek_nested<A: Asks>(
     alloc: Global,
     asks: &A,
     names: &Names,
+    marks: &Table<Mark>,
     walked: &mut Walked,
     e: u64,
 ) -> Result<bool, Stop>
     requires names_in { All (λ n. n < length (A.contents asks.now).names) names.now }
     requires tree_in { e < length (A.contents asks.now).trees }
+    requires marks { AreMarked (A.contents asks.now)
+        (names_at (A.contents asks.now) names.now) marks.now }
     requires walked { AreWalked (A.standing asks.now).place
         (A.contents asks.now) names.now walked.old }
     ensures walked { IfOk result (λ r. AreWalked (A.standing asks.now).place
@@ -225,6 +207,38 @@ pub fn holds_nested<A: Asks>(
         (names_at (A.contents asks.now) names.now)
         (tree_at (A.contents asks.now) e)) (λ r. r) result }
 {
-    let seeker = Nested { alloc, asks, names };
+    let seeker = Nested {
+        alloc,
+        asks,
+        names,
+        marks,
+    };
     seek(alloc, &seeker, walked, e)
+}
+
+/// Whether a term holds a nested occurrence. Its parts are marked first.
+pub fn holds_nested<A: Asks>(
+    alloc: Global,
+    asks: &A,
+    names: &Names,
+    marks: &mut Table<Mark>,
+    walked: &mut Walked,
+    e: u64,
+) -> Result<bool, Stop>
+    requires names_in { All (λ n. n < length (A.contents asks.now).names) names.now }
+    requires tree_in { e < length (A.contents asks.now).trees }
+    requires marks { AreMarked (A.contents asks.now)
+        (names_at (A.contents asks.now) names.now) marks.old }
+    requires walked { AreWalked (A.standing asks.now).place
+        (A.contents asks.now) names.now walked.old }
+    ensures marks { IfOk result (λ r. AreMarked (A.contents asks.now)
+        (names_at (A.contents asks.now) names.now) marks.new) }
+    ensures walked { IfOk result (λ r. AreWalked (A.standing asks.now).place
+        (A.contents asks.now) names.now walked.new) }
+    ensures found { Finds (nested_in (A.standing asks.now).place
+        (names_at (A.contents asks.now) names.now)
+        (tree_at (A.contents asks.now) e)) (λ r. r) result }
+{
+    mark_parts(alloc, asks, names, marks, e)?;
+    seek_nested(alloc, asks, names, marks, walked, e)
 }

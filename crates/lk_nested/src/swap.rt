@@ -19,7 +19,7 @@ pub struct Pair {
 }
 
 /// What comes in the place of a tree.
-pub(crate) fn instead<T: Terms>(terms: &T, pairs: &[Pair], e: u64) -> Option<u64>
+pub fn instead<T: Terms>(terms: &T, pairs: &[Pair], e: u64) -> Option<u64>
     requires pairs_in { ArePairsIn (T.contents terms.now) pairs.now }
     requires e_in { e < length (T.contents terms.now).trees }
     ensures known { IfSome result (λ r. r < length (T.contents terms.now).trees) }

@@ -5,6 +5,7 @@ use Rattle.lk_nested.specs.Joined.{AreMet}
 use Rattle.lk_nested.specs.Pairs.{pairs_at, ArePairsIn}
 use Rattle.lk_auxiliary.specs.Auxiliaries.{auxs_at, IsAuxiliaryIn}
 use Rattle.lk_auxiliary.specs.Settings.{setting_at}
+use Rattle.lk_enlarge.specs.Kept.{IsKept}
 use Rattle.lk_enlarge.proofs.Drafts.{LeadsTypes}
 use Rattle.lk_enlarge.proofs.auxiliary_types.auxiliary_types.Given as goal
 
@@ -19,6 +20,7 @@ invariant-types g l =
       same_rest : g.F.Terms.rest l.asks ≡ g.F.Terms.rest l.fn.asks;
       auxs_in : All (IsAuxiliaryIn now) l.auxs.items;
       pairs_in : ArePairsIn now l.pairs.items;
+      kept_in : IsKept now l.fn.setting l.kept;
       met : AreMet w plain (auxs_at now l.auxs.items) (pairs_at now l.pairs.items);
       made_in : All (IsTypeIn now) l.made.items;
       within : l.number ≤ 1025;

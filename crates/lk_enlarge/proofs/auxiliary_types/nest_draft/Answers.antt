@@ -11,7 +11,7 @@ use Rattle.lk_enlarge.specs.DraftsNested.{drafted}
 use Rattle.lk_auxiliary.specs.Settings.{setting_at}
 use Rattle.lk_enlarge.proofs.Drafts.{draft_found, draft_stops}
 use Rattle.lk_enlarge.proofs.DraftsStay.{draft_stays, draft_known, met_grown}
-use Rattle.lk_enlarge.proofs.Grown.{setting_stays, setting_known}
+use Rattle.lk_enlarge.proofs.Grown.{setting_stays, setting_known, kept_stays}
 use Rattle.lk_auxiliary.proofs.Others.{auxs_stay, auxs_known}
 use Rattle.lk_enlarge.proofs.auxiliary_types.nest_draft.Goals as goal
 
@@ -30,6 +30,12 @@ constructor_of-requires-clause-draft_in g c = draft_known (g.F.Terms.contents c.
 
 pub returns-clause-known : goal.returns-clause-known
 returns-clause-known g c = auxs_known (g.F.Terms.contents c.nest.new.asks) (g.F.Terms.contents c.constructor_of.new.terms) c.in_ok-constructor_of.ensures.keeps c.nest.new.auxs.items c.in_ok-e.ensures.known
+
+pub returns-clause-kept_in : goal.returns-clause-kept_in
+returns-clause-kept_in g c =
+    let before = g.F.Terms.contents c.args.asks.now in
+    let now = g.F.Terms.contents c.nest.new.asks in
+    kept_stays now (g.F.Terms.contents c.constructor_of.new.terms) c.in_ok-constructor_of.ensures.keeps c.args.setting.now (setting_known before now c.in_ok-e.ensures.keeps c.args.setting.now c.requires.setting_in) c.nest.new.kept c.in_ok-e.ensures.kept_in
 
 pub returns-clause-met : goal.returns-clause-met
 returns-clause-met g c =

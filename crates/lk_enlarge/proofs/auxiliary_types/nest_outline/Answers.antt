@@ -10,7 +10,7 @@ use Rattle.lk_enlarge.specs.DraftsNested.{outlined, drafts_nest}
 use Rattle.lk_auxiliary.specs.Settings.{setting_at}
 use Rattle.lk_enlarge.proofs.Drafts.{outline_found, outline_stops}
 use Rattle.lk_enlarge.proofs.DraftsStay.{outline_stays, met_grown}
-use Rattle.lk_enlarge.proofs.Grown.{setting_stays, setting_known}
+use Rattle.lk_enlarge.proofs.Grown.{setting_stays, setting_known, kept_stays}
 use Rattle.lk_auxiliary.proofs.Others.{auxs_stay, auxs_known}
 use Rattle.lk_enlarge.proofs.auxiliary_types.nest_outline.Goals as goal
 
@@ -30,6 +30,12 @@ type_of-requires-clause-setting_in g c = setting_known (g.F.Terms.contents c.arg
 
 pub returns-clause-known : goal.returns-clause-known
 returns-clause-known g c = auxs_known (g.F.Terms.contents c.nest_drafts.new.asks) (g.F.Terms.contents c.type_of.new.terms) c.in_ok-type_of.ensures.keeps c.nest_drafts.new.auxs.items c.in_ok-constructors.ensures.known
+
+pub returns-clause-kept_in : goal.returns-clause-kept_in
+returns-clause-kept_in g c =
+    let before = g.F.Terms.contents c.args.asks.now in
+    let now = g.F.Terms.contents c.nest_drafts.new.asks in
+    kept_stays now (g.F.Terms.contents c.type_of.new.terms) c.in_ok-type_of.ensures.keeps c.args.setting.now (setting_known before now c.in_ok-constructors.ensures.keeps c.args.setting.now c.requires.setting_in) c.nest_drafts.new.kept c.in_ok-constructors.ensures.kept_in
 
 pub returns-clause-met : goal.returns-clause-met
 returns-clause-met g c =

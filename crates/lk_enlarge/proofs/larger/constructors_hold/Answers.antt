@@ -14,6 +14,7 @@ constructors-preserved g c =
     let w = (g.A.Asks.standing c.args.asks.now).place in
     let ns = names_at s c.args.names.now in
     record {
+      marked = c.in_ok-holds_nested.ensures.marks;
       walked = c.in_ok-holds_nested.ensures.walked;
       left_in = rest_have (IsConstructorIn s) c.constructors.left.now c.in-Some.constructor.now c.in-Some.more.now c.in-Some.ensures.cases.0 c.constructors.invariant.left_in;
       leads = c.constructors.invariant.leads

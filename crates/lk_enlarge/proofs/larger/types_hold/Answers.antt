@@ -19,6 +19,7 @@ types-preserved g c =
     let w = (g.A.Asks.standing c.args.asks.now).place in
     let ns = names_at s c.args.names.now in
     record {
+      marked = c.in_ok-constructors_hold.ensures.marks;
       walked = c.in_ok-constructors_hold.ensures.walked;
       left_in = rest_have (IsTypeIn s) c.types.left.now c.in-Some.stated.now c.in-Some.more.now c.in-Some.ensures.cases.0 c.types.invariant.left_in;
       leads = c.types.invariant.leads

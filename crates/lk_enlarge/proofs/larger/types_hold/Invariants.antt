@@ -1,4 +1,5 @@
 use Rattle.std.proofs.Common.{◌≡◌, length, map, All}
+use Rattle.lk_nested.specs.Marks.{AreMarked}
 use Rattle.lk_nested.specs.Nestings.{AreWalked}
 use Rattle.lk_env.specs.Units.{type_at, IsTypeIn}
 use Rattle.lk_mentions.specs.Names.{names_at}
@@ -11,6 +12,7 @@ invariant-types g l =
     let w = (g.A.Asks.standing l.asks).place in
     let ns = names_at c l.names in
     record {
+      marked : AreMarked c ns l.marks;
       walked : AreWalked w c l.names l.walked;
       left_in : All (IsTypeIn c) l.left;
       leads : types_hold w ns (map (type_at c) l.types) ≡ types_hold w ns (map (type_at c) l.left);

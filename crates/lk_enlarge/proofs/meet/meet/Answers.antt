@@ -1,4 +1,5 @@
-use Rattle.std.proofs.Common.{ℕ, List, Some, None, map, sym, ap, subst, ◌∙◌}
+use Rattle.std.proofs.Common.{ℕ, List, Some, None, Ok, Err, Result, map, sym, ap, subst, ◌∙◌}
+use Rattle.std.specs.Prelude.{OnOk}
 use Rattle.lk_tree.specs.Tree.{Tree, const}
 use Rattle.lk_tree.specs.Spine.{apply}
 use Rattle.lk_inductive.specs.Enlarged.{Aux, aux_name}
@@ -8,9 +9,16 @@ use Rattle.lk_store.specs.Contents.{tree_at}
 use Rattle.lk_auxiliary.specs.Auxiliaries.{auxs_at}
 use Rattle.lk_enlarge.specs.Met.{IsMadeFor, IsNumbered}
 use Rattle.lk_auxiliary.specs.Settings.{setting_at}
+use Rattle.lk_enlarge.specs.declared.kept.Kept.{Kept}
+use Rattle.lk_enlarge.specs.Kept.{IsKept}
+use Rattle.lk_enlarge.proofs.Grown.{kept_stays}
 use Rattle.lk_enlarge.proofs.Meetings.{met_again, met_first}
 use Rattle.lk_auxiliary.proofs.Others.{auxs_stay, auxs_known}
 use Rattle.lk_enlarge.proofs.meet.meet.Goals as goal
+
+always : {A B : Type 0} (r : Result A B) (P : Type 0) → P → OnOk r P
+always (Ok v) P h = h
+always (Err e) P h = tt
 
 pub returns-in-Some-clause-known : goal.returns-in-Some-clause-known
 returns-in-Some-clause-known g c =
@@ -25,7 +33,7 @@ returns-in-Some-clause-meets g c =
     let auxs = auxs_at s c.args.auxs.now.items in
     let e = tree_at s c.args.e in
     let i = c.in-Some.number in
-    let may = ap (may_nest plain.params) (sym c.in_ok-arguments.ensures.are ∙ ap (map (tree_at s)) (sym c.deref.ensures.value)) ∙ sym c.in_ok-may_nest.ensures ∙ c.if-not-branch.false in
+    let may = ap (may_nest plain.params) (sym c.in_ok-arguments.ensures.are ∙ ap (map (tree_at s)) (sym c.deref.ensures.value)) ∙ sym c.in_ok-may_nest.ensures.nest ∙ c.if-not-branch.false in
     let number : IsNumbered e auxs (Some i) = λ J ls bs is. sym c.in-Some.is ∙ c.in_ok-number.ensures J ls bs is ∙ ap (λ x. aux_at 0 (auxs_at s x) J ls bs) c.deref-2.ensures.value in
     let grown = c.in_ok-auxiliary_applied-in-Some.ensures.keeps in
     let levels = ap (λ ls. apply (const (aux_name i) ls) plain.params) c.requires.setting_in.own_levels_are.is in
@@ -42,8 +50,21 @@ returns-clause-meets g c =
     let auxs = auxs_at s c.args.auxs.now.items in
     let e = tree_at s c.args.e in
     let value : ℕ → Tree × List Aux = λ r. (tree_at after r, auxs_at after c.make_for.new.auxs.items) in
-    let may = ap (may_nest plain.params) (sym c.in_ok-arguments.ensures.are ∙ ap (map (tree_at s)) (sym c.deref.ensures.value)) ∙ sym c.in_ok-may_nest.ensures ∙ c.if-not-branch.false in
+    let may = ap (may_nest plain.params) (sym c.in_ok-arguments.ensures.are ∙ ap (map (tree_at s)) (sym c.deref.ensures.value)) ∙ sym c.in_ok-may_nest.ensures.nest ∙ c.if-not-branch.false in
     let number : IsNumbered e auxs None = λ J ls bs is. sym c.in-None.is ∙ c.in_ok-number.ensures J ls bs is ∙ ap (λ x. aux_at 0 (auxs_at s x) J ls bs) c.deref-2.ensures.value in
     let arguments = ap (map (tree_at s)) c.deref-in-None.ensures.value ∙ c.in_ok-arguments.ensures.are in
     met_first w plain e auxs c.requires.occurs value c.make_for.result may number
     (subst (λ xs. IsMadeFor w plain e xs auxs value c.make_for.result) arguments c.make_for.ensures.made)
+
+pub returns-in-Some-clause-kept_in : goal.returns-in-Some-clause-kept_in
+returns-in-Some-clause-kept_in g c =
+    kept_stays (g.F.Terms.contents c.args.asks.now) (g.F.Terms.contents c.auxiliary_applied.new.terms) c.in_ok-auxiliary_applied-in-Some.ensures.keeps c.args.setting.now c.requires.setting_in
+    (record { marks = c.args.kept.now.marks; own = c.may_nest.new.met }) (record { marks = c.requires.kept_in.marks; own = c.in_ok-may_nest.ensures.met })
+
+pub returns-clause-kept_in : goal.returns-clause-kept_in
+returns-clause-kept_in g c =
+    let before = g.F.Terms.contents c.args.asks.now in
+    let after = g.F.Terms.contents c.make_for.new.asks in
+    let kept : Kept = record { marks = c.args.kept.now.marks; own = c.may_nest.new.met } in
+    always c.make_for.result (IsKept after c.args.setting.now kept)
+    (kept_stays before after c.make_for.ensures.keeps c.args.setting.now c.requires.setting_in kept (record { marks = c.requires.kept_in.marks; own = c.in_ok-may_nest.ensures.met }))

@@ -11,7 +11,7 @@ use Rattle.lk_nested.specs.Pairs.{pairs_at}
 use Rattle.lk_nested.specs.Swaps.{pairs-steady}
 use Rattle.lk_auxiliary.specs.Auxiliaries.{auxs_at}
 use Rattle.lk_auxiliary.specs.Settings.{setting_at}
-use Rattle.lk_enlarge.proofs.Grown.{setting_known, setting_stays, met_stays, nests_steady}
+use Rattle.lk_enlarge.proofs.Grown.{setting_known, setting_stays, kept_stays, met_stays, nests_steady}
 use Rattle.lk_enlarge.proofs.Opening.{not_past, past_stops, past_found}
 use Rattle.lk_auxiliary.proofs.Others.{auxs_stay, auxs_known}
 use Rattle.lk_enlarge.proofs.past.nest_past.Goals as goal
@@ -28,6 +28,9 @@ nest-requires-clause-setting_in g c = setting_known (g.F.Terms.contents c.args.a
 
 pub nest-requires-clause-auxs_in : goal.nest-requires-clause-auxs_in
 nest-requires-clause-auxs_in g c = auxs_known (g.F.Terms.contents c.args.asks.now) (g.F.Terms.contents c.past_locals.new.terms) c.in_ok-locals.ensures.keeps c.args.auxs.now.items c.requires.auxs_in
+
+pub nest-requires-clause-kept_in : goal.nest-requires-clause-kept_in
+nest-requires-clause-kept_in g c = kept_stays (g.F.Terms.contents c.args.asks.now) (g.F.Terms.contents c.past_locals.new.terms) c.in_ok-locals.ensures.keeps c.args.setting.now c.requires.setting_in c.args.kept.now c.requires.kept_in
 
 pub nest-requires-clause-met : goal.nest-requires-clause-met
 nest-requires-clause-met g c =
@@ -53,6 +56,14 @@ returns-in_err-nested-clause-nests g c =
 
 pub returns-clause-known : goal.returns-clause-known
 returns-clause-known g c = auxs_known (g.F.Terms.contents c.nest.new.asks) (g.F.Terms.contents c.over_locals.new.terms) c.in_ok-over_locals.ensures.keeps c.nest.new.auxs.items c.in_ok-nested.ensures.known
+
+pub returns-clause-kept_in : goal.returns-clause-kept_in
+returns-clause-kept_in g c =
+    let before = g.F.Terms.contents c.args.asks.now in
+    let opened = g.F.Terms.contents c.past_locals.new.terms in
+    let now = g.F.Terms.contents c.nest.new.asks in
+    let opening = setting_known before opened c.in_ok-locals.ensures.keeps c.args.setting.now c.requires.setting_in in
+    kept_stays now (g.F.Terms.contents c.over_locals.new.terms) c.in_ok-over_locals.ensures.keeps c.args.setting.now (setting_known opened now c.in_ok-nested.ensures.keeps c.args.setting.now opening) c.nest.new.kept c.in_ok-nested.ensures.kept_in
 
 pub returns-clause-met : goal.returns-clause-met
 returns-clause-met g c =

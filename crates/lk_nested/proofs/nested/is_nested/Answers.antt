@@ -18,4 +18,4 @@ returns-in_ok-keep_function-in-Some-clause-test g c =
     let w = (g.A.Asks.standing c.args.asks.now).place in
     let ns = names_at s c.args.names.now in
     subst (λ x. IsTreeTest w ns (tree_at s x) c.is_nested_application.result) at
-    (test_applied w ns (tree_at s spine.tree) (tree_at s c.in-Some.f) c.is_nested_application.result (ap (λ x. function_of (tree_at s x)) at ∙ sym c.in-Some.ensures.function) c.is_nested_application.ensures.test)
+    (test_applied w ns (tree_at s spine.tree) (tree_at s c.in-Some.f) c.is_nested_application.result (ap (λ x. function_of (tree_at s x)) at ∙ sym c.in-Some.ensures.function) c.is_nested_application.ensures)
