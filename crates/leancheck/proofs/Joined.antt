@@ -8,10 +8,10 @@ use Rattle.lk_verdict.specs.Told.{AreVerdicts}
 use Rattle.lk_verdict.proofs.Spelled.{spelled_clear}
 use Rattle.lk_book.specs.File.{library_of}
 use Rattle.lk_book.proofs.Spelled.{read_spelled}
-use Rattle.leancheck.specs.declared.checking.Verdict.{Verdict as HeldVerdict}
+use Rattle.lk_text.specs.declared.verdicts.Verdict.{Verdict as HeldVerdict}
 use Rattle.leancheck.specs.declared.status.Status.{Status}
-use Rattle.leancheck.specs.Held.{verdict}
-use Rattle.leancheck.specs.Text.{report_text}
+use Rattle.lk_text.specs.Held.{verdict}
+use Rattle.lk_text.specs.Text.{report_text}
 use Rattle.leancheck.specs.Ends.{status_of, IsReport}
 
 -- what is made of the library that bytes state belongs to the bytes

@@ -9,8 +9,8 @@ use Rattle.lk_verdict.specs.Told.{Verdict, AreVerdicts}
 use Rattle.lk_book.specs.File.{library_of}
 use Rattle.leancheck.specs.declared.status.Status.{Status}
 use Rattle.leancheck.specs.declared.status.Status.TheVariants.{AllYes, SomeNo, Usage, BadFile, ReadFault, WriteFault, NoMemory, SomeMemory}
-use Rattle.leancheck.specs.Text.{bad_line, report_text, count}
-use Rattle.leancheck.specs.declared.report.Kind.TheVariants.{No, Memory}
+use Rattle.lk_text.specs.Text.{bad_line, report_text, count}
+use Rattle.lk_text.specs.declared.counts.Kind.TheVariants.{No, Memory}
 use Rattle.lk_lines.specs.declared.line.Fault.{Fault}
 use Rattle.lk_store.specs.declared.memory.NoMemory.{NoMemory as WantOfMemory}
 

@@ -8,9 +8,9 @@ use Rattle.lk_env.specs.declared.unit.Recursor.{Recursor}
 use Rattle.lk_env.specs.declared.unit.Unit.{Unit as StoredUnit}
 use Rattle.lk_env.specs.declared.unit.Unit.TheVariants as unit
 use Rattle.lk_env.specs.Units.{unit_at}
-use Rattle.leancheck.specs.declared.names.Component.{Component}
-use Rattle.leancheck.specs.declared.names.Component.TheVariants.{Text, Number}
-use Rattle.leancheck.specs.Text.{name_word}
+use Rattle.lk_text.specs.declared.names.Component.{Component}
+use Rattle.lk_text.specs.declared.names.Component.TheVariants.{Text, Number}
+use Rattle.lk_text.specs.Text.{name_word}
 
 abbrev pub part_at : Contents → Component → Part
 part_at c (Text s) = text (text_at c s)

@@ -5,13 +5,10 @@ use Rattle.lk_lines.specs.declared.line.Fault.{Fault}
 use Rattle.lk_lines.specs.Words.{word_text}
 use Rattle.lk_tree.specs.declared.rule.Rule.{Rule}
 use Rattle.lk_tree.specs.declared.rule.Rule.TheVariants.{UnknownConstant, LevelCount, UndeclaredLevel, DuplicateLevel, DuplicateName, LooseVariable, NotASort, NotAFunction, ArgumentType, LetType, ValueType, TheoremNotProp, BadProjection, PropProjection, WideLiteral, NoBuiltin, BuiltinShape, QuotShape, LevelWidth, BlockShape, ParameterDiffers, ConstructorResult, NotPositive, FieldUniverse, NestedForm, RecursorDiffers, NatLaw}
-use Rattle.leancheck.specs.declared.report.Kind.{Kind}
-use Rattle.leancheck.specs.declared.report.Kind.TheVariants.{Yes, No, Memory}
+use Rattle.lk_text.specs.declared.counts.Kind.{Kind}
+use Rattle.lk_text.specs.declared.counts.Kind.TheVariants.{Yes, No, Memory}
 use Rattle.lk_rulebook.specs.Units.{Body, as_axiom, as_def, as_thm, as_opaque, as_quot, LibraryUnit, of_decl, of_block, Library, Members, members_of}
 use Rattle.lk_verdict.specs.Told.{Verdict, accepted, rejected, out_of_steps, out_of_memory}
-
-abbrev pub usage_line : List ℕ
-usage_line = codes "usage: leancheck check|make|trial [--workers W] [--steps N] [--memo M] [--units N] [--seed S]\n"
 
 -- the line of a file's fault
 abbrev pub bad_line : Fault → List ℕ

@@ -1,8 +1,8 @@
 use Rattle.std.proofs.Common.{◌≡◌, ◌++◌, length, map}
 use Rattle.std.specs.Prelude.{All}
-use Rattle.leancheck.specs.Names.{part_at, IsPartIn}
-use Rattle.leancheck.specs.Text.{dotted}
-use Rattle.leancheck.proofs.names.add_parts.Given as goal
+use Rattle.lk_text.specs.Names.{part_at, IsPartIn}
+use Rattle.lk_text.specs.Text.{dotted}
+use Rattle.lk_text.proofs.names.add_parts.Given as goal
 
 abbrev pub invariant-loop-part : goal.invariant-loop-part
 invariant-loop-part g l =

@@ -3,10 +3,10 @@ use Rattle.std.proofs.Common.{◌≡◌, ℕ, ◌+◌, List, ◌∷◌, ◌++◌
 use Rattle.lk_store.specs.Contents.{Contents}
 use Rattle.lk_env.specs.declared.unit.Unit.{Unit as StoredUnit}
 use Rattle.lk_env.specs.Units.{unit_at, library_at}
-use Rattle.leancheck.specs.declared.checking.Verdict.{Verdict as HeldVerdict}
-use Rattle.leancheck.specs.Held.{verdict}
-use Rattle.leancheck.specs.Text.{kind_word, verdict_text, lines_text}
-use Rattle.leancheck.specs.Names.{unit_text}
+use Rattle.lk_text.specs.declared.verdicts.Verdict.{Verdict as HeldVerdict}
+use Rattle.lk_text.specs.Held.{verdict}
+use Rattle.lk_text.specs.Text.{kind_word, verdict_text, lines_text}
+use Rattle.lk_text.specs.Names.{unit_text}
 
 -- the lines of one more unit
 pub text_more : (c : Contents) (out new whole : List ℕ) (n : ℕ) (left more : List StoredUnit) (u : StoredUnit) (said others : List HeldVerdict) (v : HeldVerdict) → left ≡ u ∷ more → said ≡ v ∷ others

@@ -1,9 +1,9 @@
 use Rattle.std.proofs.Common.{◌≡◌, ◌<◌, ◌++◌, length}
 use Rattle.std.specs.Prelude.{All}
 use Rattle.lk_store.specs.Contents.{name_at}
-use Rattle.leancheck.specs.Names.{IsPartIn}
-use Rattle.leancheck.proofs.Components.{behind}
-use Rattle.leancheck.proofs.names.components.Given as goal
+use Rattle.lk_text.specs.Names.{IsPartIn}
+use Rattle.lk_text.proofs.Components.{behind}
+use Rattle.lk_text.proofs.names.components.Given as goal
 
 -- the components that were met are those behind the name at which the walk is
 abbrev pub invariant-up : goal.invariant-up

@@ -9,8 +9,8 @@ use Rattle.lk_env.specs.declared.unit.Recursor.{Recursor}
 use Rattle.lk_env.specs.declared.unit.Unit.{Unit as StoredUnit}
 use Rattle.lk_env.specs.declared.unit.Unit.TheVariants as unit
 use Rattle.lk_env.specs.Units.{type_at, recursor_at, IsTypeIn, IsRecursorIn, IsUnitIn}
-use Rattle.leancheck.specs.Text.{name_text, first_name}
-use Rattle.leancheck.specs.Names.{first_of_block, first_number, unit_text}
+use Rattle.lk_text.specs.Text.{name_text, first_name}
+use Rattle.lk_text.specs.Names.{first_of_block, first_number, unit_text}
 
 block_named : (c : Contents) (ts : List BlockType) (rs : List Recursor) (n : ℕ) → first_of_block ts rs ≡ Some n
     → first_name (members_of (of_block (record { types = map (type_at c) ts }) (map (recursor_at c) rs))) ≡ name_at c n

@@ -2,8 +2,8 @@
 
 ghost use Rattle.std.specs.Prelude.{◌≡◌, ◌<◌, ◌++◌, length, map, decimal, All, IfOk, OnOk};
 ghost use Rattle.lk_store.specs.Contents.{name_at};
-ghost use Rattle.leancheck.specs.Text.{part_text, dotted, name_text};
-ghost use Rattle.leancheck.specs.Names.{part_at, IsPartIn};
+ghost use Rattle.lk_text.specs.Text.{part_text, dotted, name_text};
+ghost use Rattle.lk_text.specs.Names.{part_at, IsPartIn};
 
 use itoa::Buffer;
 use lk_store::memory::NoMemory;

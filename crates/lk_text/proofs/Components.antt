@@ -5,9 +5,9 @@ use Rattle.std.proofs.lemmas.Grind.{reverse_onto}
 use Rattle.std.proofs.lemmas.List.{map-append}
 use Rattle.lk_tree.specs.Tree.{Name, Part}
 use Rattle.lk_store.specs.Contents.{Contents}
-use Rattle.leancheck.specs.declared.names.Component.{Component}
-use Rattle.leancheck.specs.Names.{part_at}
-use Rattle.leancheck.specs.Text.{part_text, dotted}
+use Rattle.lk_text.specs.declared.names.Component.{Component}
+use Rattle.lk_text.specs.Names.{part_at}
+use Rattle.lk_text.specs.Text.{part_text, dotted}
 
 -- the components that were met, as they stand in the name
 abbrev pub behind : Contents → List Component → Name

@@ -2,8 +2,8 @@ use Rattle.std.proofs.Common.{rules}
 use Rattle.std.proofs.lemmas.List.Elements.{All-rest}
 use Rattle.lk_store.specs.Store.{contents_of}
 use Rattle.lk_env.specs.Units.{IsUnitIn}
-use Rattle.leancheck.proofs.Shown.{text_more}
-use Rattle.leancheck.proofs.report.add_lines.Goals as goal
+use Rattle.lk_text.proofs.Shown.{text_more}
+use Rattle.lk_text.proofs.units.add_lines.Goals as goal
 
 pub loop-unit-preserved : goal.loop-unit-preserved
 loop-unit-preserved c =

@@ -1,7 +1,7 @@
 use Rattle.std.proofs.lemmas.List.Elements.{All-rest}
-use Rattle.leancheck.specs.Names.{IsPartIn}
-use Rattle.leancheck.proofs.Components.{dotted_more}
-use Rattle.leancheck.proofs.names.add_parts.Goals as goal
+use Rattle.lk_text.specs.Names.{IsPartIn}
+use Rattle.lk_text.proofs.Components.{dotted_more}
+use Rattle.lk_text.proofs.names.add_parts.Goals as goal
 
 pub loop-part-preserved : goal.loop-part-preserved
 loop-part-preserved g c =
