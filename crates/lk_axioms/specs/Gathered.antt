@@ -1,0 +1,73 @@
+-- What is known once the units before unit n are done.
+use Rattle.std.specs.Prelude.{ℕ, ◌≡◌, ◌<◌, ◌+◌, List, [], ◌∷◌, length, slice_index_or}
+use Rattle.std.specs.List.Sorted.{IsStrictlyIncreasing}
+use Rattle.lk_rulebook.specs.Units.{Library}
+use Rattle.lk_reach.specs.Axioms.{IsListOf}
+use Rattle.lk_store.specs.Contents.{Contents, tree_at}
+use Rattle.lk_store.specs.Store.{contents_of}
+use Rattle.lk_store.specs.declared.tables.Tables.{Tables}
+use Rattle.lk_env.specs.declared.unit.Unit.{Unit as StoredUnit}
+use Rattle.lk_env.specs.Units.{library_of}
+use Rattle.lk_axioms.specs.declared.finding.Finding.{Finding}
+use Rattle.lk_axioms.specs.declared.gathering.Gathering.{Gathering}
+use Rattle.lk_axioms.specs.Lists.{set_at, Keeps, IsUnion}
+use Rattle.lk_axioms.specs.Gives.{TreeGives, TreesGive, IsFinding, IsJoined, cell_at, IsKnown, IsSetOfUnit}
+
+pub record IsRight (c : Contents) (us : Library) (n : ℕ) (g : Gathering) : Type 0 where
+  pub empty_in : 0 < length g.sets
+  pub empty : set_at g.sets 0 ≡ []
+  pub one_each : length g.cells.items ≡ length c.trees
+  pub cells : (e : ℕ) → e < length c.trees → IsFinding (TreeGives us (tree_at c e)) n g.sets (cell_at g.cells.items e)
+  pub count : length g.units.items ≡ n
+  pub units : (m : ℕ) → m < n → IsSetOfUnit us g.sets m (slice_index_or g.units.items m 0)
+
+-- the same of the library of a store's tables and units
+abbrev pub IsRightFor : Tables × List StoredUnit → ℕ → Gathering → Type 0
+IsRightFor l n g = IsRight (contents_of l.0) (library_of l) n g
+
+-- the number of a unit, of fewer than 2 ^ 32
+abbrev pub IsUnitNumber : ℕ → Type 0
+IsUnitNumber n = n + 1 < 4294967296
+
+-- what is known stays known
+abbrev pub StaysKnown : ℕ → Gathering → Gathering → Type 0
+StaysKnown n old new = (e : ℕ) → IsKnown n old.cells.items e → IsKnown n new.cells.items e
+
+-- sets may have come, and a finding of P is made that holds at unit n
+pub record IsMade (P : ℕ → ℕ → Type 0) (n : ℕ) (old new : Gathering) (f : Finding) : Type 0 where
+  pub keeps : Keeps old.sets new.sets
+  pub cells : new.cells.items ≡ old.cells.items
+  pub units : new.units.items ≡ old.units.items
+  pub finding : IsFinding P n new.sets f
+  pub known : n < f.below
+
+-- two findings are joined, and nothing else is new
+pub record AreJoined (old new : Gathering) (a b r : Finding) : Type 0 where
+  pub joined : IsJoined old.sets new.sets a b r
+  pub cells : new.cells.items ≡ old.cells.items
+  pub units : new.units.items ≡ old.units.items
+
+-- what a tree leads to is known
+pub record IsLeft (c : Contents) (us : Library) (n e : ℕ) (old new : Gathering) : Type 0 where
+  pub right : IsRight c us n new
+  pub keeps : Keeps old.sets new.sets
+  pub stays : StaysKnown n old new
+  pub known : IsKnown n new.cells.items e
+
+-- a set is what these trees lead to at unit n
+pub record AreGathered (c : Contents) (us : Library) (n : ℕ) (es : List ℕ) (new : Gathering) (set : ℕ) : Type 0 where
+  pub right : IsRight c us n new
+  pub set_in : set < length new.sets
+  pub listed : IsListOf (TreesGive c us es n) (set_at new.sets set)
+
+-- a set is that of unit n
+pub record IsUnitGathered (c : Contents) (us : Library) (n : ℕ) (new : Gathering) (set : ℕ) : Type 0 where
+  pub right : IsRight c us n new
+  pub unit_set : IsSetOfUnit us new.sets n set
+
+-- the unit's own number is added to a set
+pub record HasItself (old new : List (List ℕ)) (n set r : ℕ) : Type 0 where
+  pub keeps : Keeps old new
+  pub set_in : r < length new
+  pub rising : IsStrictlyIncreasing (set_at new r)
+  pub union : IsUnion (set_at old set) (n ∷ []) (set_at new r)

@@ -1,0 +1,109 @@
+//! The trees that a unit states.
+
+ghost use Rattle.std.specs.Prelude.{◌≡◌, ◌++◌, map, IfOk, OnOk};
+ghost use Rattle.std.specs.List.{flat_map};
+ghost use Rattle.lk_axioms.specs.Stated.{body_numbers, constructor_numbers, recursor_numbers};
+ghost use Rattle.lk_axioms.specs.Stated.{stated_numbers};
+
+use lk_env::unit::{
+    Block, BlockType, Body, Constructor, Declaration, Recursor, RecursorRule, Unit,
+};
+use lk_store::memory::NoMemory;
+use std::alloc::Global;
+
+fn push_types(trees: &mut Vec<u64>, types: &[BlockType]) -> Result<(), NoMemory>
+    ensures { OnOk result (trees.new.items ≡ trees.old.items ++ map (λ t. t.ty) types.now) }
+{
+    for t in types {
+        trees.push(t.ty)?;
+    }
+    Ok(())
+}
+
+fn push_constructors(trees: &mut Vec<u64>, constructors: &[Constructor]) -> Result<(), NoMemory>
+    ensures { OnOk result (trees.new.items ≡ trees.old.items ++ map (λ k. k.ty) constructors.now) }
+{
+    for k in constructors {
+        trees.push(k.ty)?;
+    }
+    Ok(())
+}
+
+fn push_constructors_of_all(trees: &mut Vec<u64>, types: &[BlockType]) -> Result<(), NoMemory>
+    ensures { OnOk result (trees.new.items ≡ trees.old.items
+        ++ flat_map constructor_numbers types.now) }
+{
+    for t in types {
+        push_constructors(trees, &t.constructors)?;
+    }
+    Ok(())
+}
+
+fn push_rules(trees: &mut Vec<u64>, rules: &[RecursorRule]) -> Result<(), NoMemory>
+    ensures { OnOk result (trees.new.items ≡ trees.old.items ++ map (λ x. x.value) rules.now) }
+{
+    for rule in rules {
+        trees.push(rule.value)?;
+    }
+    Ok(())
+}
+
+fn push_recursor(trees: &mut Vec<u64>, recursor: &Recursor) -> Result<(), NoMemory>
+    ensures { OnOk result (trees.new.items ≡ trees.old.items ++ recursor_numbers recursor.now) }
+{
+    trees.push(recursor.ty)?;
+    push_rules(trees, &recursor.rules)
+}
+
+fn push_recursors(trees: &mut Vec<u64>, recursors: &[Recursor]) -> Result<(), NoMemory>
+    ensures { OnOk result (trees.new.items ≡ trees.old.items
+        ++ flat_map recursor_numbers recursors.now) }
+{
+    for r in recursors {
+        push_recursor(trees, r)?;
+    }
+    Ok(())
+}
+
+fn push_body(trees: &mut Vec<u64>, body: Body) -> Result<(), NoMemory>
+    ensures { OnOk result (trees.new.items ≡ trees.old.items ++ body_numbers body) }
+{
+    match body {
+        Body::Axiom => {}
+        Body::Quotient => {}
+        Body::Definition { value, .. } => trees.push(value)?,
+        Body::Opaque { value } => trees.push(value)?,
+        Body::Theorem { proof } => trees.push(proof)?,
+    }
+    Ok(())
+}
+
+fn trees_of_declaration(alloc: Global, declaration: &Declaration) -> Result<Vec<u64>, NoMemory>
+    ensures { IfOk result (λ trees. trees.items
+        ≡ stated_numbers (Unit.Declaration declaration.now)) }
+{
+    let mut trees = Vec::new(alloc);
+    trees.push(declaration.ty)?;
+    push_body(&mut trees, declaration.body)?;
+    Ok(trees)
+}
+
+fn trees_of_block(alloc: Global, block: &Block) -> Result<Vec<u64>, NoMemory>
+    ensures { IfOk result (λ trees. trees.items ≡ stated_numbers (Unit.Block block.now)) }
+{
+    let mut trees = Vec::new(alloc);
+    push_types(&mut trees, &block.types)?;
+    push_constructors_of_all(&mut trees, &block.types)?;
+    push_recursors(&mut trees, &block.recursors)?;
+    Ok(trees)
+}
+
+/// The trees of a unit, member by member.
+pub(crate) fn stated_trees(alloc: Global, unit: &Unit) -> Result<Vec<u64>, NoMemory>
+    ensures { IfOk result (λ trees. trees.items ≡ stated_numbers unit.now) }
+{
+    match unit {
+        Unit::Declaration(declaration) => trees_of_declaration(alloc, declaration),
+        Unit::Block(block) => trees_of_block(alloc, block),
+    }
+}

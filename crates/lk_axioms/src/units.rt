@@ -1,0 +1,123 @@
+//! The units, in their order: the set of each, from what its trees lead to.
+
+ghost use Rattle.std.specs.Prelude.{◌≡◌, ◌<◌, ◌+◌, [], length, All, Some, slice_get, IfOk, OnOk};
+ghost use Rattle.lk_reach.specs.Axioms.{is_axiom as is_axiom_unit};
+ghost use Rattle.lk_store.specs.Contents.{Contents};
+ghost use Rattle.lk_store.specs.Store.{contents_of};
+ghost use Rattle.lk_env.specs.Units.{unit_at, library_of, IsUnitIn};
+ghost use Rattle.lk_axioms.specs.Gathered.{IsRightFor, IsUnitNumber, AreGathered, IsUnitGathered};
+ghost use Rattle.lk_axioms.specs.Gathered.{HasItself};
+
+use crate::gathering::{Gathering, gather};
+use crate::sets::Sets;
+use crate::stated::stated_trees;
+use lk_env::library::Library;
+use lk_env::unit::{Body, Unit};
+use lk_store::memory::NoMemory;
+use std::alloc::Global;
+
+/// The set of what the trees lead to.
+fn gather_trees(
+    alloc: Global,
+    library: &Library,
+    gathering: &mut Gathering,
+    unit: u32,
+    trees: &[u64],
+) -> Result<u32, NoMemory>
+    requires right { IsRightFor library.now unit gathering.old }
+    requires few { IsUnitNumber unit }
+    requires trees_in { All (λ e. e < length (contents_of library.now.0).trees) trees.now }
+    ensures { IfOk result (AreGathered (contents_of library.now.0) (library_of library.now) unit
+        trees.now gathering.new) }
+{
+    let mut used: u32 = 0;
+    for tree in trees {
+        gather(alloc, library, gathering, unit, *tree)?;
+        let found = gathering.cells[*tree as usize];
+        used = gathering.sets.union(alloc, used, found.set)?;
+    }
+    Ok(used)
+}
+
+/// Whether a unit is an axiom. Constants of quotient types are none.
+fn is_axiom(unit: &Unit) -> bool
+    ensures { (c : Contents) → result ≡ is_axiom_unit (unit_at c unit.now) }
+{
+    match unit {
+        Unit::Declaration(declaration) => matches!(declaration.body, Body::Axiom),
+        Unit::Block(_) => false,
+    }
+}
+
+/// A set with the unit itself.
+fn add_itself(alloc: Global, sets: &mut Sets, unit: u32, set: u32) -> Result<u32, NoMemory>
+    requires { set < length sets.old }
+    ensures { IfOk result (HasItself sets.old sets.new unit set) }
+{
+    let own = sets.add(Vec::from_array(alloc, [unit])?)?;
+    sets.union(alloc, set, own)
+}
+
+/// The set of a unit.
+fn gather_unit(
+    alloc: Global,
+    library: &Library,
+    gathering: &mut Gathering,
+    unit: u32,
+    stated: &Unit,
+) -> Result<u32, NoMemory>
+    requires right { IsRightFor library.now unit gathering.old }
+    requires few { IsUnitNumber unit }
+    requires stands { slice_get (library_of library.now) unit
+        ≡ Some (unit_at (contents_of library.now.0) stated.now) }
+    requires stated_in { IsUnitIn (contents_of library.now.0) stated.now }
+    ensures { IfOk result (IsUnitGathered (contents_of library.now.0) (library_of library.now) unit
+        gathering.new) }
+{
+    let trees = stated_trees(alloc, stated)?;
+    let used = gather_trees(alloc, library, gathering, unit, &trees)?;
+    if is_axiom(stated) {
+        add_itself(alloc, &mut gathering.sets, unit, used)
+    } else {
+        Ok(used)
+    }
+}
+
+/// Gathers one more unit.
+fn push_unit(
+    alloc: Global,
+    library: &Library,
+    gathering: &mut Gathering,
+    unit: u32,
+    stated: &Unit,
+) -> Result<(), NoMemory>
+    requires right { IsRightFor library.now unit gathering.old }
+    requires few { IsUnitNumber unit }
+    requires stands { slice_get (library_of library.now) unit
+        ≡ Some (unit_at (contents_of library.now.0) stated.now) }
+    requires stated_in { IsUnitIn (contents_of library.now.0) stated.now }
+    ensures { OnOk result (IsRightFor library.now (unit + 1) gathering.new) }
+{
+    let set = gather_unit(alloc, library, gathering, unit, stated)?;
+    gathering.units.push(set)?;
+    Ok(())
+}
+
+/// Gathers all units. They are fewer than 2^32; more are want of memory.
+pub(crate) fn gather_units(
+    alloc: Global,
+    library: &Library,
+    gathering: &mut Gathering,
+) -> Result<(), NoMemory>
+    requires { IsRightFor library.now 0 gathering.old }
+    ensures { OnOk result (IsRightFor library.now (length library.now.1) gathering.new) }
+{
+    let units = library.units();
+    if units.len() > u32::MAX as usize {
+        return Err(NoMemory);
+    }
+    for (i, unit) in units.iter().enumerate() {
+        push_unit(alloc, library, gathering, i as u32, unit)?;
+    }
+    Ok(())
+}
