@@ -46,9 +46,9 @@ IsChecked ReadFault = ⊥
 IsChecked WriteFault = ⊥
 IsChecked NoMemory = ⊥
 
--- the bytes spell a library, and what is told of it has a verdict for each of its units, the plain one under these steps or
--- memory, and their summary; a unit whose verdict is yes is good, where each unit before it that gives an operation on numbers
--- with laws says yes too; the status belongs to the verdicts
+-- the bytes spell a library, and what is told of it is by a verdict for each of its units, the plain one under these steps or
+-- memory; a unit whose verdict is yes is good, where each unit before it that gives an operation on numbers with laws says yes
+-- too; the status belongs to the verdicts
 pub record IsReport (extent : Extent) (steps : ℕ) (bytes : List ℕ) (status : Status) (text : List ℕ) : Type 0 where
   pub library : Library
   pub verdicts : List Verdict

@@ -6,7 +6,7 @@ use Rattle.lk_text.specs.Text.{report_text, summary_text}
 use Rattle.leancheck.specs.declared.extent.Extent.{Extent}
 use Rattle.leancheck.specs.declared.extent.Extent.TheVariants.{Report, Summary}
 
--- the lines of its units and the last line, or the last line alone
+-- the lines of its units with their axioms and the last line, or the last line alone
 abbrev pub text_of : Extent → Library → List Verdict → List ℕ
 text_of Report us vs = report_text us vs
 text_of Summary us vs = summary_text vs

@@ -116,7 +116,7 @@ fn blocks(rt: HostRuntime) -> Result<(), Fail> {
             rt.alloc(),
             "leancheck check",
             BLOCK,
-            b"yes block 0 T\nyes axiom 1 P\nyes axiom 2 p\nyes thm 3 q\nunits 4 yes 4 no 0 memory 0\n",
+            b"yes block 0 T\nyes axiom 1 P\n  axiom P\nyes axiom 2 p\n  axiom P\n  axiom p\nyes thm 3 q\n  axiom P\n  axiom p\nunits 4 yes 4 no 0 memory 0\n",
             Status::AllYes
         )?
     );
@@ -126,7 +126,7 @@ fn blocks(rt: HostRuntime) -> Result<(), Fail> {
             rt.alloc(),
             "leancheck check",
             NOT_POSITIVE,
-            b"yes axiom 0 N\nno block 1 T\n  why NotPositive\nunits 2 yes 1 no 1 memory 0\n",
+            b"yes axiom 0 N\n  axiom N\nno block 1 T\n  why NotPositive\n  axiom N\nunits 2 yes 1 no 1 memory 0\n",
             Status::SomeNo
         )?
     );
@@ -233,25 +233,25 @@ fn axioms(rt: HostRuntime) -> Result<(), Fail> {
         (
             "leancheck check",
             b"1 #NS 0 a b\n2 #NS 1 \n0 #ES 0\n#AX 2 0\n",
-            b"yes axiom 0 a b.\nunits 1 yes 1 no 0 memory 0\n",
+            b"yes axiom 0 a b.\n  axiom a b.\nunits 1 yes 1 no 0 memory 0\n",
             Status::AllYes,
         ),
         (
             "leancheck check --steps 1",
             AXIOMS,
-            b"no axiom 0 a\n  why LooseVariable\nno axiom 1 b\n  why steps\nunits 2 yes 0 no 2 memory 0\n",
+            b"no axiom 0 a\n  why LooseVariable\n  axiom a\nno axiom 1 b\n  why steps\n  axiom b\nunits 2 yes 0 no 2 memory 0\n",
             Status::SomeNo,
         ),
         (
             "leancheck check --steps 3",
             AXIOMS,
-            b"no axiom 0 a\n  why LooseVariable\nyes axiom 1 b\nunits 2 yes 1 no 1 memory 0\n",
+            b"no axiom 0 a\n  why LooseVariable\n  axiom a\nyes axiom 1 b\n  axiom b\nunits 2 yes 1 no 1 memory 0\n",
             Status::SomeNo,
         ),
         (
             "leancheck check --steps 3",
             OF_A_LOOSE_ONE,
-            b"no axiom 0 a\n  why LooseVariable\nyes axiom 1 b\nno axiom 2 c\n  why LooseVariable\nunits 3 yes 1 no 2 memory 0\n",
+            b"no axiom 0 a\n  why LooseVariable\n  axiom a\nyes axiom 1 b\n  axiom b\nno axiom 2 c\n  why LooseVariable\n  axiom a\n  axiom c\nunits 3 yes 1 no 2 memory 0\n",
             Status::SomeNo,
         ),
     ];
@@ -275,7 +275,7 @@ fn applications(rt: HostRuntime) -> Result<(), Fail> {
             alloc,
             "leancheck check",
             APPLIED,
-            b"yes axiom 0 A\nyes axiom 1 B\nyes axiom 2 f\nyes axiom 3 b\nno thm 4 x\n  why ArgumentType\nyes thm 5 y\nunits 6 yes 5 no 1 memory 0\n",
+            b"yes axiom 0 A\n  axiom A\nyes axiom 1 B\n  axiom B\nyes axiom 2 f\n  axiom A\n  axiom f\nyes axiom 3 b\n  axiom B\n  axiom b\nno thm 4 x\n  why ArgumentType\n  axiom A\n  axiom B\n  axiom f\n  axiom b\nyes thm 5 y\n  axiom A\n  axiom B\n  axiom f\n  axiom b\nunits 6 yes 5 no 1 memory 0\n",
             Status::SomeNo
         )?
     );

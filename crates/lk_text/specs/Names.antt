@@ -10,7 +10,8 @@ use Rattle.lk_env.specs.declared.unit.Unit.TheVariants as unit
 use Rattle.lk_env.specs.Units.{unit_at}
 use Rattle.lk_text.specs.declared.names.Component.{Component}
 use Rattle.lk_text.specs.declared.names.Component.TheVariants.{Text, Number}
-use Rattle.lk_text.specs.Text.{name_word}
+use Rattle.lk_verdict.specs.Told.{Verdict}
+use Rattle.lk_text.specs.Text.{name_word, kind_word, verdict_text}
 
 abbrev pub part_at : Contents → Component → Part
 part_at c (Text s) = text (text_at c s)
@@ -33,3 +34,7 @@ first_number (unit.Block b) = first_of_block b.types.items b.recursors.items
 -- the text of the name that the unit goes by
 abbrev pub unit_text : Contents → StoredUnit → List ℕ
 unit_text c u = name_word (unit_at c u)
+
+-- the lines of the verdict of unit n
+abbrev pub unit_lines : Contents → ℕ → StoredUnit → Verdict → List ℕ
+unit_lines c n u v = verdict_text (kind_word (unit_at c u)) n (unit_text c u) v

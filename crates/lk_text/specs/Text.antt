@@ -1,5 +1,5 @@
 -- What is written.
-use Rattle.std.specs.Prelude.{ℕ, ◌+◌, Bool, true, false, List, [], ◌∷◌, ◌++◌, length, decimal, codes, if◌then◌else◌}
+use Rattle.std.specs.Prelude.{ℕ, ◌+◌, Bool, true, false, List, [], ◌∷◌, ◌++◌, length, slice_get, Option, Some, None, decimal, codes, if◌then◌else◌}
 use Rattle.lk_tree.specs.Tree.{Name, Part, text, number}
 use Rattle.lk_lines.specs.declared.line.Fault.{Fault}
 use Rattle.lk_lines.specs.Words.{word_text}
@@ -8,6 +8,7 @@ use Rattle.lk_tree.specs.declared.rule.Rule.TheVariants.{UnknownConstant, LevelC
 use Rattle.lk_text.specs.declared.counts.Kind.{Kind}
 use Rattle.lk_text.specs.declared.counts.Kind.TheVariants.{Yes, No, Memory}
 use Rattle.lk_rulebook.specs.Units.{Body, as_axiom, as_def, as_thm, as_opaque, as_quot, LibraryUnit, of_decl, of_block, Library, Members, members_of}
+use Rattle.lk_reach.specs.Computed.{axioms_of}
 use Rattle.lk_verdict.specs.Told.{Verdict, accepted, rejected, out_of_steps, out_of_memory}
 
 -- the line of a file's fault
@@ -95,11 +96,25 @@ verdict_text kind n name (rejected r) = head_text (codes "no") kind n name ++ wh
 verdict_text kind n name out_of_steps = head_text (codes "no") kind n name ++ why_text (codes "steps")
 verdict_text kind n name out_of_memory = head_text (codes "no") kind n name ++ why_text (codes "memory")
 
--- the lines of these units, of which the first is number n
-abbrev pub lines_text : ℕ → Library → List Verdict → List ℕ
-lines_text n [] vs = []
-lines_text n (u ∷ us) [] = []
-lines_text n (u ∷ us) (v ∷ vs) = verdict_text (kind_word u) n (name_word u) v ++ lines_text (n + 1) us vs
+-- the line of an axiom of this name
+abbrev pub axiom_text : List ℕ → List ℕ
+axiom_text name = codes "  axiom " ++ (name ++ 10 ∷ [])
+
+-- the line of the axiom that stands there
+abbrev pub axiom_at : Option LibraryUnit → List ℕ
+axiom_at None = []
+axiom_at (Some u) = axiom_text (name_word u)
+
+-- the lines of axioms, by their numbers
+abbrev pub axioms_text : Library → List ℕ → List ℕ
+axioms_text us [] = []
+axioms_text us (k ∷ ks) = axiom_at (slice_get us k) ++ axioms_text us ks
+
+-- the lines of the units from number n on, each with those of the axioms that it rests on
+abbrev pub lines_text : Library → ℕ → Library → List Verdict → List ℕ
+lines_text us n [] vs = []
+lines_text us n (u ∷ more) [] = []
+lines_text us n (u ∷ more) (v ∷ vs) = verdict_text (kind_word u) n (name_word u) v ++ (axioms_text us (axioms_of us n) ++ lines_text us (n + 1) more vs)
 
 -- whether a verdict is of this kind
 abbrev pub is_of : Kind → Verdict → Bool
@@ -131,4 +146,4 @@ summary_text vs = counted_text (codes "units ") (length vs) ++ (counted_text (co
 
 -- the whole text for these units and verdicts
 abbrev pub report_text : Library → List Verdict → List ℕ
-report_text us vs = lines_text 0 us vs ++ summary_text vs
+report_text us vs = lines_text us 0 us vs ++ summary_text vs

@@ -3,25 +3,32 @@
 ghost use Rattle.std.specs.Prelude.{◌≡◌, map, IfOk};
 ghost use Rattle.lk_text.specs.Held.{verdict};
 ghost use Rattle.lk_text.specs.Text.{bad_line, report_text};
-ghost use Rattle.lk_store.specs.Store.{contents_of};
-ghost use Rattle.lk_env.specs.Units.{library_at};
+ghost use Rattle.lk_axioms.specs.Lists.{axiom_lists};
+ghost use Rattle.lk_env.specs.Units.{library_of};
 
 use crate::counts::add_summary;
 use crate::units::add_lines;
 use crate::verdicts::Verdict;
 use itoa::Buffer;
+use lk_axioms::AxiomSets;
 use lk_env::library::Library;
 use lk_lines::Fault;
 use lk_store::memory::NoMemory;
 use std::alloc::Global;
 
-/// The lines of the units and the last line.
-pub fn report(alloc: Global, library: &Library, verdicts: &[Verdict]) -> Result<Vec<u8>, NoMemory>
-    ensures { IfOk result (λ v. v.items ≡ report_text
-        (library_at (contents_of library.now.0) library.now.1) (map verdict verdicts.now)) }
+/// The lines of the units, each with the axioms that it rests on, and the last line.
+pub fn report(
+    alloc: Global,
+    library: &Library,
+    axioms: &AxiomSets,
+    verdicts: &[Verdict],
+) -> Result<Vec<u8>, NoMemory>
+    requires { axioms.now ≡ axiom_lists (library_of library.now) }
+    ensures { IfOk result (λ v. v.items ≡ report_text (library_of library.now)
+        (map verdict verdicts.now)) }
 {
     let mut out = Vec::new(alloc);
-    add_lines(alloc, &mut out, library, verdicts)?;
+    add_lines(alloc, &mut out, library, axioms, verdicts)?;
     add_summary(&mut out, verdicts)?;
     Ok(out)
 }

@@ -2,7 +2,7 @@
 
 ghost use Rattle.std.specs.Prelude.{◌≡◌, ◌++◌, codes, OnOk};
 ghost use Rattle.lk_text.specs.Held.{verdict};
-ghost use Rattle.lk_text.specs.Text.{rule_word, title_text, head_text, why_text, verdict_text};
+ghost use Rattle.lk_text.specs.Text.{rule_word, title_text, head_text, why_text, axiom_text, verdict_text};
 
 use crate::names::add_number;
 use lk_store::memory::NoMemory;
@@ -90,6 +90,16 @@ fn add_why(out: &mut Vec<u8>, word: &[u8]) -> Result<(), NoMemory>
 {
     out.extend_from_slice(b"  why ")?;
     out.extend_from_slice(word)?;
+    out.push(b'\n')?;
+    Ok(())
+}
+
+/// Appends the line of an axiom.
+pub fn add_axiom(out: &mut Vec<u8>, name: &[u8]) -> Result<(), NoMemory>
+    ensures { OnOk result (out.new.items ≡ out.old.items ++ axiom_text name.now) }
+{
+    out.extend_from_slice(b"  axiom ")?;
+    out.extend_from_slice(name)?;
     out.push(b'\n')?;
     Ok(())
 }
