@@ -247,7 +247,7 @@ pub fn run<R: Threads + Wait + Sync, S: Source, K: Sink, G: Gate>(
     ensures no_memory { result ≡ Status.NoMemory → K.written sink.new ≡ K.written sink.old }
 {
     match line_means(alloc, words) {
-        Ok(Meaning::Check(options)) => { check(alloc, Extent::Report, options, source, sink, gate) }
+        Ok(Meaning::Check(options)) => check(alloc, Extent::Report, options, source, sink, gate),
         Ok(Meaning::Make(sample)) => make(alloc, sample, sink),
         Ok(Meaning::Trial(sample, options)) => trial(alloc, sample, options, sink, gate),
         Err(LineError::Usage) => tell_usage(sink),
