@@ -9,8 +9,9 @@ use Rattle.lk_store.specs.Contents.{Contents}
 use Rattle.lk_env.specs.declared.unit.Unit.{Unit as StoredUnit}
 use Rattle.lk_env.specs.Units.{unit_at, library_at}
 use Rattle.leancheck.specs.Rows.{row_verdict}
-use Rattle.leancheck.specs.declared.checking.Verdict.{Verdict as HeldVerdict}
-use Rattle.leancheck.specs.Held.{verdict, IsPlain}
+use Rattle.lk_text.specs.declared.verdicts.Verdict.{Verdict as HeldVerdict}
+use Rattle.lk_text.specs.Held.{verdict}
+use Rattle.leancheck.specs.Held.{IsPlain}
 use Rattle.leancheck.proofs.Scanning.{found_plain, good_of_plain}
 
 -- the item of a list that is one longer

@@ -2,10 +2,7 @@ pub mod Scanning
 pub mod Judging
 pub mod Worked
 pub mod Checks
-pub mod Shown
 pub mod Joined
-pub mod Naming
-pub mod Components
 pub mod Verdicts
 pub mod WordLaws
 pub mod Files

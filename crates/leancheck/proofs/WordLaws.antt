@@ -1,6 +1,6 @@
 -- What words mean.
-use Rattle.std.proofs.Common.{◌≡◌, List, [], true, refl, sym, ap, ◌∙◌, subst, inl, inr}
-use Rattle.std.specs.Prelude.{◌⊎◌}
+use Rattle.std.proofs.Common.{◌≡◌, List, [], Option, Some, None, true, refl, sym, ap, ◌∙◌, subst, inl, inr}
+use Rattle.std.specs.Prelude.{◌⊎◌, IfNone}
 use Rattle.clap.specs.declared.parser.matches.ArgMatches.{ArgMatches}
 use Rattle.clap.specs.declared.error.kind.ErrorKind.{ErrorKind}
 use Rattle.clap.specs.Words.{App, HasMatchesOf, IsAmong, Text, fault_of, is_simple, is_simple_and_free, subcommand_of, subcommand_rows_of}
@@ -30,3 +30,8 @@ matching a words m is h = (h (ap is_simple is ∙ simple)).1 ∙ ap (λ (x : App
 -- an error whose kind is not memory comes only where there is a fault
 pub faulty : (a : App) (words : List Text) (kind memory : ErrorKind) → a ≡ leancheck → (kind ≡ memory → ⊥) → (is_simple_and_free a ≡ true → (kind ≡ memory) ⊎ IsAmong kind (fault_of a words)) → fault_of leancheck words ≡ [] → ⊥
 faulty a words kind memory is other k none = among kind memory (fault_of a words) other (k (ap is_simple_and_free is ∙ simple_and_free)) (ap (λ (x : App). fault_of x words) is ∙ none)
+
+-- what holds at all holds where there is none
+pub at_none : {A : Type 0} (o : Option A) (P : Type 0) → P → IfNone o P
+at_none None P h = h
+at_none (Some x) P h = tt

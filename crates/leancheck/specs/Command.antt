@@ -1,13 +1,34 @@
 -- The program's command, as `clap` reads it.
-use Rattle.std.specs.Prelude.{codes, Some}
+use Rattle.std.specs.Prelude.{ℕ, List, codes, Some, true}
 use Rattle.clap.specs.Words.{App, Rule, Text, new_app, new_rule, with_rule, with_subcommand}
 
 -- an option --ID with one value
 abbrev pub option : Text → Rule
 option id = record (new_rule id) { long = Some id }
 
+-- one that has to be given
+abbrev pub required_option : Text → Rule
+required_option id = record (option id) { required = true }
+
+-- how a check is to go
+abbrev pub with_options : App → App
+with_options a = with_rule (with_rule (with_rule a (option (codes "workers"))) (option (codes "steps"))) (option (codes "memo"))
+
+-- which file is to be made
+abbrev pub with_sample : App → App
+with_sample a = with_rule (with_rule a (required_option (codes "units"))) (required_option (codes "seed"))
+
 abbrev pub check : App
-check = with_rule (with_rule (with_rule (new_app (codes "check")) (option (codes "workers"))) (option (codes "steps"))) (option (codes "memo"))
+check = with_options (new_app (codes "check"))
+
+abbrev pub make : App
+make = with_sample (new_app (codes "make"))
+
+abbrev pub trial : App
+trial = with_options (with_sample (new_app (codes "trial")))
 
 abbrev pub leancheck : App
-leancheck = with_subcommand (new_app (codes "leancheck")) check.top
+leancheck = with_subcommand (with_subcommand (with_subcommand (new_app (codes "leancheck")) check.top) make.top) trial.top
+
+abbrev pub usage_line : List ℕ
+usage_line = codes "usage: leancheck check|make|trial [--workers W] [--steps N] [--memo M] [--units N] [--seed S]\n"

@@ -1,18 +1,13 @@
--- What verdicts that are held stand for.
+-- How the verdicts that are found stand to the plain ones.
 use Rattle.std.specs.Prelude.{◌≡◌, ◌⊎◌, Result, Ok, Err}
 use Rattle.lk_ask.specs.declared.stop.Stop.{Stop}
 use Rattle.lk_ask.specs.declared.stop.Stop.TheVariants as stop
 use Rattle.lk_scan.specs.declared.scan.ScanError.{ScanError}
 use Rattle.lk_scan.specs.declared.scan.ScanError.TheVariants as error
-use Rattle.lk_verdict.specs.Told.{Verdict, accepted, rejected, out_of_steps, out_of_memory}
-use Rattle.leancheck.specs.declared.checking.Verdict.{Verdict as HeldVerdict}
-use Rattle.leancheck.specs.declared.checking.Verdict.TheVariants.{Yes, No, Steps, Memory}
-
-abbrev pub verdict : HeldVerdict → Verdict
-verdict Yes = accepted
-verdict (No r) = rejected r
-verdict Steps = out_of_steps
-verdict Memory = out_of_memory
+use Rattle.lk_verdict.specs.Told.{Verdict, out_of_memory}
+use Rattle.lk_text.specs.declared.verdicts.Verdict.{Verdict as HeldVerdict}
+use Rattle.lk_text.specs.declared.verdicts.Verdict.TheVariants.{Yes, No, Steps, Memory}
+use Rattle.lk_text.specs.Held.{verdict}
 
 -- the plain verdict, or memory in its place
 abbrev pub IsPlain : Verdict → HeldVerdict → Type 0

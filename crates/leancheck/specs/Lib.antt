@@ -1,8 +1,7 @@
 pub mod Command
 pub mod Ends
+pub mod Extents
 pub mod Held
-pub mod Names
-pub mod Text
 pub mod Words
 pub mod Rows
 pub mod Standing

@@ -13,7 +13,8 @@ ghost use Rattle.lk_env.specs.Units.{declaration_at, unit_at, library_of};
 ghost use Rattle.lk_env.specs.Units.{IsStatedIn, IsBodyIn, IsUnitIn};
 ghost use Rattle.leancheck.specs.Rows.{questions_of, asked_of, scanned_of, row_verdict};
 ghost use Rattle.leancheck.specs.Standing.{StandsAt};
-ghost use Rattle.leancheck.specs.Held.{verdict, result_verdict, scan_verdict, IsPlain};
+ghost use Rattle.leancheck.specs.Held.{result_verdict, scan_verdict, IsPlain};
+ghost use Rattle.lk_text.specs.Held.{verdict};
 
 use crate::blocks::check_block;
 use crate::quotients::check_quotient;
@@ -32,20 +33,10 @@ use lk_scan::names::are_new;
 use lk_scan::scan::{ScanError, scan};
 use lk_store::base_store::BaseStore;
 use lk_store::memory::NoMemory;
+use lk_text::Verdict;
 use lk_tree::rule::Rule;
 use std::alloc::Global;
 use std::mem::drop;
-
-/// What is said of a unit.
-#[derive(Clone, Copy)]
-pub enum Verdict {
-    Yes,
-    No(Rule),
-    /// The budget is used up.
-    Steps,
-    /// Memory is wanting.
-    Memory,
-}
 
 /// The verdict that the outcome of a unit's questions gives.
 fn verdict_of(outcome: Result<(), Stop>) -> Verdict

@@ -7,40 +7,47 @@ ghost use Rattle.lk_lines.specs.declared.line.Fault.{Fault as LineFault};
 ghost use Rattle.lk_store.specs.Store.{contents_of};
 ghost use Rattle.lk_env.specs.Units.{library_at};
 ghost use Rattle.lk_book.specs.File.{library_of};
-ghost use Rattle.leancheck.specs.Words.{IsMeaningless, MeansCheck, texts_of};
+ghost use Rattle.lk_text.specs.Text.{bad_line};
+ghost use Rattle.lk_generator.specs.Generated.{file_of};
+ghost use Rattle.leancheck.specs.Command.{usage_line};
+ghost use Rattle.leancheck.specs.Words.{IsMeaningless, Means, MeansCheck, texts_of};
+ghost use Rattle.leancheck.specs.declared.words.Meaning.{Meaning as WordsMeaning};
 ghost use Rattle.leancheck.specs.declared.words.Options.{Options as CheckOptions};
-ghost use Rattle.leancheck.specs.Text.{usage_line, bad_line};
-ghost use Rattle.leancheck.specs.Ends.{Gives, IsChecked, Reports, WritesPrefix};
+ghost use Rattle.leancheck.specs.Ends.{Begins, Does, FindsFault, Gives, IsChecked, Reports, WritesPrefix};
 
 use crate::checking::check_all;
-use crate::report::{fault_line, report, status_of};
-use crate::status::Status;
-use crate::words::{LineError, Meaning, Options, line_means};
+use crate::extent::{Extent, text_of};
+use crate::status::{Status, status_of};
+use crate::words::{LineError, Meaning, Options, Sample, line_means};
 use lk_book::{ReadError, read_library};
 use lk_env::library::Library;
+use lk_generator::generate;
 use lk_lines::Fault;
-use lk_port::{Gate, Sink, Source, write_all};
+use lk_port::{Gate, MemSource, Sink, Source, write_all};
 use lk_store::memory::NoMemory;
+use lk_text::fault_line;
 use std::alloc::Global;
 use std::sync::Wait;
 use std::thread::Threads;
 
-/// What is written for the units of a library, and the status. So many answers are kept.
+/// What is told of a library, and the status. So many answers are kept.
 fn checked<G: Gate>(
     alloc: Global,
+    extent: Extent,
     library: &Library,
     steps: u128,
     kept: u32,
     gate: &G,
 ) -> Result<(Vec<u8>, Status), NoMemory>
     ensures gives { (bytes : List ℕ) → library_of bytes
-        ≡ Ok (library_at (contents_of library.now.0) library.now.1) → Gives steps bytes result }
+        ≡ Ok (library_at (contents_of library.now.0) library.now.1)
+        → Gives extent steps bytes result }
     ensures status { IfOk result (λ r. IsChecked r.1) }
 {
     let Ok(verdicts) = check_all(alloc, library, steps, kept, gate) else {
         return Err(NoMemory);
     };
-    let Ok(text) = report(alloc, library, &verdicts) else {
+    let Ok(text) = text_of(alloc, extent, library, &verdicts) else {
         return Err(NoMemory);
     };
     let status = status_of(&verdicts);
@@ -86,9 +93,10 @@ fn tell_fault<K: Sink>(alloc: Global, fault: Fault, sink: &mut K) -> Status
     }
 }
 
-/// Checks the units of a library, and writes a verdict for each. So many answers are kept.
+/// Checks the units of a library, and writes what is to be told of it. So many answers are kept.
 fn tell_verdicts<K: Sink, G: Gate>(
     alloc: Global,
+    extent: Extent,
     library: &Library,
     steps: u128,
     kept: u32,
@@ -97,17 +105,17 @@ fn tell_verdicts<K: Sink, G: Gate>(
 ) -> Status
     ensures told { IsChecked result → ((bytes : List ℕ) → library_of bytes
         ≡ Ok (library_at (contents_of library.now.0) library.now.1)
-        → Reports steps bytes result (K.written sink.old) (K.written sink.new))
+        → Reports extent steps bytes result (K.written sink.old) (K.written sink.new))
         × (K.faults sink.new ≡ K.faults sink.old) }
     ensures failed { result ≡ Status.WriteFault
         → ((bytes : List ℕ) → library_of bytes
         ≡ Ok (library_at (contents_of library.now.0) library.now.1)
-        → WritesPrefix steps bytes (K.written sink.old) (K.written sink.new))
+        → WritesPrefix extent steps bytes (K.written sink.old) (K.written sink.new))
         × Rose (K.faults sink.old) (K.faults sink.new) }
     ensures no_memory { result ≡ Status.NoMemory → sink.new ≡ sink.old }
     ensures only { IsChecked result ⊎ (result ≡ Status.WriteFault) ⊎ (result ≡ Status.NoMemory) }
 {
-    match checked(alloc, library, steps, kept, gate) {
+    match checked(alloc, extent, library, steps, kept, gate) {
         Ok((text, status)) => match write_all(sink, &text) {
             Ok(()) => status,
             Err(_) => Status::WriteFault,
@@ -116,9 +124,10 @@ fn tell_verdicts<K: Sink, G: Gate>(
     }
 }
 
-/// Reads an export from the source and writes a verdict for each of its units to the sink.
+/// Reads an export from the source, checks its units, and writes to the sink what is to be told of it.
 fn check<S: Source, K: Sink, G: Gate>(
     alloc: Global,
+    extent: Extent,
     options: Options,
     source: &mut S,
     sink: &mut K,
@@ -131,24 +140,74 @@ fn check<S: Source, K: Sink, G: Gate>(
     ensures bad { result ≡ Status.BadFile
         → ((f : LineFault) × IfSome (S.left source.old) (λ bytes. library_of bytes ≡ Err f)
         × Appends (K.written sink.old) (K.written sink.new) (bad_line f)) }
-    ensures verdicts { IsChecked result → IfSome (S.left source.old)
-        (λ bytes. Reports options.steps bytes result (K.written sink.old) (K.written sink.new)) }
+    ensures verdicts { IsChecked result → IfSome (S.left source.old) (λ bytes.
+        Reports extent options.steps bytes result (K.written sink.old) (K.written sink.new)) }
     ensures write { result ≡ Status.WriteFault → Rose (K.faults sink.old) (K.faults sink.new) }
     ensures no_write { result ≢ Status.WriteFault → K.faults sink.new ≡ K.faults sink.old }
-    ensures prefix { result ≡ Status.WriteFault
-        → IfSome (S.left source.old) (λ bytes. WritesPrefix options.steps bytes (K.written sink.old)
-        (K.written sink.new)) }
+    ensures prefix { result ≡ Status.WriteFault → IfSome (S.left source.old) (λ bytes.
+        WritesPrefix extent options.steps bytes (K.written sink.old) (K.written sink.new)) }
     ensures no_memory { result ≡ Status.NoMemory → K.written sink.new ≡ K.written sink.old }
 {
+    let Options { steps, memo, .. } = options;
     match read_library(alloc, source) {
-        Ok(library) => tell_verdicts(alloc, &library, options.steps, options.memo, sink, gate),
+        Ok(library) => tell_verdicts(alloc, extent, &library, steps, memo, sink, gate),
         Err(ReadError::ReadFault) => Status::ReadFault,
         Err(ReadError::NoMemory) => Status::NoMemory,
         Err(ReadError::Fault(fault)) => tell_fault(alloc, fault, sink),
     }
 }
 
-/// Does what the words say: reads an export from the source and writes a verdict for each of its units to the sink.
+/// Writes the file that is to be made.
+fn make<K: Sink>(alloc: Global, sample: Sample, sink: &mut K) -> Status
+    ensures made { result ≡ Status.AllYes → Appends (K.written sink.old) (K.written sink.new)
+        (file_of sample.units sample.seed) }
+    ensures write { result ≡ Status.WriteFault → Rose (K.faults sink.old) (K.faults sink.new) }
+    ensures no_write { result ≢ Status.WriteFault → K.faults sink.new ≡ K.faults sink.old }
+    ensures prefix { result ≡ Status.WriteFault → AppendsSome (K.written sink.old)
+        (K.written sink.new) (file_of sample.units sample.seed) }
+    ensures no_memory { result ≡ Status.NoMemory → K.written sink.new ≡ K.written sink.old }
+    ensures only { (result ≡ Status.AllYes) ⊎ (result ≡ Status.WriteFault)
+        ⊎ (result ≡ Status.NoMemory) }
+{
+    let Ok(file) = generate(alloc, sample.units, sample.seed) else {
+        return Status::NoMemory;
+    };
+    match write_all(sink, &file) {
+        Ok(()) => Status::AllYes,
+        Err(_) => Status::WriteFault,
+    }
+}
+
+/// Makes a file in memory, checks its units, and writes the last line of what a check tells.
+fn trial<K: Sink, G: Gate>(
+    alloc: Global,
+    sample: Sample,
+    options: Options,
+    sink: &mut K,
+    gate: &G,
+) -> Status
+    ensures no_usage { result ≢ Status.Usage }
+    ensures no_read { result ≢ Status.ReadFault }
+    ensures bad { result ≡ Status.BadFile
+        → ((f : LineFault) × (library_of (file_of sample.units sample.seed) ≡ Err f)
+        × Appends (K.written sink.old) (K.written sink.new) (bad_line f)) }
+    ensures verdicts { IsChecked result → Reports Extent.Summary options.steps
+        (file_of sample.units sample.seed) result (K.written sink.old) (K.written sink.new) }
+    ensures write { result ≡ Status.WriteFault → Rose (K.faults sink.old) (K.faults sink.new) }
+    ensures no_write { result ≢ Status.WriteFault → K.faults sink.new ≡ K.faults sink.old }
+    ensures prefix { result ≡ Status.WriteFault → WritesPrefix Extent.Summary options.steps
+        (file_of sample.units sample.seed) (K.written sink.old) (K.written sink.new) }
+    ensures no_memory { result ≡ Status.NoMemory → K.written sink.new ≡ K.written sink.old }
+{
+    let Ok(bytes) = generate(alloc, sample.units, sample.seed) else {
+        return Status::NoMemory;
+    };
+    let mut source = MemSource { bytes, at: 0 };
+    check(alloc, Extent::Summary, options, &mut source, sink, gate)
+}
+
+/// Does what the words say. A check reads an export from the source and writes a verdict for each of its units to the sink; `make`
+/// writes an export, and a trial checks one that it makes, and writes the last line alone.
 ///
 /// The words begin with the program's name. The gate is told of each unit before its first question.
 pub fn run<R: Threads + Wait + Sync, S: Source, K: Sink, G: Gate>(
@@ -163,28 +222,34 @@ pub fn run<R: Threads + Wait + Sync, S: Source, K: Sink, G: Gate>(
         × Appends (K.written sink.old) (K.written sink.new) usage_line × (source.new ≡ source.old) }
     ensures usage_only { IsMeaningless (texts_of words.now) → (result ≡ Status.Usage)
         ⊎ (result ≡ Status.WriteFault) ⊎ (result ≡ Status.NoMemory) }
-    ensures unread { IsMeaningless (texts_of words.now) → source.new ≡ source.old }
-    ensures read { result ≡ Status.ReadFault → Rose (S.faults source.old) (S.faults source.new)
+
+    // Nothing but a check reads the source.
+    ensures unread { ((o : CheckOptions) → MeansCheck (texts_of words.now) o → ⊥)
+        → source.new ≡ source.old }
+    ensures read { result ≡ Status.ReadFault
+        → ((o : CheckOptions) × MeansCheck (texts_of words.now) o)
+        × Rose (S.faults source.old) (S.faults source.new)
         × (K.written sink.new ≡ K.written sink.old) }
     ensures no_read { result ≢ Status.ReadFault → S.faults source.new ≡ S.faults source.old }
-    ensures bad { result ≡ Status.BadFile → ((o : CheckOptions) × MeansCheck (texts_of words.now) o)
-        × ((f : LineFault) × IfSome (S.left source.old) (λ bytes. library_of bytes ≡ Err f)
-        × Appends (K.written sink.old) (K.written sink.new) (bad_line f)) }
-    ensures verdicts { IsChecked result → ((o : CheckOptions) × MeansCheck (texts_of words.now) o
-        × IfSome (S.left source.old) (λ bytes. Reports o.steps bytes result (K.written sink.old)
-        (K.written sink.new))) }
+    ensures bad { result ≡ Status.BadFile
+        → ((m : WordsMeaning) × Means (texts_of words.now) m
+        × FindsFault m (S.left source.old) (K.written sink.old) (K.written sink.new)) }
+    ensures verdicts { IsChecked result
+        → ((m : WordsMeaning) × Means (texts_of words.now) m
+        × Does m (S.left source.old) result (K.written sink.old) (K.written sink.new)) }
     ensures write { result ≡ Status.WriteFault → Rose (K.faults sink.old) (K.faults sink.new) }
     ensures no_write { result ≢ Status.WriteFault → K.faults sink.new ≡ K.faults sink.old }
     ensures prefix { result ≡ Status.WriteFault
         → (IsMeaningless (texts_of words.now)
         × AppendsSome (K.written sink.old) (K.written sink.new) usage_line)
-        ⊎ ((o : CheckOptions) × MeansCheck (texts_of words.now) o
-        × IfSome (S.left source.old)
-        (λ bytes. WritesPrefix o.steps bytes (K.written sink.old) (K.written sink.new))) }
+        ⊎ ((m : WordsMeaning) × Means (texts_of words.now) m
+        × Begins m (S.left source.old) (K.written sink.old) (K.written sink.new)) }
     ensures no_memory { result ≡ Status.NoMemory → K.written sink.new ≡ K.written sink.old }
 {
     match line_means(alloc, words) {
-        Ok(Meaning::Check(options)) => check(alloc, options, source, sink, gate),
+        Ok(Meaning::Check(options)) => check(alloc, Extent::Report, options, source, sink, gate),
+        Ok(Meaning::Make(sample)) => make(alloc, sample, sink),
+        Ok(Meaning::Trial(sample, options)) => trial(alloc, sample, options, sink, gate),
         Err(LineError::Usage) => tell_usage(sink),
         Err(LineError::NoMemory) => Status::NoMemory,
     }

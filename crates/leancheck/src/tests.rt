@@ -2,7 +2,7 @@
 
 use crate::run::run;
 use crate::status::Status;
-use crate::words::{LineError, Meaning, Options, line_means};
+use crate::words::{LineError, Meaning, Options, Sample, line_means};
 use lk_port::{FaultySink, FaultySource, MemSink, MemSource, OpenGate};
 use std::alloc::{AllocError, Global};
 use std::sync::Wait;
@@ -116,7 +116,7 @@ fn blocks(rt: HostRuntime) -> Result<(), Fail> {
             rt.alloc(),
             "leancheck check",
             BLOCK,
-            b"yes block 0 T\nyes axiom 1 P\nyes axiom 2 p\nyes thm 3 q\nunits 4 yes 4 no 0 memory 0\n",
+            b"yes block 0 T\nyes axiom 1 P\n  axiom P\nyes axiom 2 p\n  axiom P\n  axiom p\nyes thm 3 q\n  axiom P\n  axiom p\nunits 4 yes 4 no 0 memory 0\n",
             Status::AllYes
         )?
     );
@@ -126,7 +126,7 @@ fn blocks(rt: HostRuntime) -> Result<(), Fail> {
             rt.alloc(),
             "leancheck check",
             NOT_POSITIVE,
-            b"yes axiom 0 N\nno block 1 T\n  why NotPositive\nunits 2 yes 1 no 1 memory 0\n",
+            b"yes axiom 0 N\n  axiom N\nno block 1 T\n  why NotPositive\n  axiom N\nunits 2 yes 1 no 1 memory 0\n",
             Status::SomeNo
         )?
     );
@@ -233,25 +233,25 @@ fn axioms(rt: HostRuntime) -> Result<(), Fail> {
         (
             "leancheck check",
             b"1 #NS 0 a b\n2 #NS 1 \n0 #ES 0\n#AX 2 0\n",
-            b"yes axiom 0 a b.\nunits 1 yes 1 no 0 memory 0\n",
+            b"yes axiom 0 a b.\n  axiom a b.\nunits 1 yes 1 no 0 memory 0\n",
             Status::AllYes,
         ),
         (
             "leancheck check --steps 1",
             AXIOMS,
-            b"no axiom 0 a\n  why LooseVariable\nno axiom 1 b\n  why steps\nunits 2 yes 0 no 2 memory 0\n",
+            b"no axiom 0 a\n  why LooseVariable\n  axiom a\nno axiom 1 b\n  why steps\n  axiom b\nunits 2 yes 0 no 2 memory 0\n",
             Status::SomeNo,
         ),
         (
             "leancheck check --steps 3",
             AXIOMS,
-            b"no axiom 0 a\n  why LooseVariable\nyes axiom 1 b\nunits 2 yes 1 no 1 memory 0\n",
+            b"no axiom 0 a\n  why LooseVariable\n  axiom a\nyes axiom 1 b\n  axiom b\nunits 2 yes 1 no 1 memory 0\n",
             Status::SomeNo,
         ),
         (
             "leancheck check --steps 3",
             OF_A_LOOSE_ONE,
-            b"no axiom 0 a\n  why LooseVariable\nyes axiom 1 b\nno axiom 2 c\n  why LooseVariable\nunits 3 yes 1 no 2 memory 0\n",
+            b"no axiom 0 a\n  why LooseVariable\n  axiom a\nyes axiom 1 b\n  axiom b\nno axiom 2 c\n  why LooseVariable\n  axiom a\n  axiom c\nunits 3 yes 1 no 2 memory 0\n",
             Status::SomeNo,
         ),
     ];
@@ -275,7 +275,7 @@ fn applications(rt: HostRuntime) -> Result<(), Fail> {
             alloc,
             "leancheck check",
             APPLIED,
-            b"yes axiom 0 A\nyes axiom 1 B\nyes axiom 2 f\nyes axiom 3 b\nno thm 4 x\n  why ArgumentType\nyes thm 5 y\nunits 6 yes 5 no 1 memory 0\n",
+            b"yes axiom 0 A\n  axiom A\nyes axiom 1 B\n  axiom B\nyes axiom 2 f\n  axiom A\n  axiom f\nyes axiom 3 b\n  axiom B\n  axiom b\nno thm 4 x\n  why ArgumentType\n  axiom A\n  axiom B\n  axiom f\n  axiom b\nyes thm 5 y\n  axiom A\n  axiom B\n  axiom f\n  axiom b\nunits 6 yes 5 no 1 memory 0\n",
             Status::SomeNo
         )?
     );
@@ -365,6 +365,20 @@ fn means_check(meaning: Result<Meaning, LineError>, options: Options) -> bool {
     found.workers == options.workers && found.steps == options.steps && found.memo == options.memo
 }
 
+fn means_make(meaning: Result<Meaning, LineError>, sample: Sample) -> bool {
+    let Ok(Meaning::Make(found)) = meaning else {
+        return false;
+    };
+    found.units == sample.units && found.seed == sample.seed
+}
+
+fn means_trial(meaning: Result<Meaning, LineError>, sample: Sample, options: Options) -> bool {
+    let Ok(Meaning::Trial(found, how)) = meaning else {
+        return false;
+    };
+    means_make(Ok(Meaning::Make(found)), sample) && means_check(Ok(Meaning::Check(how)), options)
+}
+
 #[test]
 fn words_without_a_meaning(rt: HostRuntime) -> Result<(), Fail> {
     let alloc = rt.alloc();
@@ -372,8 +386,15 @@ fn words_without_a_meaning(rt: HostRuntime) -> Result<(), Fail> {
         "leancheck help",
         "leancheck --help",
         "leancheck check --help",
-        "leancheck make --units 5 --seed 1",
-        "leancheck trial --units 5 --seed 1",
+        "leancheck make --units 5",
+        "leancheck make --units 0 --seed 1",
+        "leancheck make --units 1048577 --seed 1",
+        "leancheck make --units 5 --seed 2147483648",
+        "leancheck make --units 5 --seed 1 --seed 1",
+        "leancheck make --units 5 --seed 1 --steps 3",
+        "leancheck trial",
+        "leancheck trial --units 5",
+        "leancheck check --units 5",
         "leancheck check --workers 65",
         "leancheck check --workers +2",
         "leancheck check --workers -2",
@@ -429,6 +450,89 @@ fn words_with_a_meaning(rt: HostRuntime) -> Result<(), Fail> {
         ),
     ] {
         assert!(rt; means_check(meaning_of(alloc, line)?, options), "{line}");
+    }
+    Ok(())
+}
+
+#[test]
+fn words_that_ask_for_a_file(rt: HostRuntime) -> Result<(), Fail> {
+    let alloc = rt.alloc();
+    for (line, units, seed) in [
+        ("leancheck make --units 1 --seed 0", 1, 0),
+        (
+            "leancheck make --seed 2147483647 --units 1048576",
+            1048576,
+            2147483647,
+        ),
+    ] {
+        assert!(rt;
+            means_make(meaning_of(alloc, line)?, Sample { units, seed }),
+            "{line}"
+        );
+    }
+    assert!(rt;
+        means_trial(
+            meaning_of(alloc, "leancheck trial --steps 19 --units 5 --seed 1")?,
+            Sample { units: 5, seed: 1 },
+            Options {
+                workers: 1,
+                steps: 19,
+                memo: 65536
+            }
+        )
+    );
+    Ok(())
+}
+
+const ONE_UNIT: &[u8] =
+    b"2.0.0\n1 #NS 0 p\n2 #NS 0 t\n0 #ES 0\n1 #EC 1\n2 #EP #BD 0 1 1\n3 #EV 0\n4 #EL #BD 0 1 3\n#AX 1 0\n";
+
+// Three theorems that are proved by themselves, and one by unit 3.
+const FIVE_UNITS: &[u8] =
+    b"2.0.0\n1 #NS 0 p\n2 #NS 0 t\n0 #ES 0\n1 #EC 1\n2 #EP #BD 0 1 1\n3 #EV 0\n4 #EL #BD 0 1 3\n#AX 1 0\n3 #NI 2 1\n#THM 3 2 4\n4 #NI 2 2\n#THM 4 2 4\n5 #NI 2 3\n#THM 5 2 4\n6 #NI 2 4\n5 #EC 5\n6 #EA 5 3\n7 #EL #BD 0 1 6\n#THM 6 2 7\n";
+
+#[test]
+fn files_that_are_made(rt: HostRuntime) -> Result<(), Fail> {
+    let alloc = rt.alloc();
+    let rows: [(&str, &[u8]); 2] = [
+        ("leancheck make --units 1 --seed 0", ONE_UNIT),
+        ("leancheck make --units 5 --seed 1", FIVE_UNITS),
+    ];
+    for (line, written) in rows {
+        assert!(rt;
+            is_row(&rt, alloc, line, IDENTITY, written, Status::AllYes)?,
+            "{line}"
+        );
+    }
+    Ok(())
+}
+
+#[test]
+fn trials(rt: HostRuntime) -> Result<(), Fail> {
+    let alloc = rt.alloc();
+    let rows: [(&str, &[u8], Status); 4] = [
+        (
+            "leancheck trial --units 1000 --seed 7",
+            b"units 1000 yes 1000 no 0 memory 0\n",
+            Status::AllYes,
+        ),
+        (
+            "leancheck trial --units 5 --seed 1 --steps 20",
+            b"units 5 yes 5 no 0 memory 0\n",
+            Status::AllYes,
+        ),
+        (
+            "leancheck trial --units 5 --seed 1 --steps 19",
+            b"units 5 yes 4 no 1 memory 0\n",
+            Status::SomeNo,
+        ),
+        ("leancheck trial --units 5", USAGE, Status::Usage),
+    ];
+    for (line, written, status) in rows {
+        assert!(rt;
+            is_row(&rt, alloc, line, IDENTITY, written, status)?,
+            "{line}"
+        );
     }
     Ok(())
 }

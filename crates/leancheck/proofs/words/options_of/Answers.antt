@@ -1,24 +1,19 @@
-use Rattle.std.proofs.Common.{List, Option, Some, None, codes}
-use Rattle.std.specs.Prelude.{IfNone}
-use Rattle.clap.specs.Words.{Row, found_of, rows_of}
+use Rattle.std.proofs.Common.{codes}
+use Rattle.clap.specs.Words.{found_of, rows_of}
 use Rattle.clap.proofs.WalkLemmas.{first_value-rows}
+use Rattle.leancheck.proofs.WordLaws.{at_none}
 use Rattle.leancheck.specs.Words.{HasOptions}
 use Rattle.leancheck.specs.declared.words.Options.{Options}
 use Rattle.leancheck.proofs.words.options_of.Goals as goal
 
--- what holds at all holds where there is none
-at_none : {A : Type 0} (o : Option A) (rows : List Row) → ((p : Options) → HasOptions rows p → ⊥) → IfNone o ((p : Options) → HasOptions rows p → ⊥)
-at_none None rows h = h
-at_none (Some x) rows h = tt
-
 pub returns-in_err-workers-clause-none : goal.returns-in_err-workers-clause-none
-returns-in_err-workers-clause-none c = at_none _ (rows_of (found_of c.args.matches.now)) (λ o h. c.in_err-workers.ensures.none o.workers (rw (first_value-rows (found_of c.args.matches.now) (codes "workers")) h.workers))
+returns-in_err-workers-clause-none c = at_none _ ((x : Options) → HasOptions (rows_of (found_of c.args.matches.now)) x → ⊥) (λ x h. c.in_err-workers.ensures.none x.workers (rw (first_value-rows (found_of c.args.matches.now) (codes "workers")) h.workers))
 
 pub returns-in_err-steps-clause-none : goal.returns-in_err-steps-clause-none
-returns-in_err-steps-clause-none c = at_none _ (rows_of (found_of c.args.matches.now)) (λ o h. c.in_err-steps.ensures.none o.steps (rw (first_value-rows (found_of c.args.matches.now) (codes "steps")) h.steps))
+returns-in_err-steps-clause-none c = at_none _ ((x : Options) → HasOptions (rows_of (found_of c.args.matches.now)) x → ⊥) (λ x h. c.in_err-steps.ensures.none x.steps (rw (first_value-rows (found_of c.args.matches.now) (codes "steps")) h.steps))
 
 pub returns-in_err-memo-clause-none : goal.returns-in_err-memo-clause-none
-returns-in_err-memo-clause-none c = at_none _ (rows_of (found_of c.args.matches.now)) (λ o h. c.in_err-memo.ensures.none o.memo (rw (first_value-rows (found_of c.args.matches.now) (codes "memo")) h.memo))
+returns-in_err-memo-clause-none c = at_none _ ((x : Options) → HasOptions (rows_of (found_of c.args.matches.now)) x → ⊥) (λ x h. c.in_err-memo.ensures.none x.memo (rw (first_value-rows (found_of c.args.matches.now) (codes "memo")) h.memo))
 
 pub returns-clause-some : goal.returns-clause-some
 returns-clause-some c = record {
