@@ -20,7 +20,7 @@ work-init g c =
       stays = h.stays;
       entries = entries_steady h.stays.keeps _ _ c.requires.entries;
       linked =
-          let none : c.new-stack.result.items ≡ [] = search rules in
+          let none : c.clear.new.self.items ≡ [] = search rules in
           rw (none, c.left-budget.ensures)
           (linked_begins _ _ _ h.stays.keeps c.requires.query_in h.known h.runs);
     }
