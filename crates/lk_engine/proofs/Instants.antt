@@ -1,11 +1,11 @@
 -- Questions whose answer is at hand cost one step, or two.
-use Rattle.std.proofs.Common.{◌≡◌, ◌⊎◌, inl, inr, ℕ, zero, suc, ◌-◌, ◌<◌, ◌≤◌, Option, None, Some, length, refl, ap, ◌∙◌, arith}
+use Rattle.std.proofs.Common.{◌≡◌, ◌⊎◌, inl, inr, ℕ, zero, suc, ◌-◌, ◌<◌, Option, None, Some, length, refl, ap, ◌∙◌, arith}
 use Rattle.std.specs.Prelude.{IfSome, true, if◌then◌else◌}
 use Rattle.lk_tree.specs.Tree.{tree_discrete, Tree, var, sort, const, app, lam, pi, let_in, proj, lit, wide, str, local}
 use Rattle.lk_tree.specs.Spine.{head}
 use Rattle.lk_rulebook.specs.Place.{Place}
 use Rattle.lk_plain.specs.Query.{Query as Plain, core, whnf, infer, same}
-use Rattle.lk_plain.specs.Erased.{Value, a_tree, truth, Steps, gives, erased, Out, finished, used_up, seen, go_on, with_tree, run_steps, out_of, steps_of, IsAnsweredAt}
+use Rattle.lk_plain.specs.Erased.{Value, a_tree, truth, gives, erased, Out, finished, used_up, seen, go_on, with_tree, run_steps, out_of, steps_of, IsAnsweredAt}
 use Rattle.lk_plain.proofs.Erasing.{out-step, out-none}
 use Rattle.lk_plain.specs.Program.{done}
 use Rattle.lk_rulebook.specs.SameTree.{decided, is_same_tree}
@@ -61,7 +61,7 @@ module _ (w : Place) where
   core_form e f = one_step (core e) (a_tree e) (core_gives e f)
 
   -- what is left to do once the core is there
-  end : Value → ℕ → Out
+  abbrev end : Value → ℕ → Out
   end v rest = run_steps (out_of steps w) (with_tree (λ c. erased w a_tree None (whnf_headed c (head c))) v) rest
 
   whnf_asks : (e : Tree) (b : ℕ) → 0 < b → out_of steps w (whnf e) b ≡ seen None (go_on (out_of steps w (core e) (b - 1)) end)

@@ -1,5 +1,5 @@
 -- What a memo keeps is true.
-use Rattle.std.specs.Prelude.{◌≡◌, ℕ, List, length, Contains}
+use Rattle.std.specs.Prelude.{ℕ, length}
 use Rattle.lk_rulebook.specs.Place.{Place}
 use Rattle.lk_plain.specs.Erased.{out_of, IsAnsweredAt}
 use Rattle.lk_questions.specs.Table.{steps}

@@ -96,10 +96,10 @@ fn keep<T: Terms>(
     requires { lookout.now.3.left ≤ budget }
     ensures { (k : Asked) (v : Answered) → Holds memo.new k v
         → Holds memo.old k v ⊎ ((k ≡ key_of query) × (v ≡ record {
-            answer = answer;
-            cost = budget - lookout.now.3.left;
-            top = lookout.now.3.last;
-          })) }
+          answer = answer;
+          cost = budget - lookout.now.3.left;
+          top = lookout.now.3.last;
+        })) }
 {
     let cost = budget - left(lookout);
     let top = last(lookout);
@@ -130,14 +130,15 @@ fn work<T: Terms>(
                 let before = left(lookout);
                 match open(lookout, memo, other)? {
                     Next::Ask(deeper, inner) => {
-                        stack
-                            .push(Frame {
-                                asker: asked,
-                                budget,
-                                sheet,
-                                last,
-                            })
-                            .map_err(|_| Stop::NoMemory)?;
+                        let frame = Frame {
+                            asker: asked,
+                            budget,
+                            sheet,
+                            last,
+                        };
+                        if stack.push(frame).is_err() {
+                            return Err(Stop::NoMemory);
+                        }
                         asked = other;
                         budget = before;
                         next = Next::Ask(deeper, inner);
