@@ -1,5 +1,5 @@
 -- What waits for an answer, after units were looked at, and while a store grows.
-use Rattle.std.proofs.Common.{◌≡◌, ℕ, Bool, List, [], ◌∷◌, length, Option, None, refl, ap, sym, ◌∙◌, arith}
+use Rattle.std.proofs.Common.{◌≡◌, ℕ, Bool, List, [], ◌∷◌, length, Option, None, refl, ap, sym, ◌∙◌}
 use Rattle.std.specs.Prelude.{All}
 use Rattle.std.proofs.lemmas.List.Elements.{All-weaker, All-head, All-tail}
 use Rattle.lk_tree.specs.Tree.{Tree}
@@ -87,6 +87,9 @@ use Rattle.lk_ask.specs.declared.query.Answer.TheVariants as answer
 use Rattle.lk_ask.specs.declared.kept.Kept.{Kept}
 use Rattle.lk_ask.specs.Questions.{query_of, value_at, IsKnownQuery, IsKnownAnswer}
 use Rattle.lk_memo.specs.declared.key.Key.{Key}
+use Rattle.lk_memo.specs.declared.memo.PrivateMemo.{PrivateMemo}
+use Rattle.lk_memo.specs.Keys.{key_of}
+use Rattle.lk_memo.specs.Entries.{Holds}
 use Rattle.lk_engine.specs.declared.answering.Frame.{Frame}
 use Rattle.lk_engine.specs.Entries.{AreTrue}
 use Rattle.lk_engine.specs.declared.sheet.TermSheet.{TermSheet}
@@ -325,17 +328,18 @@ module _ {c d : Contents} (x : Extends c d) where
       (rw (query_steady f.asker first.asker) h.0, h.1, (h.2.0, h.2.1, rw (any_steady x f.sheet first.sheet) h.2.2, links_steady w h.2.0 h.2.1 fs asked left (All-tail (IsKnownFrame (length c.trees)) f fs k) h.2.3))
 
   -- what is kept stays true
-  pub entries_steady : (w : Place) (es : List (Key × Kept)) → AreTrue w c es → AreTrue w d es
-  entries_steady w es h = record {
-    each = λ e within q same.
-        let was = h.each e within q same in
+  pub entries_steady : (w : Place) (memo : PrivateMemo) → AreTrue w c memo → AreTrue w d memo
+  entries_steady w memo h = record {
+    each = λ q kept holds.
+        let was = h.each q kept holds in
         record {
           query = query_known q was.query;
-          answer = answer_known e.1.answer was.answer;
-          is = rw (query_steady q was.query, answer_steady e.1.answer was.answer) was.is;
+          answer = answer_known kept.answer was.answer;
+          is = rw (query_steady q was.query, answer_steady kept.answer was.answer) was.is;
         };
   }
 
 -- where nothing is kept
-pub nothing_kept : (w : Place) (c : Contents) (es : List (Key × Kept)) → es ≡ [] → AreTrue w c es
-nothing_kept w c es e = rw e (record { each = λ x within q same. absurd (omega (arith, within.1)) })
+pub nothing_kept : (w : Place) (c : Contents) (memo : PrivateMemo)
+    → ((k : Key) (v : Kept) → Holds memo k v → ⊥) → AreTrue w c memo
+nothing_kept w c memo none = record { each = λ q kept holds. absurd (none (key_of q) kept holds) }

@@ -1,6 +1,7 @@
 pub mod Sheets
 pub mod Constants
 pub mod Frames
+pub mod Instants
 pub mod Links
 pub mod Lookouts
 pub mod Outcomes

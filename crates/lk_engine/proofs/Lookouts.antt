@@ -1,5 +1,5 @@
 -- What a step, an answer that is kept, and a question leave of a lookout, and what they come to.
-use Rattle.std.proofs.Common.{◌≡◌, ◌≢◌, ℕ, ◌<◌, List, None, Ok, Err, Result, refl, ap, sym, ◌∙◌, arith}
+use Rattle.std.proofs.Common.{◌≡◌, ◌≢◌, ℕ, ◌<◌, None, Ok, Err, Result, refl, ap, sym, ◌∙◌, arith}
 use Rattle.std.specs.Prelude.{IfOk, IfErr, OnOk}
 use Rattle.lk_plain.specs.Erased.{Steps}
 use Rattle.lk_rulebook.specs.Units.{Members}
@@ -26,7 +26,7 @@ use Rattle.lk_ask.specs.Gives.{Gives}
 use Rattle.lk_ask.specs.Looks.{Sight}
 use Rattle.lk_ask.specs.Outcomes.{IsStop}
 use Rattle.lk_engine.specs.Sheets.{AnySheet, IsKnownAny}
-use Rattle.lk_memo.specs.declared.key.Key.{Key}
+use Rattle.lk_memo.specs.declared.memo.PrivateMemo.{PrivateMemo}
 use Rattle.lk_engine.specs.Entries.{IsTrueAt, AreTrue}
 use Rattle.lk_engine.specs.Lookouts.{Seen, place_of, standing_at, places_at, out_at, GivesMembers, Stays, Metered, Pays, Repeats, Opens, Answers, Stands}
 use Rattle.lk_engine.specs.Rests.{next_of, query_steps}
@@ -169,7 +169,7 @@ module _ {T R : Type 0} {contents : T → Contents} {rest : T → R} where
   }
 
   pub repeat_answers : {old new : Seen T} {query : Query ℕ} {kept : Kept}
-      {result : Result (Answer ℕ) Stop} {later : List (Key × Kept)}
+      {result : Result (Answer ℕ) Stop} {later : PrivateMemo}
       → Repeats old new result kept → IsTrueAt (place_of old) (contents old.2) query kept
       → AreTrue (place_of old) (contents old.2) later
       → Answers contents rest old new later result query
@@ -182,7 +182,7 @@ module _ {T R : Type 0} {contents : T → Contents} {rest : T → R} where
   }
 
   -- a question has no answer
-  pub halts : {old new : Seen T} {query : Query ℕ} {stop : Stop} {later : List (Key × Kept)}
+  pub halts : {old new : Seen T} {query : Query ℕ} {stop : Stop} {later : PrivateMemo}
       → Stays contents rest old new → AreTrue (place_of old) (contents new.2) later
       → IsStop (out_at contents old query) stop → (old.3.left ≡ 0 → stop ≢ NoMemory)
       → Answers contents rest old new later (Err stop) query
@@ -203,8 +203,8 @@ pub has_memory : {A : Type 0} (r : Result A Stop) (stop : Stop) → r ≡ Err st
 has_memory r stop p q e = absurd cc
 
 -- an engine goes on
-pub still_stands : {old new : Seen (Tables × Tables)} {entries later : List (Key × Kept)}
-    → Stays (λ t. contents_of (over t.0 t.1)) (λ t. t.0) old new → Stands old entries
+pub still_stands : {old new : Seen (Tables × Tables)} {memo later : PrivateMemo}
+    → Stays (λ t. contents_of (over t.0 t.1)) (λ t. t.0) old new → Stands old memo
     → AreTrue (place_of old) (contents_of (over new.2.0 new.2.1)) later → Stands new later
 still_stands h s e = record {
   base = h.others ∙ s.base ∙ ap (λ l. l.2.0) (sym h.library);
@@ -212,26 +212,26 @@ still_stands h s e = record {
 }
 
 -- the same, where nothing else is kept
-pub looked_stands : {old new : Seen (Tables × Tables)} {entries : List (Key × Kept)}
-    → Stays (λ t. contents_of (over t.0 t.1)) (λ t. t.0) old new → Stands old entries
-    → Stands new entries
-looked_stands {old} {new} {entries} h s =
-    still_stands h s (entries_steady h.keeps (place_of old) entries s.entries_true)
+pub looked_stands : {old new : Seen (Tables × Tables)} {memo : PrivateMemo}
+    → Stays (λ t. contents_of (over t.0 t.1)) (λ t. t.0) old new → Stands old memo
+    → Stands new memo
+looked_stands {old} {new} {memo} h s =
+    still_stands h s (entries_steady h.keeps (place_of old) memo s.entries_true)
 
 -- the same, after terms were made
-pub made_stands : {old new : Seen (Tables × Tables)} {entries : List (Key × Kept)}
+pub made_stands : {old new : Seen (Tables × Tables)} {memo : PrivateMemo}
     → ◌≡◌ {A = Scoped × Site × Meter × Tables} (new.0, new.1, new.3, new.2.0)
     (old.0, old.1, old.3, old.2.0)
     → Extends (contents_of (over old.2.0 old.2.1)) (contents_of (over new.2.0 new.2.1))
-    → Stands old entries → Stands new entries
-made_stands {old} {new} {entries} h x s =
+    → Stands old memo → Stands new memo
+made_stands {old} {new} {memo} h x s =
     still_stands (record {
       library = ap (λ r. r.0) h;
       site = ap (λ r. r.1) h;
       keeps = x;
       others = ap
           (λ r. r.3) h;
-    }) s (entries_steady x (place_of old) entries s.entries_true)
+    }) s (entries_steady x (place_of old) memo s.entries_true)
 
 -- what is given is how questions are answered from then on
 pub gives_standing : {old new : Seen (Tables × Tables)} {partial : Partial} {aux : Members} → GivesMembers old new partial aux
@@ -239,7 +239,7 @@ pub gives_standing : {old new : Seen (Tables × Tables)} {partial : Partial} {au
 gives_standing {old} {new} {partial} {aux} h = rw (h.library, h.site, h.auxiliary) refl
 
 -- nothing is kept where what is partial changes
-pub gives_stands : {old new : Seen (Tables × Tables)} {partial : Partial} {aux : Members} {entries later : List (Key × Kept)} → GivesMembers old new partial aux → Stands old entries
+pub gives_stands : {old new : Seen (Tables × Tables)} {partial : Partial} {aux : Members} {memo later : PrivateMemo} → GivesMembers old new partial aux → Stands old memo
     → AreTrue (place_of new) (contents_of (over new.2.0 new.2.1)) later → Stands new later
 gives_stands {old} {new} h s e = record {
   base = ap (λ t. t.0) h.terms ∙ s.base ∙ ap (λ l. l.0) (sym h.library);

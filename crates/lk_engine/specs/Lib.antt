@@ -1,4 +1,5 @@
 pub mod Entries
+pub mod Instants
 pub mod Lookouts
 pub mod Rests
 pub mod Sheets

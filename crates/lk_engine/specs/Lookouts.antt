@@ -24,7 +24,7 @@ use Rattle.lk_ask.specs.declared.stop.Stop.TheVariants.{Spent, NoMemory}
 use Rattle.lk_ask.specs.Questions.{query_of, value_at, IsKnownAnswer}
 use Rattle.lk_ask.specs.Nexts.{IsKnownNext}
 use Rattle.lk_ask.specs.Outcomes.{IsExactly, IsStop}
-use Rattle.lk_memo.specs.declared.key.Key.{Key}
+use Rattle.lk_memo.specs.declared.memo.PrivateMemo.{PrivateMemo}
 use Rattle.lk_memo.specs.Entries.{kept_of}
 use Rattle.lk_engine.specs.Entries.{AreTrue}
 use Rattle.lk_engine.specs.Rests.{next_of}
@@ -106,7 +106,7 @@ pub record Opens {T R : Type 0} (contents : T → Contents) (rest : T → R) (ol
 
 -- a question is answered by its plain answer, and exactly its cost is spent; what is kept is true
 pub record Answers {T R : Type 0} (contents : T → Contents) (rest : T → R) (old new : Seen T)
-    (later : List (Key × Kept)) (result : Result (Answer ℕ) Stop) (query : Query ℕ) : Type 0 where
+    (later : PrivateMemo) (result : Result (Answer ℕ) Stop) (query : Query ℕ) : Type 0 where
   pub stays : Stays contents rest old new
   pub entries_true : AreTrue (place_of old) (contents new.2) later
   pub known : IfOk result (IsKnownAnswer (length (contents new.2).trees))
@@ -114,11 +114,11 @@ pub record Answers {T R : Type 0} (contents : T → Contents) (rest : T → R) (
   pub nothing_left : old.3.left ≡ 0 → result ≢ Err NoMemory
 
 -- a question whose answer is kept takes one turn, and no memory
-pub record AnswersKept {T : Type 0} (old new : Seen T) (entries : List (Key × Kept))
+pub record AnswersKept {T : Type 0} (old new : Seen T) (memo : PrivateMemo)
     (result : Result (Answer ℕ) Stop) (query : Query ℕ) : Type 0 where
-  pub turns : (kept : Kept) → kept_of entries query ≡ Some kept → old.3.turns < 2 ^ 64 - 1
+  pub turns : (kept : Kept) → kept_of memo query ≡ Some kept → old.3.turns < 2 ^ 64 - 1
       → new.3.turns ≡ old.3.turns + 1
-  pub memory : (kept : Kept) → kept_of entries query ≡ Some kept → result ≢ Err NoMemory
+  pub memory : (kept : Kept) → kept_of memo query ≡ Some kept → result ≢ Err NoMemory
 
 -- a lookout over the library's store looks from this unit, of which nothing is partial, with no
 -- auxiliary types; its store has what the library has, and this budget is left
@@ -142,6 +142,6 @@ pub record GivesMembers (old new : Seen (Tables × Tables)) (partial : Partial)
 
 -- a lookout over the library's store, and what is kept of its questions, which is true at the place
 -- that stands, whatever was looked at for it
-pub record Stands (s : Seen (Tables × Tables)) (entries : List (Key × Kept)) : Type 0 where
+pub record Stands (s : Seen (Tables × Tables)) (memo : PrivateMemo) : Type 0 where
   pub base : s.2.0 ≡ s.0.2.0
-  pub entries_true : AreTrue (place_of s) (contents_of (over s.2.0 s.2.1)) entries
+  pub entries_true : AreTrue (place_of s) (contents_of (over s.2.0 s.2.1)) memo

@@ -1,17 +1,20 @@
 //! The loop that answers a question, by a stack of what waits for answers.
 
-ghost use Rattle.std.specs.Prelude.{◌≡◌, ◌≤◌, ◌-◌, ◌⊎◌, length, Contains, Err};
+ghost use Rattle.std.specs.Prelude.{◌≡◌, ◌≤◌, ◌-◌, ◌⊎◌, length, Err, IfSome};
 ghost use Rattle.lk_ask.specs.Questions.{IsKnownQuery};
+ghost use Rattle.lk_ask.specs.declared.kept.Kept.{Kept as Answered};
+ghost use Rattle.lk_memo.specs.declared.key.Key.{Key as Asked};
 ghost use Rattle.lk_memo.specs.Keys.{key_of};
-ghost use Rattle.lk_engine.specs.Entries.{AreTrue};
+ghost use Rattle.lk_memo.specs.Entries.{Holds};
+ghost use Rattle.lk_engine.specs.Entries.{IsTrueAt, AreTrue};
 ghost use Rattle.lk_engine.specs.Lookouts.{place_of, Repeats, Opens, Answers, AnswersKept};
 
+use crate::instant::at_once;
 use crate::paying::{last, left, note_before, pay};
 use crate::sheet::AnySheet;
 use crate::steps::{AnyNext, begin, resume};
 use lk_ask::kept::Kept;
 use lk_ask::lookout::Lookout;
-use lk_ask::looks::Looks;
 use lk_ask::next::Next;
 use lk_ask::query::{Answer, Query};
 use lk_ask::stop::Stop;
@@ -38,7 +41,7 @@ fn first_step<T: Terms>(lookout: &mut Lookout<'_, T>, query: Query<u64>) -> Resu
     Ok(begin(lookout, query)?)
 }
 
-/// An answer that is kept. It costs what it cost before, and is one turn.
+/// An answer that is known. It costs what it costs without it, and is one turn.
 fn repeat<T: Terms>(lookout: &mut Lookout<'_, T>, kept: Kept) -> Result<Answer<u64>, Stop>
     ensures { Repeats lookout.old lookout.new result kept }
 {
@@ -46,20 +49,36 @@ fn repeat<T: Terms>(lookout: &mut Lookout<'_, T>, kept: Kept) -> Result<Answer<u
     Ok(kept.answer)
 }
 
-/// The first step of a question, or the answer that the memo has of it.
+/// The answer of a question, where it is at hand or the memo has it.
+fn known<T: Terms>(
+    lookout: &Lookout<'_, T>,
+    memo: &mut PrivateMemo,
+    query: Query<u64>,
+) -> Option<Kept>
+    requires query_in { IsKnownQuery (length (T.contents lookout.now.2).trees) query }
+    requires entries { AreTrue (place_of lookout.now) (T.contents lookout.now.2) memo.old }
+    ensures kept { IfSome result (IsTrueAt (place_of lookout.now) (T.contents lookout.now.2)
+        query) }
+    ensures entries { AreTrue (place_of lookout.now) (T.contents lookout.now.2) memo.new }
+{
+    match at_once(lookout, query) {
+        Some(kept) => Some(kept),
+        None => memo.find(query),
+    }
+}
+
+/// The first step of a question, or its answer, where that is known.
 fn open<T: Terms>(
     lookout: &mut Lookout<'_, T>,
     memo: &mut PrivateMemo,
     query: Query<u64>,
 ) -> Result<AnyNext, Stop>
     requires query_in { IsKnownQuery (length (T.contents lookout.old.2).trees) query }
-    requires entries { AreTrue (place_of lookout.old) (T.contents lookout.old.2)
-        memo.old.cache.entries }
+    requires entries { AreTrue (place_of lookout.old) (T.contents lookout.old.2) memo.old }
     ensures opens { Opens T.contents T.rest lookout.old lookout.new result query }
-    ensures entries { AreTrue (place_of lookout.old) (T.contents lookout.new.2)
-        memo.new.cache.entries }
+    ensures entries { AreTrue (place_of lookout.old) (T.contents lookout.new.2) memo.new }
 {
-    match memo.find(query) {
+    match known(lookout, memo, query) {
         Some(kept) => Ok(Next::Done(repeat(lookout, kept)?)),
         None => first_step(lookout, query),
     }
@@ -75,36 +94,32 @@ fn keep<T: Terms>(
     answer: Answer<u64>,
 )
     requires { lookout.now.3.left ≤ budget }
-    ensures { (e : _) → Contains memo.new.cache.entries e
-        → Contains memo.old.cache.entries e ⊎ (e ≡ (
-          key_of query,
-          record {
-            answer = answer;
-            cost = budget - lookout.now.3.left;
-            top = lookout.now.3.last;
-          },
-        )) }
+    ensures { (k : Asked) (v : Answered) → Holds memo.new k v
+        → Holds memo.old k v ⊎ ((k ≡ key_of query) × (v ≡ record {
+          answer = answer;
+          cost = budget - lookout.now.3.left;
+          top = lookout.now.3.last;
+        })) }
 {
     let cost = budget - left(lookout);
     let top = last(lookout);
-    if cost > 1 {
+    if cost > 2 {
         let _kept = memo.keep(query, Kept { answer, cost, top });
     }
 }
 
-/// The answer of a question that is not kept.
+/// The answer of a question that is not kept. The stack is emptied, and its room is used again.
 fn work<T: Terms>(
     lookout: &mut Lookout<'_, T>,
     memo: &mut PrivateMemo,
+    stack: &mut Vec<Frame>,
     query: Query<u64>,
 ) -> Result<Answer<u64>, Stop>
     requires query_in { IsKnownQuery (length (T.contents lookout.old.2).trees) query }
-    requires entries { AreTrue (place_of lookout.old) (T.contents lookout.old.2)
-        memo.old.cache.entries }
-    ensures { Answers T.contents T.rest lookout.old lookout.new memo.new.cache.entries
-        result query }
+    requires entries { AreTrue (place_of lookout.old) (T.contents lookout.old.2) memo.old }
+    ensures { Answers T.contents T.rest lookout.old lookout.new memo.new result query }
 {
-    let mut stack: Vec<Frame> = Vec::new(lookout.alloc());
+    stack.clear();
     let mut asked = query;
     let mut budget = left(lookout);
     let mut next = first_step(lookout, query)?;
@@ -112,17 +127,29 @@ fn work<T: Terms>(
         match next {
             Next::Ask(other, sheet) => {
                 let last = last(lookout);
-                stack
-                    .push(Frame {
-                        asker: asked,
-                        budget,
-                        sheet,
-                        last,
-                    })
-                    .map_err(|_| Stop::NoMemory)?;
-                asked = other;
-                budget = left(lookout);
-                next = open(lookout, memo, other)?;
+                let before = left(lookout);
+                match open(lookout, memo, other)? {
+                    Next::Ask(deeper, inner) => {
+                        let frame = Frame {
+                            asker: asked,
+                            budget,
+                            sheet,
+                            last,
+                        };
+                        if stack.push(frame).is_err() {
+                            return Err(Stop::NoMemory);
+                        }
+                        asked = other;
+                        budget = before;
+                        next = Next::Ask(deeper, inner);
+                    }
+                    // Answered at once: nothing has to wait, and nothing is kept of it.
+                    Next::Done(answer) => {
+                        note_before(lookout, last);
+                        next = resume(lookout, sheet, answer)?;
+                    }
+                    Next::No(rule) => return Err(Stop::No(rule)),
+                }
             }
             Next::Done(answer) => {
                 keep(memo, lookout, asked, budget, answer);
@@ -145,21 +172,20 @@ fn work<T: Terms>(
 /// is left, and the meter has the last unit that was looked at for this question. What the memo
 /// keeps of earlier questions costs the same as without it. Each question that is opened on the way
 /// takes a turn: a question that is kept takes one, and no memory. Where nothing is left, none is
-/// taken either.
+/// taken either. The stack is room that is used again.
 pub fn answer<T: Terms>(
     lookout: &mut Lookout<'_, T>,
     memo: &mut PrivateMemo,
+    stack: &mut Vec<Frame>,
     query: Query<u64>,
 ) -> Result<Answer<u64>, Stop>
     requires query_in { IsKnownQuery (length (T.contents lookout.old.2).trees) query }
-    requires entries { AreTrue (place_of lookout.old) (T.contents lookout.old.2)
-        memo.old.cache.entries }
-    ensures answers { Answers T.contents T.rest lookout.old lookout.new memo.new.cache.entries
-        result query }
-    ensures kept { AnswersKept lookout.old lookout.new memo.old.cache.entries result query }
+    requires entries { AreTrue (place_of lookout.old) (T.contents lookout.old.2) memo.old }
+    ensures answers { Answers T.contents T.rest lookout.old lookout.new memo.new result query }
+    ensures kept { AnswersKept lookout.old lookout.new memo.old result query }
 {
     match memo.find(query) {
         Some(kept) => repeat(lookout, kept),
-        None => work(lookout, memo, query),
+        None => work(lookout, memo, stack, query),
     }
 }

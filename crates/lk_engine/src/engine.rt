@@ -7,7 +7,7 @@ ghost use Rattle.lk_env.specs.Scopes.{alone_members};
 ghost use Rattle.lk_env.specs.Units.{type_at, IsTypeIn};
 ghost use Rattle.lk_engine.specs.Lookouts.{Restarts, GivesMembers};
 
-use crate::answering::answer;
+use crate::answering::{Frame, answer};
 use crate::families::family_of;
 use crate::parameters::parameters_at;
 use lk_ask::asks::Asks;
@@ -40,6 +40,8 @@ use std::mem::drop;
 pub struct Engine<'a> {
     lookout: Lookout<'a, Overlay<'a>>,
     memo: &'a mut PrivateMemo,
+    /// Room for the questions that wait.
+    stack: Vec<Frame>,
 }
 
 impl<'a> Model for Engine<'a> {
@@ -55,13 +57,18 @@ impl<'a> Model for Engine<'a> {
 
     ghost view = { λ s. s.lookout };
 
-    ghost invariant = { λ s. Stands s.lookout s.memo.now.cache.entries };
+    ghost invariant = { λ s. Stands s.lookout s.memo.now };
 }
 
 impl Drop for Engine<'_> {
     fn drop(self) {
-        let Engine { lookout, memo: _ } = self;
+        let Engine {
+            lookout,
+            memo: _,
+            stack,
+        } = self;
         drop(lookout);
+        drop(stack);
     }
 }
 
@@ -137,7 +144,11 @@ impl<'a> Engine<'a> {
             terms,
             meter: Meter::new(0),
         };
-        Engine { lookout, memo }
+        Engine {
+            lookout,
+            memo,
+            stack: Vec::new(alloc),
+        }
     }
 
     /// Begins a unit: the names below it are seen, nothing of it is partial, so many steps may be
@@ -282,7 +293,7 @@ impl<'a> Asks for Engine<'a> {
 
     fn ask(&mut self, query: Query<u64>) -> Result<Answer<u64>, Stop> {
         let memo = &mut *self.memo;
-        answer(&mut self.lookout, memo, query)
+        answer(&mut self.lookout, memo, &mut self.stack, query)
     }
 
     fn parameter_count(&self, name: u64) -> Result<Option<u64>, Rule> {

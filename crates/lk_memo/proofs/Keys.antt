@@ -8,10 +8,9 @@ use Rattle.lru.proofs.CallerLemmas.{Contains-lookup, Contains-put_entries, looku
 use Rattle.lk_ask.specs.declared.query.Query.{Query}
 use Rattle.lk_ask.specs.declared.query.Query.TheVariants as query
 use Rattle.lk_memo.specs.declared.key.Key.{Key}
-use Rattle.lk_memo.specs.Keys.{key_of}
-pub use Rattle.lk_memo.specs.Entries.{same_key}
+use Rattle.lk_memo.specs.Keys.{key_of, same_key}
 
-key_exact : (a b : Key) → same_key a b ≡ true → a ≡ b
+pub key_exact : (a b : Key) → same_key a b ≡ true → a ≡ b
 key_exact a b h = search rules
 
 key_refl : (k : Key) → same_key k k ≡ true

@@ -3,5 +3,6 @@
 
 pub mod key;
 pub mod memo;
+pub mod recent;
 
 pub use memo::PrivateMemo;

@@ -7,6 +7,10 @@ use std::marker::Model;
 /// Up to so many rows are looked through one after another.
 const FEW: usize = 16;
 
+/// So many heads are kept by a table that is made empty. To set them anew takes less time than to
+/// make them again, and no more than a few hundred steps however large the table was.
+const KEPT: usize = 512;
+
 /// Rows by number, each found by its key. The numbers are kept in 32 bits.
 #[derive(Drop)]
 pub struct Table<R: Row + Drop> {
@@ -113,7 +117,7 @@ fn link_more<R: Row>(
     links: &mut Vec<u32>,
     heads: &mut Vec<u32>,
 ) -> Result<(), AllocError>
-    requires some { 0 < length rows.now }
+    requires some { length heads.old.items ≡ 0 → 0 < length rows.now }
     requires table { IsTable R.key R.hash rows.now links.old.items heads.old.items }
     ensures table { IsTable R.key R.hash rows.now links.new.items heads.new.items }
     ensures room { OnOk result (length rows.now < length heads.new.items) }
@@ -140,7 +144,8 @@ fn make_room<R: Row>(
     ensures room { let n = length heads.new.items in
         OnOk result ((n ≡ 0) ⊎ (length rows.now < n)) }
 {
-    if rows.len() < heads.len() {
+    // At most three of four heads lead to rows, so most keys that have no row are compared with none.
+    if rows.len() < heads.len() / 4 * 3 {
         return Ok(());
     }
     if heads.is_empty() && rows.len() < FEW {
@@ -216,7 +221,12 @@ impl<R: Row + Drop> Table<R> {
     {
         self.rows.clear();
         self.links.clear();
-        self.heads.clear();
+        if self.heads.len() > KEPT {
+            self.heads.clear();
+        }
+        if !self.heads.is_empty() {
+            link_all(&self.rows, &mut self.links, &mut self.heads);
+        }
     }
 
     /// Adds a row, whose number is the length before. A table holds fewer than 2^32; one more is

@@ -1,5 +1,5 @@
 use Rattle.lk_engine.proofs.answering.keep.Goals as goal
 
-pub returns-then-cost-gt1 : goal.returns-then-cost-gt1
-returns-then-cost-gt1 g c = rw (c.left.ensures, c.last-top.ensures) at
-    c.keep-kept.ensures.entries
+pub returns-then-cost-gt2 : goal.returns-then-cost-gt2
+returns-then-cost-gt2 g c = rw (c.left.ensures, c.last-top.ensures) at
+    c.keep-kept.ensures.holds

@@ -1,5 +1,7 @@
-use Rattle.std.proofs.Common.{rules, ◌≡◌, [], ap, ◌∙◌}
+use Rattle.std.proofs.Common.{rules, ◌≡◌, [], refl, ap, ◌∙◌}
 use Rattle.std.proofs.lemmas.Result.{err_from_is_err_and}
+use Rattle.lk_engine.specs.declared.answering.Frame.{Frame}
+use Rattle.lk_engine.proofs.Sheets.{any_known}
 use Rattle.lk_engine.proofs.Frames.{entries_steady}
 use Rattle.lk_engine.proofs.Links.{linked_begins, linked_asks, linked_left, linked_true, linked_ends, linked_resumes, linked_refused, linked_stops, top_known, entries_more}
 use Rattle.lk_engine.proofs.Lookouts.{place_stays, stays_on, metered_stays, step_stays, halts, not_spent, has_memory}
@@ -20,7 +22,7 @@ work-init g c =
       stays = h.stays;
       entries = entries_steady h.stays.keeps _ _ c.requires.entries;
       linked =
-          let none : c.new-stack.result.items ≡ [] = search rules in
+          let none : c.clear.new.self.items ≡ [] = search rules in
           rw (none, c.left-budget.ensures)
           (linked_begins _ _ _ h.stays.keeps c.requires.query_in h.known h.runs);
     }
@@ -28,29 +30,98 @@ work-init g c =
 pub open-requires-clause-entries : goal.open-requires-clause-entries
 open-requires-clause-entries g c = rw (place_stays c.work.invariant.stays) c.work.invariant.entries
 
-pub returns-in_err-next-in-Ask : goal.returns-in_err-next-in-Ask
-returns-in_err-next-in-Ask g c =
+pub returns-in_err-deeper-in-Ask : goal.returns-in_err-deeper-in-Ask
+returns-in_err-deeper-in-Ask g c =
     let place = place_stays c.work.invariant.stays in
-    let h = rw c.in_err-next-in-Ask.was at c.«open».ensures.opens in
-    let p = err_from_is_err_and c.from_residual-in_err-next-in-Ask.result
-    c.from_residual-in_err-next-in-Ask.ensures.1 in
+    let h = rw c.in_err-deeper-in-Ask.was at c.«open».ensures.opens in
+    let p = err_from_is_err_and c.from_residual-in_err-deeper-in-Ask.result
+    c.from_residual-in_err-deeper-in-Ask.ensures.1 in
     rw (p.1, p.2) (halts (stays_on c.work.invariant.stays h.stays)
     (rw place at c.«open».ensures.entries)
     (linked_stops c.work.invariant.linked _ c.in-Ask.is (rw place at h.err))
     (λ l same. absurd (not_spent c.first_step.result _ c.in_ok-next.was
     (c.first_step.ensures.nothing_left l))))
 
-pub work-preserved-in-Ask : goal.work-preserved-in-Ask
-work-preserved-in-Ask g c =
+pub returns-then-is_err : goal.returns-then-is_err
+returns-then-is_err g c =
     let place = place_stays c.work.invariant.stays in
-    let h = rw c.in_ok-next-in-Ask.was at c.«open».ensures.opens in
+    let h = rw c.in_ok-deeper-in-Ask.was at c.«open».ensures.opens in
+    halts (stays_on c.work.invariant.stays h.stays) (rw place at c.«open».ensures.entries) tt
+    (λ l same. absurd (not_spent c.first_step.result _ c.in_ok-next.was
+    (c.first_step.ensures.nothing_left l)))
+
+pub work-preserved-in-Ask-2 : goal.work-preserved-in-Ask-2
+work-preserved-in-Ask-2 g c =
+    let place = place_stays c.work.invariant.stays in
+    let h = rw c.in_ok-deeper-in-Ask.was at c.«open».ensures.opens in
     record {
       stays = stays_on c.work.invariant.stays h.stays;
       entries = rw place at c.«open».ensures.entries;
-      linked = rw c.left-budget-in-Ask.ensures
+      linked = rw (c.left-before.ensures, ← c.in-Ask-2.is)
           (linked_asks c.work.invariant.linked c.in-Ask.is (search rules) h.stays.keeps h.known
           (rw place at h.runs));
     }
+
+pub resume-requires-clause-sheet_in : goal.resume-requires-clause-sheet_in
+resume-requires-clause-sheet_in g c =
+    let h = rw c.in_ok-deeper-in-Ask.was at c.«open».ensures.opens in
+    rw c.note_before.ensures.stays.terms (any_known h.stays.keeps c.in-Ask.sheet
+    (rw c.in-Ask.is at c.work.invariant.linked.known).1)
+
+pub returns-in_err-next-in-Done-2 : goal.returns-in_err-next-in-Done-2
+returns-in_err-next-in-Done-2 g c =
+    let place = place_stays c.work.invariant.stays in
+    let h = rw c.in_ok-deeper-in-Ask.was at c.«open».ensures.opens in
+    let stays = stays_on {new = c.resume.new.looks} (metered_stays c.note_before.ensures.stays)
+    (step_stays c.resume.ensures) in
+    let p = err_from_is_err_and c.from_residual-in_err-next-in-Done-2.result
+    c.from_residual-in_err-next-in-Done-2.ensures.1 in
+    rw (p.1, p.2) (halts
+    (stays_on {new = c.resume.new.looks} (stays_on c.work.invariant.stays h.stays) stays)
+    (entries_steady stays.keeps _ _ (rw place at c.«open».ensures.entries))
+    tt
+    (λ l same. absurd (not_spent c.first_step.result _ c.in_ok-next.was
+    (c.first_step.ensures.nothing_left l))))
+
+pub work-preserved-in-Done-2 : goal.work-preserved-in-Done-2
+work-preserved-in-Done-2 g c =
+    let place = place_stays c.work.invariant.stays in
+    let h = rw (c.in_ok-deeper-in-Ask.was, c.in-Done-2.is) at c.«open».ensures.opens in
+    let waits : Frame = record {
+      asker = c.work.asked;
+      budget = c.work.budget;
+      sheet = c.in-Ask.sheet;
+      last = c.work.lookout.3.last;
+    } in
+    let asked = linked_asks c.work.invariant.linked c.in-Ask.is refl h.stays.keeps h.known
+    (rw place at h.runs) in
+    let note = c.note_before.ensures in
+    let stays = stays_on {new = c.resume.new.looks} (metered_stays note.stays)
+    (step_stays c.resume.ensures) in
+    let all = stays_on c.work.invariant.stays h.stays in
+    let there = place_stays (stays_on all (metered_stays note.stays)) in
+    let k = rw c.in_ok-next-in-Done-2.was at c.resume.ensures in
+    let left : c.resume.new.looks.3.left ≡ c.«open».new.lookout.3.left = ap (λ b. b.left)
+    c.resume.ensures.stays ∙ note.left in
+    record {
+      stays = stays_on {new = c.resume.new.looks} all stays;
+      entries = entries_steady stays.keeps _ _ (rw place at c.«open».ensures.entries);
+      linked = rw left (linked_resumes asked c.work.stack.items waits refl refl
+          (rw c.last-last.ensures at note.last) stays.keeps k.known
+          (rw (there, note.stays.terms) at k.steps));
+    }
+
+pub returns-in-No-2 : goal.returns-in-No-2
+returns-in-No-2 g c =
+    let place = place_stays c.work.invariant.stays in
+    let h = rw (c.in_ok-deeper-in-Ask.was, c.in-No-2.is) at c.«open».ensures.opens in
+    let after = c.«open».new.lookout.3 in
+    let asked = linked_asks c.work.invariant.linked {left' = after.left} {last' = after.last}
+    c.in-Ask.is refl h.stays.keeps h.known (rw place at h.runs) in
+    halts (stays_on c.work.invariant.stays h.stays) (rw place at c.«open».ensures.entries)
+    (linked_refused asked refl)
+    (λ l same. absurd (not_spent c.first_step.result _ c.in_ok-next.was
+    (c.first_step.ensures.nothing_left l)))
 
 pub keep-requires : goal.keep-requires
 keep-requires g c = linked_left c.work.invariant.linked c.in-Done.is
@@ -67,17 +138,17 @@ returns-in-None g c =
       nothing_left = λ l same. absurd (cc);
     }
 
-pub resume-requires-clause-sheet_in : goal.resume-requires-clause-sheet_in
-resume-requires-clause-sheet_in g c = rw c.note_before.ensures.stays.terms
+pub resume-requires-in-Some-clause-sheet_in : goal.resume-requires-in-Some-clause-sheet_in
+resume-requires-in-Some-clause-sheet_in g c = rw c.note_before-in-Some.ensures.stays.terms
     ((top_known c.work.invariant.linked c.pop.new.self.items c.in-Some.frame (search rules)).sheet)
 
 pub returns-in_err-next-in-Some : goal.returns-in_err-next-in-Some
 returns-in_err-next-in-Some g c =
-    let stays = stays_on {new = c.resume.new.looks} (metered_stays c.note_before.ensures.stays)
-    (step_stays c.resume.ensures) in
+    let stays = stays_on {new = c.resume-in-Some.new.looks} (metered_stays c.note_before-in-Some.ensures.stays)
+    (step_stays c.resume-in-Some.ensures) in
     let p = err_from_is_err_and c.from_residual-in_err-next-in-Some.result
     c.from_residual-in_err-next-in-Some.ensures.1 in
-    rw (p.1, p.2) (halts (stays_on {new = c.resume.new.looks} c.work.invariant.stays stays)
+    rw (p.1, p.2) (halts (stays_on {new = c.resume-in-Some.new.looks} c.work.invariant.stays stays)
     (entries_steady stays.keeps _ _
     (entries_more _ _ _ _ _ _ c.work.invariant.entries c.keep.ensures
     (linked_true c.work.invariant.linked c.in-Done.is)))
@@ -87,15 +158,15 @@ returns-in_err-next-in-Some g c =
 
 pub work-preserved : goal.work-preserved
 work-preserved g c =
-    let note = c.note_before.ensures in
-    let stays = stays_on {new = c.resume.new.looks} (metered_stays note.stays)
-    (step_stays c.resume.ensures) in
+    let note = c.note_before-in-Some.ensures in
+    let stays = stays_on {new = c.resume-in-Some.new.looks} (metered_stays note.stays)
+    (step_stays c.resume-in-Some.ensures) in
     let place = place_stays (stays_on c.work.invariant.stays (metered_stays note.stays)) in
-    let h = rw c.in_ok-next-in-Some.was at c.resume.ensures in
-    let left : c.resume.new.looks.3.left ≡ c.work.lookout.3.left = ap (λ b. b.left)
-    c.resume.ensures.stays ∙ note.left in
+    let h = rw c.in_ok-next-in-Some.was at c.resume-in-Some.ensures in
+    let left : c.resume-in-Some.new.looks.3.left ≡ c.work.lookout.3.left = ap (λ b. b.left)
+    c.resume-in-Some.ensures.stays ∙ note.left in
     record {
-      stays = stays_on {new = c.resume.new.looks} c.work.invariant.stays stays;
+      stays = stays_on {new = c.resume-in-Some.new.looks} c.work.invariant.stays stays;
       entries = entries_steady stays.keeps _ _
           (entries_more _ _ _ _ _ _ c.work.invariant.entries c.keep.ensures
           (linked_true c.work.invariant.linked c.in-Done.is));

@@ -12,7 +12,7 @@ invariant-work g l =
     let began = l.fn.lookout in
     record {
       stays : Stays contents g.T.Terms.rest began l.lookout;
-      entries : AreTrue (place_of began) (contents l.lookout.2) l.memo.cache.entries;
+      entries : AreTrue (place_of began) (contents l.lookout.2) l.memo;
       linked : IsLinked (place_of began) (query_of (tree_at (contents began.2)) l.fn.query)
           began.3.left (contents l.lookout.2) l.stack.items l.asked l.budget l.next l.lookout.3.left
           l.lookout.3.last;

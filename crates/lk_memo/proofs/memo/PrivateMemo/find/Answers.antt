@@ -1,6 +1,11 @@
+use Rattle.std.proofs.Common.{inl, inr}
 use Rattle.lru.proofs.CallerLemmas.{Contains-promoted}
-use Rattle.lk_memo.proofs.Keys.{same_key}
+use Rattle.lk_memo.specs.Keys.{same_key}
 use Rattle.lk_memo.proofs.memo.PrivateMemo.find.Goals as goal
 
-pub returns-clause-entries : goal.returns-clause-entries
-returns-clause-entries c e h = Contains-promoted (same_key c.key_of.result) c.args.self.now.cache.entries e (rw c.get.follows.holds-at-none at h)
+pub returns-in-None-clause-holds : goal.returns-in-None-clause-holds
+returns-in-None-clause-holds c = λ k v h. elim h [
+  | inl near ↦ inl near
+  | inr far ↦ inr (Contains-promoted (same_key c.key_of-key.result) c.args.self.now.cache.entries (k, v)
+      (rw c.get.follows.holds-at-none at far))
+]

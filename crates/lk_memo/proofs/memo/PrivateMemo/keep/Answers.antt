@@ -1,9 +1,22 @@
-use Rattle.lk_memo.proofs.Keys.{put_key, put_found}
+use Rattle.std.proofs.Common.{◌≡◌, inl, inr, Some, subst, ap, ◌∙◌}
+use Rattle.lk_memo.specs.Slots.{found_in}
+use Rattle.lk_memo.proofs.Keeping.{found_then}
 use Rattle.lk_memo.proofs.memo.PrivateMemo.keep.Goals as goal
 
-pub returns-in-Ok : goal.returns-in-Ok
-returns-in-Ok c = record {
-  entries = λ e h. put_key c.args.self.now.cache _ c.args.kept e (rw (c.in-Ok.ensures.entries, c.key_of.ensures) at h);
-  kept = rw (c.in-Ok.ensures.entries, c.key_of.ensures) (put_found c.args.self.now.cache _ c.args.kept);
-  refused = tt;
-}
+pub returns-clause-holds : goal.returns-clause-holds
+returns-clause-holds c = λ k v h. elim h [
+  | inl near ↦ elim (c.keep.ensures.others k v near) [
+    | inl before ↦ inl (inl (subst (λ r. found_in r k ≡ Some v) c.in_ok-keep_dear.ensures.recent before))
+    | inr this ↦ inr (this.0 ∙ c.key_of-key.ensures, this.1)
+  ]
+  | inr far ↦ elim (c.in_ok-keep_dear.ensures.entries (k, v) far) [
+    | inl before ↦ inl (inr before)
+    | inr this ↦ inr (ap (λ e. e.0) this ∙ c.key_of-key.ensures, ap (λ e. e.1) this)
+  ]
+]
+
+pub returns-clause-kept : goal.returns-clause-kept
+returns-clause-kept c = rw (← c.key_of-key.ensures)
+    (found_then c.keep_dear.new.self.recent c.keep.new.self c.keep_dear.new.self.cache.entries
+    c.key_of-key.result c.args.kept c.keep.ensures.kept c.keep.ensures.none
+    (rw (← c.in_ok-keep_dear.ensures.recent) at c.in_ok-keep_dear.ensures.kept))

@@ -1,0 +1,28 @@
+-- The last answers, each in the slot of its question.
+use Rattle.std.specs.Prelude.{ℕ, ◌-◌, ◌&&◌, nat_eq, bit_and, List, length, slice_get, Option, Some, None, option_and_then, if◌then◌else◌}
+use Rattle.lk_ask.specs.declared.kept.Kept.{Kept}
+use Rattle.lk_store.specs.Hashes.{mixed}
+use Rattle.lk_memo.specs.declared.key.Key.{Key}
+use Rattle.lk_memo.specs.declared.key.Kind.{Kind}
+use Rattle.lk_memo.specs.declared.key.Kind.TheVariants.{Core, Whnf, Infer, Same}
+use Rattle.lk_memo.specs.declared.recent.Slot.{Slot}
+use Rattle.lk_memo.specs.Keys.{same_key}
+
+abbrev pub number_of : Kind → ℕ
+number_of Core = 0
+number_of Whnf = 1
+number_of Infer = 2
+number_of Same = 3
+
+-- the slot of a key among so many
+unfoldable pub slot_of : Key → ℕ → ℕ
+slot_of key count = bit_and (mixed (mixed (number_of key.kind) key.first) key.second) (count - 1)
+
+-- what stands there in this era under the key
+abbrev pub in_slot : ℕ → Key → Slot → Option Kept
+in_slot era key s = if nat_eq s.era era && same_key s.key key then Some s.kept else None
+
+-- what these slots have in this era under the key
+abbrev pub found_in : List Slot × ℕ → Key → Option Kept
+found_in (slots, era) key =
+    option_and_then (in_slot era key) (slice_get slots (slot_of key (length slots)))

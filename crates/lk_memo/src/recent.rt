@@ -1,0 +1,133 @@
+//! The last answers, each in the slot of its question.
+
+ghost use Rattle.std.specs.Prelude.{◌≡◌, ◌⊎◌, ◌<◌, [], ℕ, length, None, Some, true, false, IfOk};
+ghost use Rattle.lk_ask.specs.declared.kept.Kept.{Kept as Answered};
+ghost use Rattle.lk_memo.specs.declared.key.Key.{Key as Asked};
+ghost use Rattle.lk_memo.specs.Slots.{number_of, slot_of, found_in};
+
+use crate::key::{Key, Kind};
+use lk_ask::kept::Kept;
+use lk_ask::query::Answer;
+use lk_store::hashing::mix;
+use lk_store::memory::NoMemory;
+use std::alloc::Global;
+use std::marker::Model;
+
+/// An answer in its slot.
+#[derive(Clone, Copy)]
+pub struct Slot {
+    /// The era in which it was kept.
+    pub era: u64,
+    pub key: Key,
+    pub kept: Kept,
+}
+
+/// The last answers. A question has one slot, and an answer that is kept takes the place of what
+/// stood there. A new era begins when all are forgotten: what was kept before counts no more.
+#[derive(Drop)]
+pub struct Recent {
+    slots: Vec<Slot>,
+    era: u64,
+}
+
+impl Model for Recent {
+    ghost use Rattle.std.specs.Prelude.{ℕ, List, ◌≤◌, All};
+    ghost use Rattle.lk_memo.specs.declared.recent.Slot.{Slot as Standing};
+
+    ghost Value = { List Standing × ℕ };
+
+    ghost view = { λ r. (r.slots.items, r.era) };
+
+    ghost invariant = { λ r. All (λ s. s.era ≤ r.era) r.slots.items };
+}
+
+/// The number of a kind of questions.
+fn number_of(kind: Kind) -> u64
+    ensures { result ≡ number_of kind }
+{
+    match kind {
+        Kind::Core => 0,
+        Kind::Whnf => 1,
+        Kind::Infer => 2,
+        Kind::Same => 3,
+    }
+}
+
+/// The slot of a question among so many, a power of two or none.
+#[tactic(auto, unfolding(crate::specs::Slots::slot_of))]
+fn slot_of(key: Key, count: usize) -> usize
+    ensures value { result ≡ slot_of key count }
+    ensures within { 0 < count → result < count }
+{
+    let hash = mix(mix(number_of(key.kind), key.first), key.second);
+    (hash & (count as u64).saturating_sub(1)) as usize
+}
+
+impl Recent {
+    /// So many slots, a power of two or none, in which nothing stands.
+    pub fn new(alloc: Global, count: usize) -> Result<Self, NoMemory>
+        ensures { IfOk result (λ r. (k : Asked) → found_in r k ≡ None) }
+    {
+        let nothing = Slot {
+            era: 0,
+            key: Key {
+                kind: Kind::Core,
+                first: 0,
+                second: 0,
+            },
+            kept: Kept {
+                answer: Answer::Truth(false),
+                cost: 0,
+                top: None,
+            },
+        };
+        let mut slots = Vec::new(alloc);
+        slots.resize(count, nothing)?;
+        Ok(Recent { slots, era: 1 })
+    }
+
+    /// Whether there are no slots.
+    pub fn is_empty(&self) -> bool
+        ensures { self.now.0 ≡ [] → result ≡ true }
+    {
+        let _era = self.era;
+        self.slots.is_empty()
+    }
+
+    /// Forgets all that is kept, in one step.
+    pub fn clear(&mut self)
+        ensures { (k : Asked) → found_in self.new k ≡ None }
+    {
+        match self.era.checked_add(1) {
+            Some(next) => self.era = next,
+            // No run has so many eras.
+            None => self.slots.clear(),
+        }
+    }
+
+    /// What is kept under a key.
+    pub fn find(&self, key: Key) -> Option<Kept>
+        ensures { result ≡ found_in self.now key }
+    {
+        let slot = self.slots.get(slot_of(key, self.slots.len()))?;
+        if slot.era == self.era && slot.key == key {
+            Some(slot.kept)
+        } else {
+            None
+        }
+    }
+
+    /// Keeps an answer under a key, where there are slots.
+    pub fn keep(&mut self, key: Key, kept: Kept)
+        ensures kept { 0 < length self.old.0 → found_in self.new key ≡ Some kept }
+        ensures none { self.old.0 ≡ [] → self.new ≡ self.old }
+        ensures others { (k : Asked) (v : Answered) → found_in self.new k ≡ Some v
+            → (found_in self.old k ≡ Some v) ⊎ ((k ≡ key) × (v ≡ kept)) }
+    {
+        let era = self.era;
+        let i = slot_of(key, self.slots.len());
+        if i < self.slots.len() {
+            self.slots[i] = Slot { era, key, kept };
+        }
+    }
+}
