@@ -4,8 +4,7 @@
 usage: measure.py FILE RUNS -- NAME PROGRAM WORD.. [-- NAME PROGRAM WORD..]..
 
 FILE is the standard input. Of RUNS runs the least processor time (user and system) counts, and the most memory that was
-resident. All must write the same, the lines of axioms aside, which leancheck does not write yet, and end with status 0.
-The last line compares the last program with the first.
+resident. All must write the same and end with status 0. The last line compares the last program with the first.
 """
 import os
 import sys
@@ -23,10 +22,6 @@ def run(command, path):
         return used.ru_utime + used.ru_stime, used.ru_maxrss * 1024, os.waitstatus_to_exitcode(status), out.read()
 
 
-def without_axioms(text):
-    return b''.join(line for line in text.splitlines(True) if not line.startswith(b'  axiom '))
-
-
 def main():
     parts = [[]]
     for word in sys.argv[1:]:
@@ -42,7 +37,6 @@ def main():
     for _ in range(runs):
         for name, command in programs:
             took, held, status, text = run(command, path)
-            text = without_axioms(text)
             if status != 0:
                 sys.exit(f'{name}: status {status}: {text[:200]!r}')
             if first is None:

@@ -193,6 +193,7 @@ pub fn begin<L: Looks>(looks: &mut L, query: Query<u64>) -> Result<AnyNext, NoMe
 }
 
 /// Goes on once the term is there that a sheet waits for.
+#[inline(always)]
 fn resume_term<L: Looks>(looks: &mut L, sheet: TermSheet<u64>, e: u64) -> Result<AnyNext, NoMemory>
     requires sheet_in { IsKnownTerm (length (L.contents looks.old).trees) sheet }
     requires e_in { e < length (L.contents looks.old).trees }
@@ -212,6 +213,7 @@ fn resume_term<L: Looks>(looks: &mut L, sheet: TermSheet<u64>, e: u64) -> Result
 }
 
 /// Goes on once yes or no is there, for which a sheet waits.
+#[inline(always)]
 fn resume_truth<L: Looks>(
     looks: &mut L,
     sheet: TruthSheet<u64>,
@@ -228,6 +230,7 @@ fn resume_truth<L: Looks>(
 }
 
 /// Goes on once the answer is there that a sheet waits for. One of the other kind never comes.
+#[inline(always)]
 pub fn resume<L: Looks>(
     looks: &mut L,
     sheet: AnySheet,
