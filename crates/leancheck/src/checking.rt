@@ -159,6 +159,11 @@ fn judge<Q: Quotients + Laws + Families>(
     }
 }
 
+/// Whether a verdict is yes.
+fn says_yes(verdict: Verdict) -> bool {
+    matches!(verdict, Verdict::Yes)
+}
+
 /// The verdicts of the units, in their order, by an engine over their library. It is started anew for each unit, and then
 /// knows nothing of the work of an earlier one.
 fn judge_all<G: Gate>(
@@ -180,7 +185,9 @@ fn judge_all<G: Gate>(
         };
         gate.before_unit(number);
         engine.start(number, steps);
-        verdicts.push(judge(alloc, library, engine, number, unit))?;
+        let verdict = judge(alloc, library, engine, number, unit);
+        gate.after_unit(number, says_yes(verdict));
+        verdicts.push(verdict)?;
         rest = more;
     }
     Ok(verdicts)
@@ -198,6 +205,7 @@ pub fn check_all<G: Gate>(
     ensures { IfOk result (λ v. IsClearLibrary (library_of library.now)
         → AreVerdicts (library_of library.now) steps (map verdict v.items)) }
 {
+    gate.begins(library.units().len() as u64);
     let mut memo = PrivateMemo::new(alloc, kept)?;
     let mut engine = Engine::new(alloc, library, &mut memo);
     let verdicts = judge_all(alloc, library, &mut engine, steps, gate);

@@ -1,0 +1,134 @@
+//! How far a check is, as one line on standard error, where that is a terminal.
+
+use lk_port::{Failed, Gate, Sink, Source};
+use std::io::IsTerminal;
+use std::sync::atomic::{AtomicU64, Ordering};
+use std::time::Instant;
+
+/// So many milliseconds lie between two lines at least.
+const PAUSE: u64 = 100;
+
+/// How far a check is, and when that was told last.
+#[derive(Drop)]
+pub struct Progress<'a> {
+    rt: &'a HostRuntime,
+    /// When the program began; nothing is told without it.
+    start: Option<Instant>,
+    /// How many milliseconds after that the line was written last; 0 where it was not.
+    told: AtomicU64,
+    bytes: AtomicU64,
+    units: AtomicU64,
+    refused: AtomicU64,
+}
+
+impl<'a> Progress<'a> {
+    /// Nothing is done yet.
+    pub fn new(rt: &'a HostRuntime) -> Progress<'a> {
+        let start = if rt.stderr().is_terminal() {
+            Instant::now(rt).ok()
+        } else {
+            None
+        };
+        Progress {
+            rt,
+            start,
+            told: AtomicU64::new(0),
+            bytes: AtomicU64::new(0),
+            units: AtomicU64::new(0),
+            refused: AtomicU64::new(0),
+        }
+    }
+
+    /// Whether the line is to be written: the last time is long enough ago. From now on it is not.
+    fn is_due(&self) -> bool {
+        let Some(start) = self.start else {
+            return false;
+        };
+        let Ok(passed) = start.elapsed(self.rt) else {
+            return false;
+        };
+        let now = passed
+            .as_secs()
+            .saturating_mul(1000)
+            .saturating_add(u64::from(passed.subsec_millis()));
+        let due = now >= self.told.load(Ordering::SeqCst).saturating_add(PAUSE);
+        if due {
+            self.told.store(now, Ordering::SeqCst);
+        }
+        due
+    }
+
+    /// So many more bytes were read.
+    fn took(&self, count: usize) {
+        let bytes = self.bytes.fetch_add(count as u64, Ordering::SeqCst);
+        if self.is_due() {
+            let _ = eprint!(self.rt; "\r\x1b[Kleancheck: {} MB read", bytes / 1_000_000);
+        }
+    }
+
+    /// Takes the line away, where there is one.
+    pub fn end(&self) {
+        if self.told.swap(0, Ordering::SeqCst) > 0 {
+            let _ = eprint!(self.rt; "\r\x1b[K");
+        }
+    }
+}
+
+impl<'a> Gate for Progress<'a> {
+    fn begins(&self, units: u64) {
+        self.units.store(units, Ordering::SeqCst);
+    }
+
+    fn before_unit(&self, unit: u32) {
+        if self.is_due() {
+            let units = self.units.load(Ordering::SeqCst);
+            let refused = self.refused.load(Ordering::SeqCst);
+            let _ = eprint!(self.rt;
+                "\r\x1b[Kleancheck: {unit} of {units} units checked, {refused} say no"
+            );
+        }
+    }
+
+    fn after_unit(&self, _unit: u32, yes: bool) {
+        if !yes {
+            self.refused.fetch_add(1, Ordering::SeqCst);
+        }
+    }
+}
+
+/// A source of which it is told how much was read.
+#[derive(Drop)]
+pub struct Watched<'a, S: Source + Drop> {
+    pub inner: S,
+    pub progress: &'a Progress<'a>,
+}
+
+impl<'a, S: Source + Drop> Source for Watched<'a, S> {
+    ghost left = { λ s. S.left s.inner };
+
+    ghost faults = { λ s. S.faults s.inner };
+
+    fn read(&mut self, into: &mut [u8]) -> Result<usize, Failed> {
+        let count = self.inner.read(into)?;
+        self.progress.took(count);
+        Ok(count)
+    }
+}
+
+/// A sink before whose writes the line is taken away.
+#[derive(Drop)]
+pub struct Cleared<'a, K: Sink + Drop> {
+    pub inner: K,
+    pub progress: &'a Progress<'a>,
+}
+
+impl<'a, K: Sink + Drop> Sink for Cleared<'a, K> {
+    ghost written = { λ s. K.written s.inner };
+
+    ghost faults = { λ s. K.faults s.inner };
+
+    fn write(&mut self, piece: &[u8]) -> Result<usize, Failed> {
+        self.progress.end();
+        self.inner.write(piece)
+    }
+}
