@@ -35,7 +35,7 @@ code_of WriteFault = 5
 code_of NoMemory = 6
 code_of SomeMemory = 9
 
--- the status of a run that wrote verdicts
+-- the status of a run that did what the words ask for
 abbrev pub IsChecked : Status → Type 0
 IsChecked AllYes = Unit {0}
 IsChecked SomeNo = Unit {0}
@@ -73,7 +73,7 @@ abbrev pub Gives : Extent → ℕ → List ℕ → Result (Vec ℕ Global × Sta
 Gives extent steps bytes (Ok (text, status)) = IsReport extent steps bytes status text.items
 Gives extent steps bytes (Err e) = Unit {0}
 
--- What words ask for was done and has ended so, over the bytes of a source, where it tells them: a check writes its report, `make`
+-- What words ask for was done, and this is its status, over the bytes of a source, where it tells them: a check writes its report, `make`
 -- its file, and a trial the last line of what a check of that file would write.
 abbrev pub Does : Meaning → Option (List ℕ) → Status → Option (List ℕ) → Option (List ℕ) → Type 0
 Does (Check o) left status old new = IfSome left (λ bytes. Reports Report o.steps bytes status old new)

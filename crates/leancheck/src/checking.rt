@@ -193,8 +193,8 @@ fn judge_all<G: Gate>(
     Ok(verdicts)
 }
 
-/// The verdicts of the units, in their order; the questions of each may take so many steps, and so many of their answers are
-/// kept while the unit is at work.
+/// The verdicts of the units, in their order; the questions of each may take so many steps, and at most so many of their
+/// answers are kept while the unit is at work.
 pub fn check_all<G: Gate>(
     alloc: Global,
     library: &Library,

@@ -30,7 +30,7 @@ use std::alloc::Global;
 use std::sync::Wait;
 use std::thread::Threads;
 
-/// What is told of a library, and the status. So many answers are kept.
+/// What is told of a library, and the status. At most so many answers are kept.
 fn checked<G: Gate>(
     alloc: Global,
     extent: Extent,
@@ -93,7 +93,7 @@ fn tell_fault<K: Sink>(alloc: Global, fault: Fault, sink: &mut K) -> Status
     }
 }
 
-/// Checks the units of a library, and writes what is to be told of it. So many answers are kept.
+/// Checks the units of a library, and writes what is to be told of it. At most so many answers are kept.
 fn tell_verdicts<K: Sink, G: Gate>(
     alloc: Global,
     extent: Extent,

@@ -1,5 +1,5 @@
--- The export file that a seed gives: an axiom p, a proposition, and behind it theorems, of each of which the statement is that p
--- gives p. A theorem is proved by the function that gives its argument, or by an earlier theorem that a sequence of numbers draws.
+-- The export file that a seed gives: an axiom p, a proposition, and behind it theorems that each state p -> p. A theorem is
+-- proved by the function that gives its argument, or by an earlier theorem that a sequence of numbers draws.
 use Rattle.std.specs.Prelude.{ℕ, zero, suc, ◌+◌, ◌-◌, ◌*◌, ◌/◌, ◌%◌, ◌^◌, List, [], ◌++◌, codes, decimal, nat_eq, if◌then◌else◌}
 
 -- the number behind x in the sequence
@@ -11,7 +11,7 @@ abbrev pub number_at : ℕ → ℕ → ℕ
 number_at seed zero = seed
 number_at seed (suc i) = next (number_at seed i)
 
--- the unit by which unit i is proved; 0 where it is proved by itself
+-- the unit by which unit i is proved; 0 where it is by expression 4
 abbrev pub cited_unit : ℕ → ℕ → ℕ
 cited_unit seed i = (number_at seed i / 65536) % i
 
@@ -49,6 +49,6 @@ abbrev pub units_to : ℕ → ℕ → List ℕ
 units_to seed zero = []
 units_to seed (suc i) = units_to seed i ++ unit_lines (suc i) (cited_unit seed (suc i)) (free_expression seed i)
 
--- a file of so many units
+-- a file of so many units, of one at least
 abbrev pub file_of : ℕ → ℕ → List ℕ
 file_of units seed = beginning ++ units_to seed (units - 1)

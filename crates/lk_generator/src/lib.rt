@@ -1,5 +1,6 @@
-//! The export files by which a checker is tried: an axiom, and as many theorems about it as are wanted, of which each is proved by
-//! itself or by an earlier one that a seed draws.
+//! The export files by which a checker is tried: an axiom `p`, and as many theorems `p -> p` as are
+//! wanted, each proved by the function that gives its argument or by an earlier theorem that a seed
+//! draws.
 #![tactic(auto)]
 
 ghost use Rattle.std.specs.Prelude.{◌≡◌, ◌+◌, ◌<◌, ◌≤◌, ◌^◌, ◌++◌, IfOk, OnOk, string_bytes};
@@ -74,7 +75,7 @@ fn add_unit(file: &mut String, i: u64, j: u64, e: u64) -> Result<(), AllocError>
     add_theorem(file, i, e + 2)
 }
 
-/// The file of so many units that a seed gives.
+/// The file of so many units, of one at least, that a seed gives.
 pub fn generate(alloc: Global, units: u32, seed: u32) -> Result<Vec<u8>, AllocError>
     ensures { IfOk result (λ v. v.items ≡ file_of units seed) }
 {
