@@ -29,6 +29,7 @@ impl<T: Terms> Rewrite<T> for Closing {
     ghost steady = { λ s c d x h. refl };
 
     #[tactic(auto, using(crate::proofs::Unchanged::leaves_low), unfolding(lk_tree::specs::Bind::close_at))]
+    #[inline(always)]
     fn step(&self, terms: &mut T, e: u64, depth: u64) -> Result<Option<u64>, NoMemory> {
         if terms.local_bound(e) <= u128::from(self.number) {
             return Ok(Some(e));

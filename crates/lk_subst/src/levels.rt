@@ -36,6 +36,7 @@ impl<'a, T: Terms> Rewrite<T> for PuttingLevels<'a> {
     ghost steady = { λ s c d x h. levels-steady c d s.params.now s.levels.now x h };
 
     #[tactic(auto, using(crate::proofs::Unchanged::leaves_put_levels), unfolding(lk_tree::specs::Levels::put_levels))]
+    #[inline(always)]
     fn step(&self, terms: &mut T, e: u64, depth: u64) -> Result<Option<u64>, NoMemory> {
         let _depth = depth;
         if !terms.has_params(e) {

@@ -31,6 +31,7 @@ impl<T: Terms> Rewrite<T> for Opening {
     ghost steady = { λ s c d x h. ap (λ v depth. open_at depth v) (x.trees.same s.value h) };
 
     #[tactic(auto, using(crate::proofs::Unchanged::leaves_closed), unfolding(lk_tree::specs::Bind::open_at))]
+    #[inline(always)]
     fn step(&self, terms: &mut T, e: u64, depth: u64) -> Result<Option<u64>, NoMemory> {
         if terms.loose_bound(e) <= u128::from(depth) {
             return Ok(Some(e));

@@ -32,6 +32,7 @@ impl<'a, T: Terms> Rewrite<T> for Putting<'a> {
     ghost steady = { λ s c d x h. ap put_at (trees-steady c d s.values.now x h) };
 
     #[tactic(auto, using(crate::proofs::Unchanged::leaves_put), unfolding(lk_tree::specs::Putting::put_at))]
+    #[inline(always)]
     fn step(&self, terms: &mut T, e: u64, depth: u64) -> Result<Option<u64>, NoMemory> {
         if terms.loose_bound(e) <= u128::from(depth) {
             return Ok(Some(e));

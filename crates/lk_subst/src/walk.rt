@@ -1,7 +1,7 @@
-//! Walks that build a tree anew. A walk keeps a stack of its own, and builds each pair of a number
-//! and a depth once. It works in room that the store lends, so that few walks take memory.
+//! Walks that build a tree anew. A walk keeps a stack of its own, and goes below each pair of a
+//! number and a depth once. It works in room that the store lends, so that few walks take memory.
 
-ghost use Rattle.std.specs.Prelude.{◌≡◌, ◌<◌, ℕ, length, IfOk};
+ghost use Rattle.std.specs.Prelude.{◌≡◌, ◌<◌, ◌⊎◌, ◌∷◌, ◌++◌, [], ℕ, length, IfOk, OnOk, OnErr};
 ghost use Rattle.lk_tree.specs.Tree.{Tree};
 ghost use Rattle.lk_store.specs.Contents.{Contents, tree_at, Extends};
 ghost use Rattle.lk_store.specs.Rooms.{IsEmpty};
@@ -18,11 +18,13 @@ use std::alloc::Global;
 /// What a walk does next.
 #[derive(Clone, Copy)]
 pub enum Turn {
-    /// The node waits for what is made of `e`.
+    /// The node waits for what is made of `e`. Of its children before that one some were walked, or
+    /// something was made of each at once.
     Down {
         waiting: Waiting,
         e: u64,
         depth: u64,
+        walked: bool,
     },
     /// It is made.
     Up {
@@ -148,6 +150,7 @@ fn enter<T: Terms, R: Rewrite<T>>(terms: &T, rewrite: &R, e: u64, depth: u64) ->
             },
             e: first,
             depth,
+            walked: false,
         },
         // A step makes something of each leaf at once.
         None => unreachable!(),
@@ -182,12 +185,27 @@ fn begin<T: Terms, R: Rewrite<T>>(
     Ok(enter(terms, rewrite, e, depth))
 }
 
+/// Keeps what was made of a node, where one of its children was walked. Where none was it is made
+/// again as fast as it would be found.
+#[inline(always)]
+fn keep(made: &mut Table<Made>, row: Made, walked: bool) -> Result<(), NoMemory>
+    ensures ok { OnOk result ((made.new ≡ made.old ++ row ∷ []) ⊎ (made.new ≡ made.old)) }
+    ensures err { OnErr result (made.new ≡ made.old) }
+{
+    if walked {
+        made.push(row)?;
+    }
+    Ok(())
+}
+
 /// Goes on once the child is built that the node waits for.
+#[inline(always)]
 fn resume<T: Terms>(
     terms: &mut T,
     made: &mut Table<Made>,
     waiting: Waiting,
     e: u64,
+    walked: bool,
 ) -> Result<Turn, NoMemory>
     requires waiting_in { IsWaiting (T.contents terms.old) waiting }
     requires e_in { e < length (T.contents terms.old).trees }
@@ -207,11 +225,12 @@ fn resume<T: Terms>(
                 waiting: Waiting { spot, node, child },
                 e: next,
                 depth,
+                walked,
             })
         }
         None => {
             let r = terms.make(node)?;
-            made.push(Made { spot, made: r })?;
+            keep(made, Made { spot, made: r }, walked)?;
             Ok(Turn::Up { e: r })
         }
     }
@@ -237,13 +256,24 @@ fn walk<T: Terms, R: Rewrite<T>>(
     let mut turn = enter(terms, rewrite, e, 0);
     'walk: loop {
         match turn {
-            Turn::Down { waiting, e, depth } => {
-                room.stack.push(waiting)?;
-                turn = begin(terms, rewrite, &room.made, e, depth)?;
+            Turn::Down {
+                waiting,
+                e,
+                depth,
+                walked,
+            } => {
+                let begun = begin(terms, rewrite, &room.made, e, depth)?;
+                match begun {
+                    Turn::Up { e } => turn = resume(terms, &mut room.made, waiting, e, walked)?,
+                    Turn::Down { .. } => {
+                        room.stack.push(waiting)?;
+                        turn = begun;
+                    }
+                }
             }
             Turn::Up { e } => match room.stack.pop() {
                 None => return Ok(e),
-                Some(waiting) => turn = resume(terms, &mut room.made, waiting, e)?,
+                Some(waiting) => turn = resume(terms, &mut room.made, waiting, e, true)?,
             },
         }
     }
