@@ -219,6 +219,9 @@ impl<R: Row + Drop> Table<R> {
     pub fn clear(&mut self)
         ensures { self.new ≡ [] }
     {
+        if self.rows.is_empty() {
+            return;
+        }
         self.rows.clear();
         self.links.clear();
         if self.heads.len() > KEPT {
@@ -231,6 +234,7 @@ impl<R: Row + Drop> Table<R> {
 
     /// Adds a row, whose number is the length before. A table holds fewer than 2^32; one more is
     /// want of memory, where all is as before.
+    #[inline]
     pub fn push(&mut self, row: R) -> Result<(), AllocError>
         ensures ok { OnOk result (self.new ≡ self.old ++ row ∷ []) }
         ensures err { OnErr result (self.new ≡ self.old) }
