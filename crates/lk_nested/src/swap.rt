@@ -55,6 +55,7 @@ impl<'a, T: Terms> Rewrite<T> for Swapping<'a> {
 
     ghost steady = { λ s c d x h. swapping-steady c d s.pairs.now x h };
 
+    #[inline(always)]
     fn step(&self, terms: &mut T, e: u64, depth: u64) -> Result<Option<u64>, NoMemory> {
         let _depth = depth;
         if let Some(r) = instead(terms, self.pairs, e) {

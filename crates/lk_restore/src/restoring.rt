@@ -98,6 +98,7 @@ impl<'a, T: Terms> Rewrite<T> for Restoring<'a> {
     ghost steady = { λ s c d x h. reading-steady c d x s.originals.now h };
 
     #[tactic(auto, unfolding(crate::specs::Marks::read))]
+    #[inline(always)]
     fn step(&self, terms: &mut T, e: u64, depth: u64) -> Result<Option<u64>, NoMemory> {
         let _depth = depth;
         match terms.view(e) {
