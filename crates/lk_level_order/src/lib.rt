@@ -8,9 +8,12 @@
 
 pub mod cases;
 pub mod compared;
+pub mod enough;
 pub mod gathering;
+pub mod listing;
 pub mod parameters;
 pub mod placing;
 pub mod relation;
+pub mod support;
 pub mod values;
 pub mod zero;
