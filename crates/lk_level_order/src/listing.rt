@@ -68,22 +68,52 @@ pub struct Cover {
     pub support: Support,
 }
 
+/// Whether a list has the case.
+fn has_case(rows: &Table<Chosen>, cases: Cases, case: u64) -> bool
+    ensures { result ≡ true → IsAmong rows.now cases case }
+{
+    let wanted = Chosen {
+        list: cases.first,
+        case,
+    };
+    match rows.find(&wanted) {
+        Some(i) => cases.first <= i && i < cases.end,
+        None => false,
+    }
+}
+
+/// Whether a list has all cases of another one.
+fn has_all(rows: &Table<Chosen>, cases: Cases, other: Cases) -> bool
+    requires { other.end ≤ length rows.now }
+    ensures { result ≡ true → (case : ℕ) → IsAmong rows.now other case
+        → IsAmong rows.now cases case }
+{
+    for i in other.first..other.end {
+        let case = rows.get(i).case;
+        if !has_case(rows, cases, case) {
+            return false;
+        }
+    }
+    true
+}
+
 /// Adds a case to the last list, where it is not there yet.
 fn add(rows: &mut Table<Chosen>, list: u64, case: u64) -> Result<(), NoMemory>
     requires { list ≤ length rows.old }
     ensures grows { OnOk result (Grows rows.old rows.new) }
     ensures listed { OnOk result (IsListed rows.new list (length rows.new) case) }
 {
-    let wanted = Chosen { list, case };
-    if let Some(i) = rows.find(&wanted) {
-        if i >= list {
-            return Ok(());
-        }
+    let cases = Cases {
+        first: list,
+        end: rows.len(),
+    };
+    if has_case(rows, cases, case) {
+        return Ok(());
     }
     if rows.len() >= MOST_LISTED {
         return Err(NoMemory);
     }
-    rows.push(wanted)?;
+    rows.push(Chosen { list, case })?;
     Ok(())
 }
 
@@ -151,8 +181,8 @@ fn join(
     Ok(())
 }
 
-/// A new list, of the cases of two lists: those of the first one in which a level is above 0, or with a parameter by
-/// which it is.
+/// A list of the cases of two lists: those of the first one in which a level is above 0, or with a parameter by which
+/// it is. Where all are taken and one of the two has them, it is that one.
 fn both(
     rows: &mut Table<Chosen>,
     joined: Cases,
@@ -170,6 +200,12 @@ fn both(
     ensures own { IfOk result (λ c. (case : ℕ) → IsAmong rows.old own case
         → IsAmong rows.new c case) }
 {
+    if support.surely && has_all(rows, joined, own) {
+        return Ok(joined);
+    }
+    if support.surely && has_all(rows, own, joined) {
+        return Ok(own);
+    }
     let first = rows.len();
     join(rows, first, joined, support, rights)?;
     join(rows, first, own, SURELY, rights)?;
