@@ -1,5 +1,6 @@
 -- Cases that are enough for a level, and how they are listed.
-use Rattle.std.specs.Prelude.{◌≡◌, ℕ, ◌<◌, ◌≤◌, ◌⊎◌, true, false, List, [], take, length, All, slice_index_or}
+use Rattle.std.specs.Prelude.{◌≡◌, ℕ, ◌<◌, ◌≤◌, ◌⊎◌, true, false, List, [], take, length, All}
+use Rattle.std.specs.Prelude.{slice_index_or}
 use Rattle.lk_tree.specs.Tree.{Name, Level}
 use Rattle.lk_tree.specs.Level.{level_value}
 use Rattle.lk_tree.specs.LevelTest.{params_of, right_params}
@@ -19,7 +20,7 @@ pub record IsServed (ns : List Name) (IsOne : ℕ → Type 0) (l : Level) (σ : 
   pub enough : level_value σ l ≤ level_value values l
   pub chosen : IsOne (case_of ns values)
 
--- so what holds of the level in those cases, of another that is no less, holds under every assignment
+-- so a level that is at most another in those cases is so under every assignment
 abbrev pub AreEnough : List Name → (ℕ → Type 0) → Level → Type 0
 AreEnough ns IsOne l = (σ : Name → ℕ) → IsServed ns IsOne l σ
 
@@ -29,8 +30,10 @@ AreEnoughWithin ns IsOne l = IsWithin (right_params l) ns → AreEnough ns IsOne
 -- when a level is above 0: under every assignment, or where one of these names is
 pub record HasSupport (ns : List Name) (s : Support) (l : Level) : Type 0 where
   pub surely : s.surely ≡ true → (σ : Name → ℕ) → 0 < level_value σ l
-  pub each : (n : ℕ) → n < length ns → has_one s.by n ≡ true → (σ : Name → ℕ) → 0 < σ (slice_index_or ns n []) → 0 < level_value σ l
-  pub some : s.surely ≡ false → (σ : Name → ℕ) → 0 < level_value σ l → (n : ℕ) × (n < length ns) × (has_one s.by n ≡ true) × (0 < σ (slice_index_or ns n []))
+  pub each : (n : ℕ) → n < length ns → has_one s.by n ≡ true
+      → (σ : Name → ℕ) → 0 < σ (slice_index_or ns n []) → 0 < level_value σ l
+  pub some : s.surely ≡ false → (σ : Name → ℕ) → 0 < level_value σ l
+      → (n : ℕ) × (n < length ns) × (has_one s.by n ≡ true) × (0 < σ (slice_index_or ns n []))
 
 -- in the case it is above 0
 abbrev pub IsMet : ℕ → Support → ℕ → Type 0
@@ -38,7 +41,9 @@ IsMet k s case = (s.surely ≡ true) ⊎ Meet k s.by case
 
 -- listed is the case itself, in which it is above 0, or the case with each name by which it is
 abbrev pub IsJoined : ℕ → Support → (ℕ → Type 0) → ℕ → Type 0
-IsJoined k s IsOne case = (IsMet k s case × IsOne case) ⊎ ((s.surely ≡ false) × ((n : ℕ) → n < k → has_one s.by n ≡ true → IsOne (with_one case n)))
+IsJoined k s IsOne case =
+    (IsMet k s case × IsOne case)
+    ⊎ ((s.surely ≡ false) × ((n : ℕ) → n < k → has_one s.by n ≡ true → IsOne (with_one case n)))
 
 abbrev pub hash_of_chosen : Chosen → ℕ
 hash_of_chosen c = mixed c.list c.case
@@ -57,9 +62,11 @@ IsAmong rows cases case = IsListed rows cases.first cases.end case
 -- each row stays
 pub record Grows (old new : List Chosen) : Type 0 where
   pub longer : length old ≤ length new
-  pub same : (i : ℕ) (d : Chosen) → i < length old → slice_index_or new i d ≡ slice_index_or old i d
+  pub same : (i : ℕ) (d : Chosen) → i < length old
+      → slice_index_or new i d ≡ slice_index_or old i d
 
--- what is listed for a level is enough for it, and its support is right, where these are its parameters inside right sides
+-- what is listed for a level is enough for it, and its support is right, where its parameters inside
+-- right sides, or all of them, are among the names
 pub record IsCover (ns : List Name) (rows : List Chosen) (c : Cover) (l : Level) : Type 0 where
   pub cases : AreEnoughWithin ns (IsAmong rows c.cases) l
   pub support : IsWithin (params_of l) ns → HasSupport ns c.support l
@@ -70,11 +77,14 @@ AreInRows rows covers = All (λ (c : Cover). c.cases.end ≤ length rows) covers
 
 -- the first levels have their covers
 abbrev pub AreCovers : Contents → ℕ → List Chosen → List Cover → Type 0
-AreCovers d k rows covers = (j : ℕ) (e : Cover) → j < length covers → IsCover (take k d.names) rows (slice_index_or covers j e) (level_at d j)
+AreCovers d k rows covers =
+    (j : ℕ) (e : Cover) → j < length covers
+    → IsCover (take k d.names) rows (slice_index_or covers j e) (level_at d j)
 
--- whatever the contents are, where its first k names are among its so many names, of which none stands twice
+-- whatever the contents are that have so many names, k or more, of which none stands twice
 abbrev pub OverNames : ℕ → ℕ → (Contents → Type 0) → Type 0
-OverNames k count P = (d : Contents) → AreDifferent d.names → k ≤ length d.names → count ≡ length d.names → P d
+OverNames k count P =
+    (d : Contents) → AreDifferent d.names → k ≤ length d.names → count ≡ length d.names → P d
 
 -- the cover of a level that is 0, or above 0 by none of the names
 abbrev pub IsOfNone : List Chosen → Cover → Type 0

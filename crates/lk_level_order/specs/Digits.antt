@@ -1,5 +1,7 @@
--- Numbers as choices among the first names: those at whose places the binary digit is 1, where the lowest one is at 0.
-use Rattle.std.specs.Prelude.{◌≡◌, ℕ, zero, suc, ◌+◌, ◌*◌, ◌/◌, ◌%◌, ◌<◌, Bool, true, nat_eq, List, [], ◌∷◌}
+-- Numbers as choices among the first names: those at whose places the binary digit is 1, the lowest
+-- of which is at 0.
+use Rattle.std.specs.Prelude.{◌≡◌, ℕ, zero, suc, ◌+◌, ◌*◌, ◌/◌, ◌%◌, ◌<◌, Bool, true, nat_eq}
+use Rattle.std.specs.Prelude.{List, [], ◌∷◌}
 use Rattle.lk_tree.specs.Tree.{Name}
 
 abbrev pub has_one : ℕ → ℕ → Bool
