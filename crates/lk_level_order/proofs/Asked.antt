@@ -80,20 +80,22 @@ digits_end xs count at rest case h e =
     let none : digits (count - at) rest ≡ [] = let z : count - at ≡ 0 = omega arith in rw z refl in
     sym (append-nil xs) ∙ ap (λ ds. xs ++ ds) (sym none) ∙ e
 
--- all cases, one after another
+-- one case, by its number
 module _ (parts : List Part) (q : Question) (k count case : ℕ) (ws : List ℕ) (e : ws ≡ digits count case) where
   counted : (n : ℕ) → count ≡ n → length ws ≡ n
   counted n few = ap length e ∙ digits_length count case ∙ few
 
-  pub cases_more : OverOrders parts ws (λ d. IsTestedOf d q k ws)
-      → ((d : Contents) → IsOrder d parts → count ≡ length d.names → (n : ℕ) → n < case → IsTestedOf d q k (digits count n))
-      → (d : Contents) → IsOrder d parts → count ≡ length d.names → (n : ℕ) → n < case + 1 → IsTestedOf d q k (digits count n)
-  cases_more here before d order few =
-      below_more (λ n. IsTestedOf d q k (digits count n)) case (before d order few)
-      (subst (λ (ws : List ℕ). IsTestedOf d q k ws) e (here d order (counted (length d.names) few)))
+  pub number_tested : OverOrders parts ws (λ d. IsTestedOf d q k ws) → (d : Contents) → IsOrder d parts → count ≡ length d.names → IsTestedOf d q k (digits count case)
+  number_tested here d order few = subst (λ (ws : List ℕ). IsTestedOf d q k ws) e (here d order (counted (length d.names) few))
 
-  pub cases_refuted : OverOrders parts ws (λ d. IsRefutedOf d q) → (d : Contents) → IsOrder d parts → count ≡ length d.names → IsRefutedOf d q
-  cases_refuted here d order few = here d order (counted (length d.names) few)
+  pub number_refuted : OverOrders parts ws (λ d. IsRefutedOf d q) → (d : Contents) → IsOrder d parts → count ≡ length d.names → IsRefutedOf d q
+  number_refuted here d order few = here d order (counted (length d.names) few)
+
+-- all cases, one after another
+pub cases_more : (parts : List Part) (q : Question) (k count case : ℕ) → ((d : Contents) → IsOrder d parts → count ≡ length d.names → IsTestedOf d q k (digits count case))
+    → ((d : Contents) → IsOrder d parts → count ≡ length d.names → (n : ℕ) → n < case → IsTestedOf d q k (digits count n))
+    → (d : Contents) → IsOrder d parts → count ≡ length d.names → (n : ℕ) → n < case + 1 → IsTestedOf d q k (digits count n)
+cases_more parts q k count case here before d order few = below_more (λ n. IsTestedOf d q k (digits count n)) case (before d order few) (here d order few)
 
 -- there are few cases
 pub few_cases : (k : ℕ) → k ≤ 20 → 2 ^ k ≤ 1048576

@@ -1,51 +1,81 @@
 -- The answer of a comparison.
-use Rattle.std.proofs.Common.{ℕ, ◌≡◌, ◌<◌, ◌≤◌, ◌^◌, Bool, true, false, nat_le, nat_eq, List, [], ◌∷◌, ◌++◌, map, take, drop, length, refl, sym, ap, ◌∙◌, arith, inl, inr, Some, None}
+use Rattle.std.proofs.Common.{ℕ, zero, suc, ◌≡◌, ◌<◌, ◌≤◌, ◌^◌, Bool, true, false, nat_le, nat_eq, List, [], ◌∷◌, ◌++◌, map, take, drop, length, refl, ap, arith, inl, inr, Some, None}
 use Rattle.std.proofs.lemmas.Bool.Decides.{nat_tests}
 use Rattle.std.proofs.lemmas.Grind.{common_steps}
-use Rattle.std.proofs.lemmas.List.{drop-map}
 use Rattle.lk_tree.specs.Tree.{Name, Level}
 use Rattle.lk_tree.specs.Level.{level_value, AtMost}
 use Rattle.lk_tree.specs.Mentions.{is_one_of}
 use Rattle.lk_tree.specs.LevelTest.{params_of, right_params, width, ones, level_le, level_le_test}
-use Rattle.lk_tree.proofs.LevelTests.{bool_cases, if_cases, in_first, in_rest, name_same, kept, kept_in, level_le_right, level_le_all, level_test_all, level_test_unequal, level_test_too_wide, nat_le_of, nat_le_to}
+use Rattle.lk_tree.proofs.LevelTests.{bool_cases, if_cases, kept, kept_above, kept_all, kept_in, level_le_right, level_le_all, level_test_all, level_test_unequal, level_test_too_wide, nat_le_of, nat_le_to}
 use Rattle.lk_level_order.specs.Parameters.{IsWithin, AreDifferent}
 use Rattle.lk_level_order.specs.declared.relation.Relation.{Relation}
 use Rattle.lk_level_order.specs.declared.relation.Relation.TheVariants as relation
 use Rattle.lk_level_order.specs.Compared.{compared_by, HasParameters}
 use Rattle.lk_level_order.specs.Values.{assigned, value_at, digits, IsTested, IsRefuted}
-use Rattle.lk_level_order.proofs.Names.{within_left, within_right, distinct_counts, different_front, different_take}
-use Rattle.lk_level_order.proofs.Digits.{number_of, AreDigits, AreZeros, digits_are, number_small}
+use Rattle.lk_level_order.specs.Digits.{sign, case_of}
+use Rattle.lk_level_order.specs.Covers.{AreEnough, AreEnoughWithin}
+use Rattle.lk_level_order.proofs.Names.{in_not, within_left, within_right, distinct_counts, different_front, different_take}
+use Rattle.lk_level_order.proofs.Digits.{AreDigits, digits_are}
+use Rattle.lk_level_order.proofs.CaseNumbers.{number_is, case_small}
+use Rattle.lk_level_order.proofs.Covered.{value_grows}
+use Rattle.lk_level_order.proofs.Listed.{take_length}
 use Rattle.lk_level_order.proofs.Tested.{case_at_most}
 
 ones_digits : (s ns : List Name) → AreDigits (map (ones s) ns)
 ones_digits s [] = tt
 ones_digits s (n ∷ ns) = (elim (if_cases {A = ℕ} (is_one_of s n) 1 0) [ inl e ↦ omega (arith, e.1) | inr e ↦ omega (arith, e.1) ], ones_digits s ns)
 
-ones_zeros : (s ns : List Name) → ((n : Name) → is_one_of ns n ≡ true → is_one_of s n ≡ false) → AreZeros (map (ones s) ns)
-ones_zeros s [] h = tt
-ones_zeros s (n ∷ ns) h = (rw (h n (in_first n ns n (name_same n))) refl, ones_zeros s ns (λ m i. h m (in_rest n ns m i)))
-
--- all cases tested
+-- the digits of an assignment's case
 module _ (ns : List Name) (k : ℕ) (different : AreDifferent ns) where
-  case_number : (s : List Name) → ((n : Name) → is_one_of s n ≡ true → is_one_of (take k ns) n ≡ true)
-      → (case : ℕ) × (case < 2 ^ k) × (digits (length ns) case ≡ map (ones s) ns)
-  case_number s h =
-      let vs = map (ones s) ns in
-      let fine = ones_digits s ns in
-      let none : (n : Name) → is_one_of (drop k ns) n ≡ true → is_one_of s n ≡ false = λ n i. elim (bool_cases (is_one_of s n)) [
-        | inl e ↦ absurd (different_front k ns n different (h n e) i)
-        | inr e ↦ e
-      ] in
-      let zeros : AreZeros (drop k vs) = rw (drop-map (ones s) k ns) (ones_zeros s (drop k ns) none) in
-      let length_is : length vs ≡ length ns = grind (arith, common_steps) in
-      (number_of vs, number_small k vs fine zeros, ap (λ n. digits n (number_of vs)) (sym length_is) ∙ digits_are vs fine)
+  abbrev front : List Name
+  front = take k ns
 
-  pub tested_at_most : (l m : Level) → IsWithin (params_of l) ns → IsWithin (params_of m) ns → IsWithin (right_params l) (take k ns) → IsWithin (right_params m) (take k ns)
-      → ((case : ℕ) → case < 2 ^ k → IsTested relation.AtMost k ns l m (digits (length ns) case)) → AtMost l m
-  tested_at_most l m l_in m_in l_rights m_rights t σ =
-      let n = case_number (kept σ (take k ns)) (λ n h. kept_in σ (take k ns) n h) in
-      let at = t n.0 n.1 in
-      case_at_most ns different k σ l m l_in m_in l_rights m_rights (rw n.2 at at)
+  case_digits : (τ : Name → ℕ) → digits (length ns) (case_of front τ) ≡ map (ones (kept τ front)) ns
+  case_digits τ =
+      let s = kept τ front in
+      let vs = map (ones s) ns in
+      let length_is : length vs ≡ length ns = grind (arith, common_steps) in
+      let number = number_is ns k (ones s) τ first rest in
+      rw (← number, ← length_is) (digits_are vs (ones_digits s ns))
+    where
+      sign_of : (v : ℕ) → 0 < v → 1 ≡ sign v
+      sign_of zero h = absurd (omega arith)
+      sign_of (suc v) h = refl
+
+      none_of : (v : ℕ) → (0 < v → ⊥) → 0 ≡ sign v
+      none_of zero h = refl
+      none_of (suc v) h = absurd (h (omega arith))
+
+      first : (n : Name) → is_one_of front n ≡ true → ones (kept τ front) n ≡ sign (τ n)
+      first n i = elim (bool_cases (is_one_of (kept τ front) n)) [
+        | inl e ↦ rw e (sign_of (τ n) (kept_above τ front n e))
+        | inr e ↦ rw e (none_of (τ n) (λ l. in_not (kept τ front) n (kept_all τ front n i l) e))
+      ]
+
+      rest : (n : Name) → is_one_of (drop k ns) n ≡ true → ones (kept τ front) n ≡ 0
+      rest n i = elim (bool_cases (is_one_of (kept τ front) n)) [
+        | inl e ↦ absurd (different_front k ns n different (kept_in τ front n e) i)
+        | inr e ↦ rw e refl
+      ]
+
+  pub tested_at_most : (P : ℕ → Type 0) (l m : Level) → IsWithin (params_of l) ns → IsWithin (params_of m) ns → IsWithin (right_params l) front → IsWithin (right_params m) front
+      → AreEnough front P l → ((case : ℕ) → P case → IsTested relation.AtMost k ns l m (digits (length ns) case)) → AtMost l m
+  tested_at_most P l m l_in m_in l_rights m_rights enough t σ =
+      let s = enough σ in
+      let at = t (case_of front s.values) s.chosen in
+      let there = case_at_most ns different k s.values l m l_in m_in l_rights m_rights (rw (case_digits s.values) at at) in
+      let more = value_grows m s.values σ s.below in
+      let e = s.enough in
+      omega arith
+
+-- all cases are enough
+pub all_enough : (ns : List Name) (k : ℕ) (l : Level) → k ≤ length ns → AreEnough (take k ns) (λ case. case < 2 ^ k) l
+all_enough ns k l h σ = record {
+  values = σ;
+  below = λ n. omega arith;
+  enough = omega arith;
+  chosen = let c = case_small (take k ns) σ in rw (take_length k ns h) at c;
+}
 
 -- the two relations
 at_most_of : (k : ℕ) (ns : List Name) (l m : Level) (vs : List ℕ) → IsTested relation.Equal k ns l m vs → IsTested relation.AtMost k ns l m vs
@@ -96,19 +126,20 @@ module _ (ns : List Name) (k : ℕ) (l m : Level) (h : HasParameters ns k l m) (
   rights_of : IsWithin (right_params l) (take k ns) × IsWithin (right_params m) (take k ns)
   rights_of = (within_left (right_params l) (right_params m) (take k ns) h.all_rights, within_right (right_params l) (right_params m) (take k ns) h.all_rights)
 
-  at_most_in_all : ((case : ℕ) → case < 2 ^ k → IsTested relation.AtMost k ns l m (digits (length ns) case)) → AtMost l m
-  at_most_in_all t = tested_at_most ns k h.different l m h.left h.right rights_of.0 rights_of.1 t
+  -- what holds in enough cases holds
+  module _ (P : ℕ → Type 0) (l_enough : AreEnoughWithin (take k ns) P l) (m_enough : AreEnoughWithin (take k ns) P m) where
+    at_most_in_all : ((case : ℕ) → P case → IsTested relation.AtMost k ns l m (digits (length ns) case)) → AtMost l m
+    at_most_in_all t = tested_at_most ns k h.different P l m h.left h.right rights_of.0 rights_of.1 (l_enough rights_of.0) t
 
-  at_least_in_all : ((case : ℕ) → case < 2 ^ k → IsTested relation.AtMost k ns m l (digits (length ns) case)) → AtMost m l
-  at_least_in_all t = tested_at_most ns k h.different m l h.right h.left rights_of.1 rights_of.0 t
+    at_least_in_all : ((case : ℕ) → P case → IsTested relation.AtMost k ns m l (digits (length ns) case)) → AtMost m l
+    at_least_in_all t = tested_at_most ns k h.different P m l h.right h.left rights_of.1 rights_of.0 (m_enough rights_of.1) t
 
-  -- what holds in all cases holds
-  pub holds_by_cases : (r : Relation) → ((case : ℕ) → case < 2 ^ k → IsTested r k ns l m (digits (length ns) case)) → compared_by r l m ≡ Some true
-  holds_by_cases relation.Equal t =
-      let a = at_most_in_all (λ n i. at_most_of k ns l m (digits (length ns) n) (t n i)) in
-      let b = at_least_in_all (λ n i. at_least_of k ns l m (digits (length ns) n) (t n i)) in
-      level_test_all l m narrow (λ σ. let x = a σ in let y = b σ in omega arith)
-  holds_by_cases relation.AtMost t = le_test l m true narrow (level_le_all l m (at_most_in_all t))
+    pub holds_by_cases : (r : Relation) → ((case : ℕ) → P case → IsTested r k ns l m (digits (length ns) case)) → compared_by r l m ≡ Some true
+    holds_by_cases relation.Equal t =
+        let a = at_most_in_all (λ n i. at_most_of k ns l m (digits (length ns) n) (t n i)) in
+        let b = at_least_in_all (λ n i. at_least_of k ns l m (digits (length ns) n) (t n i)) in
+        level_test_all l m narrow (λ σ. let x = a σ in let y = b σ in omega arith)
+    holds_by_cases relation.AtMost t = le_test l m true narrow (level_le_all l m (at_most_in_all t))
 
   -- and what fails somewhere does not hold
   pub fails_somewhere : (r : Relation) → IsRefuted r ns l m → compared_by r l m ≡ Some false

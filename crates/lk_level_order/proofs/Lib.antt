@@ -1,6 +1,9 @@
 pub mod Names
 pub mod Tested
 pub mod Digits
+pub mod CaseNumbers
+pub mod Covered
+pub mod Listed
 pub mod Decided
 pub mod Gathered
 pub mod Ordered

@@ -1,5 +1,6 @@
 -- The answer for two levels of an order.
-use Rattle.std.proofs.Common.{ℕ, ◌≡◌, ◌<◌, ◌≤◌, ◌^◌, Bool, true, false, List, length, refl, sym, ◌∙◌, Result, Ok, Err, IfOk, Some}
+use Rattle.std.proofs.Common.{ℕ, ◌≡◌, ◌<◌, ◌≤◌, ◌^◌, Bool, true, false, List, take, length, refl, sym, ◌∙◌, Result, Ok, Err, IfOk, Some}
+use Rattle.std.proofs.lemmas.Result.{IfOk-weaker}
 use Rattle.lk_store.specs.Contents.{Contents, level_at}
 use Rattle.lk_store.specs.declared.node.LevelNode.TheVariants.{Zero}
 use Rattle.lk_level_order.specs.declared.parameters.Parameter.{Parameter}
@@ -7,12 +8,49 @@ use Rattle.lk_level_order.specs.declared.placing.Part.{Part}
 use Rattle.lk_level_order.specs.declared.cases.Question.{Question}
 use Rattle.lk_level_order.specs.Parameters.{names_of}
 use Rattle.lk_level_order.specs.Placing.{gathered, IsPlaceOf, ArePlaced, IsOrder}
-use Rattle.lk_level_order.specs.Values.{digits, IsTested, IsRefuted}
+use Rattle.lk_level_order.specs.Values.{digits}
 use Rattle.lk_level_order.specs.Compared.{compared_by, HasParameters}
 use Rattle.lk_level_order.specs.Cases.{IsTestedOf, IsRefutedOf}
+use Rattle.lk_level_order.specs.Covers.{AreEnoughWithin, OverNames}
 use Rattle.lk_level_order.proofs.Gathered.{length_map}
 use Rattle.lk_level_order.proofs.Placed.{place_level, placed_order}
-use Rattle.lk_level_order.proofs.Decided.{holds_by_cases, fails_somewhere}
+use Rattle.lk_level_order.proofs.Decided.{all_enough, holds_by_cases, fails_somewhere}
+
+-- the answer is that of the definitions, whatever the order stands for
+abbrev pub IsAnswer : List Part → Question → ℕ → ℕ → Bool → Type 0
+IsAnswer parts q k count r =
+    (d : Contents) → IsOrder d parts → count ≡ length d.names → HasParameters d.names k (level_at d q.places.left) (level_at d q.places.right)
+    → compared_by q.relation (level_at d q.places.left) (level_at d q.places.right) ≡ Some r
+
+module _ (parts : List Part) (q : Question) (k count : ℕ) (few : k ≤ 20) where
+  abbrev Tested : (ℕ → Type 0) → Type 0
+  Tested P = (d : Contents) → IsOrder d parts → count ≡ length d.names → (case : ℕ) → P case → IsTestedOf d q k (digits count case)
+
+  abbrev Somewhere : Type 0
+  Somewhere = (d : Contents) → IsOrder d parts → count ≡ length d.names → IsRefutedOf d q
+
+  abbrev Enough : (ℕ → Type 0) → ℕ → Type 0
+  Enough P place = OverNames k count (λ d. IsOrder d parts → AreEnoughWithin (take k d.names) P (level_at d place))
+
+  module _ (P : ℕ → Type 0) (left : Enough P q.places.left) (right : Enough P q.places.right) where
+    holds_in_all : Tested P → IsAnswer parts q k count true
+    holds_in_all t d order is h =
+        holds_by_cases d.names k (level_at d q.places.left) (level_at d q.places.right) h few P (left d order.different h.within is order) (right d order.different h.within is order)
+        q.relation (λ case i. let x = t d order is case i in rw is at x)
+
+    fails_in_one : Somewhere → IsAnswer parts q k count false
+    fails_in_one t d order is h = fails_somewhere d.names k (level_at d q.places.left) (level_at d q.places.right) h few q.relation (t d order is)
+
+    pub decided : {E : Type 0} (r : Result Bool E) → IfOk r (λ r. r ≡ true → Tested P) → IfOk r (λ r. r ≡ false → Somewhere) → IfOk r (IsAnswer parts q k count)
+    decided (Ok true) y n = holds_in_all (y refl)
+    decided (Ok false) y n = fails_in_one (n refl)
+    decided (Err e) y n = tt
+
+  all : (place : ℕ) → Enough (λ case. case < 2 ^ k) place
+  all place d different within is order rights = all_enough d.names k (level_at d place) within
+
+  pub decided_by_all : {E : Type 0} (r : Result Bool E) → IfOk r (λ r. r ≡ true → Tested (λ case. case < 2 ^ k)) → IfOk r (λ r. r ≡ false → Somewhere) → IfOk r (IsAnswer parts q k count)
+  decided_by_all r y n = decided (λ case. case < 2 ^ k) (all q.places.left) (all q.places.right) r y n
 
 module _ (c : Contents) (names : List Parameter) (parts : List Part) (q : Question) (a b k count : ℕ)
     (h : HasParameters (names_of c names) k (level_at c a) (level_at c b)) (few : k ≤ 20) (placed : ArePlaced c names parts)
@@ -35,27 +73,11 @@ module _ (c : Contents) (names : List Parameter) (parts : List Part) (q : Questi
   right_is : level_at d q.places.right ≡ level_at c b
   right_is = place_level c names parts b q.places.right none right
 
-  abbrev InAll : Type 0
-  InAll = (d : Contents) → IsOrder d parts → count ≡ length d.names → (case : ℕ) → case < 2 ^ k → IsTestedOf d q k (digits count case)
-
-  abbrev Somewhere : Type 0
-  Somewhere = (d : Contents) → IsOrder d parts → count ≡ length d.names → IsRefutedOf d q
-
-  holds_in_all : InAll → compared_by q.relation (level_at c a) (level_at c b) ≡ Some true
-  holds_in_all t = holds_by_cases (names_of c names) k (level_at c a) (level_at c b) h few q.relation (λ case l. one case (t d order count_is case l))
+  pub answer_is : {E : Type 0} (r : Result Bool E) → IfOk r (IsAnswer parts q k count) → IfOk r (λ r. compared_by q.relation (level_at c a) (level_at c b) ≡ Some r)
+  answer_is r f = IfOk-weaker r (IsAnswer parts q k count) (λ r. compared_by q.relation (level_at c a) (level_at c b) ≡ Some r) (λ v g. one v g) f
     where
-      one : (case : ℕ) → IsTested q.relation k (names_of c names) (level_at d q.places.left) (level_at d q.places.right) (digits count case)
-          → IsTested q.relation k (names_of c names) (level_at c a) (level_at c b) (digits (length (names_of c names)) case)
-      one case x = rw (left_is, right_is, count_is) at x
+      there : HasParameters d.names k (level_at d q.places.left) (level_at d q.places.right)
+      there = rw (left_is, right_is) h
 
-  fails_in_one : Somewhere → compared_by q.relation (level_at c a) (level_at c b) ≡ Some false
-  fails_in_one t = fails_somewhere (names_of c names) k (level_at c a) (level_at c b) h few q.relation (one (t d order count_is))
-    where
-      one : IsRefuted q.relation (names_of c names) (level_at d q.places.left) (level_at d q.places.right) → IsRefuted q.relation (names_of c names) (level_at c a) (level_at c b)
-      one x = rw (left_is, right_is) at x
-
-  pub answer_is : {E : Type 0} (r : Result Bool E) → IfOk r (λ r. r ≡ true → InAll) → IfOk r (λ r. r ≡ false → Somewhere)
-      → IfOk r (λ r. compared_by q.relation (level_at c a) (level_at c b) ≡ Some r)
-  answer_is (Ok true) y n = holds_in_all (y refl)
-  answer_is (Ok false) y n = fails_in_one (n refl)
-  answer_is (Err e) y n = tt
+      one : (v : Bool) → IsAnswer parts q k count v → compared_by q.relation (level_at c a) (level_at c b) ≡ Some v
+      one v g = let x = g d order count_is there in rw (left_is, right_is) at x

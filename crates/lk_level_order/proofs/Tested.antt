@@ -127,7 +127,7 @@ name_index (x ∷ xs) n h = elim (in_cases x xs n h) [
   | inr e ↦ let r = name_index xs n e in (suc r.0, let l = r.1 in omega arith, r.2)
 ]
 
-name_in : (ns : List Name) (p : ℕ) → p < length ns → is_one_of ns (get_or ns p []) ≡ true
+pub name_in : (ns : List Name) (p : ℕ) → p < length ns → is_one_of ns (get_or ns p []) ≡ true
 name_in [] p h = absurd (omega arith)
 name_in (x ∷ xs) zero h = in_first x xs x (name_same x)
 name_in (x ∷ xs) (suc p) h = in_rest x xs (get_or xs p []) (name_in xs p (omega arith))

@@ -5,3 +5,5 @@ pub mod Gathering
 pub mod Placing
 pub mod Cases
 pub mod Zeros
+pub mod Digits
+pub mod Covers

@@ -5,7 +5,9 @@ ghost use Rattle.lk_store.specs.Contents.{Contents, level_at};
 ghost use Rattle.lk_level_order.specs.Placing.{IsOrder};
 ghost use Rattle.lk_level_order.specs.Values.{OverOrders, digits};
 ghost use Rattle.lk_level_order.specs.Cases.{asked_where, IsTestedOf, IsRefutedOf};
+ghost use Rattle.lk_level_order.specs.Covers.{IsAmong};
 
+use crate::listing::{Cases, Chosen};
 use crate::placing::Part;
 use crate::relation::{Relation, relates};
 use crate::values::{Pair, above, pair_values};
@@ -107,6 +109,25 @@ fn set_case(assignment: &mut Vec<u64>, case: u64, count: u64) -> Result<(), NoMe
     Ok(())
 }
 
+/// Whether the relation holds in the case of this number.
+pub fn number_holds(
+    question: Question,
+    parts: &Table<Part>,
+    rights: u64,
+    count: u64,
+    case: u64,
+    assignment: &mut Vec<u64>,
+    values: &mut Vec<u64>,
+) -> Result<bool, NoMemory>
+    ensures yes { IfOk result (λ r. r ≡ true → (d : Contents) → IsOrder d parts.now → count
+        ≡ length d.names → IsTestedOf d question rights (digits count case)) }
+    ensures no { IfOk result (λ r. r ≡ false → (d : Contents) → IsOrder d parts.now → count
+        ≡ length d.names → IsRefutedOf d question) }
+{
+    set_case(assignment, case, count)?;
+    case_holds(question, parts, rights as usize, assignment, values)
+}
+
 /// Whether the relation holds in all cases of the first so many parameters.
 pub fn cases_hold(
     alloc: Global,
@@ -125,11 +146,49 @@ pub fn cases_hold(
     let mut assignment: Vec<u64> = Vec::new(alloc);
     let mut values: Vec<u64> = Vec::new(alloc);
     for case in 0..1u64 << rights {
-        set_case(&mut assignment, case, count)?;
-        let holds = case_holds(
+        let holds = number_holds(
             question,
             parts,
-            rights as usize,
+            rights,
+            count,
+            case,
+            &mut assignment,
+            &mut values,
+        )?;
+        if !holds {
+            return Ok(false);
+        }
+    }
+    Ok(true)
+}
+
+/// Whether the relation holds in all cases of a list.
+pub fn listed_hold(
+    alloc: Global,
+    question: Question,
+    parts: &Table<Part>,
+    rows: &Table<Chosen>,
+    cases: Cases,
+    rights: u64,
+    count: u64,
+) -> Result<bool, NoMemory>
+    requires { cases.end ≤ length rows.now }
+    ensures yes { IfOk result (λ r. r ≡ true → (d : Contents) → IsOrder d parts.now → count
+        ≡ length d.names → (case : ℕ) → IsAmong rows.now cases case
+        → IsTestedOf d question rights (digits count case)) }
+    ensures no { IfOk result (λ r. r ≡ false → (d : Contents) → IsOrder d parts.now → count
+        ≡ length d.names → IsRefutedOf d question) }
+{
+    let mut assignment: Vec<u64> = Vec::new(alloc);
+    let mut values: Vec<u64> = Vec::new(alloc);
+    for i in cases.first..cases.end {
+        let case = rows.get(i).case;
+        let holds = number_holds(
+            question,
+            parts,
+            rights,
+            count,
+            case,
             &mut assignment,
             &mut values,
         )?;

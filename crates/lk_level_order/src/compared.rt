@@ -6,7 +6,8 @@ ghost use Rattle.lk_store.specs.Contents.{level_at};
 ghost use Rattle.lk_level_order.specs.Parameters.{names_of};
 ghost use Rattle.lk_level_order.specs.Compared.{compared_by, HasParameters, OnWidth};
 
-use crate::cases::{Question, cases_hold};
+use crate::cases::Question;
+use crate::enough::holds;
 use crate::gathering::{Side, gather};
 use crate::parameters::Parameter;
 use crate::placing::{Part, place, place_of};
@@ -113,7 +114,7 @@ fn gather_both<T: Terms>(
     Ok(0)
 }
 
-/// Whether the relation holds of two levels, by all cases of the first so many parameters.
+/// Whether the relation holds of two levels, by cases of the first so many parameters.
 fn related<T: Terms>(
     alloc: Global,
     terms: &T,
@@ -140,7 +141,7 @@ fn related<T: Terms>(
         relation,
         places: Pair { left, right },
     };
-    cases_hold(alloc, question, &parts, rights, names.len())
+    holds(alloc, question, &parts, rights, names.len())
 }
 
 /// Whether the relation holds of two levels under every assignment.

@@ -7,4 +7,4 @@ returns g c =
     let q : Question = record { relation = c.args.relation; places = record { left = c.in_ok-left.left; right = c.in_ok-right.right } } in
     answer_is (g.T.Terms.contents c.args.terms.now) c.args.names.now c.place-2.new.parts q c.args.a c.args.b c.args.rights c.len.result
     c.requires.gathered c.requires.few c.in_ok-place-2.ensures c.in_ok-left.ensures c.in_ok-right.ensures c.len.ensures.len
-    c.cases_hold.result c.cases_hold.ensures.yes c.cases_hold.ensures.no
+    c.holds.result c.holds.ensures
