@@ -325,7 +325,7 @@ module _ {c d : Contents} (x : Extends c d) where
   links_steady w q b [] asked left k h = h
   links_steady w q b (f ∷ fs) asked left k h =
       let first = All-head (IsKnownFrame (length c.trees)) f fs k in
-      (rw (query_steady f.asker first.asker) h.0, h.1, (h.2.0, h.2.1, rw (any_steady x f.sheet first.sheet) h.2.2, links_steady w h.2.0 h.2.1 fs asked left (All-tail (IsKnownFrame (length c.trees)) f fs k) h.2.3))
+      (rw (query_steady f.asker first.asker) h.0, h.1, (h.2.0, h.2.1, rw (any_steady x f.sheet first.sheet) h.2.2, rw (any_steady x f.sheet first.sheet) h.2.3, links_steady w h.2.0 h.2.1 fs asked left (All-tail (IsKnownFrame (length c.trees)) f fs k) h.2.4))
 
   -- what is kept stays true
   pub entries_steady : (w : Place) (memo : PrivateMemo) → AreTrue w c memo → AreTrue w d memo

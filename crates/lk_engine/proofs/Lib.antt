@@ -6,3 +6,4 @@ pub mod Links
 pub mod Lookouts
 pub mod Outcomes
 pub mod Copied
+pub mod Waiting

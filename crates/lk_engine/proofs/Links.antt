@@ -1,12 +1,13 @@
 -- The work of the loop: questions that wait, the one that is worked on, and what is kept.
-use Rattle.std.proofs.Common.{◌≡◌, ℕ, ◌-◌, ◌<◌, ◌≤◌, List, [], ◌∷◌, ◌++◌, length, Option, Some, None, refl, ap, sym, ◌∙◌, arith, inl, inr, ◌⊎◌}
+use Rattle.std.proofs.Common.{◌≡◌, ℕ, Bool, true, false, ◌||◌, ◌-◌, ◌<◌, ◌≤◌, List, [], ◌∷◌, ◌++◌, length, Option, Some, None, refl, ap, sym, ◌∙◌, arith, inl, inr, ◌⊎◌}
 use Rattle.std.specs.Prelude.{All, IfSome}
+use Rattle.std.proofs.lemmas.Bool.Decides.{nat_tests}
 use Rattle.std.proofs.lemmas.List.Elements.{All-push, All-pop}
 use Rattle.lk_tree.specs.Tree.{Tree}
 use Rattle.lk_rulebook.specs.Place.{Place}
 use Rattle.lk_plain.specs.Query as plain
 use Rattle.lk_plain.specs.Answer.{later}
-use Rattle.lk_plain.specs.Erased.{Value, Out, finished, stopped, used_up, seen, go_on, run_steps, out_of, steps_of}
+use Rattle.lk_plain.specs.Erased.{Value, Steps, asks, Out, finished, stopped, used_up, seen, go_on, run_steps, out_of, steps_of}
 use Rattle.lk_plain.proofs.Erasing.{out-zero, out-step, seen_seen}
 use Rattle.lk_plain.proofs.Exact.{out_exact}
 use Rattle.lk_questions.specs.Table.{steps}
@@ -33,7 +34,9 @@ use Rattle.lk_memo.proofs.Keeping.{found_holds}
 use Rattle.lk_engine.specs.declared.answering.Frame.{Frame}
 use Rattle.lk_engine.specs.Entries.{IsTrueAt, AreTrue}
 use Rattle.lk_engine.specs.Rests.{any_rest, next_of, query_steps, IsKnownFrame, Linked}
+use Rattle.lk_engine.specs.Waiting.{WaitsFor, is_same, is_waiting}
 use Rattle.lk_engine.proofs.Frames.{any_from, query_steady, query_known, stack_known, links_steady}
+use Rattle.lk_engine.proofs.Waiting.{waits_on, waits_for_itself, waits_unseen, waits_begins, waits_asks, waits_goes}
 
 -- a question's row is its row in the table
 query_steps_is : (w : Place) (t : ℕ → Tree) (q : Query ℕ) → query_steps w t None q ≡ steps_of steps w (query_of t q)
@@ -78,26 +81,60 @@ module _ (w : Place) (t : ℕ → Tree) where
   abbrev waiting : Frame → Out → Out
   waiting f o = seen f.last (go_on o (λ v rest. run_steps (out_of steps w) (any_rest w None (map_any t f.sheet) v) rest))
 
+  -- what the question of this frame goes on with, which asks r
+  abbrev asks_for : Frame → plain.Query → Steps
+  asks_for f r = asks f.last r (any_rest w None (map_any t f.sheet))
+
   -- one more question is asked
   links_push : (q : plain.Query) (b : ℕ) (fs : List Frame) (f : Frame) (asked : plain.Query) (left : ℕ)
-      → Linked w t q b fs (query_of t f.asker) f.budget → out_of steps w (query_of t f.asker) f.budget ≡ waiting f (out_of steps w asked left) → Linked w t q b (fs ++ f ∷ []) asked left
-  links_push q b [] f asked left h e = (h.0, h.1, (asked, left, rw (h.0, h.1) at e, (refl, refl)))
-  links_push q b (g ∷ fs) f asked left h e = (h.0, h.1, (h.2.0, h.2.1, h.2.2, links_push h.2.0 h.2.1 fs f asked left h.2.3 e))
+      → Linked w t q b fs (query_of t f.asker) f.budget → out_of steps w (query_of t f.asker) f.budget ≡ waiting f (out_of steps w asked left)
+      → WaitsFor (out_of steps w (query_of t f.asker)) (run_steps (out_of steps w) (asks_for f asked)) → Linked w t q b (fs ++ f ∷ []) asked left
+  links_push q b [] f asked left h e n = (h.0, h.1, (asked, left, rw (h.0, h.1) at e, rw h.0 at n, (refl, refl)))
+  links_push q b (g ∷ fs) f asked left h e n = (h.0, h.1, (h.2.0, h.2.1, h.2.2, h.2.3, links_push h.2.0 h.2.1 fs f asked left h.2.4 e n))
 
   links_pop : (q : plain.Query) (b : ℕ) (fs : List Frame) (f : Frame) (asked : plain.Query) (left : ℕ)
       → Linked w t q b (fs ++ f ∷ []) asked left → Linked w t q b fs (query_of t f.asker) f.budget × (out_of steps w (query_of t f.asker) f.budget ≡ waiting f (out_of steps w asked left))
+      × WaitsFor (out_of steps w (query_of t f.asker)) (run_steps (out_of steps w) (asks_for f asked))
   links_pop q b [] f asked left h =
-      let p = h.2.3.0 in
-      let r = h.2.3.1 in
-      ((h.0, h.1), rw (h.0, h.1, p, r) h.2.2)
+      let p = h.2.4.0 in
+      let r = h.2.4.1 in
+      ((h.0, h.1), rw (h.0, h.1, p, r) h.2.2, rw (h.0, p) h.2.3)
   links_pop q b (g ∷ fs) f asked left h =
-      let r = links_pop h.2.0 h.2.1 fs f asked left h.2.3 in
-      ((h.0, h.1, (h.2.0, h.2.1, h.2.2, r.0)), r.1)
+      let r = links_pop h.2.0 h.2.1 fs f asked left h.2.4 in
+      ((h.0, h.1, (h.2.0, h.2.1, h.2.2, h.2.3, r.0)), r.1, r.2)
+
+  -- a question that waits does so for each one above it
+  links_wait : (q : plain.Query) (b : ℕ) (f : Frame) (fs : List Frame) (asked : plain.Query) (left : ℕ) → Linked w t q b (f ∷ fs) asked left → WaitsFor (out_of steps w q) (out_of steps w asked)
+  links_wait q b f [] asked left h = rw h.2.4.0 (waits_asks steps w f.last h.2.0 (any_rest w None (map_any t f.sheet)) h.2.3)
+  links_wait q b f (g ∷ fs) asked left h =
+      waits_on (waits_asks steps w f.last h.2.0 (any_rest w None (map_any t f.sheet)) h.2.3) (links_wait h.2.0 h.2.1 g fs asked left h.2.4)
+
+  same_is : (p q : Query ℕ) → is_same p q ≡ true → p ≡ q
+  same_is (Core a) (Core b) h = let e : a ≡ b = grind (arith, nat_tests) in ap Core e
+  same_is (Whnf a) (Whnf b) h = let e : a ≡ b = grind (arith, nat_tests) in ap Whnf e
+  same_is (Infer a) (Infer b) h = let e : a ≡ b = grind (arith, nat_tests) in ap Infer e
+  same_is (Same a x) (Same b y) h = let e : a ≡ b = grind (arith, nat_tests) in let d : x ≡ y = grind (arith, nat_tests) in cc
+  same_is _ _ h = absurd cc
+
+  first_or_later : (x y : Bool) → (x || y) ≡ true → (x ≡ true) ⊎ (y ≡ true)
+  first_or_later true y h = inl refl
+  first_or_later false y h = inr h
+
+  -- one that is asked again waits for itself
+  links_again : (q : plain.Query) (b : ℕ) (fs : List Frame) (asked : Query ℕ) (left : ℕ) → Linked w t q b fs (query_of t asked) left → is_waiting fs asked ≡ true
+      → WaitsFor (out_of steps w (query_of t asked)) (out_of steps w (query_of t asked))
+  links_again q b [] asked left h again = absurd cc
+  links_again q b (f ∷ fs) asked left h again = elim (first_or_later (is_same f.asker asked) (is_waiting fs asked) again) [
+    | inl here ↦
+        let e : q ≡ query_of t asked = sym h.0 ∙ ap (query_of t) (same_is f.asker asked here) in
+        rw e at (links_wait q b f fs (query_of t asked) left h)
+    | inr above ↦ links_again h.2.0 h.2.1 fs asked left h.2.4 above
+  ]
 
   -- a stop goes through to the first question
   links_stop : (q : plain.Query) (b : ℕ) (fs : List Frame) (asked : plain.Query) (left : ℕ) (s : Stop) → Linked w t q b fs asked left → IsStop (out_of steps w asked left) s → IsStop (out_of steps w q b) s
   links_stop q b [] asked left s h e = rw (h.0, h.1) at e
-  links_stop q b (f ∷ fs) asked left s h e = stops_behind f q b h.2.0 h.2.1 s h.2.2 (links_stop h.2.0 h.2.1 fs asked left s h.2.3 e)
+  links_stop q b (f ∷ fs) asked left s h e = stops_behind f q b h.2.0 h.2.1 s h.2.2 (links_stop h.2.0 h.2.1 fs asked left s h.2.4 e)
     where
       stops_behind : (f : Frame) (q : plain.Query) (b : ℕ) (r : plain.Query) (c : ℕ) (s : Stop) → out_of steps w q b ≡ waiting f (out_of steps w r c) → IsStop (out_of steps w r c) s → IsStop (out_of steps w q b) s
       stops_behind f q b r c (stop.No rule) h e = h ∙ ap (waiting f) e
@@ -116,6 +153,11 @@ pub opened : (w : Place) (t u : ℕ → Tree) (q : Query ℕ) (next : Next ℕ (
     → run_steps (out_of steps w) (next_of w u last next) left2 ≡ out_of steps w (query_of t q) left
 opened w t u q next left left2 last l e p = ap (run_steps (out_of steps w) (next_of w u last next)) e ∙ ap (λ r. run_steps (out_of steps w) r (left - 1)) (p ∙ query_steps_is w t q) ∙ sym (out-step steps w (query_of t q) left l)
 
+-- and waits for what comes next
+pub opened_waits : (w : Place) (t u : ℕ → Tree) (q : Query ℕ) (next : Next ℕ (AnySheet ℕ)) (last : Option ℕ) → next_of w u last next ≡ query_steps w t None q
+    → WaitsFor (out_of steps w (query_of t q)) (run_steps (out_of steps w) (next_of w u last next))
+opened_waits w t u q next last p = rw (p ∙ query_steps_is w t q) (waits_begins steps w (query_of t q))
+
 -- nothing is left for it
 pub not_opened : (w : Place) (t : ℕ → Tree) (q : Query ℕ) (left : ℕ) → left < 1 → out_of steps w (query_of t q) left ≡ used_up
 not_opened w t q left h = let e : left ≡ 0 = omega arith in rw e (out-zero steps w (query_of t q))
@@ -127,24 +169,35 @@ pub record IsLinked (w : Place) (q : plain.Query) (b : ℕ) (c : Contents) (stac
   pub known : IsKnownNext IsKnownAny (length c.trees) next
   pub links : Linked w (tree_at c) q b stack (query_of (tree_at c) asked) budget
   pub runs : run_steps (out_of steps w) (next_of w (tree_at c) last next) left ≡ out_of steps w (query_of (tree_at c) asked) budget
+  pub waits : WaitsFor (out_of steps w (query_of (tree_at c) asked)) (run_steps (out_of steps w) (next_of w (tree_at c) last next))
 
 pub linked_begins : {c d : Contents} {next : Next ℕ (AnySheet ℕ)} {left : ℕ} {last : Option ℕ} (w : Place) (q : Query ℕ) (b : ℕ) → Extends c d → IsKnownQuery (length c.trees) q → IsKnownNext IsKnownAny (length d.trees) next
-    → run_steps (out_of steps w) (next_of w (tree_at d) last next) left ≡ out_of steps w (query_of (tree_at c) q) b → IsLinked w (query_of (tree_at c) q) b d [] q b next left last
-linked_begins {c} {d} {next} {left} {last} w q b x h k e =
+    → run_steps (out_of steps w) (next_of w (tree_at d) last next) left ≡ out_of steps w (query_of (tree_at c) q) b
+    → WaitsFor (out_of steps w (query_of (tree_at c) q)) (run_steps (out_of steps w) (next_of w (tree_at d) last next)) → IsLinked w (query_of (tree_at c) q) b d [] q b next left last
+linked_begins {c} {d} {next} {left} {last} w q b x h k e n =
     let same = query_steady x q h in
-    record { stacked = λ i d h. absurd (omega arith); asked_known = query_known x q h; known = k; links = (same, refl); runs = e ∙ sym (ap (λ r. out_of steps w r b) same) }
+    record {
+      stacked = λ i d h. absurd (omega arith);
+      asked_known = query_known x q h;
+      known = k;
+      links = (same, refl);
+      runs = e ∙ sym (ap (λ r. out_of steps w r b) same);
+      waits = rw same n;
+    }
 
 module _ {w : Place} {q : plain.Query} {b : ℕ} {c : Contents} {stack : List Frame} {asked : Query ℕ} {budget : ℕ} {next : Next ℕ (AnySheet ℕ)} {left : ℕ} {last : Option ℕ} (l : IsLinked w q b c stack asked budget next left last) where
   -- another question is asked
   pub linked_asks : {d : Contents} {other : Query ℕ} {sheet : AnySheet ℕ} {stack' : List Frame} {next' : Next ℕ (AnySheet ℕ)} {left' : ℕ} {last' : Option ℕ} → next ≡ Ask other sheet
       → stack' ≡ stack ++ record { asker = asked; budget = budget; sheet = sheet; last = last } ∷ [] → Extends c d → IsKnownNext IsKnownAny (length d.trees) next'
-      → run_steps (out_of steps w) (next_of w (tree_at d) last' next') left' ≡ out_of steps w (query_of (tree_at c) other) left → IsLinked w q b d stack' other left next' left' last'
-  linked_asks {d} {other} {sheet} {stack'} {next'} {left'} {last'} is pushed x k e =
+      → run_steps (out_of steps w) (next_of w (tree_at d) last' next') left' ≡ out_of steps w (query_of (tree_at c) other) left
+      → WaitsFor (out_of steps w (query_of (tree_at c) other)) (run_steps (out_of steps w) (next_of w (tree_at d) last' next')) → IsLinked w q b d stack' other left next' left' last'
+  linked_asks {d} {other} {sheet} {stack'} {next'} {left'} {last'} is pushed x k e n =
       let frame : Frame = record { asker = asked; budget = budget; sheet = sheet; last = last } in
       let known = rw is at l.known in
       let runs = rw is at l.runs in
+      let waits = rw is at l.waits in
       let all = All-push (IsKnownFrame (length c.trees)) stack frame l.stacked (record { asker = l.asked_known; sheet = known.1 }) in
-      let linked : Linked w (tree_at c) q b (stack ++ frame ∷ []) (query_of (tree_at c) other) left = links_push w (tree_at c) q b stack frame (query_of (tree_at c) other) left l.links (sym runs) in
+      let linked : Linked w (tree_at c) q b (stack ++ frame ∷ []) (query_of (tree_at c) other) left = links_push w (tree_at c) q b stack frame (query_of (tree_at c) other) left l.links (sym runs) waits in
       let same = query_steady x other known.0 in
       rw pushed (record {
         stacked = stack_known x (stack ++ frame ∷ []) all;
@@ -152,6 +205,7 @@ module _ {w : Place} {q : plain.Query} {b : ℕ} {c : Contents} {stack : List Fr
         known = k;
         links = rw same (links_steady x w q b (stack ++ frame ∷ []) (query_of (tree_at c) other) left all linked);
         runs = rw same e;
+        waits = rw same n;
       })
 
   -- what was asked is answered
@@ -183,12 +237,18 @@ module _ {w : Place} {q : plain.Query} {b : ℕ} {c : Contents} {stack : List Fr
       let given = (linked_answers is).1 in
       let asker_is : out_of steps w (query_of (tree_at c) frame.asker) frame.budget ≡ run_steps (out_of steps w) (any_rest w last2 (map_any (tree_at c) frame.sheet) (value_at (tree_at c) answer)) left =
       both.1 ∙ ap (waiting w (tree_at c) frame) given ∙ waiting_goes w (tree_at c) frame (value_at (tree_at c) answer) left last last2 e in
+      let rest = map_any (tree_at c) frame.sheet in
+      let v = value_at (tree_at c) answer in
+      let answered = (out_exact steps w (query_of (tree_at c) asked) budget v left last given).1 in
+      let goes : WaitsFor (out_of steps w (query_of (tree_at c) frame.asker)) (run_steps (out_of steps w) (any_rest w last2 rest v)) =
+      waits_unseen last2 (waits_goes steps w frame.last (query_of (tree_at c) asked) (any_rest w None rest) v (budget - left) last answered both.2) (λ n. any_from w last2 n rest v) in
       record {
         stacked = stack_known x stack' all.0;
         asked_known = query_known x frame.asker all.1.asker;
         known = k;
         links = rw same (links_steady x w q b stack' (query_of (tree_at c) frame.asker) frame.budget all.0 both.0);
         runs = rw (p, same) (sym asker_is);
+        waits = rw (p, same) goes;
       }
 
   -- why the first question has no answer
@@ -202,6 +262,11 @@ module _ {w : Place} {q : plain.Query} {b : ℕ} {c : Contents} {stack : List Fr
       go (stop.No r) e = sym runs ∙ ap (waiting w (tree_at c) (record { asker = asked; budget = budget; sheet = sheet; last = last })) e
       go stop.Spent e = sym runs ∙ ap (waiting w (tree_at c) (record { asker = asked; budget = budget; sheet = sheet; last = last })) e
       go stop.NoMemory e = tt
+
+  -- what is asked waits already
+  pub linked_again : is_waiting stack asked ≡ true → IsStop (out_of steps w q b) stop.Spent
+  linked_again again = links_stop w (tree_at c) q b stack (query_of (tree_at c) asked) budget stop.Spent l.links
+      (waits_for_itself (links_again w (tree_at c) q b stack asked budget l.links again) budget)
 
   pub linked_refused : {rule : Rule} → next ≡ No rule → out_of steps w q b ≡ stopped rule
   linked_refused {rule} is = links_stop w (tree_at c) q b stack (query_of (tree_at c) asked) budget (stop.No rule) l.links (sym (rw is at l.runs))

@@ -21,7 +21,7 @@ use Rattle.lk_ask.specs.declared.query.Query.{Query}
 use Rattle.lk_ask.specs.declared.query.Answer.{Answer}
 use Rattle.lk_ask.specs.declared.stop.Stop.{Stop}
 use Rattle.lk_ask.specs.declared.stop.Stop.TheVariants.{Spent, NoMemory}
-use Rattle.lk_ask.specs.Questions.{IsKnownAnswer}
+use Rattle.lk_ask.specs.Questions.{query_of, value_at, IsKnownAnswer}
 use Rattle.lk_ask.specs.Gives.{Gives}
 use Rattle.lk_ask.specs.Looks.{Sight}
 use Rattle.lk_ask.specs.Outcomes.{IsStop}
@@ -31,7 +31,8 @@ use Rattle.lk_engine.specs.Entries.{IsTrueAt, AreTrue}
 use Rattle.lk_engine.specs.Lookouts.{Seen, place_of, standing_at, places_at, out_at, GivesMembers, Stays, Metered, Pays, Repeats, Opens, Answers, Stands}
 use Rattle.lk_engine.specs.Rests.{next_of, query_steps}
 use Rattle.lk_engine.proofs.Frames.{entries_steady}
-use Rattle.lk_engine.proofs.Links.{opened, not_opened}
+use Rattle.lk_engine.proofs.Links.{opened, opened_waits, not_opened}
+use Rattle.lk_engine.proofs.Waiting.{waits_given}
 
 -- what a lookout sees, by all but its terms
 abbrev pub sight_at : {R : Type 0} → Scoped × Site × Meter × R → Sight (Scoped × Site × R)
@@ -126,6 +127,8 @@ module _ {T R : Type 0} {contents : T → Contents} {rest : T → R} where
         known = h.known;
         runs = opened (place_of old) (tree_at (contents old.2)) (tree_at (contents new.2)) query
             next old.3.left new.3.left new.3.last (omega (arith, p.paid.0)) (left ∙ p.paid.1) steps;
+        waits = opened_waits (place_of old) (tree_at (contents old.2)) (tree_at (contents new.2)) query
+            next new.3.last steps;
         less = omega (arith, p.paid, left);
         err = tt;
       }
@@ -137,6 +140,7 @@ module _ {T R : Type 0} {contents : T → Contents} {rest : T → R} where
     stays = metered_stays p.stays;
     known = tt;
     runs = tt;
+    waits = tt;
     less = tt;
     err = rw p.spent.0 (not_opened (place_of old) (tree_at (contents old.2)) query old.3.left
         p.spent.1);
@@ -147,10 +151,12 @@ module _ {T R : Type 0} {contents : T → Contents} {rest : T → R} where
       → Repeats old new (Ok answer) kept
       → IsTrueAt (place_of old) (contents old.2) query kept
       → Opens contents rest old new (Ok (Done answer)) query
-  repeat_opens {old} {new} {query} {kept} r h = record {
+  repeat_opens {old} {new} {query} {kept} {answer} r h = record {
     stays = metered_stays r.stays;
     known = rw (r.answer, r.stays.terms) h.answer;
     runs = rw r.stays.terms (sym (r.exact (contents old.2) _ h.is));
+    waits = waits_given steps (place_of old) (query_of (tree_at (contents old.2)) query) new.3.last
+        (value_at (tree_at (contents new.2)) answer);
     less = omega (arith, r.paid, h.is.some);
     err = tt;
   }
@@ -163,6 +169,7 @@ module _ {T R : Type 0} {contents : T → Contents} {rest : T → R} where
     stays = metered_stays r.stays;
     known = tt;
     runs = tt;
+    waits = tt;
     less = tt;
     err =
         r.exact (contents old.2) _ h.is;

@@ -3,3 +3,4 @@ pub mod Instants
 pub mod Lookouts
 pub mod Rests
 pub mod Sheets
+pub mod Waiting

@@ -29,6 +29,7 @@ use Rattle.lk_memo.specs.Entries.{kept_of}
 use Rattle.lk_engine.specs.Entries.{AreTrue}
 use Rattle.lk_engine.specs.Rests.{next_of}
 use Rattle.lk_engine.specs.Sheets.{AnySheet, IsKnownAny}
+use Rattle.lk_engine.specs.Waiting.{WaitsFor}
 
 -- what a lookout over a store stands for: the scope, from where it is seen, the store, and what is
 -- left of a budget
@@ -92,7 +93,8 @@ pub record Repeats {T : Type 0} (old new : Seen T) (result : Result (Answer ℕ)
   pub spent : IfErr result (λ e. (e ≡ Spent) × (old.3.left < kept.cost))
   pub turns : old.3.turns < 2 ^ 64 - 1 → new.3.turns ≡ old.3.turns + 1
 
--- a question was opened: what comes next comes to its plain answer
+-- a question was opened: what comes next comes to its plain answer, and is waited for under every
+-- budget
 pub record Opens {T R : Type 0} (contents : T → Contents) (rest : T → R) (old new : Seen T)
     (result : Result (Next ℕ (AnySheet ℕ)) Stop) (query : Query ℕ) : Type 0 where
   pub stays : Stays contents rest old new
@@ -101,6 +103,10 @@ pub record Opens {T R : Type 0} (contents : T → Contents) (rest : T → R) (ol
       (λ next. run_steps (out_of steps (place_of old))
       (next_of (place_of old) (tree_at (contents new.2)) new.3.last next) new.3.left
       ≡ out_at contents old query)
+  pub waits : IfOk result
+      (λ next. WaitsFor (out_of steps (place_of old) (query_of (tree_at (contents old.2)) query))
+      (run_steps (out_of steps (place_of old))
+      (next_of (place_of old) (tree_at (contents new.2)) new.3.last next)))
   pub less : OnOk result (new.3.left < old.3.left)
   pub err : IfErr result (IsStop (out_at contents old query))
 

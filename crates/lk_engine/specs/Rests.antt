@@ -5,7 +5,7 @@ use Rattle.lk_store.specs.Contents.{Contents, tree_at}
 use Rattle.lk_tree.specs.Tree.{Tree}
 use Rattle.lk_rulebook.specs.Place.{Place}
 use Rattle.lk_plain.specs.Program.{Program}
-use Rattle.lk_plain.specs.Erased.{Value, a_tree, truth, Steps, erased, seen, go_on, run_steps, out_of}
+use Rattle.lk_plain.specs.Erased.{Value, a_tree, truth, Steps, asks, erased, seen, go_on, run_steps, out_of}
 use Rattle.lk_questions.specs.Core.{core_steps, whnf_steps}
 use Rattle.lk_questions.specs.Infer.{infer_steps}
 use Rattle.lk_questions.specs.Same.{same_steps}
@@ -32,6 +32,7 @@ use Rattle.lk_engine.specs.declared.sheet.TermSheet.TheVariants as term
 use Rattle.lk_engine.specs.declared.sheet.TruthSheet.{TruthSheet}
 use Rattle.lk_engine.specs.declared.sheet.TruthSheet.TheVariants as truths
 use Rattle.lk_engine.specs.Sheets.{AnySheet, map_term, map_truth, map_any, IsKnownAny}
+use Rattle.lk_engine.specs.Waiting.{WaitsFor}
 
 -- what goes on with a term; last is the last unit that was looked at before
 abbrev pub term_rest : Place → Option ℕ → TermSheet Tree → Tree → Steps
@@ -108,8 +109,8 @@ pub record IsKnownFrame (n : ℕ) (f : Frame) : Type 0 where
   pub asker : IsKnownQuery n f.asker
   pub sheet : IsKnownAny n f.sheet
 
--- the first frame's question is q under the budget b, each asks the next one's, and the last asks
--- `asked` under `left`
+-- the first frame's question is q under the budget b, each asks the next one's, for which it waits
+-- under every budget, and the last asks `asked` under `left`
 abbrev pub Linked : Place → (ℕ → Tree) → plain.Query → ℕ → List Frame → plain.Query → ℕ → Type 0
 Linked w t q b [] asked left = (asked ≡ q) × (left ≡ b)
 Linked w t q b (f ∷ fs) asked left =
@@ -118,4 +119,6 @@ Linked w t q b (f ∷ fs) asked left =
     (out_of steps w q b ≡ seen f.last
     (go_on (out_of steps w r c)
     (λ v rest. run_steps (out_of steps w) (any_rest w None (map_any t f.sheet) v) rest))) ×
+    WaitsFor (out_of steps w q) (run_steps (out_of steps w)
+    (asks f.last r (any_rest w None (map_any t f.sheet)))) ×
     Linked w t r c fs asked left)

@@ -9,6 +9,7 @@ ghost use Rattle.lk_memo.specs.Entries.{Holds};
 ghost use Rattle.lk_engine.specs.Entries.{IsTrueAt, AreTrue};
 ghost use Rattle.lk_engine.specs.Lookouts.{place_of, Repeats, Opens, Answers, AnswersKept};
 
+use crate::circles::{FIRST, look};
 use crate::instant::at_once;
 use crate::paying::{last, left, note_before, pay};
 use crate::sheet::AnySheet;
@@ -123,6 +124,7 @@ fn work<T: Terms>(
     let mut asked = query;
     let mut budget = left(lookout);
     let mut next = first_step(lookout, query)?;
+    let mut due = FIRST;
     'work: loop {
         match next {
             Next::Ask(other, sheet) => {
@@ -142,6 +144,7 @@ fn work<T: Terms>(
                         asked = other;
                         budget = before;
                         next = Next::Ask(deeper, inner);
+                        due = look(stack, asked, due)?;
                     }
                     // Answered at once: nothing has to wait, and nothing is kept of it.
                     Next::Done(answer) => {

@@ -3,7 +3,7 @@ use Rattle.std.proofs.lemmas.Result.{err_from_is_err_and}
 use Rattle.lk_engine.specs.declared.answering.Frame.{Frame}
 use Rattle.lk_engine.proofs.Sheets.{any_known}
 use Rattle.lk_engine.proofs.Frames.{entries_steady}
-use Rattle.lk_engine.proofs.Links.{linked_begins, linked_asks, linked_left, linked_true, linked_ends, linked_resumes, linked_refused, linked_stops, top_known, entries_more}
+use Rattle.lk_engine.proofs.Links.{linked_begins, linked_asks, linked_left, linked_true, linked_ends, linked_resumes, linked_refused, linked_again, linked_stops, top_known, entries_more}
 use Rattle.lk_engine.proofs.Lookouts.{place_stays, stays_on, metered_stays, step_stays, halts, not_spent, has_memory}
 use Rattle.lk_engine.proofs.answering.work.Goals as goal
 
@@ -24,7 +24,7 @@ work-init g c =
       linked =
           let none : c.clear.new.self.items ≡ [] = search rules in
           rw (none, c.left-budget.ensures)
-          (linked_begins _ _ _ h.stays.keeps c.requires.query_in h.known h.runs);
+          (linked_begins _ _ _ h.stays.keeps c.requires.query_in h.known h.runs h.waits);
     }
 
 pub open-requires-clause-entries : goal.open-requires-clause-entries
@@ -50,6 +50,20 @@ returns-then-is_err g c =
     (λ l same. absurd (not_spent c.first_step.result _ c.in_ok-next.was
     (c.first_step.ensures.nothing_left l)))
 
+pub returns-in_err-due-in-Ask-2 : goal.returns-in_err-due-in-Ask-2
+returns-in_err-due-in-Ask-2 g c =
+    let place = place_stays c.work.invariant.stays in
+    let h = rw c.in_ok-deeper-in-Ask.was at c.«open».ensures.opens in
+    let again = rw (c.in_err-due-in-Ask-2.was, c.deref.ensures.value) at c.look.ensures.again in
+    let asked = linked_asks c.work.invariant.linked {stack' = c.push.new.self.items} c.in-Ask.is
+    (search rules) h.stays.keeps h.known (rw place at h.runs) (rw place at h.waits) in
+    let p = err_from_is_err_and c.from_residual-in_err-due-in-Ask-2.result
+    c.from_residual-in_err-due-in-Ask-2.ensures.1 in
+    rw (p.1, p.2, again.0) (halts (stays_on c.work.invariant.stays h.stays)
+    (rw place at c.«open».ensures.entries) (linked_again asked again.1)
+    (λ l same. absurd (not_spent c.first_step.result _ c.in_ok-next.was
+    (c.first_step.ensures.nothing_left l))))
+
 pub work-preserved-in-Ask-2 : goal.work-preserved-in-Ask-2
 work-preserved-in-Ask-2 g c =
     let place = place_stays c.work.invariant.stays in
@@ -59,7 +73,7 @@ work-preserved-in-Ask-2 g c =
       entries = rw place at c.«open».ensures.entries;
       linked = rw (c.left-before.ensures, ← c.in-Ask-2.is)
           (linked_asks c.work.invariant.linked c.in-Ask.is (search rules) h.stays.keeps h.known
-          (rw place at h.runs));
+          (rw place at h.runs) (rw place at h.waits));
     }
 
 pub resume-requires-clause-sheet_in : goal.resume-requires-clause-sheet_in
@@ -94,7 +108,7 @@ work-preserved-in-Done-2 g c =
       last = c.work.lookout.3.last;
     } in
     let asked = linked_asks c.work.invariant.linked c.in-Ask.is refl h.stays.keeps h.known
-    (rw place at h.runs) in
+    (rw place at h.runs) (rw place at h.waits) in
     let note = c.note_before.ensures in
     let stays = stays_on {new = c.resume.new.looks} (metered_stays note.stays)
     (step_stays c.resume.ensures) in
@@ -117,7 +131,7 @@ returns-in-No-2 g c =
     let h = rw (c.in_ok-deeper-in-Ask.was, c.in-No-2.is) at c.«open».ensures.opens in
     let after = c.«open».new.lookout.3 in
     let asked = linked_asks c.work.invariant.linked {left' = after.left} {last' = after.last}
-    c.in-Ask.is refl h.stays.keeps h.known (rw place at h.runs) in
+    c.in-Ask.is refl h.stays.keeps h.known (rw place at h.runs) (rw place at h.waits) in
     halts (stays_on c.work.invariant.stays h.stays) (rw place at c.«open».ensures.entries)
     (linked_refused asked refl)
     (λ l same. absurd (not_spent c.first_step.result _ c.in_ok-next.was
