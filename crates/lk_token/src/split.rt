@@ -1,6 +1,6 @@
 ghost use Rattle.std.specs.Prelude.{◌≡◌, ◌==◌, ◌≤◌, ◌∷◌, [], IfOk, MatchOption, map, drop, length};
 ghost use Rattle.std.specs.List.{position_or_len};
-ghost use Rattle.lk_token.specs.Fields.{fields_of, skip_spaces, skip_field, text_behind};
+ghost use Rattle.lk_token.specs.Fields.{fields_of, BeginsWith, skip_spaces, skip_field, text_behind};
 
 use std::alloc::{AllocError, Global};
 
@@ -45,6 +45,17 @@ pub fn next_field(bytes: &[u8]) -> Option<(&[u8], &[u8])>
         None
     } else {
         Some(front.split_at(len))
+    }
+}
+
+/// The byte that the first field begins with. None where nothing but spaces is left.
+pub fn first_byte(bytes: &[u8]) -> Option<u8>
+    ensures { MatchOption result
+        (fields_of bytes.now ≡ []) (λ b. BeginsWith b (fields_of bytes.now)) }
+{
+    match skip_spaces(bytes) {
+        [] => None,
+        [byte, ..] => Some(*byte),
     }
 }
 
