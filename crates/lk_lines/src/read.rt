@@ -30,6 +30,7 @@ fn numbered(alloc: Global, line: &[u8]) -> Result<Said<'_>, FieldError>
 }
 
 // A line that begins with its tag.
+#[inline(never)]
 #[tactic(auto, unfolding(crate::specs::Items::plain_at))]
 fn plain(alloc: Global, line: &[u8]) -> Result<Said<'_>, FieldError>
     ensures { (text : List ℕ) → Gives says_of result
@@ -41,6 +42,7 @@ fn plain(alloc: Global, line: &[u8]) -> Result<Said<'_>, FieldError>
 }
 
 // What a line says that is neither blank nor the version. Its first field begins with `byte`.
+#[inline(always)]
 #[tactic(auto, unfolding(crate::specs::Items::item_at))]
 fn item<'b>(alloc: Global, byte: u8, line: &'b [u8]) -> Result<Said<'b>, FieldError>
     ensures { (field : List ℕ) (fields : List (List ℕ))

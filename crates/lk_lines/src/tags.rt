@@ -6,7 +6,7 @@ ghost use Rattle.lk_lines.specs.Tags.{find_tag, numbered_tags, rare_tags, plain_
 
 use crate::Word;
 use crate::steps::{FieldError, is, is_three};
-use lk_token::next_field;
+use lk_token::{next_field, short_field};
 
 /// The tags of lines that define a number, which stands in front of the tag.
 #[derive(Clone, Copy)]
@@ -131,6 +131,9 @@ pub(crate) fn entry_tag(line: &[u8]) -> Result<(EntryTag, &[u8]), FieldError>
     ensures { Gives (λ r. (Tag.Entry r.0, fields_of r.1.now)) result
         (tag_at numbered_tags (fields_of line.now)) }
 {
+    if let Some((field, rest)) = short_field(line) {
+        return Ok((find_entry(field)?, rest));
+    }
     match next_field(line) {
         None => Err(FieldError::Fault(Word::MissingField)),
         Some((field, rest)) => Ok((find_entry(field)?, rest)),

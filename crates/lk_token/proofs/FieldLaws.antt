@@ -102,3 +102,23 @@ first_lem bytes b more e =
 pub first_begins : (bytes front : List ℕ) → front ≡ skip_spaces bytes → 1 ≤ length front → BeginsWith (get_or front 0 0) (fields_of bytes)
 first_begins bytes [] e le = absurd (omega arith)
 first_begins bytes (b ∷ more) e le = first_lem bytes b more e
+
+short_step : (a b c : ℕ) (more : List ℕ) → (a == 32) ≡ false → (b == 32) ≡ false → (c == 32) ≡ false → fields_of (32 ∷ a ∷ b ∷ c ∷ 32 ∷ more) ≡ (a ∷ b ∷ c ∷ []) ∷ fields_of (32 ∷ more)
+short_step a b c more p q r =
+    let front : List ℕ = a ∷ b ∷ c ∷ 32 ∷ more in
+    let kept : front ≡ skip_spaces (32 ∷ front) = rw p refl in
+    let end : 3 ≡ position_or_len (λ b. b == 32) front = rw (p, q, r) refl in
+    field_first (32 ∷ front) front 3 kept end (omega arith)
+
+-- three bytes between spaces are a field
+pub short_lem : (xs : List ℕ) → 5 ≤ length xs → get_or xs 0 0 ≡ 32 → get_or xs 4 0 ≡ 32 → (get_or xs 1 0 == 32) ≡ false → (get_or xs 2 0 == 32) ≡ false → (get_or xs 3 0 == 32) ≡ false
+    → fields_of xs ≡ take 3 (drop 1 xs) ∷ fields_of (drop 3 (drop 1 xs))
+short_lem [] le x y p q r = absurd (omega arith)
+short_lem (s ∷ []) le x y p q r = absurd (omega arith)
+short_lem (s ∷ a ∷ []) le x y p q r = absurd (omega arith)
+short_lem (s ∷ a ∷ b ∷ []) le x y p q r = absurd (omega arith)
+short_lem (s ∷ a ∷ b ∷ c ∷ []) le x y p q r = absurd (omega arith)
+short_lem (s ∷ a ∷ b ∷ c ∷ t ∷ more) le x y p q r =
+    let one : s ≡ 32 = x in
+    let two : t ≡ 32 = y in
+    rw (one, two) (short_step a b c more p q r)
