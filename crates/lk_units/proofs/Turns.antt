@@ -1,6 +1,7 @@
 -- A numbering's list of low numbers, as it grows and is written over, and the map beside it.
 use Rattle.std.proofs.Common.{◌≡◌, ◌≢◌, ℕ, zero, suc, ◌<◌, ◌≤◌, ◌==◌, List, [], ◌∷◌, ◌++◌, length, Some, None, refl, ap, arith, inl, inr}
-use Rattle.std.specs.Prelude.{slice_get, slice_set, if◌then◌else◌}
+use Rattle.std.specs.Prelude.{nat_eq, slice_get, slice_set, if◌then◌else◌}
+use Rattle.std.specs.Map.{lookup}
 use Rattle.std.specs.declared.option.Option.{Option}
 use Rattle.std.proofs.lemmas.Bool.Decides.{eqb_tells}
 use Rattle.std.proofs.lemmas.Option.{slice_get_past}
@@ -48,3 +49,8 @@ other_entry xs n x q old new le h = elim (eqb_tells q n) [
   | inl (t, e) ↦ let none : slice_get xs q ≡ None = slice_get_past xs q (omega arith) in let is : new ≡ Some x = rw t at h in rw (t, none, is) refl
   | inr (t, ne) ↦ let is : new ≡ old = rw t at h in rw (t, is) refl
 ]
+
+-- a map without entries has nothing
+pub none_there : (es : List (ℕ × ℕ)) (n : ℕ) → length es ≡ 0 → lookup (λ k. nat_eq n k) es ≡ None
+none_there [] n e = refl
+none_there (x ∷ es) n e = absurd (omega arith)

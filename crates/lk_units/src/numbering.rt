@@ -34,15 +34,26 @@ impl Numbering {
         }
     }
 
-    // The place of a number that the list does not reach.
+    // The place of a number in the map.
     #[inline(never)]
-    fn find_other(&self, number: u32) -> Option<u64>
+    fn find_in_map(&self, number: u32) -> Option<u64>
         ensures { result ≡ get nat_eq self.now.map number }
     {
         match self.map.get(&number) {
             Some(place) => Some(u64::from(*place)),
             None => None,
         }
+    }
+
+    // The place of a number that the list does not reach. Nearly every map is empty.
+    #[inline(always)]
+    fn find_other(&self, number: u32) -> Option<u64>
+        ensures { result ≡ get nat_eq self.now.map number }
+    {
+        if self.map.is_empty() {
+            return None;
+        }
+        self.find_in_map(number)
     }
 
     /// The place of a number.
