@@ -45,6 +45,7 @@ fn feed_count(feed: bool) -> u64
 
 impl Reader {
     /// Takes what the line says that was counted last, of this number.
+    #[inline(always)]
     #[tactic(auto, using(crate::proofs::Steps::item_goes, crate::proofs::Steps::item_stops, lk_units::proofs::Holding::unchanged))]
     fn take_said<T: Terms>(
         &mut self,

@@ -4,6 +4,7 @@ pub mod DueCases
 pub mod DueStops
 pub mod ItemAgain
 pub mod ItemCases
+pub mod Leading
 pub mod LineFeedLaws
 pub mod Numerals
 pub mod SaidLaws

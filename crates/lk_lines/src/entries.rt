@@ -1,5 +1,6 @@
 //! Lines that define a number, one reader for each tag. `line` is what is left of the line behind
-//! the tag, and `raw` the whole line.
+//! the tag, and `raw` the whole line. The readers of rarer tags are calls, so that what is left of a
+//! line's way is small enough to be one piece of code with what calls it.
 ghost use Rattle.std.specs.Prelude.{◌≡◌, ℕ, List, IfOk};
 ghost use Rattle.lk_token.specs.Fields.{fields_of, text_behind};
 ghost use Rattle.lk_lines.specs.Views.{GivesEntry, entry_tag};
@@ -19,6 +20,7 @@ fn name_text<'b>(raw: &'b [u8], line: &[u8]) -> Result<Entry<'b>, FieldError>
     Ok(Entry::NameText { parent, text })
 }
 
+#[inline(never)]
 fn name_number(line: &[u8]) -> Result<Entry<'static>, FieldError>
     ensures values { (text : List ℕ) →
         GivesEntry EntryTag.NameNumber text (fields_of line.now) result }
@@ -30,6 +32,7 @@ fn name_number(line: &[u8]) -> Result<Entry<'static>, FieldError>
     Ok(Entry::NameNumber { parent, component })
 }
 
+#[inline(never)]
 fn successor(line: &[u8]) -> Result<Entry<'static>, FieldError>
     ensures values { (text : List ℕ) →
         GivesEntry EntryTag.Successor text (fields_of line.now) result }
@@ -40,6 +43,7 @@ fn successor(line: &[u8]) -> Result<Entry<'static>, FieldError>
     Ok(Entry::Successor { level })
 }
 
+#[inline(never)]
 fn max(line: &[u8]) -> Result<Entry<'static>, FieldError>
     ensures values { (text : List ℕ) → GivesEntry EntryTag.Max text (fields_of line.now) result }
     ensures tag { IfOk result (λ e. entry_tag e ≡ EntryTag.Max) }
@@ -50,6 +54,7 @@ fn max(line: &[u8]) -> Result<Entry<'static>, FieldError>
     Ok(Entry::Max { left, right })
 }
 
+#[inline(never)]
 fn imax(line: &[u8]) -> Result<Entry<'static>, FieldError>
     ensures values { (text : List ℕ) → GivesEntry EntryTag.Imax text (fields_of line.now) result }
     ensures tag { IfOk result (λ e. entry_tag e ≡ EntryTag.Imax) }
@@ -60,6 +65,7 @@ fn imax(line: &[u8]) -> Result<Entry<'static>, FieldError>
     Ok(Entry::Imax { left, right })
 }
 
+#[inline(never)]
 fn parameter(line: &[u8]) -> Result<Entry<'static>, FieldError>
     ensures values { (text : List ℕ) →
         GivesEntry EntryTag.Parameter text (fields_of line.now) result }
@@ -89,6 +95,7 @@ fn sort(line: &[u8]) -> Result<Entry<'static>, FieldError>
     Ok(Entry::Sort { level })
 }
 
+#[inline(never)]
 fn constant(alloc: Global, line: &[u8]) -> Result<Entry<'static>, FieldError>
     ensures values { (text : List ℕ) →
         GivesEntry EntryTag.Constant text (fields_of line.now) result }
@@ -143,6 +150,7 @@ fn pi(line: &[u8]) -> Result<Entry<'static>, FieldError>
     })
 }
 
+#[inline(never)]
 fn let_in(line: &[u8]) -> Result<Entry<'static>, FieldError>
     ensures values { (text : List ℕ) → GivesEntry EntryTag.Let text (fields_of line.now) result }
     ensures tag { IfOk result (λ e. entry_tag e ≡ EntryTag.Let) }
@@ -160,6 +168,7 @@ fn let_in(line: &[u8]) -> Result<Entry<'static>, FieldError>
     })
 }
 
+#[inline(never)]
 fn project(line: &[u8]) -> Result<Entry<'static>, FieldError>
     ensures values { (text : List ℕ) →
         GivesEntry EntryTag.Project text (fields_of line.now) result }
@@ -176,6 +185,7 @@ fn project(line: &[u8]) -> Result<Entry<'static>, FieldError>
     })
 }
 
+#[inline(never)]
 fn nat_literal(line: &[u8]) -> Result<Entry<'static>, FieldError>
     ensures values { (text : List ℕ) →
         GivesEntry EntryTag.NatLiteral text (fields_of line.now) result }
@@ -186,6 +196,7 @@ fn nat_literal(line: &[u8]) -> Result<Entry<'static>, FieldError>
     Ok(Entry::NatLiteral { number })
 }
 
+#[inline(never)]
 fn text_literal(alloc: Global, line: &[u8]) -> Result<Entry<'static>, FieldError>
     ensures values { (text : List ℕ) →
         GivesEntry EntryTag.TextLiteral text (fields_of line.now) result }
@@ -195,6 +206,7 @@ fn text_literal(alloc: Global, line: &[u8]) -> Result<Entry<'static>, FieldError
     Ok(Entry::TextLiteral { text })
 }
 
+#[inline(never)]
 fn rule(line: &[u8]) -> Result<Entry<'static>, FieldError>
     ensures values { (text : List ℕ) → GivesEntry EntryTag.Rule text (fields_of line.now) result }
     ensures tag { IfOk result (λ e. entry_tag e ≡ EntryTag.Rule) }

@@ -14,7 +14,7 @@ use crate::steps::{FieldError, number};
 use crate::tags::{declaration_tag, entry_tag};
 use crate::version::{is_two, version_of};
 use crate::{Fault, Line, LineError, Said, Word};
-use lk_token::next_field;
+use lk_token::first_byte;
 use std::alloc::Global;
 
 // A line that defines a number.
@@ -30,6 +30,7 @@ fn numbered(alloc: Global, line: &[u8]) -> Result<Said<'_>, FieldError>
 }
 
 // A line that begins with its tag.
+#[inline(never)]
 #[tactic(auto, unfolding(crate::specs::Items::plain_at))]
 fn plain(alloc: Global, line: &[u8]) -> Result<Said<'_>, FieldError>
     ensures { (text : List ℕ) → Gives says_of result
@@ -40,22 +41,15 @@ fn plain(alloc: Global, line: &[u8]) -> Result<Said<'_>, FieldError>
     Ok(Said::Declaration(declaration))
 }
 
-fn is_tag(field: &[u8]) -> bool
-    ensures { result ≡ is_tag field.now }
-{
-    match field {
-        [b'#', ..] => true,
-        _ => false,
-    }
-}
-
-// What a line says that is neither blank nor the version. `field` is its first field.
+// What a line says that is neither blank nor the version. Its first field begins with `byte`.
+#[inline(always)]
 #[tactic(auto, unfolding(crate::specs::Items::item_at))]
-fn item<'b>(alloc: Global, field: &[u8], line: &'b [u8]) -> Result<Said<'b>, FieldError>
-    ensures { (fields : List (List ℕ)) → fields_of line.now ≡ field.now ∷ fields →
-        Gives says_of result (item_said (text_behind line.now) (fields_of line.now)) }
+fn item<'b>(alloc: Global, byte: u8, line: &'b [u8]) -> Result<Said<'b>, FieldError>
+    ensures { (field : List ℕ) (fields : List (List ℕ))
+        → fields_of line.now ≡ (byte ∷ field) ∷ fields
+        → Gives says_of result (item_said (text_behind line.now) (fields_of line.now)) }
 {
-    if is_tag(field) {
+    if byte == b'#' {
         plain(alloc, line)
     } else {
         numbered(alloc, line)
@@ -67,7 +61,7 @@ fn item<'b>(alloc: Global, field: &[u8], line: &'b [u8]) -> Result<Said<'b>, Fie
 fn said(alloc: Global, first: bool, line: &[u8]) -> Result<Said<'_>, FieldError>
     ensures { Gives says_of result (said_at first (text_behind line.now) (fields_of line.now)) }
 {
-    let Some((field, _)) = next_field(line) else {
+    let Some(byte) = first_byte(line) else {
         return Ok(Said::Blank);
     };
     if first {
@@ -82,7 +76,7 @@ fn said(alloc: Global, first: bool, line: &[u8]) -> Result<Said<'_>, FieldError>
             Ok(None) => {}
         }
     }
-    item(alloc, field, line)
+    item(alloc, byte, line)
 }
 
 /// What line `number` of a file says, or its first fault.

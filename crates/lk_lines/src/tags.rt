@@ -5,8 +5,8 @@ ghost use Rattle.lk_lines.specs.Items.{tag_at};
 ghost use Rattle.lk_lines.specs.Tags.{find_tag, numbered_tags, rare_tags, plain_tags};
 
 use crate::Word;
-use crate::steps::{FieldError, is};
-use lk_token::next_field;
+use crate::steps::{FieldError, is, is_three};
+use lk_token::{next_field, short_field};
 
 /// The tags of lines that define a number, which stands in front of the tag.
 #[derive(Clone, Copy)]
@@ -54,21 +54,21 @@ pub enum Tag {
 fn find_entry(word: &[u8]) -> Result<EntryTag, FieldError>
     ensures { Gives (λ t. Tag.Entry t) result (find_tag numbered_tags word.now) }
 {
-    if is(word, b"#EA") {
+    if is_three(word, b'#', b'E', b'A') {
         Ok(EntryTag::Apply)
-    } else if is(word, b"#EC") {
+    } else if is_three(word, b'#', b'E', b'C') {
         Ok(EntryTag::Constant)
-    } else if is(word, b"#EL") {
+    } else if is_three(word, b'#', b'E', b'L') {
         Ok(EntryTag::Lambda)
-    } else if is(word, b"#EP") {
+    } else if is_three(word, b'#', b'E', b'P') {
         Ok(EntryTag::Pi)
-    } else if is(word, b"#EV") {
+    } else if is_three(word, b'#', b'E', b'V') {
         Ok(EntryTag::Variable)
-    } else if is(word, b"#NS") {
+    } else if is_three(word, b'#', b'N', b'S') {
         Ok(EntryTag::NameText)
-    } else if is(word, b"#ES") {
+    } else if is_three(word, b'#', b'E', b'S') {
         Ok(EntryTag::Sort)
-    } else if is(word, b"#NI") {
+    } else if is_three(word, b'#', b'N', b'I') {
         Ok(EntryTag::NameNumber)
     } else {
         find_rare_entry(word)
@@ -78,23 +78,23 @@ fn find_entry(word: &[u8]) -> Result<EntryTag, FieldError>
 fn find_rare_entry(word: &[u8]) -> Result<EntryTag, FieldError>
     ensures { Gives (λ t. Tag.Entry t) result (find_tag rare_tags word.now) }
 {
-    if is(word, b"#US") {
+    if is_three(word, b'#', b'U', b'S') {
         Ok(EntryTag::Successor)
-    } else if is(word, b"#UM") {
+    } else if is_three(word, b'#', b'U', b'M') {
         Ok(EntryTag::Max)
     } else if is(word, b"#UIM") {
         Ok(EntryTag::Imax)
-    } else if is(word, b"#UP") {
+    } else if is_three(word, b'#', b'U', b'P') {
         Ok(EntryTag::Parameter)
-    } else if is(word, b"#EZ") {
+    } else if is_three(word, b'#', b'E', b'Z') {
         Ok(EntryTag::Let)
-    } else if is(word, b"#EJ") {
+    } else if is_three(word, b'#', b'E', b'J') {
         Ok(EntryTag::Project)
     } else if is(word, b"#ELN") {
         Ok(EntryTag::NatLiteral)
     } else if is(word, b"#ELS") {
         Ok(EntryTag::TextLiteral)
-    } else if is(word, b"#RR") {
+    } else if is_three(word, b'#', b'R', b'R') {
         Ok(EntryTag::Rule)
     } else {
         Err(FieldError::Fault(Word::UnknownTag))
@@ -108,7 +108,7 @@ fn find_declaration(word: &[u8]) -> Result<DeclarationTag, FieldError>
         Ok(DeclarationTag::Theorem)
     } else if is(word, b"#DEF") {
         Ok(DeclarationTag::Definition)
-    } else if is(word, b"#AX") {
+    } else if is_three(word, b'#', b'A', b'X') {
         Ok(DeclarationTag::Axiom)
     } else if is(word, b"#OPAQ") {
         Ok(DeclarationTag::Opaque)
@@ -131,6 +131,9 @@ pub(crate) fn entry_tag(line: &[u8]) -> Result<(EntryTag, &[u8]), FieldError>
     ensures { Gives (λ r. (Tag.Entry r.0, fields_of r.1.now)) result
         (tag_at numbered_tags (fields_of line.now)) }
 {
+    if let Some((field, rest)) = short_field(line) {
+        return Ok((find_entry(field)?, rest));
+    }
     match next_field(line) {
         None => Err(FieldError::Fault(Word::MissingField)),
         Some((field, rest)) => Ok((find_entry(field)?, rest)),

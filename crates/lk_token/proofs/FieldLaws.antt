@@ -1,8 +1,8 @@
 -- The first field of a line, and the fields behind it.
-use Rattle.std.proofs.Common.{◌≡◌, ℕ, zero, suc, ◌+◌, ◌<◌, ◌==◌, Bool, true, false, List, [], ◌∷◌, filter, length, take, drop, refl, sym, ◌∙◌, ap, subst, nat_lt, arith}
+use Rattle.std.proofs.Common.{◌≡◌, ℕ, zero, suc, ◌+◌, ◌<◌, ◌≤◌, ◌==◌, Bool, true, false, List, [], ◌∷◌, filter, length, get_or, take, drop, refl, sym, ◌∙◌, ap, subst, nat_lt, arith}
 use Rattle.std.specs.List.{slice_split, position_or_len}
 use Rattle.std.proofs.lemmas.Bool.Decides.{nat_tests}
-use Rattle.lk_token.specs.Fields.{fields_of, skip_spaces}
+use Rattle.lk_token.specs.Fields.{fields_of, BeginsWith, skip_spaces}
 
 abbrev Pieces : List ℕ → Type 0
 Pieces xs = (parts : List (List ℕ)) × (slice_split (λ b. b == 32) xs ≡ take (position_or_len (λ b. b == 32) xs) xs ∷ parts)
@@ -27,7 +27,7 @@ spaces_step x xs ih true e = rw e ih
 spaces_step x xs ih false e = rw e (rw e refl)
 
 -- spaces in front count for nothing
-spaces_first : (xs : List ℕ) → fields_of (skip_spaces xs) ≡ fields_of xs
+pub spaces_first : (xs : List ℕ) → fields_of (skip_spaces xs) ≡ fields_of xs
 spaces_first [] = refl
 spaces_first (x ∷ xs) = spaces_step x xs (spaces_first xs) (x == 32) refl
 
@@ -65,3 +65,60 @@ pub no_field : (bytes front : List ℕ) → front ≡ skip_spaces bytes → posi
 unfolding fields_of
 no_field bytes front q e = let P : List ℕ → Type 0 = λ xs. position_or_len (λ b. b == 32) xs ≡ 0 in
     sym (spaces_first bytes) ∙ ap fields_of (none_lem bytes (subst P q e))
+
+nil_lem : (xs : List ℕ) → length xs < 1 → xs ≡ []
+nil_lem [] lt = refl
+nil_lem (x ∷ xs) lt = absurd (omega arith)
+
+-- where only spaces are left, there is no field
+pub all_spaces : (bytes front : List ℕ) → front ≡ skip_spaces bytes → length front < 1 → fields_of bytes ≡ []
+unfolding fields_of
+all_spaces bytes front e lt = sym (spaces_first bytes) ∙ ap fields_of (sym e ∙ nil_lem front lt)
+
+-- what is left behind spaces begins with none
+kept_step : (x : ℕ) (xs : List ℕ) (b : ℕ) (more : List ℕ) → (skip_spaces xs ≡ b ∷ more → (b == 32) ≡ false) → (t : Bool) → (x == 32) ≡ t → skip_spaces (x ∷ xs) ≡ b ∷ more → (b == 32) ≡ false
+kept_step x xs b more ih true e h = let h' : skip_spaces xs ≡ b ∷ more = rw e at h in ih h'
+kept_step x xs b more ih false e h =
+    let h' : x ∷ xs ≡ b ∷ more = rw e at h in
+    let same : b ≡ x = cc in
+    rw same e
+
+kept_lem : (xs : List ℕ) (b : ℕ) (more : List ℕ) → skip_spaces xs ≡ b ∷ more → (b == 32) ≡ false
+kept_lem [] b more h = absurd cc
+kept_lem (x ∷ xs) b more h = kept_step x xs b more (kept_lem xs b more) (x == 32) refl h
+
+-- a field stands where bytes begin with no space
+field_begins : (b : ℕ) (more : List ℕ) → (b == 32) ≡ false → BeginsWith b (fields_of (b ∷ more))
+field_begins b more e =
+    let n : ℕ = position_or_len (λ b. b == 32) more in
+    let one : suc n ≡ position_or_len (λ b. b == 32) (b ∷ more) = rw e (omega arith) in
+    (take n more, fields_of (drop n more), front_lem (b ∷ more) (suc n) one (omega arith))
+
+first_lem : (bytes : List ℕ) (b : ℕ) (more : List ℕ) → b ∷ more ≡ skip_spaces bytes → BeginsWith b (fields_of bytes)
+first_lem bytes b more e =
+    let h = field_begins b more (kept_lem bytes b more (sym e)) in
+    (h.0, h.1, sym (spaces_first bytes) ∙ ap fields_of (sym e) ∙ h.2)
+
+pub first_begins : (bytes front : List ℕ) → front ≡ skip_spaces bytes → 1 ≤ length front → BeginsWith (get_or front 0 0) (fields_of bytes)
+first_begins bytes [] e le = absurd (omega arith)
+first_begins bytes (b ∷ more) e le = first_lem bytes b more e
+
+short_step : (a b c : ℕ) (more : List ℕ) → (a == 32) ≡ false → (b == 32) ≡ false → (c == 32) ≡ false → fields_of (32 ∷ a ∷ b ∷ c ∷ 32 ∷ more) ≡ (a ∷ b ∷ c ∷ []) ∷ fields_of (32 ∷ more)
+short_step a b c more p q r =
+    let front : List ℕ = a ∷ b ∷ c ∷ 32 ∷ more in
+    let kept : front ≡ skip_spaces (32 ∷ front) = rw p refl in
+    let end : 3 ≡ position_or_len (λ b. b == 32) front = rw (p, q, r) refl in
+    field_first (32 ∷ front) front 3 kept end (omega arith)
+
+-- three bytes between spaces are a field
+pub short_lem : (xs : List ℕ) → 5 ≤ length xs → get_or xs 0 0 ≡ 32 → get_or xs 4 0 ≡ 32 → (get_or xs 1 0 == 32) ≡ false → (get_or xs 2 0 == 32) ≡ false → (get_or xs 3 0 == 32) ≡ false
+    → fields_of xs ≡ take 3 (drop 1 xs) ∷ fields_of (drop 3 (drop 1 xs))
+short_lem [] le x y p q r = absurd (omega arith)
+short_lem (s ∷ []) le x y p q r = absurd (omega arith)
+short_lem (s ∷ a ∷ []) le x y p q r = absurd (omega arith)
+short_lem (s ∷ a ∷ b ∷ []) le x y p q r = absurd (omega arith)
+short_lem (s ∷ a ∷ b ∷ c ∷ []) le x y p q r = absurd (omega arith)
+short_lem (s ∷ a ∷ b ∷ c ∷ t ∷ more) le x y p q r =
+    let one : s ≡ 32 = x in
+    let two : t ≡ 32 = y in
+    rw (one, two) (short_step a b c more p q r)

@@ -1,6 +1,6 @@
-ghost use Rattle.std.specs.Prelude.{◌≡◌, ◌==◌, ◌≤◌, ◌∷◌, [], IfOk, MatchOption, map, drop, length};
+ghost use Rattle.std.specs.Prelude.{◌≡◌, ◌==◌, ◌≤◌, ◌∷◌, [], IfOk, IfSome, MatchOption, map, drop, length};
 ghost use Rattle.std.specs.List.{position_or_len};
-ghost use Rattle.lk_token.specs.Fields.{fields_of, skip_spaces, skip_field, text_behind};
+ghost use Rattle.lk_token.specs.Fields.{fields_of, BeginsWith, skip_spaces, skip_field, text_behind};
 
 use std::alloc::{AllocError, Global};
 
@@ -45,6 +45,36 @@ pub fn next_field(bytes: &[u8]) -> Option<(&[u8], &[u8])>
         None
     } else {
         Some(front.split_at(len))
+    }
+}
+
+/// The first field and what stands behind it, where the field has three bytes, with one space in
+/// front and one behind: so stand most tags. None tells nothing.
+#[inline(always)]
+#[tactic(auto, using(crate::proofs::FieldLaws::short_lem))]
+pub fn short_field(line: &[u8]) -> Option<(&[u8], &[u8])>
+    ensures { IfSome result (λ r. fields_of line.now ≡ r.0.now ∷ fields_of r.1.now) }
+{
+    match line {
+        [b' ', one, two, three, b' ', ..] => {
+            if *one == b' ' || *two == b' ' || *three == b' ' {
+                return None;
+            }
+            let (_, front) = line.split_at(1);
+            Some(front.split_at(3))
+        }
+        _ => None,
+    }
+}
+
+/// The byte that the first field begins with. None where nothing but spaces is left.
+pub fn first_byte(bytes: &[u8]) -> Option<u8>
+    ensures { MatchOption result
+        (fields_of bytes.now ≡ []) (λ b. BeginsWith b (fields_of bytes.now)) }
+{
+    match skip_spaces(bytes) {
+        [] => None,
+        [byte, ..] => Some(*byte),
     }
 }
 

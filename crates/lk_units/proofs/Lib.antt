@@ -9,3 +9,4 @@ pub mod Kept
 pub mod Items
 pub mod Placing
 pub mod SpelledUnits
+pub mod Turns

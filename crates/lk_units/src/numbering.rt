@@ -1,5 +1,6 @@
 //! One of the file's numberings: its numbers, and what each has in a store.
-ghost use Rattle.std.specs.Prelude.{◌≡◌, ◌==◌, ◌<◌, ℕ, All, IfOk, OnOk, OnErr, Some, None, if◌then◌else◌};
+ghost use Rattle.std.specs.Prelude.{◌≡◌, ◌==◌, ◌<◌, ℕ, All, length, nat_eq, IfOk, OnOk, OnErr, Some, None, if◌then◌else◌};
+ghost use Rattle.std.specs.HashMap.{get};
 ghost use Rattle.lk_units.specs.Numbering.{entry};
 ghost use Rattle.lk_units.specs.State.{all_known};
 ghost use Rattle.lk_units.specs.Held.{Below, Makes, Puts};
@@ -12,27 +13,58 @@ use std::collections::HashMap;
 
 /// Numbers of the file, which may begin anywhere and leave gaps, and the place that each has. A place has 32 bits, as a
 /// file has no more items; a greater one is want of memory.
+///
+/// Most files number in turn from 0 or 1, so the places of the first numbers stand in a list.
 #[derive(Drop)]
 pub struct Numbering {
+    /// The places of the numbers from 0 on, as far as they came in turn.
+    pub low: Vec<u32>,
+    /// The places of the numbers that the list does not reach.
     pub map: HashMap<u32, u32>,
 }
 
 impl Numbering {
+    #[tactic(auto, unfolding(crate::specs::Numbering::entry))]
     pub fn new(alloc: Global) -> Self
         ensures { (q : ℕ) → entry result q ≡ None }
     {
         Numbering {
+            low: Vec::new(alloc),
             map: HashMap::new(alloc),
         }
     }
 
-    /// The place of a number.
-    pub fn find(&self, number: u32) -> Option<u64>
-        ensures { result ≡ entry self.now number }
+    // The place of a number in the map.
+    #[inline(never)]
+    fn find_in_map(&self, number: u32) -> Option<u64>
+        ensures { result ≡ get nat_eq self.now.map number }
     {
         match self.map.get(&number) {
             Some(place) => Some(u64::from(*place)),
             None => None,
+        }
+    }
+
+    // The place of a number that the list does not reach. Nearly every map is empty.
+    #[inline(always)]
+    fn find_other(&self, number: u32) -> Option<u64>
+        ensures { result ≡ get nat_eq self.now.map number }
+    {
+        if self.map.is_empty() {
+            return None;
+        }
+        self.find_in_map(number)
+    }
+
+    /// The place of a number.
+    #[inline(always)]
+    #[tactic(auto, unfolding(crate::specs::Numbering::entry))]
+    pub fn find(&self, number: u32) -> Option<u64>
+        ensures { result ≡ entry self.now number }
+    {
+        match self.low.get(number as usize) {
+            Some(place) => Some(u64::from(*place)),
+            None => self.find_other(number),
         }
     }
 
@@ -57,6 +89,38 @@ impl Numbering {
         Ok(places)
     }
 
+    // Gives the number its place that is next in turn.
+    #[tactic(auto, using(crate::proofs::Turns::next_entry), unfolding(crate::specs::Numbering::entry))]
+    fn add_next(&mut self, place: u32) -> Result<(), NoMemory>
+        ensures ok { OnOk result ((q : ℕ) → entry self.new q
+            ≡ (if q == length self.old.low.items then Some place else entry self.old q)) }
+        ensures err { OnErr result ((q : ℕ) → entry self.new q ≡ entry self.old q) }
+    {
+        match self.low.push(place) {
+            Ok(()) => Ok(()),
+            Err(_) => Err(NoMemory),
+        }
+    }
+
+    // Gives a number its place that is not next in turn.
+    #[inline(never)]
+    #[tactic(auto, using(crate::proofs::Turns::low_entry, crate::proofs::Turns::other_entry), unfolding(crate::specs::Numbering::entry))]
+    fn add_other(&mut self, number: u32, place: u32) -> Result<(), NoMemory>
+        ensures ok { OnOk result ((q : ℕ) → entry self.new q
+            ≡ (if q == number then Some place else entry self.old q)) }
+        ensures err { OnErr result ((q : ℕ) → entry self.new q ≡ entry self.old q) }
+    {
+        let at = number as usize;
+        if at < self.low.len() {
+            self.low[at] = place;
+            return Ok(());
+        }
+        match self.map.insert(number, place) {
+            Ok(_) => Ok(()),
+            Err(_) => Err(NoMemory),
+        }
+    }
+
     /// Gives a number its place.
     pub fn add(&mut self, number: u32, place: u64) -> Result<(), NoMemory>
         ensures ok { OnOk result ((q : ℕ) → entry self.new q
@@ -66,9 +130,10 @@ impl Numbering {
         let Ok(place) = u32::try_from(place) else {
             return Err(NoMemory);
         };
-        match self.map.insert(number, place) {
-            Ok(_) => Ok(()),
-            Err(_) => Err(NoMemory),
+        if number as usize == self.low.len() {
+            self.add_next(place)
+        } else {
+            self.add_other(number, place)
         }
     }
 
