@@ -134,7 +134,7 @@ fn over_last<T: Terms>(
         (domain (tree_at (T.contents terms.old) local))) (tree_at (T.contents terms.old) e))) }
 {
     let parts = parts_of(terms, local);
-    let domain = close_run(alloc, terms, run.first, run.count, parts.1)?;
+    let domain = close_run(alloc, terms, run, parts.1)?;
     let made = terms.make(node_of(binder, domain, e))?;
     Ok(made)
 }
@@ -157,8 +157,12 @@ fn over_run<T: Terms>(
         (bound_by binder (map (tree_at (T.contents terms.old)) locals.now)
         (tree_at (T.contents terms.old) e))) }
 {
+    let whole = Run {
+        first,
+        count: locals.len() as u64,
+    };
     let mut left = locals;
-    let mut made = close_run(alloc, terms, first, locals.len() as u64, e)?;
+    let mut made = close_run(alloc, terms, whole, e)?;
     'locals: while let Some((local, others)) = left.split_last() {
         let run = Run {
             first,
