@@ -1,5 +1,5 @@
 -- Telescopes, one binder after another, and while the store grows.
-use Rattle.std.proofs.Common.{◌≡◌, ◌+◌, ◌++◌, ◌∷◌, [], ◌<◌, ℕ, suc, List, map, length, All, refl, ap, sym, subst, ◌∙◌, append_assoc}
+use Rattle.std.proofs.Common.{◌≡◌, ◌+◌, ◌++◌, ◌∷◌, [], ◌<◌, ℕ, suc, List, map, length, All, refl, ap, sym, subst, ◌∙◌, append_assoc, arith}
 use Rattle.std.proofs.lemmas.List.{map-append, append-nil}
 use Rattle.std.proofs.lemmas.List.Elements.{All-nil}
 use Rattle.lk_tree.specs.Tree.{Tree}
@@ -8,7 +8,9 @@ use Rattle.lk_store.specs.Contents.{Contents, tree_at, Extends, IsTree}
 use Rattle.lk_subst.specs.Numbers.{trees-steady, trees-known}
 use Rattle.lk_inductive.specs.Block as plain
 use Rattle.lk_inductive.specs.Block.{domain}
-use Rattle.lk_inductive.specs.Recursors.{number}
+use Rattle.lk_inductive.specs.Recursors.{number, motives, minors}
+use Rattle.lk_inductive.proofs.ReadBack.{back_none}
+use Rattle.lk_restore.specs.Originals.{restoring_at, setting_of}
 use Rattle.lk_restore.specs.declared.originals.Original.{Original}
 use Rattle.lk_recursor.specs.declared.binders.Binder.{Binder}
 use Rattle.lk_recursor.specs.declared.runs.Run.{Run}
@@ -18,7 +20,7 @@ use Rattle.lk_recursor.specs.Binders.{bind, bound_by, over_domains}
 use Rattle.lk_recursor.specs.Runs.{close_runs_at, close_in}
 use Rattle.lk_recursor.specs.Telescopes.{over_telescope, IsTelescope, IsFrontTelescope}
 use Rattle.lk_recursor.proofs.Closed.{close_runs_at-none, close_runs_at-around, close_runs_at-next, close_runs-bind}
-use Rattle.lk_recursor.proofs.Lists.{bound-none, bound-last, over_domains-append, pushed_known}
+use Rattle.lk_recursor.proofs.Lists.{bound-none, bound-last, bound-append, over_domains-append, pushed_known}
 
 -- no binder
 pub telescope_none : (c : Contents) (t : Telescope) (first : ℕ) → t.domains.items ≡ [] → t.runs.outer.count ≡ 0 → t.runs.inner ≡ record { first = first; count = 0 } → IsTelescope c [] t
@@ -110,3 +112,15 @@ growing_next c d x left others whole t u split add was = record {
 
 pub growing_end : (c : Contents) (left whole : List Tree) (t : Telescope) → left ≡ [] → IsGrowing c left whole t → IsTelescope c whole t
 growing_end c left whole t none was = subst (λ xs. IsTelescope c xs t) (sym (append-nil was.bound) ∙ ap (λ ys. was.bound ++ ys) (sym none) ∙ was.joined) was.is
+
+pub none_there : {X : Type 0} (xs : List X) → length xs ≡ 0 → xs ≡ []
+none_there [] e = refl
+none_there (x ∷ xs) e = absurd (omega arith)
+
+-- with nothing read back, the binders of a front are those under the parameters, and then those for the parameters
+pub front_bound : (c : Contents) (p : plain.Shape) (os : List Original) (t : Telescope) (b : Binder) (e : Tree) → IsFrontTelescope c p os t
+    → over_telescope c t b e ≡ bound_by b p.params ((restoring_at c os p).tree (bound_by b (motives p ++ minors p) e))
+front_bound c p os t b e is =
+    let under = bound_by b (motives p ++ minors p) e in
+    let read : (restoring_at c os p).tree under ≡ under = ap (λ ms. (restoring_at c ms p).tree under) is.none_read_back ∙ back_none (setting_of p) under [] in
+    sym (is.is.binds b e) ∙ bound-append b p.params (motives p ++ minors p) e ∙ ap (bound_by b p.params) (sym read)
