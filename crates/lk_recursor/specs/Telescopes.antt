@@ -1,5 +1,5 @@
 -- Binders whose domains are closed.
-use Rattle.std.specs.Prelude.{◌≡◌, ◌<◌, ◌++◌, List, [], length, map, All}
+use Rattle.std.specs.Prelude.{◌≡◌, ◌<◌, List, [], length, map, All}
 use Rattle.lk_tree.specs.Tree.{Tree}
 use Rattle.lk_store.specs.Contents.{Contents, tree_at}
 use Rattle.lk_inductive.specs.Block as plain

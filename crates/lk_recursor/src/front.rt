@@ -97,7 +97,13 @@ fn telescope_for<T: Terms>(
     if !originals.is_empty() {
         return Ok(None);
     }
-    let made = telescope_of(alloc, terms, &shape.parameters, &heads.motives, minor_premises)?;
+    let made = telescope_of(
+        alloc,
+        terms,
+        &shape.parameters,
+        &heads.motives,
+        minor_premises,
+    )?;
     Ok(made)
 }
 

@@ -1,6 +1,5 @@
 use Rattle.std.proofs.Common.{rules, ◌≡◌, ◌+◌, ◌++◌, ◌∷◌, [], refl, ap, ◌∙◌, arith}
 use Rattle.lk_store.specs.Contents.{tree_at, IsTree}
-use Rattle.lk_store.proofs.Extending.{Extends-trans}
 use Rattle.lk_inductive.specs.Block.{domain}
 use Rattle.lk_inductive.specs.Recursors.{number}
 use Rattle.lk_recursor.specs.Runs.{close_in}

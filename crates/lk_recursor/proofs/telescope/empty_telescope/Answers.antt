@@ -1,4 +1,3 @@
-use Rattle.std.proofs.Common.{ap}
 use Rattle.lk_recursor.proofs.Telescopes.{telescope_none}
 use Rattle.lk_recursor.proofs.telescope.empty_telescope.Goals as goal
 
