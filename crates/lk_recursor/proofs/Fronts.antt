@@ -1,5 +1,6 @@
 -- What all recursors share, put together, and Locals that bind a tree after one another.
 use Rattle.std.proofs.Common.{◌≡◌, ◌<◌, ◌+◌, ℕ, List, map, length, All, ap, sym, subst, ◌∙◌}
+use Rattle.std.specs.Prelude.{IfSome}
 use Rattle.lk_tree.specs.Tree.{Tree, param}
 use Rattle.lk_store.specs.Contents.{Contents, name_at, tree_at, Extends, IsList}
 use Rattle.lk_spine.specs.Reading.{AreTrees}
@@ -14,6 +15,7 @@ use Rattle.lk_recursor.specs.Binders.{bound_by}
 use Rattle.lk_recursor.specs.declared.heads.Heads.{Heads}
 use Rattle.lk_recursor.specs.declared.front.Front.{Front}
 use Rattle.lk_recursor.specs.Fronts.{AreHeads, IsFront}
+use Rattle.lk_recursor.specs.Telescopes.{IsFrontTelescope}
 
 module _ (c : Contents) (s : Shape) (p : plain.Shape) (same : shape_at c s ≡ p) where
   -- what was made for the same shape
@@ -24,14 +26,16 @@ module _ (c : Contents) (s : Shape) (p : plain.Shape) (same : shape_at c s ≡ p
   }
 
   pub front_made : (f : Front) → AreHeads c s f.heads → All (λ n. n < length c.names) f.names.items → map (name_at c) f.names.items ≡ rec_params p → IsList c f.levels (map param (rec_params p))
-      → AreTrees c f.minors.items (minors p) → f.major ≡ shape_bound p + (length p.types + length (minors p)) → AreOriginals c p f.originals.now → IsFront c s f
-  front_made f heads names_in names levels minors_are major originals_are = record {
+      → AreTrees c f.minors.items (minors p) → f.major ≡ shape_bound p + (length p.types + length (minors p)) → AreOriginals c p f.originals.now
+      → IfSome f.telescope (IsFrontTelescope c p f.originals.now) → IsFront c s f
+  front_made f heads names_in names levels minors_are major originals_are telescope_is = record {
     heads_are = heads;
     names_in = names_in;
     names_are = names ∙ ap rec_params (sym same);
     levels_are = subst (λ (q : plain.Shape). IsList c f.levels (map param (rec_params q))) (sym same) levels;
     minors_are = subst (λ (q : plain.Shape). AreTrees c f.minors.items (minors q)) (sym same) minors_are;
     originals_are = subst (λ (q : plain.Shape). AreOriginals c q f.originals.now) (sym same) originals_are;
+    telescope_is = subst (λ (q : plain.Shape). IfSome f.telescope (IsFrontTelescope c q f.originals.now)) (sym same) telescope_is;
     major_is = subst (λ (q : plain.Shape). f.major ≡ shape_bound q + (length q.types + length (minors q))) (sym same) major;
   }
 

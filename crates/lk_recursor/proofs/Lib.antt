@@ -3,6 +3,7 @@ pub mod Steady
 pub mod Maxima
 pub mod Names
 pub mod RunLists
+pub mod Telescopes
 pub mod Applied
 pub mod Closed
 pub mod FieldLists

@@ -11,7 +11,7 @@ use Rattle.lk_inductive.specs.Block.{domain}
 use Rattle.lk_inductive.specs.Recursors.{number, pis, lams, arrows}
 use Rattle.lk_recursor.specs.declared.binders.Binder.{Binder}
 use Rattle.lk_recursor.specs.declared.binders.Binder.TheVariants.{Pi, Lam}
-use Rattle.lk_recursor.specs.Binders.{bind, bound_by}
+use Rattle.lk_recursor.specs.Binders.{bind, bound_by, over_domains}
 use Rattle.lk_lists.proofs.Lists.{none_left}
 pub use Rattle.lk_lists.proofs.Lists.{all_last, all_others}
 
@@ -23,11 +23,16 @@ pub lams-append : (xs ys : List Tree) (e : Tree) → lams (xs ++ ys) e ≡ lams 
 lams-append [] ys e = refl
 lams-append (x ∷ xs) ys e = ap (λ b. lam (domain x) (close (number x) b)) (lams-append xs ys e)
 
-pub arrows-append : (xs ys : List Tree) (e : Tree) → arrows (xs ++ ys) e ≡ arrows xs (arrows ys e)
-arrows-append [] ys e = refl
-arrows-append (x ∷ xs) ys e = ap (pi x) (arrows-append xs ys e)
+pub over_domains-append : (b : Binder) (As Bs : List Tree) (e : Tree) → over_domains b (As ++ Bs) e ≡ over_domains b As (over_domains b Bs e)
+over_domains-append b [] Bs e = refl
+over_domains-append b (A ∷ As) Bs e = ap (bind b A) (over_domains-append b As Bs e)
 
-bound-last : (b : Binder) (xs : List Tree) (x e : Tree) → bound_by b (xs ++ x ∷ []) e ≡ bound_by b xs (bind b (domain x) (close (number x) e))
+-- arrows are binders whose variables do not occur
+pub arrows_are : (As : List Tree) (e : Tree) → over_domains Pi As e ≡ arrows As e
+arrows_are [] e = refl
+arrows_are (A ∷ As) e = ap (pi A) (arrows_are As e)
+
+pub bound-last : (b : Binder) (xs : List Tree) (x e : Tree) → bound_by b (xs ++ x ∷ []) e ≡ bound_by b xs (bind b (domain x) (close (number x) e))
 bound-last Pi xs x e = pis-append xs (x ∷ []) e
 bound-last Lam xs x e = lams-append xs (x ∷ []) e
 
@@ -41,10 +46,15 @@ pub bound_next : (b : Binder) (f : ℕ → Tree) (left others : List ℕ) (x : �
 bound_next b f left others x m n whole split is h =
     ap (bound_by b (map f others)) is ∙ sym (bound-last b (map f others) (f x) m) ∙ ap (λ ys. bound_by b ys m) (sym (map-append f others (x ∷ []))) ∙ ap (λ ys. bound_by b (map f ys) m) (sym split) ∙ h
 
-pub arrows_next : (f : ℕ → Tree) (left others : List ℕ) (x : ℕ) (m n whole : Tree) → left ≡ others ++ x ∷ []
-    → n ≡ pi (f x) m → arrows (map f left) m ≡ whole → arrows (map f others) n ≡ whole
-arrows_next f left others x m n whole split is h =
-    ap (arrows (map f others)) is ∙ sym (arrows-append (map f others) (f x ∷ []) m) ∙ ap (λ ys. arrows ys m) (sym (map-append f others (x ∷ []))) ∙ ap (λ ys. arrows (map f ys) m) (sym split) ∙ h
+-- one domain more is bound
+pub domains_next : (b : Binder) (f : ℕ → Tree) (left others : List ℕ) (x : ℕ) (m n whole : Tree) → left ≡ others ++ x ∷ []
+    → n ≡ bind b (f x) m → over_domains b (map f left) m ≡ whole → over_domains b (map f others) n ≡ whole
+domains_next b f left others x m n whole split is h =
+    ap (over_domains b (map f others)) is
+    ∙ sym (over_domains-append b (map f others) (f x ∷ []) m)
+    ∙ ap (λ ys. over_domains b ys m) (sym (map-append f others (x ∷ [])))
+    ∙ ap (λ ys. over_domains b (map f ys) m) (sym split)
+    ∙ h
 
 -- none is left
 pub bound_end : (b : Binder) (f : ℕ → Tree) (left : List ℕ) (m whole : Tree) → length left ≡ 0 → bound_by b (map f left) m ≡ whole → m ≡ whole

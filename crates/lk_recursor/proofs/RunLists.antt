@@ -11,7 +11,7 @@ use Rattle.lk_recursor.specs.Binders.{bind, bound_by, AreRun}
 use Rattle.lk_recursor.specs.Runs.{close_run_at}
 use Rattle.lk_lists.proofs.Lists.{none_left}
 use Rattle.lk_recursor.proofs.Lists.{bound-none}
-use Rattle.lk_recursor.proofs.Closed.{close_run_at-none, close_run_at-next}
+use Rattle.lk_recursor.proofs.Closed.{close_runs_at-none, close_runs_at-next, close_runs-bind}
 
 -- what is left and what is done are all; those that are done go on from those that are left
 pub record RunsOn (first : ℕ) (left all : List Tree) : Type 0 where
@@ -53,11 +53,6 @@ bound-cons : (b : Binder) (x : Tree) (xs : List Tree) (e : Tree) → bound_by b 
 bound-cons Pi x xs e = refl
 bound-cons Lam x xs e = refl
 
-close_run-bind : (b : Binder) (d j m : ℕ) (A B : Tree) → close_run_at d j m (bind b A B) ≡ bind b (close_run_at d j m A) (close_run_at (suc d) j m B)
-unfolding close_run_at
-close_run-bind Pi d j m A B = refl
-close_run-bind Lam d j m A B = refl
-
 -- a tree with the binders for the Locals that are done, in which those that are left are closed
 pub record IsBound (b : Binder) (first : ℕ) (left all : List Tree) (e made : Tree) : Type 0 where
   pub done : List Tree
@@ -83,7 +78,7 @@ bound_next_in_run b first f left others x all e made next count split many is wa
     let same : count ≡ m = many ∙ sym (length-map others f) in
     let longer : length (map f left) ≡ suc m = (let all_left = length-map left f ∙ ap length split ∙ length-append others (x ∷ []) in let all_others = length-map others f in omega arith) in
     let made_is : made ≡ close_run_at 1 first m (close (number (f x)) X) =
-    was.is ∙ ap (λ n. close_run_at 0 first n X) longer ∙ sym (close_run_at-next 0 first m X) ∙ ap (λ k. close_run_at 1 first m (close k X)) (sym last.1) in
+    was.is ∙ ap (λ n. close_run_at 0 first n X) longer ∙ sym (close_runs_at-next 0 first 0 first m X) ∙ ap (λ k. close_run_at 1 first m (close k X)) (sym last.1) in
     record {
       done = f x ∷ was.done;
       joined = sym (append_assoc (map f others) (f x ∷ []) was.done) ∙ ap (λ ys. ys ++ was.done) (sym front) ∙ was.joined;
@@ -92,7 +87,7 @@ bound_next_in_run b first f left others x all e made next count split many is wa
           is
           ∙ ap (λ n. bind b (close_run_at 0 first n (domain (f x))) made) same
           ∙ ap (bind b (close_run_at 0 first m (domain (f x)))) made_is
-          ∙ sym (close_run-bind b 0 first m (domain (f x)) (close (number (f x)) X))
+          ∙ sym (close_runs-bind b 0 first 0 first m (domain (f x)) (close (number (f x)) X))
           ∙ ap (close_run_at 0 first m) (sym (bound-cons b (f x) was.done e));
     }
 
@@ -101,4 +96,4 @@ bound_end_of_run b first f left all e made none was =
     let empty = none_left f left none in
     let many : length (map f left) ≡ 0 = length-map left f ∙ none in
     let whole : was.done ≡ all = ap (λ ys. ys ++ was.done) (sym empty) ∙ was.joined in
-    was.is ∙ ap (λ n. close_run_at 0 first n (bound_by b was.done e)) many ∙ close_run_at-none 0 first (bound_by b was.done e) ∙ ap (λ ys. bound_by b ys e) whole
+    was.is ∙ ap (λ n. close_run_at 0 first n (bound_by b was.done e)) many ∙ close_runs_at-none 0 first first (bound_by b was.done e) ∙ ap (λ ys. bound_by b ys e) whole

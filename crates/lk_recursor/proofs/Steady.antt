@@ -1,5 +1,7 @@
 -- What recursors of a block share, while the store grows.
 use Rattle.std.proofs.Common.{◌≡◌, ℕ, List, map, length, ◌+◌, ap, sym, subst, ◌∙◌, arith}
+use Rattle.std.specs.Prelude.{IfSome}
+use Rattle.std.proofs.lemmas.Option.{IfSome_then}
 use Rattle.lk_tree.specs.Tree.{Level, Tree, param}
 use Rattle.lk_store.specs.Contents.{Contents, Extends, IsList}
 use Rattle.lk_spine.specs.Reading.{AreTrees}
@@ -15,6 +17,8 @@ use Rattle.lk_recursor.specs.declared.front.Front.{Front}
 use Rattle.lk_restore.specs.Originals.{AreOriginals, restoring_at}
 use Rattle.lk_restore.specs.Steady.{originals-stay, restoring-steady}
 use Rattle.lk_recursor.specs.Fronts.{AreHeads, IsFront, read_by, own_recursors}
+use Rattle.lk_recursor.specs.Telescopes.{IsFrontTelescope}
+use Rattle.lk_recursor.proofs.Telescopes.{front_telescope-steady}
 
 module _ (c d : Contents) (grown : Extends c d) where
   pub list-steady : (l : ℕ) (levels : List Level) → IsList c l levels → IsList d l levels
@@ -45,6 +49,9 @@ module _ (c d : Contents) (grown : Extends c d) where
         levels_are = subst (λ (p : plain.Shape). IsList d f.levels (map param (rec_params p))) same (list-steady f.levels (map param (rec_params (shape_at c s))) was.levels_are);
         minors_are = subst (λ (p : plain.Shape). AreTrees d f.minors.items (minors p)) same (AreTrees-steady f.minors.items (minors (shape_at c s)) was.minors_are);
         originals_are = subst (λ (p : plain.Shape). AreOriginals d p f.originals.now) same (originals-stay c d grown (shape_at c s) f.originals.now was.originals_are);
+        telescope_is =
+            subst (λ (p : plain.Shape). IfSome f.telescope (IsFrontTelescope d p f.originals.now)) same
+            (IfSome_then f.telescope was.telescope_is (λ t h. front_telescope-steady c d grown (shape_at c s) f.originals.now t h));
         major_is = subst (λ (p : plain.Shape). f.major ≡ shape_bound p + (length p.types + length (minors p))) same was.major_is;
       }
 

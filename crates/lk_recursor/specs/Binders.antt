@@ -14,6 +14,11 @@ abbrev pub bound_by : Binder → List Tree → Tree → Tree
 bound_by Pi xs e = pis xs e
 bound_by Lam xs e = lams xs e
 
+-- one for each domain, the first outermost
+abbrev pub over_domains : Binder → List Tree → Tree → Tree
+over_domains b [] e = e
+over_domains b (A ∷ As) e = bind b A (over_domains b As e)
+
 -- Locals whose numbers go up by one, from this one on
 abbrev pub AreRun : ℕ → List Tree → Type 0
 AreRun k [] = Unit {0}

@@ -3,3 +3,4 @@ pub mod Fronts
 pub mod Comparisons
 pub mod Hypotheses
 pub mod Runs
+pub mod Telescopes

@@ -7,7 +7,7 @@ ghost use Rattle.lk_store.specs.Contents.{Contents, tree_at, tree_of, IsIn, Exte
 ghost use Rattle.lk_spine.specs.Reading.{AreTrees};
 ghost use Rattle.lk_inductive.specs.Block.{domain};
 ghost use Rattle.lk_inductive.specs.Recursors.{number, arrows, locals_from};
-ghost use Rattle.lk_recursor.specs.Binders.{bind, bound_by, AreRun};
+ghost use Rattle.lk_recursor.specs.Binders.{bind, bound_by, over_domains, AreRun};
 ghost use Rattle.lk_recursor.specs.Runs.{close_run_at};
 
 use crate::runs::{Run, close_run};
@@ -39,7 +39,7 @@ fn node_of(binder: Binder, domain: u64, body: u64) -> Node
 }
 
 /// The number of a Local, and its type.
-fn parts_of<T: Terms>(terms: &T, e: u64) -> (u64, u64)
+pub(crate) fn parts_of<T: Terms>(terms: &T, e: u64) -> (u64, u64)
     requires { e < length (T.contents terms.now).trees }
     ensures number { result.0 ≡ number (tree_at (T.contents terms.now) e) }
     ensures domain { IsTree (T.contents terms.now) result.1
@@ -134,7 +134,7 @@ fn over_last<T: Terms>(
         (domain (tree_at (T.contents terms.old) local))) (tree_at (T.contents terms.old) e))) }
 {
     let parts = parts_of(terms, local);
-    let domain = close_run(alloc, terms, run.first, run.count, parts.1)?;
+    let domain = close_run(alloc, terms, run, parts.1)?;
     let made = terms.make(node_of(binder, domain, e))?;
     Ok(made)
 }
@@ -157,8 +157,12 @@ fn over_run<T: Terms>(
         (bound_by binder (map (tree_at (T.contents terms.old)) locals.now)
         (tree_at (T.contents terms.old) e))) }
 {
+    let whole = Run {
+        first,
+        count: locals.len() as u64,
+    };
     let mut left = locals;
-    let mut made = close_run(alloc, terms, first, locals.len() as u64, e)?;
+    let mut made = close_run(alloc, terms, whole, e)?;
     'locals: while let Some((local, others)) = left.split_last() {
         let run = Run {
             first,
@@ -198,6 +202,30 @@ pub fn over_locals<T: Terms>(
     }
 }
 
+/// Binders over a tree, one for each domain, the first outermost.
+pub(crate) fn over_domains<T: Terms>(
+    terms: &mut T,
+    binder: Binder,
+    domains: &[u64],
+    e: u64,
+) -> Result<u64, NoMemory>
+    requires domains_in { All (λ x. x < length (T.contents terms.old).trees) domains.now }
+    requires e_in { e < length (T.contents terms.old).trees }
+    ensures keeps { Extends (T.contents terms.old) (T.contents terms.new) }
+    ensures rest { T.rest terms.new ≡ T.rest terms.old }
+    ensures ok { IfOk result (λ r. IsTree (T.contents terms.new) r
+        (over_domains binder (map (tree_at (T.contents terms.old)) domains.now)
+        (tree_at (T.contents terms.old) e))) }
+{
+    let mut left = domains;
+    let mut made = e;
+    'domains: while let Some((domain, others)) = left.split_last() {
+        made = terms.make(node_of(binder, *domain, made))?;
+        left = others;
+    }
+    Ok(made)
+}
+
 /// Arrows from types to a type, the first outermost.
 pub fn arrows_to<T: Terms>(terms: &mut T, domains: &[u64], e: u64) -> Result<u64, NoMemory>
     requires domains_in { All (λ x. x < length (T.contents terms.old).trees) domains.now }
@@ -208,13 +236,7 @@ pub fn arrows_to<T: Terms>(terms: &mut T, domains: &[u64], e: u64) -> Result<u64
         (arrows (map (tree_at (T.contents terms.old)) domains.now)
         (tree_at (T.contents terms.old) e))) }
 {
-    let mut left = domains;
-    let mut made = e;
-    'domains: while let Some((domain, others)) = left.split_last() {
-        made = terms.make(Node::Pi(*domain, made))?;
-        left = others;
-    }
-    Ok(made)
+    over_domains(terms, Binder::Pi, domains, e)
 }
 
 /// Locals for types, numbered from a number on.

@@ -1,19 +1,22 @@
 //! What all recursors of a block share.
 
-ghost use Rattle.std.specs.Prelude.{◌≡◌, ◌<◌, ◌+◌, ◌++◌, length, map, IfOk};
+ghost use Rattle.std.specs.Prelude.{◌≡◌, ◌<◌, ◌+◌, ◌++◌, length, map, IfOk, IfSome};
 ghost use Rattle.lk_tree.specs.Spine.{apply as applied};
 ghost use Rattle.lk_store.specs.Contents.{tree_at, Extends, IsTree};
+ghost use Rattle.lk_spine.specs.Reading.{AreTrees};
 ghost use Rattle.lk_inductive.specs.Recursors.{front as front_locals, motives, minors, shape_bound};
 ghost use Rattle.lk_block.specs.Shapes.{shape_at, IsShapeIn};
 ghost use Rattle.lk_recursor.specs.Binders.{bound_by};
 ghost use Rattle.lk_restore.specs.Originals.{AreOriginals};
 ghost use Rattle.lk_recursor.specs.Fronts.{AreHeads, IsFront, read_by};
+ghost use Rattle.lk_recursor.specs.Telescopes.{IsFrontTelescope};
 
 use crate::binders::{Binder, over_locals};
 use crate::bounds::bound_of;
 use crate::heads::{Heads, motives_of};
 use crate::levels::{elimination_level, level_names};
 use crate::minors::minors_of;
+use crate::telescope::{Telescope, over_telescope, telescope_of};
 use lk_block::parameters::parameter_levels;
 use lk_block::shape::Shape;
 use lk_restore::{Original, restore};
@@ -36,6 +39,8 @@ pub struct Front<'a> {
     pub major: u64,
     /// What constants of the block stand for.
     pub originals: &'a [Original],
+    /// The binders for the parameters, the motives and the minor premises, where nothing is read back under the parameters.
+    pub telescope: Option<Telescope>,
 }
 
 /// The number of the Local after so many.
@@ -71,6 +76,37 @@ fn heads_of<T: Terms>(
     })
 }
 
+/// The binders for the parameters, the motives and the minor premises, where nothing is read back.
+fn telescope_for<T: Terms>(
+    alloc: Global,
+    terms: &mut T,
+    shape: &Shape,
+    heads: &Heads,
+    minor_premises: &[u64],
+    originals: &[Original],
+) -> Result<Option<Telescope>, NoMemory>
+    requires shape_in { IsShapeIn (T.contents terms.old) shape.now }
+    requires heads_are { AreHeads (T.contents terms.old) shape.now heads.now }
+    requires minors_are { AreTrees (T.contents terms.old) minor_premises.now
+        (minors (shape_at (T.contents terms.old) shape.now)) }
+    ensures keeps { Extends (T.contents terms.old) (T.contents terms.new) }
+    ensures rest { T.rest terms.new ≡ T.rest terms.old }
+    ensures ok { IfOk result (λ made. IfSome made (IsFrontTelescope (T.contents terms.new)
+        (shape_at (T.contents terms.old) shape.now) originals.now)) }
+{
+    if !originals.is_empty() {
+        return Ok(None);
+    }
+    let made = telescope_of(
+        alloc,
+        terms,
+        &shape.parameters,
+        &heads.motives,
+        minor_premises,
+    )?;
+    Ok(made)
+}
+
 /// What all recursors of a block of this shape share.
 pub fn front_of<'a, T: Terms>(
     alloc: Global,
@@ -93,6 +129,7 @@ pub fn front_of<'a, T: Terms>(
     let heads = heads_of(alloc, terms, shape, first)?;
     let minors = minors_of(alloc, terms, shape, &heads, first_minor)?;
     let major = number_past(first_minor, minors.len())?;
+    let telescope = telescope_for(alloc, terms, shape, &heads, &minors, originals)?;
     Ok(Front {
         heads,
         names,
@@ -100,6 +137,7 @@ pub fn front_of<'a, T: Terms>(
         minors,
         major,
         originals,
+        telescope,
     })
 }
 
@@ -124,6 +162,9 @@ pub(crate) fn over_front<T: Terms>(
         ++ minors (shape_at (T.contents terms.old) shape.now))
         (tree_at (T.contents terms.old) e))))) }
 {
+    if let Some(telescope) = &front.telescope {
+        return over_telescope(alloc, terms, binder, telescope, e);
+    }
     let inner = over_locals(alloc, terms, binder, &front.minors, e)?;
     let middle = over_locals(alloc, terms, binder, &front.heads.motives, inner)?;
     let read = restore(alloc, terms, front.originals, middle)?;

@@ -16,5 +16,6 @@ pub mod recursor;
 mod renaming;
 pub mod rules;
 mod runs;
+mod telescope;
 
 pub use recursor::{by_k, recursor_type};

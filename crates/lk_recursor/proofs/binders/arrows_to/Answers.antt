@@ -1,27 +1,11 @@
-use Rattle.std.proofs.Common.{◌<◌, length, map, ap, ◌∙◌}
-use Rattle.lk_tree.specs.Tree.{Tree, pi}
-use Rattle.lk_store.specs.Contents.{tree_at}
-use Rattle.lk_store.proofs.Extending.{Extends-trans}
-use Rattle.lk_inductive.specs.Recursors.{arrows}
-use Rattle.lk_recursor.proofs.Lists.{all_last, all_others, arrows_next}
+use Rattle.std.proofs.Common.{map, subst}
+use Rattle.std.specs.Prelude.{IfOk}
+use Rattle.lk_store.specs.Contents.{tree_at, IsTree}
+use Rattle.lk_recursor.proofs.Lists.{arrows_are}
 use Rattle.lk_recursor.proofs.binders.arrows_to.Goals as goal
 
-pub domains-preserved : goal.domains-preserved
-domains-preserved g c =
+pub returns-clause-ok : goal.returns-clause-ok
+returns-clause-ok g c =
     let before = g.T.Terms.contents c.args.terms.now in
-    let now = g.T.Terms.contents c.domains.terms in
-    let after = g.T.Terms.contents c.make.new.self in
-    let was = c.domains.invariant in
-    let x = c.in-Some.domain.now in
-    let split = c.in-Some.ensures.cases.0 in
-    let known = all_last (λ e. e < length before.trees) c.domains.left.now c.in-Some.others.now x split was.left_in in
-    let made = c.in_ok-made.ensures.ok in
-    record {
-      keeps = Extends-trans before now after was.keeps c.in_ok-made.ensures.keeps;
-      same_rest = c.in_ok-made.ensures.rest ∙ was.same_rest;
-      left_in = all_others (λ e. e < length before.trees) c.domains.left.now c.in-Some.others.now x split was.left_in;
-      made_in = made.known;
-      leads =
-          arrows_next (tree_at before) c.domains.left.now c.in-Some.others.now x (tree_at now c.domains.made) (tree_at after c.in_ok-made.made) (arrows (map (tree_at before) c.args.domains.now) (tree_at before c.args.e))
-          split (made.is ∙ ap (λ (t : Tree). pi t (tree_at now c.domains.made)) (was.keeps.trees.same x known)) was.leads;
-    }
+    let after = g.T.Terms.contents c.over_domains.new.terms in
+    subst (λ t. IfOk c.over_domains.result (λ r. IsTree after r t)) (arrows_are (map (tree_at before) c.args.domains.now) (tree_at before c.args.e)) c.over_domains.ensures.ok

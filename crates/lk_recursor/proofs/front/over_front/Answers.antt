@@ -1,5 +1,6 @@
-use Rattle.std.proofs.Common.{◌≡◌, ◌++◌, map, ap, refl, sym, ◌∙◌}
-use Rattle.lk_store.specs.Contents.{tree_at}
+use Rattle.std.proofs.Common.{◌≡◌, ◌++◌, map, ap, refl, sym, subst, ◌∙◌}
+use Rattle.std.specs.Prelude.{IfOk, IfSome}
+use Rattle.lk_store.specs.Contents.{tree_at, IsTree}
 use Rattle.lk_store.proofs.Extending.{Extends-trans}
 use Rattle.lk_inductive.specs.Recursors.{Restoring, motives, minors}
 use Rattle.lk_block.specs.Shapes.{shape_at}
@@ -7,9 +8,21 @@ use Rattle.lk_restore.specs.Originals.{setting_of}
 use Rattle.lk_restore.specs.Steady.{originals-known, originals-stay, restoring-steady}
 use Rattle.lk_recursor.specs.Binders.{bound_by}
 use Rattle.lk_recursor.specs.Fronts.{read_by}
+use Rattle.lk_recursor.specs.Telescopes.{IsFrontTelescope}
 use Rattle.lk_recursor.proofs.Lists.{bound-append}
+use Rattle.lk_recursor.proofs.Telescopes.{front_bound}
 use Rattle.lk_recursor.proofs.Fronts.{bound_then}
 use Rattle.lk_recursor.proofs.front.over_front.Goals as goal
+
+pub returns-in-Some-clause-ok : goal.returns-in-Some-clause-ok
+returns-in-Some-clause-ok g c =
+    let before = g.T.Terms.contents c.args.terms.now in
+    let after = g.T.Terms.contents c.over_telescope.new.terms in
+    let p = shape_at before c.args.shape.now in
+    let os = c.args.front.now.originals.now in
+    let t = c.in-Some.telescope in
+    let is = subst (λ o. IfSome o (IsFrontTelescope before p os)) c.in-Some.is c.requires.front_is.telescope_is in
+    subst (λ e. IfOk c.over_telescope.result (λ r. IsTree after r e)) (front_bound before p os t c.args.binder (tree_at before c.args.e) is) c.over_telescope.ensures.ok
 
 pub restore-requires-clause-originals_in : goal.restore-requires-clause-originals_in
 restore-requires-clause-originals_in g c =

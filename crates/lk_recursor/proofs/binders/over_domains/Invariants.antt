@@ -1,7 +1,7 @@
 use Rattle.std.proofs.Common.{◌≡◌, ◌<◌, length, map, All}
 use Rattle.lk_store.specs.Contents.{tree_at, Extends}
-use Rattle.lk_inductive.specs.Recursors.{arrows}
-use Rattle.lk_recursor.proofs.binders.arrows_to.Given as goal
+use Rattle.lk_recursor.specs.Binders.{over_domains}
+use Rattle.lk_recursor.proofs.binders.over_domains.Given as goal
 
 abbrev pub invariant-domains : goal.invariant-domains
 invariant-domains g l =
@@ -12,7 +12,7 @@ invariant-domains g l =
       same_rest : g.T.Terms.rest l.terms ≡ g.T.Terms.rest l.fn.terms;
       left_in : All (λ x. x < length before.trees) l.left;
       made_in : l.made < length now.trees;
-      leads : arrows (map (tree_at before) l.left) (tree_at now l.made) ≡ arrows (map (tree_at before) l.fn.domains) (tree_at before l.fn.e);
+      leads : over_domains l.binder (map (tree_at before) l.left) (tree_at now l.made) ≡ over_domains l.binder (map (tree_at before) l.fn.domains) (tree_at before l.fn.e);
     }
 
 abbrev pub decreases-domains : goal.decreases-domains
