@@ -33,6 +33,7 @@ pub struct Frame {
 }
 
 /// The first step of a question, which costs one step. It is a turn.
+#[inline(always)]
 fn first_step<T: Terms>(lookout: &mut Lookout<'_, T>, query: Query<u64>) -> Result<AnyNext, Stop>
     requires query_in { IsKnownQuery (length (T.contents lookout.old.2).trees) query }
     ensures opens { Opens T.contents T.rest lookout.old lookout.new result query }
@@ -43,6 +44,7 @@ fn first_step<T: Terms>(lookout: &mut Lookout<'_, T>, query: Query<u64>) -> Resu
 }
 
 /// An answer that is known. It costs what it costs without it, and is one turn.
+#[inline(always)]
 fn repeat<T: Terms>(lookout: &mut Lookout<'_, T>, kept: Kept) -> Result<Answer<u64>, Stop>
     ensures { Repeats lookout.old lookout.new result kept }
 {
@@ -51,6 +53,7 @@ fn repeat<T: Terms>(lookout: &mut Lookout<'_, T>, kept: Kept) -> Result<Answer<u
 }
 
 /// The answer of a question, where it is at hand or the memo has it.
+#[inline(always)]
 fn known<T: Terms>(
     lookout: &Lookout<'_, T>,
     memo: &mut PrivateMemo,
@@ -69,6 +72,7 @@ fn known<T: Terms>(
 }
 
 /// The first step of a question, or its answer, where that is known.
+#[inline(always)]
 fn open<T: Terms>(
     lookout: &mut Lookout<'_, T>,
     memo: &mut PrivateMemo,

@@ -15,6 +15,7 @@ use lk_store::node::Node;
 use lk_store::terms::Terms;
 
 /// Whether a node is a weak head form whatever stands in it.
+#[inline(always)]
 fn is_form(node: Node) -> bool
     ensures { result ≡ true → (c : Contents) → IsForm (tree_of c node) }
 {
@@ -32,6 +33,7 @@ fn is_form(node: Node) -> bool
 }
 
 /// A weak head form as its own answer, at this cost.
+#[inline(always)]
 fn as_form<T: Terms>(lookout: &Lookout<'_, T>, e: u64, cost: u128) -> Option<Kept>
     requires { e < length (T.contents lookout.now.2).trees }
     ensures form { IfSome result (λ k. IsForm (tree_at (T.contents lookout.now.2) e)) }
@@ -49,6 +51,7 @@ fn as_form<T: Terms>(lookout: &Lookout<'_, T>, e: u64, cost: u128) -> Option<Kep
 }
 
 /// The type of a Local, which costs one step.
+#[inline(always)]
 fn type_of_local<T: Terms>(lookout: &Lookout<'_, T>, e: u64) -> Option<Kept>
     requires { e < length (T.contents lookout.now.2).trees }
     ensures { IfSome result (IsTypeOf (T.contents lookout.now.2) e) }
@@ -64,6 +67,7 @@ fn type_of_local<T: Terms>(lookout: &Lookout<'_, T>, e: u64) -> Option<Kept>
 }
 
 /// Whether two terms are one, which costs one step.
+#[inline(always)]
 fn as_one<T: Terms>(lookout: &Lookout<'_, T>, a: u64, b: u64) -> Option<Kept>
     requires a_in { a < length (T.contents lookout.now.2).trees }
     requires b_in { b < length (T.contents lookout.now.2).trees }

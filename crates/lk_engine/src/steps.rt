@@ -43,6 +43,7 @@ use lk_type::infer::{TypeNext, TypeStep};
 /// What any question does next.
 pub type AnyNext = Next<u64, AnySheet>;
 
+#[inline(always)]
 fn of_core(next: CoreNext) -> AnyNext
     ensures { Wraps IsKnownCore core_next IsKnownAny next_of next result }
 {
@@ -53,6 +54,7 @@ fn of_core(next: CoreNext) -> AnyNext
     }
 }
 
+#[inline(always)]
 fn of_iota(next: IotaNext) -> AnyNext
     ensures { Wraps IsKnownIotaSheet iota_next IsKnownAny next_of next result }
 {
@@ -66,6 +68,7 @@ fn of_iota(next: IotaNext) -> AnyNext
     }
 }
 
+#[inline(always)]
 fn of_quotient(next: QuotNext) -> AnyNext
     ensures { Wraps IsKnownQuotSheet quot_next IsKnownAny next_of next result }
 {
@@ -76,6 +79,7 @@ fn of_quotient(next: QuotNext) -> AnyNext
     }
 }
 
+#[inline(always)]
 fn of_reduced(next: ReducedNext) -> AnyNext
     ensures { Wraps IsKnownReduced reduced_next IsKnownAny next_of next result }
 {
@@ -86,6 +90,7 @@ fn of_reduced(next: ReducedNext) -> AnyNext
     }
 }
 
+#[inline(always)]
 fn of_type(next: TypeNext) -> AnyNext
     ensures { Wraps IsKnownTypeSheet type_next IsKnownAny next_of next result }
 {
@@ -99,6 +104,7 @@ fn of_type(next: TypeNext) -> AnyNext
     }
 }
 
+#[inline(always)]
 fn of_projected(next: InferNext) -> AnyNext
     ensures { Wraps IsKnownInfer infer_next IsKnownAny next_of next result }
 {
@@ -109,6 +115,7 @@ fn of_projected(next: InferNext) -> AnyNext
     }
 }
 
+#[inline(always)]
 fn of_same(next: SameNext) -> AnyNext
     ensures { Wraps IsKnownSameSheet same_next IsKnownAny next_of next result }
 {

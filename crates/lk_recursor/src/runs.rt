@@ -88,6 +88,7 @@ impl<T: Terms> Rewrite<T> for Runs {
     ghost steady = { λ s c d x h. refl };
 
     #[tactic(auto, using(crate::proofs::Closed::leaves_runs), unfolding(crate::specs::Runs::close_runs_at))]
+    #[inline(always)]
     fn step(&self, terms: &mut T, e: u64, depth: u64) -> Result<Option<u64>, NoMemory> {
         let bound = terms.local_bound(e);
         if bound <= u128::from(self.inner.first) && bound <= u128::from(self.outer.first) {
