@@ -161,4 +161,18 @@ mod tests {
             );
         }
     }
+
+    #[test]
+    fn short_fields(rt: HostRuntime) {
+        assert_eq!(rt; first_byte(b"  ab"), Some(b'a'));
+        assert_eq!(rt; first_byte(b"   "), None);
+        if let Some((field, rest)) = short_field(b" #EA  1") {
+            assert_eq!(rt; field, b"#EA".as_slice());
+            assert_eq!(rt; rest, b"  1".as_slice());
+        }
+        assert!(rt; short_field(b" #EA 1").is_some());
+        assert!(rt; short_field(b" #UIM 1").is_none());
+        assert!(rt; short_field(b"#EA 1").is_none());
+        assert!(rt; short_field(b" #EA").is_none());
+    }
 }
