@@ -4,10 +4,10 @@
 usage: table.py OTHER [RUNS [PROGRAM]]
 
 OTHER is the program of another checker that reads and writes the same, RUNS 3 (of which the least processor time counts,
-and the most memory), PROGRAM that of this clone. The two run in turn on each file, and must write the same.
+and the most memory), PROGRAM that of this clone. The two run in turn on each file, and must write the same. Needs GNU's
+`time`, as a program that this script started itself would be charged with the script's memory.
 """
 import os
-import resource
 import subprocess
 import sys
 import tempfile
@@ -31,23 +31,23 @@ WORK = [
 FAULTY = b'#CTOR 1 0 0 0 0 0\n'
 
 
-def run(program, path):
+def run(program, path, room):
     """(processor time in seconds, peak memory in bytes, status, text)"""
-    with open(path, 'rb') as file, tempfile.TemporaryFile() as out:
-        child = os.posix_spawn(program, [program, 'check'], os.environ,
-                               file_actions=[(os.POSIX_SPAWN_DUP2, file.fileno(), 0),
-                                             (os.POSIX_SPAWN_DUP2, out.fileno(), 1)])
-        _, status, used = os.wait4(child, 0)
-        out.seek(0)
-        return used.ru_utime + used.ru_stime, used.ru_maxrss * 1024, os.waitstatus_to_exitcode(status), out.read()
+    told = f'{room}/told'
+    with open(path, 'rb') as file:
+        ran = subprocess.run(['/usr/bin/time', '-q', '-f', '%U %S %M', '-o', told, program, 'check'], stdin=file,
+                             stdout=subprocess.PIPE, stderr=subprocess.DEVNULL)
+    with open(told) as file:
+        user, system, held = file.read().split()
+    return float(user) + float(system), int(held) * 1024, ran.returncode, ran.stdout
 
 
-def measured(programs, path, runs):
+def measured(programs, path, room, runs):
     """Of each program the least time and the most memory. All answer alike."""
     times, memory, first = {}, {}, None
     for _ in range(runs):
         for program in programs:
-            took, held, *answer = run(program, path)
+            took, held, *answer = run(program, path, room)
             first = first or answer
             if answer != first:
                 sys.exit(f'{program} ends with {answer[0]} and writes {answer[1][:200]!r}, the other one {first!r:.200}')
@@ -59,7 +59,6 @@ def measured(programs, path, runs):
 def main():
     if not 2 <= len(sys.argv) <= 4:
         sys.exit(__doc__)
-    resource.setrlimit(resource.RLIMIT_CORE, (0, 0))
     other, runs = os.path.abspath(sys.argv[1]), int(sys.argv[2]) if len(sys.argv) > 2 else 3
     program = os.path.abspath(sys.argv[3] if len(sys.argv) > 3 else f'{HERE}/../crates/leancheck/out/leancheck')
     if len(sys.argv) <= 3:
@@ -72,7 +71,7 @@ def main():
                 subprocess.run([sys.executable, f'{HERE}/{generator}', *words], stdout=file, check=True)
                 if is_cut:
                     file.write(FAULTY)
-            times, memory = measured([other, program], path, runs)
+            times, memory = measured([other, program], path, room, runs)
             size = os.path.getsize(path) / 1e6
             text = lambda which: f'{times[which]:.2f} s, {memory[which] / 1e6:.0f} MB'
             print(f'| {name} | {size:.1f} | {text(program)} | {text(other)} | '
