@@ -43,6 +43,16 @@ def fault(good, status, text):
     return last_line(status, there[1], f'units {len(there[0])} yes {count("yes ")} no {count("no ") - memory} memory {memory}')
 
 
+def kind(good, status, text):
+    """Which of the three kinds of answers it is."""
+    return 'as ever' if (status, text) == good else 'status 6' if status == 6 else 'memory lines'
+
+
+def counted(kinds):
+    """How many of each kind, in words."""
+    return ', '.join(f'{each} {kinds.count(each)}' for each in ('status 6', 'memory lines', 'as ever'))
+
+
 def last_line(status, there, due):
     """Why this is not the last line that is due, or the status is not that of it, or None."""
     if there != due:

@@ -12,7 +12,7 @@ import resource
 import subprocess
 import sys
 
-from answers import fault
+from answers import counted, fault, kind
 from inputs import INPUTS, doubling
 
 SIZES = 20
@@ -53,7 +53,7 @@ def main():
     for name, words, data in inputs:
         good = run(program, words, data, None)
         high = enough(good, program, words, data, low)
-        kinds = {'status 6': 0, 'memory lines': 0, 'as ever': 0}
+        kinds = []
         for step in range(SIZES):
             limit = low + (high - low) * step // (SIZES - 1)
             status, text = run(program, words, data, limit)
@@ -62,8 +62,8 @@ def main():
                 wrong += 1
                 print(f'{name}, {limit >> 10} KiB: {why}')
             else:
-                kinds['as ever' if (status, text) == good else 'status 6' if status == 6 else 'memory lines'] += 1
-        print(f'{name}: {SIZES} sizes to {high >> 10} KiB, ' + ', '.join(f'{kind} {many}' for kind, many in kinds.items()), flush=True)
+                kinds.append(kind(good, status, text))
+        print(f'{name}: {SIZES} sizes to {high >> 10} KiB, {counted(kinds)}', flush=True)
     sys.exit(1 if wrong else 0)
 
 

@@ -12,7 +12,7 @@ import sys
 import tempfile
 from concurrent.futures import ThreadPoolExecutor
 
-from answers import fault
+from answers import counted, fault, kind
 from inputs import HERE, INPUTS
 
 
@@ -35,7 +35,7 @@ def main():
             good = run(program, words, data, shim, 0, count)
             with open(count) as file:
                 calls = int(file.read())
-            kinds = {'status 6': 0, 'memory lines': 0, 'as ever': 0}
+            kinds = []
             answers = pool.map(lambda n: run(program, words, data, shim, n), range(1, calls + 1))
             for number, (status, text) in enumerate(answers, 1):
                 why = fault(good, status, text)
@@ -43,8 +43,8 @@ def main():
                     wrong += 1
                     print(f'{name}, call {number}: {why}')
                 else:
-                    kinds['as ever' if (status, text) == good else 'status 6' if status == 6 else 'memory lines'] += 1
-            print(f'{name}: {calls} calls, ' + ', '.join(f'{kind} {many}' for kind, many in kinds.items()), flush=True)
+                    kinds.append(kind(good, status, text))
+            print(f'{name}: {calls} calls, {counted(kinds)}', flush=True)
     sys.exit(1 if wrong else 0)
 
 
