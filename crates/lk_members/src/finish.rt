@@ -50,6 +50,16 @@ fn unit_here(said: Said, block: Option<Block>) -> Option<Unit>
     }
 }
 
+/// Gives back the room of lines that were taken, once it is an eighth of all: so lines and the units made of them never
+/// take the room of both in full.
+fn give_back(lines: &mut Vec<Line>)
+    ensures { lines.new.items ≡ lines.old.items }
+{
+    if lines.len() < lines.capacity() / 8 * 7 {
+        lines.shrink_to_fit();
+    }
+}
+
 /// The units of the lines: the declarations alone, and the blocks that end at a line.
 fn gather(alloc: Global, mut lines: Vec<Line>, mut ends: Ends) -> Result<Vec<Unit>, NoMemory>
     requires { AreEnded lines.items (lines_of lines.items) (blocks_at ends) }
@@ -59,6 +69,7 @@ fn gather(alloc: Global, mut lines: Vec<Line>, mut ends: Ends) -> Result<Vec<Uni
     lines.reverse();
     let mut units = Vec::with_capacity(alloc, lines.len())?;
     while let Some(line) = lines.pop() {
+        give_back(&mut lines);
         let block = ends.pop();
         let unit = unit_here(line.said, block);
         push_any(&mut units, unit)?;

@@ -5,7 +5,7 @@ use Rattle.lk_members.proofs.finish.gather.Goals as goal
 
 pub loop-line-preserved : goal.loop-line-preserved
 loop-line-preserved c =
-    gathering_more c.args.lines.items c.loop-line.lines.items c.pop.new.self.items c.in-Some.line (blocks_at c.loop-line.ends) (blocks_at c.pop-block.new.self) c.pop-block.result c.loop-line.units.items c.push_any.new.items.items
+    gathering_more c.args.lines.items c.loop-line.lines.items c.give_back.new.lines.items c.in-Some.line (blocks_at c.loop-line.ends) (blocks_at c.pop-block.new.self) c.pop-block.result c.loop-line.units.items c.push_any.new.items.items
     (search rules) c.pop-block.ensures (search rules) c.loop-line.invariant
 
 pub returns : goal.returns
