@@ -4,8 +4,8 @@
 usage: families.py FAMILY N     writes such a file to standard output
 
 The largest number that `attacks.py` tries stands in the table at the end. It makes a file of at most some tens of
-megabytes: where the lines themselves are quadratic in n (each `#IND` line of a block has the list of all its types, each
-rule of an enumeration's recursor has all its minor premises) the number is smaller.
+megabytes, and is smaller where the lines themselves are quadratic in n (each `#IND` line of a block has the list of all its
+types, each rule of an enumeration's recursor has all its minor premises), or where the program's time is not linear.
 """
 import sys
 
@@ -682,9 +682,9 @@ FAMILIES = [
     (pis, 10 ** 6), (lambdas, 10 ** 6), (dependent_lambdas, 10 ** 6), (arguments, 10 ** 6), (nested_arguments, 10 ** 6),
     (beta, 10 ** 6), (lets, 10 ** 6), (let_values, 10 ** 6), (projections, 10 ** 6),
     (successors, 10 ** 6), (maxima, 10 ** 6), (shared_levels, 10 ** 5), (shared_imax, 10 ** 5), (wide_levels, 4),
-    (components, 10 ** 6), (long_names, 10 ** 5), (parameters, 10 ** 5), (greatest_parameter, 10 ** 5),
-    (constructors, 10 ** 5), (enumeration, 1000), (fields_alone, 10 ** 5), (fields, 10 ** 5), (dependent_fields, 10 ** 5),
-    (field_projections, 10 ** 4), (type_parameters, 10 ** 5), (indices, 10 ** 5), (mutual, 2000), (blocks, 10 ** 5),
+    (components, 10 ** 6), (long_names, 10 ** 5), (parameters, 10 ** 5), (greatest_parameter, 10 ** 4),
+    (constructors, 10 ** 5), (enumeration, 1000), (fields_alone, 10 ** 5), (fields, 1000), (dependent_fields, 10 ** 5),
+    (field_projections, 10 ** 4), (type_parameters, 1000), (indices, 10 ** 5), (mutual, 2000), (blocks, 10 ** 5),
     (nested, 1000),
     (axioms, 10 ** 6), (theorems, 10 ** 6), (refused, 10 ** 6), (unfolding, 10 ** 5), (many_axioms, 10 ** 5),
     (gathered_axioms, 10 ** 4),
