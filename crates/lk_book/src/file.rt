@@ -25,7 +25,16 @@ use lk_port::Source;
 use lk_store::base_store::BaseStore;
 use lk_store::terms::Terms;
 use lk_units::Assembler;
-use std::alloc::Global;
+use std::alloc::{AllocError, Global};
+
+/// Room for a piece, on the heap: the stack may be small.
+fn room_for_piece(alloc: Global) -> Result<Vec<u8>, AllocError>
+    ensures { IfOk result (λ piece. length piece.items ≡ 2 ^ 16) }
+{
+    let mut piece = Vec::new(alloc);
+    piece.resize(PIECE, 0)?;
+    Ok(piece)
+}
 
 /// Reads a piece of the source and takes the lines that end in it. The first bytes of a line that goes on are held.
 /// It answers whether the source goes on.
@@ -36,8 +45,9 @@ fn read_piece<T: Terms, S: Source>(
     source: &mut S,
     reader: &mut Reader,
     held: &mut Vec<u8>,
-    piece: &mut [u8; PIECE],
+    piece: &mut [u8],
 ) -> Result<bool, ReadError>
+    requires piece { length piece.old ≡ 2 ^ 16 }
     requires known { IsKnown reader.old.assembler (T.contents store.old) }
     requires counted { IsCounted reader.old }
     requires unfinished { HasNoLineFeed held.old.items }
@@ -72,7 +82,7 @@ fn read_piece<T: Terms, S: Source>(
     }
     take_piece(alloc, store, reader, held, &piece[..read])?;
     if held.len() > MAX_LINE {
-        let word = long_line(source, reader.before, held.len() as u64)?;
+        let word = long_line(source, piece, reader.before, held.len() as u64)?;
         return Err(ReadError::Fault(Fault {
             line: reader.number + 1,
             word,
@@ -115,8 +125,10 @@ fn read_pieces<T: Terms, S: Source>(
     ensures no_fault { result ≢ Err ReadError.ReadFault → S.faults source.new
         ≡ S.faults source.old }
 {
-    let mut piece = [0; PIECE];
-    loop {
+    let Ok(mut piece) = room_for_piece(alloc) else {
+        return Err(ReadError::NoMemory);
+    };
+    'pieces: loop {
         let more = read_piece(alloc, store, source, reader, held, &mut piece)?;
         if !more {
             return Ok(());

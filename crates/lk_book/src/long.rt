@@ -6,8 +6,8 @@ ghost use Rattle.lk_port.specs.Bytes.{CountsFailure};
 ghost use Rattle.lk_book.specs.File.{lines_of};
 ghost use Rattle.lk_book.specs.Reading.{first_limits, ConsumesSome};
 
+use crate::MAX_INPUT;
 use crate::lines::cut;
-use crate::{MAX_INPUT, PIECE};
 use lk_lines::{Word, limit_fault};
 use lk_port::{Failed, Source};
 
@@ -48,8 +48,15 @@ fn count_piece(before: u64, count: u64, piece: &[u8]) -> Result<u64, Word>
 }
 
 /// Reads on through a line that is too long to be held, to its line feed, to the end of the input or beyond the
-/// input's limit, and gives its fault. `held` bytes of it were read, and `before` bytes stand before it.
-pub fn long_line<S: Source>(source: &mut S, before: u64, held: u64) -> Result<Word, Failed>
+/// input's limit, and gives its fault. `held` bytes of it were read, and `before` bytes stand before it. It is read into
+/// `piece`, whose bytes are lost.
+pub fn long_line<S: Source>(
+    source: &mut S,
+    piece: &mut [u8],
+    before: u64,
+    held: u64,
+) -> Result<Word, Failed>
+    requires piece { length piece.old ≡ 2 ^ 16 }
     requires long { 2 ^ 24 < held }
     requires room { before + held < 2 ^ 41 }
     ensures word { (begun bytes : List ℕ) → HasNoLineFeed begun → length begun ≡ held
@@ -59,9 +66,8 @@ pub fn long_line<S: Source>(source: &mut S, before: u64, held: u64) -> Result<Wo
     ensures count { CountsFailure (S.faults source.old) (S.faults source.new) result }
 {
     let mut count = held;
-    let mut piece = [0; PIECE];
     loop {
-        let read = source.read(&mut piece)?;
+        let read = source.read(piece)?;
         if read == 0 {
             return Ok(word_of(before, count, false));
         }

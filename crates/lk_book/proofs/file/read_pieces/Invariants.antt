@@ -7,11 +7,12 @@ use Rattle.lk_book.specs.Passing.{IsCounted}
 use Rattle.lk_book.specs.Reading.{ConsumesSome, Remains}
 use Rattle.lk_book.proofs.file.read_pieces.Given as goal
 
-abbrev pub invariant-loop-more : goal.invariant-loop-more
-invariant-loop-more g l =
+abbrev pub invariant-pieces : goal.invariant-pieces
+invariant-pieces g l =
     let contents = g.T.Terms.contents in
     let left = g.S.Source.left in
     record {
+      piece : length l.piece.items ≡ 2 ^ 16;
       grown : Extends (contents l.fn.store) (contents l.store);
       rest : g.T.Terms.rest l.store ≡ g.T.Terms.rest l.fn.store;
       known : IsKnown l.reader.assembler (contents l.store);
@@ -23,5 +24,5 @@ invariant-loop-more g l =
       remains : (old : Option (List ℕ)) → Remains l.fn.reader (contents l.fn.store) l.fn.held.items old (left l.fn.source) → Remains l.reader (contents l.store) l.held.items old (left l.source);
     }
 
-abbrev pub decreases-loop-more : goal.decreases-loop-more
-decreases-loop-more g l = 2 ^ 41 - (l.reader.before + length l.held.items)
+abbrev pub decreases-pieces : goal.decreases-pieces
+decreases-pieces g l = 2 ^ 41 - (l.reader.before + length l.held.items)

@@ -1,4 +1,5 @@
-use Rattle.std.proofs.Common.{rules, take, ◌∙◌, refl}
+use Rattle.std.proofs.Common.{rules, take, ◌∙◌, refl, arith}
+use Rattle.std.proofs.lemmas.Grind.{common_steps}
 use Rattle.lk_book.proofs.LongLines.{skips_more, skips_end, skips_word, skips_front}
 use Rattle.lk_book.proofs.long.long_line.Goals as goal
 
@@ -9,6 +10,7 @@ returns-then-read-eq0-clause-word g c = λ begun bytes h l e.
 
 pub loop-read-preserved : goal.loop-read-preserved
 loop-read-preserved g c = record {
+  piece = grind (arith, common_steps);
   same_faults = c.in_ok-read.ensures.count.kept ∙ c.loop-read.invariant.same_faults;
   long = search rules;
   room = search rules;

@@ -1,9 +1,10 @@
-use Rattle.std.proofs.Common.{◌≡◌, ◌+◌, ◌-◌, ◌^◌, ◌<◌}
+use Rattle.std.proofs.Common.{◌≡◌, ◌+◌, ◌-◌, ◌^◌, ◌<◌, length}
 use Rattle.lk_book.specs.Reading.{Skips}
 use Rattle.lk_book.proofs.long.long_line.Given as goal
 
 abbrev pub invariant-loop-read : goal.invariant-loop-read
 invariant-loop-read g l = record {
+  piece : length l.piece ≡ 2 ^ 16;
   same_faults : g.S.Source.faults l.source ≡ g.S.Source.faults l.fn.source;
   long : 2 ^ 24 < l.count;
   room : l.before + l.count < 2 ^ 41;
