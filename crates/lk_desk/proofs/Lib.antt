@@ -1,0 +1,14 @@
+pub mod Truths
+pub mod Keys
+pub mod Views
+pub mod Claims
+pub mod Splits
+pub mod Exchanges
+pub mod Opening
+pub mod Whole
+pub mod Allowed
+pub mod Runs
+pub mod Holders
+pub mod Seating
+pub mod Taking
+pub mod InMemory

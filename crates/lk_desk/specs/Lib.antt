@@ -1,0 +1,13 @@
+pub mod Job
+pub mod Truth
+pub mod Shards
+pub mod Rule
+pub mod Steps
+pub mod Machine
+pub mod Once
+pub mod Holdings
+pub mod Seats
+pub mod Shelves
+pub mod Held
+pub mod Hooks
+pub mod Memory

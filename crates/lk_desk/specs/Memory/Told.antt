@@ -1,0 +1,49 @@
+-- What a shelf in memory is as a shelf.
+use Rattle.std.specs.Prelude.{ℕ, Bool, true, false, List, [], slice_index_or, Option, None}
+use Rattle.atomic_table.specs.Seated.{TableId}
+use Rattle.lk_desk.specs.Holdings.{no_table}
+use Rattle.lk_store.specs.declared.tables.Tables.{Tables}
+use Rattle.lk_env.specs.declared.unit.Unit.{Unit as StoredUnit}
+use Rattle.lk_ask.specs.declared.kept.Kept.{Kept}
+use Rattle.lk_memo.specs.declared.key.Key.{Key}
+use Rattle.lk_desk.specs.declared.view.View.{View}
+use Rattle.lk_desk.specs.Job.{Job, job_of}
+use Rattle.lk_desk.specs.Rule.{spent_view}
+use Rattle.lk_desk.specs.Shelves as shelves
+
+-- a library, the answers of each shard, and the number of the one that is out
+abbrev pub InMemory : Type 0
+InMemory = (Tables × List StoredUnit) × List (List (Key × Kept)) × Option ℕ
+
+abbrev pub mem_job : InMemory → Job
+mem_job m = job_of m.0
+
+abbrev pub mem_place : InMemory → ℕ
+mem_place m = 0
+
+abbrev pub mem_table : InMemory → TableId
+mem_table m = no_table
+
+abbrev pub mem_rest : InMemory → View
+mem_rest m = spent_view
+
+abbrev pub mem_outs : InMemory → ℕ
+mem_outs m = 0
+
+abbrev pub mem_in_hand : InMemory → Option ℕ
+mem_in_hand m = m.2
+
+abbrev pub mem_tells : InMemory → Bool
+mem_tells m = true
+
+abbrev pub mem_remembers : InMemory → Bool
+mem_remembers m = false
+
+abbrev pub mem_takes : InMemory → ℕ
+mem_takes m = 0
+
+abbrev pub mem_taken : InMemory → shelves.Numbered
+mem_taken m = None
+
+abbrev pub mem_told : InMemory → shelves.Told
+mem_told m k = slice_index_or m.1 k []

@@ -1,0 +1,50 @@
+-- Where a question belongs, and what a shard has of it.
+use Rattle.std.specs.Prelude.{◌≡◌, ℕ, ◌+◌, ◌*◌, ◌%◌, ◌<◌, ◌≤◌, ◌⊎◌, false, List, length, Contains, Option, Some, None, IsSome}
+use Rattle.std.specs.Map.{lookup}
+use Rattle.lk_plain.specs.Laws.{IsBelow}
+use Rattle.lk_ask.specs.declared.kept.Kept.{Kept}
+use Rattle.lk_memo.specs.declared.key.Key.{Key}
+use Rattle.lk_memo.specs.declared.key.Kind.{Kind}
+use Rattle.lk_memo.specs.declared.key.Kind.TheVariants.{Core, Whnf, Infer, Same}
+pub use Rattle.lk_memo.specs.Entries.{same_key}
+
+abbrev pub kind_number : Kind → ℕ
+kind_number Core = 0
+kind_number Whnf = 1
+kind_number Infer = 2
+kind_number Same = 3
+
+abbrev pub shard_number : Key → ℕ
+shard_number key = (21 * kind_number key.kind + key.first % 64 + 4 * (key.second % 64)) % 64
+
+-- what stands under the question
+abbrev pub under : Key → List (Key × Kept) → Option Kept
+under key entries = lookup (same_key key) entries
+
+-- this answer stands under the question, and only units below this one were looked at for it
+abbrev pub Finds : List (Key × Kept) → Key → ℕ → Kept → Type 0
+Finds entries key unit kept = (under key entries ≡ Some kept) × IsBelow kept.top unit
+
+-- no such answer stands there
+abbrev pub Misses : List (Key × Kept) → Key → ℕ → Type 0
+Misses entries key unit = (kept : Kept) → Finds entries key unit kept → ⊥
+
+-- no answer stands under the question
+abbrev pub Lacks : List (Key × Kept) → Key → Type 0
+Lacks entries key = under key entries ≡ None
+
+-- the answer stands under its question, and under each other one what stood there. There was room, or an answer of this question
+pub record IsPut (before after : List (Key × Kept)) (key : Key) (kept : Kept) : Type 0 where
+  pub stands : under key after ≡ Some kept
+  pub others : (q : Key) → same_key key q ≡ false → under q after ≡ under q before
+  pub entries : (e : Key × Kept) → Contains after e → Contains before e ⊎ (e ≡ (key, kept))
+  pub few : length before ≤ 4096 → length after ≤ 4096
+
+-- there is room for an answer of the question, or one stands there
+abbrev pub HasRoom : List (Key × Kept) → Key → Type 0
+HasRoom entries key = (length entries < 4096) ⊎ IsSome (under key entries)
+
+-- there is no room
+pub record IsFull (entries : List (Key × Kept)) (key : Key) : Type 0 where
+  pub full : 4096 ≤ length entries
+  pub lacks : Lacks entries key

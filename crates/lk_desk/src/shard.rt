@@ -1,0 +1,101 @@
+//! What lies in a shard: true answers by their questions.
+ghost use Rattle.std.specs.Prelude.{◌≡◌, ◌<◌, ◌≤◌, ℕ, IfOk, OnErr, IfSome, IfNone, IsTrue, [], true, false};
+ghost use Rattle.lk_plain.specs.Laws.{IsBelow};
+ghost use Rattle.lk_desk.specs.Truth.{entries_of};
+ghost use Rattle.lk_desk.specs.Shards.{kind_number, shard_number, Finds, Misses, HasRoom, IsPut, IsFull};
+
+use lk_ask::kept::Kept;
+use lk_memo::key::{Key, Kind};
+use lk_rows::memory::NoMemory;
+use std::alloc::Global;
+use std::collections::HashMap;
+
+/// The most answers that a shard has.
+const MOST: usize = 4096;
+
+/// Answers, each under its question.
+#[derive(Drop)]
+pub struct Shard {
+    pub(crate) answers: HashMap<Key, Kept>,
+}
+
+/// A number for what is asked.
+fn kind_number(kind: Kind) -> u64
+    ensures { result ≡ kind_number kind }
+{
+    match kind {
+        Kind::Core => 0,
+        Kind::Whnf => 1,
+        Kind::Infer => 2,
+        Kind::Same => 3,
+    }
+}
+
+/// The shard of a question. It takes no memory.
+pub fn shard_of(key: Key) -> u32
+    ensures number { result ≡ shard_number key }
+    ensures small { result < 64 }
+{
+    let number = (21 * kind_number(key.kind) + key.first % 64 + 4 * (key.second % 64)) % 64;
+    number as u32
+}
+
+/// Whether only units below this one were looked at.
+fn is_below(top: Option<u32>, unit: u32) -> bool
+    ensures below { result ≡ true → IsBelow top unit }
+    ensures above { result ≡ false → IsBelow top unit → ⊥ }
+{
+    match top {
+        None => true,
+        Some(last) => last < unit,
+    }
+}
+
+impl Shard {
+    /// A shard with no answer. It takes no memory.
+    pub fn new(alloc: Global) -> Shard
+        ensures { entries_of result ≡ [] }
+    {
+        Shard {
+            answers: HashMap::new(alloc),
+        }
+    }
+
+    /// The answer to a question, where only units below this one were looked at for it.
+    pub fn find(&self, key: Key, unit: u32) -> Option<Kept>
+        ensures some { IfSome result (Finds (entries_of self.now) key unit) }
+        ensures none { IfNone result (Misses (entries_of self.now) key unit) }
+    {
+        let kept = match self.answers.get(&key) {
+            Some(kept) => *kept,
+            None => return None,
+        };
+        if is_below(kept.top, unit) {
+            Some(kept)
+        } else {
+            None
+        }
+    }
+
+    /// Whether there is room for an answer of the question, or one stands there.
+    fn has_room(&self, key: Key) -> bool
+        ensures some { result ≡ true → HasRoom (entries_of self.now) key }
+        ensures none { result ≡ false → IsFull (entries_of self.now) key }
+    {
+        self.answers.len() < MOST || self.answers.contains_key(&key)
+    }
+
+    /// Puts an answer under its question, where there is room; whether there is. Where memory is wanting the shard is as
+    /// before.
+    pub fn put(&mut self, key: Key, kept: Kept) -> Result<bool, NoMemory>
+        ensures stored { IfOk result (λ b. b ≡ true → IsPut (entries_of self.old) (entries_of self.new) key kept) }
+        ensures full { IfOk result (λ b. b ≡ false → IsFull (entries_of self.old) key × (entries_of self.new ≡ entries_of self.old)) }
+        ensures refused { OnErr result (entries_of self.new ≡ entries_of self.old) }
+    {
+        if !self.has_room(key) {
+            return Ok(false);
+        }
+        self.answers.insert(key, kept)?;
+        Ok(true)
+    }
+}
