@@ -54,6 +54,26 @@ fn bucket_of(hash: u64, n: usize) -> usize
     (hash & (n as u64 - 1)) as usize
 }
 
+/// The hash of a key under a seed, where the one under seed 0 is at hand.
+#[inline]
+fn hash_under<R: Row>(seed: u64, key: &R::Key, hash: u64) -> u64
+    requires { hash ≡ R.hash 0 key.now }
+    ensures { result ≡ R.hash seed key.now }
+{
+    if seed == 0 {
+        return hash;
+    }
+    hash_anew::<R>(seed, key)
+}
+
+/// The hash of a key under a seed.
+#[cold]
+fn hash_anew<R: Row>(seed: u64, key: &R::Key) -> u64
+    ensures { result ≡ R.hash seed key.now }
+{
+    R::hash_of(seed, key)
+}
+
 /// Links the rows anew.
 fn link_all<R: Row>(rows: &[R], links: &mut [u32], heads: &mut [u32], seed: u64)
     requires one_each { length links.old ≡ length rows.now }
@@ -180,37 +200,28 @@ fn is_longer(links: &[u32], head: u32, most: u64) -> bool {
     at != 0
 }
 
-/// The bucket of a row that is to be added, where the table has a seed, or the bucket is long. The
-/// seeds are known to whoever makes the keys, so with each seed that is taken longer buckets are let
-/// be: keys made for one seed after another then have the rows placed anew about as often as the
-/// root of their number, and no bucket grows longer than a few times that root.
+/// Whether a bucket has grown long. The seeds are known to whoever makes the keys, so with each seed
+/// that is taken longer buckets are let be: keys made for one seed after another then have the rows
+/// placed anew about as often as the root of their number, and no bucket grows longer than a few
+/// times that root.
+fn is_long(links: &[u32], head: u32, seed: u64) -> bool {
+    is_longer(links, head, LONGEST.saturating_mul(seed.saturating_add(1)))
+}
+
+/// Places all rows anew under the next seed.
 #[cold]
-fn bucket_anew<R: Row>(
-    rows: &[R],
-    links: &mut Vec<u32>,
-    heads: &mut Vec<u32>,
-    seed: &mut u64,
-    row: &R,
-) -> usize
+fn part<R: Row>(rows: &[R], links: &mut Vec<u32>, heads: &mut Vec<u32>, seed: &mut u64)
     requires some { 0 < length heads.old.items }
     requires table { IsTable R.key (R.hash seed.old) rows.now links.old.items heads.old.items }
     ensures table { IsTable R.key (R.hash seed.new) rows.now links.new.items heads.new.items }
     ensures as_many { length heads.new.items ≡ length heads.old.items }
-    ensures value { result ≡ bucket (R.hash seed.new (R.key row.now)) (length heads.new.items) }
-    ensures within { result < length heads.new.items }
 {
-    let b = bucket_of(row.own_hash(*seed), heads.len());
-    let most = LONGEST.saturating_mul(seed.saturating_add(1));
-    if !is_longer(links, heads[b], most) {
-        return b;
-    }
     *seed = seed.saturating_add(1);
     link_all(rows, links, heads, *seed);
-    bucket_of(row.own_hash(*seed), heads.len())
 }
 
 /// The bucket of a row that is to be added. Where the bucket has grown long, all rows are placed
-/// anew first.
+/// anew first. No call takes the row, so that it need not stand in memory for it.
 #[inline]
 fn bucket_for<R: Row>(
     rows: &[R],
@@ -233,8 +244,14 @@ fn bucket_for<R: Row>(
         if !is_longer(links, heads[b], LONGEST) {
             return b;
         }
+    } else {
+        let b = bucket_of(row.own_hash(*seed), heads.len());
+        if !is_long(links, heads[b], *seed) {
+            return b;
+        }
     }
-    bucket_anew(rows, links, heads, seed, row)
+    part(rows, links, heads, seed);
+    bucket_of(row.own_hash(*seed), heads.len())
 }
 
 impl<R: Row + Drop> Table<R> {
@@ -278,21 +295,7 @@ impl<R: Row + Drop> Table<R> {
         ensures known { IfSome result (λ i. i < length self.now) }
         ensures present { IfSome result (RowHas R.key self.now key.now) }
     {
-        if self.seed != 0 {
-            return self.find_anew(key);
-        }
-        find_linked(&self.rows, &self.links, &self.heads, 0, key, hash)
-    }
-
-    /// The number of the row that has the key, where the table has a seed.
-    #[cold]
-    fn find_anew(&self, key: &R::Key) -> Option<u64>
-        ensures few { IfSome result (λ i. i < 2 ^ 32) }
-        ensures absent { IfNone result (NoRowHas R.key self.now key.now) }
-        ensures known { IfSome result (λ i. i < length self.now) }
-        ensures present { IfSome result (RowHas R.key self.now key.now) }
-    {
-        let hash = R::hash_of(self.seed, key);
+        let hash = hash_under::<R>(self.seed, key, hash);
         find_linked(&self.rows, &self.links, &self.heads, self.seed, key, hash)
     }
 
