@@ -4,7 +4,7 @@ use Rattle.std.specs.Prelude.{slice_index_or}
 use Rattle.lk_tree.specs.Tree.{Name, Level}
 use Rattle.lk_tree.specs.Level.{level_value}
 use Rattle.lk_tree.specs.LevelTest.{params_of, right_params}
-use Rattle.lk_store.specs.Hashes.{mixed}
+use Rattle.lk_store.specs.Hashes.{hash_of_pair}
 use Rattle.lk_store.specs.Contents.{Contents, level_at}
 use Rattle.lk_level_order.specs.declared.support.Support.{Support}
 use Rattle.lk_level_order.specs.declared.listing.Chosen.{Chosen}
@@ -45,8 +45,8 @@ IsJoined k s IsOne case =
     (IsMet k s case × IsOne case)
     ⊎ ((s.surely ≡ false) × ((n : ℕ) → n < k → has_one s.by n ≡ true → IsOne (with_one case n)))
 
-abbrev pub hash_of_chosen : Chosen → ℕ
-hash_of_chosen c = mixed c.list c.case
+abbrev pub hash_of_chosen : ℕ → Chosen → ℕ
+hash_of_chosen seed c = hash_of_pair seed c.list c.case
 
 -- the case is one of the rows from first up to end
 pub record IsListed (rows : List Chosen) (first end case : ℕ) : Type 0 where

@@ -1,7 +1,7 @@
 -- The walk that gathers the parameters of a level.
 use Rattle.std.specs.Prelude.{◌≡◌, ℕ, Bool, ◌<◌, cond, List, [], ◌∷◌, ◌++◌, All, length, slice_index_or, sum_by}
 use Rattle.lk_tree.specs.Tree.{Name, Level, zero_level, succ_level, max_level, imax_level, param}
-use Rattle.lk_store.specs.Hashes.{mixed}
+use Rattle.lk_store.specs.Hashes.{hash_of_pair}
 use Rattle.lk_store.specs.Contents.{Contents, level_at}
 use Rattle.lk_subst.specs.Parts.{cost_where}
 use Rattle.lk_level_order.specs.declared.gathering.Side.{Side}
@@ -9,8 +9,8 @@ use Rattle.lk_level_order.specs.declared.gathering.Turn.{Turn}
 use Rattle.lk_level_order.specs.declared.parameters.Parameter.{Parameter}
 use Rattle.lk_level_order.specs.Parameters.{IsWithin, names_of, wanted}
 
-abbrev pub hash_of_side : Side → ℕ
-hash_of_side s = mixed s.level (cond s.inside 1 0)
+abbrev pub hash_of_side : ℕ → Side → ℕ
+hash_of_side seed s = hash_of_pair seed s.level (cond s.inside 1 0)
 
 -- the parameters that are gathered from a side
 abbrev pub wanted_of : Contents → Side → List Name

@@ -11,7 +11,7 @@ ghost use Rattle.lk_level_order.specs.Gathering.{wanted_of, AreGathered, AreTurn
 use crate::parameters::{Parameter, add};
 use lk_rows::row::Row;
 use lk_rows::table::Table;
-use lk_store::hashing::mix;
+use lk_store::hashing::hash_pair;
 use lk_store::memory::NoMemory;
 use lk_store::node::LevelNode;
 use lk_store::terms::Terms;
@@ -33,12 +33,12 @@ impl Row for Side {
 
     ghost hash = { hash_of_side };
 
-    fn hash_of(wanted: &Side) -> u64 {
-        mix(wanted.level, u64::from(wanted.inside))
+    fn hash_of(seed: u64, wanted: &Side) -> u64 {
+        hash_pair(seed, wanted.level, u64::from(wanted.inside))
     }
 
-    fn own_hash(&self) -> u64 {
-        mix(self.level, u64::from(self.inside))
+    fn own_hash(&self, seed: u64) -> u64 {
+        hash_pair(seed, self.level, u64::from(self.inside))
     }
 
     fn has(&self, wanted: &Side) -> bool {

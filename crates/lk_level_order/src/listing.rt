@@ -18,7 +18,7 @@ use crate::support::{NEVER, SURELY, Support, either, is_by, is_met, put_digit};
 use crate::values::Pair;
 use lk_rows::row::Row;
 use lk_rows::table::Table;
-use lk_store::hashing::mix;
+use lk_store::hashing::hash_pair;
 use lk_store::memory::NoMemory;
 use lk_store::node::LevelNode;
 
@@ -41,12 +41,12 @@ impl Row for Chosen {
 
     ghost hash = { hash_of_chosen };
 
-    fn hash_of(wanted: &Chosen) -> u64 {
-        mix(wanted.list, wanted.case)
+    fn hash_of(seed: u64, wanted: &Chosen) -> u64 {
+        hash_pair(seed, wanted.list, wanted.case)
     }
 
-    fn own_hash(&self) -> u64 {
-        mix(self.list, self.case)
+    fn own_hash(&self, seed: u64) -> u64 {
+        hash_pair(seed, self.list, self.case)
     }
 
     fn has(&self, wanted: &Chosen) -> bool {

@@ -6,7 +6,7 @@ ghost use Rattle.lk_level_order.specs.Parameters.{names_of, IsWithin, AreParamet
 
 use lk_rows::row::Row;
 use lk_rows::table::Table;
-use lk_store::hashing::mix;
+use lk_store::hashing::hash_pair;
 use lk_store::memory::NoMemory;
 use lk_store::terms::Terms;
 
@@ -25,12 +25,12 @@ impl Row for Parameter {
 
     ghost hash = { hash_of_level };
 
-    fn hash_of(wanted: &u64) -> u64 {
-        mix(*wanted, 0)
+    fn hash_of(seed: u64, wanted: &u64) -> u64 {
+        hash_pair(seed, *wanted, 0)
     }
 
-    fn own_hash(&self) -> u64 {
-        mix(self.name, 0)
+    fn own_hash(&self, seed: u64) -> u64 {
+        hash_pair(seed, self.name, 0)
     }
 
     fn has(&self, wanted: &u64) -> bool {

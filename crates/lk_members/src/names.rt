@@ -3,7 +3,7 @@
 ghost use Rattle.std.specs.Prelude.{◌≡◌, ◌↔◌, IsTrue};
 
 use lk_rows::row::Row;
-use lk_store::hashing::mix;
+use lk_store::hashing::{mix, start};
 use std::marker::Model;
 
 /// A list of names, by their numbers.
@@ -23,12 +23,10 @@ impl Model for Names {
 ghost use Rattle.lk_members.specs.Hashes.{hash_of_names};
 
 /// The hash of a list of names.
-fn hash_names(numbers: &[u64]) -> u64
-    ensures { result ≡ hash_of_names numbers.now }
+fn hash_names(seed: u64, numbers: &[u64]) -> u64
+    ensures { result ≡ hash_of_names seed numbers.now }
 {
-    numbers
-        .iter()
-        .fold(0x517C_C1B7_2722_0A95, |hash, n| mix(hash, *n))
+    numbers.iter().fold(start(seed), |hash, n| mix(hash, *n))
 }
 
 impl Names {
@@ -63,12 +61,12 @@ impl Row for Names {
 
     ghost hash = { hash_of_names };
 
-    fn hash_of(wanted: &Names) -> u64 {
-        hash_names(wanted.as_slice())
+    fn hash_of(seed: u64, wanted: &Names) -> u64 {
+        hash_names(seed, wanted.as_slice())
     }
 
-    fn own_hash(&self) -> u64 {
-        hash_names(self.as_slice())
+    fn own_hash(&self, seed: u64) -> u64 {
+        hash_names(seed, self.as_slice())
     }
 
     fn has(&self, wanted: &Names) -> bool {

@@ -2,13 +2,13 @@
 use Rattle.std.specs.Prelude.{ℕ, List, Bool, false}
 use Rattle.lk_tree.specs.Mentions.{is_one_of}
 use Rattle.lk_store.specs.Contents.{Contents, name_at}
-use Rattle.lk_store.specs.Hashes.{mixed}
+use Rattle.lk_store.specs.Hashes.{hash_of_pair}
 use Rattle.lk_store.specs.declared.node.Node.{Node}
 use Rattle.lk_store.specs.declared.node.Node.TheVariants as node
 use Rattle.lk_mentions.specs.Names.{names_at}
 
-abbrev pub hash_of_tree : ℕ → ℕ
-hash_of_tree e = mixed e 0
+abbrev pub hash_of_tree : ℕ → ℕ → ℕ
+hash_of_tree seed e = hash_of_pair seed e 0
 
 -- whether the name in the node itself is one of the names
 abbrev pub is_named : Contents → List ℕ → Node → Bool

@@ -1,7 +1,7 @@
 //! What is kept of a tree.
 
 use lk_rows::row::Row;
-use lk_store::hashing::mix;
+use lk_store::hashing::hash_pair;
 
 /// A tree that was looked through.
 #[derive(Clone, Copy)]
@@ -18,12 +18,12 @@ impl Row for Met {
 
     ghost hash = { hash_of_tree };
 
-    fn hash_of(wanted: &u64) -> u64 {
-        mix(*wanted, 0)
+    fn hash_of(seed: u64, wanted: &u64) -> u64 {
+        hash_pair(seed, *wanted, 0)
     }
 
-    fn own_hash(&self) -> u64 {
-        mix(self.tree, 0)
+    fn own_hash(&self, seed: u64) -> u64 {
+        hash_pair(seed, self.tree, 0)
     }
 
     fn has(&self, wanted: &u64) -> bool {

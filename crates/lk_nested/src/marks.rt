@@ -14,7 +14,7 @@ use lk_seek::Seek;
 use lk_seek::tree::{is_leaf, open};
 use lk_seek::visit::Visit;
 use lk_seek::walk::seek;
-use lk_store::hashing::mix;
+use lk_store::hashing::hash_pair;
 use lk_store::memory::NoMemory;
 use lk_store::node::Node;
 use lk_store::terms::Terms;
@@ -36,12 +36,12 @@ impl Row for Mark {
 
     ghost hash = { hash_of_tree };
 
-    fn hash_of(wanted: &u64) -> u64 {
-        mix(*wanted, 0)
+    fn hash_of(seed: u64, wanted: &u64) -> u64 {
+        hash_pair(seed, *wanted, 0)
     }
 
-    fn own_hash(&self) -> u64 {
-        mix(self.tree, 0)
+    fn own_hash(&self, seed: u64) -> u64 {
+        hash_pair(seed, self.tree, 0)
     }
 
     fn has(&self, wanted: &u64) -> bool {

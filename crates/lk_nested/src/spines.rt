@@ -6,7 +6,7 @@ ghost use Rattle.lk_nested.specs.Nestings.{function_of, function_at, function_in
 
 use lk_rows::row::Row;
 use lk_rows::table::Table;
-use lk_store::hashing::mix;
+use lk_store::hashing::hash_pair;
 use lk_store::memory::NoMemory;
 use lk_store::node::Node;
 use lk_store::terms::Terms;
@@ -28,12 +28,12 @@ impl Row for Spine {
 
     ghost hash = { hash_of_tree };
 
-    fn hash_of(wanted: &u64) -> u64 {
-        mix(*wanted, 0)
+    fn hash_of(seed: u64, wanted: &u64) -> u64 {
+        hash_pair(seed, *wanted, 0)
     }
 
-    fn own_hash(&self) -> u64 {
-        mix(self.tree, 0)
+    fn own_hash(&self, seed: u64) -> u64 {
+        hash_pair(seed, self.tree, 0)
     }
 
     fn has(&self, wanted: &u64) -> bool {

@@ -11,7 +11,11 @@ const FEW: usize = 16;
 /// make them again, and no more than a few hundred steps however large the table was.
 const KEPT: usize = 512;
 
-/// Rows by number, each found by its key. The numbers are kept in 32 bits.
+/// Where a bucket has more rows than this, the table takes its next seed and places all rows anew.
+const LONGEST: u64 = 32;
+
+/// Rows by number, each found by its key. The numbers are kept in 32 bits. Keys that were made to
+/// have one hash are parted by a seed, which is 0 until a bucket grows long.
 #[derive(Drop)]
 pub struct Table<R: Row + Drop> {
     rows: Vec<R>,
@@ -19,6 +23,8 @@ pub struct Table<R: Row + Drop> {
     links: Vec<u32>,
     /// One above the last row of each bucket, or 0. There are none while the rows are few.
     heads: Vec<u32>,
+    /// The seed of the hashes.
+    seed: u64,
 }
 
 impl<R: Row + Drop> Model for Table<R> {
@@ -29,7 +35,8 @@ impl<R: Row + Drop> Model for Table<R> {
 
     ghost view = { λ t. t.rows.items };
 
-    ghost invariant = { λ t. IsTable R.key R.hash t.rows.items t.links.items t.heads.items };
+    ghost invariant = { λ t.
+        IsTable R.key (R.hash t.seed) t.rows.items t.links.items t.heads.items };
 }
 
 ghost use Rattle.std.specs.Prelude.{◌≡◌, ◌<◌, ◌^◌, ◌⊎◌, [], ◌∷◌, ◌++◌, length, slice_index_or};
@@ -47,19 +54,39 @@ fn bucket_of(hash: u64, n: usize) -> usize
     (hash & (n as u64 - 1)) as usize
 }
 
+/// The hash of a key under a seed, where the one under seed 0 is at hand.
+#[inline]
+fn hash_under<R: Row>(seed: u64, key: &R::Key, hash: u64) -> u64
+    requires { hash ≡ R.hash 0 key.now }
+    ensures { result ≡ R.hash seed key.now }
+{
+    if seed == 0 {
+        return hash;
+    }
+    hash_anew::<R>(seed, key)
+}
+
+/// The hash of a key under a seed.
+#[cold]
+fn hash_anew<R: Row>(seed: u64, key: &R::Key) -> u64
+    ensures { result ≡ R.hash seed key.now }
+{
+    R::hash_of(seed, key)
+}
+
 /// Links the rows anew.
-fn link_all<R: Row>(rows: &[R], links: &mut [u32], heads: &mut [u32])
+fn link_all<R: Row>(rows: &[R], links: &mut [u32], heads: &mut [u32], seed: u64)
     requires one_each { length links.old ≡ length rows.now }
     requires few { length rows.now < 2 ^ 32 }
     requires some { 0 < length heads.old }
-    ensures { let buckets = buckets_of R.key R.hash rows.now (length heads.new) in
+    ensures { let buckets = buckets_of R.key (R.hash seed) rows.now (length heads.new) in
         AreLinked buckets links.new heads.new (length rows.now) }
 {
     for head in heads.iter_mut() {
         *head = 0;
     }
     for (i, row) in rows.iter().enumerate() {
-        let b = bucket_of(row.own_hash(), heads.len());
+        let b = bucket_of(row.own_hash(seed), heads.len());
         links[i] = heads[b];
         heads[b] = i as u32 + 1;
     }
@@ -86,11 +113,12 @@ fn find_linked<R: Row>(
     rows: &[R],
     links: &[u32],
     heads: &[u32],
+    seed: u64,
     key: &R::Key,
     hash: u64,
 ) -> Option<u64>
-    requires table { IsTable R.key R.hash rows.now links.now heads.now }
-    requires hash { hash ≡ R.hash key.now }
+    requires table { IsTable R.key (R.hash seed) rows.now links.now heads.now }
+    requires hash { hash ≡ R.hash seed key.now }
     ensures absent { IfNone result (NoRowHas R.key rows.now key.now) }
     ensures known { IfSome result (λ i. i < length rows.now) }
     ensures present { IfSome result (RowHas R.key rows.now key.now) }
@@ -116,10 +144,11 @@ fn link_more<R: Row>(
     rows: &[R],
     links: &mut Vec<u32>,
     heads: &mut Vec<u32>,
+    seed: u64,
 ) -> Result<(), AllocError>
     requires some { length heads.old.items ≡ 0 → 0 < length rows.now }
-    requires table { IsTable R.key R.hash rows.now links.old.items heads.old.items }
-    ensures table { IsTable R.key R.hash rows.now links.new.items heads.new.items }
+    requires table { IsTable R.key (R.hash seed) rows.now links.old.items heads.old.items }
+    ensures table { IsTable R.key (R.hash seed) rows.now links.new.items heads.new.items }
     ensures room { OnOk result (length rows.now < length heads.new.items) }
 {
     if heads.is_empty() {
@@ -128,7 +157,7 @@ fn link_more<R: Row>(
     } else {
         heads.resize(heads.len().saturating_mul(2), 0)?;
     }
-    link_all(rows, links, heads);
+    link_all(rows, links, heads, seed);
     Ok(())
 }
 
@@ -138,9 +167,10 @@ fn make_room<R: Row>(
     rows: &[R],
     links: &mut Vec<u32>,
     heads: &mut Vec<u32>,
+    seed: u64,
 ) -> Result<(), AllocError>
-    requires { IsTable R.key R.hash rows.now links.old.items heads.old.items }
-    ensures table { IsTable R.key R.hash rows.now links.new.items heads.new.items }
+    requires { IsTable R.key (R.hash seed) rows.now links.old.items heads.old.items }
+    ensures table { IsTable R.key (R.hash seed) rows.now links.new.items heads.new.items }
     ensures room { let n = length heads.new.items in
         OnOk result ((n ≡ 0) ⊎ (length rows.now < n)) }
 {
@@ -151,7 +181,77 @@ fn make_room<R: Row>(
     if heads.is_empty() && rows.len() < FEW {
         return Ok(());
     }
-    link_more(rows, links, heads)
+    link_more(rows, links, heads, seed)
+}
+
+/// Whether more than so many rows follow one another in a bucket.
+#[inline]
+fn is_longer(links: &[u32], head: u32, most: u64) -> bool {
+    let mut at = head;
+    for _ in 0..most {
+        if at == 0 {
+            return false;
+        }
+        match links.get(at as usize - 1) {
+            Some(next) => at = *next,
+            None => return false,
+        }
+    }
+    at != 0
+}
+
+/// Whether a bucket has grown long. The seeds are known to whoever makes the keys, so with each seed
+/// that is taken longer buckets are let be: keys made for one seed after another then have the rows
+/// placed anew about as often as the root of their number, and no bucket grows longer than a few
+/// times that root.
+fn is_long(links: &[u32], head: u32, seed: u64) -> bool {
+    is_longer(links, head, LONGEST.saturating_mul(seed.saturating_add(1)))
+}
+
+/// Places all rows anew under the next seed.
+#[cold]
+fn part<R: Row>(rows: &[R], links: &mut Vec<u32>, heads: &mut Vec<u32>, seed: &mut u64)
+    requires some { 0 < length heads.old.items }
+    requires table { IsTable R.key (R.hash seed.old) rows.now links.old.items heads.old.items }
+    ensures table { IsTable R.key (R.hash seed.new) rows.now links.new.items heads.new.items }
+    ensures as_many { length heads.new.items ≡ length heads.old.items }
+{
+    *seed = seed.saturating_add(1);
+    link_all(rows, links, heads, *seed);
+}
+
+/// The bucket of a row that is to be added. Where the bucket has grown long, all rows are placed
+/// anew first. No call takes the row, so that it need not stand in memory for it.
+#[inline]
+fn bucket_for<R: Row>(
+    rows: &[R],
+    links: &mut Vec<u32>,
+    heads: &mut Vec<u32>,
+    seed: &mut u64,
+    row: &R,
+    hash: u64,
+) -> usize
+    requires some { 0 < length heads.old.items }
+    requires table { IsTable R.key (R.hash seed.old) rows.now links.old.items heads.old.items }
+    requires hash { hash ≡ R.hash 0 (R.key row.now) }
+    ensures table { IsTable R.key (R.hash seed.new) rows.now links.new.items heads.new.items }
+    ensures as_many { length heads.new.items ≡ length heads.old.items }
+    ensures value { result ≡ bucket (R.hash seed.new (R.key row.now)) (length heads.new.items) }
+    ensures within { result < length heads.new.items }
+{
+    if *seed == 0 {
+        let b = bucket_of(hash, heads.len());
+        if !is_longer(links, heads[b], LONGEST) {
+            return b;
+        }
+    } else {
+        let b = bucket_of(row.own_hash(*seed), heads.len());
+        if !is_long(links, heads[b], *seed) {
+            return b;
+        }
+    }
+    part(rows, links, heads, seed);
+    bucket_of(row.own_hash(*seed), heads.len())
 }
 
 impl<R: Row + Drop> Table<R> {
@@ -163,6 +263,7 @@ impl<R: Row + Drop> Table<R> {
             rows: Vec::new(alloc),
             links: Vec::new(alloc),
             heads: Vec::new(alloc),
+            seed: 0,
         }
     }
 
@@ -185,16 +286,17 @@ impl<R: Row + Drop> Table<R> {
         &self.rows[i as usize]
     }
 
-    /// The number of the row that has the key, whose hash is at hand.
+    /// The number of the row that has the key, whose hash under seed 0 is at hand.
     #[inline]
     pub fn find_hashed(&self, key: &R::Key, hash: u64) -> Option<u64>
-        requires { hash ≡ R.hash key.now }
+        requires { hash ≡ R.hash 0 key.now }
         ensures few { IfSome result (λ i. i < 2 ^ 32) }
         ensures absent { IfNone result (NoRowHas R.key self.now key.now) }
         ensures known { IfSome result (λ i. i < length self.now) }
         ensures present { IfSome result (RowHas R.key self.now key.now) }
     {
-        find_linked(&self.rows, &self.links, &self.heads, key, hash)
+        let hash = hash_under::<R>(self.seed, key, hash);
+        find_linked(&self.rows, &self.links, &self.heads, self.seed, key, hash)
     }
 
     /// The number of the row that has the key.
@@ -204,7 +306,7 @@ impl<R: Row + Drop> Table<R> {
         ensures known { IfSome result (λ i. i < length self.now) }
         ensures present { IfSome result (RowHas R.key self.now key.now) }
     {
-        self.find_hashed(key, R::hash_of(key))
+        self.find_hashed(key, R::hash_of(0, key))
     }
 
     /// Gives back the room that no row takes.
@@ -224,11 +326,12 @@ impl<R: Row + Drop> Table<R> {
         }
         self.rows.clear();
         self.links.clear();
+        self.seed = 0;
         if self.heads.len() > KEPT {
             self.heads.clear();
         }
         if !self.heads.is_empty() {
-            link_all(&self.rows, &mut self.links, &mut self.heads);
+            link_all(&self.rows, &mut self.links, &mut self.heads, 0);
         }
     }
 
@@ -239,26 +342,33 @@ impl<R: Row + Drop> Table<R> {
         ensures ok { OnOk result (self.new ≡ self.old ++ row ∷ []) }
         ensures err { OnErr result (self.new ≡ self.old) }
     {
-        let hash = row.own_hash();
+        let hash = row.own_hash(0);
         self.push_hashed(row, hash)
     }
 
-    /// Adds a row, as `push` does, where the hash of its key is at hand.
+    /// Adds a row, as `push` does, where the hash of its key under seed 0 is at hand.
     #[inline]
     pub fn push_hashed(&mut self, row: R, hash: u64) -> Result<(), AllocError>
-        requires { hash ≡ R.hash (R.key row) }
+        requires { hash ≡ R.hash 0 (R.key row) }
         ensures ok { OnOk result (self.new ≡ self.old ++ row ∷ []) }
         ensures err { OnErr result (self.new ≡ self.old) }
     {
         if self.rows.len() >= u32::MAX as usize {
             return Err(AllocError);
         }
-        make_room(&self.rows, &mut self.links, &mut self.heads)?;
+        make_room(&self.rows, &mut self.links, &mut self.heads, self.seed)?;
         if self.heads.is_empty() {
             self.rows.push(row)?;
             return Ok(());
         }
-        let b = bucket_of(hash, self.heads.len());
+        let b = bucket_for(
+            &self.rows,
+            &mut self.links,
+            &mut self.heads,
+            &mut self.seed,
+            &row,
+            hash,
+        );
         let last = self.heads[b];
         let i = self.rows.len() as u32;
         self.links.push(last)?;

@@ -4,7 +4,7 @@ use Rattle.lk_tree.specs.Tree.{Name}
 use Rattle.lk_tree.specs.Scan.{level_over, levels_over, tree_over}
 use Rattle.lk_store.specs.Contents.{Contents, level_at, list_at, tree_at}
 use Rattle.lk_store.specs.Measures.{level_has_params, list_has_params, has_params}
-use Rattle.lk_store.specs.Hashes.{mixed}
+use Rattle.lk_store.specs.Hashes.{hash_of_pair}
 use Rattle.lk_store.specs.declared.node.LevelNode.{LevelNode}
 use Rattle.lk_store.specs.declared.node.LevelNode.TheVariants as level
 use Rattle.lk_store.specs.declared.node.ListNode.{ListNode}
@@ -15,10 +15,10 @@ use Rattle.lk_seek.specs.Costs.{level_cost, levels_cost, tree_cost}
 use Rattle.lk_scan.specs.declared.part.Part.{Part}
 use Rattle.lk_scan.specs.declared.part.Part.TheVariants as part
 
-abbrev pub hash_of : Part → ℕ
-hash_of (part.Tree e) = mixed e 0
-hash_of (part.Level l) = mixed l 1
-hash_of (part.Levels ls) = mixed ls 2
+abbrev pub hash_of : ℕ → Part → ℕ
+hash_of seed (part.Tree e) = hash_of_pair seed e 0
+hash_of seed (part.Level l) = hash_of_pair seed l 1
+hash_of seed (part.Levels ls) = hash_of_pair seed ls 2
 
 -- the parts of a node, from the last to the first
 abbrev pub parts_of : Node → List Part

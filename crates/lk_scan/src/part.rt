@@ -6,7 +6,7 @@ ghost use Rattle.lk_scan.specs.Parts.{hash_of, parts_of, parts_of_level, parts_o
 
 use lk_rows::row::Row;
 use lk_seek::visit::{Visit, push};
-use lk_store::hashing::mix;
+use lk_store::hashing::hash_pair;
 use lk_store::memory::NoMemory;
 use lk_store::node::{LevelNode, ListNode, Node};
 
@@ -19,13 +19,13 @@ pub enum Part {
 }
 
 /// The hash of a part.
-fn hash(part: Part) -> u64
-    ensures { result ≡ hash_of part }
+fn hash(seed: u64, part: Part) -> u64
+    ensures { result ≡ hash_of seed part }
 {
     match part {
-        Part::Tree(e) => mix(e, 0),
-        Part::Level(l) => mix(l, 1),
-        Part::Levels(ls) => mix(ls, 2),
+        Part::Tree(e) => hash_pair(seed, e, 0),
+        Part::Level(l) => hash_pair(seed, l, 1),
+        Part::Levels(ls) => hash_pair(seed, ls, 2),
     }
 }
 
@@ -44,12 +44,12 @@ impl Row for Met {
 
     ghost hash = { hash_of };
 
-    fn hash_of(wanted: &Part) -> u64 {
-        hash(*wanted)
+    fn hash_of(seed: u64, wanted: &Part) -> u64 {
+        hash(seed, *wanted)
     }
 
-    fn own_hash(&self) -> u64 {
-        hash(self.part)
+    fn own_hash(&self, seed: u64) -> u64 {
+        hash(seed, self.part)
     }
 
     fn has(&self, wanted: &Part) -> bool {

@@ -43,35 +43,35 @@ pub record AreNumbers (ns : List Number) : Type 0 where
   pub large : (i : ℕ) (d : Number) → i < length ns → 2 ^ 31 ≤ (slice_index_or ns i d).value
   pub apart : AreApart (record { value = 0 }) ns
 
-abbrev pub hash_of_name : NameKey → ℕ
-hash_of_name n.Anonymous = hash_of_words 0 0 0 0
-hash_of_name (n.Text a b) = hash_of_words 1 a b 0
-hash_of_name (n.Number a i) = mixed (hash_of_words 2 a 0 0) i
+abbrev pub hash_of_name : ℕ → NameKey → ℕ
+hash_of_name seed n.Anonymous = hash_of_words seed 0 0 0 0
+hash_of_name seed (n.Text a b) = hash_of_words seed 1 a b 0
+hash_of_name seed (n.Number a i) = mixed (hash_of_words seed 2 a 0 0) i
 
-abbrev pub hash_of_level : LevelKey → ℕ
-hash_of_level Zero = hash_of_words 0 0 0 0
-hash_of_level (Succ l) = hash_of_words 1 l 0 0
-hash_of_level (Max l m) = hash_of_words 2 l m 0
-hash_of_level (IMax l m) = hash_of_words 3 l m 0
-hash_of_level (Param n) = hash_of_words 4 n 0 0
+abbrev pub hash_of_level : ℕ → LevelKey → ℕ
+hash_of_level seed Zero = hash_of_words seed 0 0 0 0
+hash_of_level seed (Succ l) = hash_of_words seed 1 l 0 0
+hash_of_level seed (Max l m) = hash_of_words seed 2 l m 0
+hash_of_level seed (IMax l m) = hash_of_words seed 3 l m 0
+hash_of_level seed (Param n) = hash_of_words seed 4 n 0 0
 
-abbrev pub hash_of_list : ListKey → ℕ
-hash_of_list Empty = hash_of_words 0 0 0 0
-hash_of_list (Cons l ls) = hash_of_words 1 l ls 0
+abbrev pub hash_of_list : ℕ → ListKey → ℕ
+hash_of_list seed Empty = hash_of_words seed 0 0 0 0
+hash_of_list seed (Cons l ls) = hash_of_words seed 1 l ls 0
 
-abbrev pub hash_of_tree : TreeKey → ℕ
-hash_of_tree (Var i) = hash_of_words 0 i 0 0
-hash_of_tree (Sort l) = hash_of_words 1 l 0 0
-hash_of_tree (Const n ls) = hash_of_words 2 n ls 0
-hash_of_tree (App f a) = hash_of_words 3 f a 0
-hash_of_tree (Lam A b) = hash_of_words 4 A b 0
-hash_of_tree (Pi A B) = hash_of_words 5 A B 0
-hash_of_tree (Let A v b) = hash_of_words 6 A v b
-hash_of_tree (Proj S i s) = hash_of_words 7 S i s
-hash_of_tree (Lit n) = hash_of_words 8 n 0 0
-hash_of_tree Wide = hash_of_words 9 0 0 0
-hash_of_tree (Str s) = hash_of_words 10 s 0 0
-hash_of_tree (Local k T) = hash_of_words 11 k T 0
+abbrev pub hash_of_tree : ℕ → TreeKey → ℕ
+hash_of_tree seed (Var i) = hash_of_words seed 0 i 0 0
+hash_of_tree seed (Sort l) = hash_of_words seed 1 l 0 0
+hash_of_tree seed (Const n ls) = hash_of_words seed 2 n ls 0
+hash_of_tree seed (App f a) = hash_of_words seed 3 f a 0
+hash_of_tree seed (Lam A b) = hash_of_words seed 4 A b 0
+hash_of_tree seed (Pi A B) = hash_of_words seed 5 A B 0
+hash_of_tree seed (Let A v b) = hash_of_words seed 6 A v b
+hash_of_tree seed (Proj S i s) = hash_of_words seed 7 S i s
+hash_of_tree seed (Lit n) = hash_of_words seed 8 n 0 0
+hash_of_tree seed Wide = hash_of_words seed 9 0 0 0
+hash_of_tree seed (Str s) = hash_of_words seed 10 s 0 0
+hash_of_tree seed (Local k T) = hash_of_words seed 11 k T 0
 
 -- a name among earlier ones
 abbrev pub key_name : List (List ℕ) → List Name → NameKey → Name

@@ -4,15 +4,15 @@ ghost use Rattle.std.specs.Prelude.{◌≡◌, ◌↔◌, IsTrue};
 ghost use Rattle.lk_store.specs.Hashes.{hash_of_number};
 ghost use Rattle.lk_store.specs.Keys.{hash_of_name, hash_of_level, hash_of_list, hash_of_tree};
 
-use crate::hashing::{hash_words, mix};
+use crate::hashing::{hash_pair, hash_words, mix};
 use lk_rows::row::Row;
 
 /// The hash of a number.
 #[inline(always)]
-fn hash_number(n: u128) -> u64
-    ensures { result ≡ hash_of_number n }
+fn hash_number(seed: u64, n: u128) -> u64
+    ensures { result ≡ hash_of_number seed n }
 {
-    mix((n & 0xFFFF_FFFF_FFFF_FFFF) as u64, (n >> 64) as u64)
+    hash_pair(seed, (n & 0xFFFF_FFFF_FFFF_FFFF) as u64, (n >> 64) as u64)
 }
 
 /// A number that takes more than 31 bits.
@@ -28,16 +28,16 @@ impl Row for Number {
 
     ghost use Rattle.lk_store.specs.Hashes.{hash_of_number};
 
-    ghost hash = { λ n. hash_of_number n.value };
+    ghost hash = { λ seed n. hash_of_number seed n.value };
 
     #[inline(always)]
-    fn hash_of(wanted: &Number) -> u64 {
-        hash_number(wanted.value)
+    fn hash_of(seed: u64, wanted: &Number) -> u64 {
+        hash_number(seed, wanted.value)
     }
 
     #[inline(always)]
-    fn own_hash(&self) -> u64 {
-        hash_number(self.value)
+    fn own_hash(&self, seed: u64) -> u64 {
+        hash_number(seed, self.value)
     }
 
     #[inline(always)]
@@ -55,13 +55,13 @@ pub enum NameKey {
 }
 
 #[inline(always)]
-fn hash_name(key: &NameKey) -> u64
-    ensures { result ≡ hash_of_name key.now }
+fn hash_name(seed: u64, key: &NameKey) -> u64
+    ensures { result ≡ hash_of_name seed key.now }
 {
     match *key {
-        NameKey::Anonymous => hash_words(0, 0, 0, 0),
-        NameKey::Text(a, b) => hash_words(1, a, b, 0),
-        NameKey::Number(a, n) => mix(hash_words(2, a, 0, 0), n),
+        NameKey::Anonymous => hash_words(seed, 0, 0, 0, 0),
+        NameKey::Text(a, b) => hash_words(seed, 1, a, b, 0),
+        NameKey::Number(a, n) => mix(hash_words(seed, 2, a, 0, 0), n),
     }
 }
 
@@ -75,13 +75,13 @@ impl Row for NameKey {
     ghost hash = { hash_of_name };
 
     #[inline(always)]
-    fn hash_of(wanted: &NameKey) -> u64 {
-        hash_name(wanted)
+    fn hash_of(seed: u64, wanted: &NameKey) -> u64 {
+        hash_name(seed, wanted)
     }
 
     #[inline(always)]
-    fn own_hash(&self) -> u64 {
-        hash_name(self)
+    fn own_hash(&self, seed: u64) -> u64 {
+        hash_name(seed, self)
     }
 
     #[inline(always)]
@@ -101,15 +101,15 @@ pub enum LevelKey {
 }
 
 #[inline(always)]
-fn hash_level(key: &LevelKey) -> u64
-    ensures { result ≡ hash_of_level key.now }
+fn hash_level(seed: u64, key: &LevelKey) -> u64
+    ensures { result ≡ hash_of_level seed key.now }
 {
     match *key {
-        LevelKey::Zero => hash_words(0, 0, 0, 0),
-        LevelKey::Succ(a) => hash_words(1, a, 0, 0),
-        LevelKey::Max(a, b) => hash_words(2, a, b, 0),
-        LevelKey::IMax(a, b) => hash_words(3, a, b, 0),
-        LevelKey::Param(a) => hash_words(4, a, 0, 0),
+        LevelKey::Zero => hash_words(seed, 0, 0, 0, 0),
+        LevelKey::Succ(a) => hash_words(seed, 1, a, 0, 0),
+        LevelKey::Max(a, b) => hash_words(seed, 2, a, b, 0),
+        LevelKey::IMax(a, b) => hash_words(seed, 3, a, b, 0),
+        LevelKey::Param(a) => hash_words(seed, 4, a, 0, 0),
     }
 }
 
@@ -131,13 +131,13 @@ impl Row for LevelRow {
     ghost hash = { hash_of_level };
 
     #[inline(always)]
-    fn hash_of(wanted: &LevelKey) -> u64 {
-        hash_level(wanted)
+    fn hash_of(seed: u64, wanted: &LevelKey) -> u64 {
+        hash_level(seed, wanted)
     }
 
     #[inline(always)]
-    fn own_hash(&self) -> u64 {
-        hash_level(&self.key)
+    fn own_hash(&self, seed: u64) -> u64 {
+        hash_level(seed, &self.key)
     }
 
     #[inline(always)]
@@ -154,12 +154,12 @@ pub enum ListKey {
 }
 
 #[inline(always)]
-fn hash_list(key: &ListKey) -> u64
-    ensures { result ≡ hash_of_list key.now }
+fn hash_list(seed: u64, key: &ListKey) -> u64
+    ensures { result ≡ hash_of_list seed key.now }
 {
     match *key {
-        ListKey::Empty => hash_words(0, 0, 0, 0),
-        ListKey::Cons(a, b) => hash_words(1, a, b, 0),
+        ListKey::Empty => hash_words(seed, 0, 0, 0, 0),
+        ListKey::Cons(a, b) => hash_words(seed, 1, a, b, 0),
     }
 }
 
@@ -181,13 +181,13 @@ impl Row for ListRow {
     ghost hash = { hash_of_list };
 
     #[inline(always)]
-    fn hash_of(wanted: &ListKey) -> u64 {
-        hash_list(wanted)
+    fn hash_of(seed: u64, wanted: &ListKey) -> u64 {
+        hash_list(seed, wanted)
     }
 
     #[inline(always)]
-    fn own_hash(&self) -> u64 {
-        hash_list(&self.key)
+    fn own_hash(&self, seed: u64) -> u64 {
+        hash_list(seed, &self.key)
     }
 
     #[inline(always)]
@@ -214,22 +214,22 @@ pub enum TreeKey {
 }
 
 #[inline(always)]
-fn hash_tree(key: &TreeKey) -> u64
-    ensures { result ≡ hash_of_tree key.now }
+fn hash_tree(seed: u64, key: &TreeKey) -> u64
+    ensures { result ≡ hash_of_tree seed key.now }
 {
     match *key {
-        TreeKey::Var(a) => hash_words(0, a, 0, 0),
-        TreeKey::Sort(a) => hash_words(1, a, 0, 0),
-        TreeKey::Const(a, b) => hash_words(2, a, b, 0),
-        TreeKey::App(a, b) => hash_words(3, a, b, 0),
-        TreeKey::Lam(a, b) => hash_words(4, a, b, 0),
-        TreeKey::Pi(a, b) => hash_words(5, a, b, 0),
-        TreeKey::Let(a, b, c) => hash_words(6, a, b, c),
-        TreeKey::Proj(a, b, c) => hash_words(7, a, b, c),
-        TreeKey::Lit(a) => hash_words(8, a, 0, 0),
-        TreeKey::Wide => hash_words(9, 0, 0, 0),
-        TreeKey::Str(a) => hash_words(10, a, 0, 0),
-        TreeKey::Local(a, b) => hash_words(11, a, b, 0),
+        TreeKey::Var(a) => hash_words(seed, 0, a, 0, 0),
+        TreeKey::Sort(a) => hash_words(seed, 1, a, 0, 0),
+        TreeKey::Const(a, b) => hash_words(seed, 2, a, b, 0),
+        TreeKey::App(a, b) => hash_words(seed, 3, a, b, 0),
+        TreeKey::Lam(a, b) => hash_words(seed, 4, a, b, 0),
+        TreeKey::Pi(a, b) => hash_words(seed, 5, a, b, 0),
+        TreeKey::Let(a, b, c) => hash_words(seed, 6, a, b, c),
+        TreeKey::Proj(a, b, c) => hash_words(seed, 7, a, b, c),
+        TreeKey::Lit(a) => hash_words(seed, 8, a, 0, 0),
+        TreeKey::Wide => hash_words(seed, 9, 0, 0, 0),
+        TreeKey::Str(a) => hash_words(seed, 10, a, 0, 0),
+        TreeKey::Local(a, b) => hash_words(seed, 11, a, b, 0),
     }
 }
 
@@ -257,13 +257,13 @@ impl Row for TreeRow {
     ghost hash = { hash_of_tree };
 
     #[inline(always)]
-    fn hash_of(wanted: &TreeKey) -> u64 {
-        hash_tree(wanted)
+    fn hash_of(seed: u64, wanted: &TreeKey) -> u64 {
+        hash_tree(seed, wanted)
     }
 
     #[inline(always)]
-    fn own_hash(&self) -> u64 {
-        hash_tree(&self.key)
+    fn own_hash(&self, seed: u64) -> u64 {
+        hash_tree(seed, &self.key)
     }
 
     #[inline(always)]

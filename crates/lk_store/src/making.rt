@@ -48,7 +48,7 @@ fn encode_large(base: &Tables, own: &mut Tables, n: u128) -> Result<u32, NoMemor
     ensures same_trees { own.new.trees ≡ own.old.trees }
 {
     let number = Number { value: n };
-    let hash = Number::hash_of(&number);
+    let hash = Number::hash_of(0, &number);
     match find(&base.numbers, &own.numbers, &number, hash, true) {
         Some(i) => Ok(i as u32 + 0x8000_0000),
         None => {
@@ -140,7 +140,7 @@ pub(crate) fn make_level_in(
     ensures err { OnErr result (own.new ≡ own.old) }
 {
     let key = level_key(node);
-    let hash = LevelRow::hash_of(&key);
+    let hash = LevelRow::hash_of(0, &key);
     let in_base = has_level_parts(base, key);
     match find(&base.levels, &own.levels, &key, hash, in_base) {
         Some(l) => Ok(l),
@@ -168,7 +168,7 @@ pub(crate) fn make_list_in(base: &Tables, own: &mut Tables, node: ListNode) -> R
     ensures err { OnErr result (own.new ≡ own.old) }
 {
     let key = list_key(node);
-    let hash = ListRow::hash_of(&key);
+    let hash = ListRow::hash_of(0, &key);
     let in_base = has_list_parts(base, key);
     match find(&base.lists, &own.lists, &key, hash, in_base) {
         Some(ls) => Ok(ls),
@@ -191,7 +191,7 @@ pub(crate) fn make_name_in(base: &Tables, own: &mut Tables, node: NameNode) -> R
     ensures err { OnErr result (own.new ≡ own.old) }
 {
     let key = name_key(node);
-    let hash = NameKey::hash_of(&key);
+    let hash = NameKey::hash_of(0, &key);
     let in_base = has_name_parts(base, key);
     match find(&base.names, &own.names, &key, hash, in_base) {
         Some(n) => Ok(n),
@@ -213,7 +213,7 @@ pub(crate) fn find_name_in(base: &Tables, own: &Tables, node: NameNode) -> Optio
         IfSome result (λ n. IsName c n (name_of c node)) }
 {
     let key = name_key(node);
-    let hash = NameKey::hash_of(&key);
+    let hash = NameKey::hash_of(0, &key);
     let in_base = has_name_parts(base, key);
     find(&base.names, &own.names, &key, hash, in_base)
 }
@@ -225,7 +225,7 @@ pub(crate) fn make_text_in(base: &Tables, own: &mut Tables, text: Text) -> Resul
     ensures ok { IfOk result (λ s. IsText (contents_of (over base.now own.new)) s text) }
     ensures err { OnErr result (own.new ≡ own.old) }
 {
-    let hash = Text::hash_of(&text);
+    let hash = Text::hash_of(0, &text);
     match find(&base.texts, &own.texts, &text, hash, true) {
         Some(s) => Ok(s),
         None => {
@@ -326,7 +326,7 @@ pub(crate) fn make_in(base: &Tables, own: &mut Tables, node: Node) -> Result<u64
         OnErr result (contents_of (over base.now own.new) ≡ c) }
 {
     let key = tree_key(base, own, node)?;
-    let hash = TreeRow::hash_of(&key);
+    let hash = TreeRow::hash_of(0, &key);
     let in_base = has_tree_parts(base, key);
     match find(&base.trees, &own.trees, &key, hash, in_base) {
         Some(e) => Ok(e),

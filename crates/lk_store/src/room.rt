@@ -1,7 +1,7 @@
 //! The room that a walk over the terms of a store works in. The store keeps it between walks, so
 //! that they do not each take memory anew.
 
-use crate::hashing::mix;
+use crate::hashing::hash_pair;
 use crate::node::Node;
 use lk_rows::row::Row;
 use lk_rows::table::Table;
@@ -32,13 +32,13 @@ impl Row for Made {
     ghost hash = { hash_of_spot };
 
     #[inline(always)]
-    fn hash_of(wanted: &Spot) -> u64 {
-        mix(wanted.e, wanted.depth)
+    fn hash_of(seed: u64, wanted: &Spot) -> u64 {
+        hash_pair(seed, wanted.e, wanted.depth)
     }
 
     #[inline(always)]
-    fn own_hash(&self) -> u64 {
-        mix(self.spot.e, self.spot.depth)
+    fn own_hash(&self, seed: u64) -> u64 {
+        hash_pair(seed, self.spot.e, self.spot.depth)
     }
 
     #[inline(always)]

@@ -52,12 +52,12 @@ impl Row for Text {
 
     ghost hash = { hash_of_bytes };
 
-    fn hash_of(wanted: &Text) -> u64 {
-        hash_bytes(wanted.as_bytes())
+    fn hash_of(seed: u64, wanted: &Text) -> u64 {
+        hash_bytes(seed, wanted.as_bytes())
     }
 
-    fn own_hash(&self) -> u64 {
-        hash_bytes(self.as_bytes())
+    fn own_hash(&self, seed: u64) -> u64 {
+        hash_bytes(seed, self.as_bytes())
     }
 
     fn has(&self, wanted: &Text) -> bool {

@@ -2,12 +2,12 @@
 use Rattle.std.specs.Prelude.{ℕ, ◌<◌, ◌+◌, List, length, All, sum_by, Bool, true, false}
 use Rattle.lk_tree.specs.Tree.{Level, succ_level, max_level, imax_level}
 use Rattle.lk_store.specs.Contents.{Contents, level_at}
-use Rattle.lk_store.specs.Hashes.{mixed}
+use Rattle.lk_store.specs.Hashes.{hash_of_pair}
 use Rattle.lk_subst.specs.declared.parts.Met.{Met}
 use Rattle.lk_subst.specs.declared.parts.Visit.{Visit}
 
-abbrev pub hash_of_level : ℕ → ℕ
-hash_of_level l = mixed l 0
+abbrev pub hash_of_level : ℕ → ℕ → ℕ
+hash_of_level seed l = hash_of_pair seed l 0
 
 -- numbers of levels
 abbrev pub AreMet : Contents → List Met → Type 0

@@ -13,7 +13,7 @@ pub loop-at-init : goal.loop-at-init
 loop-at-init g c =
     let chained = c.requires.table.chained (let w = c.bucket_of-b.ensures.within in omega arith) in
     let key = g.R.Row.key in
-    let hash = g.R.Row.hash in
+    let hash = g.R.Row.hash c.args.seed in
     let is_b : c.bucket_of-b.result ≡ bucket (hash c.args.key.now) (length c.args.heads.now) =
     c.bucket_of-b.ensures.value ∙ ap (λ h. bucket h (length c.args.heads.now)) c.requires.hash in
     let lead = chained.linked.heads_lead c.bucket_of-b.result c.bucket_of-b.ensures.within in
@@ -27,7 +27,7 @@ pub loop-at-preserved : goal.loop-at-preserved
 loop-at-preserved g c =
     let chained = c.requires.table.chained (let w = c.bucket_of-b.ensures.within in omega arith) in
     let key = g.R.Row.key in
-    let hash = g.R.Row.hash in
+    let hash = g.R.Row.hash c.args.seed in
     let rows = c.args.rows.now in
     let i = c.loop-at.at - 1 in
     let in_range : i < length rows = let h = c.loop-at.invariant.in_range in let n = c.loop-at-test.true in omega arith in

@@ -7,7 +7,7 @@ use Rattle.lk_rows.proofs.table.link_all.Goals as goal
 pub loop-i-preserved : goal.loop-i-preserved
 loop-i-preserved g c =
     let key = g.R.Row.key in
-    let hash = g.R.Row.hash in
+    let hash = g.R.Row.hash c.args.seed in
     let rows = c.args.rows.now in
     let heads = c.loop-i.heads in
     let bs = buckets_of key hash rows (length heads) in
