@@ -2,7 +2,6 @@
 use Rattle.std.specs.Prelude.{◌≡◌, ℕ, List, []}
 use Rattle.lk_desk.specs.declared.view.View.{View}
 use Rattle.lk_desk.specs.Job.{Job, job_of}
-use Rattle.lk_desk.specs.Holdings.{Holding}
 use Rattle.lk_desk.specs.Rule.{Slot}
 use Rattle.lk_desk.specs.declared.table.Seat.{Seat}
 use Rattle.lk_desk.specs.declared.table.Desk.{Desk}
@@ -26,7 +25,3 @@ IsOf seat desk = (seat.token.table_id ≡ desk.table.shared.table_id) × ((view 
 -- and has no shard in hand
 abbrev pub Sits : Seat → Desk → Type 0
 Sits seat desk = (seat.token.table_id ≡ desk.table.shared.table_id) × ((view seat).job ≡ job desk) × (hand seat ≡ [])
-
--- what is said of a seat by whoever holds it
-abbrev pub holding : Seat → Holding
-holding seat = (seat.token.table_id, (view seat).drawn, (view seat).ended, (view seat).seats)

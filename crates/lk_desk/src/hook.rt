@@ -12,7 +12,7 @@ use crate::shelf::{Left, Shelf, leave_on, look_on};
 use crate::table::{Desk, Seat};
 use lk_ask::kept::Kept;
 use lk_memo::key::Key;
-use lk_rows::memory::NoMemory;
+use lk_store::memory::NoMemory;
 
 /// The shards of a desk, as a seat takes and gives them.
 #[derive(Drop)]

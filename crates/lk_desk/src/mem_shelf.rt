@@ -7,7 +7,7 @@ ghost use Rattle.lk_desk.specs.Memory.{AllTrue};
 use crate::shard::Shard;
 use crate::shelf::Shelf;
 use lk_env::library::Library;
-use lk_rows::memory::NoMemory;
+use lk_store::memory::NoMemory;
 use std::alloc::Global;
 use std::marker::Model;
 use std::mem::replace;

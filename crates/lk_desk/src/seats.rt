@@ -9,7 +9,7 @@ use crate::shard::Shard;
 use crate::table::{Claims, Counted, Counts, Cuts, Desk, Loads, Merges, Seat};
 use atomic_table::Table;
 use lk_env::library::Library;
-use lk_rows::memory::NoMemory;
+use lk_store::memory::NoMemory;
 use std::alloc::Global;
 
 const SHARDS: usize = 64;
@@ -28,12 +28,13 @@ fn empty_shards(alloc: Global, count: usize) -> Result<Vec<Option<Shard>>, NoMem
 }
 
 impl Desk {
-    /// A desk for the units of a library, and its first seat.
+    /// A desk for the units of a library, and its first seat. No desk has room for 2^32 units.
     pub fn new(alloc: Global, library: &Library) -> Result<(Desk, Seat), NoMemory>
-        requires { units_of (job_of library.now) < 2 ^ 32 }
         ensures { IfOk result (λ d. Sits d.1 d.0 × (job d.0 ≡ job_of library.now) × (view d.1 ≡ first_view (job_of library.now))) }
     {
-        let units = library.units().len() as u32;
+        let Ok(units) = u32::try_from(library.units().len()) else {
+            return Err(NoMemory);
+        };
         let slots = empty_shards(alloc, SHARDS)?;
         let mut words = [0; 66];
         words[1] = 1;

@@ -6,7 +6,7 @@ ghost use Rattle.lk_desk.specs.Shards.{kind_number, shard_number, Finds, Misses,
 
 use lk_ask::kept::Kept;
 use lk_memo::key::{Key, Kind};
-use lk_rows::memory::NoMemory;
+use lk_store::memory::NoMemory;
 use std::alloc::Global;
 use std::collections::HashMap;
 

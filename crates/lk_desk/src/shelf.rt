@@ -11,10 +11,10 @@ ghost use Rattle.lk_desk.specs.Shelves.{Told, Numbered, AsBefore, AsTaken, AsGiv
 use crate::shard::{Shard, shard_of};
 use lk_ask::kept::Kept;
 use lk_memo::key::Key;
-use lk_rows::memory::NoMemory;
+use lk_store::memory::NoMemory;
 
 /// How an answer was left: its shard has it, its shard was out, or its shard has no room.
-#[derive(Clone, Copy, Debug, PartialEq, Eq)]
+#[derive(Clone, Copy)]
 pub enum Left {
     Stored,
     Out,
