@@ -36,6 +36,10 @@ times x v = count_by (λ y. y == x) v.drawn
 abbrev pub once_below : ℕ → ℕ → ℕ
 once_below x n = if nat_lt x n then 1 else 0
 
+-- the view has each number below n once, and no other
+abbrev pub HasEach : View → ℕ → Type 0
+HasEach v n = (x : ℕ) → times x v ≡ once_below x n
+
 -- What is so of a live view, with the claim word at `next`.
 pub record IsLive (job : Job) (next : ℕ) (v : View) : Type 0 where
   pub same_job : v.job ≡ job

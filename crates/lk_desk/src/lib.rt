@@ -1,5 +1,5 @@
-//! A desk that threads share: numbers of units that seats draw, each once, seats that are cut and joined, and shards of
-//! answers that seats take and give back. None of its calls waits.
+//! A desk that threads share: numbers of units that seats draw, each once, seats that are cut and
+//! joined, and shards of answers that seats take and give back. None of its calls waits.
 #![tactic(auto)]
 
 pub mod hook;
