@@ -1,5 +1,5 @@
 -- A seat of a desk.
-use Rattle.std.specs.Prelude.{◌≡◌, ◌+◌, ◌<◌, ◌++◌, ◌∷◌, ℕ, List, [], All, true, false}
+use Rattle.std.specs.Prelude.{◌≡◌, ◌<◌, ◌++◌, ◌∷◌, ℕ, List, [], All, true}
 use Rattle.lk_desk.specs.declared.view.View.{View}
 use Rattle.lk_desk.specs.Job.{Job, job_of}
 use Rattle.lk_desk.specs.Rule.{Slot, first_view}
