@@ -3,7 +3,7 @@ use Rattle.std.proofs.Common.{◌≡◌, ℕ, Bool, true, false, List, [], Ok, E
 use Rattle.std.specs.Prelude.{IfSome, IfOk, OnErr}
 use Rattle.std.proofs.lemmas.Map.Views.{Contains-from_lookup}
 use Rattle.lk_plain.specs.Laws.{IsBelow}
-use Rattle.lk_rows.specs.declared.memory.NoMemory.{NoMemory}
+use Rattle.lk_store.specs.declared.memory.NoMemory.{NoMemory}
 use Rattle.lk_ask.specs.declared.kept.Kept.{Kept}
 use Rattle.lk_memo.specs.declared.key.Key.{Key}
 use Rattle.lk_desk.specs.Job.{Job}

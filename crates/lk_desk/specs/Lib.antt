@@ -5,7 +5,6 @@ pub mod Rule
 pub mod Steps
 pub mod Machine
 pub mod Once
-pub mod Holdings
 pub mod Seats
 pub mod Shelves
 pub mod Held

@@ -36,6 +36,10 @@ times x v = count_by (λ y. y == x) v.drawn
 abbrev pub once_below : ℕ → ℕ → ℕ
 once_below x n = if nat_lt x n then 1 else 0
 
+-- the view has each number below n once, and no other
+abbrev pub HasEach : View → ℕ → Type 0
+HasEach v n = (x : ℕ) → times x v ≡ once_below x n
+
 -- What is so of a live view, with the claim word at `next`.
 pub record IsLive (job : Job) (next : ℕ) (v : View) : Type 0 where
   pub same_job : v.job ≡ job
@@ -54,16 +58,16 @@ pub record IsDesk (job : Job) (s : Desk) : Type 0 where
   pub words : length s.words ≡ 66
   pub homes : length s.homes ≡ 64
   pub small : units_of job < 2 ^ 32
-  -- 1 and 3: all live views name one job, and how they end
+  -- all live views name one job, and end as `IsLive` says
   pub each : (id : ℕ) (v : View) → get_elem? s.views id ≡ some v → IsSeated job (claim_word s) v
-  -- 2: each number below the claim word and below the units stands in one live view's list, once, and no other number stands in one
+  -- each number below the claim word and below the units stands in one live view's list, once, and no other number stands in one
   pub once : (x : ℕ) → sum_by (times x) s.views ≡ once_below x (min (claim_word s) (units_of job))
-  -- 3: the claim word passes the units by no more than was drawn past them
+  -- the claim word passes the units by no more than was drawn past them
   pub bound : claim_word s ≤ units_of job + sum_by (λ v. v.overdrawn) s.views
-  -- 4: the seats that the live views came from, with those about to come, are the seats made, and the word passes 65,536 by the refusals noted
+  -- the seats that the live views came from, with those about to come, are the seats made, and the word passes 65,536 by the refusals noted
   pub seats : sum_by (λ v. v.seats + v.pending) s.views ≡ min (seat_word s) 65536
   pub refused : seat_word s ≡ min (seat_word s) 65536 + sum_by (λ v. v.refusals) s.views
-  -- 5: a shard whose word is 0 is at home, with at most 4,096 entries, all true of the job
+  -- a shard whose word is 0 is at home, with at most 4,096 entries, all true of the job
   pub home : (k : ℕ) → k < 64 → slice_index s.words (k + 2) ≡ 0 → (x : Shard) × (get_elem? s.homes k ≡ some (some (Some x))) × AreTrue job (entries_of x)
 
 -- a shard with no entry

@@ -6,7 +6,7 @@ use Rattle.lk_ask.specs.declared.kept.Kept.{Kept}
 use Rattle.lk_memo.specs.declared.key.Key.{Key}
 use Rattle.lk_memo.specs.declared.key.Kind.{Kind}
 use Rattle.lk_memo.specs.declared.key.Kind.TheVariants.{Core, Whnf, Infer, Same}
-pub use Rattle.lk_memo.specs.Entries.{same_key}
+pub use Rattle.lk_memo.specs.Keys.{same_key}
 
 abbrev pub kind_number : Kind → ℕ
 kind_number Core = 0

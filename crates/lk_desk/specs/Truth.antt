@@ -1,9 +1,9 @@
 -- What a shard's answers say, and when they are true.
-use Rattle.std.specs.Prelude.{◌≡◌, ℕ, ◌+◌, ◌≤◌, List, [], length, Contains, Option, Some, None}
+use Rattle.std.specs.Prelude.{ℕ, ◌+◌, ◌≤◌, List, [], length, Contains, Option, Some, None}
 use Rattle.lk_rulebook.specs.Place.{Place}
 use Rattle.lk_rulebook.specs.Units.{place_of}
-use Rattle.lk_plain.specs.Erased.{out_of, finished}
-use Rattle.lk_table.specs.Built.{rows}
+use Rattle.lk_plain.specs.Erased.{out_of, IsAnsweredAt}
+use Rattle.lk_questions.specs.Table.{steps}
 use Rattle.lk_store.specs.Contents.{tree_at}
 use Rattle.lk_store.specs.Store.{contents_of}
 use Rattle.lk_store.specs.declared.tables.Tables.{Tables}
@@ -42,12 +42,13 @@ above (Some t) = t + 1
 abbrev pub place_above : Tables × List StoredUnit → Option ℕ → Place
 place_above l t = place_of (library_of l) (above t) []
 
--- asked above all units that were looked at for it, the question of the key has this plain answer under just this cost. Terms
+-- asked at the place above all units that were looked at for it, the question of the key has this answer, at just this cost. Terms
 -- are numbers of the library's store
 pub record IsTrueIn (l : Tables × List StoredUnit) (key : Key) (kept : Kept) : Type 0 where
   pub query : IsKnownQuery (length (contents_of l.0).trees) (question_of key)
   pub answer : IsKnownAnswer (length (contents_of l.0).trees) kept.answer
-  pub is : out_of rows (place_above l kept.top) (query_of (tree_at (contents_of l.0)) (question_of key)) kept.cost ≡ finished (value_at (tree_at (contents_of l.0)) kept.answer) 0 kept.top
+  pub is : IsAnsweredAt (out_of steps (place_above l kept.top) (query_of (tree_at (contents_of l.0)) (question_of key)))
+      (value_at (tree_at (contents_of l.0)) kept.answer) kept.cost kept.top
 
 unfoldable pub IsTrueOf : Job → Key → Kept → Type 0
 IsTrueOf None key kept = ⊥

@@ -1,4 +1,5 @@
 //! The shelf of a desk and a seat.
+
 ghost use Rattle.std.specs.Prelude.{◌≡◌, ◌+◌, ◌<◌, ◌≤◌, ◌⊎◌, ℕ, [], ◌∷◌, IfOk, IfSome, IfNone, Some, None, true};
 ghost use Rattle.lk_plain.specs.Laws.{IsBelow};
 ghost use Rattle.lk_desk.specs.Truth.{IsTrueOf};
@@ -12,7 +13,7 @@ use crate::shelf::{Left, Shelf, leave_on, look_on};
 use crate::table::{Desk, Seat};
 use lk_ask::kept::Kept;
 use lk_memo::key::Key;
-use lk_rows::memory::NoMemory;
+use lk_store::memory::NoMemory;
 
 /// The shards of a desk, as a seat takes and gives them.
 #[derive(Drop)]
@@ -24,7 +25,8 @@ pub struct Hook<'a> {
 }
 
 impl<'a> Shelf for Hook<'a> {
-    ghost use Rattle.lk_desk.specs.Hooks.{hook_job, hook_place, hook_table, hook_rest, hook_outs, hook_in_hand, hook_tells, hook_told, hook_remembers, hook_takes, hook_taken, hook_returned};
+    ghost use Rattle.lk_desk.specs.Hooks.{hook_job, hook_place, hook_table, hook_rest, hook_outs, hook_in_hand};
+    ghost use Rattle.lk_desk.specs.Hooks.{hook_tells, hook_told, hook_remembers, hook_takes, hook_taken, hook_returned};
 
     ghost job = { hook_job };
 
@@ -60,27 +62,35 @@ impl<'a> Shelf for Hook<'a> {
 }
 
 impl Desk {
-    /// A true answer to the question, for which only units below this one were looked at. There is none only where a shard
-    /// was out, or where the question's shard was taken, once, and had no such answer. It takes no memory.
+    /// A true answer to the question, for which only units below this one were looked at. There is
+    /// none only where a shard was out, or where the question's shard was taken, once, and had no such
+    /// answer. It takes no memory.
     pub fn look(&self, seat: &mut Seat, unit: u32, key: Key) -> Option<Kept>
         requires { Sits seat.old self.now }
-        ensures of { Sits seat.new self.now × (still (view seat.new) ≡ still (view seat.old)) }
+        ensures sits { Sits seat.new self.now }
+        ensures still { still (view seat.new) ≡ still (view seat.old) }
         ensures some { IfSome result (λ a. IsTrueOf (job self.now) key a × IsBelow a.top unit) }
-        ensures none { IfNone result (((view seat.old).outs < (view seat.new).outs) ⊎ (((view seat.new).takes ≡ (view seat.old).takes + 1) × TakenMisses (shard_number key) (view seat.new).taken key unit)) }
-        ensures returned { ((view seat.old).outs < (view seat.new).outs) ⊎ ((view seat.new).returned ≡ (view seat.new).taken) }
+        ensures none { IfNone result (((view seat.old).outs < (view seat.new).outs)
+            ⊎ (((view seat.new).takes ≡ (view seat.old).takes + 1)
+            × TakenMisses (shard_number key) (view seat.new).taken key unit)) }
+        ensures returned { ((view seat.old).outs < (view seat.new).outs)
+            ⊎ ((view seat.new).returned ≡ (view seat.new).taken) }
         ensures outs { (view seat.old).outs ≤ (view seat.new).outs }
     {
         let mut hook = Hook { desk: self, seat };
         look_on(&mut hook, unit, key)
     }
 
-    /// Leaves a true answer. `Out` comes only where a shard was out, `Full` only where the question's shard was taken, once,
-    /// and has no room.
+    /// Leaves a true answer. `Out` comes only where a shard was out, `Full` only where the question's
+    /// shard was taken, once, and has no room.
     pub fn leave(&self, seat: &mut Seat, key: Key, kept: Kept) -> Result<Left, NoMemory>
         requires of { Sits seat.old self.now }
         requires true_entry { IsTrueOf (job self.now) key kept }
-        ensures of { Sits seat.new self.now × (still (view seat.new) ≡ still (view seat.old)) }
-        ensures left { IfOk result (λ l. LeftSo l ((view seat.new).takes ≡ (view seat.old).takes + 1) (shard_number key) (view seat.new).taken (view seat.new).returned key kept) }
+        ensures sits { Sits seat.new self.now }
+        ensures still { still (view seat.new) ≡ still (view seat.old) }
+        ensures left { IfOk result (λ l. LeftSo l
+            ((view seat.new).takes ≡ (view seat.old).takes + 1) (shard_number key)
+            (view seat.new).taken (view seat.new).returned key kept) }
         ensures out { IfOk result (λ l. IfOut l ((view seat.old).outs < (view seat.new).outs)) }
         ensures outs { (view seat.old).outs ≤ (view seat.new).outs }
     {

@@ -1,4 +1,5 @@
 //! A shelf in memory, with all its shards at home. It tells their answers.
+
 ghost use Rattle.std.specs.Prelude.{◌≡◌, ◌<◌, ℕ, [], IfOk, All, None, length};
 ghost use Rattle.lk_desk.specs.Job.{job_of};
 ghost use Rattle.lk_desk.specs.Truth.{entries_of};
@@ -7,7 +8,7 @@ ghost use Rattle.lk_desk.specs.Memory.{AllTrue};
 use crate::shard::Shard;
 use crate::shelf::Shelf;
 use lk_env::library::Library;
-use lk_rows::memory::NoMemory;
+use lk_store::memory::NoMemory;
 use std::alloc::Global;
 use std::marker::Model;
 use std::mem::replace;
@@ -38,7 +39,8 @@ impl<'a> Model for MemShelf<'a> {
 
     ghost view = { λ s. (s.library.now, map entries_of s.shards.items, s.out) };
 
-    ghost invariant = { λ s. (length s.shards.items ≡ 64) × AllTrue (job_of s.library.now) s.shards.items };
+    ghost invariant = { λ s. (length s.shards.items ≡ 64)
+        × AllTrue (job_of s.library.now) s.shards.items };
 }
 
 fn empty_shards(alloc: Global, library: &Library) -> Result<Vec<Shard>, NoMemory>
@@ -73,7 +75,8 @@ impl<'a> MemShelf<'a> {
 }
 
 impl<'a> Shelf for MemShelf<'a> {
-    ghost use Rattle.lk_desk.specs.Memory.Told.{mem_job, mem_place, mem_table, mem_rest, mem_outs, mem_in_hand, mem_tells, mem_told, mem_remembers, mem_takes, mem_taken};
+    ghost use Rattle.lk_desk.specs.Memory.Told.{mem_job, mem_place, mem_table, mem_rest, mem_outs, mem_in_hand};
+    ghost use Rattle.lk_desk.specs.Memory.Told.{mem_tells, mem_told, mem_remembers, mem_takes, mem_taken};
 
     ghost job = { mem_job };
 

@@ -1,15 +1,16 @@
 //! A desk is made; seats draw numbers, are cut and are joined.
-ghost use Rattle.std.specs.Prelude.{◌≡◌, ◌+◌, ◌<◌, ◌≤◌, ◌^◌, ◌++◌, ◌∷◌, [], ℕ, IfOk, IfSome, IfNone, IsNone, All, true, false, length};
+
+ghost use Rattle.std.specs.Prelude.{◌≡◌, ◌+◌, ◌<◌, IfOk, IfSome, IfNone, IsNone, All, true, false, length};
 ghost use Rattle.lk_desk.specs.Job.{job_of, units_of};
-ghost use Rattle.lk_desk.specs.Rule.{first_view, times, once_below, IsEmptyShard};
+ghost use Rattle.lk_desk.specs.Rule.{HasEach, IsEmptyShard};
 ghost use Rattle.lk_desk.specs.Steps.{both_views};
-ghost use Rattle.lk_desk.specs.Seats.{view, hand, job, IsOf, Sits};
+ghost use Rattle.lk_desk.specs.Seats.{view, job, IsOf, Sits, IsNew, Stays, IsUnchanged, Drew, Ended, WasRefused};
 
 use crate::shard::Shard;
 use crate::table::{Claims, Counted, Counts, Cuts, Desk, Loads, Merges, Seat};
 use atomic_table::Table;
 use lk_env::library::Library;
-use lk_rows::memory::NoMemory;
+use lk_store::memory::NoMemory;
 use std::alloc::Global;
 
 const SHARDS: usize = 64;
@@ -28,12 +29,14 @@ fn empty_shards(alloc: Global, count: usize) -> Result<Vec<Option<Shard>>, NoMem
 }
 
 impl Desk {
-    /// A desk for the units of a library, and its first seat.
+    /// A desk for the units of a library, and its first seat. No desk has room for 2^32 units.
     pub fn new(alloc: Global, library: &Library) -> Result<(Desk, Seat), NoMemory>
-        requires { units_of (job_of library.now) < 2 ^ 32 }
-        ensures { IfOk result (λ d. Sits d.1 d.0 × (job d.0 ≡ job_of library.now) × (view d.1 ≡ first_view (job_of library.now))) }
+        ensures job { IfOk result (λ d. job d.0 ≡ job_of library.now) }
+        ensures seat { IfOk result (λ d. IsNew d.1 d.0) }
     {
-        let units = library.units().len() as u32;
+        let Ok(units) = u32::try_from(library.units().len()) else {
+            return Err(NoMemory);
+        };
         let slots = empty_shards(alloc, SHARDS)?;
         let mut words = [0; 66];
         words[1] = 1;
@@ -51,15 +54,18 @@ impl Desk {
         ))
     }
 
-    /// Draws the next number. `None` comes exactly where the number drawn is not below the number of units, or the
-    /// seat has ended.
+    /// Draws the next number. `None` comes exactly where the number drawn is not below the number of
+    /// units, or the seat has ended.
     pub fn claim(&self, seat: &mut Seat) -> Option<u32>
         requires { IsOf seat.old self.now }
-        ensures of { IsOf seat.new self.now × (hand seat.new ≡ hand seat.old) }
-        ensures some { IfSome result (λ n. (n < units_of (job self.now)) × All (λ x. x < n) (view seat.old).drawn × (view seat.new ≡ record (view seat.old) { drawn = (view seat.old).drawn ++ n ∷ [] })) }
-        ensures none { IfNone result (view seat.new ≡ record (view seat.old) { overdrawn = (view seat.new).overdrawn; ended = true }) }
-        ensures overdrawn { IfNone result ((view seat.old).ended ≡ false → (view seat.new).overdrawn ≡ (view seat.old).overdrawn + 1) }
-        ensures ended { (view seat.old).ended ≡ true → IsNone result × (view seat.new ≡ view seat.old) }
+        ensures of { Stays seat.old seat.new self.now }
+        ensures some { IfSome result (λ n. (n < units_of (job self.now))
+            × Drew seat.old seat.new n) }
+        ensures none { IfNone result (Ended seat.old seat.new) }
+        ensures overdrawn { IfNone result ((view seat.old).ended ≡ false
+            → (view seat.new).overdrawn ≡ (view seat.old).overdrawn + 1) }
+        ensures ended { (view seat.old).ended ≡ true
+            → IsNone result × (view seat.new ≡ view seat.old) }
     {
         if seat.ended {
             return None;
@@ -76,7 +82,7 @@ impl Desk {
     /// The claim word. All that the seat drew is below it.
     pub fn load(&self, seat: &mut Seat) -> u64
         requires { IsOf seat.old self.now }
-        ensures same { IsOf seat.new self.now × (hand seat.new ≡ hand seat.old) × (view seat.new ≡ view seat.old) }
+        ensures same { IsUnchanged seat.old seat.new self.now }
         ensures below { All (λ x. x < result) (view seat.old).drawn }
     {
         self.table.shared.load::<Loads>(&mut seat.token, 0)
@@ -85,20 +91,23 @@ impl Desk {
     /// How many seats were made. A seat that came from as many, and has ended, drew each unit, once.
     pub fn seats_made(&self, seat: &mut Seat) -> u64
         requires { IsOf seat.old self.now }
-        ensures same { IsOf seat.new self.now × (hand seat.new ≡ hand seat.old) × (view seat.new ≡ view seat.old) }
-        ensures whole { (view seat.old).seats ≡ result → (view seat.old).ended ≡ true → (x : ℕ) → times x (view seat.old) ≡ once_below x (units_of (job self.now)) }
+        ensures same { IsUnchanged seat.old seat.new self.now }
+        ensures whole { (view seat.old).seats ≡ result → (view seat.old).ended ≡ true
+            → HasEach (view seat.old) (units_of (job self.now)) }
     {
         self.table.shared.load::<Counts>(&mut seat.token, 1)
     }
 
-    /// A second seat, which has drawn nothing. `None` comes exactly where 65,536 seats were made, as the step found or
-    /// the seat had noted.
+    /// A second seat, which has drawn nothing. `None` comes exactly where 65,536 seats were made, as
+    /// the step found or the seat had noted.
     pub fn split(&self, seat: &mut Seat) -> Option<Seat>
         requires { IsOf seat.old self.now }
-        ensures of { IsOf seat.new self.now × (hand seat.new ≡ hand seat.old) }
-        ensures some { IfSome result (λ s. Sits s self.now × (view s ≡ first_view (job self.now)) × (view seat.new ≡ view seat.old) × ((view seat.old).refusals ≡ 0)) }
-        ensures none { IfNone result ((0 < (view seat.new).refusals) × (view seat.new ≡ record (view seat.old) { refusals = (view seat.new).refusals })) }
-        ensures refusals { 0 < (view seat.old).refusals → IsNone result × (view seat.new ≡ view seat.old) }
+        ensures of { Stays seat.old seat.new self.now }
+        ensures some { IfSome result (λ s. IsNew s self.now × (view seat.new ≡ view seat.old)
+            × ((view seat.old).refusals ≡ 0)) }
+        ensures none { IfNone result (WasRefused seat.old seat.new) }
+        ensures refusals { 0 < (view seat.old).refusals
+            → IsNone result × (view seat.new ≡ view seat.old) }
     {
         if seat.refused {
             return None;
@@ -122,7 +131,7 @@ impl Desk {
     /// One seat takes in all of another.
     pub fn join(&self, seat: &mut Seat, other: Seat)
         requires { IsOf seat.old self.now × Sits other self.now }
-        ensures of { IsOf seat.new self.now × (hand seat.new ≡ hand seat.old) }
+        ensures of { Stays seat.old seat.new self.now }
         ensures both { view seat.new ≡ both_views (view seat.old) (view other) }
     {
         let Seat {

@@ -1,4 +1,5 @@
 //! What lies in a shard: true answers by their questions.
+
 ghost use Rattle.std.specs.Prelude.{◌≡◌, ◌<◌, ◌≤◌, ℕ, IfOk, OnErr, IfSome, IfNone, IsTrue, [], true, false};
 ghost use Rattle.lk_plain.specs.Laws.{IsBelow};
 ghost use Rattle.lk_desk.specs.Truth.{entries_of};
@@ -6,7 +7,7 @@ ghost use Rattle.lk_desk.specs.Shards.{kind_number, shard_number, Finds, Misses,
 
 use lk_ask::kept::Kept;
 use lk_memo::key::{Key, Kind};
-use lk_rows::memory::NoMemory;
+use lk_store::memory::NoMemory;
 use std::alloc::Global;
 use std::collections::HashMap;
 
@@ -85,11 +86,13 @@ impl Shard {
         self.answers.len() < MOST || self.answers.contains_key(&key)
     }
 
-    /// Puts an answer under its question, where there is room; whether there is. Where memory is wanting the shard is as
-    /// before.
+    /// Puts an answer under its question, where there is room; whether there is. Where memory is
+    /// wanting the shard is as before.
     pub fn put(&mut self, key: Key, kept: Kept) -> Result<bool, NoMemory>
-        ensures stored { IfOk result (λ b. b ≡ true → IsPut (entries_of self.old) (entries_of self.new) key kept) }
-        ensures full { IfOk result (λ b. b ≡ false → IsFull (entries_of self.old) key × (entries_of self.new ≡ entries_of self.old)) }
+        ensures stored { IfOk result (λ b. b ≡ true
+            → IsPut (entries_of self.old) (entries_of self.new) key kept) }
+        ensures full { IfOk result (λ b. b ≡ false → IsFull (entries_of self.old) key
+            × (entries_of self.new ≡ entries_of self.old)) }
         ensures refused { OnErr result (entries_of self.new ≡ entries_of self.old) }
     {
         if !self.has_room(key) {

@@ -1,7 +1,8 @@
 //! Shards are taken and given back.
+
 ghost use Rattle.std.specs.Prelude.{◌≡◌, ◌+◌, ◌<◌, ◌≤◌, ℕ, [], ◌∷◌, IfSome, IfNone, None, Some};
 ghost use Rattle.lk_desk.specs.Truth.{AreTrue, entries_of};
-ghost use Rattle.lk_desk.specs.Steps.{saw, gave};
+ghost use Rattle.lk_desk.specs.Steps.{saw, gave, missed};
 ghost use Rattle.lk_desk.specs.Seats.{view, hand, job, IsOf, Sits};
 
 use crate::shard::Shard;
@@ -13,8 +14,11 @@ impl Desk {
         requires of { Sits seat.old self.now }
         requires shard { shard < 64 }
         ensures of { IsOf seat.new self.now }
-        ensures some { IfSome result (λ x. AreTrue (job self.now) (entries_of x) × (view seat.new ≡ saw shard x (view seat.old)) × (hand seat.new ≡ (shard, None) ∷ [])) }
-        ensures none { IfNone result ((view seat.new ≡ record (view seat.old) { outs = (view seat.old).outs + 1 }) × (hand seat.new ≡ [])) }
+        ensures some { IfSome result (λ x. AreTrue (job self.now) (entries_of x)
+            × (view seat.new ≡ saw shard x (view seat.old))
+            × (hand seat.new ≡ (shard, None) ∷ [])) }
+        ensures none { IfNone result ((view seat.new ≡ missed (view seat.old))
+            × (hand seat.new ≡ [])) }
     {
         let place = shard as usize;
         if self

@@ -1,4 +1,5 @@
 //! Shards that are taken and given back, over a table or over memory.
+
 ghost use Rattle.std.specs.Prelude.{◌≡◌, ◌≢◌, ◌+◌, ◌<◌, ◌≤◌, ◌⊎◌, ℕ, IfOk, OnErr, IfSome, IfNone, Some, None, Bool, true, Option};
 ghost use Rattle.atomic_table.specs.Seated.{TableId};
 ghost use Rattle.lk_plain.specs.Laws.{IsBelow};
@@ -11,10 +12,10 @@ ghost use Rattle.lk_desk.specs.Shelves.{Told, Numbered, AsBefore, AsTaken, AsGiv
 use crate::shard::{Shard, shard_of};
 use lk_ask::kept::Kept;
 use lk_memo::key::Key;
-use lk_rows::memory::NoMemory;
+use lk_store::memory::NoMemory;
 
 /// How an answer was left: its shard has it, its shard was out, or its shard has no room.
-#[derive(Clone, Copy, Debug, PartialEq, Eq)]
+#[derive(Clone, Copy)]
 pub enum Left {
     Stored,
     Out,
@@ -26,8 +27,8 @@ pub trait Shelf {
     /// What the answers are true of.
     ghost job: { Self → Job };
 
-    /// Which object it is: the name of the reference that it holds, the table, and the seat's view but for its outs and
-    /// what it remembers.
+    /// Which object it is: the name of the reference that it holds, the table, and the seat's view
+    /// but for its outs and what it remembers.
     ghost place: { Self → ℕ };
 
     ghost table: { Self → TableId };
@@ -45,8 +46,8 @@ pub trait Shelf {
 
     ghost told: { Self → Told };
 
-    /// Whether it remembers how often a shard was taken, which one was taken last, as it was, and which one was given
-    /// back last.
+    /// Whether it remembers how often a shard was taken, which one was taken last, as it was, and
+    /// which one was given back last.
     ghost remembers: { Self → Bool };
 
     ghost takes: { Self → ℕ };
@@ -58,35 +59,60 @@ pub trait Shelf {
     fn take(&mut self, shard: u32) -> Option<Shard>
         requires shard { shard < 64 }
         requires empty { in_hand self.old ≡ None }
-        ensures same { (job self.new ≡ job self.old) × (place self.new ≡ place self.old) × (table self.new ≡ table self.old) × (rest self.new ≡ rest self.old) × (tells self.new ≡ tells self.old) × (remembers self.new ≡ remembers self.old) }
-        ensures some { IfSome result (λ x. AreTrue (job self.old) (entries_of x) × (in_hand self.new ≡ Some shard) × (outs self.new ≡ outs self.old)) }
+        ensures job { job self.new ≡ job self.old }
+        ensures place { place self.new ≡ place self.old }
+        ensures table { table self.new ≡ table self.old }
+        ensures rest { rest self.new ≡ rest self.old }
+        ensures tells { tells self.new ≡ tells self.old }
+        ensures remembers { remembers self.new ≡ remembers self.old }
+        ensures some { IfSome result (λ x. AreTrue (job self.old) (entries_of x)
+            × (in_hand self.new ≡ Some shard) × (outs self.new ≡ outs self.old)) }
         ensures none { IfNone result ((outs self.old < outs self.new) × (in_hand self.new ≡ None)) }
-        ensures taken { remembers self.old ≡ true → IfSome result (λ x. (takes self.new ≡ takes self.old + 1) × (taken self.new ≡ Some (shard, x))) }
-        ensures told { tells self.old ≡ true → AsTaken result shard (told self.old) (told self.new) };
+        ensures taken { remembers self.old ≡ true → IfSome result (λ x.
+            (takes self.new ≡ takes self.old + 1) × (taken self.new ≡ Some (shard, x))) }
+        ensures told { tells self.old ≡ true
+            → AsTaken result shard (told self.old) (told self.new) };
 
     fn give(&mut self, shard: u32, given: Shard)
         requires shard { shard < 64 }
         requires in_hand { in_hand self.old ≡ Some shard }
         requires true_entries { AreTrue (job self.old) (entries_of given) }
-        ensures same { (job self.new ≡ job self.old) × (place self.new ≡ place self.old) × (table self.new ≡ table self.old) × (rest self.new ≡ rest self.old) × (tells self.new ≡ tells self.old) × (remembers self.new ≡ remembers self.old) }
+        ensures job { job self.new ≡ job self.old }
+        ensures place { place self.new ≡ place self.old }
+        ensures table { table self.new ≡ table self.old }
+        ensures rest { rest self.new ≡ rest self.old }
+        ensures tells { tells self.new ≡ tells self.old }
+        ensures remembers { remembers self.new ≡ remembers self.old }
         ensures empty { in_hand self.new ≡ None }
         ensures outs { outs self.new ≡ outs self.old }
-        ensures returned { remembers self.old ≡ true → (takes self.new ≡ takes self.old) × (taken self.new ≡ taken self.old) × (returned self.new ≡ Some (shard, given)) }
-        ensures told { tells self.old ≡ true → AsGiven shard (entries_of given) (told self.old) (told self.new) };
+        ensures returned { remembers self.old ≡ true → (takes self.new ≡ takes self.old)
+            × (taken self.new ≡ taken self.old) × (returned self.new ≡ Some (shard, given)) }
+        ensures told { tells self.old ≡ true
+            → AsGiven shard (entries_of given) (told self.old) (told self.new) };
 }
 
-/// A true answer to the question, for which only units below this one were looked at. There is none only where a shard was
-/// out, or where the question's shard as taken had no such answer. The shard is given back as it was taken.
+/// A true answer to the question, for which only units below this one were looked at. There is none
+/// only where a shard was out, or where the question's shard as taken had no such answer. The shard is
+/// given back as it was taken.
 pub fn look_on<S: Shelf>(shelf: &mut S, unit: u32, key: Key) -> Option<Kept>
     requires { S.in_hand shelf.old ≡ None }
     ensures some { IfSome result (λ a. IsTrueOf (S.job shelf.old) key a × IsBelow a.top unit) }
-    ensures none { IfNone result ((S.outs shelf.old < S.outs shelf.new) ⊎ (S.tells shelf.old ≡ true → Misses (S.told shelf.old (shard_number key)) key unit)) }
-    ensures taken { S.remembers shelf.old ≡ true → IfNone result ((S.outs shelf.old < S.outs shelf.new) ⊎ ((S.takes shelf.new ≡ S.takes shelf.old + 1) × TakenMisses (shard_number key) (S.taken shelf.new) key unit)) }
+    ensures none { IfNone result ((S.outs shelf.old < S.outs shelf.new)
+        ⊎ (S.tells shelf.old ≡ true → Misses (S.told shelf.old (shard_number key)) key unit)) }
+    ensures taken { S.remembers shelf.old ≡ true → IfNone result (
+        (S.outs shelf.old < S.outs shelf.new) ⊎ ((S.takes shelf.new ≡ S.takes shelf.old + 1)
+        × TakenMisses (shard_number key) (S.taken shelf.new) key unit)) }
     ensures back { S.tells shelf.old ≡ true → AsBefore (S.told shelf.old) (S.told shelf.new) }
-    ensures returned { S.remembers shelf.old ≡ true → (S.outs shelf.old < S.outs shelf.new) ⊎ (S.returned shelf.new ≡ S.taken shelf.new) }
+    ensures returned { S.remembers shelf.old ≡ true → (S.outs shelf.old < S.outs shelf.new)
+        ⊎ (S.returned shelf.new ≡ S.taken shelf.new) }
     ensures outs { S.outs shelf.old ≤ S.outs shelf.new }
     ensures empty { S.in_hand shelf.new ≡ None }
-    ensures same { (S.job shelf.new ≡ S.job shelf.old) × (S.place shelf.new ≡ S.place shelf.old) × (S.table shelf.new ≡ S.table shelf.old) × (S.rest shelf.new ≡ S.rest shelf.old) × (S.tells shelf.new ≡ S.tells shelf.old) × (S.remembers shelf.new ≡ S.remembers shelf.old) }
+    ensures job { S.job shelf.new ≡ S.job shelf.old }
+    ensures place { S.place shelf.new ≡ S.place shelf.old }
+    ensures table { S.table shelf.new ≡ S.table shelf.old }
+    ensures rest { S.rest shelf.new ≡ S.rest shelf.old }
+    ensures tells { S.tells shelf.new ≡ S.tells shelf.old }
+    ensures remembers { S.remembers shelf.new ≡ S.remembers shelf.old }
 {
     let number = shard_of(key);
     let Some(taken) = shelf.take(number) else {
@@ -101,13 +127,22 @@ pub fn look_on<S: Shelf>(shelf: &mut S, unit: u32, key: Key) -> Option<Kept>
 pub fn leave_on<S: Shelf>(shelf: &mut S, key: Key, kept: Kept) -> Result<Left, NoMemory>
     requires empty { S.in_hand shelf.old ≡ None }
     requires true_entry { IsTrueOf (S.job shelf.old) key kept }
-    ensures told { S.tells shelf.old ≡ true → IfOk result (λ l. LeftAs l (shard_number key) key kept (S.told shelf.old) (S.told shelf.new)) }
-    ensures taken { S.remembers shelf.old ≡ true → IfOk result (λ l. LeftSo l (S.takes shelf.new ≡ S.takes shelf.old + 1) (shard_number key) (S.taken shelf.new) (S.returned shelf.new) key kept) }
-    ensures memory { S.tells shelf.old ≡ true → OnErr result (AsBefore (S.told shelf.old) (S.told shelf.new)) }
+    ensures told { S.tells shelf.old ≡ true → IfOk result (λ l.
+        LeftAs l (shard_number key) key kept (S.told shelf.old) (S.told shelf.new)) }
+    ensures taken { S.remembers shelf.old ≡ true → IfOk result (λ l.
+        LeftSo l (S.takes shelf.new ≡ S.takes shelf.old + 1) (shard_number key)
+        (S.taken shelf.new) (S.returned shelf.new) key kept) }
+    ensures memory { S.tells shelf.old ≡ true
+        → OnErr result (AsBefore (S.told shelf.old) (S.told shelf.new)) }
     ensures out { IfOk result (λ l. IfOut l (S.outs shelf.old < S.outs shelf.new)) }
     ensures outs { S.outs shelf.old ≤ S.outs shelf.new }
     ensures empty { S.in_hand shelf.new ≡ None }
-    ensures same { (S.job shelf.new ≡ S.job shelf.old) × (S.place shelf.new ≡ S.place shelf.old) × (S.table shelf.new ≡ S.table shelf.old) × (S.rest shelf.new ≡ S.rest shelf.old) × (S.tells shelf.new ≡ S.tells shelf.old) × (S.remembers shelf.new ≡ S.remembers shelf.old) }
+    ensures job { S.job shelf.new ≡ S.job shelf.old }
+    ensures place { S.place shelf.new ≡ S.place shelf.old }
+    ensures table { S.table shelf.new ≡ S.table shelf.old }
+    ensures rest { S.rest shelf.new ≡ S.rest shelf.old }
+    ensures tells { S.tells shelf.new ≡ S.tells shelf.old }
+    ensures remembers { S.remembers shelf.new ≡ S.remembers shelf.old }
 {
     let number = shard_of(key);
     let Some(mut taken) = shelf.take(number) else {

@@ -1,5 +1,6 @@
 //! The table of a desk, with its rule and what its steps tell.
-ghost use Rattle.std.specs.Prelude.{◌≡◌, ◌+◌, ◌<◌, ◌≤◌, ◌^◌, ℕ, [], ◌∷◌, false, true, nat_lt, length, IfOk};
+
+ghost use Rattle.std.specs.Prelude.{◌≡◌, ◌<◌, nat_lt};
 ghost use Rattle.lk_desk.specs.Job.{job_of, units_of};
 
 use crate::shard::Shard;

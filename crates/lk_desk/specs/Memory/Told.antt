@@ -1,7 +1,6 @@
 -- What a shelf in memory is as a shelf.
 use Rattle.std.specs.Prelude.{ℕ, Bool, true, false, List, [], slice_index_or, Option, None}
 use Rattle.atomic_table.specs.Seated.{TableId}
-use Rattle.lk_desk.specs.Holdings.{no_table}
 use Rattle.lk_store.specs.declared.tables.Tables.{Tables}
 use Rattle.lk_env.specs.declared.unit.Unit.{Unit as StoredUnit}
 use Rattle.lk_ask.specs.declared.kept.Kept.{Kept}
@@ -10,6 +9,10 @@ use Rattle.lk_desk.specs.declared.view.View.{View}
 use Rattle.lk_desk.specs.Job.{Job, job_of}
 use Rattle.lk_desk.specs.Rule.{spent_view}
 use Rattle.lk_desk.specs.Shelves as shelves
+
+-- the number of no table
+abbrev pub no_table : TableId
+no_table = record { words = 0; slots = 0; views_name = 0; atom = 0; block = 0; offset = 0; slot_names = [] }
 
 -- a library, the answers of each shard, and the number of the one that is out
 abbrev pub InMemory : Type 0

@@ -40,11 +40,13 @@ returns-clause-some c =
     let lt = c.if-found-ge-MOST_SEATS.false in
     let new = ap knows c.split_seat-token.ensures.4 ∙ (asked_new v w c.fetch_add-found.result lt e ∙ ap first_view c.requires.1) in (
       (
-        c.split_seat-token.ensures.3 ∙ (c.fetch_add-found.ensures.0 ∙ c.requires.0),
-        ap (λ (u : View). u.job) new,
-        ap holds c.split_seat-token.ensures.4,
+        (
+          c.split_seat-token.ensures.3 ∙ (c.fetch_add-found.ensures.0 ∙ c.requires.0),
+          ap (λ (u : View). u.job) new,
+          ap holds c.split_seat-token.ensures.4,
+        ),
+        new,
       ),
-      new,
       ap knows c.split_seat-token.ensures.2 ∙ asked_cut v w c.fetch_add-found.result lt e,
       noted_none c.args.seat.now.refused v.refusals c.if-seat.false c.args.seat.now.refused_is,
     )
