@@ -165,7 +165,7 @@ def let_values(n):
 
 
 def projections(n):
-    """x.1.1. .. 1, n deep, of a structure that is its own field by a wrong axiom's type: refused at the innermost."""
+    """x.1.1. .. 1, n deep, where x is of no structure: refused at the innermost."""
     f = Lines()
     name = f.name('S')
     x = f.axiom('x', f.prop)
@@ -241,6 +241,41 @@ def wide_levels(n):
         plain = nest(turned)
         beside = f.level(f'#UM {plain} {nest([turned[-1], turned[-1]])}')
         f.definition(f'd{number}', f.sort(f.level(f'#US {beside}')), f.sort(plain), words)
+    return f.bytes()
+
+
+def wide_cycles(n):
+    """n definitions that compare max (imax u1 u2) .. (imax u20 u1), which is the greatest of all 20, with just that."""
+    f = Lines()
+    words = [f.name(f'u{number}') for number in range(20)]
+    parameters = [f.level(f'#UP {word}') for word in words]
+
+    def greatest(levels):
+        level = levels[0]
+        for each in levels[1:]:
+            level = f.level(f'#UM {level} {each}')
+        return level
+    for number in range(n):
+        turned = parameters[number % 20:] + parameters[:number % 20]
+        cycle = greatest([f.level(f'#UIM {one} {next_one}') for one, next_one in zip(turned, turned[1:] + turned[:1])])
+        f.definition(f'd{number}', f.sort(f.level(f'#US {greatest(turned)}')), f.sort(cycle), words)
+    return f.bytes()
+
+
+def wide_left(n):
+    """n definitions that compare imax (.. (imax u1 u2) ..) u20 with the same over max u1 u1."""
+    f = Lines()
+    words = [f.name(f'u{number}') for number in range(20)]
+    parameters = [f.level(f'#UP {word}') for word in words]
+
+    def nest(level, levels):
+        for each in levels:
+            level = f.level(f'#UIM {level} {each}')
+        return level
+    for number in range(n):
+        first, *others = parameters[number % 20:] + parameters[:number % 20]
+        twice = nest(f.level(f'#UM {first} {first}'), others)
+        f.definition(f'd{number}', f.sort(f.level(f'#US {twice}')), f.sort(nest(first, others)), words)
     return f.bytes()
 
 
@@ -681,7 +716,8 @@ def characters(n):
 FAMILIES = [
     (pis, 10 ** 6), (lambdas, 10 ** 6), (dependent_lambdas, 10 ** 6), (arguments, 10 ** 6), (nested_arguments, 10 ** 6),
     (beta, 10 ** 6), (lets, 10 ** 6), (let_values, 10 ** 6), (projections, 10 ** 6),
-    (successors, 10 ** 6), (maxima, 10 ** 6), (shared_levels, 10 ** 5), (shared_imax, 10 ** 5), (wide_levels, 4),
+    (successors, 10 ** 6), (maxima, 10 ** 6), (shared_levels, 10 ** 5), (shared_imax, 10 ** 5), (wide_levels, 16),
+    (wide_cycles, 16), (wide_left, 16),
     (components, 10 ** 6), (long_names, 10 ** 5), (parameters, 10 ** 5), (greatest_parameter, 10 ** 4),
     (constructors, 10 ** 5), (enumeration, 1000), (fields_alone, 10 ** 5), (fields, 1000), (dependent_fields, 10 ** 5),
     (field_projections, 10 ** 4), (type_parameters, 1000), (indices, 10 ** 5), (mutual, 2000), (blocks, 10 ** 5),

@@ -1,4 +1,5 @@
 //! The cases of the table, one after another.
+use crate::items::write_items;
 use crate::limits::write_limits;
 use crate::reading::{AT_ONCE, answer_of, read_in_pieces, read_with_faults};
 use crate::table::{Case, add_line, case_of};
@@ -62,6 +63,10 @@ impl Cases {
     fn take_line(&mut self, rt: &impl Print, alloc: Global, line: &str) -> io::Result<()> {
         match self.case {
             Case::Limits => write_limits(rt, line),
+            Case::Items => match line.split_once(' ') {
+                Some((items, behind)) => write_items(rt, alloc, items, behind.as_bytes()),
+                None => println!(rt; "no number"),
+            },
             Case::Lines => write_own(rt, alloc, line.as_bytes()),
             _ => {
                 add_line(&mut self.text, line.as_bytes())?;

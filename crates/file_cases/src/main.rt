@@ -11,6 +11,8 @@
 //!   space between fields, numbers without leading zeros, a literal above 2^128 - 1 as `wide`, and
 //!   the text of a name or of a literal in quotes;
 //! - of a place and a length, the fault with a line feed and without: from the format's two limits;
+//! - of a number of items and a line behind them, the line's fault: from the format's limit on items
+//!   and its order of faults;
 //! - of all files, how many further readings agree: 15 a file, 14 where it is one byte, 13 where it
 //!   is empty. The format lets the last line feed be missing and knows no pieces, so six sizes of
 //!   pieces, with the last line feed and without, are to give the same; and the first failed read
@@ -18,6 +20,7 @@
 #![tactic(auto)]
 
 mod cases;
+mod items;
 mod limits;
 mod reading;
 mod table;

@@ -14,6 +14,8 @@ pub enum Case {
     Lines,
     /// `limits`: each is a place and a length in bytes, which may be beyond a limit.
     Limits,
+    /// `items`: each is a number of items, and a line of a file, behind so many.
+    Items,
 }
 
 /// The case that a line of the table begins, by what stands behind its `%%`.
@@ -21,6 +23,7 @@ pub fn case_of(head: &str) -> Case {
     match head {
         " lines" => Case::Lines,
         " limits" => Case::Limits,
+        " items" => Case::Items,
         _ => match head.strip_prefix(" spaces ") {
             Some(count) => Case::Spaces(count.parse::<usize>().unwrap_or(0)),
             None => Case::File,
