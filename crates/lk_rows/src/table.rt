@@ -11,7 +11,8 @@ const FEW: usize = 16;
 /// make them again, and no more than a few hundred steps however large the table was.
 const KEPT: usize = 512;
 
-/// Where a bucket has more rows than this, the table takes its next seed and places all rows anew.
+/// Where a bucket has more rows than this, the table takes another seed and places all rows anew. Each
+/// seed that was taken before lets so many more be.
 const LONGEST: u64 = 32;
 
 /// Rows by number, each found by its key. The numbers are kept in 32 bits. Keys that were made to
@@ -202,15 +203,24 @@ fn is_longer(links: &[u32], head: u32, most: u64) -> bool {
 
 /// Whether a bucket has grown long. The seeds are known to whoever makes the keys, so with each seed
 /// that is taken longer buckets are let be: keys made for one seed after another then have the rows
-/// placed anew about as often as the root of their number, and no bucket grows longer than a few
-/// times that root.
+/// placed anew about as often as the root of their number.
+#[inline]
 fn is_long(links: &[u32], head: u32, seed: u64) -> bool {
     is_longer(links, head, LONGEST.saturating_mul(seed.saturating_add(1)))
 }
 
+/// Whether some bucket has grown long.
+fn has_long(links: &[u32], heads: &[u32], seed: u64) -> bool {
+    for head in heads {
+        if is_long(links, *head, seed) {
+            return true;
+        }
+    }
+    false
+}
+
 /// Places all rows anew under the next seed.
-#[cold]
-fn part<R: Row>(rows: &[R], links: &mut Vec<u32>, heads: &mut Vec<u32>, seed: &mut u64)
+fn place_anew<R: Row>(rows: &[R], links: &mut Vec<u32>, heads: &mut Vec<u32>, seed: &mut u64)
     requires some { 0 < length heads.old.items }
     requires table { IsTable R.key (R.hash seed.old) rows.now links.old.items heads.old.items }
     ensures table { IsTable R.key (R.hash seed.new) rows.now links.new.items heads.new.items }
@@ -218,6 +228,24 @@ fn part<R: Row>(rows: &[R], links: &mut Vec<u32>, heads: &mut Vec<u32>, seed: &m
 {
     *seed = seed.saturating_add(1);
     link_all(rows, links, heads, *seed);
+}
+
+/// Places all rows anew under a later seed, by which no bucket is long. Each seed that is passed over
+/// lets longer buckets be, so one of the next few is taken, whatever the keys were made for.
+#[cold]
+fn part<R: Row>(rows: &[R], links: &mut Vec<u32>, heads: &mut Vec<u32>, seed: &mut u64)
+    requires some { 0 < length heads.old.items }
+    requires table { IsTable R.key (R.hash seed.old) rows.now links.old.items heads.old.items }
+    ensures table { IsTable R.key (R.hash seed.new) rows.now links.new.items heads.new.items }
+    ensures as_many { length heads.new.items ≡ length heads.old.items }
+{
+    place_anew(rows, links, heads, seed);
+    'seeds: for _ in rows {
+        if !has_long(links, heads, *seed) {
+            return;
+        }
+        place_anew(rows, links, heads, seed);
+    }
 }
 
 /// The bucket of a row that is to be added. Where the bucket has grown long, all rows are placed
