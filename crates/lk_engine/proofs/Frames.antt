@@ -13,7 +13,11 @@ use Rattle.lk_questions.specs.Core.{stepped, whnf_headed}
 use Rattle.lk_questions.specs.Pairs.{answers, ◌or_else◌}
 use Rattle.lk_questions.specs.Table.{steps}
 use Rattle.lk_plain.specs.Query as plain
+use Rattle.lk_store.specs.declared.tables.Tables.{Tables}
 use Rattle.lk_store.specs.Contents.{Contents, tree_at, Extends}
+use Rattle.lk_store.specs.Store.{contents_of}
+use Rattle.lk_store.proofs.Extending.{Extends-trans}
+use Rattle.lk_env.specs.declared.unit.Unit.{Unit as StoredUnit}
 use Rattle.lk_ask.specs.declared.sheet.Sheet.TheVariants as sheet
 use Rattle.lk_ask.specs.Lines.{Rest}
 use Rattle.lk_ask.proofs.Sheets.{grown}
@@ -86,12 +90,9 @@ use Rattle.lk_ask.specs.declared.query.Answer.{Answer}
 use Rattle.lk_ask.specs.declared.query.Answer.TheVariants as answer
 use Rattle.lk_ask.specs.declared.kept.Kept.{Kept}
 use Rattle.lk_ask.specs.Questions.{query_of, value_at, IsKnownQuery, IsKnownAnswer}
-use Rattle.lk_memo.specs.declared.key.Key.{Key}
 use Rattle.lk_memo.specs.declared.memo.PrivateMemo.{PrivateMemo}
-use Rattle.lk_memo.specs.Keys.{key_of}
-use Rattle.lk_memo.specs.Entries.{Holds}
 use Rattle.lk_engine.specs.declared.answering.Frame.{Frame}
-use Rattle.lk_engine.specs.Entries.{AreTrue}
+use Rattle.lk_engine.specs.Entries.{IsTrueAt, AreTrue}
 use Rattle.lk_engine.specs.declared.sheet.TermSheet.{TermSheet}
 use Rattle.lk_engine.specs.declared.sheet.TermSheet.TheVariants as term
 use Rattle.lk_engine.specs.declared.sheet.TruthSheet.{TruthSheet}
@@ -327,19 +328,22 @@ module _ {c d : Contents} (x : Extends c d) where
       let first = All-head (IsKnownFrame (length c.trees)) f fs k in
       (rw (query_steady f.asker first.asker) h.0, h.1, (h.2.0, h.2.1, rw (any_steady x f.sheet first.sheet) h.2.2, rw (any_steady x f.sheet first.sheet) h.2.3, links_steady w h.2.0 h.2.1 fs asked left (All-tail (IsKnownFrame (length c.trees)) f fs k) h.2.4))
 
-  -- what is kept stays true
-  pub entries_steady : (w : Place) (memo : PrivateMemo) → AreTrue w c memo → AreTrue w d memo
-  entries_steady w memo h = record {
-    each = λ q kept holds.
-        let was = h.each q kept holds in
-        record {
-          query = query_known q was.query;
-          answer = answer_known kept.answer was.answer;
-          is = rw (query_steady q was.query, answer_steady kept.answer was.answer) was.is;
-        };
+  -- what is true stays true
+  pub true_steady : (w : Place) (q : Query ℕ) (kept : Kept) → IsTrueAt w c q kept → IsTrueAt w d q kept
+  true_steady w q kept was = record {
+    query = query_known q was.query;
+    answer = answer_known kept.answer was.answer;
+    is = rw (query_steady q was.query, answer_steady kept.answer was.answer) was.is;
   }
 
--- where nothing is kept
-pub nothing_kept : (w : Place) (c : Contents) (memo : PrivateMemo)
-    → ((k : Key) (v : Kept) → Holds memo k v → ⊥) → AreTrue w c memo
-nothing_kept w c memo none = record { each = λ q kept holds. absurd (none (key_of q) kept holds) }
+  -- what is kept stays true
+  pub entries_steady : (l : Tables × List StoredUnit) (w : Place) (memo : PrivateMemo) → AreTrue l w c memo
+      → AreTrue l w d memo
+  entries_steady l w memo h = record {
+    each = λ q kept holds. true_steady w q kept (h.each q kept holds);
+    lasting = h.lasting;
+    terms = h.terms;
+    looks = λ n is.
+        let here = h.looks n is in
+        record { over = Extends-trans (contents_of l.0) c d here.over x; place = here.place };
+  }

@@ -1,9 +1,12 @@
 pub mod Sheets
 pub mod Constants
 pub mod Frames
+pub mod Lasting
+pub mod Kept
 pub mod Instants
 pub mod Links
 pub mod Lookouts
+pub mod Standing
 pub mod Outcomes
 pub mod Copied
 pub mod Waiting

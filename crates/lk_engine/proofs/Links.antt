@@ -1,6 +1,6 @@
 -- The work of the loop: questions that wait, the one that is worked on, and what is kept.
 use Rattle.std.proofs.Common.{◌≡◌, ℕ, Bool, true, false, ◌||◌, ◌-◌, ◌<◌, ◌≤◌, List, [], ◌∷◌, ◌++◌, length, Option, Some, None, refl, ap, sym, ◌∙◌, arith, inl, inr, ◌⊎◌}
-use Rattle.std.specs.Prelude.{All, IfSome}
+use Rattle.std.specs.Prelude.{All}
 use Rattle.std.proofs.lemmas.Bool.Decides.{nat_tests}
 use Rattle.std.proofs.lemmas.List.Elements.{All-push, All-pop}
 use Rattle.lk_tree.specs.Tree.{Tree}
@@ -18,21 +18,14 @@ use Rattle.lk_ask.specs.declared.query.Answer.{Answer}
 use Rattle.lk_tree.specs.declared.rule.Rule.{Rule}
 use Rattle.lk_ask.specs.declared.stop.Stop.{Stop}
 use Rattle.lk_ask.specs.declared.stop.Stop.TheVariants as stop
-use Rattle.lk_ask.specs.declared.kept.Kept.{Kept}
 use Rattle.lk_ask.specs.declared.next.Next.{Next}
 use Rattle.lk_ask.specs.declared.next.Next.TheVariants.{Ask, Done, No}
 use Rattle.lk_ask.specs.Questions.{query_of, value_at, IsKnownQuery, IsKnownAnswer}
 use Rattle.lk_ask.specs.Nexts.{IsKnownNext}
 use Rattle.lk_ask.specs.Outcomes.{IsStop}
 use Rattle.lk_engine.specs.Sheets.{AnySheet, map_any, IsKnownAny}
-use Rattle.lk_memo.specs.declared.key.Key.{Key}
-use Rattle.lk_memo.specs.Keys.{key_of}
-use Rattle.lk_memo.specs.declared.memo.PrivateMemo.{PrivateMemo}
-use Rattle.lk_memo.specs.Entries.{Holds, kept_of}
-use Rattle.lk_memo.proofs.Keys.{key_of-injective}
-use Rattle.lk_memo.proofs.Keeping.{found_holds}
 use Rattle.lk_engine.specs.declared.answering.Frame.{Frame}
-use Rattle.lk_engine.specs.Entries.{IsTrueAt, AreTrue}
+use Rattle.lk_engine.specs.Entries.{IsTrueAt}
 use Rattle.lk_engine.specs.Rests.{any_rest, next_of, query_steps, IsKnownFrame, Linked}
 use Rattle.lk_engine.specs.Waiting.{WaitsFor, is_same, is_waiting}
 use Rattle.lk_engine.proofs.Frames.{any_from, query_steady, query_known, stack_known, links_steady}
@@ -44,37 +37,6 @@ query_steps_is w t (Core e) = refl
 query_steps_is w t (Whnf e) = refl
 query_steps_is w t (Infer e) = refl
 query_steps_is w t (Same a b) = refl
-
--- one more answer is kept, and fewer
-pub entries_more : (w : Place) (c : Contents) (old new : PrivateMemo) (q : Query ℕ) (kept : Kept)
-    → AreTrue w c old
-    → ((k : Key) (v : Kept) → Holds new k v → Holds old k v ⊎ ((k ≡ key_of q) × (v ≡ kept)))
-    → IsTrueAt w c q kept → AreTrue w c new
-entries_more w c old new q kept h more this = record {
-  each = λ r v holds. elim (more (key_of r) v holds) [
-    | inl before ↦ h.each r v before
-    | inr is ↦
-        let one : r ≡ q = key_of-injective r q is.0 in
-        let two : v ≡ kept = is.1 in
-        rw (one, two) this
-  ];
-}
-
-pub entries_fewer : (w : Place) (c : Contents) (old new : PrivateMemo) → AreTrue w c old
-    → ((k : Key) (v : Kept) → Holds new k v → Holds old k v) → AreTrue w c new
-entries_fewer w c old new h fewer = record {
-  each = λ q kept holds. h.each q kept (fewer (key_of q) kept holds);
-}
-
--- an answer that the memo gave
-pub true_at : (w : Place) (c : Contents) (memo : PrivateMemo) (q : Query ℕ) (kept : Kept)
-    → AreTrue w c memo → kept_of memo q ≡ Some kept → IsTrueAt w c q kept
-true_at w c memo q kept h is = h.each q kept (found_holds memo q kept is)
-
-pub found_true : (w : Place) (c : Contents) (memo : PrivateMemo) (q : Query ℕ) (o : Option Kept)
-    → AreTrue w c memo → o ≡ kept_of memo q → IfSome o (IsTrueAt w c q)
-found_true w c memo q (Some kept) h is = true_at w c memo q kept h (sym is)
-found_true w c memo q None h is = tt
 
 module _ (w : Place) (t : ℕ → Tree) where
   -- what waits for an answer, with this frame

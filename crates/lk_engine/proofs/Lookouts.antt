@@ -1,5 +1,5 @@
 -- What a step, an answer that is kept, and a question leave of a lookout, and what they come to.
-use Rattle.std.proofs.Common.{◌≡◌, ◌≢◌, ℕ, ◌<◌, None, Ok, Err, Result, refl, ap, sym, ◌∙◌, arith}
+use Rattle.std.proofs.Common.{◌≡◌, ◌≢◌, ℕ, ◌<◌, None, Ok, Err, Result, refl, ap, sym, subst, ◌∙◌, arith}
 use Rattle.std.specs.Prelude.{IfOk, IfErr, OnOk}
 use Rattle.lk_plain.specs.Erased.{Steps}
 use Rattle.lk_rulebook.specs.Units.{Members}
@@ -28,7 +28,7 @@ use Rattle.lk_ask.specs.Outcomes.{IsStop}
 use Rattle.lk_engine.specs.Sheets.{AnySheet, IsKnownAny}
 use Rattle.lk_memo.specs.declared.memo.PrivateMemo.{PrivateMemo}
 use Rattle.lk_engine.specs.Entries.{IsTrueAt, AreTrue}
-use Rattle.lk_engine.specs.Lookouts.{Seen, place_of, standing_at, places_at, out_at, GivesMembers, Stays, Metered, Pays, Repeats, Opens, Answers, Stands}
+use Rattle.lk_engine.specs.Lookouts.{Seen, place_of, AreTrueAt, standing_at, places_at, out_at, GivesMembers, Stays, Metered, Pays, Repeats, Opens, Answers, Stands}
 use Rattle.lk_engine.specs.Rests.{next_of, query_steps}
 use Rattle.lk_engine.proofs.Frames.{entries_steady}
 use Rattle.lk_engine.proofs.Links.{opened, opened_waits, not_opened}
@@ -76,6 +76,19 @@ module _ {T R : Type 0} {contents : T → Contents} {rest : T → R} where
 
   pub place_stays : {old new : Seen T} → Stays contents rest old new → place_of new ≡ place_of old
   place_stays h = ap (λ s. s.place) (standing_stays h)
+
+  -- what is kept is true where it was, and the other way
+  pub entries_there : {old new : Seen T} {c : Contents} {memo : PrivateMemo} → Stays contents rest old new
+      → AreTrueAt old c memo → AreTrueAt new c memo
+  entries_there {old} {new} {c} {memo} h e =
+      subst (λ l. AreTrue l.2 (place_of new) c memo) (sym h.library)
+      (subst (λ w. AreTrue old.0.2 w c memo) (sym (place_stays h)) e)
+
+  pub entries_back : {old new : Seen T} {c : Contents} {memo : PrivateMemo} → Stays contents rest old new
+      → AreTrueAt new c memo → AreTrueAt old c memo
+  entries_back {old} {new} {c} {memo} h e =
+      subst (λ l. AreTrue l.2 (place_of old) c memo) h.library
+      (subst (λ w. AreTrue new.0.2 w c memo) (place_stays h) e)
 
   pub stays_on : {old between new : Seen T} → Stays contents rest old between
       → Stays contents rest between new → Stays contents rest old new
@@ -178,7 +191,7 @@ module _ {T R : Type 0} {contents : T → Contents} {rest : T → R} where
   pub repeat_answers : {old new : Seen T} {query : Query ℕ} {kept : Kept}
       {result : Result (Answer ℕ) Stop} {later : PrivateMemo}
       → Repeats old new result kept → IsTrueAt (place_of old) (contents old.2) query kept
-      → AreTrue (place_of old) (contents old.2) later
+      → AreTrueAt old (contents old.2) later
       → Answers contents rest old new later result query
   repeat_answers {old} {new} {query} {kept} {result} r h true_later = record {
     stays = metered_stays r.stays;
@@ -190,7 +203,7 @@ module _ {T R : Type 0} {contents : T → Contents} {rest : T → R} where
 
   -- a question has no answer
   pub halts : {old new : Seen T} {query : Query ℕ} {stop : Stop} {later : PrivateMemo}
-      → Stays contents rest old new → AreTrue (place_of old) (contents new.2) later
+      → Stays contents rest old new → AreTrueAt old (contents new.2) later
       → IsStop (out_at contents old query) stop → (old.3.left ≡ 0 → stop ≢ NoMemory)
       → Answers contents rest old new later (Err stop) query
   halts s e h n = record {
@@ -212,10 +225,10 @@ has_memory r stop p q e = absurd cc
 -- an engine goes on
 pub still_stands : {old new : Seen (Tables × Tables)} {memo later : PrivateMemo}
     → Stays (λ t. contents_of (over t.0 t.1)) (λ t. t.0) old new → Stands old memo
-    → AreTrue (place_of old) (contents_of (over new.2.0 new.2.1)) later → Stands new later
+    → AreTrueAt old (contents_of (over new.2.0 new.2.1)) later → Stands new later
 still_stands h s e = record {
   base = h.others ∙ s.base ∙ ap (λ l. l.2.0) (sym h.library);
-  entries_true = rw (place_stays h) e;
+  entries_true = entries_there h e;
 }
 
 -- the same, where nothing else is kept
@@ -223,7 +236,7 @@ pub looked_stands : {old new : Seen (Tables × Tables)} {memo : PrivateMemo}
     → Stays (λ t. contents_of (over t.0 t.1)) (λ t. t.0) old new → Stands old memo
     → Stands new memo
 looked_stands {old} {new} {memo} h s =
-    still_stands h s (entries_steady h.keeps (place_of old) memo s.entries_true)
+    still_stands h s (entries_steady h.keeps old.0.2 (place_of old) memo s.entries_true)
 
 -- the same, after terms were made
 pub made_stands : {old new : Seen (Tables × Tables)} {memo : PrivateMemo}
@@ -238,20 +251,12 @@ made_stands {old} {new} {memo} h x s =
       keeps = x;
       others = ap
           (λ r. r.3) h;
-    }) s (entries_steady x (place_of old) memo s.entries_true)
+    }) s (entries_steady x old.0.2 (place_of old) memo s.entries_true)
 
 -- what is given is how questions are answered from then on
 pub gives_standing : {old new : Seen (Tables × Tables)} {partial : Partial} {aux : Members} → GivesMembers old new partial aux
     → standing_at new.0 new.1 ≡ record { basis = (old.0.2, old.1.unit); table = steps; place = places_at (old.0.2, old.1.unit) partial aux }
 gives_standing {old} {new} {partial} {aux} h = rw (h.library, h.site, h.auxiliary) refl
-
--- nothing is kept where what is partial changes
-pub gives_stands : {old new : Seen (Tables × Tables)} {partial : Partial} {aux : Members} {memo later : PrivateMemo} → GivesMembers old new partial aux → Stands old memo
-    → AreTrue (place_of new) (contents_of (over new.2.0 new.2.1)) later → Stands new later
-gives_stands {old} {new} h s e = record {
-  base = ap (λ t. t.0) h.terms ∙ s.base ∙ ap (λ l. l.0) (sym h.library);
-  entries_true = e;
-}
 
 -- what is given beside, where there was memory, is how questions are answered from then on
 pub gives_beside : (old new : Seen (Tables × Tables)) (partial : Partial) (aux : Members) (r : Result (Unit {0}) Wanting) → OnOk r (GivesMembers old new partial aux)

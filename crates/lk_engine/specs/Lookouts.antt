@@ -40,6 +40,10 @@ Seen T = Scoped × Site × T × Meter
 abbrev pub place_of : {T : Type 0} → Seen T → Place
 place_of s = place_in s.0 s.1
 
+-- what is kept is true there
+abbrev pub AreTrueAt : {T : Type 0} → Seen T → Contents → PrivateMemo → Type 0
+AreTrueAt s c memo = AreTrue s.0.2 (place_of s) c memo
+
 -- how questions are answered from there; no call changes the library and the number of the unit
 abbrev pub standing_at : Scoped → Site → Standing ((Tables × List StoredUnit) × ℕ)
 standing_at scope site = record {
@@ -114,7 +118,7 @@ pub record Opens {T R : Type 0} (contents : T → Contents) (rest : T → R) (ol
 pub record Answers {T R : Type 0} (contents : T → Contents) (rest : T → R) (old new : Seen T)
     (later : PrivateMemo) (result : Result (Answer ℕ) Stop) (query : Query ℕ) : Type 0 where
   pub stays : Stays contents rest old new
-  pub entries_true : AreTrue (place_of old) (contents new.2) later
+  pub entries_true : AreTrueAt old (contents new.2) later
   pub known : IfOk result (IsKnownAnswer (length (contents new.2).trees))
   pub outcome : IsExactly (contents new.2) (out_at contents old query) new.3.left new.3.last result
   pub nothing_left : old.3.left ≡ 0 → result ≢ Err NoMemory
@@ -150,4 +154,4 @@ pub record GivesMembers (old new : Seen (Tables × Tables)) (partial : Partial)
 -- that stands, whatever was looked at for it
 pub record Stands (s : Seen (Tables × Tables)) (memo : PrivateMemo) : Type 0 where
   pub base : s.2.0 ≡ s.0.2.0
-  pub entries_true : AreTrue (place_of s) (contents_of (over s.2.0 s.2.1)) memo
+  pub entries_true : AreTrueAt s (contents_of (over s.2.0 s.2.1)) memo

@@ -1,13 +1,9 @@
 //! The loop that answers a question, by a stack of what waits for answers.
 
-ghost use Rattle.std.specs.Prelude.{◌≡◌, ◌≤◌, ◌-◌, ◌⊎◌, length, Err, IfSome};
+ghost use Rattle.std.specs.Prelude.{◌≡◌, ◌≤◌, ◌-◌, length, Err, IfSome};
 ghost use Rattle.lk_ask.specs.Questions.{IsKnownQuery};
-ghost use Rattle.lk_ask.specs.declared.kept.Kept.{Kept as Answered};
-ghost use Rattle.lk_memo.specs.declared.key.Key.{Key as Asked};
-ghost use Rattle.lk_memo.specs.Keys.{key_of};
-ghost use Rattle.lk_memo.specs.Entries.{Holds};
-ghost use Rattle.lk_engine.specs.Entries.{IsTrueAt, AreTrue};
-ghost use Rattle.lk_engine.specs.Lookouts.{place_of, Repeats, Opens, Answers, AnswersKept};
+ghost use Rattle.lk_engine.specs.Entries.{IsTrueAt, Keeps};
+ghost use Rattle.lk_engine.specs.Lookouts.{place_of, AreTrueAt, Repeats, Opens, Answers, AnswersKept};
 
 use crate::circles::{FIRST, look};
 use crate::instant::at_once;
@@ -60,10 +56,10 @@ fn known<T: Terms>(
     query: Query<u64>,
 ) -> Option<Kept>
     requires query_in { IsKnownQuery (length (T.contents lookout.now.2).trees) query }
-    requires entries { AreTrue (place_of lookout.now) (T.contents lookout.now.2) memo.old }
+    requires entries { AreTrueAt lookout.now (T.contents lookout.now.2) memo.old }
     ensures kept { IfSome result (IsTrueAt (place_of lookout.now) (T.contents lookout.now.2)
         query) }
-    ensures entries { AreTrue (place_of lookout.now) (T.contents lookout.now.2) memo.new }
+    ensures entries { AreTrueAt lookout.now (T.contents lookout.now.2) memo.new }
 {
     match at_once(lookout, query) {
         Some(kept) => Some(kept),
@@ -79,9 +75,9 @@ fn open<T: Terms>(
     query: Query<u64>,
 ) -> Result<AnyNext, Stop>
     requires query_in { IsKnownQuery (length (T.contents lookout.old.2).trees) query }
-    requires entries { AreTrue (place_of lookout.old) (T.contents lookout.old.2) memo.old }
+    requires entries { AreTrueAt lookout.old (T.contents lookout.old.2) memo.old }
     ensures opens { Opens T.contents T.rest lookout.old lookout.new result query }
-    ensures entries { AreTrue (place_of lookout.old) (T.contents lookout.new.2) memo.new }
+    ensures entries { AreTrueAt lookout.old (T.contents lookout.new.2) memo.new }
 {
     match known(lookout, memo, query) {
         Some(kept) => Ok(Next::Done(repeat(lookout, kept)?)),
@@ -99,12 +95,11 @@ fn keep<T: Terms>(
     answer: Answer<u64>,
 )
     requires { lookout.now.3.left ≤ budget }
-    ensures { (k : Asked) (v : Answered) → Holds memo.new k v
-        → Holds memo.old k v ⊎ ((k ≡ key_of query) × (v ≡ record {
-          answer = answer;
-          cost = budget - lookout.now.3.left;
-          top = lookout.now.3.last;
-        })) }
+    ensures { Keeps memo.old memo.new query (record {
+      answer = answer;
+      cost = budget - lookout.now.3.left;
+      top = lookout.now.3.last;
+    }) }
 {
     let cost = budget - left(lookout);
     let top = last(lookout);
@@ -121,7 +116,7 @@ fn work<T: Terms>(
     query: Query<u64>,
 ) -> Result<Answer<u64>, Stop>
     requires query_in { IsKnownQuery (length (T.contents lookout.old.2).trees) query }
-    requires entries { AreTrue (place_of lookout.old) (T.contents lookout.old.2) memo.old }
+    requires entries { AreTrueAt lookout.old (T.contents lookout.old.2) memo.old }
     ensures { Answers T.contents T.rest lookout.old lookout.new memo.new result query }
 {
     stack.clear();
@@ -187,7 +182,7 @@ pub fn answer<T: Terms>(
     query: Query<u64>,
 ) -> Result<Answer<u64>, Stop>
     requires query_in { IsKnownQuery (length (T.contents lookout.old.2).trees) query }
-    requires entries { AreTrue (place_of lookout.old) (T.contents lookout.old.2) memo.old }
+    requires entries { AreTrueAt lookout.old (T.contents lookout.old.2) memo.old }
     ensures answers { Answers T.contents T.rest lookout.old lookout.new memo.new result query }
     ensures kept { AnswersKept lookout.old lookout.new memo.old result query }
 {

@@ -36,7 +36,7 @@ use std::marker::Model;
 use std::mem::drop;
 
 /// An engine over a library. What a unit makes stands over the library's store, and goes when the
-/// next unit is started, and with it what the memo keeps, which is lent.
+/// next unit is started, and with it what the memo keeps, which is lent, but for what lasts.
 pub struct Engine<'a> {
     lookout: Lookout<'a, Overlay<'a>>,
     memo: &'a mut PrivateMemo,
@@ -122,7 +122,6 @@ fn turns_of(lookout: &Lookout<'_, Overlay<'_>>) -> u64
 
 impl<'a> Engine<'a> {
     /// An engine at the first unit, with nothing to spend. The memo is emptied. It takes no memory.
-    #[tactic(auto, using(crate::proofs::Frames::nothing_kept))]
     pub fn new(alloc: Global, library: &'a Library, memo: &'a mut PrivateMemo) -> Self
         ensures library { result.0.2 ≡ library.now }
         ensures auxiliary { result.0.3 ≡ [] }
@@ -132,7 +131,7 @@ impl<'a> Engine<'a> {
         ensures left { result.3.left ≡ 0 }
         ensures turns { result.3.turns ≡ 0 }
     {
-        memo.clear();
+        memo.begin(library.base().len());
         let terms = Overlay::new(alloc, library.base());
         let lookout = Lookout {
             alloc,
@@ -152,9 +151,8 @@ impl<'a> Engine<'a> {
     }
 
     /// Begins a unit: the names below it are seen, nothing of it is partial, so many steps may be
-    /// taken, and what earlier units made, and what is kept of their questions, is gone. It costs
-    /// nothing that grows with the library.
-    #[tactic(auto, using(crate::proofs::Frames::nothing_kept))]
+    /// taken, and what earlier units made, and what is kept of their questions, is gone, but for
+    /// answers over the library's own terms. It costs nothing that grows with the library.
     pub fn start(&mut self, unit: u32, budget: u128)
         ensures library { self.new.0.2 ≡ self.old.0.2 }
         ensures auxiliary { self.new.0.3 ≡ [] }
@@ -166,7 +164,7 @@ impl<'a> Engine<'a> {
         ensures turns { self.new.3.turns ≡ 0 }
     {
         restart(&mut self.lookout, unit, budget);
-        self.memo.clear();
+        self.memo.start(unit);
     }
 
     /// How many questions were opened for the unit that was begun last, those of which an answer
@@ -300,13 +298,11 @@ impl<'a> Asks for Engine<'a> {
         parameters_at(&self.lookout, name)
     }
 
-    #[tactic(auto, using(crate::proofs::Frames::nothing_kept))]
     fn give(&mut self, partial: Partial) {
         give_in(&mut self.lookout, partial);
         self.memo.clear();
     }
 
-    #[tactic(auto, using(crate::proofs::Frames::nothing_kept))]
     fn give_beside(&mut self, partial: Partial, types: &[BlockType]) -> Result<(), NoMemory> {
         let given = give_beside_in(&mut self.lookout, partial, types);
         self.memo.clear();

@@ -1,13 +1,18 @@
 -- What a memo has once an answer is kept.
-use Rattle.std.proofs.Common.{ℕ, ◌≡◌, ◌⊎◌, inl, inr, ◌<◌, List, [], ◌∷◌, length, Option, Some, None, refl, ap, ◌∙◌, arith}
-use Rattle.std.specs.Map.{lookup}
+use Rattle.std.proofs.Common.{ℕ, ◌≡◌, ◌⊎◌, inl, inr, ◌<◌, Bool, true, false, List, [], ◌∷◌, length, Option, Some, None, refl, ap, subst, ◌∙◌, arith}
+use Rattle.std.specs.Prelude.{option_and_then}
+use Rattle.std.proofs.Math.Bool.{cond}
+use Rattle.std.proofs.lemmas.Bool.Decides.{nat_tests}
+use Rattle.lk_plain.specs.Laws.{IsBelow}
 use Rattle.lk_ask.specs.declared.kept.Kept.{Kept}
 use Rattle.lk_memo.specs.declared.key.Key.{Key}
 use Rattle.lk_memo.specs.declared.recent.Slot.{Slot}
 use Rattle.lk_ask.specs.declared.query.Query.{Query}
 use Rattle.lk_memo.specs.declared.memo.PrivateMemo.{PrivateMemo}
-use Rattle.lk_memo.specs.Keys.{key_of, same_key}
+use Rattle.lk_memo.specs.Keys.{key_of}
 use Rattle.lk_memo.specs.Slots.{found_in}
+use Rattle.lk_memo.specs.declared.lasting.Lasting.{Lasting}
+use Rattle.lk_memo.specs.Lasting.{is_query_below, is_below, for_unit, lasting_of, Outlasts}
 use Rattle.lk_memo.specs.Entries.{Holds, first_of, kept_of}
 use Rattle.lk_memo.proofs.Keys.{found_key}
 
@@ -15,27 +20,70 @@ none_or_some : {X : Type 0} (xs : List X) → (xs ≡ []) ⊎ (0 < length xs)
 none_or_some [] = inl refl
 none_or_some (x ∷ xs) = inr (omega arith)
 
--- it is found, in its slot or, where there are none, among the dear ones
-pub found_then : (old new : List Slot × ℕ) (entries : List (Key × Kept)) (key : Key) (kept : Kept)
+-- it is found, in its slot or, where there are none, farther off
+pub found_then : (old new : List Slot × ℕ) (far : Option Kept) (key : Key) (kept : Kept)
     → (0 < length old.0 → found_in new key ≡ Some kept) → (old.0 ≡ [] → new ≡ old)
-    → (old.0 ≡ [] → lookup (same_key key) entries ≡ Some kept)
-    → first_of (found_in new key) (lookup (same_key key) entries) ≡ Some kept
-found_then old new entries key kept in_slot same far = elim (none_or_some old.0) [
-  | inr some ↦ ap (λ o. first_of o (lookup (same_key key) entries)) (in_slot some)
-  | inl none ↦ nothing old new (same none) none ∙ far none
+    → (old.0 ≡ [] → far ≡ Some kept) → first_of (found_in new key) far ≡ Some kept
+found_then old new far key kept in_slot same there = elim (none_or_some old.0) [
+  | inr some ↦ ap (λ o. first_of o far) (in_slot some)
+  | inl none ↦ nothing old new (same none) none ∙ there none
 ]
   where
     nothing : (old new : List Slot × ℕ) → new ≡ old → old.0 ≡ []
-        → first_of (found_in new key) (lookup (same_key key) entries) ≡ lookup (same_key key) entries
+        → first_of (found_in new key) far ≡ far
     nothing (slots, era) new e n = rw (e, n) refl
 
--- what is found is held
+-- one of two that is found
+of_two : (o far : Option Kept) (kept : Kept) → first_of o far ≡ Some kept
+    → (o ≡ Some kept) ⊎ (far ≡ Some kept)
+of_two (Some k) far kept h = inl h
+of_two None far kept h = inr h
+
+-- what is found is held, or it lasts
 pub found_holds : (memo : PrivateMemo) (query : Query ℕ) (kept : Kept) → kept_of memo query ≡ Some kept
-    → Holds memo (key_of query) kept
-found_holds memo query kept h = go (found_in memo.recent (key_of query)) refl h
+    → Holds memo (key_of query) kept ⊎ (lasting_of memo.lasting query ≡ Some kept)
+found_holds memo query kept h = elim (of_two (found_in memo.recent (key_of query)) _ kept h) [
+  | inl near ↦ inl (inl near)
+  | inr far ↦ elim (of_two (lasting_of memo.lasting query) _ kept far) [
+    | inl lasting ↦ inr lasting
+    | inr dear ↦ inl (inr (found_key memo.cache.entries (key_of query) kept dear))
+  ]
+]
+
+-- an answer that lasts and is found is kept, for a unit that looks behind all that were looked at
+pub record IsFor (l : Lasting) (q : Query ℕ) (kept : Kept) : Type 0 where
+  pub stands : Outlasts l (key_of q) kept
+  pub unit : ℕ
+  pub looks : l.unit ≡ Some unit
+  pub below : IsBelow kept.top unit
+
+below_is : (top : Option ℕ) (n : ℕ) → is_below top n ≡ true → IsBelow top n
+below_is None n h = tt
+below_is (Some t) n h = grind (arith, nat_tests)
+
+pub lasting_is : (l : Lasting) (q : Query ℕ) (kept : Kept) → lasting_of l q ≡ Some kept → IsFor l q kept
+lasting_is l q kept h = asked (is_query_below l.terms q) h
   where
-    go : (o : Option Kept) → found_in memo.recent (key_of query) ≡ o
-        → first_of o (lookup (same_key (key_of query)) memo.cache.entries) ≡ Some kept
-        → Holds memo (key_of query) kept
-    go (Some k) e g = inl (e ∙ g)
-    go None e g = inr (found_key memo.cache.entries (key_of query) kept g)
+    below : (v : Kept) (n : ℕ) (b : Bool) → is_below v.top n ≡ b → cond b (Some v) None ≡ Some kept
+        → (v ≡ kept) × IsBelow kept.top n
+    below v n true e g =
+        let same : v ≡ kept = cc in
+        (same, subst (λ k. IsBelow k.top n) same (below_is v.top n e))
+    below v n false e g = absurd cc
+
+    at : (v : Kept) (u : Option ℕ) → found_in l.slots (key_of q) ≡ Some v → l.unit ≡ u
+        → for_unit u v ≡ Some kept → IsFor l q kept
+    at v None e u g = absurd cc
+    at v (Some n) e u g =
+        let p = below v n (is_below v.top n) refl g in
+        record { stands = e ∙ ap Some p.0; unit = n; looks = u; below = p.1 }
+
+    there : (o : Option Kept) → found_in l.slots (key_of q) ≡ o
+        → option_and_then (for_unit l.unit) o ≡ Some kept → IsFor l q kept
+    there None e g = absurd cc
+    there (Some v) e g = at v l.unit e refl g
+
+    asked : (b : Bool) → cond b (option_and_then (for_unit l.unit) (found_in l.slots (key_of q))) None ≡ Some kept
+        → IsFor l q kept
+    asked true g = there (found_in l.slots (key_of q)) refl g
+    asked false g = absurd cc

@@ -2,6 +2,7 @@
 #![tactic(auto)]
 
 pub mod key;
+pub mod lasting;
 pub mod memo;
 pub mod recent;
 

@@ -6,9 +6,11 @@ ghost use Rattle.lk_ask.specs.declared.kept.Kept.{Kept as Answered};
 ghost use Rattle.lk_ask.specs.declared.query.Query.{Query as Question};
 ghost use Rattle.lk_memo.specs.declared.key.Key.{Key as Asked};
 ghost use Rattle.lk_memo.specs.Keys.{key_of, same_key};
-ghost use Rattle.lk_memo.specs.Entries.{Holds, kept_of};
+ghost use Rattle.lk_memo.specs.Lasting.{lasting_of, Outlasts, TakesIn};
+ghost use Rattle.lk_memo.specs.Entries.{Holds, first_of, kept_of};
 
 use crate::key::{Key, key_of};
+use crate::lasting::Lasting;
 use crate::recent::Recent;
 use lk_ask::kept::Kept;
 use lk_ask::query::Query;
@@ -23,11 +25,16 @@ const DEAR: u128 = 64;
 /// So many slots are for the last answers, where the memo may have twice as many entries or more.
 const SLOTS: u32 = 1024;
 
+/// So many slots are for answers that outlast a unit, where the memo may have four times as many
+/// entries or more.
+const LASTING: u32 = 8192;
+
 /// The last answers that were kept or found: the very last ones, each in a slot of its own, and for
-/// longer those that were dear.
+/// longer those that were dear; and over many units those over a library's own terms.
 #[derive(Drop)]
 pub struct PrivateMemo {
     pub recent: Recent,
+    pub lasting: Lasting,
     pub cache: LruCache<Key, Kept>,
 }
 
@@ -35,43 +42,85 @@ impl PrivateMemo {
     /// An empty memo of at most so many answers, and of one at least. Where they are few there are
     /// no slots, and each answer counts as dear.
     pub fn new(alloc: Global, entries: u32) -> Result<Self, NoMemory>
-        ensures { IfOk result (λ m. (k : Asked) (v : Answered) → Holds m k v → ⊥) }
+        ensures private { IfOk result (λ m. (k : Asked) (v : Answered) → Holds m k v → ⊥) }
+        ensures lasting { IfOk result (λ m. (k : Asked) (v : Answered)
+            → Outlasts m.lasting k v → ⊥) }
     {
         let slots = if entries / 2 >= SLOTS { SLOTS } else { 0 };
-        let room = match NonZeroUsize::new((entries - slots) as usize) {
+        let lasting = if entries / 4 >= LASTING { LASTING } else { 0 };
+        let room = match NonZeroUsize::new((entries - slots - lasting) as usize) {
             Some(room) => room,
             None => NonZeroUsize::MIN,
         };
         let recent = Recent::new(alloc, slots as usize)?;
+        let lasting = Lasting::new(alloc, lasting as usize)?;
         match LruCache::sparse(alloc, room) {
-            Ok(cache) => Ok(PrivateMemo { recent, cache }),
+            Ok(cache) => Ok(PrivateMemo {
+                recent,
+                lasting,
+                cache,
+            }),
             Err(_) => Err(NoMemory),
         }
     }
 
-    /// Forgets all that is kept. It takes a step for each dear answer.
-    pub fn clear(&mut self)
-        ensures { (k : Asked) (v : Answered) → Holds self.new k v → ⊥ }
+    /// Forgets all that is kept, also what lasts. From here on what is kept over so many first
+    /// terms lasts, once a unit looks.
+    pub fn begin(&mut self, terms: u64)
+        ensures private { (k : Asked) (v : Answered) → Holds self.new k v → ⊥ }
+        ensures lasting { (k : Asked) (v : Answered) → Outlasts self.new.lasting k v → ⊥ }
+        ensures terms { self.new.lasting.terms ≡ terms }
+        ensures unit { self.new.lasting.unit ≡ None }
     {
         self.recent.clear();
         self.cache.clear();
+        self.lasting.begin(terms);
+    }
+
+    /// Forgets all that is kept but what lasts, for which no unit looks from here on. It takes a
+    /// step for each dear answer.
+    pub fn clear(&mut self)
+        ensures private { (k : Asked) (v : Answered) → Holds self.new k v → ⊥ }
+        ensures slots { self.new.lasting.slots ≡ self.old.lasting.slots }
+        ensures terms { self.new.lasting.terms ≡ self.old.lasting.terms }
+        ensures unit { self.new.lasting.unit ≡ None }
+    {
+        self.recent.clear();
+        self.cache.clear();
+        self.lasting.look_from(None);
+    }
+
+    /// The same, and from here on this unit looks for what lasts.
+    pub fn start(&mut self, unit: u32)
+        ensures private { (k : Asked) (v : Answered) → Holds self.new k v → ⊥ }
+        ensures slots { self.new.lasting.slots ≡ self.old.lasting.slots }
+        ensures terms { self.new.lasting.terms ≡ self.old.lasting.terms }
+        ensures unit { self.new.lasting.unit ≡ Some unit }
+    {
+        self.clear();
+        self.lasting.look_from(Some(unit));
     }
 
     /// What is kept of a question. It takes no memory.
     pub fn find(&mut self, query: Query<u64>) -> Option<Kept>
         ensures kept { result ≡ kept_of self.old query }
         ensures holds { (k : Asked) (v : Answered) → Holds self.new k v → Holds self.old k v }
+        ensures lasting { self.new.lasting ≡ self.old.lasting }
     {
         let key = key_of(query);
         match self.recent.find(key) {
             Some(kept) => Some(kept),
-            None => self.cache.get(&key).copied(),
+            None => match self.lasting.find(query, key) {
+                Some(kept) => Some(kept),
+                None => self.cache.get(&key).copied(),
+            },
         }
     }
 
     /// Keeps an answer among the dear ones, if it is one of them.
     fn keep_dear(&mut self, key: Key, kept: Kept) -> Result<(), NoMemory>
         ensures recent { self.new.recent ≡ self.old.recent }
+        ensures lasting { self.new.lasting ≡ self.old.lasting }
         ensures entries { (e : _) → Contains self.new.cache.entries e
             → Contains self.old.cache.entries e ⊎ (e ≡ (key, kept)) }
         ensures kept { OnOk result (self.old.recent.0 ≡ []
@@ -87,15 +136,52 @@ impl PrivateMemo {
         }
     }
 
+    /// Where there are no slots for the last answers, nothing lasts.
+    fn end_lasting(&mut self)
+        ensures recent { self.new.recent ≡ self.old.recent }
+        ensures cache { self.new.cache ≡ self.old.cache }
+        ensures terms { self.new.lasting.terms ≡ self.old.lasting.terms }
+        ensures unit { self.new.lasting.unit ≡ self.old.lasting.unit }
+        ensures each { (k : Asked) (v : Answered) → Outlasts self.new.lasting k v
+            → Outlasts self.old.lasting k v }
+        ensures none { self.old.recent.0 ≡ []
+            → (k : Asked) (v : Answered) → Outlasts self.new.lasting k v → ⊥ }
+    {
+        if self.recent.is_empty() {
+            self.lasting.forget();
+        }
+    }
+
+    /// Keeps an answer among those that last, or else among the dear ones, if it is one of them.
+    fn keep_long(&mut self, query: Query<u64>, key: Key, kept: Kept) -> Result<(), NoMemory>
+        requires { key ≡ key_of query }
+        ensures recent { self.new.recent ≡ self.old.recent }
+        ensures entries { (e : _) → Contains self.new.cache.entries e
+            → Contains self.old.cache.entries e ⊎ (e ≡ (key, kept)) }
+        ensures lasting { TakesIn self.old.lasting self.new.lasting query kept }
+        ensures kept { OnOk result (self.old.recent.0 ≡ []
+            → first_of (lasting_of self.new.lasting query)
+            (lookup (same_key key) self.new.cache.entries) ≡ Some kept) }
+        ensures refused { OnErr result (self.new ≡ self.old) }
+    {
+        if self.lasting.keep(query, key, kept) {
+            return Ok(());
+        }
+        self.keep_dear(key, kept)?;
+        self.end_lasting();
+        Ok(())
+    }
+
     /// Keeps an answer. Where memory is wanting the memo is as before.
     pub fn keep(&mut self, query: Query<u64>, kept: Kept) -> Result<(), NoMemory>
         ensures holds { (k : Asked) (v : Answered) → Holds self.new k v
             → Holds self.old k v ⊎ ((k ≡ key_of query) × (v ≡ kept)) }
+        ensures lasting { TakesIn self.old.lasting self.new.lasting query kept }
         ensures kept { OnOk result (kept_of self.new query ≡ Some kept) }
         ensures refused { OnErr result (self.new ≡ self.old) }
     {
         let key = key_of(query);
-        self.keep_dear(key, kept)?;
+        self.keep_long(query, key, kept)?;
         self.recent.keep(key, kept);
         Ok(())
     }

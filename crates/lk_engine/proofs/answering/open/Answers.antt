@@ -23,4 +23,4 @@ returns-in_ok-repeat-in-Some-clause-entries g c =
 
 pub returns-in-None-clause-entries : goal.returns-in-None-clause-entries
 returns-in-None-clause-entries g c =
-    entries_steady c.first_step.ensures.opens.stays.keeps _ _ c.known.ensures.entries
+    entries_steady c.first_step.ensures.opens.stays.keeps _ _ _ c.known.ensures.entries

@@ -3,15 +3,16 @@ use Rattle.std.proofs.lemmas.Result.{err_from_is_err_and}
 use Rattle.lk_engine.specs.declared.answering.Frame.{Frame}
 use Rattle.lk_engine.proofs.Sheets.{any_known}
 use Rattle.lk_engine.proofs.Frames.{entries_steady}
-use Rattle.lk_engine.proofs.Links.{linked_begins, linked_asks, linked_left, linked_true, linked_ends, linked_resumes, linked_refused, linked_again, linked_stops, top_known, entries_more}
-use Rattle.lk_engine.proofs.Lookouts.{place_stays, stays_on, metered_stays, step_stays, halts, not_spent, has_memory}
+use Rattle.lk_engine.proofs.Kept.{entries_more}
+use Rattle.lk_engine.proofs.Links.{linked_begins, linked_asks, linked_left, linked_true, linked_ends, linked_resumes, linked_refused, linked_again, linked_stops, top_known}
+use Rattle.lk_engine.proofs.Lookouts.{place_stays, entries_there, entries_back, stays_on, metered_stays, step_stays, halts, not_spent, has_memory}
 use Rattle.lk_engine.proofs.answering.work.Goals as goal
 
 pub returns-in_err-next : goal.returns-in_err-next
 returns-in_err-next g c =
     let h = rw c.in_err-next.was at c.first_step.ensures.opens in
     let p = err_from_is_err_and c.from_residual.result c.from_residual.ensures.1 in
-    rw (p.1, p.2) (halts h.stays (entries_steady h.stays.keeps _ _ c.requires.entries)
+    rw (p.1, p.2) (halts h.stays (entries_steady h.stays.keeps _ _ _ c.requires.entries)
     h.err (λ l. has_memory c.first_step.result _ c.in_err-next.was
     (c.first_step.ensures.nothing_left l)))
 
@@ -20,7 +21,7 @@ work-init g c =
     let h = rw c.in_ok-next.was at c.first_step.ensures.opens in
     record {
       stays = h.stays;
-      entries = entries_steady h.stays.keeps _ _ c.requires.entries;
+      entries = entries_steady h.stays.keeps _ _ _ c.requires.entries;
       linked =
           let none : c.clear.new.self.items ≡ [] = search rules in
           rw (none, c.left-budget.ensures)
@@ -28,7 +29,7 @@ work-init g c =
     }
 
 pub open-requires-clause-entries : goal.open-requires-clause-entries
-open-requires-clause-entries g c = rw (place_stays c.work.invariant.stays) c.work.invariant.entries
+open-requires-clause-entries g c = entries_there c.work.invariant.stays c.work.invariant.entries
 
 pub returns-in_err-deeper-in-Ask : goal.returns-in_err-deeper-in-Ask
 returns-in_err-deeper-in-Ask g c =
@@ -37,7 +38,7 @@ returns-in_err-deeper-in-Ask g c =
     let p = err_from_is_err_and c.from_residual-in_err-deeper-in-Ask.result
     c.from_residual-in_err-deeper-in-Ask.ensures.1 in
     rw (p.1, p.2) (halts (stays_on c.work.invariant.stays h.stays)
-    (rw place at c.«open».ensures.entries)
+    (entries_back c.work.invariant.stays c.«open».ensures.entries)
     (linked_stops c.work.invariant.linked _ c.in-Ask.is (rw place at h.err))
     (λ l same. absurd (not_spent c.first_step.result _ c.in_ok-next.was
     (c.first_step.ensures.nothing_left l))))
@@ -46,7 +47,7 @@ pub returns-then-is_err : goal.returns-then-is_err
 returns-then-is_err g c =
     let place = place_stays c.work.invariant.stays in
     let h = rw c.in_ok-deeper-in-Ask.was at c.«open».ensures.opens in
-    halts (stays_on c.work.invariant.stays h.stays) (rw place at c.«open».ensures.entries) tt
+    halts (stays_on c.work.invariant.stays h.stays) (entries_back c.work.invariant.stays c.«open».ensures.entries) tt
     (λ l same. absurd (not_spent c.first_step.result _ c.in_ok-next.was
     (c.first_step.ensures.nothing_left l)))
 
@@ -60,7 +61,7 @@ returns-in_err-due-in-Ask-2 g c =
     let p = err_from_is_err_and c.from_residual-in_err-due-in-Ask-2.result
     c.from_residual-in_err-due-in-Ask-2.ensures.1 in
     rw (p.1, p.2, again.0) (halts (stays_on c.work.invariant.stays h.stays)
-    (rw place at c.«open».ensures.entries) (linked_again asked again.1)
+    (entries_back c.work.invariant.stays c.«open».ensures.entries) (linked_again asked again.1)
     (λ l same. absurd (not_spent c.first_step.result _ c.in_ok-next.was
     (c.first_step.ensures.nothing_left l))))
 
@@ -70,7 +71,7 @@ work-preserved-in-Ask-2 g c =
     let h = rw c.in_ok-deeper-in-Ask.was at c.«open».ensures.opens in
     record {
       stays = stays_on c.work.invariant.stays h.stays;
-      entries = rw place at c.«open».ensures.entries;
+      entries = entries_back c.work.invariant.stays c.«open».ensures.entries;
       linked = rw (c.left-before.ensures, ← c.in-Ask-2.is)
           (linked_asks c.work.invariant.linked c.in-Ask.is (search rules) h.stays.keeps h.known
           (rw place at h.runs) (rw place at h.waits));
@@ -92,7 +93,7 @@ returns-in_err-next-in-Done-2 g c =
     c.from_residual-in_err-next-in-Done-2.ensures.1 in
     rw (p.1, p.2) (halts
     (stays_on {new = c.resume.new.looks} (stays_on c.work.invariant.stays h.stays) stays)
-    (entries_steady stays.keeps _ _ (rw place at c.«open».ensures.entries))
+    (entries_steady stays.keeps _ _ _ (entries_back c.work.invariant.stays c.«open».ensures.entries))
     tt
     (λ l same. absurd (not_spent c.first_step.result _ c.in_ok-next.was
     (c.first_step.ensures.nothing_left l))))
@@ -119,7 +120,7 @@ work-preserved-in-Done-2 g c =
     c.resume.ensures.stays ∙ note.left in
     record {
       stays = stays_on {new = c.resume.new.looks} all stays;
-      entries = entries_steady stays.keeps _ _ (rw place at c.«open».ensures.entries);
+      entries = entries_steady stays.keeps _ _ _ (entries_back c.work.invariant.stays c.«open».ensures.entries);
       linked = rw left (linked_resumes asked c.work.stack.items waits refl refl
           (rw c.last-last.ensures at note.last) stays.keeps k.known
           (rw (there, note.stays.terms) at k.steps));
@@ -132,7 +133,7 @@ returns-in-No-2 g c =
     let after = c.«open».new.lookout.3 in
     let asked = linked_asks c.work.invariant.linked {left' = after.left} {last' = after.last}
     c.in-Ask.is refl h.stays.keeps h.known (rw place at h.runs) (rw place at h.waits) in
-    halts (stays_on c.work.invariant.stays h.stays) (rw place at c.«open».ensures.entries)
+    halts (stays_on c.work.invariant.stays h.stays) (entries_back c.work.invariant.stays c.«open».ensures.entries)
     (linked_refused asked refl)
     (λ l same. absurd (not_spent c.first_step.result _ c.in_ok-next.was
     (c.first_step.ensures.nothing_left l)))
@@ -145,7 +146,7 @@ returns-in-None g c =
     let ends = linked_ends c.work.invariant.linked c.in-Done.is (search rules) in
     record {
       stays = c.work.invariant.stays;
-      entries_true = entries_more _ _ _ _ _ _ c.work.invariant.entries c.keep.ensures
+      entries_true = entries_more _ _ _ _ _ _ _ c.work.invariant.entries c.keep.ensures
           (linked_true c.work.invariant.linked c.in-Done.is);
       known = ends.0;
       outcome = ends.1;
@@ -163,8 +164,8 @@ returns-in_err-next-in-Some g c =
     let p = err_from_is_err_and c.from_residual-in_err-next-in-Some.result
     c.from_residual-in_err-next-in-Some.ensures.1 in
     rw (p.1, p.2) (halts (stays_on {new = c.resume-in-Some.new.looks} c.work.invariant.stays stays)
-    (entries_steady stays.keeps _ _
-    (entries_more _ _ _ _ _ _ c.work.invariant.entries c.keep.ensures
+    (entries_steady stays.keeps _ _ _
+    (entries_more _ _ _ _ _ _ _ c.work.invariant.entries c.keep.ensures
     (linked_true c.work.invariant.linked c.in-Done.is)))
     tt
     (λ l same. absurd (not_spent c.first_step.result _ c.in_ok-next.was
@@ -181,8 +182,8 @@ work-preserved g c =
     c.resume-in-Some.ensures.stays ∙ note.left in
     record {
       stays = stays_on {new = c.resume-in-Some.new.looks} c.work.invariant.stays stays;
-      entries = entries_steady stays.keeps _ _
-          (entries_more _ _ _ _ _ _ c.work.invariant.entries c.keep.ensures
+      entries = entries_steady stays.keeps _ _ _
+          (entries_more _ _ _ _ _ _ _ c.work.invariant.entries c.keep.ensures
           (linked_true c.work.invariant.linked c.in-Done.is));
       linked = rw left (linked_resumes c.work.invariant.linked c.pop.new.self.items c.in-Some.frame
           c.in-Done.is (search rules) note.last stays.keeps h.known

@@ -1,8 +1,7 @@
 use Rattle.std.proofs.Common.{◌+◌, ◌*◌, vec_len}
 use Rattle.lk_store.specs.Contents.{tree_at}
 use Rattle.lk_ask.specs.Questions.{query_of}
-use Rattle.lk_engine.specs.Entries.{AreTrue}
-use Rattle.lk_engine.specs.Lookouts.{place_of, Stays}
+use Rattle.lk_engine.specs.Lookouts.{place_of, AreTrueAt, Stays}
 use Rattle.lk_engine.proofs.Links.{IsLinked}
 use Rattle.lk_engine.proofs.answering.work.Given as goal
 
@@ -12,7 +11,7 @@ invariant-work g l =
     let began = l.fn.lookout in
     record {
       stays : Stays contents g.T.Terms.rest began l.lookout;
-      entries : AreTrue (place_of began) (contents l.lookout.2) l.memo;
+      entries : AreTrueAt began (contents l.lookout.2) l.memo;
       linked : IsLinked (place_of began) (query_of (tree_at (contents began.2)) l.fn.query)
           began.3.left (contents l.lookout.2) l.stack.items l.asked l.budget l.next l.lookout.3.left
           l.lookout.3.last;

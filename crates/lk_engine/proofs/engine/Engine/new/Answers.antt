@@ -1,17 +1,26 @@
-use Rattle.std.proofs.Common.{sym, ap, subst, ◌∙◌}
+use Rattle.std.proofs.Common.{length, sym, ap, subst, ◌∙◌}
 use Rattle.lk_store.specs.Contents.{Extends}
 use Rattle.lk_store.specs.Store.{over, contents_of}
 use Rattle.lk_store.proofs.Made.{Extends-self}
+use Rattle.lk_engine.proofs.Standing.{new_stands}
 use Rattle.lk_engine.proofs.engine.Engine.new.Goals as goal
 
 pub new-requires : goal.new-requires
 new-requires c =
     let library = contents_of c.args.library.now.0 in
     subst (λ k. Extends library k)
-    (sym (c.new-terms.ensures.contents ∙ ap (λ t. contents_of t) c.base.ensures))
+    (sym (c.new-terms.ensures.contents ∙ ap (λ t. contents_of t) c.base-2.ensures))
     (Extends-self library)
 
 pub invariant_of-lookout : goal.invariant_of-lookout
 invariant_of-lookout c =
     let now = contents_of (over c.new-terms.result.0 c.new-terms.result.1) in
     subst (λ t. Extends (contents_of t) now) (sym c.new.ensures.tables) (Extends-self now)
+
+pub invariant_of-result : goal.invariant_of-result
+invariant_of-result c =
+    let library = ap (λ l. l.0) (sym c.new.ensures.library) in
+    new_stands _ _ _ (ap (λ t. t.0) c.new-terms.ensures.value ∙ c.base-2.ensures ∙ library)
+    c.begin.ensures.private c.begin.ensures.lasting c.begin.ensures.terms
+    (c.len.ensures ∙ ap (λ t. length (contents_of t).trees) (c.base.ensures ∙ library))
+    c.begin.ensures.unit

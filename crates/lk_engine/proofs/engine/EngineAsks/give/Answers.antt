@@ -2,8 +2,13 @@ use Rattle.std.proofs.Common.{[], ap, ◌∙◌}
 use Rattle.lk_questions.specs.Table.{steps}
 use Rattle.lk_engine.specs.Lookouts.{places_at}
 use Rattle.lk_engine.proofs.Lookouts.{gives_standing}
+use Rattle.lk_engine.proofs.Standing.{gives_stands}
 use Rattle.lk_engine.proofs.engine.EngineAsks.give.Goals as goal
 
 pub returns-clause-standing : goal.returns-clause-standing
 returns-clause-standing c = gives_standing c.give_in.ensures ∙ ap
     (λ s. record { basis = (s.0.2, s.1.unit); table = steps; place = places_at (s.0.2, s.1.unit) c.args.partial [] }) c.self.view_is
+
+pub invariant_of-self : goal.invariant_of-self
+invariant_of-self c = gives_stands c.give_in.ensures c.self.invariant c.clear.ensures.private
+    c.clear.ensures.slots c.clear.ensures.terms c.clear.ensures.unit

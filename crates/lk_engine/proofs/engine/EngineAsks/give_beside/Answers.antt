@@ -7,6 +7,7 @@ use Rattle.lk_env.specs.Units.{type_at}
 use Rattle.lk_env.specs.Scopes.{alone_members}
 use Rattle.lk_engine.specs.Lookouts.{Seen, standing_at, places_at}
 use Rattle.lk_engine.proofs.Lookouts.{gives_beside, gives_basis}
+use Rattle.lk_engine.proofs.Standing.{beside_stands}
 use Rattle.lk_engine.proofs.engine.EngineAsks.give_beside.Goals as goal
 
 pub returns-clause-standing : goal.returns-clause-standing
@@ -22,3 +23,8 @@ returns-clause-standing c =
 pub returns-clause-basis : goal.returns-clause-basis
 returns-clause-basis c = gives_basis _ _ _ _ c.give_beside_in-given.result c.give_beside_in-given.ensures.gives
     c.give_beside_in-given.ensures.refused ∙ ap (λ s. (s.0.2, s.1.unit)) c.self.view_is
+
+pub invariant_of-self : goal.invariant_of-self
+invariant_of-self c = beside_stands _ _ _ _ _ _ c.give_beside_in-given.result
+    c.give_beside_in-given.ensures.gives c.give_beside_in-given.ensures.refused c.self.invariant
+    c.clear.ensures.private c.clear.ensures.slots c.clear.ensures.terms c.clear.ensures.unit
