@@ -1,5 +1,6 @@
 pub mod Beginning
 pub mod Looseness
+pub mod Marks
 pub mod Openings
 pub mod Sheets
 pub mod Telescopes

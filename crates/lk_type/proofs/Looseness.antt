@@ -50,9 +50,8 @@ outermost_occurs d wide l = absurd (omega arith)
 outermost_occurs d (str s) l = absurd (omega arith)
 outermost_occurs d (local k T) l = absurd (omega arith)
 
--- where it is the last one, the next number is one more
-pub next_by_last : (e : Tree) (number : ℕ) (o : Option ℕ) (P : Type 0) → loose e ≡ 1 → SomeIff o P (number + 1)
+-- where the last Local occurs the next number is one more
+pub next_by_last : (e : Tree) (number : ℕ) (o : Option ℕ) (P : Type 0) → has_var 0 e ≡ true → SomeIff o P (number + 1)
     → IfSome o (IsNextNumber e number)
 next_by_last e number None P l h = tt
-next_by_last e number (Some n) P l h =
-    let one : n ≡ suc number = omega (arith, h.1) in inr (outermost_occurs 0 e l, one)
+next_by_last e number (Some n) P l h = let one : n ≡ suc number = omega (arith, h.1) in inr (l, one)

@@ -62,10 +62,10 @@ or_either : (p q : Bool) → (p || q) ≡ true → (p ≡ true) ⊎ (q ≡ true)
 or_either true q h = inl refl
 or_either false q h = inr h
 
-or_left : (p q : Bool) → p ≡ true → (p || q) ≡ true
+pub or_left : (p q : Bool) → p ≡ true → (p || q) ≡ true
 or_left p q h = rw h refl
 
-or_right : (p q : Bool) → q ≡ true → (p || q) ≡ true
+pub or_right : (p q : Bool) → q ≡ true → (p || q) ≡ true
 or_right true q h = refl
 or_right false q h = h
 

@@ -3,10 +3,12 @@
 
 pub mod application;
 pub mod binders;
+mod binding;
 pub mod constant;
 pub mod infer;
 mod lets;
 mod literals;
+pub mod marking;
 pub mod opening;
 pub mod sheet;
 pub mod sorts;

@@ -1,8 +1,9 @@
 //! Telescopes whose binders are opened at once, each domain and the innermost body with the Locals
 //! of the binders around it.
 
-ghost use Rattle.std.specs.Prelude.{◌≡◌, ◌≢◌, ◌<◌, ◌∷◌, ◌++◌, [], Ok, length, map, All, IfOk, IfSome};
+ghost use Rattle.std.specs.Prelude.{◌≡◌, ◌≢◌, ◌<◌, ◌∷◌, ◌++◌, [], true, Ok, length, map, All, IfOk, IfSome};
 ghost use Rattle.lk_tree.specs.Tree.{local};
+ghost use Rattle.lk_tree.specs.Bind.{has_var};
 ghost use Rattle.lk_tree.specs.Putting.{put as put_values};
 ghost use Rattle.lk_questions.specs.Infer.{infer_steps};
 ghost use Rattle.lk_store.specs.Contents.{tree_at, Extends};
@@ -11,9 +12,12 @@ ghost use Rattle.lk_type.specs.Sheets.{map_telescope, IsKnownTelescope};
 ghost use Rattle.lk_type.specs.Telescopes.{ahead, behind, started, asked_for, telescope_domain};
 ghost use Rattle.lk_type.specs.Openings.{IsBinder, IsNextNumber, IsNumberFor, AreClosed, OpensAll};
 ghost use Rattle.lk_type.specs.Openings.{IsAskedFor, RunsAs, MayBegin};
+ghost use Rattle.lk_type.specs.Marks.{body_at, AreMarks};
 ghost use Rattle.lk_type.specs.Types.{Infers};
 
+use crate::binding::parts_of;
 use crate::infer::TypeNext;
+use crate::marking::{is_marked, marks_of};
 use crate::sheet::{Binders, Telescope, TypeTermSheet};
 use lk_ask::looks::Looks;
 use lk_ask::next::Next;
@@ -26,34 +30,17 @@ use lk_subst::putting::put;
 /// So many binders are opened at once. Fewer are opened as fast one after the other.
 const LONG: u64 = 8;
 
-/// The domain and the body of a binder.
-#[inline(always)]
-fn parts_of<L: Looks>(looks: &L, binders: Binders, e: u64) -> Option<(u64, u64)>
-    requires { e < length (L.contents looks.now).trees }
-    ensures { IfSome result (IsBinder (L.contents looks.now) binders e) }
-{
-    match binders {
-        Binders::Pis => match looks.view(e) {
-            Node::Pi(domain, body) => Some((domain, body)),
-            _ => None,
-        },
-        Binders::Lambdas => match looks.view(e) {
-            Node::Lam(domain, body) => Some((domain, body)),
-            _ => None,
-        },
-    }
-}
-
 /// The number of the next Local, where it is plain: in a closed body the outer Locals do not occur;
 /// where the last one occurs its number is the greatest.
-fn next_number<L: Looks>(looks: &L, body: u64, number: u64) -> Option<u64>
-    requires { body < length (L.contents looks.now).trees }
+fn next_number<L: Looks>(looks: &L, body: u64, number: u64, occurs: bool) -> Option<u64>
+    requires body_in { body < length (L.contents looks.now).trees }
+    requires occurs { occurs ≡ true → has_var 0 (tree_at (L.contents looks.now) body) ≡ true }
     ensures { IfSome result (IsNextNumber (tree_at (L.contents looks.now) body) number) }
 {
     if looks.loose_bound(body) == 0 {
         return u64::try_from(looks.local_bound(body)).ok();
     }
-    if looks.loose_bound(body) == 1 {
+    if occurs {
         return number.checked_add(1);
     }
     None
@@ -78,30 +65,40 @@ fn add_local<L: Looks>(
     Ok(x)
 }
 
-/// Opens the binders of a body, as long as it is plain which number the next Local has. What stands
-/// inside them.
+/// Opens the binders of the body of a binder, as long as it is plain which number the next Local
+/// has. What stands inside them.
 fn open_binders<L: Looks>(
     looks: &mut L,
     binders: Binders,
+    e: u64,
     body: u64,
     next: Option<u64>,
+    marks: &[bool],
     locals: &mut Vec<u64>,
 ) -> Result<u64, NoMemory>
     requires body_in { body < length (L.contents looks.old).trees }
+    requires body_is { tree_at (L.contents looks.old) body
+        ≡ body_at binders 1 (tree_at (L.contents looks.old) e) }
+    requires marks { AreMarks binders (tree_at (L.contents looks.old) e) marks.now }
     requires locals_in { AreClosed (L.contents looks.old) locals.old.items }
     requires next { IfSome next (IsNumberFor (L.contents looks.old) locals.old.items body) }
     ensures { OpensAll L.contents L.rest looks.old looks.new result binders body locals.old.items
         locals.new.items }
 {
+    let _e = e;
     let mut inside = body;
     let mut next = next;
+    let mut count: u64 = 1;
     'binders: while let Some(number) = next {
         match parts_of(looks, binders, inside) {
             None => return put(looks.alloc(), looks, inside, locals),
             Some((domain, body)) => {
                 add_local(looks, domain, number, locals)?;
+                let occurs = is_marked(marks, count);
                 inside = body;
-                next = next_number(looks, inside, number);
+                next = next_number(looks, inside, number, occurs);
+                // No term in memory has so many binders that this fails.
+                count = count.checked_add(1).ok_or(NoMemory)?;
             }
         }
     }
@@ -247,8 +244,9 @@ fn begin_binders<L: Looks>(
     };
     let mut locals = Vec::new(looks.alloc());
     let _first = add_local(looks, domain, number, &mut locals)?;
-    let next = next_number(looks, body, number);
-    let inside = open_binders(looks, binders, body, next, &mut locals)?;
+    let marks = marks_of(looks, binders, e)?;
+    let next = next_number(looks, body, number, is_marked(&marks, 0));
+    let inside = open_binders(looks, binders, e, body, next, &marks, &mut locals)?;
     first_domain(looks, binders, domain, &locals, inside)
 }
 

@@ -4,6 +4,7 @@ use Rattle.lk_tree.specs.Bind.{bound}
 use Rattle.lk_tree.specs.Putting.{put}
 use Rattle.lk_store.specs.Contents.{tree_at, IsTree}
 use Rattle.lk_type.proofs.Openings.{next_fits}
+use Rattle.lk_type.proofs.Marks.{first_body}
 use Rattle.lk_type.proofs.Beginning.{first_added, begun}
 use Rattle.lk_type.proofs.opening.begin_binders.Goals as goal
 
@@ -18,6 +19,9 @@ open_binders-requires-clause-next g c =
     let pushed : c.add_local.new.locals.items ≡ c.in_ok-_first._first ∷ [] = rw c.new-locals.ensures.items at first.pushed in
     next_fits (first_added first.makes.keeps c.requires.binder number made pushed) c.next_number-next.result c.next_number-next.ensures
 
+pub open_binders-requires-clause-body_is : goal.open_binders-requires-clause-body_is
+open_binders-requires-clause-body_is g c = first_body c.in_ok-_first.ensures.makes.keeps c.requires.e_in c.requires.binder
+
 pub returns : goal.returns
 returns g c =
     let contents = g.L.Terms.contents in
@@ -29,4 +33,4 @@ returns g c =
     let pushed : c.add_local.new.locals.items ≡ c.in_ok-_first._first ∷ [] = rw c.new-locals.ensures.items at first.pushed in
     let inside = c.in_ok-inside.ensures in
     begun c.add_local.new.looks c.in_ok-inside.inside c.first_domain.result first.makes.keeps first.makes.stays inside.keeps inside.stays
-    c.requires.binder number made (rw pushed at inside.opened) (rw c.deref.ensures.value at c.first_domain.ensures)
+    c.requires.binder number made (rw pushed at inside.opened) (rw c.deref-3.ensures.value at c.first_domain.ensures)

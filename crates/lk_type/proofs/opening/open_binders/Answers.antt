@@ -1,8 +1,10 @@
-use Rattle.std.proofs.Common.{rules, ◌≡◌, Some, ap, sym, ◌∙◌}
+use Rattle.std.proofs.Common.{rules, ◌≡◌, suc, ap, ◌∙◌}
+use Rattle.lk_tree.specs.Bind.{has_var}
 use Rattle.lk_store.specs.Contents.{tree_at, Extends}
 use Rattle.lk_store.proofs.Extending.{Extends-trans}
 use Rattle.lk_type.specs.Openings.{IsBinder}
 use Rattle.lk_type.proofs.Openings.{IsAdded, still_closed, next_fits, still_opened, opened_in}
+use Rattle.lk_type.proofs.Marks.{body_on}
 use Rattle.lk_type.proofs.opening.open_binders.Goals as goal
 
 pub returns-in-None : goal.returns-in-None
@@ -14,6 +16,16 @@ returns-in-None g c = record {
       (rw c.deref.ensures.value at c.put.ensures.ok);
 }
 
+pub next_number-next-requires-clause-occurs : goal.next_number-next-requires-clause-occurs
+next_number-next-requires-clause-occurs g c marked =
+    let contents = g.L.Terms.contents in
+    let inv = c.binders.invariant in
+    let h = c.in_ok-add_local-in-Some-parts_of.ensures in
+    let parts : IsBinder (contents c.binders.looks) c.args.binders c.binders.inside
+    (c.in-Some-parts_of.domain, c.in-Some-parts_of.body) = search rules in
+    ap (has_var 0) (body_on (tree_at (contents c.args.looks.now) c.args.e) c.binders.count h.makes.keeps inv.at parts)
+    ∙ c.requires.marks c.binders.count (c.is_marked-occurs.ensures marked)
+
 pub binders-preserved : goal.binders-preserved
 binders-preserved g c =
     let inv = c.binders.invariant in
@@ -21,6 +33,7 @@ binders-preserved g c =
     let contents = g.L.Terms.contents in
     let parts : IsBinder (contents c.binders.looks) c.args.binders c.binders.inside
     (c.in-Some-parts_of.domain, c.in-Some-parts_of.body) = search rules in
+    let count : c.in_ok-count-in-Some-parts_of.count ≡ suc c.binders.count = search rules in
     let added : IsAdded c.args.binders (contents c.binders.looks) (contents c.add_local.new.looks) c.binders.inside
     c.in-Some-parts_of.domain c.in-Some-parts_of.body c.in-Some.number c.in_ok-add_local-in-Some-parts_of.field-0
     c.binders.locals.items c.add_local.new.locals.items = record {
@@ -35,6 +48,7 @@ binders-preserved g c =
       keeps = Extends-trans _ _ _ inv.keeps h.makes.keeps;
       stays = h.makes.stays ∙ inv.stays;
       inside_in = search rules;
+      at = rw count (body_on (tree_at (contents c.args.looks.now) c.args.e) c.binders.count h.makes.keeps inv.at parts);
       closed = still_closed added;
       number = next_fits added c.next_number-next.result c.next_number-next.ensures;
       opened = still_opened added inv.opened;

@@ -1,0 +1,18 @@
+use Rattle.std.proofs.Common.{◌≡◌, ◌<◌, length}
+use Rattle.lk_store.specs.Contents.{tree_at}
+use Rattle.lk_type.specs.Marks.{body_at, AreMarks, IsPart, AreParts}
+use Rattle.lk_type.proofs.Openings.{binders_in}
+use Rattle.lk_type.proofs.marking.begin.Given as goal
+
+abbrev pub invariant-binders : goal.invariant-binders
+invariant-binders g l =
+    let now = g.L.Terms.contents l.looks in
+    record {
+      inside_is : tree_at now l.inside ≡ body_at l.binders l.count (tree_at now l.e);
+      inside : IsPart now l.binders (tree_at now l.e) (record { e = l.inside; depth = l.count; count = l.count });
+      parts : AreParts now l.binders (tree_at now l.e) l.parts.items;
+      marks : AreMarks l.binders (tree_at now l.e) l.marks.items;
+    }
+
+abbrev pub decreases-binders : goal.decreases-binders
+decreases-binders g l = binders_in l.binders (tree_at (g.L.Terms.contents l.looks) l.inside)
