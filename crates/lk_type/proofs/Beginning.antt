@@ -1,8 +1,7 @@
 -- The first question of a telescope runs as the row of its first binder.
-use Rattle.std.proofs.Common.{◌≡◌, ℕ, ◌<◌, List, [], ◌∷◌, ◌++◌, map, length, Ok, Err, Result, refl, ap, sym, subst, ◌∙◌, arith}
+use Rattle.std.proofs.Common.{◌≡◌, ℕ, ◌<◌, List, [], ◌∷◌, map, length, Ok, Err, Result, ap, sym, subst, ◌∙◌, arith}
 use Rattle.std.specs.Prelude.{IfOk}
 use Rattle.lk_tree.specs.Tree.{Tree}
-use Rattle.lk_plain.specs.Program.{Program}
 use Rattle.lk_plain.specs.Erased.{a_tree, erased, run_steps, out_of}
 use Rattle.lk_questions.specs.Infer.{infer_steps}
 use Rattle.lk_questions.specs.Table.{steps}
@@ -17,12 +16,12 @@ use Rattle.lk_type.specs.Telescopes.{bound_by, fresh, started, asked_for, telesc
 use Rattle.lk_tree.specs.Tree.{local}
 use Rattle.lk_tree.specs.Bind.{opened, bound}
 use Rattle.lk_tree.specs.Loose.{loose}
-use Rattle.lk_tree.specs.Putting.{put, put_at}
+use Rattle.lk_tree.specs.Putting.{put}
 use Rattle.lk_tree.proofs.Puttings.{put_nothing}
 use Rattle.lk_store.specs.Contents.{IsTree}
 use Rattle.lk_store.proofs.Extending.{Extends-trans}
 use Rattle.lk_type.specs.Openings.{IsBinder, IsOpened, IsAskedFor, RunsAs}
-use Rattle.lk_type.proofs.Openings.{IsAdded, put_last, still_closed}
+use Rattle.lk_type.proofs.Openings.{IsAdded, put_last}
 use Rattle.lk_type.proofs.Telescopes.{IsAlike, runs_as_row}
 use Rattle.lk_type.specs.Types.{type_next, Infers}
 

@@ -6,7 +6,7 @@ use Rattle.lk_tree.specs.Tree.{local}
 use Rattle.lk_tree.specs.Bind.{has_var}
 use Rattle.lk_tree.specs.Loose.{loose}
 use Rattle.std.proofs.Common.{inr}
-use Rattle.std.specs.Prelude.{Option, Some, None, IfSome, ◌<◌, ◌+◌, ◌^◌}
+use Rattle.std.specs.Prelude.{Option, Some, None, IfSome, ◌+◌}
 use Rattle.std.specs.Option.{SomeIff}
 use Rattle.lk_type.specs.Openings.{IsNextNumber}
 

@@ -1,8 +1,8 @@
 -- Of which binders the variables occur further inside.
-use Rattle.std.proofs.Common.{◌≡◌, ℕ, zero, suc, ◌+◌, ◌-◌, ◌<◌, ◌≤◌, Bool, true, false, ◌||◌, List, [], ◌∷◌, ◌++◌, length, Result, Ok, Err, refl, ap, sym, ◌∙◌, arith}
-use Rattle.std.specs.Prelude.{All, OnOk, slice_index_or}
+use Rattle.std.proofs.Common.{◌≡◌, ℕ, zero, suc, ◌+◌, ◌-◌, ◌<◌, ◌≤◌, Bool, true, false, List, [], ◌∷◌, ◌++◌, length, Result, Ok, Err, refl, ap, sym, ◌∙◌, arith}
+use Rattle.std.specs.Prelude.{OnOk, slice_index_or}
 use Rattle.std.proofs.lemmas.List.Elements.{All-push}
-use Rattle.lk_tree.specs.Tree.{Tree, lam, pi, proj}
+use Rattle.lk_tree.specs.Tree.{Tree}
 use Rattle.lk_tree.specs.Bind.{has_var}
 use Rattle.lk_tree.specs.Loose.{loose}
 use Rattle.lk_store.specs.Contents.{Contents, tree_at, Extends}

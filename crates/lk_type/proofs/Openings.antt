@@ -1,5 +1,5 @@
 -- Opening binders at once: values put at once, and the number of the next Local.
-use Rattle.std.proofs.Common.{◌≡◌, ◌≢◌, ℕ, zero, suc, ◌+◌, ◌-◌, ◌<◌, ◌≤◌, ◌⊎◌, inl, inr, max, Bool, true, false, ◌||◌, nat_eq, nat_lt, List, [], ◌∷◌, ◌++◌, length, map, refl, ap, sym, ◌∙◌, arith}
+use Rattle.std.proofs.Common.{◌≡◌, ℕ, suc, ◌+◌, ◌<◌, ◌≤◌, ◌⊎◌, inl, inr, Bool, true, false, ◌||◌, List, [], ◌∷◌, ◌++◌, length, map, refl, ap, sym, ◌∙◌, arith}
 use Rattle.std.specs.Prelude.{All, Option, Some, None, IfSome, Result, Ok, Err, IfOk}
 use Rattle.std.proofs.lemmas.Bool.Decides.{nat_tests}
 use Rattle.std.proofs.lemmas.List.Elements.{All-head, All-tail, All-weaker, All-map, All-push, All-cons}
@@ -16,7 +16,6 @@ use Rattle.lk_store.specs.declared.memory.NoMemory.{NoMemory}
 use Rattle.lk_subst.specs.Numbers.{trees-steady}
 use Rattle.lk_type.specs.declared.sheet.Binders.{Binders}
 use Rattle.lk_type.specs.declared.sheet.Binders.TheVariants.{Pis, Lambdas}
-use Rattle.lk_type.specs.declared.sheet.Telescope.{Telescope}
 use Rattle.lk_type.specs.Sheets.{map_telescope}
 use Rattle.lk_type.specs.Telescopes.{bound_by, fresh, OpensTo, ahead, behind, started, asked_for}
 use Rattle.lk_type.specs.Openings.{IsBinder, IsNextNumber, IsNumberFor, AreClosed, IsOpened}

@@ -1,19 +1,18 @@
 -- Telescopes: that asking for one binder after the other runs as the row does.
-use Rattle.std.proofs.Common.{◌≡◌, ℕ, zero, suc, ◌-◌, ◌<◌, List, [], ◌∷◌, length, Option, Some, None, refl, ap, sym, subst, ◌∙◌, arith}
+use Rattle.std.proofs.Common.{◌≡◌, ℕ, zero, suc, List, [], ◌∷◌, length, Option, Some, None, refl, ap, sym, ◌∙◌}
 use Rattle.lk_tree.specs.Tree.{Tree, Level, imax_level, var, sort, const, app, lam, pi, let_in, proj, lit, wide, str, local}
-use Rattle.lk_tree.specs.Bind.{opened, close, bound}
+use Rattle.lk_tree.specs.Bind.{opened, bound}
 use Rattle.lk_tree.specs.declared.rule.Rule.{Rule}
 use Rattle.lk_rulebook.specs.Place.{Place, Entry}
 use Rattle.lk_plain.specs.Query.{Query, AnswerTo, core, whnf, infer, same}
 use Rattle.lk_plain.specs.Program.{Program, done, refuse, ask, look, ◌>>=◌}
-use Rattle.lk_plain.specs.Erased.{Value, a_tree, truth, Steps, asks, with_tree, with_answer, looked, erased, Out, finished, stopped, used_up, seen, go_on, run_steps, out_of}
+use Rattle.lk_plain.specs.Erased.{Value, a_tree, truth, Steps, with_tree, with_answer, looked, erased, Out, finished, stopped, used_up, seen, go_on, run_steps, out_of}
 use Rattle.lk_plain.proofs.Erasing.{run_from, seen_goes, seen_none, out-suc, out-zero}
 use Rattle.lk_questions.specs.Infer.{infer_steps}
 use Rattle.lk_questions.specs.Steps.{as_sort}
 use Rattle.lk_questions.specs.Table.{steps}
 use Rattle.lk_type.specs.declared.sheet.Binders.{Binders}
 use Rattle.lk_type.specs.declared.sheet.Binders.TheVariants.{Pis, Lambdas}
-use Rattle.lk_type.specs.declared.sheet.Telescope.{Telescope}
 use Rattle.lk_type.specs.Telescopes.{bound_by, fresh, OpensTo, ahead, gather, started, asked_for, telescope_on, telescope_end, telescope_domain}
 
 -- how many are gathered

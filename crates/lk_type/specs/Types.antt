@@ -1,6 +1,6 @@
 -- What Infer goes on with, once the answer is there that it waits for.
-use Rattle.std.specs.Prelude.{◌≡◌, ◌<◌, ℕ, Bool, Option, None, Result, Ok, Err, length}
-use Rattle.lk_tree.specs.Tree.{Name, Tree, Level, imax_level, sort, lam, pi, proj, local}
+use Rattle.std.specs.Prelude.{◌≡◌, ℕ, Bool, Option, None, Result, Ok, Err}
+use Rattle.lk_tree.specs.Tree.{Tree, Level, imax_level, sort, lam, pi, local}
 use Rattle.lk_tree.specs.Bind.{opened, close, bound}
 use Rattle.lk_tree.specs.declared.rule.Rule.TheVariants.{NotAFunction, ArgumentType, LetType}
 use Rattle.lk_rulebook.specs.Place.{Place}

@@ -1,4 +1,4 @@
-use Rattle.std.proofs.Common.{◌≡◌, Some, rules, refl, ap, sym, subst, ◌∙◌}
+use Rattle.std.proofs.Common.{◌≡◌, Some, rules, ap, sym, subst, ◌∙◌}
 use Rattle.lk_plain.specs.Erased.{a_tree, gives}
 use Rattle.lk_store.specs.Contents.{list_at, tree_at}
 use Rattle.lk_store.specs.Store.{contents_of}

@@ -1,4 +1,4 @@
-use Rattle.std.proofs.Common.{◌≡◌, ◌<◌, length}
+use Rattle.std.proofs.Common.{◌≡◌}
 use Rattle.lk_store.specs.Contents.{tree_at}
 use Rattle.lk_type.specs.Marks.{body_at, AreMarks, IsPart, AreParts}
 use Rattle.lk_type.proofs.Openings.{binders_in}

@@ -1,4 +1,4 @@
-use Rattle.std.proofs.Common.{rules, ◌≡◌, ◌<◌, ◌≤◌, ◌+◌, ◌-◌, arith}
+use Rattle.std.proofs.Common.{rules}
 use Rattle.lk_type.proofs.Marks.{outermost_is}
 use Rattle.lk_type.proofs.marking.outermost.Goals as goal
 

@@ -1,5 +1,5 @@
 use Rattle.std.proofs.Common.{rules, ◌∙◌}
-use Rattle.std.proofs.Common.{◌≡◌, ◌++◌, ◌∷◌, [], ◌<◌, length}
+use Rattle.std.proofs.Common.{◌≡◌, ◌∷◌, [], ◌<◌, length}
 use Rattle.lk_store.proofs.Extending.{Extends-trans}
 use Rattle.lk_type.proofs.Openings.{behind_step, some_of_append}
 use Rattle.lk_type.proofs.opening.all_behind.Goals as goal

@@ -1,6 +1,6 @@
 use Rattle.std.proofs.Common.{rules, ◌≡◌, suc, ap, ◌∙◌}
 use Rattle.lk_tree.specs.Bind.{has_var}
-use Rattle.lk_store.specs.Contents.{tree_at, Extends}
+use Rattle.lk_store.specs.Contents.{tree_at}
 use Rattle.lk_store.proofs.Extending.{Extends-trans}
 use Rattle.lk_type.specs.Openings.{IsBinder}
 use Rattle.lk_type.proofs.Openings.{IsAdded, still_closed, next_fits, still_opened, opened_in}
