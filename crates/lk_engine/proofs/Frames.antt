@@ -48,6 +48,9 @@ use Rattle.lk_core.specs.Forms.{headed_rest, after_literal, unfolded_at, core_re
 use Rattle.lk_type.specs.declared.sheet.TypeTermSheet.{TypeTermSheet}
 use Rattle.lk_type.specs.declared.sheet.TypeTermSheet.TheVariants.{Passed, LamDomain, LamDomainSort}
 use Rattle.lk_type.specs.declared.sheet.TypeTermSheet.TheVariants.{LamBody, PiDomain, PiDomainSort}
+use Rattle.lk_type.specs.declared.sheet.TypeTermSheet.TheVariants.{TelescopeLocal, TelescopeDomain}
+use Rattle.lk_type.specs.declared.sheet.TypeTermSheet.TheVariants.{TelescopeSort, TelescopeBody, PisSort}
+use Rattle.lk_type.specs.Telescopes.{telescope_domain, telescope_sorted, telescope_end, pis_sorted}
 use Rattle.lk_type.specs.declared.sheet.TypeTermSheet.TheVariants.{PiBody, PiBodySort, Function}
 use Rattle.lk_type.specs.declared.sheet.TypeTermSheet.TheVariants.{FunctionForm, Argument, LetType}
 use Rattle.lk_type.specs.declared.sheet.TypeTermSheet.TheVariants.{LetTypeSort, LetValue}
@@ -191,6 +194,12 @@ module _ (w : Place) (last : Option ℕ) (b : ℕ) where
   type_term_from (PiBody u) v =
       from_program a_tree (ask (plain.whnf v) (λ S. pi_end (level_in u) S))
   type_term_from (PiBodySort u) v = from_program a_tree (pi_end (level_in u) v)
+  type_term_from (TelescopeLocal s) v = from_program a_tree (telescope_domain s v)
+  type_term_from (TelescopeDomain s) v =
+      from_program a_tree (ask (plain.whnf v) (λ S. telescope_sorted s S))
+  type_term_from (TelescopeSort s) v = from_program a_tree (telescope_sorted s v)
+  type_term_from (TelescopeBody g us) v = from_program a_tree (telescope_end g us v)
+  type_term_from (PisSort us s) v = from_program a_tree (pis_sorted us s v)
   type_term_from (Function a) v =
       from_program a_tree (ask (plain.whnf v) (λ S. applied_rest a S))
   type_term_from (FunctionForm a) v = from_program a_tree (applied_rest a v)

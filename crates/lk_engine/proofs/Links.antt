@@ -29,7 +29,7 @@ use Rattle.lk_engine.specs.Entries.{IsTrueAt}
 use Rattle.lk_engine.specs.Rests.{any_rest, next_of, query_steps, IsKnownFrame, Linked}
 use Rattle.lk_engine.specs.Waiting.{WaitsFor, is_same, is_waiting}
 use Rattle.lk_engine.proofs.Frames.{any_from, query_steady, query_known, stack_known, links_steady}
-use Rattle.lk_engine.proofs.Waiting.{waits_on, waits_for_itself, waits_unseen, waits_begins, waits_asks, waits_goes}
+use Rattle.lk_engine.proofs.Waiting.{waits_on, waits_same, waits_for_itself, waits_unseen, waits_begins, waits_asks, waits_goes}
 
 -- a question's row is its row in the table
 query_steps_is : (w : Place) (t : ℕ → Tree) (q : Query ℕ) → query_steps w t None q ≡ steps_of steps w (query_of t q)
@@ -111,14 +111,19 @@ module _ (w : Place) (t : ℕ → Tree) where
       ∙ sym (any_from w last2 left (map_any t f.sheet) v)
 
 -- a question is opened
-pub opened : (w : Place) (t u : ℕ → Tree) (q : Query ℕ) (next : Next ℕ (AnySheet ℕ)) (left left2 : ℕ) (last : Option ℕ) → 0 < left → left2 ≡ left - 1 → next_of w u last next ≡ query_steps w t None q
+pub opened : (w : Place) (t u : ℕ → Tree) (q : Query ℕ) (next : Next ℕ (AnySheet ℕ)) (left left2 : ℕ) (last : Option ℕ) → 0 < left → left2 ≡ left - 1
+    → ((b : ℕ) → run_steps (out_of steps w) (next_of w u last next) b ≡ run_steps (out_of steps w) (query_steps w t None q) b)
     → run_steps (out_of steps w) (next_of w u last next) left2 ≡ out_of steps w (query_of t q) left
-opened w t u q next left left2 last l e p = ap (run_steps (out_of steps w) (next_of w u last next)) e ∙ ap (λ r. run_steps (out_of steps w) r (left - 1)) (p ∙ query_steps_is w t q) ∙ sym (out-step steps w (query_of t q) left l)
+opened w t u q next left left2 last l e p =
+    ap (run_steps (out_of steps w) (next_of w u last next)) e
+    ∙ (p (left - 1) ∙ (ap (λ r. run_steps (out_of steps w) r (left - 1)) (query_steps_is w t q) ∙ sym (out-step steps w (query_of t q) left l)))
 
 -- and waits for what comes next
-pub opened_waits : (w : Place) (t u : ℕ → Tree) (q : Query ℕ) (next : Next ℕ (AnySheet ℕ)) (last : Option ℕ) → next_of w u last next ≡ query_steps w t None q
+pub opened_waits : (w : Place) (t u : ℕ → Tree) (q : Query ℕ) (next : Next ℕ (AnySheet ℕ)) (last : Option ℕ)
+    → ((b : ℕ) → run_steps (out_of steps w) (next_of w u last next) b ≡ run_steps (out_of steps w) (query_steps w t None q) b)
     → WaitsFor (out_of steps w (query_of t q)) (run_steps (out_of steps w) (next_of w u last next))
-opened_waits w t u q next last p = rw (p ∙ query_steps_is w t q) (waits_begins steps w (query_of t q))
+opened_waits w t u q next last p =
+    waits_same (waits_begins steps w (query_of t q)) (λ b. p b ∙ ap (λ r. run_steps (out_of steps w) r b) (query_steps_is w t q))
 
 -- nothing is left for it
 pub not_opened : (w : Place) (t : ℕ → Tree) (q : Query ℕ) (left : ℕ) → left < 1 → out_of steps w (query_of t q) left ≡ used_up

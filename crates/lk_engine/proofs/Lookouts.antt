@@ -29,7 +29,7 @@ use Rattle.lk_engine.specs.Sheets.{AnySheet, IsKnownAny}
 use Rattle.lk_memo.specs.declared.memo.PrivateMemo.{PrivateMemo}
 use Rattle.lk_engine.specs.Entries.{IsTrueAt, AreTrue}
 use Rattle.lk_engine.specs.Lookouts.{Seen, place_of, AreTrueAt, standing_at, places_at, out_at, GivesMembers, Stays, Metered, Pays, Repeats, Opens, Answers, Stands}
-use Rattle.lk_engine.specs.Rests.{next_of, query_steps}
+use Rattle.lk_engine.specs.Rests.{next_of, Starts}
 use Rattle.lk_engine.proofs.Frames.{entries_steady}
 use Rattle.lk_engine.proofs.Links.{opened, opened_waits, not_opened}
 use Rattle.lk_engine.proofs.Waiting.{waits_given}
@@ -128,20 +128,19 @@ module _ {T R : Type 0} {contents : T → Contents} {rest : T → R} where
   -- a question is opened
   pub first_opens : {old between new : Seen T} {query : Query ℕ} {next : Next ℕ (AnySheet ℕ)}
       → Pays old between (Ok tt) 1 None
-      → IsStep contents rest between new (Ok next)
-      (query_steps (place_of between) (tree_at (contents between.2)) between.3.last query)
+      → Starts (λ s. contents s.2) (λ s. (s.0, s.1, s.3, rest s.2)) sight_at between new (Ok next) query
       → Opens contents rest old new (Ok next) query
   first_opens {old} {between} {new} {query} {next} p h =
       let left : new.3.left ≡ between.3.left = ap (λ b. b.left) h.stays in
       let place : place_of between ≡ place_of old = place_stays (metered_stays p.stays) in
-      let steps = rw (place, p.stays.terms, p.last) at h.steps in
+      let runs = rw (place, p.stays.terms, p.last) at h.runs in
       record {
-        stays = stays_on (metered_stays p.stays) (step_stays h);
+        stays = stays_on (metered_stays p.stays) (sight_stays h.keeps h.stays);
         known = h.known;
         runs = opened (place_of old) (tree_at (contents old.2)) (tree_at (contents new.2)) query
-            next old.3.left new.3.left new.3.last (omega (arith, p.paid.0)) (left ∙ p.paid.1) steps;
+            next old.3.left new.3.left new.3.last (omega (arith, p.paid.0)) (left ∙ p.paid.1) runs;
         waits = opened_waits (place_of old) (tree_at (contents old.2)) (tree_at (contents new.2)) query
-            next new.3.last steps;
+            next new.3.last runs;
         less = omega (arith, p.paid, left);
         err = tt;
       }

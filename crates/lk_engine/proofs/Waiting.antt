@@ -1,5 +1,5 @@
 -- A question waits for what it asks, and one that waits for itself is neither answered nor refused. It holds of every table.
-use Rattle.std.proofs.Common.{ℕ, zero, suc, ◌≡◌, ◌<◌, ◌≤◌, ◌-◌, ◌⊎◌, inl, inr, Option, ap, ◌∙◌, arith}
+use Rattle.std.proofs.Common.{ℕ, zero, suc, ◌≡◌, ◌<◌, ◌≤◌, ◌-◌, ◌⊎◌, inl, inr, Option, ap, sym, ◌∙◌, arith}
 use Rattle.lk_rulebook.specs.Place.{Place}
 use Rattle.lk_plain.specs.Query.{Query}
 use Rattle.lk_plain.specs.Program.{Table}
@@ -9,6 +9,10 @@ use Rattle.lk_engine.specs.Waiting.{WaitsFor}
 
 pub waits_on : {f g h : ℕ → Out} → WaitsFor f g → WaitsFor g h → WaitsFor f h
 waits_on p q b n = p b (λ c l. q c (λ d m. n d (omega arith)))
+
+-- what runs alike is waited for alike
+pub waits_same : {f g h : ℕ → Out} → WaitsFor f g → ((b : ℕ) → h b ≡ g b) → WaitsFor f h
+waits_same p e b n = p b (λ c l. sym (e c) ∙ n c l)
 
 -- what waits for itself, by induction on the budget
 pub waits_for_itself : {f : ℕ → Out} → WaitsFor f f → (b : ℕ) → f b ≡ used_up

@@ -1,7 +1,7 @@
 -- What any question goes on with, and how questions that wait hang together.
-use Rattle.std.specs.Prelude.{◌≡◌, ℕ, Bool, List, [], ◌∷◌, Option, None, Result}
+use Rattle.std.specs.Prelude.{◌≡◌, ℕ, Bool, List, [], ◌∷◌, Option, None, Result, IfOk, length}
 use Rattle.lk_store.specs.declared.memory.NoMemory.{NoMemory}
-use Rattle.lk_store.specs.Contents.{Contents, tree_at}
+use Rattle.lk_store.specs.Contents.{Contents, tree_at, Extends}
 use Rattle.lk_tree.specs.Tree.{Tree}
 use Rattle.lk_rulebook.specs.Place.{Place}
 use Rattle.lk_plain.specs.Program.{Program}
@@ -17,7 +17,7 @@ use Rattle.lk_plain.specs.Query as plain
 use Rattle.lk_ask.specs.Questions.{query_of, IsKnownQuery}
 use Rattle.lk_ask.specs.Looks.{Sight}
 use Rattle.lk_ask.specs.Gives.{Gives}
-use Rattle.lk_ask.specs.Nexts.{next_steps}
+use Rattle.lk_ask.specs.Nexts.{next_steps, IsKnownNext}
 use Rattle.lk_ask.specs.Sheets.{sheet_rest}
 use Rattle.lk_core.specs.Forms.{core_rest}
 use Rattle.lk_iota.specs.Iotas.{iota_term_rest, iota_truth_rest}
@@ -79,6 +79,21 @@ Begins contents rest sight old new result query =
     Gives IsKnownAny next_of contents rest sight old new result
     (query_steps (sight (rest old)).basis.place (tree_at (contents old)) (sight (rest old)).last
     query)
+
+-- a question's first steps run as its row does, under each budget
+pub record Starts {S R B : Type 0} (contents : S → Contents) (rest : S → R) (sight : R → Sight B)
+    (old new : S) (result : Result (Next ℕ (AnySheet ℕ)) NoMemory) (query : Query ℕ)
+    : Type 0 where
+  pub keeps : Extends (contents old) (contents new)
+  pub stays : (sight (rest new)).basis ≡ (sight (rest old)).basis
+  pub known : IfOk result (IsKnownNext IsKnownAny (length (contents new).trees))
+  pub runs : IfOk result (λ next. (budget : ℕ)
+      → run_steps (out_of steps (sight (rest old)).basis.place)
+      (next_of (sight (rest old)).basis.place (tree_at (contents new)) (sight (rest new)).last next)
+      budget
+      ≡ run_steps (out_of steps (sight (rest old)).basis.place)
+      (query_steps (sight (rest old)).basis.place (tree_at (contents old)) (sight (rest old)).last
+      query) budget)
 
 -- it does what the sheet goes on with
 abbrev pub Resumes : {S R B : Type 0} → (S → Contents) → (S → R) → (R → Sight B) → S → S

@@ -9,7 +9,7 @@ use crate::circles::{FIRST, look};
 use crate::instant::at_once;
 use crate::paying::{last, left, note_before, pay};
 use crate::sheet::AnySheet;
-use crate::steps::{AnyNext, begin, resume};
+use crate::steps::{AnyNext, resume, start};
 use lk_ask::kept::Kept;
 use lk_ask::lookout::Lookout;
 use lk_ask::next::Next;
@@ -36,7 +36,7 @@ fn first_step<T: Terms>(lookout: &mut Lookout<'_, T>, query: Query<u64>) -> Resu
     ensures nothing_left { lookout.old.3.left ≡ 0 → result ≡ Err Stop.Spent }
 {
     pay(lookout, 1, None)?;
-    Ok(begin(lookout, query)?)
+    Ok(start(lookout, query)?)
 }
 
 /// An answer that is known. It costs what it costs without it, and is one turn.

@@ -23,7 +23,7 @@ ghost use Rattle.lk_type.specs.Types.{type_next};
 ghost use Rattle.lk_same.specs.Sheets.{IsKnownSameSheet};
 ghost use Rattle.lk_same.specs.Sames.{same_next};
 ghost use Rattle.lk_engine.specs.Sheets.{IsKnownTerm, IsKnownTruth, IsKnownAny};
-ghost use Rattle.lk_engine.specs.Rests.{next_of, Begins, Does, ResumesTerm, ResumesTruth, Resumes};
+ghost use Rattle.lk_engine.specs.Rests.{next_of, Begins, Starts, Does, ResumesTerm, ResumesTruth, Resumes};
 
 use crate::sheet::{AnySheet, TermSheet, TruthSheet};
 use lk_ask::looks::Looks;
@@ -197,6 +197,20 @@ pub fn begin<L: Looks>(looks: &mut L, query: Query<u64>) -> Result<AnyNext, NoMe
         Query::Infer(e) => infer(looks, e),
         Query::Same(a, b) => Ok(of_same(lk_same::begin(looks, a, b)?)),
     }
+}
+
+/// The first step of a question, or of all binders of a telescope at once, which runs as that does.
+#[inline(always)]
+pub fn start<L: Looks>(looks: &mut L, query: Query<u64>) -> Result<AnyNext, NoMemory>
+    requires query_in { IsKnownQuery (length (L.contents looks.old).trees) query }
+    ensures { Starts L.contents L.rest L.sight looks.old looks.new result query }
+{
+    if let Query::Infer(e) = query {
+        if let Some(next) = lk_type::opening::begin(looks, e)? {
+            return Ok(of_type(next));
+        }
+    }
+    begin(looks, query)
 }
 
 /// Goes on once the term is there that a sheet waits for.

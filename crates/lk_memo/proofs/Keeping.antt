@@ -12,7 +12,7 @@ use Rattle.lk_memo.specs.declared.memo.PrivateMemo.{PrivateMemo}
 use Rattle.lk_memo.specs.Keys.{key_of}
 use Rattle.lk_memo.specs.Slots.{found_in}
 use Rattle.lk_memo.specs.declared.lasting.Lasting.{Lasting}
-use Rattle.lk_memo.specs.Lasting.{is_query_below, is_below, for_unit, lasting_of, Outlasts}
+use Rattle.lk_memo.specs.Lasting.{is_query_below, is_below, for_unit, lasting_at, lasting_of, Outlasts}
 use Rattle.lk_memo.specs.Entries.{Holds, first_of, kept_of}
 use Rattle.lk_memo.proofs.Keys.{found_key}
 
@@ -71,19 +71,25 @@ lasting_is l q kept h = asked (is_query_below l.terms q) h
         (same, subst (λ k. IsBelow k.top n) same (below_is v.top n e))
     below v n false e g = absurd cc
 
-    at : (v : Kept) (u : Option ℕ) → found_in l.slots (key_of q) ≡ Some v → l.unit ≡ u
-        → for_unit u v ≡ Some kept → IsFor l q kept
-    at v None e u g = absurd cc
-    at v (Some n) e u g =
+    there : (n : ℕ) (o : Option Kept) → l.unit ≡ Some n → found_in l.slots (key_of q) ≡ o
+        → option_and_then (for_unit n) o ≡ Some kept → IsFor l q kept
+    there n None u e g = absurd cc
+    there n (Some v) u e g =
         let p = below v n (is_below v.top n) refl g in
-        record { stands = e ∙ ap Some p.0; unit = n; looks = u; below = p.1 }
+        record {
+          stands = e ∙ ap Some p.0;
+          unit = n;
+          looks = u;
+          below = p.1;
+        }
 
-    there : (o : Option Kept) → found_in l.slots (key_of q) ≡ o
-        → option_and_then (for_unit l.unit) o ≡ Some kept → IsFor l q kept
-    there None e g = absurd cc
-    there (Some v) e g = at v l.unit e refl g
-
-    asked : (b : Bool) → cond b (option_and_then (for_unit l.unit) (found_in l.slots (key_of q))) None ≡ Some kept
+    looked : (u : Option ℕ) → l.unit ≡ u → option_and_then (lasting_at l (key_of q)) u ≡ Some kept
         → IsFor l q kept
-    asked true g = there (found_in l.slots (key_of q)) refl g
+    looked None e g = absurd cc
+    looked (Some n) e g = there n (found_in l.slots (key_of q)) e refl g
+
+    asked : (b : Bool)
+        → cond b (option_and_then (lasting_at l (key_of q)) l.unit) None ≡ Some kept
+        → IsFor l q kept
+    asked true g = looked l.unit refl g
     asked false g = absurd cc

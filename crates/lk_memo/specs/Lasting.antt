@@ -22,17 +22,18 @@ abbrev pub is_below : Option ℕ → ℕ → Bool
 is_below None n = true
 is_below (Some t) n = nat_lt t n
 
--- the answer, where a unit looks that stands behind all that were looked at
-abbrev pub for_unit : Option ℕ → Kept → Option Kept
-for_unit None kept = None
-for_unit (Some n) kept = if is_below kept.top n then Some kept else None
+-- the answer, where unit n stands behind all that were looked at
+abbrev pub for_unit : ℕ → Kept → Option Kept
+for_unit n kept = if is_below kept.top n then Some kept else None
 
--- what is found of a question
+-- what is kept under the key and holds for unit n
+abbrev pub lasting_at : Lasting → Key → ℕ → Option Kept
+lasting_at l key n = option_and_then (for_unit n) (found_in l.slots key)
+
+-- what is found of a question by the unit that looks
 abbrev pub lasting_of : Lasting → Query ℕ → Option Kept
 lasting_of l q =
-    if is_query_below l.terms q
-    then option_and_then (for_unit l.unit) (found_in l.slots (key_of q))
-    else None
+    if is_query_below l.terms q then option_and_then (lasting_at l (key_of q)) l.unit else None
 
 -- what is kept under a key, whether or not a unit looks
 abbrev pub Outlasts : Lasting → Key → Kept → Type 0

@@ -114,8 +114,8 @@ impl Lasting {
         if !is_query_below(query, self.terms) {
             return None;
         }
-        let kept = self.slots.find(key)?;
         let unit = self.unit?;
+        let kept = self.slots.find(key)?;
         if is_below(kept.top, unit) {
             Some(kept)
         } else {

@@ -1,2 +1,4 @@
+pub mod Openings
 pub mod Sheets
+pub mod Telescopes
 pub mod Types

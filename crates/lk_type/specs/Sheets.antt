@@ -8,11 +8,22 @@ use Rattle.lk_type.specs.declared.sheet.TypeTermSheet.TheVariants.{LamBody, PiDo
 use Rattle.lk_type.specs.declared.sheet.TypeTermSheet.TheVariants.{PiBody, PiBodySort, Function}
 use Rattle.lk_type.specs.declared.sheet.TypeTermSheet.TheVariants.{FunctionForm, Argument, LetType}
 use Rattle.lk_type.specs.declared.sheet.TypeTermSheet.TheVariants.{LetTypeSort, LetValue}
+use Rattle.lk_type.specs.declared.sheet.TypeTermSheet.TheVariants.{TelescopeLocal, TelescopeDomain}
+use Rattle.lk_type.specs.declared.sheet.TypeTermSheet.TheVariants.{TelescopeSort, TelescopeBody, PisSort}
+use Rattle.lk_type.specs.declared.sheet.Telescope.{Telescope}
 use Rattle.lk_type.specs.declared.sheet.TypeTruthSheet.{TypeTruthSheet}
 use Rattle.lk_type.specs.declared.sheet.TypeTruthSheet.TheVariants.{ArgumentSame, LetValueSame}
 
 abbrev pub TypeSheet : Type 0 → Type 0
 TypeSheet X = Sheet (TypeTermSheet X) (TypeTruthSheet X)
+
+abbrev pub map_telescope : {X Y : Type 0} → (X → Y) → Telescope X → Telescope Y
+map_telescope f s = record {
+  binders = s.binders;
+  count = s.count;
+  opened = f s.opened;
+  gathered = f s.gathered;
+}
 
 abbrev pub map_type_term : {X Y : Type 0} → (X → Y) → TypeTermSheet X → TypeTermSheet Y
 map_type_term f Passed = Passed
@@ -23,6 +34,11 @@ map_type_term f (PiDomain d b) = PiDomain (f d) (f b)
 map_type_term f (PiDomainSort d b) = PiDomainSort (f d) (f b)
 map_type_term f (PiBody s) = PiBody (f s)
 map_type_term f (PiBodySort s) = PiBodySort (f s)
+map_type_term f (TelescopeLocal s) = TelescopeLocal (map_telescope f s)
+map_type_term f (TelescopeDomain s) = TelescopeDomain (map_telescope f s)
+map_type_term f (TelescopeSort s) = TelescopeSort (map_telescope f s)
+map_type_term f (TelescopeBody b us) = TelescopeBody b (f us)
+map_type_term f (PisSort us s) = PisSort (f us) (f s)
 map_type_term f (Function a) = Function (f a)
 map_type_term f (FunctionForm a) = FunctionForm (f a)
 map_type_term f (Argument d b a) = Argument (f d) (f b) (f a)
@@ -38,6 +54,10 @@ abbrev pub map_type_sheet : {X Y : Type 0} → (X → Y) → TypeSheet X → Typ
 map_type_sheet f = map_sheet (map_type_term f) (map_type_truth f)
 
 -- its numbers are below n
+abbrev pub IsKnownTelescope : ℕ → Telescope ℕ → Type 0
+IsKnownTelescope n s = (s.opened < n) × (s.gathered < n)
+
+-- its numbers are below n
 abbrev pub IsKnownTypeTerm : ℕ → TypeTermSheet ℕ → Type 0
 IsKnownTypeTerm n Passed = Unit {0}
 IsKnownTypeTerm n (LamDomain d b) = (d < n) × (b < n)
@@ -47,6 +67,11 @@ IsKnownTypeTerm n (PiDomain d b) = (d < n) × (b < n)
 IsKnownTypeTerm n (PiDomainSort d b) = (d < n) × (b < n)
 IsKnownTypeTerm n (PiBody s) = s < n
 IsKnownTypeTerm n (PiBodySort s) = s < n
+IsKnownTypeTerm n (TelescopeLocal s) = IsKnownTelescope n s
+IsKnownTypeTerm n (TelescopeDomain s) = IsKnownTelescope n s
+IsKnownTypeTerm n (TelescopeSort s) = IsKnownTelescope n s
+IsKnownTypeTerm n (TelescopeBody b us) = us < n
+IsKnownTypeTerm n (PisSort us s) = (us < n) × (s < n)
 IsKnownTypeTerm n (Function a) = a < n
 IsKnownTypeTerm n (FunctionForm a) = a < n
 IsKnownTypeTerm n (Argument d b a) = (d < n) × (b < n) × (a < n)

@@ -1,6 +1,6 @@
 -- What Infer goes on with, once the answer is there that it waits for.
 use Rattle.std.specs.Prelude.{◌≡◌, ◌<◌, ℕ, Bool, Option, None, Result, Ok, Err, length}
-use Rattle.lk_tree.specs.Tree.{Name, Tree, Level, zero_level, imax_level, sort, lam, pi, proj, local}
+use Rattle.lk_tree.specs.Tree.{Name, Tree, Level, imax_level, sort, lam, pi, proj, local}
 use Rattle.lk_tree.specs.Bind.{opened, close, bound}
 use Rattle.lk_tree.specs.declared.rule.Rule.TheVariants.{NotAFunction, ArgumentType, LetType}
 use Rattle.lk_rulebook.specs.Place.{Place}
@@ -27,15 +27,14 @@ use Rattle.lk_type.specs.declared.sheet.TypeTermSheet.TheVariants.{LamBody, PiDo
 use Rattle.lk_type.specs.declared.sheet.TypeTermSheet.TheVariants.{PiBody, PiBodySort, Function}
 use Rattle.lk_type.specs.declared.sheet.TypeTermSheet.TheVariants.{FunctionForm, Argument, LetType}
 use Rattle.lk_type.specs.declared.sheet.TypeTermSheet.TheVariants.{LetTypeSort, LetValue}
+use Rattle.lk_type.specs.declared.sheet.TypeTermSheet.TheVariants.{TelescopeLocal, TelescopeDomain}
+use Rattle.lk_type.specs.declared.sheet.TypeTermSheet.TheVariants.{TelescopeSort, TelescopeBody, PisSort}
 use Rattle.lk_type.specs.declared.sheet.TypeTruthSheet.{TypeTruthSheet}
 use Rattle.lk_type.specs.declared.sheet.TypeTruthSheet.TheVariants.{ArgumentSame, LetValueSame}
 use Rattle.lk_type.specs.Sheets.{TypeSheet, map_type_term, map_type_truth, map_type_sheet}
 use Rattle.lk_type.specs.Sheets.{IsKnownTypeSheet}
-
--- the level of a sort
-abbrev pub level_in : Tree → Level
-level_in (sort l) = l
-level_in _ = zero_level
+pub use Rattle.lk_type.specs.Telescopes.{level_in}
+use Rattle.lk_type.specs.Telescopes.{telescope_domain, telescope_sorted, telescope_end, pis_sorted}
 
 -- the type of a number, and of a text
 abbrev pub number_steps : Program Tree
@@ -107,6 +106,12 @@ type_term_rest w last (PiDomainSort A b) S = erased w a_tree last (pi_sorted A b
 type_term_rest w last (PiBody s) T =
     erased w a_tree last (ask (whnf T) (λ S. pi_end (level_in s) S))
 type_term_rest w last (PiBodySort s) S = erased w a_tree last (pi_end (level_in s) S)
+type_term_rest w last (TelescopeLocal s) A = erased w a_tree last (telescope_domain s A)
+type_term_rest w last (TelescopeDomain s) T =
+    erased w a_tree last (ask (whnf T) (λ S. telescope_sorted s S))
+type_term_rest w last (TelescopeSort s) S = erased w a_tree last (telescope_sorted s S)
+type_term_rest w last (TelescopeBody b us) T = erased w a_tree last (telescope_end b us T)
+type_term_rest w last (PisSort us s) S = erased w a_tree last (pis_sorted us s S)
 type_term_rest w last (Function a) F =
     erased w a_tree last (ask (whnf F) (λ S. applied_rest a S))
 type_term_rest w last (FunctionForm a) S = erased w a_tree last (applied_rest a S)

@@ -11,6 +11,7 @@ use crate::lets::{let_body, let_type_sort};
 use crate::literals::{number_type, text_type};
 use crate::sheet::{TypeTermSheet, TypeTruthSheet};
 use crate::sorts::{next_sort, pi_body_sort};
+use crate::telescope::{domain_sort, pi_inside_sort, telescope_end};
 use lk_ask::looks::Looks;
 use lk_ask::next::Next;
 use lk_ask::query::{Answer, Query};
@@ -91,6 +92,19 @@ pub fn resume_term<L: Looks>(
             Sheet::Term(TypeTermSheet::PiBodySort { sort }),
         )),
         TypeTermSheet::PiBodySort { sort } => pi_body_sort(looks, sort, e),
+        TypeTermSheet::TelescopeLocal { telescope } => Ok(Next::Ask(
+            Query::Infer(e),
+            Sheet::Term(TypeTermSheet::TelescopeDomain { telescope }),
+        )),
+        TypeTermSheet::TelescopeDomain { telescope } => Ok(Next::Ask(
+            Query::Whnf(e),
+            Sheet::Term(TypeTermSheet::TelescopeSort { telescope }),
+        )),
+        TypeTermSheet::TelescopeSort { telescope } => domain_sort(looks, telescope, e),
+        TypeTermSheet::TelescopeBody { binders, gathered } => {
+            telescope_end(looks, binders, gathered, e)
+        }
+        TypeTermSheet::PisSort { sorts, sort } => pi_inside_sort(looks, sorts, sort, e),
         TypeTermSheet::Function { argument } => Ok(Next::Ask(
             Query::Whnf(e),
             Sheet::Term(TypeTermSheet::FunctionForm { argument }),

@@ -7,5 +7,7 @@ pub mod constant;
 pub mod infer;
 mod lets;
 mod literals;
+pub mod opening;
 pub mod sheet;
 pub mod sorts;
+mod telescope;

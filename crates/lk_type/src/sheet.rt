@@ -1,5 +1,24 @@
 //! What `Infer` keeps while another question is asked.
 
+/// The binders of a telescope.
+#[derive(Clone, Copy)]
+pub enum Binders {
+    Pis,
+    Lambdas,
+}
+
+/// What is left of a telescope whose binders were opened one inside the other.
+#[derive(Drop)]
+pub struct Telescope<X: Drop> {
+    pub binders: Binders,
+    /// So many Locals are left.
+    pub count: u64,
+    /// Those Locals, each applied to what follows it; the last is applied to the innermost body.
+    pub opened: X,
+    /// Applied one after the other: the sorts of the domains of Pis so far, or the Locals of all lambdas.
+    pub gathered: X,
+}
+
 /// What it keeps while it waits for a term.
 #[derive(Drop)]
 pub enum TypeTermSheet<X: Drop> {
@@ -19,6 +38,17 @@ pub enum TypeTermSheet<X: Drop> {
     PiBody { sort: X },
     /// After the weak head form of that.
     PiBodySort { sort: X },
+    /// A telescope, after the type of its next Local, which is a domain.
+    TelescopeLocal { telescope: Telescope<X> },
+    /// After the type of that domain.
+    TelescopeDomain { telescope: Telescope<X> },
+    /// After the weak head form of that.
+    TelescopeSort { telescope: Telescope<X> },
+    /// After the type of the innermost body.
+    TelescopeBody { binders: Binders, gathered: X },
+    /// After the weak head form of the type of what stands inside a Pi; the sort of its domain is
+    /// kept, and those of the domains of the Pis around it.
+    PisSort { sorts: X, sort: X },
     /// An application, after the type of its function.
     Function { argument: X },
     /// After the weak head form of that.

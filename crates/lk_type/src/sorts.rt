@@ -5,7 +5,7 @@ ghost use Rattle.lk_tree.specs.Tree.{sort as tree_sort, imax_level};
 ghost use Rattle.lk_plain.specs.Program.{done};
 ghost use Rattle.lk_questions.specs.Infer.{infer_steps};
 ghost use Rattle.lk_store.specs.Contents.{level_at, tree_at, IsLevel};
-ghost use Rattle.lk_ask.specs.Looks.{Made};
+ghost use Rattle.lk_ask.specs.Looks.{Made, MakesTree};
 ghost use Rattle.lk_type.specs.Types.{level_in, pi_end, Infers};
 
 use crate::infer::TypeNext;
@@ -41,6 +41,18 @@ fn level_of<L: Looks>(looks: &mut L, sort: u64) -> Result<u64, NoMemory>
 }
 
 /// The sort of a Pi, from those of its domain and its body.
+pub(crate) fn sort_of_pi<L: Looks>(looks: &mut L, sort: u64, level: u64) -> Result<u64, NoMemory>
+    requires sort_in { sort < length (L.contents looks.old).trees }
+    requires level_in { level < length (L.contents looks.old).levels }
+    ensures { MakesTree L.contents L.rest looks.old looks.new result
+        (λ t. tree_sort (imax_level (level_in (t sort)) (level_at (L.contents looks.old) level))) }
+{
+    let domain = level_of(looks, sort)?;
+    let above = looks.make_level(LevelNode::IMax(domain, level))?;
+    looks.make(Node::Sort(above))
+}
+
+/// The sort of a Pi, as its type.
 fn pi_sort<L: Looks>(looks: &mut L, sort: u64, level: u64) -> Result<TypeNext, NoMemory>
     requires sort_in { sort < length (L.contents looks.old).trees }
     requires level_in { level < length (L.contents looks.old).levels }
@@ -48,9 +60,7 @@ fn pi_sort<L: Looks>(looks: &mut L, sort: u64, level: u64) -> Result<TypeNext, N
         (λ t. done (tree_sort
         (imax_level (level_in (t sort)) (level_at (L.contents looks.old) level)))) }
 {
-    let domain = level_of(looks, sort)?;
-    let above = looks.make_level(LevelNode::IMax(domain, level))?;
-    let e = looks.make(Node::Sort(above))?;
+    let e = sort_of_pi(looks, sort, level)?;
     Ok(Next::Done(Answer::Term(e)))
 }
 

@@ -8,4 +8,4 @@ returns-in_err-pay-clause-opens g c =
     rw (p.1, p.2) (not_paid c.in_err-pay.ensures)
 
 pub returns-clause-opens : goal.returns-clause-opens
-returns-clause-opens g c = first_opens c.in_ok-pay.ensures c.in_ok-begin.ensures
+returns-clause-opens g c = first_opens c.in_ok-pay.ensures c.in_ok-start.ensures

@@ -1,0 +1,58 @@
+-- The outermost loose variable occurs.
+use Rattle.std.proofs.Common.{◌≡◌, ℕ, suc, ◌-◌, max, Bool, true, false, ◌||◌, nat_eq, refl, arith}
+use Rattle.std.proofs.lemmas.Bool.Decides.{nat_tests}
+use Rattle.lk_tree.specs.Tree.{Tree, var, sort, const, app, lam, pi, let_in, proj, lit, wide, str}
+use Rattle.lk_tree.specs.Tree.{local}
+use Rattle.lk_tree.specs.Bind.{has_var}
+use Rattle.lk_tree.specs.Loose.{loose}
+use Rattle.std.proofs.Common.{inr}
+use Rattle.std.specs.Prelude.{Option, Some, None, IfSome, ◌<◌, ◌+◌, ◌^◌}
+use Rattle.std.specs.Option.{SomeIff}
+use Rattle.lk_type.specs.Openings.{IsNextNumber}
+
+-- one of two whose greater bound is d
+either : (m n d : ℕ) (p q : Bool) → (m ≡ suc d → p ≡ true) → (n ≡ suc d → q ≡ true)
+    → max m n ≡ suc d → (p || q) ≡ true
+either m n d p q f g e = go (nat_eq m (suc d)) refl
+  where
+    left : (p q : Bool) → p ≡ true → (p || q) ≡ true
+    left true q h = refl
+    left false q h = absurd (cc)
+
+    right : (p q : Bool) → q ≡ true → (p || q) ≡ true
+    right true q h = refl
+    right false q h = h
+
+    go : (b : Bool) → nat_eq m (suc d) ≡ b → (p || q) ≡ true
+    go true h = left p q (f (grind (arith, nat_tests)))
+    go false h = right p q (g (grind (arith, nat_tests)))
+
+pub outermost_occurs : (d : ℕ) (e : Tree) → loose e ≡ suc d → has_var d e ≡ true
+outermost_occurs d (var i) l = grind (arith, nat_tests)
+outermost_occurs d (sort u) l = absurd (omega arith)
+outermost_occurs d (const c ls) l = absurd (omega arith)
+outermost_occurs d (app f a) l = either (loose f) (loose a) d (has_var d f) (has_var d a)
+    (λ h. outermost_occurs d f h) (λ h. outermost_occurs d a h) l
+outermost_occurs d (lam A b) l =
+    either (loose A) (loose b - 1) d (has_var d A) (has_var (suc d) b)
+    (λ h. outermost_occurs d A h) (λ h. outermost_occurs (suc d) b (omega arith)) l
+outermost_occurs d (pi A b) l =
+    either (loose A) (loose b - 1) d (has_var d A) (has_var (suc d) b)
+    (λ h. outermost_occurs d A h) (λ h. outermost_occurs (suc d) b (omega arith)) l
+outermost_occurs d (let_in A v b) l =
+    either (loose A) (max (loose v) (loose b - 1)) d (has_var d A)
+    (has_var d v || has_var (suc d) b) (λ h. outermost_occurs d A h)
+    (λ k. either (loose v) (loose b - 1) d (has_var d v) (has_var (suc d) b)
+    (λ h. outermost_occurs d v h) (λ h. outermost_occurs (suc d) b (omega arith)) k) l
+outermost_occurs d (proj S i s) l = outermost_occurs d s l
+outermost_occurs d (lit n) l = absurd (omega arith)
+outermost_occurs d wide l = absurd (omega arith)
+outermost_occurs d (str s) l = absurd (omega arith)
+outermost_occurs d (local k T) l = absurd (omega arith)
+
+-- where it is the last one, the next number is one more
+pub next_by_last : (e : Tree) (number : ℕ) (o : Option ℕ) (P : Type 0) → loose e ≡ 1 → SomeIff o P (number + 1)
+    → IfSome o (IsNextNumber e number)
+next_by_last e number None P l h = tt
+next_by_last e number (Some n) P l h =
+    let one : n ≡ suc number = omega (arith, h.1) in inr (outermost_occurs 0 e l, one)

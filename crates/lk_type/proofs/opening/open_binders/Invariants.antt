@@ -1,0 +1,25 @@
+use Rattle.std.proofs.Common.{◌≡◌, ◌<◌, length, map}
+use Rattle.std.specs.Prelude.{IfSome}
+use Rattle.lk_tree.specs.Putting.{put}
+use Rattle.lk_store.specs.Contents.{tree_at, Extends}
+use Rattle.lk_type.specs.Openings.{IsNumberFor, AreClosed, IsOpened}
+use Rattle.lk_type.proofs.Openings.{binders_in}
+use Rattle.lk_type.proofs.opening.open_binders.Given as goal
+
+abbrev pub invariant-binders : goal.invariant-binders
+invariant-binders g l =
+    let contents = g.L.Terms.contents in
+    let began = contents l.fn.looks in
+    let now = contents l.looks in
+    record {
+      keeps : Extends began now;
+      stays : g.L.Terms.rest l.looks ≡ g.L.Terms.rest l.fn.looks;
+      inside_in : l.inside < length now.trees;
+      closed : AreClosed now l.locals.items;
+      number : IfSome l.next (IsNumberFor now l.locals.items l.inside);
+      opened : IsOpened began now l.binders l.fn.body l.fn.locals.items l.locals.items
+          (put (map (tree_at now) l.locals.items) (tree_at now l.inside));
+    }
+
+abbrev pub decreases-binders : goal.decreases-binders
+decreases-binders g l = binders_in l.binders (tree_at (g.L.Terms.contents l.looks) l.inside)

@@ -1,0 +1,89 @@
+-- How a telescope is opened, and that asking for it runs as its row does.
+use Rattle.std.specs.Prelude.{◌≡◌, ◌<◌, ◌++◌, ◌⊎◌, ◌∷◌, ℕ, suc, true, List, map, All, Option, None, Some, Result, Ok, Err, IfOk, length}
+use Rattle.lk_tree.specs.Tree.{Tree}
+use Rattle.lk_tree.specs.Bind.{bound, has_var}
+use Rattle.lk_tree.specs.Loose.{loose}
+use Rattle.lk_tree.specs.Putting.{put}
+use Rattle.lk_plain.specs.Program.{Program}
+use Rattle.lk_plain.specs.Erased.{a_tree, erased, run_steps, out_of}
+use Rattle.lk_questions.specs.Infer.{infer_steps}
+use Rattle.lk_questions.specs.Table.{steps}
+use Rattle.lk_store.specs.declared.memory.NoMemory.{NoMemory}
+use Rattle.lk_store.specs.Contents.{Contents, tree_at, Extends}
+use Rattle.lk_ask.specs.declared.next.Next.{Next}
+use Rattle.lk_ask.specs.Looks.{Sight}
+use Rattle.lk_ask.specs.Nexts.{IsKnownNext}
+use Rattle.lk_type.specs.declared.sheet.Binders.{Binders}
+use Rattle.lk_type.specs.Sheets.{TypeSheet, IsKnownTypeSheet}
+use Rattle.lk_type.specs.Telescopes.{bound_by, OpensTo, started, asked_for, telescope_domain}
+use Rattle.lk_type.specs.Types.{type_next, Infers}
+
+-- the term is a binder with this domain and body
+pub record IsBinder (c : Contents) (b : Binders) (e : ℕ) (parts : ℕ × ℕ) : Type 0 where
+  pub domain_in : parts.0 < length c.trees
+  pub body_in : parts.1 < length c.trees
+  pub is : tree_at c e ≡ bound_by b (tree_at c parts.0) (tree_at c parts.1)
+
+-- the number of the next Local: by the body alone where that is closed, and where the last Local
+-- occurs in it by that one
+abbrev pub IsNextNumber : Tree → ℕ → ℕ → Type 0
+IsNextNumber e number next =
+    ((loose e ≡ 0) × (next ≡ bound e)) ⊎ ((has_var 0 e ≡ true) × (next ≡ suc number))
+
+-- the numbers stand for trees without loose variables
+abbrev pub AreClosed : Contents → List ℕ → Type 0
+AreClosed c = All (λ x. (x < length c.trees) × (loose (tree_at c x) ≡ 0))
+
+-- it is the number of a Local that is fresh for the body, opened with these Locals
+abbrev pub IsNumberFor : Contents → List ℕ → ℕ → ℕ → Type 0
+IsNumberFor c locals body number = number ≡ bound (put (map (tree_at c) locals) (tree_at c body))
+
+-- the body, opened with the Locals that there were, is r under binders that are opened with those
+-- that came
+pub record IsOpened (began now : Contents) (b : Binders) (body : ℕ) (old new : List ℕ)
+    (r : Tree) : Type 0 where
+  pub more : List ℕ
+  pub is : new ≡ old ++ more
+  pub known : All (λ x. x < length now.trees) new
+  pub opens : OpensTo b (put (map (tree_at began) old) (tree_at began body))
+      (map (tree_at now) more) r
+
+pub record OpensAll {S R : Type 0} (contents : S → Contents) (rest : S → R) (old new : S)
+    (result : Result ℕ NoMemory) (b : Binders) (body : ℕ) (before after : List ℕ) : Type 0 where
+  pub keeps : Extends (contents old) (contents new)
+  pub stays : rest new ≡ rest old
+  pub known : IfOk result (λ e. e < length (contents new).trees)
+  pub opened : IfOk result (λ e. IsOpened (contents old) (contents new) b body before after
+      (tree_at (contents new) e))
+
+-- what comes next is known, and runs as the program does, under each budget
+pub record RunsAs {S R B : Type 0} (contents : S → Contents) (rest : S → R) (sight : R → Sight B)
+    (old new : S) (result : Result (Next ℕ (TypeSheet ℕ)) NoMemory)
+    (program : (ℕ → Tree) → Program Tree) : Type 0 where
+  pub keeps : Extends (contents old) (contents new)
+  pub stays : (sight (rest new)).basis ≡ (sight (rest old)).basis
+  pub known : IfOk result (IsKnownNext IsKnownTypeSheet (length (contents new).trees))
+  pub runs : IfOk result (λ next. (budget : ℕ)
+      → run_steps (out_of steps (sight (rest old)).basis.place)
+      (type_next (sight (rest old)).basis.place (tree_at (contents new)) (sight (rest new)).last next)
+      budget
+      ≡ run_steps (out_of steps (sight (rest old)).basis.place)
+      (erased (sight (rest old)).basis.place a_tree (sight (rest old)).last
+      (program (tree_at (contents old)))) budget)
+
+-- the domain of a telescope is asked for, where these are its Locals
+abbrev pub IsAskedFor : {S R B : Type 0} → (S → Contents) → (S → R) → (R → Sight B) → S → S
+    → Result (Next ℕ (TypeSheet ℕ)) NoMemory → Binders → ℕ → List ℕ → ℕ → Type 0
+IsAskedFor contents rest sight old new result b domain locals inside =
+    (x : ℕ) (xs : List ℕ) → locals ≡ x ∷ xs
+    → Infers contents rest sight old new result (λ t. telescope_domain
+    (asked_for b (started b (t x) (map t locals)) (map t xs) (t inside)) (t domain))
+
+-- what comes next runs as the row of Infer does; or nothing was done
+abbrev pub MayBegin : {S R B : Type 0} → (S → Contents) → (S → R) → (R → Sight B) → S → S
+    → Result (Option (Next ℕ (TypeSheet ℕ))) NoMemory → ℕ → Type 0
+MayBegin contents rest sight old new (Ok None) e = new ≡ old
+MayBegin contents rest sight old new (Ok (Some next)) e =
+    RunsAs contents rest sight old new (Ok next) (λ t. infer_steps (t e))
+MayBegin contents rest sight old new (Err error) e =
+    RunsAs contents rest sight old new (Err error) (λ t. infer_steps (t e))

@@ -1,0 +1,298 @@
+//! Telescopes whose binders are opened at once, each domain and the innermost body with the Locals
+//! of the binders around it.
+
+ghost use Rattle.std.specs.Prelude.{◌≡◌, ◌≢◌, ◌<◌, ◌∷◌, ◌++◌, [], Ok, length, map, All, IfOk, IfSome};
+ghost use Rattle.lk_tree.specs.Tree.{local};
+ghost use Rattle.lk_tree.specs.Putting.{put as put_values};
+ghost use Rattle.lk_questions.specs.Infer.{infer_steps};
+ghost use Rattle.lk_store.specs.Contents.{tree_at, Extends};
+ghost use Rattle.lk_ask.specs.Looks.{MakesTree};
+ghost use Rattle.lk_type.specs.Sheets.{map_telescope, IsKnownTelescope};
+ghost use Rattle.lk_type.specs.Telescopes.{ahead, behind, started, asked_for, telescope_domain};
+ghost use Rattle.lk_type.specs.Openings.{IsBinder, IsNextNumber, IsNumberFor, AreClosed, OpensAll};
+ghost use Rattle.lk_type.specs.Openings.{IsAskedFor, RunsAs, MayBegin};
+ghost use Rattle.lk_type.specs.Types.{Infers};
+
+use crate::infer::TypeNext;
+use crate::sheet::{Binders, Telescope, TypeTermSheet};
+use lk_ask::looks::Looks;
+use lk_ask::next::Next;
+use lk_ask::query::Query;
+use lk_ask::sheet::Sheet;
+use lk_store::memory::NoMemory;
+use lk_store::node::Node;
+use lk_subst::putting::put;
+
+/// So many binders are opened at once. Fewer are opened as fast one after the other.
+const LONG: u64 = 8;
+
+/// The domain and the body of a binder.
+#[inline(always)]
+fn parts_of<L: Looks>(looks: &L, binders: Binders, e: u64) -> Option<(u64, u64)>
+    requires { e < length (L.contents looks.now).trees }
+    ensures { IfSome result (IsBinder (L.contents looks.now) binders e) }
+{
+    match binders {
+        Binders::Pis => match looks.view(e) {
+            Node::Pi(domain, body) => Some((domain, body)),
+            _ => None,
+        },
+        Binders::Lambdas => match looks.view(e) {
+            Node::Lam(domain, body) => Some((domain, body)),
+            _ => None,
+        },
+    }
+}
+
+/// The number of the next Local, where it is plain: in a closed body the outer Locals do not occur;
+/// where the last one occurs its number is the greatest.
+fn next_number<L: Looks>(looks: &L, body: u64, number: u64) -> Option<u64>
+    requires { body < length (L.contents looks.now).trees }
+    ensures { IfSome result (IsNextNumber (tree_at (L.contents looks.now) body) number) }
+{
+    if looks.loose_bound(body) == 0 {
+        return u64::try_from(looks.local_bound(body)).ok();
+    }
+    if looks.loose_bound(body) == 1 {
+        return number.checked_add(1);
+    }
+    None
+}
+
+/// Adds the Local of a binder, whose domain is opened with the Locals around it.
+fn add_local<L: Looks>(
+    looks: &mut L,
+    domain: u64,
+    number: u64,
+    locals: &mut Vec<u64>,
+) -> Result<u64, NoMemory>
+    requires domain_in { domain < length (L.contents looks.old).trees }
+    requires locals_in { All (λ x. x < length (L.contents looks.old).trees) locals.old.items }
+    ensures makes { MakesTree L.contents L.rest looks.old looks.new result
+        (λ t. local number (put_values (map t locals.old.items) (t domain))) }
+    ensures pushed { IfOk result (λ x. locals.new.items ≡ locals.old.items ++ x ∷ []) }
+{
+    let opened = put(looks.alloc(), looks, domain, locals)?;
+    let x = looks.make(Node::Local(number, opened))?;
+    locals.push(x)?;
+    Ok(x)
+}
+
+/// Opens the binders of a body, as long as it is plain which number the next Local has. What stands
+/// inside them.
+fn open_binders<L: Looks>(
+    looks: &mut L,
+    binders: Binders,
+    body: u64,
+    next: Option<u64>,
+    locals: &mut Vec<u64>,
+) -> Result<u64, NoMemory>
+    requires body_in { body < length (L.contents looks.old).trees }
+    requires locals_in { AreClosed (L.contents looks.old) locals.old.items }
+    requires next { IfSome next (IsNumberFor (L.contents looks.old) locals.old.items body) }
+    ensures { OpensAll L.contents L.rest looks.old looks.new result binders body locals.old.items
+        locals.new.items }
+{
+    let mut inside = body;
+    let mut next = next;
+    'binders: while let Some(number) = next {
+        match parts_of(looks, binders, inside) {
+            None => return put(looks.alloc(), looks, inside, locals),
+            Some((domain, body)) => {
+                add_local(looks, domain, number, locals)?;
+                inside = body;
+                next = next_number(looks, inside, number);
+            }
+        }
+    }
+    put(looks.alloc(), looks, inside, locals)
+}
+
+/// Each Local applied to what follows it, the last one to `e`.
+fn all_ahead<L: Looks>(looks: &mut L, locals: &[u64], e: u64) -> Result<u64, NoMemory>
+    requires locals_in { All (λ x. x < length (L.contents looks.old).trees) locals.now }
+    requires e_in { e < length (L.contents looks.old).trees }
+    ensures { MakesTree L.contents L.rest looks.old looks.new result
+        (λ t. ahead (map t locals.now) (t e)) }
+{
+    let mut left = locals;
+    let mut made = e;
+    'locals: while let Some((x, others)) = left.split_last() {
+        made = looks.make(Node::App(*x, made))?;
+        left = others;
+    }
+    Ok(made)
+}
+
+/// A term applied to each of the Locals.
+fn all_behind<L: Looks>(looks: &mut L, e: u64, locals: &[u64]) -> Result<u64, NoMemory>
+    requires e_in { e < length (L.contents looks.old).trees }
+    requires locals_in { All (λ x. x < length (L.contents looks.old).trees) locals.now }
+    ensures { MakesTree L.contents L.rest looks.old looks.new result
+        (λ t. behind (t e) (map t locals.now)) }
+{
+    let mut left = locals;
+    let mut made = e;
+    'locals: while let Some((x, others)) = left.split_first() {
+        made = looks.make(Node::App(made, *x))?;
+        left = others;
+    }
+    Ok(made)
+}
+
+/// What is gathered at first.
+fn gathered_first<L: Looks>(
+    looks: &mut L,
+    binders: Binders,
+    first: u64,
+    locals: &[u64],
+) -> Result<u64, NoMemory>
+    requires first_in { first < length (L.contents looks.old).trees }
+    requires locals_in { All (λ x. x < length (L.contents looks.old).trees) locals.now }
+    ensures { MakesTree L.contents L.rest looks.old looks.new result
+        (λ t. started binders (t first) (map t locals.now)) }
+{
+    match binders {
+        Binders::Pis => Ok(first),
+        Binders::Lambdas => all_behind(looks, first, locals),
+    }
+}
+
+/// The telescope after its first domain, where these are its Locals, and this stands inside them.
+fn telescope_of<L: Looks>(
+    looks: &mut L,
+    binders: Binders,
+    locals: &[u64],
+    first: u64,
+    others: &[u64],
+    inside: u64,
+) -> Result<Telescope<u64>, NoMemory>
+    requires locals_in { All (λ x. x < length (L.contents looks.old).trees) locals.now }
+    requires first_in { first < length (L.contents looks.old).trees }
+    requires others_in { All (λ x. x < length (L.contents looks.old).trees) others.now }
+    requires inside_in { inside < length (L.contents looks.old).trees }
+    ensures keeps { Extends (L.contents looks.old) (L.contents looks.new) }
+    ensures rest { L.rest looks.new ≡ L.rest looks.old }
+    ensures known { IfOk result (IsKnownTelescope (length (L.contents looks.new).trees)) }
+    ensures is { let t = tree_at (L.contents looks.old) in
+        IfOk result (λ s. map_telescope (tree_at (L.contents looks.new)) s
+        ≡ asked_for binders (started binders (t first) (map t locals.now)) (map t others.now)
+        (t inside)) }
+{
+    let opened = all_ahead(looks, others, inside)?;
+    let gathered = gathered_first(looks, binders, first, locals)?;
+    Ok(Telescope {
+        binders,
+        count: others.len() as u64,
+        opened,
+        gathered,
+    })
+}
+
+/// Asks for the first domain of a telescope.
+fn ask_domain<L: Looks>(looks: &L, domain: u64, telescope: Telescope<u64>) -> TypeNext
+    requires domain_in { domain < length (L.contents looks.now).trees }
+    requires telescope_in { IsKnownTelescope (length (L.contents looks.now).trees) telescope }
+    ensures { Infers L.contents L.rest L.sight looks.now looks.now (Ok result)
+        (λ t. telescope_domain (map_telescope t telescope) (t domain)) }
+{
+    let _looks = looks;
+    Next::Ask(
+        Query::Infer(domain),
+        Sheet::Term(TypeTermSheet::TelescopeDomain { telescope }),
+    )
+}
+
+/// The same, where these are its Locals, and this stands inside them.
+fn first_domain<L: Looks>(
+    looks: &mut L,
+    binders: Binders,
+    domain: u64,
+    locals: &[u64],
+    inside: u64,
+) -> Result<TypeNext, NoMemory>
+    requires domain_in { domain < length (L.contents looks.old).trees }
+    requires locals_in { All (λ x. x < length (L.contents looks.old).trees) locals.now }
+    requires inside_in { inside < length (L.contents looks.old).trees }
+    requires some { locals.now ≢ [] }
+    ensures { IsAskedFor L.contents L.rest L.sight looks.old looks.new result binders domain
+        locals.now inside }
+{
+    match locals.split_first() {
+        None => unreachable!(),
+        Some((first, others)) => {
+            let telescope = telescope_of(looks, binders, locals, *first, others, inside)?;
+            Ok(ask_domain(looks, domain, telescope))
+        }
+    }
+}
+
+/// Begins `Infer` of a binder with those inside it.
+fn begin_binders<L: Looks>(
+    looks: &mut L,
+    binders: Binders,
+    e: u64,
+    domain: u64,
+    body: u64,
+) -> Result<TypeNext, NoMemory>
+    requires e_in { e < length (L.contents looks.old).trees }
+    requires binder { IsBinder (L.contents looks.old) binders e (domain, body) }
+    ensures { RunsAs L.contents L.rest L.sight looks.old looks.new result
+        (λ t. infer_steps (t e)) }
+{
+    let number = match u64::try_from(looks.local_bound(e)) {
+        Ok(number) => number,
+        // No Local in memory has so great a number.
+        Err(_) => return Err(NoMemory),
+    };
+    let mut locals = Vec::new(looks.alloc());
+    let _first = add_local(looks, domain, number, &mut locals)?;
+    let next = next_number(looks, body, number);
+    let inside = open_binders(looks, binders, body, next, &mut locals)?;
+    first_domain(looks, binders, domain, &locals, inside)
+}
+
+/// Whether so many binders follow.
+fn has_binders<L: Looks>(looks: &L, binders: Binders, e: u64) -> bool
+    requires { e < length (L.contents looks.now).trees }
+{
+    let mut inside = e;
+    for _i in 0..LONG {
+        match parts_of(looks, binders, inside) {
+            None => return false,
+            Some((_domain, body)) => inside = body,
+        }
+    }
+    true
+}
+
+/// Begins `Infer` of a binder, if many stand inside it.
+fn begin_long<L: Looks>(
+    looks: &mut L,
+    binders: Binders,
+    e: u64,
+    domain: u64,
+    body: u64,
+) -> Result<Option<TypeNext>, NoMemory>
+    requires e_in { e < length (L.contents looks.old).trees }
+    requires binder { IsBinder (L.contents looks.old) binders e (domain, body) }
+    ensures { MayBegin L.contents L.rest L.sight looks.old looks.new result e }
+{
+    if !has_binders(looks, binders, body) {
+        return Ok(None);
+    }
+    let next = begin_binders(looks, binders, e, domain, body)?;
+    Ok(Some(next))
+}
+
+/// Begins `Infer` of a long telescope; `None` where the term is none, and then nothing was done.
+pub fn begin<L: Looks>(looks: &mut L, e: u64) -> Result<Option<TypeNext>, NoMemory>
+    requires { e < length (L.contents looks.old).trees }
+    ensures { MayBegin L.contents L.rest L.sight looks.old looks.new result e }
+{
+    match looks.view(e) {
+        Node::Pi(domain, body) => begin_long(looks, Binders::Pis, e, domain, body),
+        Node::Lam(domain, body) => begin_long(looks, Binders::Lambdas, e, domain, body),
+        _ => Ok(None),
+    }
+}
