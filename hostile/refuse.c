@@ -20,8 +20,7 @@ __attribute__((constructor)) static void begin(void) {
 }
 
 static int is_refused(void) {
-    calls += 1;
-    if (calls != refused) return 0;
+    if (__atomic_add_fetch(&calls, 1, __ATOMIC_SEQ_CST) != refused) return 0;
     errno = ENOMEM;
     return 1;
 }
@@ -47,4 +46,12 @@ __attribute__((destructor)) static void end(void) {
     do { text[--at] = '0' + left % 10; left /= 10; } while (left);
     if (write(file, text + at, sizeof text - at) < 0) { /* the caller sees that the file is empty */ }
     close(file);
+}
+
+/* A program that may have threads ends by this call. */
+void _exit(int status) {
+    end();
+    void (*next_exit)(int) = (void (*)(int))dlsym(RTLD_NEXT, "_exit");
+    next_exit(status);
+    __builtin_unreachable();
 }

@@ -1,7 +1,8 @@
 pub mod Scanning
 pub mod Judging
 pub mod Worked
-pub mod Checks
+pub mod InOrder
+pub mod Working
 pub mod Joined
 pub mod Verdicts
 pub mod WordLaws

@@ -6,3 +6,5 @@ pub mod Words
 pub mod Rows
 pub mod Standing
 pub mod Larger
+pub mod Drawn
+pub mod Workers

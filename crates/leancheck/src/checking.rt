@@ -1,11 +1,9 @@
-//! The verdicts of a library's units, in their order.
+//! The verdict of a unit.
 
-ghost use Rattle.std.specs.Prelude.{◌≡◌, ◌<◌, [], true, length, map, IfOk};
+ghost use Rattle.std.specs.Prelude.{◌≡◌, ◌<◌, [], true, length};
 ghost use Rattle.lk_rulebook.specs.Scan.{are_new};
 ghost use Rattle.lk_rulebook.specs.Units.{members_of, place_of, Members};
-ghost use Rattle.lk_verdict.specs.GoodUnit.{IsClearLibrary};
 ghost use Rattle.lk_questions.specs.Table.{steps as table};
-ghost use Rattle.lk_verdict.specs.Told.{AreVerdicts};
 ghost use Rattle.lk_store.specs.Store.{contents_of};
 ghost use Rattle.lk_env.specs.declared.entry.Partial.{Partial as GivenMembers};
 ghost use Rattle.lk_env.specs.Places.{partial_beside};
@@ -13,8 +11,8 @@ ghost use Rattle.lk_env.specs.Units.{declaration_at, unit_at, library_of};
 ghost use Rattle.lk_env.specs.Units.{IsStatedIn, IsBodyIn, IsUnitIn};
 ghost use Rattle.leancheck.specs.Rows.{questions_of, asked_of, scanned_of, row_verdict};
 ghost use Rattle.leancheck.specs.Standing.{StandsAt};
+ghost use Rattle.leancheck.specs.Drawn.{IsRight};
 ghost use Rattle.leancheck.specs.Held.{result_verdict, scan_verdict, IsPlain};
-ghost use Rattle.lk_text.specs.Held.{verdict};
 
 use crate::blocks::check_block;
 use crate::quotients::check_quotient;
@@ -26,17 +24,13 @@ use lk_env::library::Library;
 use lk_env::unit::{Body, Declaration, Unit};
 use lk_family::Families;
 use lk_laws::{Laws, check_definition};
-use lk_memo::PrivateMemo;
-use lk_port::Gate;
 use lk_quot::Quotients;
 use lk_scan::names::are_new;
 use lk_scan::scan::{ScanError, scan};
 use lk_store::base_store::BaseStore;
-use lk_store::memory::NoMemory;
 use lk_text::Verdict;
 use lk_tree::rule::Rule;
 use std::alloc::Global;
-use std::mem::drop;
 
 /// The verdict that the outcome of a unit's questions gives.
 fn verdict_of(outcome: Result<(), Stop>) -> Verdict
@@ -159,56 +153,21 @@ fn judge<Q: Quotients + Laws + Families>(
     }
 }
 
-/// Whether a verdict is yes.
-fn says_yes(verdict: Verdict) -> bool {
-    matches!(verdict, Verdict::Yes)
-}
-
-/// The verdicts of the units, in their order, by an engine over their library. It is started anew for each unit, and then
-/// knows nothing of the work of an earlier one.
-fn judge_all<G: Gate>(
+/// The verdict of a unit, whose questions may take so many steps. The engine is started anew for it, and knows nothing of the
+/// work of an earlier one.
+pub(crate) fn check_unit(
     alloc: Global,
     library: &Library,
     engine: &mut Engine<'_>,
+    number: u32,
     steps: u128,
-    gate: &G,
-) -> Result<Vec<Verdict>, NoMemory>
-    requires { engine.old.0.2 ≡ library.now }
-    ensures { IfOk result (λ v. IsClearLibrary (library_of library.now)
-        → AreVerdicts (library_of library.now) steps (map verdict v.items)) }
+) -> Verdict
+    requires library { engine.old.0.2 ≡ library.now }
+    requires number { number < length library.now.1 }
+    ensures library { engine.new.0.2 ≡ engine.old.0.2 }
+    ensures right { IsRight library.now steps number result }
 {
-    let mut verdicts = Vec::new(alloc);
-    let mut rest = library.units();
-    while let Some((unit, more)) = rest.split_first() {
-        let Ok(number) = u32::try_from(verdicts.len()) else {
-            return Err(NoMemory);
-        };
-        gate.before_unit(number);
-        engine.start(number, steps);
-        let verdict = judge(alloc, library, engine, number, unit);
-        gate.after_unit(number, says_yes(verdict));
-        verdicts.push(verdict)?;
-        rest = more;
-    }
-    Ok(verdicts)
-}
-
-/// The verdicts of the units, in their order; the questions of each may take so many steps, and at most so many of their
-/// answers are kept while the unit is at work.
-pub fn check_all<G: Gate>(
-    alloc: Global,
-    library: &Library,
-    steps: u128,
-    kept: u32,
-    gate: &G,
-) -> Result<Vec<Verdict>, NoMemory>
-    ensures { IfOk result (λ v. IsClearLibrary (library_of library.now)
-        → AreVerdicts (library_of library.now) steps (map verdict v.items)) }
-{
-    gate.begins(library.units().len() as u64);
-    let mut memo = PrivateMemo::new(alloc, kept)?;
-    let mut engine = Engine::new(alloc, library, &mut memo);
-    let verdicts = judge_all(alloc, library, &mut engine, steps, gate);
-    drop(engine);
-    verdicts
+    let unit = &library.units()[number as usize];
+    engine.start(number, steps);
+    judge(alloc, library, engine, number, unit)
 }

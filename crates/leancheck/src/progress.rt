@@ -18,6 +18,7 @@ pub struct Progress<'a> {
     told: AtomicU64,
     bytes: AtomicU64,
     units: AtomicU64,
+    checked: AtomicU64,
     refused: AtomicU64,
 }
 
@@ -35,6 +36,7 @@ impl<'a> Progress<'a> {
             told: AtomicU64::new(0),
             bytes: AtomicU64::new(0),
             units: AtomicU64::new(0),
+            checked: AtomicU64::new(0),
             refused: AtomicU64::new(0),
         }
     }
@@ -51,11 +53,13 @@ impl<'a> Progress<'a> {
             .as_secs()
             .saturating_mul(1000)
             .saturating_add(u64::from(passed.subsec_millis()));
-        let due = now >= self.told.load(Ordering::SeqCst).saturating_add(PAUSE);
-        if due {
-            self.told.store(now, Ordering::SeqCst);
-        }
-        due
+        let told = self.told.load(Ordering::SeqCst);
+        // Of several workers that come at one time one tells.
+        now >= told.saturating_add(PAUSE)
+            && self
+                .told
+                .compare_exchange(told, now, Ordering::SeqCst, Ordering::SeqCst)
+                .is_ok()
     }
 
     /// So many more bytes were read.
@@ -79,17 +83,19 @@ impl<'a> Gate for Progress<'a> {
         self.units.store(units, Ordering::SeqCst);
     }
 
-    fn before_unit(&self, unit: u32) {
+    fn before_unit(&self, _unit: u32) {
         if self.is_due() {
             let units = self.units.load(Ordering::SeqCst);
+            let checked = self.checked.load(Ordering::SeqCst);
             let refused = self.refused.load(Ordering::SeqCst);
             let _ = eprint!(self.rt;
-                "\r\x1b[Kleancheck: {unit} of {units} units checked, {refused} say no"
+                "\r\x1b[Kleancheck: {checked} of {units} units checked, {refused} say no"
             );
         }
     }
 
     fn after_unit(&self, _unit: u32, yes: bool) {
+        self.checked.fetch_add(1, Ordering::SeqCst);
         if !yes {
             self.refused.fetch_add(1, Ordering::SeqCst);
         }

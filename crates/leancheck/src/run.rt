@@ -15,10 +15,10 @@ ghost use Rattle.leancheck.specs.declared.words.Meaning.{Meaning as WordsMeaning
 ghost use Rattle.leancheck.specs.declared.words.Options.{Options as CheckOptions};
 ghost use Rattle.leancheck.specs.Ends.{Begins, Does, FindsFault, Gives, IsChecked, Reports, WritesPrefix};
 
-use crate::checking::check_all;
 use crate::extent::{Extent, text_of};
 use crate::status::{Status, status_of};
 use crate::words::{LineError, Meaning, Options, Sample, line_means};
+use crate::workers::check_all;
 use lk_book::{ReadError, read_library};
 use lk_env::library::Library;
 use lk_generator::generate;
@@ -30,21 +30,21 @@ use std::alloc::Global;
 use std::sync::Wait;
 use std::thread::Threads;
 
-/// What is told of a library, and the status. At most so many answers are kept.
-fn checked<G: Gate>(
+/// What is told of a library, and the status.
+fn checked<R: Threads + Sync, G: Gate>(
+    rt: &R,
     alloc: Global,
     extent: Extent,
     library: &Library,
-    steps: u128,
-    kept: u32,
+    options: Options,
     gate: &G,
 ) -> Result<(Vec<u8>, Status), NoMemory>
     ensures gives { (bytes : List ℕ) → library_of bytes
         ≡ Ok (library_at (contents_of library.now.0) library.now.1)
-        → Gives extent steps bytes result }
+        → Gives extent options.steps bytes result }
     ensures status { IfOk result (λ r. IsChecked r.1) }
 {
-    let Ok(verdicts) = check_all(alloc, library, steps, kept, gate) else {
+    let Ok(verdicts) = check_all(rt, alloc, library, options, gate) else {
         return Err(NoMemory);
     };
     let Ok(text) = text_of(alloc, extent, library, &verdicts) else {
@@ -93,29 +93,29 @@ fn tell_fault<K: Sink>(alloc: Global, fault: Fault, sink: &mut K) -> Status
     }
 }
 
-/// Checks the units of a library, and writes what is to be told of it. At most so many answers are kept.
-fn tell_verdicts<K: Sink, G: Gate>(
+/// Checks the units of a library, and writes what is to be told of it.
+fn tell_verdicts<R: Threads + Sync, K: Sink, G: Gate>(
+    rt: &R,
     alloc: Global,
     extent: Extent,
     library: &Library,
-    steps: u128,
-    kept: u32,
+    options: Options,
     sink: &mut K,
     gate: &G,
 ) -> Status
     ensures told { IsChecked result → ((bytes : List ℕ) → library_of bytes
         ≡ Ok (library_at (contents_of library.now.0) library.now.1)
-        → Reports extent steps bytes result (K.written sink.old) (K.written sink.new))
+        → Reports extent options.steps bytes result (K.written sink.old) (K.written sink.new))
         × (K.faults sink.new ≡ K.faults sink.old) }
     ensures failed { result ≡ Status.WriteFault
         → ((bytes : List ℕ) → library_of bytes
         ≡ Ok (library_at (contents_of library.now.0) library.now.1)
-        → WritesPrefix extent steps bytes (K.written sink.old) (K.written sink.new))
+        → WritesPrefix extent options.steps bytes (K.written sink.old) (K.written sink.new))
         × Rose (K.faults sink.old) (K.faults sink.new) }
     ensures no_memory { result ≡ Status.NoMemory → sink.new ≡ sink.old }
     ensures only { IsChecked result ⊎ (result ≡ Status.WriteFault) ⊎ (result ≡ Status.NoMemory) }
 {
-    match checked(alloc, extent, library, steps, kept, gate) {
+    match checked(rt, alloc, extent, library, options, gate) {
         Ok((text, status)) => match write_all(sink, &text) {
             Ok(()) => status,
             Err(_) => Status::WriteFault,
@@ -125,7 +125,8 @@ fn tell_verdicts<K: Sink, G: Gate>(
 }
 
 /// Reads an export from the source, checks its units, and writes to the sink what is to be told of it.
-fn check<S: Source, K: Sink, G: Gate>(
+fn check<R: Threads + Sync, S: Source, K: Sink, G: Gate>(
+    rt: &R,
     alloc: Global,
     extent: Extent,
     options: Options,
@@ -148,9 +149,8 @@ fn check<S: Source, K: Sink, G: Gate>(
         WritesPrefix extent options.steps bytes (K.written sink.old) (K.written sink.new)) }
     ensures no_memory { result ≡ Status.NoMemory → K.written sink.new ≡ K.written sink.old }
 {
-    let Options { steps, memo, .. } = options;
     match read_library(alloc, source) {
-        Ok(library) => tell_verdicts(alloc, extent, &library, steps, memo, sink, gate),
+        Ok(library) => tell_verdicts(rt, alloc, extent, &library, options, sink, gate),
         Err(ReadError::ReadFault) => Status::ReadFault,
         Err(ReadError::NoMemory) => Status::NoMemory,
         Err(ReadError::Fault(fault)) => tell_fault(alloc, fault, sink),
@@ -179,7 +179,8 @@ fn make<K: Sink>(alloc: Global, sample: Sample, sink: &mut K) -> Status
 }
 
 /// Makes a file in memory, checks its units, and writes the last line of what a check tells.
-fn trial<K: Sink, G: Gate>(
+fn trial<R: Threads + Sync, K: Sink, G: Gate>(
+    rt: &R,
     alloc: Global,
     sample: Sample,
     options: Options,
@@ -203,7 +204,7 @@ fn trial<K: Sink, G: Gate>(
         return Status::NoMemory;
     };
     let mut source = MemSource { bytes, at: 0 };
-    check(alloc, Extent::Summary, options, &mut source, sink, gate)
+    check(rt, alloc, Extent::Summary, options, &mut source, sink, gate)
 }
 
 /// Does what the words say. A check reads an export from the source and writes a verdict for each of its units to the sink; `make`
@@ -211,7 +212,7 @@ fn trial<K: Sink, G: Gate>(
 ///
 /// The words begin with the program's name. The gate is told of each unit before its first question.
 pub fn run<R: Threads + Wait + Sync, S: Source, K: Sink, G: Gate>(
-    _rt: &R,
+    rt: &R,
     alloc: Global,
     words: &[String],
     source: &mut S,
@@ -247,9 +248,17 @@ pub fn run<R: Threads + Wait + Sync, S: Source, K: Sink, G: Gate>(
     ensures no_memory { result ≡ Status.NoMemory → K.written sink.new ≡ K.written sink.old }
 {
     match line_means(alloc, words) {
-        Ok(Meaning::Check(options)) => check(alloc, Extent::Report, options, source, sink, gate),
+        Ok(Meaning::Check(options)) => check(
+            rt,
+            alloc,
+            Extent::Report,
+            options,
+            source,
+            sink,
+            gate,
+        ),
         Ok(Meaning::Make(sample)) => make(alloc, sample, sink),
-        Ok(Meaning::Trial(sample, options)) => trial(alloc, sample, options, sink, gate),
+        Ok(Meaning::Trial(sample, options)) => trial(rt, alloc, sample, options, sink, gate),
         Err(LineError::Usage) => tell_usage(sink),
         Err(LineError::NoMemory) => Status::NoMemory,
     }

@@ -1,0 +1,28 @@
+-- What a worker has done.
+use Rattle.std.specs.Prelude.{◌≡◌, ◌++◌, ℕ, List, []}
+use Rattle.lk_store.specs.declared.tables.Tables.{Tables}
+use Rattle.lk_env.specs.declared.unit.Unit.{Unit as StoredUnit}
+use Rattle.lk_desk.specs.declared.table.Desk.{Desk}
+use Rattle.lk_desk.specs.declared.table.Seat.{Seat}
+use Rattle.lk_desk.specs.Seats.{view, Sits}
+use Rattle.leancheck.specs.declared.order.UnitVerdict.{UnitVerdict}
+use Rattle.leancheck.specs.declared.worker.Done.{Done}
+use Rattle.leancheck.specs.Drawn.{AreRight, numbers}
+
+-- a seat that has drawn nothing, and came from itself alone
+abbrev pub IsIdle : Seat → Desk → Type 0
+IsIdle seat desk = Sits seat desk × ((view seat).drawn ≡ []) × ((view seat).seats ≡ 1)
+
+-- the seat drew these numbers, and each has a verdict, which is right
+pub record Draws (l : Tables × List StoredUnit) (steps : ℕ) (desk : Desk) (before after : Seat) (answers : List UnitVerdict) : Type 0 where
+  pub sits : Sits after desk
+  pub seats : (view after).seats ≡ (view before).seats
+  pub drawn : (view after).drawn ≡ (view before).drawn ++ numbers answers
+  pub right : AreRight l steps answers
+
+-- a worker's seat came from itself alone, and what it drew has a verdict each, which is right
+pub record IsDone (l : Tables × List StoredUnit) (steps : ℕ) (desk : Desk) (done : Done) : Type 0 where
+  pub sits : Sits done.seat desk
+  pub alone : (view done.seat).seats ≡ 1
+  pub drawn : (view done.seat).drawn ≡ numbers done.answers.items
+  pub right : AreRight l steps done.answers.items

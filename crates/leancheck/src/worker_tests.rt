@@ -1,0 +1,91 @@
+//! Rows with several workers: what is written is the same for each number of them.
+
+use crate::run::run;
+use crate::status::Status;
+use crate::tests::{is_row, words_of};
+use lk_port::{MemSink, MemSource, PairGate};
+use std::alloc::{AllocError, Global};
+use std::sync::Wait;
+use std::test::Fail;
+use std::thread::Threads;
+
+// An axiom, and theorems that use it.
+const FIVE: &[u8] =
+    b"2.0.0\n1 #NS 0 p\n2 #NS 0 t\n0 #ES 0\n1 #EC 1\n2 #EP #BD 0 1 1\n3 #EV 0\n4 #EL #BD 0 1 3\n#AX 1 0\n3 #NI 2 1\n#THM 3 2 4\n4 #NI 2 2\n#THM 4 2 4\n5 #NI 2 3\n#THM 5 2 4\n6 #NI 2 4\n5 #EC 5\n6 #EA 5 3\n7 #EL #BD 0 1 6\n#THM 6 2 7\n";
+
+const FIVE_TOLD: &[u8] =
+    b"yes axiom 0 p\n  axiom p\nyes thm 1 t.1\n  axiom p\nyes thm 2 t.2\n  axiom p\nyes thm 3 t.3\n  axiom p\nyes thm 4 t.4\n  axiom p\nunits 5 yes 5 no 0 memory 0\n";
+
+// A Pi whose domain and body are the Pi before it, sixty times.
+const DOUBLING: &[u8] =
+    b"1 #NS 0 d\n0 #ES 0\n1 #EP #BD 0 0 0\n2 #EP #BD 0 1 1\n3 #EP #BD 0 2 2\n4 #EP #BD 0 3 3\n5 #EP #BD 0 4 4\n6 #EP #BD 0 5 5\n7 #EP #BD 0 6 6\n8 #EP #BD 0 7 7\n9 #EP #BD 0 8 8\n10 #EP #BD 0 9 9\n11 #EP #BD 0 10 10\n12 #EP #BD 0 11 11\n13 #EP #BD 0 12 12\n14 #EP #BD 0 13 13\n15 #EP #BD 0 14 14\n16 #EP #BD 0 15 15\n17 #EP #BD 0 16 16\n18 #EP #BD 0 17 17\n19 #EP #BD 0 18 18\n20 #EP #BD 0 19 19\n21 #EP #BD 0 20 20\n22 #EP #BD 0 21 21\n23 #EP #BD 0 22 22\n24 #EP #BD 0 23 23\n25 #EP #BD 0 24 24\n26 #EP #BD 0 25 25\n27 #EP #BD 0 26 26\n28 #EP #BD 0 27 27\n29 #EP #BD 0 28 28\n30 #EP #BD 0 29 29\n31 #EP #BD 0 30 30\n32 #EP #BD 0 31 31\n33 #EP #BD 0 32 32\n34 #EP #BD 0 33 33\n35 #EP #BD 0 34 34\n36 #EP #BD 0 35 35\n37 #EP #BD 0 36 36\n38 #EP #BD 0 37 37\n39 #EP #BD 0 38 38\n40 #EP #BD 0 39 39\n41 #EP #BD 0 40 40\n42 #EP #BD 0 41 41\n43 #EP #BD 0 42 42\n44 #EP #BD 0 43 43\n45 #EP #BD 0 44 44\n46 #EP #BD 0 45 45\n47 #EP #BD 0 46 46\n48 #EP #BD 0 47 47\n49 #EP #BD 0 48 48\n50 #EP #BD 0 49 49\n51 #EP #BD 0 50 50\n52 #EP #BD 0 51 51\n53 #EP #BD 0 52 52\n54 #EP #BD 0 53 53\n55 #EP #BD 0 54 54\n56 #EP #BD 0 55 55\n57 #EP #BD 0 56 56\n58 #EP #BD 0 57 57\n59 #EP #BD 0 58 58\n60 #EP #BD 0 59 59\n#AX 1 60\n";
+
+// A definition that uses the name of a later unit.
+const LATER: &[u8] =
+    b"1 #NS 0 q\n2 #NS 0 a\n3 #NS 0 c\n0 #ES 0\n1 #EC 1\n#DEF 2 0 1 O\n#AX 1 0\n#DEF 3 0 1 O\n";
+
+const LATER_TOLD: &[u8] =
+    b"no def 0 a\n  why UnknownConstant\nyes axiom 1 q\n  axiom q\nyes def 2 c\n  axiom q\nunits 3 yes 2 no 1 memory 0\n";
+
+// Whether a run on these words checks the five units, and two workers were at the gate at one time exactly where that is wanted.
+fn meets<R: Threads + Wait + Sync>(
+    rt: &R,
+    alloc: Global,
+    line: &str,
+    turns: u64,
+    wanted: bool,
+) -> Result<bool, AllocError> {
+    let words = words_of(alloc, line)?;
+    let bytes = Vec::from_slice(alloc, FIVE)?;
+    let mut source = MemSource { bytes, at: 0 };
+    let mut sink = MemSink::new(alloc, 4096)?;
+    let gate = PairGate::new(turns);
+    let end = run(rt, alloc, words.as_slice(), &mut source, &mut sink, &gate);
+    Ok(end.code() == 0 && sink.bytes.as_slice() == FIVE_TOLD && gate.has_met() == wanted)
+}
+
+#[test]
+fn workers_meet(rt: HostRuntime) -> Result<(), Fail> {
+    let alloc = rt.alloc();
+    // So many turns that two workers meet on a busy machine too.
+    let turns = 2_000_000_000;
+    assert!(rt; meets(&rt, alloc, "leancheck check --workers 2", turns, true)?);
+    assert!(rt; meets(&rt, alloc, "leancheck check --workers 8", turns, true)?);
+    assert!(rt; meets(&rt, alloc, "leancheck check --workers 1", 10_000_000, false)?);
+    Ok(())
+}
+
+#[test]
+fn later_name(rt: HostRuntime) -> Result<(), Fail> {
+    let alloc = rt.alloc();
+    for line in [
+        "leancheck check --workers 1",
+        "leancheck check --workers 2",
+        "leancheck check --workers 8",
+    ] {
+        assert!(rt; is_row(&rt, alloc, line, LATER, LATER_TOLD, Status::SomeNo)?);
+    }
+    Ok(())
+}
+
+#[test]
+fn doubling(rt: HostRuntime) -> Result<(), Fail> {
+    let alloc = rt.alloc();
+    for line in [
+        "leancheck check --workers 1",
+        "leancheck check --workers 2",
+        "leancheck check --workers 8",
+    ] {
+        let told = b"yes axiom 0 d\n  axiom d\nunits 1 yes 1 no 0 memory 0\n";
+        assert!(rt; is_row(&rt, alloc, line, DOUBLING, told, Status::AllYes)?);
+    }
+    for line in [
+        "leancheck check --steps 1000 --workers 1",
+        "leancheck check --steps 1000 --workers 2",
+        "leancheck check --steps 1000 --workers 8",
+    ] {
+        let told = b"no axiom 0 d\n  why steps\n  axiom d\nunits 1 yes 0 no 1 memory 0\n";
+        assert!(rt; is_row(&rt, alloc, line, DOUBLING, told, Status::SomeNo)?);
+    }
+    Ok(())
+}

@@ -1,0 +1,171 @@
+//! Workers in threads, and what they did put together.
+
+ghost use Rattle.std.specs.Prelude.{◌≡◌, ◌+◌, ◌<◌, ℕ, [], IfOk, All, true, length, map, vec_len, slice_index_or};
+ghost use Rattle.lk_verdict.specs.GoodUnit.{IsClearLibrary};
+ghost use Rattle.lk_verdict.specs.Told.{AreVerdicts};
+ghost use Rattle.lk_env.specs.Units.{library_of};
+ghost use Rattle.lk_desk.specs.Job.{job_of, units_of};
+ghost use Rattle.lk_desk.specs.Rule.{HasEach, once_below};
+ghost use Rattle.lk_desk.specs.Seats.{view, job, IsNew, Sits};
+ghost use Rattle.lk_text.specs.declared.verdicts.Verdict.{Verdict as HeldVerdict};
+ghost use Rattle.lk_text.specs.Held.{verdict};
+ghost use Rattle.leancheck.specs.Drawn.{AreRight, numbers, stands, given};
+ghost use Rattle.leancheck.specs.Workers.{IsDone, IsIdle};
+
+use crate::order::{UnitVerdict, blank, fill};
+use crate::words::Options;
+use crate::worker::{Done, Limits, work};
+use lk_desk::{Desk, Seat};
+use lk_env::library::Library;
+use lk_port::Gate;
+use lk_store::memory::NoMemory;
+use lk_text::Verdict;
+use std::alloc::Global;
+use std::thread;
+use std::thread::Threads;
+
+/// A verdict for each unit, in their order, with the answers that they come from.
+#[derive(Drop)]
+pub struct Report {
+    pub verdicts: Vec<Verdict>,
+    pub answers: Vec<UnitVerdict>,
+    /// Some worker went on until there was no unit left, and every seat came back.
+    pub ended: bool,
+}
+
+/// Seats for so many workers, or for as many as there are.
+fn seats_for(
+    alloc: Global,
+    desk: &Desk,
+    first: &mut Seat,
+    workers: u32,
+) -> Result<Vec<Seat>, NoMemory>
+    requires { IsNew first.old desk.now }
+    ensures first { IsIdle first.new desk.now }
+    ensures each { IfOk result (λ v. All (λ s. IsNew s desk.now) v.items) }
+{
+    let mut seats = Vec::new(alloc);
+    for _ in 0..workers {
+        let Some(seat) = desk.split(first) else {
+            return Ok(seats);
+        };
+        seats.push(seat)?;
+    }
+    Ok(seats)
+}
+
+/// As many workers as seats, each in a thread where one can be made, with what they did.
+fn run_workers<R: Threads + Sync, G: Gate>(
+    rt: &R,
+    alloc: Global,
+    library: &Library,
+    limits: Limits,
+    desk: &Desk,
+    seats: Vec<Seat>,
+    gate: &G,
+) -> Result<Vec<Done>, NoMemory>
+    requires seats { All (λ s. IsNew s desk.now) seats.items }
+    requires job { job desk.now ≡ job_of library.now }
+    ensures count { IfOk result (λ v. vec_len v ≡ vec_len seats) }
+    ensures each { IfOk result (λ v. All (IsDone library.now limits.steps desk.now) v.items) }
+{
+    let all = thread::map_vec(
+        rt,
+        seats,
+        &|seat| -> Done
+            requires { IsNew seat desk.now × (job desk.now ≡ job_of library.now) }
+            ensures { IsDone library.entry.now limits.steps desk.entry.now result }
+        { work(alloc, library, limits, desk, seat, gate) },
+    )?;
+    Ok(all)
+}
+
+/// Joins all seats, and puts the answers together.
+fn gather(
+    alloc: Global,
+    library: &Library,
+    steps: u128,
+    desk: &Desk,
+    first: &mut Seat,
+    mut all: Vec<Done>,
+) -> Result<Vec<UnitVerdict>, NoMemory>
+    requires first { IsIdle first.old desk.now }
+    requires each { All (IsDone library.now steps desk.now) all.items }
+    ensures sits { IfOk result (λ v. Sits first.new desk.now) }
+    ensures drawn { IfOk result (λ v. (view first.new).drawn ≡ numbers v.items) }
+    ensures seats { IfOk result (λ v. (view first.new).seats ≡ 1 + vec_len all) }
+    ensures right { IfOk result (λ v. AreRight library.now steps v.items) }
+{
+    let mut answers = Vec::new(alloc);
+    while let Some(one) = all.pop() {
+        let Done {
+            seat,
+            answers: mut more,
+        } = one;
+        answers.append(&mut more)?;
+        desk.join(first, seat);
+    }
+    Ok(answers)
+}
+
+/// Whether the seat, which came from so many, came from all that were made, and draws no more. Then it drew each unit, once.
+fn drew_all(desk: &Desk, seat: &mut Seat, count: u64) -> bool
+    requires sits { Sits seat.old desk.now }
+    requires seats { (view seat.old).seats ≡ count }
+    ensures { result ≡ true → HasEach (view seat.old) (units_of (job desk.now)) }
+{
+    seat.has_ended() && desk.seats_made(seat) == count
+}
+
+/// One verdict for each unit, in their order. Where a worker went on until there was no unit left, each unit stands among the
+/// answers once, whoever drew it; and what no worker drew says memory.
+pub(crate) fn check_with<R: Threads + Sync, G: Gate>(
+    rt: &R,
+    alloc: Global,
+    library: &Library,
+    limits: Limits,
+    workers: u32,
+    gate: &G,
+) -> Result<Report, NoMemory>
+    ensures count { IfOk result (λ r. vec_len r.verdicts ≡ length library.now.1) }
+    ensures given { IfOk result (λ r. (n : ℕ) (d : HeldVerdict) → n < length library.now.1
+        → slice_index_or r.verdicts.items n d ≡ given n r.answers.items) }
+    ensures right { IfOk result (λ r. AreRight library.now limits.steps r.answers.items) }
+    ensures once { IfOk result (λ r. r.ended ≡ true → (n : ℕ)
+        → stands n r.answers.items ≡ once_below n (length library.now.1)) }
+{
+    let mut verdicts = blank(alloc, library.units().len())?;
+    let (desk, mut first) = Desk::new(alloc, library)?;
+    let seats = seats_for(alloc, &desk, &mut first, workers)?;
+    let count = seats.len() as u64 + 1;
+    let all = run_workers(rt, alloc, library, limits, &desk, seats, gate)?;
+    let answers = gather(alloc, library, limits.steps, &desk, &mut first, all)?;
+    let ended = drew_all(&desk, &mut first, count);
+    fill(&mut verdicts, answers.as_slice());
+    Ok(Report {
+        verdicts,
+        answers,
+        ended,
+    })
+}
+
+/// The verdicts of the units, in their order, by so many workers; the questions of each unit may take so many steps, and each
+/// worker keeps at most so many answers. A unit that no worker drew says memory.
+pub(crate) fn check_all<R: Threads + Sync, G: Gate>(
+    rt: &R,
+    alloc: Global,
+    library: &Library,
+    options: Options,
+    gate: &G,
+) -> Result<Vec<Verdict>, NoMemory>
+    ensures { IfOk result (λ v. IsClearLibrary (library_of library.now)
+        → AreVerdicts (library_of library.now) options.steps (map verdict v.items)) }
+{
+    gate.begins(library.units().len() as u64);
+    let limits = Limits {
+        steps: options.steps,
+        kept: options.memo,
+    };
+    let report = check_with(rt, alloc, library, limits, options.workers, gate)?;
+    Ok(report.verdicts)
+}
