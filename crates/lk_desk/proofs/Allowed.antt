@@ -12,7 +12,7 @@ use Rattle.lk_desk.specs.Truth.{AreTrue, entries_of}
 use Rattle.lk_desk.specs.Rule.{Slot, Desk, IsDesk, claim_word, seat_word, spent_view}
 use Rattle.lk_desk.specs.Steps.{saw, gave, handed, with_word, claimed, missed, asked, cut, newcomer, both_views, Claimed, Loaded, Counted, Took, Gave, Asked}
 use Rattle.lk_desk.proofs.Claims.{claim_keeps, claims_few, below}
-use Rattle.lk_desk.proofs.Splits.{ask_keeps, cut_keeps, join_keeps, seats_few}
+use Rattle.lk_desk.proofs.Splits.{ask_keeps, cut_keeps, join_keeps, few_seats, seats_few}
 use Rattle.lk_desk.proofs.Exchanges.{miss_keeps, take_keeps, give_keeps}
 use Rattle.lk_desk.proofs.Whole.{whole}
 
@@ -45,7 +45,7 @@ pub load_allows : (job : Job) (id slots : ℕ) (me : Me Slot View) → Allows (I
 load_allows job id slots me s kept len at word = (me.0, keeps, tt, same job s kept id me.0 at 0 (let l = kept.words in omega arith), (refl, below_word job s kept id me.0 at))
 
 pub count_allows : (job : Job) (id slots : ℕ) (me : Me Slot View) → 0 < me.0.seats → Allows (IsDesk job) slots id me 1 (λ n. n) (Counted (step slots 1 0 0 none) me)
-count_allows job id slots me alive s kept len at word = (me.0, keeps, tt, same job s kept id me.0 at 1 (let l = kept.words in omega arith), (refl, λ all ended. whole job s kept id me.0 at all alive ended))
+count_allows job id slots me alive s kept len at word = (me.0, keeps, tt, same job s kept id me.0 at 1 (let l = kept.words in omega arith), (refl, few_seats job s kept id me.0 at, λ all ended. whole job s kept id me.0 at all alive ended))
 
 pub ask_allows : (job : Job) (id slots : ℕ) (me : Me Slot View) → 0 < me.0.seats → me.0.refusals ≡ 0 → Allows (IsDesk job) slots id me 1 (λ n. (n + 1) % 2 ^ 64) (Asked (step slots 1 1 0 none) me)
 ask_allows job id slots me alive clear s kept len at word =

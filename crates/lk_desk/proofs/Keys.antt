@@ -64,5 +64,6 @@ put_is m n k v old room was here others put len = record {
   stands = here;
   others = others;
   entries = put_was m n k v old put;
+  room = room;
   few = few_after (length m) (length n) old (subst (λ o. (length m < 4096) ⊎ IsSome o) (sym was) room) len;
 }

@@ -11,7 +11,7 @@ use Rattle.lk_desk.specs.declared.view.View.{View}
 use Rattle.lk_desk.specs.Job.{Job}
 use Rattle.lk_desk.specs.Rule.{Desk, IsDesk, IsSeated, claim_word, seat_word, times, spent_view}
 use Rattle.lk_desk.specs.Steps.{with_word, asked, after_ask, cut, newcomer, after_cut, both_views, after_join}
-use Rattle.lk_desk.proofs.Views.{sum_set, sum_added, sum_two, each_set, each_added, sum_le}
+use Rattle.lk_desk.proofs.Views.{sum_set, sum_added, sum_two, each_set, each_added, part_le, sum_le}
 
 pub asked_below : (n : ℕ) (v : View) → n < 65536 → asked n v ≡ record v { pending = v.pending + 1 }
 asked_below n v lt = let t : nat_lt n 65536 ≡ true = grind (arith, nat_tests) in rw t refl
@@ -40,6 +40,10 @@ noted_of job n v fits = elim (some_or v.seats) [
 -- the seat word passes 65,536 by 65,536 at most
 pub seats_few : (job : Job) (s : Desk) → IsDesk job s → seat_word s ≤ 131072
 seats_few job s kept = let le = sum_le (λ v. v.refusals) (λ v. v.seats + v.pending) s.views (λ i u at. noted_of job (claim_word s) u (kept.each i u at)) in let e = kept.seats in let r = kept.refused in omega arith
+
+-- a seat came from no more seats than were made
+pub few_seats : (job : Job) (s : Desk) → IsDesk job s → (id : ℕ) (v : View) → get_elem? s.views id ≡ some v → v.seats ≤ seat_word s
+few_seats job s kept id v at = let p = part_le (λ u. u.seats + u.pending) s.views id v at in let e = kept.seats in omega arith
 
 module _ (job : Job) (s : Desk) (kept : IsDesk job s) (id : ℕ) (v : View) (at : get_elem? s.views id ≡ some v) where
   -- the seat word rises by one, and a view is changed

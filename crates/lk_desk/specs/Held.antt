@@ -12,6 +12,6 @@ is_held [] = true
 is_held (x ∷ []) = held_one x.0 x.1
 is_held (x ∷ y ∷ zs) = false
 
--- a view but for its outs
+-- a view but for what it notes of shards
 abbrev pub still : View → View
 still v = record v { outs = 0; takes = 0; taken = None; returned = None }

@@ -1,5 +1,5 @@
--- What a hook is as a shelf. It does not tell the answers of its shards; it remembers which shard was taken last and which
--- was given back.
+-- What a hook is as a shelf. It does not tell the answers of its shards; it remembers which shard
+-- was taken last and which was given back.
 use Rattle.std.specs.Prelude.{ℕ, Bool, true, false, List, [], ◌∷◌, Option, Some, None}
 use Rattle.atomic_table.specs.Seated.{TableId}
 use Rattle.lk_desk.specs.declared.view.View.{View}

@@ -24,10 +24,36 @@ seat_word s = slice_index s.words 1
 
 -- the view of a desk's first seat, and that of a seat that another took in
 abbrev pub first_view : Job → View
-first_view job = record { drawn = []; overdrawn = 0; ended = false; refusals = 0; outs = 0; takes = 0; taken = None; returned = None; seats = 1; pending = 0; job = job }
+first_view job =
+    record {
+      drawn = [];
+      overdrawn = 0;
+      ended = false;
+      refusals = 0;
+      outs = 0;
+      takes = 0;
+      taken = None;
+      returned = None;
+      seats = 1;
+      pending = 0;
+      job = job;
+    }
 
 abbrev pub spent_view : View
-spent_view = record { drawn = []; overdrawn = 0; ended = false; refusals = 0; outs = 0; takes = 0; taken = None; returned = None; seats = 0; pending = 0; job = None }
+spent_view =
+    record {
+      drawn = [];
+      overdrawn = 0;
+      ended = false;
+      refusals = 0;
+      outs = 0;
+      takes = 0;
+      taken = None;
+      returned = None;
+      seats = 0;
+      pending = 0;
+      job = None;
+    }
 
 -- how often a number stands in the view's list
 abbrev pub times : ℕ → View → ℕ
@@ -43,7 +69,8 @@ HasEach v n = (x : ℕ) → times x v ≡ once_below x n
 -- What is so of a live view, with the claim word at `next`.
 pub record IsLive (job : Job) (next : ℕ) (v : View) : Type 0 where
   pub same_job : v.job ≡ job
-  -- one that has not ended has drawn nothing past the last unit, and one that has drew past it at most once per seat that it came from
+  -- one that has not ended has drawn nothing past the last unit, and one that has drew past it at
+  -- most once per seat that it came from
   pub going : v.ended ≡ false → v.overdrawn ≡ 0
   pub over : v.ended ≡ true → units_of job ≤ next
   pub overdrawn : v.overdrawn ≤ v.seats
@@ -60,15 +87,18 @@ pub record IsDesk (job : Job) (s : Desk) : Type 0 where
   pub small : units_of job < 2 ^ 32
   -- all live views name one job, and end as `IsLive` says
   pub each : (id : ℕ) (v : View) → get_elem? s.views id ≡ some v → IsSeated job (claim_word s) v
-  -- each number below the claim word and below the units stands in one live view's list, once, and no other number stands in one
+  -- each number below the claim word and below the units stands in one live view's list, once, and
+  -- no other number stands in one
   pub once : (x : ℕ) → sum_by (times x) s.views ≡ once_below x (min (claim_word s) (units_of job))
   -- the claim word passes the units by no more than was drawn past them
   pub bound : claim_word s ≤ units_of job + sum_by (λ v. v.overdrawn) s.views
-  -- the seats that the live views came from, with those about to come, are the seats made, and the word passes 65,536 by the refusals noted
+  -- the seats that the live views came from, with those about to come, are the seats made, and the
+  -- word passes 65,536 by the refusals noted
   pub seats : sum_by (λ v. v.seats + v.pending) s.views ≡ min (seat_word s) 65536
   pub refused : seat_word s ≡ min (seat_word s) 65536 + sum_by (λ v. v.refusals) s.views
   -- a shard whose word is 0 is at home, with at most 4,096 entries, all true of the job
-  pub home : (k : ℕ) → k < 64 → slice_index s.words (k + 2) ≡ 0 → (x : Shard) × (get_elem? s.homes k ≡ some (some (Some x))) × AreTrue job (entries_of x)
+  pub home : (k : ℕ) → k < 64 → slice_index s.words (k + 2) ≡ 0 → (x : Shard)
+      × (get_elem? s.homes k ≡ some (some (Some x))) × AreTrue job (entries_of x)
 
 -- a shard with no entry
 abbrev pub IsEmptyShard : Slot → Type 0

@@ -24,7 +24,9 @@ IsOf seat desk = (seat.token.table_id ≡ desk.table.shared.table_id) × ((view 
 
 -- and has no shard in hand
 abbrev pub Sits : Seat → Desk → Type 0
-Sits seat desk = (seat.token.table_id ≡ desk.table.shared.table_id) × ((view seat).job ≡ job desk) × (hand seat ≡ [])
+Sits seat desk =
+    (seat.token.table_id ≡ desk.table.shared.table_id) × ((view seat).job ≡ job desk)
+    × (hand seat ≡ [])
 
 -- and has drawn nothing
 abbrev pub IsNew : Seat → Desk → Type 0
@@ -36,16 +38,22 @@ Stays before after desk = IsOf after desk × (hand after ≡ hand before)
 
 -- and knows what it knew
 abbrev pub IsUnchanged : Seat → Seat → Desk → Type 0
-IsUnchanged before after desk = IsOf after desk × (hand after ≡ hand before) × (view after ≡ view before)
+IsUnchanged before after desk =
+    IsOf after desk × (hand after ≡ hand before) × (view after ≡ view before)
 
 -- it drew this number, which is above all that it drew before
 abbrev pub Drew : Seat → Seat → ℕ → Type 0
-Drew before after n = All (λ x. x < n) (view before).drawn × (view after ≡ record (view before) { drawn = (view before).drawn ++ n ∷ [] })
+Drew before after n =
+    All (λ x. x < n) (view before).drawn
+    × (view after ≡ record (view before) { drawn = (view before).drawn ++ n ∷ [] })
 
 -- it has ended, and else knows what it knew
 abbrev pub Ended : Seat → Seat → Type 0
-Ended before after = view after ≡ record (view before) { overdrawn = (view after).overdrawn; ended = true }
+Ended before after =
+    view after ≡ record (view before) { overdrawn = (view after).overdrawn; ended = true }
 
 -- it was refused a new seat, and else knows what it knew
 abbrev pub WasRefused : Seat → Seat → Type 0
-WasRefused before after = (0 < (view after).refusals) × (view after ≡ record (view before) { refusals = (view after).refusals })
+WasRefused before after =
+    (0 < (view after).refusals)
+    × (view after ≡ record (view before) { refusals = (view after).refusals })

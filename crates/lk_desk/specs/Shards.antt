@@ -14,6 +14,9 @@ kind_number Whnf = 1
 kind_number Infer = 2
 kind_number Same = 3
 
+-- Numbers of terms run on, so questions spread over the 64 shards. Those of one term, which is
+-- first and second, come to all of them, as 5 is odd; those of another kind begin 21 shards
+-- further.
 abbrev pub shard_number : Key → ℕ
 shard_number key = (21 * kind_number key.kind + key.first % 64 + 4 * (key.second % 64)) % 64
 
@@ -33,16 +36,18 @@ Misses entries key unit = (kept : Kept) → Finds entries key unit kept → ⊥
 abbrev pub Lacks : List (Key × Kept) → Key → Type 0
 Lacks entries key = under key entries ≡ None
 
--- the answer stands under its question, and under each other one what stood there. There was room, or an answer of this question
+-- there is room for an answer of the question, or one stands there
+abbrev pub HasRoom : List (Key × Kept) → Key → Type 0
+HasRoom entries key = (length entries < 4096) ⊎ IsSome (under key entries)
+
+-- the answer stands under its question, and under each other one what stood there. There was room,
+-- or an answer of this question
 pub record IsPut (before after : List (Key × Kept)) (key : Key) (kept : Kept) : Type 0 where
   pub stands : under key after ≡ Some kept
   pub others : (q : Key) → same_key key q ≡ false → under q after ≡ under q before
   pub entries : (e : Key × Kept) → Contains after e → Contains before e ⊎ (e ≡ (key, kept))
+  pub room : HasRoom before key
   pub few : length before ≤ 4096 → length after ≤ 4096
-
--- there is room for an answer of the question, or one stands there
-abbrev pub HasRoom : List (Key × Kept) → Key → Type 0
-HasRoom entries key = (length entries < 4096) ⊎ IsSome (under key entries)
 
 -- there is no room
 pub record IsFull (entries : List (Key × Kept)) (key : Key) : Type 0 where

@@ -32,7 +32,8 @@ AsGiven shard given before after = (after shard ≡ given) × Others shard befor
 
 -- how the shards are after an answer was left
 abbrev pub LeftAs : Left → ℕ → Key → Kept → Told → Told → Type 0
-LeftAs Stored shard key kept before after = IsPut (before shard) (after shard) key kept × Others shard before after
+LeftAs Stored shard key kept before after =
+    IsPut (before shard) (after shard) key kept × Others shard before after
 LeftAs Out shard key kept before after = AsBefore before after
 LeftAs Full shard key kept before after = IsFull (before shard) key × AsBefore before after
 
@@ -46,19 +47,30 @@ abbrev pub TakenMisses : ℕ → Numbered → Key → ℕ → Type 0
 TakenMisses shard None key unit = ⊥
 TakenMisses shard (Some x) key unit = (x.0 ≡ shard) × Misses (entries_of x.1) key unit
 
--- the shard of this number was taken and given back with the answer under its question, and the others of its answers as they were
+-- the shard of this number was taken and given back with the answer under its question, and the
+-- others of its answers as they were
 abbrev pub TakenAndPut : ℕ → Numbered → Numbered → Key → Kept → Type 0
 TakenAndPut shard None back key kept = ⊥
 TakenAndPut shard (Some x) None key kept = ⊥
-TakenAndPut shard (Some x) (Some y) key kept = (x.0 ≡ shard) × (y.0 ≡ shard) × IsPut (entries_of x.1) (entries_of y.1) key kept
+TakenAndPut shard (Some x) (Some y) key kept =
+    (x.0 ≡ shard) × (y.0 ≡ shard) × IsPut (entries_of x.1) (entries_of y.1) key kept
+
+-- the shard of this number was taken, and given back as it was
+abbrev pub TakenKept : ℕ → Numbered → Numbered → Type 0
+TakenKept shard None back = ⊥
+TakenKept shard (Some x) None = ⊥
+TakenKept shard (Some x) (Some y) =
+    (x.0 ≡ shard) × (y.0 ≡ shard) × (entries_of y.1 ≡ entries_of x.1)
 
 -- the shard of this number was taken, has no room, and was given back as it was
 abbrev pub TakenFull : ℕ → Numbered → Numbered → Key → Type 0
 TakenFull shard None back key = ⊥
 TakenFull shard (Some x) None key = ⊥
-TakenFull shard (Some x) (Some y) key = (x.0 ≡ shard) × (y.0 ≡ shard) × IsFull (entries_of x.1) key × (entries_of y.1 ≡ entries_of x.1)
+TakenFull shard (Some x) (Some y) key =
+    (x.0 ≡ shard) × (y.0 ≡ shard) × IsFull (entries_of x.1) key × (entries_of y.1 ≡ entries_of x.1)
 
--- how an answer was left, by the shards that were taken and given back last, where one was taken once
+-- how an answer was left, by the shards that were taken and given back last, where one was taken
+-- once
 abbrev pub LeftSo : Left → Type 0 → ℕ → Numbered → Numbered → Key → Kept → Type 0
 LeftSo Stored once shard taken back key kept = once × TakenAndPut shard taken back key kept
 LeftSo Out once shard taken back key kept = Unit {0}

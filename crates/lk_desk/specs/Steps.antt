@@ -1,5 +1,5 @@
 -- The six kinds of step: what each changes, and what it tells the seat that steps.
-use Rattle.std.specs.Prelude.{◌≡◌, ℕ, zero, suc, ◌+◌, ◌-◌, ◌<◌, ◌||◌, true, List, [], ◌∷◌, ◌++◌, All, nat_lt, slice_set, if◌then◌else◌, option_map, Some, None}
+use Rattle.std.specs.Prelude.{◌≡◌, ℕ, zero, suc, ◌+◌, ◌-◌, ◌<◌, ◌≤◌, ◌||◌, true, List, [], ◌∷◌, ◌++◌, All, nat_lt, slice_set, if◌then◌else◌, option_map, Some, None}
 use Rattle.std.specs.declared.option.Option.{Option}
 use mathlib.Core.Option.{some, none}
 use Rattle.atomic_table.specs.Table.{Me, Step, rest}
@@ -7,15 +7,18 @@ use Rattle.lk_desk.specs.declared.view.View.{View}
 use Rattle.lk_desk.specs.declared.shard.Shard.{Shard}
 use Rattle.lk_desk.specs.Job.{units_of}
 use Rattle.lk_desk.specs.Truth.{AreTrue, entries_of}
-use Rattle.lk_desk.specs.Rule.{Slot, Desk, claim_word, seat_word, once_below, times, first_view, spent_view}
+use Rattle.lk_desk.specs.Rule.{Slot, Desk, HasEach, claim_word, seat_word, first_view, spent_view}
 
 -- a desk with another number in a word, and another view of a seat
 abbrev pub with_word : Desk → ℕ → ℕ → ℕ → View → Desk
-with_word s i n id w = record { words = slice_set s.words i n; homes = s.homes; views = slice_set s.views id w }
+with_word s i n id w =
+    record { words = slice_set s.words i n; homes = s.homes; views = slice_set s.views id w }
 
 -- Claim: the number found is appended if there is such a unit, else the seat has ended
 abbrev pub claimed : ℕ → View → View
-claimed found v = if nat_lt found (units_of v.job) then record v { drawn = v.drawn ++ found ∷ [] } else record v { overdrawn = v.overdrawn + 1; ended = true }
+claimed found v =
+    if nat_lt found (units_of v.job) then record v { drawn = v.drawn ++ found ∷ [] }
+    else record v { overdrawn = v.overdrawn + 1; ended = true }
 
 -- Take, where it found the shard out
 abbrev pub missed : View → View
@@ -35,7 +38,9 @@ handed (y ∷ ys) = option_map (λ x. (y.0, x)) y.1
 
 -- the first move of Split: a seat is counted, or its refusal noted
 abbrev pub asked : ℕ → View → View
-asked found v = if nat_lt found 65536 then record v { pending = v.pending + 1 } else record v { refusals = v.refusals + 1 }
+asked found v =
+    if nat_lt found 65536 then record v { pending = v.pending + 1 }
+    else record v { refusals = v.refusals + 1 }
 
 -- the second: the seat that was counted comes
 abbrev pub cut : View → View
@@ -68,12 +73,17 @@ Claimed step me found after = (after ≡ (claimed found me.0, me.1)) × All (λ 
 abbrev pub Loaded : Step Slot → Me Slot View → ℕ → Me Slot View → Type 0
 Loaded step me found after = (after ≡ me) × All (λ x. x < found) me.0.drawn
 
--- A load of the word of seats, by a seat that came from them all and has ended: it drew each unit, once.
+-- A load of the word of seats: the seat came from no more. One that came from them all, and has
+-- ended, drew each unit, once.
 abbrev pub Counted : Step Slot → Me Slot View → ℕ → Me Slot View → Type 0
-Counted step me found after = (after ≡ me) × (me.0.seats ≡ found → me.0.ended ≡ true → (x : ℕ) → times x me.0 ≡ once_below x (units_of me.0.job))
+Counted step me found after =
+    (after ≡ me) × (me.0.seats ≤ found) × (me.0.seats ≡ found → me.0.ended ≡ true
+    → HasEach me.0 (units_of me.0.job))
 
 abbrev pub Took : Step Slot → Me Slot View → ℕ → Me Slot View → Type 0
-Took step me zero after = (x : Shard) × (after ≡ (saw (step.word - 2) x me.0, (step.word - 2, Some x) ∷ me.1)) × AreTrue me.0.job (entries_of x)
+Took step me zero after =
+    (x : Shard) × (after ≡ (saw (step.word - 2) x me.0, (step.word - 2, Some x) ∷ me.1))
+    × AreTrue me.0.job (entries_of x)
 Took step me (suc n) after = after ≡ (missed me.0, me.1)
 
 abbrev pub Gave : Step Slot → Me Slot View → ℕ → Me Slot View → Type 0
@@ -90,16 +100,36 @@ abbrev pub after_miss : Desk → ℕ → ℕ → View → Desk
 after_miss s id k v = with_word s (k + 2) 1 id (missed v)
 
 abbrev pub after_take : Desk → ℕ → ℕ → Shard → View → Desk
-after_take s id k x v = record { words = slice_set s.words (k + 2) 1; homes = slice_set s.homes k none; views = slice_set s.views id (saw k x v) }
+after_take s id k x v =
+    record {
+      words = slice_set s.words (k + 2) 1;
+      homes = slice_set s.homes k none;
+      views = slice_set s.views id (saw k x v);
+    }
 
 abbrev pub after_give : Desk → ℕ → ℕ → Shard → View → Desk
-after_give s id k x v = record { words = slice_set s.words (k + 2) 0; homes = slice_set s.homes k (some (Some x)); views = slice_set s.views id (gave (Some (k, x)) v) }
+after_give s id k x v =
+    record {
+      words = slice_set s.words (k + 2) 0;
+      homes = slice_set s.homes k (some (Some x));
+      views = slice_set s.views id (gave (Some (k, x)) v);
+    }
 
 abbrev pub after_ask : Desk → ℕ → View → Desk
 after_ask s id v = with_word s 1 (seat_word s + 1) id (asked (seat_word s) v)
 
 abbrev pub after_cut : Desk → ℕ → View → Desk
-after_cut s id v = record { words = s.words; homes = s.homes; views = slice_set s.views id (cut v) ++ newcomer v ∷ [] }
+after_cut s id v =
+    record {
+      words = s.words;
+      homes = s.homes;
+      views = slice_set s.views id (cut v) ++ newcomer v ∷ [];
+    }
 
 abbrev pub after_join : Desk → ℕ → View → ℕ → View → Desk
-after_join s id v other w = record { words = s.words; homes = s.homes; views = slice_set (slice_set s.views id (both_views v w)) other spent_view }
+after_join s id v other w =
+    record {
+      words = s.words;
+      homes = s.homes;
+      views = slice_set (slice_set s.views id (both_views v w)) other spent_view;
+    }

@@ -24,14 +24,14 @@ abbrev pub entries_of : Shard → List (Key × Kept)
 entries_of x = x.answers.entries
 
 -- the question of a kind, of these terms
-abbrev pub asked : Kind → ℕ → ℕ → Query ℕ
-asked Core a b = query.Core a
-asked Whnf a b = query.Whnf a
-asked Infer a b = query.Infer a
-asked Same a b = query.Same a b
+abbrev pub query_of_kind : Kind → ℕ → ℕ → Query ℕ
+query_of_kind Core a b = query.Core a
+query_of_kind Whnf a b = query.Whnf a
+query_of_kind Infer a b = query.Infer a
+query_of_kind Same a b = query.Same a b
 
 abbrev pub question_of : Key → Query ℕ
-question_of key = asked key.kind key.first key.second
+question_of key = query_of_kind key.kind key.first key.second
 
 -- the number of the first unit that is above all that were looked at
 abbrev pub above : Option ℕ → ℕ
@@ -42,8 +42,8 @@ above (Some t) = t + 1
 abbrev pub place_above : Tables × List StoredUnit → Option ℕ → Place
 place_above l t = place_of (library_of l) (above t) []
 
--- asked at the place above all units that were looked at for it, the question of the key has this answer, at just this cost. Terms
--- are numbers of the library's store
+-- asked at the place above all units that were looked at for it, the question of the key has this
+-- answer, at just this cost. Terms are numbers of the library's store
 pub record IsTrueIn (l : Tables × List StoredUnit) (key : Key) (kept : Kept) : Type 0 where
   pub query : IsKnownQuery (length (contents_of l.0).trees) (question_of key)
   pub answer : IsKnownAnswer (length (contents_of l.0).trees) kept.answer

@@ -1,12 +1,12 @@
 //! The shelf of a desk and a seat.
 
-ghost use Rattle.std.specs.Prelude.{◌≡◌, ◌+◌, ◌<◌, ◌≤◌, ◌⊎◌, ℕ, [], ◌∷◌, IfOk, IfSome, IfNone, Some, None, true};
+ghost use Rattle.std.specs.Prelude.{◌≡◌, ◌+◌, ◌<◌, ◌≤◌, ◌⊎◌, ℕ, [], ◌∷◌, IfOk, OnErr, IfSome, IfNone, Some, None, true};
 ghost use Rattle.lk_plain.specs.Laws.{IsBelow};
 ghost use Rattle.lk_desk.specs.Truth.{IsTrueOf};
 ghost use Rattle.lk_desk.specs.Seats.{view, hand, job, IsOf, Sits};
 ghost use Rattle.lk_desk.specs.Held.{is_held, still};
 ghost use Rattle.lk_desk.specs.Shards.{shard_number};
-ghost use Rattle.lk_desk.specs.Shelves.{IfOut, LeftSo, TakenMisses};
+ghost use Rattle.lk_desk.specs.Shelves.{IfOut, LeftSo, TakenKept, TakenMisses};
 
 use crate::shard::Shard;
 use crate::shelf::{Left, Shelf, leave_on, look_on};
@@ -71,10 +71,10 @@ impl Desk {
         ensures still { still (view seat.new) ≡ still (view seat.old) }
         ensures some { IfSome result (λ a. IsTrueOf (job self.now) key a × IsBelow a.top unit) }
         ensures none { IfNone result (((view seat.old).outs < (view seat.new).outs)
-            ⊎ (((view seat.new).takes ≡ (view seat.old).takes + 1)
-            × TakenMisses (shard_number key) (view seat.new).taken key unit)) }
+            ⊎ TakenMisses (shard_number key) (view seat.new).taken key unit) }
         ensures returned { ((view seat.old).outs < (view seat.new).outs)
-            ⊎ ((view seat.new).returned ≡ (view seat.new).taken) }
+            ⊎ (((view seat.new).takes ≡ (view seat.old).takes + 1)
+            × ((view seat.new).returned ≡ (view seat.new).taken)) }
         ensures outs { (view seat.old).outs ≤ (view seat.new).outs }
     {
         let mut hook = Hook { desk: self, seat };
@@ -91,6 +91,8 @@ impl Desk {
         ensures left { IfOk result (λ l. LeftSo l
             ((view seat.new).takes ≡ (view seat.old).takes + 1) (shard_number key)
             (view seat.new).taken (view seat.new).returned key kept) }
+        ensures memory { OnErr result (((view seat.new).takes ≡ (view seat.old).takes + 1)
+            × TakenKept (shard_number key) (view seat.new).taken (view seat.new).returned) }
         ensures out { IfOk result (λ l. IfOut l ((view seat.old).outs < (view seat.new).outs)) }
         ensures outs { (view seat.old).outs ≤ (view seat.new).outs }
     {

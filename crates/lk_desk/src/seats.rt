@@ -1,13 +1,13 @@
 //! A desk is made; seats draw numbers, are cut and are joined.
 
-ghost use Rattle.std.specs.Prelude.{◌≡◌, ◌+◌, ◌<◌, IfOk, IfSome, IfNone, IsNone, All, true, false, length};
+ghost use Rattle.std.specs.Prelude.{◌≡◌, ◌+◌, ◌<◌, ◌≤◌, IfOk, IfSome, IfNone, IsNone, All, true, false, length};
 ghost use Rattle.lk_desk.specs.Job.{job_of, units_of};
 ghost use Rattle.lk_desk.specs.Rule.{HasEach, IsEmptyShard};
 ghost use Rattle.lk_desk.specs.Steps.{both_views};
 ghost use Rattle.lk_desk.specs.Seats.{view, job, IsOf, Sits, IsNew, Stays, IsUnchanged, Drew, Ended, WasRefused};
 
 use crate::shard::Shard;
-use crate::table::{Claims, Counted, Counts, Cuts, Desk, Loads, Merges, Seat};
+use crate::table::{Asks, Claims, Counts, Cuts, Desk, Loads, Merges, Seat};
 use atomic_table::Table;
 use lk_env::library::Library;
 use lk_store::memory::NoMemory;
@@ -79,19 +79,11 @@ impl Desk {
         }
     }
 
-    /// The claim word. All that the seat drew is below it.
-    pub fn load(&self, seat: &mut Seat) -> u64
-        requires { IsOf seat.old self.now }
-        ensures same { IsUnchanged seat.old seat.new self.now }
-        ensures below { All (λ x. x < result) (view seat.old).drawn }
-    {
-        self.table.shared.load::<Loads>(&mut seat.token, 0)
-    }
-
     /// How many seats were made. A seat that came from as many, and has ended, drew each unit, once.
     pub fn seats_made(&self, seat: &mut Seat) -> u64
         requires { IsOf seat.old self.now }
         ensures same { IsUnchanged seat.old seat.new self.now }
+        ensures most { (view seat.old).seats ≤ result }
         ensures whole { (view seat.old).seats ≡ result → (view seat.old).ended ≡ true
             → HasEach (view seat.old) (units_of (job self.now)) }
     {
@@ -106,16 +98,15 @@ impl Desk {
         ensures some { IfSome result (λ s. IsNew s self.now × (view seat.new ≡ view seat.old)
             × ((view seat.old).refusals ≡ 0)) }
         ensures none { IfNone result (WasRefused seat.old seat.new) }
+        ensures noted { IfNone result ((view seat.old).refusals ≡ 0
+            → (view seat.new).refusals ≡ 1) }
         ensures refusals { 0 < (view seat.old).refusals
             → IsNone result × (view seat.new ≡ view seat.old) }
     {
         if seat.refused {
             return None;
         }
-        let found = self
-            .table
-            .shared
-            .fetch_add::<Counted>(&mut seat.token, 1, 1);
+        let found = self.table.shared.fetch_add::<Asks>(&mut seat.token, 1, 1);
         if found >= MOST_SEATS {
             seat.refused = true;
             return None;

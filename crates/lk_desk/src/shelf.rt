@@ -7,7 +7,7 @@ ghost use Rattle.lk_desk.specs.declared.view.View.{View};
 ghost use Rattle.lk_desk.specs.Job.{Job};
 ghost use Rattle.lk_desk.specs.Truth.{AreTrue, IsTrueOf, entries_of};
 ghost use Rattle.lk_desk.specs.Shards.{shard_number, Misses};
-ghost use Rattle.lk_desk.specs.Shelves.{Told, Numbered, AsBefore, AsTaken, AsGiven, LeftAs, IfOut, TakenMisses, LeftSo};
+ghost use Rattle.lk_desk.specs.Shelves.{Told, Numbered, AsBefore, AsTaken, AsGiven, LeftAs, IfOut, TakenMisses, TakenKept, LeftSo};
 
 use crate::shard::{Shard, shard_of};
 use lk_ask::kept::Kept;
@@ -67,7 +67,11 @@ pub trait Shelf {
         ensures remembers { remembers self.new ≡ remembers self.old }
         ensures some { IfSome result (λ x. AreTrue (job self.old) (entries_of x)
             × (in_hand self.new ≡ Some shard) × (outs self.new ≡ outs self.old)) }
-        ensures none { IfNone result ((outs self.old < outs self.new) × (in_hand self.new ≡ None)) }
+        ensures none { IfNone result ((outs self.new ≡ outs self.old + 1)
+            × (in_hand self.new ≡ None)) }
+        ensures missed { remembers self.old ≡ true → IfNone result (
+            (takes self.new ≡ takes self.old) × (taken self.new ≡ taken self.old)
+            × (returned self.new ≡ returned self.old)) }
         ensures taken { remembers self.old ≡ true → IfSome result (λ x.
             (takes self.new ≡ takes self.old + 1) × (taken self.new ≡ Some (shard, x))) }
         ensures told { tells self.old ≡ true
@@ -100,11 +104,12 @@ pub fn look_on<S: Shelf>(shelf: &mut S, unit: u32, key: Key) -> Option<Kept>
     ensures none { IfNone result ((S.outs shelf.old < S.outs shelf.new)
         ⊎ (S.tells shelf.old ≡ true → Misses (S.told shelf.old (shard_number key)) key unit)) }
     ensures taken { S.remembers shelf.old ≡ true → IfNone result (
-        (S.outs shelf.old < S.outs shelf.new) ⊎ ((S.takes shelf.new ≡ S.takes shelf.old + 1)
-        × TakenMisses (shard_number key) (S.taken shelf.new) key unit)) }
+        (S.outs shelf.old < S.outs shelf.new)
+        ⊎ TakenMisses (shard_number key) (S.taken shelf.new) key unit) }
     ensures back { S.tells shelf.old ≡ true → AsBefore (S.told shelf.old) (S.told shelf.new) }
     ensures returned { S.remembers shelf.old ≡ true → (S.outs shelf.old < S.outs shelf.new)
-        ⊎ (S.returned shelf.new ≡ S.taken shelf.new) }
+        ⊎ ((S.takes shelf.new ≡ S.takes shelf.old + 1)
+        × (S.returned shelf.new ≡ S.taken shelf.new)) }
     ensures outs { S.outs shelf.old ≤ S.outs shelf.new }
     ensures empty { S.in_hand shelf.new ≡ None }
     ensures job { S.job shelf.new ≡ S.job shelf.old }
@@ -134,6 +139,9 @@ pub fn leave_on<S: Shelf>(shelf: &mut S, key: Key, kept: Kept) -> Result<Left, N
         (S.taken shelf.new) (S.returned shelf.new) key kept) }
     ensures memory { S.tells shelf.old ≡ true
         → OnErr result (AsBefore (S.told shelf.old) (S.told shelf.new)) }
+    ensures back { S.remembers shelf.old ≡ true
+        → OnErr result ((S.takes shelf.new ≡ S.takes shelf.old + 1)
+        × TakenKept (shard_number key) (S.taken shelf.new) (S.returned shelf.new)) }
     ensures out { IfOk result (λ l. IfOut l (S.outs shelf.old < S.outs shelf.new)) }
     ensures outs { S.outs shelf.old ≤ S.outs shelf.new }
     ensures empty { S.in_hand shelf.new ≡ None }

@@ -66,9 +66,9 @@ impl Play<Option<Shard>, View> for Gives {
 }
 
 /// Counting a seat that is to come: a fetch_add of 1 on the word of seats.
-pub struct Counted;
+pub struct Asks;
 
-impl Play<Option<Shard>, View> for Counted {
+impl Play<Option<Shard>, View> for Asks {
     ghost use Rattle.lk_desk.specs.Steps.{Asked};
 
     ghost then = { Asked };

@@ -12,7 +12,16 @@ use Rattle.lk_desk.specs.Shelves as shelves
 
 -- the number of no table
 abbrev pub no_table : TableId
-no_table = record { words = 0; slots = 0; views_name = 0; atom = 0; block = 0; offset = 0; slot_names = [] }
+no_table =
+    record {
+      words = 0;
+      slots = 0;
+      views_name = 0;
+      atom = 0;
+      block = 0;
+      offset = 0;
+      slot_names = [];
+    }
 
 -- a library, the answers of each shard, and the number of the one that is out
 abbrev pub InMemory : Type 0
