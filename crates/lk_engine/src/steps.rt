@@ -39,6 +39,7 @@ use lk_same::SameNext;
 use lk_store::memory::NoMemory;
 use lk_tree::rule::Rule;
 use lk_type::infer::{TypeNext, TypeStep};
+use lk_type::opening::{begin_binders, long_telescope};
 
 /// What any question does next.
 pub type AnyNext = Next<u64, AnySheet>;
@@ -206,8 +207,8 @@ pub fn start<L: Looks>(looks: &mut L, query: Query<u64>) -> Result<AnyNext, NoMe
     ensures { Starts L.contents L.rest L.sight looks.old looks.new result query }
 {
     if let Query::Infer(e) = query {
-        if let Some(next) = lk_type::opening::begin(looks, e)? {
-            return Ok(of_type(next));
+        if let Some((binders, domain, body)) = long_telescope(looks, e) {
+            return Ok(of_type(begin_binders(looks, binders, e, domain, body)?));
         }
     }
     begin(looks, query)

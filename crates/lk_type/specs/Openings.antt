@@ -1,12 +1,11 @@
 -- How a telescope is opened, and that asking for it runs as its row does.
-use Rattle.std.specs.Prelude.{◌≡◌, ◌<◌, ◌++◌, ◌⊎◌, ◌∷◌, ℕ, suc, true, List, map, All, Option, None, Some, Result, Ok, Err, IfOk, length}
+use Rattle.std.specs.Prelude.{◌≡◌, ◌<◌, ◌++◌, ◌⊎◌, ◌∷◌, ℕ, suc, true, List, map, All, Result, IfOk, length}
 use Rattle.lk_tree.specs.Tree.{Tree}
 use Rattle.lk_tree.specs.Bind.{bound, has_var}
 use Rattle.lk_tree.specs.Loose.{loose}
 use Rattle.lk_tree.specs.Putting.{put}
 use Rattle.lk_plain.specs.Program.{Program}
 use Rattle.lk_plain.specs.Erased.{a_tree, erased, run_steps, out_of}
-use Rattle.lk_questions.specs.Infer.{infer_steps}
 use Rattle.lk_questions.specs.Table.{steps}
 use Rattle.lk_store.specs.declared.memory.NoMemory.{NoMemory}
 use Rattle.lk_store.specs.Contents.{Contents, tree_at, Extends}
@@ -78,12 +77,3 @@ IsAskedFor contents rest sight old new result b domain locals inside =
     (x : ℕ) (xs : List ℕ) → locals ≡ x ∷ xs
     → Infers contents rest sight old new result (λ t. telescope_domain
     (asked_for b (started b (t x) (map t locals)) (map t xs) (t inside)) (t domain))
-
--- what comes next runs as the row of Infer does; or nothing was done
-abbrev pub MayBegin : {S R B : Type 0} → (S → Contents) → (S → R) → (R → Sight B) → S → S
-    → Result (Option (Next ℕ (TypeSheet ℕ))) NoMemory → ℕ → Type 0
-MayBegin contents rest sight old new (Ok None) e = new ≡ old
-MayBegin contents rest sight old new (Ok (Some next)) e =
-    RunsAs contents rest sight old new (Ok next) (λ t. infer_steps (t e))
-MayBegin contents rest sight old new (Err error) e =
-    RunsAs contents rest sight old new (Err error) (λ t. infer_steps (t e))

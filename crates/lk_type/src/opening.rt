@@ -11,7 +11,7 @@ ghost use Rattle.lk_ask.specs.Looks.{MakesTree};
 ghost use Rattle.lk_type.specs.Sheets.{map_telescope, IsKnownTelescope};
 ghost use Rattle.lk_type.specs.Telescopes.{ahead, behind, started, asked_for, telescope_domain};
 ghost use Rattle.lk_type.specs.Openings.{IsBinder, IsNextNumber, IsNumberFor, AreClosed, OpensAll};
-ghost use Rattle.lk_type.specs.Openings.{IsAskedFor, RunsAs, MayBegin};
+ghost use Rattle.lk_type.specs.Openings.{IsAskedFor, RunsAs};
 ghost use Rattle.lk_type.specs.Marks.{body_at, AreMarks};
 ghost use Rattle.lk_type.specs.Types.{Infers};
 
@@ -225,7 +225,8 @@ fn first_domain<L: Looks>(
 }
 
 /// Begins `Infer` of a binder with those inside it.
-fn begin_binders<L: Looks>(
+#[inline(never)]
+pub fn begin_binders<L: Looks>(
     looks: &mut L,
     binders: Binders,
     e: u64,
@@ -264,33 +265,25 @@ fn has_binders<L: Looks>(looks: &L, binders: Binders, e: u64) -> bool
     true
 }
 
-/// Begins `Infer` of a binder, if many stand inside it.
-fn begin_long<L: Looks>(
-    looks: &mut L,
-    binders: Binders,
-    e: u64,
-    domain: u64,
-    body: u64,
-) -> Result<Option<TypeNext>, NoMemory>
-    requires e_in { e < length (L.contents looks.old).trees }
-    requires binder { IsBinder (L.contents looks.old) binders e (domain, body) }
-    ensures { MayBegin L.contents L.rest L.sight looks.old looks.new result e }
-{
-    if !has_binders(looks, binders, body) {
-        return Ok(None);
-    }
-    let next = begin_binders(looks, binders, e, domain, body)?;
-    Ok(Some(next))
-}
-
-/// Begins `Infer` of a long telescope; `None` where the term is none, and then nothing was done.
-pub fn begin<L: Looks>(looks: &mut L, e: u64) -> Result<Option<TypeNext>, NoMemory>
-    requires { e < length (L.contents looks.old).trees }
-    ensures { MayBegin L.contents L.rest L.sight looks.old looks.new result e }
+/// The binders of a long telescope, with the domain and the body of the first one.
+#[inline(always)]
+pub fn long_telescope<L: Looks>(looks: &L, e: u64) -> Option<(Binders, u64, u64)>
+    requires { e < length (L.contents looks.now).trees }
+    ensures { IfSome result (λ p. IsBinder (L.contents looks.now) p.0 e (p.1, p.2)) }
 {
     match looks.view(e) {
-        Node::Pi(domain, body) => begin_long(looks, Binders::Pis, e, domain, body),
-        Node::Lam(domain, body) => begin_long(looks, Binders::Lambdas, e, domain, body),
-        _ => Ok(None),
+        Node::Pi(domain, body) => {
+            if has_binders(looks, Binders::Pis, body) {
+                return Some((Binders::Pis, domain, body));
+            }
+            None
+        }
+        Node::Lam(domain, body) => {
+            if has_binders(looks, Binders::Lambdas, body) {
+                return Some((Binders::Lambdas, domain, body));
+            }
+            None
+        }
+        _ => None,
     }
 }

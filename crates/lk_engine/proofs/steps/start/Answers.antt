@@ -8,9 +8,9 @@ pub returns-in-Some : goal.returns-in-Some
 returns-in-Some g c =
     let contents = g.L.Terms.contents in
     let place = (g.L.Looks.sight (g.L.Terms.rest c.args.looks.now)).basis.place in
-    let h = rw c.in-Some.is at c.in_ok-next.ensures in
-    let told = c.of_type.ensures.steps place (tree_at (contents c.begin.new.looks))
-    (g.L.Looks.sight (g.L.Terms.rest c.begin.new.looks)).last in
+    let h = c.in_ok-begin_binders.ensures in
+    let told = c.of_type.ensures.steps place (tree_at (contents c.begin_binders.new.looks))
+    (g.L.Looks.sight (g.L.Terms.rest c.begin_binders.new.looks)).last in
     rw c.in-Infer.is (record {
       keeps = h.keeps;
       stays = h.stays;
