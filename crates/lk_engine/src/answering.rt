@@ -16,6 +16,7 @@ use lk_ask::next::Next;
 use lk_ask::query::{Answer, Query};
 use lk_ask::stop::Stop;
 use lk_memo::PrivateMemo;
+use lk_store::node::{ListNode, Node};
 use lk_store::terms::Terms;
 
 /// A question that waits: what was asked under which budget, its sheet, and the last unit that was
@@ -67,6 +68,72 @@ fn known<T: Terms>(
     }
 }
 
+/// An answer that costs fewer steps is found anew as fast as it is looked for.
+const WORTH: u128 = 3;
+
+/// Keeps an answer, where it costs so many steps. Where there is no room the memo stays as it is.
+fn keep<T: Terms>(
+    memo: &mut PrivateMemo,
+    lookout: &Lookout<'_, T>,
+    query: Query<u64>,
+    budget: u128,
+    answer: Answer<u64>,
+    least: u128,
+)
+    requires { lookout.now.3.left ≤ budget }
+    ensures { Keeps memo.old memo.new query (record {
+      answer = answer;
+      cost = budget - lookout.now.3.left;
+      top = lookout.now.3.last;
+    }) }
+{
+    let cost = budget - left(lookout);
+    let top = last(lookout);
+    if cost >= least {
+        let _kept = memo.keep(query, Kept { answer, cost, top });
+    }
+}
+
+/// Whether a question is for the type of a constant at levels: it costs one step, but the levels are
+/// put into the whole type.
+fn is_at_levels<T: Terms>(lookout: &Lookout<'_, T>, query: Query<u64>) -> bool
+    requires query_in { IsKnownQuery (length (T.contents lookout.now.2).trees) query }
+{
+    match query {
+        Query::Infer(e) => match lookout.terms.view(e) {
+            Node::Const(_, levels) => match lookout.terms.levels(levels) {
+                ListNode::Empty => false,
+                ListNode::Cons(_, _) => true,
+            },
+            _ => false,
+        },
+        _ => false,
+    }
+}
+
+/// The first step of a question. The type of a constant at levels is kept at once, so that it is made
+/// once for many uses.
+#[inline(always)]
+fn first_kept<T: Terms>(
+    lookout: &mut Lookout<'_, T>,
+    memo: &mut PrivateMemo,
+    query: Query<u64>,
+) -> Result<AnyNext, Stop>
+    requires query_in { IsKnownQuery (length (T.contents lookout.old.2).trees) query }
+    requires entries { AreTrueAt lookout.old (T.contents lookout.old.2) memo.old }
+    ensures opens { Opens T.contents T.rest lookout.old lookout.new result query }
+    ensures entries { AreTrueAt lookout.old (T.contents lookout.new.2) memo.new }
+{
+    let budget = left(lookout);
+    let next = first_step(lookout, query)?;
+    if let Next::Done(answer) = &next {
+        if is_at_levels(lookout, query) {
+            keep(memo, lookout, query, budget, *answer, 1);
+        }
+    }
+    Ok(next)
+}
+
 /// The first step of a question, or its answer, where that is known.
 #[inline(always)]
 fn open<T: Terms>(
@@ -81,30 +148,7 @@ fn open<T: Terms>(
 {
     match known(lookout, memo, query) {
         Some(kept) => Ok(Next::Done(repeat(lookout, kept)?)),
-        None => first_step(lookout, query),
-    }
-}
-
-/// Keeps an answer, where finding it is less than asking anew. Where there is no room the memo
-/// stays as it is.
-fn keep<T: Terms>(
-    memo: &mut PrivateMemo,
-    lookout: &Lookout<'_, T>,
-    query: Query<u64>,
-    budget: u128,
-    answer: Answer<u64>,
-)
-    requires { lookout.now.3.left ≤ budget }
-    ensures { Keeps memo.old memo.new query (record {
-      answer = answer;
-      cost = budget - lookout.now.3.left;
-      top = lookout.now.3.last;
-    }) }
-{
-    let cost = budget - left(lookout);
-    let top = last(lookout);
-    if cost > 2 {
-        let _kept = memo.keep(query, Kept { answer, cost, top });
+        None => first_kept(lookout, memo, query),
     }
 }
 
@@ -154,7 +198,7 @@ fn work<T: Terms>(
                 }
             }
             Next::Done(answer) => {
-                keep(memo, lookout, asked, budget, answer);
+                keep(memo, lookout, asked, budget, answer, WORTH);
                 match stack.pop() {
                     None => return Ok(answer),
                     Some(frame) => {

@@ -1,5 +1,4 @@
 use Rattle.std.proofs.lemmas.Result.{err_from_is_err_and}
-use Rattle.lk_engine.proofs.Frames.{entries_steady}
 use Rattle.lk_engine.proofs.Lookouts.{repeat_opens, repeat_stops}
 use Rattle.lk_engine.proofs.answering.open.Goals as goal
 
@@ -20,7 +19,3 @@ returns-in_ok-repeat-in-Some-clause-opens g c = repeat_opens c.in_ok-repeat-in-S
 pub returns-in_ok-repeat-in-Some-clause-entries : goal.returns-in_ok-repeat-in-Some-clause-entries
 returns-in_ok-repeat-in-Some-clause-entries g c =
     rw c.repeat.ensures.stays.terms c.known.ensures.entries
-
-pub returns-in-None-clause-entries : goal.returns-in-None-clause-entries
-returns-in-None-clause-entries g c =
-    entries_steady c.first_step.ensures.opens.stays.keeps _ _ _ c.known.ensures.entries
