@@ -4,7 +4,8 @@ ghost use Rattle.std.specs.Prelude.{◌≡◌, ◌<◌, [], true, length};
 ghost use Rattle.lk_rulebook.specs.Scan.{are_new};
 ghost use Rattle.lk_rulebook.specs.Units.{members_of, place_of, Members};
 ghost use Rattle.lk_questions.specs.Table.{steps as table};
-ghost use Rattle.lk_store.specs.Store.{contents_of};
+ghost use Rattle.lk_store.specs.Store.{over, contents_of};
+ghost use Rattle.lk_engine.specs.Lookouts.{standing_at, places_at};
 ghost use Rattle.lk_env.specs.declared.entry.Partial.{Partial as GivenMembers};
 ghost use Rattle.lk_env.specs.Places.{partial_beside};
 ghost use Rattle.lk_env.specs.Units.{declaration_at, unit_at, library_of};
@@ -22,7 +23,6 @@ use lk_engine::Engine;
 use lk_env::entry::Partial;
 use lk_env::library::Library;
 use lk_env::unit::{Body, Declaration, Unit};
-use lk_family::Families;
 use lk_laws::{Laws, check_definition};
 use lk_quot::Quotients;
 use lk_scan::names::are_new;
@@ -86,17 +86,12 @@ fn refused(error: ScanError) -> Verdict
 }
 
 /// The verdict of a unit with which nothing is wrong in itself. Nothing of it is partial yet.
-fn judge_scanned<Q: Quotients + Laws + Families>(
-    alloc: Global,
-    asks: &mut Q,
-    unit: &Unit,
-) -> Verdict
-    requires table { (Q.standing asks.old).table ≡ table }
-    requires place { StandsAt Q.places (Q.standing asks.old) Partial.Nothing [] }
-    requires known { IsUnitIn (Q.contents asks.old) unit.now }
-    ensures basis { (Q.standing asks.new).basis ≡ (Q.standing asks.old).basis }
-    ensures verdict { IsPlain (asked_of (Q.places (Q.standing asks.old).basis) (Q.left asks.old)
-        (unit_at (Q.contents asks.old) unit.now)) result }
+fn judge_scanned(alloc: Global, asks: &mut Engine<'_>, unit: &Unit) -> Verdict
+    requires place { StandsAt places_at (standing_at asks.old.0 asks.old.1) Partial.Nothing [] }
+    requires known { IsUnitIn (contents_of (over asks.old.2.0 asks.old.2.1)) unit.now }
+    ensures basis { (standing_at asks.new.0 asks.new.1).basis ≡ (standing_at asks.old.0 asks.old.1).basis }
+    ensures verdict { IsPlain (asked_of (places_at (standing_at asks.old.0 asks.old.1).basis) (asks.old.3.left)
+        (unit_at (contents_of (over asks.old.2.0 asks.old.2.1)) unit.now)) result }
 {
     match unit {
         Unit::Declaration(declaration) => ask(alloc, asks, declaration),
@@ -105,18 +100,12 @@ fn judge_scanned<Q: Quotients + Laws + Families>(
 }
 
 /// The verdict of a unit whose names are new.
-fn judge_new<Q: Quotients + Laws + Families>(
-    alloc: Global,
-    base: &BaseStore,
-    asks: &mut Q,
-    unit: &Unit,
-) -> Verdict
-    requires table { (Q.standing asks.old).table ≡ table }
-    requires same { Q.contents asks.old ≡ contents_of base.now }
-    requires place { StandsAt Q.places (Q.standing asks.old) Partial.Nothing [] }
+fn judge_new(alloc: Global, base: &BaseStore, asks: &mut Engine<'_>, unit: &Unit) -> Verdict
+    requires same { contents_of (over asks.old.2.0 asks.old.2.1) ≡ contents_of base.now }
+    requires place { StandsAt places_at (standing_at asks.old.0 asks.old.1) Partial.Nothing [] }
     requires known { IsUnitIn (contents_of base.now) unit.now }
-    ensures basis { (Q.standing asks.new).basis ≡ (Q.standing asks.old).basis }
-    ensures verdict { IsPlain (scanned_of (Q.places (Q.standing asks.old).basis) (Q.left asks.old)
+    ensures basis { (standing_at asks.new.0 asks.new.1).basis ≡ (standing_at asks.old.0 asks.old.1).basis }
+    ensures verdict { IsPlain (scanned_of (places_at (standing_at asks.old.0 asks.old.1).basis) (asks.old.3.left)
         (unit_at (contents_of base.now) unit.now)) result }
 {
     match scan(alloc, base, unit) {
@@ -126,24 +115,23 @@ fn judge_new<Q: Quotients + Laws + Families>(
 }
 
 /// The verdict of a unit, over what its library has, at its place and with what is left of a budget.
-fn judge<Q: Quotients + Laws + Families>(
+fn judge(
     alloc: Global,
     library: &Library,
-    asks: &mut Q,
+    asks: &mut Engine<'_>,
     number: u32,
     unit: &Unit,
 ) -> Verdict
-    requires table { (Q.standing asks.old).table ≡ table }
-    requires same { Q.contents asks.old ≡ contents_of library.now.0 }
-    requires place { StandsAt Q.places (Q.standing asks.old) Partial.Nothing [] }
+    requires same { contents_of (over asks.old.2.0 asks.old.2.1) ≡ contents_of library.now.0 }
+    requires place { StandsAt places_at (standing_at asks.old.0 asks.old.1) Partial.Nothing [] }
     requires places { are_new (library_of library.now) number
         (members_of (unit_at (contents_of library.now.0) unit.now)) ≡ true → (p : GivenMembers)
-        (aux : Members) → Q.places (Q.standing asks.old).basis p aux
+        (aux : Members) → places_at (standing_at asks.old.0 asks.old.1).basis p aux
         ≡ place_of (library_of library.now) number
         (partial_beside (unit_at (contents_of library.now.0) unit.now) p aux) }
     requires known { IsUnitIn (contents_of library.now.0) unit.now }
-    ensures basis { (Q.standing asks.new).basis ≡ (Q.standing asks.old).basis }
-    ensures verdict { IsPlain (row_verdict (library_of library.now) (Q.left asks.old) number
+    ensures basis { (standing_at asks.new.0 asks.new.1).basis ≡ (standing_at asks.old.0 asks.old.1).basis }
+    ensures verdict { IsPlain (row_verdict (library_of library.now) (asks.old.3.left) number
         (unit_at (contents_of library.now.0) unit.now)) result }
 {
     match are_new(alloc, library, number, unit) {
