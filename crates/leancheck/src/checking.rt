@@ -89,9 +89,10 @@ fn refused(error: ScanError) -> Verdict
 fn judge_scanned(alloc: Global, asks: &mut Engine<'_>, unit: &Unit) -> Verdict
     requires place { StandsAt places_at (standing_at asks.old.0 asks.old.1) Partial.Nothing [] }
     requires known { IsUnitIn (contents_of (over asks.old.2.0 asks.old.2.1)) unit.now }
-    ensures basis { (standing_at asks.new.0 asks.new.1).basis ≡ (standing_at asks.old.0 asks.old.1).basis }
-    ensures verdict { IsPlain (asked_of (places_at (standing_at asks.old.0 asks.old.1).basis) (asks.old.3.left)
-        (unit_at (contents_of (over asks.old.2.0 asks.old.2.1)) unit.now)) result }
+    ensures basis { (standing_at asks.new.0 asks.new.1).basis
+        ≡ (standing_at asks.old.0 asks.old.1).basis }
+    ensures verdict { IsPlain (asked_of (places_at (standing_at asks.old.0 asks.old.1).basis)
+        (asks.old.3.left) (unit_at (contents_of (over asks.old.2.0 asks.old.2.1)) unit.now)) result }
 {
     match unit {
         Unit::Declaration(declaration) => ask(alloc, asks, declaration),
@@ -104,9 +105,10 @@ fn judge_new(alloc: Global, base: &BaseStore, asks: &mut Engine<'_>, unit: &Unit
     requires same { contents_of (over asks.old.2.0 asks.old.2.1) ≡ contents_of base.now }
     requires place { StandsAt places_at (standing_at asks.old.0 asks.old.1) Partial.Nothing [] }
     requires known { IsUnitIn (contents_of base.now) unit.now }
-    ensures basis { (standing_at asks.new.0 asks.new.1).basis ≡ (standing_at asks.old.0 asks.old.1).basis }
-    ensures verdict { IsPlain (scanned_of (places_at (standing_at asks.old.0 asks.old.1).basis) (asks.old.3.left)
-        (unit_at (contents_of base.now) unit.now)) result }
+    ensures basis { (standing_at asks.new.0 asks.new.1).basis
+        ≡ (standing_at asks.old.0 asks.old.1).basis }
+    ensures verdict { IsPlain (scanned_of (places_at (standing_at asks.old.0 asks.old.1).basis)
+        (asks.old.3.left) (unit_at (contents_of base.now) unit.now)) result }
 {
     match scan(alloc, base, unit) {
         Ok(()) => judge_scanned(alloc, asks, unit),
@@ -130,7 +132,8 @@ fn judge(
         ≡ place_of (library_of library.now) number
         (partial_beside (unit_at (contents_of library.now.0) unit.now) p aux) }
     requires known { IsUnitIn (contents_of library.now.0) unit.now }
-    ensures basis { (standing_at asks.new.0 asks.new.1).basis ≡ (standing_at asks.old.0 asks.old.1).basis }
+    ensures basis { (standing_at asks.new.0 asks.new.1).basis
+        ≡ (standing_at asks.old.0 asks.old.1).basis }
     ensures verdict { IsPlain (row_verdict (library_of library.now) (asks.old.3.left) number
         (unit_at (contents_of library.now.0) unit.now)) result }
 {
