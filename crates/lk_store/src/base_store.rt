@@ -10,6 +10,7 @@ use crate::reading::{
     name_in, narrow_in, params_in, same_in, same_name_in, text_in, view_in,
 };
 use crate::room::Room;
+use crate::sizes::Sizes;
 use crate::tables::Tables;
 use crate::terms::Terms;
 use crate::text::Text;
@@ -54,6 +55,7 @@ impl Drop for BaseStore {
 impl BaseStore {
     ghost use Rattle.std.specs.Prelude.{◌≡◌, ◌≢◌, ◌<◌, ℕ, length, IfNone, IfSome};
     ghost use Rattle.lk_store.specs.Contents.{name_at, name_of, IsNameIn, IsName};
+    ghost use Rattle.lk_store.specs.Sizes.{sizes_of};
     ghost use Rattle.lk_store.specs.Store.{no_tables, contents_of};
 
     /// An empty store. It takes no memory.
@@ -65,6 +67,13 @@ impl BaseStore {
             tables: Tables::new(alloc),
             room: Room::new(alloc),
         }
+    }
+
+    /// How much it has of each kind.
+    pub fn sizes(&self) -> Sizes
+        ensures { result ≡ sizes_of self.now }
+    {
+        self.tables.sizes()
     }
 
     /// Gives back the memory that its tables set aside for more and do not use; the store has what

@@ -11,6 +11,7 @@ use crate::reading::{
     name_in, narrow_in, params_in, same_in, same_name_in, text_in, view_in,
 };
 use crate::room::Room;
+use crate::sizes::Sizes;
 use crate::tables::Tables;
 use crate::terms::Terms;
 use crate::text::Text;
@@ -47,6 +48,7 @@ impl Drop for Overlay<'_> {
 }
 
 impl<'a> Overlay<'a> {
+    ghost use Rattle.lk_store.specs.Sizes.{sizes_of};
     ghost use Rattle.lk_store.specs.Store.{no_tables, over, contents_of};
 
     /// A store that has what the library has. It takes no memory.
@@ -60,6 +62,20 @@ impl<'a> Overlay<'a> {
             own: Tables::new(alloc),
             room: Room::new(alloc),
         }
+    }
+
+    /// How much the library has of each kind. What has a lower number is the library's.
+    pub fn base_sizes(&self) -> Sizes
+        ensures { result ≡ sizes_of self.now.0 }
+    {
+        self.base.sizes()
+    }
+
+    /// How much was made here of each kind since `new` or the last `clear`.
+    pub fn own_sizes(&self) -> Sizes
+        ensures { result ≡ sizes_of self.now.1 }
+    {
+        self.own.sizes()
     }
 
     /// Forgets all that was made here: after it the store has what the library has and no more, so

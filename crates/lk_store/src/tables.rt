@@ -1,6 +1,7 @@
 //! The tables of a store.
 
 use crate::key::{LevelRow, ListRow, NameKey, Number, TreeRow};
+use crate::sizes::Sizes;
 use crate::text::Text;
 use lk_rows::table::Table;
 use std::alloc::Global;
@@ -37,6 +38,7 @@ impl Drop for Tables {
 }
 
 impl Tables {
+    ghost use Rattle.lk_store.specs.Sizes.{sizes_of};
     ghost use Rattle.lk_store.specs.Store.{no_tables};
     ghost use Rattle.std.specs.Prelude.{◌≡◌};
 
@@ -51,6 +53,20 @@ impl Tables {
             levels: Table::new(alloc),
             lists: Table::new(alloc),
             trees: Table::new(alloc),
+        }
+    }
+
+    /// How many rows there are of each kind.
+    pub fn sizes(&self) -> Sizes
+        ensures { result ≡ sizes_of self.now }
+    {
+        Sizes {
+            numbers: self.numbers.len(),
+            names: self.names.len(),
+            texts: self.texts.len(),
+            levels: self.levels.len(),
+            lists: self.lists.len(),
+            terms: self.trees.len(),
         }
     }
 
