@@ -5,7 +5,7 @@ pub mod Names
 pub mod RunLists
 pub mod Telescopes
 pub mod Applied
-pub mod Closed
+pub mod Bound
 pub mod FieldLists
 pub mod Fronts
 pub mod Named

@@ -8,10 +8,11 @@ use Rattle.lk_inductive.specs.Recursors.{number}
 use Rattle.lk_recursor.specs.declared.binders.Binder.{Binder}
 use Rattle.lk_recursor.specs.declared.binders.Binder.TheVariants.{Pi, Lam}
 use Rattle.lk_recursor.specs.Binders.{bind, bound_by, AreRun}
-use Rattle.lk_recursor.specs.Runs.{close_run_at}
+use Rattle.lk_subst.specs.Runs.{close_run_at}
 use Rattle.lk_lists.proofs.Lists.{none_left}
 use Rattle.lk_recursor.proofs.Lists.{bound-none}
-use Rattle.lk_recursor.proofs.Closed.{close_runs_at-none, close_runs_at-next, close_runs-bind}
+use Rattle.lk_subst.proofs.Closed.{close_runs_at-none, close_runs_at-next}
+use Rattle.lk_recursor.proofs.Bound.{close_runs-bind}
 
 -- what is left and what is done are all; those that are done go on from those that are left
 pub record RunsOn (first : ℕ) (left all : List Tree) : Type 0 where

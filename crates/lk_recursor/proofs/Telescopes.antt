@@ -13,13 +13,14 @@ use Rattle.lk_inductive.proofs.ReadBack.{back_none}
 use Rattle.lk_restore.specs.Originals.{restoring_at, setting_of}
 use Rattle.lk_restore.specs.declared.originals.Original.{Original}
 use Rattle.lk_recursor.specs.declared.binders.Binder.{Binder}
-use Rattle.lk_recursor.specs.declared.runs.Run.{Run}
-use Rattle.lk_recursor.specs.declared.runs.Runs.{Runs}
+use Rattle.lk_subst.specs.declared.runs.Run.{Run}
+use Rattle.lk_subst.specs.declared.runs.Runs.{Runs}
 use Rattle.lk_recursor.specs.declared.telescope.Telescope.{Telescope}
 use Rattle.lk_recursor.specs.Binders.{bind, bound_by, over_domains}
-use Rattle.lk_recursor.specs.Runs.{close_runs_at, close_in}
+use Rattle.lk_subst.specs.Runs.{close_runs_at, close_in}
 use Rattle.lk_recursor.specs.Telescopes.{over_telescope, IsTelescope, IsFrontTelescope}
-use Rattle.lk_recursor.proofs.Closed.{close_runs_at-none, close_runs_at-around, close_runs_at-next, close_runs-bind}
+use Rattle.lk_subst.proofs.Closed.{close_runs_at-none, close_runs_at-around, close_runs_at-next}
+use Rattle.lk_recursor.proofs.Bound.{close_runs-bind}
 use Rattle.lk_recursor.proofs.Lists.{bound-none, bound-last, bound-append, over_domains-append, pushed_known}
 
 -- no binder

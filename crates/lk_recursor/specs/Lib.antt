@@ -2,5 +2,4 @@ pub mod Binders
 pub mod Fronts
 pub mod Comparisons
 pub mod Hypotheses
-pub mod Runs
 pub mod Telescopes

@@ -8,7 +8,7 @@ use Rattle.lk_restore.specs.declared.originals.Original.{Original}
 use Rattle.lk_recursor.specs.declared.binders.Binder.{Binder}
 use Rattle.lk_recursor.specs.declared.telescope.Telescope.{Telescope}
 use Rattle.lk_recursor.specs.Binders.{bound_by, over_domains}
-use Rattle.lk_recursor.specs.Runs.{close_in}
+use Rattle.lk_subst.specs.Runs.{close_in}
 
 -- a tree in which the Locals are closed, under the binders
 abbrev pub over_telescope : Contents → Telescope → Binder → Tree → Tree

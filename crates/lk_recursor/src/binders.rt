@@ -8,14 +8,14 @@ ghost use Rattle.lk_spine.specs.Reading.{AreTrees};
 ghost use Rattle.lk_inductive.specs.Block.{domain};
 ghost use Rattle.lk_inductive.specs.Recursors.{number, arrows, locals_from};
 ghost use Rattle.lk_recursor.specs.Binders.{bind, bound_by, over_domains, AreRun};
-ghost use Rattle.lk_recursor.specs.Runs.{close_run_at};
+ghost use Rattle.lk_subst.specs.Runs.{close_run_at};
 
-use crate::runs::{Run, close_run};
 use lk_lists::numbers::number_after;
 use lk_store::memory::NoMemory;
 use lk_store::node::Node;
 use lk_store::terms::Terms;
 use lk_subst::closing::close;
+use lk_subst::runs::{Run, close_run};
 use std::alloc::Global;
 
 /// What binds a variable.

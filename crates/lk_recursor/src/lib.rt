@@ -15,7 +15,6 @@ mod own;
 pub mod recursor;
 mod renaming;
 pub mod rules;
-mod runs;
 mod telescope;
 
 pub use recursor::{by_k, recursor_type};

@@ -6,10 +6,10 @@ ghost use Rattle.lk_store.specs.Contents.{Contents, tree_at, Extends, IsTree};
 ghost use Rattle.lk_recursor.specs.Telescopes.{IsTelescope, over_telescope};
 
 use crate::binders::{Binder, over_domains, parts_of};
-use crate::runs::{Run, Runs, alone, close_runs};
 use lk_lists::numbers::number_after;
 use lk_store::memory::NoMemory;
 use lk_store::terms::Terms;
+use lk_subst::runs::{Run, Runs, alone, close_runs};
 use std::alloc::Global;
 
 /// Binders for the Locals of two runs, the first outermost.

@@ -1,5 +1,6 @@
 pub mod Walks
 pub mod Numbers
 pub mod Levels
+pub mod Runs
 pub mod Parts
 pub mod Parameters

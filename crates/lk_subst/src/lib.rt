@@ -1,5 +1,5 @@
 //! Opening, closing and putting, over any store: instances of one walk that takes a stack of its
-//! own. Small levels and short lists of them are put without a walk.
+//! own. Locals of runs of numbers are closed all at once. Small levels and short lists of them are put without a walk.
 #![tactic(auto)]
 
 mod by_parts;
@@ -9,5 +9,6 @@ pub mod opening;
 pub mod parameters;
 pub mod parts;
 pub mod putting;
+pub mod runs;
 mod small;
 pub mod walk;

@@ -4,7 +4,7 @@ use Rattle.lk_store.specs.Contents.{tree_at}
 use Rattle.lk_store.proofs.Extending.{Extends-trans}
 use Rattle.lk_inductive.specs.Block.{domain}
 use Rattle.lk_recursor.specs.Binders.{bind}
-use Rattle.lk_recursor.specs.Runs.{close_run_at}
+use Rattle.lk_subst.specs.Runs.{close_run_at}
 use Rattle.lk_recursor.proofs.Lists.{all_last, all_others}
 use Rattle.lk_recursor.proofs.RunLists.{bound_first, bound_next_in_run, bound_end_of_run}
 use Rattle.lk_recursor.proofs.binders.over_run.Goals as goal

@@ -2,7 +2,7 @@ use Rattle.std.proofs.Common.{rules, ◌≡◌, ◌+◌, ◌++◌, ◌∷◌, []
 use Rattle.lk_store.specs.Contents.{tree_at, IsTree}
 use Rattle.lk_inductive.specs.Block.{domain}
 use Rattle.lk_inductive.specs.Recursors.{number}
-use Rattle.lk_recursor.specs.Runs.{close_in}
+use Rattle.lk_subst.specs.Runs.{close_in}
 use Rattle.lk_recursor.proofs.Telescopes.{telescope_next}
 use Rattle.lk_recursor.proofs.telescope.add_local.Goals as goal
 

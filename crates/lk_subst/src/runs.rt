@@ -3,12 +3,12 @@
 ghost use Rattle.std.specs.Prelude.{◌≡◌, ◌<◌, length, IfOk, MatchOption};
 ghost use Rattle.lk_tree.specs.Tree.{Tree, var};
 ghost use Rattle.lk_store.specs.Contents.{tree_at, Extends, IsTree};
-ghost use Rattle.lk_recursor.specs.Runs.{run_var, runs_var, close_in, close_run_at};
+ghost use Rattle.lk_subst.specs.Runs.{run_var, runs_var, close_in, close_run_at};
 
+use crate::walk::{Rewrite, rewritten};
 use lk_store::memory::NoMemory;
 use lk_store::node::Node;
 use lk_store::terms::Terms;
-use lk_subst::walk::{Rewrite, rewritten};
 use std::alloc::Global;
 
 /// So many Locals, numbered from a number on.
@@ -27,7 +27,7 @@ pub struct Runs {
 }
 
 /// A run with nothing around it.
-pub(crate) fn alone(run: Run) -> Runs
+pub fn alone(run: Run) -> Runs
     ensures outer_first { result.outer.first ≡ run.first }
     ensures outer_count { result.outer.count ≡ 0 }
     ensures inner { result.inner ≡ run }
@@ -77,7 +77,7 @@ fn variable_in(runs: Runs, depth: u64, number: u64) -> Result<Option<u64>, NoMem
 
 impl<T: Terms> Rewrite<T> for Runs {
     ghost use Rattle.std.specs.Prelude.{refl};
-    ghost use Rattle.lk_recursor.specs.Runs.{close_in};
+    ghost use Rattle.lk_subst.specs.Runs.{close_in};
 
     ghost change = { λ s c d t. close_in d s t };
 
@@ -118,7 +118,7 @@ impl<T: Terms> Rewrite<T> for Runs {
 }
 
 /// The tree with its outermost variables in place of the Locals of two runs.
-pub(crate) fn close_runs<T: Terms>(
+pub fn close_runs<T: Terms>(
     alloc: Global,
     terms: &mut T,
     runs: Runs,
@@ -134,12 +134,7 @@ pub(crate) fn close_runs<T: Terms>(
 }
 
 /// The tree with its outermost variables in place of the Locals of a run.
-pub(crate) fn close_run<T: Terms>(
-    alloc: Global,
-    terms: &mut T,
-    run: Run,
-    e: u64,
-) -> Result<u64, NoMemory>
+pub fn close_run<T: Terms>(alloc: Global, terms: &mut T, run: Run, e: u64) -> Result<u64, NoMemory>
     requires { e < length (T.contents terms.old).trees }
     ensures keeps { Extends (T.contents terms.old) (T.contents terms.new) }
     ensures rest { T.rest terms.new ≡ T.rest terms.old }

@@ -2,7 +2,7 @@
 -- the outer run stand around those of the inner one.
 use Rattle.std.specs.Prelude.{ℕ, suc, ◌+◌, ◌-◌, nat_lt, if◌then◌else◌}
 use Rattle.lk_tree.specs.Tree.{Tree, var, sort, const, app, lam, pi, let_in, proj, lit, wide, str, local}
-use Rattle.lk_recursor.specs.declared.runs.Runs.{Runs}
+use Rattle.lk_subst.specs.declared.runs.Runs.{Runs}
 
 -- the variable for the Local of number k at depth d, where m Locals from number j on are closed; e, where it is none of them
 abbrev pub run_var : ℕ → ℕ → ℕ → ℕ → Tree → Tree

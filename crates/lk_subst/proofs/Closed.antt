@@ -4,10 +4,7 @@ use Rattle.std.specs.Prelude.{if◌then◌else◌}
 use Rattle.std.proofs.lemmas.Bool.Decides.{nat_tests}
 use Rattle.lk_tree.specs.Tree.{Tree, var, sort, const, app, lam, pi, let_in, proj, lit, wide, str, local}
 use Rattle.lk_tree.specs.Bind.{close_at, bound}
-use Rattle.lk_recursor.specs.declared.binders.Binder.{Binder}
-use Rattle.lk_recursor.specs.declared.binders.Binder.TheVariants.{Pi, Lam}
-use Rattle.lk_recursor.specs.Binders.{bind}
-use Rattle.lk_recursor.specs.Runs.{run_var, close_runs_at}
+use Rattle.lk_subst.specs.Runs.{run_var, close_runs_at}
 
 run_var-low : (d j m k : ℕ) (e : Tree) → k < j → run_var d j m k e ≡ e
 run_var-low d j m k e h = let f : nat_lt k j ≡ true = grind (arith, nat_tests) in rw f refl
@@ -126,8 +123,3 @@ close_runs_at-next d i n j m (lit x) = refl
 close_runs_at-next d i n j m wide = refl
 close_runs_at-next d i n j m (str s) = refl
 close_runs_at-next d i n j m (local k T) = local_next d i n j m k T
-
-pub close_runs-bind : (b : Binder) (d i n j m : ℕ) (A B : Tree) → close_runs_at d i n j m (bind b A B) ≡ bind b (close_runs_at d i n j m A) (close_runs_at (suc d) i n j m B)
-unfolding close_runs_at
-close_runs-bind Pi d i n j m A B = refl
-close_runs-bind Lam d i n j m A B = refl
