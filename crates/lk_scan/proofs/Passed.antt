@@ -35,7 +35,7 @@ module _ (ps : List Name) where
   levels_without [] h = refl
   levels_without (l ∷ ls) h = two (level_over ps l) (levels_over ps ls) (level_has_params l) (list_has_params ls) h (level_without l) (levels_without ls)
 
-  tree_without : (t : Tree) → has_params t ≡ false → tree_over ps t ≡ true
+  pub tree_without : (t : Tree) → has_params t ≡ false → tree_over ps t ≡ true
   tree_without (var i) h = refl
   tree_without (sort l) h = level_without l h
   tree_without (const n ls) h = levels_without ls h

@@ -1,7 +1,8 @@
 //! Whether each level parameter in the trees of a unit is one that its member declares.
 
-ghost use Rattle.std.specs.Prelude.{◌≡◌, ◌<◌, length, map, All, IfOk, OnOk};
+ghost use Rattle.std.specs.Prelude.{◌≡◌, ◌<◌, List, length, map, All, IfOk, OnOk, true, false};
 ghost use Rattle.std.specs.List.{list_all};
+ghost use Rattle.lk_tree.specs.Tree.{Name};
 ghost use Rattle.lk_tree.specs.Scan.{tree_over};
 ghost use Rattle.lk_rulebook.specs.Units.{trees_of, body_trees};
 ghost use Rattle.lk_rulebook.specs.Scan.{all_over};
@@ -22,6 +23,7 @@ use lk_env::unit::{
 use lk_rows::table::Table;
 use lk_store::base_store::BaseStore;
 use lk_store::memory::NoMemory;
+use lk_store::terms::Terms;
 use std::alloc::Global;
 
 /// What was met under the level parameters of one member, or of several that declare the same.
@@ -246,6 +248,30 @@ fn body_over(
     }
 }
 
+/// Whether a level parameter stands in the trees of a body.
+fn body_has_params(base: &BaseStore, body: Body) -> bool
+    requires { IsBodyIn (contents_of base.now) body }
+    ensures { result ≡ false → (ps : List Name)
+        → all_over (body_trees ps (body_at (contents_of base.now) body)) ≡ true }
+{
+    match body {
+        Body::Axiom | Body::Quotient => false,
+        Body::Definition { value, .. } => base.has_params(value),
+        Body::Opaque { value } => base.has_params(value),
+        Body::Theorem { proof } => base.has_params(proof),
+    }
+}
+
+/// Whether a level parameter stands in the trees of a declaration. Mostly none does, and then no
+/// walk is made ready.
+fn has_params(base: &BaseStore, declaration: &Declaration) -> bool
+    requires { IsUnitIn (contents_of base.now) (Unit.Declaration declaration.now) }
+    ensures { result ≡ false → all_over (trees_of
+        (unit_at (contents_of base.now) (Unit.Declaration declaration.now))) ≡ true }
+{
+    base.has_params(declaration.ty) || body_has_params(base, declaration.body)
+}
+
 fn declaration_over(
     alloc: Global,
     base: &BaseStore,
@@ -255,6 +281,9 @@ fn declaration_over(
     ensures { IfOk result (λ r. r ≡ all_over (trees_of
         (unit_at (contents_of base.now) (Unit.Declaration declaration.now)))) }
 {
+    if !has_params(base, declaration) {
+        return Ok(true);
+    }
     let mut walked = start(alloc, base, &declaration.levels)?;
     if !is_over(
         alloc,
