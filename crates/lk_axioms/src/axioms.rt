@@ -35,11 +35,11 @@ impl Model for AxiomSets {
 
 impl AxiomSets {
     /// The axioms of a unit, rising. It takes no memory.
-    pub fn of(&self, unit: u32) -> &[u32]
+    pub fn of(&self, unit: usize) -> &[u32]
         requires { unit < length self.now }
         ensures { result.now ≡ slice_index_or self.now unit [] }
     {
-        self.sets.get(self.units[unit as usize])
+        self.sets.get(self.units[unit])
     }
 }
 

@@ -171,11 +171,13 @@ fn enter(
     open(base, stack, e)
 }
 
-/// Gathers what a tree leads to: a walk over its parts, which opens those where it is not known.
+/// Gathers what a tree leads to: a walk over its parts, which opens those where it is not known. The
+/// stack is emptied first; its room is used again.
 pub(crate) fn gather(
     alloc: Global,
     library: &Library,
     gathering: &mut Gathering,
+    stack: &mut Vec<Visit>,
     unit: u32,
     tree: u64,
 ) -> Result<(), NoMemory>
@@ -185,12 +187,12 @@ pub(crate) fn gather(
     ensures { OnOk result (IsLeft (contents_of library.now.0) (library_of library.now) unit tree
         gathering.old gathering.new) }
 {
-    let mut stack: Vec<Visit> = Vec::new(alloc);
+    stack.clear();
     stack.push(Visit::Enter(tree))?;
     'walk: while let Some(visit) = stack.pop() {
         match visit {
             Visit::Enter(e) => {
-                enter(library.base(), gathering, &mut stack, unit, e)?;
+                enter(library.base(), gathering, stack, unit, e)?;
             }
             Visit::Leave(e, node) => {
                 leave(alloc, library, gathering, unit, e, node)?;

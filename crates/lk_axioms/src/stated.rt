@@ -1,6 +1,6 @@
 //! The trees that a unit states.
 
-ghost use Rattle.std.specs.Prelude.{◌≡◌, ◌++◌, map, IfOk, OnOk};
+ghost use Rattle.std.specs.Prelude.{◌≡◌, ◌++◌, map, OnOk};
 ghost use Rattle.std.specs.List.{flat_map};
 ghost use Rattle.lk_axioms.specs.Stated.{body_numbers, constructor_numbers, recursor_numbers};
 ghost use Rattle.lk_axioms.specs.Stated.{stated_numbers};
@@ -9,7 +9,6 @@ use lk_env::unit::{
     Block, BlockType, Body, Constructor, Declaration, Recursor, RecursorRule, Unit,
 };
 use lk_store::memory::NoMemory;
-use std::alloc::Global;
 
 fn push_types(trees: &mut Vec<u64>, types: &[BlockType]) -> Result<(), NoMemory>
     ensures { OnOk result (trees.new.items ≡ trees.old.items ++ map (λ t. t.ty) types.now) }
@@ -78,32 +77,30 @@ fn push_body(trees: &mut Vec<u64>, body: Body) -> Result<(), NoMemory>
     Ok(())
 }
 
-fn trees_of_declaration(alloc: Global, declaration: &Declaration) -> Result<Vec<u64>, NoMemory>
-    ensures { IfOk result (λ trees. trees.items
-        ≡ stated_numbers (Unit.Declaration declaration.now)) }
+fn push_declaration(trees: &mut Vec<u64>, declaration: &Declaration) -> Result<(), NoMemory>
+    ensures { OnOk result (trees.new.items ≡ trees.old.items
+        ++ stated_numbers (Unit.Declaration declaration.now)) }
 {
-    let mut trees = Vec::new(alloc);
     trees.push(declaration.ty)?;
-    push_body(&mut trees, declaration.body)?;
-    Ok(trees)
+    push_body(trees, declaration.body)
 }
 
-fn trees_of_block(alloc: Global, block: &Block) -> Result<Vec<u64>, NoMemory>
-    ensures { IfOk result (λ trees. trees.items ≡ stated_numbers (Unit.Block block.now)) }
+fn push_block(trees: &mut Vec<u64>, block: &Block) -> Result<(), NoMemory>
+    ensures { OnOk result (trees.new.items ≡ trees.old.items
+        ++ stated_numbers (Unit.Block block.now)) }
 {
-    let mut trees = Vec::new(alloc);
-    push_types(&mut trees, &block.types)?;
-    push_constructors_of_all(&mut trees, &block.types)?;
-    push_recursors(&mut trees, &block.recursors)?;
-    Ok(trees)
+    push_types(trees, &block.types)?;
+    push_constructors_of_all(trees, &block.types)?;
+    push_recursors(trees, &block.recursors)
 }
 
-/// The trees of a unit, member by member.
-pub(crate) fn stated_trees(alloc: Global, unit: &Unit) -> Result<Vec<u64>, NoMemory>
-    ensures { IfOk result (λ trees. trees.items ≡ stated_numbers unit.now) }
+/// Lists the trees of a unit, member by member. What stood in the list is gone.
+pub(crate) fn list_trees(trees: &mut Vec<u64>, unit: &Unit) -> Result<(), NoMemory>
+    ensures { OnOk result (trees.new.items ≡ stated_numbers unit.now) }
 {
+    trees.clear();
     match unit {
-        Unit::Declaration(declaration) => trees_of_declaration(alloc, declaration),
-        Unit::Block(block) => trees_of_block(alloc, block),
+        Unit::Declaration(declaration) => push_declaration(trees, declaration),
+        Unit::Block(block) => push_block(trees, block),
     }
 }

@@ -10,17 +10,26 @@ ghost use Rattle.lk_axioms.specs.Gathered.{HasItself};
 
 use crate::gathering::{Gathering, gather};
 use crate::sets::Sets;
-use crate::stated::stated_trees;
+use crate::stated::list_trees;
+use crate::visit::Visit;
 use lk_env::library::Library;
 use lk_env::unit::{Body, Unit};
 use lk_store::memory::NoMemory;
 use std::alloc::Global;
+
+/// Room for the walks over a unit's trees, used again for the next unit.
+#[derive(Drop)]
+pub(crate) struct Walks {
+    pub trees: Vec<u64>,
+    pub stack: Vec<Visit>,
+}
 
 /// The set of what the trees lead to.
 fn gather_trees(
     alloc: Global,
     library: &Library,
     gathering: &mut Gathering,
+    stack: &mut Vec<Visit>,
     unit: u32,
     trees: &[u64],
 ) -> Result<u32, NoMemory>
@@ -32,7 +41,7 @@ fn gather_trees(
 {
     let mut used: u32 = 0;
     for tree in trees {
-        gather(alloc, library, gathering, unit, *tree)?;
+        gather(alloc, library, gathering, stack, unit, *tree)?;
         let found = gathering.cells[*tree as usize];
         used = gathering.sets.union(alloc, used, found.set)?;
     }
@@ -63,6 +72,7 @@ fn gather_unit(
     alloc: Global,
     library: &Library,
     gathering: &mut Gathering,
+    walks: &mut Walks,
     unit: u32,
     stated: &Unit,
 ) -> Result<u32, NoMemory>
@@ -74,8 +84,15 @@ fn gather_unit(
     ensures { IfOk result (IsUnitGathered (contents_of library.now.0) (library_of library.now) unit
         gathering.new) }
 {
-    let trees = stated_trees(alloc, stated)?;
-    let used = gather_trees(alloc, library, gathering, unit, &trees)?;
+    list_trees(&mut walks.trees, stated)?;
+    let used = gather_trees(
+        alloc,
+        library,
+        gathering,
+        &mut walks.stack,
+        unit,
+        &walks.trees,
+    )?;
     if is_axiom(stated) {
         add_itself(alloc, &mut gathering.sets, unit, used)
     } else {
@@ -88,6 +105,7 @@ fn push_unit(
     alloc: Global,
     library: &Library,
     gathering: &mut Gathering,
+    walks: &mut Walks,
     unit: u32,
     stated: &Unit,
 ) -> Result<(), NoMemory>
@@ -98,7 +116,7 @@ fn push_unit(
     requires stated_in { IsUnitIn (contents_of library.now.0) stated.now }
     ensures { OnOk result (IsRightFor library.now (unit + 1) gathering.new) }
 {
-    let set = gather_unit(alloc, library, gathering, unit, stated)?;
+    let set = gather_unit(alloc, library, gathering, walks, unit, stated)?;
     gathering.units.push(set)?;
     Ok(())
 }
@@ -116,8 +134,12 @@ pub(crate) fn gather_units(
     if units.len() > u32::MAX as usize {
         return Err(NoMemory);
     }
+    let mut walks = Walks {
+        trees: Vec::new(alloc),
+        stack: Vec::new(alloc),
+    };
     for (i, unit) in units.iter().enumerate() {
-        push_unit(alloc, library, gathering, i as u32, unit)?;
+        push_unit(alloc, library, gathering, &mut walks, i as u32, unit)?;
     }
     Ok(())
 }

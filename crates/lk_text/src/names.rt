@@ -1,6 +1,6 @@
 //! Names as they are written.
 
-ghost use Rattle.std.specs.Prelude.{◌≡◌, ◌<◌, ◌++◌, length, map, decimal, All, IfOk, OnOk};
+ghost use Rattle.std.specs.Prelude.{◌≡◌, ◌<◌, ◌++◌, length, map, decimal, All, OnOk};
 ghost use Rattle.lk_store.specs.Contents.{name_at};
 ghost use Rattle.lk_text.specs.Text.{part_text, dotted, name_text};
 ghost use Rattle.lk_text.specs.Names.{part_at, IsPartIn};
@@ -9,7 +9,6 @@ use itoa::Buffer;
 use lk_store::memory::NoMemory;
 use lk_store::node::NameNode;
 use lk_store::terms::Terms;
-use std::alloc::Global;
 
 /// A component of a name: the number of a text, or a number.
 #[derive(Clone, Copy)]
@@ -18,20 +17,24 @@ pub enum Component {
     Number(u64),
 }
 
-/// The components of a name, the first one first.
-fn components<T: Terms>(alloc: Global, store: &T, name: u64) -> Result<Vec<Component>, NoMemory>
+/// Finds the components of a name, the first one first. What was found of another is gone.
+fn find_components<T: Terms>(
+    parts: &mut Vec<Component>,
+    store: &T,
+    name: u64,
+) -> Result<(), NoMemory>
     requires { name < length (T.contents store.now).names }
-    ensures known { IfOk result (λ parts. All (IsPartIn (T.contents store.now)) parts.items) }
-    ensures name { IfOk result (λ parts. map (part_at (T.contents store.now)) parts.items
+    ensures known { OnOk result (All (IsPartIn (T.contents store.now)) parts.new.items) }
+    ensures name { OnOk result (map (part_at (T.contents store.now)) parts.new.items
         ≡ name_at (T.contents store.now) name) }
 {
-    let mut parts = Vec::new(alloc);
+    parts.clear();
     let mut at = name;
     'up: loop {
         match store.name(at) {
             NameNode::Anonymous => {
                 parts.reverse();
-                return Ok(parts);
+                return Ok(());
             }
             NameNode::Text(parent, text) => {
                 parts.push(Component::Text(text))?;
@@ -106,9 +109,9 @@ fn add_components<T: Terms>(
     }
 }
 
-/// Appends a name.
+/// Appends a name. Its components are found in room that is used again for the next one.
 pub fn add_name<T: Terms>(
-    alloc: Global,
+    parts: &mut Vec<Component>,
     out: &mut Vec<u8>,
     store: &T,
     name: u64,
@@ -117,6 +120,6 @@ pub fn add_name<T: Terms>(
     ensures { OnOk result (out.new.items ≡ out.old.items
         ++ name_text (name_at (T.contents store.now) name)) }
 {
-    let parts = components(alloc, store, name)?;
-    add_components(out, store, &parts)
+    find_components(parts, store, name)?;
+    add_components(out, store, parts)
 }

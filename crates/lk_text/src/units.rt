@@ -1,6 +1,6 @@
 //! The lines of units, each by its kind, its number, and the name of its first member.
 
-ghost use Rattle.std.specs.Prelude.{◌≡◌, ◌++◌, map, slice_get, OnOk, IfOk};
+ghost use Rattle.std.specs.Prelude.{◌≡◌, ◌++◌, map, slice_get, OnOk};
 ghost use Rattle.lk_text.specs.Held.{verdict};
 ghost use Rattle.lk_text.specs.Text.{axiom_at, axioms_text, body_word, kind_word, lines_text};
 ghost use Rattle.lk_text.specs.Names.{first_number, first_of_block, unit_lines, unit_text};
@@ -9,7 +9,7 @@ ghost use Rattle.lk_store.specs.Store.{contents_of};
 ghost use Rattle.lk_store.specs.Contents.{Contents};
 ghost use Rattle.lk_env.specs.Units.{body_at, unit_at, library_of, IsUnitIn};
 
-use crate::names::add_name;
+use crate::names::{Component, add_name};
 use crate::verdicts::{Verdict, add_axiom, add_verdict};
 use lk_axioms::AxiomSets;
 use lk_env::library::Library;
@@ -63,23 +63,31 @@ fn first_of_block(types: &[BlockType], recursors: &[Recursor]) -> Option<u64>
     }
 }
 
-/// The name that a unit goes by, as it is written.
+/// Room in which a name is written, used again for the next one.
+#[derive(Drop)]
+struct Writing {
+    pub parts: Vec<Component>,
+    pub name: Vec<u8>,
+}
+
+/// Writes the name that a unit goes by. What was written there before is gone.
 #[tactic(auto, using(crate::proofs::Naming::named, crate::proofs::Naming::unnamed))]
-fn written_name(alloc: Global, library: &Library, unit: &Unit) -> Result<Vec<u8>, NoMemory>
+fn write_name(writing: &mut Writing, library: &Library, unit: &Unit) -> Result<(), NoMemory>
     requires { IsUnitIn (contents_of library.now.0) unit.now }
-    ensures { IfOk result (λ name. name.items ≡ unit_text (contents_of library.now.0) unit.now) }
+    ensures { OnOk result (writing.new.name.items
+        ≡ unit_text (contents_of library.now.0) unit.now) }
 {
-    let mut name = Vec::new(alloc);
+    writing.name.clear();
     match first_number(unit) {
-        Some(first) => add_name(alloc, &mut name, library.base(), first)?,
-        None => name.extend_from_slice(b"[anonymous]")?,
+        Some(first) => add_name(&mut writing.parts, &mut writing.name, library.base(), first)?,
+        None => writing.name.extend_from_slice(b"[anonymous]")?,
     }
-    Ok(name)
+    Ok(())
 }
 
 /// Appends the line of an axiom, by its number.
 fn add_axiom_at(
-    alloc: Global,
+    writing: &mut Writing,
     out: &mut Vec<u8>,
     library: &Library,
     number: u32,
@@ -90,13 +98,13 @@ fn add_axiom_at(
     let Some(unit) = library.units().get(number as usize) else {
         return Ok(());
     };
-    let name = written_name(alloc, library, unit)?;
-    add_axiom(out, &name)
+    write_name(writing, library, unit)?;
+    add_axiom(out, &writing.name)
 }
 
 /// Appends the lines of axioms, by their numbers.
 fn add_axioms(
-    alloc: Global,
+    writing: &mut Writing,
     out: &mut Vec<u8>,
     library: &Library,
     axioms: &[u32],
@@ -106,7 +114,7 @@ fn add_axioms(
 {
     let mut rest = axioms;
     while let Some((number, more)) = rest.split_first() {
-        add_axiom_at(alloc, out, library, *number)?;
+        add_axiom_at(writing, out, library, *number)?;
         rest = more;
     }
     Ok(())
@@ -114,7 +122,7 @@ fn add_axioms(
 
 /// Appends the lines of a unit: its verdict, and the axioms that it rests on.
 fn add_unit(
-    alloc: Global,
+    writing: &mut Writing,
     out: &mut Vec<u8>,
     library: &Library,
     axioms: &[u32],
@@ -127,9 +135,9 @@ fn add_unit(
         ++ (unit_lines (contents_of library.now.0) number unit.now (verdict said)
         ++ axioms_text (library_of library.now) axioms.now)) }
 {
-    let name = written_name(alloc, library, unit)?;
-    add_verdict(out, kind_word(unit), number, &name, said)?;
-    add_axioms(alloc, out, library, axioms)
+    write_name(writing, library, unit)?;
+    add_verdict(out, kind_word(unit), number, &writing.name, said)?;
+    add_axioms(writing, out, library, axioms)
 }
 
 /// Appends the lines of the units.
@@ -145,6 +153,10 @@ pub fn add_lines(
         ++ lines_text (library_of library.now) 0 (library_of library.now)
         (map verdict verdicts.now)) }
 {
+    let mut writing = Writing {
+        parts: Vec::new(alloc),
+        name: Vec::new(alloc),
+    };
     let mut left = library.units();
     let mut said = verdicts;
     let mut number = 0;
@@ -152,10 +164,15 @@ pub fn add_lines(
         let Some((v, others)) = said.split_first() else {
             return Ok(());
         };
-        let Ok(at) = u32::try_from(number) else {
-            return Err(NoMemory);
-        };
-        add_unit(alloc, out, library, axioms.of(at), number, unit, *v)?;
+        add_unit(
+            &mut writing,
+            out,
+            library,
+            axioms.of(number as usize),
+            number,
+            unit,
+            *v,
+        )?;
         left = more;
         said = others;
         number += 1;

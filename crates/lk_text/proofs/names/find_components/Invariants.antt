@@ -3,7 +3,7 @@ use Rattle.std.specs.Prelude.{All}
 use Rattle.lk_store.specs.Contents.{name_at}
 use Rattle.lk_text.specs.Names.{IsPartIn}
 use Rattle.lk_text.proofs.Components.{behind}
-use Rattle.lk_text.proofs.names.components.Given as goal
+use Rattle.lk_text.proofs.names.find_components.Given as goal
 
 -- the components that were met are those behind the name at which the walk is
 abbrev pub invariant-up : goal.invariant-up

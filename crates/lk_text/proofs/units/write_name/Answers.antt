@@ -1,7 +1,7 @@
 use Rattle.std.proofs.Common.{sym}
 use Rattle.lk_store.specs.Store.{contents_of}
 use Rattle.lk_text.proofs.Naming.{name_known}
-use Rattle.lk_text.proofs.units.written_name.Goals as goal
+use Rattle.lk_text.proofs.units.write_name.Goals as goal
 
 pub add_name-requires : goal.add_name-requires
 add_name-requires c =

@@ -3,7 +3,7 @@ use Rattle.lk_tree.specs.Tree.{text, number}
 use Rattle.lk_store.specs.Contents.{name_at, text_at}
 use Rattle.lk_text.specs.declared.names.Component.TheVariants.{Text, Number}
 use Rattle.lk_text.proofs.Components.{more_behind, all_behind}
-use Rattle.lk_text.proofs.names.components.Goals as goal
+use Rattle.lk_text.proofs.names.find_components.Goals as goal
 
 pub returns-in-Anonymous-clause-name : goal.returns-in-Anonymous-clause-name
 returns-in-Anonymous-clause-name g c =
