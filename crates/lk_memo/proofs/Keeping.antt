@@ -1,5 +1,5 @@
 -- What a memo has once an answer is kept.
-use Rattle.std.proofs.Common.{ℕ, ◌≡◌, ◌⊎◌, inl, inr, ◌<◌, Bool, true, false, List, [], ◌∷◌, length, Option, Some, None, refl, ap, subst, ◌∙◌, arith}
+use Rattle.std.proofs.Common.{ℕ, ◌≡◌, ◌⊎◌, inl, inr, ◌<◌, Bool, true, false, List, [], ◌∷◌, length, Option, Some, None, refl, ap, ap₂, subst, ◌∙◌, arith}
 use Rattle.std.specs.Prelude.{option_and_then}
 use Rattle.std.proofs.Math.Bool.{cond}
 use Rattle.std.proofs.lemmas.Bool.Decides.{nat_tests}
@@ -13,7 +13,7 @@ use Rattle.lk_memo.specs.Keys.{key_of}
 use Rattle.lk_memo.specs.Slots.{found_in}
 use Rattle.lk_memo.specs.declared.lasting.Lasting.{Lasting}
 use Rattle.lk_memo.specs.Lasting.{is_query_below, is_below, for_unit, lasting_at, lasting_of, Outlasts}
-use Rattle.lk_memo.specs.Entries.{Holds, first_of, kept_of}
+use Rattle.lk_memo.specs.Entries.{Holds, first_of, outlasting_of, kept_of}
 use Rattle.lk_memo.proofs.Keys.{found_key}
 
 none_or_some : {X : Type 0} (xs : List X) → (xs ≡ []) ⊎ (0 < length xs)
@@ -39,13 +39,14 @@ of_two : (o far : Option Kept) (kept : Kept) → first_of o far ≡ Some kept
 of_two (Some k) far kept h = inl h
 of_two None far kept h = inr h
 
--- what is found is held, or it lasts
+-- what is found is held, or it outlasts its unit
 pub found_holds : (memo : PrivateMemo) (query : Query ℕ) (kept : Kept) → kept_of memo query ≡ Some kept
-    → Holds memo (key_of query) kept ⊎ (lasting_of memo.lasting query ≡ Some kept)
+    → Holds memo (key_of query) kept ⊎ ((lasting_of memo.lasting query ≡ Some kept)
+    ⊎ (lasting_of memo.staying query ≡ Some kept))
 found_holds memo query kept h = elim (of_two (found_in memo.recent (key_of query)) _ kept h) [
   | inl near ↦ inl (inl near)
-  | inr far ↦ elim (of_two (lasting_of memo.lasting query) _ kept far) [
-    | inl lasting ↦ inr lasting
+  | inr far ↦ elim (of_two (outlasting_of memo query) _ kept far) [
+    | inl outlasts ↦ inr (of_two (lasting_of memo.lasting query) _ kept outlasts)
     | inr dear ↦ inl (inr (found_key memo.cache.entries (key_of query) kept dear))
   ]
 ]
@@ -93,3 +94,22 @@ lasting_is l q kept h = asked (is_query_below l.terms q) h
         → IsFor l q kept
     asked true g = looked l.unit refl g
     asked false g = absurd cc
+
+-- where nothing outlasts its unit, nothing is found so
+pub none_outlasts : (l : Lasting) (q : Query ℕ) → ((v : Kept) → Outlasts l (key_of q) v → ⊥)
+    → lasting_of l q ≡ None
+none_outlasts l q none = go (lasting_of l q) refl
+  where
+    go : (o : Option Kept) → lasting_of l q ≡ o → lasting_of l q ≡ None
+    go None e = e
+    go (Some kept) e = absurd (none kept (lasting_is l q kept e).stands)
+
+-- the same of both
+pub none_found : (memo : PrivateMemo) (q : Query ℕ) (far : Option Kept) (kept : Kept)
+    → ((k : Key) (v : Kept) → (Outlasts memo.lasting k v → ⊥) × (Outlasts memo.staying k v → ⊥))
+    → far ≡ Some kept → first_of (outlasting_of memo q) far ≡ Some kept
+none_found memo q far kept none is =
+    let lasting = none_outlasts memo.lasting q (λ v. (none (key_of q) v).0) in
+    let staying = none_outlasts memo.staying q (λ v. (none (key_of q) v).1) in
+    let nothing : outlasting_of memo q ≡ None = ap₂ first_of lasting staying in
+    ap (λ o. first_of o far) nothing ∙ is

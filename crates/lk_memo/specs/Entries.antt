@@ -18,8 +18,13 @@ abbrev pub first_of : Option Kept → Option Kept → Option Kept
 first_of (Some kept) other = Some kept
 first_of None other = other
 
--- what is found under the question: in its slot, or one that lasts, or else among the dear ones
+-- what is found that outlasts its unit: over a library's own terms, or over those made since
+abbrev pub outlasting_of : PrivateMemo → Query ℕ → Option Kept
+outlasting_of memo query = first_of (lasting_of memo.lasting query) (lasting_of memo.staying query)
+
+-- what is found under the question: in its slot, or one that outlasts its unit, or else among the
+-- dear ones
 abbrev pub kept_of : PrivateMemo → Query ℕ → Option Kept
 kept_of memo query =
-    first_of (found_in memo.recent (key_of query)) (first_of (lasting_of memo.lasting query)
+    first_of (found_in memo.recent (key_of query)) (first_of (outlasting_of memo query)
     (lookup (same_key (key_of query)) memo.cache.entries))

@@ -6,7 +6,8 @@ ghost use Rattle.lk_ask.specs.Questions.{IsKnownQuery, IsKnownAnswer};
 ghost use Rattle.lk_ask.specs.declared.kept.Kept.{Kept as Answered};
 ghost use Rattle.lk_memo.specs.declared.key.Key.{Key as Asked};
 ghost use Rattle.lk_memo.specs.Keys.{key_of};
-ghost use Rattle.lk_memo.specs.Lasting.{is_query_below, is_below, lasting_of, Lasts, Outlasts, TakesIn};
+ghost use Rattle.lk_memo.specs.Lasting.{is_query_below, is_below, lasting_of};
+ghost use Rattle.lk_memo.specs.Lasting.{BeginsWith, GoesOn, Lasts, Outlasts, TakesIn};
 
 use crate::key::Key;
 use crate::recent::Recent;
@@ -18,12 +19,12 @@ use std::alloc::Global;
 /// The least cost of an answer that is kept here. A cheaper one is found as fast anew.
 const LEAST: u128 = 4;
 
-/// Answers over a library's own terms. Such an answer is true at each unit behind all that were
-/// looked at for it, so it stays while other units are at work.
+/// Answers over terms that stay, a library's own or those made since. Such an answer is true at each
+/// unit behind all that were looked at for it, so it stays while other units are at work.
 #[derive(Drop)]
 pub struct Lasting {
     slots: Recent,
-    /// So many terms are the library's own: the first ones.
+    /// So many terms stay: the first ones.
     terms: u64,
     /// The unit that looks, if one does.
     unit: Option<u32>,
@@ -79,20 +80,23 @@ impl Lasting {
     /// Forgets all that is kept. From here on it is kept over so many first terms, and no unit
     /// looks.
     pub(crate) fn begin(&mut self, terms: u64)
-        ensures each { (k : Asked) (v : Answered) → Outlasts self.new k v → ⊥ }
-        ensures terms { self.new.terms ≡ terms }
-        ensures unit { self.new.unit ≡ None }
+        ensures { BeginsWith terms self.new }
     {
         self.slots.clear();
         self.terms = terms;
         self.unit = None;
     }
 
+    /// From here on it is kept over so many first terms, and what is kept stays.
+    pub(crate) fn go_on(&mut self, terms: u64)
+        ensures { GoesOn self.old self.new terms self.old.unit }
+    {
+        self.terms = terms;
+    }
+
     /// From here on this unit looks, or none does.
     pub(crate) fn look_from(&mut self, unit: Option<u32>)
-        ensures slots { self.new.slots ≡ self.old.slots }
-        ensures terms { self.new.terms ≡ self.old.terms }
-        ensures unit { self.new.unit ≡ unit }
+        ensures { GoesOn self.old self.new self.old.terms unit }
     {
         self.unit = unit;
     }

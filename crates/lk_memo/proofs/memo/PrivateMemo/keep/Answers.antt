@@ -1,8 +1,7 @@
 use Rattle.std.proofs.Common.{◌≡◌, inl, inr, Some, subst, ap, ◌∙◌}
 use Rattle.std.specs.Map.{lookup}
 use Rattle.lk_memo.specs.Keys.{same_key}
-use Rattle.lk_memo.specs.Entries.{first_of}
-use Rattle.lk_memo.specs.Lasting.{lasting_of}
+use Rattle.lk_memo.specs.Entries.{first_of, outlasting_of}
 use Rattle.lk_memo.specs.Slots.{found_in}
 use Rattle.lk_memo.proofs.Keeping.{found_then}
 use Rattle.lk_memo.proofs.memo.PrivateMemo.keep.Goals as goal
@@ -23,7 +22,7 @@ pub returns-clause-kept : goal.returns-clause-kept
 returns-clause-kept c =
     let memo = c.keep_long.new.self in
     subst (λ k. first_of (found_in c.keep.new.self k)
-    (first_of (lasting_of memo.lasting c.args.query) (lookup (same_key k) memo.cache.entries))
+    (first_of (outlasting_of memo c.args.query) (lookup (same_key k) memo.cache.entries))
     ≡ Some c.args.kept) c.key_of-key.ensures
     (found_then memo.recent c.keep.new.self _ c.key_of-key.result c.args.kept
     c.keep.ensures.kept c.keep.ensures.none
