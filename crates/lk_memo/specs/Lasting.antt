@@ -54,13 +54,13 @@ pub record TakesIn (old new : Lasting) (q : Query ℕ) (kept : Kept) : Type 0 wh
   pub each : (k : Key) (v : Kept) → Outlasts new k v
       → Outlasts old k v ⊎ ((k ≡ key_of q) × (v ≡ kept) × Lasts old q kept)
 
--- nothing is kept, and from here on it is over so many first terms; no unit looks
-pub record BeginsWith (count : ℕ) (new : Lasting) : Type 0 where
+-- nothing is kept, and from here on it is over so many first terms, for the unit that looks, if any
+pub record BeginsWith (new : Lasting) (count : ℕ) (looker : Option ℕ) : Type 0 where
   pub none : (k : Key) (v : Kept) → Outlasts new k v → ⊥
   pub terms : new.terms ≡ count
-  pub unit : new.unit ≡ None
+  pub unit : new.unit ≡ looker
 
--- what is kept stays, over so many first terms, and this unit looks, or none does
+-- what is kept stays, over so many first terms, for the unit that looks, if any
 pub record GoesOn (old new : Lasting) (count : ℕ) (looker : Option ℕ) : Type 0 where
   pub slots : new.slots ≡ old.slots
   pub terms : new.terms ≡ count

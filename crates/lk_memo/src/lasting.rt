@@ -80,7 +80,7 @@ impl Lasting {
     /// Forgets all that is kept. From here on it is kept over so many first terms, and no unit
     /// looks.
     pub(crate) fn begin(&mut self, terms: u64)
-        ensures { BeginsWith terms self.new }
+        ensures { BeginsWith self.new terms None }
     {
         self.slots.clear();
         self.terms = terms;

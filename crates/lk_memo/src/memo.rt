@@ -81,8 +81,8 @@ impl PrivateMemo {
     /// first terms lasts, once a unit looks.
     pub fn begin(&mut self, terms: u64)
         ensures private { (k : Asked) (v : Answered) → Holds self.new k v → ⊥ }
-        ensures lasting { BeginsWith terms self.new.lasting }
-        ensures staying { BeginsWith terms self.new.staying }
+        ensures lasting { BeginsWith self.new.lasting terms None }
+        ensures staying { BeginsWith self.new.staying terms None }
     {
         self.recent.clear();
         self.cache.clear();
@@ -128,14 +128,15 @@ impl PrivateMemo {
     }
 
     /// Forgets what was kept over terms that units made, since they are gone. From here on what is
-    /// kept over so many first terms stays, once a unit looks.
+    /// kept over so many first terms stays.
     pub fn forget_staying(&mut self, terms: u64)
         ensures recent { self.new.recent ≡ self.old.recent }
         ensures cache { self.new.cache ≡ self.old.cache }
         ensures lasting { self.new.lasting ≡ self.old.lasting }
-        ensures staying { BeginsWith terms self.new.staying }
+        ensures staying { BeginsWith self.new.staying terms self.old.staying.unit }
     {
-        self.staying.begin(terms);
+        self.staying.forget();
+        self.staying.go_on(terms);
     }
 
     /// What is kept of a question and outlasts its unit.
