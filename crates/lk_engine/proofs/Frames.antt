@@ -93,9 +93,10 @@ use Rattle.lk_ask.specs.declared.query.Answer.{Answer}
 use Rattle.lk_ask.specs.declared.query.Answer.TheVariants as answer
 use Rattle.lk_ask.specs.declared.kept.Kept.{Kept}
 use Rattle.lk_ask.specs.Questions.{query_of, value_at, IsKnownQuery, IsKnownAnswer}
+use Rattle.lk_memo.specs.declared.lasting.Lasting.{Lasting}
 use Rattle.lk_memo.specs.declared.memo.PrivateMemo.{PrivateMemo}
 use Rattle.lk_engine.specs.declared.answering.Frame.{Frame}
-use Rattle.lk_engine.specs.Entries.{IsTrueAt, AreTrue}
+use Rattle.lk_engine.specs.Entries.{IsTrueAt, AreLasting, AreTrue}
 use Rattle.lk_engine.specs.declared.sheet.TermSheet.{TermSheet}
 use Rattle.lk_engine.specs.declared.sheet.TermSheet.TheVariants as term
 use Rattle.lk_engine.specs.declared.sheet.TruthSheet.{TruthSheet}
@@ -345,14 +346,22 @@ module _ {c d : Contents} (x : Extends c d) where
     is = rw (query_steady q was.query, answer_steady kept.answer was.answer) was.is;
   }
 
+  -- what a table keeps stays true
+  table_steady : (l : Tables × List StoredUnit) (w : Place) (first : Contents) (table : Lasting)
+      → AreLasting l w c first table → AreLasting l w d first table
+  table_steady l w first table h = record {
+    each = h.each;
+    terms = h.terms;
+    stand = Extends-trans first c d h.stand x;
+    looks = h.looks;
+  }
+
   -- what is kept stays true
   pub entries_steady : (l : Tables × List StoredUnit) (w : Place) (memo : PrivateMemo) → AreTrue l w c memo
       → AreTrue l w d memo
   entries_steady l w memo h = record {
     each = λ q kept holds. true_steady w q kept (h.each q kept holds);
-    lasting = h.lasting;
-    terms = h.terms;
-    looks = λ n is.
-        let here = h.looks n is in
-        record { over = Extends-trans (contents_of l.0) c d here.over x; place = here.place };
+    lasting = table_steady l w (contents_of l.0) memo.lasting h.lasting;
+    first = h.first;
+    staying = table_steady l w h.first memo.staying h.staying;
   }

@@ -1,22 +1,25 @@
 -- What a memo keeps stays true: as answers come in and go, and as another unit is at work.
-use Rattle.std.proofs.Common.{◌≡◌, ℕ, List, length, Option, Some, None, sym, subst, ◌∙◌, inl, inr}
+use Rattle.std.proofs.Common.{◌≡◌, ℕ, List, [], length, Option, Some, None, sym, subst, ◌∙◌, inl, inr}
 use Rattle.std.specs.Prelude.{IfSome}
 use Rattle.lk_rulebook.specs.Place.{Place}
+use Rattle.lk_rulebook.specs.Units.{place_of}
 use Rattle.lk_store.specs.declared.tables.Tables.{Tables}
-use Rattle.lk_store.specs.Contents.{Contents}
+use Rattle.lk_store.specs.Contents.{Contents, Extends}
 use Rattle.lk_store.specs.Store.{contents_of}
 use Rattle.lk_env.specs.declared.unit.Unit.{Unit as StoredUnit}
+use Rattle.lk_env.specs.Units.{library_of}
 use Rattle.lk_ask.specs.declared.query.Query.{Query}
 use Rattle.lk_ask.specs.declared.kept.Kept.{Kept}
 use Rattle.lk_ask.specs.Questions.{IsKnownQuery, IsKnownAnswer}
 use Rattle.lk_memo.specs.declared.key.Key.{Key}
 use Rattle.lk_memo.specs.Keys.{key_of}
+use Rattle.lk_memo.specs.declared.lasting.Lasting.{Lasting}
 use Rattle.lk_memo.specs.declared.memo.PrivateMemo.{PrivateMemo}
-use Rattle.lk_memo.specs.Lasting.{Outlasts, Lasts}
+use Rattle.lk_memo.specs.Lasting.{Lasts, lasting_of, TakesIn, BeginsWith, GoesOn}
 use Rattle.lk_memo.specs.Entries.{Holds, kept_of}
 use Rattle.lk_memo.proofs.Keys.{key_of-injective}
 use Rattle.lk_memo.proofs.Keeping.{found_holds, lasting_is}
-use Rattle.lk_engine.specs.Entries.{IsTrueAt, IsLasting, IsUnitOf, AreTrue, Keeps}
+use Rattle.lk_engine.specs.Entries.{IsTrueAt, IsLasting, AreLasting, AreTrue, Keeps}
 use Rattle.lk_engine.proofs.Lasting.{lasting_here, here_lasts}
 
 module _ (l : Tables × List StoredUnit) (w : Place) (c : Contents) where
@@ -27,6 +30,25 @@ module _ (l : Tables × List StoredUnit) (w : Place) (c : Contents) where
       let one : r ≡ q = key_of-injective r q key in
       rw (one, is) h
 
+  -- one more answer is kept in a table
+  table_more : (first : Contents) (old new : Lasting) (q : Query ℕ) (kept : Kept)
+      → AreLasting l w c first old → TakesIn old new q kept → IsTrueAt w c q kept
+      → AreLasting l w c first new
+  table_more first old new q kept h more this = record {
+    each = λ r v stands. elim (more.each (key_of r) v stands) [
+      | inl before ↦ h.each r v before
+      | inr is ↦ came_in q kept (λ k a. IsLasting l first a k) (lasts is.2) r v is.0 is.1
+    ];
+    terms = more.terms ∙ h.terms;
+    stand = h.stand;
+    looks = λ n is. h.looks n (sym more.unit ∙ is);
+  }
+    where
+      lasts : Lasts old q kept → IsLasting l first q kept
+      lasts is = here_lasts l w c first is.unit h.stand (h.looks is.unit is.looks) q kept is.below
+          (subst (λ n. IsKnownQuery n q) h.terms is.query)
+          (subst (λ n. IsKnownAnswer n kept.answer) h.terms is.answer) this
+
   -- one more answer is kept
   pub entries_more : (old new : PrivateMemo) (q : Query ℕ) (kept : Kept) → AreTrue l w c old
       → Keeps old new q kept → IsTrueAt w c q kept → AreTrue l w c new
@@ -35,40 +57,39 @@ module _ (l : Tables × List StoredUnit) (w : Place) (c : Contents) where
       | inl before ↦ h.each r v before
       | inr is ↦ came_in q kept (λ k a. IsTrueAt w c a k) this r v is.0 is.1
     ];
-    lasting = λ r v stands. elim (more.lasting.each (key_of r) v stands) [
-      | inl before ↦ h.lasting r v before
-      | inr is ↦ came_in q kept (λ k a. IsLasting l a k) (lasts is.2) r v is.0 is.1
-    ];
-    terms = more.lasting.terms ∙ h.terms;
-    looks = λ n is. h.looks n (sym more.lasting.unit ∙ is);
+    lasting = table_more (contents_of l.0) old.lasting new.lasting q kept h.lasting more.lasting this;
+    first = h.first;
+    staying = table_more h.first old.staying new.staying q kept h.staying more.staying this;
   }
-    where
-      lasts : Lasts old.lasting q kept → IsLasting l q kept
-      lasts is = here_lasts l w c is.unit (h.looks is.unit is.looks) q kept is.below
-          (subst (λ n. IsKnownQuery n q) h.terms is.query)
-          (subst (λ n. IsKnownAnswer n kept.answer) h.terms is.answer) this
 
   -- no answer came in
   pub entries_fewer : (old new : PrivateMemo) → AreTrue l w c old
       → ((k : Key) (v : Kept) → Holds new k v → Holds old k v) → new.lasting ≡ old.lasting
-      → AreTrue l w c new
-  entries_fewer old new h fewer same = record {
+      → new.staying ≡ old.staying → AreTrue l w c new
+  entries_fewer old new h fewer lasting staying = record {
     each = λ q kept holds. h.each q kept (fewer (key_of q) kept holds);
-    lasting = λ q kept. subst (λ s. Outlasts s (key_of q) kept → IsLasting l q kept) (sym same)
-        (h.lasting q kept);
-    terms = subst (λ s. s.terms ≡ length (contents_of l.0).trees) (sym same) h.terms;
-    looks = subst (λ s. (n : ℕ) → s.unit ≡ Some n → IsUnitOf l w c n) (sym same) h.looks;
+    lasting = subst (λ t. AreLasting l w c (contents_of l.0) t) (sym lasting) h.lasting;
+    first = h.first;
+    staying = subst (λ t. AreLasting l w c h.first t) (sym staying) h.staying;
   }
+
+  -- an answer that a table gave
+  lasts_at : (first : Contents) (table : Lasting) (q : Query ℕ) (kept : Kept)
+      → AreLasting l w c first table → lasting_of table q ≡ Some kept → IsTrueAt w c q kept
+  lasts_at first table q kept h is =
+      let found = lasting_is table q kept is in
+      lasting_here l w c first found.unit h.stand (h.looks found.unit found.looks) q kept found.below
+      (h.each q kept found.stands)
 
   -- an answer that the memo gave
   pub true_at : (memo : PrivateMemo) (q : Query ℕ) (kept : Kept) → AreTrue l w c memo
       → kept_of memo q ≡ Some kept → IsTrueAt w c q kept
   true_at memo q kept h is = elim (found_holds memo q kept is) [
     | inl private ↦ h.each q kept private
-    | inr lasts ↦
-        let found = lasting_is memo.lasting q kept lasts in
-        lasting_here l w c found.unit (h.looks found.unit found.looks) q kept found.below
-        (h.lasting q kept found.stands)
+    | inr outlasts ↦ elim outlasts [
+      | inl lasts ↦ lasts_at (contents_of l.0) memo.lasting q kept h.lasting lasts
+      | inr stays ↦ lasts_at h.first memo.staying q kept h.staying stays
+    ]
   ]
 
   pub found_true : (memo : PrivateMemo) (q : Query ℕ) (o : Option Kept) → AreTrue l w c memo
@@ -76,26 +97,38 @@ module _ (l : Tables × List StoredUnit) (w : Place) (c : Contents) where
   found_true memo q (Some kept) h is = true_at memo q kept h (sym is)
   found_true memo q None h is = tt
 
-  -- all was forgotten, also what lasts
-  pub nothing_kept : (memo : PrivateMemo) → ((k : Key) (v : Kept) → Holds memo k v → ⊥)
-      → ((k : Key) (v : Kept) → Outlasts memo.lasting k v → ⊥)
-      → memo.lasting.terms ≡ length (contents_of l.0).trees → memo.lasting.unit ≡ None
-      → AreTrue l w c memo
-  nothing_kept memo none no_lasting terms unit = record {
-    each = λ q kept holds. absurd (none (key_of q) kept holds);
-    lasting = λ q kept stands. absurd (no_lasting (key_of q) kept stands);
-    terms = terms;
-    looks = λ n is. absurd (let no : None ≡ Some n = sym unit ∙ is in cc);
+  -- a table was emptied, and no unit looks
+  table_begins : (table : Lasting) (count : ℕ) → BeginsWith table count None
+      → count ≡ length (contents_of l.0).trees → Extends (contents_of l.0) c
+      → AreLasting l w c (contents_of l.0) table
+  table_begins table count h all stand = record {
+    each = λ q kept stands. absurd (h.none (key_of q) kept stands);
+    terms = h.terms ∙ all;
+    stand = stand;
+    looks = λ n is. absurd (let no : None ≡ Some n = sym h.unit ∙ is in cc);
   }
 
--- all was forgotten but what lasts, and another place stands; if a unit looks, it is its own
-pub only_lasting : (l : Tables × List StoredUnit) (w w' : Place) (c c' : Contents) (old new : PrivateMemo)
-    → AreTrue l w c old → ((k : Key) (v : Kept) → Holds new k v → ⊥)
-    → new.lasting.slots ≡ old.lasting.slots → new.lasting.terms ≡ old.lasting.terms
-    → ((n : ℕ) → new.lasting.unit ≡ Some n → IsUnitOf l w' c' n) → AreTrue l w' c' new
-only_lasting l w w' c c' old new h none slots terms looks = record {
-  each = λ q kept holds. absurd (none (key_of q) kept holds);
-  lasting = λ q kept stands. h.lasting q kept (rw slots at stands);
-  terms = terms ∙ h.terms;
-  looks = looks;
+  -- all was forgotten, also what outlasts its unit
+  pub nothing_kept : (memo : PrivateMemo) (count : ℕ)
+      → ((k : Key) (v : Kept) → Holds memo k v → ⊥) → BeginsWith memo.lasting count None
+      → BeginsWith memo.staying count None → count ≡ length (contents_of l.0).trees
+      → Extends (contents_of l.0) c → AreTrue l w c memo
+  nothing_kept memo count none lasting staying all stand = record {
+    each = λ q kept holds. absurd (none (key_of q) kept holds);
+    lasting = table_begins memo.lasting count lasting all stand;
+    first = contents_of l.0;
+    staying = table_begins memo.staying count staying all stand;
+  }
+
+-- a table goes on over other terms and at another place; if a unit looks, it is its own
+pub table_goes_on : (l : Tables × List StoredUnit) (w w' : Place) (c c' first : Contents)
+    (old new : Lasting) (looker : Option ℕ) → AreLasting l w c first old
+    → GoesOn old new old.terms looker → Extends first c'
+    → ((n : ℕ) → looker ≡ Some n → w' ≡ place_of (library_of l) n [])
+    → AreLasting l w' c' first new
+table_goes_on l w w' c c' first old new looker h on stand looks = record {
+  each = λ q kept stands. h.each q kept (rw on.slots at stands);
+  terms = on.terms ∙ h.terms;
+  stand = stand;
+  looks = λ n is. looks n (sym on.unit ∙ is);
 }

@@ -13,8 +13,7 @@ use Rattle.lk_plain.proofs.Places.{found_entry, place_keeps}
 use Rattle.lk_plain.proofs.Exact.{out_exact}
 use Rattle.lk_questions.specs.Table.{steps}
 use Rattle.lk_store.specs.declared.tables.Tables.{Tables}
-use Rattle.lk_store.specs.Contents.{Contents, tree_at}
-use Rattle.lk_store.specs.Store.{contents_of}
+use Rattle.lk_store.specs.Contents.{Contents, tree_at, Extends}
 use Rattle.lk_env.specs.declared.unit.Unit.{Unit as StoredUnit}
 use Rattle.lk_env.specs.declared.entry.Partial.TheVariants.{Nothing}
 use Rattle.lk_env.specs.Units.{library_of}
@@ -22,7 +21,7 @@ use Rattle.lk_env.specs.Places.{beside_at, partial_first, partial_last, new_amon
 use Rattle.lk_ask.specs.declared.kept.Kept.{Kept}
 use Rattle.lk_ask.specs.declared.query.Query.{Query}
 use Rattle.lk_ask.specs.Questions.{query_of, value_at, IsKnownQuery, IsKnownAnswer}
-use Rattle.lk_engine.specs.Entries.{IsTrueAt, above, IsLasting, IsUnitOf}
+use Rattle.lk_engine.specs.Entries.{IsTrueAt, above, IsLasting}
 use Rattle.lk_engine.proofs.Frames.{query_steady, answer_steady, true_steady}
 
 -- units that are given stand at their numbers
@@ -100,41 +99,39 @@ answered_there n w other keeps q v c t below h =
     subst (λ k. IsAnsweredAt (out_of steps other q) v k t) whole
     (out_exact steps other q c v (c - c) t there).1
 
-module _ (l : Tables × List StoredUnit) (w : Place) (c : Contents) (n : ℕ) (here : IsUnitOf l w c n)
+module _ (l : Tables × List StoredUnit) (w : Place) (c first : Contents) (n : ℕ)
+    (stand : Extends first c) (place : w ≡ place_of (library_of l) n [])
     (q : Query ℕ) (kept : Kept) (below : IsBelow kept.top n) where
-  abbrev b : Contents
-  b = contents_of l.0
-
   abbrev us : Library
   us = library_of l
 
   -- what lasts is true at the unit that looks
-  pub lasting_here : IsLasting l q kept → IsTrueAt w c q kept
+  pub lasting_here : IsLasting l first q kept → IsTrueAt w c q kept
   lasting_here h =
-      let own : IsTrueAt (place_of us n []) b q kept = record {
+      let own : IsTrueAt (place_of us n []) first q kept = record {
         query = h.query;
         answer = h.answer;
         is = answered_there (above kept.top) (place_of us (above kept.top) []) (place_of us n [])
             (keeps_on us (above kept.top) n (above_within kept.top n below))
-            (query_of (tree_at b) q) (value_at (tree_at b) kept.answer) kept.cost kept.top
+            (query_of (tree_at first) q) (value_at (tree_at first) kept.answer) kept.cost kept.top
             (below_above kept.top) h.is;
       } in
-      subst (λ p. IsTrueAt p c q kept) (sym here.place)
-      (true_steady here.over (place_of us n []) q kept own)
+      subst (λ p. IsTrueAt p c q kept) (sym place)
+      (true_steady stand (place_of us n []) q kept own)
 
-  -- what was answered at a unit over the library's own terms lasts
-  pub here_lasts : IsKnownQuery (length b.trees) q → IsKnownAnswer (length b.trees) kept.answer
-      → IsTrueAt w c q kept → IsLasting l q kept
+  -- what was answered at a unit over the first terms lasts
+  pub here_lasts : IsKnownQuery (length first.trees) q → IsKnownAnswer (length first.trees) kept.answer
+      → IsTrueAt w c q kept → IsLasting l first q kept
   here_lasts asked told h =
-      let own : IsTrueAt (place_of us n []) c q kept = subst (λ p. IsTrueAt p c q kept) here.place h in
+      let own : IsTrueAt (place_of us n []) c q kept = subst (λ p. IsTrueAt p c q kept) place h in
       record {
         query = asked;
         answer = told;
         is = answered_there (above kept.top) (place_of us n []) (place_of us (above kept.top) [])
             (keeps_back us n (above kept.top))
-            (query_of (tree_at b) q) (value_at (tree_at b) kept.answer) kept.cost kept.top
+            (query_of (tree_at first) q) (value_at (tree_at first) kept.answer) kept.cost kept.top
             (below_above kept.top)
-            (rw (query_steady here.over q asked, answer_steady here.over kept.answer told) at own.is);
+            (rw (query_steady stand q asked, answer_steady stand kept.answer told) at own.is);
       }
 
 -- beside a unit of which nothing is partial nothing stands

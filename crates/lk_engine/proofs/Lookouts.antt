@@ -1,5 +1,5 @@
 -- What a step, an answer that is kept, and a question leave of a lookout, and what they come to.
-use Rattle.std.proofs.Common.{◌≡◌, ◌≢◌, ℕ, ◌<◌, None, Ok, Err, Result, refl, ap, sym, subst, ◌∙◌, arith}
+use Rattle.std.proofs.Common.{◌≡◌, ◌≢◌, ℕ, Bool, true, false, ◌<◌, None, Ok, Err, Result, refl, ap, sym, subst, ◌∙◌, arith}
 use Rattle.std.specs.Prelude.{IfOk, IfErr, OnOk}
 use Rattle.lk_plain.specs.Erased.{Steps}
 use Rattle.lk_rulebook.specs.Units.{Members}
@@ -28,7 +28,7 @@ use Rattle.lk_ask.specs.Outcomes.{IsStop}
 use Rattle.lk_engine.specs.Sheets.{AnySheet, IsKnownAny}
 use Rattle.lk_memo.specs.declared.memo.PrivateMemo.{PrivateMemo}
 use Rattle.lk_engine.specs.Entries.{IsTrueAt, AreTrue}
-use Rattle.lk_engine.specs.Lookouts.{Seen, place_of, AreTrueAt, standing_at, places_at, out_at, GivesMembers, Stays, Metered, Pays, Repeats, Opens, Answers, Stands}
+use Rattle.lk_engine.specs.Lookouts.{Seen, place_of, AreTrueAt, standing_at, places_at, out_at, GivesMembers, Stays, Metered, Pays, Repeats, Opens, Answers, Tidies, Stands}
 use Rattle.lk_engine.specs.Rests.{next_of, Starts}
 use Rattle.lk_engine.proofs.Frames.{entries_steady}
 use Rattle.lk_engine.proofs.Links.{opened, opened_waits, not_opened}
@@ -268,3 +268,14 @@ pub gives_basis : (old new : Seen (Tables × Tables)) (partial : Partial) (aux :
     → IfErr r (λ e. new ≡ old) → (standing_at new.0 new.1).basis ≡ (standing_at old.0 old.1).basis
 gives_basis old new partial aux (Ok u) h e = rw (h.library, h.site) refl
 gives_basis old new partial aux (Err x) h e = ap (λ s. (s.0.2, s.1.unit)) e
+
+-- a store over a library's has what the library has, once it was tidied
+pub tidied : (library : Tables) (scope : Contents) (old new : Tables × Tables) (stays : Bool)
+    → old.0 ≡ library → Extends (contents_of library) scope
+    → Extends scope (contents_of (over old.0 old.1)) → Tidies old new stays
+    → Extends (contents_of library) (contents_of (over new.0 new.1))
+tidied library scope old new true base x y h =
+    subst (λ t. Extends (contents_of library) (contents_of (over t.0 t.1))) (sym (h.same refl))
+    (Extends-trans (contents_of library) scope (contents_of (over old.0 old.1)) x y)
+tidied library scope old new false base x y h = subst (λ c. Extends (contents_of library) c)
+    (sym (h.emptied refl ∙ ap (λ t. contents_of t) base)) (Extends-self (contents_of library))

@@ -13,6 +13,7 @@ use Rattle.lk_ask.specs.declared.query.Query.{Query}
 use Rattle.lk_ask.specs.declared.kept.Kept.{Kept}
 use Rattle.lk_ask.specs.Questions.{query_of, value_at, IsKnownQuery, IsKnownAnswer}
 use Rattle.lk_memo.specs.declared.key.Key.{Key}
+use Rattle.lk_memo.specs.declared.lasting.Lasting.{Lasting}
 use Rattle.lk_memo.specs.declared.memo.PrivateMemo.{PrivateMemo}
 use Rattle.lk_memo.specs.Keys.{key_of}
 use Rattle.lk_memo.specs.Lasting.{Outlasts, TakesIn}
@@ -31,29 +32,31 @@ abbrev pub above : Option ℕ → ℕ
 above None = 0
 above (Some t) = t + 1
 
--- over a library's own terms it is true at the first unit above all that were looked at
-abbrev pub IsLasting : Tables × List StoredUnit → Query ℕ → Kept → Type 0
-IsLasting l q kept =
-    IsTrueAt (place_of (library_of l) (above kept.top) []) (contents_of l.0) q kept
+-- over terms that stay it is true at the first unit above all that were looked at
+abbrev pub IsLasting : Tables × List StoredUnit → Contents → Query ℕ → Kept → Type 0
+IsLasting l first q kept = IsTrueAt (place_of (library_of l) (above kept.top) []) first q kept
 
--- the place is that of a unit of the library of which nothing is partial, and its terms stand there
-pub record IsUnitOf (l : Tables × List StoredUnit) (w : Place) (c : Contents)
-    (unit : ℕ) : Type 0 where
-  pub over : Extends (contents_of l.0) c
-  pub place : w ≡ place_of (library_of l) unit []
+-- what a table keeps is true over the first terms of those that stand; if a unit looks there, the
+-- place is its own, and nothing of it is partial
+pub record AreLasting (l : Tables × List StoredUnit) (w : Place) (c first : Contents)
+    (table : Lasting) : Type 0 where
+  pub each : (q : Query ℕ) (kept : Kept) → Outlasts table (key_of q) kept → IsLasting l first q kept
+  pub terms : table.terms ≡ length first.trees
+  pub stand : Extends first c
+  pub looks : (unit : ℕ) → table.unit ≡ Some unit → w ≡ place_of (library_of l) unit []
 
--- each answer that is kept is true of its question at the place, and what lasts is true in the
--- library; if a unit looks for that, the place is its own
+-- each answer that is kept is true of its question at the place, and what outlasts its unit is true
+-- over the library's terms, or over those that stood when the unit began
 pub record AreTrue (l : Tables × List StoredUnit) (w : Place) (c : Contents)
     (memo : PrivateMemo) : Type 0 where
   pub each : (q : Query ℕ) (kept : Kept) → Holds memo (key_of q) kept → IsTrueAt w c q kept
-  pub lasting : (q : Query ℕ) (kept : Kept) → Outlasts memo.lasting (key_of q) kept
-      → IsLasting l q kept
-  pub terms : memo.lasting.terms ≡ length (contents_of l.0).trees
-  pub looks : (unit : ℕ) → memo.lasting.unit ≡ Some unit → IsUnitOf l w c unit
+  pub lasting : AreLasting l w c (contents_of l.0) memo.lasting
+  pub first : Contents
+  pub staying : AreLasting l w c first memo.staying
 
 -- no other answer came in than this one
 pub record Keeps (old new : PrivateMemo) (q : Query ℕ) (kept : Kept) : Type 0 where
   pub private : (k : Key) (v : Kept) → Holds new k v
       → Holds old k v ⊎ ((k ≡ key_of q) × (v ≡ kept))
   pub lasting : TakesIn old.lasting new.lasting q kept
+  pub staying : TakesIn old.staying new.staying q kept

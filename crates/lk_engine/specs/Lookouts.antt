@@ -1,5 +1,5 @@
 -- Questions over a lookout: what they leave as it was, and what they come to.
-use Rattle.std.specs.Prelude.{◌≡◌, ◌≢◌, ◌<◌, ◌≤◌, ◌+◌, ◌-◌, ◌^◌, ℕ, List, [], Option, Some, Result, Err, IfOk, OnOk, IfErr, length}
+use Rattle.std.specs.Prelude.{◌≡◌, ◌≢◌, ◌<◌, ◌≤◌, ◌+◌, ◌-◌, ◌^◌, ℕ, Bool, true, false, List, [], Option, Some, Result, Err, IfOk, OnOk, IfErr, length}
 use Rattle.lk_rulebook.specs.Place.{Place}
 use Rattle.lk_rulebook.specs.Units.{Members}
 use Rattle.lk_plain.specs.Erased.{Out, IsAnsweredAt, run_steps, out_of}
@@ -24,8 +24,10 @@ use Rattle.lk_ask.specs.declared.stop.Stop.TheVariants.{Spent, NoMemory}
 use Rattle.lk_ask.specs.Questions.{query_of, value_at, IsKnownAnswer}
 use Rattle.lk_ask.specs.Nexts.{IsKnownNext}
 use Rattle.lk_ask.specs.Outcomes.{IsExactly, IsStop}
+use Rattle.lk_memo.specs.declared.key.Key.{Key}
 use Rattle.lk_memo.specs.declared.memo.PrivateMemo.{PrivateMemo}
-use Rattle.lk_memo.specs.Entries.{kept_of}
+use Rattle.lk_memo.specs.Entries.{Holds, kept_of}
+use Rattle.lk_memo.specs.Lasting.{Outlasts, GoesOn}
 use Rattle.lk_engine.specs.Entries.{AreTrue}
 use Rattle.lk_engine.specs.Rests.{next_of}
 use Rattle.lk_engine.specs.Sheets.{AnySheet, IsKnownAny}
@@ -130,16 +132,35 @@ pub record AnswersKept {T : Type 0} (old new : Seen T) (memo : PrivateMemo)
       → new.3.turns ≡ old.3.turns + 1
   pub memory : (kept : Kept) → kept_of memo query ≡ Some kept → result ≢ Err NoMemory
 
+-- what was made over the library's store stays, or all of it was forgotten
+pub record Tidies (old new : Tables × Tables) (stays : Bool) : Type 0 where
+  pub base : new.0 ≡ old.0
+  pub same : stays ≡ true → new ≡ old
+  pub emptied : stays ≡ false → contents_of (over new.0 new.1) ≡ contents_of old.0
+
 -- a lookout over the library's store looks from this unit, of which nothing is partial, with no
--- auxiliary types; its store has what the library has, and this budget is left
-pub record Restarts (old new : Seen (Tables × Tables)) (unit budget : ℕ) : Type 0 where
+-- auxiliary types; numbers stand for what the library has, and where what was made stays, for what
+-- they stood for; this budget is left
+pub record Restarts (old new : Seen (Tables × Tables)) (unit budget : ℕ)
+    (stays : Bool) : Type 0 where
   pub library : new.0.2 ≡ old.0.2
   pub auxiliary : new.0.3 ≡ []
   pub site : new.1 ≡ record { unit = unit; partial = Nothing }
   pub base : new.2.0 ≡ old.2.0
-  pub contents : contents_of (over new.2.0 new.2.1) ≡ contents_of old.2.0
+  pub contents : Extends (contents_of old.2.0) (contents_of (over new.2.0 new.2.1))
+  pub same : stays ≡ true → new.2 ≡ old.2
   pub left : new.3.left ≡ budget
   pub turns : new.3.turns ≡ 0
+
+-- a memo begins a unit: it has only what outlasts a unit, for this one, over so many terms, and of
+-- what units made only where it stays
+pub record BeginsUnit (old new : PrivateMemo) (unit count : ℕ) (stays : Bool) : Type 0 where
+  pub private : (k : Key) (v : Kept) → Holds new k v → ⊥
+  pub lasting : GoesOn old.lasting new.lasting old.lasting.terms (Some unit)
+  pub each : (k : Key) (v : Kept) → Outlasts new.staying k v
+      → (stays ≡ true) × Outlasts old.staying k v
+  pub terms : new.staying.terms ≡ count
+  pub looks : new.staying.unit ≡ Some unit
 
 -- from here on so much of the unit is partial, and these auxiliary types beside
 pub record GivesMembers (old new : Seen (Tables × Tables)) (partial : Partial)

@@ -2,10 +2,11 @@
 //! library may ask them.
 
 ghost use Rattle.std.specs.Prelude.{◌≡◌, [], map, All, OnOk, IfErr};
+ghost use Rattle.lk_store.specs.Contents.{Extends};
 ghost use Rattle.lk_store.specs.Store.{over, contents_of};
 ghost use Rattle.lk_env.specs.Scopes.{alone_members};
 ghost use Rattle.lk_env.specs.Units.{type_at, IsTypeIn};
-ghost use Rattle.lk_engine.specs.Lookouts.{Restarts, GivesMembers};
+ghost use Rattle.lk_engine.specs.Lookouts.{Tidies, Restarts, BeginsUnit, GivesMembers};
 
 use crate::answering::{Frame, answer};
 use crate::families::family_of;
@@ -35,8 +36,9 @@ use std::alloc::Global;
 use std::marker::Model;
 use std::mem::drop;
 
-/// An engine over a library. What a unit makes stands over the library's store, and goes when the
-/// next unit is started, and with it what the memo keeps, which is lent, but for what lasts.
+/// An engine over a library. What units make stands over the library's store, and goes when a unit
+/// is started, once it is many rows; what the memo keeps, which is lent, goes with the unit, but for
+/// what outlasts one.
 pub struct Engine<'a> {
     lookout: Lookout<'a, Overlay<'a>>,
     memo: &'a mut PrivateMemo,
@@ -72,18 +74,57 @@ impl Drop for Engine<'_> {
     }
 }
 
-/// Looks from this unit, of which nothing is partial, with no auxiliary types, an empty store over
-/// the library's and this budget.
-fn restart<'a>(lookout: &mut Lookout<'a, Overlay<'a>>, unit: u32, budget: u128)
+/// What units made stays from one to the next while it is fewer rows, those of all kinds together.
+const FEW: u64 = 16_384;
+
+/// Whether what units made is few rows. Each kind counts, so that no file makes it grow for good.
+fn is_few(terms: &Overlay<'_>) -> bool {
+    let own = terms.own_sizes();
+    let named = own
+        .numbers
+        .saturating_add(own.names)
+        .saturating_add(own.texts);
+    let levels = own.levels.saturating_add(own.lists);
+    named.saturating_add(levels).saturating_add(own.terms) < FEW
+}
+
+/// Forgets what units made, unless it is few rows. Whether it stays.
+fn tidy(terms: &mut Overlay<'_>) -> bool
+    ensures { Tidies terms.old terms.new result }
+{
+    if is_few(terms) {
+        return true;
+    }
+    terms.clear();
+    false
+}
+
+/// Looks from this unit, of which nothing is partial, with no auxiliary types, a store that has what
+/// the library has, and this budget. Whether what earlier units made stays.
+fn restart<'a>(lookout: &mut Lookout<'a, Overlay<'a>>, unit: u32, budget: u128) -> bool
     requires { lookout.old.2.0 ≡ lookout.old.0.2.0 }
-    ensures { Restarts lookout.old lookout.new unit budget }
+    ensures { Restarts lookout.old lookout.new unit budget result }
 {
     let partial = Partial::Nothing;
     let library = lookout.scope.library();
+    let stays = tidy(&mut lookout.terms);
     lookout.site = Site { unit, partial };
-    lookout.terms.clear();
     lookout.scope = Scope::new(lookout.alloc, library, &lookout.terms);
     lookout.meter = Meter::new(budget);
+    stays
+}
+
+/// Keeps what outlasts a unit, for this one: over a library's own terms, and, where what earlier
+/// units made stays, over all the terms that stand, which are so many.
+fn begin_unit(memo: &mut PrivateMemo, unit: u32, terms: u64, stays: bool)
+    ensures { BeginsUnit memo.old memo.new unit terms stays }
+{
+    memo.start(unit);
+    if stays {
+        memo.stay(terms);
+    } else {
+        memo.forget_staying(terms);
+    }
 }
 
 /// From here on so much of the unit at work is partial, and no auxiliary type.
@@ -150,21 +191,22 @@ impl<'a> Engine<'a> {
         }
     }
 
-    /// Begins a unit: the names below it are seen, nothing of it is partial, so many steps may be
-    /// taken, and what earlier units made, and what is kept of their questions, is gone, but for
-    /// answers over the library's own terms. It costs nothing that grows with the library.
+    /// Begins a unit: the names below it are seen, nothing of it is partial, and so many steps may be
+    /// taken. What earlier units made goes once it is many rows, and of the answers all but those over
+    /// the library's own terms, or over terms that stay. It costs nothing that grows with the library.
     pub fn start(&mut self, unit: u32, budget: u128)
         ensures library { self.new.0.2 ≡ self.old.0.2 }
         ensures auxiliary { self.new.0.3 ≡ [] }
         ensures unit { self.new.1.unit ≡ unit }
         ensures partial { self.new.1.partial ≡ Partial.Nothing }
-        ensures contents { contents_of (over self.new.2.0 self.new.2.1)
-            ≡ contents_of self.old.0.2.0 }
+        ensures contents { Extends (contents_of self.old.0.2.0)
+            (contents_of (over self.new.2.0 self.new.2.1)) }
         ensures left { self.new.3.left ≡ budget }
         ensures turns { self.new.3.turns ≡ 0 }
     {
-        restart(&mut self.lookout, unit, budget);
-        self.memo.start(unit);
+        let stays = restart(&mut self.lookout, unit, budget);
+        let terms = self.lookout.len();
+        begin_unit(self.memo, unit, terms, stays);
     }
 
     /// How many questions were opened for the unit that was begun last, those of which an answer

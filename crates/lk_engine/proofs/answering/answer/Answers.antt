@@ -5,11 +5,13 @@ use Rattle.lk_engine.proofs.answering.answer.Goals as goal
 
 pub work-requires-clause-entries : goal.work-requires-clause-entries
 work-requires-clause-entries g c = entries_fewer _ _ _ _ _ c.requires.entries c.find.ensures.holds c.find.ensures.lasting
+    c.find.ensures.staying
 
 pub returns-in-Some-clause-answers : goal.returns-in-Some-clause-answers
 returns-in-Some-clause-answers g c =
     repeat_answers c.repeat.ensures (true_at _ _ _ _ _ _ c.requires.entries (sym c.find.ensures.kept ∙ c.in-Some.is))
-    (entries_fewer _ _ _ _ _ c.requires.entries c.find.ensures.holds c.find.ensures.lasting)
+    (entries_fewer _ _ _ _ _ c.requires.entries c.find.ensures.holds c.find.ensures.lasting
+    c.find.ensures.staying)
 
 pub returns-in-Some-clause-kept : goal.returns-in-Some-clause-kept
 returns-in-Some-clause-kept g c = record {

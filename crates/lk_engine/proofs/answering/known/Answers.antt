@@ -6,3 +6,4 @@ returns-in-None-clause-kept g c = found_true _ _ _ _ _ _ c.requires.entries c.fi
 
 pub returns-in-None-clause-entries : goal.returns-in-None-clause-entries
 returns-in-None-clause-entries g c = entries_fewer _ _ _ _ _ c.requires.entries c.find.ensures.holds c.find.ensures.lasting
+    c.find.ensures.staying

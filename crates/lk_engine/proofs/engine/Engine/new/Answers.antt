@@ -20,7 +20,9 @@ invariant_of-lookout c =
 pub invariant_of-result : goal.invariant_of-result
 invariant_of-result c =
     let library = ap (λ l. l.0) (sym c.new.ensures.library) in
+    let library_has = contents_of c.new.result.2.0 in
+    let same = c.new-terms.ensures.contents ∙ ap (λ t. contents_of t) (c.base-2.ensures ∙ library) in
     new_stands _ _ _ (ap (λ t. t.0) c.new-terms.ensures.value ∙ c.base-2.ensures ∙ library)
-    c.begin.ensures.private c.begin.ensures.lasting c.begin.ensures.terms
+    c.begin.ensures.private c.begin.ensures.lasting c.begin.ensures.staying
     (c.len.ensures ∙ ap (λ t. length (contents_of t).trees) (c.base.ensures ∙ library))
-    c.begin.ensures.unit
+    (subst (λ k. Extends library_has k) (sym same) (Extends-self library_has))

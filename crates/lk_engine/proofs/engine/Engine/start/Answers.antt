@@ -1,6 +1,9 @@
+use Rattle.std.proofs.Common.{subst}
+use Rattle.lk_engine.specs.Lookouts.{BeginsUnit}
 use Rattle.lk_engine.proofs.Standing.{restart_stands}
 use Rattle.lk_engine.proofs.engine.Engine.start.Goals as goal
 
 pub invariant_of-self : goal.invariant_of-self
-invariant_of-self c = restart_stands c.restart.ensures c.self.invariant c.start.ensures.private
-    c.start.ensures.slots c.start.ensures.terms c.start.ensures.unit
+invariant_of-self c = restart_stands c.restart-stays.ensures c.self.invariant
+    (subst (λ n. BeginsUnit c.self.inside.memo.now c.begin_unit.new.memo c.args.unit n
+    c.restart-stays.result) c.len-terms.ensures c.begin_unit.ensures)

@@ -11,4 +11,4 @@ returns-clause-standing c = gives_standing c.give_in.ensures ∙ ap
 
 pub invariant_of-self : goal.invariant_of-self
 invariant_of-self c = gives_stands c.give_in.ensures c.self.invariant c.clear.ensures.private
-    c.clear.ensures.slots c.clear.ensures.terms c.clear.ensures.unit
+    c.clear.ensures.lasting c.clear.ensures.staying

@@ -27,4 +27,4 @@ returns-clause-basis c = gives_basis _ _ _ _ c.give_beside_in-given.result c.giv
 pub invariant_of-self : goal.invariant_of-self
 invariant_of-self c = beside_stands _ _ _ _ _ _ c.give_beside_in-given.result
     c.give_beside_in-given.ensures.gives c.give_beside_in-given.ensures.refused c.self.invariant
-    c.clear.ensures.private c.clear.ensures.slots c.clear.ensures.terms c.clear.ensures.unit
+    c.clear.ensures.private c.clear.ensures.lasting c.clear.ensures.staying
