@@ -1,7 +1,8 @@
 //! The loop that answers a question, by a stack of what waits for answers.
 
-ghost use Rattle.std.specs.Prelude.{◌≡◌, ◌≤◌, ◌-◌, length, Err, IfSome};
+ghost use Rattle.std.specs.Prelude.{◌≡◌, ◌≤◌, ◌-◌, None, length, Err, IfSome};
 ghost use Rattle.lk_ask.specs.Questions.{IsKnownQuery};
+ghost use Rattle.lk_memo.specs.Entries.{kept_of};
 ghost use Rattle.lk_engine.specs.Entries.{IsTrueAt, Keeps};
 ghost use Rattle.lk_engine.specs.Lookouts.{place_of, AreTrueAt, Repeats, Opens, Answers, AnswersKept};
 
@@ -60,6 +61,7 @@ fn known<T: Terms>(
     requires entries { AreTrueAt lookout.now (T.contents lookout.now.2) memo.old }
     ensures kept { IfSome result (IsTrueAt (place_of lookout.now) (T.contents lookout.now.2)
         query) }
+    ensures none { result ≡ None → kept_of memo.old query ≡ None }
     ensures entries { AreTrueAt lookout.now (T.contents lookout.now.2) memo.new }
 {
     match at_once(lookout, query) {
@@ -230,7 +232,7 @@ pub fn answer<T: Terms>(
     ensures answers { Answers T.contents T.rest lookout.old lookout.new memo.new result query }
     ensures kept { AnswersKept lookout.old lookout.new memo.old result query }
 {
-    match memo.find(query) {
+    match known(lookout, memo, query) {
         Some(kept) => repeat(lookout, kept),
         None => work(lookout, memo, stack, query),
     }

@@ -87,6 +87,7 @@ fn as_one<T: Terms>(lookout: &Lookout<'_, T>, a: u64, b: u64) -> Option<Kept>
 }
 
 /// The answer of a question that is at hand. To look it up in the memo would take longer.
+#[inline(always)]
 pub fn at_once<T: Terms>(lookout: &Lookout<'_, T>, query: Query<u64>) -> Option<Kept>
     requires { IsKnownQuery (length (T.contents lookout.now.2).trees) query }
     ensures { IfSome result (IsTrueAt (place_of lookout.now) (T.contents lookout.now.2) query) }
