@@ -1,4 +1,5 @@
 pub mod Beginning
+pub mod ClosedRuns
 pub mod Looseness
 pub mod Marks
 pub mod Openings

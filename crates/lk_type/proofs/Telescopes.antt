@@ -15,11 +15,6 @@ use Rattle.lk_type.specs.declared.sheet.Binders.{Binders}
 use Rattle.lk_type.specs.declared.sheet.Binders.TheVariants.{Pis, Lambdas}
 use Rattle.lk_type.specs.Telescopes.{bound_by, fresh, OpensTo, ahead, gather, started, asked_for, telescope_on, telescope_end, telescope_domain}
 
--- how many are gathered
-abbrev pub gathered : Tree → ℕ
-gathered (app xs x) = suc (gathered xs)
-gathered _ = 0
-
 -- what goes on with an outcome goes on with each part of it
 go_on_same : (o : Out) (k l : Value → ℕ → Out) → ((v : Value) (b : ℕ) → k v b ≡ l v b) → go_on o k ≡ go_on o l
 go_on_same (finished v left t) k l h = ap (seen t) (h v left)

@@ -1,3 +1,4 @@
+pub mod Lambdas
 pub mod Marks
 pub mod Openings
 pub mod Sheets

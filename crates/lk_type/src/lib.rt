@@ -6,6 +6,7 @@ pub mod binders;
 mod binding;
 pub mod constant;
 pub mod infer;
+mod lambdas;
 mod lets;
 mod literals;
 pub mod marking;

@@ -2,16 +2,15 @@
 //! once, and then asked for one after the other.
 
 ghost use Rattle.std.specs.Prelude.{◌≡◌, ◌<◌, Ok, length};
-ghost use Rattle.lk_tree.specs.Tree.{pi};
-ghost use Rattle.lk_tree.specs.Bind.{close as closed};
 ghost use Rattle.lk_store.specs.Contents.{tree_at};
 ghost use Rattle.lk_ask.specs.Looks.{MakesTree};
 ghost use Rattle.lk_type.specs.Sheets.{map_telescope, IsKnownTelescope};
-ghost use Rattle.lk_type.specs.Telescopes.{number_in, type_in, gather, pis_end, pis_sorted};
-ghost use Rattle.lk_type.specs.Telescopes.{lambdas_type, telescope_on, telescope_sorted, telescope_end};
+ghost use Rattle.lk_type.specs.Telescopes.{gather, pis_end, pis_sorted};
+ghost use Rattle.lk_type.specs.Telescopes.{telescope_on, telescope_sorted, telescope_end};
 ghost use Rattle.lk_type.specs.Types.{Infers};
 
 use crate::infer::TypeNext;
+use crate::lambdas::lambdas_type;
 use crate::sheet::{Binders, Telescope, TypeTermSheet};
 use crate::sorts::sort_of_pi;
 use lk_ask::looks::Looks;
@@ -20,7 +19,6 @@ use lk_ask::query::{Answer, Query};
 use lk_ask::sheet::Sheet;
 use lk_store::memory::NoMemory;
 use lk_store::node::Node;
-use lk_subst::closing::close;
 use lk_tree::rule::Rule;
 
 /// Goes on with what is left of a telescope: asks for the type of its next Local, or of its
@@ -151,52 +149,6 @@ pub(crate) fn pi_inside_sort<L: Looks>(
             Ok(pis_left(looks, sorts, above))
         }
         _ => Ok(Next::No(Rule::NotASort)),
-    }
-}
-
-/// The number and the type of a Local.
-fn parts_of<L: Looks>(looks: &L, x: u64) -> (u64, u64)
-    requires { x < length (L.contents looks.now).trees }
-    ensures number { result.0 ≡ number_in (tree_at (L.contents looks.now) x) }
-    ensures known { result.1 < length (L.contents looks.now).trees }
-    ensures ty { tree_at (L.contents looks.now) result.1
-        ≡ type_in (tree_at (L.contents looks.now) x) }
-{
-    match looks.view(x) {
-        Node::Local(number, ty) => (number, ty),
-        _ => (0, x),
-    }
-}
-
-/// A Pi for the Local, over the type in which it is closed.
-fn over_local<L: Looks>(looks: &mut L, x: u64, ty: u64) -> Result<u64, NoMemory>
-    requires x_in { x < length (L.contents looks.old).trees }
-    requires ty_in { ty < length (L.contents looks.old).trees }
-    ensures { MakesTree L.contents L.rest looks.old looks.new result
-        (λ t. pi (type_in (t x)) (closed (number_in (t x)) (t ty))) }
-{
-    let (number, domain) = parts_of(looks, x);
-    let body = close(looks.alloc(), looks, ty, number)?;
-    looks.make(Node::Pi(domain, body))
-}
-
-/// The type of lambdas with these Locals, after the type of what stands inside.
-fn lambdas_type<L: Looks>(looks: &mut L, locals: u64, ty: u64) -> Result<u64, NoMemory>
-    requires locals_in { locals < length (L.contents looks.old).trees }
-    requires ty_in { ty < length (L.contents looks.old).trees }
-    ensures { MakesTree L.contents L.rest looks.old looks.new result
-        (λ t. lambdas_type (t locals) (t ty)) }
-{
-    let mut left = locals;
-    let mut made = ty;
-    'locals: loop {
-        match looks.view(left) {
-            Node::App(others, x) => {
-                made = over_local(looks, x, made)?;
-                left = others;
-            }
-            _ => return Ok(made),
-        }
     }
 }
 

@@ -1,8 +1,8 @@
 use Rattle.std.proofs.Common.{◌≡◌, ◌<◌, length}
 use Rattle.lk_store.specs.Contents.{tree_at, Extends}
 use Rattle.lk_type.specs.Telescopes.{lambdas_type}
-use Rattle.lk_type.proofs.Telescopes.{gathered}
-use Rattle.lk_type.proofs.telescope.lambdas_type.Given as goal
+use Rattle.lk_type.specs.Lambdas.{gathered}
+use Rattle.lk_type.proofs.lambdas.lambdas_type.Given as goal
 
 abbrev pub invariant-locals : goal.invariant-locals
 invariant-locals g l =
