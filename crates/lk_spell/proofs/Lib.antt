@@ -1,0 +1,9 @@
+pub mod Adding
+pub mod Moving
+pub mod Growing
+pub mod Spelling
+pub mod Inside
+pub mod Waiting
+pub mod InTurn
+pub mod Beginning
+pub mod Ending

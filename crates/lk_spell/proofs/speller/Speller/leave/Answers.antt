@@ -1,0 +1,16 @@
+use Rattle.std.proofs.Common.{rules}
+use Rattle.lk_store.specs.Store.{over, contents_of}
+use Rattle.lk_spell.proofs.Spelling.{on_ok, spells}
+use Rattle.lk_spell.specs.Spelling.{IsSpeller, Spells}
+use Rattle.lk_spell.specs.Moved.{moved}
+use Rattle.lk_spell.specs.Opened.{part_of}
+use Rattle.lk_spell.specs.Standing.{own_node}
+use Rattle.lk_spell.proofs.speller.Speller.leave.Goals as goal
+
+pub returns-clause-spells : goal.returns-clause-spells
+returns-clause-spells c = λ b h.
+    let now = contents_of (over c.args.terms.now.0 c.args.terms.now.1) in
+    let old = c.args.self.now in
+    let new = c.add.new.self in
+    on_ok c.add.result (Spells old new (part_of c.args.opened) (moved old.numbers (own_node now c.args.opened))) (IsSpeller b now new) (search rules)
+    (λ s. spells b now old new c.args.opened c.requires.opened c.requires.done s h)

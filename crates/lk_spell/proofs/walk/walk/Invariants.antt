@@ -1,0 +1,19 @@
+use Rattle.std.specs.Prelude.{◌≤◌}
+use Rattle.lk_store.specs.Contents.{Contents}
+use Rattle.lk_store.specs.Store.{over, contents_of}
+use Rattle.lk_spell.specs.Spelling.{IsSpeller}
+use Rattle.lk_spell.specs.Waiting.{turns}
+use Rattle.lk_spell.proofs.Waiting.{IsUnderWay}
+use Rattle.lk_spell.proofs.walk.walk.Given as goal
+
+abbrev pub invariant-walk : goal.invariant-walk
+invariant-walk l =
+    let c = contents_of (over l.terms.0 l.terms.1) in
+    record {
+      few : l.speller.counted ≤ 4096;
+      under_way : IsUnderWay c l.speller.numbers l.fn.root l.stack.items;
+      spells : (b : Contents) → IsSpeller b c l.initial.speller → IsSpeller b c l.speller;
+    }
+
+abbrev pub decreases-walk : goal.decreases-walk
+decreases-walk l = turns (contents_of (over l.terms.0 l.terms.1)) l.stack.items

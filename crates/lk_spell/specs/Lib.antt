@@ -1,0 +1,9 @@
+pub mod Parts
+pub mod Spelled
+pub mod Sizes
+pub mod Numbers
+pub mod Opened
+pub mod Moved
+pub mod Standing
+pub mod Waiting
+pub mod Spelling

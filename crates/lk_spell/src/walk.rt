@@ -1,0 +1,56 @@
+//! The walk that spells a term.
+
+ghost use Rattle.std.specs.Prelude.{◌≡◌, ◌<◌, ◌≤◌, length, IfOk, OnOk};
+ghost use Rattle.lk_store.specs.Contents.{Contents, Extends, tree_at};
+ghost use Rattle.lk_store.specs.Store.{over, contents_of};
+ghost use Rattle.lk_spell.specs.Numbers.{IsDone};
+ghost use Rattle.lk_spell.specs.Parts.{IsPartIn};
+ghost use Rattle.lk_spell.specs.Spelled.{IsSpelled, spelled_tree};
+ghost use Rattle.lk_spell.specs.Spelling.{IsSpeller};
+
+use crate::open::{Visit, push};
+use crate::part::Part;
+use crate::spelled::{SpellError, Spelled};
+use crate::speller::{Speller, enter};
+use lk_store::overlay::Overlay;
+use std::alloc::Global;
+
+/// Spells a part and its own parts: each before what is made of it, from the left to the right.
+fn walk(alloc: Global, terms: &Overlay, speller: &mut Speller, root: Part) -> Result<(), SpellError>
+    requires few { speller.old.counted ≤ 4096 }
+    requires known { IsPartIn (contents_of (over terms.now.0 terms.now.1)) root }
+    ensures done { OnOk result (IsDone speller.new.numbers root) }
+    ensures spells { (b : Contents)
+        → IsSpeller b (contents_of (over terms.now.0 terms.now.1)) speller.old
+        → OnOk result (IsSpeller b (contents_of (over terms.now.0 terms.now.1)) speller.new) }
+{
+    let mut stack: Vec<Visit> = Vec::new(alloc);
+    push(&mut stack, Visit::Enter(root))?;
+    'walk: while let Some(visit) = stack.pop() {
+        match visit {
+            Visit::Enter(part) => enter(terms, &speller.numbers, &mut stack, part)?,
+            Visit::Leave(opened) => speller.leave(alloc, terms, opened)?,
+        }
+    }
+    Ok(())
+}
+
+/// The term, spelled over the library's store. A term of the library is its number, without a walk.
+pub fn spell(alloc: Global, terms: &Overlay, e: u64) -> Result<Spelled, SpellError>
+    requires known { e < length (contents_of (over terms.now.0 terms.now.1)).trees }
+    requires over { Extends (contents_of terms.now.0) (contents_of (over terms.now.0 terms.now.1)) }
+    ensures spelled { IfOk result (IsSpelled (contents_of terms.now.0)) }
+    ensures tree { IfOk result (λ s. spelled_tree (contents_of terms.now.0) s
+        ≡ tree_at (contents_of (over terms.now.0 terms.now.1)) e) }
+{
+    let sizes = terms.base_sizes();
+    if e < sizes.terms {
+        return Ok(Spelled {
+            own: Vec::new(alloc),
+            root: e,
+        });
+    }
+    let mut speller = Speller::new(alloc, sizes);
+    walk(alloc, terms, &mut speller, Part::Term(e))?;
+    Ok(speller.finish(Part::Term(e)))
+}
