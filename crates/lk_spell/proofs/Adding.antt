@@ -1,5 +1,5 @@
 -- A part gets its number.
-use Rattle.std.proofs.Common.{◌≡◌, ℕ, Bool, true, false, Some, None, rules, refl, sym, subst, ◌∙◌, inl, inr, ◌⊎◌}
+use Rattle.std.proofs.Common.{◌≡◌, ℕ, Bool, true, false, Some, rules, refl, sym, subst, ◌∙◌, inl, inr, ◌⊎◌}
 use Rattle.std.specs.Prelude.{cond, IsSome}
 use Rattle.std.specs.declared.option.Option.{Option}
 use Rattle.std.specs.HashMap.{get}

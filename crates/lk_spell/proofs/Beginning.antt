@@ -3,8 +3,7 @@ use Rattle.std.proofs.Common.{◌≡◌, ℕ, ◌<◌, Bool, true, false, List, 
 use Rattle.std.proofs.lemmas.Bool.{ltb-true, lt-ltb}
 use Rattle.lk_store.proofs.Columns.{length-values_of}
 use Rattle.lk_store.specs.Store.{names_by, levels_by, lists_by, trees_by, names_of, levels_of, parts_of}
-use Rattle.std.specs.Prelude.{nat_lt, cond}
-use Rattle.std.specs.declared.option.Option.{Option}
+use Rattle.std.specs.Prelude.{cond}
 use Rattle.std.specs.HashMap.{get}
 use Rattle.lk_store.specs.Contents.{Contents, Extends}
 use Rattle.lk_store.specs.Store.{contents_of}
@@ -15,7 +14,9 @@ use Rattle.lk_spell.proofs.Growing.{Extends-self, same_after, same_before, same_
 use Rattle.lk_spell.specs.Numbers.{part_eq, number_in, IsDone, Translates}
 use Rattle.lk_spell.specs.Parts.{IsSame, IsPartIn, number_of}
 use Rattle.lk_spell.specs.Sizes.{AreSizes, is_within}
+use Rattle.lk_spell.proofs.Counting.{counting_begun}
 use Rattle.lk_spell.proofs.InTurn.{IsMaking}
+use Rattle.lk_spell.specs.Wide.{IsCounting}
 use Rattle.lk_spell.specs.Spelled.{AreOwn}
 use Rattle.lk_spell.specs.Spelling.{IsSpeller}
 use Rattle.lk_spell.specs.declared.spelled.OwnNode.{OwnNode}
@@ -86,6 +87,10 @@ module _ (r : Tables) (c : Contents) (sizes : Sizes) (is : sizes ≡ sizes_of r)
       → Extends (contents_of r) c → IsSpeller (contents_of r) c s
   spelling_begun s base none own s_sizes counted x =
       begun (contents_of r) c s (subst (AreSizes (contents_of r)) (sym base) sized) (subst (AreSizes (contents_of r)) (sym s_sizes) sized) none own counted x
+
+  pub wide_begun : (s : Speller) (whole : Part) → s.numbers.base ≡ sizes → s.counted ≡ 0 → IsCounting (contents_of r) c whole s
+  wide_begun s whole base counted =
+      counting_begun (contents_of r) c whole s (base_done (contents_of r) s.numbers (subst (AreSizes (contents_of r)) (sym base) sized)) counted
 
   pub making_begun : (m : Numbers) (all : List OwnNode) → m.base ≡ sizes → ((p : Part) → get part_eq m.own p ≡ None) → AreOwn (contents_of r) all
       → Extends (contents_of r) c → IsMaking (contents_of r) c all all sizes m

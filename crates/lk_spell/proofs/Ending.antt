@@ -1,5 +1,5 @@
 -- What was spelled is the term.
-use Rattle.std.proofs.Common.{◌≡◌, ℕ, ◌<◌, [], length, refl, sym, subst, ◌∙◌, arith}
+use Rattle.std.proofs.Common.{◌≡◌, ℕ, ◌<◌, [], length, sym, arith}
 use Rattle.lk_store.specs.Contents.{Contents, Extends, tree_at}
 use Rattle.lk_spell.proofs.Moving.{same}
 use Rattle.lk_spell.specs.Numbers.{IsDone, number_or}

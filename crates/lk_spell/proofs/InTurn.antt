@@ -1,10 +1,10 @@
 -- A spelled term is made: own nodes are made in turn.
-use Rattle.std.proofs.Common.{◌≡◌, ℕ, ◌+◌, ◌<◌, List, [], ◌∷◌, length, refl, sym, ap, subst, ◌∙◌, arith, inl, inr, ◌⊎◌, below_more}
+use Rattle.std.proofs.Common.{◌≡◌, ℕ, ◌+◌, ◌<◌, List, [], ◌∷◌, length, sym, ap, subst, ◌∙◌, inl, inr, ◌⊎◌, below_more}
 use Rattle.lk_tree.specs.Tree.{zero_level, wide}
 use Rattle.lk_store.proofs.Columns.{length-push}
 use Rattle.lk_store.specs.Contents.{Contents, Extends, name_of, level_of, list_of, tree_of, IsTree, tree_at}
 use Rattle.lk_store.specs.declared.sizes.Sizes.{Sizes}
-use Rattle.lk_spell.proofs.Growing.{extends_grown, stands, sizes_grown, same_after, same_before, Extends-self}
+use Rattle.lk_spell.proofs.Growing.{extends_grown, stands, sizes_grown, same_after, same_before}
 use Rattle.lk_spell.proofs.Inside.{AreIn, own_in}
 use Rattle.lk_spell.proofs.Moving.{moves, same}
 use Rattle.lk_spell.specs.Moved.{AreDone, moved}

@@ -5,5 +5,6 @@ pub mod Spelling
 pub mod Inside
 pub mod Waiting
 pub mod InTurn
+pub mod Counting
 pub mod Beginning
 pub mod Ending

@@ -1,5 +1,5 @@
 -- A node over other numbers stands for the same.
-use Rattle.std.proofs.Common.{◌≡◌, ℕ, Bool, true, false, Some, None, refl}
+use Rattle.std.proofs.Common.{◌≡◌, ℕ, true, false, Some, None, refl}
 use Rattle.std.specs.declared.option.Option.{Option}
 use Rattle.std.specs.Prelude.{IsSome}
 use Rattle.lk_store.specs.Contents.{Contents, name_of, level_of, list_of, tree_of}

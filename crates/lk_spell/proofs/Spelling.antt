@@ -1,30 +1,21 @@
 -- A part is spelled.
-use Rattle.std.proofs.Common.{◌≡◌, ℕ, ◌++◌, ◌∷◌, [], Bool, true, false, None, Some, Ok, Err, refl, sym, subst, ◌∙◌, inl, inr, ◌⊎◌}
-use Rattle.std.specs.Prelude.{Result, OnOk, nat_lt, cond, ◌<◌}
-use Rattle.std.specs.declared.option.Option.{Option}
-use Rattle.std.specs.HashMap.{get}
-use Rattle.lk_store.specs.Contents.{Contents, Extends}
-use Rattle.lk_spell.proofs.Growing.{extends_grown, grown_push, own_push, count_push, stands, sizes_grown, same_after, same_before, same_self}
+use Rattle.std.proofs.Common.{◌≡◌, ℕ, refl, sym, subst, ◌∙◌, inl, inr}
+use Rattle.lk_store.specs.Contents.{Contents}
+use Rattle.lk_spell.proofs.Growing.{extends_grown, grown_push, own_push, count_push, stands, sizes_grown, same_after}
 use Rattle.lk_spell.proofs.Moving.{moves}
 use Rattle.lk_spell.specs.Moved.{AreDone, moved}
-use Rattle.lk_spell.specs.Numbers.{part_eq, number_in, Translates}
+use Rattle.lk_spell.specs.Numbers.{Translates}
 use Rattle.lk_spell.specs.Opened.{part_of, parts_back, IsOpenedIn}
-use Rattle.lk_spell.specs.Parts.{IsSame, IsPartIn, number_of}
-use Rattle.lk_spell.specs.Sizes.{AreSizes, is_within, next_part}
-use Rattle.lk_spell.specs.Spelled.{grown, grown_by, IsOwnIn, AreOwn}
+use Rattle.lk_spell.specs.Parts.{IsSame, number_of}
+use Rattle.lk_spell.specs.Sizes.{next_part}
+use Rattle.lk_spell.specs.Spelled.{grown, grown_by, IsOwnIn}
 use Rattle.lk_spell.specs.Spelling.{IsSpeller, Spells}
 use Rattle.lk_spell.specs.Standing.{own_parts, own_node, IsNumberOf}
 use Rattle.lk_spell.specs.declared.numbers.Numbers.{Numbers}
 use Rattle.lk_spell.specs.declared.open.Opened.{Opened}
 use Rattle.lk_spell.specs.declared.open.Opened.TheVariants.{Name, Text, Level, List as Levels, Term}
-use Rattle.lk_spell.specs.declared.part.Part.{Part}
-use Rattle.lk_spell.specs.declared.part.Part.TheVariants as part
 use Rattle.lk_spell.specs.declared.speller.Speller.{Speller}
 use Rattle.lk_spell.specs.declared.spelled.OwnNode.{OwnNode}
-
-pub on_ok : {A E : Type 0} (r : Result A E) (P Q : Type 0) → OnOk r P → (P → Q) → OnOk r Q
-on_ok (Ok v) P Q h f = f h
-on_ok (Err e) P Q h f = tt
 
 -- a number that stands for the node of an opened part is one of the part
 opened_same : (c d : Contents) (o : Opened) (n : ℕ) → IsOpenedIn c o → IsNumberOf c d (own_node c o) n → IsSame c d (part_of o) n

@@ -1,8 +1,7 @@
 -- The stack of the walk.
-use Rattle.std.proofs.Common.{◌≡◌, ℕ, ◌+◌, ◌<◌, List, [], ◌∷◌, ◌++◌, length, map, refl, sym, subst, ◌∙◌, arith, inl, inr, ◌⊎◌}
+use Rattle.std.proofs.Common.{◌≡◌, ℕ, ◌+◌, ◌<◌, List, [], ◌∷◌, ◌++◌, map, refl, sym, subst, ◌∙◌, arith, inl, inr, ◌⊎◌}
 use Rattle.std.proofs.lemmas.List.{append-nil}
 use Rattle.std.proofs.lemmas.Grind.{common_steps}
-use Rattle.lk_tree.specs.Tree.{Name, Level, Tree}
 use Rattle.lk_store.specs.Contents.{Contents, name_at, level_at, list_at, tree_at, name_of, level_of, list_of, tree_of}
 use Rattle.lk_store.specs.declared.node.NameNode.{NameNode}
 use Rattle.lk_store.specs.declared.node.NameNode.TheVariants as n
@@ -23,7 +22,7 @@ use Rattle.lk_spell.specs.Numbers.{IsDone}
 use Rattle.lk_spell.specs.Opened.{part_of, parts_back, IsOpenedIn}
 use Rattle.lk_spell.specs.Parts.{IsPartIn}
 use Rattle.lk_spell.proofs.Inside.{AreIn, name_in, level_in, list_in, term_in}
-use Rattle.lk_spell.specs.Waiting.{name_cost, level_cost, levels_cost, tree_cost, cost, turns, Waits, Come, AreWaiting, IsOpenedAt, IsEntered}
+use Rattle.lk_spell.specs.Waiting.{name_cost, level_cost, levels_cost, tree_cost, cost, turns, Waits, Come, AreWaiting, IsEntered}
 
 turns_append : (c : Contents) (xs ys : List Visit) → turns c (xs ++ ys) ≡ turns c xs + turns c ys
 turns_append c [] ys = omega arith
@@ -128,6 +127,9 @@ done m (p ∷ ps) h = (elim h.0 [ inl d ↦ d | inr w ↦ absurd w ], done m ps 
 pub record IsUnderWay (c : Contents) (m : Numbers) (part : Part) (stack : List Visit) : Type 0 where
   pub waiting : AreWaiting c m stack
   pub comes : IsDone m part ⊎ Waits stack part
+
+pub begun : (c : Contents) (m : Numbers) (root : Part) (stack : List Visit) → stack ≡ Enter root ∷ [] → IsPartIn c root → IsUnderWay c m root stack
+begun c m root stack is there = rw is (record { waiting = (there, tt); comes = inr (inl refl) })
 
 module _ (c : Contents) (m : Numbers) (root : Part) (stack rest : List Visit) where
   -- a part is entered

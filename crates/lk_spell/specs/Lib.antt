@@ -7,3 +7,4 @@ pub mod Moved
 pub mod Standing
 pub mod Waiting
 pub mod Spelling
+pub mod Wide

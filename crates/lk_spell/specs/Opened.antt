@@ -1,5 +1,5 @@
 -- A part with its node, and the parts of that.
-use Rattle.std.specs.Prelude.{◌≡◌, ℕ, ◌<◌, List, [], ◌∷◌, length}
+use Rattle.std.specs.Prelude.{◌≡◌, ◌<◌, List, [], ◌∷◌, length}
 use Rattle.lk_store.specs.Contents.{Contents, name_at, level_at, list_at, tree_at}
 use Rattle.lk_store.specs.Contents.{name_of, level_of, list_of, tree_of}
 use Rattle.lk_store.specs.Contents.{IsNameIn, IsLevelIn, IsListIn, IsIn}

@@ -1,5 +1,5 @@
 -- Parts of the terms of a store, and what their numbers stand for.
-use Rattle.std.specs.Prelude.{◌≡◌, ℕ, ◌<◌, length}
+use Rattle.std.specs.Prelude.{ℕ, ◌<◌, length}
 use Rattle.lk_store.specs.Contents.{Contents, name_at, text_at, level_at, list_at, tree_at}
 use Rattle.lk_store.specs.Contents.{IsName, IsText, IsLevel, IsList, IsTree}
 use Rattle.lk_spell.specs.declared.part.Part.{Part}

@@ -1,5 +1,5 @@
 -- How much there is of each kind.
-use Rattle.std.specs.Prelude.{◌≡◌, ℕ, ◌+◌, Bool, nat_lt, length}
+use Rattle.std.specs.Prelude.{◌≡◌, ◌+◌, Bool, nat_lt, length}
 use Rattle.lk_store.specs.Contents.{Contents}
 use Rattle.lk_store.specs.declared.sizes.Sizes.{Sizes}
 use Rattle.lk_spell.specs.declared.part.Part.{Part}

@@ -1,5 +1,5 @@
 -- What a spelled term stands for over the contents of a library.
-use Rattle.std.specs.Prelude.{◌≡◌, ℕ, ◌<◌, ◌≤◌, List, [], ◌∷◌, ◌++◌, length, Bool, true, false, count_by}
+use Rattle.std.specs.Prelude.{◌<◌, ◌≤◌, List, [], ◌∷◌, ◌++◌, length, Bool, true, false, count_by}
 use Rattle.lk_tree.specs.Tree.{Tree}
 use Rattle.lk_store.specs.Contents.{Contents, name_of, level_of, list_of, tree_of, tree_at}
 use Rattle.lk_store.specs.Contents.{IsNameIn, IsLevelIn, IsListIn, IsIn}

@@ -1,5 +1,5 @@
 -- What was spelled so far.
-use Rattle.std.specs.Prelude.{◌≡◌, ℕ, ◌+◌, ◌≤◌, [], ◌∷◌, ◌++◌, count_by, if◌then◌else◌}
+use Rattle.std.specs.Prelude.{◌≡◌, ◌+◌, ◌≤◌, [], ◌∷◌, ◌++◌, count_by, if◌then◌else◌}
 use Rattle.lk_store.specs.Contents.{Contents}
 use Rattle.lk_spell.specs.declared.part.Part.{Part}
 use Rattle.lk_spell.specs.declared.spelled.OwnNode.{OwnNode}

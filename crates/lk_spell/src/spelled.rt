@@ -32,6 +32,11 @@ pub enum SpellError {
 }
 
 impl From<NoMemory> for SpellError {
+    ghost use Rattle.std.specs.Prelude.{◌≡◌};
+    ghost use Rattle.lk_spell.specs.declared.spelled.SpellError.TheVariants.{NoMemory};
+
+    ghost from_gives = { λ _ e. e ≡ NoMemory };
+
     fn from(_e: NoMemory) -> SpellError {
         SpellError::NoMemory
     }

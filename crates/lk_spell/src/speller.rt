@@ -1,6 +1,6 @@
 //! What was spelled so far.
 
-ghost use Rattle.std.specs.Prelude.{◌≡◌, ◌+◌, ◌≤◌, OnOk, IfOk, None, [], ◌∷◌, ◌++◌, if◌then◌else◌};
+ghost use Rattle.std.specs.Prelude.{◌≡◌, ◌+◌, ◌≤◌, OnOk, IfOk, IfErr, None, true, [], ◌∷◌, ◌++◌, if◌then◌else◌};
 ghost use Rattle.std.specs.HashMap.{get};
 ghost use Rattle.lk_store.specs.Contents.{Contents};
 ghost use Rattle.lk_store.specs.Store.{over, contents_of};
@@ -12,6 +12,7 @@ ghost use Rattle.lk_spell.specs.Spelled.{is_counted};
 ghost use Rattle.lk_spell.specs.Spelling.{IsSpeller, Spells};
 ghost use Rattle.lk_spell.specs.Standing.{own_parts, own_node};
 ghost use Rattle.lk_spell.specs.Waiting.{IsEntered};
+ghost use Rattle.lk_spell.specs.Wide.{IfTooWide, IsCounted, IsOneMore};
 
 use crate::moved::moved;
 use crate::numbers::Numbers;
@@ -110,9 +111,11 @@ impl Speller {
     /// Counts a node, where that is one of a term or a level.
     fn count(&mut self, node: &OwnNode) -> Result<(), SpellError>
         requires { self.old.counted ≤ 4096 }
-        ensures { OnOk result ((self.new ≡ record self.old { counted = self.new.counted })
+        ensures counted { OnOk result ((self.new ≡ record self.old { counted = self.new.counted })
             × (self.new.counted ≡ self.old.counted + (if is_counted node.now then 1 else 0))
             × (self.new.counted ≤ 4096)) }
+        ensures full { IfErr result (λ e. IfTooWide e (
+            (is_counted node.now ≡ true) × (self.old.counted ≡ 4096))) }
     {
         if !is_counted(node) {
             return Ok(());
@@ -127,7 +130,9 @@ impl Speller {
     /// Spells a part by a node.
     fn add(&mut self, part: Part, node: OwnNode) -> Result<(), SpellError>
         requires { self.old.counted ≤ 4096 }
-        ensures { OnOk result (Spells self.old self.new part node) }
+        ensures spells { OnOk result (Spells self.old self.new part node) }
+        ensures full { IfErr result (λ e. IfTooWide e (
+            (is_counted node ≡ true) × (self.old.counted ≡ 4096))) }
     {
         self.count(&node)?;
         let number = number_next(&mut self.sizes, &node)?;
@@ -150,6 +155,8 @@ impl Speller {
         ensures stays { OnOk result ((q : Part) → IsDone self.old.numbers q
             → IsDone self.new.numbers q) }
         ensures done { OnOk result (IsDone self.new.numbers (part_of opened)) }
+        ensures counted { OnOk result (IsCounted (part_of opened) self.old self.new) }
+        ensures wide { IfErr result (λ e. IfTooWide e (IsOneMore (part_of opened) self.old)) }
         ensures spells { (b : Contents)
             → IsSpeller b (contents_of (over terms.now.0 terms.now.1)) self.old
             → OnOk result (IsSpeller b (contents_of (over terms.now.0 terms.now.1)) self.new) }

@@ -1,12 +1,14 @@
 //! The walk that spells a term.
 
-ghost use Rattle.std.specs.Prelude.{◌≡◌, ◌<◌, ◌≤◌, length, IfOk, OnOk};
+ghost use Rattle.std.specs.Prelude.{◌≡◌, ◌<◌, ◌≤◌, length, IfOk, IfErr, OnOk};
 ghost use Rattle.lk_store.specs.Contents.{Contents, Extends, tree_at};
 ghost use Rattle.lk_store.specs.Store.{over, contents_of};
 ghost use Rattle.lk_spell.specs.Numbers.{IsDone};
 ghost use Rattle.lk_spell.specs.Parts.{IsPartIn};
 ghost use Rattle.lk_spell.specs.Spelled.{IsSpelled, spelled_tree};
 ghost use Rattle.lk_spell.specs.Spelling.{IsSpeller};
+ghost use Rattle.lk_spell.specs.Wide.{IfTooWide, IsCounting, IsWide};
+ghost use Rattle.lk_spell.specs.declared.part.Part.TheVariants as part;
 
 use crate::open::{Visit, push};
 use crate::part::Part;
@@ -20,6 +22,10 @@ fn walk(alloc: Global, terms: &Overlay, speller: &mut Speller, root: Part) -> Re
     requires few { speller.old.counted ≤ 4096 }
     requires known { IsPartIn (contents_of (over terms.now.0 terms.now.1)) root }
     ensures done { OnOk result (IsDone speller.new.numbers root) }
+    ensures wide { (b : Contents)
+        → IsCounting b (contents_of (over terms.now.0 terms.now.1)) root speller.old
+        → IfErr result (λ e. IfTooWide e
+        (IsWide b (contents_of (over terms.now.0 terms.now.1)) root)) }
     ensures spells { (b : Contents)
         → IsSpeller b (contents_of (over terms.now.0 terms.now.1)) speller.old
         → OnOk result (IsSpeller b (contents_of (over terms.now.0 terms.now.1)) speller.new) }
@@ -36,12 +42,15 @@ fn walk(alloc: Global, terms: &Overlay, speller: &mut Speller, root: Part) -> Re
 }
 
 /// The term, spelled over the library's store. A term of the library is its number, without a walk.
+/// `TooWide` comes only where the library lacks 4,097 terms and levels or more that the term is made of.
 pub fn spell(alloc: Global, terms: &Overlay, e: u64) -> Result<Spelled, SpellError>
     requires known { e < length (contents_of (over terms.now.0 terms.now.1)).trees }
     requires over { Extends (contents_of terms.now.0) (contents_of (over terms.now.0 terms.now.1)) }
     ensures spelled { IfOk result (IsSpelled (contents_of terms.now.0)) }
     ensures tree { IfOk result (λ s. spelled_tree (contents_of terms.now.0) s
         ≡ tree_at (contents_of (over terms.now.0 terms.now.1)) e) }
+    ensures wide { IfErr result (λ r. IfTooWide r (IsWide (contents_of terms.now.0)
+        (contents_of (over terms.now.0 terms.now.1)) (part.Term e))) }
 {
     let sizes = terms.base_sizes();
     if e < sizes.terms {

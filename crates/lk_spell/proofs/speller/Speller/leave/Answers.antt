@@ -1,7 +1,9 @@
 use Rattle.std.proofs.Common.{rules}
 use Rattle.lk_store.specs.Store.{over, contents_of}
-use Rattle.lk_spell.proofs.Spelling.{on_ok, spells}
-use Rattle.lk_spell.specs.Spelling.{IsSpeller, Spells}
+use Rattle.lk_spell.proofs.Spelling.{spells}
+use Rattle.std.proofs.lemmas.Result.{on_ok_weaker}
+use Rattle.std.specs.Prelude.{OnOk}
+use Rattle.lk_spell.specs.Spelling.{Spells}
 use Rattle.lk_spell.specs.Moved.{moved}
 use Rattle.lk_spell.specs.Opened.{part_of}
 use Rattle.lk_spell.specs.Standing.{own_node}
@@ -12,5 +14,5 @@ returns-clause-spells c = λ b h.
     let now = contents_of (over c.args.terms.now.0 c.args.terms.now.1) in
     let old = c.args.self.now in
     let new = c.add.new.self in
-    on_ok c.add.result (Spells old new (part_of c.args.opened) (moved old.numbers (own_node now c.args.opened))) (IsSpeller b now new) (search rules)
-    (λ s. spells b now old new c.args.opened c.requires.opened c.requires.done s h)
+    let this : OnOk c.add.result (Spells old new (part_of c.args.opened) (moved old.numbers (own_node now c.args.opened))) = search rules in
+    on_ok_weaker c.add.result (λ s. spells b now old new c.args.opened c.requires.opened c.requires.done s h) this
