@@ -10,3 +10,4 @@ pub mod Shelves
 pub mod Held
 pub mod Hooks
 pub mod Memory
+pub mod Entries

@@ -1,6 +1,6 @@
 -- What a shelf tells before and after a call: the answers of each shard, by its number.
 use Rattle.std.specs.Prelude.{◌≡◌, ◌≢◌, ℕ, ◌<◌, List, Option, Some, None}
-use Rattle.lk_ask.specs.declared.kept.Kept.{Kept}
+use Rattle.lk_desk.specs.declared.entry.Entry.{Entry}
 use Rattle.lk_memo.specs.declared.key.Key.{Key}
 use Rattle.lk_desk.specs.declared.shard.Shard.{Shard}
 use Rattle.lk_desk.specs.declared.shelf.Left.{Left}
@@ -10,7 +10,7 @@ use Rattle.lk_desk.specs.Shards.{Misses, IsPut, IsFull}
 
 -- the answers of each shard, by its number
 abbrev pub Told : Type 0
-Told = ℕ → List (Key × Kept)
+Told = ℕ → List (Key × Entry)
 
 -- a shard and its number, where there is one
 abbrev pub Numbered : Type 0
@@ -27,15 +27,15 @@ abbrev pub AsTaken : Option Shard → ℕ → Told → Told → Type 0
 AsTaken None shard before after = AsBefore before after
 AsTaken (Some x) shard before after = (entries_of x ≡ before shard) × Others shard before after
 
-abbrev pub AsGiven : ℕ → List (Key × Kept) → Told → Told → Type 0
+abbrev pub AsGiven : ℕ → List (Key × Entry) → Told → Told → Type 0
 AsGiven shard given before after = (after shard ≡ given) × Others shard before after
 
 -- how the shards are after an answer was left
-abbrev pub LeftAs : Left → ℕ → Key → Kept → Told → Told → Type 0
-LeftAs Stored shard key kept before after =
-    IsPut (before shard) (after shard) key kept × Others shard before after
-LeftAs Out shard key kept before after = AsBefore before after
-LeftAs Full shard key kept before after = IsFull (before shard) key × AsBefore before after
+abbrev pub LeftAs : Left → ℕ → Key → Entry → Told → Told → Type 0
+LeftAs Stored shard key entry before after =
+    IsPut (before shard) (after shard) key entry × Others shard before after
+LeftAs Out shard key entry before after = AsBefore before after
+LeftAs Full shard key entry before after = IsFull (before shard) key × AsBefore before after
 
 abbrev pub IfOut : Left → Type 0 → Type 0
 IfOut Stored p = Unit {0}
@@ -49,11 +49,11 @@ TakenMisses shard (Some x) key unit = (x.0 ≡ shard) × Misses (entries_of x.1)
 
 -- the shard of this number was taken and given back with the answer under its question, and the
 -- others of its answers as they were
-abbrev pub TakenAndPut : ℕ → Numbered → Numbered → Key → Kept → Type 0
-TakenAndPut shard None back key kept = ⊥
-TakenAndPut shard (Some x) None key kept = ⊥
-TakenAndPut shard (Some x) (Some y) key kept =
-    (x.0 ≡ shard) × (y.0 ≡ shard) × IsPut (entries_of x.1) (entries_of y.1) key kept
+abbrev pub TakenAndPut : ℕ → Numbered → Numbered → Key → Entry → Type 0
+TakenAndPut shard None back key entry = ⊥
+TakenAndPut shard (Some x) None key entry = ⊥
+TakenAndPut shard (Some x) (Some y) key entry =
+    (x.0 ≡ shard) × (y.0 ≡ shard) × IsPut (entries_of x.1) (entries_of y.1) key entry
 
 -- the shard of this number was taken, and given back as it was
 abbrev pub TakenKept : ℕ → Numbered → Numbered → Type 0
@@ -71,7 +71,7 @@ TakenFull shard (Some x) (Some y) key =
 
 -- how an answer was left, by the shards that were taken and given back last, where one was taken
 -- once
-abbrev pub LeftSo : Left → Type 0 → ℕ → Numbered → Numbered → Key → Kept → Type 0
-LeftSo Stored once shard taken back key kept = once × TakenAndPut shard taken back key kept
-LeftSo Out once shard taken back key kept = Unit {0}
-LeftSo Full once shard taken back key kept = once × TakenFull shard taken back key
+abbrev pub LeftSo : Left → Type 0 → ℕ → Numbered → Numbered → Key → Entry → Type 0
+LeftSo Stored once shard taken back key entry = once × TakenAndPut shard taken back key entry
+LeftSo Out once shard taken back key entry = Unit {0}
+LeftSo Full once shard taken back key entry = once × TakenFull shard taken back key

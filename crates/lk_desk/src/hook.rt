@@ -2,18 +2,23 @@
 
 ghost use Rattle.std.specs.Prelude.{◌≡◌, ◌+◌, ◌<◌, ◌≤◌, ◌⊎◌, ℕ, [], ◌∷◌, IfOk, OnErr, IfSome, IfNone, Some, None, true};
 ghost use Rattle.lk_plain.specs.Laws.{IsBelow};
-ghost use Rattle.lk_desk.specs.Truth.{IsTrueOf};
+ghost use Rattle.lk_desk.specs.Truth.{IsTrueOf, IsFoundOf, IsTablesOf};
+ghost use Rattle.lk_store.specs.Contents.{Extends};
+ghost use Rattle.lk_store.specs.Store.{over, contents_of};
 ghost use Rattle.lk_desk.specs.Seats.{view, hand, job, IsOf, Sits};
 ghost use Rattle.lk_desk.specs.Held.{is_held, still};
 ghost use Rattle.lk_desk.specs.Shards.{shard_number};
 ghost use Rattle.lk_desk.specs.Shelves.{IfOut, LeftSo, TakenKept, TakenMisses};
 
+use crate::entry::Entry;
 use crate::shard::Shard;
 use crate::shelf::{Left, Shelf, leave_on, look_on};
 use crate::table::{Desk, Seat};
 use lk_ask::kept::Kept;
 use lk_memo::key::Key;
 use lk_store::memory::NoMemory;
+use lk_store::overlay::Overlay;
+use std::alloc::Global;
 
 /// The shards of a desk, as a seat takes and gives them.
 #[derive(Drop)]
@@ -62,41 +67,56 @@ impl<'a> Shelf for Hook<'a> {
 }
 
 impl Desk {
-    /// A true answer to the question, for which only units below this one were looked at. There is
-    /// none only where a shard was out, or where the question's shard was taken, once, and had no such
-    /// answer. It takes no memory.
-    pub fn look(&self, seat: &mut Seat, unit: u32, key: Key) -> Option<Kept>
-        requires { Sits seat.old self.now }
+    /// A true answer to the question, for which only units below this one were looked at, made in
+    /// an overlay of the job's library. There is none only where a shard was out, or where the
+    /// question's shard was taken, once, and had no such answer.
+    pub fn look(
+        &self,
+        alloc: Global,
+        terms: &mut Overlay,
+        seat: &mut Seat,
+        unit: u32,
+        key: Key,
+    ) -> Result<Option<Kept>, NoMemory>
+        requires of { Sits seat.old self.now }
+        requires tables { IsTablesOf (job self.now) terms.old.0 }
+        requires over { Extends (contents_of terms.old.0)
+            (contents_of (over terms.old.0 terms.old.1)) }
+        ensures keeps { Extends (contents_of (over terms.old.0 terms.old.1))
+            (contents_of (over terms.new.0 terms.new.1)) }
+        ensures base { terms.new.0 ≡ terms.old.0 }
         ensures sits { Sits seat.new self.now }
         ensures still { still (view seat.new) ≡ still (view seat.old) }
-        ensures some { IfSome result (λ a. IsTrueOf (job self.now) key a × IsBelow a.top unit) }
-        ensures none { IfNone result (((view seat.old).outs < (view seat.new).outs)
-            ⊎ TakenMisses (shard_number key) (view seat.new).taken key unit) }
+        ensures some { IfOk result (λ o. IfSome o (λ a. IsFoundOf (job self.now)
+            (contents_of (over terms.new.0 terms.new.1)) key a × IsBelow a.top unit)) }
+        ensures none { IfOk result (λ o. IfNone o (
+            ((view seat.old).outs < (view seat.new).outs)
+            ⊎ TakenMisses (shard_number key) (view seat.new).taken key unit)) }
         ensures returned { ((view seat.old).outs < (view seat.new).outs)
             ⊎ (((view seat.new).takes ≡ (view seat.old).takes + 1)
             × ((view seat.new).returned ≡ (view seat.new).taken)) }
         ensures outs { (view seat.old).outs ≤ (view seat.new).outs }
     {
         let mut hook = Hook { desk: self, seat };
-        look_on(&mut hook, unit, key)
+        look_on(alloc, terms, &mut hook, unit, key)
     }
 
     /// Leaves a true answer. `Out` comes only where a shard was out, `Full` only where the question's
     /// shard was taken, once, and has no room.
-    pub fn leave(&self, seat: &mut Seat, key: Key, kept: Kept) -> Result<Left, NoMemory>
+    pub fn leave(&self, seat: &mut Seat, key: Key, entry: Entry) -> Result<Left, NoMemory>
         requires of { Sits seat.old self.now }
-        requires true_entry { IsTrueOf (job self.now) key kept }
+        requires true_entry { IsTrueOf (job self.now) key entry }
         ensures sits { Sits seat.new self.now }
         ensures still { still (view seat.new) ≡ still (view seat.old) }
         ensures left { IfOk result (λ l. LeftSo l
             ((view seat.new).takes ≡ (view seat.old).takes + 1) (shard_number key)
-            (view seat.new).taken (view seat.new).returned key kept) }
+            (view seat.new).taken (view seat.new).returned key entry) }
         ensures memory { OnErr result (((view seat.new).takes ≡ (view seat.old).takes + 1)
             × TakenKept (shard_number key) (view seat.new).taken (view seat.new).returned) }
         ensures out { IfOk result (λ l. IfOut l ((view seat.old).outs < (view seat.new).outs)) }
         ensures outs { (view seat.old).outs ≤ (view seat.new).outs }
     {
         let mut hook = Hook { desk: self, seat };
-        leave_on(&mut hook, key, kept)
+        leave_on(&mut hook, key, entry)
     }
 }

@@ -31,11 +31,11 @@ impl<'a> Model for MemShelf<'a> {
     ghost use Rattle.std.specs.declared.option.Option.{Option as AnOption};
     ghost use Rattle.lk_store.specs.declared.tables.Tables.{Tables};
     ghost use Rattle.lk_env.specs.declared.unit.Unit.{Unit as StoredUnit};
-    ghost use Rattle.lk_ask.specs.declared.kept.Kept.{Kept};
+    ghost use Rattle.lk_desk.specs.declared.entry.Entry.{Entry};
     ghost use Rattle.lk_memo.specs.declared.key.Key.{Key};
     ghost use Rattle.lk_desk.specs.Truth.{entries_of};
 
-    ghost Value = { (Tables × List StoredUnit) × List (List (Key × Kept)) × AnOption ℕ };
+    ghost Value = { (Tables × List StoredUnit) × List (List (Key × Entry)) × AnOption ℕ };
 
     ghost view = { λ s. (s.library.now, map entries_of s.shards.items, s.out) };
 

@@ -2,12 +2,16 @@
 
 ghost use Rattle.std.specs.Prelude.{◌≡◌, ◌<◌, ◌≤◌, ℕ, IfOk, OnErr, IfSome, IfNone, IsTrue, [], true, false};
 ghost use Rattle.lk_plain.specs.Laws.{IsBelow};
+ghost use Rattle.lk_store.specs.Contents.{Extends};
+ghost use Rattle.lk_store.specs.Store.{over, contents_of};
 ghost use Rattle.lk_desk.specs.Truth.{entries_of};
-ghost use Rattle.lk_desk.specs.Shards.{kind_number, shard_number, Finds, Misses, HasRoom, IsPut, IsFull};
+ghost use Rattle.lk_desk.specs.Shards.{kind_number, shard_number, Finds, Misses, IsMadeOf, AreSpelled, HasRoom, IsPut, IsFull};
 
+use crate::entry::Entry;
 use lk_ask::kept::Kept;
 use lk_memo::key::{Key, Kind};
 use lk_store::memory::NoMemory;
+use lk_store::overlay::Overlay;
 use std::alloc::Global;
 use std::collections::HashMap;
 
@@ -17,7 +21,7 @@ const MOST: usize = 4096;
 /// Answers, each under its question.
 #[derive(Drop)]
 pub struct Shard {
-    pub(crate) answers: HashMap<Key, Kept>,
+    pub(crate) answers: HashMap<Key, Entry>,
 }
 
 /// A number for what is asked.
@@ -63,18 +67,42 @@ impl Shard {
     }
 
     /// The answer to a question, where only units below this one were looked at for it.
-    pub fn find(&self, key: Key, unit: u32) -> Option<Kept>
-        ensures some { IfSome result (Finds (entries_of self.now) key unit) }
+    pub fn find(&self, key: Key, unit: u32) -> Option<&Entry>
+        ensures some { IfSome result (λ x. Finds (entries_of self.now) key unit x.now) }
         ensures none { IfNone result (Misses (entries_of self.now) key unit) }
     {
-        let kept = match self.answers.get(&key) {
-            Some(kept) => *kept,
+        let entry = match self.answers.get(&key) {
+            Some(entry) => entry,
             None => return None,
         };
-        if is_below(kept.top, unit) {
-            Some(kept)
+        if is_below(entry.top, unit) {
+            Some(entry)
         } else {
             None
+        }
+    }
+
+    /// The same, made in an overlay of the library.
+    pub fn made(
+        &self,
+        alloc: Global,
+        terms: &mut Overlay,
+        key: Key,
+        unit: u32,
+    ) -> Result<Option<Kept>, NoMemory>
+        requires spelled { AreSpelled (contents_of terms.old.0) (entries_of self.now) }
+        requires over { Extends (contents_of terms.old.0)
+            (contents_of (over terms.old.0 terms.old.1)) }
+        ensures keeps { Extends (contents_of (over terms.old.0 terms.old.1))
+            (contents_of (over terms.new.0 terms.new.1)) }
+        ensures base { terms.new.0 ≡ terms.old.0 }
+        ensures some { IfOk result (λ o. IfSome o (IsMadeOf (entries_of self.now) key unit
+            (contents_of terms.old.0) (contents_of (over terms.new.0 terms.new.1)))) }
+        ensures none { IfOk result (λ o. IfNone o (Misses (entries_of self.now) key unit)) }
+    {
+        match self.find(key, unit) {
+            Some(entry) => Ok(Some(entry.made(alloc, terms)?)),
+            None => Ok(None),
         }
     }
 
@@ -88,9 +116,9 @@ impl Shard {
 
     /// Puts an answer under its question, where there is room; whether there is. Where memory is
     /// wanting the shard is as before.
-    pub fn put(&mut self, key: Key, kept: Kept) -> Result<bool, NoMemory>
+    pub fn put(&mut self, key: Key, entry: Entry) -> Result<bool, NoMemory>
         ensures stored { IfOk result (λ b. b ≡ true
-            → IsPut (entries_of self.old) (entries_of self.new) key kept) }
+            → IsPut (entries_of self.old) (entries_of self.new) key entry) }
         ensures full { IfOk result (λ b. b ≡ false → IsFull (entries_of self.old) key
             × (entries_of self.new ≡ entries_of self.old)) }
         ensures refused { OnErr result (entries_of self.new ≡ entries_of self.old) }
@@ -98,7 +126,7 @@ impl Shard {
         if !self.has_room(key) {
             return Ok(false);
         }
-        self.answers.insert(key, kept)?;
+        self.answers.insert(key, entry)?;
         Ok(true)
     }
 }

@@ -4,15 +4,20 @@ ghost use Rattle.std.specs.Prelude.{◌≡◌, ◌≢◌, ◌+◌, ◌<◌, ◌�
 ghost use Rattle.atomic_table.specs.Seated.{TableId};
 ghost use Rattle.lk_plain.specs.Laws.{IsBelow};
 ghost use Rattle.lk_desk.specs.declared.view.View.{View};
+ghost use Rattle.lk_store.specs.Contents.{Extends};
+ghost use Rattle.lk_store.specs.Store.{over, contents_of};
 ghost use Rattle.lk_desk.specs.Job.{Job};
-ghost use Rattle.lk_desk.specs.Truth.{AreTrue, IsTrueOf, entries_of};
+ghost use Rattle.lk_desk.specs.Truth.{AreTrue, IsTrueOf, IsFoundOf, IsTablesOf, entries_of};
 ghost use Rattle.lk_desk.specs.Shards.{shard_number, Misses};
 ghost use Rattle.lk_desk.specs.Shelves.{Told, Numbered, AsBefore, AsTaken, AsGiven, LeftAs, IfOut, TakenMisses, TakenKept, LeftSo};
 
+use crate::entry::Entry;
 use crate::shard::{Shard, shard_of};
 use lk_ask::kept::Kept;
 use lk_memo::key::Key;
 use lk_store::memory::NoMemory;
+use lk_store::overlay::Overlay;
+use std::alloc::Global;
 
 /// How an answer was left: its shard has it, its shard was out, or its shard has no room.
 #[derive(Clone, Copy)]
@@ -95,17 +100,29 @@ pub trait Shelf {
             → AsGiven shard (entries_of given) (told self.old) (told self.new) };
 }
 
-/// A true answer to the question, for which only units below this one were looked at. There is none
-/// only where a shard was out, or where the question's shard as taken had no such answer. The shard is
-/// given back as it was taken.
-pub fn look_on<S: Shelf>(shelf: &mut S, unit: u32, key: Key) -> Option<Kept>
-    requires { S.in_hand shelf.old ≡ None }
-    ensures some { IfSome result (λ a. IsTrueOf (S.job shelf.old) key a × IsBelow a.top unit) }
-    ensures none { IfNone result ((S.outs shelf.old < S.outs shelf.new)
-        ⊎ (S.tells shelf.old ≡ true → Misses (S.told shelf.old (shard_number key)) key unit)) }
-    ensures taken { S.remembers shelf.old ≡ true → IfNone result (
+/// A true answer to the question, for which only units below this one were looked at, made in an overlay
+/// of the job's library. There is none only where a shard was out, or where the question's shard as taken
+/// had no such answer. The shard is given back as it was taken, also where memory is wanting.
+pub fn look_on<S: Shelf>(
+    alloc: Global,
+    terms: &mut Overlay,
+    shelf: &mut S,
+    unit: u32,
+    key: Key,
+) -> Result<Option<Kept>, NoMemory>
+    requires empty { S.in_hand shelf.old ≡ None }
+    requires tables { IsTablesOf (S.job shelf.old) terms.old.0 }
+    requires over { Extends (contents_of terms.old.0) (contents_of (over terms.old.0 terms.old.1)) }
+    ensures keeps { Extends (contents_of (over terms.old.0 terms.old.1))
+        (contents_of (over terms.new.0 terms.new.1)) }
+    ensures base { terms.new.0 ≡ terms.old.0 }
+    ensures some { IfOk result (λ o. IfSome o (λ a. IsFoundOf (S.job shelf.old)
+        (contents_of (over terms.new.0 terms.new.1)) key a × IsBelow a.top unit)) }
+    ensures none { IfOk result (λ o. IfNone o ((S.outs shelf.old < S.outs shelf.new)
+        ⊎ (S.tells shelf.old ≡ true → Misses (S.told shelf.old (shard_number key)) key unit))) }
+    ensures taken { S.remembers shelf.old ≡ true → IfOk result (λ o. IfNone o (
         (S.outs shelf.old < S.outs shelf.new)
-        ⊎ TakenMisses (shard_number key) (S.taken shelf.new) key unit) }
+        ⊎ TakenMisses (shard_number key) (S.taken shelf.new) key unit)) }
     ensures back { S.tells shelf.old ≡ true → AsBefore (S.told shelf.old) (S.told shelf.new) }
     ensures returned { S.remembers shelf.old ≡ true → (S.outs shelf.old < S.outs shelf.new)
         ⊎ ((S.takes shelf.new ≡ S.takes shelf.old + 1)
@@ -121,22 +138,22 @@ pub fn look_on<S: Shelf>(shelf: &mut S, unit: u32, key: Key) -> Option<Kept>
 {
     let number = shard_of(key);
     let Some(taken) = shelf.take(number) else {
-        return None;
+        return Ok(None);
     };
-    let found = taken.find(key, unit);
+    let found = taken.made(alloc, terms, key, unit);
     shelf.give(number, taken);
     found
 }
 
 /// Leaves a true answer. At `Stored` its shard has it under its question, and its other answers as they were.
-pub fn leave_on<S: Shelf>(shelf: &mut S, key: Key, kept: Kept) -> Result<Left, NoMemory>
+pub fn leave_on<S: Shelf>(shelf: &mut S, key: Key, entry: Entry) -> Result<Left, NoMemory>
     requires empty { S.in_hand shelf.old ≡ None }
-    requires true_entry { IsTrueOf (S.job shelf.old) key kept }
+    requires true_entry { IsTrueOf (S.job shelf.old) key entry }
     ensures told { S.tells shelf.old ≡ true → IfOk result (λ l.
-        LeftAs l (shard_number key) key kept (S.told shelf.old) (S.told shelf.new)) }
+        LeftAs l (shard_number key) key entry (S.told shelf.old) (S.told shelf.new)) }
     ensures taken { S.remembers shelf.old ≡ true → IfOk result (λ l.
         LeftSo l (S.takes shelf.new ≡ S.takes shelf.old + 1) (shard_number key)
-        (S.taken shelf.new) (S.returned shelf.new) key kept) }
+        (S.taken shelf.new) (S.returned shelf.new) key entry) }
     ensures memory { S.tells shelf.old ≡ true
         → OnErr result (AsBefore (S.told shelf.old) (S.told shelf.new)) }
     ensures back { S.remembers shelf.old ≡ true
@@ -156,7 +173,7 @@ pub fn leave_on<S: Shelf>(shelf: &mut S, key: Key, kept: Kept) -> Result<Left, N
     let Some(mut taken) = shelf.take(number) else {
         return Ok(Left::Out);
     };
-    let stored = taken.put(key, kept);
+    let stored = taken.put(key, entry);
     shelf.give(number, taken);
     if stored? {
         Ok(Left::Stored)

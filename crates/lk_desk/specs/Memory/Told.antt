@@ -3,7 +3,7 @@ use Rattle.std.specs.Prelude.{ℕ, Bool, true, false, List, [], slice_index_or, 
 use Rattle.atomic_table.specs.Seated.{TableId}
 use Rattle.lk_store.specs.declared.tables.Tables.{Tables}
 use Rattle.lk_env.specs.declared.unit.Unit.{Unit as StoredUnit}
-use Rattle.lk_ask.specs.declared.kept.Kept.{Kept}
+use Rattle.lk_desk.specs.declared.entry.Entry.{Entry}
 use Rattle.lk_memo.specs.declared.key.Key.{Key}
 use Rattle.lk_desk.specs.declared.view.View.{View}
 use Rattle.lk_desk.specs.Job.{Job, job_of}
@@ -25,7 +25,7 @@ no_table =
 
 -- a library, the answers of each shard, and the number of the one that is out
 abbrev pub InMemory : Type 0
-InMemory = (Tables × List StoredUnit) × List (List (Key × Kept)) × Option ℕ
+InMemory = (Tables × List StoredUnit) × List (List (Key × Entry)) × Option ℕ
 
 abbrev pub mem_job : InMemory → Job
 mem_job m = job_of m.0

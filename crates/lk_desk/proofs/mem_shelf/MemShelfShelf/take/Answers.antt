@@ -1,5 +1,5 @@
 use Rattle.std.proofs.Common.{List, ◌∙◌, ap, arith, length-set}
-use Rattle.lk_ask.specs.declared.kept.Kept.{Kept}
+use Rattle.lk_desk.specs.declared.entry.Entry.{Entry}
 use Rattle.lk_memo.specs.declared.key.Key.{Key}
 use Rattle.lk_desk.proofs.InMemory.{entries_get, entries_else}
 use Rattle.std.proofs.lemmas.List.Elements.{All-set}
@@ -14,7 +14,7 @@ returns-clause-told c = rw (← c.self.view_is) (λ t.
     let xs = c.self.inside.shards.items in
     let n = c.self.invariant.0 in
     let small = c.requires.shard in
-    let inside : Shard → List (Key × Kept) = λ x. entries_of x in (
+    let inside : Shard → List (Key × Entry) = λ x. entries_of x in (
       ap inside c.replace-taken.ensures.value ∙ (ap inside c.index_mut.ensures.value ∙ entries_get xs c.args.shard _ (omega arith)),
       λ j lt ne. entries_else xs c.args.shard j c.replace-taken.new.dest ne,
     ))
