@@ -1,5 +1,6 @@
 pub mod Beginning
 pub mod ClosedRuns
+pub mod Followings
 pub mod Looseness
 pub mod Marks
 pub mod Openings

@@ -5,10 +5,6 @@ use Rattle.lk_tree.specs.Tree.{Tree, var, sort, const, app, lam, pi, let_in, pro
 use Rattle.lk_tree.specs.Tree.{local}
 use Rattle.lk_tree.specs.Bind.{has_var}
 use Rattle.lk_tree.specs.Loose.{loose}
-use Rattle.std.proofs.Common.{inr}
-use Rattle.std.specs.Prelude.{Option, Some, None, IfSome, ◌+◌}
-use Rattle.std.specs.Option.{SomeIff}
-use Rattle.lk_type.specs.Openings.{IsNextNumber}
 
 -- one of two whose greater bound is d
 either : (m n d : ℕ) (p q : Bool) → (m ≡ suc d → p ≡ true) → (n ≡ suc d → q ≡ true)
@@ -49,9 +45,3 @@ outermost_occurs d (lit n) l = absurd (omega arith)
 outermost_occurs d wide l = absurd (omega arith)
 outermost_occurs d (str s) l = absurd (omega arith)
 outermost_occurs d (local k T) l = absurd (omega arith)
-
--- where the last Local occurs the next number is one more
-pub next_by_last : (e : Tree) (number : ℕ) (o : Option ℕ) (P : Type 0) → has_var 0 e ≡ true → SomeIff o P (number + 1)
-    → IfSome o (IsNextNumber e number)
-next_by_last e number None P l h = tt
-next_by_last e number (Some n) P l h = let one : n ≡ suc number = omega (arith, h.1) in inr (l, one)

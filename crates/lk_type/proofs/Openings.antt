@@ -1,11 +1,11 @@
 -- Opening binders at once: values put at once, and the number of the next Local.
-use Rattle.std.proofs.Common.{◌≡◌, ℕ, suc, ◌+◌, ◌<◌, ◌≤◌, ◌⊎◌, inl, inr, Bool, true, false, ◌||◌, List, [], ◌∷◌, ◌++◌, length, map, refl, ap, sym, ◌∙◌, arith}
-use Rattle.std.specs.Prelude.{All, Option, Some, None, IfSome, Result, Ok, Err, IfOk}
+use Rattle.std.proofs.Common.{◌≡◌, ℕ, suc, ◌+◌, ◌-◌, ◌<◌, ◌≤◌, ◌⊎◌, inl, inr, Bool, true, false, ◌||◌, nat_eq, nat_lt, List, [], ◌∷◌, ◌++◌, length, slice_index_or, map, refl, ap, sym, ◌∙◌, arith}
+use Rattle.std.specs.Prelude.{All, Result, Ok, Err, IfOk}
 use Rattle.std.proofs.lemmas.Bool.Decides.{nat_tests}
-use Rattle.std.proofs.lemmas.List.Elements.{All-head, All-tail, All-weaker, All-map, All-push, All-cons}
+use Rattle.std.proofs.lemmas.List.Elements.{All-head, All-tail, All-weaker, All-map, All-push, All-cons, All-get_or}
 use Rattle.std.proofs.lemmas.List.{map-append, length-map}
 use Rattle.lk_tree.specs.Tree.{Tree, var, sort, const, app, lam, pi, let_in, proj, lit, wide, str, local}
-use Rattle.lk_tree.specs.Bind.{open_at, opened, bound, has_var}
+use Rattle.lk_tree.specs.Bind.{open_at, open_var, opened, bound, has_var}
 use Rattle.lk_tree.specs.Loose.{loose}
 use Rattle.lk_tree.specs.Putting.{put, put_at}
 use Rattle.lk_tree.proofs.Binding.{Opening, opening, below, at, above}
@@ -14,11 +14,12 @@ use Rattle.lk_store.specs.Contents.{Contents, tree_at, Extends, IsTree}
 use Rattle.lk_ask.proofs.Sheets.{grown}
 use Rattle.lk_store.specs.declared.memory.NoMemory.{NoMemory}
 use Rattle.lk_subst.specs.Numbers.{trees-steady}
+use Rattle.lk_subst.proofs.Unchanged.{open_at-closed}
 use Rattle.lk_type.specs.declared.sheet.Binders.{Binders}
 use Rattle.lk_type.specs.declared.sheet.Binders.TheVariants.{Pis, Lambdas}
 use Rattle.lk_type.specs.Sheets.{map_telescope}
 use Rattle.lk_type.specs.Telescopes.{bound_by, fresh, OpensTo, ahead, behind, started, asked_for}
-use Rattle.lk_type.specs.Openings.{IsBinder, IsNextNumber, IsNumberFor, AreClosed, IsOpened}
+use Rattle.lk_type.specs.Openings.{IsBinder, IsNumberFor, AreClosed, IsOpened}
 
 length-last : (xs : List Tree) (x : Tree) → length (xs ++ x ∷ []) ≡ suc (length xs)
 length-last [] x = refl
@@ -57,7 +58,7 @@ put_last (y ∷ xs) x d e h z =
     ∙ (put_last xs x d (open_at (suc d + length xs) y e) (All-tail P y xs h) z
     ∙ (ap (λ m. put_at (xs ++ x ∷ []) d (open_at m y e)) n ∙ sym (put_more y (xs ++ x ∷ []) d e first)))
 
-or_either : (p q : Bool) → (p || q) ≡ true → (p ≡ true) ⊎ (q ≡ true)
+pub or_either : (p q : Bool) → (p || q) ≡ true → (p ≡ true) ⊎ (q ≡ true)
 or_either true q h = inl refl
 or_either false q h = inr h
 
@@ -163,6 +164,101 @@ put_has xs d k wide l h = h
 put_has xs d k (str s) l h = h
 put_has xs d k (local j T) l h = h
 
+or_none : (p q : Bool) → (p || q) ≡ false → (p ≡ false) × (q ≡ false)
+or_none true q h = absurd cc
+or_none false q h = (refl, h)
+
+-- the value of a variable, under one binder more
+value_shift : (xs : List Tree) (d i : ℕ) → bound (put_at xs d (var i)) ≤ bound (put_at xs (suc d) (var (suc i)))
+unfolding put_at bound
+value_shift xs d i = go (nat_lt i d) refl (nat_lt (i - d) (length xs)) refl
+  where
+    go : (a : Bool) → nat_lt i d ≡ a → (b : Bool) → nat_lt (i - d) (length xs) ≡ b → bound (put_at xs d (var i)) ≤ bound (put_at xs (suc d) (var (suc i)))
+    go true f b g = rw f (omega arith)
+    go false f true g =
+        let over : nat_lt (suc i) (suc d) ≡ false = grind (arith, nat_tests) in
+        let less : suc i - suc d ≡ i - d = omega arith in
+        rw (f, over, less, g) (omega arith)
+    go false f false g = rw (f, g) (omega arith)
+
+-- where a variable occurs its value does
+value_bound : (xs : List Tree) (d i : ℕ) (e : Tree) → has_var i e ≡ true → bound (put_at xs d (var i)) ≤ bound (put_at xs d e)
+unfolding put_at bound
+value_bound xs d i (var j) h = let same : j ≡ i = grind (arith, nat_tests) in rw same (omega arith)
+value_bound xs d i (sort l) h = absurd cc
+value_bound xs d i (const c ls) h = absurd cc
+value_bound xs d i (app f a) h = elim (or_either (has_var i f) (has_var i a) h) [
+  | inl p ↦ let q = value_bound xs d i f p in omega arith
+  | inr p ↦ let q = value_bound xs d i a p in omega arith
+]
+value_bound xs d i (lam A b) h = elim (or_either (has_var i A) (has_var (suc i) b) h) [
+  | inl p ↦ let q = value_bound xs d i A p in omega arith
+  | inr p ↦ let q = value_bound xs (suc d) (suc i) b p in let s = value_shift xs d i in omega arith
+]
+value_bound xs d i (pi A b) h = elim (or_either (has_var i A) (has_var (suc i) b) h) [
+  | inl p ↦ let q = value_bound xs d i A p in omega arith
+  | inr p ↦ let q = value_bound xs (suc d) (suc i) b p in let s = value_shift xs d i in omega arith
+]
+value_bound xs d i (let_in A a b) h = elim (or_either (has_var i A) (has_var i a || has_var (suc i) b) h) [
+  | inl p ↦ let q = value_bound xs d i A p in omega arith
+  | inr r ↦ elim (or_either (has_var i a) (has_var (suc i) b) r) [
+    | inl p ↦ let q = value_bound xs d i a p in omega arith
+    | inr p ↦ let q = value_bound xs (suc d) (suc i) b p in let s = value_shift xs d i in omega arith
+  ]
+]
+value_bound xs d i (proj S k s) h = value_bound xs d i s h
+value_bound xs d i (lit m) h = absurd cc
+value_bound xs d i wide h = absurd cc
+value_bound xs d i (str s) h = absurd cc
+value_bound xs d i (local j T) h = absurd cc
+
+-- a variable that does not occur is opened with nothing
+unused_var : (xs : List Tree) (d i : ℕ) (x : Tree) → NoneLoose xs → nat_eq i d ≡ false → bound (open_at d x (put_at xs (suc d) (var i))) ≡ bound (put_at xs (suc d) (var i))
+unfolding open_at put_at bound
+unused_var xs d i x h e = go (nat_lt i (suc d)) refl (nat_lt (i - suc d) (length xs)) refl
+  where
+    of_var : (j : ℕ) → nat_eq j d ≡ false → Opening d j x → bound (open_var d x j) ≡ 0
+    of_var j n (below l e) = rw e refl
+    of_var j n (at l e) = absurd (grind (arith, nat_tests))
+    of_var j n (above l e) = rw e refl
+
+    go : (a : Bool) → nat_lt i (suc d) ≡ a → (b : Bool) → nat_lt (i - suc d) (length xs) ≡ b → bound (open_at d x (put_at xs (suc d) (var i))) ≡ bound (put_at xs (suc d) (var i))
+    go true f b g = rw f (of_var i e (opening d i x))
+    go false f true g =
+        let place : length xs - 1 - (i - suc d) < length xs = grind (arith, nat_tests) in
+        let v : Tree = slice_index_or xs (length xs - 1 - (i - suc d)) wide in
+        let none : loose v ≡ 0 = All-get_or (λ t. loose t ≡ 0) xs (length xs - 1 - (i - suc d)) wide place h in
+        let low : loose v ≤ d = omega (arith, none) in
+        let stays : open_at d x v ≡ v = open_at-closed d x v low in
+        rw (f, g) (ap bound stays)
+    go false f false g =
+        let past : nat_eq (i - length xs) d ≡ false = grind (arith, nat_tests) in
+        rw (f, g) (of_var (i - length xs) past (opening d (i - length xs) x))
+
+unused : (xs : List Tree) (d : ℕ) (x e : Tree) → NoneLoose xs → has_var d e ≡ false → bound (open_at d x (put_at xs (suc d) e)) ≡ bound (put_at xs (suc d) e)
+unfolding open_at put_at bound
+unused xs d x (var i) h n = unused_var xs d i x h n
+unused xs d x (sort l) h n = refl
+unused xs d x (const c ls) h n = refl
+unused xs d x (app f a) h n =
+    let both = or_none (has_var d f) (has_var d a) n in
+    let p = unused xs d x f h both.0 in let q = unused xs d x a h both.1 in omega (arith, p, q)
+unused xs d x (lam A b) h n =
+    let both = or_none (has_var d A) (has_var (suc d) b) n in
+    let p = unused xs d x A h both.0 in let q = unused xs (suc d) x b h both.1 in omega (arith, p, q)
+unused xs d x (pi A b) h n =
+    let both = or_none (has_var d A) (has_var (suc d) b) n in
+    let p = unused xs d x A h both.0 in let q = unused xs (suc d) x b h both.1 in omega (arith, p, q)
+unused xs d x (let_in A a b) h n =
+    let both = or_none (has_var d A) (has_var d a || has_var (suc d) b) n in
+    let more = or_none (has_var d a) (has_var (suc d) b) both.1 in
+    let p = unused xs d x A h both.0 in let q = unused xs d x a h more.0 in let r = unused xs (suc d) x b h more.1 in omega (arith, p, q, r)
+unused xs d x (proj S i s) h n = unused xs d x s h n
+unused xs d x (lit m) h n = refl
+unused xs d x wide h n = refl
+unused xs d x (str s) h n = refl
+unused xs d x (local j T) h n = refl
+
 -- a binder, in which values are put
 put_binder : (xs : List Tree) (b : Binders) (A B : Tree) → put xs (bound_by b A B) ≡ bound_by b (put xs A) (put_at xs 1 B)
 unfolding put_at
@@ -181,11 +277,24 @@ local_bound k T h = omega arith
 fresh_bound : (b : Binders) (A B : Tree) → bound (fresh b A B) ≡ suc (bound (bound_by b A B))
 fresh_bound b A B = local_bound (bound (bound_by b A B)) A (bound_of_body b A B).0
 
+-- where the last Local does not occur, and one does whose number is one less, the number stays
+pub record IsStill (values : List Tree) (e : Tree) (number next : ℕ) : Type 0 where
+  pub same : next ≡ number
+  pub none : has_var 0 e ≡ false
+  pub index : ℕ
+  pub occurs : has_var index e ≡ true
+  pub reaches : number ≤ bound (put_at values 1 (var index))
+
+-- the number of the next Local: by the body alone where that is closed, and by the last Local where it occurs
+abbrev pub IsNextNumber : List Tree → Tree → ℕ → ℕ → Type 0
+IsNextNumber values e number next =
+    ((loose e ≡ 0) × (next ≡ bound e)) ⊎ (((has_var 0 e ≡ true) × (next ≡ suc number)) ⊎ IsStill values e number next)
+
 -- the number of the next Local, in the body that is opened with one more
 next_is : (xs : List Tree) (b : Binders) (A B : Tree) (x : Tree) (next : ℕ) → NoneLoose xs → x ≡ fresh b (put xs A) (put_at xs 1 B)
-    → IsNextNumber B (bound (put xs (bound_by b A B))) next → next ≡ bound (put (xs ++ x ∷ []) B)
+    → IsNextNumber xs B (bound (put xs (bound_by b A B))) next → next ≡ bound (put (xs ++ x ∷ []) B)
 next_is xs b A B x next h is (inl (z, e)) = e ∙ ap bound (sym (put_closed (xs ++ x ∷ []) 0 B (omega arith)))
-next_is xs b A B x next h is (inr (occurs, e)) =
+next_is xs b A B x next h is (inr (inl (occurs, e))) =
     let C = put_at xs 1 B in
     let n = bound (bound_by b (put xs A) C) in
     let same : bound (put xs (bound_by b A B)) ≡ n = ap bound (put_binder xs b A B) in
@@ -196,6 +305,16 @@ next_is xs b A B x next h is (inr (occurs, e)) =
     let opens : open_at 0 x C ≡ put (xs ++ x ∷ []) B = put_last xs x 0 B h (ap loose is) in
     let there : suc n ≡ bound (open_at 0 x C) = omega (arith, most, least, of_x) in
     e ∙ (ap suc same ∙ (there ∙ ap bound opens))
+next_is xs b A B x next h is (inr (inr still)) =
+    let C = put_at xs 1 B in
+    let n = bound (bound_by b (put xs A) C) in
+    let same : bound (put xs (bound_by b A B)) ≡ n = ap bound (put_binder xs b A B) in
+    let few : bound C ≤ n = (bound_of_body b (put xs A) C).1 in
+    let least = value_bound xs 1 still.index B still.occurs in
+    let reaches = still.reaches in
+    let most : n ≡ bound C = omega (arith, same, few, least, reaches) in
+    let opens : open_at 0 x C ≡ put (xs ++ x ∷ []) B = put_last xs x 0 B h (ap loose is) in
+    still.same ∙ (same ∙ (most ∙ (sym (unused xs 0 x B h still.none) ∙ ap bound opens)))
 
 -- one binder more is opened
 opens_last : (b : Binders) (e : Tree) (xs : List Tree) (A B : Tree) → OpensTo b e xs (bound_by b A B) → OpensTo b e (xs ++ fresh b A B ∷ []) (opened B (fresh b A B))
@@ -251,9 +370,8 @@ module _ {b : Binders} {now later : Contents} {inside domain body number x : ℕ
   pub still_closed : AreClosed later after
   still_closed = rw a.pushed (All-push (λ y. (y < length later.trees) × (loose (tree_at later y) ≡ 0)) before x (closed_steady a.grows before a.closed) (a.made.known, ap loose a.made.is))
 
-  pub next_fits : (next : Option ℕ) → IfSome next (IsNextNumber (tree_at later body) number) → IfSome next (IsNumberFor later after body)
-  next_fits None h = tt
-  next_fits (Some n) h =
+  pub next_fits : (n : ℕ) → IsNextNumber values (tree_at later body) number n → IsNumberFor later after body n
+  next_fits n h =
       let there = rw (body_then, a.is_number, a.is_binder.is) at h in
       let e = next_is values b (tree_at now domain) (tree_at now body) (tree_at later x) n (none_loose now before a.closed) is_fresh there in
       rw (values_then, body_then) e

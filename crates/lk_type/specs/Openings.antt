@@ -1,7 +1,7 @@
 -- How a telescope is opened, and that asking for it runs as its row does.
-use Rattle.std.specs.Prelude.{◌≡◌, ◌<◌, ◌++◌, ◌⊎◌, ◌∷◌, ℕ, suc, true, List, map, All, Result, IfOk, length}
+use Rattle.std.specs.Prelude.{◌≡◌, ◌<◌, ◌≤◌, ◌++◌, ◌∷◌, ℕ, List, map, All, Option, IfSome, Result, IfOk, slice_index_or, length}
 use Rattle.lk_tree.specs.Tree.{Tree}
-use Rattle.lk_tree.specs.Bind.{bound, has_var}
+use Rattle.lk_tree.specs.Bind.{bound}
 use Rattle.lk_tree.specs.Loose.{loose}
 use Rattle.lk_tree.specs.Putting.{put}
 use Rattle.lk_plain.specs.Program.{Program}
@@ -23,12 +23,6 @@ pub record IsBinder (c : Contents) (b : Binders) (e : ℕ) (parts : ℕ × ℕ) 
   pub body_in : parts.1 < length c.trees
   pub is : tree_at c e ≡ bound_by b (tree_at c parts.0) (tree_at c parts.1)
 
--- the number of the next Local: by the body alone where that is closed, and where the last Local
--- occurs in it by that one
-abbrev pub IsNextNumber : Tree → ℕ → ℕ → Type 0
-IsNextNumber e number next =
-    ((loose e ≡ 0) × (next ≡ bound e)) ⊎ ((has_var 0 e ≡ true) × (next ≡ suc number))
-
 -- the numbers stand for trees without loose variables
 abbrev pub AreClosed : Contents → List ℕ → Type 0
 AreClosed c = All (λ x. (x < length c.trees) × (loose (tree_at c x) ≡ 0))
@@ -36,6 +30,13 @@ AreClosed c = All (λ x. (x < length c.trees) × (loose (tree_at c x) ≡ 0))
 -- it is the number of a Local that is fresh for the body, opened with these Locals
 abbrev pub IsNumberFor : Contents → List ℕ → ℕ → ℕ → Type 0
 IsNumberFor c locals body number = number ≡ bound (put (map (tree_at c) locals) (tree_at c body))
+
+-- and this is one of the Locals whose number is one less
+pub record IsFollowing (c : Contents) (locals : List ℕ) (body : ℕ) (p : ℕ × Option ℕ) : Type 0
+  where
+    pub number : IsNumberFor c locals body p.0
+    pub top : IfSome p.1 (λ j. (j < length locals)
+        × (p.0 ≤ bound (tree_at c (slice_index_or locals j 0))))
 
 -- the body, opened with the Locals that there were, is r under binders that are opened with those
 -- that came

@@ -114,6 +114,7 @@ fn over_run<L: Looks>(looks: &mut L, run: Run, locals: u64, ty: u64) -> Result<(
 }
 
 /// The type of lambdas with these Locals, after the type of what stands inside.
+#[inline(never)]
 pub(crate) fn lambdas_type<L: Looks>(looks: &mut L, locals: u64, ty: u64) -> Result<u64, NoMemory>
     requires locals_in { locals < length (L.contents looks.old).trees }
     requires ty_in { ty < length (L.contents looks.old).trees }

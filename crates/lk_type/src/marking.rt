@@ -1,9 +1,10 @@
-//! Of which binders of a telescope the variables occur further inside, as far as a short walk tells.
+//! In which bodies of a telescope the variables of its binders occur, as far as a short walk tells.
 
-ghost use Rattle.std.specs.Prelude.{◌≡◌, ◌<◌, ◌++◌, ◌∷◌, [], suc, true, false, length};
-ghost use Rattle.std.specs.Prelude.{slice_index_or, IfOk, OnOk, IfSome};
+ghost use Rattle.std.specs.Prelude.{◌≡◌, ◌<◌, ◌++◌, ◌∷◌, [], ℕ, suc, true, length};
+ghost use Rattle.std.specs.Prelude.{Some, slice_index_or, IfOk, OnOk, IfSome};
 ghost use Rattle.lk_store.specs.Contents.{tree_at};
-ghost use Rattle.lk_type.specs.Marks.{IsMentioned, AreMarks, IsPart, AreParts};
+ghost use Rattle.lk_type.specs.Marks.{IsMentioned, AreMarks, AreAll, IsPart, AreParts};
+ghost use Rattle.lk_type.specs.Marks.{IsOutermost, Leaves, AreFound, Raises, IsMarked};
 
 use crate::binding::parts_of;
 use crate::sheet::Binders;
@@ -22,25 +23,34 @@ pub struct Part {
     pub count: u64,
 }
 
-/// Whether there is a mark.
-pub(crate) fn is_marked(marks: &[bool], n: u64) -> bool
-    ensures { result ≡ true → slice_index_or marks.now n false ≡ true }
+/// The mark of a binder: so many binders of the telescope stand around where its variable occurs,
+/// as far as that was found. None is 0.
+pub(crate) fn mark_of(marks: &[u64], n: u64) -> u64
+    ensures { result ≡ slice_index_or marks.now n 0 }
 {
     if n < marks.len() as u64 {
         return marks[n as usize];
     }
-    false
+    0
 }
 
 /// The binder of the outermost variable that is loose in a part, if it is one of the telescope.
 fn outermost<L: Looks>(looks: &L, binders: Binders, e: u64, part: Part) -> Option<u64>
     requires { IsPart (L.contents looks.now) binders (tree_at (L.contents looks.now) e) part }
-    ensures { IfSome result (IsMentioned binders (tree_at (L.contents looks.now) e)) }
+    ensures mentioned { IfSome result (λ n. IsMentioned binders
+        (tree_at (L.contents looks.now) e) n part.count) }
+    ensures is { (n : ℕ) → IsOutermost (L.contents looks.now) n part → result ≡ Some n }
 {
     let _of = (binders, e);
     let loose = looks.loose_bound(part.e);
     let depth = u128::from(part.depth);
-    if loose == 0 || loose > depth || depth >= loose + u128::from(part.count) {
+    if loose == 0 {
+        return None;
+    }
+    if loose > depth {
+        return None;
+    }
+    if depth >= loose + u128::from(part.count) {
         return None;
     }
     match u64::try_from(depth - loose) {
@@ -49,16 +59,29 @@ fn outermost<L: Looks>(looks: &L, binders: Binders, e: u64, part: Part) -> Optio
     }
 }
 
+/// Raises a mark to a count, if it is lower.
+fn raise(marks: &mut Vec<u64>, n: u64, count: u64)
+    ensures { Raises n count marks.old.items marks.new.items }
+{
+    if n >= marks.len() as u64 {
+        return;
+    }
+    if marks[n as usize] >= count {
+        return;
+    }
+    marks[n as usize] = count;
+}
+
 /// Marks the binder of the outermost variable that is loose in a part.
-fn mark<L: Looks>(looks: &L, binders: Binders, e: u64, part: Part, marks: &mut Vec<bool>)
+fn mark<L: Looks>(looks: &L, binders: Binders, e: u64, part: Part, marks: &mut Vec<u64>)
     requires part { IsPart (L.contents looks.now) binders (tree_at (L.contents looks.now) e) part }
     requires marks { AreMarks binders (tree_at (L.contents looks.now) e) marks.old.items }
-    ensures { AreMarks binders (tree_at (L.contents looks.now) e) marks.new.items }
+    ensures { IsMarked (L.contents looks.now) binders (tree_at (L.contents looks.now) e) part
+        marks.old.items marks.new.items }
 {
-    if let Some(n) = outermost(looks, binders, e, part) {
-        if n < marks.len() as u64 {
-            marks[n as usize] = true;
-        }
+    match outermost(looks, binders, e, part) {
+        None => return,
+        Some(n) => raise(marks, n, part.count),
     }
 }
 
@@ -102,10 +125,15 @@ fn add_parts<L: Looks>(
     requires part { IsPart (L.contents looks.now) binders (tree_at (L.contents looks.now) e) part }
     requires parts { AreParts (L.contents looks.now) binders (tree_at (L.contents looks.now) e)
         parts.old.items }
-    ensures { OnOk result (AreParts (L.contents looks.now) binders
+    ensures parts { OnOk result (AreParts (L.contents looks.now) binders
         (tree_at (L.contents looks.now) e) parts.new.items) }
+    ensures left { OnOk result (Leaves (L.contents looks.now) part parts.old.items
+        parts.new.items) }
 {
     let _of = (binders, e);
+    if looks.loose_bound(part.e) == 0 {
+        return Ok(());
+    }
     match looks.view(part.e) {
         Node::App(f, a) => {
             add_part(parts, part, f)?;
@@ -119,6 +147,11 @@ fn add_parts<L: Looks>(
             add_part(parts, part, domain)?;
             add_body(parts, part, body)
         }
+        Node::Let(ty, value, body) => {
+            add_part(parts, part, ty)?;
+            add_part(parts, part, value)?;
+            add_body(parts, part, body)
+        }
         Node::Proj(_, _, subject) => add_part(parts, part, subject),
         _ => Ok(()),
     }
@@ -130,28 +163,30 @@ fn walk<L: Looks>(
     binders: Binders,
     e: u64,
     parts: &mut Vec<Part>,
-    marks: &mut Vec<bool>,
+    marks: &mut Vec<u64>,
     steps: u64,
-) -> Result<(), NoMemory>
+) -> Result<bool, NoMemory>
     requires parts { AreParts (L.contents looks.now) binders (tree_at (L.contents looks.now) e)
         parts.old.items }
     requires marks { AreMarks binders (tree_at (L.contents looks.now) e) marks.old.items }
-    ensures { AreMarks binders (tree_at (L.contents looks.now) e) marks.new.items }
+    requires found { AreFound (L.contents looks.now) binders (tree_at (L.contents looks.now) e)
+        marks.old.items parts.old.items }
+    ensures marks { AreMarks binders (tree_at (L.contents looks.now) e) marks.new.items }
+    ensures all { IfOk result (λ all. all ≡ true
+        → AreAll binders (tree_at (L.contents looks.now) e) marks.new.items) }
 {
     let mut left = steps;
     'parts: while left > 0 {
         match parts.pop() {
-            None => return Ok(()),
+            None => return Ok(true),
             Some(part) => {
                 mark(looks, binders, e, part, marks);
-                if looks.loose_bound(part.e) > 0 {
-                    add_parts(looks, binders, e, part, parts)?;
-                }
+                add_parts(looks, binders, e, part, parts)?;
                 left -= 1;
             }
         }
     }
-    Ok(())
+    Ok(false)
 }
 
 /// The parts of a telescope, its domains and what stands inside, and no mark for each binder.
@@ -160,7 +195,7 @@ fn begin<L: Looks>(
     binders: Binders,
     e: u64,
     parts: &mut Vec<Part>,
-    marks: &mut Vec<bool>,
+    marks: &mut Vec<u64>,
 ) -> Result<(), NoMemory>
     requires e_in { e < length (L.contents looks.now).trees }
     requires no_part { parts.old.items ≡ [] }
@@ -168,6 +203,8 @@ fn begin<L: Looks>(
     ensures parts { OnOk result (AreParts (L.contents looks.now) binders
         (tree_at (L.contents looks.now) e) parts.new.items) }
     ensures marks { AreMarks binders (tree_at (L.contents looks.now) e) marks.new.items }
+    ensures found { OnOk result (AreFound (L.contents looks.now) binders
+        (tree_at (L.contents looks.now) e) marks.new.items parts.new.items) }
 {
     let mut inside = e;
     let mut count: u64 = 0;
@@ -175,7 +212,7 @@ fn begin<L: Looks>(
         let e = domain;
         let depth = count;
         parts.push(Part { e, depth, count })?;
-        marks.push(false)?;
+        marks.push(0)?;
         inside = body;
         // No term in memory has so many binders that this fails.
         count = count.checked_add(1).ok_or(NoMemory)?;
@@ -186,16 +223,21 @@ fn begin<L: Looks>(
     Ok(())
 }
 
-/// Marks for the binders of a telescope.
-pub(crate) fn marks_of<L: Looks>(looks: &L, binders: Binders, e: u64) -> Result<Vec<bool>, NoMemory>
-    requires { e < length (L.contents looks.now).trees }
-    ensures { IfOk result (λ marks. AreMarks binders (tree_at (L.contents looks.now) e)
-        marks.items) }
+/// Marks the binders of a telescope. Whether all were found whose variables occur.
+pub(crate) fn marks_of<L: Looks>(
+    looks: &L,
+    binders: Binders,
+    e: u64,
+    marks: &mut Vec<u64>,
+) -> Result<bool, NoMemory>
+    requires e_in { e < length (L.contents looks.now).trees }
+    requires no_mark { marks.old.items ≡ [] }
+    ensures marks { AreMarks binders (tree_at (L.contents looks.now) e) marks.new.items }
+    ensures all { IfOk result (λ all. all ≡ true
+        → AreAll binders (tree_at (L.contents looks.now) e) marks.new.items) }
 {
     let mut parts = Vec::new(looks.alloc());
-    let mut marks = Vec::new(looks.alloc());
-    begin(looks, binders, e, &mut parts, &mut marks)?;
+    begin(looks, binders, e, &mut parts, marks)?;
     let steps = (marks.len() as u64).saturating_mul(SHORT);
-    walk(looks, binders, e, &mut parts, &mut marks, steps)?;
-    Ok(marks)
+    walk(looks, binders, e, &mut parts, marks, steps)
 }

@@ -3,21 +3,20 @@
 
 ghost use Rattle.std.specs.Prelude.{◌≡◌, ◌≢◌, ◌<◌, ◌∷◌, ◌++◌, [], true, Ok, length, map, All, IfOk, IfSome};
 ghost use Rattle.lk_tree.specs.Tree.{local};
-ghost use Rattle.lk_tree.specs.Bind.{has_var};
 ghost use Rattle.lk_tree.specs.Putting.{put as put_values};
 ghost use Rattle.lk_questions.specs.Infer.{infer_steps};
 ghost use Rattle.lk_store.specs.Contents.{tree_at, Extends};
 ghost use Rattle.lk_ask.specs.Looks.{MakesTree};
 ghost use Rattle.lk_type.specs.Sheets.{map_telescope, IsKnownTelescope};
 ghost use Rattle.lk_type.specs.Telescopes.{ahead, behind, started, asked_for, telescope_domain};
-ghost use Rattle.lk_type.specs.Openings.{IsBinder, IsNextNumber, IsNumberFor, AreClosed, OpensAll};
+ghost use Rattle.lk_type.specs.Openings.{IsBinder, IsFollowing, AreClosed, OpensAll};
 ghost use Rattle.lk_type.specs.Openings.{IsAskedFor, RunsAs};
-ghost use Rattle.lk_type.specs.Marks.{body_at, AreMarks};
+ghost use Rattle.lk_type.specs.Marks.{body_at, AreMarks, AreAll, Follows};
 ghost use Rattle.lk_type.specs.Types.{Infers};
 
 use crate::binding::parts_of;
 use crate::infer::TypeNext;
-use crate::marking::{is_marked, marks_of};
+use crate::marking::{mark_of, marks_of};
 use crate::sheet::{Binders, Telescope, TypeTermSheet};
 use lk_ask::looks::Looks;
 use lk_ask::next::Next;
@@ -30,18 +29,40 @@ use lk_subst::putting::put;
 /// So many binders are opened at once. Fewer are opened as fast one after the other.
 const LONG: u64 = 8;
 
-/// The number of the next Local, where it is plain: in a closed body the outer Locals do not occur;
-/// where the last one occurs its number is the greatest.
-fn next_number<L: Looks>(looks: &L, body: u64, number: u64, occurs: bool) -> Option<u64>
+/// The number of the next Local, where it is plain, and the binder of the Local that it follows: in
+/// a closed body the outer Locals do not occur; where the last one occurs its number is the
+/// greatest; and where it does not occur, the greatest is still the one before it.
+fn next_number<L: Looks>(
+    looks: &L,
+    body: u64,
+    number: u64,
+    count: u64,
+    marks: &[u64],
+    all: bool,
+    top: Option<u64>,
+) -> Option<(u64, Option<u64>)>
     requires body_in { body < length (L.contents looks.now).trees }
-    requires occurs { occurs ≡ true → has_var 0 (tree_at (L.contents looks.now) body) ≡ true }
-    ensures { IfSome result (IsNextNumber (tree_at (L.contents looks.now) body) number) }
+    requires some { 0 < count }
+    ensures { IfSome result (Follows (tree_at (L.contents looks.now) body) number count marks.now
+        all top) }
 {
     if looks.loose_bound(body) == 0 {
-        return u64::try_from(looks.local_bound(body)).ok();
+        return match u64::try_from(looks.local_bound(body)) {
+            Ok(number) => Some((number, None)),
+            Err(_) => None,
+        };
     }
-    if occurs {
-        return number.checked_add(1);
+    let mark = mark_of(marks, count - 1);
+    if mark >= count {
+        return match number.checked_add(1) {
+            Some(next) => Some((next, Some(count - 1))),
+            None => None,
+        };
+    }
+    if let Some(j) = top {
+        if all && mark == 0 && count <= marks.len() as u64 && mark_of(marks, j) >= count {
+            return Some((number, Some(j)));
+        }
     }
     None
 }
@@ -72,8 +93,9 @@ fn open_binders<L: Looks>(
     binders: Binders,
     e: u64,
     body: u64,
-    next: Option<u64>,
-    marks: &[bool],
+    following: Option<(u64, Option<u64>)>,
+    marks: &[u64],
+    all: bool,
     locals: &mut Vec<u64>,
 ) -> Result<u64, NoMemory>
     requires body_in { body < length (L.contents looks.old).trees }
@@ -81,24 +103,27 @@ fn open_binders<L: Looks>(
         ≡ body_at binders 1 (tree_at (L.contents looks.old) e) }
     requires marks { AreMarks binders (tree_at (L.contents looks.old) e) marks.now }
     requires locals_in { AreClosed (L.contents looks.old) locals.old.items }
-    requires next { IfSome next (IsNumberFor (L.contents looks.old) locals.old.items body) }
+    requires all { all ≡ true
+        → AreAll binders (tree_at (L.contents looks.old) e) marks.now }
+    requires one { length locals.old.items ≡ 1 }
+    requires following { IfSome following
+        (IsFollowing (L.contents looks.old) locals.old.items body) }
     ensures { OpensAll L.contents L.rest looks.old looks.new result binders body locals.old.items
         locals.new.items }
 {
     let _e = e;
     let mut inside = body;
-    let mut next = next;
+    let mut following = following;
     let mut count: u64 = 1;
-    'binders: while let Some(number) = next {
+    'binders: while let Some((number, top)) = following {
         match parts_of(looks, binders, inside) {
             None => return put(looks.alloc(), looks, inside, locals),
             Some((domain, body)) => {
                 add_local(looks, domain, number, locals)?;
-                let occurs = is_marked(marks, count);
                 inside = body;
-                next = next_number(looks, inside, number, occurs);
                 // No term in memory has so many binders that this fails.
                 count = count.checked_add(1).ok_or(NoMemory)?;
+                following = next_number(looks, inside, number, count, marks, all, top);
             }
         }
     }
@@ -245,9 +270,10 @@ pub fn begin_binders<L: Looks>(
     };
     let mut locals = Vec::new(looks.alloc());
     let _first = add_local(looks, domain, number, &mut locals)?;
-    let marks = marks_of(looks, binders, e)?;
-    let next = next_number(looks, body, number, is_marked(&marks, 0));
-    let inside = open_binders(looks, binders, e, body, next, &marks, &mut locals)?;
+    let mut marks = Vec::new(looks.alloc());
+    let all = marks_of(looks, binders, e, &mut marks)?;
+    let next = next_number(looks, body, number, 1, &marks, all, None);
+    let inside = open_binders(looks, binders, e, body, next, &marks, all, &mut locals)?;
     first_domain(looks, binders, domain, &locals, inside)
 }
 

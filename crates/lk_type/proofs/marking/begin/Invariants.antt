@@ -1,6 +1,7 @@
-use Rattle.std.proofs.Common.{◌≡◌}
+use Rattle.std.proofs.Common.{◌≡◌, length}
 use Rattle.lk_store.specs.Contents.{tree_at}
 use Rattle.lk_type.specs.Marks.{body_at, AreMarks, IsPart, AreParts}
+use Rattle.lk_type.proofs.Marks.{IsPassed}
 use Rattle.lk_type.proofs.Openings.{binders_in}
 use Rattle.lk_type.proofs.marking.begin.Given as goal
 
@@ -12,6 +13,8 @@ invariant-binders g l =
       inside : IsPart now l.binders (tree_at now l.e) (record { e = l.inside; depth = l.count; count = l.count });
       parts : AreParts now l.binders (tree_at now l.e) l.parts.items;
       marks : AreMarks l.binders (tree_at now l.e) l.marks.items;
+      many : length l.marks.items ≡ l.count;
+      passed : IsPassed now l.binders (tree_at now l.e) l.count l.inside l.parts.items;
     }
 
 abbrev pub decreases-binders : goal.decreases-binders

@@ -1,8 +1,14 @@
-use Rattle.lk_store.specs.Contents.{tree_at}
-use Rattle.lk_type.proofs.Looseness.{next_by_last}
+use Rattle.std.proofs.Common.{rules, ◌≡◌, ◌≤◌, ◌-◌, true, length, slice_index_or, Some, refl}
+use Rattle.lk_type.specs.Marks.{before}
 use Rattle.lk_type.proofs.opening.next_number.Goals as goal
 
-pub returns-then-occurs : goal.returns-then-occurs
-returns-then-occurs g c =
-    next_by_last (tree_at (g.L.Terms.contents c.args.looks.now) c.args.body) c.args.number c.checked_add.result _
-    (c.requires.occurs c.if-occurs.true) c.checked_add.ensures
+pub returns-then-mark_of-count : goal.returns-then-mark_of-count
+returns-then-mark_of-count g c =
+    let j = c.in-Some-top.j in
+    let marks = c.args.marks.now in
+    let all : c.args.all ≡ true = search rules in
+    let none : slice_index_or marks (c.args.count - 1) 0 ≡ 0 = search rules in
+    let room : c.args.count ≤ length marks = search rules in
+    let top : c.args.top ≡ Some j = search rules in
+    let mark : c.args.count ≤ slice_index_or marks j 0 = search rules in
+    before j all none room top mark refl refl

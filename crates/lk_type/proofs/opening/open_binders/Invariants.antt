@@ -2,7 +2,7 @@ use Rattle.std.proofs.Common.{◌≡◌, ◌<◌, length, map}
 use Rattle.std.specs.Prelude.{IfSome}
 use Rattle.lk_tree.specs.Putting.{put}
 use Rattle.lk_store.specs.Contents.{tree_at, Extends}
-use Rattle.lk_type.specs.Openings.{IsNumberFor, AreClosed, IsOpened}
+use Rattle.lk_type.specs.Openings.{IsFollowing, AreClosed, IsOpened}
 use Rattle.lk_type.specs.Marks.{body_at}
 use Rattle.lk_type.proofs.Openings.{binders_in}
 use Rattle.lk_type.proofs.opening.open_binders.Given as goal
@@ -18,7 +18,8 @@ invariant-binders g l =
       inside_in : l.inside < length now.trees;
       at : tree_at now l.inside ≡ body_at l.binders l.count (tree_at began l.fn.e);
       closed : AreClosed now l.locals.items;
-      number : IfSome l.next (IsNumberFor now l.locals.items l.inside);
+      many : length l.locals.items ≡ l.count;
+      following : IfSome l.following (IsFollowing now l.locals.items l.inside);
       opened : IsOpened began now l.binders l.fn.body l.fn.locals.items l.locals.items
           (put (map (tree_at now) l.locals.items) (tree_at now l.inside));
     }
