@@ -69,13 +69,9 @@ fn last_run<L: Looks>(looks: &L, locals: u64) -> Option<Run>
         (λ run. (0 < run.count)
         × EndsIn run.first run.count (tree_at (L.contents looks.now) locals)) }
 {
-    match last_of(looks, locals) {
-        None => None,
-        Some((others, x)) => {
-            let number = parts_of(looks, x).0;
-            Some(run_before(looks, others, number))
-        }
-    }
+    let (others, x) = last_of(looks, locals)?;
+    let number = parts_of(looks, x).0;
+    Some(run_before(looks, others, number))
 }
 
 /// A Pi for a Local, whose type is closed by those of the run, over a body.
@@ -114,7 +110,6 @@ fn over_run<L: Looks>(looks: &mut L, run: Run, locals: u64, ty: u64) -> Result<(
 }
 
 /// The type of lambdas with these Locals, after the type of what stands inside.
-#[inline(never)]
 pub(crate) fn lambdas_type<L: Looks>(looks: &mut L, locals: u64, ty: u64) -> Result<u64, NoMemory>
     requires locals_in { locals < length (L.contents looks.old).trees }
     requires ty_in { ty < length (L.contents looks.old).trees }

@@ -1,10 +1,8 @@
 //! In which bodies of a telescope the variables of its binders occur, as far as a short walk tells.
 
-ghost use Rattle.std.specs.Prelude.{◌≡◌, ◌<◌, ◌++◌, ◌∷◌, [], ℕ, suc, true, length};
-ghost use Rattle.std.specs.Prelude.{Some, slice_index_or, IfOk, OnOk, IfSome};
+ghost use Rattle.std.specs.Prelude.{◌≡◌, ◌<◌, ◌++◌, ◌∷◌, [], ℕ, suc, true, length, Some, slice_index_or, IfOk, OnOk, IfSome};
 ghost use Rattle.lk_store.specs.Contents.{tree_at};
-ghost use Rattle.lk_type.specs.Marks.{IsMentioned, AreMarks, AreAll, IsPart, AreParts};
-ghost use Rattle.lk_type.specs.Marks.{IsOutermost, Leaves, AreFound, Raises, IsMarked};
+ghost use Rattle.lk_type.specs.Marks.{IsMentioned, AreMarks, AreAll, IsPart, AreParts, IsOutermost, Leaves, AreFound, Raises, IsMarked};
 
 use crate::binding::parts_of;
 use crate::sheet::Binders;
@@ -109,9 +107,7 @@ fn add_body(parts: &mut Vec<Part>, part: Part, e: u64) -> Result<(), NoMemory>
 {
     // No term in memory is so deep that this fails.
     let depth = part.depth.checked_add(1).ok_or(NoMemory)?;
-    let count = part.count;
-    parts.push(Part { e, depth, count })?;
-    Ok(())
+    add_part(parts, Part { depth, ..part }, e)
 }
 
 /// Adds the parts of a part.

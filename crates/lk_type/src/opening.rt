@@ -9,8 +9,7 @@ ghost use Rattle.lk_store.specs.Contents.{tree_at, Extends};
 ghost use Rattle.lk_ask.specs.Looks.{MakesTree};
 ghost use Rattle.lk_type.specs.Sheets.{map_telescope, IsKnownTelescope};
 ghost use Rattle.lk_type.specs.Telescopes.{ahead, behind, started, asked_for, telescope_domain};
-ghost use Rattle.lk_type.specs.Openings.{IsBinder, IsFollowing, AreClosed, OpensAll};
-ghost use Rattle.lk_type.specs.Openings.{IsAskedFor, RunsAs};
+ghost use Rattle.lk_type.specs.Openings.{IsBinder, IsFollowing, AreClosed, OpensAll, IsAskedFor, RunsAs};
 ghost use Rattle.lk_type.specs.Marks.{body_at, AreMarks, AreAll, Follows};
 ghost use Rattle.lk_type.specs.Types.{Infers};
 
@@ -29,9 +28,8 @@ use lk_subst::putting::put;
 /// So many binders are opened at once. Fewer are opened as fast one after the other.
 const LONG: u64 = 8;
 
-/// The number of the next Local, where it is plain, and the binder of the Local that it follows: in
-/// a closed body the outer Locals do not occur; where the last one occurs its number is the
-/// greatest; and where it does not occur, the greatest is still the one before it.
+/// The number of the next Local, where it is plain, and the binder of the Local that it follows. In
+/// a closed body no Local occurs; where the last one does not, the greatest is that before it.
 fn next_number<L: Looks>(
     looks: &L,
     body: u64,
@@ -47,17 +45,13 @@ fn next_number<L: Looks>(
         all top) }
 {
     if looks.loose_bound(body) == 0 {
-        return match u64::try_from(looks.local_bound(body)) {
-            Ok(number) => Some((number, None)),
-            Err(_) => None,
-        };
+        let next = u64::try_from(looks.local_bound(body)).ok()?;
+        return Some((next, None));
     }
     let mark = mark_of(marks, count - 1);
     if mark >= count {
-        return match number.checked_add(1) {
-            Some(next) => Some((next, Some(count - 1))),
-            None => None,
-        };
+        let next = number.checked_add(1)?;
+        return Some((next, Some(count - 1)));
     }
     if let Some(j) = top {
         if all && mark == 0 && count <= marks.len() as u64 && mark_of(marks, j) >= count {
@@ -297,19 +291,13 @@ pub fn long_telescope<L: Looks>(looks: &L, e: u64) -> Option<(Binders, u64, u64)
     requires { e < length (L.contents looks.now).trees }
     ensures { IfSome result (λ p. IsBinder (L.contents looks.now) p.0 e (p.1, p.2)) }
 {
-    match looks.view(e) {
-        Node::Pi(domain, body) => {
-            if has_binders(looks, Binders::Pis, body) {
-                return Some((Binders::Pis, domain, body));
-            }
-            None
-        }
-        Node::Lam(domain, body) => {
-            if has_binders(looks, Binders::Lambdas, body) {
-                return Some((Binders::Lambdas, domain, body));
-            }
-            None
-        }
-        _ => None,
+    let (binders, domain, body) = match looks.view(e) {
+        Node::Pi(domain, body) => (Binders::Pis, domain, body),
+        Node::Lam(domain, body) => (Binders::Lambdas, domain, body),
+        _ => return None,
+    };
+    if has_binders(looks, binders, body) {
+        return Some((binders, domain, body));
     }
+    None
 }

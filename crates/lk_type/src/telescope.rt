@@ -5,8 +5,7 @@ ghost use Rattle.std.specs.Prelude.{◌≡◌, ◌<◌, Ok, length};
 ghost use Rattle.lk_store.specs.Contents.{tree_at};
 ghost use Rattle.lk_ask.specs.Looks.{MakesTree};
 ghost use Rattle.lk_type.specs.Sheets.{map_telescope, IsKnownTelescope};
-ghost use Rattle.lk_type.specs.Telescopes.{gather, pis_end, pis_sorted};
-ghost use Rattle.lk_type.specs.Telescopes.{telescope_on, telescope_sorted, telescope_end};
+ghost use Rattle.lk_type.specs.Telescopes.{gather, pis_end, pis_sorted, telescope_on, telescope_sorted, telescope_end};
 ghost use Rattle.lk_type.specs.Types.{Infers};
 
 use crate::infer::TypeNext;

@@ -4,7 +4,7 @@ use Rattle.lk_type.proofs.opening.next_number.Goals as goal
 
 pub returns-then-mark_of-count : goal.returns-then-mark_of-count
 returns-then-mark_of-count g c =
-    let j = c.in-Some-top.j in
+    let j = c.in-Some.j in
     let marks = c.args.marks.now in
     let all : c.args.all ≡ true = search rules in
     let none : slice_index_or marks (c.args.count - 1) 0 ≡ 0 = search rules in
