@@ -10,7 +10,7 @@ use Rattle.lk_tree.specs.Putting.{put_at}
 use Rattle.lk_store.specs.Contents.{Contents, tree_at}
 use Rattle.lk_type.specs.declared.sheet.Binders.{Binders}
 use Rattle.lk_type.specs.Openings.{IsFollowing}
-use Rattle.lk_type.specs.Marks.{body_at, AreMarks, AreAll, Follows, closed, last, before}
+use Rattle.lk_type.specs.Marks.{body_at, AreMarks, AreAll, Follows, last, before}
 use Rattle.std.proofs.lemmas.List.Elements.{All-get_or}
 use Rattle.lk_type.proofs.Openings.{IsAdded, next_fits, closed_known}
 
@@ -43,14 +43,10 @@ module _ {b : Binders} {now later : Contents} {inside domain body number x : ℕ
       ∙ (ap (tree_at later) (get_or_append_left locals (x ∷ []) 0 j l)
       ∙ a.grows.trees.same (slice_index_or locals j 0) (All-get_or (λ y. y < length now.trees) locals j 0 l (closed_known now locals a.closed)))
 
-  pub following_next : (e : Tree) (count : ℕ) (marks : List ℕ) (all : Bool) (top : Option ℕ) (p : ℕ × Option ℕ) → AreMarks b e marks → (all ≡ true → AreAll b e marks)
+  pub following_next : (e : Tree) (count : ℕ) (marks : List ℕ) (all : Bool) (top : Option ℕ) (p : ℕ × ℕ) → AreMarks b e marks → (all ≡ true → AreAll b e marks)
       → count ≡ suc (length locals) → tree_at later body ≡ body_at b count e
       → IfSome top (λ j. (j < length locals) × (number ≤ bound (tree_at now (slice_index_or locals j 0))))
-      → Follows (tree_at later body) number count marks all top p → IsFollowing later after body p
-  following_next e count marks all top p h every many is was (closed z n t) = record {
-    number = next_fits a p.0 (inl (z, n));
-    top = subst (λ o. IfSome o (λ j. (j < length after) × (p.0 ≤ bound (tree_at later (slice_index_or after j 0))))) (sym t) tt;
-  }
+      → Follows number count marks all top p → IsFollowing later after body p
   following_next e count marks all top p h every many is was (last m n t) =
       let place : suc (count - 1 + 0) ≡ count = omega arith in
       let mentioned = h (count - 1) 0 (omega (arith, m, many)) in
@@ -62,8 +58,8 @@ module _ {b : Binders} {now later : Contents} {inside domain body number x : ℕ
       let reaches : suc number ≤ bound (tree_at later (slice_index_or after (count - 1) 0)) = rw (here, a.made.is) (local_reaches number _) in
       record {
         number = next_fits a p.0 (inr (inl (occurs, n)));
-        top = subst (λ o. IfSome o (λ j. (j < length after) × (p.0 ≤ bound (tree_at later (slice_index_or after j 0))))) (sym t)
-            (omega (arith, more, many), omega (arith, n, reaches));
+        among = omega (arith, more, many, t);
+        reaches = subst (λ k. p.0 ≤ bound (tree_at later (slice_index_or after k 0))) (sym t) (omega (arith, n, reaches));
       }
   following_next e count marks all top p h every many is was (before j whole none room at m n t) =
       let place : suc (count - 1) ≡ count = omega (arith, many) in
@@ -88,6 +84,7 @@ module _ {b : Binders} {now later : Contents} {inside domain body number x : ℕ
           occurs = occurs;
           reaches = rw value there.1;
         })));
-        top = subst (λ o. IfSome o (λ j. (j < length after) × (p.0 ≤ bound (tree_at later (slice_index_or after j 0))))) (sym t)
-            ((let l = there.0 in omega (arith, l, more)), rw (same_local j there.0) (let r = there.1 in omega (arith, r, n)));
+        among = (let l = there.0 in omega (arith, l, more, t));
+        reaches = subst (λ k. p.0 ≤ bound (tree_at later (slice_index_or after k 0))) (sym t)
+            (rw (same_local j there.0) (let r = there.1 in omega (arith, r, n)));
       }

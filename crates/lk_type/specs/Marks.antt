@@ -1,7 +1,7 @@
 -- In which bodies of a telescope the variables of its binders occur.
-use Rattle.std.specs.Prelude.{◌≡◌, ◌<◌, ◌≤◌, ◌+◌, ◌-◌, ◌⊎◌, ◌∷◌, ◌++◌, [], ℕ, zero, suc, Bool, true, List, All, Option, Some, None, slice_index_or, length}
+use Rattle.std.specs.Prelude.{◌≡◌, ◌<◌, ◌≤◌, ◌+◌, ◌-◌, ◌⊎◌, ◌∷◌, ◌++◌, [], ℕ, zero, suc, Bool, true, List, All, Option, Some, slice_index_or, length}
 use Rattle.lk_tree.specs.Tree.{Tree, lam, pi}
-use Rattle.lk_tree.specs.Bind.{bound, has_var}
+use Rattle.lk_tree.specs.Bind.{has_var}
 use Rattle.lk_tree.specs.Loose.{loose}
 use Rattle.lk_store.specs.Contents.{Contents, tree_at}
 use Rattle.lk_type.specs.declared.sheet.Binders.{Binders}
@@ -86,12 +86,11 @@ pub record IsMarked (c : Contents) (b : Binders) (e : Tree) (p : Part) (old new 
     pub grown : (k : ℕ) → slice_index_or old k 0 ≤ slice_index_or new k 0
     pub at : (n : ℕ) → n < length old → IsOutermost c n p → 0 < slice_index_or new n 0
 
--- how the number of the next Local is found in the body, and the binder of the greatest that occurs
-pub data Follows (e : Tree) (number count : ℕ) (marks : List ℕ) (all : Bool) (top : Option ℕ)
-    (p : ℕ × Option ℕ) : Type 0 where
-  closed : loose e ≡ 0 → p.0 ≡ bound e → p.1 ≡ None → Follows e number count marks all top p
-  last : count ≤ slice_index_or marks (count - 1) 0 → p.0 ≡ suc number → p.1 ≡ Some (count - 1)
-      → Follows e number count marks all top p
+-- how the number of the next Local is found, and the binder of the greatest that occurs
+pub data Follows (number count : ℕ) (marks : List ℕ) (all : Bool) (top : Option ℕ)
+    (p : ℕ × ℕ) : Type 0 where
+  last : count ≤ slice_index_or marks (count - 1) 0 → p.0 ≡ suc number → p.1 ≡ count - 1
+      → Follows number count marks all top p
   before : (j : ℕ) → all ≡ true → slice_index_or marks (count - 1) 0 ≡ 0 → count ≤ length marks
-      → top ≡ Some j → count ≤ slice_index_or marks j 0 → p.0 ≡ number → p.1 ≡ Some j
-      → Follows e number count marks all top p
+      → top ≡ Some j → count ≤ slice_index_or marks j 0 → p.0 ≡ number → p.1 ≡ j
+      → Follows number count marks all top p

@@ -1,5 +1,5 @@
 -- How a telescope is opened, and that asking for it runs as its row does.
-use Rattle.std.specs.Prelude.{◌≡◌, ◌<◌, ◌≤◌, ◌++◌, ◌∷◌, ℕ, List, map, All, Option, IfSome, Result, IfOk, slice_index_or, length}
+use Rattle.std.specs.Prelude.{◌≡◌, ◌<◌, ◌≤◌, ◌++◌, ◌∷◌, ℕ, List, map, All, Result, IfOk, slice_index_or, length}
 use Rattle.lk_tree.specs.Tree.{Tree}
 use Rattle.lk_tree.specs.Bind.{bound}
 use Rattle.lk_tree.specs.Loose.{loose}
@@ -32,11 +32,10 @@ abbrev pub IsNumberFor : Contents → List ℕ → ℕ → ℕ → Type 0
 IsNumberFor c locals body number = number ≡ bound (put (map (tree_at c) locals) (tree_at c body))
 
 -- and this is one of the Locals whose number is one less
-pub record IsFollowing (c : Contents) (locals : List ℕ) (body : ℕ) (p : ℕ × Option ℕ) : Type 0
-  where
-    pub number : IsNumberFor c locals body p.0
-    pub top : IfSome p.1 (λ j. (j < length locals)
-        × (p.0 ≤ bound (tree_at c (slice_index_or locals j 0))))
+pub record IsFollowing (c : Contents) (locals : List ℕ) (body : ℕ) (p : ℕ × ℕ) : Type 0 where
+  pub number : IsNumberFor c locals body p.0
+  pub among : p.1 < length locals
+  pub reaches : p.0 ≤ bound (tree_at c (slice_index_or locals p.1 0))
 
 -- the body, opened with the Locals that there were, is r under binders that are opened with those
 -- that came

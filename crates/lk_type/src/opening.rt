@@ -28,8 +28,8 @@ use lk_subst::putting::put;
 /// So many binders are opened at once. Fewer are opened as fast one after the other.
 const LONG: u64 = 8;
 
-/// The number of the next Local, where it is plain, and the binder of the Local that it follows. In
-/// a closed body no Local occurs; where the last one does not, the greatest is that before it.
+/// The number of the next Local, where it is plain, and the binder of the Local that it follows: the
+/// last one, or where that does not occur the greatest before it. There is none in a closed body.
 fn next_number<L: Looks>(
     looks: &L,
     body: u64,
@@ -38,24 +38,23 @@ fn next_number<L: Looks>(
     marks: &[u64],
     all: bool,
     top: Option<u64>,
-) -> Option<(u64, Option<u64>)>
+) -> Option<(u64, u64)>
     requires body_in { body < length (L.contents looks.now).trees }
     requires some { 0 < count }
-    ensures { IfSome result (Follows (tree_at (L.contents looks.now) body) number count marks.now
-        all top) }
+    ensures { IfSome result (Follows number count marks.now all top) }
 {
+    // A closed body is opened for nothing, and its type, as a question of its own, is kept.
     if looks.loose_bound(body) == 0 {
-        let next = u64::try_from(looks.local_bound(body)).ok()?;
-        return Some((next, None));
+        return None;
     }
     let mark = mark_of(marks, count - 1);
     if mark >= count {
         let next = number.checked_add(1)?;
-        return Some((next, Some(count - 1)));
+        return Some((next, count - 1));
     }
     if let Some(j) = top {
         if all && mark == 0 && count <= marks.len() as u64 && mark_of(marks, j) >= count {
-            return Some((number, Some(j)));
+            return Some((number, j));
         }
     }
     None
@@ -87,7 +86,7 @@ fn open_binders<L: Looks>(
     binders: Binders,
     e: u64,
     body: u64,
-    following: Option<(u64, Option<u64>)>,
+    following: Option<(u64, u64)>,
     marks: &[u64],
     all: bool,
     locals: &mut Vec<u64>,
@@ -117,7 +116,7 @@ fn open_binders<L: Looks>(
                 inside = body;
                 // No term in memory has so many binders that this fails.
                 count = count.checked_add(1).ok_or(NoMemory)?;
-                following = next_number(looks, inside, number, count, marks, all, top);
+                following = next_number(looks, inside, number, count, marks, all, Some(top));
             }
         }
     }
@@ -271,12 +270,15 @@ pub fn begin_binders<L: Looks>(
     first_domain(looks, binders, domain, &locals, inside)
 }
 
-/// Whether so many binders follow.
+/// Whether so many binders follow, each in a body that is not closed.
 fn has_binders<L: Looks>(looks: &L, binders: Binders, e: u64) -> bool
     requires { e < length (L.contents looks.now).trees }
 {
     let mut inside = e;
     for _i in 0..LONG {
+        if looks.loose_bound(inside) == 0 {
+            return false;
+        }
         match parts_of(looks, binders, inside) {
             None => return false,
             Some((_domain, body)) => inside = body,

@@ -22,7 +22,7 @@ open_binders-requires-clause-following g c =
     let e = tree_at (contents c.add_local.new.looks) c.args.e in
     let marks : AreMarks c.args.binders e c.marks_of.new.marks.items = search rules in
     let all : c.in_ok-all.all ≡ true → AreAll c.args.binders e c.marks_of.new.marks.items = search rules in
-    let follows : IfSome c.next_number-next.result (Follows (tree_at (contents c.add_local.new.looks) c.args.body) c.in-Ok.number 1 c.marks_of.new.marks.items c.in_ok-all.all None) = search rules in
+    let follows : IfSome c.next_number-next.result (Follows c.in-Ok.number 1 c.marks_of.new.marks.items c.in_ok-all.all None) = search rules in
     some_then c.next_number-next.result (λ p. following_next (first_added first.makes.keeps c.requires.binder number made pushed) e 1
     c.marks_of.new.marks.items c.in_ok-all.all None p marks all refl (first_body first.makes.keeps c.requires.e_in c.requires.binder) tt) follows
 

@@ -1,4 +1,4 @@
-use Rattle.std.proofs.Common.{rules, ◌≡◌, ◌+◌, ◌∷◌, [], suc, length, ap, ◌∙◌, arith}
+use Rattle.std.proofs.Common.{rules, ◌≡◌, ◌+◌, ◌∷◌, [], suc, length, Some, ap, ◌∙◌, arith}
 use Rattle.std.proofs.lemmas.List.{length-append}
 use Rattle.lk_store.specs.Contents.{tree_at}
 use Rattle.lk_store.proofs.Extending.{Extends-trans}
@@ -49,7 +49,7 @@ binders-preserved g c =
       closed = still_closed added;
       many = omega (arith, more, many);
       following = some_then c.next_number-following.result (λ p. following_next added (tree_at (contents c.args.looks.now) c.args.e) c.in_ok-count-in-Some-parts_of.count
-          c.args.marks.now c.args.all c.in-Some.top p c.requires.marks c.requires.all many at here.top) c.next_number-following.ensures;
+          c.args.marks.now c.args.all (Some c.in-Some.top) p c.requires.marks c.requires.all many at (here.among, here.reaches)) c.next_number-following.ensures;
       opened = still_opened added inv.opened;
     }
 
