@@ -4,6 +4,7 @@ ghost use Rattle.std.specs.Prelude.{◌≡◌, ◌<◌, [], true, length};
 ghost use Rattle.lk_rulebook.specs.Scan.{are_new};
 ghost use Rattle.lk_rulebook.specs.Units.{members_of, place_of, Members};
 ghost use Rattle.lk_questions.specs.Table.{steps as table};
+ghost use Rattle.lk_store.specs.Contents.{Extends};
 ghost use Rattle.lk_store.specs.Store.{over, contents_of};
 ghost use Rattle.lk_engine.specs.Lookouts.{standing_at, places_at};
 ghost use Rattle.lk_env.specs.declared.entry.Partial.{Partial as GivenMembers};
@@ -100,9 +101,11 @@ fn judge_scanned(alloc: Global, asks: &mut Engine<'_>, unit: &Unit) -> Verdict
     }
 }
 
-/// The verdict of a unit whose names are new.
+/// The verdict of a unit whose names are new. Its scan reads the library's own store, its questions
+/// one over it.
 fn judge_new(alloc: Global, base: &BaseStore, asks: &mut Engine<'_>, unit: &Unit) -> Verdict
-    requires same { contents_of (over asks.old.2.0 asks.old.2.1) ≡ contents_of base.now }
+    requires over { Extends (contents_of base.now)
+        (contents_of (over asks.old.2.0 asks.old.2.1)) }
     requires place { StandsAt places_at (standing_at asks.old.0 asks.old.1) Partial.Nothing [] }
     requires known { IsUnitIn (contents_of base.now) unit.now }
     ensures basis { (standing_at asks.new.0 asks.new.1).basis
@@ -124,7 +127,8 @@ fn judge(
     number: u32,
     unit: &Unit,
 ) -> Verdict
-    requires same { contents_of (over asks.old.2.0 asks.old.2.1) ≡ contents_of library.now.0 }
+    requires over { Extends (contents_of library.now.0)
+        (contents_of (over asks.old.2.0 asks.old.2.1)) }
     requires place { StandsAt places_at (standing_at asks.old.0 asks.old.1) Partial.Nothing [] }
     requires places { are_new (library_of library.now) number
         (members_of (unit_at (contents_of library.now.0) unit.now)) ≡ true → (p : GivenMembers)
@@ -144,8 +148,8 @@ fn judge(
     }
 }
 
-/// The verdict of a unit, whose questions may take so many steps. The engine is started anew for it, and knows nothing of the
-/// work of an earlier one.
+/// The verdict of a unit, whose questions may take so many steps. The engine is started anew for it:
+/// what it still has of the work of earlier ones changes no answer and no cost.
 pub(crate) fn check_unit(
     alloc: Global,
     library: &Library,
