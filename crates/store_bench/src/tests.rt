@@ -4,6 +4,7 @@
 
 mod guarded;
 mod names;
+mod spelling;
 mod spine;
 mod trees;
 mod walks;
