@@ -24,3 +24,5 @@ mod recursor_types;
 mod restored;
 #[cfg(test)]
 mod scan;
+#[cfg(test)]
+mod sharing;
