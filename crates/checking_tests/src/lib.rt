@@ -26,3 +26,5 @@ mod restored;
 mod scan;
 #[cfg(test)]
 mod sharing;
+#[cfg(test)]
+mod staying;
