@@ -1,22 +1,17 @@
 -- What a worker has done.
-use Rattle.std.specs.Prelude.{◌≡◌, ◌++◌, ℕ, List, [], IfSome}
+use Rattle.std.specs.Prelude.{◌≡◌, ◌++◌, ℕ, List, []}
 use Rattle.lk_store.specs.declared.tables.Tables.{Tables}
 use Rattle.lk_env.specs.declared.unit.Unit.{Unit as StoredUnit}
 use Rattle.lk_desk.specs.declared.table.Desk.{Desk}
 use Rattle.lk_desk.specs.declared.table.Seat.{Seat}
-use Rattle.lk_desk.specs.Seats.{view, IsNew, Sits}
+use Rattle.lk_desk.specs.Seats.{view, Sits}
 use Rattle.leancheck.specs.declared.order.UnitVerdict.{UnitVerdict}
 use Rattle.leancheck.specs.declared.worker.Done.{Done}
-use Rattle.leancheck.specs.declared.worker.Place.{Place}
 use Rattle.leancheck.specs.Drawn.{AreRight, numbers}
 
 -- a seat that has drawn nothing, and came from itself alone
 abbrev pub IsIdle : Seat → Desk → Type 0
 IsIdle seat desk = Sits seat desk × ((view seat).drawn ≡ []) × ((view seat).seats ≡ 1)
-
--- it has drawn nothing at the one desk, and sits at the other, if there is one for it
-abbrev pub IsPlace : Desk → Desk → Place → Type 0
-IsPlace desk answers place = IsNew place.seat desk × IfSome place.share (λ s. Sits s answers)
 
 -- the seat drew these numbers, and each has a verdict, which is right
 pub record Draws (l : Tables × List StoredUnit) (steps : ℕ) (desk : Desk) (before after : Seat) (answers : List UnitVerdict) : Type 0 where

@@ -1,14 +1,14 @@
 //! A worker: it draws units and checks them until there are none, or memory is wanting.
 
-ghost use Rattle.std.specs.Prelude.{◌≡◌, IfSome};
+ghost use Rattle.std.specs.Prelude.{◌≡◌};
 ghost use Rattle.lk_desk.specs.Job.{job_of};
-ghost use Rattle.lk_desk.specs.Seats.{job, Sits};
-ghost use Rattle.leancheck.specs.Workers.{Draws, IsDone, IsPlace};
+ghost use Rattle.lk_desk.specs.Seats.{job, IsNew, Sits};
+ghost use Rattle.leancheck.specs.Workers.{Draws, IsDone};
 
 use crate::checking::check_unit;
 use crate::order::UnitVerdict;
 use lk_desk::{Desk, Seat};
-use lk_engine::{Engine, Share};
+use lk_engine::Engine;
 use lk_env::library::Library;
 use lk_memo::PrivateMemo;
 use lk_port::Gate;
@@ -23,14 +23,6 @@ pub struct Limits {
     pub steps: u128,
     /// How many answers a worker keeps at most.
     pub kept: u32,
-}
-
-/// Where a worker sits: at the desk at which units are drawn and, where others check too, at one at which
-/// answers are shared.
-#[derive(Drop)]
-pub struct Place {
-    pub seat: Seat,
-    pub share: Option<Seat>,
 }
 
 /// What a worker has done: its seat, and a verdict for each unit that it drew.
@@ -80,39 +72,24 @@ fn draw_all<G: Gate>(
     }
 }
 
-/// A share in the answers at a desk, where a worker has a seat there.
-fn share_at<'a>(answers: &'a Desk, seat: Option<Seat>) -> Option<Share<'a>>
-    requires { IfSome seat (λ s. Sits s answers.now) }
-    ensures { IfSome result (λ s. s.0 ≡ job answers.now) }
-{
-    match seat {
-        Some(seat) => Some(Share::new(answers, seat)),
-        None => None,
-    }
-}
-
 /// Gives a verdict for each unit that a new seat draws, by a memo and an engine of the worker's own.
 pub(crate) fn work<G: Gate>(
     alloc: Global,
     library: &Library,
     limits: Limits,
     desk: &Desk,
-    answers: &Desk,
-    place: Place,
+    mut seat: Seat,
     gate: &G,
 ) -> Done
-    requires place { IsPlace desk.now answers.now place }
+    requires seat { IsNew seat desk.now }
     requires job { job desk.now ≡ job_of library.now }
-    requires answers { job answers.now ≡ job_of library.now }
     ensures { IsDone library.now limits.steps desk.now result }
 {
-    let Place { mut seat, share } = place;
     let Ok(mut memo) = PrivateMemo::new(alloc, limits.kept) else {
         let answers = Vec::new(alloc);
         return Done { seat, answers };
     };
-    let share = share_at(answers, share);
-    let mut engine = Engine::new(alloc, library, &mut memo, share);
+    let mut engine = Engine::new(alloc, library, &mut memo);
     let answers = draw_all(
         alloc,
         library,

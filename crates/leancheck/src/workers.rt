@@ -10,11 +10,11 @@ ghost use Rattle.lk_desk.specs.Seats.{view, job, IsNew, Sits};
 ghost use Rattle.lk_text.specs.declared.verdicts.Verdict.{Verdict as HeldVerdict};
 ghost use Rattle.lk_text.specs.Held.{verdict};
 ghost use Rattle.leancheck.specs.Drawn.{AreRight, numbers, stands, given};
-ghost use Rattle.leancheck.specs.Workers.{IsDone, IsIdle, IsPlace};
+ghost use Rattle.leancheck.specs.Workers.{IsDone, IsIdle};
 
 use crate::order::{UnitVerdict, blank, fill};
 use crate::words::Options;
-use crate::worker::{Done, Limits, Place, work};
+use crate::worker::{Done, Limits, work};
 use lk_desk::{Desk, Seat};
 use lk_env::library::Library;
 use lk_port::Gate;
@@ -54,67 +54,28 @@ fn seats_for(
     Ok(seats)
 }
 
-/// A place for each of these seats, at the other desk with one of its own as long as there are such.
-fn places_for(
-    alloc: Global,
-    desk: &Desk,
-    answers: &Desk,
-    mut seats: Vec<Seat>,
-    mut shares: Vec<Seat>,
-) -> Result<Vec<Place>, NoMemory>
-    requires seats { All (λ s. IsNew s desk.now) seats.items }
-    requires shares { All (λ s. IsNew s answers.now) shares.items }
-    ensures count { IfOk result (λ v. vec_len v ≡ vec_len seats) }
-    ensures each { IfOk result (λ v. All (IsPlace desk.now answers.now) v.items) }
-{
-    let _desks = (desk, answers);
-    let mut places = Vec::new(alloc);
-    while let Some(seat) = seats.pop() {
-        let share = shares.pop();
-        places.push(Place { seat, share })?;
-    }
-    Ok(places)
-}
-
-/// Seats for so many workers at the desk at which answers are shared: none for a worker that is alone.
-fn shares_for(
-    alloc: Global,
-    answers: &Desk,
-    first: &mut Seat,
-    workers: u32,
-) -> Result<Vec<Seat>, NoMemory>
-    requires { IsNew first.old answers.now }
-    ensures { IfOk result (λ v. All (λ s. IsNew s answers.now) v.items) }
-{
-    let sharers = if workers > 1 { workers } else { 0 };
-    seats_for(alloc, answers, first, sharers)
-}
-
-/// As many workers as places, each in a thread where one can be made, with what they did.
+/// As many workers as seats, each in a thread where one can be made, with what they did.
 fn run_workers<R: Threads + Sync, G: Gate>(
     rt: &R,
     alloc: Global,
     library: &Library,
     limits: Limits,
     desk: &Desk,
-    answers: &Desk,
-    places: Vec<Place>,
+    seats: Vec<Seat>,
     gate: &G,
 ) -> Result<Vec<Done>, NoMemory>
-    requires places { All (IsPlace desk.now answers.now) places.items }
+    requires seats { All (λ s. IsNew s desk.now) seats.items }
     requires job { job desk.now ≡ job_of library.now }
-    requires answers { job answers.now ≡ job_of library.now }
-    ensures count { IfOk result (λ v. vec_len v ≡ vec_len places) }
+    ensures count { IfOk result (λ v. vec_len v ≡ vec_len seats) }
     ensures each { IfOk result (λ v. All (IsDone library.now limits.steps desk.now) v.items) }
 {
     let all = thread::map_vec(
         rt,
-        places,
-        &|place| -> Done
-            requires { IsPlace desk.now answers.now place × (job desk.now ≡ job_of library.now)
-                × (job answers.now ≡ job_of library.now) }
+        seats,
+        &|seat| -> Done
+            requires { IsNew seat desk.now × (job desk.now ≡ job_of library.now) }
             ensures { IsDone library.entry.now limits.steps desk.entry.now result }
-        { work(alloc, library, limits, desk, answers, place, gate) },
+        { work(alloc, library, limits, desk, seat, gate) },
     )?;
     Ok(all)
 }
@@ -177,10 +138,7 @@ pub(crate) fn check_with<R: Threads + Sync, G: Gate>(
     let (desk, mut first) = Desk::new(alloc, library)?;
     let seats = seats_for(alloc, &desk, &mut first, workers)?;
     let count = seats.len() as u64 + 1;
-    let (shelves, mut other) = Desk::new(alloc, library)?;
-    let shares = shares_for(alloc, &shelves, &mut other, workers)?;
-    let places = places_for(alloc, &desk, &shelves, seats, shares)?;
-    let all = run_workers(rt, alloc, library, limits, &desk, &shelves, places, gate)?;
+    let all = run_workers(rt, alloc, library, limits, &desk, seats, gate)?;
     let answers = gather(alloc, library, limits.steps, &desk, &mut first, all)?;
     let ended = drew_all(&desk, &mut first, count);
     fill(&mut verdicts, answers.as_slice());
