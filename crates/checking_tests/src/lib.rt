@@ -25,6 +25,4 @@ mod restored;
 #[cfg(test)]
 mod scan;
 #[cfg(test)]
-mod sharing;
-#[cfg(test)]
 mod staying;
