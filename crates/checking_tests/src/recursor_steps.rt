@@ -273,7 +273,7 @@ fn stays_at_local<A: Asks>(asks: &mut A) -> Result<bool, NoMemory> {
 fn constructor_steps(alloc: Global) -> Result<bool, NoMemory> {
     let library = library(alloc, false)?;
     let mut memo = PrivateMemo::new(alloc, 8)?;
-    let mut engine = Engine::new(alloc, &library, &mut memo, None);
+    let mut engine = Engine::new(alloc, &library, &mut memo);
     engine.start(1, 100);
     steps_at_constructor(&mut engine)
 }
@@ -281,7 +281,7 @@ fn constructor_steps(alloc: Global) -> Result<bool, NoMemory> {
 fn k_steps(alloc: Global) -> Result<bool, NoMemory> {
     let library = library(alloc, true)?;
     let mut memo = PrivateMemo::new(alloc, 8)?;
-    let mut engine = Engine::new(alloc, &library, &mut memo, None);
+    let mut engine = Engine::new(alloc, &library, &mut memo);
     engine.start(1, 100);
     steps_at_local(&mut engine)
 }
@@ -289,7 +289,7 @@ fn k_steps(alloc: Global) -> Result<bool, NoMemory> {
 fn local_stays(alloc: Global) -> Result<bool, NoMemory> {
     let library = library(alloc, false)?;
     let mut memo = PrivateMemo::new(alloc, 8)?;
-    let mut engine = Engine::new(alloc, &library, &mut memo, None);
+    let mut engine = Engine::new(alloc, &library, &mut memo);
     engine.start(1, 100);
     stays_at_local(&mut engine)
 }

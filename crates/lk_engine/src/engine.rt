@@ -1,20 +1,16 @@
 //! The engine: a store over that of a library in which questions are answered, as a unit of the
 //! library may ask them.
 
-ghost use Rattle.std.specs.Prelude.{◌≡◌, [], map, option_map, All, OnOk, IfErr, IfSome};
+ghost use Rattle.std.specs.Prelude.{◌≡◌, [], map, All, OnOk, IfErr};
 ghost use Rattle.lk_store.specs.Contents.{Extends};
 ghost use Rattle.lk_store.specs.Store.{over, contents_of};
 ghost use Rattle.lk_env.specs.Scopes.{alone_members};
 ghost use Rattle.lk_env.specs.Units.{type_at, IsTypeIn};
-ghost use Rattle.lk_desk.specs.Job.{job_of};
 ghost use Rattle.lk_engine.specs.Lookouts.{Tidies, Restarts, BeginsUnit, GivesMembers};
-ghost use Rattle.lk_engine.specs.Shares.{shared_from};
 
-use crate::answering::Frame;
+use crate::answering::{Frame, answer};
 use crate::families::family_of;
 use crate::parameters::parameters_at;
-use crate::share::Share;
-use crate::sharing::answer_shared;
 use lk_ask::asks::Asks;
 use lk_ask::lookout::Lookout;
 use lk_ask::query::{Answer, Query};
@@ -42,14 +38,12 @@ use std::mem::drop;
 
 /// An engine over a library. What units make stands over the library's store, and goes when a unit
 /// is started, once it is many rows; what the memo keeps, which is lent, goes with the unit, but for
-/// what outlasts one. Where workers share answers it looks for them and leaves them.
+/// what outlasts one.
 pub struct Engine<'a> {
     lookout: Lookout<'a, Overlay<'a>>,
     memo: &'a mut PrivateMemo,
     /// Room for the questions that wait.
     stack: Vec<Frame>,
-    /// Where workers share answers, if there are others.
-    share: Option<Share<'a>>,
 }
 
 impl<'a> Model for Engine<'a> {
@@ -65,7 +59,7 @@ impl<'a> Model for Engine<'a> {
 
     ghost view = { λ s. s.lookout };
 
-    ghost invariant = { λ s. Stands s.lookout s.memo.now s.share };
+    ghost invariant = { λ s. Stands s.lookout s.memo.now };
 }
 
 impl Drop for Engine<'_> {
@@ -74,11 +68,9 @@ impl Drop for Engine<'_> {
             lookout,
             memo: _,
             stack,
-            share,
         } = self;
         drop(lookout);
         drop(stack);
-        drop(share);
     }
 }
 
@@ -135,15 +127,6 @@ fn begin_unit(memo: &mut PrivateMemo, unit: u32, terms: u64, stays: bool)
     }
 }
 
-/// From here on this unit looks where answers are shared, or none does.
-fn share_from(share: &mut Option<Share<'_>>, unit: Option<u32>)
-    ensures { share.new ≡ option_map (shared_from unit) share.old }
-{
-    if let Some(share) = share {
-        share.look_from(unit);
-    }
-}
-
 /// From here on so much of the unit at work is partial, and no auxiliary type.
 fn give_in<'a>(lookout: &mut Lookout<'a, Overlay<'a>>, partial: Partial)
     ensures { GivesMembers lookout.old lookout.new partial [] }
@@ -179,15 +162,8 @@ fn turns_of(lookout: &Lookout<'_, Overlay<'_>>) -> u64
 }
 
 impl<'a> Engine<'a> {
-    /// An engine at the first unit, with nothing to spend. The memo is emptied. Answers are shared at
-    /// a desk of the library, if there is one. It takes no memory.
-    pub fn new(
-        alloc: Global,
-        library: &'a Library,
-        memo: &'a mut PrivateMemo,
-        mut share: Option<Share<'a>>,
-    ) -> Self
-        requires { IfSome share (λ s. s.0 ≡ job_of library.now) }
+    /// An engine at the first unit, with nothing to spend. The memo is emptied. It takes no memory.
+    pub fn new(alloc: Global, library: &'a Library, memo: &'a mut PrivateMemo) -> Self
         ensures library { result.0.2 ≡ library.now }
         ensures auxiliary { result.0.3 ≡ [] }
         ensures unit { result.1.unit ≡ 0 }
@@ -197,7 +173,6 @@ impl<'a> Engine<'a> {
         ensures turns { result.3.turns ≡ 0 }
     {
         memo.begin(library.base().len());
-        share_from(&mut share, None);
         let terms = Overlay::new(alloc, library.base());
         let lookout = Lookout {
             alloc,
@@ -213,7 +188,6 @@ impl<'a> Engine<'a> {
             lookout,
             memo,
             stack: Vec::new(alloc),
-            share,
         }
     }
 
@@ -233,7 +207,6 @@ impl<'a> Engine<'a> {
         let stays = restart(&mut self.lookout, unit, budget);
         let terms = self.lookout.len();
         begin_unit(self.memo, unit, terms, stays);
-        share_from(&mut self.share, Some(unit));
     }
 
     /// How many questions were opened for the unit that was begun last, those of which an answer
@@ -360,13 +333,7 @@ impl<'a> Asks for Engine<'a> {
 
     fn ask(&mut self, query: Query<u64>) -> Result<Answer<u64>, Stop> {
         let memo = &mut *self.memo;
-        answer_shared(
-            &mut self.lookout,
-            memo,
-            &mut self.stack,
-            &mut self.share,
-            query,
-        )
+        answer(&mut self.lookout, memo, &mut self.stack, query)
     }
 
     fn parameter_count(&self, name: u64) -> Result<Option<u64>, Rule> {
@@ -376,13 +343,11 @@ impl<'a> Asks for Engine<'a> {
     fn give(&mut self, partial: Partial) {
         give_in(&mut self.lookout, partial);
         self.memo.clear();
-        share_from(&mut self.share, None);
     }
 
     fn give_beside(&mut self, partial: Partial, types: &[BlockType]) -> Result<(), NoMemory> {
         let given = give_beside_in(&mut self.lookout, partial, types);
         self.memo.clear();
-        share_from(&mut self.share, None);
         given
     }
 
