@@ -32,7 +32,7 @@ fn turns_at(engine: &mut Engine<'_>, unit: u32) -> Result<u64, NoMemory> {
 fn is_found_by_the_third_unit(alloc: Global) -> Result<bool, NoMemory> {
     let library = Library::new(alloc, BaseStore::new(alloc), Vec::new(alloc))?;
     let mut memo = PrivateMemo::new(alloc, 65_536)?;
-    let mut engine = Engine::new(alloc, &library, &mut memo, None);
+    let mut engine = Engine::new(alloc, &library, &mut memo);
     let made = turns_at(&mut engine, 0)?;
     let kept = turns_at(&mut engine, 1)?;
     let found = turns_at(&mut engine, 2)?;

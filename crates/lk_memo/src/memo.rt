@@ -187,6 +187,18 @@ impl PrivateMemo {
         }
     }
 
+    /// The same of an answer that outlasts its unit, where there is memory. A slot may be taken by a
+    /// cheap answer: were a dear one there alone, a file could have it worked out again and again.
+    fn keep_dear_too(&mut self, key: Key, kept: Kept)
+        ensures recent { self.new.recent ≡ self.old.recent }
+        ensures lasting { self.new.lasting ≡ self.old.lasting }
+        ensures staying { self.new.staying ≡ self.old.staying }
+        ensures entries { (e : _) → Contains self.new.cache.entries e
+            → Contains self.old.cache.entries e ⊎ (e ≡ (key, kept)) }
+    {
+        let _kept = self.keep_dear(key, kept);
+    }
+
     /// Where there are no slots for the last answers, nothing outlasts its unit.
     fn end_outlasting(&mut self)
         ensures recent { self.new.recent ≡ self.old.recent }
@@ -234,6 +246,7 @@ impl PrivateMemo {
         ensures refused { OnErr result (self.new ≡ self.old) }
     {
         if self.keep_outlasting(query, key, kept) {
+            self.keep_dear_too(key, kept);
             return Ok(());
         }
         self.keep_dear(key, kept)?;

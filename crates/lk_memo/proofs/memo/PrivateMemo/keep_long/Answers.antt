@@ -15,3 +15,8 @@ returns-clause-kept c = λ none.
     let still = ap (λ s. s.0) c.in_ok-keep_dear.ensures.recent ∙ before in
     none_found c.end_outlasting.new.self c.args.query _ c.args.kept (c.end_outlasting.ensures.none still)
     (rw (← c.end_outlasting.ensures.cache) at (c.in_ok-keep_dear.ensures.kept before))
+
+pub returns-then-keep_outlasting-clause-entries : goal.returns-then-keep_outlasting-clause-entries
+returns-then-keep_outlasting-clause-entries c = λ e h.
+    subst (λ m. Contains m.entries e ⊎ (e ≡ (c.args.key, c.args.kept))) c.keep_outlasting.ensures.cache
+    (c.keep_dear_too.ensures.entries e h)
