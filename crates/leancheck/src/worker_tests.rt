@@ -27,6 +27,13 @@ const LATER: &[u8] =
 const LATER_TOLD: &[u8] =
     b"no def 0 a\n  why UnknownConstant\nyes axiom 1 q\n  axiom q\nyes def 2 c\n  axiom q\nunits 3 yes 2 no 1 memory 0\n";
 
+// The same units, where that name is of an earlier one.
+const EARLIER: &[u8] =
+    b"1 #NS 0 q\n2 #NS 0 a\n3 #NS 0 c\n0 #ES 0\n1 #EC 1\n#AX 1 0\n#DEF 2 0 1 O\n#DEF 3 0 1 O\n";
+
+const EARLIER_TOLD: &[u8] =
+    b"yes axiom 0 q\n  axiom q\nyes def 1 a\n  axiom q\nyes def 2 c\n  axiom q\nunits 3 yes 3 no 0 memory 0\n";
+
 // Whether a run on these words checks the five units, and two workers were at the gate at one time exactly where that is wanted.
 fn meets<R: Threads + Wait + Sync>(
     rt: &R,
@@ -64,6 +71,7 @@ fn later_name(rt: HostRuntime) -> Result<(), Fail> {
         "leancheck check --workers 8",
     ] {
         assert!(rt; is_row(&rt, alloc, line, LATER, LATER_TOLD, Status::SomeNo)?);
+        assert!(rt; is_row(&rt, alloc, line, EARLIER, EARLIER_TOLD, Status::AllYes)?);
     }
     Ok(())
 }
@@ -71,18 +79,19 @@ fn later_name(rt: HostRuntime) -> Result<(), Fail> {
 #[test]
 fn doubling(rt: HostRuntime) -> Result<(), Fail> {
     let alloc = rt.alloc();
+    // It costs 6 * 2^60 - 3 steps.
     for line in [
-        "leancheck check --workers 1",
-        "leancheck check --workers 2",
-        "leancheck check --workers 8",
+        "leancheck check --steps 6917529027641081853 --workers 1",
+        "leancheck check --steps 6917529027641081853 --workers 2",
+        "leancheck check --steps 6917529027641081853 --workers 8",
     ] {
         let told = b"yes axiom 0 d\n  axiom d\nunits 1 yes 1 no 0 memory 0\n";
         assert!(rt; is_row(&rt, alloc, line, DOUBLING, told, Status::AllYes)?);
     }
     for line in [
-        "leancheck check --steps 1000 --workers 1",
-        "leancheck check --steps 1000 --workers 2",
-        "leancheck check --steps 1000 --workers 8",
+        "leancheck check --steps 6917529027641081852 --workers 1",
+        "leancheck check --steps 6917529027641081852 --workers 2",
+        "leancheck check --steps 6917529027641081852 --workers 8",
     ] {
         let told = b"no axiom 0 d\n  why steps\n  axiom d\nunits 1 yes 0 no 1 memory 0\n";
         assert!(rt; is_row(&rt, alloc, line, DOUBLING, told, Status::SomeNo)?);
