@@ -1,4 +1,5 @@
 pub mod Walks
+pub mod Courses
 pub mod Numbers
 pub mod Levels
 pub mod Runs

@@ -4,6 +4,7 @@
 
 mod by_parts;
 pub mod closing;
+mod layers;
 pub mod levels;
 pub mod opening;
 pub mod parameters;

@@ -4,10 +4,11 @@
 ghost use Rattle.std.specs.Prelude.{◌≡◌, ◌<◌, ◌⊎◌, ◌∷◌, ◌++◌, [], ℕ, length, IfOk, OnOk, OnErr};
 ghost use Rattle.lk_tree.specs.Tree.{Tree};
 ghost use Rattle.lk_store.specs.Contents.{Contents, tree_at, Extends};
-ghost use Rattle.lk_store.specs.Rooms.{IsEmpty};
 ghost use Rattle.lk_subst.specs.Walks.{Change, Descends, IsStep, IsMade, AreMade, IsWaiting};
+ghost use Rattle.lk_subst.specs.Courses.{IsReady};
 ghost use Rattle.lk_subst.specs.Walks.{Begins, Resumes, IsOwn, first_of, next_of, with_child, inside};
 
+use crate::layers::{Course, LAYERS, made_of};
 use lk_rows::table::Table;
 use lk_store::memory::NoMemory;
 use lk_store::node::Node;
@@ -119,7 +120,7 @@ fn replaced(node: Node, child: Child, e: u64) -> Node
 }
 
 /// The depth of a child.
-fn depth_inside(depth: u64, under_binder: bool) -> Result<u64, NoMemory>
+pub(crate) fn depth_inside(depth: u64, under_binder: bool) -> Result<u64, NoMemory>
     ensures { IfOk result (λ d. d ≡ inside depth under_binder) }
 {
     if under_binder {
@@ -236,24 +237,28 @@ fn resume<T: Terms>(
     }
 }
 
-/// What the change makes of a tree whose children are to be walked, in empty room.
-fn walk<T: Terms, R: Rewrite<T>>(
+/// What the change makes of a tree whose children are to be walked, with the stack of the room.
+pub(crate) fn walk<T: Terms, R: Rewrite<T>>(
     terms: &mut T,
     rewrite: &R,
     room: &mut Room,
     e: u64,
+    depth: u64,
 ) -> Result<u64, NoMemory>
     requires known { R.is_known rewrite.now (T.contents terms.old) }
-    requires empty { IsEmpty room.old }
+    requires ready { IsReady (R.change rewrite.now (T.contents terms.old))
+        (T.contents terms.old) room.old }
     requires e_in { e < length (T.contents terms.old).trees }
-    requires descends { Descends (R.change rewrite.now (T.contents terms.old)) 0
+    requires descends { Descends (R.change rewrite.now (T.contents terms.old)) depth
         (tree_at (T.contents terms.old) e) }
     ensures keeps { Extends (T.contents terms.old) (T.contents terms.new) }
     ensures rest { T.rest terms.new ≡ T.rest terms.old }
     ensures ok { IfOk result (IsMade (R.change rewrite.now (T.contents terms.old))
-        (T.contents terms.old) e 0 (T.contents terms.new)) }
+        (T.contents terms.old) e depth (T.contents terms.new)) }
+    ensures ready { OnOk result (IsReady (R.change rewrite.now (T.contents terms.old))
+        (T.contents terms.new) room.new) }
 {
-    let mut turn = enter(terms, rewrite, e, 0);
+    let mut turn = enter(terms, rewrite, e, depth);
     'walk: loop {
         match turn {
             Turn::Down {
@@ -279,28 +284,6 @@ fn walk<T: Terms, R: Rewrite<T>>(
     }
 }
 
-/// The same, in room that the store lends, which has it back however the walk ends.
-fn walk_in_lent_room<T: Terms, R: Rewrite<T>>(
-    alloc: Global,
-    terms: &mut T,
-    rewrite: &R,
-    e: u64,
-) -> Result<u64, NoMemory>
-    requires known { R.is_known rewrite.now (T.contents terms.old) }
-    requires e_in { e < length (T.contents terms.old).trees }
-    requires descends { Descends (R.change rewrite.now (T.contents terms.old)) 0
-        (tree_at (T.contents terms.old) e) }
-    ensures keeps { Extends (T.contents terms.old) (T.contents terms.new) }
-    ensures rest { T.rest terms.new ≡ T.rest terms.old }
-    ensures ok { IfOk result (IsMade (R.change rewrite.now (T.contents terms.old))
-        (T.contents terms.old) e 0 (T.contents terms.new)) }
-{
-    let mut room = terms.lend_room(alloc);
-    let made = walk(terms, rewrite, &mut room, e);
-    terms.keep_room(room);
-    made
-}
-
 /// What the change makes of a tree. Where it makes something at once, as it does where the tree's
 /// bounds say that nothing changes, no walk begins.
 pub fn rewritten<T: Terms, R: Rewrite<T>>(
@@ -316,8 +299,15 @@ pub fn rewritten<T: Terms, R: Rewrite<T>>(
     ensures ok { IfOk result (IsMade (R.change rewrite.now (T.contents terms.old))
         (T.contents terms.old) e 0 (T.contents terms.new)) }
 {
-    if let Some(r) = rewrite.step(terms, e, 0)? {
-        return Ok(r);
+    let mut course = Course {
+        alloc,
+        room: None,
+        visits: 0,
+    };
+    let made = made_of(terms, rewrite, &mut course, e, 0, LAYERS);
+    let Course { room, .. } = course;
+    if let Some(room) = room {
+        terms.keep_room(room);
     }
-    walk_in_lent_room(alloc, terms, rewrite, e)
+    made
 }
