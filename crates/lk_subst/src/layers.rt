@@ -1,5 +1,5 @@
-//! The first layers of a walk, by calls, which are cheaper than a stack. Few nodes are made without
-//! room, and nothing is kept of them.
+//! The first layers of a walk, by calls, which are cheaper than a stack of its own. How many layers are
+//! walked so is fixed, whatever the tree. A walk of few nodes takes no room, and keeps nothing.
 
 ghost use Rattle.std.specs.Prelude.{◌≡◌, ◌<◌, length, IfOk, IfSome, IfNone, OnOk};
 ghost use Rattle.lk_store.specs.Contents.{Contents, tree_at, tree_of, Extends, IsIn, IsTree};
@@ -13,11 +13,12 @@ use lk_store::room::{Made, Room, Spot};
 use lk_store::terms::Terms;
 use std::alloc::Global;
 
-/// So many layers are walked by calls, and what is below them with a stack.
+/// So many layers are walked by calls, and what is below them with a stack. A telescope of some
+/// hundred binders is within them, and so many calls take a hundred kilobytes.
 pub(crate) const LAYERS: u32 = 512;
 
-/// So many nodes are walked before it is kept what is made of them. A node is walked again where it
-/// is met again, so these are all that are walked more than once.
+/// So many nodes are walked before a walk keeps what it makes. Where one of these is met again, it is
+/// walked again; every later one with a child that is walked is walked once.
 const FEW: u64 = 24;
 
 /// How far a walk has come.

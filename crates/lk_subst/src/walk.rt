@@ -1,5 +1,6 @@
-//! Walks that build a tree anew. A walk keeps a stack of its own, and goes below each pair of a
-//! number and a depth once. It works in room that the store lends, so that few walks take memory.
+//! Walks that build a tree anew. The first layers of a tree go by calls (`layers`), and what is below
+//! them on a stack: there a walk goes below each pair of a number and a depth once. It works in room
+//! that the store lends, so that few walks take memory.
 
 ghost use Rattle.std.specs.Prelude.{◌≡◌, ◌<◌, ◌⊎◌, ◌∷◌, ◌++◌, [], ℕ, length, IfOk, OnOk, OnErr};
 ghost use Rattle.lk_tree.specs.Tree.{Tree};
