@@ -1,4 +1,5 @@
 pub mod Constants
+pub mod Instances
 pub mod Nexts
 pub mod Outcomes
 pub mod Questions

@@ -1,6 +1,6 @@
 //! What the constants of a term mean in a library.
 
-ghost use Rattle.std.specs.Prelude.{◌≡◌, ◌<◌, List, length, IfOk, IfErr, IfSome, Some};
+ghost use Rattle.std.specs.Prelude.{◌≡◌, ◌<◌, List, length, IfOk, IfErr, IfSome, Some, All};
 ghost use Rattle.lk_tree.specs.Tree.{Name};
 ghost use Rattle.lk_rulebook.specs.Place.{Place, Entry as PlainEntry};
 ghost use Rattle.lk_store.specs.Contents.{name_at, list_at, tree_at, Extends};
@@ -9,7 +9,9 @@ ghost use Rattle.lk_env.specs.Entries.{plain_entry, IsEntryIn};
 ghost use Rattle.lk_env.specs.Scopes.{place_in};
 ghost use Rattle.lk_env.specs.Entries.{MeansNothing};
 ghost use Rattle.lk_ask.specs.Constants.{IsFound, IsRefusedBy, IsAtLevels, IsLevels};
+ghost use Rattle.lk_ask.specs.Instances.{AreInstances, PutsAtLevels};
 
+use crate::instances::{Instances, TreeAt};
 use lk_env::entry::{Entry, Site};
 use lk_env::lends::Lends;
 use lk_env::lent::levels_of as parameters_of;
@@ -80,32 +82,77 @@ fn levels_of<T: Terms>(alloc: Global, terms: &T, levels: u64) -> Result<Vec<u64>
     Ok(found)
 }
 
+/// A tree with levels in place of parameters. There is none where they are not as many.
+fn put_in<T: Terms>(
+    alloc: Global,
+    terms: &mut T,
+    params: &[u64],
+    tree: TreeAt,
+) -> Result<Option<u64>, NoMemory>
+    requires params_in { All (λ p. p < length (T.contents terms.old).names) params.now }
+    requires levels_in { tree.levels < length (T.contents terms.old).lists }
+    requires e_in { tree.e < length (T.contents terms.old).trees }
+    ensures { PutsAtLevels T.contents T.rest terms.old terms.new params.now tree result }
+{
+    let values = levels_of(alloc, terms, tree.levels)?;
+    if values.len() != params.len() {
+        return Ok(None);
+    }
+    let r = put_levels_in(alloc, terms, params, &values, tree.e)?;
+    Ok(Some(r))
+}
+
+/// The same, where what was made before is not made again.
+fn find_or_put<T: Terms>(
+    alloc: Global,
+    terms: &mut T,
+    instances: &mut Instances,
+    params: &[u64],
+    tree: TreeAt,
+) -> Result<Option<u64>, NoMemory>
+    requires params_in { All (λ p. p < length (T.contents terms.old).names) params.now }
+    requires levels_in { tree.levels < length (T.contents terms.old).lists }
+    requires e_in { tree.e < length (T.contents terms.old).trees }
+    requires instances { AreInstances (T.contents terms.old) instances.old.table }
+    ensures puts { PutsAtLevels T.contents T.rest terms.old terms.new params.now tree result }
+    ensures instances { AreInstances (T.contents terms.new) instances.new.table }
+{
+    if !terms.has_params(tree.e) {
+        return put_in(alloc, terms, params, tree);
+    }
+    if let Some(made) = instances.find(params, tree) {
+        return Ok(Some(made));
+    }
+    let put = put_in(alloc, terms, params, tree)?;
+    if let Some(made) = put {
+        instances.keep(alloc, params, tree, made);
+    }
+    Ok(put)
+}
+
 /// A tree of a constant's unit at the levels that the constant has. There is none where they are not as many as the
 /// unit has level parameters.
 pub(crate) fn at_levels<L: Lends, T: Terms>(
     alloc: Global,
     library: &L,
     terms: &mut T,
+    instances: &mut Instances,
     entry: Entry,
-    levels: u64,
-    e: u64,
+    tree: TreeAt,
 ) -> Result<Option<u64>, NoMemory>
     requires over { Extends (contents_of (L.lent library.now).0) (T.contents terms.old) }
-    requires levels_in { levels < length (T.contents terms.old).lists }
-    requires e_in { e < length (T.contents terms.old).trees }
+    requires levels_in { tree.levels < length (T.contents terms.old).lists }
+    requires e_in { tree.e < length (T.contents terms.old).trees }
+    requires instances { AreInstances (T.contents terms.old) instances.old.table }
     ensures keeps { Extends (T.contents terms.old) (T.contents terms.new) }
     ensures rest { T.rest terms.new ≡ T.rest terms.old }
     ensures known { IfOk result (λ r. IfSome r (λ t. t < length (T.contents terms.new).trees)) }
     ensures ok { IfOk result (λ r. (g : PlainEntry)
         → plain_entry (contents_of (L.lent library.now).0) (L.lent library.now).1 entry ≡ Some g
-        → IsAtLevels (T.contents terms.new) g.levels (list_at (T.contents terms.old) levels)
-        (tree_at (T.contents terms.old) e) r) }
+        → IsAtLevels (T.contents terms.new) g.levels (list_at (T.contents terms.old) tree.levels)
+        (tree_at (T.contents terms.old) tree.e) r) }
+    ensures instances { AreInstances (T.contents terms.new) instances.new.table }
 {
     let params = parameters_of(library, entry);
-    let values = levels_of(alloc, terms, levels)?;
-    if values.len() != params.len() {
-        return Ok(None);
-    }
-    let r = put_levels_in(alloc, terms, params, &values, e)?;
-    Ok(Some(r))
+    find_or_put(alloc, terms, instances, params, tree)
 }

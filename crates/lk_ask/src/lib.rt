@@ -5,6 +5,7 @@
 pub mod asks;
 pub mod building;
 pub mod constants;
+pub mod instances;
 pub mod kept;
 pub mod lookout;
 pub mod looks;

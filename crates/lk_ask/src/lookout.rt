@@ -1,6 +1,7 @@
 //! A lookout: a store at a library, seen from a site, under a budget.
 
 use crate::constants::{at_levels, look_up};
+use crate::instances::{Instances, TreeAt};
 use crate::looks::Looks;
 use lk_env::entry::{Entry, Site};
 use lk_env::scope::Scope;
@@ -22,23 +23,24 @@ pub struct Lookout<'a, T: Terms> {
     pub site: Site,
     pub terms: T,
     pub meter: Meter,
+    /// What was made of trees of constants' units at levels.
+    pub instances: Instances,
 }
 
 impl<'a, T: Terms> Model for Lookout<'a, T> {
     ghost use Rattle.std.specs.Prelude.{List};
     ghost use Rattle.lk_store.specs.declared.tables.Tables.{Tables};
-    ghost use Rattle.lk_store.specs.Contents.{Extends};
-    ghost use Rattle.lk_store.specs.Store.{contents_of};
     ghost use Rattle.lk_env.specs.declared.entry.Site.{Site as LookedFrom};
     ghost use Rattle.lk_env.specs.declared.unit.Unit.{Unit as StoredUnit};
     ghost use Rattle.lk_meter.specs.declared.meter.Meter.{Meter as Metered};
+    ghost use Rattle.lk_ask.specs.Instances.{IsLookout};
 
     ghost Value = { (Tables × List StoredUnit × (Tables × List StoredUnit) × List StoredUnit)
         × LookedFrom × T × Metered };
 
     ghost view = { λ s. (s.scope, s.site, s.terms, s.meter) };
 
-    ghost invariant = { λ s. Extends (contents_of s.scope.0) (T.contents s.terms) };
+    ghost invariant = { λ s. IsLookout s.scope.0 (T.contents s.terms) s.instances };
 }
 
 impl<'a, T: Terms> Terms for Lookout<'a, T> {
@@ -181,6 +183,13 @@ impl<'a, T: Terms> Looks for Lookout<'a, T> {
     }
 
     fn at_levels(&mut self, entry: Entry, levels: u64, e: u64) -> Result<Option<u64>, NoMemory> {
-        at_levels(self.alloc, &self.scope, &mut self.terms, entry, levels, e)
+        at_levels(
+            self.alloc,
+            &self.scope,
+            &mut self.terms,
+            &mut self.instances,
+            entry,
+            TreeAt { e, levels },
+        )
     }
 }

@@ -12,6 +12,7 @@ use crate::answering::{Frame, answer};
 use crate::families::family_of;
 use crate::parameters::parameters_at;
 use lk_ask::asks::Asks;
+use lk_ask::instances::Instances;
 use lk_ask::lookout::Lookout;
 use lk_ask::query::{Answer, Query};
 use lk_ask::stop::Stop;
@@ -111,6 +112,9 @@ fn restart<'a>(lookout: &mut Lookout<'a, Overlay<'a>>, unit: u32, budget: u128) 
     lookout.site = Site { unit, partial };
     lookout.scope = Scope::new(lookout.alloc, library, &lookout.terms);
     lookout.meter = Meter::new(budget);
+    if !stays {
+        lookout.instances.clear();
+    }
     stays
 }
 
@@ -183,6 +187,7 @@ impl<'a> Engine<'a> {
             },
             terms,
             meter: Meter::new(0),
+            instances: Instances::new(alloc),
         };
         Engine {
             lookout,

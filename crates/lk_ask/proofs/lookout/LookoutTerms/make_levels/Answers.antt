@@ -1,5 +1,5 @@
-use Rattle.lk_store.proofs.Extending.{Extends-trans}
+use Rattle.lk_ask.proofs.MadeBefore.{lookout_stays}
 use Rattle.lk_ask.proofs.lookout.LookoutTerms.make_levels.Goals as goal
 
 pub invariant_of-self : goal.invariant_of-self
-invariant_of-self g c = Extends-trans _ _ _ c.self.invariant c.make_levels.ensures.keeps
+invariant_of-self g c = lookout_stays c.make_levels.ensures.keeps c.self.invariant
