@@ -1,15 +1,43 @@
 //! Texts in memory.
 
-ghost use Rattle.std.specs.Prelude.{◌≡◌, ◌↔◌, IsTrue};
+ghost use Rattle.std.specs.Prelude.{◌≡◌, ◌↔◌, IsTrue, IfOk, IfSome};
+ghost use Rattle.lk_store.specs.Texts.{bytes_of, IsKept};
 
 use crate::hashing::hash_bytes;
 use lk_rows::row::Row;
+use std::alloc::{AllocError, Global};
 use std::marker::Model;
+
+/// So many bytes are kept in place.
+const SHORT: usize = 30;
+
+/// The bytes of a text. Nearly every component of a name is short, and takes no memory of its own.
+#[derive(Drop)]
+pub(crate) enum Kept {
+    Short { len: u8, room: [u8; SHORT] },
+    Long(Vec<u8>),
+}
+
+/// The bytes in place, where they are few.
+fn in_place(bytes: &[u8]) -> Option<Kept>
+    ensures kept { IfSome result IsKept }
+    ensures bytes { IfSome result (λ k. bytes_of k ≡ bytes.now) }
+{
+    if bytes.len() > SHORT {
+        return None;
+    }
+    let mut room = [0; SHORT];
+    room[..bytes.len()].copy_from_slice(bytes);
+    Some(Kept::Short {
+        len: bytes.len() as u8,
+        room,
+    })
+}
 
 /// A text, as bytes.
 #[derive(Drop)]
 pub struct Text {
-    bytes: Vec<u8>,
+    kept: Kept,
 }
 
 impl Model for Text {
@@ -17,7 +45,11 @@ impl Model for Text {
 
     ghost Value = { List ℕ };
 
-    ghost view = { λ t. t.bytes.items };
+    ghost use Rattle.lk_store.specs.Texts.{bytes_of, IsKept};
+
+    ghost view = { λ t. bytes_of t.kept };
+
+    ghost invariant = { λ t. IsKept t.kept };
 }
 
 impl Text {
@@ -25,14 +57,34 @@ impl Text {
     pub fn new(bytes: Vec<u8>) -> Text
         ensures { result ≡ bytes.items }
     {
-        Text { bytes }
+        match in_place(&bytes) {
+            Some(kept) => Text { kept },
+            None => Text {
+                kept: Kept::Long(bytes),
+            },
+        }
+    }
+
+    /// A text of the same bytes. Few bytes ask for no memory.
+    pub fn copy_of(alloc: Global, bytes: &[u8]) -> Result<Text, AllocError>
+        ensures { IfOk result (λ t. t ≡ bytes.now) }
+    {
+        match in_place(bytes) {
+            Some(kept) => Ok(Text { kept }),
+            None => Ok(Text {
+                kept: Kept::Long(Vec::from_slice(alloc, bytes)?),
+            }),
+        }
     }
 
     /// The bytes of the text.
     pub fn as_bytes(&self) -> &[u8]
         ensures { result.now ≡ self.now }
     {
-        self.bytes.as_slice()
+        match &self.kept {
+            Kept::Short { len, room } => &room[..*len as usize],
+            Kept::Long(bytes) => bytes.as_slice(),
+        }
     }
 
     /// Whether two texts are equal, byte for byte.
