@@ -6,6 +6,7 @@ ghost use Rattle.lk_store.specs.Contents.{Extends};
 ghost use Rattle.lk_store.specs.Store.{over, contents_of};
 ghost use Rattle.lk_env.specs.Scopes.{alone_members};
 ghost use Rattle.lk_env.specs.Units.{type_at, IsTypeIn};
+ghost use Rattle.lk_ask.specs.Instances.{AreInstances};
 ghost use Rattle.lk_engine.specs.Lookouts.{Tidies, Restarts, BeginsUnit, GivesMembers};
 
 use crate::answering::{Frame, answer};
@@ -90,13 +91,16 @@ fn is_few(terms: &Overlay<'_>) -> bool {
 }
 
 /// Forgets what units made, unless it is few rows. Whether it stays.
-fn tidy(terms: &mut Overlay<'_>) -> bool
-    ensures { Tidies terms.old terms.new result }
+fn tidy(terms: &mut Overlay<'_>, instances: &mut Instances) -> bool
+    ensures tidies { Tidies terms.old terms.new result }
+    ensures instances { AreInstances (contents_of (over terms.old.0 terms.old.1)) instances.old.table
+        → AreInstances (contents_of (over terms.new.0 terms.new.1)) instances.new.table }
 {
     if is_few(terms) {
         return true;
     }
     terms.clear();
+    instances.clear();
     false
 }
 
@@ -108,13 +112,10 @@ fn restart<'a>(lookout: &mut Lookout<'a, Overlay<'a>>, unit: u32, budget: u128) 
 {
     let partial = Partial::Nothing;
     let library = lookout.scope.library();
-    let stays = tidy(&mut lookout.terms);
+    let stays = tidy(&mut lookout.terms, &mut lookout.instances);
     lookout.site = Site { unit, partial };
     lookout.scope = Scope::new(lookout.alloc, library, &lookout.terms);
     lookout.meter = Meter::new(budget);
-    if !stays {
-        lookout.instances.clear();
-    }
     stays
 }
 

@@ -12,9 +12,12 @@ new-requires c =
     let now = contents_of (over c.tidy-stays.new.terms.0 c.tidy-stays.new.terms.1) in
     subst (λ l. Extends (contents_of l.0) now) (sym c.library-library.ensures.is)
     (tidied inside.scope.2.0 (contents_of inside.scope.0) inside.terms c.tidy-stays.new.terms
-    c.tidy-stays.result base c.library-library.ensures.over c.lookout.invariant c.tidy-stays.ensures)
+    c.tidy-stays.result base c.library-library.ensures.over c.lookout.invariant.over c.tidy-stays.ensures.tidies)
 
 pub invariant_of-lookout : goal.invariant_of-lookout
 invariant_of-lookout c =
     let now = contents_of (over c.tidy-stays.new.terms.0 c.tidy-stays.new.terms.1) in
-    subst (λ t. Extends (contents_of t) now) (sym c.new.ensures.tables) (Extends-self now)
+    record {
+      over = subst (λ t. Extends (contents_of t) now) (sym c.new.ensures.tables) (Extends-self now);
+      made = c.tidy-stays.ensures.instances c.lookout.invariant.made;
+    }

@@ -1,7 +1,10 @@
 use Rattle.std.proofs.Common.{length, sym, ap, subst, ◌∙◌}
+use Rattle.std.proofs.lemmas.List.Elements.{All-nil}
 use Rattle.lk_store.specs.Contents.{Extends}
 use Rattle.lk_store.specs.Store.{over, contents_of}
 use Rattle.lk_store.proofs.Made.{Extends-self}
+use Rattle.lk_ask.specs.declared.instances.Instance.{Instance}
+use Rattle.lk_ask.specs.Instances.{IsInstance}
 use Rattle.lk_engine.proofs.Standing.{new_stands}
 use Rattle.lk_engine.proofs.engine.Engine.new.Goals as goal
 
@@ -15,7 +18,10 @@ new-requires c =
 pub invariant_of-lookout : goal.invariant_of-lookout
 invariant_of-lookout c =
     let now = contents_of (over c.new-terms.result.0 c.new-terms.result.1) in
-    subst (λ t. Extends (contents_of t) now) (sym c.new.ensures.tables) (Extends-self now)
+    record {
+      over = subst (λ t. Extends (contents_of t) now) (sym c.new.ensures.tables) (Extends-self now);
+      made = rw c.new-3.ensures (All-nil (λ (i : Instance). IsInstance now i.params.items i.tree i.made));
+    }
 
 pub invariant_of-result : goal.invariant_of-result
 invariant_of-result c =
