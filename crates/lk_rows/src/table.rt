@@ -46,7 +46,7 @@ ghost use Rattle.lk_rows.specs.Chains.{bucket, buckets_of, AreLinked, IsTable};
 ghost use Rattle.lk_rows.specs.Rows.{RowHas, NoRowHas};
 
 /// The bucket of a hash among `n`.
-#[inline]
+#[inline(always)]
 fn bucket_of(hash: u64, n: usize) -> usize
     requires { 0 < n }
     ensures value { result ≡ bucket hash n }
@@ -56,7 +56,7 @@ fn bucket_of(hash: u64, n: usize) -> usize
 }
 
 /// The hash of a key under a seed, where the one under seed 0 is at hand.
-#[inline]
+#[inline(always)]
 fn hash_under<R: Row>(seed: u64, key: &R::Key, hash: u64) -> u64
     requires { hash ≡ R.hash 0 key.now }
     ensures { result ≡ R.hash seed key.now }
@@ -94,7 +94,7 @@ fn link_all<R: Row>(rows: &[R], links: &mut [u32], heads: &mut [u32], seed: u64)
 }
 
 /// The row that has the key, where the rows are looked through one after another.
-#[inline]
+#[inline(always)]
 fn find_few<R: Row>(rows: &[R], key: &R::Key) -> Option<u64>
     ensures absent { IfNone result (NoRowHas R.key rows.now key.now) }
     ensures known { IfSome result (λ i. i < length rows.now) }
@@ -109,7 +109,7 @@ fn find_few<R: Row>(rows: &[R], key: &R::Key) -> Option<u64>
 }
 
 /// The row that has the key, whose hash is at hand.
-#[inline]
+#[inline(always)]
 fn find_linked<R: Row>(
     rows: &[R],
     links: &[u32],
@@ -315,7 +315,7 @@ impl<R: Row + Drop> Table<R> {
     }
 
     /// The number of the row that has the key, whose hash under seed 0 is at hand.
-    #[inline]
+    #[inline(always)]
     pub fn find_hashed(&self, key: &R::Key, hash: u64) -> Option<u64>
         requires { hash ≡ R.hash 0 key.now }
         ensures few { IfSome result (λ i. i < 2 ^ 32) }

@@ -197,7 +197,7 @@ impl Row for ListRow {
 }
 
 /// A tree. The numbers of variables, fields, literals and Locals are codes.
-#[derive(Clone, Copy, PartialEq)]
+#[derive(Clone, Copy)]
 pub enum TreeKey {
     Var(u32),
     Sort(u32),
@@ -230,6 +230,63 @@ fn hash_tree(seed: u64, key: &TreeKey) -> u64
         TreeKey::Wide => hash_words(seed, 9, 0, 0, 0),
         TreeKey::Str(a) => hash_words(seed, 10, a, 0, 0),
         TreeKey::Local(a, b) => hash_words(seed, 11, a, b, 0),
+    }
+}
+
+/// Whether two trees are one. Where the kind of the second one is known, little is compared.
+#[inline(always)]
+fn same_tree(key: &TreeKey, wanted: &TreeKey) -> bool
+    ensures { IsTrue result ↔ (key.now ≡ wanted.now) }
+{
+    match *wanted {
+        TreeKey::Var(i) => match *key {
+            TreeKey::Var(j) => i == j,
+            _ => false,
+        },
+        TreeKey::Sort(l) => match *key {
+            TreeKey::Sort(m) => l == m,
+            _ => false,
+        },
+        TreeKey::Const(n, ls) => match *key {
+            TreeKey::Const(m, ms) => n == m && ls == ms,
+            _ => false,
+        },
+        TreeKey::App(f, a) => match *key {
+            TreeKey::App(g, b) => f == g && a == b,
+            _ => false,
+        },
+        TreeKey::Lam(t, b) => match *key {
+            TreeKey::Lam(u, c) => t == u && b == c,
+            _ => false,
+        },
+        TreeKey::Pi(t, b) => match *key {
+            TreeKey::Pi(u, c) => t == u && b == c,
+            _ => false,
+        },
+        TreeKey::Let(t, v, b) => match *key {
+            TreeKey::Let(u, w, c) => t == u && v == w && b == c,
+            _ => false,
+        },
+        TreeKey::Proj(n, i, s) => match *key {
+            TreeKey::Proj(m, j, t) => n == m && i == j && s == t,
+            _ => false,
+        },
+        TreeKey::Lit(i) => match *key {
+            TreeKey::Lit(j) => i == j,
+            _ => false,
+        },
+        TreeKey::Wide => match *key {
+            TreeKey::Wide => true,
+            _ => false,
+        },
+        TreeKey::Str(s) => match *key {
+            TreeKey::Str(t) => s == t,
+            _ => false,
+        },
+        TreeKey::Local(k, t) => match *key {
+            TreeKey::Local(j, u) => k == j && t == u,
+            _ => false,
+        },
     }
 }
 
@@ -268,6 +325,6 @@ impl Row for TreeRow {
 
     #[inline(always)]
     fn has(&self, wanted: &TreeKey) -> bool {
-        self.key == *wanted
+        same_tree(&self.key, wanted)
     }
 }

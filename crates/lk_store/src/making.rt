@@ -2,23 +2,25 @@
 //! thing stands once. The base is looked into only where it has all parts of the key.
 
 ghost use Rattle.std.specs.Prelude.{◌≡◌, ◌≢◌, ◌<◌, ◌≤◌, ◌^◌, ℕ, List, length};
-ghost use Rattle.std.specs.Prelude.{IfOk, OnErr, IfNone, IfSome};
+ghost use Rattle.std.specs.Prelude.{IfOk, OnErr, IfNone, IfSome, IsTrue};
+ghost use Rattle.lk_rows.specs.Rows.{NoRowHas};
 ghost use Rattle.lk_store.specs.Measures.{level_has_params, list_has_params};
 ghost use Rattle.lk_store.specs.Contents.{name_at, name_of, level_of, list_of, tree_of};
 ghost use Rattle.lk_store.specs.Contents.{IsNameIn, IsLevelIn, IsListIn, IsIn};
 ghost use Rattle.lk_store.specs.Contents.{IsName, IsText, IsLevel, IsList, IsTree};
-ghost use Rattle.lk_store.specs.Keys.{IsCodeOf};
+ghost use Rattle.lk_store.specs.Keys.{IsCodeOf, hash_of_tree};
+ghost use Rattle.lk_store.specs.declared.key.TreeRow.{TreeRow};
 ghost use Rattle.lk_store.specs.declared.key.Number.{Number};
 ghost use Rattle.lk_store.specs.Nodes.{name_node, level_node, list_node, number_in, IsKeyOf};
 ghost use Rattle.lk_store.specs.Nodes.{NameFits, LevelFits, ListFits, NodeFits};
-ghost use Rattle.lk_store.specs.RowFor.{IsRowFor};
+ghost use Rattle.lk_store.specs.RowFor.{IsRowFor, IsShort, IsJoined};
 ghost use Rattle.lk_store.specs.Store.{over, contents_of, IsStore, Recoded, Grown};
 
 use crate::key::{LevelKey, LevelRow, ListKey, ListRow, NameKey, Number, TreeKey, TreeRow};
 use crate::memory::NoMemory;
 use crate::node::{LevelNode, ListNode, NameNode, Node};
 use crate::parts::{has_level_parts, has_list_parts, has_name_parts, has_tree_parts};
-use crate::reading::{level_params_in, list_params_in, marks_of};
+use crate::reading::{level_params_in, list_params_in, marks_of, tree_row};
 use crate::tables::Tables;
 use crate::text::Text;
 use lk_rows::layers::{add, count, find};
@@ -255,7 +257,7 @@ fn number_of(node: Node) -> u128
 }
 
 /// The key of a tree, where the code of the number in it is at hand.
-#[inline]
+#[inline(always)]
 fn coded_key(node: Node, code: u32) -> TreeKey
     requires { NodeFits node }
     ensures { (ns : List Number) → IsCodeOf ns code (number_in node) → IsKeyOf ns result node }
@@ -288,13 +290,70 @@ fn tree_key(base: &Tables, own: &mut Tables, node: Node) -> Result<TreeKey, NoMe
     Ok(coded_key(node, code))
 }
 
-/// A row for a tree that has none.
-fn tree_row_for(
-    base: &Tables,
-    own: &mut Tables,
-    key: TreeKey,
-    node: Node,
-) -> Result<TreeRow, NoMemory>
+/// Whether the bounds that a row keeps take no more than 31 bits, so that they are their own codes.
+#[inline(always)]
+fn is_short(row: TreeRow) -> bool
+    ensures { IsTrue result → IsShort row }
+{
+    row.loose < 0x8000_0000 && row.local < 0x8000_0000
+}
+
+/// The row of a tree of two parts by their rows and the bound of the second one, where all bounds are
+/// their own codes.
+#[inline(always)]
+fn joined(key: TreeKey, first: TreeRow, second: TreeRow, loose: u32) -> Option<TreeRow>
+    ensures { IfSome result (λ row. IsJoined row key first second loose) }
+{
+    if !is_short(first) || !is_short(second) {
+        return None;
+    }
+    Some(TreeRow {
+        key,
+        loose: first.loose.max(loose),
+        local: first.local.max(second.local),
+        params: first.params || second.params,
+        narrow: first.narrow && second.narrow,
+    })
+}
+
+/// A row for a tree of two parts, where their bounds are their own codes.
+#[inline(always)]
+fn short_row(base: &Tables, own: &Tables, key: TreeKey, node: Node) -> Option<TreeRow>
+    requires store { IsStore (over base.now own.now) }
+    requires known { IsIn (contents_of (over base.now own.now)) node }
+    requires key { IsKeyOf (over base.now own.now).numbers key node }
+    ensures { IfSome result (λ row. IsRowFor (over base.now own.now) row key node) }
+{
+    match node {
+        Node::App(f, a) => {
+            let second = tree_row(base, own, a);
+            joined(key, tree_row(base, own, f), second, second.loose)
+        }
+        Node::Lam(t, b) => {
+            let second = tree_row(base, own, b);
+            joined(
+                key,
+                tree_row(base, own, t),
+                second,
+                second.loose.saturating_sub(1),
+            )
+        }
+        Node::Pi(t, b) => {
+            let second = tree_row(base, own, b);
+            joined(
+                key,
+                tree_row(base, own, t),
+                second,
+                second.loose.saturating_sub(1),
+            )
+        }
+        _ => None,
+    }
+}
+
+/// A row for a tree that has none, whatever its bounds.
+#[inline(never)]
+fn long_row(base: &Tables, own: &mut Tables, key: TreeKey, node: Node) -> Result<TreeRow, NoMemory>
     requires store { IsStore (over base.now own.old) }
     requires known { IsIn (contents_of (over base.now own.old)) node }
     requires key { IsKeyOf (over base.now own.old).numbers key node }
@@ -314,6 +373,90 @@ fn tree_row_for(
     })
 }
 
+/// A row for a tree that has none.
+#[inline(always)]
+fn tree_row_for(
+    base: &Tables,
+    own: &mut Tables,
+    key: TreeKey,
+    node: Node,
+) -> Result<TreeRow, NoMemory>
+    requires store { IsStore (over base.now own.old) }
+    requires known { IsIn (contents_of (over base.now own.old)) node }
+    requires key { IsKeyOf (over base.now own.old).numbers key node }
+    ensures recoded { Recoded (over base.now own.old) (over base.now own.new) }
+    ensures ok { IfOk result (λ row. IsRowFor (over base.now own.new) row key node) }
+    ensures same_trees { own.new.trees ≡ own.old.trees }
+{
+    if let Some(row) = short_row(base, own, key, node) {
+        return Ok(row);
+    }
+    long_row(base, own, key, node)
+}
+
+/// Adds a tree that has no row, where its key is at hand.
+#[inline(never)]
+fn add_tree(
+    base: &Tables,
+    own: &mut Tables,
+    node: Node,
+    key: TreeKey,
+    hash: u64,
+) -> Result<u64, NoMemory>
+    requires store { IsStore (over base.now own.old) }
+    requires known { IsIn (contents_of (over base.now own.old)) node }
+    requires key { IsKeyOf (over base.now own.old).numbers key node }
+    requires hash { hash ≡ hash_of_tree 0 key }
+    requires absent { NoRowHas (λ (row : TreeRow). row.key) (over base.now own.old).trees key }
+    ensures grown { Grown (over base.now own.old) (over base.now own.new) }
+    ensures ok { let c = contents_of (over base.now own.old) in
+        IfOk result (λ e. IsTree (contents_of (over base.now own.new)) e (tree_of c node)) }
+    ensures err { let c = contents_of (over base.now own.old) in
+        OnErr result (contents_of (over base.now own.new) ≡ c) }
+{
+    let row = tree_row_for(base, own, key, node)?;
+    let e = add(&base.trees, &mut own.trees, row, hash)?;
+    Ok(e)
+}
+
+/// The number of a tree whose key is at hand. It is compiled anew for each kind that a caller knows, so
+/// that a comparison with another key is of little more than two numbers.
+#[inline(always)]
+fn make_keyed(base: &Tables, own: &mut Tables, node: Node, key: TreeKey) -> Result<u64, NoMemory>
+    requires base { IsStore base.now }
+    requires store { IsStore (over base.now own.old) }
+    requires known { IsIn (contents_of (over base.now own.old)) node }
+    requires key { IsKeyOf (over base.now own.old).numbers key node }
+    ensures grown { Grown (over base.now own.old) (over base.now own.new) }
+    ensures ok { let c = contents_of (over base.now own.old) in
+        IfOk result (λ e. IsTree (contents_of (over base.now own.new)) e (tree_of c node)) }
+    ensures err { let c = contents_of (over base.now own.old) in
+        OnErr result (contents_of (over base.now own.new) ≡ c) }
+{
+    let hash = TreeRow::hash_of(0, &key);
+    let in_base = has_tree_parts(base, key);
+    match find(&base.trees, &own.trees, &key, hash, in_base) {
+        Some(e) => Ok(e),
+        None => add_tree(base, own, node, key, hash),
+    }
+}
+
+/// The number of a tree in whose node a number may stand.
+#[inline(never)]
+fn make_coded(base: &Tables, own: &mut Tables, node: Node) -> Result<u64, NoMemory>
+    requires base { IsStore base.now }
+    requires store { IsStore (over base.now own.old) }
+    requires known { IsIn (contents_of (over base.now own.old)) node }
+    ensures grown { Grown (over base.now own.old) (over base.now own.new) }
+    ensures ok { let c = contents_of (over base.now own.old) in
+        IfOk result (λ e. IsTree (contents_of (over base.now own.new)) e (tree_of c node)) }
+    ensures err { let c = contents_of (over base.now own.old) in
+        OnErr result (contents_of (over base.now own.new) ≡ c) }
+{
+    let key = tree_key(base, own, node)?;
+    make_keyed(base, own, node, key)
+}
+
 /// The number of a tree.
 pub(crate) fn make_in(base: &Tables, own: &mut Tables, node: Node) -> Result<u64, NoMemory>
     requires base { IsStore base.now }
@@ -325,15 +468,10 @@ pub(crate) fn make_in(base: &Tables, own: &mut Tables, node: Node) -> Result<u64
     ensures err { let c = contents_of (over base.now own.old) in
         OnErr result (contents_of (over base.now own.new) ≡ c) }
 {
-    let key = tree_key(base, own, node)?;
-    let hash = TreeRow::hash_of(0, &key);
-    let in_base = has_tree_parts(base, key);
-    match find(&base.trees, &own.trees, &key, hash, in_base) {
-        Some(e) => Ok(e),
-        None => {
-            let row = tree_row_for(base, own, key, node)?;
-            let e = add(&base.trees, &mut own.trees, row, hash)?;
-            Ok(e)
-        }
+    match node {
+        Node::App(_, _) => make_keyed(base, own, node, coded_key(node, 0)),
+        Node::Lam(_, _) => make_keyed(base, own, node, coded_key(node, 0)),
+        Node::Pi(_, _) => make_keyed(base, own, node, coded_key(node, 0)),
+        _ => make_coded(base, own, node),
     }
 }

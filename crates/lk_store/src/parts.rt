@@ -58,7 +58,7 @@ pub(crate) fn has_list_parts(store: &Tables, key: ListKey) -> bool
 
 /// Whether the store has the parts of a tree, its numbers left aside: they are rarely so large that
 /// they have rows.
-#[inline]
+#[inline(always)]
 pub(crate) fn has_tree_parts(store: &Tables, key: TreeKey) -> bool
     ensures { IsTreeBelow (parts_of store.now) (length store.now.trees) key → IsTrue result }
 {

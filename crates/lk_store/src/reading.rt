@@ -239,8 +239,8 @@ pub(crate) fn len_in(base: &Tables, own: &Tables) -> u64
 }
 
 /// The row of a tree.
-#[inline]
-fn tree_row(base: &Tables, own: &Tables, e: u64) -> TreeRow
+#[inline(always)]
+pub(crate) fn tree_row(base: &Tables, own: &Tables, e: u64) -> TreeRow
     requires store { IsStore (over base.now own.now) }
     requires known { e < length (contents_of (over base.now own.now)).trees }
     ensures codes { AreCodes (over base.now own.now).numbers result.key }
