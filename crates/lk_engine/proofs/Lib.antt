@@ -1,3 +1,4 @@
+pub mod Chains
 pub mod Sheets
 pub mod Constants
 pub mod Frames

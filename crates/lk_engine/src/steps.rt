@@ -2,11 +2,13 @@
 
 ghost use Rattle.std.specs.Prelude.{◌≡◌, ◌<◌, length};
 ghost use Rattle.lk_tree.specs.Tree.{const};
+ghost use Rattle.lk_tree.specs.Loose.{loose};
 ghost use Rattle.lk_tree.specs.Spine.{head as head_of, args as args_of};
 ghost use Rattle.lk_plain.specs.Erased.{a_tree};
 ghost use Rattle.lk_questions.specs.Core.{core_applied, core_steps};
 ghost use Rattle.lk_questions.specs.Infer.{infer_steps};
 ghost use Rattle.lk_store.specs.Contents.{name_at, list_at, tree_at};
+ghost use Rattle.lk_ask.specs.declared.query.Query.TheVariants.{Infer};
 ghost use Rattle.lk_ask.specs.Questions.{value_at, IsKnownQuery, IsKnownAnswer};
 ghost use Rattle.lk_ask.specs.Gives.{Wraps};
 ghost use Rattle.lk_core.specs.Sheets.{IsKnownCore};
@@ -30,6 +32,7 @@ use lk_ask::looks::Looks;
 use lk_ask::next::Next;
 use lk_ask::query::{Answer, Query};
 use lk_ask::sheet::Sheet;
+use lk_chain::{long_lets, pushed_lets};
 use lk_core::core_form::{CoreNext, CoreStep};
 use lk_iota::IotaNext;
 use lk_proj::infer::InferNext;
@@ -200,7 +203,19 @@ pub fn begin<L: Looks>(looks: &mut L, query: Query<u64>) -> Result<AnyNext, NoMe
     }
 }
 
-/// The first step of a question, or of all binders of a telescope at once, which runs as that does.
+/// The first step of `Infer` of lets one inside the other, whose values are put at once.
+#[inline(never)]
+fn infer_lets<L: Looks>(looks: &mut L, e: u64) -> Result<AnyNext, NoMemory>
+    requires e_in { e < length (L.contents looks.old).trees }
+    requires closed { loose (tree_at (L.contents looks.old) e) ≡ 0 }
+    ensures { Starts L.contents L.rest L.sight looks.old looks.new result (Infer e) }
+{
+    let pushed = pushed_lets(looks, e)?;
+    infer(looks, pushed)
+}
+
+/// The first step of a question, or of all binders of a telescope at once, or of lets one inside
+/// the other, which run as that does.
 #[inline(always)]
 pub fn start<L: Looks>(looks: &mut L, query: Query<u64>) -> Result<AnyNext, NoMemory>
     requires query_in { IsKnownQuery (length (L.contents looks.old).trees) query }
@@ -209,6 +224,9 @@ pub fn start<L: Looks>(looks: &mut L, query: Query<u64>) -> Result<AnyNext, NoMe
     if let Query::Infer(e) = query {
         if let Some((binders, domain, body)) = long_telescope(looks, e) {
             return Ok(of_type(begin_binders(looks, binders, e, domain, body)?));
+        }
+        if long_lets(looks, e) {
+            return infer_lets(looks, e);
         }
     }
     begin(looks, query)

@@ -1,0 +1,7 @@
+//! Chains whose types are not opened one after the other. A chain is replaced by one in which each part has its values already,
+//! and of which `Infer` asks the same at the same cost: what is opened there is closed, so it stays as it is.
+#![tactic(auto)]
+
+mod lets;
+
+pub use lets::{long_lets, pushed_lets};
