@@ -93,8 +93,9 @@ fn is_few(terms: &Overlay<'_>) -> bool {
 /// Forgets what units made, unless it is few rows. Whether it stays.
 fn tidy(terms: &mut Overlay<'_>, instances: &mut Instances) -> bool
     ensures tidies { Tidies terms.old terms.new result }
-    ensures instances { AreInstances (contents_of (over terms.old.0 terms.old.1)) instances.old.table
-        → AreInstances (contents_of (over terms.new.0 terms.new.1)) instances.new.table }
+    ensures instances { let before = contents_of (over terms.old.0 terms.old.1) in
+        let after = contents_of (over terms.new.0 terms.new.1) in
+        AreInstances before instances.old.table → AreInstances after instances.new.table }
 {
     if is_few(terms) {
         return true;
