@@ -136,8 +136,7 @@ fn with_text<T: Terms>(
     ensures ok { IfOk result (λ n. IsName (T.contents store.new) n
         (name_at (T.contents store.old) parent ++ text bytes.now ∷ [])) }
 {
-    let bytes = Vec::from_slice(alloc, bytes)?;
-    let s = store.make_text(Text::new(bytes))?;
+    let s = store.make_text(Text::copy_of(alloc, bytes)?)?;
     let n = store.make_name(NameNode::Text(parent, s))?;
     Ok(n)
 }
