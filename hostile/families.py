@@ -154,6 +154,19 @@ def lets(n):
     return f.bytes()
 
 
+def lets_mentioned(n):
+    """let x1 := p; let x2 := p; ..; h x1 (h x2 (.. p)), which mentions all of them."""
+    f = Lines()
+    p, h = f.axiom('p', f.prop), f.axiom('h', f.pi(f.prop, f.pi(f.prop, f.prop)))
+    body = p
+    for index in range(n):
+        body = f.apply(h, f.variable(index), body)
+    for _ in range(n):
+        body = f.term(f'#EZ 0 {f.prop} {p} {body}')
+    f.definition('d', f.prop, body)
+    return f.bytes()
+
+
 def let_values(n):
     """let x := (let x := (.. p)), n deep."""
     f = Lines()
@@ -715,7 +728,7 @@ def characters(n):
 
 FAMILIES = [
     (pis, 10 ** 6), (lambdas, 10 ** 6), (dependent_lambdas, 10 ** 6), (arguments, 10 ** 6), (nested_arguments, 10 ** 6),
-    (beta, 10 ** 6), (lets, 10 ** 6), (let_values, 10 ** 6), (projections, 10 ** 6),
+    (beta, 10 ** 6), (lets, 10 ** 6), (lets_mentioned, 10 ** 5), (let_values, 10 ** 6), (projections, 10 ** 6),
     (successors, 10 ** 6), (maxima, 10 ** 6), (shared_levels, 10 ** 5), (shared_imax, 10 ** 5), (wide_levels, 16),
     (wide_cycles, 16), (wide_left, 16),
     (components, 10 ** 6), (long_names, 10 ** 5), (parameters, 10 ** 5), (greatest_parameter, 10 ** 4),

@@ -1,3 +1,4 @@
 pub mod Alike
+pub mod Closed
 pub mod Pushing
 pub mod Puttings

@@ -1,7 +1,7 @@
 -- Lets that have the values of those around them already.
 use Rattle.std.proofs.Common.{◌≡◌, ◌<◌, ℕ, suc, Bool, true, false, List, [], ◌∷◌, ◌++◌, length, map, refl, ap, sym, ◌∙◌, arith}
 use Rattle.std.specs.Prelude.{All, Result, Ok, Err, IfOk}
-use Rattle.std.proofs.lemmas.List.Elements.{All-head, All-tail, All-cons, All-weaker, All-map, All-push}
+use Rattle.std.proofs.lemmas.List.Elements.{All-head, All-tail, All-push}
 use Rattle.std.proofs.lemmas.List.{map-append}
 use Rattle.lk_tree.specs.Tree.{Tree, app, let_in}
 use Rattle.lk_tree.specs.Bind.{opened}
@@ -21,9 +21,10 @@ use Rattle.lk_tree.proofs.Puttings.{put_nothing}
 use Rattle.lk_store.specs.declared.memory.NoMemory.{NoMemory}
 use Rattle.lk_subst.proofs.Unchanged.{open_at-closed}
 use Rattle.lk_chain.specs.Alike.{IsAlike}
-use Rattle.lk_chain.specs.Lets.{IsLet, let_over, lets_over, PushesTo}
+use Rattle.lk_chain.specs.Lets.{IsLet, let_over, lets_over, PushesTo, AreClosed}
 use Rattle.lk_chain.proofs.Alike.{ask_alike, itself, sort_alike, infer_alike}
-use Rattle.lk_chain.proofs.Puttings.{NoneLoose, put_last, open_loose}
+use Rattle.lk_chain.proofs.Closed.{closed_known, closed_steady, none_loose}
+use Rattle.lk_chain.proofs.Puttings.{put_last, open_loose}
 
 -- the last one is the innermost
 pub lets_last : (hs : List Tree) (h r : Tree) → lets_over (hs ++ h ∷ []) r ≡ lets_over hs (let_over h r)
@@ -79,29 +80,12 @@ module _ (w : Place) where
       let c = (closed_let e A v b g z).inside in
       rw (f, g) (let_alike A v b (lets_over hs r) (over_closed (opened b v) hs r c p) (pushed_alike (opened b v) hs r c p))
 
--- the numbers stand for trees without loose variables
-abbrev pub AreClosed : Contents → List ℕ → Type 0
-AreClosed c = All (λ x. (x < length c.trees) × (loose (tree_at c x) ≡ 0))
-
 -- the lets so far, and what stands inside them
 pub record IsPushing (began now : Contents) (e : ℕ) (heads values : List ℕ) (inside : ℕ) : Type 0 where
   pub heads_in : All (λ x. x < length now.trees) heads
   pub values_in : AreClosed now values
   pub inside_in : inside < length now.trees
   pub pushes : PushesTo (tree_at began e) (map (tree_at now) heads) (put (map (tree_at now) values) (tree_at now inside))
-
-pub known_of : (c : Contents) (xs : List ℕ) → AreClosed c xs → All (λ x. x < length c.trees) xs
-known_of c xs h = All-weaker (λ x. (x < length c.trees) × (loose (tree_at c x) ≡ 0)) (λ x. x < length c.trees) (λ x k. k.0) xs h
-
-closed_steady : {c d : Contents} → Extends c d → (xs : List ℕ) → AreClosed c xs → AreClosed d xs
-closed_steady {c} {d} x xs h =
-    All-weaker (λ x. (x < length c.trees) × (loose (tree_at c x) ≡ 0)) (λ x. (x < length d.trees) × (loose (tree_at d x) ≡ 0))
-    (λ e k. (grown x e k.0, ap loose (x.trees.same e k.0) ∙ k.1)) xs h
-
-none_loose : (c : Contents) (xs : List ℕ) → AreClosed c xs → NoneLoose (map (tree_at c) xs)
-none_loose c xs h =
-    All-map (λ t. loose t ≡ 0) (tree_at c) xs
-    (All-weaker (λ x. (x < length c.trees) × (loose (tree_at c x) ≡ 0)) (λ x. loose (tree_at c x) ≡ 0) (λ x k. k.1) xs h)
 
 put_let : (vs : List Tree) (A v b : Tree) → put vs (let_in A v b) ≡ let_in (put vs A) (put vs v) (put_at vs 1 b)
 unfolding put_at
@@ -125,7 +109,7 @@ pushing_on {began} {now} {one} {two} {later} {e} {inside} {ty} {value} {body} {n
     let A = put vs (tree_at now ty) in
     let V = put vs (tree_at now value) in
     let B = put_at vs 1 (tree_at now body) in
-    let known = known_of now values p.values_in in
+    let known = closed_known now values p.values_in in
     let value_is : tree_at two new_value ≡ V =
     m.made_value.is ∙ (ap (λ l. put l (tree_at one value)) (trees-steady now one values m.grows_one known) ∙ ap (put vs) (m.grows_one.trees.same value m.is_let.value_in)) in
     let ty_is : tree_at two new_ty ≡ A = m.grows_two.trees.same new_ty m.made_ty.known ∙ m.made_ty.is in
@@ -158,28 +142,11 @@ abbrev pub lets_in : Tree → ℕ
 lets_in (let_in A v b) = suc (lets_in b)
 lets_in _ = 0
 
-pub fewer_lets : (e A v b : Tree) → e ≡ let_in A v b → lets_in b < lets_in e
-fewer_lets e A v b h = rw h (omega arith)
-
-front_of : (P : ℕ → Type 0) (xs ys : List ℕ) → All P (xs ++ ys) → All P xs
-front_of P [] ys h = λ k d l. absurd (omega arith)
-front_of P (x ∷ xs) ys h = All-cons P x xs (All-head P x (xs ++ ys) h) (front_of P xs ys (All-tail P x (xs ++ ys) h))
-
 last_of : (P : ℕ → Type 0) (xs : List ℕ) (x : ℕ) → All P (xs ++ x ∷ []) → P x
 last_of P [] x h = All-head P x [] h
 last_of P (y ∷ xs) x h = last_of P xs x (All-tail P y (xs ++ x ∷ []) h)
 
 -- the last of the heads, with a let made of it
-pub record IsSplit (began now : Contents) (left others : List ℕ) (x : ℕ) : Type 0 where
-  pub last_in : x < length now.trees
-  pub others_in : All (λ y. y < length began.trees) others
-
-pub split_in : {began now : Contents} {left others : List ℕ} {x : ℕ} → Extends began now → left ≡ others ++ x ∷ [] → All (λ y. y < length began.trees) left → IsSplit began now left others x
-split_in {began} {now} {left} {others} {x} grows is known =
-    let P : ℕ → Type 0 = λ y. y < length began.trees in
-    let there = rw is at known in
-    record { last_in = grown grows x (last_of P others x there); others_in = front_of P others (x ∷ []) there }
-
 pub lets_step : {began now later : Contents} → Extends began now → (left others : List ℕ) (x e r : ℕ) → left ≡ others ++ x ∷ []
     → All (λ y. y < length began.trees) left → IsTree later r (let_over (tree_at now x) (tree_at now e))
     → lets_over (map (tree_at began) others) (tree_at later r) ≡ lets_over (map (tree_at began) left) (tree_at now e)

@@ -1,7 +1,8 @@
 -- Lets one inside the other.
-use Rattle.std.specs.Prelude.{◌≡◌, ◌<◌, ℕ, List, [], ◌∷◌, length}
+use Rattle.std.specs.Prelude.{◌≡◌, ◌<◌, ℕ, List, [], ◌∷◌, All, length}
 use Rattle.lk_tree.specs.Tree.{Tree, app, let_in}
 use Rattle.lk_tree.specs.Bind.{opened}
+use Rattle.lk_tree.specs.Loose.{loose}
 use Rattle.lk_store.specs.Contents.{Contents, tree_at}
 
 -- the term is a let of this type, value and body
@@ -26,3 +27,7 @@ abbrev pub PushesTo : Tree → List Tree → Tree → Type 0
 PushesTo e [] r = e ≡ r
 PushesTo e (h ∷ hs) r =
     (A v b : Tree) × (h ≡ app A v) × (e ≡ let_in A v b) × PushesTo (opened b v) hs r
+
+-- the numbers stand for trees without loose variables
+abbrev pub AreClosed : Contents → List ℕ → Type 0
+AreClosed c = All (λ x. (x < length c.trees) × (loose (tree_at c x) ≡ 0))
