@@ -77,7 +77,7 @@ impl Drop for Engine<'_> {
 }
 
 /// What units made stays from one to the next while it is fewer rows, those of all kinds together.
-const FEW: u64 = 16_384;
+const FEW: u64 = 65_536;
 
 /// Whether what units made is few rows. Each kind counts, so that no file makes it grow for good.
 fn is_few(terms: &Overlay<'_>) -> bool {

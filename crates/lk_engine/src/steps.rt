@@ -177,6 +177,7 @@ fn core<L: Looks>(looks: &mut L, e: u64) -> Result<AnyNext, NoMemory>
 }
 
 /// The first step of `Infer` of a term.
+#[inline(always)]
 fn infer<L: Looks>(looks: &mut L, e: u64) -> Result<AnyNext, NoMemory>
     requires { e < length (L.contents looks.old).trees }
     ensures { Does L.contents L.rest L.sight looks.old looks.new result a_tree
