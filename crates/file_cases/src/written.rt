@@ -79,7 +79,7 @@ fn write_entry(rt: &impl Print, entry: &Entry<'_>) -> io::Result<()> {
             field,
             subject,
         } => write_tagged(rt, "#EJ", &[*structure, *field, *subject]),
-        Entry::NatLiteral { number } => write_literal(rt, *number),
+        Entry::NatLiteral(number) => write_literal(rt, **number),
         Entry::TextLiteral { text } => {
             write_tagged(rt, "#ELS", &[])?;
             write_text(rt, text)
@@ -135,25 +135,19 @@ fn write_declaration(rt: &impl Print, declaration: &Declaration) -> io::Result<(
             write_tagged(rt, "#QUOT", &[*name, *declared_type])?;
             write_numbers(rt, parameters)
         }
-        Declaration::Recursor {
-            name,
-            declared_type,
-            types,
-            parameter_count,
-            index_count,
-            motive_count,
-            minor_count,
-            rules,
-            k,
-            parameters,
-        } => {
-            let counts = [*parameter_count, *index_count, *motive_count, *minor_count];
-            write_tagged(rt, "#REC", &[*name, *declared_type])?;
-            write_counted(rt, types)?;
+        Declaration::Recursor(line) => {
+            let counts = [
+                line.parameter_count,
+                line.index_count,
+                line.motive_count,
+                line.minor_count,
+            ];
+            write_tagged(rt, "#REC", &[line.name, line.declared_type])?;
+            write_counted(rt, &line.types)?;
             write_numbers(rt, &counts)?;
-            write_counted(rt, rules)?;
-            write_numbers(rt, &[u32::from(*k)])?;
-            write_numbers(rt, parameters)
+            write_counted(rt, &line.rules)?;
+            write_numbers(rt, &[u32::from(line.k)])?;
+            write_numbers(rt, &line.parameters)
         }
         _ => print!(rt; "another declaration"),
     }

@@ -38,7 +38,7 @@ entry_values (entries.Let name binder_type value body) =
     Number name ∷ Number binder_type ∷ Number value ∷ Number body ∷ []
 entry_values (entries.Project structure field subject) =
     Number structure ∷ Number field ∷ Number subject ∷ []
-entry_values (entries.NatLiteral number) = Literal number ∷ []
+entry_values (entries.NatLiteral number) = Literal number.value ∷ []
 entry_values (entries.TextLiteral text) = Bytes text.items ∷ []
 entry_values (entries.Rule constructor field_count value) =
     Number constructor ∷ Number field_count ∷ Number value ∷ []
@@ -74,17 +74,21 @@ declaration_values (declarations.Opaque name declared_type value parameters) =
     Number name ∷ Number declared_type ∷ Number value ∷ Numbers parameters.items ∷ []
 declaration_values (declarations.Quotient name declared_type parameters) =
     Number name ∷ Number declared_type ∷ Numbers parameters.items ∷ []
-declaration_values (declarations.Inductive name declared_type recursive nested parameter_count
-    index_count types constructors parameters) = Number name ∷ Number declared_type
-    ∷ Number recursive ∷ Number nested ∷ Number parameter_count ∷ Number index_count
-    ∷ Numbers types.items ∷ Numbers constructors.items ∷ Numbers parameters.items ∷ []
-declaration_values (declarations.Constructor name declared_type parent place parameter_count
-    field_count parameters) = Number name ∷ Number declared_type ∷ Number parent ∷ Number place
-    ∷ Number parameter_count ∷ Number field_count ∷ Numbers parameters.items ∷ []
-declaration_values (declarations.Recursor name declared_type types parameter_count index_count
-    motive_count minor_count rules k parameters) = Number name ∷ Number declared_type
-    ∷ Numbers types.items ∷ Number parameter_count ∷ Number index_count ∷ Number motive_count
-    ∷ Number minor_count ∷ Numbers rules.items ∷ Flag k ∷ Numbers parameters.items ∷ []
+declaration_values (declarations.Inductive stated) =
+    let line = stated.value in
+    Number line.name ∷ Number line.declared_type ∷ Number line.recursive ∷ Number line.nested
+    ∷ Number line.parameter_count ∷ Number line.index_count ∷ Numbers line.types.items
+    ∷ Numbers line.constructors.items ∷ Numbers line.parameters.items ∷ []
+declaration_values (declarations.Constructor stated) =
+    let line = stated.value in
+    Number line.name ∷ Number line.declared_type ∷ Number line.parent ∷ Number line.place
+    ∷ Number line.parameter_count ∷ Number line.field_count ∷ Numbers line.parameters.items ∷ []
+declaration_values (declarations.Recursor stated) =
+    let line = stated.value in
+    Number line.name ∷ Number line.declared_type ∷ Numbers line.types.items
+    ∷ Number line.parameter_count ∷ Number line.index_count ∷ Number line.motive_count
+    ∷ Number line.minor_count ∷ Numbers line.rules.items ∷ Flag line.k
+    ∷ Numbers line.parameters.items ∷ []
 
 abbrev pub declaration_tag : Declaration → DeclarationTag
 declaration_tag (declarations.Axiom name declared_type parameters) = declaration.Axiom
@@ -93,12 +97,9 @@ declaration_tag (declarations.Definition name declared_type value hint parameter
 declaration_tag (declarations.Theorem name declared_type value parameters) = declaration.Theorem
 declaration_tag (declarations.Opaque name declared_type value parameters) = declaration.Opaque
 declaration_tag (declarations.Quotient name declared_type parameters) = declaration.Quotient
-declaration_tag (declarations.Inductive name declared_type recursive nested parameter_count
-    index_count types constructors parameters) = declaration.Inductive
-declaration_tag (declarations.Constructor name declared_type parent place parameter_count
-    field_count parameters) = declaration.Constructor
-declaration_tag (declarations.Recursor name declared_type types parameter_count index_count
-    motive_count minor_count rules k parameters) = declaration.Recursor
+declaration_tag (declarations.Inductive stated) = declaration.Inductive
+declaration_tag (declarations.Constructor stated) = declaration.Constructor
+declaration_tag (declarations.Recursor stated) = declaration.Recursor
 
 -- what a reader of entries with this tag answers, from the text behind the third field of a line and the fields that
 -- are left

@@ -5,7 +5,7 @@ ghost use Rattle.lk_token.specs.Fields.{fields_of};
 ghost use Rattle.lk_lines.specs.Views.{GivesDeclaration, declaration_tag};
 
 use crate::steps::{FieldError, counted, flag, hint, number, numbers_left};
-use crate::{Declaration, DeclarationTag};
+use crate::{Constructor, Declaration, DeclarationTag, InductiveType, Recursor};
 use std::alloc::Global;
 
 fn axiom(alloc: Global, line: &[u8]) -> Result<Declaration, FieldError>
@@ -105,17 +105,21 @@ fn inductive(alloc: Global, line: &[u8]) -> Result<Declaration, FieldError>
     let (types, rest) = counted(alloc, rest)?;
     let (constructors, rest) = counted(alloc, rest)?;
     let parameters = numbers_left(alloc, rest)?;
-    Ok(Declaration::Inductive {
-        name,
-        declared_type,
-        recursive,
-        nested,
-        parameter_count,
-        index_count,
-        types,
-        constructors,
-        parameters,
-    })
+    let stated = Box::new(
+        alloc,
+        InductiveType {
+            name,
+            declared_type,
+            recursive,
+            nested,
+            parameter_count,
+            index_count,
+            types,
+            constructors,
+            parameters,
+        },
+    )?;
+    Ok(Declaration::Inductive(stated))
 }
 
 fn constructor(alloc: Global, line: &[u8]) -> Result<Declaration, FieldError>
@@ -130,15 +134,19 @@ fn constructor(alloc: Global, line: &[u8]) -> Result<Declaration, FieldError>
     let (parameter_count, rest) = number(rest)?;
     let (field_count, rest) = number(rest)?;
     let parameters = numbers_left(alloc, rest)?;
-    Ok(Declaration::Constructor {
-        name,
-        declared_type,
-        parent,
-        place,
-        parameter_count,
-        field_count,
-        parameters,
-    })
+    let stated = Box::new(
+        alloc,
+        Constructor {
+            name,
+            declared_type,
+            parent,
+            place,
+            parameter_count,
+            field_count,
+            parameters,
+        },
+    )?;
+    Ok(Declaration::Constructor(stated))
 }
 
 fn recursor(alloc: Global, line: &[u8]) -> Result<Declaration, FieldError>
@@ -156,18 +164,22 @@ fn recursor(alloc: Global, line: &[u8]) -> Result<Declaration, FieldError>
     let (rules, rest) = counted(alloc, rest)?;
     let (k, rest) = flag(rest)?;
     let parameters = numbers_left(alloc, rest)?;
-    Ok(Declaration::Recursor {
-        name,
-        declared_type,
-        types,
-        parameter_count,
-        index_count,
-        motive_count,
-        minor_count,
-        rules,
-        k,
-        parameters,
-    })
+    let stated = Box::new(
+        alloc,
+        Recursor {
+            name,
+            declared_type,
+            types,
+            parameter_count,
+            index_count,
+            motive_count,
+            minor_count,
+            rules,
+            k,
+            parameters,
+        },
+    )?;
+    Ok(Declaration::Recursor(stated))
 }
 
 /// What stands behind a tag.

@@ -186,14 +186,15 @@ fn project(line: &[u8]) -> Result<Entry<'static>, FieldError>
 }
 
 #[inline(never)]
-fn nat_literal(line: &[u8]) -> Result<Entry<'static>, FieldError>
+fn nat_literal(alloc: Global, line: &[u8]) -> Result<Entry<'static>, FieldError>
     ensures values { (text : List ℕ) →
         GivesEntry EntryTag.NatLiteral text (fields_of line.now) result }
     ensures tag { IfOk result (λ e. entry_tag e ≡ EntryTag.NatLiteral) }
 {
     let (number, rest) = literal(line)?;
     end(rest)?;
-    Ok(Entry::NatLiteral { number })
+    let number = Box::new(alloc, number)?;
+    Ok(Entry::NatLiteral(number))
 }
 
 #[inline(never)]
@@ -247,7 +248,7 @@ pub(crate) fn read_entry<'b>(
         EntryTag::Pi => pi(line),
         EntryTag::Let => let_in(line),
         EntryTag::Project => project(line),
-        EntryTag::NatLiteral => nat_literal(line),
+        EntryTag::NatLiteral => nat_literal(alloc, line),
         EntryTag::TextLiteral => text_literal(alloc, line),
         EntryTag::Rule => rule(line),
     }

@@ -87,7 +87,7 @@ fn said(alloc: Global, first: bool, line: &[u8]) -> Result<Said<'_>, FieldError>
 /// field; a field too many comes last. The length of the line is not looked at (`limit_fault`).
 ///
 /// The text of a name is a slice of the line, and the fields are found as they are read: memory is
-/// taken for lists of numbers and for text literals alone.
+/// taken for lists of numbers, for text literals and for what is boxed alone.
 #[tactic(auto, unfolding(crate::specs::Says::said_of))]
 pub fn read_line(
     alloc: Global,

@@ -225,31 +225,21 @@ impl Assembler {
             → Makes (said_at c) result (declaration_said s DeclarationTag.Inductive
             (declaration_values declaration.now)) }
     {
-        let Declaration::Inductive {
-            name,
-            declared_type,
-            parameter_count,
-            index_count,
-            types,
-            constructors,
-            parameters,
-            ..
-        } = declaration
-        else {
+        let Declaration::Inductive(line) = declaration else {
             unreachable!();
         };
         let counts = TypeCounts {
-            parameters: *parameter_count,
-            indices: *index_count,
+            parameters: line.parameter_count,
+            indices: line.index_count,
         };
         self.inductive(
             alloc,
-            *name,
-            *declared_type,
+            line.name,
+            line.declared_type,
             counts,
-            types,
-            constructors,
-            parameters,
+            &line.types,
+            &line.constructors,
+            &line.parameters,
         )
     }
 
@@ -266,24 +256,22 @@ impl Assembler {
             → Makes (said_at c) result (declaration_said s DeclarationTag.Constructor
             (declaration_values declaration.now)) }
     {
-        let Declaration::Constructor {
-            name,
-            declared_type,
-            parent,
-            place,
-            parameter_count,
-            field_count,
-            parameters,
-        } = declaration
-        else {
+        let Declaration::Constructor(line) = declaration else {
             unreachable!();
         };
         let counts = ConstructorCounts {
-            place: *place,
-            parameters: *parameter_count,
-            fields: *field_count,
+            place: line.place,
+            parameters: line.parameter_count,
+            fields: line.field_count,
         };
-        self.constructor(alloc, *name, *declared_type, *parent, counts, parameters)
+        self.constructor(
+            alloc,
+            line.name,
+            line.declared_type,
+            line.parent,
+            counts,
+            &line.parameters,
+        )
     }
 
     /// What the line of a recursor states.
@@ -300,36 +288,24 @@ impl Assembler {
             → Makes (said_at c) result (declaration_said s DeclarationTag.Recursor
             (declaration_values declaration.now)) }
     {
-        let Declaration::Recursor {
-            name,
-            declared_type,
-            types,
-            parameter_count,
-            index_count,
-            motive_count,
-            minor_count,
-            rules,
-            k,
-            parameters,
-        } = declaration
-        else {
+        let Declaration::Recursor(line) = declaration else {
             unreachable!();
         };
         let counts = RecursorCounts {
-            parameters: *parameter_count,
-            indices: *index_count,
-            motives: *motive_count,
-            minors: *minor_count,
-            k: *k,
+            parameters: line.parameter_count,
+            indices: line.index_count,
+            motives: line.motive_count,
+            minors: line.minor_count,
+            k: line.k,
         };
         self.recursor(
             alloc,
-            *name,
-            *declared_type,
-            types,
+            line.name,
+            line.declared_type,
+            &line.types,
             counts,
-            rules,
-            parameters,
+            &line.rules,
+            &line.parameters,
         )
     }
 }

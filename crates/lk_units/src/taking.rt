@@ -433,7 +433,7 @@ impl Assembler {
                 field,
                 subject,
             } => self.projection_line(store, own, structure, field, subject),
-            Entry::NatLiteral { number } => self.nat_line(store, own, number),
+            Entry::NatLiteral(number) => self.nat_line(store, own, *number),
             Entry::TextLiteral { text } => self.string_line(store, own, text),
             Entry::Rule {
                 constructor,
@@ -491,9 +491,9 @@ impl Assembler {
                 declared_type,
                 parameters,
             } => self.quotient(alloc, *name, *declared_type, parameters),
-            Declaration::Inductive { .. } => self.inductive_said(alloc, declaration),
-            Declaration::Constructor { .. } => self.constructor_said(alloc, declaration),
-            Declaration::Recursor { .. } => self.recursor_said(alloc, declaration),
+            Declaration::Inductive(_) => self.inductive_said(alloc, declaration),
+            Declaration::Constructor(_) => self.constructor_said(alloc, declaration),
+            Declaration::Recursor(_) => self.recursor_said(alloc, declaration),
         }
     }
 
