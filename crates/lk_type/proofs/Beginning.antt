@@ -21,8 +21,10 @@ use Rattle.lk_tree.proofs.Puttings.{put_nothing}
 use Rattle.lk_store.specs.Contents.{IsTree}
 use Rattle.lk_store.proofs.Extending.{Extends-trans}
 use Rattle.lk_type.specs.Openings.{IsBinder, IsOpened, IsAskedFor, RunsAs}
-use Rattle.lk_type.proofs.Openings.{IsAdded, put_last}
-use Rattle.lk_type.proofs.Telescopes.{IsAlike, runs_as_row}
+use Rattle.lk_chain.specs.Alike.{IsAlike}
+use Rattle.lk_chain.proofs.Puttings.{put_last}
+use Rattle.lk_type.proofs.Openings.{IsAdded}
+use Rattle.lk_type.proofs.Telescopes.{runs_as_row}
 use Rattle.lk_type.specs.Types.{type_next, Infers}
 
 module _ {S R B : Type 0} {contents : S → Contents} {rest : S → R} {sight : R → Sight B} where

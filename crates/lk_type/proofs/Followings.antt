@@ -12,7 +12,8 @@ use Rattle.lk_type.specs.declared.sheet.Binders.{Binders}
 use Rattle.lk_type.specs.Openings.{IsFollowing}
 use Rattle.lk_type.specs.Marks.{body_at, AreMarks, AreAll, Follows, last, before}
 use Rattle.std.proofs.lemmas.List.Elements.{All-get_or}
-use Rattle.lk_type.proofs.Openings.{IsAdded, next_fits, closed_known}
+use Rattle.lk_chain.proofs.Closed.{closed_known}
+use Rattle.lk_type.proofs.Openings.{IsAdded, next_fits}
 
 -- the value of a variable under the last one
 value_at : (xs : List Tree) (j : ℕ) → j < length xs → put_at xs 1 (var (length xs - j)) ≡ slice_index_or xs j wide

@@ -19,11 +19,10 @@ use Rattle.lk_type.specs.declared.sheet.Binders.{Binders}
 use Rattle.lk_type.specs.declared.sheet.Binders.TheVariants.{Pis, Lambdas}
 use Rattle.lk_type.specs.Sheets.{map_telescope}
 use Rattle.lk_type.specs.Telescopes.{bound_by, fresh, OpensTo, ahead, behind, started, asked_for}
-use Rattle.lk_type.specs.Openings.{IsBinder, IsNumberFor, AreClosed, IsOpened}
-
-length-last : (xs : List Tree) (x : Tree) → length (xs ++ x ∷ []) ≡ suc (length xs)
-length-last [] x = refl
-length-last (y ∷ xs) x = ap suc (length-last xs x)
+use Rattle.lk_chain.specs.Lets.{AreClosed}
+use Rattle.lk_chain.proofs.Closed.{closed_known, closed_steady, none_loose}
+use Rattle.lk_chain.proofs.Puttings.{NoneLoose, put_last}
+use Rattle.lk_type.specs.Openings.{IsBinder, IsNumberFor, IsOpened}
 
 -- how many binders stand at the head
 abbrev pub binders_in : Binders → Tree → ℕ
@@ -39,24 +38,6 @@ fewer_binders Lambdas e A B h = rw h (omega arith)
 pub ahead_last : (xs : List Tree) (x e : Tree) → ahead (xs ++ x ∷ []) e ≡ ahead xs (app x e)
 ahead_last [] x e = refl
 ahead_last (y ∷ xs) x e = ap (app y) (ahead_last xs x e)
-
--- the trees of a list hold no loose variables
-abbrev pub NoneLoose : List Tree → Type 0
-NoneLoose = All (λ x. loose x ≡ 0)
-
--- a body that is opened after values were put is one in which one value more was put
-pub put_last : (xs : List Tree) (x : Tree) (d : ℕ) (e : Tree) → NoneLoose xs → loose x ≡ 0 → open_at d x (put_at xs (suc d) e) ≡ put_at (xs ++ x ∷ []) d e
-put_last [] x d e h z =
-    ap (open_at d x) (put_nothing (suc d) e)
-    ∙ (ap (λ n. open_at n x e) (let n : d ≡ d + 0 = omega arith in n)
-    ∙ sym (put_more x [] d e z ∙ put_nothing d (open_at (d + 0) x e)))
-put_last (y ∷ xs) x d e h z =
-    let P : Tree → Type 0 = λ t. loose t ≡ 0 in
-    let first : loose y ≡ 0 = All-head P y xs h in
-    let n : suc d + length xs ≡ d + length (xs ++ x ∷ []) = (let l = length-last xs x in omega arith) in
-    ap (open_at d x) (put_more y xs (suc d) e first)
-    ∙ (put_last xs x d (open_at (suc d + length xs) y e) (All-tail P y xs h) z
-    ∙ (ap (λ m. put_at (xs ++ x ∷ []) d (open_at m y e)) n ∙ sym (put_more y (xs ++ x ∷ []) d e first)))
 
 pub or_either : (p q : Bool) → (p || q) ≡ true → (p ≡ true) ⊎ (q ≡ true)
 or_either true q h = inl refl
@@ -321,19 +302,6 @@ opens_last : (b : Binders) (e : Tree) (xs : List Tree) (A B : Tree) → OpensTo 
 opens_last b e [] A B h = (A, B, h, refl, refl)
 opens_last b e (x ∷ xs) A B h = (h.0, h.1, h.2, h.3, opens_last b (opened h.1 x) xs A B h.4)
 
-pub closed_known : (c : Contents) (xs : List ℕ) → AreClosed c xs → All (λ x. x < length c.trees) xs
-closed_known c xs h = All-weaker (λ x. (x < length c.trees) × (loose (tree_at c x) ≡ 0)) (λ x. x < length c.trees) (λ x k. k.0) xs h
-
-closed_steady : {c d : Contents} → Extends c d → (xs : List ℕ) → AreClosed c xs → AreClosed d xs
-closed_steady {c} {d} x xs h =
-    All-weaker (λ x. (x < length c.trees) × (loose (tree_at c x) ≡ 0)) (λ x. (x < length d.trees) × (loose (tree_at d x) ≡ 0))
-    (λ e k. (grown x e k.0, ap loose (x.trees.same e k.0) ∙ k.1)) xs h
-
-none_loose : (c : Contents) (xs : List ℕ) → AreClosed c xs → NoneLoose (map (tree_at c) xs)
-none_loose c xs h =
-    All-map (λ t. loose t ≡ 0) (tree_at c) xs
-    (All-weaker (λ x. (x < length c.trees) × (loose (tree_at c x) ≡ 0)) (λ x. loose (tree_at c x) ≡ 0) (λ x k. k.1) xs h)
-
 append_last : (xs ys : List ℕ) (y : ℕ) → (xs ++ ys) ++ y ∷ [] ≡ xs ++ (ys ++ y ∷ [])
 append_last [] ys y = refl
 append_last (x ∷ xs) ys y = ap (λ l. x ∷ l) (append_last xs ys y)
@@ -413,10 +381,6 @@ pub opened_in : {began now later : Contents} {b : Binders} {outer : ℕ} {old ne
     → IfOk r (λ e. IsTree later e (put (map (tree_at now) new) (tree_at now inside))) → IfOk r (λ e. IsOpened began later b outer old new (tree_at later e))
 opened_in inside (Ok e) x closed h made = opened_on inside x closed h made
 opened_in inside (Err e) x closed h made = tt
-
-pub front_of_append : (P : ℕ → Type 0) (xs ys : List ℕ) → All P (xs ++ ys) → All P xs
-front_of_append P [] ys h = λ k d l. absurd (omega arith)
-front_of_append P (x ∷ xs) ys h = All-cons P x xs (All-head P x (xs ++ ys) h) (front_of_append P xs ys (All-tail P x (xs ++ ys) h))
 
 -- one Local more ahead of what follows
 pub ahead_step : {began now later : Contents} → Extends began now → (left others : List ℕ) (x e r : ℕ) → left ≡ others ++ x ∷ []

@@ -11,24 +11,16 @@ use Rattle.lk_plain.proofs.Erasing.{run_from, seen_goes, seen_none, out-suc, out
 use Rattle.lk_questions.specs.Infer.{infer_steps}
 use Rattle.lk_questions.specs.Steps.{as_sort}
 use Rattle.lk_questions.specs.Table.{steps}
+use Rattle.lk_chain.specs.Alike.{IsAlike}
+use Rattle.lk_chain.proofs.Alike.{go_on_same, ask_alike, itself, sort_alike, alike_on}
 use Rattle.lk_type.specs.declared.sheet.Binders.{Binders}
 use Rattle.lk_type.specs.declared.sheet.Binders.TheVariants.{Pis, Lambdas}
 use Rattle.lk_type.specs.Telescopes.{bound_by, fresh, OpensTo, ahead, gather, started, asked_for, telescope_on, telescope_end, telescope_domain}
-
--- what goes on with an outcome goes on with each part of it
-go_on_same : (o : Out) (k l : Value → ℕ → Out) → ((v : Value) (b : ℕ) → k v b ≡ l v b) → go_on o k ≡ go_on o l
-go_on_same (finished v left t) k l h = ap (seen t) (h v left)
-go_on_same (stopped r) k l h = refl
-go_on_same used_up k l h = refl
 
 go_on_twice : (o : Out) (k l : Value → ℕ → Out) → go_on (go_on o k) l ≡ go_on o (λ v b. go_on (k v b) l)
 go_on_twice (finished v left t) k l = seen_goes t (k v left) l
 go_on_twice (stopped r) k l = refl
 go_on_twice used_up k l = refl
-
--- two programs run alike
-pub record IsAlike (w : Place) (p q : Program Tree) : Type 0 where
-  pub runs : (t : Option ℕ) (b : ℕ) → run_steps (out_of steps w) (erased w a_tree t p) b ≡ run_steps (out_of steps w) (erased w a_tree t q) b
 
 module _ (w : Place) where
   abbrev runs : Steps → ℕ → Out
@@ -36,39 +28,6 @@ module _ (w : Place) where
 
   abbrev Alike : Program Tree → Program Tree → Type 0
   Alike p q = IsAlike w p q
-
-  answered_same : (q : Query) (k l : AnswerTo q → Steps) → ((v : AnswerTo q) (b : ℕ) → runs (k v) b ≡ runs (l v) b) → (v : Value) (b : ℕ) → runs (with_answer q k v) b ≡ runs (with_answer q l v) b
-  answered_same (core e) k l h (a_tree v) b = h v b
-  answered_same (core e) k l h (truth v) b = refl
-  answered_same (whnf e) k l h (a_tree v) b = h v b
-  answered_same (whnf e) k l h (truth v) b = refl
-  answered_same (infer e) k l h (a_tree v) b = h v b
-  answered_same (infer e) k l h (truth v) b = refl
-  answered_same (same a c) k l h (a_tree v) b = refl
-  answered_same (same a c) k l h (truth v) b = h v b
-
-  ask_alike : (q : Query) (k l : AnswerTo q → Program Tree) → ((v : AnswerTo q) → Alike (k v) (l v)) → Alike (ask q k) (ask q l)
-  ask_alike q k l h = record {
-    runs = λ t b. ap (seen t) (go_on_same (out_of steps w q b) _ _
-        (answered_same q (λ v. erased w a_tree None (k v)) (λ v. erased w a_tree None (l v)) (λ v c. (h v).runs None c)));
-  }
-
-  itself : (p : Program Tree) → Alike p p
-  itself p = record { runs = λ t b. refl }
-
-  sort_alike : (S : Tree) (k l : Level → Program Tree) → ((u : Level) → Alike (k u) (l u)) → Alike (as_sort S >>= k) (as_sort S >>= l)
-  sort_alike (sort u) k l h = h u
-  sort_alike (var i) k l h = itself _
-  sort_alike (const c ls) k l h = itself _
-  sort_alike (app f a) k l h = itself _
-  sort_alike (lam A e) k l h = itself _
-  sort_alike (pi A e) k l h = itself _
-  sort_alike (let_in A v e) k l h = itself _
-  sort_alike (proj S i s) k l h = itself _
-  sort_alike (lit n) k l h = itself _
-  sort_alike wide k l h = itself _
-  sort_alike (str s) k l h = itself _
-  sort_alike (local n T) k l h = itself _
 
   -- what goes on with the value of a program
   abbrev behind_program : (Tree → Program Tree) → Value → ℕ → Out
@@ -111,32 +70,29 @@ module _ (w : Place) where
       ask (infer A) (λ T. ask (whnf T) (λ S. as_sort S >>= λ u. ask (infer (opened B (fresh b A B)))
       (λ U. telescope_end b (with_binder b us u (fresh b A B)) U)))
 
-  alike_on : {p q r : Program Tree} → Alike p q → Alike q r → Alike p r
-  alike_on h k = record { runs = λ t b. h.runs t b ∙ k.runs t b }
-
   sort_then : (S : Tree) (k : Level → Program Tree) (l : Tree → Program Tree) → Alike ((as_sort S >>= k) >>= l) (as_sort S >>= λ u. k u >>= l)
-  sort_then (sort u) k l = itself _
-  sort_then (var i) k l = itself _
-  sort_then (const c ls) k l = itself _
-  sort_then (app f a) k l = itself _
-  sort_then (lam A e) k l = itself _
-  sort_then (pi A e) k l = itself _
-  sort_then (let_in A v e) k l = itself _
-  sort_then (proj S i s) k l = itself _
-  sort_then (lit n) k l = itself _
-  sort_then wide k l = itself _
-  sort_then (str s) k l = itself _
-  sort_then (local n T) k l = itself _
+  sort_then (sort u) k l = itself w _
+  sort_then (var i) k l = itself w _
+  sort_then (const c ls) k l = itself w _
+  sort_then (app f a) k l = itself w _
+  sort_then (lam A e) k l = itself w _
+  sort_then (pi A e) k l = itself w _
+  sort_then (let_in A v e) k l = itself w _
+  sort_then (proj S i s) k l = itself w _
+  sort_then (lit n) k l = itself w _
+  sort_then wide k l = itself w _
+  sort_then (str s) k l = itself w _
+  sort_then (local n T) k l = itself w _
 
   -- a binder's row, and then what goes on
   row_then : (b : Binders) (us A B : Tree) → Alike (infer_steps (bound_by b A B) >>= telescope_end b us) (after_row b us A B)
   row_then Pis us A B =
-      ask_alike (infer A) _ _ (λ T. ask_alike (whnf T) _ _ (λ S.
-      alike_on (sort_then S _ (telescope_end Pis us)) (sort_alike S _ _ (λ u.
-      ask_alike (infer (opened B (fresh Pis A B))) _ _ (λ U. ask_alike (whnf U) _ _ (λ V.
+      ask_alike w (infer A) _ _ (λ T. ask_alike w (whnf T) _ _ (λ S.
+      alike_on w (sort_then S _ (telescope_end Pis us)) (sort_alike w S _ _ (λ u.
+      ask_alike w (infer (opened B (fresh Pis A B))) _ _ (λ U. ask_alike w (whnf U) _ _ (λ V.
       sort_then V (λ v. done (sort (imax_level u v))) (telescope_end Pis us)))))))
   row_then Lambdas us A B =
-      ask_alike (infer A) _ _ (λ T. ask_alike (whnf T) _ _ (λ S. sort_then S _ (telescope_end Lambdas us)))
+      ask_alike w (infer A) _ _ (λ T. ask_alike w (whnf T) _ _ (λ S. sort_then S _ (telescope_end Lambdas us)))
 
   -- a binder inside another one costs what its Local costs
   inner_runs : (b : Binders) (us A B : Tree) (k : ℕ) (p : Tree → Program Tree) → Alike (after_row b us A B) (p A) → Alike (ask (infer (bound_by b A B)) (λ U. telescope_end b us U)) (ask (infer (local k A)) p)
@@ -151,8 +107,8 @@ module _ (w : Place) where
 
   last_body : (b : Binders) (us A B r : Tree) (u : Level) → opened B (fresh b A B) ≡ r
       → Alike (ask (infer (opened B (fresh b A B))) (λ U. telescope_end b (with_binder b us u (fresh b A B)) U)) (telescope_on b zero r (gather b (started b us (fresh b A B ∷ [])) (sort u)))
-  last_body Pis us A B r u e = rw e (itself _)
-  last_body Lambdas us A B r u e = rw e (itself _)
+  last_body Pis us A B r u e = rw e (itself w _)
+  last_body Lambdas us A B r u e = rw e (itself w _)
 
   gathers : (b : Binders) (us x y : Tree) (ys : List Tree) (u : Level) → gather b (started b us (x ∷ y ∷ ys)) (sort u) ≡ started b (with_binder b us u x) (y ∷ ys)
   gathers Pis us x y ys u = refl
@@ -168,17 +124,17 @@ module _ (w : Place) where
   telescope_runs : (b : Binders) (us A B : Tree) (xs : List Tree) (r : Tree) → OpensTo b (opened B (fresh b A B)) xs r
       → Alike (after_row b us A B) (telescope_domain (asked_for b (started b us (fresh b A B ∷ xs)) xs r) A)
   telescope_runs b us A B [] r h =
-      ask_alike (infer A) _ _ (λ T. ask_alike (whnf T) _ _ (λ S. sort_alike S _ _ (λ u. last_body b us A B r u h)))
+      ask_alike w (infer A) _ _ (λ T. ask_alike w (whnf T) _ _ (λ S. sort_alike w S _ _ (λ u. last_body b us A B r u h)))
   telescope_runs b us A B (x ∷ xs) r (A', B', e, f, h) =
-      ask_alike (infer A) _ _ (λ T. ask_alike (whnf T) _ _ (λ S. sort_alike S _ _ (λ u.
+      ask_alike w (infer A) _ _ (λ T. ask_alike w (whnf T) _ _ (λ S. sort_alike w S _ _ (λ u.
       next_binder b us A B x xs r A' B' u e f
       (telescope_runs b (with_binder b us u (fresh b A B)) A' B' xs r (rw f at h)))))
 
   first_row : (b : Binders) (A B : Tree) → Alike (infer_steps (bound_by b A B)) (after_row b (fresh b A B) A B)
-  first_row Pis A B = itself _
-  first_row Lambdas A B = itself _
+  first_row Pis A B = itself w _
+  first_row Lambdas A B = itself w _
 
   -- the telescope runs as the row of its first binder does
   pub runs_as_row : (b : Binders) (A B : Tree) (xs : List Tree) (r : Tree) → OpensTo b (opened B (fresh b A B)) xs r
       → Alike (infer_steps (bound_by b A B)) (telescope_domain (asked_for b (started b (fresh b A B) (fresh b A B ∷ xs)) xs r) A)
-  runs_as_row b A B xs r h = alike_on (first_row b A B) (telescope_runs b (fresh b A B) A B xs r h)
+  runs_as_row b A B xs r h = alike_on w (first_row b A B) (telescope_runs b (fresh b A B) A B xs r h)

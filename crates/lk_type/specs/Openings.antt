@@ -2,7 +2,6 @@
 use Rattle.std.specs.Prelude.{◌≡◌, ◌<◌, ◌≤◌, ◌++◌, ◌∷◌, ℕ, List, map, All, Result, IfOk, slice_index_or, length}
 use Rattle.lk_tree.specs.Tree.{Tree}
 use Rattle.lk_tree.specs.Bind.{bound}
-use Rattle.lk_tree.specs.Loose.{loose}
 use Rattle.lk_tree.specs.Putting.{put}
 use Rattle.lk_plain.specs.Program.{Program}
 use Rattle.lk_plain.specs.Erased.{a_tree, erased, run_steps, out_of}
@@ -22,10 +21,6 @@ pub record IsBinder (c : Contents) (b : Binders) (e : ℕ) (parts : ℕ × ℕ) 
   pub domain_in : parts.0 < length c.trees
   pub body_in : parts.1 < length c.trees
   pub is : tree_at c e ≡ bound_by b (tree_at c parts.0) (tree_at c parts.1)
-
--- the numbers stand for trees without loose variables
-abbrev pub AreClosed : Contents → List ℕ → Type 0
-AreClosed c = All (λ x. (x < length c.trees) × (loose (tree_at c x) ≡ 0))
 
 -- it is the number of a Local that is fresh for the body, opened with these Locals
 abbrev pub IsNumberFor : Contents → List ℕ → ℕ → ℕ → Type 0

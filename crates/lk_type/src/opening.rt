@@ -7,9 +7,10 @@ ghost use Rattle.lk_tree.specs.Putting.{put as put_values};
 ghost use Rattle.lk_questions.specs.Infer.{infer_steps};
 ghost use Rattle.lk_store.specs.Contents.{tree_at, Extends};
 ghost use Rattle.lk_ask.specs.Looks.{MakesTree};
+ghost use Rattle.lk_chain.specs.Lets.{AreClosed};
 ghost use Rattle.lk_type.specs.Sheets.{map_telescope, IsKnownTelescope};
 ghost use Rattle.lk_type.specs.Telescopes.{ahead, behind, started, asked_for, telescope_domain};
-ghost use Rattle.lk_type.specs.Openings.{IsBinder, IsFollowing, AreClosed, OpensAll, IsAskedFor, RunsAs};
+ghost use Rattle.lk_type.specs.Openings.{IsBinder, IsFollowing, OpensAll, IsAskedFor, RunsAs};
 ghost use Rattle.lk_type.specs.Marks.{body_at, AreMarks, AreAll, Follows};
 ghost use Rattle.lk_type.specs.Types.{Infers};
 

@@ -1,7 +1,8 @@
 use Rattle.std.proofs.Common.{rules, ◌∙◌}
 use Rattle.std.proofs.Common.{◌≡◌, ◌++◌, ◌∷◌, [], ◌<◌, length}
 use Rattle.lk_store.proofs.Extending.{Extends-trans}
-use Rattle.lk_type.proofs.Openings.{ahead_step, front_of_append}
+use Rattle.lk_chain.proofs.Closed.{front_of_append}
+use Rattle.lk_type.proofs.Openings.{ahead_step}
 use Rattle.lk_type.proofs.opening.all_ahead.Goals as goal
 
 pub locals-preserved : goal.locals-preserved

@@ -2,7 +2,8 @@ use Rattle.std.proofs.Common.{◌≡◌, ◌<◌, length, map}
 use Rattle.std.specs.Prelude.{IfSome}
 use Rattle.lk_tree.specs.Putting.{put}
 use Rattle.lk_store.specs.Contents.{tree_at, Extends}
-use Rattle.lk_type.specs.Openings.{IsFollowing, AreClosed, IsOpened}
+use Rattle.lk_chain.specs.Lets.{AreClosed}
+use Rattle.lk_type.specs.Openings.{IsFollowing, IsOpened}
 use Rattle.lk_type.specs.Marks.{body_at}
 use Rattle.lk_type.proofs.Openings.{binders_in}
 use Rattle.lk_type.proofs.opening.open_binders.Given as goal
