@@ -4,7 +4,7 @@
 usage: limited_stack.py PROGRAM
 
 The limit is that of `ulimit -s`, in steps of 4 KiB, and the environment is empty, since it stands on the stack too. Among
-the inputs are deep ones: what is read is to make no difference. The status is 1 where some input needs more than 64 KiB.
+the inputs are deep ones: what is read is to make no difference. The status is 1 where some input needs more than 160 KiB.
 """
 import glob
 import os
@@ -17,9 +17,10 @@ from inputs import HERE, INPUTS
 
 DEEP = [(families.pis, 100000), (families.lambdas, 100000), (families.arguments, 100000), (families.nested_arguments, 100000),
         (families.lets, 100000), (families.successors, 100000), (families.maxima, 100000), (families.components, 100000),
-        (families.fields_alone, 10000), (families.enumeration, 100), (families.nested, 500), (families.mutual, 200),
+        (families.dependent_lambdas, 20000), (families.lets_mentioned, 5000), (families.fields_alone, 10000),
+        (families.enumeration, 100), (families.enumeration, 600), (families.nested, 500), (families.mutual, 200),
         (families.doubled_unequal, 50), (families.spaces, 1 << 25)]
-MOST = 64
+MOST = 160
 
 
 def run(program, words, data, kibibytes):

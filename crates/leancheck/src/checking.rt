@@ -1,6 +1,6 @@
 //! The verdict of a unit.
 
-ghost use Rattle.std.specs.Prelude.{◌≡◌, ◌<◌, [], true, length};
+ghost use Rattle.std.specs.Prelude.{◌≡◌, ◌≢◌, ◌↔◌, ◌<◌, [], true, length, IsTrue};
 ghost use Rattle.lk_rulebook.specs.Scan.{are_new};
 ghost use Rattle.lk_rulebook.specs.Units.{members_of, place_of, Members};
 ghost use Rattle.lk_questions.specs.Table.{steps as table};
@@ -47,12 +47,39 @@ fn verdict_of(outcome: Result<(), Stop>) -> Verdict
     }
 }
 
-/// The verdict of a declaration's questions.
-fn ask<Q: Quotients + Laws>(alloc: Global, asks: &mut Q, declaration: &Declaration) -> Verdict
+/// Whether a declaration gives a constant of quotient types.
+fn is_quotient(body: Body) -> bool
+    ensures { IsTrue result ↔ (body ≡ Body.Quotient) }
+{
+    match body {
+        Body::Quotient => true,
+        Body::Axiom => false,
+        Body::Definition { .. } => false,
+        Body::Theorem { .. } => false,
+        Body::Opaque { .. } => false,
+    }
+}
+
+/// The verdict of the questions of a constant of quotient types.
+fn ask_quotient<Q: Quotients>(asks: &mut Q, declaration: &Declaration) -> Verdict
+    requires table { (Q.standing asks.old).table ≡ table }
+    requires stated_in { IsStatedIn (Q.contents asks.old) declaration.now.name
+        declaration.now.levels.items declaration.now.ty }
+    requires quotient { declaration.now.body ≡ Body.Quotient }
+    ensures basis { (Q.standing asks.new).basis ≡ (Q.standing asks.old).basis }
+    ensures verdict { IsPlain (questions_of (Q.standing asks.old).place (Q.left asks.old)
+        (declaration_at (Q.contents asks.old) declaration.now)) result }
+{
+    verdict_of(check_quotient(asks, declaration.name, &declaration.levels, declaration.ty))
+}
+
+/// The verdict of the questions of any other declaration.
+fn ask<Q: Laws>(alloc: Global, asks: &mut Q, declaration: &Declaration) -> Verdict
     requires table { (Q.standing asks.old).table ≡ table }
     requires stated_in { IsStatedIn (Q.contents asks.old) declaration.now.name
         declaration.now.levels.items declaration.now.ty }
     requires body_in { IsBodyIn (Q.contents asks.old) declaration.now.body }
+    requires other { declaration.now.body ≢ Body.Quotient }
     ensures basis { (Q.standing asks.new).basis ≡ (Q.standing asks.old).basis }
     ensures verdict { IsPlain (questions_of (Q.standing asks.old).place (Q.left asks.old)
         (declaration_at (Q.contents asks.old) declaration.now)) result }
@@ -70,9 +97,27 @@ fn ask<Q: Quotients + Laws>(alloc: Global, asks: &mut Q, declaration: &Declarati
         )),
         Body::Theorem { proof } => verdict_of(check_theorem(alloc, asks, ty, proof)),
         Body::Opaque { value } => verdict_of(check_opaque(asks, ty, value)),
-        Body::Quotient => {
-            verdict_of(check_quotient(asks, declaration.name, &declaration.levels, ty))
-        }
+        Body::Quotient => unreachable!(),
+    }
+}
+
+/// The verdict of a declaration's questions. The engine is handed on to functions of one bound each:
+/// what a call owes of a concrete engine is too much to check at once with two.
+fn judge_declaration(alloc: Global, asks: &mut Engine<'_>, declaration: &Declaration) -> Verdict
+    requires stated_in { IsStatedIn (contents_of (over asks.old.2.0 asks.old.2.1))
+        declaration.now.name declaration.now.levels.items declaration.now.ty }
+    requires body_in { IsBodyIn (contents_of (over asks.old.2.0 asks.old.2.1))
+        declaration.now.body }
+    ensures basis { (standing_at asks.new.0 asks.new.1).basis
+        ≡ (standing_at asks.old.0 asks.old.1).basis }
+    ensures verdict { IsPlain (questions_of (standing_at asks.old.0 asks.old.1).place
+        (asks.old.3.left)
+        (declaration_at (contents_of (over asks.old.2.0 asks.old.2.1)) declaration.now)) result }
+{
+    if is_quotient(declaration.body) {
+        ask_quotient(asks, declaration)
+    } else {
+        ask(alloc, asks, declaration)
     }
 }
 
@@ -96,7 +141,7 @@ fn judge_scanned(alloc: Global, asks: &mut Engine<'_>, unit: &Unit) -> Verdict
         (asks.old.3.left) (unit_at (contents_of (over asks.old.2.0 asks.old.2.1)) unit.now)) result }
 {
     match unit {
-        Unit::Declaration(declaration) => ask(alloc, asks, declaration),
+        Unit::Declaration(declaration) => judge_declaration(alloc, asks, declaration),
         Unit::Block(block) => verdict_of(check_block(alloc, asks, block)),
     }
 }

@@ -11,8 +11,8 @@ pub returns-in-Declaration-clause-verdict : goal.returns-in-Declaration-clause-v
 returns-in-Declaration-clause-verdict c =
     let at = contents_of (over c.args.asks.now.2.0 c.args.asks.now.2.1) in
     rw c.in-Declaration.is
-    (subst (λ w. IsPlain (questions_of w (c.args.asks.now.3.left) (declaration_at at c.in-Declaration.declaration)) c.ask.result) c.requires.place
-    c.ask.ensures.verdict)
+    (subst (λ w. IsPlain (questions_of w (c.args.asks.now.3.left) (declaration_at at c.in-Declaration.declaration)) c.judge_declaration.result) c.requires.place
+    c.judge_declaration.ensures.verdict)
 
 pub returns-in-Block-clause-verdict : goal.returns-in-Block-clause-verdict
 returns-in-Block-clause-verdict c =
