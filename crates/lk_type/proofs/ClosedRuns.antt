@@ -1,122 +1,190 @@
 -- The Locals of lambdas, closed a run at a time.
-use Rattle.std.proofs.Common.{◌≡◌, ◌<◌, ℕ, zero, suc, ◌+◌, ◌-◌, length, refl, ap, sym, subst, ◌∙◌, arith}
+use Rattle.std.proofs.Common.{◌≡◌, ◌<◌, ◌≤◌, ℕ, zero, suc, ◌+◌, ◌-◌, nat_lt, true, List, [], ◌∷◌, ◌++◌, length, map, refl, ap, sym, ◌∙◌, arith}
+use Rattle.std.specs.Prelude.{All}
+use Rattle.std.proofs.lemmas.Bool.Decides.{nat_tests}
+use Rattle.std.proofs.lemmas.List.{map-append, length-append}
+use Rattle.std.proofs.lemmas.List.Elements.{All-head}
 use Rattle.lk_tree.specs.Tree.{Tree, app, pi, var, sort, const, lam, let_in, proj, lit, wide, str, local}
-use Rattle.lk_tree.specs.Bind.{close}
+use Rattle.lk_tree.specs.Bind.{close_at, bound}
 use Rattle.lk_store.specs.Contents.{Contents, tree_at, Extends, IsTree}
-use Rattle.lk_subst.specs.Runs.{close_runs_at, close_run_at}
-use Rattle.lk_subst.proofs.Closed.{close_runs_at-none, close_runs_at-next}
-use Rattle.lk_type.specs.Telescopes.{number_in, type_in, lambdas_type}
-use Rattle.lk_type.specs.Lambdas.{gathered, IsNone, IsLast, EndsIn, IsWithin}
+use Rattle.lk_subst.specs.Numbers.{trees-steady}
+use Rattle.lk_subst.specs.Runs.{run_var, close_runs_at, close_run_at}
+use Rattle.lk_subst.specs.declared.runs.Run.{Run}
+use Rattle.lk_subst.proofs.Closed.{close_runs_at-none, close_runs_at-next, close_runs_at-around}
+use Rattle.lk_type.specs.Telescopes.{number_in, domains_of, numbers_of, closed_with, pis_over, lambdas_type}
+use Rattle.lk_type.specs.Lambdas.{counted, EndsIn, AreGathered}
+use Rattle.lk_type.proofs.Openings.{some_of_append}
 
--- what is left leads on to all, whichever run it ends in
-pub record LeadsOn (first count : ℕ) (left e : Tree) : Type 0 where
-  pub leads : (j k : ℕ) → j + k ≡ first → EndsIn j k left → EndsIn j (k + count) e
+-- a run begins one number before
+pub counted_before : (j m : ℕ) → counted j (suc m) ≡ j ∷ counted (suc j) m
+counted_before j zero = let e : j + 0 ≡ j = omega arith in ap (λ k. k ∷ []) e
+counted_before j (suc m) =
+    let e : j + suc m ≡ suc j + m = omega arith in
+    rw (counted_before j m) (ap (λ k. j ∷ (counted (suc j) m ++ k ∷ [])) e)
 
-pub leads_first : (first : ℕ) (xs x e : Tree) → e ≡ app xs x → number_in x ≡ first → LeadsOn first 1 xs e
-leads_first first xs x e is h = record {
-  leads = λ j k at ends.
-      let one : suc k ≡ k + 1 = omega arith in
-      let n : number_in x ≡ j + k = omega arith in
-      let whole : EndsIn j (suc k) (app xs x) = (n, ends) in
-      subst (λ m. EndsIn j m e) one (subst (λ t. EndsIn j (suc k) t) (sym is) whole);
-}
+length_counted : (j m : ℕ) → length (counted j m) ≡ m
+length_counted j zero = refl
+length_counted j (suc m) =
+    let e = length-append (counted j m) ((j + m) ∷ []) in let h = length_counted j m in omega (arith, e, h)
 
-pub leads_next : (first before count more : ℕ) (left xs x e : Tree) → left ≡ app xs x → number_in x ≡ before → first ≡ suc before → more ≡ suc count
-    → LeadsOn first count left e → LeadsOn before more xs e
-leads_next first before count more left xs x e is here next more_is was = record {
-  leads = λ j k at ends.
-      let all : suc k + count ≡ k + more = omega arith in
-      let n : number_in x ≡ j + k = omega arith in
-      let whole : j + suc k ≡ first = omega arith in
-      let one : EndsIn j (suc k) (app xs x) = (n, ends) in
-      subst (λ m. EndsIn j m e) all (was.leads j (suc k) whole (subst (λ t. EndsIn j (suc k) t) (sym is) one));
-}
+append_step : {X : Type 0} (xs ys : List X) (y : X) → (xs ++ y ∷ []) ++ ys ≡ xs ++ (y ∷ ys)
+append_step [] ys y = refl
+append_step (x ∷ xs) ys y = ap (λ l. x ∷ l) (append_step xs ys y)
 
-pub leads_all : (first count : ℕ) (left e : Tree) → LeadsOn first count left e → EndsIn first count e
-leads_all first count left e was =
-    let none : 0 + count ≡ count = omega arith in
-    let all : first + 0 ≡ first = omega arith in
-    subst (λ m. EndsIn first m e) none (was.leads first 0 all tt)
+-- the number before a run is of the run
+pub run_longer : (numbers left others : List ℕ) (before first count : ℕ) → numbers ≡ left ++ counted first count → left ≡ others ++ before ∷ [] → first ≡ suc before
+    → numbers ≡ others ++ counted before (suc count)
+run_longer numbers left others before first count is parts next =
+    is ∙ (ap (λ l. l ++ counted first count) parts ∙ (append_step others (counted first count) before
+    ∙ (ap (λ k. others ++ (before ∷ counted k count)) next ∙ ap (λ l. others ++ l) (sym (counted_before before count)))))
 
--- m Locals of the run are left before a type that they close
-pub record IsClosing (j m : ℕ) (left made e T : Tree) : Type 0 where
-  pub ty : Tree
-  pub made_is : made ≡ close_run_at 0 j m ty
-  pub same : lambdas_type left ty ≡ lambdas_type e T
-  pub ends : EndsIn j m left
+-- a run is not empty
+pub run_shorter : (numbers others : List ℕ) (run : Run) → EndsIn numbers run others → length others < length numbers
+run_shorter numbers others run ends =
+    let some = ends.some in
+    let l : length numbers ≡ length others + length (counted run.first run.count) = ap length ends.is ∙ length-append others (counted run.first run.count) in
+    let m = length_counted run.first run.count in
+    omega (arith, l, m, some)
 
-pub closing_first : (j m : ℕ) (made e T : Tree) → made ≡ close_run_at 0 j m T → EndsIn j m e → IsClosing j m e made e T
-closing_first j m made e T is ends = record { ty = T; made_is = is; same = refl; ends = ends }
+-- one lambda more is gathered, with the number of its Local
+pub domain_gathered : (t : ℕ → Tree) (old new : List ℕ) (A : ℕ) (b e x g f : Tree) → new ≡ old ++ A ∷ [] → e ≡ lam (t A) b → f ≡ app x g
+    → map t new ++ domains_of b g ≡ map t old ++ domains_of e f
+domain_gathered t old new A b e x g f is p q =
+    ap (λ l. map t l ++ domains_of b g) is
+    ∙ (ap (λ l. l ++ domains_of b g) (map-append t old (A ∷ []))
+    ∙ (append_step (map t old) (domains_of b g) (t A) ∙ ap (λ l. map t old ++ l) (sym (rw (p, q) refl))))
 
-pub closing_next : (j m n : ℕ) (left others x made later e T : Tree) → n ≡ suc m → left ≡ app others x → later ≡ pi (close_run_at 0 j m (type_in x)) made
-    → IsClosing j n left made e T → IsClosing j m others later e T
-unfolding close_runs_at
-closing_next j m n left others x made later e T many is later_is was =
-    let ends : (number_in x ≡ j + m) × EndsIn j m others = rw (many, is) at was.ends in
-    let closed : close_run_at 1 j m (close (j + m) was.ty) ≡ made = close_runs_at-next 0 j 0 j m was.ty ∙ sym (was.made_is ∙ ap (λ k. close_run_at 0 j k was.ty) many) in
-    let T' : Tree = pi (type_in x) (close (number_in x) was.ty) in
+pub number_gathered : (old new : List ℕ) (k : ℕ) (A b e x g f : Tree) → new ≡ old ++ k ∷ [] → k ≡ number_in x → e ≡ lam A b → f ≡ app x g
+    → new ++ numbers_of b g ≡ old ++ numbers_of e f
+number_gathered old new k A b e x g f is n p q =
+    ap (λ l. l ++ numbers_of b g) is
+    ∙ (append_step old (numbers_of b g) k ∙ (ap (λ y. old ++ (y ∷ numbers_of b g)) n ∙ ap (λ l. old ++ l) (sym (rw (p, q) refl))))
+
+-- closed with Locals of these numbers, under so many binders
+abbrev pub closed_under : ℕ → List ℕ → Tree → Tree
+closed_under d [] T = T
+closed_under d (k ∷ ks) T = close_at (d + length ks) k (closed_under d ks T)
+
+under_none : (ks : List ℕ) (T : Tree) → closed_with ks T ≡ closed_under 0 ks T
+under_none [] T = refl
+under_none (k ∷ ks) T =
+    let e : length ks ≡ 0 + length ks = omega arith in
+    ap (close_at (length ks) k) (under_none ks T) ∙ ap (λ d. close_at d k (closed_under 0 ks T)) e
+
+-- first those that stand last
+under_append : (d : ℕ) (ks js : List ℕ) (T : Tree) → closed_under d (ks ++ js) T ≡ closed_under (d + length js) ks (closed_under d js T)
+under_append d [] js T = refl
+under_append d (k ∷ ks) js T =
+    let l = length-append ks js in
+    let e : d + length (ks ++ js) ≡ (d + length js) + length ks = omega (arith, l) in
+    ap (close_at (d + length (ks ++ js)) k) (under_append d ks js T)
+    ∙ ap (λ n. close_at n k (closed_under (d + length js) ks (closed_under d js T))) e
+
+under_run : (d j m : ℕ) (T : Tree) → closed_under d (counted j m) T ≡ close_run_at d j m T
+under_run d j zero T = sym (close_runs_at-none d j j T)
+under_run d j (suc m) T =
+    let one : d + 1 ≡ suc d = omega arith in
+    let none : d + 0 ≡ d = omega arith in
+    under_append d (counted j m) ((j + m) ∷ []) T
+    ∙ (ap (λ n. closed_under n (counted j m) (close_at (d + 0) (j + m) T)) one
+    ∙ (ap (λ n. closed_under (suc d) (counted j m) (close_at n (j + m) T)) none
+    ∙ (under_run (suc d) j m (close_at d (j + m) T) ∙ close_runs_at-next d j 0 j m T)))
+
+-- how far a type is closed, with these numbers left
+pub record IsClosing (numbers left : List ℕ) (made T : Tree) : Type 0 where
+  pub few : length left ≤ length numbers
+  pub same : closed_under (length numbers - length left) left made ≡ closed_with numbers T
+
+pub closing_first : (numbers : List ℕ) (T : Tree) → IsClosing numbers numbers T T
+closing_first numbers T =
+    let none : length numbers - length numbers ≡ 0 = omega arith in
     record {
-      ty = T';
-      made_is = later_is ∙ ap (pi (close_run_at 0 j m (type_in x))) (sym (ap (λ k. close_run_at 1 j m (close k was.ty)) ends.0 ∙ closed));
-      same = ap (λ t. lambdas_type t was.ty) (sym is) ∙ was.same;
-      ends = ends.1;
+      few = omega arith;
+      same = ap (λ d. closed_under d numbers T) none ∙ sym (under_none numbers T);
     }
 
-pub closing_end : (j m : ℕ) (left made e T : Tree) → m ≡ 0 → IsClosing j m left made e T → lambdas_type left made ≡ lambdas_type e T
-closing_end j m left made e T none was =
-    ap (lambdas_type left) (was.made_is ∙ (ap (λ k. close_run_at 0 j k was.ty) none ∙ close_runs_at-none 0 j j was.ty)) ∙ was.same
+pub closing_on : (numbers left others : List ℕ) (run : Run) (count : ℕ) (made later T : Tree) → EndsIn left run others → count ≡ length numbers - length left
+    → later ≡ close_run_at count run.first run.count made → IsClosing numbers left made T → IsClosing numbers others later T
+closing_on numbers left others run count made later T ends counts is was =
+    let few = was.few in
+    let l : length left ≡ length others + length (counted run.first run.count) = ap length ends.is ∙ length-append others (counted run.first run.count) in
+    let m = length_counted run.first run.count in
+    let next : length numbers - length others ≡ count + length (counted run.first run.count) = omega (arith, l, few, counts) in
+    record {
+      few = omega (arith, l, few);
+      same = ap (λ d. closed_under d others later) next
+          ∙ (ap (closed_under (count + length (counted run.first run.count)) others) (is ∙ sym (under_run count run.first run.count made))
+          ∙ (sym (under_append count others (counted run.first run.count) made)
+          ∙ (ap (λ ks. closed_under count ks made) (sym ends.is)
+          ∙ (ap (λ d. closed_under d left made) counts ∙ was.same))));
+    }
 
--- none is left where there is no Local
-none_of_run : (j m : ℕ) (e : Tree) → IsNone e → EndsIn j m e → m ≡ 0
-none_of_run j zero e h ends = refl
-none_of_run j (suc m) (app f a) h ends = absurd h
-none_of_run j (suc m) (var i) h ends = absurd ends
-none_of_run j (suc m) (sort l) h ends = absurd ends
-none_of_run j (suc m) (const c ls) h ends = absurd ends
-none_of_run j (suc m) (lam A b) h ends = absurd ends
-none_of_run j (suc m) (pi A b) h ends = absurd ends
-none_of_run j (suc m) (let_in A v b) h ends = absurd ends
-none_of_run j (suc m) (proj S i s) h ends = absurd ends
-none_of_run j (suc m) (lit n) h ends = absurd ends
-none_of_run j (suc m) wide h ends = absurd ends
-none_of_run j (suc m) (str s) h ends = absurd ends
-none_of_run j (suc m) (local k A) h ends = absurd ends
+pub closing_end : (numbers left : List ℕ) (made T : Tree) → left ≡ [] → IsClosing numbers left made T → made ≡ closed_with numbers T
+closing_end numbers left made T none was = ap (λ ks. closed_under (length numbers - length left) ks made) (sym none) ∙ was.same
 
-pub none_left : (j m : ℕ) (left made e T : Tree) → IsNone left → IsClosing j m left made e T → m ≡ 0
-none_left j m left made e T h was = none_of_run j m left h was.ends
+run_low : (d j m k : ℕ) (e : Tree) → k < j → run_var d j m k e ≡ e
+run_low d j m k e h = let f : nat_lt k j ≡ true = grind (arith, nat_tests) in rw f refl
 
--- no Locals are before the type
-pub type_alone : (e T : Tree) → IsNone e → lambdas_type e T ≡ T
-type_alone (app f a) T h = absurd h
-type_alone (var i) T h = refl
-type_alone (sort l) T h = refl
-type_alone (const c ls) T h = refl
-type_alone (lam A b) T h = refl
-type_alone (pi A b) T h = refl
-type_alone (let_in A v b) T h = refl
-type_alone (proj S i s) T h = refl
-type_alone (lit n) T h = refl
-type_alone wide T h = refl
-type_alone (str s) T h = refl
-type_alone (local k A) T h = refl
+-- a run around another one, of which there is no Local
+around_none : (d i n j m : ℕ) (t : Tree) → bound t ≤ j → close_runs_at d i n j m t ≡ close_runs_at (d + m) i n j 0 t
+unfolding close_runs_at bound
+around_none d i n j m (var x) h = refl
+around_none d i n j m (sort l) h = refl
+around_none d i n j m (const c ls) h = refl
+around_none d i n j m (app f a) h = let p = around_none d i n j m f (omega arith) in let q = around_none d i n j m a (omega arith) in cc
+around_none d i n j m (lam A b) h =
+    let s : suc d + m ≡ suc (d + m) = omega arith in let p = around_none d i n j m A (omega arith) in
+    let q = around_none (suc d) i n j m b (omega arith) ∙ ap (λ x. close_runs_at x i n j 0 b) s in cc
+around_none d i n j m (pi A b) h =
+    let s : suc d + m ≡ suc (d + m) = omega arith in let p = around_none d i n j m A (omega arith) in
+    let q = around_none (suc d) i n j m b (omega arith) ∙ ap (λ x. close_runs_at x i n j 0 b) s in cc
+around_none d i n j m (let_in A a b) h =
+    let s : suc d + m ≡ suc (d + m) = omega arith in let p = around_none d i n j m A (omega arith) in
+    let r = around_none d i n j m a (omega arith) in
+    let q = around_none (suc d) i n j m b (omega arith) ∙ ap (λ x. close_runs_at x i n j 0 b) s in cc
+around_none d i n j m (proj S x s) h = ap (proj S x) (around_none d i n j m s h)
+around_none d i n j m (lit x) h = refl
+around_none d i n j m wide h = refl
+around_none d i n j m (str s) h = refl
+around_none d i n j m (local k T) h =
+    let same : (d + m) + 0 ≡ d + m = omega arith in
+    run_low d j m k (run_var (d + m) i n k (local k T)) (omega arith)
+    ∙ sym (run_low (d + m) j 0 k (run_var ((d + m) + 0) i n k (local k T)) (omega arith)
+    ∙ ap (λ x. run_var x i n k (local k T)) same)
 
-pub closing_on : {now later : Contents} {j n others x r : ℕ} {e T : Tree} (left made : ℕ) → Extends now later → 0 < n → IsLast now left (others, x)
-    → IsTree later r (pi (close_run_at 0 j (n - 1) (type_in (tree_at now x))) (tree_at now made))
-    → IsClosing j n (tree_at now left) (tree_at now made) e T → IsClosing j (n - 1) (tree_at later others) (tree_at later r) e T
-closing_on {now} {later} {j} {n} {others} {x} {r} {e} {T} left made grows some last is was =
-    let many : n ≡ suc (n - 1) = omega arith in
-    subst (λ t. IsClosing j (n - 1) t (tree_at later r) e T) (sym (grows.trees.same others last.0))
-    (closing_next j (n - 1) n (tree_at now left) (tree_at now others) (tree_at now x) (tree_at now made) (tree_at later r) e T many last.2 is.is was)
+pub under_is : (i n j m : ℕ) (t : Tree) → j ≡ bound t → close_runs_at 0 i n j m t ≡ close_run_at m i n t
+under_is i n j m t h =
+    let none : 0 + m ≡ m = omega arith in
+    around_none 0 i n j m t (omega arith)
+    ∙ (ap (λ d. close_runs_at d i n j 0 t) none ∙ sym (close_runs_at-around m i i n j t))
 
-pub gathered_last : {now later : Contents} {others x : ℕ} (left : ℕ) → Extends now later → IsLast now left (others, x) → gathered (tree_at now left) ≡ suc (gathered (tree_at later others))
-gathered_last {others = others} left grows last = ap gathered last.2 ∙ ap (λ t. suc (gathered t)) (sym (grows.trees.same others last.0))
+-- the last domain stands innermost
+pis_last : (As : List Tree) (A T : Tree) → pis_over (As ++ A ∷ []) T ≡ pis_over As (pi A T)
+pis_last [] A T = refl
+pis_last (B ∷ As) A T = ap (pi B) (pis_last As A T)
 
--- the run is put over the type
-pub closing_within : {now : Contents} {j m left made count : ℕ} {e T : Tree} → left < length now.trees → made < length now.trees → m ≡ 0
-    → IsClosing j m (tree_at now left) (tree_at now made) e T → gathered (tree_at now left) + count ≡ gathered e + m → IsWithin now e T count (left, made)
-closing_within {now} {j} {m} {left} {made} {count} {e} {T} left_in made_in none closing fewer = record {
-  others_in = left_in;
-  type_in = made_in;
-  same = closing_end j m (tree_at now left) (tree_at now made) e T none closing;
-  fewer = omega (arith, fewer, none);
-}
+-- one Pi more
+pub pis_step : {began now later : Contents} → Extends began now → (left others : List ℕ) (A e r : ℕ) → left ≡ others ++ A ∷ []
+    → All (λ y. y < length began.trees) left → IsTree later r (pi (tree_at now A) (tree_at now e))
+    → pis_over (map (tree_at began) others) (tree_at later r) ≡ pis_over (map (tree_at began) left) (tree_at now e)
+pis_step {began} {now} {later} grows left others A e r is known made =
+    let P : ℕ → Type 0 = λ y. y < length began.trees in
+    let A_in : A < length began.trees = All-head P A [] (some_of_append P others (A ∷ []) (rw is at known)) in
+    let same = grows.trees.same A A_in in
+    ap (pis_over (map (tree_at began) others)) (made.is ∙ ap (λ t. pi t (tree_at now e)) same)
+    ∙ (sym (pis_last (map (tree_at began) others) (tree_at began A) (tree_at now e))
+    ∙ ap (λ l. pis_over l (tree_at now e)) (sym (ap (map (tree_at began)) is ∙ map-append (tree_at began) others (A ∷ []))))
+
+-- the type of lambdas, of what was gathered and closed
+pub type_is : {began now later : Contents} → Extends began now → (opened e locals ty closed r : ℕ) (domains numbers : List ℕ) → tree_at began opened ≡ app (tree_at began e) (tree_at began locals)
+    → AreGathered began e locals domains numbers → IsTree now closed (closed_with numbers (tree_at began ty))
+    → IsTree later r (pis_over (map (tree_at now) domains) (tree_at now closed)) → IsTree later r (lambdas_type (tree_at began opened) (tree_at began ty))
+type_is {began} {now} grows opened e locals ty closed r domains numbers parts h inside made =
+    let same : map (tree_at now) domains ≡ domains_of (tree_at began e) (tree_at began locals) = trees-steady began now domains grows h.known ∙ h.domains_are in
+    record {
+      known = made.known;
+      is = made.is ∙ (ap (λ As. pis_over As (tree_at now closed)) same
+          ∙ (ap (pis_over (domains_of (tree_at began e) (tree_at began locals)))
+          (inside.is ∙ ap (λ ks. closed_with ks (tree_at began ty)) h.numbers_are)
+          ∙ ap (λ x. lambdas_type x (tree_at began ty)) (sym parts)));
+    }

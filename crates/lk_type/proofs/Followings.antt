@@ -6,6 +6,7 @@ use Rattle.std.proofs.lemmas.List.{get_or_append_left, length-map, length-append
 use Rattle.std.proofs.Math.Seq.{get_or-append_seam}
 use Rattle.lk_tree.specs.Tree.{Tree, var, wide, local}
 use Rattle.lk_tree.specs.Bind.{bound, has_var}
+use Rattle.lk_tree.specs.Loose.{loose}
 use Rattle.lk_tree.specs.Putting.{put_at}
 use Rattle.lk_store.specs.Contents.{Contents, tree_at}
 use Rattle.lk_type.specs.declared.sheet.Binders.{Binders}
@@ -35,6 +36,10 @@ pub some_then : {A : Type 0} {P Q : A → Type 0} (o : Option A) → ((p : A) �
 some_then None f h = tt
 some_then (Some p) f h = f p h
 
+pub some_both : {A : Type 0} {P Q R : A → Type 0} (o : Option A) → ((p : A) → P p → Q p → R p) → IfSome o P → IfSome o Q → IfSome o R
+some_both None f h k = tt
+some_both (Some p) f h k = f p h k
+
 module _ {b : Binders} {now later : Contents} {inside domain body number x : ℕ} {locals after : List ℕ} (a : IsAdded b now later inside domain body number x locals after) where
   -- one of the Locals that were there
   same_local : (j : ℕ) → j < length locals → tree_at later (slice_index_or after j 0) ≡ tree_at now (slice_index_or locals j 0)
@@ -46,8 +51,8 @@ module _ {b : Binders} {now later : Contents} {inside domain body number x : ℕ
   pub following_next : (e : Tree) (count : ℕ) (marks : List ℕ) (all : Bool) (top : Option ℕ) (p : ℕ × ℕ) → AreMarks b e marks → (all ≡ true → AreAll b e marks)
       → count ≡ suc (length locals) → tree_at later body ≡ body_at b count e
       → IfSome top (λ j. (j < length locals) × (number ≤ bound (tree_at now (slice_index_or locals j 0))))
-      → Follows number count marks all top p → IsFollowing later after body p
-  following_next e count marks all top p h every many is was (last m n t) =
+      → Follows number count marks all top p → loose (tree_at later body) ≤ count → IsFollowing later after body p
+  following_next e count marks all top p h every many is was (last m n t) few =
       let place : suc (count - 1 + 0) ≡ count = omega arith in
       let mentioned = h (count - 1) 0 (omega (arith, m, many)) in
       let occurs : has_var 0 (tree_at later body) ≡ true = ap (has_var 0) (is ∙ ap (λ k. body_at b k e) (sym place)) ∙ mentioned in
@@ -60,8 +65,9 @@ module _ {b : Binders} {now later : Contents} {inside domain body number x : ℕ
         number = next_fits a p.0 (inr (inl (occurs, n)));
         among = omega (arith, more, many, t);
         reaches = subst (λ k. p.0 ≤ bound (tree_at later (slice_index_or after k 0))) (sym t) (omega (arith, n, reaches));
+        closed = omega (arith, few, more, many);
       }
-  following_next e count marks all top p h every many is was (before j whole none room at m n t) =
+  following_next e count marks all top p h every many is was (before j whole none room at m n t) few =
       let place : suc (count - 1) ≡ count = omega (arith, many) in
       let there : (j < length locals) × (number ≤ bound (tree_at now (slice_index_or locals j 0))) = rw at at was in
       let values = map (tree_at now) locals in
@@ -87,4 +93,5 @@ module _ {b : Binders} {now later : Contents} {inside domain body number x : ℕ
         among = (let l = there.0 in omega (arith, l, more, t));
         reaches = subst (λ k. p.0 ≤ bound (tree_at later (slice_index_or after k 0))) (sym t)
             (rw (same_local j there.0) (let r = there.1 in omega (arith, r, n)));
+        closed = omega (arith, few, more, many);
       }

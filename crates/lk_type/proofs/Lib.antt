@@ -4,6 +4,7 @@ pub mod Followings
 pub mod Looseness
 pub mod Marks
 pub mod Openings
+pub mod OwnDomains
 pub mod Sheets
 pub mod Telescopes
 pub mod Types

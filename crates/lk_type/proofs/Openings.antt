@@ -18,8 +18,8 @@ use Rattle.lk_subst.proofs.Unchanged.{open_at-closed}
 use Rattle.lk_type.specs.declared.sheet.Binders.{Binders}
 use Rattle.lk_type.specs.declared.sheet.Binders.TheVariants.{Pis, Lambdas}
 use Rattle.lk_type.specs.Sheets.{map_telescope}
-use Rattle.lk_type.specs.Telescopes.{bound_by, fresh, OpensTo, ahead, behind, started, asked_for}
-use Rattle.lk_type.specs.Openings.{IsBinder, IsNumberFor, AreClosed, IsOpened}
+use Rattle.lk_type.specs.Telescopes.{bound_by, fresh, OpensTo, ahead, started, asked_for}
+use Rattle.lk_type.specs.Openings.{IsBinder, IsNumberFor, IsClosedBy, AreClosed, IsOpened}
 
 length-last : (xs : List Tree) (x : Tree) → length (xs ++ x ∷ []) ≡ suc (length xs)
 length-last [] x = refl
@@ -376,8 +376,8 @@ module _ {b : Binders} {now later : Contents} {inside domain body number x : ℕ
       let e = next_is values b (tree_at now domain) (tree_at now body) (tree_at later x) n (none_loose now before a.closed) is_fresh there in
       rw (values_then, body_then) e
 
-  pub still_opened : {began : Contents} {outer : ℕ} {old : List ℕ} → IsOpened began now b outer old before (put values (tree_at now inside)) → IsOpened began later b outer old after (put (map (tree_at later) after) (tree_at later body))
-  still_opened {old = old} h =
+  pub still_opened : {began : Contents} {outer : ℕ} {old : List ℕ} → IsClosedBy began old outer → IsOpened began now b outer old before (put values (tree_at now inside)) → IsOpened began later b outer old after (put (map (tree_at later) after) (tree_at later body))
+  still_opened {old = old} few h =
       let more_in : All (λ y. y < length now.trees) h.more = some_of_append (λ y. y < length now.trees) old h.more (rw h.is at h.known) in
       let D = put values (tree_at now domain) in
       let C = put_at values 1 (tree_at now body) in
@@ -393,6 +393,7 @@ module _ {b : Binders} {now later : Contents} {inside domain body number x : ℕ
         is = a.pushed ∙ (ap (λ l. l ++ x ∷ []) h.is ∙ append_last old h.more x);
         known = closed_known later after still_closed;
         opens = rw (mapped, body_is) (opens_last b _ (map (tree_at now) h.more) D C opens);
+        closed = inr few;
       }
 
 -- what stands inside is made
@@ -406,6 +407,7 @@ opened_on {now = now} {later = later} {old = old} {new = new} inside x closed h 
       is = h.is;
       known = closed_known later new (closed_steady x new closed);
       opens = rw (trees-steady now later h.more x more_in, made.is) h.opens;
+      closed = h.closed;
     }
 
 pub opened_in : {began now later : Contents} {b : Binders} {outer : ℕ} {old new : List ℕ} (inside : ℕ) (r : Result ℕ NoMemory) → Extends now later → AreClosed now new
@@ -430,26 +432,16 @@ ahead_step {began} {now} {later} grows left others x e r is known made =
     ∙ (sym (ahead_last (map (tree_at began) others) (tree_at began x) (tree_at now e))
     ∙ ap (λ l. ahead l (tree_at now e)) (sym (ap (map (tree_at began)) is ∙ map-append (tree_at began) others (x ∷ []))))
 
--- one Local more behind
-pub behind_step : {began now later : Contents} → Extends began now → (left others : List ℕ) (x e r : ℕ) → left ≡ x ∷ others
-    → All (λ y. y < length began.trees) left → IsTree later r (app (tree_at now e) (tree_at now x))
-    → behind (tree_at later r) (map (tree_at began) others) ≡ behind (tree_at now e) (map (tree_at began) left)
-behind_step {began} {now} {later} grows left others x e r is known made =
-    let P : ℕ → Type 0 = λ y. y < length began.trees in
-    let x_in : x < length began.trees = All-head P x others (rw is at known) in
-    let same = grows.trees.same x x_in in
-    ap (λ t. behind t (map (tree_at began) others)) (made.is ∙ ap (app (tree_at now e)) same)
-    ∙ ap (λ l. behind (tree_at now e) (map (tree_at began) l)) (sym is)
-
 -- a telescope whose Locals were put together
-pub telescope_is : {began now later : Contents} → Extends began now → Extends now later → (b : Binders) (locals others : List ℕ) (first inside opened gathered count : ℕ)
-    → first < length began.trees → All (λ y. y < length began.trees) locals → count ≡ length others
-    → IsTree now opened (ahead (map (tree_at began) others) (tree_at began inside)) → IsTree later gathered (started b (tree_at now first) (map (tree_at now) locals))
+pub telescope_is : {began now later : Contents} → Extends began now → Extends now later → (b : Binders) (e : ℕ) (others : List ℕ) (first inside opened gathered count : ℕ)
+    → e < length began.trees → first < length began.trees → count ≡ length others
+    → IsTree now opened (ahead (map (tree_at began) others) (tree_at began inside)) → IsTree later gathered (started b (tree_at now e) (tree_at now first) (tree_at now opened))
     → map_telescope (tree_at later) (record { binders = b; count = count; opened = opened; gathered = gathered })
-    ≡ asked_for b (started b (tree_at began first) (map (tree_at began) locals)) (map (tree_at began) others) (tree_at began inside)
-telescope_is {began} {now} {later} x y b locals others first inside opened gathered count first_in locals_in counts is_opened is_gathered =
+    ≡ asked_for b (started b (tree_at began e) (tree_at began first) (ahead (map (tree_at began) others) (tree_at began inside))) (map (tree_at began) others) (tree_at began inside)
+telescope_is {began} {now} {later} x y b e others first inside opened gathered count e_in first_in counts is_opened is_gathered =
     let n : count ≡ length (map (tree_at began) others) = counts ∙ sym (length-map others (tree_at began)) in
     let o = y.trees.same opened is_opened.known ∙ is_opened.is in
-    let s = is_gathered.is ∙ (ap (λ t. started b t (map (tree_at now) locals)) (x.trees.same first first_in)
-    ∙ ap (started b (tree_at began first)) (trees-steady began now locals x locals_in)) in
+    let s = is_gathered.is ∙ (ap (λ t. started b t (tree_at now first) (tree_at now opened)) (x.trees.same e e_in)
+    ∙ (ap (λ t. started b (tree_at began e) t (tree_at now opened)) (x.trees.same first first_in)
+    ∙ ap (started b (tree_at began e) (tree_at began first)) is_opened.is)) in
     rw (n, o, s) refl

@@ -1,7 +1,8 @@
 -- Telescopes: that asking for one binder after the other runs as the row does.
-use Rattle.std.proofs.Common.{◌≡◌, ℕ, zero, suc, List, [], ◌∷◌, length, Option, Some, None, refl, ap, sym, ◌∙◌}
+use Rattle.std.proofs.Common.{◌≡◌, ℕ, zero, suc, ◌≤◌, ◌⊎◌, List, [], ◌∷◌, length, Option, Some, None, refl, ap, sym, ◌∙◌}
 use Rattle.lk_tree.specs.Tree.{Tree, Level, imax_level, var, sort, const, app, lam, pi, let_in, proj, lit, wide, str, local}
 use Rattle.lk_tree.specs.Bind.{opened, bound}
+use Rattle.lk_tree.specs.Loose.{loose}
 use Rattle.lk_tree.specs.declared.rule.Rule.{Rule}
 use Rattle.lk_rulebook.specs.Place.{Place, Entry}
 use Rattle.lk_plain.specs.Query.{Query, AnswerTo, core, whnf, infer, same}
@@ -13,7 +14,8 @@ use Rattle.lk_questions.specs.Steps.{as_sort}
 use Rattle.lk_questions.specs.Table.{steps}
 use Rattle.lk_type.specs.declared.sheet.Binders.{Binders}
 use Rattle.lk_type.specs.declared.sheet.Binders.TheVariants.{Pis, Lambdas}
-use Rattle.lk_type.specs.Telescopes.{bound_by, fresh, OpensTo, ahead, gather, started, asked_for, telescope_on, telescope_end, telescope_domain}
+use Rattle.lk_type.specs.Telescopes.{bound_by, fresh, OpensTo, ahead, gather, started, asked_for, pis_end, lambdas_type, telescope_on, telescope_domain}
+use Rattle.lk_type.proofs.OwnDomains.{one_by_one, own_type}
 
 -- what goes on with an outcome goes on with each part of it
 go_on_same : (o : Out) (k l : Value → ℕ → Out) → ((v : Value) (b : ℕ) → k v b ≡ l v b) → go_on o k ≡ go_on o l
@@ -100,16 +102,30 @@ module _ (w : Place) where
       ∙ go_on_same (out_of steps w q b) _ _ (answered_then q g k (λ v c. run_then None (g v) k c)))
   run_then t (look r c g) k b = found_then r t (w.means c) (w.origin c) (w.flaw c) g k b (λ u e. run_then u (g e) k b)
 
-  -- what is gathered, after a binder
-  abbrev with_binder : Binders → Tree → Level → Tree → Tree
+  -- what goes on with the type of a binder, inside others: for Pis their sorts, for lambdas their Locals are known
+  abbrev Around : Binders → Type 0
+  Around Pis = Tree
+  Around Lambdas = Tree → Tree
+
+  abbrev ends : (b : Binders) → Around b → Tree → Program Tree
+  ends Pis us T = pis_end us T
+  ends Lambdas k T = done (k T)
+
+  -- the same, after a binder
+  abbrev with_binder : (b : Binders) → Around b → Level → Tree → Around b
   with_binder Pis us u x = app us (sort u)
-  with_binder Lambdas us u x = app us x
+  with_binder Lambdas k u x = λ T. k (one_by_one (x ∷ []) T)
 
   -- the row of a binder, with what goes on
-  abbrev after_row : Binders → Tree → Tree → Tree → Program Tree
-  after_row b us A B =
+  abbrev after_row : (b : Binders) → Around b → Tree → Tree → Program Tree
+  after_row b k A B =
       ask (infer A) (λ T. ask (whnf T) (λ S. as_sort S >>= λ u. ask (infer (opened B (fresh b A B)))
-      (λ U. telescope_end b (with_binder b us u (fresh b A B)) U)))
+      (λ U. ends b (with_binder b k u (fresh b A B)) U)))
+
+  -- what is gathered leads to the same, after these Locals
+  abbrev Agrees : (b : Binders) → Around b → List Tree → Tree → Type 0
+  Agrees Pis us xs g = g ≡ us
+  Agrees Lambdas k xs g = (T : Tree) → k (one_by_one xs T) ≡ lambdas_type g T
 
   alike_on : {p q r : Program Tree} → Alike p q → Alike q r → Alike p r
   alike_on h k = record { runs = λ t b. h.runs t b ∙ k.runs t b }
@@ -129,56 +145,70 @@ module _ (w : Place) where
   sort_then (local n T) k l = itself _
 
   -- a binder's row, and then what goes on
-  row_then : (b : Binders) (us A B : Tree) → Alike (infer_steps (bound_by b A B) >>= telescope_end b us) (after_row b us A B)
+  row_then : (b : Binders) (k : Around b) (A B : Tree) → Alike (infer_steps (bound_by b A B) >>= ends b k) (after_row b k A B)
   row_then Pis us A B =
       ask_alike (infer A) _ _ (λ T. ask_alike (whnf T) _ _ (λ S.
-      alike_on (sort_then S _ (telescope_end Pis us)) (sort_alike S _ _ (λ u.
+      alike_on (sort_then S _ (ends Pis us)) (sort_alike S _ _ (λ u.
       ask_alike (infer (opened B (fresh Pis A B))) _ _ (λ U. ask_alike (whnf U) _ _ (λ V.
-      sort_then V (λ v. done (sort (imax_level u v))) (telescope_end Pis us)))))))
-  row_then Lambdas us A B =
-      ask_alike (infer A) _ _ (λ T. ask_alike (whnf T) _ _ (λ S. sort_then S _ (telescope_end Lambdas us)))
+      sort_then V (λ v. done (sort (imax_level u v))) (ends Pis us)))))))
+  row_then Lambdas k A B =
+      ask_alike (infer A) _ _ (λ T. ask_alike (whnf T) _ _ (λ S. sort_then S _ (ends Lambdas k)))
 
   -- a binder inside another one costs what its Local costs
-  inner_runs : (b : Binders) (us A B : Tree) (k : ℕ) (p : Tree → Program Tree) → Alike (after_row b us A B) (p A) → Alike (ask (infer (bound_by b A B)) (λ U. telescope_end b us U)) (ask (infer (local k A)) p)
-  inner_runs b us A B k p h = record { runs = inside_runs }
+  inner_runs : (b : Binders) (k : Around b) (A B : Tree) (n : ℕ) (p : Tree → Program Tree) → Alike (after_row b k A B) (p A) → Alike (ask (infer (bound_by b A B)) (λ U. ends b k U)) (ask (infer (local n A)) p)
+  inner_runs b k A B n p h = record { runs = inside_runs }
     where
-      inside_runs : (t : Option ℕ) (n : ℕ) → runs (erased w a_tree t (ask (infer (bound_by b A B)) (λ U. telescope_end b us U))) n ≡ runs (erased w a_tree t (ask (infer (local k A)) p)) n
-      inside_runs t zero = rw (out-zero steps w (infer (bound_by b A B)), out-zero steps w (infer (local k A))) refl
-      inside_runs t (suc n) =
-          ap (λ o. seen t (go_on o (behind_program (telescope_end b us)))) (out-suc steps w (infer (bound_by b A B)) n)
-          ∙ (ap (seen t) (run_then None (infer_steps (bound_by b A B)) (telescope_end b us) n ∙ ((row_then b us A B).runs None n ∙ (h.runs None n ∙ sym (seen_none _))))
-          ∙ sym (ap (λ o. seen t (go_on o (behind_program p))) (out-suc steps w (infer (local k A)) n)))
+      inside_runs : (t : Option ℕ) (m : ℕ) → runs (erased w a_tree t (ask (infer (bound_by b A B)) (λ U. ends b k U))) m ≡ runs (erased w a_tree t (ask (infer (local n A)) p)) m
+      inside_runs t zero = rw (out-zero steps w (infer (bound_by b A B)), out-zero steps w (infer (local n A))) refl
+      inside_runs t (suc m) =
+          ap (λ o. seen t (go_on o (behind_program (ends b k)))) (out-suc steps w (infer (bound_by b A B)) m)
+          ∙ (ap (seen t) (run_then None (infer_steps (bound_by b A B)) (ends b k) m ∙ ((row_then b k A B).runs None m ∙ (h.runs None m ∙ sym (seen_none _))))
+          ∙ sym (ap (λ o. seen t (go_on o (behind_program p))) (out-suc steps w (infer (local n A)) m)))
 
-  last_body : (b : Binders) (us A B r : Tree) (u : Level) → opened B (fresh b A B) ≡ r
-      → Alike (ask (infer (opened B (fresh b A B))) (λ U. telescope_end b (with_binder b us u (fresh b A B)) U)) (telescope_on b zero r (gather b (started b us (fresh b A B ∷ [])) (sort u)))
-  last_body Pis us A B r u e = rw e (itself _)
-  last_body Lambdas us A B r u e = rw e (itself _)
+  done_alike : (T U : Tree) → T ≡ U → Alike (done T) (done U)
+  done_alike T U e = rw e (itself (done U))
 
-  gathers : (b : Binders) (us x y : Tree) (ys : List Tree) (u : Level) → gather b (started b us (x ∷ y ∷ ys)) (sort u) ≡ started b (with_binder b us u x) (y ∷ ys)
-  gathers Pis us x y ys u = refl
-  gathers Lambdas us x y ys u = refl
+  last_body : (b : Binders) (k : Around b) (g A B r : Tree) (u : Level) → opened B (fresh b A B) ≡ r → Agrees b k (fresh b A B ∷ []) g
+      → Alike (ask (infer (opened B (fresh b A B))) (λ U. ends b (with_binder b k u (fresh b A B)) U)) (telescope_on b zero r (gather b g (sort u)))
+  last_body Pis us g A B r u e a = rw (e, a) (itself _)
+  last_body Lambdas k g A B r u e a = rw e (ask_alike (infer r) _ _ (λ T. done_alike _ _ (a T)))
 
-  next_binder : (b : Binders) (us A B x : Tree) (xs : List Tree) (r A' B' : Tree) (u : Level) → opened B (fresh b A B) ≡ bound_by b A' B' → x ≡ fresh b A' B'
-      → Alike (after_row b (with_binder b us u (fresh b A B)) A' B') (telescope_domain (asked_for b (started b (with_binder b us u (fresh b A B)) (fresh b A' B' ∷ xs)) xs r) A')
-      → Alike (ask (infer (opened B (fresh b A B))) (λ U. telescope_end b (with_binder b us u (fresh b A B)) U))
-      (telescope_on b (suc (length xs)) (app x (ahead xs r)) (gather b (started b us (fresh b A B ∷ x ∷ xs)) (sort u)))
-  next_binder b us A B x xs r A' B' u e f h =
-      rw (e, f, gathers b us (fresh b A B) (fresh b A' B') xs u) (inner_runs b (with_binder b us u (fresh b A B)) A' B' (bound (bound_by b A' B')) _ h)
+  agrees_on : (b : Binders) (k : Around b) (x y : Tree) (ys : List Tree) (g : Tree) (u : Level) → Agrees b k (x ∷ y ∷ ys) g → Agrees b (with_binder b k u x) (y ∷ ys) (gather b g (sort u))
+  agrees_on Pis us x y ys g u h = ap (λ t. app t (sort u)) h
+  agrees_on Lambdas k x y ys g u h = h
 
-  telescope_runs : (b : Binders) (us A B : Tree) (xs : List Tree) (r : Tree) → OpensTo b (opened B (fresh b A B)) xs r
-      → Alike (after_row b us A B) (telescope_domain (asked_for b (started b us (fresh b A B ∷ xs)) xs r) A)
-  telescope_runs b us A B [] r h =
-      ask_alike (infer A) _ _ (λ T. ask_alike (whnf T) _ _ (λ S. sort_alike S _ _ (λ u. last_body b us A B r u h)))
-  telescope_runs b us A B (x ∷ xs) r (A', B', e, f, h) =
+  next_binder : (b : Binders) (k : Around b) (g A B x : Tree) (xs : List Tree) (r A' B' : Tree) (u : Level) → opened B (fresh b A B) ≡ bound_by b A' B' → x ≡ fresh b A' B'
+      → Alike (after_row b (with_binder b k u (fresh b A B)) A' B') (telescope_domain (asked_for b (gather b g (sort u)) xs r) A')
+      → Alike (ask (infer (opened B (fresh b A B))) (λ U. ends b (with_binder b k u (fresh b A B)) U))
+      (telescope_on b (suc (length xs)) (app x (ahead xs r)) (gather b g (sort u)))
+  next_binder b k g A B x xs r A' B' u e f h =
+      rw (e, f) (inner_runs b (with_binder b k u (fresh b A B)) A' B' (bound (bound_by b A' B')) _ h)
+
+  telescope_runs : (b : Binders) (k : Around b) (g A B : Tree) (xs : List Tree) (r : Tree) → OpensTo b (opened B (fresh b A B)) xs r → Agrees b k (fresh b A B ∷ xs) g
+      → Alike (after_row b k A B) (telescope_domain (asked_for b g xs r) A)
+  telescope_runs b k g A B [] r h a =
+      ask_alike (infer A) _ _ (λ T. ask_alike (whnf T) _ _ (λ S. sort_alike S _ _ (λ u. last_body b k g A B r u h a)))
+  telescope_runs b k g A B (x ∷ xs) r (A', B', e, f, h) a =
       ask_alike (infer A) _ _ (λ T. ask_alike (whnf T) _ _ (λ S. sort_alike S _ _ (λ u.
-      next_binder b us A B x xs r A' B' u e f
-      (telescope_runs b (with_binder b us u (fresh b A B)) A' B' xs r (rw f at h)))))
+      next_binder b k g A B x xs r A' B' u e f
+      (telescope_runs b (with_binder b k u (fresh b A B)) (gather b g (sort u)) A' B' xs r (rw f at h)
+      (rw f at (agrees_on b k (fresh b A B) x xs g u a))))))
 
-  first_row : (b : Binders) (A B : Tree) → Alike (infer_steps (bound_by b A B)) (after_row b (fresh b A B) A B)
+  -- around the first binder there is none
+  abbrev nothing : (b : Binders) → Tree → Around b
+  nothing Pis x = x
+  nothing Lambdas x = λ T. T
+
+  first_row : (b : Binders) (A B : Tree) → Alike (infer_steps (bound_by b A B)) (after_row b (nothing b (fresh b A B)) A B)
   first_row Pis A B = itself _
   first_row Lambdas A B = itself _
 
+  first_agrees : (b : Binders) (A B : Tree) (xs : List Tree) (r : Tree) → (xs ≡ []) ⊎ (loose B ≤ 1) → OpensTo b (opened B (fresh b A B)) xs r
+      → Agrees b (nothing b (fresh b A B)) (fresh b A B ∷ xs) (started b (bound_by b A B) (fresh b A B) (ahead xs r))
+  first_agrees Pis A B xs r c h = refl
+  first_agrees Lambdas A B xs r c h = λ T. own_type A B xs r T c h
+
   -- the telescope runs as the row of its first binder does
-  pub runs_as_row : (b : Binders) (A B : Tree) (xs : List Tree) (r : Tree) → OpensTo b (opened B (fresh b A B)) xs r
-      → Alike (infer_steps (bound_by b A B)) (telescope_domain (asked_for b (started b (fresh b A B) (fresh b A B ∷ xs)) xs r) A)
-  runs_as_row b A B xs r h = alike_on (first_row b A B) (telescope_runs b (fresh b A B) A B xs r h)
+  pub runs_as_row : (b : Binders) (A B : Tree) (xs : List Tree) (r : Tree) → (xs ≡ []) ⊎ (loose B ≤ 1) → OpensTo b (opened B (fresh b A B)) xs r
+      → Alike (infer_steps (bound_by b A B)) (telescope_domain (asked_for b (started b (bound_by b A B) (fresh b A B) (ahead xs r)) xs r) A)
+  runs_as_row b A B xs r c h = alike_on (first_row b A B) (telescope_runs b (nothing b (fresh b A B)) _ A B xs r h (first_agrees b A B xs r c h))

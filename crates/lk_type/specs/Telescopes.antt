@@ -1,7 +1,7 @@
 -- Telescopes: binders that are opened one inside the other, and then asked for one after the other.
 use Rattle.std.specs.Prelude.{◌≡◌, ℕ, zero, suc, List, [], ◌∷◌, length}
 use Rattle.lk_tree.specs.Tree.{Tree, Level, zero_level, imax_level, sort, app, lam, pi, local}
-use Rattle.lk_tree.specs.Bind.{opened, close, bound}
+use Rattle.lk_tree.specs.Bind.{opened, close_at, bound}
 use Rattle.lk_tree.specs.declared.rule.Rule.TheVariants.{NotASort}
 use Rattle.lk_plain.specs.Query.{whnf, infer}
 use Rattle.lk_plain.specs.Program.{Program, done, refuse, ask, ◌>>=◌}
@@ -15,14 +15,10 @@ abbrev pub level_in : Tree → Level
 level_in (sort l) = l
 level_in _ = zero_level
 
--- the number and the type of a Local
+-- the number of a Local
 abbrev pub number_in : Tree → ℕ
 number_in (local k T) = k
 number_in _ = zero
-
-abbrev pub type_in : Tree → Tree
-type_in (local k T) = T
-type_in e = e
 
 abbrev pub bound_by : Binders → Tree → Tree → Tree
 bound_by Pis A b = pi A b
@@ -43,11 +39,6 @@ abbrev pub ahead : List Tree → Tree → Tree
 ahead [] r = r
 ahead (x ∷ xs) r = app x (ahead xs r)
 
--- s applied to each of the Locals
-abbrev pub behind : Tree → List Tree → Tree
-behind s [] = s
-behind s (x ∷ xs) = behind (app s x) xs
-
 -- Pis, after the type T of what stands inside: the sorts of their domains, the innermost one last
 abbrev pub pis_end : Tree → Tree → Program Tree
 pis_end (app us s) T =
@@ -58,20 +49,42 @@ pis_end _ T = done T
 abbrev pub pis_sorted : Tree → Tree → Tree → Program Tree
 pis_sorted us s S = as_sort S >>= λ v. pis_end us (sort (imax_level (level_in s) v))
 
--- the type of lambdas, after the type T of what stands inside: their Locals, the innermost one last
+-- the domains of the lambdas that were opened, the outermost first: e is the lambda, and f the Locals,
+-- each applied to what follows it
+abbrev pub domains_of : Tree → Tree → List Tree
+domains_of (lam A e) (app x f) = A ∷ domains_of e f
+domains_of _ _ = []
+
+-- the numbers of their Locals
+abbrev pub numbers_of : Tree → Tree → List ℕ
+numbers_of (lam A e) (app x f) = number_in x ∷ numbers_of e f
+numbers_of _ _ = []
+
+-- a type, closed with the Locals of these numbers, from the innermost on, which is the last
+abbrev pub closed_with : List ℕ → Tree → Tree
+closed_with [] T = T
+closed_with (k ∷ ks) T = close_at (length ks) k (closed_with ks T)
+
+-- Pis over these domains
+abbrev pub pis_over : List Tree → Tree → Tree
+pis_over [] T = T
+pis_over (A ∷ As) T = pi A (pis_over As T)
+
+-- the type of a lambda that was opened with those inside it, after the type T of what stands inside:
+-- the lambda is applied to its Locals
 abbrev pub lambdas_type : Tree → Tree → Tree
-lambdas_type (app xs x) T = lambdas_type xs (pi (type_in x) (close (number_in x) T))
+lambdas_type (app e f) T = pis_over (domains_of e f) (closed_with (numbers_of e f) T)
 lambdas_type _ T = T
 
 -- a telescope, after the type of its innermost body
 abbrev pub telescope_end : Binders → Tree → Tree → Program Tree
 telescope_end Pis us T = pis_end us T
-telescope_end Lambdas xs T = done (lambdas_type xs T)
+telescope_end Lambdas e T = done (lambdas_type e T)
 
 -- what is gathered, after a domain's sort
 abbrev pub gather : Binders → Tree → Tree → Tree
 gather Pis us s = app us s
-gather Lambdas xs s = xs
+gather Lambdas e s = e
 
 -- what is left, with so many Locals: to ask for the type of a Local costs what to ask for the type of
 -- the binder costs that is opened with it
@@ -91,10 +104,10 @@ telescope_sorted s S =
 abbrev pub telescope_domain : Telescope Tree → Tree → Program Tree
 telescope_domain s A = ask (infer A) (λ T. ask (whnf T) (λ S. telescope_sorted s S))
 
--- what is gathered at first
-abbrev pub started : Binders → Tree → List Tree → Tree
-started Pis us xs = us
-started Lambdas us xs = behind us xs
+-- what is gathered at first: e is the outermost binder, x its Local, and f the others
+abbrev pub started : Binders → Tree → Tree → Tree → Tree
+started Pis e x f = x
+started Lambdas e x f = app e (app x f)
 
 -- what is left of a telescope, after the first domain: r stands inside the Locals
 abbrev pub asked_for : Binders → Tree → List Tree → Tree → Telescope Tree

@@ -1,7 +1,8 @@
 //! Binders, which are Pis or lambdas.
 
-ghost use Rattle.std.specs.Prelude.{◌<◌, length, IfSome};
-ghost use Rattle.lk_type.specs.Openings.{IsBinder};
+ghost use Rattle.std.specs.Prelude.{◌<◌, length, MatchOption};
+ghost use Rattle.lk_store.specs.Contents.{tree_at};
+ghost use Rattle.lk_type.specs.Openings.{IsBinder, IsNoBinder};
 
 use crate::sheet::Binders;
 use lk_ask::looks::Looks;
@@ -11,7 +12,8 @@ use lk_store::node::Node;
 #[inline(always)]
 pub(crate) fn parts_of<L: Looks>(looks: &L, binders: Binders, e: u64) -> Option<(u64, u64)>
     requires { e < length (L.contents looks.now).trees }
-    ensures { IfSome result (IsBinder (L.contents looks.now) binders e) }
+    ensures { MatchOption result (IsNoBinder binders (tree_at (L.contents looks.now) e))
+        (IsBinder (L.contents looks.now) binders e) }
 {
     match binders {
         Binders::Pis => match looks.view(e) {

@@ -1,127 +1,140 @@
-//! The type of lambdas that were opened at once: Pis over the type of what stands inside them. The
-//! Locals whose numbers go up by one are closed together, so that each part is walked once for them.
+//! The type of lambdas that were opened at once: Pis over their own domains, over the type of what
+//! stands inside. That is closed with the Locals whose numbers go up by one together, so that it is
+//! walked once for them.
 
-ghost use Rattle.std.specs.Prelude.{◌≡◌, ◌<◌, length, MatchOption};
-ghost use Rattle.lk_tree.specs.Tree.{Tree, app, pi};
+ghost use Rattle.std.specs.Prelude.{◌≡◌, ◌<◌, [], length, map, All, IfOk, MatchOption};
 ghost use Rattle.lk_store.specs.Contents.{tree_at};
 ghost use Rattle.lk_subst.specs.Runs.{close_run_at};
 ghost use Rattle.lk_ask.specs.Looks.{MakesTree};
-ghost use Rattle.lk_type.specs.Telescopes.{number_in, type_in, lambdas_type};
-ghost use Rattle.lk_type.specs.Lambdas.{IsNone, IsLast, EndsIn, PutsOver};
+ghost use Rattle.lk_type.specs.Telescopes.{number_in, closed_with, pis_over, lambdas_type};
+ghost use Rattle.lk_type.specs.Lambdas.{AreGathered, EndsIn};
 
+use crate::binding::parts_of;
+use crate::sheet::Binders;
 use lk_ask::looks::Looks;
 use lk_store::memory::NoMemory;
 use lk_store::node::Node;
-use lk_subst::runs::{Run, close_run};
+use lk_subst::runs::{Run, Runs, close_runs};
 
-/// The number and the type of a Local.
-fn parts_of<L: Looks>(looks: &L, x: u64) -> (u64, u64)
+/// The number of a Local.
+fn number_of<L: Looks>(looks: &L, x: u64) -> u64
     requires { x < length (L.contents looks.now).trees }
-    ensures number { result.0 ≡ number_in (tree_at (L.contents looks.now) x) }
-    ensures known { result.1 < length (L.contents looks.now).trees }
-    ensures ty { tree_at (L.contents looks.now) result.1
-        ≡ type_in (tree_at (L.contents looks.now) x) }
+    ensures { result ≡ number_in (tree_at (L.contents looks.now) x) }
 {
     match looks.view(x) {
-        Node::Local(number, ty) => (number, ty),
-        _ => (0, x),
+        Node::Local(number, _) => number,
+        _ => 0,
     }
 }
 
-/// The last of the Locals, behind the others.
-fn last_of<L: Looks>(looks: &L, locals: u64) -> Option<(u64, u64)>
-    requires { locals < length (L.contents looks.now).trees }
-    ensures { MatchOption result (IsNone (tree_at (L.contents looks.now) locals))
-        (IsLast (L.contents looks.now) locals) }
+/// The domains of the lambdas that were opened, and the numbers of their Locals, the outermost first.
+/// A lambda that stands inside them is no application, so it is not taken for one of them.
+fn gathered<L: Looks>(looks: &L, e: u64, locals: u64) -> Result<(Vec<u64>, Vec<u64>), NoMemory>
+    requires e_in { e < length (L.contents looks.now).trees }
+    requires locals_in { locals < length (L.contents looks.now).trees }
+    ensures { IfOk result
+        (λ p. AreGathered (L.contents looks.now) e locals p.0.items p.1.items) }
 {
-    match looks.view(locals) {
-        Node::App(others, x) => Some((others, x)),
-        _ => None,
-    }
-}
-
-/// The run that ends with a Local of this number, where these stand before it.
-fn run_before<L: Looks>(looks: &L, others: u64, number: u64) -> Run
-    requires { others < length (L.contents looks.now).trees }
-    ensures some { 0 < result.count }
-    ensures runs { (e x : Tree) → e ≡ app (tree_at (L.contents looks.now) others) x
-        → number_in x ≡ number → EndsIn result.first result.count e }
-{
-    let mut left = others;
-    let mut first = number;
-    let mut count: u64 = 1;
-    'locals: while let Some((others, x)) = last_of(looks, left) {
-        let before = parts_of(looks, x).0;
-        if before >= first || first - before != 1 || count == u64::MAX {
-            return Run { first, count };
+    let mut domains = Vec::new(looks.alloc());
+    let mut numbers = Vec::new(looks.alloc());
+    let mut inside = e;
+    let mut left = locals;
+    'lambdas: while let Some((domain, body)) = parts_of(looks, Binders::Lambdas, inside) {
+        match looks.view(left) {
+            Node::App(x, others) => {
+                domains.push(domain)?;
+                numbers.push(number_of(looks, x))?;
+                inside = body;
+                left = others;
+            }
+            _ => return Ok((domains, numbers)),
         }
-        left = others;
+    }
+    Ok((domains, numbers))
+}
+
+/// The run of numbers at the end, as long as it is, and the numbers before it.
+fn last_run(numbers: &[u64]) -> Option<(Run, &[u64])>
+    ensures { MatchOption result (numbers.now ≡ [])
+        (λ p. EndsIn numbers.now p.0 p.1.now) }
+{
+    let (number, before) = numbers.split_last()?;
+    let mut first = *number;
+    let mut count: u64 = 1;
+    let mut left = before;
+    'numbers: while let Some((number, others)) = left.split_last() {
+        let before = *number;
+        if before >= first || first - before != 1 || count == u64::MAX {
+            return Some((Run { first, count }, left));
+        }
         first = before;
         count += 1;
-    }
-    Run { first, count }
-}
-
-/// The Locals at the end whose numbers go up by one, as many as there are.
-fn last_run<L: Looks>(looks: &L, locals: u64) -> Option<Run>
-    requires { locals < length (L.contents looks.now).trees }
-    ensures { MatchOption result (IsNone (tree_at (L.contents looks.now) locals))
-        (λ run. (0 < run.count)
-        × EndsIn run.first run.count (tree_at (L.contents looks.now) locals)) }
-{
-    let (others, x) = last_of(looks, locals)?;
-    let number = parts_of(looks, x).0;
-    Some(run_before(looks, others, number))
-}
-
-/// A Pi for a Local, whose type is closed by those of the run, over a body.
-fn over_local<L: Looks>(looks: &mut L, run: Run, x: u64, body: u64) -> Result<u64, NoMemory>
-    requires x_in { x < length (L.contents looks.old).trees }
-    requires body_in { body < length (L.contents looks.old).trees }
-    ensures { MakesTree L.contents L.rest looks.old looks.new result
-        (λ t. pi (close_run_at 0 run.first run.count (type_in (t x))) (t body)) }
-{
-    let ty = parts_of(looks, x).1;
-    let domain = close_run(looks.alloc(), looks, run, ty)?;
-    looks.make(Node::Pi(domain, body))
-}
-
-/// The Pis for the Locals of the run at the end, over a type, with the Locals before them.
-fn over_run<L: Looks>(looks: &mut L, run: Run, locals: u64, ty: u64) -> Result<(u64, u64), NoMemory>
-    requires locals_in { locals < length (L.contents looks.old).trees }
-    requires ty_in { ty < length (L.contents looks.old).trees }
-    requires ends { EndsIn run.first run.count (tree_at (L.contents looks.old) locals) }
-    ensures { PutsOver L.contents L.rest looks.old looks.new result
-        (tree_at (L.contents looks.old) locals) (tree_at (L.contents looks.old) ty) run.count }
-{
-    let first = run.first;
-    let mut count = run.count;
-    let mut left = locals;
-    let mut made = close_run(looks.alloc(), looks, run, ty)?;
-    'locals: while let Some((others, x)) = last_of(looks, left) {
-        if count == 0 {
-            return Ok((left, made));
-        }
-        count -= 1;
-        made = over_local(looks, Run { first, count }, x, made)?;
         left = others;
     }
-    Ok((left, made))
+    Some((Run { first, count }, left))
 }
 
-/// The type of lambdas with these Locals, after the type of what stands inside.
-pub(crate) fn lambdas_type<L: Looks>(looks: &mut L, locals: u64, ty: u64) -> Result<u64, NoMemory>
-    requires locals_in { locals < length (L.contents looks.old).trees }
-    requires ty_in { ty < length (L.contents looks.old).trees }
+/// A type, closed with the Locals of a run under so many binders.
+fn close_under<L: Looks>(looks: &mut L, outer: Run, count: u64, ty: u64) -> Result<u64, NoMemory>
+    requires { ty < length (L.contents looks.old).trees }
     ensures { MakesTree L.contents L.rest looks.old looks.new result
-        (λ t. lambdas_type (t locals) (t ty)) }
+        (λ t. close_run_at count outer.first outer.count (t ty)) }
 {
-    let mut left = locals;
+    // The type has no Local of an inner run that begins there, which so moves the variables alone.
+    // No Local in memory has so great a number that this fails.
+    let Ok(first) = u64::try_from(looks.local_bound(ty)) else {
+        return Err(NoMemory);
+    };
+    let inner = Run { first, count };
+    close_runs(looks.alloc(), looks, Runs { outer, inner }, ty)
+}
+
+/// A type, closed with the Locals of these numbers, from the innermost on.
+fn close_all<L: Looks>(looks: &mut L, numbers: &[u64], ty: u64) -> Result<u64, NoMemory>
+    requires { ty < length (L.contents looks.old).trees }
+    ensures { MakesTree L.contents L.rest looks.old looks.new result
+        (λ t. closed_with numbers.now (t ty)) }
+{
+    let mut left = numbers;
     let mut made = ty;
-    'locals: while let Some(run) = last_run(looks, left) {
-        let over = over_run(looks, run, left, made)?;
-        left = over.0;
-        made = over.1;
+    'runs: while let Some((run, others)) = last_run(left) {
+        let count = (numbers.len() - left.len()) as u64;
+        made = close_under(looks, run, count, made)?;
+        left = others;
     }
     Ok(made)
+}
+
+/// Pis over these domains.
+fn pis<L: Looks>(looks: &mut L, domains: &[u64], ty: u64) -> Result<u64, NoMemory>
+    requires domains_in { All (λ x. x < length (L.contents looks.old).trees) domains.now }
+    requires ty_in { ty < length (L.contents looks.old).trees }
+    ensures { MakesTree L.contents L.rest looks.old looks.new result
+        (λ t. pis_over (map t domains.now) (t ty)) }
+{
+    let mut left = domains;
+    let mut made = ty;
+    'domains: while let Some((domain, others)) = left.split_last() {
+        made = looks.make(Node::Pi(*domain, made))?;
+        left = others;
+    }
+    Ok(made)
+}
+
+/// The type of a lambda that was opened with those inside it, after the type of what stands inside:
+/// the lambda is applied to its Locals.
+pub(crate) fn lambdas_type<L: Looks>(looks: &mut L, opened: u64, ty: u64) -> Result<u64, NoMemory>
+    requires opened_in { opened < length (L.contents looks.old).trees }
+    requires ty_in { ty < length (L.contents looks.old).trees }
+    ensures { MakesTree L.contents L.rest looks.old looks.new result
+        (λ t. lambdas_type (t opened) (t ty)) }
+{
+    match looks.view(opened) {
+        Node::App(e, locals) => {
+            let (domains, numbers) = gathered(looks, e, locals)?;
+            let closed = close_all(looks, &numbers, ty)?;
+            pis(looks, &domains, closed)
+        }
+        _ => Ok(ty),
+    }
 }

@@ -1,14 +1,15 @@
 //! Telescopes whose binders are opened at once, each domain and the innermost body with the Locals
 //! of the binders around it.
 
-ghost use Rattle.std.specs.Prelude.{◌≡◌, ◌≢◌, ◌<◌, ◌∷◌, ◌++◌, [], true, Ok, length, map, All, IfOk, IfSome};
+ghost use Rattle.std.specs.Prelude.{◌≡◌, ◌≢◌, ◌<◌, ◌≤◌, ◌∷◌, ◌++◌, [], true, Ok, length, map, All, IfOk, IfSome};
 ghost use Rattle.lk_tree.specs.Tree.{local};
+ghost use Rattle.lk_tree.specs.Loose.{loose};
 ghost use Rattle.lk_tree.specs.Putting.{put as put_values};
 ghost use Rattle.lk_questions.specs.Infer.{infer_steps};
 ghost use Rattle.lk_store.specs.Contents.{tree_at, Extends};
 ghost use Rattle.lk_ask.specs.Looks.{MakesTree};
 ghost use Rattle.lk_type.specs.Sheets.{map_telescope, IsKnownTelescope};
-ghost use Rattle.lk_type.specs.Telescopes.{ahead, behind, started, asked_for, telescope_domain};
+ghost use Rattle.lk_type.specs.Telescopes.{ahead, started, asked_for, telescope_domain};
 ghost use Rattle.lk_type.specs.Openings.{IsBinder, IsFollowing, AreClosed, OpensAll, IsAskedFor, RunsAs};
 ghost use Rattle.lk_type.specs.Marks.{body_at, AreMarks, AreAll, Follows};
 ghost use Rattle.lk_type.specs.Types.{Infers};
@@ -41,10 +42,14 @@ fn next_number<L: Looks>(
 ) -> Option<(u64, u64)>
     requires body_in { body < length (L.contents looks.now).trees }
     requires some { 0 < count }
-    ensures { IfSome result (Follows number count marks.now all top) }
+    ensures follows { IfSome result (Follows number count marks.now all top) }
+    ensures closed { IfSome result
+        (λ p. loose (tree_at (L.contents looks.now) body) ≤ count) }
 {
-    // A closed body is opened for nothing, and its type, as a question of its own, is kept.
-    if looks.loose_bound(body) == 0 {
+    // A closed body is opened for nothing, and its type, as a question of its own, is kept. The
+    // domains of a term with loose variables, which no check asks for, are not those of its type.
+    let loose = looks.loose_bound(body);
+    if loose == 0 || loose > u128::from(count) {
         return None;
     }
     let mark = mark_of(marks, count - 1);
@@ -139,69 +144,28 @@ fn all_ahead<L: Looks>(looks: &mut L, locals: &[u64], e: u64) -> Result<u64, NoM
     Ok(made)
 }
 
-/// A term applied to each of the Locals.
-fn all_behind<L: Looks>(looks: &mut L, e: u64, locals: &[u64]) -> Result<u64, NoMemory>
-    requires e_in { e < length (L.contents looks.old).trees }
-    requires locals_in { All (λ x. x < length (L.contents looks.old).trees) locals.now }
-    ensures { MakesTree L.contents L.rest looks.old looks.new result
-        (λ t. behind (t e) (map t locals.now)) }
-{
-    let mut left = locals;
-    let mut made = e;
-    'locals: while let Some((x, others)) = left.split_first() {
-        made = looks.make(Node::App(made, *x))?;
-        left = others;
-    }
-    Ok(made)
-}
-
-/// What is gathered at first.
+/// What is gathered at first, where this is the outermost binder and its Local, and the others are
+/// applied to what follows them.
 fn gathered_first<L: Looks>(
     looks: &mut L,
     binders: Binders,
+    e: u64,
     first: u64,
-    locals: &[u64],
+    opened: u64,
 ) -> Result<u64, NoMemory>
+    requires e_in { e < length (L.contents looks.old).trees }
     requires first_in { first < length (L.contents looks.old).trees }
-    requires locals_in { All (λ x. x < length (L.contents looks.old).trees) locals.now }
+    requires opened_in { opened < length (L.contents looks.old).trees }
     ensures { MakesTree L.contents L.rest looks.old looks.new result
-        (λ t. started binders (t first) (map t locals.now)) }
+        (λ t. started binders (t e) (t first) (t opened)) }
 {
     match binders {
         Binders::Pis => Ok(first),
-        Binders::Lambdas => all_behind(looks, first, locals),
+        Binders::Lambdas => {
+            let locals = looks.make(Node::App(first, opened))?;
+            looks.make(Node::App(e, locals))
+        }
     }
-}
-
-/// The telescope after its first domain, where these are its Locals, and this stands inside them.
-fn telescope_of<L: Looks>(
-    looks: &mut L,
-    binders: Binders,
-    locals: &[u64],
-    first: u64,
-    others: &[u64],
-    inside: u64,
-) -> Result<Telescope<u64>, NoMemory>
-    requires locals_in { All (λ x. x < length (L.contents looks.old).trees) locals.now }
-    requires first_in { first < length (L.contents looks.old).trees }
-    requires others_in { All (λ x. x < length (L.contents looks.old).trees) others.now }
-    requires inside_in { inside < length (L.contents looks.old).trees }
-    ensures keeps { Extends (L.contents looks.old) (L.contents looks.new) }
-    ensures rest { L.rest looks.new ≡ L.rest looks.old }
-    ensures known { IfOk result (IsKnownTelescope (length (L.contents looks.new).trees)) }
-    ensures is { let t = tree_at (L.contents looks.old) in
-        IfOk result (λ s. map_telescope (tree_at (L.contents looks.new)) s
-        ≡ asked_for binders (started binders (t first) (map t locals.now)) (map t others.now)
-        (t inside)) }
-{
-    let opened = all_ahead(looks, others, inside)?;
-    let gathered = gathered_first(looks, binders, first, locals)?;
-    Ok(Telescope {
-        binders,
-        count: others.len() as u64,
-        opened,
-        gathered,
-    })
 }
 
 /// Asks for the first domain of a telescope.
@@ -222,21 +186,30 @@ fn ask_domain<L: Looks>(looks: &L, domain: u64, telescope: Telescope<u64>) -> Ty
 fn first_domain<L: Looks>(
     looks: &mut L,
     binders: Binders,
+    e: u64,
     domain: u64,
     locals: &[u64],
     inside: u64,
 ) -> Result<TypeNext, NoMemory>
+    requires e_in { e < length (L.contents looks.old).trees }
     requires domain_in { domain < length (L.contents looks.old).trees }
     requires locals_in { All (λ x. x < length (L.contents looks.old).trees) locals.now }
     requires inside_in { inside < length (L.contents looks.old).trees }
     requires some { locals.now ≢ [] }
-    ensures { IsAskedFor L.contents L.rest L.sight looks.old looks.new result binders domain
+    ensures { IsAskedFor L.contents L.rest L.sight looks.old looks.new result binders e domain
         locals.now inside }
 {
     match locals.split_first() {
         None => unreachable!(),
         Some((first, others)) => {
-            let telescope = telescope_of(looks, binders, locals, *first, others, inside)?;
+            let opened = all_ahead(looks, others, inside)?;
+            let gathered = gathered_first(looks, binders, e, *first, opened)?;
+            let telescope = Telescope {
+                binders,
+                count: others.len() as u64,
+                opened,
+                gathered,
+            };
             Ok(ask_domain(looks, domain, telescope))
         }
     }
@@ -267,7 +240,7 @@ pub fn begin_binders<L: Looks>(
     let all = marks_of(looks, binders, e, &mut marks)?;
     let next = next_number(looks, body, number, 1, &marks, all, None);
     let inside = open_binders(looks, binders, e, body, next, &marks, all, &mut locals)?;
-    first_domain(looks, binders, domain, &locals, inside)
+    first_domain(looks, binders, e, domain, &locals, inside)
 }
 
 /// Whether so many binders follow, each in a body that is not closed.

@@ -15,7 +15,8 @@ pub struct Telescope<X: Drop> {
     pub count: u64,
     /// Those Locals, each applied to what follows it; the last is applied to the innermost body.
     pub opened: X,
-    /// Applied one after the other: the sorts of the domains of Pis so far, or the Locals of all lambdas.
+    /// The sorts of the domains of Pis so far, applied one after the other; or the outermost lambda,
+    /// applied to all Locals, each of which is applied to what follows it.
     pub gathered: X,
 }
 

@@ -2,8 +2,8 @@ use Rattle.std.proofs.Common.{rules, ◌≡◌, ◌≤◌, ◌-◌, true, length
 use Rattle.lk_type.specs.Marks.{before}
 use Rattle.lk_type.proofs.opening.next_number.Goals as goal
 
-pub returns-then-mark_of-count : goal.returns-then-mark_of-count
-returns-then-mark_of-count g c =
+pub returns-then-mark_of-count-clause-follows : goal.returns-then-mark_of-count-clause-follows
+returns-then-mark_of-count-clause-follows g c =
     let j = c.in-Some.j in
     let marks = c.args.marks.now in
     let all : c.args.all ≡ true = search rules in

@@ -2,11 +2,11 @@ use Rattle.std.proofs.Common.{rules, ◌≡◌, ◌+◌, ◌∷◌, [], suc, len
 use Rattle.std.proofs.lemmas.List.{length-append}
 use Rattle.lk_store.specs.Contents.{tree_at}
 use Rattle.lk_store.proofs.Extending.{Extends-trans}
-use Rattle.lk_type.specs.Openings.{IsBinder, IsFollowing}
+use Rattle.lk_type.specs.Openings.{IsBinder, IsFollowing, IsClosedBy}
 use Rattle.lk_type.specs.Marks.{body_at}
 use Rattle.lk_type.proofs.Openings.{IsAdded, still_closed, still_opened, opened_in}
 use Rattle.lk_type.proofs.Marks.{body_on}
-use Rattle.lk_type.proofs.Followings.{some_then, following_next}
+use Rattle.lk_type.proofs.Followings.{some_then, some_both, following_next}
 use Rattle.lk_type.proofs.opening.open_binders.Goals as goal
 
 pub returns-in-None : goal.returns-in-None
@@ -27,6 +27,7 @@ binders-preserved g c =
     (c.in-Some-parts_of.domain, c.in-Some-parts_of.body) = search rules in
     let count : c.in_ok-count-in-Some-parts_of.count ≡ suc c.binders.count = search rules in
     let here : IsFollowing (contents c.binders.looks) c.binders.locals.items c.binders.inside (c.in-Some.number, c.in-Some.top) = rw c.in-Some.is at inv.following in
+    let few : IsClosedBy (contents c.args.looks.now) c.args.locals.now.items c.args.body = rw c.in-Some.is at inv.few in
     let added : IsAdded c.args.binders (contents c.binders.looks) (contents c.add_local.new.looks) c.binders.inside
     c.in-Some-parts_of.domain c.in-Some-parts_of.body c.in-Some.number c.in_ok-add_local-in-Some-parts_of.field-0
     c.binders.locals.items c.add_local.new.locals.items = record {
@@ -48,9 +49,10 @@ binders-preserved g c =
       at = at;
       closed = still_closed added;
       many = omega (arith, more, many);
-      following = some_then c.next_number-following.result (λ p. following_next added (tree_at (contents c.args.looks.now) c.args.e) c.in_ok-count-in-Some-parts_of.count
-          c.args.marks.now c.args.all (Some c.in-Some.top) p c.requires.marks c.requires.all many at (here.among, here.reaches)) c.next_number-following.ensures;
-      opened = still_opened added inv.opened;
+      following = some_both c.next_number-following.result (λ p. following_next added (tree_at (contents c.args.looks.now) c.args.e) c.in_ok-count-in-Some-parts_of.count
+          c.args.marks.now c.args.all (Some c.in-Some.top) p c.requires.marks c.requires.all many at (here.among, here.reaches)) c.next_number-following.ensures.follows c.next_number-following.ensures.closed;
+      few = some_then c.next_number-following.result (λ p h. few) c.next_number-following.ensures.follows;
+      opened = still_opened added few inv.opened;
     }
 
 pub returns : goal.returns

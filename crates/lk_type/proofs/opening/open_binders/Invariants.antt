@@ -2,7 +2,7 @@ use Rattle.std.proofs.Common.{◌≡◌, ◌<◌, length, map}
 use Rattle.std.specs.Prelude.{IfSome}
 use Rattle.lk_tree.specs.Putting.{put}
 use Rattle.lk_store.specs.Contents.{tree_at, Extends}
-use Rattle.lk_type.specs.Openings.{IsFollowing, AreClosed, IsOpened}
+use Rattle.lk_type.specs.Openings.{IsFollowing, IsClosedBy, AreClosed, IsOpened}
 use Rattle.lk_type.specs.Marks.{body_at}
 use Rattle.lk_type.proofs.Openings.{binders_in}
 use Rattle.lk_type.proofs.opening.open_binders.Given as goal
@@ -20,6 +20,7 @@ invariant-binders g l =
       closed : AreClosed now l.locals.items;
       many : length l.locals.items ≡ l.count;
       following : IfSome l.following (IsFollowing now l.locals.items l.inside);
+      few : IfSome l.following (λ p. IsClosedBy began l.fn.locals.items l.fn.body);
       opened : IsOpened began now l.binders l.fn.body l.fn.locals.items l.locals.items
           (put (map (tree_at now) l.locals.items) (tree_at now l.inside));
     }
