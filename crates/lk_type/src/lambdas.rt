@@ -80,9 +80,13 @@ fn close_under<L: Looks>(looks: &mut L, outer: Run, count: u64, ty: u64) -> Resu
     ensures { MakesTree L.contents L.rest looks.old looks.new result
         (λ t. close_run_at count outer.first outer.count (t ty)) }
 {
+    let bound = looks.local_bound(ty);
+    if bound <= u128::from(outer.first) {
+        return Ok(ty);
+    }
     // The type has no Local of an inner run that begins there, which so moves the variables alone.
     // No Local in memory has so great a number that this fails.
-    let Ok(first) = u64::try_from(looks.local_bound(ty)) else {
+    let Ok(first) = u64::try_from(bound) else {
         return Err(NoMemory);
     };
     let inner = Run { first, count };
