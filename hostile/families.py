@@ -130,6 +130,27 @@ def nested_arguments(n):
     return f.bytes()
 
 
+def arguments_alike(n):
+    """n terms f p .. p q p .. p, which begin alike and differ twenty arguments before their end."""
+    f = Lines()
+    p, h = f.axiom('p', f.prop), f.axiom('h', f.pi(f.prop, f.pi(f.prop, f.prop)))
+    stated = f.apply(h, f.variable(n + 20), f.variable(20))
+    for _ in range(n + 21):
+        stated = f.pi(f.prop, stated)
+    begun = f.apply(f.axiom('f', stated), *[p] * n)
+    proved = f.pi(f.apply(h, f.variable(1), f.variable(0)), f.prop)
+    told = f.axiom('g', f.pi(f.prop, f.pi(f.prop, proved)))
+    q, ends = p, []
+    for _ in range(n):
+        q = f.pi(p, q)
+        ends.append(f.apply(told, p, q, f.apply(begun, q, *[p] * 20)))
+    stated = f.prop
+    for end in reversed(ends):
+        stated = f.pi(end, stated)
+    f.axiom('a', stated)
+    return f.bytes()
+
+
 def beta(n):
     """(fun x1 .. xn => x1) p .. p : p is proved of the value by computing it."""
     f = Lines()
@@ -728,6 +749,7 @@ def characters(n):
 
 FAMILIES = [
     (pis, 10 ** 6), (lambdas, 10 ** 6), (dependent_lambdas, 10 ** 6), (arguments, 10 ** 6), (nested_arguments, 10 ** 6),
+    (arguments_alike, 4000),
     (beta, 10 ** 6), (lets, 10 ** 6), (lets_mentioned, 10 ** 5), (let_values, 10 ** 6), (projections, 10 ** 6),
     (successors, 10 ** 6), (maxima, 10 ** 6), (shared_levels, 10 ** 5), (shared_imax, 10 ** 5), (wide_levels, 16),
     (wide_cycles, 16), (wide_left, 16),
