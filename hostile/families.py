@@ -130,6 +130,19 @@ def nested_arguments(n):
     return f.bytes()
 
 
+def dependent_arguments(n):
+    """f p p .. p, where the type of f mentions all its n arguments at its end."""
+    f = Lines()
+    p, h = f.axiom('p', f.prop), f.axiom('h', f.pi(f.prop, f.pi(f.prop, f.prop)))
+    stated = proved = p
+    for index in range(n):
+        stated, proved = f.apply(h, f.variable(index), stated), f.apply(h, p, proved)
+    for _ in range(n):
+        stated = f.pi(f.prop, stated)
+    f.definition('d', proved, f.apply(f.axiom('f', stated), *[p] * n))
+    return f.bytes()
+
+
 def beta(n):
     """(fun x1 .. xn => x1) p .. p : p is proved of the value by computing it."""
     f = Lines()
@@ -728,6 +741,7 @@ def characters(n):
 
 FAMILIES = [
     (pis, 10 ** 6), (lambdas, 10 ** 6), (dependent_lambdas, 10 ** 6), (arguments, 10 ** 6), (nested_arguments, 10 ** 6),
+    (dependent_arguments, 10 ** 5),
     (beta, 10 ** 6), (lets, 10 ** 6), (lets_mentioned, 10 ** 5), (let_values, 10 ** 6), (projections, 10 ** 6),
     (successors, 10 ** 6), (maxima, 10 ** 6), (shared_levels, 10 ** 5), (shared_imax, 10 ** 5), (wide_levels, 16),
     (wide_cycles, 16), (wide_left, 16),

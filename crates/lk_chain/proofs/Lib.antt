@@ -1,4 +1,6 @@
 pub mod Alike
+pub mod Arguments
 pub mod Closed
 pub mod Pushing
 pub mod Puttings
+pub mod Retyped

@@ -3,5 +3,7 @@
 #![tactic(auto)]
 
 mod lets;
+mod spines;
 
 pub use lets::{long_lets, pushed_lets};
+pub use spines::{long_spine, pushed_spine};

@@ -7,6 +7,7 @@ ghost use Rattle.lk_engine.specs.Entries.{IsTrueAt, Keeps};
 ghost use Rattle.lk_engine.specs.Lookouts.{place_of, AreTrueAt, Repeats, Opens, Answers, AnswersKept};
 
 use crate::circles::{FIRST, look};
+use crate::deep::is_deep;
 use crate::instant::at_once;
 use crate::paying::{last, left, note_before, pay};
 use crate::sheet::AnySheet;
@@ -32,13 +33,17 @@ pub struct Frame {
 
 /// The first step of a question, which costs one step. It is a turn.
 #[inline(always)]
-fn first_step<T: Terms>(lookout: &mut Lookout<'_, T>, query: Query<u64>) -> Result<AnyNext, Stop>
+fn first_step<T: Terms>(
+    lookout: &mut Lookout<'_, T>,
+    query: Query<u64>,
+    deep: bool,
+) -> Result<AnyNext, Stop>
     requires query_in { IsKnownQuery (length (T.contents lookout.old.2).trees) query }
     ensures opens { Opens T.contents T.rest lookout.old lookout.new result query }
     ensures nothing_left { lookout.old.3.left ≡ 0 → result ≡ Err Stop.Spent }
 {
     pay(lookout, 1, None)?;
-    Ok(start(lookout, query)?)
+    Ok(start(lookout, query, deep)?)
 }
 
 /// An answer that is known. It costs what it costs without it, and is one turn.
@@ -120,6 +125,7 @@ fn first_kept<T: Terms>(
     lookout: &mut Lookout<'_, T>,
     memo: &mut PrivateMemo,
     query: Query<u64>,
+    deep: bool,
 ) -> Result<AnyNext, Stop>
     requires query_in { IsKnownQuery (length (T.contents lookout.old.2).trees) query }
     requires entries { AreTrueAt lookout.old (T.contents lookout.old.2) memo.old }
@@ -127,7 +133,7 @@ fn first_kept<T: Terms>(
     ensures entries { AreTrueAt lookout.old (T.contents lookout.new.2) memo.new }
 {
     let budget = left(lookout);
-    let next = first_step(lookout, query)?;
+    let next = first_step(lookout, query, deep)?;
     if let Next::Done(answer) = &next {
         if is_at_levels(lookout, query) {
             keep(memo, lookout, query, budget, *answer, 1);
@@ -142,6 +148,7 @@ fn open<T: Terms>(
     lookout: &mut Lookout<'_, T>,
     memo: &mut PrivateMemo,
     query: Query<u64>,
+    deep: bool,
 ) -> Result<AnyNext, Stop>
     requires query_in { IsKnownQuery (length (T.contents lookout.old.2).trees) query }
     requires entries { AreTrueAt lookout.old (T.contents lookout.old.2) memo.old }
@@ -150,7 +157,7 @@ fn open<T: Terms>(
 {
     match known(lookout, memo, query) {
         Some(kept) => Ok(Next::Done(repeat(lookout, kept)?)),
-        None => first_kept(lookout, memo, query),
+        None => first_kept(lookout, memo, query, deep),
     }
 }
 
@@ -168,14 +175,15 @@ fn work<T: Terms>(
     stack.clear();
     let mut asked = query;
     let mut budget = left(lookout);
-    let mut next = first_step(lookout, query)?;
+    let mut next = first_step(lookout, query, false)?;
     let mut due = FIRST;
+    let mut deep = false;
     'work: loop {
         match next {
             Next::Ask(other, sheet) => {
                 let last = last(lookout);
                 let before = left(lookout);
-                match open(lookout, memo, other)? {
+                match open(lookout, memo, other, deep)? {
                     Next::Ask(deeper, inner) => {
                         let frame = Frame {
                             asker: asked,
@@ -190,6 +198,7 @@ fn work<T: Terms>(
                         budget = before;
                         next = Next::Ask(deeper, inner);
                         due = look(stack, asked, due)?;
+                        deep = is_deep(stack);
                     }
                     // Answered at once: nothing has to wait, and nothing is kept of it.
                     Next::Done(answer) => {
