@@ -1,7 +1,7 @@
 -- Types that have the arguments of what they are the types of.
-use Rattle.std.proofs.Common.{◌≡◌, ◌<◌, ℕ, suc, true, nat_eq, List, [], ◌∷◌, ◌++◌, length, map, Option, Some, None, refl, ap, sym, subst, ◌∙◌, append_assoc, arith}
-use Rattle.std.specs.Prelude.{All, Result, Ok, Err, IfOk, IfSome}
-use Rattle.std.proofs.lemmas.List.Elements.{All-head, All-tail, All-cons, All-push, All-map, All-weaker}
+use Rattle.std.proofs.Common.{◌≡◌, ◌<◌, ℕ, List, [], ◌∷◌, ◌++◌, length, map, Option, Some, None, refl, ap, sym, ◌∙◌, append_assoc, arith}
+use Rattle.std.specs.Prelude.{All, Result, Ok, Err, IfOk}
+use Rattle.std.proofs.lemmas.List.Elements.{All-head, All-tail, All-cons, All-push}
 use Rattle.std.proofs.lemmas.List.{map-append}
 use Rattle.lk_tree.specs.Tree.{Name, Level, Tree, var, sort, const, app, lam, pi, let_in, proj, lit, wide, str, local}
 use Rattle.lk_tree.specs.Bind.{opened}
@@ -15,7 +15,7 @@ use Rattle.lk_tree.proofs.Within.{apply_head_args}
 use Rattle.lk_rulebook.specs.Place.{Place}
 use Rattle.lk_rulebook.specs.Place.{Entry as PlainEntry}
 use Rattle.lk_plain.specs.Answer.{later}
-use Rattle.lk_plain.specs.Program.{done, look}
+use Rattle.lk_plain.specs.Program.{done}
 use Rattle.lk_plain.specs.Query.{infer}
 use Rattle.lk_plain.specs.Erased.{a_tree, erased, finished, seen, run_steps, out_of}
 use Rattle.lk_plain.proofs.Erasing.{out-suc}
@@ -31,7 +31,7 @@ use Rattle.lk_subst.specs.Numbers.{trees-steady, trees-known}
 use Rattle.lk_env.specs.declared.entry.Entry.{Entry}
 use Rattle.lk_env.specs.declared.unit.Unit.{Unit as StoredUnit}
 use Rattle.lk_env.specs.Entries.{plain_entry, IsEntryIn, IsMeaning}
-use Rattle.lk_ask.specs.Constants.{IsFound, IsAtLevels}
+use Rattle.lk_ask.specs.Constants.{IsAtLevels}
 use Rattle.lk_ask.proofs.Entries.{entry_type}
 use Rattle.lk_ask.proofs.Looking.{found_is, found_goes}
 use Rattle.lk_ask.proofs.Sheets.{grown}

@@ -1,6 +1,5 @@
 -- Functions that are given arguments, of which one has a type that has the arguments already.
-use Rattle.std.proofs.Common.{ℕ, zero, suc, Bool, true, false, List, [], ◌∷◌, ◌++◌, Option, Some, None, ◌≡◌, refl, ap, sym, ◌∙◌, arith}
-use Rattle.std.specs.Prelude.{All}
+use Rattle.std.proofs.Common.{ℕ, zero, suc, Bool, true, false, List, [], ◌∷◌, ◌++◌, Option, None, ◌≡◌, refl, ap, sym, ◌∙◌, arith}
 use Rattle.std.proofs.lemmas.List.Elements.{All-head, All-tail}
 use Rattle.lk_tree.specs.Tree.{Tree, app, pi, local}
 use Rattle.lk_tree.specs.Bind.{opened}
@@ -9,7 +8,7 @@ use Rattle.lk_tree.specs.Spine.{apply, head}
 use Rattle.lk_tree.specs.declared.rule.Rule.TheVariants.{NotAFunction, ArgumentType}
 use Rattle.lk_rulebook.specs.Place.{Place}
 use Rattle.lk_plain.specs.Query.{Query, AnswerTo, core, whnf, infer, same}
-use Rattle.lk_plain.specs.Program.{Program, done, ask, asked, ◌>>=◌}
+use Rattle.lk_plain.specs.Program.{Program, done, ask, ◌>>=◌}
 use Rattle.lk_plain.specs.Answer.{later}
 use Rattle.lk_plain.specs.Erased.{Value, a_tree, truth, Steps, asks, with_tree, with_answer, erased, Out, finished, stopped, used_up, seen, go_on, run_steps, out_of}
 use Rattle.lk_plain.proofs.Erasing.{out-suc, out-zero, seen_seen, seen_none, seen_goes, later_none, run_from}

@@ -233,11 +233,7 @@ fn infer_spine<L: Looks>(looks: &mut L, e: u64) -> Result<AnyNext, NoMemory>
 /// the other, or, where it is asked for deep inside applications, of many arguments, which run as
 /// that does.
 #[inline(always)]
-pub fn start<L: Looks>(
-    looks: &mut L,
-    query: Query<u64>,
-    deep: bool,
-) -> Result<AnyNext, NoMemory>
+pub fn start<L: Looks>(looks: &mut L, query: Query<u64>, deep: bool) -> Result<AnyNext, NoMemory>
     requires query_in { IsKnownQuery (length (L.contents looks.old).trees) query }
     ensures { Starts L.contents L.rest L.sight looks.old looks.new result query }
 {

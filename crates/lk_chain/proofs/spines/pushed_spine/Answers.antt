@@ -1,4 +1,4 @@
-use Rattle.std.proofs.Common.{rules, ◌≡◌, length, ap, ◌∙◌}
+use Rattle.std.proofs.Common.{rules, ◌≡◌, ap, ◌∙◌}
 use Rattle.lk_tree.specs.Loose.{loose}
 use Rattle.lk_plain.specs.Answer.{later}
 use Rattle.lk_plain.specs.Erased.{a_tree, erased, run_steps, out_of}
@@ -43,9 +43,9 @@ returns g c =
       runs = (
         search rules,
         λ b. ap (λ u. run_steps (out_of steps w) (erased w a_tree u (infer_steps (tree_at (contents c.note.new.looks) spine))) b) noted
-        ∙ (ap (λ t. run_steps (out_of steps w) (erased w a_tree (later before (unit_of w one unit)) (infer_steps t)) b) same
-        ∙ spine_runs w c.args.e c.head-function.result c.in-Some.found.0 c.in_ok-pushed.pushed c.in_ok-local.local spine unit c.in_ok-arguments.arguments.items before
-        c.requires.e_in c.requires.closed c.type_of.ensures.keeps c.pushed_type.ensures.keeps c.make.ensures.keeps c.head-function.ensures typed none
-        c.in_ok-arguments.ensures (rw c.deref.ensures.value at c.in_ok-pushed.ensures.ok) c.in_ok-local.ensures.ok (rw c.deref-2.ensures.value at c.in_ok-spine.ensures.ok) b)
+            ∙ (ap (λ t. run_steps (out_of steps w) (erased w a_tree (later before (unit_of w one unit)) (infer_steps t)) b) same
+            ∙ spine_runs w c.args.e c.head-function.result c.in-Some.found.0 c.in_ok-pushed.pushed c.in_ok-local.local spine unit c.in_ok-arguments.arguments.items before
+            c.requires.e_in c.requires.closed c.type_of.ensures.keeps c.pushed_type.ensures.keeps c.make.ensures.keeps c.head-function.ensures typed none
+            c.in_ok-arguments.ensures (rw c.deref.ensures.value at c.in_ok-pushed.ensures.ok) c.in_ok-local.ensures.ok (rw c.deref-2.ensures.value at c.in_ok-spine.ensures.ok) b),
       );
     }
