@@ -56,7 +56,7 @@ fn has_arguments<L: Looks>(looks: &L, e: u64) -> bool
     true
 }
 
-/// Whether it is a closed type of so many Pis, with variables of those around it in the body of each.
+/// Whether it is a closed type of so many Pis, the body of each with variables of those around it.
 fn is_dependent<L: Looks>(looks: &L, ty: u64) -> bool
     requires { ty < length (L.contents looks.now).trees }
     ensures { result ≡ true → loose (tree_at (L.contents looks.now) ty) ≡ 0 }
