@@ -149,7 +149,7 @@ fn end_pis<L: Looks>(
     all_pis(looks, domains, end)
 }
 
-/// A type whose Pis are given these arguments, as far as there are both: each domain and what stands
+/// A type whose Pis are given these arguments, as far as there are both: each domain and what is
 /// inside has the arguments already, so that no body has a variable.
 fn pushed_type<L: Looks>(looks: &mut L, ty: u64, arguments: &[u64]) -> Result<u64, NoMemory>
     requires ty_in { ty < length (L.contents looks.old).trees }
