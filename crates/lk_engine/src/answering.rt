@@ -7,7 +7,7 @@ ghost use Rattle.lk_engine.specs.Entries.{IsTrueAt, Keeps};
 ghost use Rattle.lk_engine.specs.Lookouts.{place_of, AreTrueAt, Repeats, Opens, Answers, AnswersKept};
 
 use crate::circles::{FIRST, look};
-use crate::deep::is_deep;
+use crate::deep::{is_deep, is_worth};
 use crate::instant::at_once;
 use crate::paying::{last, left, note_before, pay};
 use crate::sheet::AnySheet;
@@ -57,7 +57,7 @@ fn repeat<T: Terms>(lookout: &mut Lookout<'_, T>, kept: Kept) -> Result<Answer<u
 
 /// The answer of a question, where it is at hand or the memo has it.
 #[inline(always)]
-fn known<T: Terms>(
+pub(crate) fn known<T: Terms>(
     lookout: &Lookout<'_, T>,
     memo: &mut PrivateMemo,
     query: Query<u64>,
@@ -133,6 +133,7 @@ fn first_kept<T: Terms>(
     ensures entries { AreTrueAt lookout.old (T.contents lookout.new.2) memo.new }
 {
     let budget = left(lookout);
+    let deep = is_worth(lookout, memo, query, deep);
     let next = first_step(lookout, query, deep)?;
     if let Next::Done(answer) = &next {
         if is_at_levels(lookout, query) {
@@ -213,6 +214,7 @@ fn work<T: Terms>(
                 match stack.pop() {
                     None => return Ok(answer),
                     Some(frame) => {
+                        deep = false;
                         asked = frame.asker;
                         budget = frame.budget;
                         note_before(lookout, frame.last);

@@ -1,8 +1,18 @@
 //! Functions of applications that are asked for one inside the other.
 
-use crate::answering::Frame;
+ghost use Rattle.std.specs.Prelude.{◌<◌, length, IfSome};
+ghost use Rattle.lk_ask.specs.Questions.{IsKnownQuery};
+ghost use Rattle.lk_engine.specs.Deep.{IsFunction};
+ghost use Rattle.lk_engine.specs.Lookouts.{AreTrueAt};
+
+use crate::answering::{Frame, known};
 use crate::sheet::TermSheet;
+use lk_ask::lookout::Lookout;
+use lk_ask::query::Query;
 use lk_ask::sheet::Sheet;
+use lk_memo::PrivateMemo;
+use lk_store::node::Node;
+use lk_store::terms::Terms;
 use lk_type::sheet::TypeTermSheet;
 
 /// So many of them wait before the arguments of the next one are put at once. What differs in the
@@ -45,4 +55,62 @@ fn has_functions(stack: &[Frame]) -> bool {
 #[inline(always)]
 pub(crate) fn is_deep(stack: &[Frame]) -> bool {
     stack.len() % DEEP == 0 && has_functions(stack)
+}
+
+/// The function of an application.
+fn function_of<T: Terms>(terms: &T, e: u64) -> Option<u64>
+    requires { e < length (T.contents terms.now).trees }
+    ensures { IfSome result (IsFunction (T.contents terms.now) e) }
+{
+    match terms.view(e) {
+        Node::App(function, _) => Some(function),
+        _ => None,
+    }
+}
+
+/// Whether the memo has none of the functions that the first half of a spine's arguments are given to,
+/// which are asked for one inside the other. One that it has ends the way inwards, and then it takes
+/// longer to put all arguments at once.
+fn is_unknown<T: Terms>(lookout: &Lookout<'_, T>, memo: &mut PrivateMemo, e: u64) -> bool
+    requires e_in { e < length (T.contents lookout.now.2).trees }
+    requires entries { AreTrueAt lookout.now (T.contents lookout.now.2) memo.old }
+    ensures { AreTrueAt lookout.now (T.contents lookout.now.2) memo.new }
+{
+    let mut function = e;
+    let mut ahead = e;
+    'functions: while let Some(inside) = function_of(&lookout.terms, ahead) {
+        match (function_of(&lookout.terms, function), function_of(&lookout.terms, inside)) {
+            (Some(next), Some(further)) => {
+                if known(lookout, memo, Query::Infer(next)).is_some() {
+                    return false;
+                }
+                function = next;
+                ahead = further;
+            }
+            _ => return true,
+        }
+    }
+    true
+}
+
+/// Whether the arguments of a term are to be put at once: it is asked for deep inside applications, and
+/// the memo has none of what is asked for next.
+#[inline(always)]
+pub(crate) fn is_worth<T: Terms>(
+    lookout: &Lookout<'_, T>,
+    memo: &mut PrivateMemo,
+    query: Query<u64>,
+    deep: bool,
+) -> bool
+    requires query_in { IsKnownQuery (length (T.contents lookout.now.2).trees) query }
+    requires entries { AreTrueAt lookout.now (T.contents lookout.now.2) memo.old }
+    ensures { AreTrueAt lookout.now (T.contents lookout.now.2) memo.new }
+{
+    if !deep {
+        return false;
+    }
+    match query {
+        Query::Infer(e) => is_unknown(lookout, memo, e),
+        _ => false,
+    }
 }
