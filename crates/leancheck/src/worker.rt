@@ -2,13 +2,13 @@
 
 ghost use Rattle.std.specs.Prelude.{◌≡◌};
 ghost use Rattle.lk_desk.specs.Job.{job_of};
-ghost use Rattle.lk_desk.specs.Seats.{job, IsNew, Sits};
-ghost use Rattle.leancheck.specs.Workers.{Draws, IsDone};
+ghost use Rattle.lk_desk.specs.Seats.{job, Sits};
+ghost use Rattle.leancheck.specs.Workers.{Draws, IsDone, IsPlace};
 
 use crate::checking::check_unit;
 use crate::order::UnitVerdict;
 use lk_desk::{Desk, Seat};
-use lk_engine::Engine;
+use lk_engine::{Engine, Knowledge, Share};
 use lk_env::library::Library;
 use lk_memo::PrivateMemo;
 use lk_port::Gate;
@@ -23,6 +23,14 @@ pub struct Limits {
     pub steps: u128,
     /// How many answers a worker keeps at most.
     pub kept: u32,
+}
+
+/// Where a worker sits: at the desk at which units are drawn and, where others check too, at one at which
+/// answers are shared.
+#[derive(Drop)]
+pub struct Place<'a> {
+    pub seat: Seat,
+    pub share: Option<Share<'a>>,
 }
 
 /// What a worker has done: its seat, and a verdict for each unit that it drew.
@@ -78,18 +86,20 @@ pub(crate) fn work<G: Gate>(
     library: &Library,
     limits: Limits,
     desk: &Desk,
-    mut seat: Seat,
+    place: Place<'_>,
     gate: &G,
 ) -> Done
-    requires seat { IsNew seat desk.now }
+    requires place { IsPlace desk.now place }
     requires job { job desk.now ≡ job_of library.now }
     ensures { IsDone library.now limits.steps desk.now result }
 {
-    let Ok(mut memo) = PrivateMemo::new(alloc, limits.kept) else {
+    let Place { mut seat, share } = place;
+    let Ok(memo) = PrivateMemo::new(alloc, limits.kept) else {
         let answers = Vec::new(alloc);
         return Done { seat, answers };
     };
-    let mut engine = Engine::new(alloc, library, &mut memo);
+    let mut knowledge = Knowledge { memo, share };
+    let mut engine = Engine::new(alloc, library, &mut knowledge);
     let answers = draw_all(
         alloc,
         library,

@@ -1,17 +1,23 @@
 //! The engine: a store over that of a library in which questions are answered, as a unit of the
 //! library may ask them.
 
-ghost use Rattle.std.specs.Prelude.{◌≡◌, [], map, All, OnOk, IfErr};
+ghost use Rattle.std.specs.Prelude.{◌≡◌, [], map, option_map, All, OnOk, IfErr, IfSome};
 ghost use Rattle.lk_store.specs.Contents.{Extends};
 ghost use Rattle.lk_store.specs.Store.{over, contents_of};
 ghost use Rattle.lk_env.specs.Scopes.{alone_members};
 ghost use Rattle.lk_env.specs.Units.{type_at, IsTypeIn};
 ghost use Rattle.lk_ask.specs.Instances.{AreInstances};
-ghost use Rattle.lk_engine.specs.Lookouts.{Tidies, Restarts, BeginsUnit, GivesMembers};
+ghost use Rattle.lk_desk.specs.Job.{job_of};
+ghost use Rattle.lk_store.specs.Sizes.{sizes_of};
+ghost use Rattle.lk_engine.specs.Lookouts.{row_count, Tidies, Restarts, BeginsUnit, GivesMembers};
+ghost use Rattle.lk_engine.specs.Shares.{shared_from};
 
-use crate::answering::{Frame, answer};
+use crate::answering::Frame;
 use crate::families::family_of;
+use crate::knowledge::Knowledge;
 use crate::parameters::parameters_at;
+use crate::share::Share;
+use crate::sharing::answer_shared;
 use lk_ask::asks::Asks;
 use lk_ask::instances::Instances;
 use lk_ask::lookout::Lookout;
@@ -40,10 +46,10 @@ use std::mem::drop;
 
 /// An engine over a library. What units make stands over the library's store, and goes when a unit
 /// is started, once it is many rows; what the memo keeps, which is lent, goes with the unit, but for
-/// what outlasts one.
+/// what outlasts one. Where workers share answers it looks for them and leaves them.
 pub struct Engine<'a> {
     lookout: Lookout<'a, Overlay<'a>>,
-    memo: &'a mut PrivateMemo,
+    knowledge: &'a mut Knowledge<'a>,
     /// Room for the questions that wait.
     stack: Vec<Frame>,
 }
@@ -61,14 +67,14 @@ impl<'a> Model for Engine<'a> {
 
     ghost view = { λ s. s.lookout };
 
-    ghost invariant = { λ s. Stands s.lookout s.memo.now };
+    ghost invariant = { λ s. Stands s.lookout s.knowledge.now.memo s.knowledge.now.share };
 }
 
 impl Drop for Engine<'_> {
     fn drop(self) {
         let Engine {
             lookout,
-            memo: _,
+            knowledge: _,
             stack,
         } = self;
         drop(lookout);
@@ -77,17 +83,15 @@ impl Drop for Engine<'_> {
 }
 
 /// What units made stays from one to the next while it is fewer rows, those of all kinds together.
-const FEW: u64 = 65_536;
+const FEW: u128 = 65_536;
 
-/// Whether what units made is few rows. Each kind counts, so that no file makes it grow for good.
-fn is_few(terms: &Overlay<'_>) -> bool {
+/// How many rows units made. Each kind counts, so that no file makes them grow for good.
+fn rows_of(terms: &Overlay<'_>) -> u128
+    ensures { result ≡ row_count (sizes_of terms.now.1) }
+{
     let own = terms.own_sizes();
-    let named = own
-        .numbers
-        .saturating_add(own.names)
-        .saturating_add(own.texts);
-    let levels = own.levels.saturating_add(own.lists);
-    named.saturating_add(levels).saturating_add(own.terms) < FEW
+    let named = own.numbers as u128 + own.names as u128 + own.texts as u128;
+    named + own.levels as u128 + own.lists as u128 + own.terms as u128
 }
 
 /// Forgets what units made, unless it is few rows. Whether it stays.
@@ -97,7 +101,7 @@ fn tidy(terms: &mut Overlay<'_>, instances: &mut Instances) -> bool
         let after = contents_of (over terms.new.0 terms.new.1) in
         AreInstances before instances.old.table → AreInstances after instances.new.table }
 {
-    if is_few(terms) {
+    if rows_of(terms) < FEW {
         return true;
     }
     terms.clear();
@@ -130,6 +134,15 @@ fn begin_unit(memo: &mut PrivateMemo, unit: u32, terms: u64, stays: bool)
         memo.stay(terms);
     } else {
         memo.forget_staying(terms);
+    }
+}
+
+/// From here on this unit looks where answers are shared, or none does.
+fn share_from(share: &mut Option<Share<'_>>, unit: Option<u32>)
+    ensures { share.new ≡ option_map (shared_from unit) share.old }
+{
+    if let Some(share) = share {
+        share.look_from(unit);
     }
 }
 
@@ -168,8 +181,10 @@ fn turns_of(lookout: &Lookout<'_, Overlay<'_>>) -> u64
 }
 
 impl<'a> Engine<'a> {
-    /// An engine at the first unit, with nothing to spend. The memo is emptied. It takes no memory.
-    pub fn new(alloc: Global, library: &'a Library, memo: &'a mut PrivateMemo) -> Self
+    /// An engine at the first unit, with nothing to spend. The memo is emptied. Answers are shared at
+    /// a desk of the library, if there is one. It takes no memory.
+    pub fn new(alloc: Global, library: &'a Library, knowledge: &'a mut Knowledge<'a>) -> Self
+        requires { IfSome knowledge.old.share (λ s. s.0 ≡ job_of library.now) }
         ensures library { result.0.2 ≡ library.now }
         ensures auxiliary { result.0.3 ≡ [] }
         ensures unit { result.1.unit ≡ 0 }
@@ -178,7 +193,8 @@ impl<'a> Engine<'a> {
         ensures left { result.3.left ≡ 0 }
         ensures turns { result.3.turns ≡ 0 }
     {
-        memo.begin(library.base().len());
+        knowledge.memo.begin(library.base().len());
+        share_from(&mut knowledge.share, None);
         let terms = Overlay::new(alloc, library.base());
         let lookout = Lookout {
             alloc,
@@ -193,7 +209,7 @@ impl<'a> Engine<'a> {
         };
         Engine {
             lookout,
-            memo,
+            knowledge,
             stack: Vec::new(alloc),
         }
     }
@@ -213,7 +229,8 @@ impl<'a> Engine<'a> {
     {
         let stays = restart(&mut self.lookout, unit, budget);
         let terms = self.lookout.len();
-        begin_unit(self.memo, unit, terms, stays);
+        begin_unit(&mut self.knowledge.memo, unit, terms, stays);
+        share_from(&mut self.knowledge.share, Some(unit));
     }
 
     /// How many questions were opened for the unit that was begun last, those of which an answer
@@ -339,8 +356,14 @@ impl<'a> Asks for Engine<'a> {
     ghost places = { places_at };
 
     fn ask(&mut self, query: Query<u64>) -> Result<Answer<u64>, Stop> {
-        let memo = &mut *self.memo;
-        answer(&mut self.lookout, memo, &mut self.stack, query)
+        let knowledge = &mut *self.knowledge;
+        answer_shared(
+            &mut self.lookout,
+            &mut knowledge.memo,
+            &mut self.stack,
+            &mut knowledge.share,
+            query,
+        )
     }
 
     fn parameter_count(&self, name: u64) -> Result<Option<u64>, Rule> {
@@ -349,12 +372,14 @@ impl<'a> Asks for Engine<'a> {
 
     fn give(&mut self, partial: Partial) {
         give_in(&mut self.lookout, partial);
-        self.memo.clear();
+        self.knowledge.memo.clear();
+        share_from(&mut self.knowledge.share, None);
     }
 
     fn give_beside(&mut self, partial: Partial, types: &[BlockType]) -> Result<(), NoMemory> {
         let given = give_beside_in(&mut self.lookout, partial, types);
-        self.memo.clear();
+        self.knowledge.memo.clear();
+        share_from(&mut self.knowledge.share, None);
         given
     }
 

@@ -10,5 +10,5 @@ returns-clause-standing c = gives_standing c.give_in.ensures ∙ ap
     (λ s. record { basis = (s.0.2, s.1.unit); table = steps; place = places_at (s.0.2, s.1.unit) c.args.partial [] }) c.self.view_is
 
 pub invariant_of-self : goal.invariant_of-self
-invariant_of-self c = gives_stands c.give_in.ensures c.self.invariant c.clear.ensures.private
-    c.clear.ensures.lasting c.clear.ensures.staying
+invariant_of-self c = rw c.share_from.ensures (gives_stands c.give_in.ensures c.self.invariant
+    c.clear.ensures.private c.clear.ensures.lasting c.clear.ensures.staying)
