@@ -146,7 +146,7 @@ row_count s = s.numbers + s.names + s.texts + s.levels + s.lists + s.terms
 pub record Tidies (old new : Tables × Tables) (stays : Bool) : Type 0 where
   pub base : new.0 ≡ old.0
   pub same : stays ≡ true → new ≡ old
-  pub few : stays ≡ true → row_count (sizes_of new.1) < 16384
+  pub few : stays ≡ true → row_count (sizes_of new.1) < 65536
   pub emptied : stays ≡ false → contents_of (over new.0 new.1) ≡ contents_of old.0
 
 -- a lookout over the library's store looks from this unit, of which nothing is partial, with no
