@@ -25,7 +25,6 @@ use Rattle.lk_desk.specs.Job.{Job}
 use Rattle.lk_desk.specs.Entries.{spelled_value, IsSpelledAnswer, IsMade}
 use Rattle.lk_desk.specs.Truth.{question_of, place_above, IsTrueIn, IsTrueOf, IsFoundIn, IsFoundOf, IsTablesOf}
 use Rattle.lk_engine.specs.Entries.{IsTrueAt, IsLasting}
-use Rattle.lk_engine.specs.declared.sharing.Since.{Since}
 use Rattle.lk_engine.specs.Lookouts.{Seen, place_of, out_at, Stays, Shares, Stands, Answers, Fetches, IsWorkedOut}
 use Rattle.lk_engine.specs.Shares.{Shared, LastsAt, IsFor, IsShared}
 use Rattle.lk_engine.proofs.Frames.{query_steady, query_known}
@@ -177,8 +176,8 @@ answered_true {T} {R} {contents} {rest} {old} {new} {later} {answer} {q} asked h
 
 -- a question was looked for, and then answered
 module _ {old between new : Seen (Tables × Tables)} {memo later last : PrivateMemo}
-    {share : Option Shared} {result : Result (Answer ℕ) Stop} {q : Query ℕ}
-    (s : Stands old memo share) (f : Fetches old between later)
+    {share : Shared} {result : Result (Answer ℕ) Stop} {q : Query ℕ}
+    (s : Stands old memo (Some share)) (f : Fetches old between later)
     (h : Answers (λ t. contents_of (over t.0 t.1)) (λ t. t.0) between new last result q) where
   abbrev all : Stays (λ t. contents_of (over t.0 t.1)) (λ t. t.0) old new
   all = stays_on f.stays h.stays
@@ -186,8 +185,9 @@ module _ {old between new : Seen (Tables × Tables)} {memo later last : PrivateM
   pub offered_base : new.2.0 ≡ new.0.2.0
   offered_base = all.others ∙ s.base ∙ ap (λ l. l.2.0) (sym all.library)
 
-  pub offered_shares : IfSome share (Shares new)
-  offered_shares = shares_on old new share (ap (λ l. l.2) all.library) (place_stays all) s.shared
+  pub offered_shares : Shares new share
+  offered_shares = shares_on old new (Some share) (ap (λ l. l.2) all.library) (place_stays all)
+      s.shared
 
 -- what was worked out is true
 pub offered_true : {old between new : Seen (Tables × Tables)} {later last : PrivateMemo}
@@ -195,11 +195,9 @@ pub offered_true : {old between new : Seen (Tables × Tables)} {later last : Pri
     → IsKnownQuery (length (contents_of (over old.2.0 old.2.1)).trees) q
     → (result : Result (Answer ℕ) Stop)
     → Answers (λ t. contents_of (over t.0 t.1)) (λ t. t.0) between new last result q
-    → (since : Option Since) → IfSome since (λ s. s.budget ≡ between.3.left)
-    → IfOk result (λ a. IfSome since (λ s. IsWorkedOut new s.budget q a))
-offered_true f asked (Err stop) h since is = tt
-offered_true f asked (Ok answer) h None is = tt
-offered_true {new = new} {q = q} f asked (Ok answer) h (Some since) is =
+    → (budget : ℕ) → budget ≡ between.3.left → IfOk result (IsWorkedOut new budget q)
+offered_true f asked (Err stop) h budget is = tt
+offered_true {new = new} {q = q} f asked (Ok answer) h budget is =
     let one = answered_true (query_known f.stays.keeps q asked) h in
     subst (λ b. IsWorkedOut new b q answer) (sym is)
     (record { left = one.0; is = rw (place_stays h.stays) one.1 })

@@ -17,7 +17,7 @@ use crate::families::family_of;
 use crate::knowledge::Knowledge;
 use crate::parameters::parameters_at;
 use crate::share::Share;
-use crate::sharing::answer_shared;
+use crate::sharing::answer_unit;
 use lk_ask::asks::Asks;
 use lk_ask::instances::Instances;
 use lk_ask::lookout::Lookout;
@@ -357,7 +357,7 @@ impl<'a> Asks for Engine<'a> {
 
     fn ask(&mut self, query: Query<u64>) -> Result<Answer<u64>, Stop> {
         let knowledge = &mut *self.knowledge;
-        answer_shared(
+        answer_unit(
             &mut self.lookout,
             &mut knowledge.memo,
             &mut self.stack,

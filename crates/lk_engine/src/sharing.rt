@@ -96,29 +96,25 @@ pub struct Since {
     turns: u64,
 }
 
-/// Looks for the answer of a question where workers share answers. Since when it is asked there.
-#[inline(always)]
+/// Looks for the answer of a question. Since when it is asked there.
 fn fetch<'a>(
     lookout: &mut Lookout<'a, Overlay<'a>>,
     memo: &mut PrivateMemo,
-    share: &mut Option<Share<'a>>,
+    share: &mut Share<'a>,
     query: Query<u64>,
-) -> Option<Since>
+) -> Since
     requires query_in { IsKnownQuery
         (length (contents_of (over lookout.old.2.0 lookout.old.2.1)).trees) query }
-    requires stands { Stands lookout.old memo.old share.old }
+    requires stands { Stands lookout.old memo.old (Some share.old) }
     ensures fetches { Fetches lookout.old lookout.new memo.new }
     ensures share { share.new ≡ share.old }
-    ensures since { IfSome result (λ s. s.budget ≡ lookout.new.3.left) }
+    ensures since { result.budget ≡ lookout.new.3.left }
 {
-    let Some(share) = share else {
-        return None;
-    };
     fetch_any(lookout, memo, share, query);
-    Some(Since {
+    Since {
         budget: left(lookout),
         turns: turns(lookout),
-    })
+    }
 }
 
 /// Leaves an answer at the desk, if its question is of the library's terms.
@@ -144,28 +140,20 @@ fn offer_at<'a>(
 /// An answer that costs fewer steps is not left. It is worked out anew as fast as it is looked for.
 const LEAST: u128 = 256;
 
-/// Leaves an answer at the desk, where workers share answers, if it was worked out and cost so many
-/// steps. One that was known took one turn.
-#[inline(always)]
+/// Leaves an answer at the desk, if it was worked out and cost so many steps. One that was known took
+/// one turn.
 fn offer<'a>(
     lookout: &Lookout<'a, Overlay<'a>>,
-    share: &mut Option<Share<'a>>,
+    share: &mut Share<'a>,
     query: Query<u64>,
-    since: Option<Since>,
+    since: Since,
     outcome: &Result<Answer<u64>, Stop>,
 )
     requires base { lookout.now.2.0 ≡ lookout.now.0.2.0 }
-    requires shares { IfSome share.old (Shares lookout.now) }
-    requires worked { IfOk outcome.now (λ a. IfSome since (λ s.
-        IsWorkedOut lookout.now s.budget query a)) }
+    requires shares { Shares lookout.now share.old }
+    requires worked { IfOk outcome.now (IsWorkedOut lookout.now since.budget query) }
     ensures { share.new ≡ share.old }
 {
-    let Some(since) = since else {
-        return;
-    };
-    let Some(share) = share else {
-        return;
-    };
     let Ok(answer) = outcome else {
         return;
     };
@@ -180,9 +168,32 @@ fn offer<'a>(
     offer_at(lookout, share, query, Kept { answer, cost, top });
 }
 
-/// The plain answer of a question that a unit asks. Where workers share answers, one that another
-/// worker left is found, and one that is worked out here is left for them.
-pub(crate) fn answer_shared<'a>(
+/// The plain answer of a question where workers share answers: one that another worker left is found,
+/// and one that is worked out here is left for them.
+#[inline(never)]
+fn answer_shared<'a>(
+    lookout: &mut Lookout<'a, Overlay<'a>>,
+    memo: &mut PrivateMemo,
+    stack: &mut Vec<Frame>,
+    share: &mut Share<'a>,
+    query: Query<u64>,
+) -> Result<Answer<u64>, Stop>
+    requires query_in { IsKnownQuery
+        (length (contents_of (over lookout.old.2.0 lookout.old.2.1)).trees) query }
+    requires stands { Stands lookout.old memo.old (Some share.old) }
+    ensures answers { Answers (λ t. contents_of (over t.0 t.1)) (λ t. t.0) lookout.old lookout.new
+        memo.new result query }
+    ensures share { share.new ≡ share.old }
+{
+    let since = fetch(lookout, memo, share, query);
+    let result = answer(lookout, memo, stack, query);
+    offer(lookout, share, query, since, &result);
+    result
+}
+
+/// The plain answer of a question that a unit asks, by what is shared where workers share answers.
+#[inline(always)]
+pub(crate) fn answer_unit<'a>(
     lookout: &mut Lookout<'a, Overlay<'a>>,
     memo: &mut PrivateMemo,
     stack: &mut Vec<Frame>,
@@ -196,8 +207,8 @@ pub(crate) fn answer_shared<'a>(
         memo.new result query }
     ensures share { share.new ≡ share.old }
 {
-    let since = fetch(lookout, memo, share, query);
-    let result = answer(lookout, memo, stack, query);
-    offer(lookout, share, query, since, &result);
-    result
+    match share {
+        None => answer(lookout, memo, stack, query),
+        Some(share) => answer_shared(lookout, memo, stack, share, query),
+    }
 }

@@ -16,7 +16,7 @@ offer-requires-clause-shares c = rw c.fetch-since.ensures.share (offered_shares 
 
 pub offer-requires-clause-worked : goal.offer-requires-clause-worked
 offer-requires-clause-worked c = offered_true c.fetch-since.ensures.fetches c.requires.query_in
-    c.answer-result.result c.answer-result.ensures.answers c.fetch-since.result
+    c.answer-result.result c.answer-result.ensures.answers c.fetch-since.result.budget
     c.fetch-since.ensures.since
 
 pub returns-clause-answers : goal.returns-clause-answers
