@@ -1,6 +1,6 @@
 -- Answers that workers share: what a desk has outlasts its unit, and what outlasts its unit may be left.
 use Rattle.std.proofs.Common.{◌≡◌, ℕ, ◌-◌, ◌≤◌, List, length, Option, Some, None, Ok, Err, Result, refl, ap, sym, subst, ◌∙◌, arith}
-use Rattle.std.specs.Prelude.{IfSome}
+use Rattle.std.specs.Prelude.{IfOk, IfSome}
 use Rattle.lk_plain.specs.Laws.{IsBelow}
 use Rattle.lk_plain.specs.Erased.{out_of, IsAnsweredAt}
 use Rattle.lk_plain.proofs.Exact.{out_exact}
@@ -184,6 +184,10 @@ module _ {old between new : Seen (Tables × Tables)} {memo later last : PrivateM
 
   pub offered_base : new.2.0 ≡ new.0.2.0
   offered_base = all.others ∙ s.base ∙ ap (λ l. l.2.0) (sym all.library)
+
+  pub offered_over : Extends (contents_of new.2.0) (contents_of (over new.2.0 new.2.1))
+  offered_over = subst (λ t. Extends (contents_of t) (contents_of (over new.2.0 new.2.1)))
+      (sym (offered_base ∙ ap (λ l. l.2.0) h.stays.library)) h.entries_true.lasting.stand
 
   pub offered_shares : Shares new share
   offered_shares = shares_on old new (Some share) (ap (λ l. l.2) all.library) (place_stays all)

@@ -126,6 +126,8 @@ fn offer_at<'a>(
     kept: Kept,
 )
     requires base { lookout.now.2.0 ≡ lookout.now.0.2.0 }
+    requires over { Extends (contents_of lookout.now.2.0)
+        (contents_of (over lookout.now.2.0 lookout.now.2.1)) }
     requires shares { Shares lookout.now share.old }
     requires is { IsTrueAt (place_of lookout.now)
         (contents_of (over lookout.now.2.0 lookout.now.2.1)) query kept }
@@ -150,6 +152,8 @@ fn offer<'a>(
     outcome: &Result<Answer<u64>, Stop>,
 )
     requires base { lookout.now.2.0 ≡ lookout.now.0.2.0 }
+    requires over { Extends (contents_of lookout.now.2.0)
+        (contents_of (over lookout.now.2.0 lookout.now.2.1)) }
     requires shares { Shares lookout.now share.old }
     requires worked { IfOk outcome.now (IsWorkedOut lookout.now since.budget query) }
     ensures { share.new ≡ share.old }

@@ -1,5 +1,5 @@
 use Rattle.lk_engine.proofs.Lookouts.{entries_there}
-use Rattle.lk_engine.proofs.Shared.{answers_after, offered_base, offered_shares, offered_true}
+use Rattle.lk_engine.proofs.Shared.{answers_after, offered_base, offered_over, offered_shares, offered_true}
 use Rattle.lk_engine.proofs.sharing.answer_shared.Goals as goal
 
 pub answer-result-requires-clause-entries : goal.answer-result-requires-clause-entries
@@ -8,6 +8,10 @@ answer-result-requires-clause-entries c = entries_there c.fetch-since.ensures.fe
 
 pub offer-requires-clause-base : goal.offer-requires-clause-base
 offer-requires-clause-base c = offered_base c.requires.stands c.fetch-since.ensures.fetches
+    c.answer-result.ensures.answers
+
+pub offer-requires-clause-over : goal.offer-requires-clause-over
+offer-requires-clause-over c = offered_over c.requires.stands c.fetch-since.ensures.fetches
     c.answer-result.ensures.answers
 
 pub offer-requires-clause-shares : goal.offer-requires-clause-shares

@@ -31,7 +31,7 @@ invariant_of-result c =
     let library_has = contents_of c.new.result.2.0 in
     let same = c.new-terms.ensures.contents ∙ ap (λ t. contents_of t) (c.base-2.ensures ∙ library) in
     new_stands _ _ _ _
-    (rw c.share_from.ensures (shares_new _ _ (subst (λ l. IfSome c.args.share (λ a. a.0 ≡ job_of l))
+    (rw c.share_from.ensures (shares_new _ _ (subst (λ l. IfSome c.args.knowledge.now.share (λ a. a.0 ≡ job_of l))
     (sym c.new.ensures.library) c.requires)))
     (ap (λ t. t.0) c.new-terms.ensures.value ∙ c.base-2.ensures ∙ library)
     c.begin.ensures.private c.begin.ensures.lasting c.begin.ensures.staying
