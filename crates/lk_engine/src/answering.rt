@@ -155,7 +155,6 @@ fn open<T: Terms>(
 }
 
 /// The answer of a question that is not kept. The stack is emptied, and its room is used again.
-#[inline(never)]
 fn work<T: Terms>(
     lookout: &mut Lookout<'_, T>,
     memo: &mut PrivateMemo,
@@ -222,7 +221,6 @@ fn work<T: Terms>(
 /// keeps of earlier questions costs the same as without it. Each question that is opened on the way
 /// takes a turn: a question that is kept takes one, and no memory. Where nothing is left, none is
 /// taken either. The stack is room that is used again.
-#[inline(always)]
 pub fn answer<T: Terms>(
     lookout: &mut Lookout<'_, T>,
     memo: &mut PrivateMemo,

@@ -6,7 +6,7 @@ ghost use Rattle.lk_store.specs.Contents.{Extends};
 ghost use Rattle.lk_store.specs.Store.{over, contents_of};
 ghost use Rattle.lk_ask.specs.Questions.{IsKnownQuery};
 ghost use Rattle.lk_engine.specs.Entries.{IsTrueAt};
-ghost use Rattle.lk_engine.specs.Lookouts.{place_of, Stays, Fetches, IsWorkedOut, Answers, Shares, Stands};
+ghost use Rattle.lk_engine.specs.Lookouts.{place_of, AreTrueAt, Stays, Fetches, IsWorkedOut, Answers, Shares, Stands};
 
 use crate::answering::{Frame, answer, known};
 use crate::paying::{last, left, turns};
@@ -172,6 +172,24 @@ fn offer<'a>(
     offer_at(lookout, share, query, Kept { answer, cost, top });
 }
 
+/// The plain answer of a question, whether answers are shared or not.
+#[inline(never)]
+fn answer_alone<'a>(
+    lookout: &mut Lookout<'a, Overlay<'a>>,
+    memo: &mut PrivateMemo,
+    stack: &mut Vec<Frame>,
+    query: Query<u64>,
+) -> Result<Answer<u64>, Stop>
+    requires query_in { IsKnownQuery
+        (length (contents_of (over lookout.old.2.0 lookout.old.2.1)).trees) query }
+    requires entries { AreTrueAt lookout.old (contents_of (over lookout.old.2.0 lookout.old.2.1))
+        memo.old }
+    ensures { Answers (λ t. contents_of (over t.0 t.1)) (λ t. t.0) lookout.old lookout.new memo.new
+        result query }
+{
+    answer(lookout, memo, stack, query)
+}
+
 /// The plain answer of a question where workers share answers: one that another worker left is found,
 /// and one that is worked out here is left for them.
 #[inline(never)]
@@ -190,7 +208,7 @@ fn answer_shared<'a>(
     ensures share { share.new ≡ share.old }
 {
     let since = fetch(lookout, memo, share, query);
-    let result = answer(lookout, memo, stack, query);
+    let result = answer_alone(lookout, memo, stack, query);
     offer(lookout, share, query, since, &result);
     result
 }
@@ -212,7 +230,7 @@ pub(crate) fn answer_unit<'a>(
     ensures share { share.new ≡ share.old }
 {
     match share {
-        None => answer(lookout, memo, stack, query),
+        None => answer_alone(lookout, memo, stack, query),
         Some(share) => answer_shared(lookout, memo, stack, share, query),
     }
 }
