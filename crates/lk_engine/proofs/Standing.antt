@@ -55,11 +55,14 @@ none_looks : (s : Seen (Tables × Tables)) (n : ℕ) → None ≡ Some n
 none_looks s n is = absurd (let no : None ≡ Some n = is in cc)
 
 -- at first no unit looks
-pub shares_new : (s : Seen (Tables × Tables)) (share : Option Shared)
-    → IfSome share (λ a. a.0 ≡ job_of s.0.2)
+pub shares_new : (s : Seen (Tables × Tables)) (share : Option Shared) (l : Tables × List StoredUnit)
+    → s.0.2 ≡ l → IfSome share (λ a. a.0 ≡ job_of l)
     → IfSome (option_map (shared_from None) share) (Shares s)
-shares_new s None h = tt
-shares_new s (Some share) h = record { job = h; looks = none_looks s }
+shares_new s None l same h = tt
+shares_new s (Some share) l same h = record {
+  job = h ∙ ap job_of (sym same);
+  looks = none_looks s;
+}
 
 -- at first nothing is kept, and no unit looks for what outlasts one
 pub new_stands : (s : Seen (Tables × Tables)) (memo : PrivateMemo) (share : Option Shared)

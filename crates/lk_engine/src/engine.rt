@@ -1,7 +1,7 @@
 //! The engine: a store over that of a library in which questions are answered, as a unit of the
 //! library may ask them.
 
-ghost use Rattle.std.specs.Prelude.{◌≡◌, [], map, option_map, All, OnOk, IfErr, IfSome};
+ghost use Rattle.std.specs.Prelude.{◌≡◌, [], map, All, OnOk, IfErr, IfSome};
 ghost use Rattle.lk_store.specs.Contents.{Extends};
 ghost use Rattle.lk_store.specs.Store.{over, contents_of};
 ghost use Rattle.lk_env.specs.Scopes.{alone_members};
@@ -10,14 +10,12 @@ ghost use Rattle.lk_ask.specs.Instances.{AreInstances};
 ghost use Rattle.lk_desk.specs.Job.{job_of};
 ghost use Rattle.lk_store.specs.Sizes.{sizes_of};
 ghost use Rattle.lk_engine.specs.Lookouts.{row_count, Tidies, Restarts, BeginsUnit, GivesMembers};
-ghost use Rattle.lk_engine.specs.Shares.{shared_from};
 
+use crate::alone::Sharing;
 use crate::answering::Frame;
 use crate::families::family_of;
 use crate::knowledge::Knowledge;
 use crate::parameters::parameters_at;
-use crate::share::Share;
-use crate::sharing::answer_unit;
 use lk_ask::asks::Asks;
 use lk_ask::instances::Instances;
 use lk_ask::lookout::Lookout;
@@ -46,15 +44,15 @@ use std::mem::drop;
 
 /// An engine over a library. What units make stands over the library's store, and goes when a unit
 /// is started, once it is many rows; what the memo keeps, which is lent, goes with the unit, but for
-/// what outlasts one. Where workers share answers it looks for them and leaves them.
-pub struct Engine<'a> {
+/// what outlasts one. Whether answers are shared with other workers is told by its parameter.
+pub struct Engine<'a, S: Sharing> {
     lookout: Lookout<'a, Overlay<'a>>,
-    knowledge: &'a mut Knowledge<'a>,
+    knowledge: &'a mut Knowledge<S>,
     /// Room for the questions that wait.
     stack: Vec<Frame>,
 }
 
-impl<'a> Model for Engine<'a> {
+impl<'a, S: Sharing> Model for Engine<'a, S> {
     ghost use Rattle.std.specs.Prelude.{List};
     ghost use Rattle.lk_store.specs.declared.tables.Tables.{Tables};
     ghost use Rattle.lk_env.specs.declared.entry.Site.{Site as LookedFrom};
@@ -67,10 +65,11 @@ impl<'a> Model for Engine<'a> {
 
     ghost view = { λ s. s.lookout };
 
-    ghost invariant = { λ s. Stands s.lookout s.knowledge.now.memo s.knowledge.now.share };
+    ghost invariant = { λ s. Stands s.lookout s.knowledge.now.memo
+        (S.shared s.knowledge.now.share) };
 }
 
-impl Drop for Engine<'_> {
+impl<S: Sharing> Drop for Engine<'_, S> {
     fn drop(self) {
         let Engine {
             lookout,
@@ -137,15 +136,6 @@ fn begin_unit(memo: &mut PrivateMemo, unit: u32, terms: u64, stays: bool)
     }
 }
 
-/// From here on this unit looks where answers are shared, or none does.
-fn share_from(share: &mut Option<Share<'_>>, unit: Option<u32>)
-    ensures { share.new ≡ option_map (shared_from unit) share.old }
-{
-    if let Some(share) = share {
-        share.look_from(unit);
-    }
-}
-
 /// From here on so much of the unit at work is partial, and no auxiliary type.
 fn give_in<'a>(lookout: &mut Lookout<'a, Overlay<'a>>, partial: Partial)
     ensures { GivesMembers lookout.old lookout.new partial [] }
@@ -180,11 +170,11 @@ fn turns_of(lookout: &Lookout<'_, Overlay<'_>>) -> u64
     lookout.meter.turns
 }
 
-impl<'a> Engine<'a> {
+impl<'a, S: Sharing> Engine<'a, S> {
     /// An engine at the first unit, with nothing to spend. The memo is emptied. Answers are shared at
     /// a desk of the library, if there is one. It takes no memory.
-    pub fn new(alloc: Global, library: &'a Library, knowledge: &'a mut Knowledge<'a>) -> Self
-        requires { IfSome knowledge.old.share (λ s. s.0 ≡ job_of library.now) }
+    pub fn new(alloc: Global, library: &'a Library, knowledge: &'a mut Knowledge<S>) -> Self
+        requires { IfSome (S.shared knowledge.old.share) (λ s. s.0 ≡ job_of library.now) }
         ensures library { result.0.2 ≡ library.now }
         ensures auxiliary { result.0.3 ≡ [] }
         ensures unit { result.1.unit ≡ 0 }
@@ -194,7 +184,7 @@ impl<'a> Engine<'a> {
         ensures turns { result.3.turns ≡ 0 }
     {
         knowledge.memo.begin(library.base().len());
-        share_from(&mut knowledge.share, None);
+        knowledge.share.look_from(None);
         let terms = Overlay::new(alloc, library.base());
         let lookout = Lookout {
             alloc,
@@ -230,7 +220,7 @@ impl<'a> Engine<'a> {
         let stays = restart(&mut self.lookout, unit, budget);
         let terms = self.lookout.len();
         begin_unit(&mut self.knowledge.memo, unit, terms, stays);
-        share_from(&mut self.knowledge.share, Some(unit));
+        self.knowledge.share.look_from(Some(unit));
     }
 
     /// How many questions were opened for the unit that was begun last, those of which an answer
@@ -242,7 +232,7 @@ impl<'a> Engine<'a> {
     }
 }
 
-impl<'a> Terms for Engine<'a> {
+impl<'a, S: Sharing> Terms for Engine<'a, S> {
     ghost use Rattle.lk_store.specs.Store.{over, contents_of};
 
     /// All but the terms: the scope, from where it is seen, what is left of the budget, and the
@@ -342,7 +332,7 @@ impl<'a> Terms for Engine<'a> {
     }
 }
 
-impl<'a> Asks for Engine<'a> {
+impl<'a, S: Sharing> Asks for Engine<'a, S> {
     ghost use Rattle.std.proofs.Common.{ap};
     ghost use Rattle.lk_engine.specs.Lookouts.{standing_at, places_at};
 
@@ -357,11 +347,10 @@ impl<'a> Asks for Engine<'a> {
 
     fn ask(&mut self, query: Query<u64>) -> Result<Answer<u64>, Stop> {
         let knowledge = &mut *self.knowledge;
-        answer_unit(
+        knowledge.share.answer(
             &mut self.lookout,
             &mut knowledge.memo,
             &mut self.stack,
-            &mut knowledge.share,
             query,
         )
     }
@@ -373,13 +362,13 @@ impl<'a> Asks for Engine<'a> {
     fn give(&mut self, partial: Partial) {
         give_in(&mut self.lookout, partial);
         self.knowledge.memo.clear();
-        share_from(&mut self.knowledge.share, None);
+        self.knowledge.share.look_from(None);
     }
 
     fn give_beside(&mut self, partial: Partial, types: &[BlockType]) -> Result<(), NoMemory> {
         let given = give_beside_in(&mut self.lookout, partial, types);
         self.knowledge.memo.clear();
-        share_from(&mut self.knowledge.share, None);
+        self.knowledge.share.look_from(None);
         given
     }
 
@@ -389,19 +378,19 @@ impl<'a> Asks for Engine<'a> {
     ) };
 }
 
-impl<'a> Families for Engine<'a> {
+impl<'a, S: Sharing> Families for Engine<'a, S> {
     fn family(&self, alloc: Global, name: u64) -> Result<Option<Family>, Stop> {
         family_of(&self.lookout, alloc, name)
     }
 }
 
-impl<'a> Quotients for Engine<'a> {
+impl<'a, S: Sharing> Quotients for Engine<'a, S> {
     fn quotient(&mut self, name: u64, levels: &[u64], ty: u64) -> Result<(), Stop> {
         may_stand(&mut self.lookout, name, levels, ty)
     }
 }
 
-impl<'a> Laws for Engine<'a> {
+impl<'a, S: Sharing> Laws for Engine<'a, S> {
     fn need(&mut self, needed: Needed) -> Result<(), Stop> {
         is_given(&mut self.lookout, needed)
     }

@@ -1,12 +1,11 @@
 //! What an engine knows beside its terms.
 
-use crate::share::Share;
 use lk_memo::PrivateMemo;
 
-/// The answers that an engine keeps for itself and, where other workers check too, those that it
-/// shares with them.
+/// The answers that an engine keeps for itself, and how it shares answers with other workers, if it
+/// does.
 #[derive(Drop)]
-pub struct Knowledge<'a> {
+pub struct Knowledge<S> {
     pub memo: PrivateMemo,
-    pub share: Option<Share<'a>>,
+    pub share: S,
 }

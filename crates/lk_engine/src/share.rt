@@ -1,18 +1,24 @@
 //! A desk where workers share answers, as one of them looks there and leaves there.
 
-ghost use Rattle.std.specs.Prelude.{◌≡◌, ℕ, None, true, length, IfSome};
+ghost use Rattle.std.specs.Prelude.{◌≡◌, ℕ, Some, None, true, length, IfSome};
 ghost use Rattle.lk_store.specs.Contents.{Extends};
 ghost use Rattle.lk_store.specs.Store.{over, contents_of};
 ghost use Rattle.lk_ask.specs.Questions.{IsKnownQuery};
 ghost use Rattle.lk_memo.specs.Keys.{key_of};
 ghost use Rattle.lk_desk.specs.Seats.{job, Sits};
 ghost use Rattle.lk_desk.specs.Truth.{IsTablesOf};
-ghost use Rattle.lk_engine.specs.Shares.{IsFor, IsShared, LastsAt, shared_from};
+ghost use Rattle.lk_engine.specs.Shares.{IsFor, IsShared, LastsAt};
 
+use crate::alone::Sharing;
+use crate::answering::Frame;
+use crate::sharing::answer_shared;
 use crate::shelves::Shelves;
 use lk_ask::kept::Kept;
-use lk_ask::query::Query;
+use lk_ask::lookout::Lookout;
+use lk_ask::query::{Answer, Query};
+use lk_ask::stop::Stop;
 use lk_desk::{Entry, Seat};
+use lk_memo::PrivateMemo;
 use lk_memo::key::{Key, Kind};
 use lk_store::overlay::Overlay;
 use std::alloc::Global;
@@ -93,13 +99,6 @@ impl<'a> Share<'a> {
         }
     }
 
-    /// From here on this unit looks and leaves, or none does.
-    pub fn look_from(&mut self, unit: Option<u32>)
-        ensures { self.new ≡ shared_from unit self.old }
-    {
-        self.unit = unit;
-    }
-
     /// Whether the answer of a question is shared: a unit looks, and its terms are the library's.
     pub fn is_for(&self, terms: &Overlay<'_>, query: Query<u64>) -> bool
         ensures { result ≡ true → IsFor self.now (length (contents_of terms.now.0).trees) query }
@@ -169,5 +168,23 @@ impl<'a> Share<'a> {
         let key = key_of(query);
         let _left = self.shelves.desk.leave(&mut self.seat, key, entry);
         self.shelves.mark(key);
+    }
+}
+
+impl Sharing for Share<'_> {
+    ghost shared = { λ s. Some s };
+
+    fn look_from(&mut self, unit: Option<u32>) {
+        self.unit = unit;
+    }
+
+    fn answer<'a>(
+        &mut self,
+        lookout: &mut Lookout<'a, Overlay<'a>>,
+        memo: &mut PrivateMemo,
+        stack: &mut Vec<Frame>,
+        query: Query<u64>,
+    ) -> Result<Answer<u64>, Stop> {
+        answer_shared(lookout, memo, stack, self, query)
     }
 }

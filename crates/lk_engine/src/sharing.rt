@@ -6,9 +6,10 @@ ghost use Rattle.lk_store.specs.Contents.{Extends};
 ghost use Rattle.lk_store.specs.Store.{over, contents_of};
 ghost use Rattle.lk_ask.specs.Questions.{IsKnownQuery};
 ghost use Rattle.lk_engine.specs.Entries.{IsTrueAt};
-ghost use Rattle.lk_engine.specs.Lookouts.{place_of, AreTrueAt, Stays, Fetches, IsWorkedOut, Answers, Shares, Stands};
+ghost use Rattle.lk_engine.specs.Lookouts.{place_of, Stays, Fetches, IsWorkedOut, Answers, Shares, Stands};
 
-use crate::answering::{Frame, answer, known};
+use crate::alone::answer_alone;
+use crate::answering::{Frame, known};
 use crate::paying::{last, left, turns};
 use crate::share::Share;
 use lk_ask::kept::Kept;
@@ -21,7 +22,7 @@ use lk_store::overlay::Overlay;
 /// What the desk has of a question.
 fn look_up<'a>(
     lookout: &mut Lookout<'a, Overlay<'a>>,
-    share: &mut Share<'a>,
+    share: &mut Share<'_>,
     query: Query<u64>,
 ) -> Option<Kept>
     requires shares { Shares lookout.old share.old }
@@ -43,7 +44,7 @@ fn look_up<'a>(
 fn fetch_at<'a>(
     lookout: &mut Lookout<'a, Overlay<'a>>,
     memo: &mut PrivateMemo,
-    share: &mut Share<'a>,
+    share: &mut Share<'_>,
     query: Query<u64>,
 )
     requires query_in { IsKnownQuery
@@ -74,7 +75,7 @@ fn fetch_at<'a>(
 fn fetch_any<'a>(
     lookout: &mut Lookout<'a, Overlay<'a>>,
     memo: &mut PrivateMemo,
-    share: &mut Share<'a>,
+    share: &mut Share<'_>,
     query: Query<u64>,
 )
     requires query_in { IsKnownQuery
@@ -100,7 +101,7 @@ pub struct Since {
 fn fetch<'a>(
     lookout: &mut Lookout<'a, Overlay<'a>>,
     memo: &mut PrivateMemo,
-    share: &mut Share<'a>,
+    share: &mut Share<'_>,
     query: Query<u64>,
 ) -> Since
     requires query_in { IsKnownQuery
@@ -121,7 +122,7 @@ fn fetch<'a>(
 #[inline(never)]
 fn offer_at<'a>(
     lookout: &Lookout<'a, Overlay<'a>>,
-    share: &mut Share<'a>,
+    share: &mut Share<'_>,
     query: Query<u64>,
     kept: Kept,
 )
@@ -146,7 +147,7 @@ const LEAST: u128 = 256;
 /// one turn.
 fn offer<'a>(
     lookout: &Lookout<'a, Overlay<'a>>,
-    share: &mut Share<'a>,
+    share: &mut Share<'_>,
     query: Query<u64>,
     since: Since,
     outcome: &Result<Answer<u64>, Stop>,
@@ -172,32 +173,13 @@ fn offer<'a>(
     offer_at(lookout, share, query, Kept { answer, cost, top });
 }
 
-/// The plain answer of a question, whether answers are shared or not.
-#[inline(never)]
-fn answer_alone<'a>(
-    lookout: &mut Lookout<'a, Overlay<'a>>,
-    memo: &mut PrivateMemo,
-    stack: &mut Vec<Frame>,
-    query: Query<u64>,
-) -> Result<Answer<u64>, Stop>
-    requires query_in { IsKnownQuery
-        (length (contents_of (over lookout.old.2.0 lookout.old.2.1)).trees) query }
-    requires entries { AreTrueAt lookout.old (contents_of (over lookout.old.2.0 lookout.old.2.1))
-        memo.old }
-    ensures { Answers (λ t. contents_of (over t.0 t.1)) (λ t. t.0) lookout.old lookout.new memo.new
-        result query }
-{
-    answer(lookout, memo, stack, query)
-}
-
 /// The plain answer of a question where workers share answers: one that another worker left is found,
 /// and one that is worked out here is left for them.
-#[inline(never)]
-fn answer_shared<'a>(
+pub(crate) fn answer_shared<'a>(
     lookout: &mut Lookout<'a, Overlay<'a>>,
     memo: &mut PrivateMemo,
     stack: &mut Vec<Frame>,
-    share: &mut Share<'a>,
+    share: &mut Share<'_>,
     query: Query<u64>,
 ) -> Result<Answer<u64>, Stop>
     requires query_in { IsKnownQuery
@@ -211,26 +193,4 @@ fn answer_shared<'a>(
     let result = answer_alone(lookout, memo, stack, query);
     offer(lookout, share, query, since, &result);
     result
-}
-
-/// The plain answer of a question that a unit asks, by what is shared where workers share answers.
-#[inline(always)]
-pub(crate) fn answer_unit<'a>(
-    lookout: &mut Lookout<'a, Overlay<'a>>,
-    memo: &mut PrivateMemo,
-    stack: &mut Vec<Frame>,
-    share: &mut Option<Share<'a>>,
-    query: Query<u64>,
-) -> Result<Answer<u64>, Stop>
-    requires query_in { IsKnownQuery
-        (length (contents_of (over lookout.old.2.0 lookout.old.2.1)).trees) query }
-    requires stands { Stands lookout.old memo.old share.old }
-    ensures answers { Answers (λ t. contents_of (over t.0 t.1)) (λ t. t.0) lookout.old lookout.new
-        memo.new result query }
-    ensures share { share.new ≡ share.old }
-{
-    match share {
-        None => answer_alone(lookout, memo, stack, query),
-        Some(share) => answer_shared(lookout, memo, stack, share, query),
-    }
 }
