@@ -34,7 +34,7 @@ fn is_answered_once<A: Asks>(asks: &mut A) -> Result<bool, NoMemory> {
 fn is_answered_under_one_step(alloc: Global) -> Result<bool, NoMemory> {
     let library = Library::new(alloc, BaseStore::new(alloc), Vec::new(alloc))?;
     let memo = PrivateMemo::new(alloc, 1)?;
-    let mut knowledge = Knowledge { memo, share: Alone };
+    let mut knowledge = Knowledge::new(alloc, memo, Alone);
     let mut engine = Engine::new(alloc, &library, &mut knowledge);
     engine.start(0, 1);
     is_answered_once(&mut engine)

@@ -273,7 +273,7 @@ fn stays_at_local<A: Asks>(asks: &mut A) -> Result<bool, NoMemory> {
 fn constructor_steps(alloc: Global) -> Result<bool, NoMemory> {
     let library = library(alloc, false)?;
     let memo = PrivateMemo::new(alloc, 8)?;
-    let mut knowledge = Knowledge { memo, share: Alone };
+    let mut knowledge = Knowledge::new(alloc, memo, Alone);
     let mut engine = Engine::new(alloc, &library, &mut knowledge);
     engine.start(1, 100);
     steps_at_constructor(&mut engine)
@@ -282,7 +282,7 @@ fn constructor_steps(alloc: Global) -> Result<bool, NoMemory> {
 fn k_steps(alloc: Global) -> Result<bool, NoMemory> {
     let library = library(alloc, true)?;
     let memo = PrivateMemo::new(alloc, 8)?;
-    let mut knowledge = Knowledge { memo, share: Alone };
+    let mut knowledge = Knowledge::new(alloc, memo, Alone);
     let mut engine = Engine::new(alloc, &library, &mut knowledge);
     engine.start(1, 100);
     steps_at_local(&mut engine)
@@ -291,7 +291,7 @@ fn k_steps(alloc: Global) -> Result<bool, NoMemory> {
 fn local_stays(alloc: Global) -> Result<bool, NoMemory> {
     let library = library(alloc, false)?;
     let memo = PrivateMemo::new(alloc, 8)?;
-    let mut knowledge = Knowledge { memo, share: Alone };
+    let mut knowledge = Knowledge::new(alloc, memo, Alone);
     let mut engine = Engine::new(alloc, &library, &mut knowledge);
     engine.start(1, 100);
     stays_at_local(&mut engine)

@@ -3,7 +3,7 @@
 use lk_ask::asks::Asks;
 use lk_ask::query::{Answer, Query};
 use lk_ask::stop::Stop;
-use lk_engine::{Engine, Knowledge, Share, Sharing, Shelves};
+use lk_engine::{Engine, Knowledge, Knows, Share, Shelves};
 use lk_env::library::Library;
 use lk_memo::PrivateMemo;
 use lk_store::base_store::BaseStore;
@@ -114,7 +114,7 @@ fn is_answered<A: Asks>(asks: &mut A, case: Case) -> Result<bool, NoMemory> {
 
 /// How many turns the question takes of an engine: none where it is not answered by its sort at just
 /// its cost.
-fn turns_for<S: Sharing>(engine: &mut Engine<'_, S>, case: Case) -> Result<u64, NoMemory> {
+fn turns_for<K: Knows>(engine: &mut Engine<'_, K>, case: Case) -> Result<u64, NoMemory> {
     engine.start(0, case.cost - 1);
     if !matches!(asked(engine, case.query), Err(Stop::Spent)) {
         return Ok(0);
@@ -130,14 +130,10 @@ fn is_found(alloc: Global, library: &Library, case: Case) -> Result<bool, NoMemo
     let Some(second) = shelves.desk.split(&mut first) else {
         return Ok(false);
     };
-    let mut knowledge = Knowledge {
-        memo: PrivateMemo::new(alloc, 64)?,
-        share: Share::new(&shelves, first),
-    };
-    let mut other_knowledge = Knowledge {
-        memo: PrivateMemo::new(alloc, 64)?,
-        share: Share::new(&shelves, second),
-    };
+    let memo = PrivateMemo::new(alloc, 64)?;
+    let mut knowledge = Knowledge::new(alloc, memo, Share::new(&shelves, first));
+    let memo = PrivateMemo::new(alloc, 64)?;
+    let mut other_knowledge = Knowledge::new(alloc, memo, Share::new(&shelves, second));
     let mut one = Engine::new(alloc, library, &mut knowledge);
     let mut other = Engine::new(alloc, library, &mut other_knowledge);
     let worked_out = turns_for(&mut one, case)?;

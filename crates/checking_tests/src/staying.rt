@@ -2,7 +2,7 @@
 
 use lk_ask::asks::Asks;
 use lk_ask::query::Query;
-use lk_engine::{Alone, Engine, Knowledge, Sharing};
+use lk_engine::{Alone, Engine, Knowledge, Knows};
 use lk_env::library::Library;
 use lk_memo::PrivateMemo;
 use lk_store::base_store::BaseStore;
@@ -22,7 +22,7 @@ fn has_type<A: Asks>(asks: &mut A) -> Result<bool, NoMemory> {
 }
 
 /// How many turns it takes at a unit, and none where there is no answer.
-fn turns_at<S: Sharing>(engine: &mut Engine<'_, S>, unit: u32) -> Result<u64, NoMemory> {
+fn turns_at<K: Knows>(engine: &mut Engine<'_, K>, unit: u32) -> Result<u64, NoMemory> {
     engine.start(unit, 100);
     let answered = has_type(engine)?;
     Ok(if answered { engine.turns() } else { 0 })
@@ -32,7 +32,7 @@ fn turns_at<S: Sharing>(engine: &mut Engine<'_, S>, unit: u32) -> Result<u64, No
 fn is_found_by_the_third_unit(alloc: Global) -> Result<bool, NoMemory> {
     let library = Library::new(alloc, BaseStore::new(alloc), Vec::new(alloc))?;
     let memo = PrivateMemo::new(alloc, 65_536)?;
-    let mut knowledge = Knowledge { memo, share: Alone };
+    let mut knowledge = Knowledge::new(alloc, memo, Alone);
     let mut engine = Engine::new(alloc, &library, &mut knowledge);
     let made = turns_at(&mut engine, 0)?;
     let kept = turns_at(&mut engine, 1)?;

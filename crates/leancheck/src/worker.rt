@@ -8,7 +8,7 @@ ghost use Rattle.leancheck.specs.Workers.{Draws, IsDone, IsPlace};
 use crate::checking::check_unit;
 use crate::order::UnitVerdict;
 use lk_desk::{Desk, Seat};
-use lk_engine::{Alone, Engine, Knowledge, Share, Sharing};
+use lk_engine::{Alone, Engine, Knowledge, Knows, Share, Sharing};
 use lk_env::library::Library;
 use lk_memo::PrivateMemo;
 use lk_port::Gate;
@@ -46,10 +46,10 @@ fn says_yes(verdict: Verdict) -> bool {
 }
 
 /// Draws units, and gives a verdict for each. Where memory is wanting for one more answer none is drawn.
-fn draw_all<S: Sharing, G: Gate>(
+fn draw_all<K: Knows, G: Gate>(
     alloc: Global,
     library: &Library,
-    engine: &mut Engine<'_, S>,
+    engine: &mut Engine<'_, K>,
     desk: &Desk,
     seat: &mut Seat,
     steps: u128,
@@ -100,7 +100,7 @@ fn work_by<S: Sharing + Drop, G: Gate>(
         let answers = Vec::new(alloc);
         return Done { seat, answers };
     };
-    let mut knowledge = Knowledge { memo, share };
+    let mut knowledge = Knowledge::new(alloc, memo, share);
     let mut engine = Engine::new(alloc, library, &mut knowledge);
     let answers = draw_all(
         alloc,

@@ -9,12 +9,10 @@ ghost use Rattle.lk_env.specs.Units.{type_at, IsTypeIn};
 ghost use Rattle.lk_ask.specs.Instances.{AreInstances};
 ghost use Rattle.lk_desk.specs.Job.{job_of};
 ghost use Rattle.lk_store.specs.Sizes.{sizes_of};
-ghost use Rattle.lk_engine.specs.Lookouts.{row_count, Tidies, Restarts, BeginsUnit, GivesMembers};
+ghost use Rattle.lk_engine.specs.Lookouts.{row_count, Tidies, Restarts, GivesMembers};
 
-use crate::alone::Sharing;
-use crate::answering::Frame;
 use crate::families::family_of;
-use crate::knowledge::Knowledge;
+use crate::knowledge::Knows;
 use crate::parameters::parameters_at;
 use lk_ask::asks::Asks;
 use lk_ask::instances::Instances;
@@ -27,7 +25,6 @@ use lk_env::scope::Scope;
 use lk_env::unit::BlockType;
 use lk_family::{Families, Family};
 use lk_laws::{Laws, Needed, is_given};
-use lk_memo::PrivateMemo;
 use lk_meter::Meter;
 use lk_quot::{Quotients, may_stand};
 use lk_store::memory::NoMemory;
@@ -45,14 +42,12 @@ use std::mem::drop;
 /// An engine over a library. What units make stands over the library's store, and goes when a unit
 /// is started, once it is many rows; what the memo keeps, which is lent, goes with the unit, but for
 /// what outlasts one. Whether answers are shared with other workers is told by its parameter.
-pub struct Engine<'a, S: Sharing> {
+pub struct Engine<'a, K: Knows> {
     lookout: Lookout<'a, Overlay<'a>>,
-    knowledge: &'a mut Knowledge<S>,
-    /// Room for the questions that wait.
-    stack: Vec<Frame>,
+    knowledge: &'a mut K,
 }
 
-impl<'a, S: Sharing> Model for Engine<'a, S> {
+impl<'a, K: Knows> Model for Engine<'a, K> {
     ghost use Rattle.std.specs.Prelude.{List};
     ghost use Rattle.lk_store.specs.declared.tables.Tables.{Tables};
     ghost use Rattle.lk_env.specs.declared.entry.Site.{Site as LookedFrom};
@@ -65,19 +60,17 @@ impl<'a, S: Sharing> Model for Engine<'a, S> {
 
     ghost view = { λ s. s.lookout };
 
-    ghost invariant = { λ s. Stands s.lookout s.knowledge.now.memo
-        (S.shared s.knowledge.now.share) };
+    ghost invariant = { λ s. Stands s.lookout (K.memo s.knowledge.now)
+        (K.shared s.knowledge.now) };
 }
 
-impl<S: Sharing> Drop for Engine<'_, S> {
+impl<K: Knows> Drop for Engine<'_, K> {
     fn drop(self) {
         let Engine {
             lookout,
             knowledge: _,
-            stack,
         } = self;
         drop(lookout);
-        drop(stack);
     }
 }
 
@@ -123,19 +116,6 @@ fn restart<'a>(lookout: &mut Lookout<'a, Overlay<'a>>, unit: u32, budget: u128) 
     stays
 }
 
-/// Keeps what outlasts a unit, for this one: over a library's own terms, and, where what earlier
-/// units made stays, over all the terms that stand, which are so many.
-fn begin_unit(memo: &mut PrivateMemo, unit: u32, terms: u64, stays: bool)
-    ensures { BeginsUnit memo.old memo.new unit terms stays }
-{
-    memo.start(unit);
-    if stays {
-        memo.stay(terms);
-    } else {
-        memo.forget_staying(terms);
-    }
-}
-
 /// From here on so much of the unit at work is partial, and no auxiliary type.
 fn give_in<'a>(lookout: &mut Lookout<'a, Overlay<'a>>, partial: Partial)
     ensures { GivesMembers lookout.old lookout.new partial [] }
@@ -170,11 +150,11 @@ fn turns_of(lookout: &Lookout<'_, Overlay<'_>>) -> u64
     lookout.meter.turns
 }
 
-impl<'a, S: Sharing> Engine<'a, S> {
+impl<'a, K: Knows> Engine<'a, K> {
     /// An engine at the first unit, with nothing to spend. The memo is emptied. Answers are shared at
     /// a desk of the library, if there is one. It takes no memory.
-    pub fn new(alloc: Global, library: &'a Library, knowledge: &'a mut Knowledge<S>) -> Self
-        requires { IfSome (S.shared knowledge.old.share) (λ s. s.0 ≡ job_of library.now) }
+    pub fn new(alloc: Global, library: &'a Library, knowledge: &'a mut K) -> Self
+        requires { IfSome (K.shared knowledge.old) (λ s. s.0 ≡ job_of library.now) }
         ensures library { result.0.2 ≡ library.now }
         ensures auxiliary { result.0.3 ≡ [] }
         ensures unit { result.1.unit ≡ 0 }
@@ -183,8 +163,7 @@ impl<'a, S: Sharing> Engine<'a, S> {
         ensures left { result.3.left ≡ 0 }
         ensures turns { result.3.turns ≡ 0 }
     {
-        knowledge.memo.begin(library.base().len());
-        knowledge.share.look_from(None);
+        knowledge.begin(library.base().len());
         let terms = Overlay::new(alloc, library.base());
         let lookout = Lookout {
             alloc,
@@ -197,11 +176,7 @@ impl<'a, S: Sharing> Engine<'a, S> {
             meter: Meter::new(0),
             instances: Instances::new(alloc),
         };
-        Engine {
-            lookout,
-            knowledge,
-            stack: Vec::new(alloc),
-        }
+        Engine { lookout, knowledge }
     }
 
     /// Begins a unit: the names below it are seen, nothing of it is partial, and so many steps may be
@@ -219,8 +194,7 @@ impl<'a, S: Sharing> Engine<'a, S> {
     {
         let stays = restart(&mut self.lookout, unit, budget);
         let terms = self.lookout.len();
-        begin_unit(&mut self.knowledge.memo, unit, terms, stays);
-        self.knowledge.share.look_from(Some(unit));
+        self.knowledge.start_unit(unit, terms, stays);
     }
 
     /// How many questions were opened for the unit that was begun last, those of which an answer
@@ -232,7 +206,7 @@ impl<'a, S: Sharing> Engine<'a, S> {
     }
 }
 
-impl<'a, S: Sharing> Terms for Engine<'a, S> {
+impl<'a, K: Knows> Terms for Engine<'a, K> {
     ghost use Rattle.lk_store.specs.Store.{over, contents_of};
 
     /// All but the terms: the scope, from where it is seen, what is left of the budget, and the
@@ -332,7 +306,7 @@ impl<'a, S: Sharing> Terms for Engine<'a, S> {
     }
 }
 
-impl<'a, S: Sharing> Asks for Engine<'a, S> {
+impl<'a, K: Knows> Asks for Engine<'a, K> {
     ghost use Rattle.std.proofs.Common.{ap};
     ghost use Rattle.lk_engine.specs.Lookouts.{standing_at, places_at};
 
@@ -346,13 +320,7 @@ impl<'a, S: Sharing> Asks for Engine<'a, S> {
     ghost places = { places_at };
 
     fn ask(&mut self, query: Query<u64>) -> Result<Answer<u64>, Stop> {
-        let knowledge = &mut *self.knowledge;
-        knowledge.share.answer(
-            &mut self.lookout,
-            &mut knowledge.memo,
-            &mut self.stack,
-            query,
-        )
+        self.knowledge.answer(&mut self.lookout, query)
     }
 
     fn parameter_count(&self, name: u64) -> Result<Option<u64>, Rule> {
@@ -361,14 +329,12 @@ impl<'a, S: Sharing> Asks for Engine<'a, S> {
 
     fn give(&mut self, partial: Partial) {
         give_in(&mut self.lookout, partial);
-        self.knowledge.memo.clear();
-        self.knowledge.share.look_from(None);
+        self.knowledge.clear();
     }
 
     fn give_beside(&mut self, partial: Partial, types: &[BlockType]) -> Result<(), NoMemory> {
         let given = give_beside_in(&mut self.lookout, partial, types);
-        self.knowledge.memo.clear();
-        self.knowledge.share.look_from(None);
+        self.knowledge.clear();
         given
     }
 
@@ -378,19 +344,19 @@ impl<'a, S: Sharing> Asks for Engine<'a, S> {
     ) };
 }
 
-impl<'a, S: Sharing> Families for Engine<'a, S> {
+impl<'a, K: Knows> Families for Engine<'a, K> {
     fn family(&self, alloc: Global, name: u64) -> Result<Option<Family>, Stop> {
         family_of(&self.lookout, alloc, name)
     }
 }
 
-impl<'a, S: Sharing> Quotients for Engine<'a, S> {
+impl<'a, K: Knows> Quotients for Engine<'a, K> {
     fn quotient(&mut self, name: u64, levels: &[u64], ty: u64) -> Result<(), Stop> {
         may_stand(&mut self.lookout, name, levels, ty)
     }
 }
 
-impl<'a, S: Sharing> Laws for Engine<'a, S> {
+impl<'a, K: Knows> Laws for Engine<'a, K> {
     fn need(&mut self, needed: Needed) -> Result<(), Stop> {
         is_given(&mut self.lookout, needed)
     }

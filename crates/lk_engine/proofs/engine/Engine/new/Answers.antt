@@ -29,7 +29,7 @@ invariant_of-result g c =
     let library_has = contents_of c.new.result.2.0 in
     let same = c.new-terms.ensures.contents ∙ ap (λ t. contents_of t) (c.base-2.ensures ∙ library) in
     new_stands _ _ _ _
-    (rw c.look_from.ensures (shares_new _ _ _ c.new.ensures.library c.requires))
+    (rw c.begin.ensures.share (shares_new _ _ _ c.new.ensures.library c.requires))
     (ap (λ t. t.0) c.new-terms.ensures.value ∙ c.base-2.ensures ∙ library)
     c.begin.ensures.private c.begin.ensures.lasting c.begin.ensures.staying
     (c.len.ensures ∙ ap (λ t. length (contents_of t).trees) (c.base.ensures ∙ library))

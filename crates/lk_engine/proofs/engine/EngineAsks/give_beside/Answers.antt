@@ -25,7 +25,7 @@ returns-clause-basis g c = gives_basis _ _ _ _ c.give_beside_in-given.result c.g
     c.give_beside_in-given.ensures.refused ∙ ap (λ s. (s.0.2, s.1.unit)) c.self.view_is
 
 pub invariant_of-self : goal.invariant_of-self
-invariant_of-self g c = rw c.look_from.ensures (beside_stands _ _ _ _ _ _ _
+invariant_of-self g c = rw c.clear.ensures.share (beside_stands _ _ _ _ _ _ _
     c.give_beside_in-given.result c.give_beside_in-given.ensures.gives
     c.give_beside_in-given.ensures.refused c.self.invariant c.clear.ensures.private
     c.clear.ensures.lasting c.clear.ensures.staying)
