@@ -1,0 +1,14 @@
+use Rattle.lk_rows.proofs.Placing.{last_filled}
+use Rattle.lk_rows.proofs.table.place_last.Goals as goal
+
+pub part-requires-clause-filled : goal.part-requires-clause-filled
+part-requires-clause-filled g c =
+    last_filled g.R.Row.key g.R.Row.hash c.args.rows.now c.args.tags.now c.args.slots.now c.place.new.tags c.place.new.slots
+    c.args.seed.now c.args.hash c.hash_of_row-hash.result c.index-rows-i.result c.requires.last c.requires.room
+    c.place.auto.tags c.index-rows-i.is c.hash_of_row-hash.ensures c.place.ensures
+
+pub returns-else-place : goal.returns-else-place
+returns-else-place g c =
+    last_filled g.R.Row.key g.R.Row.hash c.args.rows.now c.args.tags.now c.args.slots.now c.place.new.tags c.place.new.slots
+    c.args.seed.now c.args.hash c.hash_of_row-hash.result c.index-rows-i.result c.requires.last c.requires.room
+    c.place.auto.tags c.index-rows-i.is c.hash_of_row-hash.ensures c.place.ensures

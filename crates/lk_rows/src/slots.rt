@@ -1,0 +1,240 @@
+//! Slots for rows. A row stands in the first slot that was free from the bucket of its hash on, so
+//! whoever walks from there comes to it, or to a free slot where there is none.
+
+ghost use Rattle.std.specs.Prelude.{◌≡◌, ◌≢◌, ◌<◌, ◌≤◌, ◌+◌, ◌^◌, ℕ, List, length, slice_index};
+ghost use Rattle.std.specs.Prelude.{IfNone, IfSome};
+ghost use Rattle.lk_rows.specs.Rows.{RowHas, NoRowHas};
+ghost use Rattle.lk_rows.specs.Slots.{bucket, tag, taken, AreTaken, ComesTo};
+ghost use Rattle.lk_rows.specs.Slots.{ArePlaced, AreRowsOf, IsFilled, Misses, Walks};
+
+use crate::row::Row;
+
+/// The bucket of a hash among `n`.
+#[inline(always)]
+fn bucket_of(hash: u64, n: usize) -> usize
+    requires { 0 < n }
+    ensures value { result ≡ bucket hash n }
+    ensures within { result < n }
+{
+    (hash & (n as u64 - 1)) as usize
+}
+
+/// The tag of a hash: other bits than those that tell its bucket. It is above 0, which is the tag of
+/// a free slot.
+#[inline(always)]
+fn tag_of(hash: u64) -> u8
+    ensures { result ≡ tag hash }
+{
+    (hash >> 57) as u8 + 1
+}
+
+/// What a walk over slots comes to.
+enum Walk {
+    /// The row that has the key.
+    Row(u64),
+    /// A free slot.
+    Free,
+    /// The last slot, which is taken.
+    End,
+}
+
+/// Walks over the slots from one on, below another one. Only rows with the tag are compared.
+#[inline(always)]
+fn walk_on<R: Row>(
+    rows: &[R],
+    tags: &[u8],
+    slots: &[u32],
+    key: &R::Key,
+    tag: u8,
+    from: usize,
+    to: usize,
+) -> Walk
+    requires slots { AreRowsOf tags.now slots.now (length rows.now) }
+    requires within { to ≤ length tags.now }
+    ensures { Walks R.key rows.now key.now tags.now slots.now tag from to result }
+{
+    for s in from..to {
+        if tags[s] == 0 {
+            return Walk::Free;
+        }
+        if tags[s] == tag {
+            let i = slots[s];
+            if rows[i as usize].has(key) {
+                return Walk::Row(u64::from(i));
+            }
+        }
+    }
+    Walk::End
+}
+
+/// The row that has the key, where a walk from this slot came to the last one: it goes on at the
+/// first one.
+#[cold]
+#[inline(never)]
+fn find_around<R: Row>(
+    rows: &[R],
+    tags: &[u8],
+    slots: &[u32],
+    key: &R::Key,
+    tag: u8,
+    b: usize,
+) -> Option<u64>
+    requires slots { AreRowsOf tags.now slots.now (length rows.now) }
+    requires bucket { b < length tags.now }
+    requires taken { 0 < tag }
+    requires passed { Walks R.key rows.now key.now tags.now slots.now tag b (length tags.now) Walk.End }
+    ensures none { IfNone result (Misses R.key rows.now key.now tags.now slots.now tag b) }
+    ensures known { IfSome result (λ i. i < length rows.now) }
+    ensures some { IfSome result (RowHas R.key rows.now key.now) }
+{
+    match walk_on(rows, tags, slots, key, tag, 0, b) {
+        Walk::Row(i) => Some(i),
+        Walk::Free => None,
+        Walk::End => None,
+    }
+}
+
+/// The row that has the key, if a walk from a slot on comes to it.
+#[inline(always)]
+fn find_from<R: Row>(
+    rows: &[R],
+    tags: &[u8],
+    slots: &[u32],
+    key: &R::Key,
+    tag: u8,
+    b: usize,
+) -> Option<u64>
+    requires slots { AreRowsOf tags.now slots.now (length rows.now) }
+    requires bucket { b < length tags.now }
+    requires taken { 0 < tag }
+    ensures none { IfNone result (Misses R.key rows.now key.now tags.now slots.now tag b) }
+    ensures known { IfSome result (λ i. i < length rows.now) }
+    ensures some { IfSome result (RowHas R.key rows.now key.now) }
+{
+    match walk_on(rows, tags, slots, key, tag, b, tags.len()) {
+        Walk::Row(i) => Some(i),
+        Walk::Free => None,
+        Walk::End => find_around(rows, tags, slots, key, tag, b),
+    }
+}
+
+/// The row that has the key, whose hash is at hand.
+#[inline(always)]
+pub(crate) fn find_placed<R: Row>(
+    rows: &[R],
+    tags: &[u8],
+    slots: &[u32],
+    seed: u64,
+    key: &R::Key,
+    hash: u64,
+) -> Option<u64>
+    requires some { 0 < length tags.now }
+    requires filled { IsFilled R.key (R.hash seed) rows.now tags.now slots.now }
+    requires hash { hash ≡ R.hash seed key.now }
+    ensures absent { IfNone result (NoRowHas R.key rows.now key.now) }
+    ensures known { IfSome result (λ i. i < length rows.now) }
+    ensures present { IfSome result (RowHas R.key rows.now key.now) }
+{
+    let b = bucket_of(hash, tags.len());
+    find_from(rows, tags, slots, key, tag_of(hash), b)
+}
+
+/// The first free slot from one on, below another one.
+#[inline(always)]
+fn free_between(tags: &[u8], from: usize, to: usize) -> Option<usize>
+    requires { to ≤ length tags.now }
+    ensures none { IfNone result (AreTaken tags.now from to) }
+    ensures after { IfSome result (λ s. from ≤ s) }
+    ensures before { IfSome result (λ s. s < to) }
+    ensures free { IfSome result (λ s. slice_index tags.now s ≡ 0) }
+    ensures first { IfSome result (AreTaken tags.now from) }
+{
+    for s in from..to {
+        if tags[s] == 0 {
+            return Some(s);
+        }
+    }
+    None
+}
+
+/// The free slot that a walk from this one comes to once it is at the first one.
+#[cold]
+#[inline(never)]
+fn free_around(tags: &[u8], b: usize) -> usize
+    requires bucket { b < length tags.now }
+    requires taken { AreTaken tags.now b (length tags.now) }
+    requires room { taken tags.now < length tags.now }
+    ensures within { result < length tags.now }
+    ensures free { slice_index tags.now result ≡ 0 }
+    ensures found { ComesTo tags.now b result }
+{
+    match free_between(tags, 0, b) {
+        Some(s) => s,
+        None => unreachable!(),
+    }
+}
+
+/// The free slot that a walk from this one comes to.
+#[inline(always)]
+fn free_from(tags: &[u8], b: usize) -> usize
+    requires bucket { b < length tags.now }
+    requires room { taken tags.now < length tags.now }
+    ensures within { result < length tags.now }
+    ensures free { slice_index tags.now result ≡ 0 }
+    ensures found { ComesTo tags.now b result }
+{
+    match free_between(tags, b, tags.len()) {
+        Some(s) => s,
+        None => free_around(tags, b),
+    }
+}
+
+/// How many slots a walk from one to another one passes.
+#[inline]
+fn distance(from: usize, to: usize, n: usize) -> u64
+    requires from { from < n }
+    requires to { to < n }
+{
+    if from <= to {
+        return (to - from) as u64;
+    }
+    (n - from + to) as u64
+}
+
+/// Puts the next row into a slot. Whether more than so many slots lie between that and its bucket.
+#[inline]
+pub(crate) fn place(tags: &mut [u8], slots: &mut [u32], hash: u64, i: u32, most: u64) -> bool
+    requires a_slot_each { length tags.old ≤ length slots.old }
+    requires room { taken tags.old < length tags.old }
+    ensures { (hashes : List ℕ) → slice_index hashes i ≡ hash → ArePlaced hashes tags.old slots.old i
+        → ArePlaced hashes tags.new slots.new (i + 1) }
+{
+    let b = bucket_of(hash, tags.len());
+    let s = free_from(tags, b);
+    tags[s] = tag_of(hash);
+    slots[s] = i;
+    distance(b, s, tags.len()) > most
+}
+
+/// Places all rows anew. Whether some row is further from its bucket than so many slots.
+pub(crate) fn place_all<R: Row>(
+    rows: &[R],
+    tags: &mut [u8],
+    slots: &mut [u32],
+    seed: u64,
+    most: u64,
+) -> bool
+    requires a_slot_each { length tags.old ≤ length slots.old }
+    requires room { length rows.now ≤ length tags.old }
+    requires few { length rows.now < 2 ^ 32 }
+    ensures { IsFilled R.key (R.hash seed) rows.now tags.new slots.new }
+{
+    tags.fill(0);
+    let mut is_far = false;
+    for (i, row) in rows.iter().enumerate() {
+        if place(tags, slots, row.own_hash(seed), i as u32, most) {
+            is_far = true;
+        }
+    }
+    is_far
+}
