@@ -1,5 +1,5 @@
 -- The row of a tree of two parts, where the bounds that are kept of them are their own codes.
-use Rattle.std.proofs.Common.{◌≡◌, ℕ, ◌+◌, ◌-◌, ◌<◌, ◌≤◌, ◌^◌, List, length, max, sym, ◌∙◌, refl, arith}
+use Rattle.std.proofs.Common.{◌≡◌, ℕ, ◌-◌, ◌<◌, ◌^◌, List, max, sym, ◌∙◌, refl, arith}
 use Rattle.std.specs.Prelude.{IfSome, Some, None, ◌||◌, ◌&&◌}
 use Rattle.std.specs.declared.option.Option.{Option}
 use Rattle.lk_tree.specs.Tree.{Tree, app, lam, pi}

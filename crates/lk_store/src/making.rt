@@ -457,7 +457,8 @@ fn make_coded(base: &Tables, own: &mut Tables, node: Node) -> Result<u64, NoMemo
     make_keyed(base, own, node, key)
 }
 
-/// The number of a tree.
+/// The number of a tree. Each arm makes its node anew, of numbers: a node that is copied whole waits
+/// until its parts, which were written one by one, are in memory.
 pub(crate) fn make_in(base: &Tables, own: &mut Tables, node: Node) -> Result<u64, NoMemory>
     requires base { IsStore base.now }
     requires store { IsStore (over base.now own.old) }
@@ -469,9 +470,17 @@ pub(crate) fn make_in(base: &Tables, own: &mut Tables, node: Node) -> Result<u64
         OnErr result (contents_of (over base.now own.new) ≡ c) }
 {
     match node {
-        Node::App(_, _) => make_keyed(base, own, node, coded_key(node, 0)),
-        Node::Lam(_, _) => make_keyed(base, own, node, coded_key(node, 0)),
-        Node::Pi(_, _) => make_keyed(base, own, node, coded_key(node, 0)),
-        _ => make_coded(base, own, node),
+        Node::App(f, a) => make_keyed(base, own, Node::App(f, a), coded_key(Node::App(f, a), 0)),
+        Node::Lam(t, b) => make_keyed(base, own, Node::Lam(t, b), coded_key(Node::Lam(t, b), 0)),
+        Node::Pi(t, b) => make_keyed(base, own, Node::Pi(t, b), coded_key(Node::Pi(t, b), 0)),
+        Node::Var(i) => make_coded(base, own, Node::Var(i)),
+        Node::Sort(l) => make_coded(base, own, Node::Sort(l)),
+        Node::Const(n, ls) => make_coded(base, own, Node::Const(n, ls)),
+        Node::Let(t, v, b) => make_coded(base, own, Node::Let(t, v, b)),
+        Node::Proj(n, i, e) => make_coded(base, own, Node::Proj(n, i, e)),
+        Node::Lit(n) => make_coded(base, own, Node::Lit(n)),
+        Node::Wide => make_coded(base, own, Node::Wide),
+        Node::Str(s) => make_coded(base, own, Node::Str(s)),
+        Node::Local(i, t) => make_coded(base, own, Node::Local(i, t)),
     }
 }
