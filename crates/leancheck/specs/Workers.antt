@@ -1,17 +1,22 @@
 -- What a worker has done.
-use Rattle.std.specs.Prelude.{◌≡◌, ◌++◌, ℕ, List, []}
+use Rattle.std.specs.Prelude.{◌≡◌, ◌++◌, ℕ, List, [], IfSome}
 use Rattle.lk_store.specs.declared.tables.Tables.{Tables}
 use Rattle.lk_env.specs.declared.unit.Unit.{Unit as StoredUnit}
 use Rattle.lk_desk.specs.declared.table.Desk.{Desk}
 use Rattle.lk_desk.specs.declared.table.Seat.{Seat}
-use Rattle.lk_desk.specs.Seats.{view, Sits}
+use Rattle.lk_desk.specs.Seats.{view, job, IsNew, Sits}
 use Rattle.leancheck.specs.declared.order.UnitVerdict.{UnitVerdict}
 use Rattle.leancheck.specs.declared.worker.Done.{Done}
+use Rattle.leancheck.specs.declared.worker.Place.{Place}
 use Rattle.leancheck.specs.Drawn.{AreRight, numbers}
 
 -- a seat that has drawn nothing, and came from itself alone
 abbrev pub IsIdle : Seat → Desk → Type 0
 IsIdle seat desk = Sits seat desk × ((view seat).drawn ≡ []) × ((view seat).seats ≡ 1)
+
+-- it has drawn nothing, and the answers that it shares, if it does, are of the desk's job
+abbrev pub IsPlace : Desk → Place → Type 0
+IsPlace desk place = IsNew place.seat desk × IfSome place.share (λ s. s.0 ≡ job desk)
 
 -- the seat drew these numbers, and each has a verdict, which is right
 pub record Draws (l : Tables × List StoredUnit) (steps : ℕ) (desk : Desk) (before after : Seat) (answers : List UnitVerdict) : Type 0 where

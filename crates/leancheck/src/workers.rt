@@ -1,6 +1,6 @@
 //! Workers in threads, and what they did put together.
 
-ghost use Rattle.std.specs.Prelude.{◌≡◌, ◌+◌, ◌<◌, ℕ, [], IfOk, All, true, length, map, vec_len, slice_index_or};
+ghost use Rattle.std.specs.Prelude.{◌≡◌, ◌+◌, ◌<◌, ℕ, [], IfOk, IfSome, All, true, length, map, vec_len, slice_index_or};
 ghost use Rattle.lk_verdict.specs.GoodUnit.{IsClearLibrary};
 ghost use Rattle.lk_verdict.specs.Told.{AreVerdicts};
 ghost use Rattle.lk_env.specs.Units.{library_of};
@@ -10,12 +10,13 @@ ghost use Rattle.lk_desk.specs.Seats.{view, job, IsNew, Sits};
 ghost use Rattle.lk_text.specs.declared.verdicts.Verdict.{Verdict as HeldVerdict};
 ghost use Rattle.lk_text.specs.Held.{verdict};
 ghost use Rattle.leancheck.specs.Drawn.{AreRight, numbers, stands, given};
-ghost use Rattle.leancheck.specs.Workers.{IsDone, IsIdle};
+ghost use Rattle.leancheck.specs.Workers.{IsDone, IsIdle, IsPlace};
 
 use crate::order::{UnitVerdict, blank, fill};
 use crate::words::Options;
-use crate::worker::{Done, Limits, work};
+use crate::worker::{Done, Limits, Place, work};
 use lk_desk::{Desk, Seat};
+use lk_engine::{Share, Shelves};
 use lk_env::library::Library;
 use lk_port::Gate;
 use lk_store::memory::NoMemory;
@@ -33,49 +34,67 @@ pub struct Report {
     pub ended: bool,
 }
 
-/// Seats for so many workers, or for as many as there are.
-fn seats_for(
+/// A share in the answers of others: none for a worker that is alone.
+fn share_for<'a>(shelves: &'a Shelves, first: &mut Seat, workers: u32) -> Option<Share<'a>>
+    requires { Sits first.old shelves.now.desk }
+    ensures first { Sits first.new shelves.now.desk }
+    ensures share { IfSome result (λ s. s.0 ≡ job shelves.now.desk) }
+{
+    if workers <= 1 {
+        return None;
+    }
+    let seat = shelves.desk.split(first)?;
+    Some(Share::new(shelves, seat))
+}
+
+/// Places for so many workers, or for as many as there are.
+fn places_for<'a>(
     alloc: Global,
     desk: &Desk,
     first: &mut Seat,
+    shelves: &'a Shelves,
+    sharer: &mut Seat,
     workers: u32,
-) -> Result<Vec<Seat>, NoMemory>
-    requires { IsNew first.old desk.now }
+) -> Result<Vec<Place<'a>>, NoMemory>
+    requires first { IsNew first.old desk.now }
+    requires sharer { Sits sharer.old shelves.now.desk }
+    requires job { job shelves.now.desk ≡ job desk.now }
     ensures first { IsIdle first.new desk.now }
-    ensures each { IfOk result (λ v. All (λ s. IsNew s desk.now) v.items) }
+    ensures each { IfOk result (λ v. All (IsPlace desk.now) v.items) }
 {
-    let mut seats = Vec::new(alloc);
+    let mut places = Vec::new(alloc);
     for _ in 0..workers {
         let Some(seat) = desk.split(first) else {
-            return Ok(seats);
+            return Ok(places);
         };
-        seats.push(seat)?;
+        let share = share_for(shelves, sharer, workers);
+        places.push(Place { seat, share })?;
     }
-    Ok(seats)
+    Ok(places)
 }
 
-/// As many workers as seats, each in a thread where one can be made, with what they did.
+/// As many workers as places, each in a thread where one can be made, with what they did.
 fn run_workers<R: Threads + Sync, G: Gate>(
     rt: &R,
     alloc: Global,
     library: &Library,
     limits: Limits,
     desk: &Desk,
-    seats: Vec<Seat>,
+    places: Vec<Place<'_>>,
     gate: &G,
 ) -> Result<Vec<Done>, NoMemory>
-    requires seats { All (λ s. IsNew s desk.now) seats.items }
+    requires places { All (IsPlace desk.now) places.items }
     requires job { job desk.now ≡ job_of library.now }
-    ensures count { IfOk result (λ v. vec_len v ≡ vec_len seats) }
+    ensures count { IfOk result (λ v. vec_len v ≡ vec_len places) }
     ensures each { IfOk result (λ v. All (IsDone library.now limits.steps desk.now) v.items) }
 {
     let all = thread::map_vec(
         rt,
-        seats,
-        &|seat| -> Done
-            requires { IsNew seat desk.now × (job desk.now ≡ job_of library.now) }
+        places,
+        &|place| -> Done
+            requires { IsPlace desk.now place × (job desk.now ≡ job_of library.now) }
             ensures { IsDone library.entry.now limits.steps desk.entry.now result }
-        { work(alloc, library, limits, desk, seat, gate) },
+        { work(alloc, library, limits, desk, place, gate) },
     )?;
     Ok(all)
 }
@@ -136,9 +155,10 @@ pub(crate) fn check_with<R: Threads + Sync, G: Gate>(
 {
     let mut verdicts = blank(alloc, library.units().len())?;
     let (desk, mut first) = Desk::new(alloc, library)?;
-    let seats = seats_for(alloc, &desk, &mut first, workers)?;
-    let count = seats.len() as u64 + 1;
-    let all = run_workers(rt, alloc, library, limits, &desk, seats, gate)?;
+    let (shelves, mut sharer) = Shelves::new(alloc, library)?;
+    let places = places_for(alloc, &desk, &mut first, &shelves, &mut sharer, workers)?;
+    let count = places.len() as u64 + 1;
+    let all = run_workers(rt, alloc, library, limits, &desk, places, gate)?;
     let answers = gather(alloc, library, limits.steps, &desk, &mut first, all)?;
     let ended = drew_all(&desk, &mut first, count);
     fill(&mut verdicts, answers.as_slice());

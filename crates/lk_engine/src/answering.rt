@@ -52,7 +52,7 @@ fn repeat<T: Terms>(lookout: &mut Lookout<'_, T>, kept: Kept) -> Result<Answer<u
 
 /// The answer of a question, where it is at hand or the memo has it.
 #[inline(always)]
-fn known<T: Terms>(
+pub(crate) fn known<T: Terms>(
     lookout: &Lookout<'_, T>,
     memo: &mut PrivateMemo,
     query: Query<u64>,

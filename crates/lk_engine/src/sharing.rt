@@ -1,0 +1,196 @@
+//! What a unit asks, where workers share answers: it is looked for at the desk before it is worked
+//! out, and left there after that.
+
+ghost use Rattle.std.specs.Prelude.{◌≡◌, Some, length, IfOk, IfSome};
+ghost use Rattle.lk_store.specs.Contents.{Extends};
+ghost use Rattle.lk_store.specs.Store.{over, contents_of};
+ghost use Rattle.lk_ask.specs.Questions.{IsKnownQuery};
+ghost use Rattle.lk_engine.specs.Entries.{IsTrueAt};
+ghost use Rattle.lk_engine.specs.Lookouts.{place_of, Stays, Fetches, IsWorkedOut, Answers, Shares, Stands};
+
+use crate::alone::answer_alone;
+use crate::answering::{Frame, known};
+use crate::paying::{last, left, turns};
+use crate::share::Share;
+use lk_ask::kept::Kept;
+use lk_ask::lookout::Lookout;
+use lk_ask::query::{Answer, Query};
+use lk_ask::stop::Stop;
+use lk_memo::PrivateMemo;
+use lk_store::overlay::Overlay;
+
+/// What the desk has of a question.
+fn look_up<'a>(
+    lookout: &mut Lookout<'a, Overlay<'a>>,
+    share: &mut Share<'_>,
+    query: Query<u64>,
+) -> Option<Kept>
+    requires shares { Shares lookout.old share.old }
+    requires base { lookout.old.2.0 ≡ lookout.old.0.2.0 }
+    requires over { Extends (contents_of lookout.old.2.0)
+        (contents_of (over lookout.old.2.0 lookout.old.2.1)) }
+    ensures stays { Stays (λ t. contents_of (over t.0 t.1)) (λ t. t.0) lookout.old lookout.new }
+    ensures meter { lookout.new.3 ≡ lookout.old.3 }
+    ensures share { share.new ≡ share.old }
+    ensures found { IfSome result (IsTrueAt (place_of lookout.old)
+        (contents_of (over lookout.new.2.0 lookout.new.2.1)) query) }
+{
+    let alloc = lookout.alloc;
+    share.look(alloc, &mut lookout.terms, query)
+}
+
+/// Looks for the answer of a question at the desk, unless it is known, and keeps what is found.
+#[inline(never)]
+fn fetch_at<'a>(
+    lookout: &mut Lookout<'a, Overlay<'a>>,
+    memo: &mut PrivateMemo,
+    share: &mut Share<'_>,
+    query: Query<u64>,
+)
+    requires query_in { IsKnownQuery
+        (length (contents_of (over lookout.old.2.0 lookout.old.2.1)).trees) query }
+    requires stands { Stands lookout.old memo.old (Some share.old) }
+    ensures fetches { Fetches lookout.old lookout.new memo.new }
+    ensures share { share.new ≡ share.old }
+{
+    if !share.is_for(&lookout.terms, query) {
+        return;
+    }
+    if !share.may_have(query) {
+        return;
+    }
+    if known(lookout, memo, query).is_some() {
+        return;
+    }
+    match look_up(lookout, share, query) {
+        None => (),
+        Some(kept) => {
+            let _kept = memo.keep(query, kept);
+        }
+    }
+}
+
+/// The same, if any answer was left.
+#[inline(always)]
+fn fetch_any<'a>(
+    lookout: &mut Lookout<'a, Overlay<'a>>,
+    memo: &mut PrivateMemo,
+    share: &mut Share<'_>,
+    query: Query<u64>,
+)
+    requires query_in { IsKnownQuery
+        (length (contents_of (over lookout.old.2.0 lookout.old.2.1)).trees) query }
+    requires stands { Stands lookout.old memo.old (Some share.old) }
+    ensures fetches { Fetches lookout.old lookout.new memo.new }
+    ensures share { share.new ≡ share.old }
+{
+    if !share.has_any() {
+        return;
+    }
+    fetch_at(lookout, memo, share, query);
+}
+
+/// What was left of the budget when a question was asked, and how many turns were taken.
+#[derive(Clone, Copy)]
+pub struct Since {
+    budget: u128,
+    turns: u64,
+}
+
+/// Looks for the answer of a question. Since when it is asked there.
+fn fetch<'a>(
+    lookout: &mut Lookout<'a, Overlay<'a>>,
+    memo: &mut PrivateMemo,
+    share: &mut Share<'_>,
+    query: Query<u64>,
+) -> Since
+    requires query_in { IsKnownQuery
+        (length (contents_of (over lookout.old.2.0 lookout.old.2.1)).trees) query }
+    requires stands { Stands lookout.old memo.old (Some share.old) }
+    ensures fetches { Fetches lookout.old lookout.new memo.new }
+    ensures share { share.new ≡ share.old }
+    ensures since { result.budget ≡ lookout.new.3.left }
+{
+    fetch_any(lookout, memo, share, query);
+    Since {
+        budget: left(lookout),
+        turns: turns(lookout),
+    }
+}
+
+/// Leaves an answer at the desk, if its question is of the library's terms.
+#[inline(never)]
+fn offer_at<'a>(
+    lookout: &Lookout<'a, Overlay<'a>>,
+    share: &mut Share<'_>,
+    query: Query<u64>,
+    kept: Kept,
+)
+    requires base { lookout.now.2.0 ≡ lookout.now.0.2.0 }
+    requires over { Extends (contents_of lookout.now.2.0)
+        (contents_of (over lookout.now.2.0 lookout.now.2.1)) }
+    requires shares { Shares lookout.now share.old }
+    requires is { IsTrueAt (place_of lookout.now)
+        (contents_of (over lookout.now.2.0 lookout.now.2.1)) query kept }
+    ensures { share.new ≡ share.old }
+{
+    if !share.is_for(&lookout.terms, query) {
+        return;
+    }
+    share.leave(lookout.alloc, &lookout.terms, query, kept);
+}
+
+/// An answer that costs fewer steps is not left. It is worked out anew as fast as it is looked for.
+const LEAST: u128 = 256;
+
+/// Leaves an answer at the desk, if it was worked out and cost so many steps. One that was known took
+/// one turn.
+fn offer<'a>(
+    lookout: &Lookout<'a, Overlay<'a>>,
+    share: &mut Share<'_>,
+    query: Query<u64>,
+    since: Since,
+    outcome: &Result<Answer<u64>, Stop>,
+)
+    requires base { lookout.now.2.0 ≡ lookout.now.0.2.0 }
+    requires over { Extends (contents_of lookout.now.2.0)
+        (contents_of (over lookout.now.2.0 lookout.now.2.1)) }
+    requires shares { Shares lookout.now share.old }
+    requires worked { IfOk outcome.now (IsWorkedOut lookout.now since.budget query) }
+    ensures { share.new ≡ share.old }
+{
+    let Ok(answer) = outcome else {
+        return;
+    };
+    let cost = since.budget - left(lookout);
+    if cost < LEAST {
+        return;
+    }
+    if turns(lookout) <= since.turns.saturating_add(1) {
+        return;
+    }
+    let (answer, top) = (*answer, last(lookout));
+    offer_at(lookout, share, query, Kept { answer, cost, top });
+}
+
+/// The plain answer of a question where workers share answers: one that another worker left is found,
+/// and one that is worked out here is left for them.
+pub(crate) fn answer_shared<'a>(
+    lookout: &mut Lookout<'a, Overlay<'a>>,
+    memo: &mut PrivateMemo,
+    stack: &mut Vec<Frame>,
+    share: &mut Share<'_>,
+    query: Query<u64>,
+) -> Result<Answer<u64>, Stop>
+    requires query_in { IsKnownQuery
+        (length (contents_of (over lookout.old.2.0 lookout.old.2.1)).trees) query }
+    requires stands { Stands lookout.old memo.old (Some share.old) }
+    ensures answers { Answers (λ t. contents_of (over t.0 t.1)) (λ t. t.0) lookout.old lookout.new
+        memo.new result query }
+    ensures share { share.new ≡ share.old }
+{
+    let since = fetch(lookout, memo, share, query);
+    let result = answer_alone(lookout, memo, stack, query);
+    offer(lookout, share, query, since, &result);
+    result
+}
