@@ -3,7 +3,7 @@
 use lk_ask::asks::Asks;
 use lk_ask::query::{Answer, Query};
 use lk_ask::stop::Stop;
-use lk_engine::{Engine, Knowledge, Knows, Share, Shelves};
+use lk_engine::{AnswerDesk, Engine, Knowledge, Knows, Share};
 use lk_env::library::Library;
 use lk_memo::PrivateMemo;
 use lk_store::base_store::BaseStore;
@@ -126,14 +126,14 @@ fn turns_for<K: Knows>(engine: &mut Engine<'_, K>, case: Case) -> Result<u64, No
 
 /// Whether what one engine answers takes one turn of the other one.
 fn is_found(alloc: Global, library: &Library, case: Case) -> Result<bool, NoMemory> {
-    let (shelves, mut first) = Shelves::new(alloc, library)?;
-    let Some(second) = shelves.desk.split(&mut first) else {
+    let (answers, mut first) = AnswerDesk::new(alloc, library)?;
+    let Some(second) = answers.desk.split(&mut first) else {
         return Ok(false);
     };
     let memo = PrivateMemo::new(alloc, 64)?;
-    let mut knowledge = Knowledge::new(alloc, memo, Share::new(&shelves, first));
+    let mut knowledge = Knowledge::new(alloc, memo, Share::new(&answers, first));
     let memo = PrivateMemo::new(alloc, 64)?;
-    let mut other_knowledge = Knowledge::new(alloc, memo, Share::new(&shelves, second));
+    let mut other_knowledge = Knowledge::new(alloc, memo, Share::new(&answers, second));
     let mut one = Engine::new(alloc, library, &mut knowledge);
     let mut other = Engine::new(alloc, library, &mut other_knowledge);
     let worked_out = turns_for(&mut one, case)?;

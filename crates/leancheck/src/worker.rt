@@ -3,7 +3,7 @@
 ghost use Rattle.std.specs.Prelude.{◌≡◌, IfSome};
 ghost use Rattle.lk_desk.specs.Job.{job_of};
 ghost use Rattle.lk_desk.specs.Seats.{job, IsNew, Sits};
-ghost use Rattle.leancheck.specs.Workers.{Draws, IsDone, IsPlace};
+ghost use Rattle.leancheck.specs.Workers.{Draws, IsDone, IsWorkerSeat};
 
 use crate::checking::check_unit;
 use crate::order::UnitVerdict;
@@ -25,10 +25,10 @@ pub struct Limits {
     pub kept: u32,
 }
 
-/// Where a worker sits: at the desk at which units are drawn and, where others check too, at one at which
-/// answers are shared.
+/// Where a worker sits: at the desk at which units are drawn and, where others check too, at one at
+/// which answers are shared.
 #[derive(Drop)]
-pub struct Place<'a> {
+pub struct WorkerSeat<'a> {
     pub seat: Seat,
     pub share: Option<Share<'a>>,
 }
@@ -45,7 +45,8 @@ fn says_yes(verdict: Verdict) -> bool {
     matches!(verdict, Verdict::Yes)
 }
 
-/// Draws units, and gives a verdict for each. Where memory is wanting for one more answer none is drawn.
+/// Draws units, and gives a verdict for each. Where memory is wanting for one more answer none is
+/// drawn.
 fn draw_all<K: Knows, G: Gate>(
     alloc: Global,
     library: &Library,
@@ -115,20 +116,21 @@ fn work_by<S: Sharing + Drop, G: Gate>(
     Done { seat, answers }
 }
 
-/// Gives a verdict for each unit that a new seat draws. Here alone it is told apart who shares answers.
+/// Gives a verdict for each unit that a new seat draws. Here alone it is told apart who shares
+/// answers.
 pub(crate) fn work<G: Gate>(
     alloc: Global,
     library: &Library,
     limits: Limits,
     desk: &Desk,
-    place: Place<'_>,
+    at: WorkerSeat<'_>,
     gate: &G,
 ) -> Done
-    requires place { IsPlace desk.now place }
+    requires at { IsWorkerSeat desk.now at }
     requires job { job desk.now ≡ job_of library.now }
     ensures { IsDone library.now limits.steps desk.now result }
 {
-    let Place { seat, share } = place;
+    let WorkerSeat { seat, share } = at;
     match share {
         None => work_by(alloc, library, limits, desk, seat, Alone, gate),
         Some(share) => work_by(alloc, library, limits, desk, seat, share, gate),

@@ -17,7 +17,7 @@ use Rattle.lk_memo.specs.declared.lasting.Lasting.{Lasting}
 use Rattle.lk_memo.specs.declared.memo.PrivateMemo.{PrivateMemo}
 use Rattle.lk_memo.specs.Keys.{key_of}
 use Rattle.lk_memo.specs.Lasting.{Outlasts, TakesIn}
-use Rattle.lk_memo.specs.Entries.{Holds}
+use Rattle.lk_memo.specs.Entries.{Holds, kept_of}
 use Rattle.lk_desk.specs.Truth.{above}
 
 -- at the place the question has this answer, at just this cost, and this is the last unit that was
@@ -56,3 +56,7 @@ pub record Keeps (old new : PrivateMemo) (q : Query ℕ) (kept : Kept) : Type 0 
       → Holds old k v ⊎ ((k ≡ key_of q) × (v ≡ kept))
   pub lasting : TakesIn old.lasting new.lasting q kept
   pub staying : TakesIn old.staying new.staying q kept
+
+-- what was kept of the question is kept
+abbrev pub StillHas : PrivateMemo → PrivateMemo → Query ℕ → Type 0
+StillHas old new q = (kept : Kept) → kept_of old q ≡ Some kept → kept_of new q ≡ Some kept

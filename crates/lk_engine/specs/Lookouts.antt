@@ -142,16 +142,16 @@ pub record AnswersKept {T : Type 0} (old new : Seen T) (memo : PrivateMemo)
 abbrev pub row_count : Sizes → ℕ
 row_count s = s.numbers + s.names + s.texts + s.levels + s.lists + s.terms
 
--- what was made over the library's store stays, and is few rows, or all of it was forgotten
+-- what was made over the library's store stays, or all of it was forgotten; what is left is few rows
 pub record Tidies (old new : Tables × Tables) (stays : Bool) : Type 0 where
   pub base : new.0 ≡ old.0
   pub same : stays ≡ true → new ≡ old
-  pub few : stays ≡ true → row_count (sizes_of new.1) < 65536
+  pub few : row_count (sizes_of new.1) < 65536
   pub emptied : stays ≡ false → contents_of (over new.0 new.1) ≡ contents_of old.0
 
 -- a lookout over the library's store looks from this unit, of which nothing is partial, with no
 -- auxiliary types; numbers stand for what the library has, and where what was made stays, for what
--- they stood for; this budget is left
+-- they stood for; what stays is few rows, and this budget is left
 pub record Restarts (old new : Seen (Tables × Tables)) (unit budget : ℕ)
     (stays : Bool) : Type 0 where
   pub library : new.0.2 ≡ old.0.2
@@ -160,6 +160,7 @@ pub record Restarts (old new : Seen (Tables × Tables)) (unit budget : ℕ)
   pub base : new.2.0 ≡ old.2.0
   pub contents : Extends (contents_of old.2.0) (contents_of (over new.2.0 new.2.1))
   pub same : stays ≡ true → new.2 ≡ old.2
+  pub few : row_count (sizes_of new.2.1) < 65536
   pub left : new.3.left ≡ budget
   pub turns : new.3.turns ≡ 0
 

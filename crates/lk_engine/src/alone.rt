@@ -3,7 +3,7 @@
 ghost use Rattle.std.specs.Prelude.{◌≡◌, Option, None, length, option_map};
 ghost use Rattle.lk_store.specs.Store.{over, contents_of};
 ghost use Rattle.lk_ask.specs.Questions.{IsKnownQuery};
-ghost use Rattle.lk_engine.specs.Lookouts.{AreTrueAt, Answers, Stands};
+ghost use Rattle.lk_engine.specs.Lookouts.{AreTrueAt, Answers, AnswersKept, Stands};
 ghost use Rattle.lk_engine.specs.Shares.{Shared, shared_from};
 
 use crate::answering::{Frame, answer};
@@ -52,8 +52,9 @@ pub(crate) fn answer_alone<'a>(
         (length (contents_of (over lookout.old.2.0 lookout.old.2.1)).trees) query }
     requires entries { AreTrueAt lookout.old (contents_of (over lookout.old.2.0 lookout.old.2.1))
         memo.old }
-    ensures { Answers (λ t. contents_of (over t.0 t.1)) (λ t. t.0) lookout.old lookout.new memo.new
-        result query }
+    ensures answers { Answers (λ t. contents_of (over t.0 t.1)) (λ t. t.0) lookout.old lookout.new
+        memo.new result query }
+    ensures kept { AnswersKept lookout.old lookout.new memo.old result query }
 {
     answer(lookout, memo, stack, query)
 }

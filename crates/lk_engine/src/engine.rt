@@ -1,7 +1,7 @@
 //! The engine: a store over that of a library in which questions are answered, as a unit of the
 //! library may ask them.
 
-ghost use Rattle.std.specs.Prelude.{◌≡◌, [], map, All, OnOk, IfErr, IfSome};
+ghost use Rattle.std.specs.Prelude.{◌≡◌, ◌<◌, [], map, All, OnOk, IfErr, IfSome};
 ghost use Rattle.lk_store.specs.Contents.{Extends};
 ghost use Rattle.lk_store.specs.Store.{over, contents_of};
 ghost use Rattle.lk_env.specs.Scopes.{alone_members};
@@ -189,6 +189,7 @@ impl<'a, K: Knows> Engine<'a, K> {
         ensures partial { self.new.1.partial ≡ Partial.Nothing }
         ensures contents { Extends (contents_of self.old.0.2.0)
             (contents_of (over self.new.2.0 self.new.2.1)) }
+        ensures few { row_count (sizes_of self.new.2.1) < 65536 }
         ensures left { self.new.3.left ≡ budget }
         ensures turns { self.new.3.turns ≡ 0 }
     {

@@ -4,22 +4,23 @@ ghost use Rattle.std.specs.Prelude.{◌≡◌, ℕ, Some, None, true, length, If
 ghost use Rattle.lk_store.specs.Contents.{Extends};
 ghost use Rattle.lk_store.specs.Store.{over, contents_of};
 ghost use Rattle.lk_ask.specs.Questions.{IsKnownQuery};
-ghost use Rattle.lk_memo.specs.Keys.{key_of};
 ghost use Rattle.lk_desk.specs.Seats.{job, Sits};
 ghost use Rattle.lk_desk.specs.Truth.{IsTablesOf};
 ghost use Rattle.lk_engine.specs.Shares.{IsFor, IsShared, LastsAt};
 
 use crate::alone::Sharing;
+use crate::answer_desk::{AnswerDesk, fitting_nodes};
 use crate::answering::Frame;
 use crate::sharing::answer_shared;
-use crate::shelves::Shelves;
 use lk_ask::kept::Kept;
 use lk_ask::lookout::Lookout;
 use lk_ask::query::{Answer, Query};
 use lk_ask::stop::Stop;
-use lk_desk::{Entry, Seat};
+use lk_desk::{Entry, Left, Seat};
 use lk_memo::PrivateMemo;
-use lk_memo::key::{Key, Kind};
+use lk_memo::key::key_of;
+use lk_memo::lasting::is_query_below;
+use lk_store::memory::NoMemory;
 use lk_store::overlay::Overlay;
 use std::alloc::Global;
 use std::marker::Model;
@@ -28,7 +29,7 @@ use std::marker::Model;
 /// seat nothing has to be told later: it draws no numbers.
 #[derive(Drop)]
 pub struct Share<'a> {
-    shelves: &'a Shelves,
+    answers: &'a AnswerDesk,
     seat: Seat,
     unit: Option<u32>,
 }
@@ -41,62 +42,39 @@ impl<'a> Model for Share<'a> {
 
     ghost Value = { Option (Tables × List StoredUnit) × Option ℕ };
 
-    ghost view = { λ s. (job s.shelves.now.desk, s.unit) };
+    ghost view = { λ s. (job s.answers.now.desk, s.unit) };
 
-    ghost invariant = { λ s. Sits s.seat s.shelves.now.desk };
+    ghost invariant = { λ s. Sits s.seat s.answers.now.desk };
 }
 
-/// The key of a question.
-fn key_of(query: Query<u64>) -> Key
-    ensures { result ≡ key_of query }
-{
-    match query {
-        Query::Core(e) => Key {
-            kind: Kind::Core,
-            first: e,
-            second: e,
-        },
-        Query::Whnf(e) => Key {
-            kind: Kind::Whnf,
-            first: e,
-            second: e,
-        },
-        Query::Infer(e) => Key {
-            kind: Kind::Infer,
-            first: e,
-            second: e,
-        },
-        Query::Same(a, b) => Key {
-            kind: Kind::Same,
-            first: a,
-            second: b,
-        },
-    }
-}
-
-/// Whether the terms of a question are among the first ones.
-fn is_query_below(query: Query<u64>, terms: u64) -> bool
-    ensures { result ≡ true → IsKnownQuery terms query }
-{
-    match query {
-        Query::Core(e) => e < terms,
-        Query::Whnf(e) => e < terms,
-        Query::Infer(e) => e < terms,
-        Query::Same(a, b) => a < terms && b < terms,
+/// Whether an answer was left.
+fn is_left(left: Result<Left, NoMemory>) -> bool {
+    match left {
+        Ok(left) => matches!(left, Left::Stored),
+        Err(_) => false,
     }
 }
 
 impl<'a> Share<'a> {
     /// A seat there. No unit looks.
-    pub fn new(shelves: &'a Shelves, seat: Seat) -> Self
-        requires { Sits seat shelves.now.desk }
-        ensures { result ≡ (job shelves.now.desk, None) }
+    pub fn new(answers: &'a AnswerDesk, seat: Seat) -> Self
+        requires { Sits seat answers.now.desk }
+        ensures { result ≡ (job answers.now.desk, None) }
     {
         Share {
-            shelves,
+            answers,
             seat,
             unit: None,
         }
+    }
+
+    /// One more seat there, if it is to be had. No unit looks from it.
+    pub fn split(&mut self) -> Option<Share<'a>>
+        ensures share { self.new ≡ self.old }
+        ensures job { IfSome result (λ s. s.0 ≡ self.old.0) }
+    {
+        let seat = self.answers.desk.split(&mut self.seat)?;
+        Some(Share::new(self.answers, seat))
     }
 
     /// Whether the answer of a question is shared: a unit looks, and its terms are the library's.
@@ -112,12 +90,12 @@ impl<'a> Share<'a> {
     /// Whether the desk may have any answer.
     #[inline(always)]
     pub fn has_any(&self) -> bool {
-        self.shelves.has_any()
+        self.answers.has_any()
     }
 
     /// Whether the desk may have an answer of a question.
     pub fn may_have(&self, query: Query<u64>) -> bool {
-        self.shelves.may_have(key_of(query))
+        self.answers.may_have(key_of(query))
     }
 
     /// What the desk has of a question, made in an overlay of the library. Where memory is wanting
@@ -140,7 +118,7 @@ impl<'a> Share<'a> {
     {
         let unit = self.unit?;
         match self
-            .shelves
+            .answers
             .desk
             .look(alloc, terms, &mut self.seat, unit, key_of(query))
         {
@@ -159,15 +137,20 @@ impl<'a> Share<'a> {
         requires lasts { LastsAt self.old.0 (contents_of (over terms.now.0 terms.now.1)) query kept }
         ensures share { self.new ≡ self.old }
     {
+        if !self.answers.has_room() {
+            return;
+        }
         let Ok(entry) = Entry::spelled(alloc, terms, kept) else {
             return;
         };
-        if !self.shelves.takes(&entry) {
+        let Some(nodes) = fitting_nodes(&entry) else {
             return;
-        }
+        };
         let key = key_of(query);
-        let _left = self.shelves.desk.leave(&mut self.seat, key, entry);
-        self.shelves.mark(key);
+        let left = self.answers.desk.leave(&mut self.seat, key, entry);
+        if is_left(left) {
+            self.answers.note(key, nodes);
+        }
     }
 }
 

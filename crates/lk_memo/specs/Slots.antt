@@ -3,20 +3,12 @@ use Rattle.std.specs.Prelude.{ℕ, ◌-◌, ◌&&◌, nat_eq, bit_and, List, len
 use Rattle.lk_ask.specs.declared.kept.Kept.{Kept}
 use Rattle.lk_store.specs.Hashes.{mixed}
 use Rattle.lk_memo.specs.declared.key.Key.{Key}
-use Rattle.lk_memo.specs.declared.key.Kind.{Kind}
-use Rattle.lk_memo.specs.declared.key.Kind.TheVariants.{Core, Whnf, Infer, Same}
 use Rattle.lk_memo.specs.declared.recent.Slot.{Slot}
-use Rattle.lk_memo.specs.Keys.{same_key}
-
-abbrev pub number_of : Kind → ℕ
-number_of Core = 0
-number_of Whnf = 1
-number_of Infer = 2
-number_of Same = 3
+use Rattle.lk_memo.specs.Keys.{kind_number, same_key}
 
 -- the slot of a key among so many
 unfoldable pub slot_of : Key → ℕ → ℕ
-slot_of key count = bit_and (mixed (mixed (number_of key.kind) key.first) key.second) (count - 1)
+slot_of key count = bit_and (mixed (mixed (kind_number key.kind) key.first) key.second) (count - 1)
 
 -- what stands there in this era under the key
 abbrev pub in_slot : ℕ → Key → Slot → Option Kept

@@ -3,9 +3,9 @@
 ghost use Rattle.std.specs.Prelude.{◌≡◌, ◌⊎◌, ◌<◌, [], ℕ, length, None, Some, true, false, IfOk};
 ghost use Rattle.lk_ask.specs.declared.kept.Kept.{Kept as Answered};
 ghost use Rattle.lk_memo.specs.declared.key.Key.{Key as Asked};
-ghost use Rattle.lk_memo.specs.Slots.{number_of, slot_of, found_in};
+ghost use Rattle.lk_memo.specs.Slots.{slot_of, found_in};
 
-use crate::key::{Key, Kind};
+use crate::key::{Key, Kind, kind_number};
 use lk_ask::kept::Kept;
 use lk_ask::query::Answer;
 use lk_store::hashing::mix;
@@ -41,25 +41,13 @@ impl Model for Recent {
     ghost invariant = { λ r. All (λ s. s.era ≤ r.era) r.slots.items };
 }
 
-/// The number of a kind of questions.
-fn number_of(kind: Kind) -> u64
-    ensures { result ≡ number_of kind }
-{
-    match kind {
-        Kind::Core => 0,
-        Kind::Whnf => 1,
-        Kind::Infer => 2,
-        Kind::Same => 3,
-    }
-}
-
 /// The slot of a question among so many, a power of two or none.
 #[tactic(auto, unfolding(crate::specs::Slots::slot_of))]
-fn slot_of(key: Key, count: usize) -> usize
+pub fn slot_of(key: Key, count: usize) -> usize
     ensures value { result ≡ slot_of key count }
     ensures within { 0 < count → result < count }
 {
-    let hash = mix(mix(number_of(key.kind), key.first), key.second);
+    let hash = mix(mix(kind_number(key.kind), key.first), key.second);
     (hash & (count as u64).saturating_sub(1)) as usize
 }
 

@@ -7,27 +7,31 @@ ghost use Rattle.lk_desk.specs.Seats.{job, IsNew};
 use lk_desk::entry::{Entry, SpelledAnswer};
 use lk_desk::{Desk, Seat};
 use lk_env::library::Library;
-use lk_memo::key::{Key, Kind};
+use lk_memo::key::Key;
+use lk_memo::recent::slot_of;
 use lk_spell::OwnNode;
 use lk_store::memory::NoMemory;
 use std::alloc::Global;
 use std::sync::atomic::{AtomicU64, Ordering};
 
-/// So many marks there are. A question has one of them, which others may have too.
-const MARKS: u64 = 1024;
+/// So many marks there are, a power of two. A question has one of them, which others may have too.
+const MARKS: usize = 1 << 16;
+
+/// So many marks stand in a word.
+const BITS: usize = 64;
 
 /// The most nodes of an answer that is left, and of all of them together, each a few dozen bytes.
 const MOST_OF_ONE: u64 = 512;
 
 const MOST_OF_ALL: u64 = 1 << 20;
 
-/// So many bytes of a text count as one node.
+/// So many bytes of a text count as one node more.
 const BYTES: usize = 32;
 
 /// A desk of a library for answers alone. Marks tell which questions may have an answer there, so
 /// that no shard is taken for one that has none. Nothing rests on what a mark says.
 #[derive(Drop)]
-pub struct Shelves {
+pub struct AnswerDesk {
     pub desk: Desk,
     marks: Vec<AtomicU64>,
     /// How many nodes all answers have that were left.
@@ -36,32 +40,27 @@ pub struct Shelves {
 
 fn no_marks(alloc: Global) -> Result<Vec<AtomicU64>, NoMemory> {
     let mut marks = Vec::new(alloc);
-    for _ in 0..MARKS {
+    for _ in 0..MARKS / BITS {
         marks.push(AtomicU64::new(0))?;
     }
     Ok(marks)
 }
 
-/// The mark of a question.
-fn mark_of(key: Key) -> usize {
-    let kind = match key.kind {
-        Kind::Core => 0,
-        Kind::Whnf => 1,
-        Kind::Infer => 2,
-        Kind::Same => 3,
-    };
-    ((341 * kind + key.first % MARKS + 4 * (key.second % MARKS)) % MARKS) as usize
+/// The word of a question's mark, and its bit there.
+fn mark_of(key: Key) -> (usize, u64) {
+    let slot = slot_of(key, MARKS);
+    (slot / BITS, 1 << (slot % BITS) as u32)
 }
 
 /// What a node counts.
 fn weight_of(node: &OwnNode) -> u64 {
     match node {
-        OwnNode::Text(text) => (text.as_bytes().len() / BYTES) as u64,
+        OwnNode::Text(text) => 1 + (text.as_bytes().len() / BYTES) as u64,
         _ => 1,
     }
 }
 
-/// How many nodes an answer has that the library lacks.
+/// How many nodes an answer has that the library lacks, and one for itself.
 fn nodes_of(entry: &Entry) -> u64 {
     let mut count = 1u64;
     if let SpelledAnswer::Term(spelled) = &entry.answer {
@@ -72,16 +71,26 @@ fn nodes_of(entry: &Entry) -> u64 {
     count
 }
 
-impl Shelves {
+/// How many nodes an answer has, where they are not too many.
+pub(crate) fn fitting_nodes(entry: &Entry) -> Option<u64> {
+    let nodes = nodes_of(entry);
+    if nodes <= MOST_OF_ONE {
+        Some(nodes)
+    } else {
+        None
+    }
+}
+
+impl AnswerDesk {
     /// A desk of a library with no answer, and its first seat.
-    pub fn new(alloc: Global, library: &Library) -> Result<(Shelves, Seat), NoMemory>
+    pub fn new(alloc: Global, library: &Library) -> Result<(AnswerDesk, Seat), NoMemory>
         ensures job { IfOk result (λ d. job d.0.desk ≡ job_of library.now) }
         ensures seat { IfOk result (λ d. IsNew d.1 d.0.desk) }
     {
         let marks = no_marks(alloc)?;
         let (desk, seat) = Desk::new(alloc, library)?;
         let nodes = AtomicU64::new(0);
-        Ok((Shelves { desk, marks, nodes }, seat))
+        Ok((AnswerDesk { desk, marks, nodes }, seat))
     }
 
     /// Whether any answer may have been left.
@@ -92,22 +101,24 @@ impl Shelves {
 
     /// Whether an answer to the question may have been left.
     pub(crate) fn may_have(&self, key: Key) -> bool {
-        match self.marks.get(mark_of(key)) {
-            Some(mark) => mark.load(Ordering::SeqCst) != 0,
+        let (word, bit) = mark_of(key);
+        match self.marks.get(word) {
+            Some(marks) => marks.load(Ordering::SeqCst) & bit != 0,
             None => false,
         }
     }
 
-    /// Marks a question as one that has an answer.
-    pub(crate) fn mark(&self, key: Key) {
-        if let Some(mark) = self.marks.get(mark_of(key)) {
-            mark.store(1, Ordering::SeqCst);
-        }
+    /// Whether there is room for one more answer.
+    pub(crate) fn has_room(&self) -> bool {
+        self.nodes.load(Ordering::SeqCst) < MOST_OF_ALL
     }
 
-    /// Whether there is room for an answer, which then takes it.
-    pub(crate) fn takes(&self, entry: &Entry) -> bool {
-        let nodes = nodes_of(entry);
-        nodes <= MOST_OF_ONE && self.nodes.fetch_add(nodes, Ordering::SeqCst) < MOST_OF_ALL
+    /// Notes that a question has an answer, of so many nodes.
+    pub(crate) fn note(&self, key: Key, nodes: u64) {
+        let (word, bit) = mark_of(key);
+        if let Some(marks) = self.marks.get(word) {
+            let _before = marks.fetch_or(bit, Ordering::SeqCst);
+        }
+        let _before = self.nodes.fetch_add(nodes, Ordering::SeqCst);
     }
 }
