@@ -1,5 +1,5 @@
 -- Answers that workers share: what a desk has outlasts its unit, and what outlasts its unit may be left.
-use Rattle.std.proofs.Common.{◌≡◌, ℕ, ◌-◌, ◌≤◌, List, length, Option, Some, None, Ok, Err, Result, refl, ap, sym, subst, ◌∙◌, arith}
+use Rattle.std.proofs.Common.{◌≡◌, ℕ, ◌<◌, ◌+◌, ◌-◌, ◌^◌, ◌≤◌, List, length, Option, Some, None, Ok, Err, Result, refl, ap, sym, subst, ◌∙◌, arith}
 use Rattle.std.specs.Prelude.{IfOk, IfSome}
 use Rattle.lk_plain.specs.Laws.{IsBelow}
 use Rattle.lk_plain.specs.Erased.{out_of, IsAnsweredAt}
@@ -24,12 +24,12 @@ use Rattle.lk_desk.specs.declared.entry.Entry.{Entry}
 use Rattle.lk_desk.specs.Job.{Job}
 use Rattle.lk_desk.specs.Entries.{spelled_value, IsSpelledAnswer, IsMade}
 use Rattle.lk_desk.specs.Truth.{question_of, place_above, IsTrueIn, IsTrueOf, IsFoundIn, IsFoundOf, IsTablesOf}
-use Rattle.lk_engine.specs.Entries.{IsTrueAt, IsLasting}
-use Rattle.lk_engine.specs.Lookouts.{Seen, place_of, out_at, Stays, Shares, Stands, Answers, Fetches, IsWorkedOut}
+use Rattle.lk_engine.specs.Entries.{IsTrueAt, IsLasting, StillHas}
+use Rattle.lk_engine.specs.Lookouts.{Seen, place_of, out_at, Stays, Shares, Stands, Answers, AnswersKept, Repeats, IsWorkedOut}
 use Rattle.lk_engine.specs.Shares.{Shared, LastsAt, IsFor, IsShared}
 use Rattle.lk_engine.proofs.Frames.{query_steady, query_known}
 use Rattle.lk_engine.proofs.Lasting.{lasting_here, here_lasts}
-use Rattle.lk_engine.proofs.Lookouts.{place_stays, stays_on, entries_back, shares_on}
+use Rattle.lk_engine.proofs.Lookouts.{place_stays, stays_on, entries_back, still_stands, repeat_has_memory}
 
 question_back : (q : Query ℕ) → question_of (key_of q) ≡ q
 question_back (query.Core e) = refl
@@ -174,34 +174,45 @@ answered_true {T} {R} {contents} {rest} {old} {new} {later} {answer} {q} asked h
       },
     )
 
--- a question was looked for, and then answered
-module _ {old between new : Seen (Tables × Tables)} {memo later last : PrivateMemo}
+-- a question is answered at a lookout over the library's store
+module _ {old new : Seen (Tables × Tables)} {memo last : PrivateMemo}
     {share : Shared} {result : Result (Answer ℕ) Stop} {q : Query ℕ}
-    (s : Stands old memo (Some share)) (f : Fetches old between later)
-    (h : Answers (λ t. contents_of (over t.0 t.1)) (λ t. t.0) between new last result q) where
-  abbrev all : Stays (λ t. contents_of (over t.0 t.1)) (λ t. t.0) old new
-  all = stays_on f.stays h.stays
-
+    (s : Stands old memo (Some share))
+    (h : Answers (λ t. contents_of (over t.0 t.1)) (λ t. t.0) old new last result q) where
   pub offered_base : new.2.0 ≡ new.0.2.0
-  offered_base = all.others ∙ s.base ∙ ap (λ l. l.2.0) (sym all.library)
+  offered_base = (still_stands h.stays s h.entries_true).base
 
   pub offered_over : Extends (contents_of new.2.0) (contents_of (over new.2.0 new.2.1))
   offered_over = subst (λ t. Extends (contents_of t) (contents_of (over new.2.0 new.2.1)))
       (sym (offered_base ∙ ap (λ l. l.2.0) h.stays.library)) h.entries_true.lasting.stand
 
   pub offered_shares : Shares new share
-  offered_shares = shares_on old new (Some share) (ap (λ l. l.2) all.library) (place_stays all)
-      s.shared
+  offered_shares = (still_stands h.stays s h.entries_true).shared
 
 -- what was worked out is true
-pub offered_true : {old between new : Seen (Tables × Tables)} {later last : PrivateMemo}
-    {q : Query ℕ} → Fetches old between later
+pub offered_true : {old new : Seen (Tables × Tables)} {last : PrivateMemo} {q : Query ℕ}
     → IsKnownQuery (length (contents_of (over old.2.0 old.2.1)).trees) q
     → (result : Result (Answer ℕ) Stop)
-    → Answers (λ t. contents_of (over t.0 t.1)) (λ t. t.0) between new last result q
-    → (budget : ℕ) → budget ≡ between.3.left → IfOk result (IsWorkedOut new budget q)
-offered_true f asked (Err stop) h budget is = tt
-offered_true {new = new} {q = q} f asked (Ok answer) h budget is =
-    let one = answered_true (query_known f.stays.keeps q asked) h in
-    subst (λ b. IsWorkedOut new b q answer) (sym is)
-    (record { left = one.0; is = rw (place_stays h.stays) one.1 })
+    → Answers (λ t. contents_of (over t.0 t.1)) (λ t. t.0) old new last result q
+    → IfOk result (IsWorkedOut new old.3.left q)
+offered_true asked (Err stop) h = tt
+offered_true {old} {new} {last} {q} asked (Ok answer) h =
+    let one = answered_true asked h in
+    record { left = one.0; is = rw (place_stays h.stays) one.1 }
+
+-- what is known or found takes one turn, and no memory
+pub kept_after : {T : Type 0} {old between new : Seen T} {memo later : PrivateMemo}
+    {result : Result (Answer ℕ) Stop} {q : Query ℕ} (meter : between.3 ≡ old.3)
+    (found : Option Kept) → (found ≡ None → StillHas memo later q)
+    → IfSome found (Repeats between new result)
+    → (found ≡ None → AnswersKept between new later result q)
+    → AnswersKept old new memo result q
+kept_after {new = new} meter (Some kept) lacks repeats none = record {
+  turns = λ k h. subst (λ m. m.turns < 2 ^ 64 - 1 → new.3.turns ≡ m.turns + 1) meter repeats.turns;
+  memory = λ k h. repeat_has_memory repeats;
+}
+kept_after {new = new} meter None lacks repeats none = record {
+  turns = λ k h. subst (λ m. m.turns < 2 ^ 64 - 1 → new.3.turns ≡ m.turns + 1) meter
+      ((none refl).turns k (lacks refl k h));
+  memory = λ k h. (none refl).memory k (lacks refl k h);
+}

@@ -9,5 +9,5 @@ returns-in-Some c = λ is. record {
   looks = ap (λ s. s.1) (sym c.self.view_is) ∙ c.in-Some.is;
   query = subst (λ n. IsKnownQuery n c.args.query)
       (ap (λ s. s.terms) c.base_sizes.ensures ∙ trees_stored c.args.terms.now.0)
-      (c.is_query_below.ensures is);
+      (c.is_query_below.ensures.known is);
 }

@@ -17,7 +17,7 @@ returns-clause-found c =
       | in-Ok w ↦ rw w.result-is (subst (λ s. IfSome w.in-Ok.found (IsShared s now c.args.query))
           c.self.view_is (look_shared t now
           (Extends-trans _ _ _ c.requires.over c.look.ensures.keeps) c.args.query c.key_of.result
-          c.key_of.ensures (job c.self.inside.shelves.now.desk)
+          c.key_of.ensures (job c.self.inside.answers.now.desk)
           (subst (λ s. IsTablesOf s.0 t) (sym c.self.view_is) c.requires.tables)
           c.self.inside.unit c.in_ok-unit.unit c.in_ok-unit.was w.in-Ok.found w.in-Ok.ensures.some))
       | in-Err w ↦ rw w.result-is tt
