@@ -7,7 +7,7 @@ ghost use Rattle.lk_ask.specs.Questions.{IsKnownQuery};
 use lk_ask::asks::Asks;
 use lk_ask::query::{Answer, Query};
 use lk_ask::stop::Stop;
-use lk_engine::Engine;
+use lk_engine::{Alone, Engine, Knowledge};
 use lk_env::library::Library;
 use lk_memo::PrivateMemo;
 use lk_store::base_store::BaseStore;
@@ -33,8 +33,9 @@ fn is_answered_once<A: Asks>(asks: &mut A) -> Result<bool, NoMemory> {
 
 fn is_answered_under_one_step(alloc: Global) -> Result<bool, NoMemory> {
     let library = Library::new(alloc, BaseStore::new(alloc), Vec::new(alloc))?;
-    let mut memo = PrivateMemo::new(alloc, 1)?;
-    let mut engine = Engine::new(alloc, &library, &mut memo);
+    let memo = PrivateMemo::new(alloc, 1)?;
+    let mut knowledge = Knowledge::new(alloc, memo, Alone);
+    let mut engine = Engine::new(alloc, &library, &mut knowledge);
     engine.start(0, 1);
     is_answered_once(&mut engine)
 }

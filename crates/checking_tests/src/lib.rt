@@ -25,4 +25,6 @@ mod restored;
 #[cfg(test)]
 mod scan;
 #[cfg(test)]
+mod sharing;
+#[cfg(test)]
 mod staying;

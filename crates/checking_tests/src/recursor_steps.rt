@@ -8,7 +8,7 @@ ghost use Rattle.lk_env.specs.Units.{IsConstructorIn, IsTypeIn, IsRecursorIn, Ar
 use lk_ask::asks::Asks;
 use lk_ask::query::{Answer, Query};
 use lk_ask::stop::Stop;
-use lk_engine::Engine;
+use lk_engine::{Alone, Engine, Knowledge};
 use lk_env::library::Library;
 use lk_env::unit::{Block, BlockType, Constructor, Recursor, RecursorRule, Unit};
 use lk_memo::PrivateMemo;
@@ -272,24 +272,27 @@ fn stays_at_local<A: Asks>(asks: &mut A) -> Result<bool, NoMemory> {
 
 fn constructor_steps(alloc: Global) -> Result<bool, NoMemory> {
     let library = library(alloc, false)?;
-    let mut memo = PrivateMemo::new(alloc, 8)?;
-    let mut engine = Engine::new(alloc, &library, &mut memo);
+    let memo = PrivateMemo::new(alloc, 8)?;
+    let mut knowledge = Knowledge::new(alloc, memo, Alone);
+    let mut engine = Engine::new(alloc, &library, &mut knowledge);
     engine.start(1, 100);
     steps_at_constructor(&mut engine)
 }
 
 fn k_steps(alloc: Global) -> Result<bool, NoMemory> {
     let library = library(alloc, true)?;
-    let mut memo = PrivateMemo::new(alloc, 8)?;
-    let mut engine = Engine::new(alloc, &library, &mut memo);
+    let memo = PrivateMemo::new(alloc, 8)?;
+    let mut knowledge = Knowledge::new(alloc, memo, Alone);
+    let mut engine = Engine::new(alloc, &library, &mut knowledge);
     engine.start(1, 100);
     steps_at_local(&mut engine)
 }
 
 fn local_stays(alloc: Global) -> Result<bool, NoMemory> {
     let library = library(alloc, false)?;
-    let mut memo = PrivateMemo::new(alloc, 8)?;
-    let mut engine = Engine::new(alloc, &library, &mut memo);
+    let memo = PrivateMemo::new(alloc, 8)?;
+    let mut knowledge = Knowledge::new(alloc, memo, Alone);
+    let mut engine = Engine::new(alloc, &library, &mut knowledge);
     engine.start(1, 100);
     stays_at_local(&mut engine)
 }

@@ -2,7 +2,7 @@
 
 use lk_ask::asks::Asks;
 use lk_ask::query::Query;
-use lk_engine::Engine;
+use lk_engine::{Alone, Engine, Knowledge, Knows};
 use lk_env::library::Library;
 use lk_memo::PrivateMemo;
 use lk_store::base_store::BaseStore;
@@ -22,7 +22,7 @@ fn has_type<A: Asks>(asks: &mut A) -> Result<bool, NoMemory> {
 }
 
 /// How many turns it takes at a unit, and none where there is no answer.
-fn turns_at(engine: &mut Engine<'_>, unit: u32) -> Result<u64, NoMemory> {
+fn turns_at<K: Knows>(engine: &mut Engine<'_, K>, unit: u32) -> Result<u64, NoMemory> {
     engine.start(unit, 100);
     let answered = has_type(engine)?;
     Ok(if answered { engine.turns() } else { 0 })
@@ -31,8 +31,9 @@ fn turns_at(engine: &mut Engine<'_>, unit: u32) -> Result<u64, NoMemory> {
 /// The first unit makes the terms, the second one keeps an answer over them, the third one finds it.
 fn is_found_by_the_third_unit(alloc: Global) -> Result<bool, NoMemory> {
     let library = Library::new(alloc, BaseStore::new(alloc), Vec::new(alloc))?;
-    let mut memo = PrivateMemo::new(alloc, 65_536)?;
-    let mut engine = Engine::new(alloc, &library, &mut memo);
+    let memo = PrivateMemo::new(alloc, 65_536)?;
+    let mut knowledge = Knowledge::new(alloc, memo, Alone);
+    let mut engine = Engine::new(alloc, &library, &mut knowledge);
     let made = turns_at(&mut engine, 0)?;
     let kept = turns_at(&mut engine, 1)?;
     let found = turns_at(&mut engine, 2)?;

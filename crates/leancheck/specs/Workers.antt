@@ -1,28 +1,48 @@
--- What a worker has done.
-use Rattle.std.specs.Prelude.{◌≡◌, ◌++◌, ℕ, List, []}
+-- What a worker has done, and what comes of all workers together.
+use Rattle.std.specs.Prelude.{◌≡◌, ◌<◌, ◌++◌, ℕ, true, List, [], IfSome, length, slice_index_or}
 use Rattle.lk_store.specs.declared.tables.Tables.{Tables}
 use Rattle.lk_env.specs.declared.unit.Unit.{Unit as StoredUnit}
 use Rattle.lk_desk.specs.declared.table.Desk.{Desk}
 use Rattle.lk_desk.specs.declared.table.Seat.{Seat}
-use Rattle.lk_desk.specs.Seats.{view, Sits}
+use Rattle.lk_desk.specs.Rule.{once_below}
+use Rattle.lk_desk.specs.Seats.{view, job, IsNew, Sits}
+use Rattle.lk_text.specs.declared.verdicts.Verdict.{Verdict}
 use Rattle.leancheck.specs.declared.order.UnitVerdict.{UnitVerdict}
 use Rattle.leancheck.specs.declared.worker.Done.{Done}
-use Rattle.leancheck.specs.Drawn.{AreRight, numbers}
+use Rattle.leancheck.specs.declared.worker.WorkerSeat.{WorkerSeat}
+use Rattle.leancheck.specs.declared.workers.Report.{Report}
+use Rattle.leancheck.specs.Drawn.{AreRight, numbers, stands, given}
 
 -- a seat that has drawn nothing, and came from itself alone
 abbrev pub IsIdle : Seat → Desk → Type 0
 IsIdle seat desk = Sits seat desk × ((view seat).drawn ≡ []) × ((view seat).seats ≡ 1)
 
+-- it has drawn nothing, and the answers that it shares, if it does, are of the desk's job
+abbrev pub IsWorkerSeat : Desk → WorkerSeat → Type 0
+IsWorkerSeat desk at = IsNew at.seat desk × IfSome at.share (λ s. s.0 ≡ job desk)
+
 -- the seat drew these numbers, and each has a verdict, which is right
-pub record Draws (l : Tables × List StoredUnit) (steps : ℕ) (desk : Desk) (before after : Seat) (answers : List UnitVerdict) : Type 0 where
+pub record Draws (l : Tables × List StoredUnit) (steps : ℕ) (desk : Desk) (before after : Seat)
+    (answers : List UnitVerdict) : Type 0 where
   pub sits : Sits after desk
   pub seats : (view after).seats ≡ (view before).seats
   pub drawn : (view after).drawn ≡ (view before).drawn ++ numbers answers
   pub right : AreRight l steps answers
 
 -- a worker's seat came from itself alone, and what it drew has a verdict each, which is right
-pub record IsDone (l : Tables × List StoredUnit) (steps : ℕ) (desk : Desk) (done : Done) : Type 0 where
+pub record IsDone (l : Tables × List StoredUnit) (steps : ℕ) (desk : Desk)
+    (done : Done) : Type 0 where
   pub sits : Sits done.seat desk
   pub alone : (view done.seat).seats ≡ 1
   pub drawn : (view done.seat).drawn ≡ numbers done.answers.items
   pub right : AreRight l steps done.answers.items
+
+-- each unit has a verdict, by the answers, which are right; where it ended, each unit was answered
+-- once
+pub record IsWhole (l : Tables × List StoredUnit) (steps : ℕ) (report : Report) : Type 0 where
+  pub count : length report.verdicts.items ≡ length l.1
+  pub each : (n : ℕ) (d : Verdict) → n < length l.1
+      → slice_index_or report.verdicts.items n d ≡ given n report.answers.items
+  pub right : AreRight l steps report.answers.items
+  pub once : report.ended ≡ true → (n : ℕ)
+      → stands n report.answers.items ≡ once_below n (length l.1)

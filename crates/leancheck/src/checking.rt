@@ -20,7 +20,7 @@ use crate::blocks::check_block;
 use crate::quotients::check_quotient;
 use lk_ask::stop::Stop;
 use lk_declaration::{check_axiom, check_opaque, check_theorem};
-use lk_engine::Engine;
+use lk_engine::{Engine, Knows};
 use lk_env::entry::Partial;
 use lk_env::library::Library;
 use lk_env::unit::{Body, Declaration, Unit};
@@ -103,7 +103,11 @@ fn ask<Q: Laws>(alloc: Global, asks: &mut Q, declaration: &Declaration) -> Verdi
 
 /// The verdict of a declaration's questions. The engine is handed on to functions of one bound each:
 /// what a call owes of a concrete engine is too much to check at once with two.
-fn judge_declaration(alloc: Global, asks: &mut Engine<'_>, declaration: &Declaration) -> Verdict
+fn judge_declaration<K: Knows>(
+    alloc: Global,
+    asks: &mut Engine<'_, K>,
+    declaration: &Declaration,
+) -> Verdict
     requires stated_in { IsStatedIn (contents_of (over asks.old.2.0 asks.old.2.1))
         declaration.now.name declaration.now.levels.items declaration.now.ty }
     requires body_in { IsBodyIn (contents_of (over asks.old.2.0 asks.old.2.1))
@@ -132,7 +136,7 @@ fn refused(error: ScanError) -> Verdict
 }
 
 /// The verdict of a unit with which nothing is wrong in itself. Nothing of it is partial yet.
-fn judge_scanned(alloc: Global, asks: &mut Engine<'_>, unit: &Unit) -> Verdict
+fn judge_scanned<K: Knows>(alloc: Global, asks: &mut Engine<'_, K>, unit: &Unit) -> Verdict
     requires place { StandsAt places_at (standing_at asks.old.0 asks.old.1) Partial.Nothing [] }
     requires known { IsUnitIn (contents_of (over asks.old.2.0 asks.old.2.1)) unit.now }
     ensures basis { (standing_at asks.new.0 asks.new.1).basis
@@ -148,7 +152,12 @@ fn judge_scanned(alloc: Global, asks: &mut Engine<'_>, unit: &Unit) -> Verdict
 
 /// The verdict of a unit whose names are new. Its scan reads the library's own store, its questions
 /// one over it.
-fn judge_new(alloc: Global, base: &BaseStore, asks: &mut Engine<'_>, unit: &Unit) -> Verdict
+fn judge_new<K: Knows>(
+    alloc: Global,
+    base: &BaseStore,
+    asks: &mut Engine<'_, K>,
+    unit: &Unit,
+) -> Verdict
     requires over { Extends (contents_of base.now)
         (contents_of (over asks.old.2.0 asks.old.2.1)) }
     requires place { StandsAt places_at (standing_at asks.old.0 asks.old.1) Partial.Nothing [] }
@@ -165,10 +174,10 @@ fn judge_new(alloc: Global, base: &BaseStore, asks: &mut Engine<'_>, unit: &Unit
 }
 
 /// The verdict of a unit, over what its library has, at its place and with what is left of a budget.
-fn judge(
+fn judge<K: Knows>(
     alloc: Global,
     library: &Library,
-    asks: &mut Engine<'_>,
+    asks: &mut Engine<'_, K>,
     number: u32,
     unit: &Unit,
 ) -> Verdict
@@ -195,10 +204,10 @@ fn judge(
 
 /// The verdict of a unit, whose questions may take so many steps. The engine is started anew for it:
 /// what it still has of the work of earlier ones changes no answer and no cost.
-pub(crate) fn check_unit(
+pub(crate) fn check_unit<K: Knows>(
     alloc: Global,
     library: &Library,
-    engine: &mut Engine<'_>,
+    engine: &mut Engine<'_, K>,
     number: u32,
     steps: u128,
 ) -> Verdict

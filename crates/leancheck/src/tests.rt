@@ -3,7 +3,7 @@
 use crate::run::run;
 use crate::status::Status;
 use crate::words::{LineError, Meaning, Options, Sample, line_means};
-use lk_port::{MemSink, MemSource, OpenGate};
+use lk_port::{Gate, MemSink, MemSource, OpenGate};
 use std::alloc::{AllocError, Global};
 use std::sync::Wait;
 use std::test::Fail;
@@ -50,18 +50,24 @@ pub(crate) fn is_row<R: Threads + Wait + Sync>(
     written: &[u8],
     status: Status,
 ) -> Result<bool, AllocError> {
+    is_row_at(rt, alloc, &OpenGate, line, bytes, written, status)
+}
+
+// The same, where this gate is told of it.
+pub(crate) fn is_row_at<R: Threads + Wait + Sync, G: Gate>(
+    rt: &R,
+    alloc: Global,
+    gate: &G,
+    line: &str,
+    bytes: &[u8],
+    written: &[u8],
+    status: Status,
+) -> Result<bool, AllocError> {
     let words = words_of(alloc, line)?;
     let bytes = Vec::from_slice(alloc, bytes)?;
     let mut source = MemSource { bytes, at: 0 };
     let mut sink = MemSink::new(alloc, 4096)?;
-    let end = run(
-        rt,
-        alloc,
-        words.as_slice(),
-        &mut source,
-        &mut sink,
-        &OpenGate,
-    );
+    let end = run(rt, alloc, words.as_slice(), &mut source, &mut sink, gate);
     Ok(end.code() == status.code() && sink.bytes.as_slice() == written)
 }
 

@@ -1,14 +1,14 @@
 //! A worker: it draws units and checks them until there are none, or memory is wanting.
 
-ghost use Rattle.std.specs.Prelude.{◌≡◌};
+ghost use Rattle.std.specs.Prelude.{◌≡◌, IfSome};
 ghost use Rattle.lk_desk.specs.Job.{job_of};
 ghost use Rattle.lk_desk.specs.Seats.{job, IsNew, Sits};
-ghost use Rattle.leancheck.specs.Workers.{Draws, IsDone};
+ghost use Rattle.leancheck.specs.Workers.{Draws, IsDone, IsWorkerSeat};
 
 use crate::checking::check_unit;
 use crate::order::UnitVerdict;
 use lk_desk::{Desk, Seat};
-use lk_engine::Engine;
+use lk_engine::{Alone, Engine, Knowledge, Knows, Share, Sharing};
 use lk_env::library::Library;
 use lk_memo::PrivateMemo;
 use lk_port::Gate;
@@ -25,6 +25,14 @@ pub struct Limits {
     pub kept: u32,
 }
 
+/// Where a worker sits: at the desk at which units are drawn and, where others check too, at one at
+/// which answers are shared.
+#[derive(Drop)]
+pub struct WorkerSeat<'a> {
+    pub seat: Seat,
+    pub share: Option<Share<'a>>,
+}
+
 /// What a worker has done: its seat, and a verdict for each unit that it drew.
 #[derive(Drop)]
 pub struct Done {
@@ -37,11 +45,12 @@ fn says_yes(verdict: Verdict) -> bool {
     matches!(verdict, Verdict::Yes)
 }
 
-/// Draws units, and gives a verdict for each. Where memory is wanting for one more answer none is drawn.
-fn draw_all<G: Gate>(
+/// Draws units, and gives a verdict for each. Where memory is wanting for one more answer none is
+/// drawn.
+fn draw_all<K: Knows, G: Gate>(
     alloc: Global,
     library: &Library,
-    engine: &mut Engine<'_>,
+    engine: &mut Engine<'_, K>,
     desk: &Desk,
     seat: &mut Seat,
     steps: u128,
@@ -72,24 +81,28 @@ fn draw_all<G: Gate>(
     }
 }
 
-/// Gives a verdict for each unit that a new seat draws, by a memo and an engine of the worker's own.
-pub(crate) fn work<G: Gate>(
+/// Gives a verdict for each unit that a new seat draws, by a memo and an engine of the worker's own,
+/// whether it shares answers or not.
+fn work_by<S: Sharing + Drop, G: Gate>(
     alloc: Global,
     library: &Library,
     limits: Limits,
     desk: &Desk,
     mut seat: Seat,
+    share: S,
     gate: &G,
 ) -> Done
     requires seat { IsNew seat desk.now }
+    requires share { IfSome (S.shared share) (λ s. s.0 ≡ job desk.now) }
     requires job { job desk.now ≡ job_of library.now }
     ensures { IsDone library.now limits.steps desk.now result }
 {
-    let Ok(mut memo) = PrivateMemo::new(alloc, limits.kept) else {
+    let Ok(memo) = PrivateMemo::new(alloc, limits.kept) else {
         let answers = Vec::new(alloc);
         return Done { seat, answers };
     };
-    let mut engine = Engine::new(alloc, library, &mut memo);
+    let mut knowledge = Knowledge::new(alloc, memo, share);
+    let mut engine = Engine::new(alloc, library, &mut knowledge);
     let answers = draw_all(
         alloc,
         library,
@@ -101,4 +114,25 @@ pub(crate) fn work<G: Gate>(
     );
     drop(engine);
     Done { seat, answers }
+}
+
+/// Gives a verdict for each unit that a new seat draws. Here alone it is told apart who shares
+/// answers.
+pub(crate) fn work<G: Gate>(
+    alloc: Global,
+    library: &Library,
+    limits: Limits,
+    desk: &Desk,
+    at: WorkerSeat<'_>,
+    gate: &G,
+) -> Done
+    requires at { IsWorkerSeat desk.now at }
+    requires job { job desk.now ≡ job_of library.now }
+    ensures { IsDone library.now limits.steps desk.now result }
+{
+    let WorkerSeat { seat, share } = at;
+    match share {
+        None => work_by(alloc, library, limits, desk, seat, Alone, gate),
+        Some(share) => work_by(alloc, library, limits, desk, seat, share, gate),
+    }
 }

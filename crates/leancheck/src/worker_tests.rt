@@ -1,11 +1,11 @@
 //! Rows with several workers: what is written is the same for each number of them.
 
-use crate::run::run;
 use crate::status::Status;
-use crate::tests::{is_row, words_of};
-use lk_port::{MemSink, MemSource, PairGate};
+use crate::tests::{is_row, is_row_at};
+use lk_port::{Gate, OpenGate, PairGate};
 use std::alloc::{AllocError, Global};
 use std::sync::Wait;
+use std::sync::atomic::{AtomicU64, Ordering};
 use std::test::Fail;
 use std::thread::Threads;
 
@@ -34,7 +34,8 @@ const EARLIER: &[u8] =
 const EARLIER_TOLD: &[u8] =
     b"yes axiom 0 q\n  axiom q\nyes def 1 a\n  axiom q\nyes def 2 c\n  axiom q\nunits 3 yes 3 no 0 memory 0\n";
 
-// Whether a run on these words checks the five units, and two workers were at the gate at one time exactly where that is wanted.
+// Whether a run on these words checks the five units, and two workers were at the gate at one time
+// exactly where that is wanted.
 fn meets<R: Threads + Wait + Sync>(
     rt: &R,
     alloc: Global,
@@ -42,22 +43,20 @@ fn meets<R: Threads + Wait + Sync>(
     turns: u64,
     wanted: bool,
 ) -> Result<bool, AllocError> {
-    let words = words_of(alloc, line)?;
-    let bytes = Vec::from_slice(alloc, FIVE)?;
-    let mut source = MemSource { bytes, at: 0 };
-    let mut sink = MemSink::new(alloc, 4096)?;
     let gate = PairGate::new(turns);
-    let end = run(rt, alloc, words.as_slice(), &mut source, &mut sink, &gate);
-    Ok(end.code() == 0 && sink.bytes.as_slice() == FIVE_TOLD && gate.has_met() == wanted)
+    let is_told = is_row_at(rt, alloc, &gate, line, FIVE, FIVE_TOLD, Status::AllYes)?;
+    Ok(is_told && gate.has_met() == wanted)
 }
+
+// So many looks that two workers meet on a busy machine too: with two threads for each processor a
+// third of the pairs missed each other in 10,000,000. Who is met looks no more.
+const PATIENT: u64 = 2_000_000_000;
 
 #[test]
 fn workers_meet(rt: HostRuntime) -> Result<(), Fail> {
     let alloc = rt.alloc();
-    // So many turns that two workers meet on a busy machine too.
-    let turns = 2_000_000_000;
-    assert!(rt; meets(&rt, alloc, "leancheck check --workers 2", turns, true)?);
-    assert!(rt; meets(&rt, alloc, "leancheck check --workers 8", turns, true)?);
+    assert!(rt; meets(&rt, alloc, "leancheck check --workers 2", PATIENT, true)?);
+    assert!(rt; meets(&rt, alloc, "leancheck check --workers 8", PATIENT, true)?);
     assert!(rt; meets(&rt, alloc, "leancheck check --workers 1", 10_000_000, false)?);
     Ok(())
 }
@@ -95,6 +94,96 @@ fn doubling(rt: HostRuntime) -> Result<(), Fail> {
     ] {
         let told = b"no axiom 0 d\n  why steps\n  axiom d\nunits 1 yes 0 no 1 memory 0\n";
         assert!(rt; is_row(&rt, alloc, line, DOUBLING, told, Status::SomeNo)?);
+    }
+    Ok(())
+}
+
+// One more axiom of the same type.
+const ONE_MORE: &[u8] = b"2 #NS 0 e\n#AX 2 60\n";
+
+// Whether a counter comes to a number while it is looked at so many times.
+fn comes_to(counter: &AtomicU64, number: u64, turns: u64) -> bool {
+    for _ in 0..turns {
+        if counter.load(Ordering::SeqCst) >= number {
+            return true;
+        }
+    }
+    false
+}
+
+// A gate that lets the first unit wait for the worker of the second one, and that one until the
+// first unit is checked: so the second worker finds at the desk what the first one left.
+#[derive(Drop)]
+struct InTurn {
+    came: AtomicU64,
+    checked: AtomicU64,
+}
+
+impl Gate for InTurn {
+    fn before_unit(&self, unit: u32) {
+        let _before = self.came.fetch_add(1, Ordering::SeqCst);
+        let _came = if unit == 0 {
+            comes_to(&self.came, 2, PATIENT)
+        } else {
+            comes_to(&self.checked, 1, PATIENT)
+        };
+    }
+
+    fn after_unit(&self, _unit: u32, _yes: bool) {
+        let _before = self.checked.fetch_add(1, Ordering::SeqCst);
+    }
+}
+
+impl InTurn {
+    fn new() -> InTurn {
+        InTurn {
+            came: AtomicU64::new(0),
+            checked: AtomicU64::new(0),
+        }
+    }
+}
+
+// Whether two axioms of the doubled type come to this.
+fn is_twice<R: Threads + Wait + Sync, G: Gate>(
+    rt: &R,
+    alloc: Global,
+    gate: &G,
+    line: &str,
+    told: &[u8],
+    status: Status,
+) -> Result<bool, AllocError> {
+    let mut bytes = Vec::from_slice(alloc, DOUBLING)?;
+    bytes.extend_from_slice(ONE_MORE)?;
+    is_row_at(rt, alloc, gate, line, bytes.as_slice(), told, status)
+}
+
+#[test]
+fn doubling_twice(rt: HostRuntime) -> Result<(), Fail> {
+    let alloc = rt.alloc();
+    let told = b"yes axiom 0 d\n  axiom d\nyes axiom 1 e\n  axiom e\nunits 2 yes 2 no 0 memory 0\n";
+    let alone = "leancheck check --steps 6917529027641081853 --workers 1";
+    assert!(rt; is_twice(&rt, alloc, &OpenGate, alone, told, Status::AllYes)?);
+    for line in [
+        "leancheck check --steps 6917529027641081853 --workers 2",
+        "leancheck check --steps 6917529027641081853 --workers 8",
+    ] {
+        assert!(rt; is_twice(&rt, alloc, &InTurn::new(), line, told, Status::AllYes)?);
+    }
+    Ok(())
+}
+
+#[test]
+fn doubling_twice_and_one_step_less(rt: HostRuntime) -> Result<(), Fail> {
+    let alloc = rt.alloc();
+    let told =
+        b"no axiom 0 d\n  why steps\n  axiom d\nno axiom 1 e\n  why steps\n  axiom e\nunits 2 yes 0 no 2 memory 0\n";
+    let alone = "leancheck check --steps 6917529027641081852 --workers 1";
+    assert!(rt; is_twice(&rt, alloc, &OpenGate, alone, told, Status::SomeNo)?);
+    for line in [
+        "leancheck check --steps 6917529027641081852 --workers 2",
+        "leancheck check --steps 6917529027641081852 --workers 8",
+    ] {
+        assert!(rt; is_twice(&rt, alloc, &InTurn::new(), line, told, Status::SomeNo)?);
     }
     Ok(())
 }

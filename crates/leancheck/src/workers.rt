@@ -1,21 +1,21 @@
 //! Workers in threads, and what they did put together.
 
-ghost use Rattle.std.specs.Prelude.{◌≡◌, ◌+◌, ◌<◌, ℕ, [], IfOk, All, true, length, map, vec_len, slice_index_or};
+ghost use Rattle.std.specs.Prelude.{◌≡◌, ◌+◌, [], IfOk, IfSome, All, true, map, vec_len};
 ghost use Rattle.lk_verdict.specs.GoodUnit.{IsClearLibrary};
 ghost use Rattle.lk_verdict.specs.Told.{AreVerdicts};
 ghost use Rattle.lk_env.specs.Units.{library_of};
-ghost use Rattle.lk_desk.specs.Job.{job_of, units_of};
-ghost use Rattle.lk_desk.specs.Rule.{HasEach, once_below};
+ghost use Rattle.lk_desk.specs.Job.{Job, job_of, units_of};
+ghost use Rattle.lk_desk.specs.Rule.{HasEach};
 ghost use Rattle.lk_desk.specs.Seats.{view, job, IsNew, Sits};
-ghost use Rattle.lk_text.specs.declared.verdicts.Verdict.{Verdict as HeldVerdict};
 ghost use Rattle.lk_text.specs.Held.{verdict};
-ghost use Rattle.leancheck.specs.Drawn.{AreRight, numbers, stands, given};
-ghost use Rattle.leancheck.specs.Workers.{IsDone, IsIdle};
+ghost use Rattle.leancheck.specs.Drawn.{AreRight, numbers};
+ghost use Rattle.leancheck.specs.Workers.{IsDone, IsIdle, IsWorkerSeat, IsWhole};
 
 use crate::order::{UnitVerdict, blank, fill};
 use crate::words::Options;
-use crate::worker::{Done, Limits, work};
+use crate::worker::{Done, Limits, WorkerSeat, work};
 use lk_desk::{Desk, Seat};
+use lk_engine::{AnswerDesk, Share};
 use lk_env::library::Library;
 use lk_port::Gate;
 use lk_store::memory::NoMemory;
@@ -33,23 +33,37 @@ pub struct Report {
     pub ended: bool,
 }
 
-/// Seats for so many workers, or for as many as there are.
-fn seats_for(
+/// One more share in the answers of others, where there is one.
+fn share_of<'a>(share: &mut Option<Share<'a>>) -> Option<Share<'a>>
+    ensures { (j : Job) → IfSome share.old (λ s. s.0 ≡ j)
+        → IfSome share.new (λ s. s.0 ≡ j) × IfSome result (λ s. s.0 ≡ j) }
+{
+    match share {
+        None => None,
+        Some(first) => first.split(),
+    }
+}
+
+/// Seats for so many workers, or for as many as there are. They share answers where a share is given.
+fn seats_for<'a>(
     alloc: Global,
     desk: &Desk,
     first: &mut Seat,
+    share: &mut Option<Share<'a>>,
     workers: u32,
-) -> Result<Vec<Seat>, NoMemory>
-    requires { IsNew first.old desk.now }
+) -> Result<Vec<WorkerSeat<'a>>, NoMemory>
+    requires first { IsNew first.old desk.now }
+    requires share { IfSome share.old (λ s. s.0 ≡ job desk.now) }
     ensures first { IsIdle first.new desk.now }
-    ensures each { IfOk result (λ v. All (λ s. IsNew s desk.now) v.items) }
+    ensures each { IfOk result (λ v. All (IsWorkerSeat desk.now) v.items) }
 {
     let mut seats = Vec::new(alloc);
     for _ in 0..workers {
         let Some(seat) = desk.split(first) else {
             return Ok(seats);
         };
-        seats.push(seat)?;
+        let share = share_of(share);
+        seats.push(WorkerSeat { seat, share })?;
     }
     Ok(seats)
 }
@@ -61,10 +75,10 @@ fn run_workers<R: Threads + Sync, G: Gate>(
     library: &Library,
     limits: Limits,
     desk: &Desk,
-    seats: Vec<Seat>,
+    seats: Vec<WorkerSeat<'_>>,
     gate: &G,
 ) -> Result<Vec<Done>, NoMemory>
-    requires seats { All (λ s. IsNew s desk.now) seats.items }
+    requires seats { All (IsWorkerSeat desk.now) seats.items }
     requires job { job desk.now ≡ job_of library.now }
     ensures count { IfOk result (λ v. vec_len v ≡ vec_len seats) }
     ensures each { IfOk result (λ v. All (IsDone library.now limits.steps desk.now) v.items) }
@@ -72,10 +86,10 @@ fn run_workers<R: Threads + Sync, G: Gate>(
     let all = thread::map_vec(
         rt,
         seats,
-        &|seat| -> Done
-            requires { IsNew seat desk.now × (job desk.now ≡ job_of library.now) }
+        &|at| -> Done
+            requires { IsWorkerSeat desk.now at × (job desk.now ≡ job_of library.now) }
             ensures { IsDone library.entry.now limits.steps desk.entry.now result }
-        { work(alloc, library, limits, desk, seat, gate) },
+        { work(alloc, library, limits, desk, at, gate) },
     )?;
     Ok(all)
 }
@@ -108,7 +122,8 @@ fn gather(
     Ok(answers)
 }
 
-/// Whether the seat, which came from so many, came from all that were made, and draws no more. Then it drew each unit, once.
+/// Whether the seat, which came from so many, came from all that were made, and draws no more. Then
+/// it drew each unit, once.
 fn drew_all(desk: &Desk, seat: &mut Seat, count: u64) -> bool
     requires sits { Sits seat.old desk.now }
     requires seats { (view seat.old).seats ≡ count }
@@ -117,30 +132,29 @@ fn drew_all(desk: &Desk, seat: &mut Seat, count: u64) -> bool
     seat.has_ended() && desk.seats_made(seat) == count
 }
 
-/// One verdict for each unit, in their order. Where a worker went on until there was no unit left, each unit stands among the
-/// answers once, whoever drew it; and what no worker drew says memory.
-pub(crate) fn check_with<R: Threads + Sync, G: Gate>(
+/// One verdict for each unit, in their order, by workers at these seats. Where a worker went on until
+/// there was no unit left, each unit stands among the answers once, whoever drew it; and what no
+/// worker drew says memory.
+fn check_at<R: Threads + Sync, G: Gate>(
     rt: &R,
     alloc: Global,
     library: &Library,
     limits: Limits,
-    workers: u32,
+    desk: &Desk,
+    first: &mut Seat,
+    seats: Vec<WorkerSeat<'_>>,
     gate: &G,
 ) -> Result<Report, NoMemory>
-    ensures count { IfOk result (λ r. vec_len r.verdicts ≡ length library.now.1) }
-    ensures given { IfOk result (λ r. (n : ℕ) (d : HeldVerdict) → n < length library.now.1
-        → slice_index_or r.verdicts.items n d ≡ given n r.answers.items) }
-    ensures right { IfOk result (λ r. AreRight library.now limits.steps r.answers.items) }
-    ensures once { IfOk result (λ r. r.ended ≡ true → (n : ℕ)
-        → stands n r.answers.items ≡ once_below n (length library.now.1)) }
+    requires first { IsIdle first.old desk.now }
+    requires seats { All (IsWorkerSeat desk.now) seats.items }
+    requires job { job desk.now ≡ job_of library.now }
+    ensures { IfOk result (IsWhole library.now limits.steps) }
 {
     let mut verdicts = blank(alloc, library.units().len())?;
-    let (desk, mut first) = Desk::new(alloc, library)?;
-    let seats = seats_for(alloc, &desk, &mut first, workers)?;
     let count = seats.len() as u64 + 1;
-    let all = run_workers(rt, alloc, library, limits, &desk, seats, gate)?;
-    let answers = gather(alloc, library, limits.steps, &desk, &mut first, all)?;
-    let ended = drew_all(&desk, &mut first, count);
+    let all = run_workers(rt, alloc, library, limits, desk, seats, gate)?;
+    let answers = gather(alloc, library, limits.steps, desk, first, all)?;
+    let ended = drew_all(desk, first, count);
     fill(&mut verdicts, answers.as_slice());
     Ok(Report {
         verdicts,
@@ -149,8 +163,47 @@ pub(crate) fn check_with<R: Threads + Sync, G: Gate>(
     })
 }
 
-/// The verdicts of the units, in their order, by so many workers; the questions of each unit may take so many steps, and each
-/// worker keeps at most so many answers. A unit that no worker drew says memory.
+/// The same by workers that have yet to be seated, with a share in each other's answers if one is
+/// given.
+fn check_by<'a, R: Threads + Sync, G: Gate>(
+    rt: &R,
+    alloc: Global,
+    library: &Library,
+    limits: Limits,
+    share: &mut Option<Share<'a>>,
+    workers: u32,
+    gate: &G,
+) -> Result<Report, NoMemory>
+    requires { IfSome share.old (λ s. s.0 ≡ job_of library.now) }
+    ensures { IfOk result (IsWhole library.now limits.steps) }
+{
+    let (desk, mut first) = Desk::new(alloc, library)?;
+    let seats = seats_for(alloc, &desk, &mut first, share, workers)?;
+    check_at(rt, alloc, library, limits, &desk, &mut first, seats, gate)
+}
+
+/// The same by so many workers: a single one shares no answers, and has no desk for them.
+pub(crate) fn check_with<R: Threads + Sync, G: Gate>(
+    rt: &R,
+    alloc: Global,
+    library: &Library,
+    limits: Limits,
+    workers: u32,
+    gate: &G,
+) -> Result<Report, NoMemory>
+    ensures { IfOk result (IsWhole library.now limits.steps) }
+{
+    if workers <= 1 {
+        return check_by(rt, alloc, library, limits, &mut None, workers, gate);
+    }
+    let (answers, seat) = AnswerDesk::new(alloc, library)?;
+    let mut share = Some(Share::new(&answers, seat));
+    check_by(rt, alloc, library, limits, &mut share, workers, gate)
+}
+
+/// The verdicts of the units, in their order, by so many workers; the questions of each unit may take
+/// so many steps, and each worker keeps at most so many answers. A unit that no worker drew says
+/// memory.
 pub(crate) fn check_all<R: Threads + Sync, G: Gate>(
     rt: &R,
     alloc: Global,

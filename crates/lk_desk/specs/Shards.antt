@@ -7,15 +7,7 @@ use Rattle.lk_desk.specs.declared.entry.Entry.{Entry}
 use Rattle.lk_store.specs.Contents.{Contents}
 use Rattle.lk_desk.specs.Entries.{IsSpelledAnswer, IsMade}
 use Rattle.lk_memo.specs.declared.key.Key.{Key}
-use Rattle.lk_memo.specs.declared.key.Kind.{Kind}
-use Rattle.lk_memo.specs.declared.key.Kind.TheVariants.{Core, Whnf, Infer, Same}
-pub use Rattle.lk_memo.specs.Keys.{same_key}
-
-abbrev pub kind_number : Kind → ℕ
-kind_number Core = 0
-kind_number Whnf = 1
-kind_number Infer = 2
-kind_number Same = 3
+pub use Rattle.lk_memo.specs.Keys.{kind_number, same_key}
 
 -- Numbers of terms run on, so questions spread over the 64 shards. Those of one term, which is
 -- first and second, come to all of them, as 5 is odd; those of another kind begin 21 shards

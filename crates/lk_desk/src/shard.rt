@@ -1,15 +1,15 @@
 //! What lies in a shard: true answers by their questions.
 
 ghost use Rattle.std.specs.Prelude.{◌≡◌, ◌<◌, ◌≤◌, ℕ, IfOk, OnErr, IfSome, IfNone, IsTrue, [], true, false};
-ghost use Rattle.lk_plain.specs.Laws.{IsBelow};
 ghost use Rattle.lk_store.specs.Contents.{Extends};
 ghost use Rattle.lk_store.specs.Store.{over, contents_of};
 ghost use Rattle.lk_desk.specs.Truth.{entries_of};
-ghost use Rattle.lk_desk.specs.Shards.{kind_number, shard_number, Finds, Misses, IsMadeOf, AreSpelled, HasRoom, IsPut, IsFull};
+ghost use Rattle.lk_desk.specs.Shards.{shard_number, Finds, Misses, IsMadeOf, AreSpelled, HasRoom, IsPut, IsFull};
 
 use crate::entry::Entry;
 use lk_ask::kept::Kept;
-use lk_memo::key::{Key, Kind};
+use lk_memo::key::{Key, kind_number};
+use lk_memo::lasting::is_below;
 use lk_store::memory::NoMemory;
 use lk_store::overlay::Overlay;
 use std::alloc::Global;
@@ -24,18 +24,6 @@ pub struct Shard {
     pub(crate) answers: HashMap<Key, Entry>,
 }
 
-/// A number for what is asked.
-fn kind_number(kind: Kind) -> u64
-    ensures { result ≡ kind_number kind }
-{
-    match kind {
-        Kind::Core => 0,
-        Kind::Whnf => 1,
-        Kind::Infer => 2,
-        Kind::Same => 3,
-    }
-}
-
 /// The shard of a question. It takes no memory.
 pub fn shard_of(key: Key) -> u32
     ensures number { result ≡ shard_number key }
@@ -43,17 +31,6 @@ pub fn shard_of(key: Key) -> u32
 {
     let number = (21 * kind_number(key.kind) + key.first % 64 + 4 * (key.second % 64)) % 64;
     number as u32
-}
-
-/// Whether only units below this one were looked at.
-fn is_below(top: Option<u32>, unit: u32) -> bool
-    ensures below { result ≡ true → IsBelow top unit }
-    ensures above { result ≡ false → IsBelow top unit → ⊥ }
-{
-    match top {
-        None => true,
-        Some(last) => last < unit,
-    }
 }
 
 impl Shard {

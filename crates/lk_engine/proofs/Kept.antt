@@ -45,7 +45,7 @@ module _ (l : Tables × List StoredUnit) (w : Place) (c : Contents) where
   }
     where
       lasts : Lasts old q kept → IsLasting l first q kept
-      lasts is = here_lasts l w c first is.unit h.stand (h.looks is.unit is.looks) q kept is.below
+      lasts is = here_lasts l w c first is.unit h.stand (h.looks is.unit is.looks) q kept
           (subst (λ n. IsKnownQuery n q) h.terms is.query)
           (subst (λ n. IsKnownAnswer n kept.answer) h.terms is.answer) this
 
@@ -78,8 +78,8 @@ module _ (l : Tables × List StoredUnit) (w : Place) (c : Contents) where
       → AreLasting l w c first table → lasting_of table q ≡ Some kept → IsTrueAt w c q kept
   lasts_at first table q kept h is =
       let found = lasting_is table q kept is in
-      lasting_here l w c first found.unit h.stand (h.looks found.unit found.looks) q kept found.below
-      (h.each q kept found.stands)
+      lasting_here l w c first found.unit h.stand (h.looks found.unit found.looks) q kept
+      found.below (h.each q kept found.stands)
 
   -- an answer that the memo gave
   pub true_at : (memo : PrivateMemo) (q : Query ℕ) (kept : Kept) → AreTrue l w c memo

@@ -21,7 +21,8 @@ use Rattle.lk_env.specs.Places.{beside_at, partial_first, partial_last, new_amon
 use Rattle.lk_ask.specs.declared.kept.Kept.{Kept}
 use Rattle.lk_ask.specs.declared.query.Query.{Query}
 use Rattle.lk_ask.specs.Questions.{query_of, value_at, IsKnownQuery, IsKnownAnswer}
-use Rattle.lk_engine.specs.Entries.{IsTrueAt, above, IsLasting}
+use Rattle.lk_desk.specs.Truth.{above}
+use Rattle.lk_engine.specs.Entries.{IsTrueAt, IsLasting}
 use Rattle.lk_engine.proofs.Frames.{query_steady, answer_steady, true_steady}
 
 -- units that are given stand at their numbers
@@ -101,13 +102,13 @@ answered_there n w other keeps q v c t below h =
 
 module _ (l : Tables × List StoredUnit) (w : Place) (c first : Contents) (n : ℕ)
     (stand : Extends first c) (place : w ≡ place_of (library_of l) n [])
-    (q : Query ℕ) (kept : Kept) (below : IsBelow kept.top n) where
+    (q : Query ℕ) (kept : Kept) where
   abbrev us : Library
   us = library_of l
 
   -- what lasts is true at the unit that looks
-  pub lasting_here : IsLasting l first q kept → IsTrueAt w c q kept
-  lasting_here h =
+  pub lasting_here : IsBelow kept.top n → IsLasting l first q kept → IsTrueAt w c q kept
+  lasting_here below h =
       let own : IsTrueAt (place_of us n []) first q kept = record {
         query = h.query;
         answer = h.answer;

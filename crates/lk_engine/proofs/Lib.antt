@@ -8,6 +8,7 @@ pub mod Instants
 pub mod Links
 pub mod Lookouts
 pub mod Standing
+pub mod Shared
 pub mod Outcomes
 pub mod Copied
 pub mod Waiting

@@ -1,8 +1,9 @@
 -- What a step, an answer that is kept, and a question leave of a lookout, and what they come to.
-use Rattle.std.proofs.Common.{◌≡◌, ◌≢◌, ℕ, Bool, true, false, ◌<◌, None, Ok, Err, Result, refl, ap, sym, subst, ◌∙◌, arith}
-use Rattle.std.specs.Prelude.{IfOk, IfErr, OnOk}
+use Rattle.std.proofs.Common.{◌≡◌, ◌≢◌, ℕ, Bool, true, false, ◌<◌, [], Option, Some, None, Ok, Err, Result, refl, ap, sym, subst, ◌∙◌, arith}
+use Rattle.std.specs.Prelude.{IfOk, IfErr, IfSome, OnOk}
 use Rattle.lk_plain.specs.Erased.{Steps}
 use Rattle.lk_rulebook.specs.Units.{Members}
+use Rattle.lk_rulebook.specs.Units.{place_of as unit_place}
 use Rattle.lk_questions.specs.Table.{steps}
 use Rattle.lk_store.specs.declared.tables.Tables.{Tables}
 use Rattle.lk_store.specs.declared.memory.NoMemory.{NoMemory as Wanting}
@@ -13,6 +14,7 @@ use Rattle.lk_store.proofs.Made.{Extends-self}
 use Rattle.lk_env.specs.declared.entry.Partial.{Partial}
 use Rattle.lk_env.specs.declared.entry.Site.{Site}
 use Rattle.lk_env.specs.Scopes.{Scoped, place_in}
+use Rattle.lk_env.specs.Units.{library_of}
 use Rattle.lk_meter.specs.declared.meter.Meter.{Meter}
 use Rattle.lk_ask.specs.declared.kept.Kept.{Kept}
 use Rattle.lk_ask.specs.declared.next.Next.{Next}
@@ -27,8 +29,10 @@ use Rattle.lk_ask.specs.Looks.{Sight}
 use Rattle.lk_ask.specs.Outcomes.{IsStop}
 use Rattle.lk_engine.specs.Sheets.{AnySheet, IsKnownAny}
 use Rattle.lk_memo.specs.declared.memo.PrivateMemo.{PrivateMemo}
+use Rattle.lk_desk.specs.Job.{job_of}
 use Rattle.lk_engine.specs.Entries.{IsTrueAt, AreTrue}
-use Rattle.lk_engine.specs.Lookouts.{Seen, place_of, AreTrueAt, standing_at, places_at, out_at, GivesMembers, Stays, Metered, Pays, Repeats, Opens, Answers, Tidies, Stands}
+use Rattle.lk_engine.specs.Shares.{Shared}
+use Rattle.lk_engine.specs.Lookouts.{Seen, place_of, AreTrueAt, standing_at, places_at, out_at, GivesMembers, Stays, Metered, Pays, Repeats, Opens, Answers, Tidies, Shares, Stands}
 use Rattle.lk_engine.specs.Rests.{next_of, Starts}
 use Rattle.lk_engine.proofs.Frames.{entries_steady}
 use Rattle.lk_engine.proofs.Links.{opened, opened_waits, not_opened}
@@ -221,28 +225,39 @@ pub has_memory : {A : Type 0} (r : Result A Stop) (stop : Stop) → r ≡ Err st
     → stop ≢ NoMemory
 has_memory r stop p q e = absurd cc
 
+-- a desk is for the library and the place that stood
+pub shares_on : (old new : Seen (Tables × Tables)) (share : Option Shared) → new.0.2 ≡ old.0.2
+    → place_of new ≡ place_of old → IfSome share (Shares old) → IfSome share (Shares new)
+shares_on old new None library place h = tt
+shares_on old new (Some share) library place h = record {
+  job = h.job ∙ ap job_of (sym library);
+  looks = λ unit is. place ∙ h.looks unit is ∙ ap (λ l. unit_place (library_of l) unit []) (sym library);
+}
+
 -- an engine goes on
 pub still_stands : {old new : Seen (Tables × Tables)} {memo later : PrivateMemo}
-    → Stays (λ t. contents_of (over t.0 t.1)) (λ t. t.0) old new → Stands old memo
-    → AreTrueAt old (contents_of (over new.2.0 new.2.1)) later → Stands new later
-still_stands h s e = record {
+    {share : Option Shared} → Stays (λ t. contents_of (over t.0 t.1)) (λ t. t.0) old new
+    → Stands old memo share → AreTrueAt old (contents_of (over new.2.0 new.2.1)) later
+    → Stands new later share
+still_stands {old} {new} {memo} {later} {share} h s e = record {
   base = h.others ∙ s.base ∙ ap (λ l. l.2.0) (sym h.library);
   entries_true = entries_there h e;
+  shared = shares_on old new share (ap (λ l. l.2) h.library) (place_stays h) s.shared;
 }
 
 -- the same, where nothing else is kept
-pub looked_stands : {old new : Seen (Tables × Tables)} {memo : PrivateMemo}
-    → Stays (λ t. contents_of (over t.0 t.1)) (λ t. t.0) old new → Stands old memo
-    → Stands new memo
+pub looked_stands : {old new : Seen (Tables × Tables)} {memo : PrivateMemo} {share : Option Shared}
+    → Stays (λ t. contents_of (over t.0 t.1)) (λ t. t.0) old new → Stands old memo share
+    → Stands new memo share
 looked_stands {old} {new} {memo} h s =
     still_stands h s (entries_steady h.keeps old.0.2 (place_of old) memo s.entries_true)
 
 -- the same, after terms were made
-pub made_stands : {old new : Seen (Tables × Tables)} {memo : PrivateMemo}
+pub made_stands : {old new : Seen (Tables × Tables)} {memo : PrivateMemo} {share : Option Shared}
     → ◌≡◌ {A = Scoped × Site × Meter × Tables} (new.0, new.1, new.3, new.2.0)
     (old.0, old.1, old.3, old.2.0)
     → Extends (contents_of (over old.2.0 old.2.1)) (contents_of (over new.2.0 new.2.1))
-    → Stands old memo → Stands new memo
+    → Stands old memo share → Stands new memo share
 made_stands {old} {new} {memo} h x s =
     still_stands (record {
       library = ap (λ r. r.0) h;

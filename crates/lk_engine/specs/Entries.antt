@@ -1,5 +1,5 @@
 -- What a memo keeps is true: at the place that stands, or at each unit above all that was looked at.
-use Rattle.std.specs.Prelude.{◌≡◌, ◌⊎◌, ◌+◌, ℕ, List, [], Option, Some, None, length}
+use Rattle.std.specs.Prelude.{◌≡◌, ◌⊎◌, ℕ, List, [], Some, length}
 use Rattle.lk_rulebook.specs.Place.{Place}
 use Rattle.lk_rulebook.specs.Units.{place_of}
 use Rattle.lk_plain.specs.Erased.{out_of, IsAnsweredAt}
@@ -17,7 +17,8 @@ use Rattle.lk_memo.specs.declared.lasting.Lasting.{Lasting}
 use Rattle.lk_memo.specs.declared.memo.PrivateMemo.{PrivateMemo}
 use Rattle.lk_memo.specs.Keys.{key_of}
 use Rattle.lk_memo.specs.Lasting.{Outlasts, TakesIn}
-use Rattle.lk_memo.specs.Entries.{Holds}
+use Rattle.lk_memo.specs.Entries.{Holds, kept_of}
+use Rattle.lk_desk.specs.Truth.{above}
 
 -- at the place the question has this answer, at just this cost, and this is the last unit that was
 -- looked at
@@ -26,11 +27,6 @@ pub record IsTrueAt (w : Place) (c : Contents) (q : Query ℕ) (kept : Kept) : T
   pub answer : IsKnownAnswer (length c.trees) kept.answer
   pub is : IsAnsweredAt (out_of steps w (query_of (tree_at c) q)) (value_at (tree_at c) kept.answer)
       kept.cost kept.top
-
--- the number of the first unit above all that were looked at
-abbrev pub above : Option ℕ → ℕ
-above None = 0
-above (Some t) = t + 1
 
 -- over terms that stay it is true at the first unit above all that were looked at
 abbrev pub IsLasting : Tables × List StoredUnit → Contents → Query ℕ → Kept → Type 0
@@ -60,3 +56,7 @@ pub record Keeps (old new : PrivateMemo) (q : Query ℕ) (kept : Kept) : Type 0 
       → Holds old k v ⊎ ((k ≡ key_of q) × (v ≡ kept))
   pub lasting : TakesIn old.lasting new.lasting q kept
   pub staying : TakesIn old.staying new.staying q kept
+
+-- what was kept of the question is kept
+abbrev pub StillHas : PrivateMemo → PrivateMemo → Query ℕ → Type 0
+StillHas old new q = (kept : Kept) → kept_of old q ≡ Some kept → kept_of new q ≡ Some kept

@@ -1,10 +1,13 @@
 -- Questions over a lookout: what they leave as it was, and what they come to.
-use Rattle.std.specs.Prelude.{◌≡◌, ◌≢◌, ◌<◌, ◌≤◌, ◌+◌, ◌-◌, ◌^◌, ℕ, Bool, true, false, List, [], Option, Some, Result, Err, IfOk, OnOk, IfErr, length}
+use Rattle.std.specs.Prelude.{◌≡◌, ◌≢◌, ◌<◌, ◌≤◌, ◌+◌, ◌-◌, ◌^◌, ℕ, Bool, true, false, List, [], Option, Some, Result, Err, IfOk, OnOk, IfErr, IfSome, length}
 use Rattle.lk_rulebook.specs.Place.{Place}
 use Rattle.lk_rulebook.specs.Units.{Members}
+use Rattle.lk_rulebook.specs.Units.{place_of as unit_place}
 use Rattle.lk_plain.specs.Erased.{Out, IsAnsweredAt, run_steps, out_of}
 use Rattle.lk_questions.specs.Table.{steps}
+use Rattle.lk_store.specs.declared.sizes.Sizes.{Sizes}
 use Rattle.lk_store.specs.declared.tables.Tables.{Tables}
+use Rattle.lk_store.specs.Sizes.{sizes_of}
 use Rattle.lk_store.specs.Contents.{Contents, tree_at, Extends}
 use Rattle.lk_store.specs.Store.{over, contents_of}
 use Rattle.lk_env.specs.declared.entry.Partial.{Partial}
@@ -12,6 +15,7 @@ use Rattle.lk_env.specs.declared.entry.Partial.TheVariants.{Nothing}
 use Rattle.lk_env.specs.declared.entry.Site.{Site}
 use Rattle.lk_env.specs.declared.unit.Unit.{Unit as StoredUnit}
 use Rattle.lk_env.specs.Places.{place_beside}
+use Rattle.lk_env.specs.Units.{library_of}
 use Rattle.lk_env.specs.Scopes.{Scoped, auxiliary_members, place_in}
 use Rattle.lk_meter.specs.declared.meter.Meter.{Meter}
 use Rattle.lk_ask.specs.Asking.{Standing}
@@ -28,7 +32,9 @@ use Rattle.lk_memo.specs.declared.key.Key.{Key}
 use Rattle.lk_memo.specs.declared.memo.PrivateMemo.{PrivateMemo}
 use Rattle.lk_memo.specs.Entries.{Holds, kept_of}
 use Rattle.lk_memo.specs.Lasting.{Outlasts, GoesOn}
-use Rattle.lk_engine.specs.Entries.{AreTrue}
+use Rattle.lk_desk.specs.Job.{job_of}
+use Rattle.lk_engine.specs.Entries.{AreTrue, IsTrueAt}
+use Rattle.lk_engine.specs.Shares.{Shared}
 use Rattle.lk_engine.specs.Rests.{next_of}
 use Rattle.lk_engine.specs.Sheets.{AnySheet, IsKnownAny}
 use Rattle.lk_engine.specs.Waiting.{WaitsFor}
@@ -132,15 +138,20 @@ pub record AnswersKept {T : Type 0} (old new : Seen T) (memo : PrivateMemo)
       → new.3.turns ≡ old.3.turns + 1
   pub memory : (kept : Kept) → kept_of memo query ≡ Some kept → result ≢ Err NoMemory
 
--- what was made over the library's store stays, or all of it was forgotten
+-- how many rows there are, those of all kinds together
+abbrev pub row_count : Sizes → ℕ
+row_count s = s.numbers + s.names + s.texts + s.levels + s.lists + s.terms
+
+-- what was made over the library's store stays, or all of it was forgotten; what is left is few rows
 pub record Tidies (old new : Tables × Tables) (stays : Bool) : Type 0 where
   pub base : new.0 ≡ old.0
   pub same : stays ≡ true → new ≡ old
+  pub few : row_count (sizes_of new.1) < 65536
   pub emptied : stays ≡ false → contents_of (over new.0 new.1) ≡ contents_of old.0
 
 -- a lookout over the library's store looks from this unit, of which nothing is partial, with no
 -- auxiliary types; numbers stand for what the library has, and where what was made stays, for what
--- they stood for; this budget is left
+-- they stood for; what stays is few rows, and this budget is left
 pub record Restarts (old new : Seen (Tables × Tables)) (unit budget : ℕ)
     (stays : Bool) : Type 0 where
   pub library : new.0.2 ≡ old.0.2
@@ -149,6 +160,7 @@ pub record Restarts (old new : Seen (Tables × Tables)) (unit budget : ℕ)
   pub base : new.2.0 ≡ old.2.0
   pub contents : Extends (contents_of old.2.0) (contents_of (over new.2.0 new.2.1))
   pub same : stays ≡ true → new.2 ≡ old.2
+  pub few : row_count (sizes_of new.2.1) < 65536
   pub left : new.3.left ≡ budget
   pub turns : new.3.turns ≡ 0
 
@@ -171,8 +183,32 @@ pub record GivesMembers (old new : Seen (Tables × Tables)) (partial : Partial)
   pub terms : new.2 ≡ old.2
   pub meter : new.3 ≡ old.3
 
--- a lookout over the library's store, and what is kept of its questions, which is true at the place
--- that stands, whatever was looked at for it
-pub record Stands (s : Seen (Tables × Tables)) (memo : PrivateMemo) : Type 0 where
+-- a desk is for the library; if a unit looks there, the place is its own, and nothing of it is
+-- partial
+pub record Shares (s : Seen (Tables × Tables)) (share : Shared) : Type 0 where
+  pub job : share.0 ≡ job_of s.0.2
+  pub looks : (unit : ℕ) → share.1 ≡ Some unit → place_of s ≡ unit_place (library_of s.0.2) unit []
+
+-- a lookout over the library's store, what is kept of its questions, which is true at the place
+-- that stands, whatever was looked at for it, and the desk where answers are shared, if there is one
+pub record Stands (s : Seen (Tables × Tables)) (memo : PrivateMemo)
+    (share : Option Shared) : Type 0 where
   pub base : s.2.0 ≡ s.0.2.0
   pub entries_true : AreTrueAt s (contents_of (over s.2.0 s.2.1)) memo
+  pub shared : IfSome share (Shares s)
+
+-- an answer was looked for at the desk: terms were made for it, and what is kept is true
+pub record Fetches (old new : Seen (Tables × Tables)) (later : PrivateMemo) : Type 0 where
+  pub stays : Stays (λ t. contents_of (over t.0 t.1)) (λ t. t.0) old new
+  pub meter : new.3 ≡ old.3
+  pub entries_true : AreTrueAt old (contents_of (over new.2.0 new.2.1)) later
+
+-- what was worked out, under this budget, is true, and costs what was taken of that
+pub record IsWorkedOut (s : Seen (Tables × Tables)) (budget : ℕ) (query : Query ℕ)
+    (answer : Answer ℕ) : Type 0 where
+  pub left : s.3.left ≤ budget
+  pub is : IsTrueAt (place_of s) (contents_of (over s.2.0 s.2.1)) query (record {
+    answer = answer;
+    cost = budget - s.3.left;
+    top = s.3.last;
+  })

@@ -43,7 +43,10 @@ fn first_step<T: Terms>(lookout: &mut Lookout<'_, T>, query: Query<u64>) -> Resu
 
 /// An answer that is known. It costs what it costs without it, and is one turn.
 #[inline(always)]
-fn repeat<T: Terms>(lookout: &mut Lookout<'_, T>, kept: Kept) -> Result<Answer<u64>, Stop>
+pub(crate) fn repeat<T: Terms>(
+    lookout: &mut Lookout<'_, T>,
+    kept: Kept,
+) -> Result<Answer<u64>, Stop>
     ensures { Repeats lookout.old lookout.new result kept }
 {
     pay(lookout, kept.cost, kept.top)?;
@@ -52,7 +55,7 @@ fn repeat<T: Terms>(lookout: &mut Lookout<'_, T>, kept: Kept) -> Result<Answer<u
 
 /// The answer of a question, where it is at hand or the memo has it.
 #[inline(always)]
-fn known<T: Terms>(
+pub(crate) fn known<T: Terms>(
     lookout: &Lookout<'_, T>,
     memo: &mut PrivateMemo,
     query: Query<u64>,

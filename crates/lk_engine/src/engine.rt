@@ -1,16 +1,18 @@
 //! The engine: a store over that of a library in which questions are answered, as a unit of the
 //! library may ask them.
 
-ghost use Rattle.std.specs.Prelude.{◌≡◌, [], map, All, OnOk, IfErr};
+ghost use Rattle.std.specs.Prelude.{◌≡◌, ◌<◌, [], map, All, OnOk, IfErr, IfSome};
 ghost use Rattle.lk_store.specs.Contents.{Extends};
 ghost use Rattle.lk_store.specs.Store.{over, contents_of};
 ghost use Rattle.lk_env.specs.Scopes.{alone_members};
 ghost use Rattle.lk_env.specs.Units.{type_at, IsTypeIn};
 ghost use Rattle.lk_ask.specs.Instances.{AreInstances};
-ghost use Rattle.lk_engine.specs.Lookouts.{Tidies, Restarts, BeginsUnit, GivesMembers};
+ghost use Rattle.lk_desk.specs.Job.{job_of};
+ghost use Rattle.lk_store.specs.Sizes.{sizes_of};
+ghost use Rattle.lk_engine.specs.Lookouts.{row_count, Tidies, Restarts, GivesMembers};
 
-use crate::answering::{Frame, answer};
 use crate::families::family_of;
+use crate::knowledge::Knows;
 use crate::parameters::parameters_at;
 use lk_ask::asks::Asks;
 use lk_ask::instances::Instances;
@@ -23,7 +25,6 @@ use lk_env::scope::Scope;
 use lk_env::unit::BlockType;
 use lk_family::{Families, Family};
 use lk_laws::{Laws, Needed, is_given};
-use lk_memo::PrivateMemo;
 use lk_meter::Meter;
 use lk_quot::{Quotients, may_stand};
 use lk_store::memory::NoMemory;
@@ -40,15 +41,13 @@ use std::mem::drop;
 
 /// An engine over a library. What units make stands over the library's store, and goes when a unit
 /// is started, once it is many rows; what the memo keeps, which is lent, goes with the unit, but for
-/// what outlasts one.
-pub struct Engine<'a> {
+/// what outlasts one. Whether answers are shared with other workers is told by its parameter.
+pub struct Engine<'a, K: Knows> {
     lookout: Lookout<'a, Overlay<'a>>,
-    memo: &'a mut PrivateMemo,
-    /// Room for the questions that wait.
-    stack: Vec<Frame>,
+    knowledge: &'a mut K,
 }
 
-impl<'a> Model for Engine<'a> {
+impl<'a, K: Knows> Model for Engine<'a, K> {
     ghost use Rattle.std.specs.Prelude.{List};
     ghost use Rattle.lk_store.specs.declared.tables.Tables.{Tables};
     ghost use Rattle.lk_env.specs.declared.entry.Site.{Site as LookedFrom};
@@ -61,33 +60,30 @@ impl<'a> Model for Engine<'a> {
 
     ghost view = { λ s. s.lookout };
 
-    ghost invariant = { λ s. Stands s.lookout s.memo.now };
+    ghost invariant = { λ s. Stands s.lookout (K.memo s.knowledge.now)
+        (K.shared s.knowledge.now) };
 }
 
-impl Drop for Engine<'_> {
+impl<K: Knows> Drop for Engine<'_, K> {
     fn drop(self) {
         let Engine {
             lookout,
-            memo: _,
-            stack,
+            knowledge: _,
         } = self;
         drop(lookout);
-        drop(stack);
     }
 }
 
 /// What units made stays from one to the next while it is fewer rows, those of all kinds together.
-const FEW: u64 = 65_536;
+const FEW: u128 = 65_536;
 
-/// Whether what units made is few rows. Each kind counts, so that no file makes it grow for good.
-fn is_few(terms: &Overlay<'_>) -> bool {
+/// How many rows units made. Each kind counts, so that no file makes them grow for good.
+fn rows_of(terms: &Overlay<'_>) -> u128
+    ensures { result ≡ row_count (sizes_of terms.now.1) }
+{
     let own = terms.own_sizes();
-    let named = own
-        .numbers
-        .saturating_add(own.names)
-        .saturating_add(own.texts);
-    let levels = own.levels.saturating_add(own.lists);
-    named.saturating_add(levels).saturating_add(own.terms) < FEW
+    let named = own.numbers as u128 + own.names as u128 + own.texts as u128;
+    named + own.levels as u128 + own.lists as u128 + own.terms as u128
 }
 
 /// Forgets what units made, unless it is few rows. Whether it stays.
@@ -97,7 +93,7 @@ fn tidy(terms: &mut Overlay<'_>, instances: &mut Instances) -> bool
         let after = contents_of (over terms.new.0 terms.new.1) in
         AreInstances before instances.old.table → AreInstances after instances.new.table }
 {
-    if is_few(terms) {
+    if rows_of(terms) < FEW {
         return true;
     }
     terms.clear();
@@ -118,19 +114,6 @@ fn restart<'a>(lookout: &mut Lookout<'a, Overlay<'a>>, unit: u32, budget: u128) 
     lookout.scope = Scope::new(lookout.alloc, library, &lookout.terms);
     lookout.meter = Meter::new(budget);
     stays
-}
-
-/// Keeps what outlasts a unit, for this one: over a library's own terms, and, where what earlier
-/// units made stays, over all the terms that stand, which are so many.
-fn begin_unit(memo: &mut PrivateMemo, unit: u32, terms: u64, stays: bool)
-    ensures { BeginsUnit memo.old memo.new unit terms stays }
-{
-    memo.start(unit);
-    if stays {
-        memo.stay(terms);
-    } else {
-        memo.forget_staying(terms);
-    }
 }
 
 /// From here on so much of the unit at work is partial, and no auxiliary type.
@@ -167,9 +150,11 @@ fn turns_of(lookout: &Lookout<'_, Overlay<'_>>) -> u64
     lookout.meter.turns
 }
 
-impl<'a> Engine<'a> {
-    /// An engine at the first unit, with nothing to spend. The memo is emptied. It takes no memory.
-    pub fn new(alloc: Global, library: &'a Library, memo: &'a mut PrivateMemo) -> Self
+impl<'a, K: Knows> Engine<'a, K> {
+    /// An engine at the first unit, with nothing to spend. The memo is emptied. Answers are shared at
+    /// a desk of the library, if there is one. It takes no memory.
+    pub fn new(alloc: Global, library: &'a Library, knowledge: &'a mut K) -> Self
+        requires { IfSome (K.shared knowledge.old) (λ s. s.0 ≡ job_of library.now) }
         ensures library { result.0.2 ≡ library.now }
         ensures auxiliary { result.0.3 ≡ [] }
         ensures unit { result.1.unit ≡ 0 }
@@ -178,7 +163,7 @@ impl<'a> Engine<'a> {
         ensures left { result.3.left ≡ 0 }
         ensures turns { result.3.turns ≡ 0 }
     {
-        memo.begin(library.base().len());
+        knowledge.begin(library.base().len());
         let terms = Overlay::new(alloc, library.base());
         let lookout = Lookout {
             alloc,
@@ -191,11 +176,7 @@ impl<'a> Engine<'a> {
             meter: Meter::new(0),
             instances: Instances::new(alloc),
         };
-        Engine {
-            lookout,
-            memo,
-            stack: Vec::new(alloc),
-        }
+        Engine { lookout, knowledge }
     }
 
     /// Begins a unit: the names below it are seen, nothing of it is partial, and so many steps may be
@@ -208,12 +189,13 @@ impl<'a> Engine<'a> {
         ensures partial { self.new.1.partial ≡ Partial.Nothing }
         ensures contents { Extends (contents_of self.old.0.2.0)
             (contents_of (over self.new.2.0 self.new.2.1)) }
+        ensures few { row_count (sizes_of self.new.2.1) < 65536 }
         ensures left { self.new.3.left ≡ budget }
         ensures turns { self.new.3.turns ≡ 0 }
     {
         let stays = restart(&mut self.lookout, unit, budget);
         let terms = self.lookout.len();
-        begin_unit(self.memo, unit, terms, stays);
+        self.knowledge.start_unit(unit, terms, stays);
     }
 
     /// How many questions were opened for the unit that was begun last, those of which an answer
@@ -225,7 +207,7 @@ impl<'a> Engine<'a> {
     }
 }
 
-impl<'a> Terms for Engine<'a> {
+impl<'a, K: Knows> Terms for Engine<'a, K> {
     ghost use Rattle.lk_store.specs.Store.{over, contents_of};
 
     /// All but the terms: the scope, from where it is seen, what is left of the budget, and the
@@ -325,7 +307,7 @@ impl<'a> Terms for Engine<'a> {
     }
 }
 
-impl<'a> Asks for Engine<'a> {
+impl<'a, K: Knows> Asks for Engine<'a, K> {
     ghost use Rattle.std.proofs.Common.{ap};
     ghost use Rattle.lk_engine.specs.Lookouts.{standing_at, places_at};
 
@@ -339,8 +321,7 @@ impl<'a> Asks for Engine<'a> {
     ghost places = { places_at };
 
     fn ask(&mut self, query: Query<u64>) -> Result<Answer<u64>, Stop> {
-        let memo = &mut *self.memo;
-        answer(&mut self.lookout, memo, &mut self.stack, query)
+        self.knowledge.answer(&mut self.lookout, query)
     }
 
     fn parameter_count(&self, name: u64) -> Result<Option<u64>, Rule> {
@@ -349,12 +330,12 @@ impl<'a> Asks for Engine<'a> {
 
     fn give(&mut self, partial: Partial) {
         give_in(&mut self.lookout, partial);
-        self.memo.clear();
+        self.knowledge.clear();
     }
 
     fn give_beside(&mut self, partial: Partial, types: &[BlockType]) -> Result<(), NoMemory> {
         let given = give_beside_in(&mut self.lookout, partial, types);
-        self.memo.clear();
+        self.knowledge.clear();
         given
     }
 
@@ -364,19 +345,19 @@ impl<'a> Asks for Engine<'a> {
     ) };
 }
 
-impl<'a> Families for Engine<'a> {
+impl<'a, K: Knows> Families for Engine<'a, K> {
     fn family(&self, alloc: Global, name: u64) -> Result<Option<Family>, Stop> {
         family_of(&self.lookout, alloc, name)
     }
 }
 
-impl<'a> Quotients for Engine<'a> {
+impl<'a, K: Knows> Quotients for Engine<'a, K> {
     fn quotient(&mut self, name: u64, levels: &[u64], ty: u64) -> Result<(), Stop> {
         may_stand(&mut self.lookout, name, levels, ty)
     }
 }
 
-impl<'a> Laws for Engine<'a> {
+impl<'a, K: Knows> Laws for Engine<'a, K> {
     fn need(&mut self, needed: Needed) -> Result<(), Stop> {
         is_given(&mut self.lookout, needed)
     }

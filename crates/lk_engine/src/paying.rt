@@ -15,6 +15,13 @@ pub(crate) fn left<T: Terms>(lookout: &Lookout<'_, T>) -> u128
     lookout.meter.left
 }
 
+/// How many turns were taken.
+pub(crate) fn turns<T: Terms>(lookout: &Lookout<'_, T>) -> u64
+    ensures { result ≡ lookout.now.3.turns }
+{
+    lookout.meter.turns
+}
+
 /// The last unit that was looked at for the question that is at work.
 pub(crate) fn last<T: Terms>(lookout: &Lookout<'_, T>) -> Option<u32>
     ensures { result ≡ lookout.now.3.last }

@@ -13,7 +13,7 @@ use Rattle.lk_memo.specs.Keys.{key_of, same_key}
 pub key_exact : (a b : Key) → same_key a b ≡ true → a ≡ b
 key_exact a b h = search rules
 
-key_refl : (k : Key) → same_key k k ≡ true
+pub key_refl : (k : Key) → same_key k k ≡ true
 key_refl k = search rules
 
 both_ways : (x y : Bool) → (x ≡ true → y ≡ true) → (y ≡ true → x ≡ true) → x ≡ y

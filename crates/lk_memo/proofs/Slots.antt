@@ -10,7 +10,7 @@ use Rattle.lk_memo.specs.declared.key.Key.{Key}
 use Rattle.lk_memo.specs.declared.recent.Slot.{Slot}
 use Rattle.lk_memo.specs.Keys.{same_key}
 use Rattle.lk_memo.specs.Slots.{slot_of, in_slot, found_in}
-use Rattle.lk_memo.proofs.Keys.{key_exact}
+use Rattle.lk_memo.proofs.Keys.{key_exact, key_refl}
 
 nat_dec : (m n : ℕ) → (m ≡ n) ⊎ (m ≢ n)
 nat_dec m n = go (nat_eq m n) refl
@@ -49,6 +49,15 @@ module _ (slots : List Slot) (era : ℕ) (key : Key) (kept : Kept) (i : ℕ) (is
   some_of : {A B : Type 0} (f : A → Option B) (o : Option A) (b : B) → option_and_then f o ≡ Some b → (a : A) × (o ≡ Some a) × (f a ≡ Some b)
   some_of f (Some a) b h = (a, refl, h)
   some_of f None b h = absurd cc
+
+  -- the answer that was kept is found
+  pub kept_there : found_in (new, era) key ≡ Some kept
+  kept_there =
+      let there : slice_get new (slot_of key (length slots)) ≡ Some (record { era = era; key = key; kept = kept }) =
+      ap (slice_get new) (sym is) ∙ written slots i _ within in
+      let same : nat_eq era era ≡ true = grind (arith, nat_tests) in
+      at key ∙ ap (option_and_then (in_slot era key)) there ∙ ap (λ b. cond (b && same_key key key) (Some kept) None) same
+      ∙ ap (λ b. cond b (Some kept) None) (key_refl key)
 
   pub others : (k : Key) (v : Kept) → found_in (new, era) k ≡ Some v → (found_in (slots, era) k ≡ Some v) ⊎ ((k ≡ key) × (v ≡ kept))
   others k v h =

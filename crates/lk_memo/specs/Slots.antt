@@ -1,22 +1,28 @@
 -- The last answers, each in the slot of its question.
-use Rattle.std.specs.Prelude.{ℕ, ◌-◌, ◌&&◌, nat_eq, bit_and, List, length, slice_get, Option, Some, None, option_and_then, if◌then◌else◌}
+use Rattle.std.specs.Prelude.{◌≡◌, ℕ, ◌-◌, ◌/◌, ◌^◌, ◌<◌, ◌&&◌, nat_eq, bit_and, List, length, slice_index, slice_index_or, slice_get, Option, Some, None, option_and_then, if◌then◌else◌}
 use Rattle.lk_ask.specs.declared.kept.Kept.{Kept}
 use Rattle.lk_store.specs.Hashes.{mixed}
 use Rattle.lk_memo.specs.declared.key.Key.{Key}
-use Rattle.lk_memo.specs.declared.key.Kind.{Kind}
-use Rattle.lk_memo.specs.declared.key.Kind.TheVariants.{Core, Whnf, Infer, Same}
 use Rattle.lk_memo.specs.declared.recent.Slot.{Slot}
-use Rattle.lk_memo.specs.Keys.{same_key}
+use Rattle.lk_memo.specs.Keys.{kind_number, same_key}
 
-abbrev pub number_of : Kind → ℕ
-number_of Core = 0
-number_of Whnf = 1
-number_of Infer = 2
-number_of Same = 3
+-- the hash of a key
+unfoldable pub hash_of : Key → ℕ
+hash_of key = mixed (mixed (kind_number key.kind) key.first) key.second
 
 -- the slot of a key among so many
 unfoldable pub slot_of : Key → ℕ → ℕ
-slot_of key count = bit_and (mixed (mixed (number_of key.kind) key.first) key.second) (count - 1)
+slot_of key count = bit_and (hash_of key) (count - 1)
+
+-- the tag of a key: other bits of its hash than those that tell its slot
+unfoldable pub tag_of : Key → ℕ
+tag_of key = hash_of key / 2 ^ 56
+
+-- each slot of this era has the tag of its key
+pub record AreTagged (slots : List Slot) (tags : List ℕ) (era : ℕ) : Type 0 where
+  pub one_each : length tags ≡ length slots
+  pub each : (i : ℕ) (d : Slot) → i < length slots → (slice_index_or slots i d).era ≡ era
+      → slice_index tags i ≡ tag_of (slice_index_or slots i d).key
 
 -- what stands there in this era under the key
 abbrev pub in_slot : ℕ → Key → Slot → Option Kept

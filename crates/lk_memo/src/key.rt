@@ -1,7 +1,7 @@
 //! Questions as keys.
 
 ghost use Rattle.std.specs.Prelude.{◌≡◌};
-ghost use Rattle.lk_memo.specs.Keys.{key_of};
+ghost use Rattle.lk_memo.specs.Keys.{key_of, kind_number};
 
 use lk_ask::query::Query;
 
@@ -33,8 +33,20 @@ fn of_one(kind: Kind, e: u64) -> Key
     }
 }
 
+/// A number for what is asked.
+pub fn kind_number(kind: Kind) -> u64
+    ensures { result ≡ kind_number kind }
+{
+    match kind {
+        Kind::Core => 0,
+        Kind::Whnf => 1,
+        Kind::Infer => 2,
+        Kind::Same => 3,
+    }
+}
+
 /// The key of a question.
-pub(crate) fn key_of(query: Query<u64>) -> Key
+pub fn key_of(query: Query<u64>) -> Key
     ensures { result ≡ key_of query }
 {
     match query {

@@ -31,7 +31,7 @@ pub struct Lasting {
 }
 
 /// Whether the terms of a question are among the first ones.
-fn is_query_below(query: Query<u64>, terms: u64) -> bool
+pub fn is_query_below(query: Query<u64>, terms: u64) -> bool
     ensures value { result ≡ is_query_below terms query }
     ensures known { result ≡ true → IsKnownQuery terms query }
 {
@@ -54,9 +54,10 @@ fn is_answer_below(answer: Answer<u64>, terms: u64) -> bool
 }
 
 /// Whether all units that were looked at stand before this one.
-fn is_below(top: Option<u32>, unit: u32) -> bool
+pub fn is_below(top: Option<u32>, unit: u32) -> bool
     ensures value { result ≡ is_below top unit }
     ensures below { result ≡ true → IsBelow top unit }
+    ensures above { result ≡ false → IsBelow top unit → ⊥ }
 {
     match top {
         None => true,

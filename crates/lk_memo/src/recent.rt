@@ -3,9 +3,9 @@
 ghost use Rattle.std.specs.Prelude.{◌≡◌, ◌⊎◌, ◌<◌, [], ℕ, length, None, Some, true, false, IfOk};
 ghost use Rattle.lk_ask.specs.declared.kept.Kept.{Kept as Answered};
 ghost use Rattle.lk_memo.specs.declared.key.Key.{Key as Asked};
-ghost use Rattle.lk_memo.specs.Slots.{number_of, slot_of, found_in};
+ghost use Rattle.lk_memo.specs.Slots.{found_in, hash_of, slot_of, tag_of};
 
-use crate::key::{Key, Kind};
+use crate::key::{Key, Kind, kind_number};
 use lk_ask::kept::Kept;
 use lk_ask::query::Answer;
 use lk_store::hashing::mix;
@@ -27,6 +27,9 @@ pub struct Slot {
 #[derive(Drop)]
 pub struct Recent {
     slots: Vec<Slot>,
+    /// The tag of the question that was kept last in each slot. A slot is long, so it is looked at
+    /// only where its tag is that of the question.
+    tags: Vec<u8>,
     era: u64,
 }
 
@@ -36,31 +39,40 @@ impl Model for Recent {
 
     ghost Value = { List Standing × ℕ };
 
+    ghost use Rattle.lk_memo.specs.Slots.{AreTagged};
+
     ghost view = { λ r. (r.slots.items, r.era) };
 
-    ghost invariant = { λ r. All (λ s. s.era ≤ r.era) r.slots.items };
+    ghost invariant = { λ r. All (λ s. s.era ≤ r.era) r.slots.items
+        × AreTagged r.slots.items r.tags.items r.era };
 }
 
-/// The number of a kind of questions.
-fn number_of(kind: Kind) -> u64
-    ensures { result ≡ number_of kind }
+/// The hash of a question.
+#[inline(always)]
+#[tactic(auto, unfolding(crate::specs::Slots::hash_of))]
+fn hash_of(key: Key) -> u64
+    ensures { result ≡ hash_of key }
 {
-    match kind {
-        Kind::Core => 0,
-        Kind::Whnf => 1,
-        Kind::Infer => 2,
-        Kind::Same => 3,
-    }
+    mix(mix(kind_number(key.kind), key.first), key.second)
 }
 
 /// The slot of a question among so many, a power of two or none.
+#[inline(always)]
 #[tactic(auto, unfolding(crate::specs::Slots::slot_of))]
-fn slot_of(key: Key, count: usize) -> usize
+pub fn slot_of(key: Key, count: usize) -> usize
     ensures value { result ≡ slot_of key count }
     ensures within { 0 < count → result < count }
 {
-    let hash = mix(mix(number_of(key.kind), key.first), key.second);
-    (hash & (count as u64).saturating_sub(1)) as usize
+    (hash_of(key) & (count as u64).saturating_sub(1)) as usize
+}
+
+/// The tag of a question: other bits of its hash than those that tell its slot.
+#[inline(always)]
+#[tactic(auto, unfolding(crate::specs::Slots::tag_of))]
+fn tag_of(key: Key) -> u8
+    ensures { result ≡ tag_of key }
+{
+    (hash_of(key) >> 56) as u8
 }
 
 impl Recent {
@@ -83,7 +95,13 @@ impl Recent {
         };
         let mut slots = Vec::new(alloc);
         slots.resize(count, nothing)?;
-        Ok(Recent { slots, era: 1 })
+        let mut tags = Vec::new(alloc);
+        tags.resize(count, 0)?;
+        Ok(Recent {
+            slots,
+            tags,
+            era: 1,
+        })
     }
 
     /// Whether there are no slots.
@@ -101,7 +119,10 @@ impl Recent {
         match self.era.checked_add(1) {
             Some(next) => self.era = next,
             // No run has so many eras.
-            None => self.slots.clear(),
+            None => {
+                self.slots.clear();
+                self.tags.clear();
+            }
         }
     }
 
@@ -109,7 +130,11 @@ impl Recent {
     pub fn find(&self, key: Key) -> Option<Kept>
         ensures { result ≡ found_in self.now key }
     {
-        let slot = self.slots.get(slot_of(key, self.slots.len()))?;
+        let i = slot_of(key, self.slots.len());
+        if *self.tags.get(i)? != tag_of(key) {
+            return None;
+        }
+        let slot = self.slots.get(i)?;
         if slot.era == self.era && slot.key == key {
             Some(slot.kept)
         } else {
@@ -128,6 +153,7 @@ impl Recent {
         let i = slot_of(key, self.slots.len());
         if i < self.slots.len() {
             self.slots[i] = Slot { era, key, kept };
+            self.tags[i] = tag_of(key);
         }
     }
 }

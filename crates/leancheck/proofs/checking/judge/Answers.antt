@@ -9,7 +9,7 @@ use Rattle.lk_engine.specs.Lookouts.{standing_at, places_at}
 use Rattle.leancheck.proofs.checking.judge.Goals as goal
 
 pub returns-in-Ok-true-clause-verdict : goal.returns-in-Ok-true-clause-verdict
-returns-in-Ok-true-clause-verdict c =
+returns-in-Ok-true-clause-verdict g c =
     let places = places_at (standing_at c.args.asks.now.0 c.args.asks.now.1).basis in
     let left = c.args.asks.now.3.left in
     judged_new (library_of c.args.library.now) left c.args.number (unit_at (contents_of c.args.library.now.0) c.args.unit.now) c.in-Ok-true.field-0 places c.judge_new.result c.in-Ok-true.field-0-test c.in-Ok-true.ensures c.requires.places

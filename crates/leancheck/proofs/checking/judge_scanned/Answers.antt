@@ -8,14 +8,14 @@ use Rattle.leancheck.proofs.Verdicts.{stages_answered}
 use Rattle.leancheck.proofs.checking.judge_scanned.Goals as goal
 
 pub returns-in-Declaration-clause-verdict : goal.returns-in-Declaration-clause-verdict
-returns-in-Declaration-clause-verdict c =
+returns-in-Declaration-clause-verdict g c =
     let at = contents_of (over c.args.asks.now.2.0 c.args.asks.now.2.1) in
     rw c.in-Declaration.is
     (subst (λ w. IsPlain (questions_of w (c.args.asks.now.3.left) (declaration_at at c.in-Declaration.declaration)) c.judge_declaration.result) c.requires.place
     c.judge_declaration.ensures.verdict)
 
 pub returns-in-Block-clause-verdict : goal.returns-in-Block-clause-verdict
-returns-in-Block-clause-verdict c =
+returns-in-Block-clause-verdict g c =
     let at = contents_of (over c.args.asks.now.2.0 c.args.asks.now.2.1) in
     rw (c.in-Block.is, c.verdict_of.ensures)
     (stages_answered (standing_at c.args.asks.now.0 c.args.asks.now.1).table (places_at (standing_at c.args.asks.now.0 c.args.asks.now.1).basis) (block_at at c.in-Block.block) (map (recursor_at at) c.in-Block.block.recursors.items) (c.args.asks.now.3.left) c.check_block.result refl c.check_block.ensures.outcome)

@@ -6,9 +6,9 @@ use Rattle.lk_engine.proofs.Standing.{gives_stands}
 use Rattle.lk_engine.proofs.engine.EngineAsks.give.Goals as goal
 
 pub returns-clause-standing : goal.returns-clause-standing
-returns-clause-standing c = gives_standing c.give_in.ensures ∙ ap
+returns-clause-standing g c = gives_standing c.give_in.ensures ∙ ap
     (λ s. record { basis = (s.0.2, s.1.unit); table = steps; place = places_at (s.0.2, s.1.unit) c.args.partial [] }) c.self.view_is
 
 pub invariant_of-self : goal.invariant_of-self
-invariant_of-self c = gives_stands c.give_in.ensures c.self.invariant c.clear.ensures.private
-    c.clear.ensures.lasting c.clear.ensures.staying
+invariant_of-self g c = rw c.clear.ensures.share (gives_stands c.give_in.ensures c.self.invariant
+    c.clear.ensures.private c.clear.ensures.lasting c.clear.ensures.staying)

@@ -11,7 +11,7 @@ use Rattle.lk_engine.proofs.Standing.{beside_stands}
 use Rattle.lk_engine.proofs.engine.EngineAsks.give_beside.Goals as goal
 
 pub returns-clause-standing : goal.returns-clause-standing
-returns-clause-standing c =
+returns-clause-standing g c =
     let new = c.give_beside_in-given.new.lookout in
     let r = c.give_beside_in-given.result in
     subst (λ (s : Seen (Tables × Tables)). OnOk r (standing_at new.0 new.1 ≡ record {
@@ -21,10 +21,11 @@ returns-clause-standing c =
     })) c.self.view_is (gives_beside _ new _ _ r c.give_beside_in-given.ensures.gives)
 
 pub returns-clause-basis : goal.returns-clause-basis
-returns-clause-basis c = gives_basis _ _ _ _ c.give_beside_in-given.result c.give_beside_in-given.ensures.gives
+returns-clause-basis g c = gives_basis _ _ _ _ c.give_beside_in-given.result c.give_beside_in-given.ensures.gives
     c.give_beside_in-given.ensures.refused ∙ ap (λ s. (s.0.2, s.1.unit)) c.self.view_is
 
 pub invariant_of-self : goal.invariant_of-self
-invariant_of-self c = beside_stands _ _ _ _ _ _ c.give_beside_in-given.result
-    c.give_beside_in-given.ensures.gives c.give_beside_in-given.ensures.refused c.self.invariant
-    c.clear.ensures.private c.clear.ensures.lasting c.clear.ensures.staying
+invariant_of-self g c = rw c.clear.ensures.share (beside_stands _ _ _ _ _ _ _
+    c.give_beside_in-given.result c.give_beside_in-given.ensures.gives
+    c.give_beside_in-given.ensures.refused c.self.invariant c.clear.ensures.private
+    c.clear.ensures.lasting c.clear.ensures.staying)

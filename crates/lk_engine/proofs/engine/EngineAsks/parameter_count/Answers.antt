@@ -8,13 +8,13 @@ use Rattle.lk_env.specs.Lent.{HasParameters}
 use Rattle.lk_engine.proofs.engine.EngineAsks.parameter_count.Goals as goal
 
 pub returns-clause-found : goal.returns-clause-found
-returns-clause-found c =
+returns-clause-found g c =
     subst (λ s. IfOk c.parameters_at.result
     (HasParameters (place_in s.0 s.1) (name_at (contents_of (over s.2.0 s.2.1)) c.args.name)))
     c.self.view_is c.parameters_at.ensures.found
 
 pub returns-clause-refused : goal.returns-clause-refused
-returns-clause-refused c =
+returns-clause-refused g c =
     subst (λ s. IfErr c.parameters_at.result
     (IsRefused (place_in s.0 s.1) (name_at (contents_of (over s.2.0 s.2.1)) c.args.name)))
     c.self.view_is c.parameters_at.ensures.refused

@@ -8,6 +8,6 @@ use Rattle.lk_engine.specs.Lookouts.{Seen}
 use Rattle.lk_engine.proofs.engine.EngineFamilies.family.Goals as goal
 
 pub returns-clause-family : goal.returns-clause-family
-returns-clause-family c = subst (λ (s : Seen (Tables × Tables)). HasFamily (place_in s.0 s.1)
+returns-clause-family g c = subst (λ (s : Seen (Tables × Tables)). HasFamily (place_in s.0 s.1)
     (name_at (contents_of (over s.2.0 s.2.1)) c.args.name) (contents_of (over s.2.0 s.2.1)) c.family_of.result)
     c.self.view_is c.family_of.ensures.family

@@ -3,5 +3,5 @@ use Rattle.lk_engine.proofs.Lookouts.{made_stands}
 use Rattle.lk_engine.proofs.engine.EngineTerms.keep_room.Goals as goal
 
 pub invariant_of-self : goal.invariant_of-self
-invariant_of-self c = made_stands c.keep_room.ensures.rest
+invariant_of-self g c = made_stands c.keep_room.ensures.rest
     (rw c.keep_room.ensures.contents (Extends-self _)) c.self.invariant

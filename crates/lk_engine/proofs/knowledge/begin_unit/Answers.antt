@@ -1,5 +1,5 @@
 use Rattle.std.proofs.Common.{◌∙◌}
-use Rattle.lk_engine.proofs.engine.begin_unit.Goals as goal
+use Rattle.lk_engine.proofs.knowledge.begin_unit.Goals as goal
 
 pub returns-then-stays : goal.returns-then-stays
 returns-then-stays c = record {
