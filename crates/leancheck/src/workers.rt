@@ -80,7 +80,7 @@ fn run_workers<R: Threads + Sync, G: Gate>(
 ) -> Result<Vec<Done>, NoMemory>
     requires seats { All (IsWorkerSeat desk.now) seats.items }
     requires job { job desk.now ≡ job_of library.now }
-    ensures count { IfOk result (λ v. vec_len v ≡ vec_len seats) }
+    ensures count { IfOk result (λ v. vec_len v ≡ vec_len seats.entry) }
     ensures each { IfOk result (λ v. All (IsDone library.now limits.steps desk.now) v.items) }
 {
     let all = thread::map_vec(
