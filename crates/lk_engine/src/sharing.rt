@@ -9,7 +9,7 @@ ghost use Rattle.lk_engine.specs.Entries.{IsTrueAt};
 ghost use Rattle.lk_engine.specs.Lookouts.{place_of, Stays, Fetches, IsWorkedOut, Answers, Shares, Stands};
 
 use crate::alone::answer_alone;
-use crate::answering::{Frame, known};
+use crate::answering::{Stack, known};
 use crate::paying::{last, left, turns};
 use crate::share::Share;
 use lk_ask::kept::Kept;
@@ -178,7 +178,7 @@ fn offer<'a>(
 pub(crate) fn answer_shared<'a>(
     lookout: &mut Lookout<'a, Overlay<'a>>,
     memo: &mut PrivateMemo,
-    stack: &mut Vec<Frame>,
+    stack: &mut Stack,
     share: &mut Share<'_>,
     query: Query<u64>,
 ) -> Result<Answer<u64>, Stop>
