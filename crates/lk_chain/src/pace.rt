@@ -26,11 +26,20 @@ impl Pace {
         }
     }
 
-    /// How many steps may be spent at one time, where there are so many terms now: none where more
-    /// were spent than terms are earned, so many times.
-    pub fn most(&mut self, terms: u64, times: u64) -> u64 {
+    /// From here on there are so many terms, which may be fewer than there were.
+    pub fn start(&mut self, terms: u64) {
+        self.seen = self.seen.min(terms);
+    }
+
+    /// So many terms are there now. Those that came are earned.
+    pub fn note(&mut self, terms: u64) {
         self.earned = self.earned.saturating_add(terms.saturating_sub(self.seen));
         self.seen = terms;
+    }
+
+    /// How many steps may be spent at one time: none where more were spent than terms are earned, so
+    /// many times.
+    pub fn most(&self, times: u64) -> u64 {
         if self.spent > self.earned.saturating_mul(times) {
             return 0;
         }

@@ -195,6 +195,7 @@ fn work<T: Terms>(
     ensures { Answers T.contents T.rest lookout.old lookout.new memo.new result query }
 {
     stack.frames.clear();
+    stack.pace.start(lookout.terms.len());
     let mut asked = query;
     let mut budget = left(lookout);
     let mut next = first_step(lookout, query, false)?;
@@ -234,7 +235,10 @@ fn work<T: Terms>(
             Next::Done(answer) => {
                 keep(memo, lookout, asked, budget, answer, WORTH);
                 match stack.frames.pop() {
-                    None => return Ok(answer),
+                    None => {
+                        stack.pace.note(lookout.terms.len());
+                        return Ok(answer);
+                    }
                     Some(frame) => {
                         deep = 0;
                         asked = frame.asker;

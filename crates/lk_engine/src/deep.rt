@@ -119,11 +119,7 @@ fn is_kept<T: Terms>(
 /// the memo has one of the functions that the first half of the arguments are given to, counted
 /// from the end, which are asked for one inside the other. One that it has ends the way inwards,
 /// and then it takes longer to put all arguments at once.
-fn unknown<T: Terms>(
-    lookout: &Lookout<'_, T>,
-    memo: &mut PrivateMemo,
-    e: u64,
-) -> Option<(u64, u64)>
+fn unknown<T: Terms>(lookout: &Lookout<'_, T>, memo: &mut PrivateMemo, e: u64) -> Option<(u64, u64)>
     requires e_in { e < length (T.contents lookout.now.2).trees }
     requires entries { AreTrueAt lookout.now (T.contents lookout.now.2) memo.old }
     ensures head { IfSome result (λ p. p.0 < length (T.contents lookout.now.2).trees) }
@@ -133,7 +129,10 @@ fn unknown<T: Terms>(
     let mut ahead = e;
     let mut count: u64 = 0;
     'functions: while let Some(inside) = function_of(&lookout.terms, ahead) {
-        match (function_of(&lookout.terms, function), function_of(&lookout.terms, inside)) {
+        match (
+            function_of(&lookout.terms, function),
+            function_of(&lookout.terms, inside),
+        ) {
             (Some(next), Some(further)) => {
                 count = count.saturating_add(1);
                 if is_kept(lookout, memo, next, count) {
@@ -165,7 +164,8 @@ fn is_paid<T: Terms>(
     requires entries { AreTrueAt lookout.now (T.contents lookout.now.2) memo.old }
     ensures { AreTrueAt lookout.now (T.contents lookout.now.2) memo.new }
 {
-    let most = pace.most(lookout.terms.len(), depth);
+    pace.note(lookout.terms.len());
+    let most = pace.most(depth);
     if most == 0 || !long_spine(lookout, e) {
         return false;
     }
