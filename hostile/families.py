@@ -130,6 +130,37 @@ def nested_arguments(n):
     return f.bytes()
 
 
+def dependent_arguments(n):
+    """f p .. p, where the type of f mentions all its n arguments at its end."""
+    f = Lines()
+    p, h = f.axiom('p', f.prop), f.axiom('h', f.pi(f.prop, f.pi(f.prop, f.prop)))
+    stated = proved = p
+    for index in range(n):
+        stated, proved = f.apply(h, f.variable(index), stated), f.apply(h, p, proved)
+    for _ in range(n):
+        stated = f.pi(f.prop, stated)
+    f.definition('d', proved, f.apply(f.axiom('f', stated), *[p] * n))
+    return f.bytes()
+
+
+def different_arguments(n):
+    """n theorems: f p .. p, q .. q and so on, where the type of f mentions all its 400 arguments at its end."""
+    f = Lines()
+    h = f.axiom('h', f.pi(f.prop, f.pi(f.prop, f.prop)))
+    last = stated = f.axiom('last', f.prop)
+    for index in range(400):
+        stated = f.apply(h, f.variable(index), stated)
+    for _ in range(400):
+        stated = f.pi(f.prop, stated)
+    function = f.axiom('f', stated)
+    for index in range(n):
+        p, proved = f.axiom(f'p{index}', f.prop), last
+        for _ in range(400):
+            proved = f.apply(h, p, proved)
+        f.theorem(f't{index}', proved, f.apply(function, *[p] * 400))
+    return f.bytes()
+
+
 def arguments_alike(n):
     """n terms f p .. p q p .. p, which begin alike and differ twenty arguments before their end."""
     f = Lines()
@@ -144,6 +175,48 @@ def arguments_alike(n):
     for _ in range(n):
         q = f.pi(p, q)
         ends.append(f.apply(told, p, q, f.apply(begun, q, *[p] * 20)))
+    stated = f.prop
+    for end in reversed(ends):
+        stated = f.pi(end, stated)
+    f.axiom('a', stated)
+    return f.bytes()
+
+
+def alike_in_units(n):
+    """The same in n axioms, one for each term."""
+    f = Lines()
+    p, h = f.axiom('p', f.prop), f.axiom('h', f.pi(f.prop, f.pi(f.prop, f.prop)))
+    stated = f.apply(h, f.variable(n + 20), f.variable(20))
+    for _ in range(n + 21):
+        stated = f.pi(f.prop, stated)
+    begun = f.apply(f.axiom('f', stated), *[p] * n)
+    proved = f.pi(f.apply(h, f.variable(1), f.variable(0)), f.prop)
+    told = f.axiom('g', f.pi(f.prop, f.pi(f.prop, proved)))
+    q = p
+    for index in range(n):
+        q = f.apply(h, p, q)
+        f.axiom(f'a{index}', f.apply(told, p, q, f.apply(begun, q, *[p] * 20)))
+    return f.bytes()
+
+
+def dependent_alike(n):
+    """The same in one axiom, where the first n arguments are all mentioned in the type of the next one."""
+    f = Lines()
+    p, h = f.axiom('p', f.prop), f.axiom('h', f.pi(f.prop, f.pi(f.prop, f.prop)))
+    stated = proved = p
+    for index in range(n):
+        stated, proved = f.apply(h, f.variable(index), stated), f.apply(h, p, proved)
+    ending = f.prop
+    for _ in range(21):
+        ending = f.pi(f.prop, ending)
+    stated = f.pi(stated, ending)
+    for _ in range(n):
+        stated = f.pi(f.prop, stated)
+    begun = f.apply(f.axiom('f', stated), *[p] * n, f.axiom('k', proved))
+    q, ends = p, []
+    for _ in range(n):
+        q = f.apply(h, p, q)
+        ends.append(f.apply(begun, q, *[p] * 20))
     stated = f.prop
     for end in reversed(ends):
         stated = f.pi(end, stated)
@@ -749,7 +822,8 @@ def characters(n):
 
 FAMILIES = [
     (pis, 10 ** 6), (lambdas, 10 ** 6), (dependent_lambdas, 10 ** 6), (arguments, 10 ** 6), (nested_arguments, 10 ** 6),
-    (arguments_alike, 4000),
+    (dependent_arguments, 10 ** 5), (different_arguments, 400), (arguments_alike, 4000), (alike_in_units, 10 ** 4),
+    (dependent_alike, 10 ** 4),
     (beta, 10 ** 6), (lets, 10 ** 6), (lets_mentioned, 10 ** 5), (let_values, 10 ** 6), (projections, 10 ** 6),
     (successors, 10 ** 6), (maxima, 10 ** 6), (shared_levels, 10 ** 5), (shared_imax, 10 ** 5), (wide_levels, 16),
     (wide_cycles, 16), (wide_left, 16),

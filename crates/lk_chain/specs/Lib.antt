@@ -1,2 +1,4 @@
 pub mod Alike
 pub mod Lets
+pub mod Pis
+pub mod Spines

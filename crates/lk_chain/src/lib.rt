@@ -2,6 +2,11 @@
 //! and of which `Infer` asks the same at the same cost: what is opened there is closed, so it stays as it is.
 #![tactic(auto)]
 
+mod domains;
 mod lets;
+pub mod pace;
+mod spines;
 
+pub use domains::pis;
 pub use lets::{long_lets, pushed_lets};
+pub use spines::{long_spine, pushed_spine, steps_of};

@@ -1,3 +1,4 @@
+pub mod Deep
 pub mod Entries
 pub mod Instants
 pub mod Lookouts

@@ -6,7 +6,7 @@ ghost use Rattle.lk_ask.specs.Questions.{IsKnownQuery};
 ghost use Rattle.lk_engine.specs.Lookouts.{AreTrueAt, Answers, AnswersKept, Stands};
 ghost use Rattle.lk_engine.specs.Shares.{Shared, shared_from};
 
-use crate::answering::{Frame, answer};
+use crate::answering::{Stack, answer};
 use lk_ask::lookout::Lookout;
 use lk_ask::query::{Answer, Query};
 use lk_ask::stop::Stop;
@@ -29,7 +29,7 @@ pub trait Sharing {
         &mut self,
         lookout: &mut Lookout<'a, Overlay<'a>>,
         memo: &mut PrivateMemo,
-        stack: &mut Vec<Frame>,
+        stack: &mut Stack,
         query: Query<u64>,
     ) -> Result<Answer<u64>, Stop>
         requires query_in { IsKnownQuery
@@ -45,7 +45,7 @@ pub trait Sharing {
 pub(crate) fn answer_alone<'a>(
     lookout: &mut Lookout<'a, Overlay<'a>>,
     memo: &mut PrivateMemo,
-    stack: &mut Vec<Frame>,
+    stack: &mut Stack,
     query: Query<u64>,
 ) -> Result<Answer<u64>, Stop>
     requires query_in { IsKnownQuery
@@ -72,7 +72,7 @@ impl Sharing for Alone {
         &mut self,
         lookout: &mut Lookout<'a, Overlay<'a>>,
         memo: &mut PrivateMemo,
-        stack: &mut Vec<Frame>,
+        stack: &mut Stack,
         query: Query<u64>,
     ) -> Result<Answer<u64>, Stop> {
         answer_alone(lookout, memo, stack, query)

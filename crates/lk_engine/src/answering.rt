@@ -7,6 +7,7 @@ ghost use Rattle.lk_engine.specs.Entries.{IsTrueAt, Keeps};
 ghost use Rattle.lk_engine.specs.Lookouts.{place_of, AreTrueAt, Repeats, Opens, Answers, AnswersKept};
 
 use crate::circles::{FIRST, look};
+use crate::deep::{depth, is_worth};
 use crate::instant::at_once;
 use crate::paying::{last, left, note_before, pay};
 use crate::sheet::AnySheet;
@@ -16,9 +17,11 @@ use lk_ask::lookout::Lookout;
 use lk_ask::next::Next;
 use lk_ask::query::{Answer, Query};
 use lk_ask::stop::Stop;
+use lk_chain::pace::Pace;
 use lk_memo::PrivateMemo;
 use lk_store::node::{ListNode, Node};
 use lk_store::terms::Terms;
+use std::alloc::Global;
 
 /// A question that waits: what was asked under which budget, its sheet, and the last unit that was
 /// looked at for it so far.
@@ -30,15 +33,36 @@ pub struct Frame {
     pub last: Option<u32>,
 }
 
+/// The questions that wait, the last one at the end, and how many arguments may be put at once. It is
+/// room that is used again.
+#[derive(Drop)]
+pub struct Stack {
+    frames: Vec<Frame>,
+    pace: Pace,
+}
+
+impl Stack {
+    pub fn new(alloc: Global) -> Self {
+        Stack {
+            frames: Vec::new(alloc),
+            pace: Pace::new(),
+        }
+    }
+}
+
 /// The first step of a question, which costs one step. It is a turn.
 #[inline(always)]
-fn first_step<T: Terms>(lookout: &mut Lookout<'_, T>, query: Query<u64>) -> Result<AnyNext, Stop>
+fn first_step<T: Terms>(
+    lookout: &mut Lookout<'_, T>,
+    query: Query<u64>,
+    deep: bool,
+) -> Result<AnyNext, Stop>
     requires query_in { IsKnownQuery (length (T.contents lookout.old.2).trees) query }
     ensures opens { Opens T.contents T.rest lookout.old lookout.new result query }
     ensures nothing_left { lookout.old.3.left ≡ 0 → result ≡ Err Stop.Spent }
 {
     pay(lookout, 1, None)?;
-    Ok(start(lookout, query)?)
+    Ok(start(lookout, query, deep)?)
 }
 
 /// An answer that is known. It costs what it costs without it, and is one turn.
@@ -122,7 +146,9 @@ fn is_at_levels<T: Terms>(lookout: &Lookout<'_, T>, query: Query<u64>) -> bool
 fn first_kept<T: Terms>(
     lookout: &mut Lookout<'_, T>,
     memo: &mut PrivateMemo,
+    pace: &mut Pace,
     query: Query<u64>,
+    depth: u64,
 ) -> Result<AnyNext, Stop>
     requires query_in { IsKnownQuery (length (T.contents lookout.old.2).trees) query }
     requires entries { AreTrueAt lookout.old (T.contents lookout.old.2) memo.old }
@@ -130,7 +156,8 @@ fn first_kept<T: Terms>(
     ensures entries { AreTrueAt lookout.old (T.contents lookout.new.2) memo.new }
 {
     let budget = left(lookout);
-    let next = first_step(lookout, query)?;
+    let deep = is_worth(lookout, memo, pace, query, depth);
+    let next = first_step(lookout, query, deep)?;
     if let Next::Done(answer) = &next {
         if is_at_levels(lookout, query) {
             keep(memo, lookout, query, budget, *answer, 1);
@@ -144,7 +171,9 @@ fn first_kept<T: Terms>(
 fn open<T: Terms>(
     lookout: &mut Lookout<'_, T>,
     memo: &mut PrivateMemo,
+    pace: &mut Pace,
     query: Query<u64>,
+    depth: u64,
 ) -> Result<AnyNext, Stop>
     requires query_in { IsKnownQuery (length (T.contents lookout.old.2).trees) query }
     requires entries { AreTrueAt lookout.old (T.contents lookout.old.2) memo.old }
@@ -153,7 +182,7 @@ fn open<T: Terms>(
 {
     match known(lookout, memo, query) {
         Some(kept) => Ok(Next::Done(repeat(lookout, kept)?)),
-        None => first_kept(lookout, memo, query),
+        None => first_kept(lookout, memo, pace, query, depth),
     }
 }
 
@@ -161,24 +190,26 @@ fn open<T: Terms>(
 fn work<T: Terms>(
     lookout: &mut Lookout<'_, T>,
     memo: &mut PrivateMemo,
-    stack: &mut Vec<Frame>,
+    stack: &mut Stack,
     query: Query<u64>,
 ) -> Result<Answer<u64>, Stop>
     requires query_in { IsKnownQuery (length (T.contents lookout.old.2).trees) query }
     requires entries { AreTrueAt lookout.old (T.contents lookout.old.2) memo.old }
     ensures { Answers T.contents T.rest lookout.old lookout.new memo.new result query }
 {
-    stack.clear();
+    stack.frames.clear();
+    stack.pace.start(lookout.terms.len());
     let mut asked = query;
     let mut budget = left(lookout);
-    let mut next = first_step(lookout, query)?;
+    let mut next = first_step(lookout, query, false)?;
     let mut due = FIRST;
+    let mut deep = 0;
     'work: loop {
         match next {
             Next::Ask(other, sheet) => {
                 let last = last(lookout);
                 let before = left(lookout);
-                match open(lookout, memo, other)? {
+                match open(lookout, memo, &mut stack.pace, other, deep)? {
                     Next::Ask(deeper, inner) => {
                         let frame = Frame {
                             asker: asked,
@@ -186,16 +217,18 @@ fn work<T: Terms>(
                             sheet,
                             last,
                         };
-                        if stack.push(frame).is_err() {
+                        if stack.frames.push(frame).is_err() {
                             return Err(Stop::NoMemory);
                         }
                         asked = other;
                         budget = before;
                         next = Next::Ask(deeper, inner);
-                        due = look(stack, asked, due)?;
+                        due = look(&stack.frames, asked, due)?;
+                        deep = depth(&stack.frames);
                     }
                     // Answered at once: nothing has to wait, and nothing is kept of it.
                     Next::Done(answer) => {
+                        deep = 0;
                         note_before(lookout, last);
                         next = resume(lookout, sheet, answer)?;
                     }
@@ -204,9 +237,13 @@ fn work<T: Terms>(
             }
             Next::Done(answer) => {
                 keep(memo, lookout, asked, budget, answer, WORTH);
-                match stack.pop() {
-                    None => return Ok(answer),
+                match stack.frames.pop() {
+                    None => {
+                        stack.pace.note(lookout.terms.len());
+                        return Ok(answer);
+                    }
                     Some(frame) => {
+                        deep = 0;
                         asked = frame.asker;
                         budget = frame.budget;
                         note_before(lookout, frame.last);
@@ -227,7 +264,7 @@ fn work<T: Terms>(
 pub fn answer<T: Terms>(
     lookout: &mut Lookout<'_, T>,
     memo: &mut PrivateMemo,
-    stack: &mut Vec<Frame>,
+    stack: &mut Stack,
     query: Query<u64>,
 ) -> Result<Answer<u64>, Stop>
     requires query_in { IsKnownQuery (length (T.contents lookout.old.2).trees) query }

@@ -12,7 +12,7 @@ ghost use Rattle.lk_engine.specs.Lookouts.{Answers, BeginsUnit, Stands};
 ghost use Rattle.lk_engine.specs.Shares.{Shared, shared_from};
 
 use crate::alone::Sharing;
-use crate::answering::Frame;
+use crate::answering::Stack;
 use lk_ask::lookout::Lookout;
 use lk_ask::query::{Answer, Query};
 use lk_ask::stop::Stop;
@@ -71,7 +71,7 @@ pub trait Knows {
 #[derive(Drop)]
 pub struct Knowledge<S> {
     memo: PrivateMemo,
-    stack: Vec<Frame>,
+    stack: Stack,
     share: S,
 }
 
@@ -92,7 +92,7 @@ impl<S: Sharing> Knowledge<S> {
     pub fn new(alloc: Global, memo: PrivateMemo, share: S) -> Self
         ensures { result.share ≡ share }
     {
-        let stack = Vec::new(alloc);
+        let stack = Stack::new(alloc);
         Knowledge { memo, stack, share }
     }
 }

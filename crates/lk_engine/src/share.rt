@@ -10,7 +10,7 @@ ghost use Rattle.lk_engine.specs.Shares.{IsFor, IsShared, LastsAt};
 
 use crate::alone::Sharing;
 use crate::answer_desk::{AnswerDesk, fitting_nodes};
-use crate::answering::Frame;
+use crate::answering::Stack;
 use crate::sharing::answer_shared;
 use lk_ask::kept::Kept;
 use lk_ask::lookout::Lookout;
@@ -165,7 +165,7 @@ impl Sharing for Share<'_> {
         &mut self,
         lookout: &mut Lookout<'a, Overlay<'a>>,
         memo: &mut PrivateMemo,
-        stack: &mut Vec<Frame>,
+        stack: &mut Stack,
         query: Query<u64>,
     ) -> Result<Answer<u64>, Stop> {
         answer_shared(lookout, memo, stack, self, query)

@@ -10,7 +10,7 @@ ghost use Rattle.lk_engine.specs.Lookouts.{place_of, Stays, Fetches, IsWorkedOut
 ghost use Rattle.lk_engine.specs.Lookouts.{Answers, AnswersKept, Shares, Stands};
 
 use crate::alone::answer_alone;
-use crate::answering::{Frame, known, repeat};
+use crate::answering::{Stack, known, repeat};
 use crate::paying::{last, left, turns};
 use crate::share::Share;
 use lk_ask::kept::Kept;
@@ -212,7 +212,7 @@ fn answer_after<'a>(
 pub(crate) fn answer_shared<'a>(
     lookout: &mut Lookout<'a, Overlay<'a>>,
     memo: &mut PrivateMemo,
-    stack: &mut Vec<Frame>,
+    stack: &mut Stack,
     share: &mut Share<'_>,
     query: Query<u64>,
 ) -> Result<Answer<u64>, Stop>

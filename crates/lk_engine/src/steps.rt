@@ -32,7 +32,7 @@ use lk_ask::looks::Looks;
 use lk_ask::next::Next;
 use lk_ask::query::{Answer, Query};
 use lk_ask::sheet::Sheet;
-use lk_chain::{long_lets, pushed_lets};
+use lk_chain::{long_lets, long_spine, pushed_lets, pushed_spine};
 use lk_core::core_form::{CoreNext, CoreStep};
 use lk_iota::IotaNext;
 use lk_proj::infer::InferNext;
@@ -215,10 +215,25 @@ fn infer_lets<L: Looks>(looks: &mut L, e: u64) -> Result<AnyNext, NoMemory>
     infer(looks, pushed)
 }
 
+/// The first step of `Infer` of a term applied to many arguments, which are put at once where the
+/// type of what they are given to is at hand.
+#[inline(never)]
+fn infer_spine<L: Looks>(looks: &mut L, e: u64) -> Result<AnyNext, NoMemory>
+    requires e_in { e < length (L.contents looks.old).trees }
+    requires closed { loose (tree_at (L.contents looks.old) e) ≡ 0 }
+    ensures { Starts L.contents L.rest L.sight looks.old looks.new result (Infer e) }
+{
+    if let Some(spine) = pushed_spine(looks, e)? {
+        return infer(looks, spine);
+    }
+    infer(looks, e)
+}
+
 /// The first step of a question, or of all binders of a telescope at once, or of lets one inside
-/// the other, which run as that does.
+/// the other, or, where it is asked for deep inside applications, of many arguments, which run as
+/// that does.
 #[inline(always)]
-pub fn start<L: Looks>(looks: &mut L, query: Query<u64>) -> Result<AnyNext, NoMemory>
+pub fn start<L: Looks>(looks: &mut L, query: Query<u64>, deep: bool) -> Result<AnyNext, NoMemory>
     requires query_in { IsKnownQuery (length (L.contents looks.old).trees) query }
     ensures { Starts L.contents L.rest L.sight looks.old looks.new result query }
 {
@@ -228,6 +243,9 @@ pub fn start<L: Looks>(looks: &mut L, query: Query<u64>) -> Result<AnyNext, NoMe
         }
         if long_lets(looks, e) {
             return infer_lets(looks, e);
+        }
+        if deep && long_spine(looks, e) {
+            return infer_spine(looks, e);
         }
     }
     begin(looks, query)

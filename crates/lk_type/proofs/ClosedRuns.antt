@@ -1,9 +1,7 @@
 -- The Locals of lambdas, closed a run at a time.
 use Rattle.std.proofs.Common.{◌≡◌, ◌<◌, ◌≤◌, ℕ, zero, suc, ◌+◌, ◌-◌, nat_lt, true, List, [], ◌∷◌, ◌++◌, length, map, refl, ap, sym, ◌∙◌, arith}
-use Rattle.std.specs.Prelude.{All}
 use Rattle.std.proofs.lemmas.Bool.Decides.{nat_tests}
 use Rattle.std.proofs.lemmas.List.{map-append, length-append}
-use Rattle.std.proofs.lemmas.List.Elements.{All-head}
 use Rattle.lk_tree.specs.Tree.{Tree, app, pi, var, sort, const, lam, let_in, proj, lit, wide, str, local}
 use Rattle.lk_tree.specs.Bind.{close_at, bound}
 use Rattle.lk_store.specs.Contents.{Contents, tree_at, Extends, IsTree}
@@ -11,9 +9,9 @@ use Rattle.lk_subst.specs.Numbers.{trees-steady}
 use Rattle.lk_subst.specs.Runs.{run_var, close_runs_at, close_run_at}
 use Rattle.lk_subst.specs.declared.runs.Run.{Run}
 use Rattle.lk_subst.proofs.Closed.{close_runs_at-none, close_runs_at-next, close_runs_at-around}
-use Rattle.lk_type.specs.Telescopes.{number_in, domains_of, numbers_of, closed_with, pis_over, lambdas_type}
+use Rattle.lk_chain.specs.Pis.{pis_over}
+use Rattle.lk_type.specs.Telescopes.{number_in, domains_of, numbers_of, closed_with, lambdas_type}
 use Rattle.lk_type.specs.Lambdas.{counted, EndsIn, AreGathered}
-use Rattle.lk_type.proofs.Openings.{some_of_append}
 
 -- a run begins one number before
 pub counted_before : (j m : ℕ) → counted j (suc m) ≡ j ∷ counted (suc j) m
@@ -157,23 +155,6 @@ under_is i n j m t h =
     let none : 0 + m ≡ m = omega arith in
     around_none 0 i n j m t (omega arith)
     ∙ (ap (λ d. close_runs_at d i n j 0 t) none ∙ sym (close_runs_at-around m i i n j t))
-
--- the last domain stands innermost
-pis_last : (As : List Tree) (A T : Tree) → pis_over (As ++ A ∷ []) T ≡ pis_over As (pi A T)
-pis_last [] A T = refl
-pis_last (B ∷ As) A T = ap (pi B) (pis_last As A T)
-
--- one Pi more
-pub pis_step : {began now later : Contents} → Extends began now → (left others : List ℕ) (A e r : ℕ) → left ≡ others ++ A ∷ []
-    → All (λ y. y < length began.trees) left → IsTree later r (pi (tree_at now A) (tree_at now e))
-    → pis_over (map (tree_at began) others) (tree_at later r) ≡ pis_over (map (tree_at began) left) (tree_at now e)
-pis_step {began} {now} {later} grows left others A e r is known made =
-    let P : ℕ → Type 0 = λ y. y < length began.trees in
-    let A_in : A < length began.trees = All-head P A [] (some_of_append P others (A ∷ []) (rw is at known)) in
-    let same = grows.trees.same A A_in in
-    ap (pis_over (map (tree_at began) others)) (made.is ∙ ap (λ t. pi t (tree_at now e)) same)
-    ∙ (sym (pis_last (map (tree_at began) others) (tree_at began A) (tree_at now e))
-    ∙ ap (λ l. pis_over l (tree_at now e)) (sym (ap (map (tree_at began)) is ∙ map-append (tree_at began) others (A ∷ []))))
 
 -- the type of lambdas, of what was gathered and closed
 pub type_is : {began now later : Contents} → Extends began now → (opened e locals ty closed r : ℕ) (domains numbers : List ℕ) → tree_at began opened ≡ app (tree_at began e) (tree_at began locals)

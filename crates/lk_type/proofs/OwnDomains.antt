@@ -5,8 +5,9 @@ use Rattle.lk_tree.specs.Tree.{Tree, var, sort, const, app, lam, pi, let_in, pro
 use Rattle.lk_tree.specs.Bind.{open_at, open_var, opened, close_at, close, bound}
 use Rattle.lk_tree.specs.Loose.{loose}
 use Rattle.lk_tree.proofs.Binding.{Opening, opening, below, at, above, Closing, closing, closed, stays}
+use Rattle.lk_chain.specs.Pis.{pis_over}
 use Rattle.lk_type.specs.declared.sheet.Binders.TheVariants.{Lambdas}
-use Rattle.lk_type.specs.Telescopes.{number_in, fresh, OpensTo, ahead, domains_of, numbers_of, closed_with, pis_over, lambdas_type}
+use Rattle.lk_type.specs.Telescopes.{number_in, fresh, OpensTo, ahead, domains_of, numbers_of, closed_with, lambdas_type}
 
 -- a tree that is opened has one loose variable less
 pub open_loose : (d : ℕ) (v e : Tree) → loose v ≡ 0 → loose e ≤ suc d → loose (open_at d v e) ≤ d

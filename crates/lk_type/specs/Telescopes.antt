@@ -6,6 +6,7 @@ use Rattle.lk_tree.specs.declared.rule.Rule.TheVariants.{NotASort}
 use Rattle.lk_plain.specs.Query.{whnf, infer}
 use Rattle.lk_plain.specs.Program.{Program, done, refuse, ask, ◌>>=◌}
 use Rattle.lk_questions.specs.Steps.{as_sort}
+use Rattle.lk_chain.specs.Pis.{pis_over}
 use Rattle.lk_type.specs.declared.sheet.Telescope.{Telescope}
 use Rattle.lk_type.specs.declared.sheet.Binders.{Binders}
 use Rattle.lk_type.specs.declared.sheet.Binders.TheVariants.{Pis, Lambdas}
@@ -64,11 +65,6 @@ numbers_of _ _ = []
 abbrev pub closed_with : List ℕ → Tree → Tree
 closed_with [] T = T
 closed_with (k ∷ ks) T = close_at (length ks) k (closed_with ks T)
-
--- Pis over these domains
-abbrev pub pis_over : List Tree → Tree → Tree
-pis_over [] T = T
-pis_over (A ∷ As) T = pi A (pis_over As T)
 
 -- the type of a lambda that was opened with those inside it, after the type T of what stands inside:
 -- the lambda is applied to its Locals

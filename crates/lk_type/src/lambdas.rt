@@ -6,12 +6,13 @@ ghost use Rattle.std.specs.Prelude.{◌≡◌, ◌<◌, [], length, map, All, If
 ghost use Rattle.lk_store.specs.Contents.{tree_at};
 ghost use Rattle.lk_subst.specs.Runs.{close_run_at};
 ghost use Rattle.lk_ask.specs.Looks.{MakesTree};
-ghost use Rattle.lk_type.specs.Telescopes.{number_in, closed_with, pis_over, lambdas_type};
+ghost use Rattle.lk_type.specs.Telescopes.{number_in, closed_with, lambdas_type};
 ghost use Rattle.lk_type.specs.Lambdas.{AreGathered, EndsIn};
 
 use crate::binding::parts_of;
 use crate::sheet::Binders;
 use lk_ask::looks::Looks;
+use lk_chain::pis;
 use lk_store::memory::NoMemory;
 use lk_store::node::Node;
 use lk_subst::runs::{Run, Runs, close_runs};
@@ -104,22 +105,6 @@ fn close_all<L: Looks>(looks: &mut L, numbers: &[u64], ty: u64) -> Result<u64, N
     'runs: while let Some((run, others)) = last_run(left) {
         let count = (numbers.len() - left.len()) as u64;
         made = close_under(looks, run, count, made)?;
-        left = others;
-    }
-    Ok(made)
-}
-
-/// Pis over these domains.
-fn pis<L: Looks>(looks: &mut L, domains: &[u64], ty: u64) -> Result<u64, NoMemory>
-    requires domains_in { All (λ x. x < length (L.contents looks.old).trees) domains.now }
-    requires ty_in { ty < length (L.contents looks.old).trees }
-    ensures { MakesTree L.contents L.rest looks.old looks.new result
-        (λ t. pis_over (map t domains.now) (t ty)) }
-{
-    let mut left = domains;
-    let mut made = ty;
-    'domains: while let Some((domain, others)) = left.split_last() {
-        made = looks.make(Node::Pi(*domain, made))?;
         left = others;
     }
     Ok(made)

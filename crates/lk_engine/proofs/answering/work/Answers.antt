@@ -121,7 +121,7 @@ work-preserved-in-Done-2 g c =
     record {
       stays = stays_on {new = c.resume.new.looks} all stays;
       entries = entries_steady stays.keeps _ _ _ (entries_back c.work.invariant.stays c.«open».ensures.entries);
-      linked = rw left (linked_resumes asked c.work.stack.items waits refl refl
+      linked = rw left (linked_resumes asked c.work.stack.frames.items waits refl refl
           (rw c.last-last.ensures at note.last) stays.keeps k.known
           (rw (there, note.stays.terms) at k.steps));
     }

@@ -13,10 +13,10 @@ invariant-work g l =
       stays : Stays contents g.T.Terms.rest began l.lookout;
       entries : AreTrueAt began (contents l.lookout.2) l.memo;
       linked : IsLinked (place_of began) (query_of (tree_at (contents began.2)) l.fn.query)
-          began.3.left (contents l.lookout.2) l.stack.items l.asked l.budget l.next l.lookout.3.left
+          began.3.left (contents l.lookout.2) l.stack.frames.items l.asked l.budget l.next l.lookout.3.left
           l.lookout.3.last;
     }
 
 -- each question takes from the budget, and each answer one frame from the stack
 abbrev pub decreases-work : goal.decreases-work
-decreases-work g l = 2 * l.lookout.3.left + vec_len l.stack
+decreases-work g l = 2 * l.lookout.3.left + vec_len l.stack.frames

@@ -1,8 +1,7 @@
-use Rattle.std.proofs.Common.{◌≡◌, ◌<◌, length, map}
-use Rattle.std.specs.Prelude.{All}
+use Rattle.std.proofs.Common.{◌≡◌, ◌<◌, length, map, All}
 use Rattle.lk_store.specs.Contents.{tree_at, Extends}
-use Rattle.lk_type.specs.Telescopes.{pis_over}
-use Rattle.lk_type.proofs.lambdas.pis.Given as goal
+use Rattle.lk_chain.specs.Pis.{pis_over}
+use Rattle.lk_chain.proofs.domains.pis.Given as goal
 
 abbrev pub invariant-domains : goal.invariant-domains
 invariant-domains g l =
