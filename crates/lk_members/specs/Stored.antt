@@ -6,7 +6,7 @@ use Rattle.lk_store.specs.Contents.{Contents, name_at, tree_at}
 use Rattle.lk_env.specs.declared.unit.Declaration.{Declaration}
 use Rattle.lk_env.specs.declared.unit.Constructor.{Constructor}
 use Rattle.lk_env.specs.declared.unit.Recursor.{Recursor}
-use Rattle.lk_env.specs.Units.{declaration_at, constructor_at, recursor_at, IsStatedIn, IsBodyIn, IsConstructorIn, IsRecursorIn}
+use Rattle.lk_env.specs.Units.{declared_levels, declaration_at, constructor_at, recursor_at, IsStatedIn, IsBodyIn, IsConstructorIn, IsRecursorIn}
 use Rattle.lk_members.specs.declared.line.TypeHead.{TypeHead}
 use Rattle.lk_members.specs.declared.line.Said.{Said as StoredSaid}
 use Rattle.lk_members.specs.declared.line.Said.TheVariants as said
@@ -55,7 +55,7 @@ abbrev pub AreNames : Contents → List ℕ → Type 0
 AreNames c ns = All (λ n. n < length c.names) ns
 
 abbrev pub IsSaidIn : Contents → StoredSaid → Type 0
-IsSaidIn c (said.Alone d) = IsStatedIn c d.name d.levels.items d.ty × IsBodyIn c d.body
+IsSaidIn c (said.Alone d) = IsStatedIn c d.name (declared_levels d) d.ty × IsBodyIn c d.body
 IsSaidIn c (said.Type head types constructors) = IsStatedIn c head.value.name head.value.levels.items head.value.ty × (AreNames c types.items × AreNames c constructors.items)
 IsSaidIn c (said.Constructor k) = IsConstructorIn c k
 IsSaidIn c (said.Recursor types r) = AreNames c types.items × IsRecursorIn c r.value

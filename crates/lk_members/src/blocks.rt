@@ -253,7 +253,7 @@ impl Members {
             (block_with nat_eq (lines_of self.now.lines.items) types.now ∷ []) (b ∷ [])) }
     {
         let made = self.types_made(alloc, types)?;
-        let recursors = self.recursors_made(alloc, types)?;
+        let recursors = Box::new(alloc, self.recursors_made(alloc, types)?)?;
         Ok(Block {
             types: made,
             recursors,

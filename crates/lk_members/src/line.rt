@@ -29,7 +29,7 @@ pub enum Said {
         constructors: Vec<u64>,
     },
     /// A constructor.
-    Constructor(Constructor),
+    Constructor(Box<Constructor>),
     /// A recursor of the block with these types.
     Recursor {
         types: Vec<u64>,

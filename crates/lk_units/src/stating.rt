@@ -160,7 +160,7 @@ impl Assembler {
             return Err(TakeError::Fault(Word::IndexUnknown));
         };
         let levels = self.names_of(alloc, parameters)?;
-        Ok(Said::Constructor(Constructor {
+        let constructor = Constructor {
             name,
             levels,
             ty,
@@ -168,7 +168,9 @@ impl Assembler {
             place: u64::from(counts.place),
             parameters: u64::from(counts.parameters),
             fields: u64::from(counts.fields),
-        }))
+        };
+        let constructor = boxed(alloc, constructor)?;
+        Ok(Said::Constructor(constructor))
     }
 
     /// A recursor of the block with these types.
