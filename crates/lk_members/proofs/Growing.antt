@@ -80,13 +80,14 @@ module _ (c d : Contents) (x : Extends c d) where
 
   said_same : (s : StoredSaid) → IsSaidIn c s → said_at d s ≡ said_at c s
   said_same (said.Alone t) h = ap alone (declaration_same t h.0 h.1)
-  said_same (said.Type head types constructors) h =
+  said_same (said.Type head types) h =
       let t : TypeHead = head.value in
       let name : name_at d t.name ≡ name_at c t.name = x.names.same t.name h.0.name_in in
       let listed : map (name_at d) types.items ≡ map (name_at c) types.items = names_same types.items h.1.0 in
-      let ctors : map (name_at d) constructors.items ≡ map (name_at c) constructors.items = names_same constructors.items h.1.1 in
+      let ctors : map (name_at d) t.constructors.items ≡ map (name_at c) t.constructors.items = names_same t.constructors.items h.1.1 in
       typed (name_at d t.name) (name_at c t.name) _ _ _ _ (head_at d t) (head_at c t) name listed ctors (head_same t h.0)
-  said_same (said.Constructor k) h =
+  said_same (said.Constructor kept) h =
+      let k : Constructor = kept.value in
       built_of (name_at d k.parent) (name_at c k.parent) _ _ (constructor_at d k) (constructor_at c k) (x.names.same k.parent h.parent_in) (x.names.same k.name h.stated.name_in) (constructor_same k h)
   said_same (said.Recursor types r) h = eliminated _ _ (name_at d r.value.name) (name_at c r.value.name) (recursor_at d r.value) (recursor_at c r.value) (names_same types.items h.0) (x.names.same r.value.name h.1.stated.name_in) (recursor_same r.value h.1)
 
@@ -131,8 +132,8 @@ module _ (c d : Contents) (x : Extends c d) where
 
   said_stays : (s : StoredSaid) → IsSaidIn c s → IsSaidIn d s
   said_stays (said.Alone t) h = (stated_stays t.name (declared_levels t) t.ty h.0, body_stays t.body h.1)
-  said_stays (said.Type t types constructors) h = (stated_stays t.value.name t.value.levels.items t.value.ty h.0, (names_stay types.items h.1.0, names_stay constructors.items h.1.1))
-  said_stays (said.Constructor k) h = constructor_stays k h
+  said_stays (said.Type t types) h = (stated_stays t.value.name t.value.levels.items t.value.ty h.0, (names_stay types.items h.1.0, names_stay t.value.constructors.items h.1.1))
+  said_stays (said.Constructor k) h = constructor_stays k.value h
   said_stays (said.Recursor types r) h = (names_stay types.items h.0, recursor_stays r.value h.1)
 
   pub lines_stay : (ls : List StoredLine) → AreLinesIn c ls → AreLinesIn d ls

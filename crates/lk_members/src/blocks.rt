@@ -164,12 +164,8 @@ impl Members {
             return Ok(None);
         };
         match &self.lines[*place as usize].said {
-            Said::Type {
-                head,
-                constructors,
-                ..
-            } => {
-                let made = self.constructors_made(alloc, name, constructors)?;
+            Said::Type { head, .. } => {
+                let made = self.constructors_made(alloc, name, &head.constructors)?;
                 let copy = copy_type(alloc, head, made)?;
                 Ok(Some(copy))
             }

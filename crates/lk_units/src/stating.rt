@@ -126,13 +126,10 @@ impl Assembler {
             ty,
             parameters: u64::from(counts.parameters),
             indices: u64::from(counts.indices),
+            constructors,
         };
         let head = boxed(alloc, head)?;
-        Ok(Said::Type {
-            head,
-            types,
-            constructors,
-        })
+        Ok(Said::Type { head, types })
     }
 
     /// A constructor.
