@@ -1,6 +1,8 @@
 -- What the units of a library stand for, by the numbers of a store.
-use Rattle.std.specs.Prelude.{ℕ, ◌<◌, List, length, map, All}
+use Rattle.std.specs.Prelude.{Vec, ℕ, ◌<◌, List, length, map, All}
 use Rattle.std.specs.Arc.{arc_value}
+use Rattle.std.specs.declared.sync.Arc.{Arc}
+use Rattle.std.specs.declared.alloc.Global.{Global}
 use Rattle.lk_rulebook.specs.Place.{Ctor, BlockType as PlainType, Block as PlainBlock, RecRule, BlockRecursor, opaque_hint, abbreviation, regular}
 use Rattle.lk_rulebook.specs.Place.{Hint as PlainHint}
 use Rattle.lk_rulebook.specs.Units.{Body as PlainBody, as_axiom, as_def, as_thm, as_opaque, as_quot, Decl, LibraryUnit, of_decl, of_block, Library}
@@ -32,9 +34,13 @@ body_at c (Theorem v) = as_thm (tree_at c v)
 body_at c (Opaque v) = as_opaque (tree_at c v)
 body_at c Quotient = as_quot
 
+-- the names in a list that is shared
+abbrev pub shared_names : Arc (Vec ℕ Global) Global → List ℕ
+shared_names kept = (arc_value kept).items
+
 -- the names of a declaration's level parameters
 abbrev pub declared_levels : Declaration → List ℕ
-declared_levels d = (arc_value d.levels).items
+declared_levels d = shared_names d.levels
 
 abbrev pub declaration_at : Contents → Declaration → Decl
 declaration_at c d = record { name = name_at c d.name; levels = map (name_at c) (declared_levels d); type = tree_at c d.ty; body = body_at c d.body }

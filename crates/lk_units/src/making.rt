@@ -3,11 +3,11 @@ ghost use Rattle.std.specs.Prelude.{◌≡◌, ◌<◌, ◌++◌, ◌∷◌, [],
 ghost use Rattle.lk_tree.specs.Tree.{Level, text, number, var, const, str};
 ghost use Rattle.lk_rulebook.specs.Units.{Body as PlainBody};
 ghost use Rattle.lk_store.specs.Contents.{Contents, name_at, level_at, tree_at, level_of, tree_of, IsIn, IsLevelIn, IsName, IsList, Extends};
-ghost use Rattle.lk_env.specs.Units.{body_at, rule_at, IsBodyIn, IsRuleIn};
+ghost use Rattle.lk_env.specs.Units.{shared_names, body_at, rule_at, IsBodyIn, IsRuleIn};
 ghost use Rattle.lk_members.specs.Stored.{IsSaidIn};
 ghost use Rattle.lk_members.specs.Plain.{said_at};
 ghost use Rattle.lk_lines.specs.declared.words.Word.{Word as LineWord};
-ghost use Rattle.lk_units.specs.State.{State, longer_name, successor_level, pair_level, parameter_level, sort_tree, constant_tree, application_tree, binder_tree, let_tree, projection_tree, number_literal, rule_of, declaration_of, value_body, valued_of, axiom_of, quotient_of};
+ghost use Rattle.lk_units.specs.State.{State, all_known, longer_name, successor_level, pair_level, parameter_level, sort_tree, constant_tree, application_tree, binder_tree, let_tree, projection_tree, number_literal, rule_of, declaration_of, value_body, valued_of, axiom_of, quotient_of};
 ghost use Rattle.lk_units.specs.Held.{IsKnown, Holds, Makes, binder_of, pair_of, body_of};
 
 use crate::{Assembler, Binder, LevelPair, TakeError, ValueUse};
@@ -180,7 +180,7 @@ fn shared(
     other: Option<&Arc<Vec<u64>>>,
     list: Vec<u64>,
 ) -> Result<Arc<Vec<u64>>, NoMemory>
-    ensures { IfOk result (λ kept. (arc_value kept).items ≡ list.items) }
+    ensures { IfOk result (λ kept. shared_names kept ≡ list.items) }
 {
     if let Some(kept) = other {
         if kept.as_slice() == list.as_slice() {
@@ -482,11 +482,12 @@ impl Assembler {
     /// The level parameters of a declaration. The list is that of the declaration before, where it has the same one.
     fn parameters(&self, alloc: Global, parameters: &[u32]) -> Result<Arc<Vec<u64>>, TakeError>
         ensures known { (c : Contents) → IsKnown self.now c
-            → IfOk result (λ p. All (λ n. n < length c.names) (arc_value p).items) }
-        ensures made { Makes (λ p. (arc_value p).items) result
-            (all_known (entry self.now.by_name) parameters.now) }
+            → IfOk result (λ p. All (λ n. n < length c.names) (shared_names p)) }
+        ensures made { (c : Contents) (s : State) → Holds self.now c s
+            → Makes (λ p. map (name_at c) (shared_names p)) result
+            (all_known s.names parameters.now) }
     {
-        let levels = self.by_name.find_all(alloc, parameters)?;
+        let levels = self.names_of(alloc, parameters)?;
         let kept = shared(alloc, self.members.last_parameters(), levels)?;
         Ok(kept)
     }
