@@ -28,4 +28,4 @@ returns c =
     let d = contents_of c.args.base.now in
     let b = c.args.block.now in
     third_is (are_distinct (members_of (unit_at d (unit.Block b)))) (list_all (type_different d) b.types.items) (list_all (constructors_different d) b.types.items) (list_all (recursor_different d) b.recursors.value.items) c.in_ok-types_distinct.field-0 c.in_ok-all_constructors_distinct.field-0 c.in_ok-recursors.recursors
-    (distinct_is d b) (rw c.deref.ensures.value at c.in_ok-types_distinct.ensures) (search rules) (rw c.deref-2.ensures.value at c.in_ok-all_constructors_distinct.ensures) (search rules) (rw c.deref-3.ensures.value at c.in_ok-recursors.ensures)
+    (distinct_is d b) (rw c.deref.ensures.value at c.in_ok-types_distinct.ensures) (search rules) (rw c.deref-2.ensures.value at c.in_ok-all_constructors_distinct.ensures) (search rules) (rw c.deref-3.ensures at (rw c.deref-4.ensures.value at c.in_ok-recursors.ensures))

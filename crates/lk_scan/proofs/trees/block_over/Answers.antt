@@ -28,4 +28,4 @@ returns c =
     let d = contents_of c.args.base.now in
     let b = c.args.block.now in
     third_is (all_over (trees_of (unit_at d (unit.Block b)))) (list_all (type_over d) b.types.items) (list_all (constructors_over d) b.types.items) (list_all (recursor_over d) b.recursors.value.items) c.in_ok-types_over.field-0 c.in_ok-all_constructors_over.field-0 c.in_ok-over.over
-    (declared_is d b) (rw c.deref.ensures.value at c.in_ok-types_over.ensures.over) (search rules) (rw c.deref-2.ensures.value at c.in_ok-all_constructors_over.ensures.over) (search rules) (rw c.deref-3.ensures.value at c.in_ok-over.ensures)
+    (declared_is d b) (rw c.deref.ensures.value at c.in_ok-types_over.ensures.over) (search rules) (rw c.deref-2.ensures.value at c.in_ok-all_constructors_over.ensures.over) (search rules) (rw c.deref-3.ensures at (rw c.deref-4.ensures.value at c.in_ok-over.ensures))

@@ -11,5 +11,5 @@ pub returns-else-has_params : goal.returns-else-has_params
 returns-else-has_params c = λ h.
     let d = contents_of c.args.base.now in
     let ps = map (name_at d) (declared_levels c.args.declaration.now) in
-    ap (λ b. b && all_over (body_trees ps (body_at d c.args.declaration.now.body))) (tree_without ps (tree_at d c.args.declaration.now.ty) (sym c.has_params.ensures ∙ c.if-has_params.false))
+    ap (λ b. b && all_over (body_trees ps (body_at d c.args.declaration.now.body))) (tree_without ps (tree_at d c.args.declaration.now.ty) (sym (rw c.from.ensures at c.has_params.ensures) ∙ c.if-has_params.false))
     ∙ c.body_has_params.ensures h ps
