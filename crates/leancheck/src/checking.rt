@@ -70,12 +70,9 @@ fn ask_quotient<Q: Quotients>(asks: &mut Q, declaration: &Declaration) -> Verdic
     ensures verdict { IsPlain (questions_of (Q.standing asks.old).place (Q.left asks.old)
         (declaration_at (Q.contents asks.old) declaration.now)) result }
 {
-    verdict_of(check_quotient(
-        asks,
-        u64::from(declaration.name),
-        &declaration.levels,
-        u64::from(declaration.ty),
-    ))
+    let name = u64::from(declaration.name);
+    let ty = u64::from(declaration.ty);
+    verdict_of(check_quotient(asks, name, &declaration.levels, ty))
 }
 
 /// The verdict of the questions of any other declaration.
@@ -89,13 +86,14 @@ fn ask<Q: Laws>(alloc: Global, asks: &mut Q, declaration: &Declaration) -> Verdi
     ensures verdict { IsPlain (questions_of (Q.standing asks.old).place (Q.left asks.old)
         (declaration_at (Q.contents asks.old) declaration.now)) result }
 {
+    let name = u64::from(declaration.name);
     let ty = u64::from(declaration.ty);
     match declaration.body {
         Body::Axiom => verdict_of(check_axiom(asks, ty)),
         Body::Definition { value, .. } => verdict_of(check_definition(
             alloc,
             asks,
-            u64::from(declaration.name),
+            name,
             &declaration.levels,
             ty,
             u64::from(value),
