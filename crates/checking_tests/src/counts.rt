@@ -97,10 +97,8 @@ fn block_of<T: Terms>(
     let constructors = constructors_of(alloc, store, name, ty, place)?;
     let mut types = Vec::new(alloc);
     push_type(alloc, store, &mut types, name, ty, constructors)?;
-    Ok(Block {
-        types,
-        recursors: Vec::new(alloc),
-    })
+    let recursors = Box::new(alloc, Vec::new(alloc))?;
+    Ok(Block { types, recursors })
 }
 
 fn agrees_in<T: Terms>(alloc: Global, store: &mut T, place: u64) -> Result<bool, NoMemory> {

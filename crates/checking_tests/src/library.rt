@@ -16,6 +16,7 @@ use lk_store::overlay::Overlay;
 use lk_store::terms::Terms;
 use lk_tree::rule::Rule;
 use std::alloc::Global;
+use std::sync::Arc;
 use std::test::Fail;
 
 fn push_theorem<T: Terms>(
@@ -31,10 +32,17 @@ fn push_theorem<T: Terms>(
     ensures { OnOk result (AreUnitsIn (T.contents store.now) units.new.items) }
 {
     let _store = store;
+    let Ok(name) = u32::try_from(name) else {
+        return Err(NoMemory);
+    };
+    let Ok(tree) = u32::try_from(tree) else {
+        return Err(NoMemory);
+    };
+    let levels = Arc::new(alloc, Vec::new(alloc))?;
     units.push(Unit::Declaration(Declaration {
         name,
-        levels: Vec::new(alloc),
         ty: tree,
+        levels,
         body: Body::Theorem { proof: tree },
     }))?;
     Ok(())

@@ -193,6 +193,7 @@ fn block<T: Terms>(
     let mut recursors = Vec::new(alloc);
     recursors.push(recursor)?;
     let mut units = Vec::new(alloc);
+    let recursors = Box::new(alloc, recursors)?;
     units.push(Unit::Block(Block { types, recursors }))?;
     Ok(units)
 }

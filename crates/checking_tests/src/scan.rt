@@ -16,6 +16,7 @@ use lk_store::node::{LevelNode, ListNode, NameNode, Node};
 use lk_store::terms::Terms;
 use lk_tree::rule::Rule;
 use std::alloc::Global;
+use std::sync::Arc;
 use std::test::Fail;
 
 /// The level parameters that a theorem declares.
@@ -55,19 +56,32 @@ fn constant<T: Terms>(store: &mut T, its: u64) -> Result<u64, NoMemory>
     store.make(Node::Const(its, list))
 }
 
-fn theorem<T: Terms>(store: &T, name: u64, levels: Vec<u64>, tree: u64) -> Unit
+fn theorem<T: Terms>(
+    alloc: Global,
+    store: &T,
+    name: u64,
+    levels: Vec<u64>,
+    tree: u64,
+) -> Result<Unit, NoMemory>
     requires name_in { name < length (T.contents store.now).names }
     requires levels_in { All (λ l. l < length (T.contents store.now).names) levels.items }
     requires tree_in { tree < length (T.contents store.now).trees }
-    ensures { IsUnitIn (T.contents store.now) result }
+    ensures { IfOk result (λ u. IsUnitIn (T.contents store.now) u) }
 {
     let _store = store;
-    Unit::Declaration(Declaration {
+    let Ok(name) = u32::try_from(name) else {
+        return Err(NoMemory);
+    };
+    let Ok(tree) = u32::try_from(tree) else {
+        return Err(NoMemory);
+    };
+    let levels = Arc::new(alloc, levels)?;
+    Ok(Unit::Declaration(Declaration {
         name,
-        levels,
         ty: tree,
+        levels,
         body: Body::Theorem { proof: tree },
-    })
+    }))
 }
 
 // A theorem about the constant.
@@ -79,7 +93,7 @@ fn of_constant<T: Terms>(alloc: Global, store: &mut T, declares: Declares) -> Re
     let other = store.make_name(NameNode::Number(nothing, 2))?;
     let tree = constant(store, its)?;
     let levels = levels_of(alloc, declares, its, other)?;
-    Ok(theorem(store, its, levels, tree))
+    theorem(alloc, store, its, levels, tree)
 }
 
 // A theorem about a node without parts, with no level parameter.
@@ -89,7 +103,7 @@ fn of_node<T: Terms>(alloc: Global, store: &mut T, node: Node) -> Result<Unit, N
 {
     let tree = store.make(node)?;
     let name = store.make_name(NameNode::Anonymous)?;
-    Ok(theorem(store, name, Vec::new(alloc), tree))
+    theorem(alloc, store, name, Vec::new(alloc), tree)
 }
 
 fn scan_constant(alloc: Global, declares: Declares) -> Result<Result<(), ScanError>, NoMemory> {
@@ -200,10 +214,8 @@ fn block_of<T: Terms>(
     let mut types = Vec::new(alloc);
     push_type(alloc, store, &mut types, first, tree)?;
     push_type(alloc, store, &mut types, second, tree)?;
-    Ok(Unit::Block(Block {
-        types,
-        recursors: Vec::new(alloc),
-    }))
+    let recursors = Box::new(alloc, Vec::new(alloc))?;
+    Ok(Unit::Block(Block { types, recursors }))
 }
 
 fn push_block<T: Terms>(

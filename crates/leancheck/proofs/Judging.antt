@@ -8,7 +8,7 @@ use Rattle.lk_env.specs.declared.unit.Body.{Body}
 use Rattle.lk_env.specs.declared.unit.Body.TheVariants.{Axiom, Definition, Theorem, Opaque, Quotient}
 use Rattle.lk_env.specs.declared.unit.Unit.{Unit as StoredUnit}
 use Rattle.lk_env.specs.declared.unit.Unit.TheVariants as unit
-use Rattle.lk_env.specs.Units.{unit_at, IsBodyIn, IsStatedIn, IsUnitIn}
+use Rattle.lk_env.specs.Units.{declared_levels, unit_at, IsBodyIn, IsStatedIn, IsUnitIn}
 use Rattle.lk_env.proofs.Stays.{names_in_stay, types_in_stay, recursors_in_stay, unit_stays}
 use Rattle.lk_env.specs.declared.entry.Partial.{Partial}
 use Rattle.lk_env.specs.Places.{partial_beside}
@@ -44,9 +44,9 @@ module _ (c d : Contents) (x : Extends c d) where
   body_on Quotient h = tt
 
   pub unit_on : (u : StoredUnit) → IsUnitIn c u → IsUnitIn d u
-  unit_on (unit.Declaration a) h = (stated_on a.name a.levels.items a.ty h.0, body_on a.body h.1)
+  unit_on (unit.Declaration a) h = (stated_on a.name (declared_levels a) a.ty h.0, body_on a.body h.1)
   unit_on (unit.Block b) h =
-      (types_in_stay c d x b.types.items h.0, recursors_in_stay c d x b.recursors.items h.1)
+      (types_in_stay c d x b.types.items h.0, recursors_in_stay c d x b.recursors.value.items h.1)
 
   -- its questions are those that it has there
   pub scanned_on : (w : Places) (budget : ℕ) (u : StoredUnit) (v : HeldVerdict) → IsUnitIn c u

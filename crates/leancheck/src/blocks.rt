@@ -28,7 +28,7 @@ fn check_from_sorts<A: Families>(
     parts: TypeParts,
 ) -> Result<(), Stop>
     requires types_in { All (IsTypeIn (A.contents asks.old)) block.now.types.items }
-    requires stated_in { All (IsRecursorIn (A.contents asks.old)) block.now.recursors.items }
+    requires stated_in { All (IsRecursorIn (A.contents asks.old)) block.now.recursors.value.items }
     requires parts_in { ArePartsIn (A.contents asks.old) parts }
     requires locals { AreLocals (map (tree_at (A.contents asks.old)) parts.parameters.items) }
     requires place { StandsAt A.places (A.standing asks.old) Partial.Types [] }
@@ -37,7 +37,7 @@ fn check_from_sorts<A: Families>(
         → IsCheckOutcome (sorts_stage
         (A.standing asks.old).table (A.places (A.standing asks.old).basis) fuel
         (block_at (A.contents asks.old) block.now)
-        (map (recursor_at (A.contents asks.old)) block.now.recursors.items)
+        (map (recursor_at (A.contents asks.old)) block.now.recursors.value.items)
         (parts_at (A.contents asks.old) parts) (A.left asks.old)) result }
 {
     check_sorts(asks, &block.types)?;
@@ -52,7 +52,7 @@ fn give_types<A: Families>(
     parts: TypeParts,
 ) -> Result<(), Stop>
     requires types_in { All (IsTypeIn (A.contents asks.old)) block.now.types.items }
-    requires stated_in { All (IsRecursorIn (A.contents asks.old)) block.now.recursors.items }
+    requires stated_in { All (IsRecursorIn (A.contents asks.old)) block.now.recursors.value.items }
     requires parts_in { ArePartsIn (A.contents asks.old) parts }
     requires locals { AreLocals (map (tree_at (A.contents asks.old)) parts.parameters.items) }
     ensures basis { (A.standing asks.new).basis ≡ (A.standing asks.old).basis }
@@ -60,7 +60,7 @@ fn give_types<A: Families>(
         → IsCheckOutcome (sorts_stage
         (A.standing asks.old).table (A.places (A.standing asks.old).basis) fuel
         (block_at (A.contents asks.old) block.now)
-        (map (recursor_at (A.contents asks.old)) block.now.recursors.items)
+        (map (recursor_at (A.contents asks.old)) block.now.recursors.value.items)
         (parts_at (A.contents asks.old) parts) (A.left asks.old)) result }
 {
     asks.give(Partial::Types);
@@ -81,14 +81,14 @@ fn stated_parameters(types: &[BlockType]) -> u64
 /// The types, and then all that follows.
 fn check_from_types<A: Families>(alloc: Global, asks: &mut A, block: &Block) -> Result<(), Stop>
     requires types_in { All (IsTypeIn (A.contents asks.old)) block.now.types.items }
-    requires stated_in { All (IsRecursorIn (A.contents asks.old)) block.now.recursors.items }
+    requires stated_in { All (IsRecursorIn (A.contents asks.old)) block.now.recursors.value.items }
     requires place { StandsAt A.places (A.standing asks.old) Partial.Nothing [] }
     ensures basis { (A.standing asks.new).basis ≡ (A.standing asks.old).basis }
     ensures outcome { (fuel : ℕ) → A.left asks.old < fuel
         → IsCheckOutcome (types_stage
         (A.standing asks.old).table (A.places (A.standing asks.old).basis) fuel
         (block_at (A.contents asks.old) block.now)
-        (map (recursor_at (A.contents asks.old)) block.now.recursors.items)
+        (map (recursor_at (A.contents asks.old)) block.now.recursors.value.items)
         (A.left asks.old)) result }
 {
     let parameters = stated_parameters(&block.types);
@@ -102,13 +102,13 @@ fn check_from_types<A: Families>(alloc: Global, asks: &mut A, block: &Block) -> 
 /// are given; the stated recursors against those of the larger block, read back.
 pub fn check_block<A: Families>(alloc: Global, asks: &mut A, block: &Block) -> Result<(), Stop>
     requires types_in { All (IsTypeIn (A.contents asks.old)) block.now.types.items }
-    requires stated_in { All (IsRecursorIn (A.contents asks.old)) block.now.recursors.items }
+    requires stated_in { All (IsRecursorIn (A.contents asks.old)) block.now.recursors.value.items }
     requires place { StandsAt A.places (A.standing asks.old) Partial.Nothing [] }
     ensures basis { (A.standing asks.new).basis ≡ (A.standing asks.old).basis }
     ensures outcome { IsCheckOutcome (block_stages
         (A.standing asks.old).table (A.places (A.standing asks.old).basis)
         (suc (A.left asks.old)) (block_at (A.contents asks.old) block.now)
-        (map (recursor_at (A.contents asks.old)) block.now.recursors.items)
+        (map (recursor_at (A.contents asks.old)) block.now.recursors.value.items)
         (A.left asks.old)) result }
 {
     if counts_agree(asks, block) {

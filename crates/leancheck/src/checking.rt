@@ -9,7 +9,7 @@ ghost use Rattle.lk_store.specs.Store.{over, contents_of};
 ghost use Rattle.lk_engine.specs.Lookouts.{standing_at, places_at};
 ghost use Rattle.lk_env.specs.declared.entry.Partial.{Partial as GivenMembers};
 ghost use Rattle.lk_env.specs.Places.{partial_beside};
-ghost use Rattle.lk_env.specs.Units.{declaration_at, unit_at, library_of};
+ghost use Rattle.lk_env.specs.Units.{declared_levels, declaration_at, unit_at, library_of};
 ghost use Rattle.lk_env.specs.Units.{IsStatedIn, IsBodyIn, IsUnitIn};
 ghost use Rattle.leancheck.specs.Rows.{questions_of, asked_of, scanned_of, row_verdict};
 ghost use Rattle.leancheck.specs.Standing.{StandsAt};
@@ -64,39 +64,42 @@ fn is_quotient(body: Body) -> bool
 fn ask_quotient<Q: Quotients>(asks: &mut Q, declaration: &Declaration) -> Verdict
     requires table { (Q.standing asks.old).table ≡ table }
     requires stated_in { IsStatedIn (Q.contents asks.old) declaration.now.name
-        declaration.now.levels.items declaration.now.ty }
+        (declared_levels declaration.now) declaration.now.ty }
     requires quotient { declaration.now.body ≡ Body.Quotient }
     ensures basis { (Q.standing asks.new).basis ≡ (Q.standing asks.old).basis }
     ensures verdict { IsPlain (questions_of (Q.standing asks.old).place (Q.left asks.old)
         (declaration_at (Q.contents asks.old) declaration.now)) result }
 {
-    verdict_of(check_quotient(asks, declaration.name, &declaration.levels, declaration.ty))
+    let name = u64::from(declaration.name);
+    let ty = u64::from(declaration.ty);
+    verdict_of(check_quotient(asks, name, &declaration.levels, ty))
 }
 
 /// The verdict of the questions of any other declaration.
 fn ask<Q: Laws>(alloc: Global, asks: &mut Q, declaration: &Declaration) -> Verdict
     requires table { (Q.standing asks.old).table ≡ table }
     requires stated_in { IsStatedIn (Q.contents asks.old) declaration.now.name
-        declaration.now.levels.items declaration.now.ty }
+        (declared_levels declaration.now) declaration.now.ty }
     requires body_in { IsBodyIn (Q.contents asks.old) declaration.now.body }
     requires other { declaration.now.body ≢ Body.Quotient }
     ensures basis { (Q.standing asks.new).basis ≡ (Q.standing asks.old).basis }
     ensures verdict { IsPlain (questions_of (Q.standing asks.old).place (Q.left asks.old)
         (declaration_at (Q.contents asks.old) declaration.now)) result }
 {
-    let ty = declaration.ty;
+    let name = u64::from(declaration.name);
+    let ty = u64::from(declaration.ty);
     match declaration.body {
         Body::Axiom => verdict_of(check_axiom(asks, ty)),
         Body::Definition { value, .. } => verdict_of(check_definition(
             alloc,
             asks,
-            declaration.name,
+            name,
             &declaration.levels,
             ty,
-            value,
+            u64::from(value),
         )),
-        Body::Theorem { proof } => verdict_of(check_theorem(alloc, asks, ty, proof)),
-        Body::Opaque { value } => verdict_of(check_opaque(asks, ty, value)),
+        Body::Theorem { proof } => verdict_of(check_theorem(alloc, asks, ty, u64::from(proof))),
+        Body::Opaque { value } => verdict_of(check_opaque(asks, ty, u64::from(value))),
         Body::Quotient => unreachable!(),
     }
 }
@@ -109,7 +112,7 @@ fn judge_declaration<K: Knows>(
     declaration: &Declaration,
 ) -> Verdict
     requires stated_in { IsStatedIn (contents_of (over asks.old.2.0 asks.old.2.1))
-        declaration.now.name declaration.now.levels.items declaration.now.ty }
+        declaration.now.name (declared_levels declaration.now) declaration.now.ty }
     requires body_in { IsBodyIn (contents_of (over asks.old.2.0 asks.old.2.1))
         declaration.now.body }
     ensures basis { (standing_at asks.new.0 asks.new.1).basis

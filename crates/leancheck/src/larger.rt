@@ -109,7 +109,7 @@ fn check_itself<A: Asks>(
     parts: TypeParts,
 ) -> Result<(), Stop>
     requires types_in { All (IsTypeIn (A.contents asks.old)) block.now.types.items }
-    requires stated_in { All (IsRecursorIn (A.contents asks.old)) block.now.recursors.items }
+    requires stated_in { All (IsRecursorIn (A.contents asks.old)) block.now.recursors.value.items }
     requires parts_in { ArePartsIn (A.contents asks.old) parts }
     requires place { StandsAt A.places (A.standing asks.old) Partial.Types [] }
     ensures basis { (A.standing asks.new).basis ≡ (A.standing asks.old).basis }
@@ -117,7 +117,7 @@ fn check_itself<A: Asks>(
         → IsCheckOutcome (auxiliary_stage
         (A.standing asks.old).table (A.places (A.standing asks.old).basis) fuel
         (block_at (A.contents asks.old) block.now)
-        (map (recursor_at (A.contents asks.old)) block.now.recursors.items)
+        (map (recursor_at (A.contents asks.old)) block.now.recursors.value.items)
         (parts_at (A.contents asks.old) parts)
         (nothing_added (map (type_at (A.contents asks.old)) block.now.types.items))
         (A.left asks.old)) result }
@@ -262,7 +262,7 @@ fn check_with<A: Asks>(
     originals: &[Original],
 ) -> Result<(), Stop>
     requires types_in { All (IsTypeIn (A.contents asks.old)) block.now.types.items }
-    requires stated_in { All (IsRecursorIn (A.contents asks.old)) block.now.recursors.items }
+    requires stated_in { All (IsRecursorIn (A.contents asks.old)) block.now.recursors.value.items }
     requires parts_in { ArePartsIn (A.contents asks.old) parts }
     requires locals { AreLocals (map (tree_at (A.contents asks.old)) parts.parameters.items) }
     requires larger_in { IsLargerIn (A.contents asks.old) larger }
@@ -280,7 +280,7 @@ fn check_with<A: Asks>(
         → IsCheckOutcome (shape_stage
         (A.standing asks.old).table (A.places (A.standing asks.old).basis) fuel
         (block_at (A.contents asks.old) block.now)
-        (map (recursor_at (A.contents asks.old)) block.now.recursors.items)
+        (map (recursor_at (A.contents asks.old)) block.now.recursors.value.items)
         (parts_at (A.contents asks.old) parts) (larger_at (A.contents asks.old) larger)
         (A.left asks.old)) result }
 {
@@ -307,7 +307,7 @@ fn check_enlarged<A: Asks>(
     larger: Larger,
 ) -> Result<(), Stop>
     requires types_in { All (IsTypeIn (A.contents asks.old)) block.now.types.items }
-    requires stated_in { All (IsRecursorIn (A.contents asks.old)) block.now.recursors.items }
+    requires stated_in { All (IsRecursorIn (A.contents asks.old)) block.now.recursors.value.items }
     requires parts_in { ArePartsIn (A.contents asks.old) parts }
     requires locals { AreLocals (map (tree_at (A.contents asks.old)) parts.parameters.items) }
     requires names_in { All (λ n. n < length (A.contents asks.old).names) names.now }
@@ -322,7 +322,7 @@ fn check_enlarged<A: Asks>(
         → IsCheckOutcome (auxiliary_stage
         (A.standing asks.old).table (A.places (A.standing asks.old).basis) fuel
         (block_at (A.contents asks.old) block.now)
-        (map (recursor_at (A.contents asks.old)) block.now.recursors.items)
+        (map (recursor_at (A.contents asks.old)) block.now.recursors.value.items)
         (parts_at (A.contents asks.old) parts) (larger_at (A.contents asks.old) larger)
         (A.left asks.old)) result }
 {
@@ -374,7 +374,7 @@ fn check_with_levels<F: Families>(
     own_levels: u64,
 ) -> Result<(), Stop>
     requires types_in { All (IsTypeIn (F.contents asks.old)) block.now.types.items }
-    requires stated_in { All (IsRecursorIn (F.contents asks.old)) block.now.recursors.items }
+    requires stated_in { All (IsRecursorIn (F.contents asks.old)) block.now.recursors.value.items }
     requires parts_in { ArePartsIn (F.contents asks.old) parts }
     requires locals { AreLocals (map (tree_at (F.contents asks.old)) parts.parameters.items) }
     requires names_are { names.now ≡ map (λ t. t.name) block.now.types.items }
@@ -386,7 +386,7 @@ fn check_with_levels<F: Families>(
         → IsCheckOutcome (larger_stage
         (F.standing asks.old).table (F.places (F.standing asks.old).basis) fuel
         (block_at (F.contents asks.old) block.now)
-        (map (recursor_at (F.contents asks.old)) block.now.recursors.items)
+        (map (recursor_at (F.contents asks.old)) block.now.recursors.value.items)
         (parts_at (F.contents asks.old) parts) (F.left asks.old)) result }
 {
     match find_larger(alloc, asks, block, &parts.parameters, names, own_levels)? {
@@ -403,7 +403,7 @@ pub fn check_from_larger<F: Families>(
     parts: TypeParts,
 ) -> Result<(), Stop>
     requires types_in { All (IsTypeIn (F.contents asks.old)) block.now.types.items }
-    requires stated_in { All (IsRecursorIn (F.contents asks.old)) block.now.recursors.items }
+    requires stated_in { All (IsRecursorIn (F.contents asks.old)) block.now.recursors.value.items }
     requires parts_in { ArePartsIn (F.contents asks.old) parts }
     requires locals { AreLocals (map (tree_at (F.contents asks.old)) parts.parameters.items) }
     requires place { StandsAt F.places (F.standing asks.old) Partial.Types [] }
@@ -412,7 +412,7 @@ pub fn check_from_larger<F: Families>(
         → IsCheckOutcome (larger_stage
         (F.standing asks.old).table (F.places (F.standing asks.old).basis) fuel
         (block_at (F.contents asks.old) block.now)
-        (map (recursor_at (F.contents asks.old)) block.now.recursors.items)
+        (map (recursor_at (F.contents asks.old)) block.now.recursors.value.items)
         (parts_at (F.contents asks.old) parts) (F.left asks.old)) result }
 {
     let names = names_of(alloc, &block.types)?;

@@ -18,7 +18,7 @@ use Rattle.lk_env.specs.declared.unit.RecursorRule.{RecursorRule}
 use Rattle.lk_env.specs.declared.unit.Recursor.{Recursor}
 use Rattle.lk_env.specs.declared.unit.Unit.{Unit as StoredUnit}
 use Rattle.lk_env.specs.declared.unit.Unit.TheVariants as unit
-use Rattle.lk_env.specs.Units.{body_at, constructor_at, type_at, rule_at, recursor_at, unit_at, IsBodyIn, IsConstructorIn, IsTypeIn, IsRuleIn, IsRecursorIn, IsUnitIn}
+use Rattle.lk_env.specs.Units.{declared_levels, body_at, constructor_at, type_at, rule_at, recursor_at, unit_at, IsBodyIn, IsConstructorIn, IsTypeIn, IsRuleIn, IsRecursorIn, IsUnitIn}
 use Rattle.lk_env.proofs.Members.{flat_map_more}
 use Rattle.lk_axioms.specs.Stated.{body_numbers, constructor_numbers, recursor_numbers, stated_numbers}
 
@@ -67,12 +67,12 @@ module _ (c : Contents) where
   body_is ps Quotient = refl
 
   pub stated_are : (u : StoredUnit) → map (tree_at c) (stated_numbers u) ≡ plain (trees_of (unit_at c u))
-  stated_are (unit.Declaration d) = ap (λ es. tree_at c d.ty ∷ es) (body_is (map (name_at c) d.levels.items) d.body)
+  stated_are (unit.Declaration d) = ap (λ es. tree_at c d.ty ∷ es) (body_is (map (name_at c) (declared_levels d)) d.body)
   stated_are (unit.Block b) =
-      joined (map (λ (t : BlockType). t.ty) b.types.items) (flat_map constructor_numbers b.types.items ++ flat_map recursor_numbers b.recursors.items)
-      (type_trees (map (type_at c) b.types.items)) (all_ctor_trees (map (type_at c) b.types.items) ++ rec_trees (map (recursor_at c) b.recursors.items)) (types_are b.types.items)
-      (joined (flat_map constructor_numbers b.types.items) (flat_map recursor_numbers b.recursors.items) (all_ctor_trees (map (type_at c) b.types.items)) (rec_trees (map (recursor_at c) b.recursors.items))
-      (all_ctors_are b.types.items) (recursors_are b.recursors.items))
+      joined (map (λ (t : BlockType). t.ty) b.types.items) (flat_map constructor_numbers b.types.items ++ flat_map recursor_numbers b.recursors.value.items)
+      (type_trees (map (type_at c) b.types.items)) (all_ctor_trees (map (type_at c) b.types.items) ++ rec_trees (map (recursor_at c) b.recursors.value.items)) (types_are b.types.items)
+      (joined (flat_map constructor_numbers b.types.items) (flat_map recursor_numbers b.recursors.value.items) (all_ctor_trees (map (type_at c) b.types.items)) (rec_trees (map (recursor_at c) b.recursors.value.items))
+      (all_ctors_are b.types.items) (recursors_are b.recursors.value.items))
 
   -- They are numbers of the store.
   abbrev pub IsTree : ℕ → Type 0
@@ -106,9 +106,9 @@ module _ (c : Contents) where
   pub stated_in : (u : StoredUnit) → IsUnitIn c u → All IsTree (stated_numbers u)
   stated_in (unit.Declaration d) h = All-cons IsTree d.ty (body_numbers d.body) h.0.ty_in (body_in d.body h.1)
   stated_in (unit.Block b) h =
-      All-append IsTree (map (λ (t : BlockType). t.ty) b.types.items) (flat_map constructor_numbers b.types.items ++ flat_map recursor_numbers b.recursors.items)
+      All-append IsTree (map (λ (t : BlockType). t.ty) b.types.items) (flat_map constructor_numbers b.types.items ++ flat_map recursor_numbers b.recursors.value.items)
       (All-map IsTree (λ (t : BlockType). t.ty) b.types.items (All-weaker (IsTypeIn c) (λ (t : BlockType). IsTree t.ty) (λ t s. s.stated.ty_in) b.types.items h.0))
-      (All-append IsTree (flat_map constructor_numbers b.types.items) (flat_map recursor_numbers b.recursors.items) (all_ctors_in b.types.items h.0) (recursors_in b.recursors.items h.1))
+      (All-append IsTree (flat_map constructor_numbers b.types.items) (flat_map recursor_numbers b.recursors.value.items) (all_ctors_in b.types.items h.0) (recursors_in b.recursors.value.items h.1))
 
   -- One of them mentions a name where one of the trees does.
   pub record IsMentionedIn (x : Name) (ns : List ℕ) : Type 0 where

@@ -26,4 +26,4 @@ recursor_numbers r = r.ty ∷ map (λ (x : RecursorRule). x.value) r.rules.items
 
 abbrev pub stated_numbers : StoredUnit → List ℕ
 stated_numbers (unit.Declaration d) = d.ty ∷ body_numbers d.body
-stated_numbers (unit.Block b) = map (λ (t : BlockType). t.ty) b.types.items ++ (flat_map constructor_numbers b.types.items ++ flat_map recursor_numbers b.recursors.items)
+stated_numbers (unit.Block b) = map (λ (t : BlockType). t.ty) b.types.items ++ (flat_map constructor_numbers b.types.items ++ flat_map recursor_numbers b.recursors.value.items)

@@ -57,7 +57,7 @@ fn finish(gathering: Gathering) -> AxiomSets
 pub fn uses(alloc: Global, library: &Library) -> Result<AxiomSets, NoMemory>
     ensures { IfOk result (λ sets. sets ≡ axiom_lists (library_of library.now)) }
 {
-    let mut gathering = Gathering::new(alloc, library.base().len())?;
+    let mut gathering = Gathering::new(alloc, library.base().len(), library.units().len())?;
     gather_units(alloc, library, &mut gathering)?;
     Ok(finish(gathering))
 }

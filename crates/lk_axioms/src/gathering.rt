@@ -31,8 +31,8 @@ pub(crate) struct Gathering {
 }
 
 impl Gathering {
-    /// Nothing is known yet of so many trees, and no unit is done.
-    pub(crate) fn new(alloc: Global, trees: u64) -> Result<Gathering, NoMemory>
+    /// Nothing is known yet of so many trees, and none of so many units is done.
+    pub(crate) fn new(alloc: Global, trees: u64, units: usize) -> Result<Gathering, NoMemory>
         ensures { IfOk result (λ g. (c : Contents) (us : List LibraryUnit)
             → length c.trees ≡ trees → IsRight c us 0 g) }
     {
@@ -42,7 +42,7 @@ impl Gathering {
         Ok(Gathering {
             sets,
             cells,
-            units: Vec::new(alloc),
+            units: Vec::with_capacity(alloc, units)?,
         })
     }
 }

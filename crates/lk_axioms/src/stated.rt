@@ -70,9 +70,9 @@ fn push_body(trees: &mut Vec<u64>, body: Body) -> Result<(), NoMemory>
     match body {
         Body::Axiom => {}
         Body::Quotient => {}
-        Body::Definition { value, .. } => trees.push(value)?,
-        Body::Opaque { value } => trees.push(value)?,
-        Body::Theorem { proof } => trees.push(proof)?,
+        Body::Definition { value, .. } => trees.push(u64::from(value))?,
+        Body::Opaque { value } => trees.push(u64::from(value))?,
+        Body::Theorem { proof } => trees.push(u64::from(proof))?,
     }
     Ok(())
 }
@@ -81,7 +81,7 @@ fn push_declaration(trees: &mut Vec<u64>, declaration: &Declaration) -> Result<(
     ensures { OnOk result (trees.new.items ≡ trees.old.items
         ++ stated_numbers (Unit.Declaration declaration.now)) }
 {
-    trees.push(declaration.ty)?;
+    trees.push(u64::from(declaration.ty))?;
     push_body(trees, declaration.body)
 }
 

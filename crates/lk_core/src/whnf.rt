@@ -49,8 +49,8 @@ fn value_of(entry: Entry) -> Option<u64>
 {
     match entry.kind {
         Kind::Declared(body) => match body {
-            Body::Definition { value, .. } => Some(value),
-            Body::Theorem { proof } => Some(proof),
+            Body::Definition { value, .. } => Some(u64::from(value)),
+            Body::Theorem { proof } => Some(u64::from(proof)),
             Body::Axiom | Body::Opaque { .. } | Body::Quotient => None,
         },
         Kind::Type(_) | Kind::Constructor { .. } | Kind::Recursor(_) | Kind::BareRecursor(_) =>

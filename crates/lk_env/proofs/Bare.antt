@@ -194,7 +194,7 @@ module _ (c : Contents) (b : Block) (j : ℕ) where
   plain = block_at c b
 
   abbrev recs : List BlockRecursor
-  recs = map (recursor_at c) b.recursors.items
+  recs = map (recursor_at c) b.recursors.value.items
 
   -- a member as it is partial with all members
   pub bare_stands : (e f : Entry) → f.stated ≡ e.stated → f.kind ≡ bare_kind e.kind → IsMember c (unit.Block b) j e → Stands c (unit.Block b) (partial_entry_at (of_block plain recs) AllMembers j) f

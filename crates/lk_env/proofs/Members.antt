@@ -74,10 +74,10 @@ module _ (c : Contents) where
   member_names_are (unit.Declaration d) = refl
   member_names_are (unit.Block b) =
       let p : PlainBlock = block_at c b in
-      appended (map (λ (t : BlockType). t.name) b.types.items) (flat_map constructor_names b.types.items ++ map (λ (r : Recursor). r.name) b.recursors.items)
-      (type_entries p p.types) (all_ctor_entries p p.types ++ rec_members (map (recursor_at c) b.recursors.items)) (type_names p b.types.items)
-      (appended (flat_map constructor_names b.types.items) (map (λ (r : Recursor). r.name) b.recursors.items)
-      (all_ctor_entries p p.types) (rec_members (map (recursor_at c) b.recursors.items)) (all_ctor_names p b.types.items) (recursor_names b.recursors.items))
+      appended (map (λ (t : BlockType). t.name) b.types.items) (flat_map constructor_names b.types.items ++ map (λ (r : Recursor). r.name) b.recursors.value.items)
+      (type_entries p p.types) (all_ctor_entries p p.types ++ rec_members (map (recursor_at c) b.recursors.value.items)) (type_names p b.types.items)
+      (appended (flat_map constructor_names b.types.items) (map (λ (r : Recursor). r.name) b.recursors.value.items)
+      (all_ctor_entries p p.types) (rec_members (map (recursor_at c) b.recursors.value.items)) (all_ctor_names p b.types.items) (recursor_names b.recursors.value.items))
 
   -- They are numbers of the store.
   abbrev pub IsNumber : ℕ → Type 0
@@ -95,11 +95,11 @@ module _ (c : Contents) where
   pub members_known : (u : StoredUnit) → IsUnitIn c u → All IsNumber (member_names u)
   members_known (unit.Declaration d) h = All-cons IsNumber d.name [] h.0.name_in (All-nil IsNumber)
   members_known (unit.Block b) h =
-      All-append IsNumber (map (λ (t : BlockType). t.name) b.types.items) (flat_map constructor_names b.types.items ++ map (λ (r : Recursor). r.name) b.recursors.items)
+      All-append IsNumber (map (λ (t : BlockType). t.name) b.types.items) (flat_map constructor_names b.types.items ++ map (λ (r : Recursor). r.name) b.recursors.value.items)
       (All-map IsNumber (λ (t : BlockType). t.name) b.types.items (All-weaker (IsTypeIn c) (λ (t : BlockType). IsNumber t.name) (λ t s. s.stated.name_in) b.types.items h.0))
-      (All-append IsNumber (flat_map constructor_names b.types.items) (map (λ (r : Recursor). r.name) b.recursors.items)
+      (All-append IsNumber (flat_map constructor_names b.types.items) (map (λ (r : Recursor). r.name) b.recursors.value.items)
       (all_ctors_known b.types.items h.0)
-      (All-map IsNumber (λ (r : Recursor). r.name) b.recursors.items (All-weaker (IsRecursorIn c) (λ (r : Recursor). IsNumber r.name) (λ r s. s.stated.name_in) b.recursors.items h.1)))
+      (All-map IsNumber (λ (r : Recursor). r.name) b.recursors.value.items (All-weaker (IsRecursorIn c) (λ (r : Recursor). IsNumber r.name) (λ r s. s.stated.name_in) b.recursors.value.items h.1)))
 
   -- The first of the numbers is the first member of the name.
   position_is : (n : ℕ) → AreApart [] c.names → IsNumber n → (i : ℕ) (ns : List ℕ) (ms : Members) → All IsNumber ns → map (name_at c) ns ≡ names_in ms

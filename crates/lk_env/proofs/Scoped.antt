@@ -78,7 +78,7 @@ module _ (c : Contents) (x : Name) where
       longer (v ∷ vs) = let h = longer vs in omega (arith, h)
 
 -- a type as a block alone
-pub alone_is : (t own : BlockType) (b : Block) → b.types.items ≡ own ∷ [] → b.recursors.items ≡ [] → own.name ≡ t.name → own.levels.items ≡ t.levels.items → own.ty ≡ t.ty
+pub alone_is : (t own : BlockType) (b : Block) → b.types.items ≡ own ∷ [] → b.recursors.value.items ≡ [] → own.name ≡ t.name → own.levels.items ≡ t.levels.items → own.ty ≡ t.ty
     → own.parameters ≡ t.parameters → own.indices ≡ t.indices → own.constructors.items ≡ [] → IsAloneOf t (unit.Block b)
 alone_is t own b types recursors name levels ty parameters indices constructors = record {
   alone = record { block = b; type = own; is = refl; types = types };
@@ -88,7 +88,7 @@ alone_is t own b types recursors name levels ty parameters indices constructors 
       stated = record { name_in = rw name h.stated.name_in; levels_in = rw levels h.stated.levels_in; ty_in = rw ty h.stated.ty_in };
       constructors_in = All-same (IsConstructorIn c) own.constructors.items [] constructors (All-nil (IsConstructorIn c));
     }) (All-nil (IsTypeIn c))),
-    All-same (IsRecursorIn c) b.recursors.items [] recursors (All-nil (IsRecursorIn c)),
+    All-same (IsRecursorIn c) b.recursors.value.items [] recursors (All-nil (IsRecursorIn c)),
   );
 }
 

@@ -112,7 +112,7 @@ module _ (c : Contents) where
     plain = block_at c b
 
     abbrev recs : List BlockRecursor
-    recs = map (recursor_at c) b.recursors.items
+    recs = map (recursor_at c) b.recursors.value.items
 
     nth_plain : (i : ℕ) (t : BlockType) → slice_get b.types.items i ≡ Some t → slice_get plain.types i ≡ Some (type_at c t)
     nth_plain i t h = slice_get-map (type_at c) b.types.items i ∙ ap (option_map (type_at c)) h
@@ -154,7 +154,7 @@ module _ (c : Contents) where
         record { kind_in = rw s.kind_is tt; stated_in = rw s.stated_is constructor_in.stated.ty_in })
 
     nth_recursor : (i place j : ℕ) → length (flat_map constructor_names b.types.items) + i ≡ place → j ≡ length b.types.items + place
-        → entry_at (unit_at c (unit.Block b)) j ≡ option_map (λ (r : Recursor). rec_entry (recursor_at c r)) (slice_get b.recursors.items i)
+        → entry_at (unit_at c (unit.Block b)) j ≡ option_map (λ (r : Recursor). rec_entry (recursor_at c r)) (slice_get b.recursors.value.items i)
     nth_recursor i place j e h =
         let count = all_ctor_count plain b.types.items in
         let at : place ≡ length (all_ctor_entries plain plain.types) + i = omega (arith, count, e) in
@@ -162,21 +162,21 @@ module _ (c : Contents) where
         ∙ ap (slice_get (all_ctor_entries plain plain.types ++ rec_members recs)) at
         ∙ get_right (all_ctor_entries plain plain.types) (rec_members recs) i
         ∙ nth_rec recs i
-        ∙ ap (option_map (λ (r : BlockRecursor). (r.name, rec_entry r))) (slice_get-map (recursor_at c) b.recursors.items i))
-        ∙ twice (slice_get b.recursors.items i)
+        ∙ ap (option_map (λ (r : BlockRecursor). (r.name, rec_entry r))) (slice_get-map (recursor_at c) b.recursors.value.items i))
+        ∙ twice (slice_get b.recursors.value.items i)
       where
         twice : (o : Option Recursor) → option_map (λ (m : Name × PlainEntry). m.1) (option_map (λ (r : BlockRecursor). (r.name, rec_entry r)) (option_map (recursor_at c) o)) ≡ option_map (λ (r : Recursor). rec_entry (recursor_at c r)) o
         twice None = refl
         twice (Some r) = refl
 
     pub recursor_member : (n i place j : ℕ) (o : Option Entry) → length (flat_map constructor_names b.types.items) + i ≡ place → j ≡ length b.types.items + place
-        → o ≡ option_map (recursor_entry_at n i) (slice_get b.recursors.items i) → IsMemberIfAny c (unit.Block b) j o
-    recursor_member n i place j o e h is = rw is (go (slice_get b.recursors.items i) refl (nth_recursor i place j e h))
+        → o ≡ option_map (recursor_entry_at n i) (slice_get b.recursors.value.items i) → IsMemberIfAny c (unit.Block b) j o
+    recursor_member n i place j o e h is = rw is (go (slice_get b.recursors.value.items i) refl (nth_recursor i place j e h))
       where
-        go : (r : Option Recursor) → slice_get b.recursors.items i ≡ r → entry_at (unit_at c (unit.Block b)) j ≡ option_map (λ (r : Recursor). rec_entry (recursor_at c r)) r
+        go : (r : Option Recursor) → slice_get b.recursors.value.items i ≡ r → entry_at (unit_at c (unit.Block b)) j ≡ option_map (λ (r : Recursor). rec_entry (recursor_at c r)) r
             → IsMemberIfAny c (unit.Block b) j (option_map (recursor_entry_at n i) r)
         go None at entry = entry
         go (Some r) at entry =
             is_member c (unit.Block b) j (recursor_entry_at n i r) (rec_entry (recursor_at c r)) entry
-            (ap (option_map (λ (p : BlockRecursor). record { levels = p.levels; type = tree_at c r.ty; kind = a_rec p.recursor })) (slice_get-map (recursor_at c) b.recursors.items i ∙ ap (option_map (recursor_at c)) at))
-            (λ known. record { kind_in = tt; stated_in = (holds_at (IsRecursorIn c) b.recursors.items i r at known.1).stated.ty_in })
+            (ap (option_map (λ (p : BlockRecursor). record { levels = p.levels; type = tree_at c r.ty; kind = a_rec p.recursor })) (slice_get-map (recursor_at c) b.recursors.value.items i ∙ ap (option_map (recursor_at c)) at))
+            (λ known. record { kind_in = tt; stated_in = (holds_at (IsRecursorIn c) b.recursors.value.items i r at known.1).stated.ty_in })

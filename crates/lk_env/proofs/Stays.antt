@@ -11,7 +11,7 @@ use Rattle.lk_env.specs.declared.unit.Body.{Body}
 use Rattle.lk_env.specs.declared.unit.Body.TheVariants.{Axiom, Definition, Theorem, Opaque, Quotient}
 use Rattle.lk_env.specs.declared.unit.Unit.{Unit as StoredUnit}
 use Rattle.lk_env.specs.declared.unit.Unit.TheVariants as unit
-use Rattle.lk_env.specs.Units.{hint_of, body_at, constructor_at, type_at, rule_at, recursor_at, unit_at, IsBodyIn, IsStatedIn, IsConstructorIn, IsTypeIn, IsRuleIn, IsRecursorIn, IsUnitIn}
+use Rattle.lk_env.specs.Units.{declared_levels, hint_of, body_at, constructor_at, type_at, rule_at, recursor_at, unit_at, IsBodyIn, IsStatedIn, IsConstructorIn, IsTypeIn, IsRuleIn, IsRecursorIn, IsUnitIn}
 
 -- a list of things each of which stays
 pub all_stay : {X Y : Type 0} (P : X → Type 0) (f g : X → Y) → ((x : X) → P x → f x ≡ g x) → (xs : List X) → All P xs → map f xs ≡ map g xs
@@ -97,5 +97,5 @@ module _ (c d : Contents) (x : Extends c d) where
 
   pub unit_stays : (u : StoredUnit) → IsUnitIn c u → unit_at d u ≡ unit_at c u
   unit_stays (unit.Declaration a) h =
-      rw (x.names.same a.name h.0.name_in, names_stay c d x a.levels.items h.0.levels_in, x.trees.same a.ty h.0.ty_in, body_stays a.body h.1) refl
-  unit_stays (unit.Block b) h = rw (types_stay c d x b.types.items h.0, recursors_stay c d x b.recursors.items h.1) refl
+      rw (x.names.same a.name h.0.name_in, names_stay c d x (declared_levels a) h.0.levels_in, x.trees.same a.ty h.0.ty_in, body_stays a.body h.1) refl
+  unit_stays (unit.Block b) h = rw (types_stay c d x b.types.items h.0, recursors_stay c d x b.recursors.value.items h.1) refl

@@ -90,35 +90,35 @@ module _ (c : Contents) (p : List Name × Tree → Bool) where
 
   -- a block's trees pass where the types, the constructors and the recursors do
   pub block_is : (b : Block) → all_meet p (trees_of (unit_at c (unit.Block b)))
-      ≡ (list_all type_meets b.types.items && (list_all ctors_meet b.types.items && list_all rec_meets b.recursors.items))
+      ≡ (list_all type_meets b.types.items && (list_all ctors_meet b.types.items && list_all rec_meets b.recursors.value.items))
   block_is b =
       let ts = map (type_at c) b.types.items in
-      let rs = map (recursor_at c) b.recursors.items in
-      both (type_trees ts) (all_ctor_trees ts ++ rec_trees rs) (list_all type_meets b.types.items) (list_all ctors_meet b.types.items && list_all rec_meets b.recursors.items)
+      let rs = map (recursor_at c) b.recursors.value.items in
+      both (type_trees ts) (all_ctor_trees ts ++ rec_trees rs) (list_all type_meets b.types.items) (list_all ctors_meet b.types.items && list_all rec_meets b.recursors.value.items)
       (types_are b.types.items)
-      (both (all_ctor_trees ts) (rec_trees rs) (list_all ctors_meet b.types.items) (list_all rec_meets b.recursors.items) (all_ctors_are b.types.items) (recs_are b.recursors.items))
+      (both (all_ctor_trees ts) (rec_trees rs) (list_all ctors_meet b.types.items) (list_all rec_meets b.recursors.value.items) (all_ctors_are b.types.items) (recs_are b.recursors.value.items))
 
   module _ (b : Block) where
     pub no_types : (x : Bool) → x ≡ list_all type_meets b.types.items → x ≡ false → false ≡ all_meet p (trees_of (unit_at c (unit.Block b)))
     no_types x e h =
         let types : list_all type_meets b.types.items ≡ false = sym e ∙ h in
-        sym (block_is b ∙ ap (λ v. v && (list_all ctors_meet b.types.items && list_all rec_meets b.recursors.items)) types)
+        sym (block_is b ∙ ap (λ v. v && (list_all ctors_meet b.types.items && list_all rec_meets b.recursors.value.items)) types)
 
     pub no_constructors : (x y : Bool) → x ≡ list_all type_meets b.types.items → y ≡ list_all ctors_meet b.types.items → x ≡ true → y ≡ false
         → false ≡ all_meet p (trees_of (unit_at c (unit.Block b)))
     no_constructors x y e f h k =
         let types : list_all type_meets b.types.items ≡ true = sym e ∙ h in
         let ctors : list_all ctors_meet b.types.items ≡ false = sym f ∙ k in
-        sym (block_is b ∙ ap (λ v. v && (list_all ctors_meet b.types.items && list_all rec_meets b.recursors.items)) types
-        ∙ ap (λ v. v && list_all rec_meets b.recursors.items) ctors)
+        sym (block_is b ∙ ap (λ v. v && (list_all ctors_meet b.types.items && list_all rec_meets b.recursors.value.items)) types
+        ∙ ap (λ v. v && list_all rec_meets b.recursors.value.items) ctors)
 
-    pub recursors_alone : (x y z : Bool) → x ≡ list_all type_meets b.types.items → y ≡ list_all ctors_meet b.types.items → z ≡ list_all rec_meets b.recursors.items
+    pub recursors_alone : (x y z : Bool) → x ≡ list_all type_meets b.types.items → y ≡ list_all ctors_meet b.types.items → z ≡ list_all rec_meets b.recursors.value.items
         → x ≡ true → y ≡ true → z ≡ all_meet p (trees_of (unit_at c (unit.Block b)))
     recursors_alone x y z e f g h k =
         let types : list_all type_meets b.types.items ≡ true = sym e ∙ h in
         let ctors : list_all ctors_meet b.types.items ≡ true = sym f ∙ k in
-        g ∙ sym (block_is b ∙ ap (λ v. v && (list_all ctors_meet b.types.items && list_all rec_meets b.recursors.items)) types
-        ∙ ap (λ v. v && list_all rec_meets b.recursors.items) ctors)
+        g ∙ sym (block_is b ∙ ap (λ v. v && (list_all ctors_meet b.types.items && list_all rec_meets b.recursors.value.items)) types
+        ∙ ap (λ v. v && list_all rec_meets b.recursors.value.items) ctors)
 
 -- one more unit
 pub next_flaw : (c : Contents) (us : List StoredUnit) (i : ℕ) (u : StoredUnit) (flaws : List (Option Rule)) (f : Option Rule) → i < length us → u ≡ get_or us i u

@@ -17,7 +17,7 @@ constructor_names t = map (λ (k : Constructor). k.name) t.constructors.items
 -- the numbers of the names of a unit's members, in their order
 abbrev pub member_names : StoredUnit → List ℕ
 member_names (unit.Declaration d) = d.name ∷ []
-member_names (unit.Block b) = map (λ (t : BlockType). t.name) b.types.items ++ (flat_map constructor_names b.types.items ++ map (λ (r : Recursor). r.name) b.recursors.items)
+member_names (unit.Block b) = map (λ (t : BlockType). t.name) b.types.items ++ (flat_map constructor_names b.types.items ++ map (λ (r : Recursor). r.name) b.recursors.value.items)
 
 abbrev pub pair_of : Position → ℕ × ℕ
 pair_of p = (p.unit, p.member)

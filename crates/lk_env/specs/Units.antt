@@ -1,5 +1,8 @@
 -- What the units of a library stand for, by the numbers of a store.
-use Rattle.std.specs.Prelude.{ℕ, ◌<◌, List, length, map, All}
+use Rattle.std.specs.Prelude.{Vec, ℕ, ◌<◌, List, length, map, All}
+use Rattle.std.specs.Arc.{arc_value}
+use Rattle.std.specs.declared.sync.Arc.{Arc}
+use Rattle.std.specs.declared.alloc.Global.{Global}
 use Rattle.lk_rulebook.specs.Place.{Ctor, BlockType as PlainType, Block as PlainBlock, RecRule, BlockRecursor, opaque_hint, abbreviation, regular}
 use Rattle.lk_rulebook.specs.Place.{Hint as PlainHint}
 use Rattle.lk_rulebook.specs.Units.{Body as PlainBody, as_axiom, as_def, as_thm, as_opaque, as_quot, Decl, LibraryUnit, of_decl, of_block, Library}
@@ -31,8 +34,16 @@ body_at c (Theorem v) = as_thm (tree_at c v)
 body_at c (Opaque v) = as_opaque (tree_at c v)
 body_at c Quotient = as_quot
 
+-- the names in a list that is shared
+abbrev pub shared_names : Arc (Vec ℕ Global) Global → List ℕ
+shared_names kept = (arc_value kept).items
+
+-- the names of a declaration's level parameters
+abbrev pub declared_levels : Declaration → List ℕ
+declared_levels d = shared_names d.levels
+
 abbrev pub declaration_at : Contents → Declaration → Decl
-declaration_at c d = record { name = name_at c d.name; levels = map (name_at c) d.levels.items; type = tree_at c d.ty; body = body_at c d.body }
+declaration_at c d = record { name = name_at c d.name; levels = map (name_at c) (declared_levels d); type = tree_at c d.ty; body = body_at c d.body }
 
 abbrev pub constructor_at : Contents → Constructor → Ctor
 constructor_at c k = record {
@@ -71,7 +82,7 @@ block_at c b = record { types = map (type_at c) b.types.items }
 
 abbrev pub unit_at : Contents → StoredUnit → LibraryUnit
 unit_at c (unit.Declaration d) = of_decl (declaration_at c d)
-unit_at c (unit.Block b) = of_block (block_at c b) (map (recursor_at c) b.recursors.items)
+unit_at c (unit.Block b) = of_block (block_at c b) (map (recursor_at c) b.recursors.value.items)
 
 -- the library that units stand for
 abbrev pub library_at : Contents → List StoredUnit → Library
@@ -112,8 +123,8 @@ pub record IsRecursorIn (c : Contents) (r : Recursor) : Type 0 where
   pub rules_in : All (IsRuleIn c) r.rules.items
 
 abbrev pub IsUnitIn : Contents → StoredUnit → Type 0
-IsUnitIn c (unit.Declaration d) = IsStatedIn c d.name d.levels.items d.ty × IsBodyIn c d.body
-IsUnitIn c (unit.Block b) = All (IsTypeIn c) b.types.items × All (IsRecursorIn c) b.recursors.items
+IsUnitIn c (unit.Declaration d) = IsStatedIn c d.name (declared_levels d) d.ty × IsBodyIn c d.body
+IsUnitIn c (unit.Block b) = All (IsTypeIn c) b.types.items × All (IsRecursorIn c) b.recursors.value.items
 
 abbrev pub AreUnitsIn : Contents → List StoredUnit → Type 0
 AreUnitsIn c us = All (IsUnitIn c) us

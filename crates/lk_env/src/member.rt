@@ -16,7 +16,7 @@ fn declaration_entry(unit: u32, declaration: &Declaration) -> Entry
 {
     Entry {
         kind: Kind::Declared(declaration.body),
-        stated: declaration.ty,
+        stated: u64::from(declaration.ty),
         unit,
         origin: unit,
     }

@@ -42,8 +42,10 @@ fn body_passes(base: &BaseStore, test: Test, body: Body) -> bool
 {
     match body {
         Body::Axiom | Body::Quotient => true,
-        Body::Definition { value, .. } | Body::Opaque { value } => tree_passes(base, test, value),
-        Body::Theorem { proof } => tree_passes(base, test, proof),
+        Body::Definition { value, .. } | Body::Opaque { value } => {
+            tree_passes(base, test, u64::from(value))
+        }
+        Body::Theorem { proof } => tree_passes(base, test, u64::from(proof)),
     }
 }
 
@@ -115,7 +117,9 @@ fn unit_passes(base: &BaseStore, test: Test, unit: &Unit) -> bool
         (trees_of (unit_at (contents_of base.now) unit.now)) }
 {
     match unit {
-        Unit::Declaration(d) => { tree_passes(base, test, d.ty) && body_passes(base, test, d.body) }
+        Unit::Declaration(d) => {
+            tree_passes(base, test, u64::from(d.ty)) && body_passes(base, test, d.body)
+        }
         Unit::Block(block) => block_passes(base, test, block),
     }
 }

@@ -70,10 +70,8 @@ fn alone(alloc: Global, stated: &BlockType) -> Result<Unit, NoMemory>
         indices: stated.indices,
         constructors: Vec::new(alloc),
     })?;
-    Ok(Unit::Block(Block {
-        types,
-        recursors: Vec::new(alloc),
-    }))
+    let recursors = Box::new(alloc, Vec::new(alloc))?;
+    Ok(Unit::Block(Block { types, recursors }))
 }
 
 /// Types of a block, each as a block alone, without constructors.

@@ -1,30 +1,34 @@
 //! The units of a library. Names and trees are numbers of a store.
 
+use std::sync::Arc;
+
 /// How a definition is unfolded, as its line states it.
 #[derive(Clone, Copy)]
 pub enum Hint {
     Opaque,
     Abbreviation,
     /// The height of the definition.
-    Regular(u64),
+    Regular(u32),
 }
 
 /// What a declaration states beside its name, its level parameters and its type.
 #[derive(Clone, Copy)]
 pub enum Body {
     Axiom,
-    Definition { hint: Hint, value: u64 },
-    Theorem { proof: u64 },
-    Opaque { value: u64 },
+    Definition { hint: Hint, value: u32 },
+    Theorem { proof: u32 },
+    Opaque { value: u32 },
     Quotient,
 }
 
-/// A declaration alone: its name, the names of its level parameters, its type and its body.
+/// A declaration alone: its name, its type, the names of its level parameters and its body. Most
+/// units are declarations alone, so its numbers have 32 bits, as those of a store, and the list of
+/// its level parameters is shared with declarations that have the same one.
 #[derive(Drop)]
 pub struct Declaration {
-    pub name: u64,
-    pub levels: Vec<u64>,
-    pub ty: u64,
+    pub name: u32,
+    pub ty: u32,
+    pub levels: Arc<Vec<u64>>,
     pub body: Body,
 }
 
@@ -76,11 +80,12 @@ pub struct Recursor {
     pub rules: Vec<RecursorRule>,
 }
 
-/// The types of a block in the order of its list, and its recursors.
+/// The types of a block in the order of its list, and its recursors. These are in a box, so that a
+/// unit takes no more room for a block than for a declaration alone.
 #[derive(Drop)]
 pub struct Block {
     pub types: Vec<BlockType>,
-    pub recursors: Vec<Recursor>,
+    pub recursors: Box<Vec<Recursor>>,
 }
 
 /// A unit: a declaration alone, or a block of inductive types.

@@ -12,7 +12,7 @@ use lk_env::unit::Hint;
 #[derive(Clone, Copy)]
 pub enum Rank {
     Lowest,
-    Height(u64),
+    Height(u32),
     Highest,
 }
 

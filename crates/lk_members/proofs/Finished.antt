@@ -67,7 +67,7 @@ unit_known lines later l b known made = go l.said known made
     go : (s : StoredSaid) → ((c : Contents) → AreLinesIn c lines → IsSaidIn c s) → AreBlocksMade lines (ended nat_eq (lines_of lines) later (block_at nat_eq (lines_of lines) (said_of s))) (if_any b)
         → AreUnitsMade lines (at_line nat_eq (lines_of lines) later (said_of s)) (if_any (unit_here s b))
     go (said.Alone d) k m = record { same = λ c. refl; known = λ c all. All-cons (IsUnitIn c) (unit.Declaration d) [] (k c all) (All-nil (IsUnitIn c)) }
-    go (said.Type head types constructors) k m = of_block (ended nat_eq (lines_of lines) later (Some types.items)) b m
+    go (said.Type head types) k m = of_block (ended nat_eq (lines_of lines) later (Some types.items)) b m
     go (said.Constructor x) k m = of_block (ended nat_eq (lines_of lines) later (block_at nat_eq (lines_of lines) (said_of (said.Constructor x)))) b m
     go (said.Recursor types r) k m = of_block [] b m
 

@@ -4,7 +4,7 @@ use Rattle.std.specs.Prelude.{All}
 use Rattle.std.proofs.lemmas.List.Elements.{All-weaker, All-head, All-tail}
 use Rattle.lk_rulebook.specs.Units.{as_def, as_thm, as_opaque}
 use Rattle.lk_store.specs.Contents.{Contents, name_at, tree_at, Extends}
-use Rattle.lk_env.specs.Units.{hint_of, body_at, declaration_at, constructor_at, rule_at, recursor_at, IsBodyIn, IsStatedIn, IsConstructorIn, IsRuleIn, IsRecursorIn}
+use Rattle.lk_env.specs.Units.{declared_levels, hint_of, body_at, declaration_at, constructor_at, rule_at, recursor_at, IsBodyIn, IsStatedIn, IsConstructorIn, IsRuleIn, IsRecursorIn}
 use Rattle.lk_env.specs.declared.unit.Body.{Body}
 use Rattle.lk_env.specs.declared.unit.Body.TheVariants.{Axiom, Definition, Theorem, Opaque, Quotient}
 use Rattle.lk_env.specs.declared.unit.Declaration.{Declaration}
@@ -61,8 +61,8 @@ module _ (c d : Contents) (x : Extends c d) where
   body_same (Opaque v) h = ap as_opaque (tree_same v h)
   body_same Quotient h = refl
 
-  declaration_same : (t : Declaration) → IsStatedIn c t.name t.levels.items t.ty → IsBodyIn c t.body → declaration_at d t ≡ declaration_at c t
-  declaration_same t h b = rw (x.names.same t.name h.name_in, names_same t.levels.items h.levels_in, tree_same t.ty h.ty_in, body_same t.body b) refl
+  declaration_same : (t : Declaration) → IsStatedIn c t.name (declared_levels t) t.ty → IsBodyIn c t.body → declaration_at d t ≡ declaration_at c t
+  declaration_same t h b = rw (x.names.same t.name h.name_in, names_same (declared_levels t) h.levels_in, tree_same t.ty h.ty_in, body_same t.body b) refl
 
   constructor_same : (k : Constructor) → IsConstructorIn c k → constructor_at d k ≡ constructor_at c k
   constructor_same k h = rw (x.names.same k.name h.stated.name_in, names_same k.levels.items h.stated.levels_in, tree_same k.ty h.stated.ty_in, x.names.same k.parent h.parent_in) refl
@@ -80,13 +80,14 @@ module _ (c d : Contents) (x : Extends c d) where
 
   said_same : (s : StoredSaid) → IsSaidIn c s → said_at d s ≡ said_at c s
   said_same (said.Alone t) h = ap alone (declaration_same t h.0 h.1)
-  said_same (said.Type head types constructors) h =
+  said_same (said.Type head types) h =
       let t : TypeHead = head.value in
       let name : name_at d t.name ≡ name_at c t.name = x.names.same t.name h.0.name_in in
       let listed : map (name_at d) types.items ≡ map (name_at c) types.items = names_same types.items h.1.0 in
-      let ctors : map (name_at d) constructors.items ≡ map (name_at c) constructors.items = names_same constructors.items h.1.1 in
+      let ctors : map (name_at d) t.constructors.items ≡ map (name_at c) t.constructors.items = names_same t.constructors.items h.1.1 in
       typed (name_at d t.name) (name_at c t.name) _ _ _ _ (head_at d t) (head_at c t) name listed ctors (head_same t h.0)
-  said_same (said.Constructor k) h =
+  said_same (said.Constructor kept) h =
+      let k : Constructor = kept.value in
       built_of (name_at d k.parent) (name_at c k.parent) _ _ (constructor_at d k) (constructor_at c k) (x.names.same k.parent h.parent_in) (x.names.same k.name h.stated.name_in) (constructor_same k h)
   said_same (said.Recursor types r) h = eliminated _ _ (name_at d r.value.name) (name_at c r.value.name) (recursor_at d r.value) (recursor_at c r.value) (names_same types.items h.0) (x.names.same r.value.name h.1.stated.name_in) (recursor_same r.value h.1)
 
@@ -130,9 +131,9 @@ module _ (c d : Contents) (x : Extends c d) where
   names_stay ns h = All-weaker (λ n. n < length c.names) (λ n. n < length d.names) name_stays ns h
 
   said_stays : (s : StoredSaid) → IsSaidIn c s → IsSaidIn d s
-  said_stays (said.Alone t) h = (stated_stays t.name t.levels.items t.ty h.0, body_stays t.body h.1)
-  said_stays (said.Type t types constructors) h = (stated_stays t.value.name t.value.levels.items t.value.ty h.0, (names_stay types.items h.1.0, names_stay constructors.items h.1.1))
-  said_stays (said.Constructor k) h = constructor_stays k h
+  said_stays (said.Alone t) h = (stated_stays t.name (declared_levels t) t.ty h.0, body_stays t.body h.1)
+  said_stays (said.Type t types) h = (stated_stays t.value.name t.value.levels.items t.value.ty h.0, (names_stay types.items h.1.0, names_stay t.value.constructors.items h.1.1))
+  said_stays (said.Constructor k) h = constructor_stays k.value h
   said_stays (said.Recursor types r) h = (names_stay types.items h.0, recursor_stays r.value h.1)
 
   pub lines_stay : (ls : List StoredLine) → AreLinesIn c ls → AreLinesIn d ls

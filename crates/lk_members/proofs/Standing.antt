@@ -26,7 +26,7 @@ module _ (c : Contents) where
 
   said_named : (s : StoredSaid) → said_at c s ≡ said_renamed (name_at c) (declaration_at c) (head_at c) (constructor_at c) (recursor_at c) (said_of s)
   said_named (said.Alone d) = refl
-  said_named (said.Type t types constructors) = refl
+  said_named (said.Type t types) = refl
   said_named (said.Constructor k) = refl
   said_named (said.Recursor types r) = refl
 
@@ -39,7 +39,7 @@ module _ (c : Contents) where
 
   said_known : (s : StoredSaid) → IsSaidIn c s → IsKnownSaid IsName (said_of s)
   said_known (said.Alone d) h = tt
-  said_known (said.Type t types constructors) h = (h.0.name_in, (h.1.0, h.1.1))
+  said_known (said.Type t types) h = (h.0.name_in, (h.1.0, h.1.1))
   said_known (said.Constructor k) h = (h.parent_in, h.stated.name_in)
   said_known (said.Recursor types r) h = (h.0, h.1.stated.name_in)
 

@@ -143,7 +143,7 @@ block_unit (Some b) = Some (unit.Block b)
 
 abbrev pub unit_here : StoredSaid → Option Block → Option StoredUnit
 unit_here (said.Alone d) o = Some (unit.Declaration d)
-unit_here (said.Type head types constructors) o = block_unit o
+unit_here (said.Type head types) o = block_unit o
 unit_here (said.Constructor k) o = block_unit o
 unit_here (said.Recursor types r) o = block_unit o
 

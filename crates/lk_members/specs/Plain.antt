@@ -45,8 +45,8 @@ head_at c t = record { name = name_at c t.name; levels = map (name_at c) t.level
 
 abbrev pub said_at : Contents → StoredSaid → PlainSaid
 said_at c (said.Alone d) = alone (declaration_at c d)
-said_at c (said.Type head types constructors) = a_type (name_at c head.value.name) (map (name_at c) types.items) (map (name_at c) constructors.items) (head_at c head.value)
-said_at c (said.Constructor k) = a_ctor (name_at c k.parent) (name_at c k.name) (constructor_at c k)
+said_at c (said.Type head types) = a_type (name_at c head.value.name) (map (name_at c) types.items) (map (name_at c) head.value.constructors.items) (head_at c head.value)
+said_at c (said.Constructor k) = a_ctor (name_at c k.value.parent) (name_at c k.value.name) (constructor_at c k.value)
 said_at c (said.Recursor types r) = a_recursor (map (name_at c) types.items) (name_at c r.value.name) (recursor_at c r.value)
 
 abbrev pub line_at : Contents → StoredLine → PlainLine

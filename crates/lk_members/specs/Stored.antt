@@ -6,7 +6,7 @@ use Rattle.lk_store.specs.Contents.{Contents, name_at, tree_at}
 use Rattle.lk_env.specs.declared.unit.Declaration.{Declaration}
 use Rattle.lk_env.specs.declared.unit.Constructor.{Constructor}
 use Rattle.lk_env.specs.declared.unit.Recursor.{Recursor}
-use Rattle.lk_env.specs.Units.{declaration_at, constructor_at, recursor_at, IsStatedIn, IsBodyIn, IsConstructorIn, IsRecursorIn}
+use Rattle.lk_env.specs.Units.{declared_levels, declaration_at, constructor_at, recursor_at, IsStatedIn, IsBodyIn, IsConstructorIn, IsRecursorIn}
 use Rattle.lk_members.specs.declared.line.TypeHead.{TypeHead}
 use Rattle.lk_members.specs.declared.line.Said.{Said as StoredSaid}
 use Rattle.lk_members.specs.declared.line.Said.TheVariants as said
@@ -25,8 +25,8 @@ NumberedUnit = Gathered Declaration TypeHead Constructor Recursor
 
 abbrev pub said_of : StoredSaid → NumberedSaid
 said_of (said.Alone d) = alone d
-said_of (said.Type head types constructors) = a_type head.value.name types.items constructors.items head.value
-said_of (said.Constructor k) = a_ctor k.parent k.name k
+said_of (said.Type head types) = a_type head.value.name types.items head.value.constructors.items head.value
+said_of (said.Constructor k) = a_ctor k.value.parent k.value.name k.value
 said_of (said.Recursor types r) = a_recursor types.items r.value.name r.value
 
 abbrev pub line_of : StoredLine → NumberedLine
@@ -55,9 +55,9 @@ abbrev pub AreNames : Contents → List ℕ → Type 0
 AreNames c ns = All (λ n. n < length c.names) ns
 
 abbrev pub IsSaidIn : Contents → StoredSaid → Type 0
-IsSaidIn c (said.Alone d) = IsStatedIn c d.name d.levels.items d.ty × IsBodyIn c d.body
-IsSaidIn c (said.Type head types constructors) = IsStatedIn c head.value.name head.value.levels.items head.value.ty × (AreNames c types.items × AreNames c constructors.items)
-IsSaidIn c (said.Constructor k) = IsConstructorIn c k
+IsSaidIn c (said.Alone d) = IsStatedIn c d.name (declared_levels d) d.ty × IsBodyIn c d.body
+IsSaidIn c (said.Type head types) = IsStatedIn c head.value.name head.value.levels.items head.value.ty × (AreNames c types.items × AreNames c head.value.constructors.items)
+IsSaidIn c (said.Constructor k) = IsConstructorIn c k.value
 IsSaidIn c (said.Recursor types r) = AreNames c types.items × IsRecursorIn c r.value
 
 abbrev pub AreLinesIn : Contents → List StoredLine → Type 0

@@ -164,12 +164,8 @@ impl Members {
             return Ok(None);
         };
         match &self.lines[*place as usize].said {
-            Said::Type {
-                head,
-                constructors,
-                ..
-            } => {
-                let made = self.constructors_made(alloc, name, constructors)?;
+            Said::Type { head, .. } => {
+                let made = self.constructors_made(alloc, name, &head.constructors)?;
                 let copy = copy_type(alloc, head, made)?;
                 Ok(Some(copy))
             }
@@ -253,7 +249,7 @@ impl Members {
             (block_with nat_eq (lines_of self.now.lines.items) types.now ∷ []) (b ∷ [])) }
     {
         let made = self.types_made(alloc, types)?;
-        let recursors = self.recursors_made(alloc, types)?;
+        let recursors = Box::new(alloc, self.recursors_made(alloc, types)?)?;
         Ok(Block {
             types: made,
             recursors,

@@ -7,7 +7,7 @@ ghost use Rattle.lk_members.specs.Taking.{states_list};
 use crate::lists::are_same;
 use lk_env::unit::{Constructor, Declaration, Recursor};
 
-/// A type of a block as its line states it, without the lists of names.
+/// A type of a block as its line states it, without the list of the block's types.
 #[derive(Drop)]
 pub struct TypeHead {
     pub name: u64,
@@ -15,6 +15,8 @@ pub struct TypeHead {
     pub ty: u64,
     pub parameters: u64,
     pub indices: u64,
+    /// The names of its constructors.
+    pub constructors: Vec<u64>,
 }
 
 /// What a line declares. What is rare and large is boxed, so that the line of a declaration alone takes no room for it.
@@ -22,14 +24,13 @@ pub struct TypeHead {
 pub enum Said {
     /// A declaration that is a unit alone.
     Alone(Declaration),
-    /// A type, with the types of its block and its own constructors.
+    /// A type, with the types of its block.
     Type {
         head: Box<TypeHead>,
         types: Vec<u64>,
-        constructors: Vec<u64>,
     },
     /// A constructor.
-    Constructor(Constructor),
+    Constructor(Box<Constructor>),
     /// A recursor of the block with these types.
     Recursor {
         types: Vec<u64>,

@@ -3,11 +3,12 @@
 ghost use Rattle.std.specs.Prelude.{◌≡◌, []};
 ghost use Rattle.lk_members.specs.Indices.{IsIndexed};
 
-use crate::line::Line;
+use crate::line::{Line, Said};
 use crate::names::Names;
 use lk_rows::table::Table;
 use std::alloc::Global;
 use std::collections::{HashMap, HashSet};
+use std::sync::Arc;
 
 /// A member under another name or number: a constructor under the name of its type, a recursor under the number of its
 /// list.
@@ -49,6 +50,17 @@ impl Members {
             lists: Table::new(alloc),
             recursors: Vec::new(alloc),
             recursor_names: HashSet::new(alloc),
+        }
+    }
+
+    /// The level parameters of the last line, where it is a declaration's that is a unit alone.
+    pub fn last_parameters(&self) -> Option<&Arc<Vec<u64>>> {
+        match self.lines.last() {
+            Some(line) => match &line.said {
+                Said::Alone(declaration) => Some(&declaration.levels),
+                _ => None,
+            },
+            None => None,
         }
     }
 }

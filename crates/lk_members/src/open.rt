@@ -40,13 +40,8 @@ fn listed_in(alloc: Global, lines: &[Line]) -> Result<HashSet<Key>, NoMemory>
     let mut listed = HashSet::new(alloc);
     let mut rest = lines;
     while let Some((line, more)) = rest.split_first() {
-        if let Said::Type {
-            head,
-            constructors,
-            ..
-        } = &line.said
-        {
-            list_all(&mut listed, head.name, constructors)?;
+        if let Said::Type { head, .. } = &line.said {
+            list_all(&mut listed, head.name, &head.constructors)?;
         }
         rest = more;
     }
@@ -122,11 +117,9 @@ impl Members {
     {
         match said {
             Said::Alone(_) => false,
-            Said::Type {
-                head,
-                types,
-                constructors,
-            } => self.lacks_type(types) || self.lacks_constructor(head.name, constructors),
+            Said::Type { head, types } => {
+                self.lacks_type(types) || self.lacks_constructor(head.name, &head.constructors)
+            }
             Said::Constructor(k) => {
                 let key = Key {
                     under: k.parent,

@@ -204,11 +204,9 @@ impl Members {
     {
         match said {
             Said::Alone(_) => Ok(()),
-            Said::Type {
-                head,
-                types,
-                constructors,
-            } => self.note_type(alloc, head.name, types, constructors),
+            Said::Type { head, types } => {
+                self.note_type(alloc, head.name, types, &head.constructors)
+            }
             Said::Constructor(constructor) => {
                 self.note_constructor(constructor.parent, constructor.name)
             }

@@ -57,19 +57,19 @@ module _ (c : Contents) where
   recs_are (r ∷ rs) = ap (λ b. recursor_different c r && b) (recs_are rs)
 
   pub distinct_is : (b : Block) → are_distinct (members_of (unit_at c (unit.Block b)))
-      ≡ (list_all (type_different c) b.types.items && (list_all (constructors_different c) b.types.items && list_all (recursor_different c) b.recursors.items))
+      ≡ (list_all (type_different c) b.types.items && (list_all (constructors_different c) b.types.items && list_all (recursor_different c) b.recursors.value.items))
   distinct_is b =
       let p = block_at c b in
       let ts = map (type_at c) b.types.items in
-      let rs = map (recursor_at c) b.recursors.items in
-      both (type_entries p ts) (all_ctor_entries p ts ++ rec_members rs) (list_all (type_different c) b.types.items) (list_all (constructors_different c) b.types.items && list_all (recursor_different c) b.recursors.items)
+      let rs = map (recursor_at c) b.recursors.value.items in
+      both (type_entries p ts) (all_ctor_entries p ts ++ rec_members rs) (list_all (type_different c) b.types.items) (list_all (constructors_different c) b.types.items && list_all (recursor_different c) b.recursors.value.items)
       (types_are p b.types.items)
-      (both (all_ctor_entries p ts) (rec_members rs) (list_all (constructors_different c) b.types.items) (list_all (recursor_different c) b.recursors.items) (all_ctors_are p b.types.items) (recs_are b.recursors.items))
+      (both (all_ctor_entries p ts) (rec_members rs) (list_all (constructors_different c) b.types.items) (list_all (recursor_different c) b.recursors.value.items) (all_ctors_are p b.types.items) (recs_are b.recursors.value.items))
 
   over_is : (es : Trees) → all_over es ≡ all_meet is_over es
   over_is [] = refl
   over_is (e ∷ es) = ap (λ b. is_over e && b) (over_is es)
 
   pub declared_is : (b : Block) → all_over (trees_of (unit_at c (unit.Block b)))
-      ≡ (list_all (type_over c) b.types.items && (list_all (constructors_over c) b.types.items && list_all (recursor_over c) b.recursors.items))
+      ≡ (list_all (type_over c) b.types.items && (list_all (constructors_over c) b.types.items && list_all (recursor_over c) b.recursors.value.items))
   declared_is b = over_is (trees_of (unit_at c (unit.Block b))) ∙ block_is c is_over b

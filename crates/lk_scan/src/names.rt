@@ -47,7 +47,7 @@ pub fn are_new(alloc: Global, library: &Library, number: u32, unit: &Unit) -> Re
         (members_of (unit_at (contents_of library.now.0) unit.now))) }
 {
     if let Unit::Declaration(declaration) = unit {
-        let new = is_new(library, number, declaration.name);
+        let new = is_new(library, number, u64::from(declaration.name));
         return Ok(new);
     }
     let names = names_of(alloc, unit)?;

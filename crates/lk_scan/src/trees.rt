@@ -240,10 +240,10 @@ fn body_over(
     match body {
         Body::Axiom | Body::Quotient => Ok(true),
         Body::Definition { value, .. } | Body::Opaque { value } => {
-            is_over(alloc, base, &walked.declared, &mut walked.met, value)
+            is_over(alloc, base, &walked.declared, &mut walked.met, u64::from(value))
         }
         Body::Theorem { proof } => {
-            is_over(alloc, base, &walked.declared, &mut walked.met, proof)
+            is_over(alloc, base, &walked.declared, &mut walked.met, u64::from(proof))
         }
     }
 }
@@ -256,9 +256,9 @@ fn body_has_params(base: &BaseStore, body: Body) -> bool
 {
     match body {
         Body::Axiom | Body::Quotient => false,
-        Body::Definition { value, .. } => base.has_params(value),
-        Body::Opaque { value } => base.has_params(value),
-        Body::Theorem { proof } => base.has_params(proof),
+        Body::Definition { value, .. } => base.has_params(u64::from(value)),
+        Body::Opaque { value } => base.has_params(u64::from(value)),
+        Body::Theorem { proof } => base.has_params(u64::from(proof)),
     }
 }
 
@@ -269,7 +269,7 @@ fn has_params(base: &BaseStore, declaration: &Declaration) -> bool
     ensures { result ≡ false → all_over (trees_of
         (unit_at (contents_of base.now) (Unit.Declaration declaration.now))) ≡ true }
 {
-    base.has_params(declaration.ty) || body_has_params(base, declaration.body)
+    base.has_params(u64::from(declaration.ty)) || body_has_params(base, declaration.body)
 }
 
 fn declaration_over(
@@ -290,7 +290,7 @@ fn declaration_over(
         base,
         &walked.declared,
         &mut walked.met,
-        declaration.ty,
+        u64::from(declaration.ty),
     )? {
         return Ok(false);
     }

@@ -26,11 +26,11 @@ block_unnamed c [] [] e = refl
 
 pub named : (c : Contents) (u : StoredUnit) (n : ℕ) → first_number u ≡ Some n → unit_text c u ≡ name_text (name_at c n)
 named c (unit.Declaration d) n e = let is : d.name ≡ n = cc in ap (λ i. name_text (name_at c i)) is
-named c (unit.Block b) n e = ap name_text (block_named c b.types.items b.recursors.items n e)
+named c (unit.Block b) n e = ap name_text (block_named c b.types.items b.recursors.value.items n e)
 
 pub unnamed : (c : Contents) (u : StoredUnit) → first_number u ≡ None → unit_text c u ≡ name_text []
 unnamed c (unit.Declaration d) e = absurd (cc)
-unnamed c (unit.Block b) e = ap name_text (block_unnamed c b.types.items b.recursors.items e)
+unnamed c (unit.Block b) e = ap name_text (block_unnamed c b.types.items b.recursors.value.items e)
 
 block_known : (c : Contents) (ts : List BlockType) (rs : List Recursor) (n : ℕ) → All (IsTypeIn c) ts → All (IsRecursorIn c) rs → first_of_block ts rs ≡ Some n → n < length c.names
 block_known c (t ∷ ts) rs n h k e = let is : t.name ≡ n = cc in let known = (All-head (IsTypeIn c) t ts h).stated.name_in in rw (← is) known
@@ -39,4 +39,4 @@ block_known c [] [] n h k e = absurd (cc)
 
 pub name_known : (c : Contents) (u : StoredUnit) (n : ℕ) → IsUnitIn c u → first_number u ≡ Some n → n < length c.names
 name_known c (unit.Declaration d) n h e = let is : d.name ≡ n = cc in rw (← is) h.0.name_in
-name_known c (unit.Block b) n h e = block_known c b.types.items b.recursors.items n h.0 h.1 e
+name_known c (unit.Block b) n h e = block_known c b.types.items b.recursors.value.items n h.0 h.1 e

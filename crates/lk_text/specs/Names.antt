@@ -29,7 +29,7 @@ first_of_block [] [] = None
 
 abbrev pub first_number : StoredUnit → Option ℕ
 first_number (unit.Declaration d) = Some d.name
-first_number (unit.Block b) = first_of_block b.types.items b.recursors.items
+first_number (unit.Block b) = first_of_block b.types.items b.recursors.value.items
 
 -- the text of the name that the unit goes by
 abbrev pub unit_text : Contents → StoredUnit → List ℕ

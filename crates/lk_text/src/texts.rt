@@ -16,7 +16,11 @@ use lk_lines::Fault;
 use lk_store::memory::NoMemory;
 use std::alloc::Global;
 
-/// The lines of the units, each with the axioms that it rests on, and the last line.
+/// The room for the line of a unit whose name is not long.
+const LINE: usize = 32;
+
+/// The lines of the units, each with the axioms that it rests on, and the last line. There is room for
+/// most of it from the start: a text that grows step by step leaves its former room behind it.
 pub fn report(
     alloc: Global,
     library: &Library,
@@ -27,7 +31,7 @@ pub fn report(
     ensures { IfOk result (λ v. v.items ≡ report_text (library_of library.now)
         (map verdict verdicts.now)) }
 {
-    let mut out = Vec::new(alloc);
+    let mut out = Vec::with_capacity(alloc, verdicts.len().saturating_mul(LINE))?;
     add_lines(alloc, &mut out, library, axioms, verdicts)?;
     add_summary(&mut out, verdicts)?;
     Ok(out)

@@ -45,7 +45,7 @@ fn first_number(unit: &Unit) -> Option<u64>
     ensures { result ≡ first_number unit.now }
 {
     match unit {
-        Unit::Declaration(declaration) => Some(declaration.name),
+        Unit::Declaration(declaration) => Some(u64::from(declaration.name)),
         Unit::Block(block) => first_of_block(&block.types, &block.recursors),
     }
 }

@@ -3,11 +3,11 @@ ghost use Rattle.std.specs.Prelude.{◌≡◌, ◌<◌, ◌++◌, ◌∷◌, [],
 ghost use Rattle.lk_tree.specs.Tree.{Level, text, number, var, const, str};
 ghost use Rattle.lk_rulebook.specs.Units.{Body as PlainBody};
 ghost use Rattle.lk_store.specs.Contents.{Contents, name_at, level_at, tree_at, level_of, tree_of, IsIn, IsLevelIn, IsName, IsList, Extends};
-ghost use Rattle.lk_env.specs.Units.{body_at, rule_at, IsBodyIn, IsRuleIn};
+ghost use Rattle.lk_env.specs.Units.{shared_names, body_at, rule_at, IsBodyIn, IsRuleIn};
 ghost use Rattle.lk_members.specs.Stored.{IsSaidIn};
 ghost use Rattle.lk_members.specs.Plain.{said_at};
 ghost use Rattle.lk_lines.specs.declared.words.Word.{Word as LineWord};
-ghost use Rattle.lk_units.specs.State.{State, longer_name, successor_level, pair_level, parameter_level, sort_tree, constant_tree, application_tree, binder_tree, let_tree, projection_tree, number_literal, rule_of, declaration_of, value_body, valued_of, axiom_of, quotient_of};
+ghost use Rattle.lk_units.specs.State.{State, all_known, longer_name, successor_level, pair_level, parameter_level, sort_tree, constant_tree, application_tree, binder_tree, let_tree, projection_tree, number_literal, rule_of, declaration_of, value_body, valued_of, axiom_of, quotient_of};
 ghost use Rattle.lk_units.specs.Held.{IsKnown, Holds, Makes, binder_of, pair_of, body_of};
 
 use crate::{Assembler, Binder, LevelPair, TakeError, ValueUse};
@@ -20,6 +20,7 @@ use lk_store::node::{LevelNode, ListNode, NameNode, Node};
 use lk_store::terms::Terms;
 use lk_store::text::Text;
 use std::alloc::Global;
+use std::sync::Arc;
 
 // The node of a binder.
 fn binder_node(binder: Binder, domain: u64, body: u64) -> Node
@@ -48,7 +49,7 @@ fn pair_node(pair: LevelPair, left: u64, right: u64) -> LevelNode
 }
 
 // The body that a value makes.
-fn value_body(value_use: ValueUse, value: u64) -> Body
+fn value_body(value_use: ValueUse, value: u32) -> Body
     ensures body { (c : Contents) → body_at c result ≡ body_of value_use (tree_at c value) }
     ensures parts { (c : Contents) → value < length c.trees → IsBodyIn c result }
 {
@@ -171,6 +172,23 @@ fn make_constant<T: Terms>(store: &mut T, name: u64, levels: Vec<u64>) -> Result
         Ok(list) => make(store, Node::Const(name, list)),
         Err(_) => Err(TakeError::NoMemory),
     }
+}
+
+/// The list, in the memory of the other one where that is the same.
+fn shared(
+    alloc: Global,
+    other: Option<&Arc<Vec<u64>>>,
+    list: Vec<u64>,
+) -> Result<Arc<Vec<u64>>, NoMemory>
+    ensures { IfOk result (λ kept. shared_names kept ≡ list.items) }
+{
+    if let Some(kept) = other {
+        if kept.as_slice() == list.as_slice() {
+            return Ok(Arc::try_clone(kept)?);
+        }
+    }
+    let kept = Arc::new(alloc, list)?;
+    Ok(kept)
 }
 
 impl Assembler {
@@ -461,6 +479,19 @@ impl Assembler {
         })
     }
 
+    /// The level parameters of a declaration. The list is that of the declaration before, where it has the same one.
+    fn parameters(&self, alloc: Global, parameters: &[u32]) -> Result<Arc<Vec<u64>>, TakeError>
+        ensures known { (c : Contents) → IsKnown self.now c
+            → IfOk result (λ p. All (λ n. n < length c.names) (shared_names p)) }
+        ensures made { (c : Contents) (s : State) → Holds self.now c s
+            → Makes (λ p. map (name_at c) (shared_names p)) result
+            (all_known s.names parameters.now) }
+    {
+        let levels = self.names_of(alloc, parameters)?;
+        let kept = shared(alloc, self.members.last_parameters(), levels)?;
+        Ok(kept)
+    }
+
     /// A declaration with this body. A fault of the body comes behind those of its name and type.
     #[tactic(auto, using(crate::proofs::Holding::found, crate::proofs::Holding::missing, crate::proofs::Holding::is_below))]
     fn declaration(
@@ -477,21 +508,21 @@ impl Assembler {
             → Holds self.now c s → Makes (body_at c) body said
             → Makes (said_at c) result (declaration_of s name ty said parameters.now) }
     {
-        let Some(name) = self.by_name.find(name) else {
+        let Some(name) = self.by_name.find_place(name) else {
             return Err(TakeError::Fault(Word::IndexUnknown));
         };
-        let Some(ty) = self.by_tree.find(ty) else {
+        let Some(ty) = self.by_tree.find_place(ty) else {
             return Err(TakeError::Fault(Word::IndexUnknown));
         };
         let body = match body {
             Ok(body) => body,
             Err(error) => return Err(error),
         };
-        match self.by_name.find_all(alloc, parameters) {
+        match self.parameters(alloc, parameters) {
             Ok(levels) => Ok(Said::Alone(Declaration {
                 name,
-                levels,
                 ty,
+                levels,
                 body,
             })),
             Err(error) => Err(error),
@@ -505,7 +536,7 @@ impl Assembler {
         ensures made { (c : Contents) (s : State) → Holds self.now c s
             → Makes (body_at c) result (value_body s (body_of value_use) value) }
     {
-        let Some(value) = self.by_tree.find(value) else {
+        let Some(value) = self.by_tree.find_place(value) else {
             return Err(TakeError::Fault(Word::IndexUnknown));
         };
         Ok(value_body(value_use, value))

@@ -36,18 +36,18 @@ impl Numbering {
 
     // The place of a number in the map.
     #[inline(never)]
-    fn find_in_map(&self, number: u32) -> Option<u64>
+    fn find_in_map(&self, number: u32) -> Option<u32>
         ensures { result ≡ get nat_eq self.now.map number }
     {
         match self.map.get(&number) {
-            Some(place) => Some(u64::from(*place)),
+            Some(place) => Some(*place),
             None => None,
         }
     }
 
     // The place of a number that the list does not reach. Nearly every map is empty.
     #[inline(always)]
-    fn find_other(&self, number: u32) -> Option<u64>
+    fn find_other(&self, number: u32) -> Option<u32>
         ensures { result ≡ get nat_eq self.now.map number }
     {
         if self.map.is_empty() {
@@ -59,12 +59,23 @@ impl Numbering {
     /// The place of a number.
     #[inline(always)]
     #[tactic(auto, unfolding(crate::specs::Numbering::entry))]
-    pub fn find(&self, number: u32) -> Option<u64>
+    pub(crate) fn find_place(&self, number: u32) -> Option<u32>
         ensures { result ≡ entry self.now number }
     {
         match self.low.get(number as usize) {
-            Some(place) => Some(u64::from(*place)),
+            Some(place) => Some(*place),
             None => self.find_other(number),
+        }
+    }
+
+    /// The place of a number, as a store counts it.
+    #[inline(always)]
+    pub fn find(&self, number: u32) -> Option<u64>
+        ensures { result ≡ entry self.now number }
+    {
+        match self.find_place(number) {
+            Some(place) => Some(u64::from(place)),
+            None => None,
         }
     }
 

@@ -126,13 +126,10 @@ impl Assembler {
             ty,
             parameters: u64::from(counts.parameters),
             indices: u64::from(counts.indices),
+            constructors,
         };
         let head = boxed(alloc, head)?;
-        Ok(Said::Type {
-            head,
-            types,
-            constructors,
-        })
+        Ok(Said::Type { head, types })
     }
 
     /// A constructor.
@@ -160,7 +157,7 @@ impl Assembler {
             return Err(TakeError::Fault(Word::IndexUnknown));
         };
         let levels = self.names_of(alloc, parameters)?;
-        Ok(Said::Constructor(Constructor {
+        let constructor = Constructor {
             name,
             levels,
             ty,
@@ -168,7 +165,9 @@ impl Assembler {
             place: u64::from(counts.place),
             parameters: u64::from(counts.parameters),
             fields: u64::from(counts.fields),
-        }))
+        };
+        let constructor = boxed(alloc, constructor)?;
+        Ok(Said::Constructor(constructor))
     }
 
     /// A recursor of the block with these types.

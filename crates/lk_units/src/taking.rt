@@ -44,7 +44,7 @@ fn held_hint(hint: ReducibilityHint) -> Hint
     match hint {
         ReducibilityHint::Opaque => Hint::Opaque,
         ReducibilityHint::Abbreviation => Hint::Abbreviation,
-        ReducibilityHint::Regular(height) => Hint::Regular(u64::from(height)),
+        ReducibilityHint::Regular(height) => Hint::Regular(height),
     }
 }
 

@@ -13,7 +13,7 @@ returns-then-counts_agree-clause-outcome g c =
     let t = s.table in
     let left = g.A.Asks.left c.args.asks.now in
     let places = g.A.Asks.places s.basis in
-    test_passes t places Nothing [] BlockShape _ left (λ y rest. types_stage t places (suc left) (block_at at c.args.block.now) (map (recursor_at at) c.args.block.now.recursors.items) rest) c.check_from_types.result
+    test_passes t places Nothing [] BlockShape _ left (λ y rest. types_stage t places (suc left) (block_at at c.args.block.now) (map (recursor_at at) c.args.block.now.recursors.value.items) rest) c.check_from_types.result
     (sym c.counts_agree.ensures ∙ c.if-counts_agree.true) (c.check_from_types.ensures.outcome (suc left) (omega arith))
 
 pub returns-else-counts_agree-clause-outcome : goal.returns-else-counts_agree-clause-outcome
@@ -23,5 +23,5 @@ returns-else-counts_agree-clause-outcome g c =
     let t = s.table in
     let left = g.A.Asks.left c.args.asks.now in
     let places = g.A.Asks.places s.basis in
-    test_fails t places Nothing [] BlockShape _ left (λ y rest. types_stage t places (suc left) (block_at at c.args.block.now) (map (recursor_at at) c.args.block.now.recursors.items) rest)
+    test_fails t places Nothing [] BlockShape _ left (λ y rest. types_stage t places (suc left) (block_at at c.args.block.now) (map (recursor_at at) c.args.block.now.recursors.value.items) rest)
     (sym c.counts_agree.ensures ∙ c.if-counts_agree.false)

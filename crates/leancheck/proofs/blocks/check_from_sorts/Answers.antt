@@ -29,17 +29,17 @@ returns-in_err-check_sorts-clause-outcome g c fuel enough =
     let places = g.A.Asks.places s.basis in
     let why = err_from_is_err_and c.from_residual.result c.from_residual.ensures.1 in
     rw (why.1, why.2) (levels_forgotten t places Types [] (map (type_at at) c.args.block.now.types.items) (g.A.Asks.left c.args.asks.now)
-    (λ rest. larger_stage t places fuel (block_at at c.args.block.now) (map (recursor_at at) c.args.block.now.recursors.items) (parts_at at c.args.parts) rest) (Err c.in_err-check_sorts.field-0.0)
+    (λ rest. larger_stage t places fuel (block_at at c.args.block.now) (map (recursor_at at) c.args.block.now.recursors.value.items) (parts_at at c.args.parts) rest) (Err c.in_err-check_sorts.field-0.0)
     (stage_stop t s places Types []
     (sorts_form (map (type_at at) c.args.block.now.types.items)) _ _ _ refl c.requires.place
     (ap (λ ts. sorts_form (map (type_at at) ts)) c.deref.ensures.value) refl
-    (λ y rest. larger_stage t places fuel (block_at at c.args.block.now) (map (recursor_at at) c.args.block.now.recursors.items) (parts_at at c.args.parts) rest) c.in_err-check_sorts.field-0.0 c.in_err-check_sorts.ensures.outcome))
+    (λ y rest. larger_stage t places fuel (block_at at c.args.block.now) (map (recursor_at at) c.args.block.now.recursors.value.items) (parts_at at c.args.parts) rest) c.in_err-check_sorts.field-0.0 c.in_err-check_sorts.ensures.outcome))
 
 pub check_from_larger-requires-clause-types_in : goal.check_from_larger-requires-clause-types_in
 check_from_larger-requires-clause-types_in g c = types_in_stay _ _ c.in_ok-check_sorts.ensures.keeps c.args.block.now.types.items c.requires.types_in
 
 pub check_from_larger-requires-clause-stated_in : goal.check_from_larger-requires-clause-stated_in
-check_from_larger-requires-clause-stated_in g c = recursors_in_stay _ _ c.in_ok-check_sorts.ensures.keeps c.args.block.now.recursors.items c.requires.stated_in
+check_from_larger-requires-clause-stated_in g c = recursors_in_stay _ _ c.in_ok-check_sorts.ensures.keeps c.args.block.now.recursors.value.items c.requires.stated_in
 
 pub check_from_larger-requires-clause-parts_in : goal.check_from_larger-requires-clause-parts_in
 check_from_larger-requires-clause-parts_in g c = parts_in_stay _ _ c.in_ok-check_sorts.ensures.keeps c.args.parts c.requires.parts_in
@@ -61,11 +61,11 @@ returns-clause-outcome g c fuel enough =
     let goes = subst (λ p. Goes s p (g.A.Asks.left c.args.asks.now) checked left) same c.in_ok-check_sorts.ensures.outcome in
     let less = goes_within s form (g.A.Asks.left c.args.asks.now) checked left goes in
     levels_forgotten t places Types [] (map (type_at at) c.args.block.now.types.items) (g.A.Asks.left c.args.asks.now)
-    (λ rest. larger_stage t places fuel (block_at at c.args.block.now) (map (recursor_at at) c.args.block.now.recursors.items) (parts_at at c.args.parts) rest) c.check_from_larger.result
+    (λ rest. larger_stage t places fuel (block_at at c.args.block.now) (map (recursor_at at) c.args.block.now.recursors.value.items) (parts_at at c.args.parts) rest) c.check_from_larger.result
     (stage_on t s places Types [] form form _ _ refl c.requires.place refl refl
-    (λ y rest. larger_stage t places fuel (block_at at c.args.block.now) (map (recursor_at at) c.args.block.now.recursors.items) (parts_at at c.args.parts) rest) checked left c.check_from_larger.result goes
+    (λ y rest. larger_stage t places fuel (block_at at c.args.block.now) (map (recursor_at at) c.args.block.now.recursors.value.items) (parts_at at c.args.parts) rest) checked left c.check_from_larger.result goes
     (moved_five (λ u ps b rs q. IsCheckOutcome (larger_stage u ps fuel b rs q left) c.check_from_larger.result) (same_table c.in_ok-check_sorts.ensures.stays) (ap (g.A.Asks.places) (same_basis c.in_ok-check_sorts.ensures.stays))
     (ap block_of (types_stay at grown c.in_ok-check_sorts.ensures.keeps c.args.block.now.types.items c.requires.types_in))
-    (recursors_stay at grown c.in_ok-check_sorts.ensures.keeps c.args.block.now.recursors.items c.requires.stated_in)
+    (recursors_stay at grown c.in_ok-check_sorts.ensures.keeps c.args.block.now.recursors.value.items c.requires.stated_in)
     (parts_stay at grown c.in_ok-check_sorts.ensures.keeps c.args.parts c.requires.parts_in)
     (c.check_from_larger.ensures.outcome fuel (omega arith))))

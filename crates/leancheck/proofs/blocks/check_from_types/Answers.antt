@@ -30,13 +30,13 @@ returns-in_err-parts-clause-outcome g c fuel enough =
     (types_steps (parameters_of (block_of types)) types) _ _ _ refl c.requires.place
     (ap (λ n. types_steps n (map (type_at at) c.deref-2.result.now)) (c.stated_parameters-parameters.ensures at) ∙ ap (λ ts. types_steps (parameters_of (block_of (map (type_at at) ts))) (map (type_at at) c.deref-2.result.now)) c.deref.ensures.value
     ∙ ap (λ ts. types_steps (parameters_of (block_of types)) (map (type_at at) ts)) c.deref-2.ensures.value) refl
-    (sorts_stage t places fuel (block_at at c.args.block.now) (map (recursor_at at) c.args.block.now.recursors.items)) c.in_err-parts.field-0.0 c.in_err-parts.ensures.outcome)
+    (sorts_stage t places fuel (block_at at c.args.block.now) (map (recursor_at at) c.args.block.now.recursors.value.items)) c.in_err-parts.field-0.0 c.in_err-parts.ensures.outcome)
 
 pub give_types-requires-clause-types_in : goal.give_types-requires-clause-types_in
 give_types-requires-clause-types_in g c = types_in_stay _ _ c.in_ok-parts.ensures.keeps c.args.block.now.types.items c.requires.types_in
 
 pub give_types-requires-clause-stated_in : goal.give_types-requires-clause-stated_in
-give_types-requires-clause-stated_in g c = recursors_in_stay _ _ c.in_ok-parts.ensures.keeps c.args.block.now.recursors.items c.requires.stated_in
+give_types-requires-clause-stated_in g c = recursors_in_stay _ _ c.in_ok-parts.ensures.keeps c.args.block.now.recursors.value.items c.requires.stated_in
 
 pub returns-clause-outcome : goal.returns-clause-outcome
 returns-clause-outcome g c fuel enough =
@@ -54,8 +54,8 @@ returns-clause-outcome g c fuel enough =
     let goes = subst (λ p. Goes s p before (parts_at grown c.in_ok-parts.parts) left) same c.in_ok-parts.ensures.outcome in
     let less = goes_within s form before (parts_at grown c.in_ok-parts.parts) left goes in
     stage_on t s places Nothing [] form form _ _ refl c.requires.place refl refl
-    (sorts_stage t places fuel (block_at at c.args.block.now) (map (recursor_at at) c.args.block.now.recursors.items)) (parts_at grown c.in_ok-parts.parts) left c.give_types.result goes
+    (sorts_stage t places fuel (block_at at c.args.block.now) (map (recursor_at at) c.args.block.now.recursors.value.items)) (parts_at grown c.in_ok-parts.parts) left c.give_types.result goes
     (moved_four (λ u ps b rs. IsCheckOutcome (sorts_stage u ps fuel b rs (parts_at grown c.in_ok-parts.parts) left) c.give_types.result) (same_table c.in_ok-parts.ensures.stays) (ap (g.A.Asks.places) (same_basis c.in_ok-parts.ensures.stays))
     (ap block_of (types_stay at grown c.in_ok-parts.ensures.keeps c.args.block.now.types.items c.requires.types_in))
-    (recursors_stay at grown c.in_ok-parts.ensures.keeps c.args.block.now.recursors.items c.requires.stated_in)
+    (recursors_stay at grown c.in_ok-parts.ensures.keeps c.args.block.now.recursors.value.items c.requires.stated_in)
     (c.give_types.ensures.outcome fuel (omega arith)))

@@ -18,4 +18,4 @@ pub returns-in-Block-clause-verdict : goal.returns-in-Block-clause-verdict
 returns-in-Block-clause-verdict g c =
     let at = contents_of (over c.args.asks.now.2.0 c.args.asks.now.2.1) in
     rw (c.in-Block.is, c.verdict_of.ensures)
-    (stages_answered (standing_at c.args.asks.now.0 c.args.asks.now.1).table (places_at (standing_at c.args.asks.now.0 c.args.asks.now.1).basis) (block_at at c.in-Block.block) (map (recursor_at at) c.in-Block.block.recursors.items) (c.args.asks.now.3.left) c.check_block.result refl c.check_block.ensures.outcome)
+    (stages_answered (standing_at c.args.asks.now.0 c.args.asks.now.1).table (places_at (standing_at c.args.asks.now.0 c.args.asks.now.1).basis) (block_at at c.in-Block.block) (map (recursor_at at) c.in-Block.block.recursors.value.items) (c.args.asks.now.3.left) c.check_block.result refl c.check_block.ensures.outcome)

@@ -79,10 +79,10 @@ returns-clause-outcome g c fuel enough =
     let places = g.A.Asks.places s.basis in
     let sorts = sym (ap (λ as_. aux_sorts (level_at at c.args.parts.sort) (auxs_at at as_)) c.deref.ensures.value) ∙ c.in_ok-check_sorts.ensures in
     subst (λ p. IsCheckOutcome (stage s.table places Types [] p left
-    (λ y rest. shape_stage s.table places fuel (block_at at c.args.block.now) (map (recursor_at at) c.args.block.now.recursors.items) (parts_at at c.args.parts) (larger_at at c.args.larger) rest)) c.check_with.result) (sym sorts)
+    (λ y rest. shape_stage s.table places fuel (block_at at c.args.block.now) (map (recursor_at at) c.args.block.now.recursors.value.items) (parts_at at c.args.parts) (larger_at at c.args.larger) rest)) c.check_with.result) (sym sorts)
     (shape_moved fuel c.check_with.result (same_table stays) (ap (g.A.Asks.places) (same_basis stays))
     (ap block_of (types_stay at grown x c.args.block.now.types.items c.requires.types_in))
-    (recursors_stay at grown x c.args.block.now.recursors.items c.requires.stated_in)
+    (recursors_stay at grown x c.args.block.now.recursors.value.items c.requires.stated_in)
     (parts_stay at grown x c.args.parts c.requires.parts_in)
     (larger_stays at grown x c.args.larger c.requires.larger_in) c.in_ok-originals.ensures.left
     (c.check_with.ensures.outcome fuel (subst (λ n. n < fuel) (sym c.in_ok-originals.ensures.left) enough)))

@@ -16,7 +16,7 @@ pub check_with_levels-requires-clause-types_in : goal.check_with_levels-requires
 check_with_levels-requires-clause-types_in g c = types_in_stay _ _ c.in_ok-levels.ensures.keeps c.args.block.now.types.items c.requires.types_in
 
 pub check_with_levels-requires-clause-stated_in : goal.check_with_levels-requires-clause-stated_in
-check_with_levels-requires-clause-stated_in g c = recursors_in_stay _ _ c.in_ok-levels.ensures.keeps c.args.block.now.recursors.items c.requires.stated_in
+check_with_levels-requires-clause-stated_in g c = recursors_in_stay _ _ c.in_ok-levels.ensures.keeps c.args.block.now.recursors.value.items c.requires.stated_in
 
 pub check_with_levels-requires-clause-parts_in : goal.check_with_levels-requires-clause-parts_in
 check_with_levels-requires-clause-parts_in g c = parts_in_stay _ _ c.in_ok-levels.ensures.keeps c.args.parts c.requires.parts_in
@@ -43,6 +43,6 @@ returns-clause-outcome g c fuel enough =
     let stays = c.in_ok-levels.ensures.stays in
     larger_moved fuel c.check_with_levels.result (same_table stays) (ap (g.F.Asks.places) (same_basis stays))
     (ap block_of (types_stay at grown x c.args.block.now.types.items c.requires.types_in))
-    (recursors_stay at grown x c.args.block.now.recursors.items c.requires.stated_in)
+    (recursors_stay at grown x c.args.block.now.recursors.value.items c.requires.stated_in)
     (parts_stay at grown x c.args.parts c.requires.parts_in) c.in_ok-levels.ensures.left
     (c.check_with_levels.ensures.outcome fuel (subst (λ n. n < fuel) (sym c.in_ok-levels.ensures.left) enough))

@@ -1,6 +1,9 @@
 use Rattle.std.proofs.Common.{map, ap, sym, subst, All, ◌∙◌, arith}
 use Rattle.std.proofs.lemmas.List.{map-append}
 use Rattle.lk_store.specs.Contents.{tree_at}
+use Rattle.std.specs.Prelude.{Vec}
+use Rattle.std.specs.declared.alloc.Global.{Global}
+use Rattle.lk_env.specs.declared.unit.Recursor.{Recursor}
 use Rattle.lk_env.specs.Units.{block_at, type_at, recursor_at, IsTypeIn}
 use Rattle.lk_inductive.specs.Block.{levels_of, AreLocals}
 use Rattle.lk_inductive.specs.Enlarged.{setting_of}
@@ -45,7 +48,8 @@ returns-clause-outcome g c fuel enough =
     let ts = parts_at at c.args.parts in
     let lg = larger_at at c.args.larger in
     let behind = c.split_at.ensures.back ∙ behind_is c.args.larger.own.items c.args.larger.auxiliary.items c.deref-2.result.now c.len-count.result (let e = c.len-count.ensures in let f = c.args.larger.own.ok.0 in omega arith) (c.deref-2.ensures.value ∙ c.in_ok-types.ensures) in
-    subst (λ rs. IsCheckOutcome (shape_stage s.table (g.A.Asks.places s.basis) fuel b (map (recursor_at at) rs) ts lg (g.A.Asks.left c.args.asks.now)) c.check_beside.result) c.deref-4.ensures.value
+    let recursors = c.deref-5.ensures.value ∙ ap (λ (v : Vec Recursor Global). v.items) c.deref-4.ensures in
+    subst (λ rs. IsCheckOutcome (shape_stage s.table (g.A.Asks.places s.basis) fuel b (map (recursor_at at) rs) ts lg (g.A.Asks.left c.args.asks.now)) c.check_beside.result) recursors
     (c.check_beside.ensures.outcome fuel b ts lg enough (record {
       types = ap (map (type_at at)) (c.deref-3.ensures.value ∙ c.in_ok-types.ensures) ∙ map-append (type_at at) c.args.larger.own.items c.args.larger.auxiliary.items;
       parts = c.in_ok-parts.ensures.value at ∙ ap (λ as_. with_indices ts (auxs_at at as_)) c.deref.ensures.value;

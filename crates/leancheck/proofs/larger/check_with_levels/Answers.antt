@@ -32,7 +32,7 @@ returns-in_err-find_larger-clause-outcome g c fuel enough =
     let p = err_from_is_err_and c.from_residual.result c.from_residual.ensures.1 in
     rw (p.1, p.2) (stage_stop s.table s places Types [] (enlarge (setting_of b (map (tree_at at) c.args.parts.parameters.items)) types) _ _ _ refl c.requires.place
     (ap (λ ps. enlarge (setting_of b (map (tree_at at) ps)) types) c.deref.ensures.value) refl
-    (auxiliary_stage s.table places fuel b (map (recursor_at at) c.args.block.now.recursors.items) (parts_at at c.args.parts)) c.in_err-find_larger.field-0.0 c.in_err-find_larger.ensures.outcome)
+    (auxiliary_stage s.table places fuel b (map (recursor_at at) c.args.block.now.recursors.value.items) (parts_at at c.args.parts)) c.in_err-find_larger.field-0.0 c.in_err-find_larger.ensures.outcome)
 
 pub check_enlarged-requires-clause-locals : goal.check_enlarged-requires-clause-locals
 check_enlarged-requires-clause-locals g c =
@@ -73,9 +73,9 @@ returns-in-None-clause-outcome g c fuel enough =
     let goes = subst (λ o. Goes s (enlarge (setting_of b (map (tree_at at) c.deref.result.now)) types) left (larger_or grown types o) left) c.in-None.is c.in_ok-find_larger.ensures.outcome in
     stage_on s.table s places Types [] (enlarge (setting_of b (map (tree_at at) c.args.parts.parameters.items)) types) _ _ _ refl c.requires.place
     (ap (λ ps. enlarge (setting_of b (map (tree_at at) ps)) types) c.deref.ensures.value) refl
-    (auxiliary_stage s.table places fuel b (map (recursor_at at) c.args.block.now.recursors.items) (parts_at at c.args.parts)) (nothing_added types) left c.check_itself.result goes
+    (auxiliary_stage s.table places fuel b (map (recursor_at at) c.args.block.now.recursors.value.items) (parts_at at c.args.parts)) (nothing_added types) left c.check_itself.result goes
     (auxiliary_moved fuel c.check_itself.result (same_table stays) (ap (g.F.Asks.places) (same_basis stays)) (ap block_of same)
-    (recursors_stay at grown x c.args.block.now.recursors.items c.requires.stated_in) (parts_stay at grown x c.args.parts c.requires.parts_in) (ap nothing_added same) c.in_ok-find_larger.ensures.left
+    (recursors_stay at grown x c.args.block.now.recursors.value.items c.requires.stated_in) (parts_stay at grown x c.args.parts c.requires.parts_in) (ap nothing_added same) c.in_ok-find_larger.ensures.left
     (c.check_itself.ensures.outcome fuel (subst (λ n. n < fuel) (sym c.in_ok-find_larger.ensures.left) enough)))
 
 pub returns-in-Some-clause-outcome : goal.returns-in-Some-clause-outcome
@@ -93,7 +93,7 @@ returns-in-Some-clause-outcome g c fuel enough =
     let goes = subst (λ o. Goes s (enlarge (setting_of b (map (tree_at at) c.deref.result.now)) types) left (larger_or grown types o) left) c.in-Some.is c.in_ok-find_larger.ensures.outcome in
     stage_on s.table s places Types [] (enlarge (setting_of b (map (tree_at at) c.args.parts.parameters.items)) types) _ _ _ refl c.requires.place
     (ap (λ ps. enlarge (setting_of b (map (tree_at at) ps)) types) c.deref.ensures.value) refl
-    (auxiliary_stage s.table places fuel b (map (recursor_at at) c.args.block.now.recursors.items) (parts_at at c.args.parts)) (larger_at grown c.in-Some.larger) left c.check_enlarged.result goes
+    (auxiliary_stage s.table places fuel b (map (recursor_at at) c.args.block.now.recursors.value.items) (parts_at at c.args.parts)) (larger_at grown c.in-Some.larger) left c.check_enlarged.result goes
     (auxiliary_moved fuel c.check_enlarged.result (same_table stays) (ap (g.F.Asks.places) (same_basis stays)) (ap block_of (types_stay at grown x c.args.block.now.types.items c.requires.types_in))
-    (recursors_stay at grown x c.args.block.now.recursors.items c.requires.stated_in) (parts_stay at grown x c.args.parts c.requires.parts_in) found c.in_ok-find_larger.ensures.left
+    (recursors_stay at grown x c.args.block.now.recursors.value.items c.requires.stated_in) (parts_stay at grown x c.args.parts c.requires.parts_in) found c.in_ok-find_larger.ensures.left
     (c.check_enlarged.ensures.outcome fuel (subst (λ n. n < fuel) (sym c.in_ok-find_larger.ensures.left) enough)))

@@ -20,4 +20,4 @@ pub returns-in-Err-clause-member : goal.returns-in-Err-clause-member
 returns-in-Err-clause-member c = λ d.
     let within : length c.args.block.now.types.items ≤ c.args.member = rw c.as_slice-types.ensures.value at c.if-member-types.false in
     recursor_member d c.args.block.now c.args.unit c.in-Err.rest (c.args.member - length c.args.block.now.types.items) c.args.member c.recursor_entry.result
-    (rw c.as_slice-types.ensures.value at c.in-Err.ensures.past) (omega (arith, within)) (rw c.deref.ensures.value at c.recursor_entry.ensures.entry)
+    (rw c.as_slice-types.ensures.value at c.in-Err.ensures.past) (omega (arith, within)) (rw c.deref.ensures at (rw c.deref-in-Err.ensures.value at c.recursor_entry.ensures.entry))

@@ -15,4 +15,4 @@ returns-then-not-all_constructors_pass c =
 pub returns : goal.returns
 returns c =
     recursors_alone (contents_of c.args.base.now) (without_levels c.args.test) c.args.block.now c.types_pass.result c.all_constructors_pass.result c.recursors_pass.result
-    (rw c.deref.ensures.value at c.types_pass.ensures) (rw c.deref-2.ensures.value at c.all_constructors_pass.ensures) (rw c.deref-3.ensures.value at c.recursors_pass.ensures) (search rules) (search rules)
+    (rw c.deref.ensures.value at c.types_pass.ensures) (rw c.deref-2.ensures.value at c.all_constructors_pass.ensures) (rw c.deref-3.ensures at (rw c.deref-4.ensures.value at c.recursors_pass.ensures)) (search rules) (search rules)

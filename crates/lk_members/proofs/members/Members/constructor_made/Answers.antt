@@ -31,7 +31,7 @@ returns-in_ok-copy-in-Constructor c =
     let found = ctor_of nat_eq (lines_of ls) t n in
     let is : o ≡ Some i = search rules in
     let l = c.index.result.now in
-    ctor_copied ls t n l.said found (led_to here ls i o found (c.requires.ctors t n) is l c.index.ensures) (led_some here ls i o found (c.requires.ctors t n) is) c.in-Constructor.k c.in_ok-copy-in-Constructor.copy c.in-Constructor.is c.in_ok-copy-in-Constructor.ensures
+    ctor_copied ls t n l.said found (led_to here ls i o found (c.requires.ctors t n) is l c.index.ensures) (led_some here ls i o found (c.requires.ctors t n) is) c.in-Constructor.k c.in_ok-copy-in-Constructor.copy c.in-Constructor.is (rw c.deref.ensures at c.in_ok-copy-in-Constructor.ensures)
     (λ d known. said_known d ls i l (led_within here ls i o found (c.requires.ctors t n) is) c.index.ensures known)
 
 pub returns-in_default-said : goal.returns-in_default-said

@@ -1,6 +1,7 @@
-use Rattle.std.proofs.Common.{◌≡◌, length, refl, sym, subst, arith}
+use Rattle.std.proofs.Common.{◌≡◌, ◌∙◌, length, refl, ap, sym, subst, arith}
 use Rattle.std.specs.Prelude.{nat_eq}
 use Rattle.std.proofs.lemmas.List.{length-map}
+use Rattle.lk_members.specs.declared.line.TypeHead.{TypeHead}
 use Rattle.lk_members.specs.declared.line.Said.{Said as StoredSaid}
 use Rattle.lk_members.specs.Faults.{fault_of}
 use Rattle.lk_members.specs.Stored.{line_of, lines_of, said_of}
@@ -20,12 +21,13 @@ returns-in-Alone-clause-indexed c = λ number.
 pub returns-in-Type-clause-fault : goal.returns-in-Type-clause-fault
 returns-in-Type-clause-fault c =
     let lines = lines_of c.args.self.now.lines.items in
-    rw (c.in-Type.is, ← c.deref.ensures, ← c.deref-in-Type.ensures.value, ← c.deref-in-Type-2.ensures.value) (c.note_type.ensures.fault c.deref.result.now)
+    let constructors = c.deref-in-Type-3.ensures.value ∙ ap (λ (t : TypeHead). t.constructors.items) (c.deref-in-Type-2.ensures ∙ sym c.deref.ensures) in
+    rw (c.in-Type.is, ← c.deref.ensures, ← c.deref-in-Type.ensures.value, ← constructors) (c.note_type.ensures.fault c.deref.result.now)
 
 pub returns-in-Constructor-clause-fault : goal.returns-in-Constructor-clause-fault
 returns-in-Constructor-clause-fault c =
     let lines = lines_of c.args.self.now.lines.items in
-    subst (λ (s : StoredSaid). Takes c.note_constructor.result (fault_of nat_eq lines (said_of s))) (sym c.in-Constructor.is) (c.note_constructor.ensures.fault c.in-Constructor.constructor)
+    subst (λ (s : StoredSaid). Takes c.note_constructor.result (fault_of nat_eq lines (said_of s))) (sym c.in-Constructor.is) (rw (c.deref-in-Constructor.ensures, c.deref-in-Constructor-2.ensures) at (c.note_constructor.ensures.fault c.in-Constructor.constructor.value))
 
 pub returns-in-Recursor-clause-fault : goal.returns-in-Recursor-clause-fault
 returns-in-Recursor-clause-fault c =

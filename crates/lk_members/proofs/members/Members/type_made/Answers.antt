@@ -18,8 +18,8 @@ returns-in_ok-copy-in-Type c =
     let found = type_of nat_eq (lines_of ls) n in
     let is : o ≡ Some i = search rules in
     let l = c.index.result.now in
-    type_copied ls n l.said found (led_to here ls i o found (c.requires.types n) is l c.index.ensures) (led_some here ls i o found (c.requires.types n) is) c.in-Type.head c.in-Type.types c.in-Type.constructors c.in_ok-made-in-Type.made.items c.in_ok-copy-in-Type.copy
-    c.in-Type.is (rw c.deref-in-Type.ensures at c.in_ok-copy-in-Type.ensures) (rw c.deref.ensures.value at c.in_ok-made-in-Type.ensures)
+    type_copied ls n l.said found (led_to here ls i o found (c.requires.types n) is l c.index.ensures) (led_some here ls i o found (c.requires.types n) is) c.in-Type.head c.in-Type.types c.in_ok-made-in-Type.made.items c.in_ok-copy-in-Type.copy
+    c.in-Type.is (rw c.deref-in-Type-2.ensures at c.in_ok-copy-in-Type.ensures) (rw c.deref.ensures at (rw c.deref-in-Type.ensures.value at c.in_ok-made-in-Type.ensures))
     (λ d known. said_known d ls i l (led_within here ls i o found (c.requires.types n) is) c.index.ensures known)
 
 pub returns-in_default-said : goal.returns-in_default-said
