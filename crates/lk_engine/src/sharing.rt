@@ -160,7 +160,7 @@ fn offer<'a>(
 fn answer_and_offer<'a>(
     lookout: &mut Lookout<'a, Overlay<'a>>,
     memo: &mut PrivateMemo,
-    stack: &mut Vec<Frame>,
+    stack: &mut Stack,
     share: &mut Share<'_>,
     query: Query<u64>,
 ) -> Result<Answer<u64>, Stop>
@@ -185,7 +185,7 @@ fn answer_and_offer<'a>(
 fn answer_after<'a>(
     lookout: &mut Lookout<'a, Overlay<'a>>,
     memo: &mut PrivateMemo,
-    stack: &mut Vec<Frame>,
+    stack: &mut Stack,
     share: &mut Share<'_>,
     query: Query<u64>,
     found: Option<Kept>,
