@@ -144,7 +144,7 @@ def dependent_arguments(n):
 
 
 def different_arguments(n):
-    """n theorems: f p .. p, q .. q and so on, where the type of f mentions all its 400 arguments at its end."""
+    """n theorems f p .. p, each of its own p, where the type of f mentions all 400 arguments."""
     f = Lines()
     h = f.axiom('h', f.pi(f.prop, f.pi(f.prop, f.prop)))
     last = stated = f.axiom('last', f.prop)
@@ -200,7 +200,7 @@ def alike_in_units(n):
 
 
 def dependent_alike(n):
-    """The same in one axiom, where the first n arguments are all mentioned in the type of the next one."""
+    """The same in one axiom, where the type of the next argument mentions the first n of them."""
     f = Lines()
     p, h = f.axiom('p', f.prop), f.axiom('h', f.pi(f.prop, f.pi(f.prop, f.prop)))
     stated = proved = p
@@ -822,8 +822,8 @@ def characters(n):
 
 FAMILIES = [
     (pis, 10 ** 6), (lambdas, 10 ** 6), (dependent_lambdas, 10 ** 6), (arguments, 10 ** 6), (nested_arguments, 10 ** 6),
-    (dependent_arguments, 10 ** 5), (different_arguments, 400), (arguments_alike, 4000), (alike_in_units, 10 ** 4),
-    (dependent_alike, 10 ** 4),
+    (dependent_arguments, 10 ** 5), (different_arguments, 400), (arguments_alike, 4000),
+    (alike_in_units, 10 ** 4), (dependent_alike, 10 ** 4),
     (beta, 10 ** 6), (lets, 10 ** 6), (lets_mentioned, 10 ** 5), (let_values, 10 ** 6), (projections, 10 ** 6),
     (successors, 10 ** 6), (maxima, 10 ** 6), (shared_levels, 10 ** 5), (shared_imax, 10 ** 5), (wide_levels, 16),
     (wide_cycles, 16), (wide_left, 16),

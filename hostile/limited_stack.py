@@ -17,8 +17,8 @@ from inputs import HERE, INPUTS
 
 DEEP = [(families.pis, 100000), (families.lambdas, 100000), (families.arguments, 100000), (families.nested_arguments, 100000),
         (families.lets, 100000), (families.successors, 100000), (families.maxima, 100000), (families.components, 100000),
-        (families.dependent_lambdas, 20000), (families.lets_mentioned, 5000), (families.dependent_arguments, 20000),
-        (families.fields_alone, 10000),
+        (families.dependent_lambdas, 20000), (families.lets_mentioned, 5000),
+        (families.dependent_arguments, 20000), (families.fields_alone, 10000),
         (families.enumeration, 100), (families.enumeration, 600), (families.nested, 500), (families.mutual, 200),
         (families.doubled_unequal, 50), (families.spaces, 1 << 25)]
 MOST = 160

@@ -18,7 +18,8 @@ pub record IsPi (c : Contents) (e : ℕ) (parts : ℕ × ℕ) : Type 0 where
   pub body_in : parts.1 < length c.trees
   pub is : tree_at c e ≡ pi (tree_at c parts.0) (tree_at c parts.1)
 
--- T is r inside Pis that are opened with the arguments; each has the domain of its place in the list
+-- T is r inside Pis that are opened with the arguments; each has the domain of its place in the
+-- list
 abbrev pub OpensWith : Tree → List Tree → List Tree → Tree → Type 0
 OpensWith T [] [] r = T ≡ r
 OpensWith T (a ∷ xs) (A ∷ Ds) r = (B : Tree) × (T ≡ pi A B) × OpensWith (opened B a) xs Ds r

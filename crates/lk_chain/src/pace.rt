@@ -37,8 +37,8 @@ impl Pace {
         self.seen = terms;
     }
 
-    /// How many steps may be spent at one time: none where more were spent than terms are earned, so
-    /// many times.
+    /// How many steps may be spent at one time: none where more were spent than terms are earned,
+    /// so many times.
     pub fn most(&self, times: u64) -> u64 {
         if self.spent > self.earned.saturating_mul(times) {
             return 0;

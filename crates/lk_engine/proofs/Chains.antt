@@ -39,8 +39,10 @@ module _ {S R B : Type 0} {contents : S → Contents} {rest : S → R} {sight : 
       }
 
   -- the term was made where the unit of what it was made for is looked at
-  pub spine_starts : {old mid new : S} {e : ℕ} (r : ℕ) (result : Result (Next ℕ (AnySheet ℕ)) NoMemory) → Extends (contents old) (contents mid)
-      → (sight (rest mid)).basis ≡ (sight (rest old)).basis → RunsFor contents rest sight old mid e (Some r)
+  pub spine_starts : {old mid new : S} {e : ℕ} (r : ℕ) (result : Result (Next ℕ (AnySheet ℕ))
+      NoMemory) → Extends (contents old) (contents mid)
+      → (sight (rest mid)).basis ≡ (sight (rest old)).basis
+      → RunsFor contents rest sight old mid e (Some r)
       → Does contents rest sight mid new result a_tree (λ t. infer_steps (t r))
       → Starts contents rest sight old new result (Infer e)
   spine_starts {old} {mid} {new} {e} r result grows stays runs h =
@@ -50,16 +52,21 @@ module _ {S R B : Type 0} {contents : S → Contents} {rest : S → R} {sight : 
         stays = h.stays ∙ stays;
         known = h.known;
         runs = ok_on result (λ next told budget.
-            ap (λ s. run_steps (out_of steps place) s budget) (subst (λ (q : Basis B). next_of q.place (tree_at (contents new)) (sight (rest new)).last next
-            ≡ erased q.place a_tree (sight (rest mid)).last (infer_steps (tree_at (contents mid) r))) stays told)
+            ap (λ s. run_steps (out_of steps place) s budget) (subst (λ (q : Basis B). next_of
+            q.place (tree_at (contents new)) (sight (rest new)).last next
+            ≡ erased q.place a_tree (sight (rest mid)).last (infer_steps (tree_at (contents mid)
+            r))) stays told)
             ∙ runs.1 budget) h.steps;
       }
 
   -- no term was made
-  pub plain_starts : {old mid new : S} {e : ℕ} (result : Result (Next ℕ (AnySheet ℕ)) NoMemory) → e < length (contents old).trees → Extends (contents old) (contents mid)
-      → rest mid ≡ rest old → Does contents rest sight mid new result a_tree (λ t. infer_steps (t e))
+  pub plain_starts : {old mid new : S} {e : ℕ} (result : Result (Next ℕ (AnySheet ℕ)) NoMemory)
+      → e < length (contents old).trees → Extends (contents old) (contents mid)
+      → rest mid ≡ rest old → Does contents rest sight mid new result a_tree (λ t. infer_steps
+      (t e))
       → Starts contents rest sight old new result (Infer e)
   plain_starts {old} {mid} {new} {e} result known grows stays h =
       replaced_starts e result grows stays (λ w. record {
-        runs = λ t b. ap (λ x. run_steps (out_of steps w) (erased w a_tree t (infer_steps x)) b) (grows.trees.same e known);
+        runs = λ t b. ap (λ x. run_steps (out_of steps w) (erased w a_tree t (infer_steps x)) b)
+            (grows.trees.same e known);
       }) h

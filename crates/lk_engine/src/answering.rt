@@ -33,8 +33,8 @@ pub struct Frame {
     pub last: Option<u32>,
 }
 
-/// The questions that wait, the last one at the end, and how many arguments may be put at once. It is
-/// room that is used again.
+/// The questions that wait, the last one at the end, which is room that is used again; and how many
+/// arguments may be put at once.
 #[derive(Drop)]
 pub struct Stack {
     frames: Vec<Frame>,

@@ -150,8 +150,8 @@ fn unknown<T: Terms>(lookout: &Lookout<'_, T>, memo: &mut PrivateMemo, e: u64) -
 /// Each argument that is put takes so many steps.
 const ARGUMENT: u64 = 8;
 
-/// Whether the arguments of a term are to be put at once, which the pace has to allow. What it takes
-/// is spent.
+/// Whether the arguments of a term are to be put at once, which the pace has to allow. What it
+/// takes is spent.
 #[inline(never)]
 fn is_paid<T: Terms>(
     lookout: &Lookout<'_, T>,

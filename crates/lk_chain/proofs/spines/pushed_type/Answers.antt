@@ -14,8 +14,10 @@ pub arguments-preserved : goal.arguments-preserved
 arguments-preserved g c =
     let inv = c.arguments.invariant in
     let contents = g.L.Terms.contents in
-    let taken : c.arguments.left.now ≡ c.in-Some.argument.now ∷ c.in-Some.others.now = search rules in
-    let next : IsNextPi (contents c.arguments.looks) (contents c.put.new.terms) c.arguments.values.items c.arguments.inside
+    let taken : c.arguments.left.now ≡ c.in-Some.argument.now ∷ c.in-Some.others.now =
+    search rules in
+    let next : IsNextPi (contents c.arguments.looks) (contents c.put.new.terms)
+    c.arguments.values.items c.arguments.inside
     c.in-Some-pi_of.domain c.in-Some-pi_of.body c.in_ok-put-in-Some-pi_of.field-0 = record {
       is_pi = c.in-Some-pi_of.ensures;
       grows = c.put.ensures.keeps;
@@ -24,7 +26,8 @@ arguments-preserved g c =
     record {
       keeps = Extends-trans _ _ _ inv.keeps c.put.ensures.keeps;
       stays = c.put.ensures.rest ∙ inv.stays;
-      given = given_on c.requires.arguments_in inv.keeps inv.given next taken c.in_ok-push-in-Some-pi_of.ensures.items c.in_ok-push-in-Some-pi_of-2.ensures.items;
+      given = given_on c.requires.arguments_in inv.keeps inv.given next taken
+          c.in_ok-push-in-Some-pi_of.ensures.items c.in_ok-push-in-Some-pi_of-2.ensures.items;
     }
 
 pub returns-in-None : goal.returns-in-None
@@ -33,7 +36,8 @@ returns-in-None g c =
     record {
       keeps = Extends-trans _ _ _ inv.keeps c.end_pis.ensures.keeps;
       stays = c.end_pis.ensures.stays ∙ inv.stays;
-      ok = given_ends (g.L.Terms.contents c.end_pis.new.looks) c.end_pis.result c.requires.arguments_in inv.keeps inv.given
+      ok = given_ends (g.L.Terms.contents c.end_pis.new.looks) c.end_pis.result
+          c.requires.arguments_in inv.keeps inv.given
           (rw (c.deref.ensures.value, c.deref-in-None.ensures.value) at c.end_pis.ensures.ok);
     }
 
@@ -43,6 +47,7 @@ returns g c =
     record {
       keeps = Extends-trans _ _ _ inv.keeps c.end_pis-2.ensures.keeps;
       stays = c.end_pis-2.ensures.stays ∙ inv.stays;
-      ok = given_ends (g.L.Terms.contents c.end_pis-2.new.looks) c.end_pis-2.result c.requires.arguments_in inv.keeps inv.given
+      ok = given_ends (g.L.Terms.contents c.end_pis-2.new.looks) c.end_pis-2.result
+          c.requires.arguments_in inv.keeps inv.given
           (rw (c.deref-2.ensures.value, c.deref-3.ensures.value) at c.end_pis-2.ensures.ok);
     }

@@ -9,7 +9,8 @@ invariant-arguments g l =
     record {
       keeps : Extends (contents l.fn.looks) (contents l.looks);
       stays : g.L.Terms.rest l.looks ≡ g.L.Terms.rest l.fn.looks;
-      given : IsGiven (contents l.fn.looks) (contents l.looks) l.fn.ty l.fn.arguments l.left l.domains.items l.values.items l.inside;
+      given : IsGiven (contents l.fn.looks) (contents l.looks) l.fn.ty l.fn.arguments l.left
+          l.domains.items l.values.items l.inside;
     }
 
 abbrev pub decreases-arguments : goal.decreases-arguments

@@ -13,7 +13,8 @@ invariant-work g l =
       stays : Stays contents g.T.Terms.rest began l.lookout;
       entries : AreTrueAt began (contents l.lookout.2) l.memo;
       linked : IsLinked (place_of began) (query_of (tree_at (contents began.2)) l.fn.query)
-          began.3.left (contents l.lookout.2) l.stack.frames.items l.asked l.budget l.next l.lookout.3.left
+          began.3.left (contents l.lookout.2) l.stack.frames.items l.asked l.budget l.next
+          l.lookout.3.left
           l.lookout.3.last;
     }
 
