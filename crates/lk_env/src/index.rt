@@ -66,7 +66,10 @@ pub fn names_of(alloc: Global, unit: &Unit) -> Result<Vec<u64>, NoMemory>
     ensures { IfOk result (λ names. names.items ≡ member_names unit.now) }
 {
     match unit {
-        Unit::Declaration(declaration) => Ok(Vec::from_array(alloc, [u64::from(declaration.name)])?),
+        Unit::Declaration(declaration) => Ok(Vec::from_array(
+            alloc,
+            [u64::from(declaration.name)],
+        )?),
         Unit::Block(block) => names_of_block(alloc, block),
     }
 }

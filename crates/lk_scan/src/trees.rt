@@ -240,10 +240,22 @@ fn body_over(
     match body {
         Body::Axiom | Body::Quotient => Ok(true),
         Body::Definition { value, .. } | Body::Opaque { value } => {
-            is_over(alloc, base, &walked.declared, &mut walked.met, u64::from(value))
+            is_over(
+                alloc,
+                base,
+                &walked.declared,
+                &mut walked.met,
+                u64::from(value),
+            )
         }
         Body::Theorem { proof } => {
-            is_over(alloc, base, &walked.declared, &mut walked.met, u64::from(proof))
+            is_over(
+                alloc,
+                base,
+                &walked.declared,
+                &mut walked.met,
+                u64::from(proof),
+            )
         }
     }
 }

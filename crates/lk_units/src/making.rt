@@ -479,7 +479,8 @@ impl Assembler {
         })
     }
 
-    /// The level parameters of a declaration. The list is that of the declaration before, where it has the same one.
+    /// The level parameters of a declaration. The list is that of the declaration before, where it
+    /// has the same one.
     fn parameters(&self, alloc: Global, parameters: &[u32]) -> Result<Arc<Vec<u64>>, TakeError>
         ensures known { (c : Contents) → IsKnown self.now c
             → IfOk result (λ p. All (λ n. n < length c.names) (shared_names p)) }
