@@ -115,7 +115,7 @@ fn is_answered<A: Asks>(asks: &mut A, case: Case) -> Result<bool, NoMemory> {
 /// How many turns the question takes of an engine: none where it is not answered by its sort at just
 /// its cost.
 fn turns_for<K: Knows>(engine: &mut Engine<'_, K>, case: Case) -> Result<u64, NoMemory> {
-    engine.start(0, case.cost - 1);
+    engine.start(0, case.cost.saturating_sub(1));
     if !matches!(asked(engine, case.query), Err(Stop::Spent)) {
         return Ok(0);
     }
