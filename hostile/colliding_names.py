@@ -5,7 +5,7 @@ usage: colliding_names.py [NAMES]       so many names, at most 500000, and else 
 
 Each is the name of nothing with one number more. The store's hash of that is the number, mixed with what is the same of
 all, times a constant, the halves of the product joined. The low 22 bits of that are 0 for each number that is chosen
-here, so that all stand in one bucket of a table of up to 2^22 heads, as long as the table takes no seed. To find them
+here, so that all belong into one bucket of a table of up to 2^22 slots, as long as the table takes no seed. To find them
 needs no search. The product's low half ends in 22 zeros where the mixed number does, and the bits 64 to 85 of the
 product of v * 2^22 and the constant are 0 where the low half of v times the constant is below 2^42. Such v below 2^42
 are the points of a lattice in a square, and two short vectors of it give them.
