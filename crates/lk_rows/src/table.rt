@@ -13,8 +13,9 @@ const FEW: usize = 16;
 const KEPT: usize = 512;
 
 /// Where a row is more slots than this away from its bucket, the table takes another seed and places
-/// all rows anew. Each seed that was taken before lets so many more be.
-const FARTHEST: u64 = 256;
+/// all rows anew. By chance the farthest of a million rows is some hundred and fifty slots away.
+/// Each seed that was taken before lets so many more be.
+const FARTHEST: usize = 256;
 
 /// Rows by number, each found by its key. The numbers are kept in 32 bits. Keys that were made to
 /// have one hash are parted by a seed, which is 0 until a row is far from its bucket.
@@ -26,6 +27,9 @@ pub struct Table<R: Row + Drop> {
     tags: Vec<u8>,
     /// The row that stands in each slot. Of a free one it says nothing.
     slots: Vec<u32>,
+    /// No row is more slots than so many away from its bucket: a walk ends there, however many
+    /// slots are taken in a row.
+    most: usize,
     /// The seed of the hashes.
     seed: u64,
 }
@@ -39,7 +43,7 @@ impl<R: Row + Drop> Model for Table<R> {
     ghost view = { λ t. t.rows.items };
 
     ghost invariant = { λ t.
-        IsTable R.key (R.hash t.seed) t.rows.items t.tags.items t.slots.items };
+        IsTable R.key (R.hash t.seed) t.rows.items t.tags.items t.slots.items t.most };
 }
 
 ghost use Rattle.std.specs.Prelude.{◌≡◌, ◌<◌, ◌≤◌, ◌^◌, ◌⊎◌, [], ◌∷◌, ◌++◌, length, slice_index_or};
@@ -88,11 +92,12 @@ fn find_in<R: Row>(
     rows: &[R],
     tags: &[u8],
     slots: &[u32],
+    most: usize,
     seed: u64,
     key: &R::Key,
     hash: u64,
 ) -> Option<u64>
-    requires table { IsTable R.key (R.hash seed) rows.now tags.now slots.now }
+    requires table { IsTable R.key (R.hash seed) rows.now tags.now slots.now most }
     requires hash { hash ≡ R.hash seed key.now }
     ensures absent { IfNone result (NoRowHas R.key rows.now key.now) }
     ensures known { IfSome result (λ i. i < length rows.now) }
@@ -101,28 +106,47 @@ fn find_in<R: Row>(
     if tags.is_empty() {
         return find_few(rows, key);
     }
-    find_placed(rows, tags, slots, seed, key, hash)
+    find_placed(rows, tags, slots, most, seed, key, hash)
 }
 
-/// Places the rows in about twice as many slots as there are rows. Where memory is wanting there are
-/// none, and the rows are looked through one after another until one more is added.
+/// Places the rows in slots of which none is taken, if they have room there.
+fn fill<R: Row>(rows: &[R], tags: &mut Vec<u8>, slots: &mut Vec<u32>, most: &mut usize, seed: u64)
+    requires few { length rows.now < 2 ^ 32 }
+    requires a_slot_each { length tags.old.items ≤ length slots.old.items }
+    requires room { length rows.now < length tags.old.items }
+    ensures table { IsTable R.key (R.hash seed) rows.now tags.new.items slots.new.items most.new }
+    ensures room { let n = length tags.new.items in (n ≡ 0) ⊎ (length rows.now < n) }
+{
+    match place_all(rows, tags, slots, seed, usize::MAX) {
+        Some(found) => *most = found,
+        // No row is so far away.
+        None => tags.clear(),
+    }
+}
+
+/// Places the rows in about twice as many slots as there are rows.
 #[cold]
 fn place_more<R: Row>(
     rows: &[R],
     tags: &mut Vec<u8>,
     slots: &mut Vec<u32>,
+    most: &mut usize,
     seed: u64,
 ) -> Result<(), AllocError>
-    requires few { length rows.now < 2 ^ 32 }
-    ensures table { IsTable R.key (R.hash seed) rows.now tags.new.items slots.new.items }
-    ensures room { OnOk result (length rows.now < length tags.new.items) }
+    requires table { IsTable R.key (R.hash seed) rows.now tags.old.items slots.old.items most.old }
+    ensures table { IsTable R.key (R.hash seed) rows.now tags.new.items slots.new.items most.new }
+    ensures room { let n = length tags.new.items in
+        OnOk result ((n ≡ 0) ⊎ (length rows.now < n)) }
 {
     let count = (2 * rows.len() + 1).next_power_of_two();
+    slots.try_reserve(count.saturating_sub(slots.len()))?;
+    tags.try_reserve(count.saturating_sub(tags.len()))?;
+    // From here on there is room.
     tags.clear();
     slots.clear();
     slots.resize(count, 0)?;
     tags.resize(count, 0)?;
-    let _is_far = place_all(rows, tags, slots, seed, FARTHEST);
+    fill(rows, tags, slots, most, seed);
     Ok(())
 }
 
@@ -132,10 +156,11 @@ fn make_room<R: Row>(
     rows: &[R],
     tags: &mut Vec<u8>,
     slots: &mut Vec<u32>,
+    most: &mut usize,
     seed: u64,
 ) -> Result<(), AllocError>
-    requires { IsTable R.key (R.hash seed) rows.now tags.old.items slots.old.items }
-    ensures table { IsTable R.key (R.hash seed) rows.now tags.new.items slots.new.items }
+    requires { IsTable R.key (R.hash seed) rows.now tags.old.items slots.old.items most.old }
+    ensures table { IsTable R.key (R.hash seed) rows.now tags.new.items slots.new.items most.new }
     ensures room { let n = length tags.new.items in
         OnOk result ((n ≡ 0) ⊎ (length rows.now < n)) }
 {
@@ -146,48 +171,62 @@ fn make_room<R: Row>(
     if tags.is_empty() && rows.len() < FEW {
         return Ok(());
     }
-    place_more(rows, tags, slots, seed)
+    place_more(rows, tags, slots, most, seed)
 }
 
 /// How far rows may be from their buckets under a seed. The seeds are known to whoever makes the
 /// keys, so with each seed that is taken rows are let be farther away: keys made for one seed after
 /// another then have the rows placed anew about as often as the root of their number.
 #[inline(always)]
-fn farthest(seed: u64) -> u64 {
-    FARTHEST.saturating_mul(seed.saturating_add(1))
+fn farthest(seed: u64) -> usize {
+    FARTHEST.saturating_mul((seed as usize).saturating_add(1))
 }
 
-/// Places all rows anew under a later seed, by which none is far from its bucket. Each seed that is
-/// passed over lets them be farther away, so one of the next few is taken, whatever the keys were
-/// made for.
+/// Places all rows anew under a later seed, by which none is far from its bucket. A seed by which one
+/// is far is passed over as soon as that is seen, so each takes no longer than one by which none is;
+/// and each lets them be farther away, so one of the next few is taken, whatever the keys were made
+/// for. Were there none, there would be no slots.
 #[cold]
-fn part<R: Row>(rows: &[R], tags: &mut [u8], slots: &mut [u32], seed: &mut u64)
+fn part<R: Row>(
+    rows: &[R],
+    tags: &mut Vec<u8>,
+    slots: &mut Vec<u32>,
+    most: &mut usize,
+    seed: &mut u64,
+)
     requires few { length rows.now < 2 ^ 32 }
-    requires filled { IsFilled R.key (R.hash seed.old) rows.now tags.old slots.old }
-    ensures filled { IsFilled R.key (R.hash seed.new) rows.now tags.new slots.new }
+    requires a_slot_each { length tags.old.items ≤ length slots.old.items }
+    requires room { length rows.now ≤ length tags.old.items }
+    ensures { IsTable R.key (R.hash seed.new) rows.now tags.new.items slots.new.items most.new }
 {
     'seeds: for _ in rows {
         *seed = seed.saturating_add(1);
-        if !place_all(rows, tags, slots, *seed, farthest(*seed)) {
+        if let Some(found) = place_all(rows, tags, slots, *seed, farthest(*seed)) {
+            *most = found;
             return;
         }
     }
+    tags.clear();
 }
 
-/// Places one more row, which was the last one added, and all rows anew where that is far from its
-/// bucket. The hash of its key under seed 0 is at hand.
+/// Places the last row, all others being placed. The hash of its key under seed 0 is at hand.
 #[inline]
-fn place_last<R: Row>(rows: &[R], tags: &mut [u8], slots: &mut [u32], seed: &mut u64, hash: u64)
+fn place_last<R: Row>(
+    rows: &[R],
+    tags: &mut [u8],
+    slots: &mut [u32],
+    most: usize,
+    seed: u64,
+    hash: u64,
+) -> usize
     requires few { length rows.now < 2 ^ 32 }
     requires room { length rows.now ≤ length tags.old }
-    requires last { IsLast R.key R.hash rows.now tags.old slots.old seed.old hash }
-    ensures { IsFilled R.key (R.hash seed.new) rows.now tags.new slots.new }
+    requires last { IsLast R.key R.hash rows.now tags.old slots.old most seed hash }
+    ensures { IsFilled R.key (R.hash seed) rows.now tags.new slots.new result }
 {
     let i = rows.len() - 1;
-    let hash = hash_of_row(*seed, &rows[i], hash);
-    if place(tags, slots, hash, i as u32, farthest(*seed)) {
-        part(rows, tags, slots, seed);
-    }
+    let hash = hash_of_row(seed, &rows[i], hash);
+    most.max(place(tags, slots, hash, i as u32))
 }
 
 /// The hash of a row's key under a seed, where the one under seed 0 is at hand.
@@ -211,6 +250,7 @@ impl<R: Row + Drop> Table<R> {
             rows: Vec::new(alloc),
             tags: Vec::new(alloc),
             slots: Vec::new(alloc),
+            most: 0,
             seed: 0,
         }
     }
@@ -244,7 +284,15 @@ impl<R: Row + Drop> Table<R> {
         ensures present { IfSome result (RowHas R.key self.now key.now) }
     {
         let hash = hash_under::<R>(self.seed, key, hash);
-        find_in(&self.rows, &self.tags, &self.slots, self.seed, key, hash)
+        find_in(
+            &self.rows,
+            &self.tags,
+            &self.slots,
+            self.most,
+            self.seed,
+            key,
+            hash,
+        )
     }
 
     /// The number of the row that has the key.
@@ -272,12 +320,13 @@ impl<R: Row + Drop> Table<R> {
             return;
         }
         self.rows.clear();
+        self.most = 0;
         self.seed = 0;
         if self.tags.len() > KEPT {
             self.tags.clear();
             self.slots.clear();
         }
-        let _is_far = place_all(&self.rows, &mut self.tags, &mut self.slots, 0, FARTHEST);
+        self.tags.fill(0);
     }
 
     /// Adds a row, whose number is the length before. A table holds fewer than 2^32; one more is
@@ -301,19 +350,34 @@ impl<R: Row + Drop> Table<R> {
         if self.rows.len() >= u32::MAX as usize {
             return Err(AllocError);
         }
-        make_room(&self.rows, &mut self.tags, &mut self.slots, self.seed)?;
-        if self.tags.is_empty() {
-            self.rows.push(row)?;
-            return Ok(());
-        }
-        self.rows.push(row)?;
-        place_last(
+        make_room(
             &self.rows,
             &mut self.tags,
             &mut self.slots,
-            &mut self.seed,
+            &mut self.most,
+            self.seed,
+        )?;
+        self.rows.push(row)?;
+        if self.tags.is_empty() {
+            return Ok(());
+        }
+        self.most = place_last(
+            &self.rows,
+            &mut self.tags,
+            &mut self.slots,
+            self.most,
+            self.seed,
             hash,
         );
+        if self.most > farthest(self.seed) {
+            part(
+                &self.rows,
+                &mut self.tags,
+                &mut self.slots,
+                &mut self.most,
+                &mut self.seed,
+            );
+        }
         Ok(())
     }
 }

@@ -11,5 +11,5 @@ pub returns-clause-absent : goal.returns-clause-absent
 returns-clause-absent g c =
     let tags = c.args.tags.now in
     if_none c.find_from.result
-    (absent g.R.Row.key (g.R.Row.hash c.args.seed) c.args.rows.now tags c.args.slots.now c.args.key.now c.requires.filled)
+    (absent g.R.Row.key (g.R.Row.hash c.args.seed) c.args.rows.now tags c.args.slots.now c.args.most c.args.key.now c.requires.filled)
     (rw c.requires.hash at rw c.bucket_of-b.ensures.value at rw c.tag_of.ensures at c.find_from.ensures.none)

@@ -9,6 +9,6 @@ loop-i-preserved g c =
     let hash = g.R.Row.hash c.args.seed in
     let rows = c.args.rows.now in
     let row = c.index-rows-i.result in
-    c.place.ensures (hashes_of key hash rows)
+    rw c.max-most.ensures (c.place.ensures (hashes_of key hash rows) c.loop-i.most
     (hash_at key hash rows c.loop-i.i row c.loop-i-test.true ∙ ap (λ r. hash (key r)) (sym c.index-rows-i.is) ∙ sym c.own_hash.ensures)
-    c.loop-i.invariant
+    c.loop-i.invariant)

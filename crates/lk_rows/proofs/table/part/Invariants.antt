@@ -1,5 +1,5 @@
-use Rattle.lk_rows.specs.Slots.{IsFilled}
+use Rattle.std.proofs.Common.{◌≤◌, length}
 use Rattle.lk_rows.proofs.table.part.Given as goal
 
 abbrev pub invariant-seeds : goal.invariant-seeds
-invariant-seeds g l = IsFilled g.R.Row.key (g.R.Row.hash l.seed) l.rows l.tags l.slots
+invariant-seeds g l = (length l.tags.items ≤ length l.slots.items) × (length l.rows ≤ length l.tags.items)

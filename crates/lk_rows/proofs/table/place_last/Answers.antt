@@ -1,14 +1,9 @@
 use Rattle.lk_rows.proofs.Placing.{last_filled}
 use Rattle.lk_rows.proofs.table.place_last.Goals as goal
 
-pub part-requires-clause-filled : goal.part-requires-clause-filled
-part-requires-clause-filled g c =
+pub returns : goal.returns
+returns g c =
     last_filled g.R.Row.key g.R.Row.hash c.args.rows.now c.args.tags.now c.args.slots.now c.place.new.tags c.place.new.slots
-    c.args.seed.now c.args.hash c.hash_of_row-hash.result c.index-rows-i.result c.requires.last c.requires.room
-    c.place.auto.tags c.index-rows-i.is c.hash_of_row-hash.ensures c.place.ensures
-
-pub returns-else-place : goal.returns-else-place
-returns-else-place g c =
-    last_filled g.R.Row.key g.R.Row.hash c.args.rows.now c.args.tags.now c.args.slots.now c.place.new.tags c.place.new.slots
-    c.args.seed.now c.args.hash c.hash_of_row-hash.result c.index-rows-i.result c.requires.last c.requires.room
-    c.place.auto.tags c.index-rows-i.is c.hash_of_row-hash.ensures c.place.ensures
+    c.args.most c.max.result c.args.seed c.args.hash c.hash_of_row-hash.result c.index-rows-i.result
+    c.requires.last c.requires.room c.place.auto.tags c.index-rows-i.is c.hash_of_row-hash.ensures
+    (λ hashes is placed. rw c.max.ensures (c.place.ensures hashes c.args.most is placed))
