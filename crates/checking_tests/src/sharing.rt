@@ -31,7 +31,8 @@ fn from_itself<T: Terms>(terms: &mut T, ty: u64) -> Result<u64, NoMemory> {
     }
 }
 
-/// The sort of propositions, doubled so many times: the type of each is a sort of a level of its own.
+/// The sort of propositions, doubled so many times: the type of each is a sort of a level of its
+/// own.
 fn doubled<T: Terms>(terms: &mut T, times: u32) -> Result<u64, NoMemory> {
     let zero = terms.make_level(LevelNode::Zero)?;
     let mut ty = terms.make(Node::Sort(zero))?;
@@ -53,7 +54,8 @@ fn same_as<T: Terms>(terms: &mut T, sort: u64, e: u64) -> Result<u64, NoMemory> 
     }
 }
 
-/// The sort of propositions, behind so many identities: its weak head form is a term of the library.
+/// The sort of propositions, behind so many identities: its weak head form is a term of the
+/// library.
 fn behind<T: Terms>(terms: &mut T, times: u32) -> Result<u64, NoMemory> {
     let zero = terms.make_level(LevelNode::Zero)?;
     let sort = terms.make(Node::Sort(zero))?;
@@ -112,8 +114,8 @@ fn is_answered<A: Asks>(asks: &mut A, case: Case) -> Result<bool, NoMemory> {
     Ok(matches!(asked(asks, case.query), Ok(Answer::Term(e)) if e == sort))
 }
 
-/// How many turns the question takes of an engine: none where it is not answered by its sort at just
-/// its cost.
+/// How many turns the question takes of an engine: none where it is not answered by its sort at
+/// just its cost.
 fn turns_for<K: Knows>(engine: &mut Engine<'_, K>, case: Case) -> Result<u64, NoMemory> {
     engine.start(0, case.cost.saturating_sub(1));
     if !matches!(asked(engine, case.query), Err(Stop::Spent)) {

@@ -81,8 +81,8 @@ fn draw_all<K: Knows, G: Gate>(
     }
 }
 
-/// Gives a verdict for each unit that a new seat draws, by a memo and an engine of the worker's own,
-/// whether it shares answers or not.
+/// Gives a verdict for each unit that a new seat draws, by a memo and an engine of the worker's
+/// own, whether it shares answers or not.
 fn work_by<S: Sharing + Drop, G: Gate>(
     alloc: Global,
     library: &Library,

@@ -44,7 +44,8 @@ fn share_of<'a>(share: &mut Option<Share<'a>>) -> Option<Share<'a>>
     }
 }
 
-/// Seats for so many workers, or for as many as there are. They share answers where a share is given.
+/// Seats for so many workers, or for as many as there are. They share answers where a share is
+/// given.
 fn seats_for<'a>(
     alloc: Global,
     desk: &Desk,
@@ -132,9 +133,9 @@ fn drew_all(desk: &Desk, seat: &mut Seat, count: u64) -> bool
     seat.has_ended() && desk.seats_made(seat) == count
 }
 
-/// One verdict for each unit, in their order, by workers at these seats. Where a worker went on until
-/// there was no unit left, each unit stands among the answers once, whoever drew it; and what no
-/// worker drew says memory.
+/// One verdict for each unit, in their order, by workers at these seats. Where a worker went on
+/// until there was no unit left, each unit stands among the answers once, whoever drew it; and what
+/// no worker drew says memory.
 fn check_at<R: Threads + Sync, G: Gate>(
     rt: &R,
     alloc: Global,
@@ -201,9 +202,9 @@ pub(crate) fn check_with<R: Threads + Sync, G: Gate>(
     check_by(rt, alloc, library, limits, &mut share, workers, gate)
 }
 
-/// The verdicts of the units, in their order, by so many workers; the questions of each unit may take
-/// so many steps, and each worker keeps at most so many answers. A unit that no worker drew says
-/// memory.
+/// The verdicts of the units, in their order, by so many workers; the questions of each unit may
+/// take so many steps, and each worker keeps at most so many answers. A unit that no worker drew
+/// says memory.
 pub(crate) fn check_all<R: Threads + Sync, G: Gate>(
     rt: &R,
     alloc: Global,

@@ -231,7 +231,8 @@ pub shares_on : (old new : Seen (Tables × Tables)) (share : Option Shared) → 
 shares_on old new None library place h = tt
 shares_on old new (Some share) library place h = record {
   job = h.job ∙ ap job_of (sym library);
-  looks = λ unit is. place ∙ h.looks unit is ∙ ap (λ l. unit_place (library_of l) unit []) (sym library);
+  looks = λ unit is. place ∙ h.looks unit is
+      ∙ ap (λ l. unit_place (library_of l) unit []) (sym library);
 }
 
 -- an engine goes on

@@ -1,8 +1,9 @@
--- Answers that workers share: what a desk has outlasts its unit, and what outlasts its unit may be left.
+-- Answers that workers share: what a desk has outlasts its unit, and what outlasts its unit may be
+-- left.
 use Rattle.std.proofs.Common.{◌≡◌, ℕ, ◌<◌, ◌+◌, ◌-◌, ◌^◌, ◌≤◌, List, length, Option, Some, None, Ok, Err, Result, refl, ap, sym, subst, ◌∙◌, arith}
 use Rattle.std.specs.Prelude.{IfOk, IfSome}
 use Rattle.lk_plain.specs.Laws.{IsBelow}
-use Rattle.lk_plain.specs.Erased.{out_of, IsAnsweredAt}
+use Rattle.lk_plain.specs.Erased.{Out, out_of, IsAnsweredAt}
 use Rattle.lk_plain.proofs.Exact.{out_exact}
 use Rattle.lk_questions.specs.Table.{steps}
 use Rattle.lk_store.specs.declared.tables.Tables.{Tables}
@@ -49,10 +50,15 @@ module _ (l : Tables × List StoredUnit) (c : Contents) (x : Extends (contents_o
   back : question_of key ≡ q
   back = ap question_of is ∙ question_back q
 
+  -- the plain answer of the key's question above a unit
+  abbrev asked_above : Option ℕ → ℕ → Out
+  asked_above t = out_of steps (place_above l t) (query_of (tree_at b) (question_of key))
+
   -- what is found at a desk outlasts its unit
   found_lasts : IsFoundIn l c key kept → IsLasting l c q kept
   found_lasts h =
-      let asked : IsKnownQuery (length b.trees) q = subst (IsKnownQuery (length b.trees)) back h.query in
+      let asked : IsKnownQuery (length b.trees) q =
+      subst (IsKnownQuery (length b.trees)) back h.query in
       record {
         query = query_known x q asked;
         answer = h.answer;
@@ -67,12 +73,10 @@ module _ (l : Tables × List StoredUnit) (c : Contents) (x : Extends (contents_o
   lasts_true entry asked spelled made h = record {
     query = subst (IsKnownQuery (length b.trees)) (sym back) asked;
     answer = spelled;
-    is = subst (λ t. IsAnsweredAt (out_of steps (place_above l t) (query_of (tree_at b) (question_of key)))
-        (spelled_value b entry.answer) entry.cost t) made.top
-        (subst (λ k. IsAnsweredAt (out_of steps (place_above l kept.top) (query_of (tree_at b) (question_of key)))
-        (spelled_value b entry.answer) k kept.top) made.cost
-        (subst (λ v. IsAnsweredAt (out_of steps (place_above l kept.top) (query_of (tree_at b) (question_of key)))
-        v kept.cost kept.top) made.value
+    is = subst (λ t. IsAnsweredAt (asked_above t) (spelled_value b entry.answer) entry.cost t) made.top
+        (subst (λ k. IsAnsweredAt (asked_above kept.top) (spelled_value b entry.answer) k kept.top)
+        made.cost
+        (subst (λ v. IsAnsweredAt (asked_above kept.top) v kept.cost kept.top) made.value
         (subst (λ r. IsAnsweredAt (out_of steps (place_above l kept.top) r)
         (value_at (tree_at c) kept.answer) kept.cost kept.top)
         (query_steady x q asked ∙ ap (query_of (tree_at b)) (sym back)) h.is)));

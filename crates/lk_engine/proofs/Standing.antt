@@ -140,7 +140,8 @@ module _ {old new : Seen (Tables × Tables)} {memo later : PrivateMemo} {unit bu
 
 -- what outlasts a unit goes on: all else was forgotten, and no unit looks
 goes_on : (old new : Seen (Tables × Tables)) (memo later : PrivateMemo) (share : Option Shared)
-    → new.0.2 ≡ old.0.2 → new.2 ≡ old.2 → Stands old memo share → ((k : Key) (v : Kept) → Holds later k v → ⊥)
+    → new.0.2 ≡ old.0.2 → new.2 ≡ old.2 → Stands old memo share
+    → ((k : Key) (v : Kept) → Holds later k v → ⊥)
     → GoesOn memo.lasting later.lasting memo.lasting.terms None
     → GoesOn memo.staying later.staying memo.staying.terms None
     → Stands new later (option_map (shared_from None) share)
@@ -180,8 +181,10 @@ gives_stands {old} {new} {partial} {aux} {memo} {later} {share} h =
 
 -- the same where auxiliary types are given beside, if there was memory for them
 pub beside_stands : (old new : Seen (Tables × Tables)) (memo later : PrivateMemo)
-    (share : Option Shared) (partial : Partial) (aux : Members) (r : Result (Unit {0}) Wanting) → OnOk r (GivesMembers old new partial aux)
-    → IfErr r (λ e. new ≡ old) → Stands old memo share → ((k : Key) (v : Kept) → Holds later k v → ⊥)
+    (share : Option Shared) (partial : Partial) (aux : Members) (r : Result (Unit {0}) Wanting)
+    → OnOk r (GivesMembers old new partial aux)
+    → IfErr r (λ e. new ≡ old) → Stands old memo share
+    → ((k : Key) (v : Kept) → Holds later k v → ⊥)
     → GoesOn memo.lasting later.lasting memo.lasting.terms None
     → GoesOn memo.staying later.staying memo.staying.terms None
     → Stands new later (option_map (shared_from None) share)

@@ -60,7 +60,8 @@ standing_at scope site = record {
   place = place_in scope site;
 }
 
--- what names mean at a unit of a library, where so much of it is partial, and auxiliary types beside
+-- what names mean at a unit of a library, where so much of it is partial, and auxiliary types
+-- beside
 abbrev pub places_at : (Tables × List StoredUnit) × ℕ → Partial → Members → Place
 places_at b p aux = place_beside b.0 (record { unit = b.1; partial = p }) aux
 
@@ -142,7 +143,8 @@ pub record AnswersKept {T : Type 0} (old new : Seen T) (memo : PrivateMemo)
 abbrev pub row_count : Sizes → ℕ
 row_count s = s.numbers + s.names + s.texts + s.levels + s.lists + s.terms
 
--- what was made over the library's store stays, or all of it was forgotten; what is left is few rows
+-- what was made over the library's store stays, or all of it was forgotten; what is left is few
+-- rows
 pub record Tidies (old new : Tables × Tables) (stays : Bool) : Type 0 where
   pub base : new.0 ≡ old.0
   pub same : stays ≡ true → new ≡ old
@@ -190,7 +192,8 @@ pub record Shares (s : Seen (Tables × Tables)) (share : Shared) : Type 0 where
   pub looks : (unit : ℕ) → share.1 ≡ Some unit → place_of s ≡ unit_place (library_of s.0.2) unit []
 
 -- a lookout over the library's store, what is kept of its questions, which is true at the place
--- that stands, whatever was looked at for it, and the desk where answers are shared, if there is one
+-- that stands, whatever was looked at for it, and the desk where answers are shared, if there is
+-- one
 pub record Stands (s : Seen (Tables × Tables)) (memo : PrivateMemo)
     (share : Option Shared) : Type 0 where
   pub base : s.2.0 ≡ s.0.2.0

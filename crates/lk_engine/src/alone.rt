@@ -16,8 +16,8 @@ use lk_store::overlay::Overlay;
 /// How a worker answers what its unit asks. An engine is over any of them, so that of what one has
 /// nothing stands in the engine.
 pub trait Sharing {
-    /// The job of the desk where answers are shared, and the unit that looks there, if one does. None
-    /// where no answers are shared.
+    /// The job of the desk where answers are shared, and the unit that looks there, if one does.
+    /// None where no answers are shared.
     ghost shared: { Self → Option Shared };
 
     /// From here on this unit looks where answers are shared, or none does.

@@ -40,8 +40,8 @@ use std::marker::Model;
 use std::mem::drop;
 
 /// An engine over a library. What units make stands over the library's store, and goes when a unit
-/// is started, once it is many rows; what the memo keeps, which is lent, goes with the unit, but for
-/// what outlasts one. Whether answers are shared with other workers is told by its parameter.
+/// is started, once it is many rows; what the memo keeps, which is lent, goes with the unit, but
+/// for what outlasts one. Whether answers are shared with other workers is told by its parameter.
 pub struct Engine<'a, K: Knows> {
     lookout: Lookout<'a, Overlay<'a>>,
     knowledge: &'a mut K,
@@ -101,8 +101,8 @@ fn tidy(terms: &mut Overlay<'_>, instances: &mut Instances) -> bool
     false
 }
 
-/// Looks from this unit, of which nothing is partial, with no auxiliary types, a store that has what
-/// the library has, and this budget. Whether what earlier units made stays.
+/// Looks from this unit, of which nothing is partial, with no auxiliary types, a store that has
+/// what the library has, and this budget. Whether what earlier units made stays.
 fn restart<'a>(lookout: &mut Lookout<'a, Overlay<'a>>, unit: u32, budget: u128) -> bool
     requires { lookout.old.2.0 ≡ lookout.old.0.2.0 }
     ensures { Restarts lookout.old lookout.new unit budget result }
@@ -151,8 +151,8 @@ fn turns_of(lookout: &Lookout<'_, Overlay<'_>>) -> u64
 }
 
 impl<'a, K: Knows> Engine<'a, K> {
-    /// An engine at the first unit, with nothing to spend. The memo is emptied. Answers are shared at
-    /// a desk of the library, if there is one. It takes no memory.
+    /// An engine at the first unit, with nothing to spend. The memo is emptied. Answers are shared
+    /// at a desk of the library, if there is one. It takes no memory.
     pub fn new(alloc: Global, library: &'a Library, knowledge: &'a mut K) -> Self
         requires { IfSome (K.shared knowledge.old) (λ s. s.0 ≡ job_of library.now) }
         ensures library { result.0.2 ≡ library.now }
@@ -179,9 +179,10 @@ impl<'a, K: Knows> Engine<'a, K> {
         Engine { lookout, knowledge }
     }
 
-    /// Begins a unit: the names below it are seen, nothing of it is partial, and so many steps may be
-    /// taken. What earlier units made goes once it is many rows, and of the answers all but those over
-    /// the library's own terms, or over terms that stay. It costs nothing that grows with the library.
+    /// Begins a unit: the names below it are seen, nothing of it is partial, and so many steps may
+    /// be taken. What earlier units made goes once it is many rows, and of the answers all but
+    /// those over the library's own terms, or over terms that stay. It costs nothing that grows
+    /// with the library.
     pub fn start(&mut self, unit: u32, budget: u128)
         ensures library { self.new.0.2 ≡ self.old.0.2 }
         ensures auxiliary { self.new.0.3 ≡ [] }

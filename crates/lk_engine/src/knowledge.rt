@@ -26,8 +26,8 @@ pub trait Knows {
     /// What is kept.
     ghost memo: { Self → Memo };
 
-    /// The job of the desk where answers are shared, and the unit that looks there, if one does. None
-    /// where no answers are shared.
+    /// The job of the desk where answers are shared, and the unit that looks there, if one does.
+    /// None where no answers are shared.
     ghost shared: { Self → Option Shared };
 
     /// Forgets all that is kept. No unit looks from here on.
@@ -37,8 +37,8 @@ pub trait Knows {
         ensures staying { BeginsWith (memo self.new).staying terms None }
         ensures share { shared self.new ≡ option_map (shared_from None) (shared self.old) };
 
-    /// Keeps what outlasts a unit, for this one: over a library's own terms, and, where what earlier
-    /// units made stays, over all the terms that stand, which are so many.
+    /// Keeps what outlasts a unit, for this one: over a library's own terms, and, where what
+    /// earlier units made stays, over all the terms that stand, which are so many.
     fn start_unit(&mut self, unit: u32, terms: u64, stays: bool)
         ensures begins { BeginsUnit (memo self.old) (memo self.new) unit terms stays }
         ensures share { shared self.new ≡ option_map (shared_from (Some unit)) (shared self.old) };

@@ -25,8 +25,8 @@ use lk_store::overlay::Overlay;
 use std::alloc::Global;
 use std::marker::Model;
 
-/// A seat where workers share answers, and the unit that looks and leaves there, if one does. Of the
-/// seat nothing has to be told later: it draws no numbers.
+/// A seat where workers share answers, and the unit that looks and leaves there, if one does. Of
+/// the seat nothing has to be told later: it draws no numbers.
 #[derive(Drop)]
 pub struct Share<'a> {
     answers: &'a AnswerDesk,
@@ -127,14 +127,15 @@ impl<'a> Share<'a> {
         }
     }
 
-    /// Leaves an answer at the desk. Where it is too wide, its shard is out, or no room or memory is
-    /// there, it is not left.
+    /// Leaves an answer at the desk. Where it is too wide, its shard is out, or no room or memory
+    /// is there, it is not left.
     pub fn leave(&mut self, alloc: Global, terms: &Overlay<'_>, query: Query<u64>, kept: Kept)
         requires tables { IsTablesOf self.old.0 terms.now.0 }
         requires over { Extends (contents_of terms.now.0)
             (contents_of (over terms.now.0 terms.now.1)) }
         requires query_in { IsKnownQuery (length (contents_of terms.now.0).trees) query }
-        requires lasts { LastsAt self.old.0 (contents_of (over terms.now.0 terms.now.1)) query kept }
+        requires lasts { LastsAt self.old.0 (contents_of (over terms.now.0 terms.now.1)) query
+            kept }
         ensures share { self.new ≡ self.old }
     {
         if !self.answers.has_room() {

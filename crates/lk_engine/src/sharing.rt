@@ -126,8 +126,8 @@ pub struct Since {
     turns: u64,
 }
 
-/// Leaves an answer at the desk, if it was worked out and cost so many steps. One that was known took
-/// one turn.
+/// Leaves an answer at the desk, if it was worked out and cost so many steps. One that was known
+/// took one turn.
 fn offer<'a>(
     lookout: &Lookout<'a, Overlay<'a>>,
     share: &mut Share<'_>,
@@ -207,8 +207,8 @@ fn answer_after<'a>(
     }
 }
 
-/// The plain answer of a question where workers share answers: one that another worker left is found,
-/// and one that is worked out here is left for them.
+/// The plain answer of a question where workers share answers: one that another worker left is
+/// found, and one that is worked out here is left for them.
 pub(crate) fn answer_shared<'a>(
     lookout: &mut Lookout<'a, Overlay<'a>>,
     memo: &mut PrivateMemo,

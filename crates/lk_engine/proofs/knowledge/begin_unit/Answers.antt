@@ -3,7 +3,8 @@ use Rattle.lk_engine.proofs.knowledge.begin_unit.Goals as goal
 
 pub returns-then-stays : goal.returns-then-stays
 returns-then-stays c = record {
-  private = λ k v h. c.start.ensures.private k v (rw (c.stay.ensures.recent, c.stay.ensures.cache) at h);
+  private = λ k v h. c.start.ensures.private k v
+      (rw (c.stay.ensures.recent, c.stay.ensures.cache) at h);
   lasting = rw c.stay.ensures.lasting c.start.ensures.lasting;
   each = λ k v h. (
     c.if-stays.true,

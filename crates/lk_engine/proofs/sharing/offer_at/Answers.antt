@@ -21,7 +21,8 @@ leave-requires-clause-query_in c = (c.if-not-is_for.ensures refl).query
 
 pub leave-requires-clause-lasts : goal.leave-requires-clause-lasts
 leave-requires-clause-lasts c =
-    subst (λ s. LastsAt c.args.share.now.0 (contents_of (over s.2.0 s.2.1)) c.args.query c.args.kept)
+    subst (λ s. LastsAt c.args.share.now.0 (contents_of (over s.2.0 s.2.1)) c.args.query
+    c.args.kept)
     (sym c.lookout.view_is)
     (here_shared c.requires.shares _ c.args.query c.args.kept _ (c.if-not-is_for.ensures refl)
     c.requires.is)

@@ -21,7 +21,8 @@ returns-clause-standing g c =
     })) c.self.view_is (gives_beside _ new _ _ r c.give_beside_in-given.ensures.gives)
 
 pub returns-clause-basis : goal.returns-clause-basis
-returns-clause-basis g c = gives_basis _ _ _ _ c.give_beside_in-given.result c.give_beside_in-given.ensures.gives
+returns-clause-basis g c = gives_basis _ _ _ _ c.give_beside_in-given.result
+    c.give_beside_in-given.ensures.gives
     c.give_beside_in-given.ensures.refused ∙ ap (λ s. (s.0.2, s.1.unit)) c.self.view_is
 
 pub invariant_of-self : goal.invariant_of-self

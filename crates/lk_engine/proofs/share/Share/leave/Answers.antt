@@ -11,6 +11,7 @@ leave-left-requires-clause-true_entry c =
     let t = c.args.terms.now.0 in
     let now = contents_of (over c.args.terms.now.0 c.args.terms.now.1) in
     leave_true t now c.requires.over c.args.query c.key_of-key.result c.key_of-key.ensures
-    (job c.self.inside.answers.now.desk) (subst (λ s. IsTablesOf s.0 t) (sym c.self.view_is) c.requires.tables)
+    (job c.self.inside.answers.now.desk)
+    (subst (λ s. IsTablesOf s.0 t) (sym c.self.view_is) c.requires.tables)
     c.args.kept c.in-Ok.entry c.requires.query_in c.in-Ok.ensures.spelled c.in-Ok.ensures.made
     (subst (λ s. LastsAt s.0 now c.args.query c.args.kept) (sym c.self.view_is) c.requires.lasts)
