@@ -18,6 +18,7 @@ pub struct Pace {
 const STEPS: u64 = 16;
 
 impl Pace {
+    /// Nothing is earned, and nothing spent.
     pub fn new() -> Self {
         Pace {
             seen: 0,
@@ -44,6 +45,12 @@ impl Pace {
             return 0;
         }
         self.earned.saturating_mul(STEPS)
+    }
+
+    /// A type was looked at in so many steps, and nothing is put. A look is far cheaper than what
+    /// it would have put, so one type that is too large takes the means of no other one.
+    pub fn look(&mut self, steps: u64) {
+        self.spent = self.spent.saturating_add(steps / STEPS);
     }
 
     /// So many steps are spent. The terms that they make, which are no more, are not earned.

@@ -175,8 +175,12 @@ fn is_paid<T: Terms>(
     let Some(steps) = steps_of(lookout, function, most) else {
         return false;
     };
+    if steps >= most {
+        pace.look(steps);
+        return false;
+    }
     pace.spend(arguments.saturating_mul(ARGUMENT).saturating_add(steps));
-    steps < most
+    true
 }
 
 /// Whether the arguments of a term are to be put at once: it is asked for deep inside applications,

@@ -1,5 +1,6 @@
 -- The last answers, each in the slot of its question.
-use Rattle.std.specs.Prelude.{◌≡◌, ℕ, ◌-◌, ◌/◌, ◌^◌, ◌<◌, ◌&&◌, nat_eq, bit_and, List, length, slice_index, slice_index_or, slice_get, Option, Some, None, option_and_then, if◌then◌else◌}
+use Rattle.std.specs.Prelude.{◌≡◌, ℕ, ◌-◌, ◌/◌, ◌^◌, ◌<◌, ◌&&◌, nat_eq, bit_and}
+use Rattle.std.specs.Prelude.{List, length, slice_index, slice_index_or, slice_get, Option, Some, None, option_and_then, if◌then◌else◌}
 use Rattle.lk_ask.specs.declared.kept.Kept.{Kept}
 use Rattle.lk_store.specs.Hashes.{mixed}
 use Rattle.lk_memo.specs.declared.key.Key.{Key}

@@ -18,7 +18,8 @@ tag hash = hash / 2 ^ 57 + 1
 abbrev pub AreTaken : List ℕ → ℕ → ℕ → Type 0
 AreTaken tags from to = (s : ℕ) → from ≤ s → s < to → slice_index tags s ≢ 0
 
--- whoever walks from slot b on, past so many slots or fewer, comes to slot s before one that is free
+-- whoever walks from slot b on, past so many slots or fewer, comes to slot s before one that is
+-- free
 abbrev pub ComesTo : List ℕ → ℕ → ℕ → ℕ → Type 0
 ComesTo tags most b s = ((b ≤ s) × (s ≤ b + most) × AreTaken tags b s)
     ⊎ ((s < b) × (s + length tags ≤ b + most) × AreTaken tags b (length tags) × AreTaken tags 0 s)
@@ -72,8 +73,8 @@ pub record IsTable {R K : Type 0} (key : R → K) (hash : K → ℕ)
 
 -- no row that such a walk from slot b on comes to, with this tag, has the key
 abbrev pub Misses : {R K : Type 0} → (R → K) → List R → K → List ℕ → List ℕ → ℕ → ℕ → ℕ → Type 0
-Misses {R = R} key rows wanted tags slots most t b = (s : ℕ) → s < length tags → ComesTo tags most b s
-    → slice_index tags s ≡ t → (d : R) → key (slice_index_or rows (slice_index slots s) d) ≢ wanted
+Misses {R = R} key rows wanted tags slots most t b = (s : ℕ) → s < length tags
+    → ComesTo tags most b s → slice_index tags s ≡ t → (d : R) → key (slice_index_or rows (slice_index slots s) d) ≢ wanted
 
 -- of the slots from one on, below another one, none is free, and none with this tag has a row that
 -- has the key
@@ -83,7 +84,8 @@ HasPassed {R = R} key rows wanted tags slots t from to = (s : ℕ) → from ≤ 
     → (d : R) → key (slice_index_or rows (slice_index slots s) d) ≢ wanted)
 
 -- the same of those that a walk past so many slots comes to before it goes on at the first one
-abbrev pub HasPassedAhead : {R K : Type 0} → (R → K) → List R → K → List ℕ → List ℕ → ℕ → ℕ → ℕ → Type 0
+abbrev pub HasPassedAhead : {R K : Type 0} → (R → K) → List R → K → List ℕ → List ℕ → ℕ → ℕ → ℕ
+    → Type 0
 HasPassedAhead {R = R} key rows wanted tags slots most t b = (s : ℕ) → b ≤ s → s < length tags
     → s ≤ b + most → (slice_index tags s ≢ 0) × (slice_index tags s ≡ t
     → (d : R) → key (slice_index_or rows (slice_index slots s) d) ≢ wanted)

@@ -19,8 +19,8 @@ fn bucket_of(hash: u64, n: usize) -> usize
     (hash & (n as u64 - 1)) as usize
 }
 
-/// The tag of a hash: other bits than those that tell its bucket. It is above 0, which is the tag of
-/// a free slot.
+/// The tag of a hash: other bits than those that tell its bucket. It is above 0, which is the tag
+/// of a free slot.
 #[inline(always)]
 fn tag_of(hash: u64) -> u8
     ensures { result ≡ tag hash }
@@ -147,8 +147,8 @@ fn find_from<R: Row>(
     }
 }
 
-/// The row that has the key, whose hash is at hand, where no row is more slots than so many away from
-/// its bucket.
+/// The row that has the key, whose hash is at hand, where no row is more slots than so many away
+/// from its bucket.
 #[inline(always)]
 pub(crate) fn find_placed<R: Row>(
     rows: &[R],
@@ -251,8 +251,8 @@ pub(crate) fn place(tags: &mut [u8], slots: &mut [u32], hash: u64, i: u32) -> us
     distance(b, s, n)
 }
 
-/// Places all rows anew. The most slots that one is away from its bucket, where none is farther away
-/// than so many. Else it ends with the first one that is, so that it never takes longer.
+/// Places all rows anew. The most slots that one is away from its bucket, where none is farther
+/// away than so many. Else it ends with the first one that is, so that it never takes longer.
 pub(crate) fn place_all<R: Row>(
     rows: &[R],
     tags: &mut [u8],

@@ -12,9 +12,9 @@ const FEW: usize = 16;
 /// them again, and no more than a few hundred steps however large the table was.
 const KEPT: usize = 512;
 
-/// Where a row is more slots than this away from its bucket, the table takes another seed and places
-/// all rows anew. By chance the farthest of a million rows is some hundred and fifty slots away.
-/// Each seed that was taken before lets so many more be.
+/// Where a row is more slots than this away from its bucket, the table takes another seed and
+/// places all rows anew. By chance the farthest of a million rows is some hundred and fifty slots
+/// away. Each seed that was taken before lets so many more be.
 const FARTHEST: usize = 256;
 
 /// Rows by number, each found by its key. The numbers are kept in 32 bits. Keys that were made to
@@ -182,10 +182,10 @@ fn farthest(seed: u64) -> usize {
     FARTHEST.saturating_mul((seed as usize).saturating_add(1))
 }
 
-/// Places all rows anew under a later seed, by which none is far from its bucket. A seed by which one
-/// is far is passed over as soon as that is seen, so each takes no longer than one by which none is;
-/// and each lets them be farther away, so one of the next few is taken, whatever the keys were made
-/// for. Were there none, there would be no slots.
+/// Places all rows anew under a later seed, by which none is far from its bucket. A seed by which
+/// one is far is passed over as soon as that is seen, so each takes no longer than one by which none
+/// is; and each lets them be farther away, so one of the next few is taken, whatever the keys were
+/// made for. Were there none, there would be no slots.
 #[cold]
 fn part<R: Row>(
     rows: &[R],

@@ -457,8 +457,8 @@ fn make_coded(base: &Tables, own: &mut Tables, node: Node) -> Result<u64, NoMemo
     make_keyed(base, own, node, key)
 }
 
-/// The number of a tree. Each arm makes its node anew, of numbers: a node that is copied whole waits
-/// until its parts, which were written one by one, are in memory.
+/// The number of a tree. Each arm makes its node anew, of numbers: a node that is copied whole
+/// waits until its parts, which were written one by one, are in memory.
 pub(crate) fn make_in(base: &Tables, own: &mut Tables, node: Node) -> Result<u64, NoMemory>
     requires base { IsStore base.now }
     requires store { IsStore (over base.now own.old) }
