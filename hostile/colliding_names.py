@@ -1,7 +1,7 @@
 #!/usr/bin/env python3
 """Writes names that were made to have one hash, and no unit that needs them, to standard output.
 
-usage: colliding_names.py [NAMES]       so many names, at most 500000, and else 60000
+usage: colliding_names.py [NAMES [SEED]]    so many names, at most 500000, and else 60000
 
 Each is the name of nothing with one number more. The store's hash of that is the number, mixed with what is the same of
 all, times a constant, the halves of the product joined. The low 22 bits of that are 0 for each number that is chosen
@@ -9,6 +9,9 @@ here, so that all belong into one bucket of a table of up to 2^22 slots, as long
 needs no search. The product's low half ends in 22 zeros where the mixed number does, and the bits 64 to 85 of the
 product of v * 2^22 and the constant are 0 where the low half of v times the constant is below 2^42. Such v below 2^42
 are the points of a lattice in a square, and two short vectors of it give them.
+
+With SEED 1 the names have one hash under the seed that a table takes next, and many under the first one. Behind them stand
+600 that have one under the first seed, so that the table takes another one with all of them in it.
 """
 import sys
 
@@ -54,13 +57,26 @@ def chosen(count):
     return found
 
 
+def spread(seed):
+    """What a seed puts into a hash."""
+    return folded(seed, 0x2545F4914F6CDD1D)
+
+
+def mixed(seed):
+    """The hash of a name with one more number, before that number is mixed in."""
+    return folded(FACTOR ^ spread(seed), 2 << 32 ^ OTHER ^ spread(seed))
+
+
 def main():
     count = int(sys.argv[1]) if len(sys.argv) > 1 else 60000
-    mixed = folded(FACTOR, 2 << 32 ^ OTHER)
-    numbers = chosen(count)
-    if len(numbers) < count:
-        sys.exit(f'only {len(numbers)} were found')
-    lines = [f'{i} #NI 0 {x ^ mixed}' for i, x in enumerate(numbers, 1)]
+    seed = int(sys.argv[2]) if len(sys.argv) > 2 else 0
+    found = chosen(count)
+    if len(found) < count:
+        sys.exit(f'only {len(found)} were found')
+    numbers = [x ^ mixed(seed) for x in found]
+    if seed:
+        numbers += [x ^ mixed(0) for x in found[:600]]
+    lines = [f'{i} #NI 0 {x}' for i, x in enumerate(numbers, 1)]
     lines.append('0 #ES 0\n#AX 1 0')
     print('\n'.join(lines))
 
