@@ -8,7 +8,7 @@ ghost use Rattle.lk_env.specs.Units.{IsConstructorIn, IsTypeIn, IsRecursorIn, Ar
 use lk_ask::asks::Asks;
 use lk_ask::query::{Answer, Query};
 use lk_ask::stop::Stop;
-use lk_engine::{Alone, Engine, Knowledge};
+use lk_engine::{Alone, Engine, Knowledge, Knows};
 use lk_env::library::Library;
 use lk_env::unit::{Block, BlockType, Constructor, Recursor, RecursorRule, Unit};
 use lk_memo::PrivateMemo;
@@ -271,31 +271,46 @@ fn stays_at_local<A: Asks>(asks: &mut A) -> Result<bool, NoMemory> {
     Ok(is_term(core(asks, e), e))
 }
 
-fn constructor_steps(alloc: Global) -> Result<bool, NoMemory> {
-    let library = library(alloc, false)?;
+/// Where the recursor stands.
+#[derive(Clone, Copy)]
+enum Shown {
+    /// At a constructor, where it steps.
+    Constructor,
+    /// At a Local of a type that has k, where it steps.
+    LocalThatSteps,
+    /// At a Local of another type, where it stays.
+    LocalThatStays,
+}
+
+fn is_shown<K: Knows>(engine: &mut Engine<'_, K>, shown: Shown) -> Result<bool, NoMemory> {
+    engine.start(1, 100);
+    match shown {
+        Shown::Constructor => steps_at_constructor(engine),
+        Shown::LocalThatSteps => steps_at_local(engine),
+        Shown::LocalThatStays => stays_at_local(engine),
+    }
+}
+
+fn is_shown_over(alloc: Global, library: &Library, shown: Shown) -> Result<bool, NoMemory> {
     let memo = PrivateMemo::new(alloc, 8)?;
     let mut knowledge = Knowledge::new(alloc, memo, Alone);
-    let mut engine = Engine::new(alloc, &library, &mut knowledge);
-    engine.start(1, 100);
-    steps_at_constructor(&mut engine)
+    let mut engine = Engine::new(alloc, library, &mut knowledge);
+    is_shown(&mut engine, shown)
+}
+
+fn constructor_steps(alloc: Global) -> Result<bool, NoMemory> {
+    let library = library(alloc, false)?;
+    is_shown_over(alloc, &library, Shown::Constructor)
 }
 
 fn k_steps(alloc: Global) -> Result<bool, NoMemory> {
     let library = library(alloc, true)?;
-    let memo = PrivateMemo::new(alloc, 8)?;
-    let mut knowledge = Knowledge::new(alloc, memo, Alone);
-    let mut engine = Engine::new(alloc, &library, &mut knowledge);
-    engine.start(1, 100);
-    steps_at_local(&mut engine)
+    is_shown_over(alloc, &library, Shown::LocalThatSteps)
 }
 
 fn local_stays(alloc: Global) -> Result<bool, NoMemory> {
     let library = library(alloc, false)?;
-    let memo = PrivateMemo::new(alloc, 8)?;
-    let mut knowledge = Knowledge::new(alloc, memo, Alone);
-    let mut engine = Engine::new(alloc, &library, &mut knowledge);
-    engine.start(1, 100);
-    stays_at_local(&mut engine)
+    is_shown_over(alloc, &library, Shown::LocalThatStays)
 }
 
 #[test]
