@@ -161,9 +161,8 @@ def different_arguments(n):
     return f.bytes()
 
 
-def arguments_alike(n):
-    """n terms f p .. p q p .. p, which begin alike and differ twenty arguments before their end."""
-    f = Lines()
+def begun_alike(f, n):
+    """p, h, f at its first n arguments, and what is told of two terms and a proof of h of them."""
     p, h = f.axiom('p', f.prop), f.axiom('h', f.pi(f.prop, f.pi(f.prop, f.prop)))
     stated = f.apply(h, f.variable(n + 20), f.variable(20))
     for _ in range(n + 21):
@@ -171,6 +170,13 @@ def arguments_alike(n):
     begun = f.apply(f.axiom('f', stated), *[p] * n)
     proved = f.pi(f.apply(h, f.variable(1), f.variable(0)), f.prop)
     told = f.axiom('g', f.pi(f.prop, f.pi(f.prop, proved)))
+    return p, h, begun, told
+
+
+def arguments_alike(n):
+    """n terms f p .. p q p .. p, which begin alike and differ twenty arguments before their end."""
+    f = Lines()
+    p, _, begun, told = begun_alike(f, n)
     q, ends = p, []
     for _ in range(n):
         q = f.pi(p, q)
@@ -185,13 +191,7 @@ def arguments_alike(n):
 def alike_in_units(n):
     """The same in n axioms, one for each term."""
     f = Lines()
-    p, h = f.axiom('p', f.prop), f.axiom('h', f.pi(f.prop, f.pi(f.prop, f.prop)))
-    stated = f.apply(h, f.variable(n + 20), f.variable(20))
-    for _ in range(n + 21):
-        stated = f.pi(f.prop, stated)
-    begun = f.apply(f.axiom('f', stated), *[p] * n)
-    proved = f.pi(f.apply(h, f.variable(1), f.variable(0)), f.prop)
-    told = f.axiom('g', f.pi(f.prop, f.pi(f.prop, proved)))
+    p, h, begun, told = begun_alike(f, n)
     q = p
     for index in range(n):
         q = f.apply(h, p, q)
