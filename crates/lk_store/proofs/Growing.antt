@@ -2,10 +2,10 @@
 use Rattle.std.proofs.Common.{true, ◌≡◌, ◌≢◌, ℕ, ◌+◌, ◌<◌, ◌≤◌, ◌^◌, List, [], ◌∷◌, ◌++◌, length, get_or, refl, sym, ◌∙◌, arith, below_more, false}
 use Rattle.std.proofs.lemmas.Grind.{common_steps}
 use Rattle.lk_tree.specs.Tree.{Name, Level, zero_level, Tree, wide}
-use Rattle.lk_store.specs.Measures.{level_has_params, list_has_params}
+use Rattle.lk_store.specs.Measures.{list_has_params}
 use Rattle.lk_store.specs.Values.{Keeps, AreApart, values_of, IsColumn}
 use Rattle.lk_store.specs.Contents.{Extends}
-use Rattle.lk_store.specs.Keys.{key_name, IsNameBelow, key_level, IsLevelBelow, key_list, IsListBelow, Parts, key_tree, IsTreeBelow, IsMarkedTree}
+use Rattle.lk_store.specs.Keys.{key_name, IsNameBelow, key_level, IsLevelBelow, IsMarkedLevel, key_list, IsListBelow, Parts, key_tree, IsTreeBelow, IsMarkedTree}
 use Rattle.lk_store.specs.Store.{AreNames, AreLevels, AreLists, AreTrees, names_by, names_of, levels_by, levels_of, lists_by, lists_of, parts_of, trees_by, trees_of, contents_of, IsStore}
 use Rattle.lk_store.specs.declared.key.Number.{Number}
 use Rattle.lk_store.specs.declared.key.NameKey.{NameKey}
@@ -83,7 +83,7 @@ module _ (r : Tables) (s : IsStore r) where
   name_is i d l = value_at [] (names_by r.texts) (λ n k. IsNameBelow (length r.texts) n k) (λ v k. Unit {0}) (names_steady r.texts) r.names s.names.known i d l
 
   pub level_is : (i : ℕ) (d : LevelRow) → i < length r.levels → get_or (levels_of r) i zero_level ≡ key_level (names_of r) (levels_of r) (get_or r.levels i d).key
-  level_is i d l = value_at zero_level (levels_by (names_of r)) (λ n row. IsLevelBelow (length (names_of r)) n row.key) (λ l row. row.params ≡ level_has_params l) (levels_steady (names_of r)) r.levels s.levels.known i d l
+  level_is i d l = value_at zero_level (levels_by (names_of r)) (λ n row. IsLevelBelow (length (names_of r)) n row.key) (λ l row. IsMarkedLevel l row) (levels_steady (names_of r)) r.levels s.levels.known i d l
 
   pub list_is : (i : ℕ) (d : ListRow) → i < length r.lists → get_or (lists_of r) i [] ≡ key_list (levels_of r) (lists_of r) (get_or r.lists i d).key
   list_is i d l = value_at [] (lists_by (levels_of r)) (λ n row. IsListBelow (length (levels_of r)) n row.key) (λ ls row. row.params ≡ list_has_params ls) (lists_steady (levels_of r)) r.lists s.lists.known i d l
@@ -102,7 +102,7 @@ module _ (r : Tables) (s : IsStore r) where
   pub level_fresh : (k : LevelKey) → IsLevelBelow (length (names_of r)) (length (levels_of r)) k → ((i : ℕ) (d : LevelRow) → i < length r.levels → (get_or r.levels i d).key ≢ k)
       → (i : ℕ) → i < length r.levels → get_or (levels_of r) i zero_level ≢ key_level (names_of r) (levels_of r) k
   level_fresh k h new i l e =
-      let d : LevelRow = record { key = k; params = false } in
+      let d : LevelRow = record { key = k; params = false; zero = false } in
       new i d l (key_level-injective (names_of r) (levels_of r) s.names.apart s.levels.apart (get_or r.levels i d).key k
       (level_below-more (length (names_of r)) (length (names_of r)) i (length (levels_of r)) (get_or r.levels i d).key (omega arith) (rw length-levels_of (omega arith)) (s.levels.known i d l)) h
       (sym (level_is i d l) ∙ e))
@@ -212,7 +212,7 @@ module _ (r : Tables) (s : IsStore r) where
       let names = names_carry r.texts (r.texts ++ x ∷ []) r.names texts s.names in
       carried t (Keeps-is [] (names_of r) (names_of t) names.0) texts refl refl refl refl (rw longer few) (AreApart-push [] r.texts x s.texts_apart (λ i l. new i [] l)) names.1
 
-  pub push_level : (row : LevelRow) → length r.levels + 1 < 2 ^ 32 → IsLevelBelow (length (names_of r)) (length (levels_of r)) row.key → row.params ≡ level_has_params (key_level (names_of r) (levels_of r) row.key)
+  pub push_level : (row : LevelRow) → length r.levels + 1 < 2 ^ 32 → IsLevelBelow (length (names_of r)) (length (levels_of r)) row.key → IsMarkedLevel (key_level (names_of r) (levels_of r) row.key) row
       → ((i : ℕ) (d : LevelRow) → i < length r.levels → (get_or r.levels i d).key ≢ row.key)
       → let t : Tables = record r { levels = r.levels ++ row ∷ [] } in
       IsStore t × Extends (contents_of r) (contents_of t) × (get_or (levels_of t) (length r.levels) zero_level ≡ key_level (names_of r) (levels_of r) row.key)
@@ -220,7 +220,7 @@ module _ (r : Tables) (s : IsStore r) where
       let t : Tables = record r { levels = r.levels ++ row ∷ [] } in
       let f = levels_by (names_of r) in
       let K : ℕ → LevelRow → Type 0 = λ n row. IsLevelBelow (length (names_of r)) n row.key in
-      let M : Level → LevelRow → Type 0 = λ l row. row.params ≡ level_has_params l in
+      let M : Level → LevelRow → Type 0 = λ l row. IsMarkedLevel l row in
       let column = IsColumn-push zero_level f K M (levels_steady (names_of r)) r.levels row s.levels few (rw length-levels_of at below) marked (level_fresh row.key below new) in
       let levels = values_keep zero_level f K M (levels_steady (names_of r)) r.levels row in
       let lists = lists_carry (levels_of r) (levels_of t) r.lists levels s.lists in

@@ -4,9 +4,9 @@ use Rattle.std.specs.Prelude.{IfNone, IfSome, Some, None}
 use Rattle.std.specs.declared.option.Option.{Option}
 use Rattle.std.proofs.lemmas.Grind.{common_steps}
 use Rattle.lk_tree.specs.Tree.{zero_level, Tree, wide}
-use Rattle.lk_store.specs.Measures.{level_has_params, list_has_params}
+use Rattle.lk_store.specs.Measures.{list_has_params}
 use Rattle.lk_store.specs.Contents.{Contents, Extends, name_at, name_of, level_of, list_of, tree_of, IsNameIn, IsLevelIn, IsListIn, IsIn, IsName, IsText, IsLevel, IsList, IsTree}
-use Rattle.lk_store.specs.Keys.{IsCodeOf}
+use Rattle.lk_store.specs.Keys.{IsCodeOf, IsMarkedLevel}
 use Rattle.lk_store.specs.Nodes.{name_node, level_node, list_node, IsKeyOf}
 use Rattle.lk_store.specs.Store.{over, names_of, contents_of, IsStore, Recoded, Grown}
 use Rattle.lk_store.specs.RowFor.{IsRowFor}
@@ -48,7 +48,7 @@ Recoded-trans r s t x y = record {
 module _ (r : Tables) (s : IsStore r) where
   pub found_level : (i : ℕ) (k : LevelKey) (node : LevelNode) → i < length r.levels → ((d : LevelRow) → (get_or r.levels i d).key ≡ k) → level_node k ≡ node → IsLevel (contents_of r) i (level_of (contents_of r) node)
   found_level i k node l there is =
-      let d : LevelRow = record { key = k; params = false } in
+      let d : LevelRow = record { key = k; params = false; zero = false } in
       rw (← is, level_of_key r k) (record { known = rw (length-levels_of r s) l; is = rw (← there d) (level_is r s i d l) })
 
   pub found_list : (i : ℕ) (k : ListKey) (node : ListNode) → i < length r.lists → ((d : ListRow) → (get_or r.lists i d).key ≡ k) → list_node k ≡ node → IsList (contents_of r) i (list_of (contents_of r) node)
@@ -88,7 +88,7 @@ name_present r s k node is (Some i) h there = found_name r s i k node h there is
 -- Where it is added.
 module _ (b o : Tables) (s : IsStore (over b o)) where
   pub add_level : (row : LevelRow) (rows : List LevelRow) (l : ℕ) (node : LevelNode) → rows ≡ o.levels ++ row ∷ [] → l ≡ length (b.levels ++ o.levels) → l + 1 < 2 ^ 32
-      → level_node row.key ≡ node → IsLevelIn (contents_of (over b o)) node → row.params ≡ level_has_params (level_of (contents_of (over b o)) node)
+      → level_node row.key ≡ node → IsLevelIn (contents_of (over b o)) node → IsMarkedLevel (level_of (contents_of (over b o)) node) row
       → ((i : ℕ) (d : LevelRow) → i < length (b.levels ++ o.levels) → (get_or (b.levels ++ o.levels) i d).key ≢ row.key)
       → let t : Tables = record o { levels = rows } in Grown (over b o) (over b t) × IsLevel (contents_of (over b t)) l (level_of (contents_of (over b o)) node)
   add_level row rows l node pushed is_l few is known marked new =

@@ -3,9 +3,9 @@ use Rattle.std.proofs.Common.{◌≡◌, ℕ, ◌<◌, ◌^◌, [], length, get_
 use Rattle.std.specs.Prelude.{IsTrue}
 use Rattle.std.proofs.lemmas.Bool.Decides.{nat_tests}
 use Rattle.lk_tree.specs.Tree.{zero_level, wide}
-use Rattle.lk_store.specs.Measures.{level_has_params, list_has_params}
+use Rattle.lk_store.specs.Measures.{list_has_params}
 use Rattle.lk_store.specs.Contents.{name_of, level_of, list_of, tree_of, IsNameIn, IsLevelIn, IsListIn, IsIn}
-use Rattle.lk_store.specs.Keys.{key_name, IsNameBelow, key_level, IsLevelBelow, key_list, IsListBelow, key_tree, IsTreeBelow, IsMarkedTree}
+use Rattle.lk_store.specs.Keys.{key_name, IsNameBelow, key_level, IsLevelBelow, IsMarkedLevel, key_list, IsListBelow, key_tree, IsTreeBelow, IsMarkedTree}
 use Rattle.lk_store.specs.Nodes.{name_node, level_node, list_node, node_of, AreCodes, NameFits, LevelFits, ListFits, NodeFits}
 use Rattle.lk_store.specs.Store.{names_of, levels_of, lists_of, parts_of, trees_of, contents_of, IsStore}
 use Rattle.lk_store.specs.declared.key.NameKey.{NameKey}
@@ -207,8 +207,8 @@ module _ (r : Tables) where
     pub level_reads : (i : ℕ) (d : LevelRow) → i < length (levels_of r) → level_of (contents_of r) (level_node (get_or r.levels i d).key) ≡ get_or (levels_of r) i zero_level
     level_reads i d h = level_of_key (get_or r.levels i d).key ∙ sym (level_is r s i d (rw (length-levels_of r s) at h))
 
-    pub level_params : (i : ℕ) (d : LevelRow) → i < length (levels_of r) → (get_or r.levels i d).params ≡ level_has_params (get_or (levels_of r) i zero_level)
-    level_params i d h = s.levels.marked i d (rw (length-levels_of r s) at h)
+    pub level_marked : (i : ℕ) (d : LevelRow) → i < length (levels_of r) → IsMarkedLevel (get_or (levels_of r) i zero_level) (get_or r.levels i d)
+    level_marked i d h = s.levels.marked i d (rw (length-levels_of r s) at h)
 
     pub list_known : (i : ℕ) (d : ListRow) → i < length (lists_of r) → IsListBelow (length (levels_of r)) (length (lists_of r)) (get_or r.lists i d).key
     list_known i d h = let m = rw (length-lists_of r s) at h in

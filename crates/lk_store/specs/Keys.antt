@@ -6,9 +6,10 @@ use Rattle.lk_tree.specs.Tree.{Level, zero_level, succ_level, max_level, imax_le
 use Rattle.lk_tree.specs.Tree.{Tree, var, sort, const, app, lam, pi, let_in}
 use Rattle.lk_tree.specs.Tree.{proj, lit, wide, str, local}
 use Rattle.lk_tree.specs.Bind.{bound}
+use Rattle.lk_tree.specs.Level.{is_zero_level}
 use Rattle.lk_tree.specs.Loose.{loose}
 use Rattle.lk_tree.specs.Scan.{is_narrow}
-use Rattle.lk_store.specs.Measures.{has_params}
+use Rattle.lk_store.specs.Measures.{level_has_params, has_params}
 use Rattle.lk_store.specs.Values.{AreApart}
 use Rattle.lk_store.specs.Hashes.{mixed, hash_of_words}
 use Rattle.lk_store.specs.declared.key.Number.{Number}
@@ -21,6 +22,7 @@ use Rattle.lk_store.specs.declared.key.ListKey.TheVariants.{Empty, Cons}
 use Rattle.lk_store.specs.declared.key.TreeKey.{TreeKey}
 use Rattle.lk_store.specs.declared.key.TreeKey.TheVariants.{Var, Sort, Const, App, Lam, Pi, Let}
 use Rattle.lk_store.specs.declared.key.TreeKey.TheVariants.{Proj, Lit, Wide, Str, Local}
+use Rattle.lk_store.specs.declared.key.LevelRow.{LevelRow}
 use Rattle.lk_store.specs.declared.key.TreeRow.{TreeRow}
 
 -- the number that a code of 32 bits stands for: itself below 2^31, and else a number of the list
@@ -150,6 +152,11 @@ IsTreeBelow p n (Lit i) = IsCode p.numbers i
 IsTreeBelow p n Wide = Unit {0}
 IsTreeBelow p n (Str s) = s < length p.texts
 IsTreeBelow p n (Local k T) = IsShortCode p.numbers k × (T < n)
+
+-- what a row keeps of its level is right
+pub record IsMarkedLevel (l : Level) (row : LevelRow) : Type 0 where
+  pub params_is : row.params ≡ level_has_params l
+  pub zero_is : row.zero ≡ is_zero_level l
 
 -- what a row keeps of its tree is right
 pub record IsMarkedTree (ns : List Number) (t : Tree) (row : TreeRow) : Type 0 where

@@ -6,8 +6,8 @@ use crate::making::{
 use crate::memory::NoMemory;
 use crate::node::{LevelNode, ListNode, NameNode, Node};
 use crate::reading::{
-    count_names_in, len_in, level_in, level_params_in, list_in, list_params_in, local_in, loose_in,
-    name_in, narrow_in, params_in, same_in, same_name_in, text_in, view_in,
+    count_names_in, len_in, level_in, level_params_in, level_zero_in, list_in, list_params_in,
+    local_in, loose_in, name_in, narrow_in, params_in, same_in, same_name_in, text_in, view_in,
 };
 use crate::room::Room;
 use crate::sizes::Sizes;
@@ -158,6 +158,11 @@ impl Terms for BaseStore {
     #[inline]
     fn level_has_params(&self, l: u64) -> bool {
         level_params_in(&self.nothing, &self.tables, l)
+    }
+
+    #[inline]
+    fn level_is_zero(&self, l: u64) -> bool {
+        level_zero_in(&self.nothing, &self.tables, l)
     }
 
     #[inline]

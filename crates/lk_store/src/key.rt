@@ -119,6 +119,8 @@ pub struct LevelRow {
     pub key: LevelKey,
     /// Whether a parameter stands in it.
     pub params: bool,
+    /// Whether it is 0 under every assignment.
+    pub zero: bool,
 }
 
 impl Row for LevelRow {

@@ -4,6 +4,7 @@
 ghost use Rattle.std.specs.Prelude.{◌≡◌, ◌≢◌, ◌<◌, ◌≤◌, ◌^◌, ℕ, List, length};
 ghost use Rattle.std.specs.Prelude.{IfOk, OnErr, IfNone, IfSome, IsTrue};
 ghost use Rattle.lk_rows.specs.Rows.{NoRowHas};
+ghost use Rattle.lk_tree.specs.Level.{is_zero_level};
 ghost use Rattle.lk_store.specs.Measures.{level_has_params, list_has_params};
 ghost use Rattle.lk_store.specs.Contents.{name_at, name_of, level_of, list_of, tree_of};
 ghost use Rattle.lk_store.specs.Contents.{IsNameIn, IsLevelIn, IsListIn, IsIn};
@@ -20,7 +21,7 @@ use crate::key::{LevelKey, LevelRow, ListKey, ListRow, NameKey, Number, TreeKey,
 use crate::memory::NoMemory;
 use crate::node::{LevelNode, ListNode, NameNode, Node};
 use crate::parts::{has_level_parts, has_list_parts, has_name_parts, has_tree_parts};
-use crate::reading::{level_params_in, list_params_in, marks_of, tree_row};
+use crate::reading::{level_params_in, level_zero_in, list_params_in, marks_of, tree_row};
 use crate::tables::Tables;
 use crate::text::Text;
 use lk_rows::layers::{add, count, find};
@@ -115,6 +116,20 @@ fn params_of_level(base: &Tables, own: &Tables, node: LevelNode) -> bool
     }
 }
 
+/// Whether the level of a node is 0 under every assignment.
+fn zero_of_level(base: &Tables, own: &Tables, node: LevelNode) -> bool
+    requires store { IsStore (over base.now own.now) }
+    requires known { IsLevelIn (contents_of (over base.now own.now)) node }
+    ensures { result ≡ is_zero_level (level_of (contents_of (over base.now own.now)) node) }
+{
+    match node {
+        LevelNode::Zero => true,
+        LevelNode::Succ(_) | LevelNode::Param(_) => false,
+        LevelNode::Max(l, m) => level_zero_in(base, own, l) && level_zero_in(base, own, m),
+        LevelNode::IMax(_, m) => level_zero_in(base, own, m),
+    }
+}
+
 /// Whether a parameter stands in the list of a node.
 fn params_of_list(base: &Tables, own: &Tables, node: ListNode) -> bool
     requires store { IsStore (over base.now own.now) }
@@ -148,10 +163,11 @@ pub(crate) fn make_level_in(
         Some(l) => Ok(l),
         None => {
             let params = params_of_level(base, own, node);
+            let zero = zero_of_level(base, own, node);
             let l = add(
                 &base.levels,
                 &mut own.levels,
-                LevelRow { key, params },
+                LevelRow { key, params, zero },
                 hash,
             )?;
             Ok(l)

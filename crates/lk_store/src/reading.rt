@@ -3,6 +3,7 @@
 
 ghost use Rattle.std.specs.Prelude.{◌≡◌, ◌<◌, ◌^◌, ◌↔◌, [], length, IsTrue};
 ghost use Rattle.lk_tree.specs.Bind.{bound};
+ghost use Rattle.lk_tree.specs.Level.{is_zero_level};
 ghost use Rattle.lk_tree.specs.Loose.{loose};
 ghost use Rattle.lk_tree.specs.Scan.{is_narrow};
 ghost use Rattle.lk_store.specs.Measures.{level_has_params, list_has_params, has_params, AreMarks};
@@ -168,6 +169,8 @@ fn level_row(base: &Tables, own: &Tables, l: u64) -> LevelRow
         level_of c (level_node result.key) ≡ level_at c l }
     ensures params { let c = contents_of (over base.now own.now) in
         result.params ≡ level_has_params (level_at c l) }
+    ensures zero { let c = contents_of (over base.now own.now) in
+        result.zero ≡ is_zero_level (level_at c l) }
 {
     *row_at(&base.levels, &own.levels, l)
 }
@@ -192,6 +195,16 @@ pub(crate) fn level_params_in(base: &Tables, own: &Tables, l: u64) -> bool
     ensures { result ≡ level_has_params (level_at (contents_of (over base.now own.now)) l) }
 {
     level_row(base, own, l).params
+}
+
+/// Whether a level is 0 under every assignment.
+#[inline]
+pub(crate) fn level_zero_in(base: &Tables, own: &Tables, l: u64) -> bool
+    requires store { IsStore (over base.now own.now) }
+    requires known { l < length (contents_of (over base.now own.now)).levels }
+    ensures { result ≡ is_zero_level (level_at (contents_of (over base.now own.now)) l) }
+{
+    level_row(base, own, l).zero
 }
 
 /// The row of a list of levels.

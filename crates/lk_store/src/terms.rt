@@ -2,6 +2,7 @@
 
 ghost use Rattle.std.specs.Prelude.{◌≡◌, ◌<◌, ◌↔◌, [], length, IfOk, OnErr, IsTrue};
 ghost use Rattle.lk_tree.specs.Bind.{bound};
+ghost use Rattle.lk_tree.specs.Level.{is_zero_level};
 ghost use Rattle.lk_tree.specs.Loose.{loose};
 ghost use Rattle.lk_tree.specs.Scan.{is_narrow};
 ghost use Rattle.lk_store.specs.Measures.{level_has_params, list_has_params, has_params};
@@ -98,6 +99,11 @@ pub trait Terms {
     fn level_has_params(&self, l: u64) -> bool
         requires { l < length (contents self.now).levels }
         ensures { result ≡ level_has_params (level_at (contents self.now) l) };
+
+    /// Whether a level is 0 under every assignment.
+    fn level_is_zero(&self, l: u64) -> bool
+        requires { l < length (contents self.now).levels }
+        ensures { result ≡ is_zero_level (level_at (contents self.now) l) };
 
     /// The node of a list of levels.
     fn levels(&self, ls: u64) -> ListNode
