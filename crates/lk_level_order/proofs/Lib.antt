@@ -11,4 +11,3 @@ pub mod Placed
 pub mod Valued
 pub mod Asked
 pub mod Related
-pub mod ZeroWalks

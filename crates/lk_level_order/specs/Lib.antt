@@ -4,6 +4,5 @@ pub mod Compared
 pub mod Gathering
 pub mod Placing
 pub mod Cases
-pub mod Zeros
 pub mod Digits
 pub mod Covers
