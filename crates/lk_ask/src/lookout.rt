@@ -95,6 +95,10 @@ impl<'a, T: Terms> Terms for Lookout<'a, T> {
         self.terms.level_has_params(l)
     }
 
+    fn level_is_zero(&self, l: u64) -> bool {
+        self.terms.level_is_zero(l)
+    }
+
     fn levels(&self, ls: u64) -> ListNode {
         self.terms.levels(ls)
     }
