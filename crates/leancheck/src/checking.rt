@@ -98,7 +98,7 @@ fn ask<Q: Laws>(alloc: Global, asks: &mut Q, declaration: &Declaration) -> Verdi
             ty,
             u64::from(value),
         )),
-        Body::Theorem { proof } => verdict_of(check_theorem(alloc, asks, ty, u64::from(proof))),
+        Body::Theorem { proof } => verdict_of(check_theorem(asks, ty, u64::from(proof))),
         Body::Opaque { value } => verdict_of(check_opaque(asks, ty, u64::from(value))),
         Body::Quotient => unreachable!(),
     }

@@ -10,9 +10,7 @@ ghost use Rattle.lk_declaration.specs.Courses.{ComesTo};
 use crate::asking::{are_same, sort_of, type_of};
 use lk_ask::asks::Asks;
 use lk_ask::stop::Stop;
-use lk_level_order::zero::is_zero;
 use lk_tree::rule::Rule;
-use std::alloc::Global;
 
 /// That the type found for a value is the one that is stated (`ValueType`).
 fn check_agrees<A: Asks>(asks: &mut A, found: u64, ty: u64) -> Result<(), Stop>
@@ -86,7 +84,7 @@ pub fn check_opaque<A: Asks>(asks: &mut A, ty: u64, value: u64) -> Result<(), St
 
 /// Asks the questions of a theorem: its type has a sort (`NotASort`), which is 0 (`TheoremNotProp`),
 /// and its proof is of that type (`ValueType`).
-pub fn check_theorem<A: Asks>(alloc: Global, asks: &mut A, ty: u64, proof: u64) -> Result<(), Stop>
+pub fn check_theorem<A: Asks>(asks: &mut A, ty: u64, proof: u64) -> Result<(), Stop>
     requires ty_in { ty < length (A.contents asks.old).trees }
     requires proof_in { proof < length (A.contents asks.old).trees }
     ensures stays { A.standing asks.new ≡ A.standing asks.old }
@@ -96,7 +94,7 @@ pub fn check_theorem<A: Asks>(alloc: Global, asks: &mut A, ty: u64, proof: u64) 
         (A.left asks.old) (λ u. checked) (A.left asks.new) result }
 {
     let level = sort_of(asks, ty)?;
-    if is_zero(alloc, asks, level)? {
+    if asks.level_is_zero(level) {
         check_value(asks, ty, proof)
     } else {
         Err(Stop::No(Rule::TheoremNotProp))

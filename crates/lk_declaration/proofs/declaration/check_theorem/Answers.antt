@@ -26,8 +26,8 @@ returns-in_err-level-clause-outcome g c d type body =
     rw (p.1, p.2) (subst (λ q. Halts s q start stop) (sym (theorem_is d T V type body))
     (halts_first s (sort_of T) (λ (l : Level). if is_zero_level l then value_steps T V else refuse TheoremNotProp) start stop c.in_err-level.ensures.outcome))
 
-pub returns-then-branch-clause-outcome : goal.returns-then-branch-clause-outcome
-returns-then-branch-clause-outcome g c d type body =
+pub returns-then-level_is_zero-clause-outcome : goal.returns-then-level_is_zero-clause-outcome
+returns-then-level_is_zero-clause-outcome g c d type body =
     let before = g.A.Terms.contents c.args.asks.now in
     let between = g.A.Terms.contents c.sort_of.new.asks in
     let s = g.A.Asks.standing c.args.asks.now in
@@ -41,11 +41,11 @@ returns-then-branch-clause-outcome g c d type body =
     subst (λ q. ComesTo s q start (λ (u : Unit {0}). checked) end c.check_value.result) (sym (theorem_is d T V type body))
     (gives_on s u c.in_ok-level.ensures.stays (sort_of T) (λ (l : Level). if is_zero_level l then value_steps T V else refuse TheoremNotProp) start left end
     (level_at between c.in_ok-level.level) (λ (u : Unit {0}). checked) c.check_value.result c.in_ok-level.ensures.outcome
-    (rw (sym c.in_ok-is_zero.ensures ∙ c.if-branch.true) (value_moved u T (tree_at between c.args.ty) V (tree_at between c.args.proof) left end c.check_value.result
+    (rw (sym c.level_is_zero.ensures ∙ c.if-level_is_zero.true) (value_moved u T (tree_at between c.args.ty) V (tree_at between c.args.proof) left end c.check_value.result
     (kept.same c.args.ty c.requires.ty_in) (kept.same c.args.proof c.requires.proof_in) c.check_value.ensures.outcome)))
 
-pub returns-else-branch-clause-outcome : goal.returns-else-branch-clause-outcome
-returns-else-branch-clause-outcome g c d type body =
+pub returns-else-level_is_zero-clause-outcome : goal.returns-else-level_is_zero-clause-outcome
+returns-else-level_is_zero-clause-outcome g c d type body =
     let before = g.A.Terms.contents c.args.asks.now in
     let between = g.A.Terms.contents c.sort_of.new.asks in
     let s = g.A.Asks.standing c.args.asks.now in
@@ -56,4 +56,4 @@ returns-else-branch-clause-outcome g c d type body =
     subst (λ q. Halts s q start (No TheoremNotProp)) (sym (theorem_is d T V type body))
     (halts_later s s refl (sort_of T) (λ (l : Level). if is_zero_level l then value_steps T V else refuse TheoremNotProp) start left
     (level_at between c.in_ok-level.level) (No TheoremNotProp) c.in_ok-level.ensures.outcome
-    (rw (sym c.in_ok-is_zero.ensures ∙ c.if-branch.false) (record { stops = λ k. refl })))
+    (rw (sym c.level_is_zero.ensures ∙ c.if-level_is_zero.false) (record { stops = λ k. refl })))
