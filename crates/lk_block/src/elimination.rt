@@ -13,7 +13,6 @@ use crate::shape::{ConstructorShape, Field, TypeShape};
 use lk_ask::asks::Asks;
 use lk_ask::stop::Stop;
 use lk_declaration::asking::{is_at_most, sort_of};
-use lk_level_order::zero::is_zero;
 use lk_store::memory::NoMemory;
 use lk_store::node::LevelNode;
 use lk_store::terms::Terms;
@@ -72,12 +71,7 @@ fn is_among<T: Terms>(terms: &T, e: u64, others: &[u64]) -> bool
 }
 
 /// Whether a field is a proof or one of the indices. Its sort is asked for first.
-fn is_small<A: Asks>(
-    alloc: Global,
-    asks: &mut A,
-    indices: &[u64],
-    variable: u64,
-) -> Result<bool, Stop>
+fn is_small<A: Asks>(asks: &mut A, indices: &[u64], variable: u64) -> Result<bool, Stop>
     requires indices_in { AreTreesIn (A.contents asks.old) indices.now }
     requires variable_in { variable < length (A.contents asks.old).trees }
     ensures keeps { Extends (A.contents asks.old) (A.contents asks.new) }
@@ -89,7 +83,7 @@ fn is_small<A: Asks>(
 {
     let ty = domain_of(asks, variable);
     let level = sort_of(asks, ty)?;
-    if is_zero(alloc, asks, level)? {
+    if asks.level_is_zero(level) {
         Ok(true)
     } else {
         Ok(is_among(asks, variable, indices))
@@ -97,12 +91,7 @@ fn is_small<A: Asks>(
 }
 
 /// Whether each of these fields is a proof or one of the indices. The first that is neither ends it.
-fn are_small<A: Asks>(
-    alloc: Global,
-    asks: &mut A,
-    indices: &[u64],
-    fields: &[Field],
-) -> Result<bool, Stop>
+fn are_small<A: Asks>(asks: &mut A, indices: &[u64], fields: &[Field]) -> Result<bool, Stop>
     requires indices_in { AreTreesIn (A.contents asks.old) indices.now }
     requires fields_in { All (IsFieldIn (A.contents asks.old)) fields.now }
     ensures keeps { Extends (A.contents asks.old) (A.contents asks.new) }
@@ -114,7 +103,7 @@ fn are_small<A: Asks>(
 {
     let mut rest = fields;
     'fields: while let Some((field, more)) = rest.split_first() {
-        let small = is_small(alloc, asks, indices, field.variable)?;
+        let small = is_small(asks, indices, field.variable)?;
         if !small {
             return Ok(false);
         }
@@ -125,7 +114,6 @@ fn are_small<A: Asks>(
 
 /// Whether there is no constructor, or one whose fields are each a proof or one of its indices.
 fn has_small_constructor<A: Asks>(
-    alloc: Global,
     asks: &mut A,
     constructors: &[ConstructorShape],
 ) -> Result<bool, Stop>
@@ -140,7 +128,7 @@ fn has_small_constructor<A: Asks>(
         None => Ok(true),
         Some((constructor, more)) => {
             if more.is_empty() {
-                are_small(alloc, asks, &constructor.indices, &constructor.fields)
+                are_small(asks, &constructor.indices, &constructor.fields)
             } else {
                 Ok(false)
             }
@@ -149,7 +137,7 @@ fn has_small_constructor<A: Asks>(
 }
 
 /// Whether there is one type, and no constructor, or one whose fields are each a proof or one of its indices.
-fn has_small_type<A: Asks>(alloc: Global, asks: &mut A, types: &[TypeShape]) -> Result<bool, Stop>
+fn has_small_type<A: Asks>(asks: &mut A, types: &[TypeShape]) -> Result<bool, Stop>
     requires { All (IsTypeShapeIn (A.contents asks.old)) types.now }
     ensures keeps { Extends (A.contents asks.old) (A.contents asks.new) }
     ensures stays { A.standing asks.new ≡ A.standing asks.old }
@@ -161,7 +149,7 @@ fn has_small_type<A: Asks>(alloc: Global, asks: &mut A, types: &[TypeShape]) -> 
         None => Ok(false),
         Some((only, others)) => {
             if others.is_empty() {
-                has_small_constructor(alloc, asks, &only.constructors)
+                has_small_constructor(asks, &only.constructors)
             } else {
                 Ok(false)
             }
@@ -189,6 +177,6 @@ pub fn may_be_large<A: Asks>(
     if is_above_zero(alloc, asks, sort)? {
         Ok(true)
     } else {
-        has_small_type(alloc, asks, types)
+        has_small_type(asks, types)
     }
 }

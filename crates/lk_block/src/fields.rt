@@ -16,7 +16,6 @@ use crate::telescope::open_local;
 use lk_ask::asks::Asks;
 use lk_ask::stop::Stop;
 use lk_declaration::asking::{is_at_most, sort_of};
-use lk_level_order::zero::is_zero;
 use lk_lists::numbers::{keep, number_after};
 use lk_tree::rule::Rule;
 use std::alloc::Global;
@@ -45,7 +44,7 @@ fn fits_in<A: Asks>(alloc: Global, asks: &mut A, level: u64, domain: u64) -> Res
         (fits_in (level_at (A.contents asks.old) level) (tree_at (A.contents asks.old) domain))
         (A.left asks.old) (λ r. r) (A.left asks.new) result }
 {
-    if is_zero(alloc, asks, level)? {
+    if asks.level_is_zero(level) {
         Ok(true)
     } else {
         fits(alloc, asks, level, domain)
