@@ -263,6 +263,10 @@ impl<'a, K: Knows> Terms for Engine<'a, K> {
         self.lookout.level_has_params(l)
     }
 
+    fn level_is_zero(&self, l: u64) -> bool {
+        self.lookout.level_is_zero(l)
+    }
+
     fn levels(&self, ls: u64) -> ListNode {
         self.lookout.levels(ls)
     }

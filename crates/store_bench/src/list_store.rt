@@ -164,6 +164,10 @@ impl<T: Terms + Drop> Terms for ListStore<T> {
         self.store.level_has_params(l)
     }
 
+    fn level_is_zero(&self, l: u64) -> bool {
+        self.store.level_is_zero(l)
+    }
+
     fn levels(&self, ls: u64) -> ListNode {
         self.store.levels(ls)
     }
