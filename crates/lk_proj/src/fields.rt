@@ -176,7 +176,7 @@ fn at_field_sort<L: Looks>(
     ensures { Infers L.contents L.rest L.sight looks.old looks.new result
         (λ t. field_sort_rest (map_pi t pi) (t form)) }
 {
-    match is_prop(looks, form)? {
+    match is_prop(looks, form) {
         Some(true) => next_field(looks, p, pi.number, true, pi.domain, pi.body),
         Some(false) => Ok(Next::No(Rule::PropProjection)),
         None => Ok(Next::No(Rule::NotASort)),

@@ -116,7 +116,7 @@ pub(crate) fn sort_form<L: Looks>(
     ensures { Infers L.contents L.rest L.sight looks.now looks.now result
         (λ t. sort_rest (map_applied t applied) (option_map t constructor) (t form)) }
 {
-    match is_prop(looks, form)? {
+    match is_prop(looks, form) {
         Some(prop) => Ok(with_sort(looks, applied, constructor, prop)),
         None => Ok(Next::No(Rule::NotASort)),
     }
