@@ -24,7 +24,6 @@ use lk_ask::next::Next;
 use lk_ask::query::{Answer, Query};
 use lk_ask::sheet::Sheet;
 use lk_constructor::{AppliedConstructor, levels_of_type};
-use lk_level_order::zero::is_zero;
 use lk_mentions::structures::{projections_of, structure_of};
 use lk_spine::args;
 use lk_store::memory::NoMemory;
@@ -191,7 +190,7 @@ fn by_level<L: Looks>(
         → Reduces L.contents L.rest L.sight looks.old looks.new result
         (λ t. at_level (t e) p (t m) k (t ty) (level_at (L.contents looks.old) level)) }
 {
-    if is_zero(looks.alloc(), looks, level)? {
+    if looks.level_is_zero(level) {
         Ok(Next::Done(Answer::Term(e)))
     } else {
         expand(looks, redex, constructor, e, m, ty)
