@@ -116,7 +116,7 @@ fn tells_rule<T: Terms>(
 fn tells_recursor<T: Terms>(alloc: Global, terms: &mut T, shape: &Shape) -> Result<bool, NoMemory>
     requires { IsShapeIn (T.contents terms.old) shape.now }
 {
-    let k = by_k(alloc, terms, shape)?;
+    let k = by_k(terms, shape);
     let front = front_of(alloc, terms, shape, &[])?;
     if !k || front.names.len() != 0 {
         return Ok(false);

@@ -278,7 +278,7 @@ fn compare_with<A: Asks>(
         (A.left asks.new) result }
 {
     let names = names_between(alloc, asks, shape, front)?;
-    let k = by_k(alloc, asks, shape)?;
+    let k = by_k(asks, shape);
     let shared = Shared {
         shape,
         front,

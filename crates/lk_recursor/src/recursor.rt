@@ -11,7 +11,6 @@ use crate::binders::{Binder, over_local, over_locals};
 use crate::front::{Front, over_front};
 use crate::heads::{at_parameters, motive_at};
 use lk_block::shape::{Shape, TypeShape};
-use lk_level_order::zero::is_zero;
 use lk_store::memory::NoMemory;
 use lk_store::node::Node;
 use lk_store::terms::Terms;
@@ -87,16 +86,15 @@ pub fn recursor_type<T: Terms>(
 }
 
 /// Whether the recursors of a block are by K.
-pub fn by_k<T: Terms>(alloc: Global, terms: &T, shape: &Shape) -> Result<bool, NoMemory>
+pub fn by_k<T: Terms>(terms: &T, shape: &Shape) -> bool
     requires { IsShapeIn (T.contents terms.now) shape.now }
-    ensures { IfOk result (λ k. k ≡ is_k (shape_at (T.contents terms.now) shape.now)) }
+    ensures { result ≡ is_k (shape_at (T.contents terms.now) shape.now) }
 {
     let [of] = shape.types.as_slice() else {
-        return Ok(false);
+        return false;
     };
     let [constructor] = of.constructors.as_slice() else {
-        return Ok(false);
+        return false;
     };
-    let zero = is_zero(alloc, terms, shape.sort)?;
-    Ok(zero && constructor.fields.is_empty())
+    terms.level_is_zero(shape.sort) && constructor.fields.is_empty()
 }

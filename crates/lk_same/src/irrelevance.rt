@@ -18,7 +18,6 @@ use lk_ask::looks::Looks;
 use lk_ask::next::Next;
 use lk_ask::query::{Answer, Query};
 use lk_ask::sheet::Sheet;
-use lk_level_order::zero::is_zero;
 use lk_store::memory::NoMemory;
 use lk_store::node::Node;
 use lk_tree::rule::Rule;
@@ -50,7 +49,7 @@ fn by_level<L: Looks>(
     ensures { Compares L.contents L.rest L.sight looks.old looks.new result
         (λ t. level_rest (t left) (t right) (t ty) (level_at (L.contents looks.old) level)) }
 {
-    if is_zero(looks.alloc(), looks, level)? {
+    if looks.level_is_zero(level) {
         return Ok(Next::Ask(
             Query::Infer(right),
             Sheet::Term(SameTermSheet::Proof(ProofSheet::Right { left, right, ty })),

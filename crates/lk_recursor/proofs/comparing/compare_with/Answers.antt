@@ -24,7 +24,7 @@ check_all-requires-clause-shared_is g c =
         known = All-same (λ n. n < length between.names) c.deref.result.now c.in_ok-names.names.items c.deref.ensures.value c.in_ok-names.ensures.ok.known;
         are = ap (map (name_at between)) c.deref.ensures.value ∙ c.in_ok-names.ensures.ok.are;
       };
-      k_is = c.in_ok-k.ensures;
+      k_is = c.by_k-k.ensures;
     }
 
 pub returns-clause-outcome : goal.returns-clause-outcome
