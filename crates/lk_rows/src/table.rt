@@ -8,9 +8,13 @@ use std::marker::Model;
 /// Up to so many rows are looked through one after another.
 const FEW: usize = 16;
 
-/// So many slots are kept by a table that is made empty. To free them takes less time than to make
-/// them again, and no more than a few hundred steps however large the table was.
+/// So many slots are kept by a table that is made empty, or so many times as many as it had rows. To
+/// free them takes less time than to make them again, and no more than the rows took, however large
+/// the table once was.
 const KEPT: usize = 512;
+
+/// A table that is made empty keeps its slots where they are at most so many for each of its rows.
+const FOR_EACH: usize = 8;
 
 /// Where a row is more slots than this away from its bucket, the table takes another seed and
 /// places all rows anew. By chance the farthest of a million rows is some hundred and fifty slots
@@ -319,10 +323,11 @@ impl<R: Row + Drop> Table<R> {
         if self.rows.is_empty() {
             return;
         }
+        let kept = self.tags.len() <= KEPT || self.tags.len() / FOR_EACH <= self.rows.len();
         self.rows.clear();
         self.most = 0;
         self.seed = 0;
-        if self.tags.len() > KEPT {
+        if !kept {
             self.tags.clear();
             self.slots.clear();
         }
