@@ -416,6 +416,20 @@ def parameters(n):
     return f.bytes()
 
 
+def deep_levels(n):
+    """A constant with n level parameters, at n levels, each the successor of the one before."""
+    f = Lines()
+    words = [f.name(f'u{number}') for number in range(n)]
+    c = f.name('c')
+    f.state('#AX', c, f.prop, *words)
+    level, levels = 0, []
+    for _ in range(n):
+        level = f.level(f'#US {level}')
+        levels.append(level)
+    f.definition('d', f.prop, f.constant(c, levels))
+    return f.bytes()
+
+
 def greatest_parameter(n):
     """def d : Sort (succ (max u1 (max u2 ..))) := Sort (max .. u2 u1), of n parameters."""
     f = Lines()
@@ -527,6 +541,32 @@ def field_projections(n):
     x, to = f.variable(0), f.pi(type_, f.prop)
     for number in range(n):
         f.definition(f'p{number}', to, f.lambda_(type_, f.term(f'#EJ {name} {number} {x}')))
+    return f.bytes()
+
+
+def parameters_in_turn(n):
+    """A type with two parameters and n constructors, whose fields are of the one and the other in turn."""
+    f = Lines()
+    name = f.name('T')
+    made = [f.name(f'c{number}', name) for number in range(n)]
+    f.state('#IND', name, f.pi(f.type, f.pi(f.type, f.type)), 0, 0, 2, 0, 1, name, n, *made)
+    built = f.apply(f.constant(name), f.variable(2), f.variable(1))
+    for number, each in enumerate(made):
+        stated = f.pi(f.type, f.pi(f.type, f.pi(f.variable(number % 2), built)))
+        f.state('#CTOR', each, stated, name, number, 2, 1)
+    return f.bytes()
+
+
+def fields_in_turn(n):
+    """A structure with two parameters and n fields, which are of the one and the other in turn, without a recursor."""
+    f = Lines()
+    name = f.name('S')
+    make = f.name('mk', name)
+    f.state('#IND', name, f.pi(f.type, f.pi(f.type, f.type)), 0, 0, 2, 0, 1, name, 1, make)
+    stated = f.apply(f.constant(name), f.variable(n + 1), f.variable(n))
+    for index in reversed(range(n)):
+        stated = f.pi(f.variable(index + index % 2), stated)
+    f.state('#CTOR', make, f.pi(f.type, f.pi(f.type, stated)), name, 0, 2, n)
     return f.bytes()
 
 
@@ -687,6 +727,47 @@ def gathered_axioms(n):
     return f.bytes()
 
 
+def axioms_of_one_type(n):
+    """n axioms of one type of n binders."""
+    f = Lines()
+    p = f.axiom('p', f.prop)
+    stated = p
+    for _ in range(n):
+        stated = f.pi(p, stated)
+    for number in range(n):
+        f.axiom(f'a{number}', stated)
+    return f.bytes()
+
+
+def uses_of_one_constant(n):
+    """n theorems by one axiom whose type has n binders."""
+    f = Lines()
+    p = f.axiom('p', f.prop)
+    stated = p
+    for _ in range(n):
+        stated = f.pi(p, stated)
+    proof = f.axiom('a', stated)
+    for number in range(n):
+        f.theorem(f't{number}', stated, proof)
+    return f.bytes()
+
+
+def uses_of_five_constants(n):
+    """n theorems by five axioms in turn, whose types have n binders each."""
+    f = Lines()
+    p = f.axiom('p', f.prop)
+    uses = []
+    for index in range(5):
+        stated = f.axiom(f'p{index}', f.prop)
+        for _ in range(n):
+            stated = f.pi(p, stated)
+        uses.append((stated, f.axiom(f'a{index}', stated)))
+    for number in range(n):
+        stated, proof = uses[number % 5]
+        f.theorem(f't{number}', stated, proof)
+    return f.bytes()
+
+
 # ---- Sharing: each tree below is exponential in the depth of its lines
 
 def doubled_pis(n):
@@ -827,12 +908,13 @@ FAMILIES = [
     (beta, 10 ** 6), (lets, 10 ** 6), (lets_mentioned, 10 ** 5), (let_values, 10 ** 6), (projections, 10 ** 6),
     (successors, 10 ** 6), (maxima, 10 ** 6), (shared_levels, 10 ** 5), (shared_imax, 10 ** 5), (wide_levels, 16),
     (wide_cycles, 16), (wide_left, 16),
-    (components, 10 ** 6), (long_names, 10 ** 5), (parameters, 10 ** 5), (greatest_parameter, 10 ** 4),
+    (components, 10 ** 6), (long_names, 10 ** 5), (parameters, 10 ** 5), (deep_levels, 10 ** 5), (greatest_parameter, 10 ** 4),
     (constructors, 10 ** 5), (enumeration, 1000), (fields_alone, 10 ** 5), (fields, 1000), (dependent_fields, 10 ** 5),
-    (field_projections, 10 ** 4), (type_parameters, 1000), (indices, 10 ** 5), (mutual, 2000), (blocks, 10 ** 5),
-    (nested, 1000),
+    (parameters_in_turn, 10 ** 5), (fields_in_turn, 10 ** 5), (field_projections, 10 ** 4), (type_parameters, 1000),
+    (indices, 10 ** 5), (mutual, 2000), (blocks, 10 ** 5), (nested, 1000),
     (axioms, 10 ** 6), (theorems, 10 ** 6), (refused, 10 ** 6), (unfolding, 10 ** 5), (many_axioms, 10 ** 5),
-    (gathered_axioms, 10 ** 4),
+    (gathered_axioms, 10 ** 4), (axioms_of_one_type, 10 ** 5), (uses_of_one_constant, 10 ** 5),
+    (uses_of_five_constants, 2 * 10 ** 4),
     (doubled_pis, 4000), (doubled_arguments, 4000), (doubled_lets, 4000), (doubled_unequal, 4000), (doubled_variable, 4000),
     (doubled_fields, 4000), (doubled_parameter, 4000),
     (blank_lines, 10 ** 7), (spaces, 10 ** 7), (digits, 10 ** 7), (characters, 10 ** 6),

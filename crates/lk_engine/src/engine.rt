@@ -9,10 +9,11 @@ ghost use Rattle.lk_env.specs.Units.{type_at, IsTypeIn};
 ghost use Rattle.lk_ask.specs.Instances.{AreInstances};
 ghost use Rattle.lk_desk.specs.Job.{job_of};
 ghost use Rattle.lk_store.specs.Sizes.{sizes_of};
-ghost use Rattle.lk_engine.specs.Lookouts.{row_count, Tidies, Restarts, GivesMembers};
+ghost use Rattle.lk_engine.specs.Lookouts.{row_count, most_rows, Tidies, Restarts, GivesMembers};
 
 use crate::families::family_of;
 use crate::knowledge::Knows;
+use crate::limit::{Limit, rows_of};
 use crate::parameters::parameters_at;
 use lk_ask::asks::Asks;
 use lk_ask::instances::Instances;
@@ -40,10 +41,11 @@ use std::marker::Model;
 use std::mem::drop;
 
 /// An engine over a library. What units make stands over the library's store, and goes when a unit
-/// is started, once it is many rows; what the memo keeps, which is lent, goes with the unit, but
+/// is started, once it is too many rows; what the memo keeps, which is lent, goes with the unit, but
 /// for what outlasts one. Whether answers are shared with other workers is told by its parameter.
 pub struct Engine<'a, K: Knows> {
     lookout: Lookout<'a, Overlay<'a>>,
+    limit: Limit,
     knowledge: &'a mut K,
 }
 
@@ -68,32 +70,21 @@ impl<K: Knows> Drop for Engine<'_, K> {
     fn drop(self) {
         let Engine {
             lookout,
+            limit: _,
             knowledge: _,
         } = self;
         drop(lookout);
     }
 }
 
-/// What units made stays from one to the next while it is fewer rows, those of all kinds together.
-const FEW: u128 = 65_536;
-
-/// How many rows units made. Each kind counts, so that no file makes them grow for good.
-fn rows_of(terms: &Overlay<'_>) -> u128
-    ensures { result ≡ row_count (sizes_of terms.now.1) }
-{
-    let own = terms.own_sizes();
-    let named = own.numbers as u128 + own.names as u128 + own.texts as u128;
-    named + own.levels as u128 + own.lists as u128 + own.terms as u128
-}
-
-/// Forgets what units made, unless it is few rows. Whether it stays.
-fn tidy(terms: &mut Overlay<'_>, instances: &mut Instances) -> bool
+/// Forgets what units made, unless it may stay. Whether it does.
+fn tidy(terms: &mut Overlay<'_>, instances: &mut Instances, limit: &mut Limit) -> bool
     ensures tidies { Tidies terms.old terms.new result }
     ensures instances { let before = contents_of (over terms.old.0 terms.old.1) in
         let after = contents_of (over terms.new.0 terms.new.1) in
         AreInstances before instances.old.table → AreInstances after instances.new.table }
 {
-    if rows_of(terms) < FEW {
+    if limit.stays(rows_of(terms.own_sizes()), rows_of(terms.base_sizes())) {
         return true;
     }
     terms.clear();
@@ -103,13 +94,18 @@ fn tidy(terms: &mut Overlay<'_>, instances: &mut Instances) -> bool
 
 /// Looks from this unit, of which nothing is partial, with no auxiliary types, a store that has
 /// what the library has, and this budget. Whether what earlier units made stays.
-fn restart<'a>(lookout: &mut Lookout<'a, Overlay<'a>>, unit: u32, budget: u128) -> bool
+fn restart<'a>(
+    lookout: &mut Lookout<'a, Overlay<'a>>,
+    limit: &mut Limit,
+    unit: u32,
+    budget: u128,
+) -> bool
     requires { lookout.old.2.0 ≡ lookout.old.0.2.0 }
     ensures { Restarts lookout.old lookout.new unit budget result }
 {
     let partial = Partial::Nothing;
     let library = lookout.scope.library();
-    let stays = tidy(&mut lookout.terms, &mut lookout.instances);
+    let stays = tidy(&mut lookout.terms, &mut lookout.instances, limit);
     lookout.site = Site { unit, partial };
     lookout.scope = Scope::new(lookout.alloc, library, &lookout.terms);
     lookout.meter = Meter::new(budget);
@@ -176,11 +172,15 @@ impl<'a, K: Knows> Engine<'a, K> {
             meter: Meter::new(0),
             instances: Instances::new(alloc),
         };
-        Engine { lookout, knowledge }
+        Engine {
+            lookout,
+            limit: Limit::new(),
+            knowledge,
+        }
     }
 
     /// Begins a unit: the names below it are seen, nothing of it is partial, and so many steps may
-    /// be taken. What earlier units made goes once it is many rows, and of the answers all but
+    /// be taken. What earlier units made goes once it is too many rows, and of the answers all but
     /// those over the library's own terms, or over terms that stay. It costs nothing that grows
     /// with the library.
     pub fn start(&mut self, unit: u32, budget: u128)
@@ -190,11 +190,12 @@ impl<'a, K: Knows> Engine<'a, K> {
         ensures partial { self.new.1.partial ≡ Partial.Nothing }
         ensures contents { Extends (contents_of self.old.0.2.0)
             (contents_of (over self.new.2.0 self.new.2.1)) }
-        ensures few { row_count (sizes_of self.new.2.1) < 65536 }
+        ensures few { row_count (sizes_of self.new.2.1)
+            < most_rows (row_count (sizes_of self.old.0.2.0)) }
         ensures left { self.new.3.left ≡ budget }
         ensures turns { self.new.3.turns ≡ 0 }
     {
-        let stays = restart(&mut self.lookout, unit, budget);
+        let stays = restart(&mut self.lookout, &mut self.limit, unit, budget);
         let terms = self.lookout.len();
         self.knowledge.start_unit(unit, terms, stays);
     }
