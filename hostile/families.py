@@ -9,71 +9,9 @@ types, each rule of an enumeration's recursor has all its minor premises), or wh
 """
 import sys
 
-
-class Lines:
-    """A file that grows line by line. What stands for a name, a level or a term is its number."""
-
-    def __init__(self):
-        self.lines, self.next = [], [1, 1, 0, 0]
-        self.prop = self.term('#ES 0')
-        self.one = self.level('#US 0')
-        self.type = self.term(f'#ES {self.one}')
-
-    def made(self, numbering, text):
-        number = self.next[numbering]
-        self.next[numbering] += 1
-        self.lines.append(f'{number} {text}')
-        return number
-
-    def name(self, text, below=0):
-        return self.made(0, f'#NS {below} {text}')
-
-    def level(self, text):
-        return self.made(1, text)
-
-    def term(self, text):
-        return self.made(2, text)
-
-    def rule(self, text):
-        return self.made(3, text)
-
-    def variable(self, index):
-        return self.term(f'#EV {index}')
-
-    def sort(self, level):
-        return self.term(f'#ES {level}')
-
-    def pi(self, domain, body):
-        return self.term(f'#EP #BD 0 {domain} {body}')
-
-    def lambda_(self, domain, body):
-        return self.term(f'#EL #BD 0 {domain} {body}')
-
-    def apply(self, function, *arguments):
-        for argument in arguments:
-            function = self.term(f'#EA {function} {argument}')
-        return function
-
-    def constant(self, name, levels=()):
-        return self.term(' '.join(map(str, ['#EC', name, *levels])))
-
-    def state(self, *fields):
-        self.lines.append(' '.join(map(str, fields)))
-
-    def axiom(self, text, type_, levels=()):
-        """The constant of a new axiom."""
-        name = self.name(text)
-        self.state('#AX', name, type_, *levels)
-        return self.constant(name)
-
-    def definition(self, text, type_, value, levels=()):
-        self.state('#DEF', self.name(text), type_, value, 'A', *levels)
-
-    def theorem(self, text, type_, proof):
-        self.state('#THM', self.name(text), type_, proof)
-
-    def bytes(self):
-        return ('\n'.join(self.lines) + '\n').encode()
+from doubled import (
+    doubled_pis, doubled_arguments, doubled_lets, doubled_unequal, doubled_variable, doubled_fields, doubled_parameter)
+from lines import Lines
 
 
 # ---- Deep terms
@@ -106,6 +44,20 @@ def dependent_lambdas(n):
     for index in reversed(range(n)):
         body, type_ = f.lambda_(domains[index], body), f.pi(domains[index], type_)
     f.definition('d', f.pi(f.type, type_), f.lambda_(f.type, body))
+    return f.bytes()
+
+
+def binders_mentioned(n):
+    """A Pi and a function of n binders whose ends mention them all."""
+    f = Lines()
+    p, h = f.axiom('p', f.prop), f.axiom('h', f.pi(f.prop, f.pi(f.prop, f.prop)))
+    stated, value, type_ = p, p, f.prop
+    for index in range(n):
+        stated = value = f.apply(h, f.variable(index), value)
+    for _ in range(n):
+        stated, value, type_ = f.pi(f.prop, stated), f.lambda_(f.prop, value), f.pi(f.prop, type_)
+    f.axiom('a', stated)
+    f.definition('d', type_, value)
     return f.bytes()
 
 
@@ -545,7 +497,7 @@ def field_projections(n):
 
 
 def parameters_in_turn(n):
-    """A type with two parameters and n constructors, whose fields are of the one and the other in turn."""
+    """A type with two parameters and n constructors, whose fields are of these in turn, without a recursor."""
     f = Lines()
     name = f.name('T')
     made = [f.name(f'c{number}', name) for number in range(n)]
@@ -727,13 +679,18 @@ def gathered_axioms(n):
     return f.bytes()
 
 
-def axioms_of_one_type(n):
-    """n axioms of one type of n binders."""
-    f = Lines()
-    p = f.axiom('p', f.prop)
+def arrows(f, p, n):
+    """p -> .. -> p, with n binders."""
     stated = p
     for _ in range(n):
         stated = f.pi(p, stated)
+    return stated
+
+
+def axioms_of_one_type(n):
+    """n axioms of one type of n binders."""
+    f = Lines()
+    stated = arrows(f, f.axiom('p', f.prop), n)
     for number in range(n):
         f.axiom(f'a{number}', stated)
     return f.bytes()
@@ -742,136 +699,36 @@ def axioms_of_one_type(n):
 def uses_of_one_constant(n):
     """n theorems by one axiom whose type has n binders."""
     f = Lines()
-    p = f.axiom('p', f.prop)
-    stated = p
-    for _ in range(n):
-        stated = f.pi(p, stated)
+    stated = arrows(f, f.axiom('p', f.prop), n)
     proof = f.axiom('a', stated)
     for number in range(n):
         f.theorem(f't{number}', stated, proof)
     return f.bytes()
 
 
+def heavy_and_light(n):
+    """n theorems by an axiom whose type has n binders, and eighty small ones behind each."""
+    f = Lines()
+    p = f.axiom('p', f.prop)
+    stated = arrows(f, p, n)
+    proof, held = f.axiom('a', stated), f.axiom('h', p)
+    for number in range(n):
+        f.theorem(f't{number}', stated, proof)
+        for light in range(80):
+            f.theorem(f's{number}.{light}', p, held)
+    return f.bytes()
+
+
 def uses_of_five_constants(n):
     """n theorems by five axioms in turn, whose types have n binders each."""
     f = Lines()
-    p = f.axiom('p', f.prop)
     uses = []
     for index in range(5):
-        stated = f.axiom(f'p{index}', f.prop)
-        for _ in range(n):
-            stated = f.pi(p, stated)
+        stated = arrows(f, f.axiom(f'p{index}', f.prop), n)
         uses.append((stated, f.axiom(f'a{index}', stated)))
     for number in range(n):
         stated, proof = uses[number % 5]
         f.theorem(f't{number}', stated, proof)
-    return f.bytes()
-
-
-# ---- Sharing: each tree below is exponential in the depth of its lines
-
-def doubled_pis(n):
-    """n types that double 90 times, each over another axiom."""
-    f = Lines()
-    for number in range(n):
-        body = f.axiom(f'p{number}', f.prop)
-        for _ in range(90):
-            body = f.pi(body, body)
-        f.axiom(f'a{number}', body)
-    return f.bytes()
-
-
-def doubled_arguments(n):
-    """n values g x x, where x is such a value, 90 deep."""
-    f = Lines()
-    g = f.axiom('g', f.pi(f.prop, f.pi(f.prop, f.prop)))
-    for number in range(n):
-        value = f.axiom(f'p{number}', f.prop)
-        for _ in range(90):
-            value = f.apply(g, value, value)
-        f.definition(f'd{number}', f.prop, value)
-    return f.bytes()
-
-
-def doubled_lets(n):
-    """n times let x1 := g x0 x0; let x2 := g x1 x1; .., 30 deep."""
-    f = Lines()
-    g = f.axiom('g', f.pi(f.prop, f.pi(f.prop, f.prop)))
-    last = f.variable(0)
-    both = f.apply(g, last, last)
-    for number in range(n):
-        p = f.axiom(f'p{number}', f.prop)
-        body = last
-        for _ in range(30):
-            body = f.term(f'#EZ 0 {f.prop} {both} {body}')
-        f.definition(f'd{number}', f.prop, f.term(f'#EZ 0 {f.prop} {p} {body}'))
-    return f.bytes()
-
-
-def doubled_unequal(n):
-    """n proofs of Q x for Q y, where x and y double 60 times from two values that are equal by unfolding."""
-    f = Lines()
-    g = f.axiom('g', f.pi(f.prop, f.pi(f.prop, f.prop)))
-    q = f.axiom('Q', f.pi(f.prop, f.prop))
-    for number in range(n):
-        left = f.axiom(f'p{number}', f.prop)
-        name = f.name(f'e{number}')
-        f.state('#DEF', name, f.prop, left, 'A')
-        right = f.constant(name)
-        for _ in range(60):
-            left, right = f.apply(g, left, left), f.apply(g, right, right)
-        h = f.axiom(f'h{number}', f.apply(q, left))
-        f.theorem(f't{number}', f.apply(q, right), h)
-    return f.bytes()
-
-
-def doubled_variable(n):
-    """n functions (fun x => g (..) (..)), doubled 60 times from the variable, at an argument."""
-    f = Lines()
-    g = f.axiom('g', f.pi(f.prop, f.pi(f.prop, f.prop)))
-    q = f.axiom('Q', f.pi(f.prop, f.prop))
-    value = f.variable(0)
-    for _ in range(60):
-        value = f.apply(g, value, value)
-    function = f.lambda_(f.prop, value)
-    for number in range(n):
-        p = f.axiom(f'p{number}', f.prop)
-        h = f.axiom(f'h{number}', f.apply(q, f.apply(function, p)))
-        for _ in range(60):
-            p = f.apply(g, p, p)
-        f.theorem(f't{number}', f.apply(q, p), h)
-    return f.bytes()
-
-
-def doubled_fields(n):
-    """n blocks with a field that doubles 90 times over an axiom."""
-    f = Lines()
-    for number in range(n):
-        body = f.axiom(f'p{number}', f.prop)
-        for _ in range(90):
-            body = f.pi(body, body)
-        name = f.name(f'T{number}')
-        make = f.name('mk', name)
-        type_ = f.constant(name)
-        f.state('#IND', name, f.type, 1, 0, 0, 0, 1, name, 1, make)
-        f.state('#CTOR', make, f.pi(f.pi(body, type_), type_), name, 0, 0, 1)
-    return f.bytes()
-
-
-def doubled_parameter(n):
-    """n blocks over a proposition, with a field that doubles 60 times from it, under a variable."""
-    f = Lines()
-    for number in range(n):
-        name = f.name(f'T{number}')
-        make = f.name('mk', name)
-        g = f.axiom(f'g{number}', f.pi(f.prop, f.pi(f.prop, f.prop)))
-        value = f.variable(0)
-        for _ in range(60):
-            value = f.apply(g, value, value)
-        constant = f.constant(name)
-        f.state('#IND', name, f.pi(f.prop, f.type), 1, 0, 1, 0, 1, name, 1, make)
-        stated = f.pi(f.prop, f.pi(value, f.apply(constant, f.variable(1))))
-        f.state('#CTOR', make, stated, name, 0, 1, 1)
     return f.bytes()
 
 
@@ -902,19 +759,21 @@ def characters(n):
 
 
 FAMILIES = [
-    (pis, 10 ** 6), (lambdas, 10 ** 6), (dependent_lambdas, 10 ** 6), (arguments, 10 ** 6), (nested_arguments, 10 ** 6),
+    (pis, 10 ** 6), (lambdas, 10 ** 6), (dependent_lambdas, 10 ** 6),
+    (binders_mentioned, 10 ** 5), (arguments, 10 ** 6), (nested_arguments, 10 ** 6),
     (dependent_arguments, 10 ** 5), (different_arguments, 400), (arguments_alike, 4000),
     (alike_in_units, 10 ** 4), (dependent_alike, 10 ** 4),
     (beta, 10 ** 6), (lets, 10 ** 6), (lets_mentioned, 10 ** 5), (let_values, 10 ** 6), (projections, 10 ** 6),
     (successors, 10 ** 6), (maxima, 10 ** 6), (shared_levels, 10 ** 5), (shared_imax, 10 ** 5), (wide_levels, 16),
     (wide_cycles, 16), (wide_left, 16),
-    (components, 10 ** 6), (long_names, 10 ** 5), (parameters, 10 ** 5), (deep_levels, 10 ** 5), (greatest_parameter, 10 ** 4),
+    (components, 10 ** 6), (long_names, 10 ** 5), (parameters, 10 ** 5), (deep_levels, 10 ** 5),
+    (greatest_parameter, 10 ** 4),
     (constructors, 10 ** 5), (enumeration, 1000), (fields_alone, 10 ** 5), (fields, 1000), (dependent_fields, 10 ** 5),
     (parameters_in_turn, 10 ** 5), (fields_in_turn, 10 ** 5), (field_projections, 10 ** 4), (type_parameters, 1000),
     (indices, 10 ** 5), (mutual, 2000), (blocks, 10 ** 5), (nested, 1000),
     (axioms, 10 ** 6), (theorems, 10 ** 6), (refused, 10 ** 6), (unfolding, 10 ** 5), (many_axioms, 10 ** 5),
     (gathered_axioms, 10 ** 4), (axioms_of_one_type, 10 ** 5), (uses_of_one_constant, 10 ** 5),
-    (uses_of_five_constants, 2 * 10 ** 4),
+    (uses_of_five_constants, 2 * 10 ** 4), (heavy_and_light, 10 ** 4),
     (doubled_pis, 4000), (doubled_arguments, 4000), (doubled_lets, 4000), (doubled_unequal, 4000), (doubled_variable, 4000),
     (doubled_fields, 4000), (doubled_parameter, 4000),
     (blank_lines, 10 ** 7), (spaces, 10 ** 7), (digits, 10 ** 7), (characters, 10 ** 6),

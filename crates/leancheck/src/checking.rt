@@ -221,5 +221,9 @@ pub(crate) fn check_unit<K: Knows>(
 {
     let unit = &library.units()[number as usize];
     engine.start(number, steps);
-    judge(alloc, library, engine, number, unit)
+    let verdict = judge(alloc, library, engine, number, unit);
+    if matches!(verdict, Verdict::Memory) {
+        engine.let_go();
+    }
+    verdict
 }

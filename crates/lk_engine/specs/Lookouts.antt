@@ -1,5 +1,5 @@
 -- Questions over a lookout: what they leave as it was, and what they come to.
-use Rattle.std.specs.Prelude.{◌≡◌, ◌≢◌, ◌<◌, ◌≤◌, ◌+◌, ◌-◌, ◌*◌, ◌^◌, ℕ, Bool, true, false, List, [], Option, Some, Result, Err, IfOk, OnOk, IfErr, IfSome, length, max}
+use Rattle.std.specs.Prelude.{◌≡◌, ◌≢◌, ◌<◌, ◌≤◌, ◌+◌, ◌-◌, ◌*◌, ◌^◌, ◌⊎◌, ◌↔◌, ℕ, Bool, true, false, List, [], Option, Some, Result, Err, IfOk, OnOk, IfErr, IfSome, length}
 use Rattle.lk_rulebook.specs.Place.{Place}
 use Rattle.lk_rulebook.specs.Units.{Members}
 use Rattle.lk_rulebook.specs.Units.{place_of as unit_place}
@@ -143,21 +143,28 @@ pub record AnswersKept {T : Type 0} (old new : Seen T) (memo : PrivateMemo)
 abbrev pub row_count : Sizes → ℕ
 row_count s = s.numbers + s.names + s.texts + s.levels + s.lists + s.terms
 
--- beside a library of so many rows, what units made is fewer rows than these whenever one begins
-abbrev pub most_rows : ℕ → ℕ
-most_rows library = max 65536 (4 * library)
+-- rows that so many units made stay beside a library of so many: they are few, or are many for each
+-- of the units and not too many beside the library
+abbrev pub MayStay : ℕ → ℕ → ℕ → Type 0
+MayStay made units library =
+    (made < 65536) ⊎ ((1024 * units ≤ made) × (made < 4 * library))
 
--- what was made over the library's store stays, or all of it was forgotten; what is left is no more
--- rows than may be
-pub record Tidies (old new : Tables × Tables) (stays : Bool) : Type 0 where
+-- beside a library of so many rows, a unit is begun with fewer than these
+abbrev pub IsBounded : ℕ → ℕ → Type 0
+IsBounded made library = (made < 65536) ⊎ (made < 4 * library)
+
+-- what so many units made over the library's store stays, where it may, or all of it was forgotten
+pub record Tidies (old new : Tables × Tables) (units : ℕ) (stays : Bool) : Type 0 where
   pub base : new.0 ≡ old.0
   pub same : stays ≡ true → new ≡ old
-  pub few : row_count (sizes_of new.1) < most_rows (row_count (sizes_of old.0))
+  pub may : stays ≡ true
+      ↔ MayStay (row_count (sizes_of old.1)) units (row_count (sizes_of old.0))
+  pub bounded : IsBounded (row_count (sizes_of new.1)) (row_count (sizes_of old.0))
   pub emptied : stays ≡ false → contents_of (over new.0 new.1) ≡ contents_of old.0
 
 -- a lookout over the library's store looks from this unit, of which nothing is partial, with no
 -- auxiliary types; numbers stand for what the library has, and where what was made stays, for what
--- they stood for; what stays is no more rows than may be, and this budget is left
+-- they stood for; what stays is not too many rows, and this budget is left
 pub record Restarts (old new : Seen (Tables × Tables)) (unit budget : ℕ)
     (stays : Bool) : Type 0 where
   pub library : new.0.2 ≡ old.0.2
@@ -166,7 +173,7 @@ pub record Restarts (old new : Seen (Tables × Tables)) (unit budget : ℕ)
   pub base : new.2.0 ≡ old.2.0
   pub contents : Extends (contents_of old.2.0) (contents_of (over new.2.0 new.2.1))
   pub same : stays ≡ true → new.2 ≡ old.2
-  pub few : row_count (sizes_of new.2.1) < most_rows (row_count (sizes_of old.2.0))
+  pub bounded : IsBounded (row_count (sizes_of new.2.1)) (row_count (sizes_of old.2.0))
   pub left : new.3.left ≡ budget
   pub turns : new.3.turns ≡ 0
 

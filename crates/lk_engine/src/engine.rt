@@ -9,11 +9,11 @@ ghost use Rattle.lk_env.specs.Units.{type_at, IsTypeIn};
 ghost use Rattle.lk_ask.specs.Instances.{AreInstances};
 ghost use Rattle.lk_desk.specs.Job.{job_of};
 ghost use Rattle.lk_store.specs.Sizes.{sizes_of};
-ghost use Rattle.lk_engine.specs.Lookouts.{row_count, most_rows, Tidies, Restarts, GivesMembers};
+ghost use Rattle.lk_engine.specs.Lookouts.{row_count, IsBounded, Tidies, Restarts, GivesMembers};
 
 use crate::families::family_of;
 use crate::knowledge::Knows;
-use crate::limit::{Limit, rows_of};
+use crate::limit::{rows_of, stays};
 use crate::parameters::parameters_at;
 use lk_ask::asks::Asks;
 use lk_ask::instances::Instances;
@@ -41,11 +41,12 @@ use std::marker::Model;
 use std::mem::drop;
 
 /// An engine over a library. What units make stands over the library's store, and goes when a unit
-/// is started, once it is too many rows; what the memo keeps, which is lent, goes with the unit, but
+/// is started, once it passes a limit; what the memo keeps, which is lent, goes with the unit, but
 /// for what outlasts one. Whether answers are shared with other workers is told by its parameter.
 pub struct Engine<'a, K: Knows> {
     lookout: Lookout<'a, Overlay<'a>>,
-    limit: Limit,
+    /// How many units made what stands.
+    units: u64,
     knowledge: &'a mut K,
 }
 
@@ -70,21 +71,22 @@ impl<K: Knows> Drop for Engine<'_, K> {
     fn drop(self) {
         let Engine {
             lookout,
-            limit: _,
+            units: _,
             knowledge: _,
         } = self;
         drop(lookout);
     }
 }
 
-/// Forgets what units made, unless it may stay. Whether it does.
-fn tidy(terms: &mut Overlay<'_>, instances: &mut Instances, limit: &mut Limit) -> bool
-    ensures tidies { Tidies terms.old terms.new result }
+/// Forgets what so many units made, unless it may stay. Whether it does.
+fn tidy(terms: &mut Overlay<'_>, instances: &mut Instances, units: u64) -> bool
+    ensures tidies { Tidies terms.old terms.new units result }
     ensures instances { let before = contents_of (over terms.old.0 terms.old.1) in
         let after = contents_of (over terms.new.0 terms.new.1) in
         AreInstances before instances.old.table → AreInstances after instances.new.table }
 {
-    if limit.stays(rows_of(terms.own_sizes()), rows_of(terms.base_sizes())) {
+    let (made, library) = (rows_of(terms.own_sizes()), rows_of(terms.base_sizes()));
+    if stays(made, units, library) {
         return true;
     }
     terms.clear();
@@ -93,10 +95,10 @@ fn tidy(terms: &mut Overlay<'_>, instances: &mut Instances, limit: &mut Limit) -
 }
 
 /// Looks from this unit, of which nothing is partial, with no auxiliary types, a store that has
-/// what the library has, and this budget. Whether what earlier units made stays.
+/// what the library has, and this budget. Whether what so many earlier units made stays.
 fn restart<'a>(
     lookout: &mut Lookout<'a, Overlay<'a>>,
-    limit: &mut Limit,
+    units: u64,
     unit: u32,
     budget: u128,
 ) -> bool
@@ -105,7 +107,7 @@ fn restart<'a>(
 {
     let partial = Partial::Nothing;
     let library = lookout.scope.library();
-    let stays = tidy(&mut lookout.terms, &mut lookout.instances, limit);
+    let stays = tidy(&mut lookout.terms, &mut lookout.instances, units);
     lookout.site = Site { unit, partial };
     lookout.scope = Scope::new(lookout.alloc, library, &lookout.terms);
     lookout.meter = Meter::new(budget);
@@ -174,13 +176,13 @@ impl<'a, K: Knows> Engine<'a, K> {
         };
         Engine {
             lookout,
-            limit: Limit::new(),
+            units: 0,
             knowledge,
         }
     }
 
     /// Begins a unit: the names below it are seen, nothing of it is partial, and so many steps may
-    /// be taken. What earlier units made goes once it is too many rows, and of the answers all but
+    /// be taken. What earlier units made goes once it passes a limit, and of the answers all but
     /// those over the library's own terms, or over terms that stay. It costs nothing that grows
     /// with the library.
     pub fn start(&mut self, unit: u32, budget: u128)
@@ -190,14 +192,27 @@ impl<'a, K: Knows> Engine<'a, K> {
         ensures partial { self.new.1.partial ≡ Partial.Nothing }
         ensures contents { Extends (contents_of self.old.0.2.0)
             (contents_of (over self.new.2.0 self.new.2.1)) }
-        ensures few { row_count (sizes_of self.new.2.1)
-            < most_rows (row_count (sizes_of self.old.0.2.0)) }
+        ensures bounded { IsBounded (row_count (sizes_of self.new.2.1))
+            (row_count (sizes_of self.old.0.2.0)) }
         ensures left { self.new.3.left ≡ budget }
         ensures turns { self.new.3.turns ≡ 0 }
     {
-        let stays = restart(&mut self.lookout, &mut self.limit, unit, budget);
+        let stays = restart(&mut self.lookout, self.units, unit, budget);
+        self.units = if stays {
+            self.units.saturating_add(1)
+        } else {
+            1
+        };
         let terms = self.lookout.len();
         self.knowledge.start_unit(unit, terms, stays);
+    }
+
+    /// From here on what units made goes when the next one is begun, unless it is few rows. For where
+    /// memory is wanting.
+    pub fn let_go(&mut self)
+        ensures { self.new ≡ self.old }
+    {
+        self.units = u64::MAX;
     }
 
     /// How many questions were opened for the unit that was begun last, those of which an answer
