@@ -7,7 +7,7 @@ ghost use Rattle.lk_engine.specs.Entries.{IsTrueAt, Keeps};
 ghost use Rattle.lk_engine.specs.Lookouts.{place_of, AreTrueAt, Repeats, Opens, Answers, AnswersKept};
 
 use crate::circles::{FIRST, look};
-use crate::deep::{depth, is_worth};
+use crate::deep::{pay_if_deep, trial};
 use crate::instant::at_once;
 use crate::paying::{last, left, note_before, pay};
 use crate::sheet::AnySheet;
@@ -148,7 +148,7 @@ fn first_kept<T: Terms>(
     memo: &mut PrivateMemo,
     pace: &mut Pace,
     query: Query<u64>,
-    depth: u64,
+    trial: u64,
 ) -> Result<AnyNext, Stop>
     requires query_in { IsKnownQuery (length (T.contents lookout.old.2).trees) query }
     requires entries { AreTrueAt lookout.old (T.contents lookout.old.2) memo.old }
@@ -156,7 +156,7 @@ fn first_kept<T: Terms>(
     ensures entries { AreTrueAt lookout.old (T.contents lookout.new.2) memo.new }
 {
     let budget = left(lookout);
-    let deep = is_worth(lookout, memo, pace, query, depth);
+    let deep = pay_if_deep(lookout, memo, pace, query, trial);
     let next = first_step(lookout, query, deep)?;
     if let Next::Done(answer) = &next {
         if is_at_levels(lookout, query) {
@@ -173,7 +173,7 @@ fn open<T: Terms>(
     memo: &mut PrivateMemo,
     pace: &mut Pace,
     query: Query<u64>,
-    depth: u64,
+    trial: u64,
 ) -> Result<AnyNext, Stop>
     requires query_in { IsKnownQuery (length (T.contents lookout.old.2).trees) query }
     requires entries { AreTrueAt lookout.old (T.contents lookout.old.2) memo.old }
@@ -182,7 +182,7 @@ fn open<T: Terms>(
 {
     match known(lookout, memo, query) {
         Some(kept) => Ok(Next::Done(repeat(lookout, kept)?)),
-        None => first_kept(lookout, memo, pace, query, depth),
+        None => first_kept(lookout, memo, pace, query, trial),
     }
 }
 
@@ -203,13 +203,13 @@ fn work<T: Terms>(
     let mut budget = left(lookout);
     let mut next = first_step(lookout, query, false)?;
     let mut due = FIRST;
-    let mut deep = 0;
+    let mut tried = 0;
     'work: loop {
         match next {
             Next::Ask(other, sheet) => {
                 let last = last(lookout);
                 let before = left(lookout);
-                match open(lookout, memo, &mut stack.pace, other, deep)? {
+                match open(lookout, memo, &mut stack.pace, other, tried)? {
                     Next::Ask(deeper, inner) => {
                         let frame = Frame {
                             asker: asked,
@@ -224,11 +224,11 @@ fn work<T: Terms>(
                         budget = before;
                         next = Next::Ask(deeper, inner);
                         due = look(&stack.frames, asked, due)?;
-                        deep = depth(&stack.frames);
+                        tried = trial(&stack.frames);
                     }
                     // Answered at once: nothing has to wait, and nothing is kept of it.
                     Next::Done(answer) => {
-                        deep = 0;
+                        tried = 0;
                         note_before(lookout, last);
                         next = resume(lookout, sheet, answer)?;
                     }
@@ -243,7 +243,7 @@ fn work<T: Terms>(
                         return Ok(answer);
                     }
                     Some(frame) => {
-                        deep = 0;
+                        tried = 0;
                         asked = frame.asker;
                         budget = frame.budget;
                         note_before(lookout, frame.last);

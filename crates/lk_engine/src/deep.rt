@@ -51,7 +51,7 @@ fn functions(frames: &[Frame], most: usize) -> usize {
 /// Whether so many functions wait at the end, one inside the other, and not twice as many. As they
 /// come to wait it is so once, however many they are, and costs little: it is looked at only where
 /// as many questions wait, some times.
-fn wait(frames: &[Frame], many: usize) -> bool
+fn has_functions(frames: &[Frame], many: usize) -> bool
     requires { 0 < many }
 {
     if frames.len() % many != 0 {
@@ -62,28 +62,28 @@ fn wait(frames: &[Frame], many: usize) -> bool
     many <= count && count < most
 }
 
-/// At the how many-th place it is tried.
+/// The how many-th trial it is, for as many functions wait as there is one for, or 0.
 #[inline(never)]
-fn place(frames: &[Frame]) -> u64 {
-    if wait(frames, DEEP) {
+fn trial_of_many(frames: &[Frame]) -> u64 {
+    if has_functions(frames, DEEP) {
         1
-    } else if wait(frames, DEEP * DEEP) {
+    } else if has_functions(frames, DEEP * DEEP) {
         2
-    } else if wait(frames, DEEP * DEEP * DEEP) {
+    } else if has_functions(frames, DEEP * DEEP * DEEP) {
         3
-    } else if wait(frames, DEEP * DEEP * DEEP * DEEP) {
+    } else if has_functions(frames, DEEP * DEEP * DEEP * DEEP) {
         4
     } else {
         0
     }
 }
 
-/// At the how many-th place, as so many functions wait one inside the other, the arguments of the
-/// next one may be put at once: 0 where it is none.
+/// The how many-th trial it is to put the arguments of the next function at once, as so many wait one
+/// inside the other: 0 where it is none.
 #[inline(always)]
-pub(crate) fn depth(frames: &[Frame]) -> u64 {
+pub(crate) fn trial(frames: &[Frame]) -> u64 {
     if frames.len() % DEEP == 0 {
-        place(frames)
+        trial_of_many(frames)
     } else {
         0
     }
@@ -102,7 +102,7 @@ fn function_of<T: Terms>(terms: &T, e: u64) -> Option<u64>
 
 /// Whether the memo has the type of a function, which is looked up where the count is a power of 2:
 /// it has those inside it too, mostly.
-fn is_kept<T: Terms>(
+fn has_type_of<T: Terms>(
     lookout: &Lookout<'_, T>,
     memo: &mut PrivateMemo,
     function: u64,
@@ -119,7 +119,11 @@ fn is_kept<T: Terms>(
 /// the memo has one of the functions that the first half of the arguments are given to, counted
 /// from the end, which are asked for one inside the other. One that it has ends the way inwards,
 /// and then it takes longer to put all arguments at once.
-fn unknown<T: Terms>(lookout: &Lookout<'_, T>, memo: &mut PrivateMemo, e: u64) -> Option<(u64, u64)>
+fn unknown_spine<T: Terms>(
+    lookout: &Lookout<'_, T>,
+    memo: &mut PrivateMemo,
+    e: u64,
+) -> Option<(u64, u64)>
     requires e_in { e < length (T.contents lookout.now.2).trees }
     requires entries { AreTrueAt lookout.now (T.contents lookout.now.2) memo.old }
     ensures head { IfSome result (λ p. p.0 < length (T.contents lookout.now.2).trees) }
@@ -135,7 +139,7 @@ fn unknown<T: Terms>(lookout: &Lookout<'_, T>, memo: &mut PrivateMemo, e: u64) -
         ) {
             (Some(next), Some(further)) => {
                 count = count.saturating_add(1);
-                if is_kept(lookout, memo, next, count) {
+                if has_type_of(lookout, memo, next, count) {
                     return None;
                 }
                 function = next;
@@ -150,26 +154,26 @@ fn unknown<T: Terms>(lookout: &Lookout<'_, T>, memo: &mut PrivateMemo, e: u64) -
 /// Each argument that is put takes so many steps.
 const ARGUMENT: u64 = 8;
 
-/// Whether the arguments of a term are to be put at once, which the pace has to allow. What it
-/// takes is spent.
+/// Whether the arguments of a term are to be put at once, which the pace has to allow. If so, what
+/// that takes is spent.
 #[inline(never)]
-fn is_paid<T: Terms>(
+fn pay_for_spine<T: Terms>(
     lookout: &Lookout<'_, T>,
     memo: &mut PrivateMemo,
     pace: &mut Pace,
     e: u64,
-    depth: u64,
+    trial: u64,
 ) -> bool
     requires e_in { e < length (T.contents lookout.now.2).trees }
     requires entries { AreTrueAt lookout.now (T.contents lookout.now.2) memo.old }
     ensures { AreTrueAt lookout.now (T.contents lookout.now.2) memo.new }
 {
     pace.note(lookout.terms.len());
-    let most = pace.most(depth);
+    let most = pace.most(trial);
     if most == 0 || !long_spine(lookout, e) {
         return false;
     }
-    let Some((function, arguments)) = unknown(lookout, memo, e) else {
+    let Some((function, arguments)) = unknown_spine(lookout, memo, e) else {
         return false;
     };
     let Some(steps) = steps_of(lookout, function, most) else {
@@ -184,24 +188,24 @@ fn is_paid<T: Terms>(
 }
 
 /// Whether the arguments of a term are to be put at once: it is asked for deep inside applications,
-/// the memo has none of what is asked for next, and the pace allows it.
+/// the memo has none of what is asked for next, and the pace allows it, which then has spent it.
 #[inline(always)]
-pub(crate) fn is_worth<T: Terms>(
+pub(crate) fn pay_if_deep<T: Terms>(
     lookout: &Lookout<'_, T>,
     memo: &mut PrivateMemo,
     pace: &mut Pace,
     query: Query<u64>,
-    depth: u64,
+    trial: u64,
 ) -> bool
     requires query_in { IsKnownQuery (length (T.contents lookout.now.2).trees) query }
     requires entries { AreTrueAt lookout.now (T.contents lookout.now.2) memo.old }
     ensures { AreTrueAt lookout.now (T.contents lookout.now.2) memo.new }
 {
-    if depth == 0 {
+    if trial == 0 {
         return false;
     }
     match query {
-        Query::Infer(e) => is_paid(lookout, memo, pace, e, depth),
+        Query::Infer(e) => pay_for_spine(lookout, memo, pace, e, trial),
         _ => false,
     }
 }

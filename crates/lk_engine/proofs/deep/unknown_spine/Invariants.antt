@@ -2,7 +2,7 @@ use Rattle.std.proofs.Common.{◌<◌, length}
 use Rattle.lk_store.specs.Contents.{tree_at}
 use Rattle.lk_spine.specs.Reading.{left_depth}
 use Rattle.lk_engine.specs.Lookouts.{AreTrueAt}
-use Rattle.lk_engine.proofs.deep.unknown.Given as goal
+use Rattle.lk_engine.proofs.deep.unknown_spine.Given as goal
 
 abbrev pub invariant-functions : goal.invariant-functions
 invariant-functions g l =
