@@ -207,7 +207,7 @@ fn judge<K: Knows>(
 
 /// The verdict of a unit, whose questions may take so many steps. The engine is started anew for it:
 /// what it still has of the work of earlier ones changes no answer and no cost.
-pub(crate) fn check_unit<K: Knows>(
+fn begin_and_judge<K: Knows>(
     alloc: Global,
     library: &Library,
     engine: &mut Engine<'_, K>,
@@ -221,7 +221,24 @@ pub(crate) fn check_unit<K: Knows>(
 {
     let unit = &library.units()[number as usize];
     engine.start(number, steps);
-    let verdict = judge(alloc, library, engine, number, unit);
+    judge(alloc, library, engine, number, unit)
+}
+
+/// The verdict of a unit, whose questions may take so many steps. Where memory is wanting, what
+/// units made goes before the next one, which then finds its room.
+pub(crate) fn check_unit<K: Knows>(
+    alloc: Global,
+    library: &Library,
+    engine: &mut Engine<'_, K>,
+    number: u32,
+    steps: u128,
+) -> Verdict
+    requires library { engine.old.0.2 ≡ library.now }
+    requires number { number < length library.now.1 }
+    ensures library { engine.new.0.2 ≡ engine.old.0.2 }
+    ensures right { IsRight library.now steps number result }
+{
+    let verdict = begin_and_judge(alloc, library, engine, number, steps);
     if matches!(verdict, Verdict::Memory) {
         engine.let_go();
     }

@@ -7,7 +7,7 @@ use Rattle.leancheck.specs.Rows.{row_verdict}
 use Rattle.leancheck.specs.Held.{IsPlain}
 use Rattle.leancheck.proofs.Started.{all_partial}
 use Rattle.leancheck.proofs.InOrder.{unit_known, unit_stands, judged_right}
-use Rattle.leancheck.proofs.checking.check_unit.Goals as goal
+use Rattle.leancheck.proofs.checking.begin_and_judge.Goals as goal
 
 pub judge-requires-clause-place : goal.judge-requires-clause-place
 judge-requires-clause-place g c =
