@@ -96,12 +96,7 @@ fn tidy(terms: &mut Overlay<'_>, instances: &mut Instances, units: u64) -> bool
 
 /// Looks from this unit, of which nothing is partial, with no auxiliary types, a store that has
 /// what the library has, and this budget. Whether what so many earlier units made stays.
-fn restart<'a>(
-    lookout: &mut Lookout<'a, Overlay<'a>>,
-    units: u64,
-    unit: u32,
-    budget: u128,
-) -> bool
+fn restart<'a>(lookout: &mut Lookout<'a, Overlay<'a>>, units: u64, unit: u32, budget: u128) -> bool
     requires { lookout.old.2.0 ≡ lookout.old.0.2.0 }
     ensures { Restarts lookout.old lookout.new unit budget result }
 {
