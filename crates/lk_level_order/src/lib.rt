@@ -1,4 +1,5 @@
-//! The complete comparison of levels: whether two are equal, or one at most the other, under every assignment.
+//! The complete comparison of levels: whether two are equal, or one at most the other, under every
+//! assignment.
 //!
 //! A level is computed from values of its parameters. For each choice of which parameters inside right sides of `imax`
 //! are above 0, the levels are computed at the least values that fit it, and once for each other parameter far above

@@ -8,13 +8,13 @@ use std::marker::Model;
 /// Up to so many rows are looked through one after another.
 const FEW: usize = 16;
 
-/// So many slots are kept by a table that is made empty, or so many times as many as it had rows. To
-/// free them takes less time than to make them again, and no more than the rows took, however large
-/// the table once was.
+/// A table that is made empty keeps its slots where they are at most so many.
 const KEPT: usize = 512;
 
-/// A table that is made empty keeps its slots where they are at most so many for each of its rows.
-const FOR_EACH: usize = 8;
+/// It keeps more where they are at most so many for each of the rows that it had. To free them takes
+/// less time than to make them anew, and no more than the rows took, however large the table once
+/// was.
+const SLOTS_A_ROW: usize = 8;
 
 /// Where a row is more slots than this away from its bucket, the table takes another seed and
 /// places all rows anew. By chance the farthest of a million rows is some hundred and fifty slots
@@ -323,11 +323,12 @@ impl<R: Row + Drop> Table<R> {
         if self.rows.is_empty() {
             return;
         }
-        let kept = self.tags.len() <= KEPT || self.tags.len() / FOR_EACH <= self.rows.len();
+        let slots = self.tags.len();
+        let too_many = slots > KEPT && slots / SLOTS_A_ROW > self.rows.len();
         self.rows.clear();
         self.most = 0;
         self.seed = 0;
-        if !kept {
+        if too_many {
             self.tags.clear();
             self.slots.clear();
         }

@@ -1,6 +1,7 @@
-//! Two terms as proofs: where the type of the left one is a proposition, and the right one's type is the same, they are.
+//! Two terms as proofs: where the type of the left one is a proposition, and the right one's type is
+//! the same, they are.
 
-ghost use Rattle.std.specs.Prelude.{◌≡◌, ◌<◌, ℕ, IfOk, Option, length};
+ghost use Rattle.std.specs.Prelude.{◌≡◌, ◌<◌, ℕ, Option, length};
 ghost use Rattle.lk_tree.specs.Tree.{Tree};
 ghost use Rattle.lk_rulebook.specs.Place.{Place};
 ghost use Rattle.lk_plain.specs.Erased.{truth, erased};
