@@ -286,9 +286,9 @@ gives_basis old new partial aux (Ok u) h e = rw (h.library, h.site) refl
 gives_basis old new partial aux (Err x) h e = ap (λ s. (s.0.2, s.1.unit)) e
 
 -- a store over a library's has what the library has, once it was tidied
-pub tidied : (library : Tables) (scope : Contents) (old new : Tables × Tables) {units : ℕ} (stays : Bool)
+pub tidied : (library : Tables) (scope : Contents) (old new : Tables × Tables) (stays : Bool)
     → old.0 ≡ library → Extends (contents_of library) scope
-    → Extends scope (contents_of (over old.0 old.1)) → Tidies old new units stays
+    → Extends scope (contents_of (over old.0 old.1)) → Tidies old new stays
     → Extends (contents_of library) (contents_of (over new.0 new.1))
 tidied library scope old new true base x y h =
     subst (λ t. Extends (contents_of library) (contents_of (over t.0 t.1))) (sym (h.same refl))

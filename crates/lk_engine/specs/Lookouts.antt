@@ -1,5 +1,5 @@
 -- Questions over a lookout: what they leave as it was, and what they come to.
-use Rattle.std.specs.Prelude.{◌≡◌, ◌≢◌, ◌<◌, ◌≤◌, ◌+◌, ◌-◌, ◌*◌, ◌^◌, ◌⊎◌, ◌↔◌, ℕ, Bool, true, false, List, [], Option, Some, Result, Err, IfOk, OnOk, IfErr, IfSome, length}
+use Rattle.std.specs.Prelude.{◌≡◌, ◌≢◌, ◌<◌, ◌≤◌, ◌+◌, ◌-◌, ◌*◌, ◌^◌, ◌⊎◌, ℕ, Bool, true, false, List, [], Option, Some, Result, Err, IfOk, OnOk, IfErr, IfSome, length}
 use Rattle.lk_rulebook.specs.Place.{Place}
 use Rattle.lk_rulebook.specs.Units.{Members}
 use Rattle.lk_rulebook.specs.Units.{place_of as unit_place}
@@ -143,22 +143,15 @@ pub record AnswersKept {T : Type 0} (old new : Seen T) (memo : PrivateMemo)
 abbrev pub row_count : Sizes → ℕ
 row_count s = s.numbers + s.names + s.texts + s.levels + s.lists + s.terms
 
--- rows that so many units made stay beside a library of so many: they are few, or are many for each
--- of the units and not too many beside the library
-abbrev pub MayStay : ℕ → ℕ → ℕ → Type 0
-MayStay made units library =
-    (made < 65536) ⊎ ((1024 * units ≤ made) × (made < 4 * library))
-
 -- beside a library of so many rows, a unit is begun with fewer than these
 abbrev pub IsBounded : ℕ → ℕ → Type 0
 IsBounded made library = (made < 65536) ⊎ (made < 4 * library)
 
--- what so many units made over the library's store stays, where it may, or all of it was forgotten
-pub record Tidies (old new : Tables × Tables) (units : ℕ) (stays : Bool) : Type 0 where
+-- what units made over the library's store stays, where it is not too many rows, or all of it was
+-- forgotten
+pub record Tidies (old new : Tables × Tables) (stays : Bool) : Type 0 where
   pub base : new.0 ≡ old.0
   pub same : stays ≡ true → new ≡ old
-  pub may : stays ≡ true
-      ↔ MayStay (row_count (sizes_of old.1)) units (row_count (sizes_of old.0))
   pub bounded : IsBounded (row_count (sizes_of new.1)) (row_count (sizes_of old.0))
   pub emptied : stays ≡ false → contents_of (over new.0 new.1) ≡ contents_of old.0
 

@@ -13,7 +13,7 @@ ghost use Rattle.lk_engine.specs.Lookouts.{row_count, IsBounded, Tidies, Restart
 
 use crate::families::family_of;
 use crate::knowledge::Knows;
-use crate::limit::{rows_of, stays};
+use crate::limit::{Limit, rows_of};
 use crate::parameters::parameters_at;
 use lk_ask::asks::Asks;
 use lk_ask::instances::Instances;
@@ -45,8 +45,8 @@ use std::mem::drop;
 /// for what outlasts one. Whether answers are shared with other workers is told by its parameter.
 pub struct Engine<'a, K: Knows> {
     lookout: Lookout<'a, Overlay<'a>>,
-    /// How many units made what stands.
-    units: u64,
+    /// How much of what units made stays.
+    limit: Limit,
     knowledge: &'a mut K,
 }
 
@@ -71,22 +71,22 @@ impl<K: Knows> Drop for Engine<'_, K> {
     fn drop(self) {
         let Engine {
             lookout,
-            units: _,
+            limit: _,
             knowledge: _,
         } = self;
         drop(lookout);
     }
 }
 
-/// Forgets what so many units made, unless it may stay. Whether it does.
-fn tidy(terms: &mut Overlay<'_>, instances: &mut Instances, units: u64) -> bool
-    ensures tidies { Tidies terms.old terms.new units result }
+/// Forgets what units made, unless it may stay. Whether it does.
+fn tidy(terms: &mut Overlay<'_>, instances: &mut Instances, limit: &mut Limit) -> bool
+    ensures tidies { Tidies terms.old terms.new result }
     ensures instances { let before = contents_of (over terms.old.0 terms.old.1) in
         let after = contents_of (over terms.new.0 terms.new.1) in
         AreInstances before instances.old.table → AreInstances after instances.new.table }
 {
     let (made, library) = (rows_of(terms.own_sizes()), rows_of(terms.base_sizes()));
-    if stays(made, units, library) {
+    if limit.lets_stay(made, library) {
         return true;
     }
     terms.clear();
@@ -95,14 +95,19 @@ fn tidy(terms: &mut Overlay<'_>, instances: &mut Instances, units: u64) -> bool
 }
 
 /// Looks from this unit, of which nothing is partial, with no auxiliary types, a store that has
-/// what the library has, and this budget. Whether what so many earlier units made stays.
-fn restart<'a>(lookout: &mut Lookout<'a, Overlay<'a>>, units: u64, unit: u32, budget: u128) -> bool
+/// what the library has, and this budget. Whether what earlier units made stays.
+fn restart<'a>(
+    lookout: &mut Lookout<'a, Overlay<'a>>,
+    limit: &mut Limit,
+    unit: u32,
+    budget: u128,
+) -> bool
     requires { lookout.old.2.0 ≡ lookout.old.0.2.0 }
     ensures { Restarts lookout.old lookout.new unit budget result }
 {
     let partial = Partial::Nothing;
     let library = lookout.scope.library();
-    let stays = tidy(&mut lookout.terms, &mut lookout.instances, units);
+    let stays = tidy(&mut lookout.terms, &mut lookout.instances, limit);
     lookout.site = Site { unit, partial };
     lookout.scope = Scope::new(lookout.alloc, library, &lookout.terms);
     lookout.meter = Meter::new(budget);
@@ -171,7 +176,7 @@ impl<'a, K: Knows> Engine<'a, K> {
         };
         Engine {
             lookout,
-            units: 0,
+            limit: Limit::new(),
             knowledge,
         }
     }
@@ -192,12 +197,7 @@ impl<'a, K: Knows> Engine<'a, K> {
         ensures left { self.new.3.left ≡ budget }
         ensures turns { self.new.3.turns ≡ 0 }
     {
-        let stays = restart(&mut self.lookout, self.units, unit, budget);
-        self.units = if stays {
-            self.units.saturating_add(1)
-        } else {
-            1
-        };
+        let stays = restart(&mut self.lookout, &mut self.limit, unit, budget);
         let terms = self.lookout.len();
         self.knowledge.start_unit(unit, terms, stays);
     }
@@ -207,7 +207,7 @@ impl<'a, K: Knows> Engine<'a, K> {
     pub fn let_go(&mut self)
         ensures { self.new ≡ self.old }
     {
-        self.units = u64::MAX;
+        self.limit.let_go();
     }
 
     /// How many questions were opened for the unit that was begun last, those of which an answer

@@ -1,17 +1,17 @@
 //! How many rows of what units made stay from one to the next.
 
-ghost use Rattle.std.specs.Prelude.{◌≡◌, ◌↔◌, IsTrue};
-ghost use Rattle.lk_engine.specs.Lookouts.{row_count, MayStay};
+ghost use Rattle.std.specs.Prelude.{◌≡◌, IsTrue};
+ghost use Rattle.lk_engine.specs.Lookouts.{row_count, IsBounded};
 
 use lk_store::sizes::Sizes;
 
-/// Fewer rows than so many stay, those of all kinds together.
+/// Fewer rows than so many always stay, those of all kinds together.
 const FEW: u128 = 65_536;
 
-/// More stay where the units that made them made so many each on average.
+/// A unit makes many where it makes so many.
 const MANY: u128 = 1_024;
 
-/// But never so many times as many as the library has.
+/// But never do so many times as many stay as the library has.
 const TIMES: u128 = 4;
 
 /// How many rows there are. Each kind counts: a file could have units make only levels or names.
@@ -22,11 +22,45 @@ pub(crate) fn rows_of(sizes: Sizes) -> u128
     named + sizes.levels as u128 + sizes.lists as u128 + sizes.terms as u128
 }
 
-/// Whether so many rows, which so many units made, stay beside a library of so many. Where units
-/// make few, what they made goes now and then, so that what is at hand is small. Where they make
-/// many it stays: else a file of units that make the same would have all of it made again for each.
-pub(crate) fn stays(made: u128, units: u64, library: u128) -> bool
-    ensures { IsTrue result ↔ MayStay made units library }
-{
-    made < FEW || (made / MANY >= units as u128 && made / TIMES < library)
+/// How many rows stay. Where units make few each, what they made goes now and then, so that what is
+/// at hand is small. Where they make many the limit doubles each time that it is reached: else a
+/// file of units that make the same would have all of it made again and again. What goes halves it.
+#[derive(Drop)]
+pub(crate) struct Limit {
+    /// So many rows are too many.
+    rows: u128,
+    /// How many units made what stands.
+    units: u128,
+}
+
+impl Limit {
+    /// The least one, over what no unit made.
+    pub(crate) fn new() -> Self {
+        Limit {
+            rows: FEW,
+            units: 0,
+        }
+    }
+
+    /// Whether so many rows stay for the next unit, beside a library of so many.
+    pub(crate) fn lets_stay(&mut self, made: u128, library: u128) -> bool
+        ensures { IsTrue result → IsBounded made library }
+    {
+        if made >= self.rows && made / MANY >= self.units {
+            self.rows = made.saturating_mul(2);
+        }
+        if made < FEW || (made < self.rows && made / TIMES < library) {
+            self.units = self.units.saturating_add(1);
+            return true;
+        }
+        self.rows = FEW.max(self.rows / 2);
+        self.units = 1;
+        false
+    }
+
+    /// From here on what stands goes, unless it is few rows.
+    pub(crate) fn let_go(&mut self) {
+        self.rows = FEW;
+        self.units = u128::MAX;
+    }
 }
