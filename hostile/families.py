@@ -772,7 +772,7 @@ FAMILIES = [
     (parameters_in_turn, 10 ** 5), (fields_in_turn, 10 ** 5), (field_projections, 10 ** 4), (type_parameters, 1000),
     (indices, 10 ** 5), (mutual, 2000), (blocks, 10 ** 5), (nested, 1000),
     (axioms, 10 ** 6), (theorems, 10 ** 6), (refused, 10 ** 6), (unfolding, 10 ** 5), (many_axioms, 10 ** 5),
-    (gathered_axioms, 10 ** 4), (axioms_of_one_type, 3 * 10 ** 4), (uses_of_one_constant, 3 * 10 ** 4),
+    (gathered_axioms, 10 ** 4), (axioms_of_one_type, 10 ** 5), (uses_of_one_constant, 10 ** 5),
     (uses_of_five_constants, 2 * 10 ** 4), (heavy_and_light, 10 ** 4),
     (doubled_pis, 4000), (doubled_arguments, 4000), (doubled_lets, 4000), (doubled_unequal, 4000), (doubled_variable, 4000),
     (doubled_fields, 4000), (doubled_parameter, 4000),
