@@ -29,6 +29,16 @@ pub record Draws (l : Tables × List StoredUnit) (steps : ℕ) (desk : Desk) (be
   pub drawn : (view after).drawn ≡ (view before).drawn ++ numbers answers
   pub right : AreRight l steps answers
 
+-- no number below this one is drawn by the seat any more
+abbrev pub IsPassed : ℕ → Seat → Type 0
+IsPassed n seat = (b : ℕ) → All (λ x. x < b) (view seat).drawn → n ≤ b
+
+-- the seat drew more numbers, and each of them says memory, or something else that is right
+abbrev pub GoesOnDrawing : Desk → Seat → Seat → List UnitVerdict → List UnitVerdict → Type 0
+GoesOnDrawing desk between after some answers =
+    (l : Tables × List StoredUnit) (steps : ℕ) (before : Seat) → job desk ≡ job_of l
+    → Draws l steps desk before between some → Draws l steps desk before after answers
+
 -- a worker's seat came from itself alone, and what it drew has a verdict each, which is right
 pub record IsDone (l : Tables × List StoredUnit) (steps : ℕ) (desk : Desk)
     (done : Done) : Type 0 where

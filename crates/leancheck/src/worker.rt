@@ -1,9 +1,10 @@
 //! A worker: it draws units and checks them until there are none, or memory is wanting.
 
-ghost use Rattle.std.specs.Prelude.{◌≡◌, IfSome};
-ghost use Rattle.lk_desk.specs.Job.{job_of};
+ghost use Rattle.std.specs.Prelude.{◌≡◌, ◌<◌, ◌≤◌, IfSome, vec_len};
+ghost use Rattle.lk_desk.specs.Job.{job_of, units_of};
 ghost use Rattle.lk_desk.specs.Seats.{job, IsNew, Sits};
-ghost use Rattle.leancheck.specs.Workers.{Draws, IsDone, IsWorkerSeat};
+ghost use Rattle.leancheck.specs.Drawn.{AreRight, numbers};
+ghost use Rattle.leancheck.specs.Workers.{IsPassed, GoesOnDrawing, Draws, IsDone, IsWorkerSeat};
 
 use crate::checking::check_unit;
 use crate::order::UnitVerdict;
@@ -16,6 +17,12 @@ use lk_text::Verdict;
 use std::alloc::Global;
 use std::mem::drop;
 
+/// A worker draws so many units at once at most.
+const MOST: u64 = 128;
+
+/// Of those that are left it draws at once no more than the share of one in so many for each worker.
+const PART: u64 = 8;
+
 /// How units are checked.
 #[derive(Clone, Copy)]
 pub struct Limits {
@@ -23,6 +30,8 @@ pub struct Limits {
     pub steps: u128,
     /// How many answers a worker keeps at most.
     pub kept: u32,
+    /// How many workers check.
+    pub workers: u32,
 }
 
 /// Where a worker sits: at the desk at which units are drawn and, where others check too, at one at
@@ -45,39 +54,100 @@ fn says_yes(verdict: Verdict) -> bool {
     matches!(verdict, Verdict::Yes)
 }
 
-/// Draws units, and gives a verdict for each. Where memory is wanting for one more answer none is
-/// drawn.
+/// How many units one of so many workers draws at once, where so many are left. Neighbours have much
+/// in common, so that one worker makes for all of them what two would make twice. Of the last ones
+/// few are drawn at once, so that no worker ends long after the others.
+fn at_once(left: u64, workers: u32) -> u64 {
+    (left / PART / u64::from(workers.max(1))).clamp(1, MOST)
+}
+
+/// Draws so many units, or as many as are left and as there is room for: where memory is wanting for
+/// one more answer none is drawn. Each says memory until it is checked. No number below the first
+/// one is drawn, and none below the one that is returned from then on.
+fn draw(desk: &Desk, seat: &mut Seat, answers: &mut Vec<UnitVerdict>, count: u64, first: u64) -> u64
+    requires sits { Sits seat.old desk.now }
+    requires first { IsPassed first seat.old }
+    ensures draws { GoesOnDrawing desk.now seat.old seat.new answers.old.items answers.new.items }
+    ensures next { IsPassed result seat.new }
+    ensures more { vec_len answers.old < vec_len answers.new
+        → (first < result) × (result ≤ units_of (job desk.now)) }
+{
+    let mut next = first;
+    for _ in 0..count {
+        if answers.try_reserve(1).is_err() {
+            return next;
+        }
+        match desk.claim(seat) {
+            None => return next,
+            Some(number) => {
+                next = u64::from(number) + 1;
+                let verdict = Verdict::Memory;
+                answers.push_reserved(UnitVerdict { number, verdict });
+            }
+        }
+    }
+    next
+}
+
+/// Gives a verdict for each unit among the answers from this place on.
+fn check_from<K: Knows, G: Gate>(
+    alloc: Global,
+    library: &Library,
+    engine: &mut Engine<'_, K>,
+    answers: &mut Vec<UnitVerdict>,
+    first: usize,
+    steps: u128,
+    gate: &G,
+)
+    requires library { engine.old.0.2 ≡ library.now }
+    requires right { AreRight library.now steps answers.old.items }
+    ensures library { engine.new.0.2 ≡ library.now }
+    ensures numbers { numbers answers.new.items ≡ numbers answers.old.items }
+    ensures right { AreRight library.now steps answers.new.items }
+{
+    for i in first..answers.len() {
+        let number = answers[i].number;
+        gate.before_unit(number);
+        let verdict = check_unit(alloc, library, engine, number, steps);
+        gate.after_unit(number, says_yes(verdict));
+        answers[i].verdict = verdict;
+    }
+}
+
+/// Draws units, some at once, and gives a verdict for each.
 fn draw_all<K: Knows, G: Gate>(
     alloc: Global,
     library: &Library,
     engine: &mut Engine<'_, K>,
     desk: &Desk,
     seat: &mut Seat,
-    steps: u128,
+    limits: Limits,
     gate: &G,
 ) -> Vec<UnitVerdict>
     requires library { engine.old.0.2 ≡ library.now }
     requires sits { Sits seat.old desk.now }
     requires job { job desk.now ≡ job_of library.now }
-    ensures { Draws library.now steps desk.now seat.old seat.new result.items }
+    ensures { Draws library.now limits.steps desk.now seat.old seat.new result.items }
 {
     let mut answers = Vec::new(alloc);
-    // Below this is all that was drawn.
-    let mut next = 0u64;
+    let units = library.units().len() as u64;
+    let mut next = 0;
     loop {
-        if answers.try_reserve(1).is_err() {
+        let first = answers.len();
+        let count = at_once(units.saturating_sub(next), limits.workers);
+        next = draw(desk, seat, &mut answers, count, next);
+        if answers.len() == first {
             return answers;
         }
-        match desk.claim(seat) {
-            None => return answers,
-            Some(number) => {
-                next = number as u64 + 1;
-                gate.before_unit(number);
-                let verdict = check_unit(alloc, library, engine, number, steps);
-                gate.after_unit(number, says_yes(verdict));
-                answers.push_reserved(UnitVerdict { number, verdict });
-            }
-        }
+        check_from(
+            alloc,
+            library,
+            engine,
+            &mut answers,
+            first,
+            limits.steps,
+            gate,
+        );
     }
 }
 
@@ -103,15 +173,7 @@ fn work_by<S: Sharing + Drop, G: Gate>(
     };
     let mut knowledge = Knowledge::new(alloc, memo, share);
     let mut engine = Engine::new(alloc, library, &mut knowledge);
-    let answers = draw_all(
-        alloc,
-        library,
-        &mut engine,
-        desk,
-        &mut seat,
-        limits.steps,
-        gate,
-    );
+    let answers = draw_all(alloc, library, &mut engine, desk, &mut seat, limits, gate);
     drop(engine);
     Done { seat, answers }
 }

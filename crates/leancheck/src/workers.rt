@@ -172,34 +172,32 @@ fn check_by<'a, R: Threads + Sync, G: Gate>(
     library: &Library,
     limits: Limits,
     share: &mut Option<Share<'a>>,
-    workers: u32,
     gate: &G,
 ) -> Result<Report, NoMemory>
     requires { IfSome share.old (λ s. s.0 ≡ job_of library.now) }
     ensures { IfOk result (IsWhole library.now limits.steps) }
 {
     let (desk, mut first) = Desk::new(alloc, library)?;
-    let seats = seats_for(alloc, &desk, &mut first, share, workers)?;
+    let seats = seats_for(alloc, &desk, &mut first, share, limits.workers)?;
     check_at(rt, alloc, library, limits, &desk, &mut first, seats, gate)
 }
 
-/// The same by so many workers: a single one shares no answers, and has no desk for them.
+/// The same by workers of a number that is given: a single one shares no answers, and has no desk for them.
 pub(crate) fn check_with<R: Threads + Sync, G: Gate>(
     rt: &R,
     alloc: Global,
     library: &Library,
     limits: Limits,
-    workers: u32,
     gate: &G,
 ) -> Result<Report, NoMemory>
     ensures { IfOk result (IsWhole library.now limits.steps) }
 {
-    if workers <= 1 {
-        return check_by(rt, alloc, library, limits, &mut None, workers, gate);
+    if limits.workers <= 1 {
+        return check_by(rt, alloc, library, limits, &mut None, gate);
     }
     let (answers, seat) = AnswerDesk::new(alloc, library)?;
     let mut share = Some(Share::new(&answers, seat));
-    check_by(rt, alloc, library, limits, &mut share, workers, gate)
+    check_by(rt, alloc, library, limits, &mut share, gate)
 }
 
 /// The verdicts of the units, in their order, by so many workers; the questions of each unit may
@@ -219,7 +217,8 @@ pub(crate) fn check_all<R: Threads + Sync, G: Gate>(
     let limits = Limits {
         steps: options.steps,
         kept: options.memo,
+        workers: options.workers,
     };
-    let report = check_with(rt, alloc, library, limits, options.workers, gate)?;
+    let report = check_with(rt, alloc, library, limits, gate)?;
     Ok(report.verdicts)
 }

@@ -1,13 +1,12 @@
-use Rattle.std.proofs.Common.{ℕ, ◌≡◌, ◌-◌, ◌<◌, ◌≤◌, All, length}
-use Rattle.lk_desk.specs.Seats.{view}
-use Rattle.leancheck.specs.Workers.{Draws}
+use Rattle.std.proofs.Common.{ℕ, ◌≡◌, ◌-◌, length}
+use Rattle.leancheck.specs.Workers.{IsPassed, Draws}
 use Rattle.leancheck.proofs.worker.draw_all.Given as goal
 
 abbrev pub invariant-loop-alloc : goal.invariant-loop-alloc
 invariant-loop-alloc g l = record {
   library : l.engine.0.2 ≡ l.library;
-  draws : Draws l.library l.steps l.desk l.fn.seat l.seat l.answers.items;
-  next : (b : ℕ) → All (λ x. x < b) (view l.seat).drawn → l.next ≤ b;
+  draws : Draws l.library l.limits.steps l.desk l.fn.seat l.seat l.answers.items;
+  next : IsPassed l.next l.seat;
 }
 
 abbrev pub decreases-loop-alloc : goal.decreases-loop-alloc
