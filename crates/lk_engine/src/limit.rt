@@ -8,10 +8,10 @@ use lk_store::sizes::Sizes;
 /// Fewer rows than so many always stay, those of all kinds together.
 const FEW: u128 = 65_536;
 
-/// A unit makes many where it makes so many.
+/// Units make many where they make so many each on average.
 const MANY: u128 = 1_024;
 
-/// But never do so many times as many stay as the library has.
+/// Where they are not few, less than so many times as many as the library has stay.
 const TIMES: u128 = 4;
 
 /// How many rows there are. Each kind counts: a file could have units make only levels or names.
@@ -24,7 +24,8 @@ pub(crate) fn rows_of(sizes: Sizes) -> u128
 
 /// How many rows stay. Where units make few each, what they made goes now and then, so that what is
 /// at hand is small. Where they make many the limit doubles each time that it is reached: else a
-/// file of units that make the same would have all of it made again and again. What goes halves it.
+/// file of units that make the same would have all of it made again and again. It is halved each
+/// time that all goes.
 #[derive(Drop)]
 pub(crate) struct Limit {
     /// So many rows are too many.
@@ -42,12 +43,13 @@ impl Limit {
         }
     }
 
-    /// Whether so many rows stay for the next unit, beside a library of so many.
+    /// Whether so many rows stay beside a library of so many, or all go. It is asked once for each
+    /// unit, as it counts them and moves the limit.
     pub(crate) fn lets_stay(&mut self, made: u128, library: u128) -> bool
         ensures { IsTrue result → IsBounded made library }
     {
         if made >= self.rows && made / MANY >= self.units {
-            self.rows = made.saturating_mul(2);
+            self.rows = made.saturating_mul(2).min(library.saturating_mul(TIMES));
         }
         if made < FEW || (made < self.rows && made / TIMES < library) {
             self.units = self.units.saturating_add(1);
