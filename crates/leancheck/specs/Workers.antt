@@ -1,7 +1,8 @@
 -- What a worker has done, and what comes of all workers together.
-use Rattle.std.specs.Prelude.{◌≡◌, ◌<◌, ◌++◌, ℕ, true, List, [], IfSome, length, slice_index_or}
+use Rattle.std.specs.Prelude.{◌≡◌, ◌<◌, ◌≤◌, ◌+◌, ◌++◌, ℕ, All, true, List, [], IfSome, length, slice_index_or}
 use Rattle.lk_store.specs.declared.tables.Tables.{Tables}
 use Rattle.lk_env.specs.declared.unit.Unit.{Unit as StoredUnit}
+use Rattle.lk_desk.specs.Job.{job_of, units_of}
 use Rattle.lk_desk.specs.declared.table.Desk.{Desk}
 use Rattle.lk_desk.specs.declared.table.Seat.{Seat}
 use Rattle.lk_desk.specs.Rule.{once_below}
@@ -29,15 +30,22 @@ pub record Draws (l : Tables × List StoredUnit) (steps : ℕ) (desk : Desk) (be
   pub drawn : (view after).drawn ≡ (view before).drawn ++ numbers answers
   pub right : AreRight l steps answers
 
--- no number below this one is drawn by the seat any more
+-- no number below this one is drawn by the seat any more: those that it draws are above all that it
+-- drew
 abbrev pub IsPassed : ℕ → Seat → Type 0
 IsPassed n seat = (b : ℕ) → All (λ x. x < b) (view seat).drawn → n ≤ b
 
--- the seat drew more numbers, and each of them says memory, or something else that is right
-abbrev pub GoesOnDrawing : Desk → Seat → Seat → List UnitVerdict → List UnitVerdict → Type 0
-GoesOnDrawing desk between after some answers =
-    (l : Tables × List StoredUnit) (steps : ℕ) (before : Seat) → job desk ≡ job_of l
-    → Draws l steps desk before between some → Draws l steps desk before after answers
+-- a seat drew more numbers, each with an answer that is right whatever the library is, and passed
+-- those up to another one
+pub record GoesOnDrawing (desk : Desk) (before after : Seat) (answers more : List UnitVerdict)
+    (passed next : ℕ) : Type 0 where
+  pub sits : Sits after desk
+  pub draws : (l : Tables × List StoredUnit) (steps : ℕ) (first : Seat) → job desk ≡ job_of l
+      → Draws l steps desk first before answers → Draws l steps desk first after more
+  pub reached : IsPassed next after
+  pub count : length answers ≤ length more
+  pub far : length more + passed ≤ length answers + next
+  pub most : passed ≤ units_of (job desk) → next ≤ units_of (job desk)
 
 -- a worker's seat came from itself alone, and what it drew has a verdict each, which is right
 pub record IsDone (l : Tables × List StoredUnit) (steps : ℕ) (desk : Desk)

@@ -518,9 +518,19 @@ fn files_that_are_made(rt: HostRuntime) -> Result<(), Fail> {
 #[test]
 fn trials(rt: HostRuntime) -> Result<(), Fail> {
     let alloc = rt.alloc();
-    let rows: [(&str, &[u8], Status); 4] = [
+    let rows: [(&str, &[u8], Status); 6] = [
         (
             "leancheck trial --units 1000 --seed 7",
+            b"units 1000 yes 1000 no 0 memory 0\n",
+            Status::AllYes,
+        ),
+        (
+            "leancheck trial --units 1000 --seed 7 --workers 2",
+            b"units 1000 yes 1000 no 0 memory 0\n",
+            Status::AllYes,
+        ),
+        (
+            "leancheck trial --units 1000 --seed 7 --workers 8",
             b"units 1000 yes 1000 no 0 memory 0\n",
             Status::AllYes,
         ),

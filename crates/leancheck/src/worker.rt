@@ -1,7 +1,7 @@
 //! A worker: it draws units and checks them until there are none, or memory is wanting.
 
-ghost use Rattle.std.specs.Prelude.{◌≡◌, ◌<◌, ◌≤◌, IfSome, vec_len};
-ghost use Rattle.lk_desk.specs.Job.{job_of, units_of};
+ghost use Rattle.std.specs.Prelude.{◌≡◌, IfSome};
+ghost use Rattle.lk_desk.specs.Job.{job_of};
 ghost use Rattle.lk_desk.specs.Seats.{job, IsNew, Sits};
 ghost use Rattle.leancheck.specs.Drawn.{AreRight, numbers};
 ghost use Rattle.leancheck.specs.Workers.{IsPassed, GoesOnDrawing, Draws, IsDone, IsWorkerSeat};
@@ -17,15 +17,15 @@ use lk_text::Verdict;
 use std::alloc::Global;
 use std::mem::drop;
 
-/// A worker draws so many units at once at most.
+/// A worker draws at most so many units at once,
 const MOST: u64 = 128;
 
-/// Of those that are left it draws at once no more than the share of one in so many for each worker.
-const PART: u64 = 8;
+/// and at most one in so many of its equal share of those that are left.
+const PART: u64 = 16;
 
 /// How units are checked.
 #[derive(Clone, Copy)]
-pub struct Limits {
+pub struct Settings {
     /// How many steps the questions of one unit may take.
     pub steps: u128,
     /// How many answers a worker keeps at most.
@@ -55,36 +55,53 @@ fn says_yes(verdict: Verdict) -> bool {
 }
 
 /// How many units one of so many workers draws at once, where so many are left. Neighbours have much
-/// in common, so that one worker makes for all of them what two would make twice. Of the last ones
-/// few are drawn at once, so that no worker ends long after the others.
+/// in common, so one worker makes for all of them what two would each make. Of the last ones few are
+/// drawn at once, since whoever has many of them may end long after the others.
 fn at_once(left: u64, workers: u32) -> u64 {
     (left / PART / u64::from(workers.max(1))).clamp(1, MOST)
 }
 
-/// Draws so many units, or as many as are left and as there is room for: where memory is wanting for
-/// one more answer none is drawn. Each says memory until it is checked. No number below the first
-/// one is drawn, and none below the one that is returned from then on.
-fn draw(desk: &Desk, seat: &mut Seat, answers: &mut Vec<UnitVerdict>, count: u64, first: u64) -> u64
+/// Draws one unit, where one is left and there is room for its answer, which says memory until the
+/// unit is checked. Nothing below `passed` is drawn any more, nor from then on below what is
+/// returned.
+fn draw_one(desk: &Desk, seat: &mut Seat, answers: &mut Vec<UnitVerdict>, passed: u64) -> u64
     requires sits { Sits seat.old desk.now }
-    requires first { IsPassed first seat.old }
-    ensures draws { GoesOnDrawing desk.now seat.old seat.new answers.old.items answers.new.items }
-    ensures next { IsPassed result seat.new }
-    ensures more { vec_len answers.old < vec_len answers.new
-        → (first < result) × (result ≤ units_of (job desk.now)) }
+    requires passed { IsPassed passed seat.old }
+    ensures { GoesOnDrawing desk.now seat.old seat.new answers.old.items answers.new.items
+        passed result }
 {
-    let mut next = first;
-    for _ in 0..count {
-        if answers.try_reserve(1).is_err() {
-            return next;
+    if answers.try_reserve(1).is_err() {
+        return passed;
+    }
+    match desk.claim(seat) {
+        None => passed,
+        Some(number) => {
+            let verdict = Verdict::Memory;
+            answers.push_reserved(UnitVerdict { number, verdict });
+            u64::from(number) + 1
         }
-        match desk.claim(seat) {
-            None => return next,
-            Some(number) => {
-                next = u64::from(number) + 1;
-                let verdict = Verdict::Memory;
-                answers.push_reserved(UnitVerdict { number, verdict });
-            }
-        }
+    }
+}
+
+/// Draws as many units as a worker draws at once. Where memory is wanting for one more answer none
+/// is drawn.
+fn draw(
+    desk: &Desk,
+    seat: &mut Seat,
+    answers: &mut Vec<UnitVerdict>,
+    passed: u64,
+    units: u64,
+    workers: u32,
+) -> u64
+    requires sits { Sits seat.old desk.now }
+    requires passed { IsPassed passed seat.old }
+    ensures { GoesOnDrawing desk.now seat.old seat.new answers.old.items answers.new.items
+        passed result }
+{
+    // How many are left only the desk can tell.
+    let mut next = draw_one(desk, seat, answers, passed);
+    for _ in 1..at_once(units.saturating_sub(next), workers) {
+        next = draw_one(desk, seat, answers, next);
     }
     next
 }
@@ -95,7 +112,7 @@ fn check_from<K: Knows, G: Gate>(
     library: &Library,
     engine: &mut Engine<'_, K>,
     answers: &mut Vec<UnitVerdict>,
-    first: usize,
+    place: usize,
     steps: u128,
     gate: &G,
 )
@@ -105,7 +122,7 @@ fn check_from<K: Knows, G: Gate>(
     ensures numbers { numbers answers.new.items ≡ numbers answers.old.items }
     ensures right { AreRight library.now steps answers.new.items }
 {
-    for i in first..answers.len() {
+    for i in place..answers.len() {
         let number = answers[i].number;
         gate.before_unit(number);
         let verdict = check_unit(alloc, library, engine, number, steps);
@@ -114,29 +131,28 @@ fn check_from<K: Knows, G: Gate>(
     }
 }
 
-/// Draws units, some at once, and gives a verdict for each.
+/// Draws units, and gives a verdict for each.
 fn draw_all<K: Knows, G: Gate>(
     alloc: Global,
     library: &Library,
     engine: &mut Engine<'_, K>,
     desk: &Desk,
     seat: &mut Seat,
-    limits: Limits,
+    settings: Settings,
     gate: &G,
 ) -> Vec<UnitVerdict>
     requires library { engine.old.0.2 ≡ library.now }
     requires sits { Sits seat.old desk.now }
     requires job { job desk.now ≡ job_of library.now }
-    ensures { Draws library.now limits.steps desk.now seat.old seat.new result.items }
+    ensures { Draws library.now settings.steps desk.now seat.old seat.new result.items }
 {
-    let mut answers = Vec::new(alloc);
     let units = library.units().len() as u64;
-    let mut next = 0;
+    let mut answers = Vec::new(alloc);
+    let mut passed = 0;
     loop {
-        let first = answers.len();
-        let count = at_once(units.saturating_sub(next), limits.workers);
-        next = draw(desk, seat, &mut answers, count, next);
-        if answers.len() == first {
+        let place = answers.len();
+        passed = draw(desk, seat, &mut answers, passed, units, settings.workers);
+        if answers.len() == place {
             return answers;
         }
         check_from(
@@ -144,8 +160,8 @@ fn draw_all<K: Knows, G: Gate>(
             library,
             engine,
             &mut answers,
-            first,
-            limits.steps,
+            place,
+            settings.steps,
             gate,
         );
     }
@@ -156,7 +172,7 @@ fn draw_all<K: Knows, G: Gate>(
 fn work_by<S: Sharing + Drop, G: Gate>(
     alloc: Global,
     library: &Library,
-    limits: Limits,
+    settings: Settings,
     desk: &Desk,
     mut seat: Seat,
     share: S,
@@ -165,15 +181,15 @@ fn work_by<S: Sharing + Drop, G: Gate>(
     requires seat { IsNew seat desk.now }
     requires share { IfSome (S.shared share) (λ s. s.0 ≡ job desk.now) }
     requires job { job desk.now ≡ job_of library.now }
-    ensures { IsDone library.now limits.steps desk.now result }
+    ensures { IsDone library.now settings.steps desk.now result }
 {
-    let Ok(memo) = PrivateMemo::new(alloc, limits.kept) else {
+    let Ok(memo) = PrivateMemo::new(alloc, settings.kept) else {
         let answers = Vec::new(alloc);
         return Done { seat, answers };
     };
     let mut knowledge = Knowledge::new(alloc, memo, share);
     let mut engine = Engine::new(alloc, library, &mut knowledge);
-    let answers = draw_all(alloc, library, &mut engine, desk, &mut seat, limits, gate);
+    let answers = draw_all(alloc, library, &mut engine, desk, &mut seat, settings, gate);
     drop(engine);
     Done { seat, answers }
 }
@@ -183,18 +199,18 @@ fn work_by<S: Sharing + Drop, G: Gate>(
 pub(crate) fn work<G: Gate>(
     alloc: Global,
     library: &Library,
-    limits: Limits,
+    settings: Settings,
     desk: &Desk,
     at: WorkerSeat<'_>,
     gate: &G,
 ) -> Done
     requires at { IsWorkerSeat desk.now at }
     requires job { job desk.now ≡ job_of library.now }
-    ensures { IsDone library.now limits.steps desk.now result }
+    ensures { IsDone library.now settings.steps desk.now result }
 {
     let WorkerSeat { seat, share } = at;
     match share {
-        None => work_by(alloc, library, limits, desk, seat, Alone, gate),
-        Some(share) => work_by(alloc, library, limits, desk, seat, share, gate),
+        None => work_by(alloc, library, settings, desk, seat, Alone, gate),
+        Some(share) => work_by(alloc, library, settings, desk, seat, share, gate),
     }
 }

@@ -13,7 +13,7 @@ ghost use Rattle.leancheck.specs.Workers.{IsDone, IsIdle, IsWorkerSeat, IsWhole}
 
 use crate::order::{UnitVerdict, blank, fill};
 use crate::words::Options;
-use crate::worker::{Done, Limits, WorkerSeat, work};
+use crate::worker::{Done, Settings, WorkerSeat, work};
 use lk_desk::{Desk, Seat};
 use lk_engine::{AnswerDesk, Share};
 use lk_env::library::Library;
@@ -74,7 +74,7 @@ fn run_workers<R: Threads + Sync, G: Gate>(
     rt: &R,
     alloc: Global,
     library: &Library,
-    limits: Limits,
+    settings: Settings,
     desk: &Desk,
     seats: Vec<WorkerSeat<'_>>,
     gate: &G,
@@ -82,15 +82,15 @@ fn run_workers<R: Threads + Sync, G: Gate>(
     requires seats { All (IsWorkerSeat desk.now) seats.items }
     requires job { job desk.now ≡ job_of library.now }
     ensures count { IfOk result (λ v. vec_len v ≡ vec_len seats.entry) }
-    ensures each { IfOk result (λ v. All (IsDone library.now limits.steps desk.now) v.items) }
+    ensures each { IfOk result (λ v. All (IsDone library.now settings.steps desk.now) v.items) }
 {
     let all = thread::map_vec(
         rt,
         seats,
         &|at| -> Done
             requires { IsWorkerSeat desk.now at × (job desk.now ≡ job_of library.now) }
-            ensures { IsDone library.entry.now limits.steps desk.entry.now result }
-        { work(alloc, library, limits, desk, at, gate) },
+            ensures { IsDone library.entry.now settings.steps desk.entry.now result }
+        { work(alloc, library, settings, desk, at, gate) },
     )?;
     Ok(all)
 }
@@ -140,7 +140,7 @@ fn check_at<R: Threads + Sync, G: Gate>(
     rt: &R,
     alloc: Global,
     library: &Library,
-    limits: Limits,
+    settings: Settings,
     desk: &Desk,
     first: &mut Seat,
     seats: Vec<WorkerSeat<'_>>,
@@ -149,12 +149,12 @@ fn check_at<R: Threads + Sync, G: Gate>(
     requires first { IsIdle first.old desk.now }
     requires seats { All (IsWorkerSeat desk.now) seats.items }
     requires job { job desk.now ≡ job_of library.now }
-    ensures { IfOk result (IsWhole library.now limits.steps) }
+    ensures { IfOk result (IsWhole library.now settings.steps) }
 {
     let mut verdicts = blank(alloc, library.units().len())?;
     let count = seats.len() as u64 + 1;
-    let all = run_workers(rt, alloc, library, limits, desk, seats, gate)?;
-    let answers = gather(alloc, library, limits.steps, desk, first, all)?;
+    let all = run_workers(rt, alloc, library, settings, desk, seats, gate)?;
+    let answers = gather(alloc, library, settings.steps, desk, first, all)?;
     let ended = drew_all(desk, first, count);
     fill(&mut verdicts, answers.as_slice());
     Ok(Report {
@@ -170,34 +170,35 @@ fn check_by<'a, R: Threads + Sync, G: Gate>(
     rt: &R,
     alloc: Global,
     library: &Library,
-    limits: Limits,
+    settings: Settings,
     share: &mut Option<Share<'a>>,
     gate: &G,
 ) -> Result<Report, NoMemory>
     requires { IfSome share.old (λ s. s.0 ≡ job_of library.now) }
-    ensures { IfOk result (IsWhole library.now limits.steps) }
+    ensures { IfOk result (IsWhole library.now settings.steps) }
 {
     let (desk, mut first) = Desk::new(alloc, library)?;
-    let seats = seats_for(alloc, &desk, &mut first, share, limits.workers)?;
-    check_at(rt, alloc, library, limits, &desk, &mut first, seats, gate)
+    let seats = seats_for(alloc, &desk, &mut first, share, settings.workers)?;
+    check_at(rt, alloc, library, settings, &desk, &mut first, seats, gate)
 }
 
-/// The same by workers of a number that is given: a single one shares no answers, and has no desk for them.
+/// The same by as many workers as the settings say: a single one shares no answers, and has no desk
+/// for them.
 pub(crate) fn check_with<R: Threads + Sync, G: Gate>(
     rt: &R,
     alloc: Global,
     library: &Library,
-    limits: Limits,
+    settings: Settings,
     gate: &G,
 ) -> Result<Report, NoMemory>
-    ensures { IfOk result (IsWhole library.now limits.steps) }
+    ensures { IfOk result (IsWhole library.now settings.steps) }
 {
-    if limits.workers <= 1 {
-        return check_by(rt, alloc, library, limits, &mut None, gate);
+    if settings.workers <= 1 {
+        return check_by(rt, alloc, library, settings, &mut None, gate);
     }
     let (answers, seat) = AnswerDesk::new(alloc, library)?;
     let mut share = Some(Share::new(&answers, seat));
-    check_by(rt, alloc, library, limits, &mut share, gate)
+    check_by(rt, alloc, library, settings, &mut share, gate)
 }
 
 /// The verdicts of the units, in their order, by so many workers; the questions of each unit may
@@ -214,11 +215,11 @@ pub(crate) fn check_all<R: Threads + Sync, G: Gate>(
         → AreVerdicts (library_of library.now) options.steps (map verdict v.items)) }
 {
     gate.begins(library.units().len() as u64);
-    let limits = Limits {
+    let settings = Settings {
         steps: options.steps,
         kept: options.memo,
         workers: options.workers,
     };
-    let report = check_with(rt, alloc, library, limits, gate)?;
+    let report = check_with(rt, alloc, library, settings, gate)?;
     Ok(report.verdicts)
 }

@@ -1,14 +1,13 @@
-use Rattle.std.proofs.Common.{ℕ, ◌≡◌, ◌<◌, ◌≤◌, ◌++◌, List, ap, sym, ◌∙◌, arith, subst}
+use Rattle.std.proofs.Common.{ℕ, ◌≤◌, ◌++◌, List, ap, sym, ◌∙◌, subst}
 use Rattle.lk_desk.specs.Job.{Job, units_of}
 use Rattle.lk_desk.specs.Seats.{view}
-use Rattle.leancheck.specs.Drawn.{numbers}
 use Rattle.leancheck.proofs.worker.draw_all.Goals as goal
 
 pub loop-alloc-preserved : goal.loop-alloc-preserved
 loop-alloc-preserved g c =
     let i = c.loop-alloc.invariant in
-    let steps = c.args.limits.steps in
-    let d = c.draw-next.ensures.draws c.args.library.now steps c.args.seat.now c.requires.job i.draws in
+    let on = c.draw-passed.ensures in
+    let d = on.draws c.args.library.now c.args.settings.steps c.args.seat.now c.requires.job i.draws in
     record {
       library = c.check_from.ensures.library;
       draws = record {
@@ -18,11 +17,17 @@ loop-alloc-preserved g c =
             (sym c.check_from.ensures.numbers);
         right = c.check_from.ensures.right;
       };
-      next = c.draw-next.ensures.next;
+      passed = on.reached;
+      most = subst (λ (j : Job). c.loop-alloc.passed ≤ units_of j → c.draw-passed.result ≤ units_of j)
+          c.requires.job on.most i.most;
     }
 
-pub loop-alloc-smaller : goal.loop-alloc-smaller
-loop-alloc-smaller g c =
-    let more = c.draw-next.ensures.more (omega arith) in
-    let most = subst (λ (j : Job). c.draw-next.result ≤ units_of j) c.requires.job more.1 in
-    omega (arith, more.0)
+pub check_from-requires-clause-right : goal.check_from-requires-clause-right
+check_from-requires-clause-right g c =
+    (c.draw-passed.ensures.draws c.args.library.now c.args.settings.steps c.args.seat.now
+    c.requires.job c.loop-alloc.invariant.draws).right
+
+pub returns-then-len-place : goal.returns-then-len-place
+returns-then-len-place g c =
+    c.draw-passed.ensures.draws c.args.library.now c.args.settings.steps c.args.seat.now
+    c.requires.job c.loop-alloc.invariant.draws

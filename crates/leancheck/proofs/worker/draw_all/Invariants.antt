@@ -1,13 +1,14 @@
-use Rattle.std.proofs.Common.{ℕ, ◌≡◌, ◌-◌, length}
+use Rattle.std.proofs.Common.{◌≡◌, ◌≤◌, ◌-◌, length}
 use Rattle.leancheck.specs.Workers.{IsPassed, Draws}
 use Rattle.leancheck.proofs.worker.draw_all.Given as goal
 
 abbrev pub invariant-loop-alloc : goal.invariant-loop-alloc
 invariant-loop-alloc g l = record {
   library : l.engine.0.2 ≡ l.library;
-  draws : Draws l.library l.limits.steps l.desk l.fn.seat l.seat l.answers.items;
-  next : IsPassed l.next l.seat;
+  draws : Draws l.library l.settings.steps l.desk l.fn.seat l.seat l.answers.items;
+  passed : IsPassed l.passed l.seat;
+  most : l.passed ≤ length l.library.1;
 }
 
 abbrev pub decreases-loop-alloc : goal.decreases-loop-alloc
-decreases-loop-alloc g l = length l.library.1 - l.next
+decreases-loop-alloc g l = length l.library.1 - l.passed
