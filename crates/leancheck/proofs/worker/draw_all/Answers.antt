@@ -23,7 +23,7 @@ loop-alloc-preserved g c =
     }
 
 pub check_from-requires-clause-right : goal.check_from-requires-clause-right
-check_from-requires-clause-right g c =
+check_from-requires-clause-right g c = λ κs here.
     (c.draw-passed.ensures.draws c.args.library.now c.args.settings.steps c.args.seat.now
     c.requires.job c.loop-alloc.invariant.draws).right
 
