@@ -62,8 +62,8 @@ fn at_once(left: u64, workers: u32) -> u64 {
 }
 
 /// Draws one unit, where one is left and there is room for its answer, which says memory until the
-/// unit is checked. Nothing below `passed` is drawn any more, nor from then on below what is
-/// returned.
+/// unit is checked. No number below `passed` is drawn any more; what is returned is the number
+/// below which none is drawn from then on.
 fn draw_one(desk: &Desk, seat: &mut Seat, answers: &mut Vec<UnitVerdict>, passed: u64) -> u64
     requires sits { Sits seat.old desk.now }
     requires passed { IsPassed passed seat.old }
@@ -83,8 +83,8 @@ fn draw_one(desk: &Desk, seat: &mut Seat, answers: &mut Vec<UnitVerdict>, passed
     }
 }
 
-/// Draws as many units as a worker draws at once. Where memory is wanting for one more answer none
-/// is drawn.
+/// Draws as many units as a worker draws at once, fewer where fewer are left or memory is wanting
+/// for one more answer. `passed` and what is returned are as for one unit.
 fn draw(
     desk: &Desk,
     seat: &mut Seat,

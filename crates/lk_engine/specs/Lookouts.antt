@@ -145,7 +145,7 @@ row_count s = s.numbers + s.names + s.texts + s.levels + s.lists + s.terms
 
 -- beside a library of so many rows, a unit is begun with fewer than these
 abbrev pub IsBounded : ℕ → ℕ → Type 0
-IsBounded made library = (made < 65536) ⊎ (made < 4 * library)
+IsBounded made library = (made < 16384) ⊎ (made < 4 * library)
 
 -- what units made over the library's store stays, where it is not too many rows, or all of it was
 -- forgotten

@@ -6,7 +6,7 @@ ghost use Rattle.lk_engine.specs.Lookouts.{row_count, IsBounded};
 use lk_store::sizes::Sizes;
 
 /// Fewer rows than so many always stay, those of all kinds together.
-const FEW: u128 = 65_536;
+const FEW: u128 = 16_384;
 
 /// Units make many where they make so many each on average.
 const MANY: u128 = 1_024;

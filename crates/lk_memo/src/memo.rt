@@ -20,7 +20,7 @@ use std::alloc::Global;
 use std::num::NonZeroUsize;
 
 /// An answer that costs so much or more is dear.
-const DEAR: u128 = 64;
+const DEAR: u128 = 256;
 
 /// So many slots are for the last answers, where the memo may have twice as many entries or more.
 const SLOTS: u32 = 1024;
