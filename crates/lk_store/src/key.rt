@@ -1,6 +1,6 @@
 //! Rows in memory: nodes whose numbers take 32 bits, with what is kept beside them.
 
-ghost use Rattle.std.specs.Prelude.{◌≡◌, ◌↔◌, IsTrue};
+ghost use Rattle.std.specs.Prelude.{◌≡◌};
 ghost use Rattle.lk_store.specs.Hashes.{hash_of_number};
 ghost use Rattle.lk_store.specs.Keys.{hash_of_name, hash_of_level, hash_of_list, hash_of_tree};
 
@@ -216,7 +216,7 @@ pub enum TreeKey {
 }
 
 #[inline(always)]
-fn hash_tree(seed: u64, key: &TreeKey) -> u64
+pub(crate) fn hash_tree(seed: u64, key: &TreeKey) -> u64
     ensures { result ≡ hash_of_tree seed key.now }
 {
     match *key {
@@ -235,63 +235,6 @@ fn hash_tree(seed: u64, key: &TreeKey) -> u64
     }
 }
 
-/// Whether two trees are one. Where the kind of the second one is known, little is compared.
-#[inline(always)]
-fn same_tree(key: &TreeKey, wanted: &TreeKey) -> bool
-    ensures { IsTrue result ↔ (key.now ≡ wanted.now) }
-{
-    match *wanted {
-        TreeKey::Var(i) => match *key {
-            TreeKey::Var(j) => i == j,
-            _ => false,
-        },
-        TreeKey::Sort(l) => match *key {
-            TreeKey::Sort(m) => l == m,
-            _ => false,
-        },
-        TreeKey::Const(n, ls) => match *key {
-            TreeKey::Const(m, ms) => n == m && ls == ms,
-            _ => false,
-        },
-        TreeKey::App(f, a) => match *key {
-            TreeKey::App(g, b) => f == g && a == b,
-            _ => false,
-        },
-        TreeKey::Lam(t, b) => match *key {
-            TreeKey::Lam(u, c) => t == u && b == c,
-            _ => false,
-        },
-        TreeKey::Pi(t, b) => match *key {
-            TreeKey::Pi(u, c) => t == u && b == c,
-            _ => false,
-        },
-        TreeKey::Let(t, v, b) => match *key {
-            TreeKey::Let(u, w, c) => t == u && v == w && b == c,
-            _ => false,
-        },
-        TreeKey::Proj(n, i, s) => match *key {
-            TreeKey::Proj(m, j, t) => n == m && i == j && s == t,
-            _ => false,
-        },
-        TreeKey::Lit(i) => match *key {
-            TreeKey::Lit(j) => i == j,
-            _ => false,
-        },
-        TreeKey::Wide => match *key {
-            TreeKey::Wide => true,
-            _ => false,
-        },
-        TreeKey::Str(s) => match *key {
-            TreeKey::Str(t) => s == t,
-            _ => false,
-        },
-        TreeKey::Local(k, t) => match *key {
-            TreeKey::Local(j, u) => k == j && t == u,
-            _ => false,
-        },
-    }
-}
-
 /// A tree, and what is kept of it.
 #[derive(Clone, Copy)]
 pub struct TreeRow {
@@ -304,29 +247,4 @@ pub struct TreeRow {
     pub params: bool,
     /// Whether each literal in it is at most 2^128 - 1.
     pub narrow: bool,
-}
-
-impl Row for TreeRow {
-    type Key = TreeKey;
-
-    ghost key = { λ row. row.key };
-
-    ghost use Rattle.lk_store.specs.Keys.{hash_of_tree};
-
-    ghost hash = { hash_of_tree };
-
-    #[inline(always)]
-    fn hash_of(seed: u64, wanted: &TreeKey) -> u64 {
-        hash_tree(seed, wanted)
-    }
-
-    #[inline(always)]
-    fn own_hash(&self, seed: u64) -> u64 {
-        hash_tree(seed, &self.key)
-    }
-
-    #[inline(always)]
-    fn has(&self, wanted: &TreeKey) -> bool {
-        same_tree(&self.key, wanted)
-    }
 }

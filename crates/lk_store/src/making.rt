@@ -22,6 +22,7 @@ use crate::memory::NoMemory;
 use crate::node::{LevelNode, ListNode, NameNode, Node};
 use crate::parts::{has_level_parts, has_list_parts, has_name_parts, has_tree_parts};
 use crate::reading::{level_params_in, level_zero_in, list_params_in, marks_of, tree_row};
+use crate::stored::StoredTree;
 use crate::tables::Tables;
 use crate::text::Text;
 use lk_rows::layers::{add, count, find};
@@ -431,7 +432,7 @@ fn add_tree(
         OnErr result (contents_of (over base.now own.new) ≡ c) }
 {
     let row = tree_row_for(base, own, key, node)?;
-    let e = add(&base.trees, &mut own.trees, row, hash)?;
+    let e = add(&base.trees, &mut own.trees, StoredTree::new(row), hash)?;
     Ok(e)
 }
 
@@ -449,7 +450,7 @@ fn make_keyed(base: &Tables, own: &mut Tables, node: Node, key: TreeKey) -> Resu
     ensures err { let c = contents_of (over base.now own.old) in
         OnErr result (contents_of (over base.now own.new) ≡ c) }
 {
-    let hash = TreeRow::hash_of(0, &key);
+    let hash = StoredTree::hash_of(0, &key);
     let in_base = has_tree_parts(base, key);
     match find(&base.trees, &own.trees, &key, hash, in_base) {
         Some(e) => Ok(e),

@@ -15,9 +15,10 @@ ghost use Rattle.lk_store.specs.Nodes.{name_node, level_node, list_node, node_of
 ghost use Rattle.lk_store.specs.Store.{over, contents_of, IsStore};
 ghost use Rattle.lk_store.specs.Values.{AreApart};
 
-use crate::key::{LevelKey, LevelRow, ListKey, ListRow, NameKey, TreeKey, TreeRow};
+use crate::key::{LevelKey, LevelRow, ListKey, ListRow, NameKey, TreeRow};
 use crate::marks::Marks;
 use crate::node::{LevelNode, ListNode, NameNode, Node};
+use crate::stored::{StoredTree, TreeKind};
 use crate::tables::Tables;
 use crate::text::Text;
 use lk_rows::layers::{count, row_at};
@@ -79,28 +80,26 @@ fn list_of_key(key: ListKey) -> ListNode
     }
 }
 
+/// The node of a row.
 #[inline]
-fn node_of_key(base: &Tables, own: &Tables, key: TreeKey) -> Node
-    requires { AreCodes (over base.now own.now).numbers key }
-    ensures { result ≡ node_of (over base.now own.now).numbers key }
+fn node_of_row(base: &Tables, own: &Tables, row: &StoredTree) -> Node
+    requires { AreCodes (over base.now own.now).numbers row.now.key }
+    ensures { result ≡ node_of (over base.now own.now).numbers row.now.key }
 {
-    match key {
-        TreeKey::Var(i) => Node::Var(decode_short(base, own, i)),
-        TreeKey::Sort(l) => Node::Sort(u64::from(l)),
-        TreeKey::Const(n, ls) => Node::Const(u64::from(n), u64::from(ls)),
-        TreeKey::App(f, a) => Node::App(u64::from(f), u64::from(a)),
-        TreeKey::Lam(t, b) => Node::Lam(u64::from(t), u64::from(b)),
-        TreeKey::Pi(t, b) => Node::Pi(u64::from(t), u64::from(b)),
-        TreeKey::Let(t, v, b) => Node::Let(u64::from(t), u64::from(v), u64::from(b)),
-        TreeKey::Proj(n, i, s) => Node::Proj(
-            u64::from(n),
-            decode_short(base, own, i),
-            u64::from(s),
-        ),
-        TreeKey::Lit(n) => Node::Lit(decode(base, own, n)),
-        TreeKey::Wide => Node::Wide,
-        TreeKey::Str(s) => Node::Str(u64::from(s)),
-        TreeKey::Local(k, t) => Node::Local(decode_short(base, own, k), u64::from(t)),
+    let (a, b, c) = (row.first, row.second, row.third);
+    match row.kind {
+        TreeKind::Var => Node::Var(decode_short(base, own, a)),
+        TreeKind::Sort => Node::Sort(u64::from(a)),
+        TreeKind::Const => Node::Const(u64::from(a), u64::from(b)),
+        TreeKind::App => Node::App(u64::from(a), u64::from(b)),
+        TreeKind::Lam => Node::Lam(u64::from(a), u64::from(b)),
+        TreeKind::Pi => Node::Pi(u64::from(a), u64::from(b)),
+        TreeKind::Let => Node::Let(u64::from(a), u64::from(b), u64::from(c)),
+        TreeKind::Proj => Node::Proj(u64::from(a), decode_short(base, own, b), u64::from(c)),
+        TreeKind::Lit => Node::Lit(decode(base, own, a)),
+        TreeKind::Wide => Node::Wide,
+        TreeKind::Str => Node::Str(u64::from(a)),
+        TreeKind::Local => Node::Local(decode_short(base, own, a), u64::from(b)),
     }
 }
 
@@ -251,20 +250,31 @@ pub(crate) fn len_in(base: &Tables, own: &Tables) -> u64
     count(&base.trees, &own.trees)
 }
 
-/// The row of a tree.
+/// The row of a tree, where it stands.
+#[inline(always)]
+fn stored_row<'a>(base: &'a Tables, own: &'a Tables, e: u64) -> &'a StoredTree
+    requires store { IsStore (over base.now own.now) }
+    requires known { e < length (contents_of (over base.now own.now)).trees }
+    ensures codes { AreCodes (over base.now own.now).numbers result.now.key }
+    ensures known { let c = contents_of (over base.now own.now) in
+        IsIn c (node_of (over base.now own.now).numbers result.now.key) }
+    ensures tree { let c = contents_of (over base.now own.now) in
+        tree_of c (node_of (over base.now own.now).numbers result.now.key) ≡ tree_at c e }
+    ensures marks { let c = contents_of (over base.now own.now) in
+        IsMarkedTree (over base.now own.now).numbers (tree_at c e) result.now }
+{
+    row_at(&base.trees, &own.trees, e)
+}
+
+/// What is kept of a tree.
 #[inline(always)]
 pub(crate) fn tree_row(base: &Tables, own: &Tables, e: u64) -> TreeRow
     requires store { IsStore (over base.now own.now) }
     requires known { e < length (contents_of (over base.now own.now)).trees }
-    ensures codes { AreCodes (over base.now own.now).numbers result.key }
-    ensures known { let c = contents_of (over base.now own.now) in
-        IsIn c (node_of (over base.now own.now).numbers result.key) }
-    ensures tree { let c = contents_of (over base.now own.now) in
-        tree_of c (node_of (over base.now own.now).numbers result.key) ≡ tree_at c e }
-    ensures marks { let c = contents_of (over base.now own.now) in
+    ensures { let c = contents_of (over base.now own.now) in
         IsMarkedTree (over base.now own.now).numbers (tree_at c e) result }
 {
-    *row_at(&base.trees, &own.trees, e)
+    stored_row(base, own, e).row()
 }
 
 /// The node of a tree.
@@ -275,7 +285,7 @@ pub(crate) fn view_in(base: &Tables, own: &Tables, e: u64) -> Node
     ensures known { IsIn (contents_of (over base.now own.now)) result }
     ensures tree { let c = contents_of (over base.now own.now) in tree_of c result ≡ tree_at c e }
 {
-    node_of_key(base, own, tree_row(base, own, e).key)
+    node_of_row(base, own, stored_row(base, own, e))
 }
 
 /// Whether two numbers have one tree.

@@ -1,7 +1,8 @@
 //! The tables of a store.
 
-use crate::key::{LevelRow, ListRow, NameKey, Number, TreeRow};
+use crate::key::{LevelRow, ListRow, NameKey, Number};
 use crate::sizes::Sizes;
+use crate::stored::StoredTree;
 use crate::text::Text;
 use lk_rows::table::Table;
 use std::alloc::Global;
@@ -14,7 +15,7 @@ pub struct Tables {
     pub(crate) texts: Table<Text>,
     pub(crate) levels: Table<LevelRow>,
     pub(crate) lists: Table<ListRow>,
-    pub(crate) trees: Table<TreeRow>,
+    pub(crate) trees: Table<StoredTree>,
 }
 
 /// Each table goes by a call, so that whoever lets a store go has one call to prove.

@@ -7,7 +7,7 @@ returns-in-App c =
     let r = over c.args.base.now c.args.own.now in
     rw c.in-App.is
     (app_row r c.tree_row.result c.tree_row-second.result c.args.key c.in-App.f c.in-App.a
-    c.tree_row.ensures.marks c.tree_row-second.ensures.marks c.joined.result c.joined.ensures
+    c.tree_row.ensures c.tree_row-second.ensures c.joined.result c.joined.ensures
     (rw c.in-App.is at c.requires.key))
 
 pub returns-in-Lam : goal.returns-in-Lam
@@ -15,7 +15,7 @@ returns-in-Lam c =
     let r = over c.args.base.now c.args.own.now in
     rw c.in-Lam.is
     (lam_row r c.tree_row-in-Lam.result c.tree_row-second-in-Lam.result c.args.key c.in-Lam.t c.in-Lam.b
-    c.tree_row-in-Lam.ensures.marks c.tree_row-second-in-Lam.ensures.marks c.joined-in-Lam.result (rw c.saturating_sub.ensures at c.joined-in-Lam.ensures)
+    c.tree_row-in-Lam.ensures c.tree_row-second-in-Lam.ensures c.joined-in-Lam.result (rw c.saturating_sub.ensures at c.joined-in-Lam.ensures)
     (rw c.in-Lam.is at c.requires.key))
 
 pub returns-in-Pi : goal.returns-in-Pi
@@ -23,5 +23,5 @@ returns-in-Pi c =
     let r = over c.args.base.now c.args.own.now in
     rw c.in-Pi.is
     (pi_row r c.tree_row-in-Pi.result c.tree_row-second-in-Pi.result c.args.key c.in-Pi.t c.in-Pi.b
-    c.tree_row-in-Pi.ensures.marks c.tree_row-second-in-Pi.ensures.marks c.joined-in-Pi.result (rw c.saturating_sub-in-Pi.ensures at c.joined-in-Pi.ensures)
+    c.tree_row-in-Pi.ensures c.tree_row-second-in-Pi.ensures c.joined-in-Pi.result (rw c.saturating_sub-in-Pi.ensures at c.joined-in-Pi.ensures)
     (rw c.in-Pi.is at c.requires.key))
