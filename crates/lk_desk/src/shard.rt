@@ -18,6 +18,13 @@ use std::collections::HashMap;
 /// The most answers that a shard has.
 const MOST: usize = 4096;
 
+/// A shard has room for so many with its first one. As a table grows it gives back the memory that
+/// it had. Where another worker had asked for that, a small piece would go to the wrong one: the
+/// allocator keeps it for whoever gives it back, and what the two workers make of such pieces lies
+/// side by side in memory, where each write of one makes the other wait. With so much room no piece
+/// of a table is small.
+const ROOM: usize = 256;
+
 /// Answers, each under its question.
 #[derive(Drop)]
 pub struct Shard {
@@ -91,6 +98,16 @@ impl Shard {
         self.answers.len() < MOST || self.answers.contains_key(&key)
     }
 
+    /// Room for the first answers, where there is none yet.
+    fn set_aside(&mut self) -> Result<(), NoMemory>
+        ensures { entries_of self.new ≡ entries_of self.old }
+    {
+        if self.answers.is_empty() {
+            self.answers.reserve(ROOM)?;
+        }
+        Ok(())
+    }
+
     /// Puts an answer under its question, where there is room; whether there is. Where memory is
     /// wanting the shard is as before.
     pub fn put(&mut self, key: Key, entry: Entry) -> Result<bool, NoMemory>
@@ -103,6 +120,7 @@ impl Shard {
         if !self.has_room(key) {
             return Ok(false);
         }
+        self.set_aside()?;
         self.answers.insert(key, entry)?;
         Ok(true)
     }
