@@ -23,9 +23,9 @@ use Rattle.lk_questions.specs.Iota.{levels_at}
 use Rattle.lk_questions.specs.Projections.{past_parameters, is_prop_if, field_type, of_struct, of_kind, of_type, infer_proj}
 use Rattle.lk_plain.specs.Sound.{IsSound, IsJustified, WellStated, IsStated, KindStated, CtorsStated}
 use Rattle.lk_plain.proofs.Soundness.{sound_bind, sound_map}
-use Rattle.lk_sound.proofs.Pieces.{sound_given, sound_sort_of, sound_pi, sound_with_params, TypesTo, well_formed_of_to}
-use Rattle.lk_sound.proofs.Goes.{GoesTo}
-use Rattle.lk_sound.proofs.Iotas.{same_name_levels}
+use Rattle.lk_table_sound.proofs.Pieces.{sound_given, sound_sort_of, sound_pi, sound_with_params, TypesTo, well_formed_of_to}
+use Rattle.lk_table_sound.proofs.Goes.{GoesTo}
+use Rattle.lk_table_sound.proofs.Iotas.{same_name_levels}
 
 -- closed, and with Locals of s alone
 abbrev pub Kept : Tree → Tree → Type 0

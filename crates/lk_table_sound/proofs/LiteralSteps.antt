@@ -19,9 +19,9 @@ use Rattle.lk_questions.specs.Shapes.{nat_shape}
 use Rattle.lk_questions.specs.Literals.{numeral_of, with_first, numerals, result_of, computed, ops, op_named, op_step, literal_step}
 use Rattle.lk_plain.specs.Sound.{IsSound}
 use Rattle.lk_plain.proofs.Soundness.{sound_bind, sound_map}
-use Rattle.lk_sound.proofs.Pieces.{Some_inj, halves, less_number, same_name_right}
-use Rattle.lk_sound.proofs.Shaped.{sound_nat_shape}
-use Rattle.lk_sound.proofs.Goes.{sound_if, GoesTo}
+use Rattle.lk_table_sound.proofs.Pieces.{Some_inj, halves, less_number, same_name_right}
+use Rattle.lk_table_sound.proofs.Shaped.{sound_nat_shape}
+use Rattle.lk_table_sound.proofs.Goes.{sound_if, GoesTo}
 
 zero_numeral : (c : Name) (n : ℕ) (b : Bool) → same_name c nat_zero ≡ b → (if b then Some 0 else None) ≡ Some n → IsNumeral (const c []) n
 zero_numeral c n true h e = let i : c ≡ nat_zero = same_name_right c nat_zero h in let j : 0 ≡ n = Some_inj e in rw (i, ← j) of_zero

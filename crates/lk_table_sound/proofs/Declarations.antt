@@ -16,14 +16,14 @@ use Rattle.lk_rulebook.specs.Units.{Body, as_axiom, as_def, as_thm, as_opaque, a
 use Rattle.lk_questions.specs.Declarations.{checked, value_steps, body_steps, unit_steps}
 use Rattle.lk_rulebook.specs.Derived.{BodyWellFormed, DeclWellFormed, IsOf, BodyDerived, DeclDerived}
 use Rattle.lk_plain.proofs.Soundness.{sound_bind, sound_map, sound_run}
-use Rattle.lk_sound.proofs.Pieces.{sound_given, of_yes, sound_sort_of}
-use Rattle.lk_sound.proofs.Goes.{sound_if}
-use Rattle.lk_sound.proofs.WholeTable.{ans_sound}
+use Rattle.lk_table_sound.proofs.Pieces.{sound_given, of_yes, sound_sort_of}
+use Rattle.lk_table_sound.proofs.Goes.{sound_if}
+use Rattle.lk_table_sound.proofs.WholeTable.{ans_sound}
 use Rattle.lk_rulebook.specs.Quotients.{IsQuotient}
 use Rattle.lk_questions.specs.QuotientUnits.{quot_steps}
-use Rattle.lk_sound.proofs.QuotChecks.{sound_quot_steps}
+use Rattle.lk_table_sound.proofs.QuotChecks.{sound_quot_steps}
 use Rattle.lk_questions.specs.NumberLaws.{lawful_op, law_steps}
-use Rattle.lk_sound.proofs.NumberLaws.{sound_law_steps, lawful_of}
+use Rattle.lk_table_sound.proofs.NumberLaws.{sound_law_steps, lawful_of}
 
 sound_value : (w : Place) (type value : Tree) (P : Type 0) → IsWellFormed type → IsWellFormed value → (IsOf w value type → P) → IsSound w (value_steps type value) (λ y. P)
 sound_value w type value P ft fv h =

@@ -17,10 +17,10 @@ use Rattle.lk_plain.proofs.Soundness.{sound_map}
 use Rattle.lk_questions.specs.Steps.{is_same_tree}
 use Rattle.lk_questions.specs.Levels.{LevelTest, IsLevelTest, levels_equal}
 use Rattle.lk_questions.specs.Pairs.{same_bodies, by_core, same_all}
-use Rattle.lk_sound.proofs.Pieces.{same_tree, halves}
-use Rattle.lk_sound.proofs.Infers.{bound_left, pi_bound_left}
-use Rattle.lk_sound.proofs.Goes.{sound_if}
-use Rattle.lk_sound.proofs.Lines.{if_yes_map, sound_levels_equal, sound_bodies, lists_same}
+use Rattle.lk_table_sound.proofs.Pieces.{same_tree, halves}
+use Rattle.lk_table_sound.proofs.Infers.{bound_left, pi_bound_left}
+use Rattle.lk_table_sound.proofs.Goes.{sound_if}
+use Rattle.lk_table_sound.proofs.Lines.{if_yes_map, sound_levels_equal, sound_bodies, lists_same}
 
 pub sorts_same : (test : LevelTest) → IsLevelTest test → (w : Place) (l m : Level) → IsSound w (test l m) (IsJustified w (same (sort l) (sort m)))
 sorts_same test ok w l m =

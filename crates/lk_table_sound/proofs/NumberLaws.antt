@@ -19,8 +19,8 @@ use Rattle.lk_plain.specs.Sound.{IsSound}
 use Rattle.lk_plain.proofs.Soundness.{sound_bind, sound_map}
 use Rattle.lk_questions.specs.Shapes.{nat_shape}
 use Rattle.lk_questions.specs.NumberLaws.{lawful_op, def_given, held_given, laws_hold, law_steps}
-use Rattle.lk_sound.proofs.Pieces.{sound_given, of_yes, equal_numbers, no_item, Some_inj}
-use Rattle.lk_sound.proofs.Shaped.{sound_nat_shape}
+use Rattle.lk_table_sound.proofs.Pieces.{sound_given, of_yes, equal_numbers, no_item, Some_inj}
+use Rattle.lk_table_sound.proofs.Shaped.{sound_nat_shape}
 use native.Mathlib.Decide.{ℕ_discrete}
 
 -- both sides of each law are closed and well scoped

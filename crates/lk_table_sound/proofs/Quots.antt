@@ -14,8 +14,8 @@ use Rattle.lk_plain.specs.Query.{core}
 use Rattle.lk_plain.specs.Program.{done, asked}
 use Rattle.lk_questions.specs.Quotients.{by_quot, at_mk, at_major, core_lift, core_ind, core_quot}
 use Rattle.lk_plain.specs.Sound.{IsSound, IsJustified}
-use Rattle.lk_sound.proofs.Pieces.{same_name_right}
-use Rattle.lk_sound.proofs.Goes.{sound_if, GoesTo, IsCore, core_stays, core_on, goes_applied}
+use Rattle.lk_table_sound.proofs.Pieces.{same_name_right}
+use Rattle.lk_table_sound.proofs.Goes.{sound_if, GoesTo, IsCore, core_stays, core_on, goes_applied}
 
 pub quot_kind : (k : Kind) → by_quot k ≡ true → k ≡ a_quot
 quot_kind a_quot h = refl

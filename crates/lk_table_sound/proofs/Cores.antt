@@ -15,12 +15,12 @@ use Rattle.lk_plain.specs.Program.{Program, done, asked, ◌>>=◌}
 use Rattle.lk_questions.specs.Steps.{with_levels, value_of, is_same_tree}
 use Rattle.lk_questions.specs.Core.{lambdas, beta, core_applied, core_steps, unfolded, stepped, whnf_headed, whnf_steps}
 use Rattle.lk_questions.specs.Literals.{literal_step}
-use Rattle.lk_sound.proofs.LiteralSteps.{IfStep, sound_literal_step}
+use Rattle.lk_table_sound.proofs.LiteralSteps.{IfStep, sound_literal_step}
 use Rattle.lk_plain.specs.Sound.{IsSound, IsJustified, WellStated, IsSoundPlace}
 use Rattle.lk_plain.proofs.Soundness.{sound_bind}
-use Rattle.lk_sound.proofs.Goes.{sound_if, GoesTo, goes_on, core_stays, core_on, goes_applied, unfolds, beta_goes}
-use Rattle.lk_sound.proofs.Iotas.{sound_core_constant, sound_core_proj}
-use Rattle.lk_sound.proofs.Pieces.{sound_with_levels, same_tree}
+use Rattle.lk_table_sound.proofs.Goes.{sound_if, GoesTo, goes_on, core_stays, core_on, goes_applied, unfolds, beta_goes}
+use Rattle.lk_table_sound.proofs.Iotas.{sound_core_constant, sound_core_proj}
+use Rattle.lk_table_sound.proofs.Pieces.{sound_with_levels, same_tree}
 
 normal_applied : (e h : Tree) (xs : List Tree) → apply h xs ≡ e → IsNeutral h → IsHeadNormal e
 normal_applied e h xs eq n = subst IsHeadNormal eq (normal_neutral (apply h xs) (neutral_applied h xs n))

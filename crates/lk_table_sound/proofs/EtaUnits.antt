@@ -12,9 +12,9 @@ use Rattle.lk_plain.specs.Query.{same}
 use Rattle.lk_plain.specs.Program.{asked}
 use Rattle.lk_questions.specs.Pairs.{goes_on}
 use Rattle.lk_questions.specs.Eta.{is_unit_like, is_unit_like_at, eta_unit, by_unit_eta}
-use Rattle.lk_sound.proofs.Pieces.{halves, equal_numbers, if_yes_map}
-use Rattle.lk_sound.proofs.Goes.{sound_if}
-use Rattle.lk_sound.proofs.Lines.{IfAnswers, SoundLine, sound_answers}
+use Rattle.lk_table_sound.proofs.Pieces.{halves, equal_numbers, if_yes_map}
+use Rattle.lk_table_sound.proofs.Goes.{sound_if}
+use Rattle.lk_table_sound.proofs.Lines.{IfAnswers, SoundLine, sound_answers}
 
 -- two of a type J ls bs that has no fields are equal
 unit_like_equal : (w : Place) (J : Name) (g : Entry) → w.means J ≡ Some g → (block : Block) (t : BlockType) → g.kind ≡ a_type block t →

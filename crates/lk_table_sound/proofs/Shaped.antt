@@ -14,8 +14,8 @@ use Rattle.lk_questions.specs.Levels.{tested}
 use Rattle.lk_questions.specs.Shapes.{is_sort_one, are_nat_ctors, nat_shape_by, nat_shape, has_string_shape, string_shape}
 use Rattle.lk_plain.specs.Sound.{IfYes, IsSound}
 use Rattle.lk_plain.proofs.Soundness.{sound_bind, sound_map}
-use Rattle.lk_sound.proofs.Pieces.{sound_given, of_yes, same_tree, halves, equal_numbers, no_item, same_name_right, sound_tested, if_yes_map}
-use Rattle.lk_sound.proofs.Goes.{sound_if}
+use Rattle.lk_table_sound.proofs.Pieces.{sound_given, of_yes, same_tree, halves, equal_numbers, no_item, same_name_right, sound_tested, if_yes_map}
+use Rattle.lk_table_sound.proofs.Goes.{sound_if}
 
 abbrev one : Level
 one = succ_level zero_level

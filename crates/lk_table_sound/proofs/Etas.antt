@@ -16,10 +16,10 @@ use Rattle.lk_questions.specs.Pairs.{goes_on}
 use Rattle.lk_questions.specs.Eta.{same_fields, eta_struct, by_structure_eta}
 use Rattle.lk_plain.specs.Sound.{IsSound, IfYes, WellStated}
 use Rattle.lk_plain.proofs.Soundness.{sound_bind, sound_map}
-use Rattle.lk_sound.proofs.Pieces.{of_yes}
-use Rattle.lk_sound.proofs.Goes.{sound_if}
-use Rattle.lk_sound.proofs.Lines.{if_yes_map, IfAnswers, SoundLine, sound_answers_yes}
-use Rattle.lk_sound.proofs.Iotas.{IsCtorApp, IfCtorApp, sound_ctor_app_of, the_ctor, listed_of}
+use Rattle.lk_table_sound.proofs.Pieces.{of_yes}
+use Rattle.lk_table_sound.proofs.Goes.{sound_if}
+use Rattle.lk_table_sound.proofs.Lines.{if_yes_map, IfAnswers, SoundLine, sound_answers_yes}
+use Rattle.lk_table_sound.proofs.Iotas.{IsCtorApp, IfCtorApp, sound_ctor_app_of, the_ctor, listed_of}
 
 sound_fields : (w : Place) (J : Name) (a : Tree) → IsWellFormed a → (j : ℕ) (xs : List Tree) → AllWellFormed xs → IsSound w (same_fields J a j xs) (λ e. IfYes e (AllProject w J a j xs))
 sound_fields w J a fa j [] f = no_more_fields

@@ -4,7 +4,7 @@ use Rattle.lk_tree.proofs.Lists.{AllWithin, AnyLocal}
 use Rattle.lk_questions.specs.Iota.{has_one_ctor, builds_structure, expanded, expand_at, to_ctor_when_structure, as_ctor_app}
 use Rattle.lk_plain.specs.Sound.{IsListed}
 use Rattle.lk_questions.specs.Steps.{sort_of}
-use Rattle.lk_sound.proofs.Pieces.{sound_sort_of, TypesTo, well_formed_of_to}
+use Rattle.lk_table_sound.proofs.Pieces.{sound_sort_of, TypesTo, well_formed_of_to}
 use Rattle.lk_tree.specs.Level.{is_zero_level}
 use Rattle.lk_tree.proofs.Zero.{not_zero_level}
 use Rattle.lk_rulebook.specs.Structures.{projections, is_structure_like, CtorApp as GivenCtorApp, ctor_app, RecApp, on_major, HasRule, rule_result, before_indices, KMajor, StructureAt}
@@ -31,15 +31,15 @@ use Rattle.lk_questions.specs.Steps.{with_levels}
 use Rattle.lk_questions.specs.Iota.{CtorApp, ctor_app_by, ctor_app_of, only_ctor, levels_at, k_from, to_ctor_when_k, fitting_rule, by_rule, iota_at_ctor, iota_of, iota_after_k, iota, core_constant, picked, core_field, core_proj}
 use Rattle.lk_plain.specs.Sound.{IsSound, IsJustified, WellStated, IsStated, KindStated, RulesStated}
 use Rattle.lk_plain.proofs.Soundness.{sound_bind}
-use Rattle.lk_sound.proofs.Pieces.{sound_with_levels, of_yes}
-pub use Rattle.lk_sound.proofs.Pieces.{same_name_right}
-use Rattle.lk_sound.proofs.Pieces.{Some_inj}
-use Rattle.lk_sound.proofs.Quots.{sound_core_quot}
-use Rattle.lk_sound.proofs.Readings.{sound_literal_to_ctor, sound_text_to_ctor}
+use Rattle.lk_table_sound.proofs.Pieces.{sound_with_levels, of_yes}
+pub use Rattle.lk_table_sound.proofs.Pieces.{same_name_right}
+use Rattle.lk_table_sound.proofs.Pieces.{Some_inj}
+use Rattle.lk_table_sound.proofs.Quots.{sound_core_quot}
+use Rattle.lk_table_sound.proofs.Readings.{sound_literal_to_ctor, sound_text_to_ctor}
 use Rattle.lk_questions.specs.Strings.{literal_to_ctor, text_to_ctor}
 use Rattle.lk_rulebook.specs.Literals.{ReadsText, Reads}
 use Rattle.lk_rulebook.proofs.Texts.{text_fine, text_within, read_within}
-use Rattle.lk_sound.proofs.Goes.{sound_if, GoesTo, stays, goes_on, IsCore, core_stays, core_on, goes_applied}
+use Rattle.lk_table_sound.proofs.Goes.{sound_if, GoesTo, stays, goes_on, IsCore, core_stays, core_on, goes_applied}
 
 both : (a b : Bool) → (a && b) ≡ true → (a ≡ true) × (b ≡ true)
 both true true h = (refl, refl)

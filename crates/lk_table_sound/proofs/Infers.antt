@@ -19,9 +19,9 @@ use Rattle.lk_plain.proofs.Soundness.{sound_bind}
 use Rattle.lk_questions.specs.Shapes.{nat_shape, string_shape}
 use Rattle.lk_rulebook.specs.Names.{named, nat, string}
 use Rattle.lk_rulebook.specs.Shapes.{HasNat, HasString}
-use Rattle.lk_sound.proofs.Shaped.{sound_nat_shape, sound_string_shape}
-use Rattle.lk_sound.proofs.InferProjs.{sound_infer_proj}
-use Rattle.lk_sound.proofs.Pieces.{sound_given, of_yes, sound_sort_of, sound_pi, sound_with_levels}
+use Rattle.lk_table_sound.proofs.Shaped.{sound_nat_shape, sound_string_shape}
+use Rattle.lk_table_sound.proofs.InferProjs.{sound_infer_proj}
+use Rattle.lk_table_sound.proofs.Pieces.{sound_given, of_yes, sound_sort_of, sound_pi, sound_with_levels}
 
 -- a binder opened with its Local
 pub local_fine : (k : ℕ) (A : Tree) → IsWellFormed A → bound A ≤ k → IsWellFormed (local k A)

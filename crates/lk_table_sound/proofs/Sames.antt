@@ -5,7 +5,7 @@ use Rattle.lk_rulebook.specs.Place.{Entry, Kind, a_def, a_thm}
 use Rattle.lk_rulebook.proofs.Scopes.{well_formed_of_type}
 use Rattle.lk_plain.specs.Sound.{WellStated, IsSoundPlace}
 use Rattle.lk_questions.specs.Steps.{value_of, with_levels}
-use Rattle.lk_sound.proofs.Pieces.{sound_with_levels}
+use Rattle.lk_table_sound.proofs.Pieces.{sound_with_levels}
 use Rattle.std.proofs.Common.{ℕ, ◌≡◌, Bool, true, false, ◌&&◌, nat_eq, length, List, ◌∷◌, Option, Some, None, refl}
 use Rattle.lk_tree.specs.Tree.{name_discrete, Level, Tree, sort, const, app, lam, pi, proj, lit, str}
 use Rattle.lk_tree.specs.Spine.{apply, head, args, IsNeutral, IsHeadNormal}
@@ -23,22 +23,22 @@ use Rattle.lk_questions.specs.Levels.{complete_test, levels_equal}
 use Rattle.lk_questions.specs.Pairs.{same_all, answers_yes, ◌or_else◌, goes_on}
 use Rattle.lk_plain.specs.Sound.{IsSound, IsJustified, IfYes}
 use Rattle.lk_plain.proofs.Soundness.{sound_bind, sound_map}
-use Rattle.lk_sound.proofs.Pieces.{of_yes, same_tree, halves, equal_numbers}
-use Rattle.lk_sound.proofs.Goes.{sound_if, GoesTo, goes_applied, unfolds}
-use Rattle.lk_sound.proofs.Lines.{of_decided, if_yes_map, sound_levels_equal, AllConvert, sound_all, applied_convert, IfAnswers, SoundLine, sound_or_else, sound_answers, sound_answers_yes}
-use Rattle.lk_sound.proofs.LevelTests.{complete_is_a_test}
-use Rattle.lk_sound.proofs.SameParts.{sorts_same, constants_same, applications_same, lambdas_same, pis_same, cores_same}
+use Rattle.lk_table_sound.proofs.Pieces.{of_yes, same_tree, halves, equal_numbers}
+use Rattle.lk_table_sound.proofs.Goes.{sound_if, GoesTo, goes_applied, unfolds}
+use Rattle.lk_table_sound.proofs.Lines.{of_decided, if_yes_map, sound_levels_equal, AllConvert, sound_all, applied_convert, IfAnswers, SoundLine, sound_or_else, sound_answers, sound_answers_yes}
+use Rattle.lk_table_sound.proofs.LevelTests.{complete_is_a_test}
+use Rattle.lk_table_sound.proofs.SameParts.{sorts_same, constants_same, applications_same, lambdas_same, pis_same, cores_same}
 use Rattle.lk_questions.specs.Same.{by_proof_irrelevance, by_parts, eta_long, is_lam, eta_first, eta_second, by_function_eta, same_reduced, by_shape, same_steps}
 use Rattle.lk_questions.specs.Eta.{by_structure_eta, by_unit_eta}
 use Rattle.lk_questions.specs.LiteralLines.{by_literals, by_string}
-use Rattle.lk_sound.proofs.LitLines.{sound_by_literals, sound_by_string}
-use Rattle.lk_sound.proofs.EtaUnits.{sound_by_unit_eta}
-use Rattle.lk_sound.proofs.Etas.{sound_by_structure_eta}
+use Rattle.lk_table_sound.proofs.LitLines.{sound_by_literals, sound_by_string}
+use Rattle.lk_table_sound.proofs.EtaUnits.{sound_by_unit_eta}
+use Rattle.lk_table_sound.proofs.Etas.{sound_by_structure_eta}
 use Rattle.lk_questions.specs.Unfolding.{Unfolding, unfolding_by, unfolding_of, unfold_with, unfold_first, unfold_second, unfold_both, same_by_arguments, by_ranks, by_unfolding, is_less}
 use Rattle.lk_tree.specs.Level.{is_zero_level}
 use Rattle.lk_tree.proofs.Zero.{zero_level_same}
 use Rattle.lk_rulebook.specs.Rules.{is_prop, e_eta_left, e_eta_right, e_proof}
-use Rattle.lk_sound.proofs.Pieces.{sound_sort_of}
+use Rattle.lk_table_sound.proofs.Pieces.{sound_sort_of}
 use Rattle.lk_questions.specs.Steps.{sort_of}
 
 sound_by_parts : (w : Place) (a b : Tree) → IsWellFormed a → IsWellFormed b → IsHeadNormal a → IsHeadNormal b → SoundLine w (by_parts a b) (IsDefEq w a b)

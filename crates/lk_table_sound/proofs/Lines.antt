@@ -14,10 +14,10 @@ use Rattle.lk_questions.specs.Levels.{LevelTest, IsLevelTest, level_pairs_equal,
 use Rattle.lk_questions.specs.Pairs.{same_bodies, same_all, Line, otherwise, answers, answers_yes, yes_alone, ◌or_else◌, unless, ◌or_line◌}
 use Rattle.lk_plain.specs.Sound.{IsSound, IfYes}
 use Rattle.lk_plain.proofs.Soundness.{sound_bind, sound_map}
-use Rattle.lk_sound.proofs.Pieces.{of_yes}
-pub use Rattle.lk_sound.proofs.Pieces.{of_decided, sound_tested, if_yes_map}
-use Rattle.lk_sound.proofs.Infers.{body_fine}
-use Rattle.lk_sound.proofs.Goes.{sound_if}
+use Rattle.lk_table_sound.proofs.Pieces.{of_yes}
+pub use Rattle.lk_table_sound.proofs.Pieces.{of_decided, sound_tested, if_yes_map}
+use Rattle.lk_table_sound.proofs.Infers.{body_fine}
+use Rattle.lk_table_sound.proofs.Goes.{sound_if}
 
 sound_level_pairs : (test : LevelTest) → IsLevelTest test → (w : Place) (ls ms : List Level) → IsSound w (level_pairs_equal test ls ms) (λ b. IfYes b (SameLevels ls ms))
 sound_level_pairs test ok w [] [] = none

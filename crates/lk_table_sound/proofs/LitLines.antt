@@ -19,11 +19,11 @@ use Rattle.lk_questions.specs.LiteralLines.{step_of, same_first, same_second, Na
 use Rattle.lk_plain.specs.Sound.{IsSound}
 use Rattle.lk_plain.proofs.Soundness.{sound_bind}
 use Rattle.lk_rulebook.specs.Lawful.{IsLawfulPlace}
-use Rattle.lk_sound.proofs.Pieces.{same_name_right, if_yes_map}
-use Rattle.lk_sound.proofs.Goes.{sound_if}
-use Rattle.lk_sound.proofs.Lines.{IfAnswers, SoundLine, sound_or_line, sound_answers}
-use Rattle.lk_sound.proofs.LiteralSteps.{IfStep, sound_literal_step}
-use Rattle.lk_sound.proofs.Readings.{IfExpands, sound_expansion_of}
+use Rattle.lk_table_sound.proofs.Pieces.{same_name_right, if_yes_map}
+use Rattle.lk_table_sound.proofs.Goes.{sound_if}
+use Rattle.lk_table_sound.proofs.Lines.{IfAnswers, SoundLine, sound_or_line, sound_answers}
+use Rattle.lk_table_sound.proofs.LiteralSteps.{IfStep, sound_literal_step}
+use Rattle.lk_table_sound.proofs.Readings.{IfExpands, sound_expansion_of}
 
 sound_step_of : (w : Place) → IsLawfulPlace w → (e h : Tree) → IsWellFormed e → apply h (args e) ≡ e → IsSound w (step_of e h) (IfStep w e)
 sound_step_of w law e (const f ls) fe eq = λ g m. sound_literal_step w law e f ls g m eq (well_formed_of_apply (const f ls) (args e) (rw eq fe)).1

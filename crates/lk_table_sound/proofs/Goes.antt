@@ -15,7 +15,7 @@ use Rattle.lk_questions.specs.Steps.{value_of}
 use Rattle.lk_questions.specs.Core.{beta}
 use Rattle.lk_plain.specs.Sound.{IsSound, IsJustified, WellStated, IsStated}
 use Rattle.lk_plain.specs.Query.{core}
-use Rattle.lk_sound.proofs.Pieces.{has_value, value_stated}
+use Rattle.lk_table_sound.proofs.Pieces.{has_value, value_stated}
 
 pub reduct_apply : (w : Place) (h h' : Tree) (xs : List Tree) → Reduces w h h' → AllWellFormed xs → Reduces w (apply h xs) (apply h' xs)
 reduct_apply w h h' [] c f = c

@@ -7,9 +7,9 @@ use Rattle.lk_plain.specs.Program.{Table}
 use Rattle.lk_plain.specs.Sound.{IsJustified, IsAskable, IsSoundPlace, IsSoundTable}
 use Rattle.lk_questions.specs.Table.{steps}
 use Rattle.lk_plain.proofs.Soundness.{sound_answer}
-use Rattle.lk_sound.proofs.Infers.{sound_infer}
-use Rattle.lk_sound.proofs.Cores.{sound_core, sound_whnf}
-use Rattle.lk_sound.proofs.Sames.{sound_same}
+use Rattle.lk_table_sound.proofs.Infers.{sound_infer}
+use Rattle.lk_table_sound.proofs.Cores.{sound_core, sound_whnf}
+use Rattle.lk_table_sound.proofs.Sames.{sound_same}
 
 pub sound_steps : IsSoundTable steps
 sound_steps w ok (core e) f = sound_core w ok.stated e f
