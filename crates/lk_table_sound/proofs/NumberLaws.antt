@@ -73,12 +73,12 @@ sound_laws_hold w (law ∷ laws) f =
           (λ t. sound_map w (laws_hold laws) (λ u. AllHold w laws) (λ u. AllHold w (law ∷ laws)) (λ u rest. holds (of_yes equal t mE) rest) (sound_laws_hold w laws f.1)),
     ))
 
-sound_def_given : (w : Place) (o : Option Op) → IsSound w (def_given o) (λ u. CanBeStated w o)
+pub sound_def_given : (w : Place) (o : Option Op) → IsSound w (def_given o) (λ u. CanBeStated w o)
 sound_def_given w None = tt
 sound_def_given w (Some op) = λ g m. sound_given w (by_def g.kind) NatLaw (done tt) (λ u. CanBeStated w (Some op)) (λ k. record { entry = g; given = m; kind = k })
 
 -- what a def of this entry has, where it is this operation
-abbrev HasLaws : Place → Entry → Option Op → Type 0
+abbrev pub HasLaws : Place → Entry → Option Op → Type 0
 HasLaws w g o = (op : Op) → o ≡ Some op → HasNat w × MeetsLaws w op g
 
 pub sound_law_steps : (w : Place) (ps : List Name) (type : Tree) (h : Hint) (value : Tree) → IsWellFormed value → (o : Option Op) →
