@@ -24,7 +24,7 @@ use Rattle.lk_table_sound.proofs.Shaped.{sound_nat_shape}
 use native.Mathlib.Decide.{ℕ_discrete}
 
 -- both sides of each law are closed and well scoped
-abbrev AllFine : List Law → Type 0
+abbrev pub AllFine : List Law → Type 0
 AllFine [] = Unit {0}
 AllFine (law ∷ laws) = (IsWellFormed law.left × IsWellFormed law.right) × AllFine laws
 
@@ -32,7 +32,7 @@ number_fine : (k : ℕ) → IsWellFormed (local k (named nat))
 unfolding bound
 number_fine k = (tt, omega arith)
 
-laws_fine : (op : Op) (v : Tree) → IsWellFormed v → AllFine (laws_of op v)
+pub laws_fine : (op : Op) (v : Tree) → IsWellFormed v → AllFine (laws_of op v)
 laws_fine add v f =
     let x = number_fine 0 in
     let y = number_fine 1 in

@@ -7,7 +7,7 @@ use Rattle.lk_tree.specs.Levels.{put_levels}
 use Rattle.lk_tree.specs.Spine.{apply, head, args}
 use Rattle.lk_tree.specs.WellFormed.{IsWellFormed, AllWellFormed}
 use Rattle.lk_tree.proofs.Scans.{and_true}
-use Rattle.lk_rulebook.specs.Place.{Place, Entry, Block, BlockType, Ctor, Recursor, RecRule, a_ctor, a_rec}
+use Rattle.lk_rulebook.specs.Place.{Place, Entry, Recursor, RecRule, a_rec}
 use Rattle.lk_rulebook.specs.Names.{quot_mk, quot_lift, quot_ind}
 use Rattle.lk_tree.specs.Mentions.{same_name}
 use Rattle.lk_rulebook.specs.Structures.{before_major, before_indices, IsRuleOf, RecApp, on_major, CtorApp, ctor_app, HasRule, rule_result, KMajor, k_type}

@@ -7,7 +7,7 @@ use Rattle.lk_tree.specs.Level.{is_zero_level}
 use Rattle.lk_tree.specs.Bind.{has_var}
 use Rattle.lk_tree.specs.WellFormed.{IsWellFormed}
 use Rattle.lk_tree.specs.Mentions.{same_name}
-use Rattle.lk_tree.specs.Spine.{apply, head, args}
+use Rattle.lk_tree.specs.Spine.{head, args}
 use Rattle.lk_tree.proofs.Scans.{and_true}
 use Rattle.lk_rulebook.specs.Place.{Place}
 use Rattle.lk_rulebook.specs.Structures.{Projectable, projectable_type, ctor_type}

@@ -1,5 +1,5 @@
 -- What each rule of typing states can be written.
-use Rattle.std.proofs.Common.{ℕ, ◌≡◌, ◌≤◌, true, nat_eq, length, List, [], ◌∷◌, Some}
+use Rattle.std.proofs.Common.{ℕ, ◌≡◌, ◌≤◌, true, nat_eq, length, List, [], ◌∷◌}
 use Rattle.std.proofs.lemmas.Bool.Decides.{nat_tests}
 use Rattle.std.proofs.Common.{arith}
 use Rattle.lk_tree.specs.Tree.{Name, Level, imax_level, Tree, sort, const, app, lam, pi, let_in, local}

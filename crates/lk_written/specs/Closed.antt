@@ -1,6 +1,6 @@
 -- What it is for a property of claims to follow the rules, where levels are compared and shapes looked at by tests. The laws of
 -- operations on numbers are not asked.
-use Rattle.std.specs.Prelude.{ℕ, zero, suc, ◌≡◌, ◌<◌, ◌≤◌, ◌+◌, Bool, ◌&&◌, true, List, [], ◌∷◌, ◌++◌, length, Some, slice_get, false}
+use Rattle.std.specs.Prelude.{ℕ, zero, suc, ◌≡◌, ◌<◌, ◌≤◌, ◌+◌, Bool, ◌&&◌, true, List, [], ◌∷◌, length, Some, slice_get, false}
 use Rattle.std.specs.Str.{chars}
 use Rattle.lk_tree.specs.Tree.{Name, Level, succ_level, imax_level, Tree, var, sort, const, app, lam, pi, let_in, proj, lit, str, local}
 use Rattle.lk_tree.specs.Bind.{opened, bound, has_var}
