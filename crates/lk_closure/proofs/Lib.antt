@@ -22,4 +22,5 @@ pub mod Wholes
 pub mod Units
 pub mod Axioms
 pub mod Least
+pub mod Listed
 pub mod Worked

@@ -1,1 +1,2 @@
 pub mod Closure
+pub mod Listed

@@ -2,8 +2,9 @@
 //! other units. Nothing runs: each function is a law.
 #![tactic(auto)]
 
-ghost use Rattle.std.specs.Prelude.{◌≡◌, ◌≤◌, ℕ, Bool, true, Some, slice_get};
+ghost use Rattle.std.specs.Prelude.{◌≡◌, ◌<◌, ◌≤◌, ℕ, Bool, true, List, length, Some, slice_get};
 ghost use Rattle.lk_closure.specs.Closure.{IsClosure, IsInClosure, KeepsClosure, IsUnchanged, kept, renumbered};
+ghost use Rattle.lk_closure.specs.Listed.{IsClosureList, is_listed, units_at};
 ghost use Rattle.lk_reach.specs.Axioms.{IsAxiomOf};
 ghost use Rattle.lk_rulebook.specs.Units.{Decl, of_decl, Library};
 ghost use Rattle.lk_questions.specs.Table.{steps};
@@ -69,6 +70,25 @@ pub fn closure_is_least()
     ensures least { (us : Library) (n k : ℕ) (keep : ℕ → Bool) → IsClosure us n keep
         → IsInClosure us n k → keep k ≡ true }
     ensures earlier { (us : Library) (n k : ℕ) → IsInClosure us n k → k ≤ n }
+{}
+
+/// The units of a closure, listed in the order of the units, have among themselves the verdicts that
+/// they have among all, and the same axioms; the new number of a unit is its place in the list.
+pub fn listed_closure_keeps_verdicts()
+    ensures keeps { (us : Library) (n : ℕ) (ks : List ℕ) → IsClosureList us n ks
+        → KeepsClosure us n (is_listed ks) }
+    ensures stands { (us : Library) (n p k : ℕ) (ks : List ℕ) → IsClosureList us n ks
+        → n < length us → slice_get ks p ≡ Some k
+        → slice_get (units_at us ks) p ≡ slice_get us k }
+    ensures verdict { (us : Library) (n p k budget : ℕ) (ks : List ℕ) → IsClearLibrary us
+        → IsClosureList us n ks → n < length us → slice_get ks p ≡ Some k
+        → plain_verdict steps (units_at us ks) p budget ≡ plain_verdict steps us k budget }
+    ensures there { (us : Library) (n p k m : ℕ) (ks : List ℕ) → IsClosureList us n ks
+        → n < length us → slice_get ks p ≡ Some k → IsAxiomOf us k m
+        → (q : ℕ) × (slice_get ks q ≡ Some m) × IsAxiomOf (units_at us ks) p q }
+    ensures back { (us : Library) (n p k q : ℕ) (ks : List ℕ) → IsClosureList us n ks
+        → n < length us → slice_get ks p ≡ Some k → IsAxiomOf (units_at us ks) p q
+        → (m : ℕ) × (slice_get ks q ≡ Some m) × IsAxiomOf us k m }
 {}
 
 /// Where no unit of the closures of unit n in two libraries differs between them, the closures are
