@@ -5,7 +5,7 @@ use Rattle.lk_tree.specs.Tree.{Name, Level, Tree}
 use Rattle.lk_tree.specs.Operations.{Op}
 use Rattle.lk_rulebook.specs.NumberLaws.{Law, laws_of}
 use Rattle.lk_questions.specs.NumberLaws.{lawful_op}
-use Rattle.lk_answered.proofs.NumberLaws.{EachMet, AreMet}
+use Rattle.lk_table_sound.proofs.NumberLaws.{EachMet, AreMet}
 use Rattle.lk_rulebook.specs.Place.{Place}
 use Rattle.lk_rulebook.specs.Units.{Body, as_axiom, as_def, as_thm, as_opaque, as_quot, Decl, LibraryUnit, of_decl, Library, trees_of, body_trees, place_of}
 use Rattle.lk_rulebook.specs.Scan.{IsScanned, scan_of}
@@ -17,14 +17,14 @@ use Rattle.lk_questions.specs.Declarations.{unit_steps}
 use Rattle.lk_verdict.specs.Verdict.{says_yes, questions_of, verdict_of, plain_verdict}
 use Rattle.lk_verdict.proofs.Verdicts.{yes_answer, scanned_yes, yes_of}
 use Rattle.lk_sound.proofs.Statedness.{all_well_stated}
-use Rattle.lk_table_sound.proofs.Pieces.{Some_inj}
+use Rattle.lk_claims.proofs.Pieces.{Some_inj}
 use Rattle.lk_written.specs.Section.{Section, section_holds}
 use Rattle.lk_written.specs.Written.{CanWrite, CanSort, CanBe, CanMeet, CanBeLawful, CanBody, CanDeclare}
 use Rattle.lk_written.proofs.Closeds.{types_follow, reductions_follow, equalities_follow}
 use Rattle.lk_written.proofs.Wholes.{declaration_written}
-use Rattle.lk_answered.proofs.Book.{Book, HasSort}
-use Rattle.lk_answered.proofs.WholeTable.{sound_steps}
-use Rattle.lk_answered.proofs.Declarations.{IsOf, BodyHolds, DeclHolds, yes_holds}
+use Rattle.lk_table_sound.proofs.Book.{Book, HasSort}
+use Rattle.lk_table_sound.proofs.WholeTable.{sound_steps}
+use Rattle.lk_table_sound.proofs.Declarations.{IsOf, BodyHolds, DeclHolds, yes_holds}
 
 -- that a claim can be written at w
 abbrev pub written_at : Place → Book

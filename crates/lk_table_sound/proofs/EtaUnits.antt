@@ -4,20 +4,20 @@ use Rattle.lk_tree.specs.Tree.{Name, Level, Tree, const}
 use Rattle.lk_tree.specs.Spine.{apply, head, args, IsHeadNormal}
 use Rattle.lk_tree.specs.WellFormed.{IsWellFormed}
 use Rattle.lk_tree.proofs.Within.{apply_head_args}
-use Rattle.lk_rulebook.specs.Place.{Place, Entry, Kind, Block, BlockType, Ctor, a_type}
+use Rattle.lk_table_sound.proofs.Book.{Book, HasType, Reduces, IsDefEq, e_unit, well_formed_of_type}
+use Rattle.lk_rulebook.specs.Place.{Entry, Kind, Block, BlockType, Ctor, a_type}
 use Rattle.lk_rulebook.specs.Structures.{is_structure_like}
-use Rattle.lk_rulebook.specs.Rules.{HasType, Reduces, IsDefEq, e_unit}
-use Rattle.lk_rulebook.proofs.Scopes.{well_formed_of_type}
 use Rattle.lk_plain.specs.Query.{same}
 use Rattle.lk_plain.specs.Program.{asked}
 use Rattle.lk_questions.specs.Pairs.{goes_on}
 use Rattle.lk_questions.specs.Eta.{is_unit_like, is_unit_like_at, eta_unit, by_unit_eta}
-use Rattle.lk_table_sound.proofs.Pieces.{halves, equal_numbers, if_yes_map}
+use Rattle.lk_claims.proofs.Pieces.{halves, equal_numbers, if_yes_map}
 use Rattle.lk_table_sound.proofs.Goes.{sound_if}
-use Rattle.lk_table_sound.proofs.Lines.{IfAnswers, SoundLine, sound_answers}
+use Rattle.lk_claims.proofs.Facts.{IfAnswers}
+use Rattle.lk_table_sound.proofs.Lines.{SoundLine, sound_answers}
 
 -- two of a type J ls bs that has no fields are equal
-unit_like_equal : (w : Place) (J : Name) (g : Entry) → w.means J ≡ Some g → (block : Block) (t : BlockType) → g.kind ≡ a_type block t →
+unit_like_equal : (w : Book) (J : Name) (g : Entry) → w.place.means J ≡ Some g → (block : Block) (t : BlockType) → g.kind ≡ a_type block t →
     (cs : List Ctor) → t.ctors ≡ cs → (ls : List Level) (bs : List Tree) → is_unit_like block t cs bs ≡ true →
     (a b A B : Tree) → IsHeadNormal a → IsHeadNormal b → HasType w a A → Reduces w A (apply (const J ls) bs) → HasType w b B → IsDefEq w A B → IsDefEq w a b
 unit_like_equal w J g m block t k (c ∷ []) e ls bs h a b A B na nb ha r hb q =
@@ -27,12 +27,12 @@ unit_like_equal w J g m block t k (c ∷ []) e ls bs h a b A B na nb ha r hb q =
 unit_like_equal w J g m block t k [] e ls bs h a b A B na nb ha r hb q = absurd cc
 unit_like_equal w J g m block t k (c ∷ d ∷ cs) e ls bs h a b A B na nb ha r hb q = absurd cc
 
-unit_like_equal_at : (w : Place) (J : Name) (g : Entry) → w.means J ≡ Some g → (k : Kind) → g.kind ≡ k → (ls : List Level) (bs : List Tree) → is_unit_like_at k bs ≡ true →
+unit_like_equal_at : (w : Book) (J : Name) (g : Entry) → w.place.means J ≡ Some g → (k : Kind) → g.kind ≡ k → (ls : List Level) (bs : List Tree) → is_unit_like_at k bs ≡ true →
     (a b A B : Tree) → IsHeadNormal a → IsHeadNormal b → HasType w a A → Reduces w A (apply (const J ls) bs) → HasType w b B → IsDefEq w A B → IsDefEq w a b
 unit_like_equal_at w J g m (a_type block t) k ls bs h a b A B na nb ha r hb q = unit_like_equal w J g m block t k t.ctors refl ls bs h a b A B na nb ha r hb q
 unit_like_equal_at w J g m _ k ls bs h a b A B na nb ha r hb q = absurd cc
 
-sound_eta_unit : (w : Place) (a b A : Tree) → IsHeadNormal a → IsHeadNormal b → IsWellFormed b → HasType w a A → (h : Tree) (bs : List Tree) → Reduces w A (apply h bs) → SoundLine w (eta_unit a b A h bs) (IsDefEq w a b)
+sound_eta_unit : (w : Book) (a b A : Tree) → IsHeadNormal a → IsHeadNormal b → IsWellFormed b → HasType w a A → (h : Tree) (bs : List Tree) → Reduces w A (apply h bs) → SoundLine w (eta_unit a b A h bs) (IsDefEq w a b)
 sound_eta_unit w a b A na nb fb ha (const J ls) bs r = λ g m.
     sound_if w (is_unit_like_at g.kind bs) _ goes_on (λ o. IfAnswers o (IsDefEq w a b))
     (λ t. (
@@ -45,5 +45,5 @@ sound_eta_unit w a b A na nb fb ha (const J ls) bs r = λ g m.
     (λ t. tt)
 sound_eta_unit w a b A na nb fb ha _ bs r = tt
 
-pub sound_by_unit_eta : (w : Place) (a b : Tree) → IsWellFormed a → IsWellFormed b → IsHeadNormal a → IsHeadNormal b → SoundLine w (by_unit_eta a b) (IsDefEq w a b)
+pub sound_by_unit_eta : (w : Book) (a b : Tree) → IsWellFormed a → IsWellFormed b → IsHeadNormal a → IsHeadNormal b → SoundLine w (by_unit_eta a b) (IsDefEq w a b)
 sound_by_unit_eta w a b fa fb na nb = (fa, λ A mA. ((well_formed_of_type mA.0).1, λ T mT. sound_eta_unit w a b A na nb fb mA.0 (head T) (args T) (rw (apply_head_args T) mT.0)))

@@ -6,22 +6,22 @@ use Rattle.lk_tree.specs.Spine.{apply, head, args, IsHeadNormal}
 use Rattle.lk_tree.specs.WellFormed.{IsWellFormed, AllWellFormed}
 use Rattle.lk_tree.proofs.Spines.{well_formed_of_apply}
 use Rattle.lk_tree.proofs.Lists.{fine_drop, length_taken}
-use Rattle.lk_rulebook.specs.Place.{Place}
-use Rattle.lk_rulebook.specs.Structures.{StructureAt, is_structure_like}
-use Rattle.lk_rulebook.specs.Rules.{HasType, IsDefEq, e_struct_left, e_struct_right, IsByFields, by_fields, AllProject, no_more_fields, project}
-use Rattle.lk_rulebook.proofs.Scopes.{well_formed_of_type}
+use Rattle.lk_table_sound.proofs.Book.{Book, StructureAt, HasType, IsDefEq, e_struct_left, e_struct_right, IsByFields, by_fields, AllProject, no_more_fields, project, well_formed_of_type, IsSound, WellStated}
+use Rattle.lk_rulebook.specs.Structures.{is_structure_like}
 use Rattle.lk_plain.specs.Program.{done}
 use Rattle.lk_questions.specs.Iota.{CtorApp, ctor_app_of, has_one_ctor}
 use Rattle.lk_questions.specs.Pairs.{goes_on}
 use Rattle.lk_questions.specs.Eta.{same_fields, eta_struct, by_structure_eta}
-use Rattle.lk_plain.specs.Sound.{IsSound, IfYes, WellStated}
-use Rattle.lk_plain.proofs.Soundness.{sound_bind, sound_map}
-use Rattle.lk_table_sound.proofs.Pieces.{of_yes}
+use Rattle.lk_plain.specs.Sound.{IfYes}
+use Rattle.lk_table_sound.proofs.Soundness.{sound_bind, sound_map}
+use Rattle.lk_claims.proofs.Pieces.{of_yes, if_yes_map}
 use Rattle.lk_table_sound.proofs.Goes.{sound_if}
-use Rattle.lk_table_sound.proofs.Lines.{if_yes_map, IfAnswers, SoundLine, sound_answers_yes}
-use Rattle.lk_table_sound.proofs.Iotas.{IsCtorApp, IfCtorApp, sound_ctor_app_of, the_ctor, listed_of}
+use Rattle.lk_claims.proofs.Facts.{IfAnswers}
+use Rattle.lk_table_sound.proofs.Lines.{SoundLine, sound_answers_yes}
+use Rattle.lk_table_sound.proofs.Iotas.{IsCtorApp, IfCtorApp, sound_ctor_app_of}
+use Rattle.lk_claims.proofs.Facts.{the_ctor, listed_of}
 
-sound_fields : (w : Place) (J : Name) (a : Tree) → IsWellFormed a → (j : ℕ) (xs : List Tree) → AllWellFormed xs → IsSound w (same_fields J a j xs) (λ e. IfYes e (AllProject w J a j xs))
+sound_fields : (w : Book) (J : Name) (a : Tree) → IsWellFormed a → (j : ℕ) (xs : List Tree) → AllWellFormed xs → IsSound w (same_fields J a j xs) (λ e. IfYes e (AllProject w J a j xs))
 sound_fields w J a fa j [] f = no_more_fields
 sound_fields w J a fa j (x ∷ xs) f = (
   (fa, f.0),
@@ -36,7 +36,7 @@ and_two true true h = (refl, refl)
 and_two true false h = absurd cc
 and_two false b h = absurd cc
 
-eta_ext : (w : Place) → WellStated w → (a b : Tree) → IsHeadNormal a → (k : CtorApp) → IsCtorApp w b k →
+eta_ext : (w : Book) → WellStated w → (a b : Tree) → IsHeadNormal a → (k : CtorApp) → IsCtorApp w b k →
     (nat_eq (length k.args) (k.ctor.parameters + k.ctor.fields) && (has_one_ctor k.ind.ctors && is_structure_like k.block k.ind k.ctor)) ≡ true →
     (A B : Tree) → HasType w a A → HasType w b B → IsDefEq w A B → AllProject w k.ind.name a 0 (drop k.ctor.parameters k.args) → IsDefEq w a b × IsDefEq w b a
 eta_ext w ok a b na k j y A B ha hb q all =
@@ -70,7 +70,7 @@ eta_ext w ok a b na k j y A B ha hb q all =
     let h : IsByFields w S (drop p k.args) a = by_fields n ha hk q all in
     (rw u (e_struct_left S (drop p k.args) na h), rw u (e_struct_right S (drop p k.args) na h))
 
-sound_eta_struct : (w : Place) → WellStated w → (a b : Tree) → IsWellFormed a → IsWellFormed b → IsHeadNormal a → (o : Option CtorApp) → IfCtorApp w b o → (C : Type 0) → (IsDefEq w a b × IsDefEq w b a → C) → SoundLine w (eta_struct a b o) C
+sound_eta_struct : (w : Book) → WellStated w → (a b : Tree) → IsWellFormed a → IsWellFormed b → IsHeadNormal a → (o : Option CtorApp) → IfCtorApp w b o → (C : Type 0) → (IsDefEq w a b × IsDefEq w b a → C) → SoundLine w (eta_struct a b o) C
 sound_eta_struct w ok a b fa fb na None j C h = tt
 sound_eta_struct w ok a b fa fb na (Some k) j C h =
     let test : Bool = nat_eq (length k.args) (k.ctor.parameters + k.ctor.fields) && (has_one_ctor k.ind.ctors && is_structure_like k.block k.ind k.ctor) in
@@ -96,7 +96,7 @@ sound_eta_struct w ok a b fa fb na (Some k) j C h =
     ))
     (λ y. tt)
 
-pub sound_by_structure_eta : (w : Place) → WellStated w → (a b : Tree) → IsWellFormed a → IsWellFormed b → IsHeadNormal a → (C : Type 0) → (IsDefEq w a b × IsDefEq w b a → C) → SoundLine w (by_structure_eta a b) C
+pub sound_by_structure_eta : (w : Book) → WellStated w → (a b : Tree) → IsWellFormed a → IsWellFormed b → IsHeadNormal a → (C : Type 0) → (IsDefEq w a b × IsDefEq w b a → C) → SoundLine w (by_structure_eta a b) C
 sound_by_structure_eta w ok a b fa fb na C h =
     sound_bind w (ctor_app_of (head b) (args b)) (λ k. eta_struct a b k) (IfCtorApp w b) (λ o. IfAnswers o C) (sound_ctor_app_of w b)
     (λ k j. sound_eta_struct w ok a b fa fb na k j C h)

@@ -7,48 +7,28 @@ use Rattle.lk_tree.specs.Levels.{put_levels}
 use Rattle.lk_tree.specs.WellFormed.{IsWellFormed, IsWellFormedUnder, LocalsWithin}
 use Rattle.lk_tree.proofs.Binding.{open_fine}
 use Rattle.lk_tree.proofs.Within.{within_trans, within_open, no_local, bound_put_levels, fine_put_levels, closed_bound, closed_within, closed_reopens}
-use Rattle.lk_rulebook.specs.Place.{Place}
-use Rattle.lk_rulebook.specs.Rules.{HasSort, Reduces, t_sort, t_local, t_const, t_app, t_lam, t_pi, t_let, t_lit, t_str}
-use Rattle.lk_rulebook.proofs.Scopes.{well_formed_of_type, well_formed_of_reduct}
+use Rattle.lk_table_sound.proofs.Book.{Book, HasSort, Reduces, t_sort, t_local, t_const, t_app, t_lam, t_pi, t_let, t_lit, t_str, well_formed_of_type, well_formed_of_reduct, IsSound, IsJustified, WellStated, HasNat, HasString}
 use Rattle.lk_plain.specs.Query.{infer}
 use Rattle.lk_plain.specs.Program.{done}
 use Rattle.lk_questions.specs.Steps.{sort_of}
 use Rattle.lk_questions.specs.Infer.{infer_steps}
-use Rattle.lk_plain.specs.Sound.{IsSound, IsJustified, WellStated, IsStated}
-use Rattle.lk_plain.proofs.Soundness.{sound_bind}
+use Rattle.lk_plain.specs.Sound.{IsStated}
+use Rattle.lk_table_sound.proofs.Soundness.{sound_bind}
 use Rattle.lk_questions.specs.Shapes.{nat_shape, string_shape}
 use Rattle.lk_rulebook.specs.Names.{named, nat, string}
-use Rattle.lk_rulebook.specs.Shapes.{HasNat, HasString}
 use Rattle.lk_table_sound.proofs.Shaped.{sound_nat_shape, sound_string_shape}
 use Rattle.lk_table_sound.proofs.InferProjs.{sound_infer_proj}
-use Rattle.lk_table_sound.proofs.Pieces.{sound_given, of_yes, sound_sort_of, sound_pi, sound_with_levels}
+use Rattle.lk_table_sound.proofs.Pieces.{sound_given, sound_sort_of, sound_pi, sound_with_levels}
+use Rattle.lk_claims.proofs.Pieces.{of_yes}
+use Rattle.lk_claims.proofs.Facts.{bound_right, pi_bound_left, bound_left, body_fine}
 
--- a binder opened with its Local
-pub local_fine : (k : ℕ) (A : Tree) → IsWellFormed A → bound A ≤ k → IsWellFormed (local k A)
-local_fine k A f h = (f, h)
-
-pub bound_left : (A b : Tree) (k : ℕ) → bound (lam A b) ≤ k → bound A ≤ k
-unfolding bound
-bound_left A b k h = omega arith
-
-pub bound_right : (A b : Tree) (k : ℕ) → bound (lam A b) ≤ k → bound b ≤ k
-unfolding bound
-bound_right A b k h = omega arith
-
-pub pi_bound_left : (A B : Tree) (k : ℕ) → bound (pi A B) ≤ k → bound A ≤ k
-unfolding bound
-pi_bound_left A B k h = omega arith
-
-pub body_fine : (k : ℕ) (A b : Tree) → IsWellFormed A → IsWellFormedUnder 1 b → bound A ≤ k → IsWellFormed (opened b (local k A))
-body_fine k A b fA fb h = open_fine 0 (local k A) b fb (fA, h)
-
-infer_local : (w : Place) (k : ℕ) (T : Tree) → IsWellFormed (local k T) → IsJustified w (infer (local k T)) T
+infer_local : (w : Book) (k : ℕ) (T : Tree) → IsWellFormed (local k T) → IsJustified w (infer (local k T)) T
 infer_local w k T f = (t_local f, λ j S h. inr h)
 
-infer_sort : (w : Place) (l : Level) → IsJustified w (infer (sort l)) (sort (succ_level l))
+infer_sort : (w : Book) (l : Level) → IsJustified w (infer (sort l)) (sort (succ_level l))
 infer_sort w l = (t_sort, λ j S h. h)
 
-infer_const : (w : Place) → WellStated w → (c : Name) (ls : List Level) → IsSound w (infer_steps (const c ls)) (IsJustified w (infer (const c ls)))
+infer_const : (w : Book) → WellStated w → (c : Name) (ls : List Level) → IsSound w (infer_steps (const c ls)) (IsJustified w (infer (const c ls)))
 infer_const w ok c ls = λ g m. sound_with_levels w g ls g.type (IsJustified w (infer (const c ls)))
     (λ count. let s : IsStated g.type = (ok c g m).0 in (
       t_const (record { entry = g; given = m; levels_are = count }) (fine_put_levels g.levels ls 0 g.type s.0),
@@ -58,7 +38,7 @@ infer_const w ok c ls = λ g m. sound_with_levels w g ls g.type (IsJustified w (
 app_within : (f a F S A B : Tree) → LocalsWithin f F → LocalsWithin F S → S ≡ pi A B → LocalsWithin (app f a) (opened B a)
 app_within f a F S A B h i e = within_open (app f a) B a (λ k T m. inl (h k T (i k T (rw e (inr m))))) (λ k T m. inr m)
 
-infer_app : (w : Place) (f a : Tree) → IsWellFormed f → IsWellFormed a → IsSound w (infer_steps (app f a)) (IsJustified w (infer (app f a)))
+infer_app : (w : Book) (f a : Tree) → IsWellFormed f → IsWellFormed a → IsSound w (infer_steps (app f a)) (IsJustified w (infer (app f a)))
 infer_app w f a ff fa = (
   ff,
   λ F mF. (
@@ -83,7 +63,7 @@ lam_closed_bound : (A b B : Tree) (k : ℕ) → bound (lam A b) ≤ k → IsWell
 unfolding bound
 lam_closed_bound A b B k h f w = omega (arith, closed_bound k A b B (omega arith) (omega arith) f w)
 
-infer_lam : (w : Place) (A b : Tree) → IsWellFormed A → IsWellFormedUnder 1 b → IsSound w (infer_steps (lam A b)) (IsJustified w (infer (lam A b)))
+infer_lam : (w : Book) (A b : Tree) → IsWellFormed A → IsWellFormedUnder 1 b → IsSound w (infer_steps (lam A b)) (IsJustified w (infer (lam A b)))
 infer_lam w A b fA fb =
     let k : ℕ = bound (lam A b) in
     sound_bind w (sort_of A) _ (λ l. HasSort w A l) (IsJustified w (infer (lam A b))) (sound_sort_of w A fA)
@@ -96,7 +76,7 @@ infer_lam w A b fA fb =
       ),
     ))
 
-infer_pi : (w : Place) (A B : Tree) → IsWellFormed A → IsWellFormedUnder 1 B → IsSound w (infer_steps (pi A B)) (IsJustified w (infer (pi A B)))
+infer_pi : (w : Book) (A B : Tree) → IsWellFormed A → IsWellFormedUnder 1 B → IsSound w (infer_steps (pi A B)) (IsJustified w (infer (pi A B)))
 infer_pi w A B fA fB =
     let k : ℕ = bound (pi A B) in
     sound_bind w (sort_of A) _ (λ u. HasSort w A u) (IsJustified w (infer (pi A B))) (sound_sort_of w A fA)
@@ -104,7 +84,7 @@ infer_pi w A B fA fB =
     (sound_sort_of w (opened B (local k A)) (body_fine k A B fA fB (pi_bound_left A B k (omega arith))))
     (λ v hB. (t_pi (omega arith) hA hB, λ j T m. absurd m)))
 
-infer_let : (w : Place) (A v b : Tree) → IsWellFormed A → IsWellFormed v → IsWellFormedUnder 1 b → IsSound w (infer_steps (let_in A v b)) (IsJustified w (infer (let_in A v b)))
+infer_let : (w : Book) (A v b : Tree) → IsWellFormed A → IsWellFormed v → IsWellFormedUnder 1 b → IsSound w (infer_steps (let_in A v b)) (IsJustified w (infer (let_in A v b)))
 infer_let w A v b fA fv fb =
     sound_bind w (sort_of A) _ (λ u. HasSort w A u) (IsJustified w (infer (let_in A v b))) (sound_sort_of w A fA)
     (λ u hA. (
@@ -122,7 +102,7 @@ infer_let w A v b fA fv fb =
       ),
     ))
 
-pub sound_infer : (w : Place) → WellStated w → (e : Tree) → IsWellFormed e → IsSound w (infer_steps e) (IsJustified w (infer e))
+pub sound_infer : (w : Book) → WellStated w → (e : Tree) → IsWellFormed e → IsSound w (infer_steps e) (IsJustified w (infer e))
 sound_infer w ok (local k T) f = infer_local w k T f
 sound_infer w ok (sort l) f = infer_sort w l
 sound_infer w ok (const c ls) f = infer_const w ok c ls

@@ -1,100 +1,80 @@
 -- Iota and projections of constructors are sound.
-use Rattle.lk_rulebook.specs.Place.{Ctor, Block, BlockType}
-use Rattle.lk_tree.proofs.Lists.{AllWithin, AnyLocal}
-use Rattle.lk_questions.specs.Iota.{has_one_ctor, builds_structure, expanded, expand_at, to_ctor_when_structure, as_ctor_app}
-use Rattle.lk_plain.specs.Sound.{IsListed}
-use Rattle.lk_questions.specs.Steps.{sort_of}
-use Rattle.lk_table_sound.proofs.Pieces.{sound_sort_of, TypesTo, well_formed_of_to}
+use Rattle.lk_rulebook.specs.Place.{Place, Entry, Kind, Recursor, RecRule, a_quot, a_ctor, a_rec}
+use Rattle.lk_tree.proofs.Lists.{AllWithin, AnyLocal, fine_take, fine_drop, fine_at, any_take, any_drop, any_at, local_of_apply, local_of_arg, within_applied, split_at, length_before, length_taken}
+use Rattle.lk_questions.specs.Iota.{has_one_ctor, builds_structure, expanded, expand_at, to_ctor_when_structure, as_ctor_app, CtorApp, ctor_app_by, ctor_app_of, only_ctor, levels_at, k_from, to_ctor_when_k, fitting_rule, by_rule, iota_at_ctor, iota_of, iota_after_k, iota, core_constant, picked, core_field, core_proj}
+use Rattle.lk_plain.specs.Sound.{IsStated, KindStated, RulesStated}
+use Rattle.lk_questions.specs.Steps.{sort_of, with_levels}
+use Rattle.lk_table_sound.proofs.Pieces.{sound_sort_of, TypesTo, well_formed_of_to, sound_with_levels}
 use Rattle.lk_tree.specs.Level.{is_zero_level}
-use Rattle.lk_tree.proofs.Zero.{not_zero_level}
-use Rattle.lk_rulebook.specs.Structures.{projections, is_structure_like, CtorApp as GivenCtorApp, ctor_app, RecApp, on_major, HasRule, rule_result, before_indices, KMajor, StructureAt}
-use Rattle.lk_rulebook.specs.Rules.{r_struct, not_prop}
-use Rattle.std.specs.Prelude.{◌&&◌}
+use Rattle.lk_rulebook.specs.Structures.{projections, is_structure_like, ctor_app, on_major, RecApp as RecAppAt, HasRule, rule_result, before_indices, KMajor, IsRuleOf, before_major}
+use Rattle.lk_table_sound.proofs.Book.{StructureAt, CtorApp as GivenCtorApp, RecApp, r_struct, not_prop, Book, HasSort, r_major, r_proj, r_iota, r_k, well_formed_of_type, well_formed_of_reduct, IsSound, IsJustified, WellStated, ReadsText, Reads}
+use Rattle.std.specs.Prelude.{◌&&◌, slice_get}
 use Rattle.std.proofs.Common.{Bool, List, None, Option, Some, [], arith, drop, false, if◌then◌else◌, inl, inr, length, nat_eq, nat_le, refl, suc, sym, take, take-append-drop, true, zero, ℕ, ◌++◌, ◌+◌, ◌∙◌, ◌∷◌, ◌≡◌, ◌⊎◌}
-use Rattle.std.specs.Prelude.{slice_get}
 use Rattle.std.proofs.lemmas.Bool.Decides.{nat_tests}
-use Rattle.lk_tree.specs.Tree.{Name, Level, Tree, var, sort, const, app, lam, pi, let_in, proj, lit, wide, str, local}
+use Rattle.lk_tree.specs.Tree.{Name, Level, Tree, const, app, proj}
 use Rattle.lk_tree.specs.Levels.{put_levels}
 use Rattle.lk_tree.specs.Spine.{apply, head, args}
 use Rattle.lk_tree.specs.WellFormed.{IsWellFormed, AllWellFormed, LocalsWithin}
 use Rattle.lk_tree.proofs.Spines.{fine_apply, well_formed_of_apply}
 use Rattle.lk_tree.proofs.Within.{within_trans, apply_head_args, no_local, bound_put_levels, fine_put_levels}
-use Rattle.lk_tree.proofs.Lists.{fine_take, fine_drop, fine_at, any_take, any_drop, any_at, local_of_apply, local_of_arg, within_applied, split_at, length_before, length_taken}
-use Rattle.lk_rulebook.specs.Place.{Place, Entry, Kind, Recursor, RecRule, a_quot, a_ctor, a_rec}
 use Rattle.lk_tree.specs.Mentions.{same_name}
-use Rattle.lk_rulebook.specs.Structures.{IsRuleOf, before_major}
-use Rattle.lk_rulebook.specs.Rules.{HasSort, r_major, r_proj, r_iota, r_k}
-use Rattle.lk_rulebook.proofs.Scopes.{well_formed_of_type, well_formed_of_reduct}
 use Rattle.lk_plain.specs.Query.{core}
 use Rattle.lk_plain.specs.Program.{done}
-use Rattle.lk_questions.specs.Steps.{with_levels}
-use Rattle.lk_questions.specs.Iota.{CtorApp, ctor_app_by, ctor_app_of, only_ctor, levels_at, k_from, to_ctor_when_k, fitting_rule, by_rule, iota_at_ctor, iota_of, iota_after_k, iota, core_constant, picked, core_field, core_proj}
-use Rattle.lk_plain.specs.Sound.{IsSound, IsJustified, WellStated, IsStated, KindStated, RulesStated}
-use Rattle.lk_plain.proofs.Soundness.{sound_bind}
-use Rattle.lk_table_sound.proofs.Pieces.{sound_with_levels, of_yes}
-pub use Rattle.lk_table_sound.proofs.Pieces.{same_name_right}
-use Rattle.lk_table_sound.proofs.Pieces.{Some_inj}
+use Rattle.lk_table_sound.proofs.Soundness.{sound_bind}
+use Rattle.lk_claims.proofs.Pieces.{of_yes, same_name_right, Some_inj}
 use Rattle.lk_table_sound.proofs.Quots.{sound_core_quot}
-use Rattle.lk_table_sound.proofs.Readings.{sound_literal_to_ctor, sound_text_to_ctor}
+use Rattle.lk_table_sound.proofs.Shaped.{sound_literal_to_ctor, sound_text_to_ctor}
 use Rattle.lk_questions.specs.Strings.{literal_to_ctor, text_to_ctor}
-use Rattle.lk_rulebook.specs.Literals.{ReadsText, Reads}
 use Rattle.lk_rulebook.proofs.Texts.{text_fine, text_within, read_within}
-use Rattle.lk_table_sound.proofs.Goes.{sound_if, GoesTo, stays, goes_on, IsCore, core_stays, core_on, goes_applied}
+use Rattle.lk_table_sound.proofs.Goes.{sound_if, GoesTo, stays, goes_on, core_stays, core_on, goes_applied}
+use Rattle.lk_claims.proofs.Facts.{IsCore}
+use Rattle.lk_claims.proofs.Facts.{the_ctor, listed_of, same_name_levels}
 
 both : (a b : Bool) → (a && b) ≡ true → (a ≡ true) × (b ≡ true)
 both true true h = (refl, refl)
 both true false h = absurd cc
 both false b h = absurd cc
 
-pub the_ctor : (c : Ctor) (cs : List Ctor) → has_one_ctor cs ≡ true → IsListed c cs → cs ≡ c ∷ []
-the_ctor c (d ∷ []) h (inl e) = rw e refl
-the_ctor c (d ∷ []) h (inr e) = absurd e
-the_ctor c [] h e = absurd cc
-the_ctor c (d ∷ f ∷ cs) h e = absurd cc
-
-pub listed_of : (g : Entry) (b : Block) (i : BlockType) (c : Ctor) → g.kind ≡ a_ctor b i c → KindStated g.kind → IsListed c i.ctors
-listed_of g b i c e s = let t : KindStated (a_ctor b i c) = rw e at s in t.1
-
 -- m is the constructor b applied
-pub record IsCtorApp (w : Place) (m : Tree) (b : CtorApp) : Type 0 where
+pub record IsCtorApp (w : Book) (m : Tree) (b : CtorApp) : Type 0 where
   pub tree_is : m ≡ apply (const b.name b.levels) b.args
-  pub given : w.means b.name ≡ Some b.entry
+  pub given : w.place.means b.name ≡ Some b.entry
   pub kind : b.entry.kind ≡ a_ctor b.block b.ind b.ctor
 
 -- the same in the rule book's terms
-abbrev pub given_app : {w : Place} {m : Tree} (b : CtorApp) → IsCtorApp w m b → GivenCtorApp w
+abbrev pub given_app : {w : Book} {m : Tree} (b : CtorApp) → IsCtorApp w m b → GivenCtorApp w
 given_app b j = record { name = b.name; levels = b.levels; args = b.args; entry = b.entry; block = b.block; ind = b.ind; ctor = b.ctor; given = j.given; kind = j.kind }
 
-abbrev pub IfCtorApp : Place → Tree → Option CtorApp → Type 0
+abbrev pub IfCtorApp : Book → Tree → Option CtorApp → Type 0
 IfCtorApp w m None = Unit {0}
 IfCtorApp w m (Some b) = IsCtorApp w m b
 
-ctor_app_by_right : (w : Place) (m : Tree) (c : Name) (ks : List Level) (xs : List Tree) (g : Entry) → m ≡ apply (const c ks) xs → w.means c ≡ Some g → (k : Kind) → g.kind ≡ k → IfCtorApp w m (ctor_app_by c ks xs g k)
+ctor_app_by_right : (w : Book) (m : Tree) (c : Name) (ks : List Level) (xs : List Tree) (g : Entry) → m ≡ apply (const c ks) xs → w.place.means c ≡ Some g → (k : Kind) → g.kind ≡ k → IfCtorApp w m (ctor_app_by c ks xs g k)
 ctor_app_by_right w m c ks xs g t n (a_ctor b i k) e = record { tree_is = t; given = n; kind = e }
 ctor_app_by_right w m c ks xs g t n _ e = tt
 
-sound_ctor_app_at : (w : Place) (m h : Tree) (xs : List Tree) → m ≡ apply h xs → IsSound w (ctor_app_of h xs) (IfCtorApp w m)
+sound_ctor_app_at : (w : Book) (m h : Tree) (xs : List Tree) → m ≡ apply h xs → IsSound w (ctor_app_of h xs) (IfCtorApp w m)
 sound_ctor_app_at w m (const c ks) xs t = λ g n. ctor_app_by_right w m c ks xs g t n g.kind refl
 sound_ctor_app_at w m _ xs t = tt
 
-pub sound_ctor_app_of : (w : Place) (m : Tree) → IsSound w (ctor_app_of (head m) (args m)) (IfCtorApp w m)
+pub sound_ctor_app_of : (w : Book) (m : Tree) → IsSound w (ctor_app_of (head m) (args m)) (IfCtorApp w m)
 sound_ctor_app_of w m = sound_ctor_app_at w m (head m) (args m) (sym (apply_head_args m))
 
 -- Core of a projection
-sound_picked : (w : Place) (S : Name) (i : ℕ) (s v m : Tree) (b : CtorApp) → IsWellFormed s → GoesTo w s v → ReadsText w v m → IsCtorApp w m b → b.ind.name ≡ S →
+sound_picked : (w : Book) (S : Name) (i : ℕ) (s v m : Tree) (b : CtorApp) → IsWellFormed s → GoesTo w s v → ReadsText w v m → IsCtorApp w m b → b.ind.name ≡ S →
     (o : Option Tree) → slice_get b.args (b.ctor.parameters + i) ≡ o → IsSound w (picked (proj S i s) o) (IsJustified w (core (proj S i s)))
 sound_picked w S i s v m b f g rd j e None h = core_stays w (proj S i s) (f, tt)
 sound_picked w S i s v m b f g rd j e (Some x) h =
     let t : m ≡ apply (const b.name b.levels) b.args = j.tree_is in
-    let fm : IsWellFormed (apply (const b.name b.levels) b.args) = rw t at (text_fine rd (well_formed_of_reduct g.0).1) in
+    let fm : IsWellFormed (apply (const b.name b.levels) b.args) = rw t at (text_fine rd.rule (well_formed_of_reduct g.0).1) in
     let fx : IsWellFormed x = fine_at (b.ctor.parameters + i) b.args x (well_formed_of_apply (const b.name b.levels) b.args fm).1 h in
     let all : GoesTo w (proj S i s) x = (
       rw e at (r_proj (given_app b j) {i = i} {e = s} g.0 (rw t at rd) h fx),
-      λ k T n. g.1 k T (text_within rd k T (rw t (local_of_arg k T (const b.name b.levels) b.args (any_at k T (b.ctor.parameters + i) b.args x h n)))),
+      λ k T n. g.1 k T (text_within rd.rule k T (rw t (local_of_arg k T (const b.name b.levels) b.args (any_at k T (b.ctor.parameters + i) b.args x h n)))),
     ) in
     (fx, λ u n. core_on w (proj S i s) x u all n)
 
-sound_core_field : (w : Place) (S : Name) (i : ℕ) (s v m : Tree) → IsWellFormed s → GoesTo w s v → ReadsText w v m → (o : Option CtorApp) → IfCtorApp w m o →
+sound_core_field : (w : Book) (S : Name) (i : ℕ) (s v m : Tree) → IsWellFormed s → GoesTo w s v → ReadsText w v m → (o : Option CtorApp) → IfCtorApp w m o →
     IsSound w (core_field (proj S i s) S i o) (IsJustified w (core (proj S i s)))
 sound_core_field w S i s v m f g rd None j = core_stays w (proj S i s) (f, tt)
 sound_core_field w S i s v m f g rd (Some b) j =
@@ -102,7 +82,7 @@ sound_core_field w S i s v m f g rd (Some b) j =
     (λ t. sound_picked w S i s v m b f g rd j (same_name_right b.ind.name S t) (slice_get b.args (b.ctor.parameters + i)) refl)
     (λ t. core_stays w (proj S i s) (f, tt))
 
-pub sound_core_proj : (w : Place) (S : Name) (i : ℕ) (s : Tree) → IsWellFormed s → IsSound w (core_proj S i s) (IsJustified w (core (proj S i s)))
+pub sound_core_proj : (w : Book) (S : Name) (i : ℕ) (s : Tree) → IsWellFormed s → IsSound w (core_proj S i s) (IsJustified w (core (proj S i s)))
 sound_core_proj w S i s f = (
   f,
   λ v g. sound_bind w (text_to_ctor v) _ (λ m. ReadsText w v m) (IsJustified w (core (proj S i s))) (sound_text_to_ctor w v)
@@ -139,15 +119,15 @@ rules_of : (g : Entry) (r : Recursor) → g.kind ≡ a_rec r → KindStated g.ki
 rules_of g r e s = let t : KindStated (a_rec r) = rw e at s in t
 
 -- a recursor that is found, at the arguments before its major premise
-abbrev rec_app : (w : Place) (R : Name) (ls : List Level) (g : Entry) → w.means R ≡ Some g → (r : Recursor) → g.kind ≡ a_rec r →
+abbrev rec_app : (w : Book) (R : Name) (ls : List Level) (g : Entry) → w.place.means R ≡ Some g → (r : Recursor) → g.kind ≡ a_rec r →
     (front : List Tree) → length front ≡ before_major r → IsWellFormed (apply (const R ls) front) → RecApp w
 rec_app w R ls g mg r kr front count fine = record { name = R; levels = ls; front = front; entry = g; recursor = r; given = mg; kind = kr; front_is = count; fine = fine }
 
 -- R ls front
-abbrev front_of : {w : Place} → RecApp w → Tree
+abbrev front_of : {w : Place} → RecAppAt w → Tree
 front_of R = apply (const R.name R.levels) R.front
 
-iota_step : (w : Place) → WellStated w → (R : RecApp w) (c : GivenCtorApp w) (h : HasRule R c) → IsWellFormed (ctor_app c) → GoesTo w (on_major R (ctor_app c)) (rule_result R c h)
+iota_step : (w : Book) → WellStated w → (R : RecApp w) (c : GivenCtorApp w) (h : HasRule R c) → IsWellFormed (ctor_app c) → GoesTo w (on_major R (ctor_app c)) (rule_result R c h)
 iota_step w ok R c h fc =
     let s : IsStated h.rule.value = rule_stated R.recursor.rules h.rule (rules_of R.entry R.recursor R.kind (ok R.name R.entry R.given).1) h.is_rule in
     let v : Tree = put_levels R.entry.levels R.levels h.rule.value in
@@ -166,7 +146,7 @@ iota_step w ok R c h fc =
           (λ k T m. inr (local_of_arg k T (const c.name c.levels) c.args (any_drop k T c.ctor.parameters c.args m))),
     )
 
-sound_by_rule : (w : Place) → WellStated w → (R : RecApp w) (rest : List Tree) (e m : Tree) → GoesTo w e (apply (on_major R m) rest) → IsCore e →
+sound_by_rule : (w : Book) → WellStated w → (R : RecApp w) (rest : List Tree) (e m : Tree) → GoesTo w e (apply (on_major R m) rest) → IsCore e →
     (b : CtorApp) → IsCtorApp w m b → (rule : Option RecRule) → fitting_rule R.recursor.rules b.name b.ctor.parameters (length b.args) ≡ rule →
     IsSound w (by_rule e R.entry R.levels R.recursor R.front rest b rule) (IsJustified w (core e))
 sound_by_rule w ok R rest e m ge fe b j None h = core_stays w e fe
@@ -183,57 +163,38 @@ sound_by_rule w ok R rest e m ge fe b j (Some rule) h =
     (λ v gv. ((well_formed_of_reduct gv.0).1, λ u gu. core_on w e _ u gv gu))
 
 -- the major premise m in the place of m'
-major_goes : (w : Place) (R : RecApp w) (m m' : Tree) (rest : List Tree) → AllWellFormed rest → (v : Tree) → GoesTo w m v → Reads w v m' →
+major_goes : (w : Book) (R : RecApp w) (m m' : Tree) (rest : List Tree) → AllWellFormed rest → (v : Tree) → GoesTo w m v → Reads w v m' →
     GoesTo w (apply (on_major R m) rest) (apply (on_major R m') rest)
 major_goes w R m m' rest fr v g rd = goes_applied w (on_major R m) (on_major R m') rest fr
-    (r_major R g.0 rd, λ k T. elim [ inl x ↦ inl x | inr x ↦ inr (g.1 k T (read_within rd k T x)) ])
-
--- K
-pub same_name_levels : (J : Name) (T : Tree) (ks : List Level) → (h : Tree) → head T ≡ h → levels_at J h ≡ Some ks → head T ≡ const J ks
-same_name_levels J T ks (const c ls) e h = e ∙ go (same_name J c) refl h
-  where
-    go : (b : Bool) → same_name J c ≡ b → (if b then Some ls else None) ≡ Some ks → const c ls ≡ const J ks
-    go true t i = let x : J ≡ c = same_name_right J c t in let y : ls ≡ ks = Some_inj i in rw (x, y) refl
-    go false t i = absurd cc
-same_name_levels J T ks (var i) e h = absurd cc
-same_name_levels J T ks (sort l) e h = absurd cc
-same_name_levels J T ks (app f a) e h = absurd cc
-same_name_levels J T ks (lam A b) e h = absurd cc
-same_name_levels J T ks (pi A b) e h = absurd cc
-same_name_levels J T ks (let_in A v b) e h = absurd cc
-same_name_levels J T ks (proj S i s) e h = absurd cc
-same_name_levels J T ks (lit n) e h = absurd cc
-same_name_levels J T ks wide e h = absurd cc
-same_name_levels J T ks (str s) e h = absurd cc
-same_name_levels J T ks (local k S) e h = absurd cc
+    (r_major R g.0 rd, λ k T. elim [ inl x ↦ inl x | inr x ↦ inr (g.1 k T (read_within rd.rule k T x)) ])
 
 -- the one rule of r is for the constructor b
-record IsOnly (w : Place) (r : Recursor) (b : CtorApp) : Type 0 where
+record IsOnly (w : Book) (r : Recursor) (b : CtorApp) : Type 0 where
   rule : RecRule
   one : r.rules ≡ rule ∷ []
   named : rule.ctor ≡ b.name
-  given : w.means b.name ≡ Some b.entry
+  given : w.place.means b.name ≡ Some b.entry
   kind : b.entry.kind ≡ a_ctor b.block b.ind b.ctor
 
-abbrev IfOnly : Place → Recursor → Option CtorApp → Type 0
+abbrev IfOnly : Book → Recursor → Option CtorApp → Type 0
 IfOnly w r None = Unit {0}
 IfOnly w r (Some b) = IsOnly w r b
 
-only_right : (w : Place) (r : Recursor) (rule : RecRule) (g : Entry) → r.rules ≡ rule ∷ [] → w.means rule.ctor ≡ Some g → (k : Kind) → g.kind ≡ k → IfOnly w r (ctor_app_by rule.ctor [] [] g k)
+only_right : (w : Book) (r : Recursor) (rule : RecRule) (g : Entry) → r.rules ≡ rule ∷ [] → w.place.means rule.ctor ≡ Some g → (k : Kind) → g.kind ≡ k → IfOnly w r (ctor_app_by rule.ctor [] [] g k)
 only_right w r rule g o m (a_ctor b i c) e = record { rule = rule; one = o; named = refl; given = m; kind = e }
 only_right w r rule g o m _ e = tt
 
-sound_only : (w : Place) (r : Recursor) (rs : List RecRule) → r.rules ≡ rs → IsSound w (only_ctor rs) (IfOnly w r)
+sound_only : (w : Book) (r : Recursor) (rs : List RecRule) → r.rules ≡ rs → IsSound w (only_ctor rs) (IfOnly w r)
 sound_only w r [] e = tt
 sound_only w r (rule ∷ []) e = λ g m. only_right w r rule g e m g.kind refl
 sound_only w r (a ∷ b ∷ rs) e = tt
 
 -- what K takes the major premise for
-abbrev IfTaken : Place → Tree → Tree → Option Tree → Type 0
+abbrev IfTaken : Book → Tree → Tree → Option Tree → Type 0
 IfTaken w h major None = Unit {0}
 IfTaken w h major (Some d) = GoesTo w (app h major) (app h d)
 
-sound_k_from : (w : Place) (R : RecApp w) → R.recursor.k ≡ true → (major T : Tree) → TypesTo w major T → LocalsWithin major T →
+sound_k_from : (w : Book) (R : RecApp w) → R.recursor.k ≡ true → (major T : Tree) → TypesTo w major T → LocalsWithin major T →
     (b : CtorApp) → IsOnly w R.recursor b → (o : Option (List Level)) → levels_at b.ind.name (head T) ≡ o → IsSound w (k_from b T o) (IfTaken w (front_of R) major)
 sound_k_from w R kk major T hT wT b j None h = tt
 sound_k_from w R kk major T hT wT b j (Some ks) h =
@@ -284,15 +245,15 @@ any_append k T (x ∷ xs) ys (inl h) = inl (inl h)
 any_append k T (x ∷ xs) ys (inr h) = elim (any_append k T xs ys h) [ inl a ↦ inl (inr a) | inr b ↦ inr b ]
 
 -- under h, b is what m goes to, as a constructor applied
-record GoesToCtorApp (w : Place) (h m : Tree) (b : CtorApp) : Type 0 where
+record GoesToCtorApp (w : Book) (h m : Tree) (b : CtorApp) : Type 0 where
   goes : GoesTo w (app h m) (app h (apply (const b.name b.levels) b.args))
   is_ctor_app : IsCtorApp w (apply (const b.name b.levels) b.args) b
 
-abbrev IfGoesToCtorApp : Place → Tree → Tree → Option CtorApp → Type 0
+abbrev IfGoesToCtorApp : Book → Tree → Tree → Option CtorApp → Type 0
 IfGoesToCtorApp w h m None = Unit {0}
 IfGoesToCtorApp w h m (Some b) = GoesToCtorApp w h m b
 
-expands : (w : Place) → WellStated w → (R : RecApp w) (m T : Tree) → TypesTo w m T → LocalsWithin m T → (k : CtorApp) → IsOnly w R.recursor k → (ls : List Level) → apply (const k.ind.name ls) (args T) ≡ T →
+expands : (w : Book) → WellStated w → (R : RecApp w) (m T : Tree) → TypesTo w m T → LocalsWithin m T → (k : CtorApp) → IsOnly w R.recursor k → (ls : List Level) → apply (const k.ind.name ls) (args T) ≡ T →
     builds_structure k ≡ true → nat_eq (length (args T)) k.ctor.parameters ≡ true → (l : Level) → HasSort w T l → is_zero_level l ≡ false →
     GoesToCtorApp w (front_of R) m (expanded k ls m (args T))
 expands w ok R m T hT wT k j ls eT like yes_count l hl nz =
@@ -317,7 +278,7 @@ expands w ok R m T hT wT k j ls eT like yes_count l hl nz =
     } in
     record {
       goes = (
-        r_struct R S (record { rule = j.rule; one_rule = j.one; for_ctor = j.named }) hT.types (rw eT hT.reduces) (not_prop {l = l} (rw eT hl) (not_zero_level l nz)),
+        r_struct R S (record { rule = j.rule; one_rule = j.one; for_ctor = j.named }) hT.types (rw eT hT.reduces) (not_prop {l = l} (rw eT hl) nz),
         λ k' T'. elim [
           | inl x ↦ inl x
           | inr x ↦ inr (within_applied m (const k.name ls) (args T ++ ps) (λ i S h. absurd h)
@@ -330,7 +291,7 @@ expands w ok R m T hT wT k j ls eT like yes_count l hl nz =
       is_ctor_app = record { tree_is = refl; given = j.given; kind = j.kind };
     }
 
-sound_expand_at : (w : Place) → WellStated w → (R : RecApp w) (m T : Tree) → TypesTo w m T → LocalsWithin m T → (k : CtorApp) → IsOnly w R.recursor k → builds_structure k ≡ true → (o : Option (List Level)) → levels_at k.ind.name (head T) ≡ o →
+sound_expand_at : (w : Book) → WellStated w → (R : RecApp w) (m T : Tree) → TypesTo w m T → LocalsWithin m T → (k : CtorApp) → IsOnly w R.recursor k → builds_structure k ≡ true → (o : Option (List Level)) → levels_at k.ind.name (head T) ≡ o →
     IsSound w (expand_at k m T o) (IfGoesToCtorApp w (front_of R) m)
 sound_expand_at w ok R m T hT wT k j like None h = tt
 sound_expand_at w ok R m T hT wT k j like (Some ls) h =
@@ -342,7 +303,7 @@ sound_expand_at w ok R m T hT wT k j like (Some ls) h =
     (λ z. tt) (λ z. expands w ok R m T hT wT k j ls eT like t l hl z)))
     (λ t. tt)
 
-sound_to_ctor_when_structure : (w : Place) → WellStated w → (R : RecApp w) (m : Tree) → IsWellFormed m → (k : Option CtorApp) → IfOnly w R.recursor k → IsSound w (to_ctor_when_structure m k) (IfGoesToCtorApp w (front_of R) m)
+sound_to_ctor_when_structure : (w : Book) → WellStated w → (R : RecApp w) (m : Tree) → IsWellFormed m → (k : Option CtorApp) → IfOnly w R.recursor k → IsSound w (to_ctor_when_structure m k) (IfGoesToCtorApp w (front_of R) m)
 sound_to_ctor_when_structure w ok R m f None j = tt
 sound_to_ctor_when_structure w ok R m f (Some k) j =
     sound_if w (builds_structure k) _ (done None) (IfGoesToCtorApp w (front_of R) m)
@@ -355,13 +316,13 @@ sound_to_ctor_when_structure w ok R m f (Some k) j =
     ))
     (λ like. tt)
 
-sound_as_ctor_app : (w : Place) → WellStated w → (R : RecApp w) (m : Tree) → IsWellFormed m → (b : Option CtorApp) → IfCtorApp w m b → IsSound w (as_ctor_app R.recursor m b) (IfGoesToCtorApp w (front_of R) m)
+sound_as_ctor_app : (w : Book) → WellStated w → (R : RecApp w) (m : Tree) → IsWellFormed m → (b : Option CtorApp) → IfCtorApp w m b → IsSound w (as_ctor_app R.recursor m b) (IfGoesToCtorApp w (front_of R) m)
 sound_as_ctor_app w ok R m f (Some b) j =
     record { goes = rw (← j.tree_is) (stays w (on_major R m) (R.fine, f)); is_ctor_app = record { tree_is = refl; given = j.given; kind = j.kind } }
 sound_as_ctor_app w ok R m f None j =
     sound_bind w (only_ctor R.recursor.rules) (λ k. to_ctor_when_structure m k) (IfOnly w R.recursor) (IfGoesToCtorApp w (front_of R) m) (sound_only w R.recursor R.recursor.rules refl) (λ k i. sound_to_ctor_when_structure w ok R m f k i)
 
-sound_with_ctor_app : (w : Place) → WellStated w → (R : RecApp w) (rest : List Tree) (e m : Tree) → GoesTo w e (apply (on_major R m) rest) → IsCore e →
+sound_with_ctor_app : (w : Book) → WellStated w → (R : RecApp w) (rest : List Tree) (e m : Tree) → GoesTo w e (apply (on_major R m) rest) → IsCore e →
     (b : Option CtorApp) → IfGoesToCtorApp w (front_of R) m b → IsSound w (iota_at_ctor e R.entry R.levels R.recursor R.front rest b) (IsJustified w (core e))
 sound_with_ctor_app w ok R rest e m ge fe None j = core_stays w e fe
 sound_with_ctor_app w ok R rest e m ge fe (Some b) j =
@@ -371,7 +332,7 @@ sound_with_ctor_app w ok R rest e m ge fe (Some b) j =
     (goes_on w e (apply (on_major R m) rest) (apply (on_major R m') rest) ge (goes_applied w (on_major R m) (on_major R m') rest fa.1 j.goes))
     fe b j.is_ctor_app (fitting_rule R.recursor.rules b.name b.ctor.parameters (length b.args)) refl
 
-sound_iota_of : (w : Place) → WellStated w → (R : RecApp w) (rest : List Tree) (e m : Tree) → GoesTo w e (apply (on_major R m) rest) → IsCore e →
+sound_iota_of : (w : Book) → WellStated w → (R : RecApp w) (rest : List Tree) (e m : Tree) → GoesTo w e (apply (on_major R m) rest) → IsCore e →
     IsSound w (iota_of e R.entry R.levels R.recursor R.front rest m) (IsJustified w (core e))
 sound_iota_of w ok R rest e m ge fe =
     let fa : IsWellFormed (on_major R m) × AllWellFormed rest = well_formed_of_apply (on_major R m) rest (well_formed_of_reduct ge.0).1 in
@@ -379,7 +340,7 @@ sound_iota_of w ok R rest e m ge fe =
     (λ b j. sound_bind w (as_ctor_app R.recursor m b) (λ c. iota_at_ctor e R.entry R.levels R.recursor R.front rest c) (IfGoesToCtorApp w (front_of R) m) (IsJustified w (core e)) (sound_as_ctor_app w ok R m fa.0.1 b j)
     (λ c i. sound_with_ctor_app w ok R rest e m ge fe c i))
 
-sound_k_step : (w : Place) (R : RecApp w) → R.recursor.k ≡ true → (major : Tree) → IsWellFormed major →
+sound_k_step : (w : Book) (R : RecApp w) → R.recursor.k ≡ true → (major : Tree) → IsWellFormed major →
     (b : Option CtorApp) → IfOnly w R.recursor b → IsSound w (to_ctor_when_k R.recursor major b) (IfTaken w (front_of R) major)
 sound_k_step w R kk major fm None j = tt
 sound_k_step w R kk major fm (Some b) j = (
@@ -390,7 +351,7 @@ sound_k_step w R kk major fm (Some b) j = (
   ),
 )
 
-sound_after_k : (w : Place) → WellStated w → (R : RecApp w) (major : Tree) (rest : List Tree) (e : Tree) → apply (on_major R major) rest ≡ e → IsCore e →
+sound_after_k : (w : Book) → WellStated w → (R : RecApp w) (major : Tree) (rest : List Tree) (e : Tree) → apply (on_major R major) rest ≡ e → IsCore e →
     (d : Option Tree) → IfTaken w (front_of R) major d → IsSound w (iota_after_k e R.entry R.levels R.recursor R.front major rest d) (IsJustified w (core e))
 sound_after_k w ok R major rest e eq fe (Some d) t =
     let fa : IsWellFormed (on_major R major) × AllWellFormed rest = well_formed_of_apply (on_major R major) rest (rw eq fe.0) in
@@ -402,7 +363,7 @@ sound_after_k w ok R major rest e eq fe None t =
           (λ m rd. sound_iota_of w ok R rest e m (rw (← eq) (major_goes w R major m rest fa.1 v gv rd)) fe),
     )
 
-sound_iota : (w : Place) → WellStated w → (R : Name) (ls : List Level) (g : Entry) → w.means R ≡ Some g → (r : Recursor) → g.kind ≡ a_rec r →
+sound_iota : (w : Book) → WellStated w → (R : Name) (ls : List Level) (g : Entry) → w.place.means R ≡ Some g → (r : Recursor) → g.kind ≡ a_rec r →
     (xs : List Tree) (e : Tree) → apply (const R ls) xs ≡ e → IsCore e → (o : Option Tree) → slice_get xs (before_major r) ≡ o →
     IsSound w (iota e g ls r (take (before_major r) xs) o (drop (suc (before_major r)) xs)) (IsJustified w (core e))
 sound_iota w ok R ls g mg r kr xs e eq fe None h = core_stays w e fe
@@ -420,7 +381,7 @@ sound_iota w ok R ls g mg r kr xs e eq fe (Some major) h =
     (λ d t. sound_after_k w ok K major rest e at fe d t)))
     (λ kk. sound_after_k w ok K major rest e at fe None tt)
 
-pub sound_core_constant : (w : Place) → WellStated w → (R : Name) (ls : List Level) (g : Entry) → w.means R ≡ Some g →
+pub sound_core_constant : (w : Book) → WellStated w → (R : Name) (ls : List Level) (g : Entry) → w.place.means R ≡ Some g →
     (e : Tree) (xs : List Tree) → apply (const R ls) xs ≡ e → IsCore e → AllWellFormed xs → (k : Kind) → g.kind ≡ k → IsSound w (core_constant e R ls xs g k) (IsJustified w (core e))
 sound_core_constant w ok R ls g m e xs eq f fx (a_rec r) ke = sound_iota w ok R ls g m r ke xs e eq f (slice_get xs (before_major r)) refl
 sound_core_constant w ok R ls g m e xs eq f fx a_quot ke = sound_core_quot w R ls g m ke e xs eq f fx

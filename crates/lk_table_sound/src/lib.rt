@@ -10,7 +10,6 @@ ghost use Rattle.lk_rulebook.specs.Derived.{DeclWellFormed, DeclDerived};
 ghost use Rattle.lk_rulebook.specs.Place.{Place};
 ghost use Rattle.lk_rulebook.specs.Units.{Decl};
 ghost use Rattle.lk_questions.specs.Declarations.{unit_steps};
-ghost use Rattle.lk_questions.specs.Levels.{IsLevelTest, complete_test};
 ghost use Rattle.lk_questions.specs.Table.{steps};
 
 /// The whole table is sound.
@@ -36,9 +35,4 @@ pub fn yes_is_a_derivation()
     ensures whole { (w : Place) (d : Decl) (b : ℕ) → IsSoundPlace w → DeclWellFormed d
         → IfAnswered (outcome_of w (plain_answer steps w) b (unit_steps d))
         (λ y c t. DeclDerived w d) }
-{}
-
-/// Where the complete test of levels says yes, the two levels are equal under every assignment.
-pub fn level_tests_are_sound()
-    ensures { IsLevelTest complete_test }
 {}

@@ -2,7 +2,7 @@
 use Rattle.lk_tree.specs.Tree.{Level, Tree}
 use Rattle.lk_rulebook.specs.Place.{Place}
 use Rattle.lk_written.specs.Written.{CanWrite, CanSort}
-use Rattle.lk_written.specs.Closed.{Sorts, FollowsTypes, FollowsReductions, FollowsEqualities}
+use Rattle.lk_claims.specs.Follows.{Sorts, FollowsTypes, FollowsReductions, FollowsEqualities}
 use Rattle.lk_written.proofs.OperationRule.{can_operation}
 use Rattle.lk_written.proofs.ProjRule.{can_proj}
 use Rattle.lk_written.proofs.Rules.{can_sort, can_local, can_stay, can_chain, can_head, can_beta, can_zeta, can_same}

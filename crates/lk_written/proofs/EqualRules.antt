@@ -14,11 +14,15 @@ use Rattle.lk_rulebook.specs.Place.{Place, Entry}
 use Rattle.lk_tree.specs.Mentions.{same_name}
 use Rattle.lk_rulebook.specs.Rules.{HasValue, of_def, of_thm, IsGivenAt, at_levels}
 use Rattle.lk_questions.specs.Steps.{value_of}
-use Rattle.lk_written.specs.Line.{Claim, types, reduces, equals, delta_rule, reduce_rule, sorts_rule, consts_rule, apps_rule, lams_rule, pis_rule, projs_rule, proof_rule}
-use Rattle.lk_written.specs.Premises.{Left, passes, is_true, same_levels, local_above, typed, reduced, equal, sorted, is_prop_by}
+use Rattle.lk_claims.specs.Claims.{Claim, types, reduces, equals}
+use Rattle.lk_written.specs.Line.{delta_rule, reduce_rule, sorts_rule, consts_rule, apps_rule, lams_rule, pis_rule, projs_rule, proof_rule}
+use Rattle.lk_claims.specs.Tests.{passes, is_true, same_levels}
+use Rattle.lk_written.specs.Premises.{Left, local_above, typed, reduced, equal, sorted, is_prop_by}
 use Rattle.lk_written.specs.Equal.{is_neutral, is_head_normal, eq_bodies}
-use Rattle.lk_written.specs.Written.{IsShaped, CanWrite, CanSort}
-use Rattle.lk_written.proofs.Writings.{next, last_reduct, last_equal, go_on, go_test, pass_test, comes_itself, with_sort, typed_there, reduced_there, equal_there, sorted_there, above_there}
+use Rattle.lk_claims.specs.Claims.{IsShaped}
+use Rattle.lk_written.specs.Written.{CanWrite, CanSort}
+use Rattle.lk_claims.proofs.Facts.{pass_test}
+use Rattle.lk_written.proofs.Writings.{next, last_reduct, last_equal, go_on, go_test, comes_itself, with_sort, typed_there, reduced_there, equal_there, sorted_there, above_there}
 
 pub same_self_name : (c : Name) → same_name c c ≡ true
 same_self_name c = go (name_discrete c c)

@@ -20,15 +20,17 @@ use Rattle.lk_questions.specs.Eta.{is_unit_like}
 use Rattle.lk_questions.specs.Same.{eta_long}
 use Rattle.lk_questions.specs.Strings.{expansion_of}
 use Rattle.lk_rulebook.specs.WellStated.{WellStated}
-use Rattle.lk_table_sound.proofs.Pieces.{same_tree, halves, equal_numbers, same_name_right, Some_inj}
-use Rattle.lk_table_sound.proofs.Readings.{IfExpands, sound_expansion_of}
-use Rattle.lk_table_sound.proofs.Iotas.{the_ctor, listed_of}
-use Rattle.lk_written.specs.Line.{Claim, AllDerived}
-use Rattle.lk_written.specs.Premises.{◌>>=◌, test, found, is_true, same_levels, Left, ends, typed, equal, to_pi, is_prop_by}
+use Rattle.lk_claims.proofs.Pieces.{same_tree, halves, equal_numbers, same_name_right, Some_inj}
+use Rattle.lk_claims.proofs.Readings.{IfExpands, sound_expansion_of}
+use Rattle.lk_claims.proofs.Facts.{the_ctor, listed_of}
+use Rattle.lk_claims.specs.Claims.{Claim, AllDerived}
+use Rattle.lk_claims.specs.Tests.{◌>>=◌, test, found, is_true, same_levels}
+use Rattle.lk_written.specs.Premises.{Left, ends, typed, equal, to_pi, is_prop_by}
 use Rattle.lk_written.specs.Typing.{the_type}
 use Rattle.lk_written.specs.Reducing.{the_ctor as ctor_in, tree_in}
 use Rattle.lk_written.specs.Equal.{is_neutral, is_head_normal, eq_same, eq_reduce, eq_sorts, eq_consts, eq_apps, eq_bodies, eq_lams, eq_pis, eq_projs, eq_eta, fields_equal, eq_struct, eq_unit, eq_proof, eq_zero, eq_succ, eq_str_left, eq_str_right}
-use Rattle.lk_written.proofs.Premises.{IfSome, if_bind, on_some, on_test, if_test, on_none_left, if_none_left, found_right, level_right, levels_right, is_prop_right, on_typed, on_reduced, on_equal, on_pi, on_above}
+use Rattle.lk_claims.proofs.Facts.{level_right, levels_right}
+use Rattle.lk_written.proofs.Premises.{IfSome, if_bind, on_some, on_test, if_test, on_none_left, if_none_left, found_right, is_prop_right, on_typed, on_reduced, on_equal, on_pi, on_above}
 use Rattle.lk_written.proofs.Typings.{comes_right}
 use Rattle.lk_written.proofs.Projs.{on_const, spine_is, type_right}
 use Rattle.lk_written.proofs.Reductions.{ctor_right}

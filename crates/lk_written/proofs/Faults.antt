@@ -5,8 +5,9 @@ use Rattle.lk_tree.proofs.LevelTests.{both}
 use Rattle.lk_rulebook.specs.Place.{Place}
 use Rattle.lk_rulebook.specs.Units.{LibraryUnit, of_decl, of_block, Library, place_of}
 use Rattle.lk_rulebook.specs.Scan.{is_none, scan_of}
-use Rattle.lk_written.specs.Line.{Claim, Line, claim_of}
-use Rattle.lk_written.specs.Premises.{◌>>=◌, passes}
+use Rattle.lk_claims.specs.Claims.{Claim}
+use Rattle.lk_written.specs.Line.{Line, claim_of}
+use Rattle.lk_claims.specs.Tests.{◌>>=◌, passes}
 use Rattle.lk_written.specs.Section.{Section, line_holds, claims_by, parts_test, section_test, unit_section, section_holds, line_at_fault, unit_at_fault, section_at_fault}
 
 no_line : (w : Place) (ps : List Claim) (i : ℕ) (ls : List Line) (qs : List Claim) → claims_by w ps ls ≡ Some qs → line_at_fault w ps i ls ≡ None

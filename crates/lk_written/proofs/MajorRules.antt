@@ -16,12 +16,17 @@ use Rattle.lk_rulebook.specs.Literals.{Reads, ReadsText}
 use Rattle.lk_rulebook.proofs.Texts.{read_fine}
 use Rattle.lk_questions.specs.Steps.{is_same_tree}
 use Rattle.lk_questions.specs.Strings.{text_to_ctor}
-use Rattle.lk_written.specs.Line.{Claim, reduces, major_rule, iota_rule, lift_rule, ind_rule, field_rule, k_rule, types, equals}
-use Rattle.lk_written.specs.Premises.{passes, as_const, reduced, found, typed, equal}
+use Rattle.lk_claims.specs.Claims.{Claim, reduces, types, equals}
+use Rattle.lk_written.specs.Line.{major_rule, iota_rule, lift_rule, ind_rule, field_rule, k_rule}
+use Rattle.lk_claims.specs.Tests.{passes, found}
+use Rattle.lk_written.specs.Premises.{as_const, reduced, typed, equal}
 use Rattle.lk_written.specs.Typing.{comes_to}
-use Rattle.lk_written.specs.Reducing.{the_ctor, the_recursor, major_of, reads, red_iota, is_quot, mk_of, red_quot, red_field, the_rule, red_k}
-use Rattle.lk_written.specs.Written.{IsShaped, CanWrite}
-use Rattle.lk_written.proofs.Writings.{same_self, next, last_reduct, go_on, go_test, comes_itself, reduced_there, some_on, some_test, typed_there, equal_there}
+use Rattle.lk_claims.specs.Tests.{reads}
+use Rattle.lk_written.specs.Reducing.{the_ctor, the_recursor, major_of, red_iota, is_quot, mk_of, red_quot, red_field, the_rule, red_k}
+use Rattle.lk_claims.specs.Claims.{IsShaped}
+use Rattle.lk_written.specs.Written.{CanWrite}
+use Rattle.lk_claims.proofs.Facts.{same_self, some_on}
+use Rattle.lk_written.proofs.Writings.{next, last_reduct, go_on, go_test, comes_itself, reduced_there, some_test, typed_there, equal_there}
 use Rattle.lk_written.proofs.EqualRules.{same_self_name}
 
 head_applied : (h : Tree) (xs : List Tree) → head (apply h xs) ≡ head h

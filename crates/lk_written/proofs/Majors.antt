@@ -18,12 +18,14 @@ use Rattle.lk_questions.specs.Steps.{is_same_tree}
 use Rattle.lk_questions.specs.Strings.{text_to_ctor}
 use Rattle.lk_questions.specs.Iota.{has_one_ctor}
 use Rattle.lk_rulebook.specs.WellStated.{WellStated}
-use Rattle.lk_table_sound.proofs.Pieces.{same_tree, halves, equal_numbers, same_name_right, Some_inj}
-use Rattle.lk_table_sound.proofs.Readings.{sound_text_to_ctor}
-use Rattle.lk_table_sound.proofs.Iotas.{the_ctor, listed_of}
-use Rattle.lk_written.specs.Line.{Claim, AllDerived}
-use Rattle.lk_written.specs.Premises.{◌>>=◌, found, Left}
-use Rattle.lk_written.specs.Reducing.{the_ctor as ctor_in, the_recursor, the_rule, reads_as, reads, major_of, red_major, red_iota, red_k, red_expand}
+use Rattle.lk_claims.proofs.Pieces.{same_tree, halves, equal_numbers, same_name_right, Some_inj}
+use Rattle.lk_claims.proofs.Readings.{sound_text_to_ctor}
+use Rattle.lk_claims.proofs.Facts.{the_ctor, listed_of}
+use Rattle.lk_claims.specs.Claims.{Claim, AllDerived}
+use Rattle.lk_claims.specs.Tests.{◌>>=◌, found}
+use Rattle.lk_written.specs.Premises.{Left}
+use Rattle.lk_claims.specs.Tests.{reads_as, reads}
+use Rattle.lk_written.specs.Reducing.{the_ctor as ctor_in, the_recursor, the_rule, major_of, red_major, red_iota, red_k, red_expand}
 use Rattle.lk_written.proofs.Premises.{IfSome, if_bind, on_some, on_test, if_test, if_none_left, found_right, at_most_right, on_typed, on_reduced, on_equal, on_sorted}
 use Rattle.lk_written.proofs.Typings.{comes_fine}
 use Rattle.lk_written.proofs.Projs.{on_const, spine_is}

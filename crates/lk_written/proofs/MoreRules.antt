@@ -12,11 +12,15 @@ use Rattle.lk_questions.specs.Steps.{is_same_tree}
 use Rattle.lk_questions.specs.Shapes.{nat_shape, string_shape}
 use Rattle.lk_questions.specs.Strings.{expansion_of}
 use Rattle.lk_questions.specs.Same.{eta_long}
-use Rattle.lk_written.specs.Line.{Claim, types, reduces, equals, lit_rule, str_rule, zero_rule, succ_rule, eta_rule, str_left_rule, str_right_rule}
-use Rattle.lk_written.specs.Premises.{◌>>=◌, Left, test, passes, found, typed, equal, to_pi, ends}
+use Rattle.lk_claims.specs.Claims.{Claim, types, reduces, equals}
+use Rattle.lk_written.specs.Line.{lit_rule, str_rule, zero_rule, succ_rule, eta_rule, str_left_rule, str_right_rule}
+use Rattle.lk_claims.specs.Tests.{◌>>=◌, test, passes, found}
+use Rattle.lk_written.specs.Premises.{Left, typed, equal, to_pi, ends}
 use Rattle.lk_written.specs.Equal.{is_neutral, eq_eta}
-use Rattle.lk_written.specs.Written.{IsShaped, CanWrite}
-use Rattle.lk_written.proofs.Writings.{same_self, next, last_type, last_equal, go_on, go_test, comes_itself, with_pi, typed_there, equal_there, to_pi_there}
+use Rattle.lk_claims.specs.Claims.{IsShaped}
+use Rattle.lk_written.specs.Written.{CanWrite}
+use Rattle.lk_claims.proofs.Facts.{same_self}
+use Rattle.lk_written.proofs.Writings.{next, last_type, last_equal, go_on, go_test, comes_itself, with_pi, typed_there, equal_there, to_pi_there}
 use Rattle.lk_written.proofs.EqualRules.{neutral_passes}
 
 -- where the shape passes its test

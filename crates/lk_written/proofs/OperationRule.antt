@@ -15,12 +15,16 @@ use Rattle.lk_rulebook.specs.Formers.{IsFormer}
 use Rattle.lk_rulebook.proofs.Texts.{result_fine}
 use Rattle.lk_questions.specs.Shapes.{nat_shape}
 use Rattle.lk_questions.specs.Literals.{ops, op_named, numeral_of, result_of}
-use Rattle.lk_written.specs.Line.{Claim, reduces, operation_rule}
-use Rattle.lk_written.specs.Premises.{Left, found, passes, as_const, reduced}
+use Rattle.lk_claims.specs.Claims.{Claim, reduces}
+use Rattle.lk_written.specs.Line.{operation_rule}
+use Rattle.lk_claims.specs.Tests.{found, passes}
+use Rattle.lk_written.specs.Premises.{Left, as_const, reduced}
 use Rattle.lk_written.specs.Reducing.{numbers, red_operation}
-use Rattle.lk_written.specs.Written.{Keeps, IsWritten, IsShaped, CanWrite}
-use Rattle.lk_written.specs.Closed.{EachNumeral, no_numeral, a_numeral}
-use Rattle.lk_written.proofs.Writings.{next, last_reduct, go_on, go_test, some_on, comes_itself, reduced_there}
+use Rattle.lk_claims.specs.Claims.{IsShaped}
+use Rattle.lk_written.specs.Written.{Keeps, IsWritten, CanWrite}
+use Rattle.lk_claims.specs.Follows.{EachNumeral, no_numeral, a_numeral}
+use Rattle.lk_claims.proofs.Facts.{some_on}
+use Rattle.lk_written.proofs.Writings.{next, last_reduct, go_on, go_test, comes_itself, reduced_there}
 use Rattle.lk_written.proofs.MajorRules.{const_head, const_args}
 
 numerals_fine : (w : Place) {es : List Tree} {ns : List ℕ} → EachNumeral (CanWrite w) es ns → AllWellFormed es

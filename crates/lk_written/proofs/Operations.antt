@@ -14,23 +14,16 @@ use Rattle.lk_rulebook.specs.Rules.{Reduces, r_op, Numerals, no_more_numerals, n
 use Rattle.lk_questions.specs.Shapes.{nat_shape}
 use Rattle.lk_questions.specs.Literals.{ops, op_named, numeral_of, result_of}
 use Rattle.lk_plain.specs.Sound.{IsSound}
-use Rattle.lk_table_sound.proofs.Pieces.{same_name_right, Some_inj, less_number}
-use Rattle.lk_table_sound.proofs.Shaped.{sound_nat_shape}
-use Rattle.lk_written.specs.Line.{Claim, AllDerived}
-use Rattle.lk_written.specs.Premises.{found, Left}
+use Rattle.lk_claims.proofs.Pieces.{same_name_right, Some_inj, less_number}
+use Rattle.lk_claims.proofs.Shaped.{sound_nat_shape}
+use Rattle.lk_claims.specs.Claims.{Claim, AllDerived}
+use Rattle.lk_claims.specs.Tests.{found}
+use Rattle.lk_written.specs.Premises.{Left}
 use Rattle.lk_written.specs.Reducing.{no_levels, numbers, tree_in, red_operation}
 use Rattle.lk_written.proofs.Premises.{IfSome, if_bind, on_some, on_test, found_right, on_reduced}
 use Rattle.lk_written.proofs.Typings.{comes_right}
 use Rattle.lk_written.proofs.Projs.{on_const}
-
-zero_numeral : (c : Name) (n : ℕ) (b : Bool) → same_name c nat_zero ≡ b → (if b then Some 0 else None) ≡ Some n → IsNumeral (const c []) n
-zero_numeral c n true h e = let i : c ≡ nat_zero = same_name_right c nat_zero h in let j : 0 ≡ n = Some_inj e in rw (i, ← j) of_zero
-zero_numeral c n false h e = absurd cc
-
-pub numeral_right : (m : Tree) (n : ℕ) → numeral_of m ≡ Some n → IsNumeral m n
-numeral_right (lit k) n e = let i : k ≡ n = Some_inj e in rw i of_lit
-numeral_right (const c []) n e = zero_numeral c n (same_name c nat_zero) refl e
-numeral_right _ n e = absurd cc
+use Rattle.lk_claims.proofs.Numerals.{numeral_right, IfResult, sound_result}
 
 numbers_right : (w : Place) (ps : List Claim) → AllDerived w ps → (js : Left) (es : List Tree) → IfSome (numbers ps js es) (λ r. Numerals w es r.0)
 numbers_right w ps d js [] = no_more_numerals
@@ -38,20 +31,6 @@ numbers_right w ps d js (e ∷ es) =
     on_reduced w ps d js e _ (λ r. Numerals w (e ∷ es) r.0) (λ v h.
     on_some (numeral_of v.0) _ (λ r. Numerals w (e ∷ es) r.0) (λ n i.
     if_bind (numbers ps v.1 es) _ (λ r. Numerals w es r.0) (λ r. Numerals w (e ∷ es) r.0) (numbers_right w ps d v.1 es) (λ ns s. numeral h (numeral_right v.0 n i) s)))
-
--- the tree of an operation's value
-abbrev pub IfResult : Place → Option Value → Option Tree → Type 0
-IfResult w o None = Unit {0}
-IfResult w o (Some r) = IsResult w o r
-
-number_result : (w : Place) (n top : ℕ) (b : Bool) → nat_lt n top ≡ b → top ≡ 2 ^ 128 → IfResult w (Some (number n)) (if b then Some (lit n) else None)
-number_result w n top true h e = a_number (rw (← e) (less_number n top h))
-number_result w n top false h e = tt
-
-pub sound_result : (w : Place) (o : Option Value) → IsSound w (result_of o) (IfResult w o)
-sound_result w (Some (number n)) = number_result w n (2 ^ 128) (nat_lt n (2 ^ 128)) refl refl
-sound_result w (Some (truth b)) = λ g m. a_truth (g, m)
-sound_result w None = tt
 
 pub tree_right : (o : Option Tree) → IfSome (tree_in o) (λ t. o ≡ Some t)
 tree_right (Some t) = refl

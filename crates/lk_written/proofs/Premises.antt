@@ -15,9 +15,10 @@ use Rattle.lk_rulebook.proofs.Scopes.{well_formed_of_type}
 use Rattle.lk_plain.specs.Program.{Program, done, refuse, ask, look}
 use Rattle.lk_plain.specs.Sound.{IsSound}
 use Rattle.lk_questions.specs.Steps.{is_same_tree}
-use Rattle.lk_table_sound.proofs.Pieces.{same_tree, halves}
-use Rattle.lk_written.specs.Line.{Claim, types, reduces, equals, Derived, AllDerived}
-use Rattle.lk_written.specs.Premises.{◌>>=◌, test, passes, found, is_fine, is_true, same_levels, as_sort, as_pi, as_const, local_above, Left, ends, next_claim, type_in, reduct_in, equal_in, typed, reduced, equal, to_sort, to_pi, sorted, is_prop_by}
+use Rattle.lk_claims.proofs.Pieces.{same_tree, halves}
+use Rattle.lk_claims.specs.Claims.{Claim, types, reduces, equals, Derived, AllDerived}
+use Rattle.lk_claims.specs.Tests.{◌>>=◌, test, passes, found, is_true, same_levels}
+use Rattle.lk_written.specs.Premises.{is_fine, as_sort, as_pi, as_const, local_above, Left, ends, next_claim, type_in, reduct_in, equal_in, typed, reduced, equal, to_sort, to_pi, sorted, is_prop_by}
 
 abbrev pub IfSome : {A : Type 0} → Option A → (A → Type 0) → Type 0
 IfSome (Some v) P = P v
@@ -90,22 +91,6 @@ fine_right d (local k T) h =
 
 pub at_most_right : (i n : ℕ) → nat_le i n ≡ true → i ≤ n
 at_most_right i n h = grind (arith, nat_tests)
-
-pub level_right : (l m : Level) → is_true (level_test l m) ≡ true → SameLevel l m
-level_right l m h = go (level_test l m) refl h
-  where
-    go : (o : Option Bool) → level_test l m ≡ o → is_true o ≡ true → SameLevel l m
-    go (Some true) e h = level_test_right l m e
-    go (Some false) e h = absurd cc
-    go None e h = absurd cc
-
-pub levels_right : (ls ms : List Level) → same_levels ls ms ≡ true → SameLevels ls ms
-levels_right [] [] h = none
-levels_right [] (m ∷ ms) h = absurd cc
-levels_right (l ∷ ls) [] h = absurd cc
-levels_right (l ∷ ls) (m ∷ ms) h =
-    let x : (is_true (level_test l m) ≡ true) × (same_levels ls ms ≡ true) = halves (is_true (level_test l m)) (same_levels ls ms) h in
-    more (level_right l m x.0) (levels_right ls ms x.1)
 
 pub const_right : (h : Tree) → IfSome (as_const h) (λ c. h ≡ const c.0 c.1)
 const_right (const c ls) = refl

@@ -11,12 +11,16 @@ use Rattle.lk_tree.specs.Spine.{head, args}
 use Rattle.lk_tree.proofs.Scans.{and_true}
 use Rattle.lk_rulebook.specs.Place.{Place}
 use Rattle.lk_rulebook.specs.Structures.{Projectable, projectable_type, ctor_type}
-use Rattle.lk_written.specs.Line.{Claim, types, reduces, proj_rule}
-use Rattle.lk_written.specs.Premises.{Left, passes, as_const, typed, reduced, to_pi, sorted}
+use Rattle.lk_claims.specs.Claims.{Claim, types, reduces}
+use Rattle.lk_written.specs.Line.{proj_rule}
+use Rattle.lk_claims.specs.Tests.{passes}
+use Rattle.lk_written.specs.Premises.{Left, as_const, typed, reduced, to_pi, sorted}
 use Rattle.lk_written.specs.Typing.{past, prop_if, field_of, the_type, the_one, type_proj}
-use Rattle.lk_written.specs.Written.{Keeps, IsWritten, IsShaped, CanWrite, CanSort}
-use Rattle.lk_written.specs.Closed.{PropWhere, not_due, due, EachParameter, no_parameter, parameter, FieldAt, this_field, field_before}
-use Rattle.lk_written.proofs.Writings.{next, last_type, go_on, go_test, some_on, some_test, comes_itself, with_sort, with_pi, typed_there, reduced_there, to_pi_there, sorted_there}
+use Rattle.lk_claims.specs.Claims.{IsShaped}
+use Rattle.lk_written.specs.Written.{Keeps, IsWritten, CanWrite, CanSort}
+use Rattle.lk_claims.specs.Follows.{PropWhere, not_due, due, EachParameter, no_parameter, parameter, FieldAt, this_field, field_before}
+use Rattle.lk_claims.proofs.Facts.{some_on}
+use Rattle.lk_written.proofs.Writings.{next, last_type, go_on, go_test, some_test, comes_itself, with_sort, with_pi, typed_there, reduced_there, to_pi_there, sorted_there}
 use Rattle.lk_written.proofs.EqualRules.{same_self_name}
 use Rattle.lk_written.proofs.MajorRules.{const_head, const_args}
 

@@ -16,9 +16,10 @@ use Rattle.lk_rulebook.specs.Structures.{Projectable}
 use Rattle.lk_rulebook.specs.Rules.{HasType, Reduces, HasSort, IsProposition, t_proj, PastParameters, no_more, next, Field, FieldOf, here, past}
 use Rattle.lk_rulebook.proofs.Scopes.{well_formed_of_reduct}
 use Rattle.lk_rulebook.specs.WellStated.{WellStated, KindStated, CtorsStated}
-use Rattle.lk_table_sound.proofs.Pieces.{halves, equal_numbers, less_number, same_name_right}
-use Rattle.lk_written.specs.Line.{Claim, AllDerived}
-use Rattle.lk_written.specs.Premises.{◌>>=◌, as_const, Left, is_prop_by}
+use Rattle.lk_claims.proofs.Pieces.{halves, equal_numbers, less_number, same_name_right}
+use Rattle.lk_claims.specs.Claims.{Claim, AllDerived}
+use Rattle.lk_claims.specs.Tests.{◌>>=◌}
+use Rattle.lk_written.specs.Premises.{as_const, Left, is_prop_by}
 use Rattle.lk_written.specs.Typing.{past as past_test, prop_if, field_of, the_type, the_one, type_proj}
 use Rattle.lk_written.proofs.Premises.{IfSome, if_bind, on_some, on_test, const_right, is_prop_right, on_typed, on_reduced, on_sorted, on_pi}
 use Rattle.lk_written.proofs.Typings.{comes_right}

@@ -17,11 +17,12 @@ use Rattle.lk_rulebook.specs.Rules.{Reduces, r_refl, r_trans, r_head, r_beta, r_
 use Rattle.lk_questions.specs.Steps.{value_of}
 use Rattle.lk_questions.specs.Strings.{text_to_ctor}
 use Rattle.lk_questions.specs.Quotients.{by_quot}
-use Rattle.lk_table_sound.proofs.Pieces.{equal_numbers, has_value, same_name_right}
-use Rattle.lk_table_sound.proofs.Quots.{quot_kind}
-use Rattle.lk_table_sound.proofs.Readings.{sound_text_to_ctor}
-use Rattle.lk_written.specs.Line.{Claim, AllDerived}
-use Rattle.lk_written.specs.Premises.{found, Left}
+use Rattle.lk_claims.proofs.Pieces.{equal_numbers, has_value, same_name_right}
+use Rattle.lk_claims.proofs.Facts.{quot_kind}
+use Rattle.lk_claims.proofs.Readings.{sound_text_to_ctor}
+use Rattle.lk_claims.specs.Claims.{Claim, AllDerived}
+use Rattle.lk_claims.specs.Tests.{found}
+use Rattle.lk_written.specs.Premises.{Left}
 use Rattle.lk_written.specs.Reducing.{red_stay, red_chain, red_head, red_beta, red_zeta, red_delta, the_ctor, red_field, is_quot, mk_of, red_quot, red_lift, red_ind}
 use Rattle.lk_written.proofs.Premises.{IfSome, if_bind, on_some, on_test, if_test, found_right, on_reduced}
 use Rattle.lk_written.proofs.Typings.{comes_right, comes_fine}

@@ -6,9 +6,11 @@ use Rattle.lk_tree.specs.WellFormed.{IsWellFormed}
 use Rattle.lk_tree.proofs.Binding.{open_fine}
 use Rattle.lk_rulebook.specs.Place.{Place}
 use Rattle.lk_rulebook.specs.Formers.{IsFormer}
-use Rattle.lk_written.specs.Line.{types, reduces, equals, sort_rule, local_rule, stay_rule, chain_rule, head_rule, beta_rule, zeta_rule, same_rule}
+use Rattle.lk_claims.specs.Claims.{types, reduces, equals}
+use Rattle.lk_written.specs.Line.{sort_rule, local_rule, stay_rule, chain_rule, head_rule, beta_rule, zeta_rule, same_rule}
 use Rattle.lk_written.specs.Premises.{reduced}
-use Rattle.lk_written.specs.Written.{IsShaped, CanWrite}
+use Rattle.lk_claims.specs.Claims.{IsShaped}
+use Rattle.lk_written.specs.Written.{CanWrite}
 use Rattle.lk_written.proofs.Writings.{next, last_type, last_reduct, last_equal, go_on, comes_itself, reduced_there}
 
 pub can_sort : (w : Place) (l : Level) → CanWrite w (types (sort l) (sort (succ_level l)))

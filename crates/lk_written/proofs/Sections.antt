@@ -17,12 +17,14 @@ use Rattle.lk_questions.specs.QuotientUnits.{quot_steps}
 use Rattle.lk_questions.specs.Shapes.{nat_shape}
 use Rattle.lk_questions.specs.NumberLaws.{lawful_op, def_given, held_given}
 use Rattle.lk_rulebook.specs.Derived.{IsOf, BodyDerived, DeclDerived}
-use Rattle.lk_table_sound.proofs.Pieces.{halves, Some_inj, equal_numbers, no_item}
-use Rattle.lk_table_sound.proofs.Shaped.{sound_nat_shape}
-use Rattle.lk_table_sound.proofs.NumberLaws.{HasLaws, sound_def_given, lawful_of}
-use Rattle.lk_table_sound.proofs.QuotChecks.{sound_quot_steps}
-use Rattle.lk_written.specs.Line.{Claim, TypingRule, sort_rule, local_rule, const_rule, app_rule, let_rule, lit_rule, str_rule, proj_rule, lam_rule, pi_rule, ReductionRule, stay_rule, chain_rule, head_rule, beta_rule, zeta_rule, delta_rule, field_rule, major_rule, k_rule, expand_rule, lift_rule, ind_rule, operation_rule, iota_rule, EqualityRule, same_rule, reduce_rule, sorts_rule, consts_rule, apps_rule, projs_rule, lams_rule, pis_rule, eta_rule, struct_left_rule, struct_right_rule, unit_rule, proof_rule, zero_rule, succ_rule, str_left_rule, str_right_rule, Line, ty, rd, cv, claim_of, Derived, AllDerived}
-use Rattle.lk_written.specs.Premises.{passes, found, is_fine, Left, equal}
+use Rattle.lk_claims.proofs.Pieces.{halves, Some_inj, equal_numbers, no_item}
+use Rattle.lk_claims.proofs.Shaped.{sound_nat_shape}
+use Rattle.lk_claims.proofs.NumberLaws.{HasLaws, sound_def_given, lawful_of}
+use Rattle.lk_claims.proofs.QuotChecks.{sound_quot_steps}
+use Rattle.lk_claims.specs.Claims.{Claim, Derived, AllDerived}
+use Rattle.lk_written.specs.Line.{TypingRule, sort_rule, local_rule, const_rule, app_rule, let_rule, lit_rule, str_rule, proj_rule, lam_rule, pi_rule, ReductionRule, stay_rule, chain_rule, head_rule, beta_rule, zeta_rule, delta_rule, field_rule, major_rule, k_rule, expand_rule, lift_rule, ind_rule, operation_rule, iota_rule, EqualityRule, same_rule, reduce_rule, sorts_rule, consts_rule, apps_rule, projs_rule, lams_rule, pis_rule, eta_rule, struct_left_rule, struct_right_rule, unit_rule, proof_rule, zero_rule, succ_rule, str_left_rule, str_right_rule, Line, ty, rd, cv, claim_of}
+use Rattle.lk_claims.specs.Tests.{passes, found}
+use Rattle.lk_written.specs.Premises.{is_fine, Left, equal}
 use Rattle.lk_written.specs.Typing.{type_test}
 use Rattle.lk_written.specs.Reducing.{red_test}
 use Rattle.lk_written.specs.Equal.{eq_test}

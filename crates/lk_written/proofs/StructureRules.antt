@@ -13,14 +13,18 @@ use Rattle.lk_questions.specs.Iota.{has_one_ctor}
 use Rattle.lk_questions.specs.Eta.{is_unit_like}
 use Rattle.lk_tree.specs.Level.{is_zero_level}
 use Rattle.lk_questions.specs.Steps.{is_same_tree}
-use Rattle.lk_written.specs.Line.{Claim, types, reduces, equals, unit_rule, struct_left_rule, struct_right_rule, expand_rule}
-use Rattle.lk_written.specs.Premises.{◌>>=◌, Left, passes, as_const, typed, reduced, equal, sorted}
+use Rattle.lk_claims.specs.Claims.{Claim, types, reduces, equals}
+use Rattle.lk_written.specs.Line.{unit_rule, struct_left_rule, struct_right_rule, expand_rule}
+use Rattle.lk_claims.specs.Tests.{◌>>=◌, passes}
+use Rattle.lk_written.specs.Premises.{Left, as_const, typed, reduced, equal, sorted}
 use Rattle.lk_written.specs.Typing.{the_type}
 use Rattle.lk_written.specs.Reducing.{the_ctor, the_rule, major_of, red_expand}
 use Rattle.lk_written.specs.Equal.{is_head_normal, fields_equal, eq_struct, eq_unit}
-use Rattle.lk_written.specs.Closed.{EachField}
-use Rattle.lk_written.specs.Written.{Keeps, IsWritten, IsShaped, CanWrite, CanSort}
-use Rattle.lk_written.proofs.Writings.{next, last_equal, go_on, go_test, typed_there, reduced_there, equal_there, same_self, last_reduct, with_sort, sorted_there}
+use Rattle.lk_claims.specs.Follows.{EachField}
+use Rattle.lk_claims.specs.Claims.{IsShaped}
+use Rattle.lk_written.specs.Written.{Keeps, IsWritten, CanWrite, CanSort}
+use Rattle.lk_claims.proofs.Facts.{same_self}
+use Rattle.lk_written.proofs.Writings.{next, last_equal, go_on, go_test, typed_there, reduced_there, equal_there, last_reduct, with_sort, sorted_there}
 use Rattle.lk_written.proofs.EqualRules.{normal_passes, same_self_name}
 use Rattle.lk_written.proofs.MajorRules.{const_head, const_args, major_there}
 

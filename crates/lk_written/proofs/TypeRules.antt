@@ -9,10 +9,13 @@ use Rattle.lk_tree.proofs.Binding.{open_fine, fine_from_open}
 use Rattle.lk_rulebook.specs.Place.{Place}
 use Rattle.lk_rulebook.specs.Rules.{IsGivenAt, at_levels}
 use Rattle.lk_questions.specs.Steps.{is_same_tree}
-use Rattle.lk_written.specs.Line.{Claim, types, reduces, equals, const_rule, app_rule, lam_rule, pi_rule, let_rule}
+use Rattle.lk_claims.specs.Claims.{Claim, types, reduces, equals}
+use Rattle.lk_written.specs.Line.{const_rule, app_rule, lam_rule, pi_rule, let_rule}
 use Rattle.lk_written.specs.Premises.{local_above, typed, equal, to_pi, sorted}
-use Rattle.lk_written.specs.Written.{IsShaped, CanWrite, CanSort}
-use Rattle.lk_written.proofs.Writings.{same_self, next, last_type, go_on, go_test, comes_itself, with_sort, with_pi, typed_there, equal_there, to_pi_there, sorted_there, above_there}
+use Rattle.lk_claims.specs.Claims.{IsShaped}
+use Rattle.lk_written.specs.Written.{CanWrite, CanSort}
+use Rattle.lk_claims.proofs.Facts.{same_self}
+use Rattle.lk_written.proofs.Writings.{next, last_type, go_on, go_test, comes_itself, with_sort, with_pi, typed_there, equal_there, to_pi_there, sorted_there, above_there}
 
 are_equal : (m n : ℕ) → m ≡ n → nat_eq m n ≡ true
 are_equal m n e = grind (arith, nat_tests)

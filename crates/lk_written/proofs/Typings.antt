@@ -11,10 +11,11 @@ use Rattle.lk_rulebook.specs.Rules.{HasType, t_sort, t_local, t_const, t_app, t_
 use Rattle.lk_rulebook.proofs.Scopes.{well_formed_of_type}
 use Rattle.lk_questions.specs.Steps.{is_same_tree}
 use Rattle.lk_questions.specs.Shapes.{nat_shape, string_shape}
-use Rattle.lk_table_sound.proofs.Pieces.{same_tree, equal_numbers}
-use Rattle.lk_table_sound.proofs.Shaped.{sound_nat_shape, sound_string_shape}
-use Rattle.lk_written.specs.Line.{Claim, AllDerived}
-use Rattle.lk_written.specs.Premises.{found, Left}
+use Rattle.lk_claims.proofs.Pieces.{same_tree, equal_numbers}
+use Rattle.lk_claims.proofs.Shaped.{sound_nat_shape, sound_string_shape}
+use Rattle.lk_claims.specs.Claims.{Claim, AllDerived}
+use Rattle.lk_claims.specs.Tests.{found}
+use Rattle.lk_written.specs.Premises.{Left}
 use Rattle.lk_written.specs.Typing.{comes_to, type_sort, type_local, type_const, type_app, type_body, type_lam, type_pi, type_let, type_lit, type_str}
 use Rattle.lk_written.proofs.Premises.{IfSome, if_bind, on_some, on_test, if_test, on_none_left, found_right, on_typed, on_equal, on_sorted, on_pi, on_above}
 

@@ -13,11 +13,13 @@ use Rattle.lk_rulebook.specs.Units.{Body, as_axiom, as_def, as_thm, as_opaque, a
 use Rattle.lk_rulebook.specs.Scan.{IsScanned, is_none, scan_of}
 use Rattle.lk_rulebook.proofs.Scans.{scan_passes}
 use Rattle.lk_questions.specs.QuotientUnits.{quot_steps}
-use Rattle.lk_written.specs.Line.{Claim, types, reduces, equals}
-use Rattle.lk_written.specs.Premises.{Left, passes, found, typed, equal, sorted}
+use Rattle.lk_claims.specs.Claims.{Claim, types, reduces, equals}
+use Rattle.lk_claims.specs.Tests.{passes, found}
+use Rattle.lk_written.specs.Premises.{Left, typed, equal, sorted}
 use Rattle.lk_written.specs.Section.{Section, claims_by, value_read, value_test, laws_read, laws_test, body_test, parts_test, section_test, unit_section, section_holds}
 use Rattle.lk_written.specs.Written.{Keeps, CanBe, CanMeet, CanBeLawful, CanBody, CanDeclare}
-use Rattle.lk_written.proofs.Writings.{some_on, go_on, go_test, typed_there, equal_there, sorted_there, with_sort, Finishes, finish, go_first}
+use Rattle.lk_claims.proofs.Facts.{some_on}
+use Rattle.lk_written.proofs.Writings.{go_on, go_test, typed_there, equal_there, sorted_there, with_sort, Finishes, finish, go_first}
 
 -- premises that the parts pass with
 abbrev Parts : Place → Decl → List Claim → Type 0

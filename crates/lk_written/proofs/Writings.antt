@@ -9,21 +9,18 @@ use Rattle.lk_tree.proofs.Scans.{and_true}
 use Rattle.lk_rulebook.specs.Place.{Place}
 use Rattle.lk_rulebook.specs.Formers.{IsFormer}
 use Rattle.lk_questions.specs.Steps.{decided, is_same_tree}
-use Rattle.lk_table_sound.proofs.Pieces.{Some_inj}
-use Rattle.lk_written.specs.Line.{Claim, types, reduces, equals, TypingRule, ReductionRule, EqualityRule, Line, ty, rd, cv, claim_of}
-use Rattle.lk_written.specs.Premises.{◌>>=◌, test, passes, is_fine, Left, typed, reduced, equal, as_sort, as_pi, to_sort, to_pi, sorted, local_above}
+use Rattle.lk_claims.proofs.Pieces.{Some_inj}
+use Rattle.lk_claims.specs.Claims.{Claim, types, reduces, equals}
+use Rattle.lk_written.specs.Line.{TypingRule, ReductionRule, EqualityRule, Line, ty, rd, cv, claim_of}
+use Rattle.lk_claims.specs.Tests.{◌>>=◌, test, passes}
+use Rattle.lk_written.specs.Premises.{is_fine, Left, typed, reduced, equal, as_sort, as_pi, to_sort, to_pi, sorted, local_above}
 use Rattle.lk_written.specs.Typing.{comes_to, type_test}
 use Rattle.lk_written.specs.Reducing.{red_test}
 use Rattle.lk_written.specs.Equal.{eq_test}
 use Rattle.lk_written.specs.Section.{are_fine, line_holds, claims_by}
-use Rattle.lk_written.specs.Written.{Keeps, IsWritten, IsShaped}
-
-pub same_self : (a : Tree) → is_same_tree a a ≡ true
-same_self a = go (tree_discrete a a)
-  where
-    go : (d : Dec (a ≡ a)) → decided d ≡ true
-    go (yes e) = refl
-    go (no f) = absurd (f refl)
+use Rattle.lk_claims.specs.Claims.{IsShaped}
+use Rattle.lk_written.specs.Written.{Keeps, IsWritten}
+use Rattle.lk_claims.proofs.Facts.{same_self, pass_test, some_on}
 
 is_below : (i n : ℕ) → i < n → nat_lt i n ≡ true
 is_below i n h = grind (arith, nat_tests)
@@ -113,16 +110,8 @@ pub go_test : {B : Type 0} (b : Bool) (k : Unit {0} → Option B) → b ≡ true
 go_test true k e h = h
 go_test false k e h = absurd cc
 
-pub pass_test : (b : Bool) → b ≡ true → passes (test b) ≡ true
-pass_test true e = refl
-pass_test false e = absurd cc
-
 pub comes_itself : (T : Tree) → passes (comes_to T T []) ≡ true
 comes_itself T = pass_test (is_same_tree T T) (same_self T)
-
-pub some_on : {A B : Type 0} (o : Option A) (v : A) (k : A → Option B) (u : B) → o ≡ Some v → k v ≡ Some u → (o >>= k) ≡ Some u
-some_on (Some x) v k u e h = let i : x ≡ v = Some_inj e in rw i h
-some_on None v k u e h = absurd cc
 
 pub some_test : {B : Type 0} (b : Bool) (k : Unit {0} → Option B) (u : B) → b ≡ true → k tt ≡ Some u → (test b >>= k) ≡ Some u
 some_test true k u e h = h

@@ -13,8 +13,10 @@ use Rattle.lk_questions.specs.Iota.{has_one_ctor}
 use Rattle.lk_questions.specs.Eta.{is_unit_like}
 use Rattle.lk_questions.specs.Same.{eta_long}
 use Rattle.lk_questions.specs.Strings.{expansion_of}
-use Rattle.lk_written.specs.Line.{Claim, EqualityRule, same_rule, reduce_rule, sorts_rule, consts_rule, apps_rule, projs_rule, lams_rule, pis_rule, eta_rule, struct_left_rule, struct_right_rule, unit_rule, proof_rule, zero_rule, succ_rule, str_left_rule, str_right_rule}
-use Rattle.lk_written.specs.Premises.{◌>>=◌, test, found, is_true, same_levels, as_const, local_above, Left, ends, typed, reduced, equal, to_pi, is_prop_by}
+use Rattle.lk_claims.specs.Claims.{Claim}
+use Rattle.lk_written.specs.Line.{EqualityRule, same_rule, reduce_rule, sorts_rule, consts_rule, apps_rule, projs_rule, lams_rule, pis_rule, eta_rule, struct_left_rule, struct_right_rule, unit_rule, proof_rule, zero_rule, succ_rule, str_left_rule, str_right_rule}
+use Rattle.lk_claims.specs.Tests.{◌>>=◌, test, found, is_true, same_levels}
+use Rattle.lk_written.specs.Premises.{as_const, local_above, Left, ends, typed, reduced, equal, to_pi, is_prop_by}
 use Rattle.lk_written.specs.Typing.{comes_to, the_type}
 use Rattle.lk_written.specs.Reducing.{the_ctor, tree_in}
 

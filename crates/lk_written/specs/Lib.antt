@@ -5,4 +5,3 @@ pub mod Reducing
 pub mod Equal
 pub mod Section
 pub mod Written
-pub mod Closed

@@ -1,14 +1,7 @@
 -- Lines of a written derivation: each states that two trees are related, and names the rule and the earlier lines that it rests on.
-use Rattle.std.specs.Prelude.{ℕ, List, [], ◌∷◌}
+use Rattle.std.specs.Prelude.{ℕ, List}
 use Rattle.lk_tree.specs.Tree.{Tree}
-use Rattle.lk_rulebook.specs.Place.{Place}
-use Rattle.lk_rulebook.specs.Rules.{HasType, Reduces, IsDefEq}
-
--- what a line states: e => T, a >> b, a == b
-pub data Claim : Type 0 where
-  types : Tree → Tree → Claim
-  reduces : Tree → Tree → Claim
-  equals : Tree → Tree → Claim
+use Rattle.lk_claims.specs.Claims.{Claim, types, reduces, equals}
 
 -- a tree beside a rule is its Local
 pub data TypingRule : Type 0 where
@@ -35,13 +28,3 @@ abbrev pub claim_of : Line → Claim
 claim_of (ty r e T js) = types e T
 claim_of (rd r a b js) = reduces a b
 claim_of (cv r a b js) = equals a b
-
--- the claim is derived at w
-abbrev pub Derived : Place → Claim → Type 0
-Derived w (types e T) = HasType w e T
-Derived w (reduces a b) = Reduces w a b
-Derived w (equals a b) = IsDefEq w a b
-
-abbrev pub AllDerived : Place → List Claim → Type 0
-AllDerived w [] = Unit {0}
-AllDerived w (c ∷ cs) = Derived w c × AllDerived w cs

@@ -2,32 +2,10 @@
 use Rattle.std.specs.Prelude.{ℕ, suc, ◌^◌, Bool, true, false, ◌&&◌, nat_lt, nat_le, List, [], ◌∷◌, Option, Some, None, slice_get}
 use Rattle.lk_tree.specs.Tree.{Name, Level, Tree, var, sort, const, app, lam, pi, let_in, proj, lit, wide, str, local}
 use Rattle.lk_tree.specs.Bind.{bound}
-use Rattle.lk_tree.specs.LevelTest.{level_test}
 use Rattle.lk_tree.specs.Level.{is_zero_level}
-use Rattle.lk_rulebook.specs.Place.{Place}
-use Rattle.lk_plain.specs.Program.{Program, done, refuse, ask, look}
 use Rattle.lk_questions.specs.Steps.{is_same_tree}
-use Rattle.lk_written.specs.Line.{Claim, types, reduces, equals}
-
-infixl 20 ◌>>=◌
-abbrev pub ◌>>=◌ : {A B : Type 0} → Option A → (A → Option B) → Option B
-◌>>=◌ (Some v) k = k v
-◌>>=◌ None k = None
-
-abbrev pub test : Bool → Option (Unit {0})
-test true = Some tt
-test false = None
-
-abbrev pub passes : {A : Type 0} → Option A → Bool
-passes (Some v) = true
-passes None = false
-
--- what a program that asks nothing is done with at w
-abbrev pub found : {A : Type 0} → Place → Program A → Option A
-found w (done v) = Some v
-found w (refuse r) = None
-found w (ask q k) = None
-found w (look r c k) = w.means c >>= λ g. found w (k g)
+use Rattle.lk_claims.specs.Claims.{Claim, types, reduces, equals}
+use Rattle.lk_claims.specs.Tests.{◌>>=◌, test}
 
 -- closed and well scoped under d binders
 abbrev pub is_fine : ℕ → Tree → Bool
@@ -43,17 +21,6 @@ is_fine d (lit n) = nat_lt n (2 ^ 128)
 is_fine d wide = false
 is_fine d (str s) = true
 is_fine d (local k T) = is_fine 0 T && nat_le (bound T) k
-
--- the levels are equal; LevelWidth does not pass
-abbrev pub is_true : Option Bool → Bool
-is_true (Some b) = b
-is_true None = false
-
-abbrev pub same_levels : List Level → List Level → Bool
-same_levels [] [] = true
-same_levels (l ∷ ls) (m ∷ ms) = is_true (level_test l m) && same_levels ls ms
-same_levels [] (m ∷ ms) = false
-same_levels (l ∷ ls) [] = false
 
 -- the parts of a tree of a form
 abbrev pub as_sort : Tree → Option Level

@@ -17,9 +17,12 @@ use Rattle.lk_questions.specs.Strings.{text_to_ctor}
 use Rattle.lk_questions.specs.Literals.{ops, op_named, numeral_of, result_of}
 use Rattle.lk_questions.specs.Iota.{has_one_ctor}
 use Rattle.lk_questions.specs.Quotients.{by_quot}
-use Rattle.lk_written.specs.Line.{Claim, ReductionRule, stay_rule, chain_rule, head_rule, beta_rule, zeta_rule, delta_rule, field_rule, major_rule, k_rule, expand_rule, lift_rule, ind_rule, operation_rule, iota_rule}
-use Rattle.lk_written.specs.Premises.{◌>>=◌, test, found, as_const, Left, ends, typed, reduced, equal, sorted}
+use Rattle.lk_claims.specs.Claims.{Claim}
+use Rattle.lk_written.specs.Line.{ReductionRule, stay_rule, chain_rule, head_rule, beta_rule, zeta_rule, delta_rule, field_rule, major_rule, k_rule, expand_rule, lift_rule, ind_rule, operation_rule, iota_rule}
+use Rattle.lk_claims.specs.Tests.{◌>>=◌, test, found}
+use Rattle.lk_written.specs.Premises.{as_const, Left, ends, typed, reduced, equal, sorted}
 use Rattle.lk_written.specs.Typing.{comes_to}
+use Rattle.lk_claims.specs.Tests.{reads}
 
 abbrev pub red_stay : Left → Tree → Tree → Option (Unit {0})
 red_stay js a b = comes_to b a js
@@ -78,18 +81,6 @@ red_field w ps js (proj S i s) b = do
   y ← slice_get (args x) (c.2.parameters + i)
   comes_to b y m.1
 red_field w ps js _ b = None
-
--- m reads as n: they are the same, or n is its expansion, zero or successor
-abbrev pub reads_as : Place → Tree → Tree → Option (Unit {0})
-reads_as w (lit zero) n = test (is_same_tree n (named nat_zero))
-reads_as w (lit (suc k)) n = test (is_same_tree n (app (named nat_succ) (lit k)))
-reads_as w (str s) n = do
-  x ← found w (text_to_ctor (str s))
-  test (is_same_tree n x)
-reads_as w m n = None
-
-abbrev pub reads : Place → Tree → Tree → Option (Unit {0})
-reads w m n = if is_same_tree n m then Some tt else reads_as w m n
 
 -- the recursor, where h is one that takes so many arguments before the major premise
 abbrev pub major_of : Place → Tree → ℕ → Option (Name × List Level × Entry × Recursor)

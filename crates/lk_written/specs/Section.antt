@@ -10,8 +10,10 @@ use Rattle.lk_rulebook.specs.NumberLaws.{Law, laws_of, stated_by}
 use Rattle.lk_questions.specs.QuotientUnits.{quot_steps}
 use Rattle.lk_questions.specs.Shapes.{nat_shape}
 use Rattle.lk_questions.specs.NumberLaws.{lawful_op, def_given, held_given}
-use Rattle.lk_written.specs.Line.{Claim, Line, ty, rd, cv, claim_of}
-use Rattle.lk_written.specs.Premises.{◌>>=◌, test, passes, found, is_fine, Left, ends, typed, equal, sorted}
+use Rattle.lk_claims.specs.Claims.{Claim}
+use Rattle.lk_written.specs.Line.{Line, ty, rd, cv, claim_of}
+use Rattle.lk_claims.specs.Tests.{◌>>=◌, test, passes, found}
+use Rattle.lk_written.specs.Premises.{is_fine, Left, ends, typed, equal, sorted}
 use Rattle.lk_written.specs.Typing.{type_test}
 use Rattle.lk_written.specs.Reducing.{red_test}
 use Rattle.lk_written.specs.Equal.{eq_test}

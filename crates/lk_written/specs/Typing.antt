@@ -10,8 +10,10 @@ use Rattle.lk_rulebook.specs.Names.{named, nat, string}
 use Rattle.lk_tree.specs.Mentions.{same_name}
 use Rattle.lk_questions.specs.Steps.{is_same_tree}
 use Rattle.lk_questions.specs.Shapes.{nat_shape, string_shape}
-use Rattle.lk_written.specs.Line.{Claim, TypingRule, sort_rule, local_rule, const_rule, app_rule, let_rule, lit_rule, str_rule, proj_rule, lam_rule, pi_rule}
-use Rattle.lk_written.specs.Premises.{◌>>=◌, test, found, as_const, local_above, Left, ends, typed, reduced, equal, to_pi, sorted, is_prop_by}
+use Rattle.lk_claims.specs.Claims.{Claim}
+use Rattle.lk_written.specs.Line.{TypingRule, sort_rule, local_rule, const_rule, app_rule, let_rule, lit_rule, str_rule, proj_rule, lam_rule, pi_rule}
+use Rattle.lk_claims.specs.Tests.{◌>>=◌, test, found}
+use Rattle.lk_written.specs.Premises.{as_const, local_above, Left, ends, typed, reduced, equal, to_pi, sorted, is_prop_by}
 
 -- T is this tree, and no premise is left
 abbrev pub comes_to : Tree → Tree → Left → Option (Unit {0})

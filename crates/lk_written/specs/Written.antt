@@ -3,17 +3,16 @@
 use Rattle.std.specs.Prelude.{ℕ, ◌≡◌, true, nat_eq, length, List, [], ◌∷◌, Option, Some, None, slice_get}
 use Rattle.lk_rulebook.specs.Place.{Place}
 use Rattle.lk_tree.specs.Tree.{Name, Level, Tree, sort}
-use Rattle.lk_tree.specs.WellFormed.{IsWellFormed}
 use Rattle.lk_tree.specs.Operations.{Op}
-use Rattle.lk_rulebook.specs.Formers.{IsFormer}
 use Rattle.lk_rulebook.specs.NumberLaws.{Law, laws_of, stated_by}
 use Rattle.lk_tree.specs.Level.{is_zero_level}
 use Rattle.lk_rulebook.specs.Units.{Body, as_axiom, as_def, as_thm, as_opaque, as_quot, Decl}
 use Rattle.lk_questions.specs.Shapes.{nat_shape}
 use Rattle.lk_questions.specs.QuotientUnits.{quot_steps}
 use Rattle.lk_questions.specs.NumberLaws.{lawful_op, def_given, held_given}
-use Rattle.lk_written.specs.Premises.{found}
-use Rattle.lk_written.specs.Line.{Claim, types, reduces, equals, Line}
+use Rattle.lk_claims.specs.Tests.{found}
+use Rattle.lk_claims.specs.Claims.{Claim, types, reduces, equals, IsShaped}
+use Rattle.lk_written.specs.Line.{Line}
 use Rattle.lk_written.specs.Section.{claims_by}
 
 -- what is stated stays under its number
@@ -28,12 +27,6 @@ pub record IsWritten (w : Place) (ps : List Claim) (c : Claim) : Type 0 where
   pub keeps : Keeps ps claims
   pub place : ℕ
   pub stated : slice_get claims place ≡ Some c
-
--- its trees are closed and well scoped, and a Sort or a Pi reduces to itself alone
-abbrev pub IsShaped : Claim → Type 0
-IsShaped (types e T) = IsWellFormed e × IsWellFormed T
-IsShaped (reduces a b) = IsWellFormed a × IsWellFormed b × (IsFormer a → a ≡ b)
-IsShaped (equals a b) = IsWellFormed a × IsWellFormed b
 
 -- c can be written after any lines
 pub record CanWrite (w : Place) (c : Claim) : Type 0 where

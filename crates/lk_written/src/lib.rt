@@ -8,8 +8,9 @@ ghost use Rattle.lk_rulebook.specs.Derived.{DeclDerived};
 ghost use Rattle.lk_rulebook.specs.Place.{Place};
 ghost use Rattle.lk_rulebook.specs.Scan.{IsScanned};
 ghost use Rattle.lk_rulebook.specs.Units.{Decl, of_decl, Library, place_of};
-ghost use Rattle.lk_written.specs.Closed.{FollowsTypes, FollowsReductions, FollowsEqualities};
-ghost use Rattle.lk_written.specs.Line.{Claim, Line, claim_of, Derived, AllDerived};
+ghost use Rattle.lk_claims.specs.Follows.{FollowsTypes, FollowsReductions, FollowsEqualities};
+ghost use Rattle.lk_claims.specs.Claims.{Claim, Derived, AllDerived};
+ghost use Rattle.lk_written.specs.Line.{Line, claim_of};
 ghost use Rattle.lk_written.specs.Section.{Section, line_holds, claims_by, section_holds, section_at_fault};
 ghost use Rattle.lk_written.specs.Written.{CanWrite, CanDeclare};
 

@@ -1,5 +1,5 @@
 use Rattle.lk_questions.specs.Table.{steps}
-use Rattle.lk_table_sound.proofs.WholeTable.{sound_steps, ans_sound}
+use Rattle.lk_table_sound.proofs.Derivations.{sound_steps, ans_sound}
 use Rattle.lk_table_sound.proofs.plain_answer_is_sound.Goals as goal
 
 pub returns : goal.returns

@@ -1,4 +1,4 @@
-use Rattle.lk_table_sound.proofs.WholeTable.{sound_steps}
+use Rattle.lk_table_sound.proofs.Derivations.{sound_steps}
 use Rattle.lk_table_sound.proofs.whole_table_is_sound.Goals as goal
 
 pub returns : goal.returns

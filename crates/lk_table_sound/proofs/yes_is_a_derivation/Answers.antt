@@ -1,6 +1,6 @@
 use Rattle.lk_questions.specs.Table.{steps}
-use Rattle.lk_table_sound.proofs.WholeTable.{sound_steps}
-use Rattle.lk_table_sound.proofs.Declarations.{yes_is_good}
+use Rattle.lk_table_sound.proofs.Derivations.{sound_steps}
+use Rattle.lk_table_sound.proofs.Derivations.{yes_is_good}
 use Rattle.lk_table_sound.proofs.yes_is_a_derivation.Goals as goal
 
 pub returns : goal.returns

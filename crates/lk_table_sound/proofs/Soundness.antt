@@ -8,8 +8,8 @@ use Rattle.lk_plain.specs.Sound.{IsAskable}
 use Rattle.lk_plain.specs.Sound as sound
 use Rattle.lk_plain.proofs.Outcomes.{if_after, if_and_then, if_found}
 use Rattle.lk_questions.specs.Steps.{given}
-use Rattle.lk_written.specs.Premises.{found}
-use Rattle.lk_answered.proofs.Book.{Book, IsJustified, IsSound}
+use Rattle.lk_claims.specs.Tests.{found}
+use Rattle.lk_table_sound.proofs.Book.{Book, IsJustified, IsSound}
 
 pub sound_run : {A : Type 0} (w : Book) (f : (q : Query) → ℕ → Outcome (AnswerTo q)) (P : A → Type 0) →
     ((q : Query) (left : ℕ) → IsAskable q → IfAnswered (f q left) (λ v c t. IsJustified w q v)) →

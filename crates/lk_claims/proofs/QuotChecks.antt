@@ -11,8 +11,8 @@ use Rattle.lk_questions.specs.Quotients.{by_quot}
 use Rattle.lk_questions.specs.QuotientUnits.{quotients, quotient_named, quot_given, is_eq_type, is_refl_type, is_refl_alone, is_eq, eq_shape, rests_steps, is_this, quotient_steps, quot_steps}
 use Rattle.lk_plain.specs.Sound.{IsSound}
 use Rattle.lk_plain.proofs.Soundness.{sound_bind, sound_map}
-use Rattle.lk_table_sound.proofs.Pieces.{Some_inj, sound_given, halves, equal_numbers, same_tree, same_name_right}
-use Rattle.lk_table_sound.proofs.Quots.{quot_kind}
+use Rattle.lk_claims.proofs.Pieces.{Some_inj, sound_given, halves, equal_numbers, same_tree, same_name_right}
+use Rattle.lk_claims.proofs.Facts.{quot_kind}
 
 sound_quot_given : (w : Place) (c : Name) → IsSound w (quot_given c) (λ u. IsQuot w c)
 sound_quot_given w c = λ g m. sound_given w (by_quot g.kind) QuotShape (done tt) (λ u. IsQuot w c) (λ h. record { entry = g; given = m; kind = quot_kind g.kind h })

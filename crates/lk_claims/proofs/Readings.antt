@@ -11,9 +11,9 @@ use Rattle.lk_questions.specs.Shapes.{has_string_shape}
 use Rattle.lk_questions.specs.Strings.{look_all, is_mk_alone, has_mk_alone, expansion_by, expansion_of, tree_or, text_to_ctor, literal_to_ctor}
 use Rattle.lk_plain.specs.Sound.{IfYes, IsSound}
 use Rattle.lk_plain.proofs.Soundness.{sound_bind, sound_map}
-use Rattle.lk_table_sound.proofs.Pieces.{of_yes, halves, same_name_right}
-use Rattle.lk_table_sound.proofs.Goes.{sound_if}
-use Rattle.lk_table_sound.proofs.Shaped.{IsStringKind, sound_string_by}
+use Rattle.lk_claims.proofs.Pieces.{of_yes, halves, same_name_right}
+use Rattle.lk_claims.proofs.Facts.{sound_if}
+use Rattle.lk_claims.proofs.Shaped.{IsStringKind, sound_string_by}
 
 sound_look_all : (w : Place) (cs : List Name) → IsSound w (look_all cs) (λ u. AllGiven w cs)
 sound_look_all w [] = tt
