@@ -1,18 +1,12 @@
 -- Numerals, and the trees of what operations give.
-use Rattle.std.proofs.Common.{ℕ, ◌≡◌, Bool, true, false, List, [], ◌∷◌, Option, Some, None, refl, subst, ◌∙◌, sym, ap, if◌then◌else◌, nat_lt, ◌^◌}
-use Rattle.lk_tree.specs.Tree.{Name, Level, Tree, const, lit}
-use Rattle.lk_tree.specs.Spine.{apply, head, args}
-use Rattle.lk_tree.specs.Operations.{Op, op_value, Value, number, truth}
-use Rattle.lk_tree.proofs.Within.{apply_head_args}
+use Rattle.std.proofs.Common.{ℕ, ◌≡◌, Bool, true, false, [], Option, Some, None, refl, if◌then◌else◌, nat_lt, ◌^◌}
+use Rattle.lk_tree.specs.Tree.{Name, Tree, const, lit}
+use Rattle.lk_tree.specs.Operations.{Value, number, truth}
 use Rattle.lk_rulebook.specs.Place.{Place}
-use Rattle.lk_rulebook.specs.Names.{named, nat_zero, op_name}
+use Rattle.lk_rulebook.specs.Names.{nat_zero}
 use Rattle.lk_tree.specs.Mentions.{same_name}
-use Rattle.lk_rulebook.specs.Shapes.{HasNat}
-use Rattle.lk_rulebook.specs.Literals.{IsNumeral, of_lit, of_zero, IsResult, a_number, a_truth, may_give}
-use Rattle.lk_rulebook.specs.Lawful.{IsLawfulPlace}
-use Rattle.lk_rulebook.specs.Rules.{Reduces, r_op, Numerals, no_more_numerals, numeral}
-use Rattle.lk_questions.specs.Shapes.{nat_shape}
-use Rattle.lk_questions.specs.Literals.{ops, op_named, numeral_of, result_of}
+use Rattle.lk_rulebook.specs.Literals.{IsNumeral, of_lit, of_zero, IsResult, a_number, a_truth}
+use Rattle.lk_questions.specs.Literals.{numeral_of, result_of}
 use Rattle.lk_plain.specs.Sound.{IsSound}
 use Rattle.lk_claims.proofs.Pieces.{same_name_right, Some_inj, less_number}
 

@@ -1,5 +1,5 @@
 -- The units of a rising list of numbers are the kept ones, and a unit's place in the list is its new number.
-use Rattle.std.proofs.Common.{ℕ, zero, suc, ◌≡◌, ◌+◌, ◌<◌, ◌≤◌, ◌⊎◌, inl, inr, Bool, true, false, ◌||◌, nat_eq, length, List, [], ◌∷◌, Option, Some, None, refl, sym, ap, subst, ◌∙◌, arith, if◌then◌else◌}
+use Rattle.std.proofs.Common.{ℕ, zero, suc, ◌≡◌, ◌+◌, ◌<◌, ◌≤◌, ◌⊎◌, inl, inr, Bool, true, false, ◌||◌, nat_eq, length, List, [], ◌∷◌, Some, None, refl, sym, ap, subst, ◌∙◌, arith, if◌then◌else◌}
 use Rattle.std.specs.Prelude.{slice_get, slice_index_or}
 use Rattle.std.proofs.lemmas.Bool.Decides.{nat_tests}
 use Rattle.std.specs.List.{Contains}
@@ -7,11 +7,11 @@ use Rattle.std.specs.List.Sorted.{IsStrictlyIncreasing}
 use Rattle.std.proofs.lemmas.List.Kept.{AllPairs-from_increasing}
 use Rattle.lk_rulebook.specs.Units.{LibraryUnit, Library}
 use Rattle.lk_reach.proofs.Lists.{contains_cases, contains_later}
-use Rattle.lk_reach.specs.Axioms.{IsListOf, IsAxiomOf}
+use Rattle.lk_reach.specs.Axioms.{IsAxiomOf}
 use Rattle.lk_questions.specs.Table.{steps}
 use Rattle.lk_verdict.specs.GoodUnit.{IsClearLibrary}
 use Rattle.lk_verdict.specs.Verdict.{plain_verdict}
-use Rattle.lk_closure.specs.Closure.{IsClosure, IsInClosure, own_unit, KeepsClosure, kept, renumbered}
+use Rattle.lk_closure.specs.Closure.{IsClosure, KeepsClosure, kept, renumbered}
 use Rattle.lk_closure.specs.Listed.{IsClosureList, is_listed, units_at}
 use Rattle.lk_closure.proofs.Axioms.{axioms_kept, axioms_back, unit_stands}
 use Rattle.lk_closure.proofs.Least.{least_closed, closure_earlier}

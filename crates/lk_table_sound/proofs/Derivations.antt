@@ -1,7 +1,6 @@
 -- The question table is sound: derivations are a property that follows the rules.
-use Rattle.std.proofs.Common.{ℕ, ◌≡◌, true, nat_eq, length, List, [], ◌∷◌, Option, Some, None, subst}
+use Rattle.std.proofs.Common.{ℕ, length, List, [], ◌∷◌, Option, Some, None, subst}
 use Rattle.lk_tree.specs.Tree.{Name, Level, Tree}
-use Rattle.lk_tree.specs.Level.{is_zero_level}
 use Rattle.lk_tree.specs.Operations.{Op}
 use Rattle.lk_tree.proofs.Zero.{zero_level_same}
 use Rattle.lk_rulebook.specs.Place.{Place, Entry, Hint, a_def}
@@ -25,7 +24,6 @@ use Rattle.lk_questions.specs.QuotientUnits.{quot_steps}
 use Rattle.lk_questions.specs.Shapes.{nat_shape}
 use Rattle.lk_questions.specs.NumberLaws.{lawful_op, def_given}
 use Rattle.lk_claims.specs.Claims.{Derived}
-use Rattle.lk_claims.specs.Tests.{found}
 use Rattle.lk_claims.proofs.Pieces.{Some_inj, equal_numbers, no_item, if_yes_map}
 use Rattle.lk_claims.proofs.Facts.{found_holds}
 use Rattle.lk_claims.proofs.Shaped as shaped

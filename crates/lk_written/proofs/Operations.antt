@@ -1,20 +1,19 @@
 -- Lines of operations on numbers are derived.
-use Rattle.std.proofs.Common.{ℕ, ◌≡◌, Bool, true, false, List, [], ◌∷◌, Option, Some, None, refl, subst, ◌∙◌, sym, ap, if◌then◌else◌, nat_lt, ◌^◌}
-use Rattle.lk_tree.specs.Tree.{Name, Level, Tree, const, lit}
+use Rattle.std.proofs.Common.{◌≡◌, Bool, true, false, List, [], ◌∷◌, Option, Some, None, refl, subst, ◌∙◌, sym, ap, if◌then◌else◌}
+use Rattle.lk_tree.specs.Tree.{Name, Level, Tree, const}
 use Rattle.lk_tree.specs.Spine.{apply, head, args}
-use Rattle.lk_tree.specs.Operations.{Op, op_value, Value, number, truth}
+use Rattle.lk_tree.specs.Operations.{Op, op_value, Value}
 use Rattle.lk_tree.proofs.Within.{apply_head_args}
 use Rattle.lk_rulebook.specs.Place.{Place}
-use Rattle.lk_rulebook.specs.Names.{named, nat_zero, op_name}
+use Rattle.lk_rulebook.specs.Names.{named, op_name}
 use Rattle.lk_tree.specs.Mentions.{same_name}
 use Rattle.lk_rulebook.specs.Shapes.{HasNat}
-use Rattle.lk_rulebook.specs.Literals.{IsNumeral, of_lit, of_zero, IsResult, a_number, a_truth, may_give}
+use Rattle.lk_rulebook.specs.Literals.{IsResult, may_give}
 use Rattle.lk_rulebook.specs.Lawful.{IsLawfulPlace}
 use Rattle.lk_rulebook.specs.Rules.{Reduces, r_op, Numerals, no_more_numerals, numeral}
 use Rattle.lk_questions.specs.Shapes.{nat_shape}
 use Rattle.lk_questions.specs.Literals.{ops, op_named, numeral_of, result_of}
-use Rattle.lk_plain.specs.Sound.{IsSound}
-use Rattle.lk_claims.proofs.Pieces.{same_name_right, Some_inj, less_number}
+use Rattle.lk_claims.proofs.Pieces.{same_name_right, Some_inj}
 use Rattle.lk_claims.proofs.Shaped.{sound_nat_shape}
 use Rattle.lk_claims.specs.Claims.{Claim, AllDerived}
 use Rattle.lk_claims.specs.Tests.{found}

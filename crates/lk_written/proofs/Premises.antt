@@ -5,19 +5,17 @@ use Rattle.std.proofs.lemmas.Bool.Decides.{nat_tests}
 use Rattle.lk_tree.specs.Tree.{Level, Tree, var, sort, const, app, lam, pi, let_in, proj, lit, wide, str, local}
 use Rattle.lk_tree.specs.Bind.{bound}
 use Rattle.lk_tree.specs.WellFormed.{IsWellFormed, IsWellFormedUnder}
-use Rattle.lk_tree.specs.Level.{SameLevel, is_zero_level}
-use Rattle.lk_tree.specs.LevelTest.{level_test}
-use Rattle.lk_tree.proofs.LevelTests.{level_test_right}
+use Rattle.lk_tree.specs.Level.{is_zero_level}
 use Rattle.lk_tree.proofs.Zero.{zero_level_same}
 use Rattle.lk_rulebook.specs.Place.{Place}
-use Rattle.lk_rulebook.specs.Rules.{HasType, HasSort, has_sort, IsProposition, is_prop, Reduces, r_refl, IsDefEq, SameLevels, none, more}
+use Rattle.lk_rulebook.specs.Rules.{HasType, HasSort, has_sort, IsProposition, is_prop, Reduces, r_refl, IsDefEq}
 use Rattle.lk_rulebook.proofs.Scopes.{well_formed_of_type}
 use Rattle.lk_plain.specs.Program.{Program, done, refuse, ask, look}
 use Rattle.lk_plain.specs.Sound.{IsSound}
 use Rattle.lk_questions.specs.Steps.{is_same_tree}
 use Rattle.lk_claims.proofs.Pieces.{same_tree, halves}
 use Rattle.lk_claims.specs.Claims.{Claim, types, reduces, equals, Derived, AllDerived}
-use Rattle.lk_claims.specs.Tests.{◌>>=◌, test, passes, found, is_true, same_levels}
+use Rattle.lk_claims.specs.Tests.{◌>>=◌, test, passes, found}
 use Rattle.lk_written.specs.Premises.{is_fine, as_sort, as_pi, as_const, local_above, Left, ends, next_claim, type_in, reduct_in, equal_in, typed, reduced, equal, to_sort, to_pi, sorted, is_prop_by}
 
 abbrev pub IfSome : {A : Type 0} → Option A → (A → Type 0) → Type 0

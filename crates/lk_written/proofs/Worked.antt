@@ -5,6 +5,8 @@ use Rattle.lk_tree.specs.Tree.{name_discrete, part_discrete, level_discrete, tre
 use native.Mathlib.Decide.{ℕ_discrete}
 use Rattle.lk_tree.specs.Bind.{bound, open_at}
 use Rattle.lk_tree.specs.Tree.{imax_level}
+use Rattle.lk_tree.specs.Operations.{add}
+use Rattle.lk_rulebook.specs.Names.{op_name}
 use Rattle.lk_rulebook.specs.Place.{opaque_hint}
 use Rattle.lk_rulebook.specs.Units.{as_axiom, as_def, of_decl, Library}
 use Rattle.lk_written.specs.Line.{ty, rd, cv, sort_rule, local_rule, lam_rule, pi_rule, same_rule, stay_rule, reduce_rule}
@@ -87,3 +89,24 @@ id_section = record {
 pub id_holds : section_holds id_alone 0 id_section ≡ true
 unfolding tree_discrete level_discrete name_discrete part_discrete list_discrete both_discrete ℕ_discrete bound open_at
 id_holds = refl
+
+-- a def of this name, Type := Prop, and its section without laws
+abbrev def_alone : Name → Library
+def_alone c = of_decl (record { name = c; levels = []; type = sort one; body = as_def opaque_hint prop }) ∷ []
+
+abbrev def_section : Section
+def_section = record { lines = ty sort_rule (sort one) (sort (succ_level one)) [] ∷ ty sort_rule prop (sort one) [] ∷ cv same_rule (sort one) (sort one) [] ∷ []; parts = 0 ∷ 1 ∷ 2 ∷ [] }
+
+pub def_holds : section_holds (def_alone a_name) 0 def_section ≡ true
+unfolding tree_discrete level_discrete name_discrete part_discrete list_discrete both_discrete ℕ_discrete bound open_at
+def_holds = refl
+
+-- one that is named as an operation with laws has to state them, and there is no Nat
+pub addition_does_not : section_holds (def_alone (op_name add)) 0 def_section ≡ false
+unfolding tree_discrete level_discrete name_discrete part_discrete list_discrete both_discrete ℕ_discrete bound open_at
+addition_does_not = refl
+
+-- the last line is at fault
+pub addition_at_fault : section_at_fault (def_alone (op_name add)) 0 def_section ≡ Some 3
+unfolding tree_discrete level_discrete name_discrete part_discrete list_discrete both_discrete ℕ_discrete bound open_at
+addition_at_fault = refl

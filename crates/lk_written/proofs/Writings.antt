@@ -2,13 +2,13 @@
 use Rattle.std.proofs.Common.{ℕ, zero, suc, ◌≡◌, ◌<◌, ◌≤◌, ◌^◌, Bool, true, false, ◌&&◌, nat_lt, nat_le, length, List, [], ◌∷◌, ◌++◌, Option, Some, None, refl, ◌∙◌, if◌then◌else◌, arith}
 use Rattle.std.specs.Prelude.{slice_get}
 use Rattle.std.proofs.lemmas.Bool.Decides.{nat_tests}
-use Rattle.lk_tree.specs.Tree.{Level, Tree, tree_discrete, var, sort, const, app, lam, pi, let_in, proj, lit, wide, str, local}
+use Rattle.lk_tree.specs.Tree.{Level, Tree, var, sort, const, app, lam, pi, let_in, proj, lit, wide, str, local}
 use Rattle.lk_tree.specs.Bind.{bound}
 use Rattle.lk_tree.specs.WellFormed.{IsWellFormed, IsWellFormedUnder}
 use Rattle.lk_tree.proofs.Scans.{and_true}
 use Rattle.lk_rulebook.specs.Place.{Place}
 use Rattle.lk_rulebook.specs.Formers.{IsFormer}
-use Rattle.lk_questions.specs.Steps.{decided, is_same_tree}
+use Rattle.lk_questions.specs.Steps.{is_same_tree}
 use Rattle.lk_claims.proofs.Pieces.{Some_inj}
 use Rattle.lk_claims.specs.Claims.{Claim, types, reduces, equals}
 use Rattle.lk_written.specs.Line.{TypingRule, ReductionRule, EqualityRule, Line, ty, rd, cv, claim_of}

@@ -1,13 +1,13 @@
 -- Lines of reduction, a test for each rule: a >> b.
-use Rattle.std.specs.Prelude.{ℕ, zero, suc, ◌+◌, ◌&&◌, not, nat_eq, nat_le, List, [], ◌∷◌, ◌++◌, length, take, drop, Option, Some, None, slice_get, if◌then◌else◌}
-use Rattle.lk_tree.specs.Tree.{Name, Level, Tree, const, app, lam, let_in, proj, lit, str}
+use Rattle.std.specs.Prelude.{ℕ, ◌+◌, ◌&&◌, not, nat_eq, nat_le, List, [], ◌∷◌, ◌++◌, length, take, drop, Option, Some, None, slice_get}
+use Rattle.lk_tree.specs.Tree.{Name, Level, Tree, const, app, lam, let_in, proj}
 use Rattle.lk_tree.specs.Bind.{opened}
 use Rattle.lk_tree.specs.Level.{is_zero_level}
 use Rattle.lk_tree.specs.Levels.{put_levels}
 use Rattle.lk_tree.specs.Spine.{apply, head, args}
 use Rattle.lk_tree.specs.Operations.{op_value}
 use Rattle.lk_rulebook.specs.Place.{Place, Entry, Kind, Block, BlockType, Ctor, Recursor, RecRule, a_ctor, a_rec}
-use Rattle.lk_rulebook.specs.Names.{named, nat_zero, nat_succ, quot_mk, quot_lift, quot_ind}
+use Rattle.lk_rulebook.specs.Names.{quot_mk, quot_lift, quot_ind}
 use Rattle.lk_tree.specs.Mentions.{same_name}
 use Rattle.lk_rulebook.specs.Structures.{is_structure_like, projections, before_major}
 use Rattle.lk_rulebook.specs.Literals.{may_give}
