@@ -1,0 +1,2 @@
+pub mod Yes
+pub mod Good
