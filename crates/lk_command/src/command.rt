@@ -3,7 +3,7 @@
 ghost use Rattle.std.specs.Prelude.{◌≡◌, IfOk, false, codes};
 ghost use Rattle.clap.specs.Words.{app_of, new_app, with_rule, with_subcommand};
 ghost use Rattle.clap.specs.declared.builder.command.Command.TheViews.{out-Command};
-ghost use Rattle.leancheck.specs.Command.{check, leancheck, make, option, required_option, trial, with_options, with_sample};
+ghost use Rattle.lk_command.specs.Command.{check, leancheck, make, option, required_option, trial, with_options, with_sample};
 
 use clap::{Arg, Command};
 use std::alloc::{AllocError, Global};
