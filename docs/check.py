@@ -1,9 +1,10 @@
 #!/usr/bin/env python3
 """Checks that the pages are true: their links lead somewhere, and each command with a stated output gives it.
 
-usage: docs/check.py [PROGRAM]
+usage: docs/check.py [PROGRAM | --write]
 
-Without PROGRAM only what needs none is checked. A command is a code span or a line of an indented block that begins with
+Without PROGRAM only what needs none is checked. That the gate has a test for each of these commands is checked by the
+table of crates/leancheck/src/page_tests.rt, which --write writes. A command is a code span or a line of an indented block that begins with
 `./leancheck`; its output is the block or the code span behind the word `prints`, and its status stands before that
 (`with status 1`). In a block of a shell session the lines behind `$ COMMAND` are its output. The status is 1 where
 anything differs.
@@ -17,6 +18,7 @@ TOP = os.path.dirname(os.path.dirname(os.path.abspath(__file__)))
 PAGES = ['README.md', 'examples/README.md', 'examples/malformed/README.md', 'hostile/README.md'] + sorted(
     f'docs/{name}' for name in os.listdir(f'{TOP}/docs') if name.endswith('.md'))
 WORDS_OF_README = 1300
+TESTS = 'crates/leancheck/src/page_tests.rt'
 wrong = []
 
 
@@ -104,49 +106,87 @@ def stated(text):
             yield line[2:], lines[at + 1:end], status
 
 
-def check_files(text, program):
-    """FORMAT's table of faulty files, and its file with a verdict."""
-    page = 'docs/FORMAT.md'
+def files_stated(text):
+    """(file, output, status) of FORMAT's table of faulty files, and of its file with a verdict."""
     rows = re.findall(r'^\| (`.*`)(, its last line twice)? \| (\d+) `(\w+)` \|$', text, re.M)
     for files, twice, line, word in rows:
         for file in re.findall(r'`([^`]*)`', files):
             lines = [part.strip() for part in file.split('/')]
             lines += lines[-1:] if twice else []
-            check_output(page, file, program, '\n'.join(lines) + '\n', f'bad line {line} {word}\n')
+            yield '\n'.join(lines) + '\n', f'bad line {line} {word}\n', 3
     blocks = re.findall(r'^```\n(.*?)^```$', text, re.M | re.S)
     for file, output in zip(blocks, blocks[1:]):
         if re.match(r'\d+ #', file) and re.match(r'(yes|no) ', output):
-            check_output(page, file, program, file, output)
-    print(f'{page}: {len(rows)} rows of faulty files')
+            yield file, output, 1 if 'no ' in output.split('\n')[0] else 0
 
 
-def check_output(page, what, program, file, output):
-    ran = subprocess.run([program, 'check'], input=file.encode(), capture_output=True)
-    if ran.stdout.decode() != output:
-        tell(page, f'{what!r} gives {ran.stdout.decode()!r}, not {output!r}')
+def rows_stated():
+    """(page, words, input, output, status) of all that the pages state, each once."""
+    found = []
+    for page in PAGES:
+        text = read(page)
+        for command, output, status in stated(text):
+            words, _, file = command[2:].partition(' < ')
+            found.append((page, words, read(file) if file else '', '\n'.join(output) + '\n', status or 0))
+        if page == 'docs/FORMAT.md':
+            found += [(page, 'leancheck check', *row) for row in files_stated(text)]
+    return [row for at, row in enumerate(found) if row[1:] not in [other[1:] for other in found[:at]]]
 
 
-def check_commands(page, text, program):
-    for command, output, status in stated(text):
-        ran = subprocess.run(command.replace('./leancheck', program, 1), shell=True, cwd=TOP, capture_output=True)
-        if ran.stdout.decode() != '\n'.join(output) + '\n':
-            tell(page, f'{command} prints {ran.stdout.decode()!r}')
-        if status is not None and ran.returncode != status:
-            tell(page, f'{command} ends with {ran.returncode}, not {status}')
-        print(f'{page}: {command}')
+def check_rows(program):
+    for page, words, file, output, status in rows_stated():
+        ran = subprocess.run([program, *words.split(' ')[1:]], input=file.encode(), capture_output=True)
+        if (ran.stdout.decode(), ran.returncode) != (output, status):
+            tell(page, f'{words} on {file!r} gives {ran.stdout.decode()!r}, {ran.returncode}')
+    print(f'{len(rows_stated())} commands and files')
+
+
+def literal(text):
+    """A byte string of Rust."""
+    shown = ''.join('\\n' if c == 10 else chr(c) if 32 <= c < 127 and chr(c) not in '"\\' else f'\\x{c:02x}'
+                    for c in text.encode())
+    return f'b"{shown}"'
+
+
+def tests():
+    """The table of tests by which the gate runs what the pages state."""
+    statuses = {0: 'AllYes', 1: 'SomeNo', 3: 'BadFile'}
+    rows = [f'    (\n        "{words}",\n        {literal(file)},\n        {literal(output)},\n        '
+            f'Status::{statuses[status]},\n    ),\n' for _, words, file, output, status in rows_stated()]
+    return f'''//! Rows: what the pages state of commands and files. `docs/check.py --write` writes this table.
+
+use crate::status::Status;
+use crate::tests::is_row;
+use std::test::Fail;
+
+// Words, input, output, status.
+const ROWS: [(&str, &[u8], &[u8], Status); {len(rows)}] = [
+{''.join(rows)}];
+
+#[test]
+fn rows_of_the_pages(rt: HostRuntime) -> Result<(), Fail> {{
+    let alloc = rt.alloc();
+    for (line, bytes, written, status) in ROWS {{
+        assert!(rt; is_row(&rt, alloc, line, bytes, written, status)?);
+    }}
+    Ok(())
+}}
+'''
 
 
 def main():
     if len(sys.argv) > 2:
         sys.exit(__doc__)
     for page in PAGES:
-        text = read(page)
-        check_links(page, text)
-        if len(sys.argv) == 2:
-            check_commands(page, text, os.path.abspath(sys.argv[1]))
-            if page == 'docs/FORMAT.md':
-                check_files(text, os.path.abspath(sys.argv[1]))
+        check_links(page, read(page))
     check_crates()
+    if sys.argv[1:] == ['--write']:
+        with open(f'{TOP}/{TESTS}', 'w', encoding='utf-8') as file:
+            file.write(tests())
+    elif len(sys.argv) == 2:
+        check_rows(os.path.abspath(sys.argv[1]))
+    if read(TESTS) != tests():
+        tell(TESTS, 'the table is not that of the pages: docs/check.py --write')
     words = len(read('README.md').split())
     if words > WORDS_OF_README:
         tell('README.md', f'{words} words, {WORDS_OF_README} at most')
