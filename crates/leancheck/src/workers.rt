@@ -12,8 +12,8 @@ ghost use Rattle.leancheck.specs.Drawn.{AreRight, numbers};
 ghost use Rattle.leancheck.specs.Workers.{IsDone, IsIdle, IsWorkerSeat, IsWhole};
 
 use crate::order::{UnitVerdict, blank, fill};
-use crate::words::Options;
 use crate::worker::{Done, Settings, WorkerSeat, work};
+use lk_command::Options;
 use lk_desk::{Desk, Seat};
 use lk_engine::{AnswerDesk, Share};
 use lk_env::library::Library;

@@ -1,9 +1,9 @@
 use Rattle.std.proofs.Common.{◌∙◌}
 use Rattle.clap.specs.Words.{app_of}
 use Rattle.clap.specs.declared.error.kind.ErrorKind.TheVariants.{OutOfMemory}
-use Rattle.leancheck.specs.Words.{texts_of}
-use Rattle.leancheck.proofs.WordLaws.{faultless, faulty, matching}
-use Rattle.leancheck.proofs.words.parse.Goals as goal
+use Rattle.lk_command.specs.Words.{texts_of}
+use Rattle.lk_command.proofs.WordLaws.{faultless, faulty, matching}
+use Rattle.lk_command.proofs.words.parse.Goals as goal
 
 pub returns-in-Ok-clause-no_fault : goal.returns-in-Ok-clause-no_fault
 returns-in-Ok-clause-no_fault c = faultless (app_of c.in_ok-command.field-0) (texts_of c.args.words.now) c.in_ok-command.ensures.app c.in-Ok.ensures.kinds

@@ -5,7 +5,7 @@ use Rattle.clap.specs.declared.parser.matches.ArgMatches.{ArgMatches}
 use Rattle.clap.specs.declared.error.kind.ErrorKind.{ErrorKind}
 use Rattle.clap.specs.Words.{App, HasMatchesOf, IsAmong, Text, fault_of, is_simple, is_simple_and_free, subcommand_of, subcommand_rows_of}
 use Rattle.clap.proofs.OnLiterals.{clap_on_literals}
-use Rattle.leancheck.specs.Command.{leancheck}
+use Rattle.lk_command.specs.Command.{leancheck}
 
 simple : is_simple leancheck ≡ true
 unfolding clap_on_literals

@@ -1,10 +1,10 @@
 use Rattle.std.proofs.Common.{codes}
 use Rattle.clap.specs.Words.{found_of, rows_of}
 use Rattle.clap.proofs.WalkLemmas.{first_value-rows}
-use Rattle.leancheck.proofs.WordLaws.{at_none}
-use Rattle.leancheck.specs.Words.{HasOptions}
-use Rattle.leancheck.specs.declared.words.Options.{Options}
-use Rattle.leancheck.proofs.words.options_of.Goals as goal
+use Rattle.lk_command.proofs.WordLaws.{at_none}
+use Rattle.lk_command.specs.Words.{HasOptions}
+use Rattle.lk_command.specs.declared.words.Options.{Options}
+use Rattle.lk_command.proofs.words.options_of.Goals as goal
 
 pub returns-in_err-workers-clause-none : goal.returns-in_err-workers-clause-none
 returns-in_err-workers-clause-none c = at_none _ ((x : Options) → HasOptions (rows_of (found_of c.args.matches.now)) x → ⊥) (λ x h. c.in_err-workers.ensures.none x.workers (rw (first_value-rows (found_of c.args.matches.now) (codes "workers")) h.workers))
