@@ -12,7 +12,7 @@ ghost use Rattle.lk_questions.specs.QuotientUnits.{is_eq_type, is_refl_type};
 ghost use Rattle.lk_store.specs.Contents.{Contents, name_at, tree_at};
 ghost use Rattle.lk_store.specs.Store.{contents_of};
 ghost use Rattle.lk_env.specs.Units.{type_at, IsTypeIn};
-ghost use Rattle.lk_env.specs.Entries.{plain_entry, IsEntryIn};
+ghost use Rattle.lk_env.specs.Entries.{IsEntryIn, library_entry};
 ghost use Rattle.lk_ask.specs.Looks.{entry_at, Made, MakesTree};
 ghost use Rattle.lk_quot.specs.Equality.{only_of, constructor_count, is_refl_part, are_eq_parts};
 ghost use Rattle.lk_quot.specs.Equality.{IsPartIn, ArePartsIn};
@@ -87,11 +87,10 @@ fn constructor_part(ty: &BlockType) -> Option<Part>
 
 /// What is read of an entry that may be `Eq`. There is none where it cannot be.
 fn parts_of<L: Lends>(library: &L, entry: Entry) -> Option<Parts>
-    requires { IsEntryIn (contents_of (L.lent library.now).0) entry }
-    ensures known { IfSome result (ArePartsIn (contents_of (L.lent library.now).0)) }
-    ensures is { (g : PlainEntry)
-        → plain_entry (contents_of (L.lent library.now).0) (L.lent library.now).1 entry ≡ Some g
-        → plain_is_eq g g.kind ≡ are_eq_parts (contents_of (L.lent library.now).0) result }
+    requires { IsEntryIn (contents_of (L.lent library.now).tables) entry }
+    ensures known { IfSome result (ArePartsIn (contents_of (L.lent library.now).tables)) }
+    ensures is { (g : PlainEntry) → library_entry (L.lent library.now) entry ≡ Some g
+        → plain_is_eq g g.kind ≡ are_eq_parts (contents_of (L.lent library.now).tables) result }
 {
     let level = only(levels_of(library, entry))?;
     let (block, ty) = type_of(library, entry)?;
@@ -195,7 +194,7 @@ fn are_eq<L: Looks>(looks: &mut L, parts: Parts) -> Result<bool, NoMemory>
 
 /// Whether an entry is `Eq` as it has to be.
 pub(crate) fn is_eq<L: Looks>(looks: &mut L, entry: Entry) -> Result<bool, NoMemory>
-    requires { IsEntryIn (contents_of (L.sight (L.rest looks.old)).basis.library.0) entry }
+    requires { IsEntryIn (contents_of (L.sight (L.rest looks.old)).basis.library.tables) entry }
     ensures made { Made L.contents L.rest looks.old looks.new }
     ensures ok { IfOk result (λ b. (g : PlainEntry)
         → entry_at (L.sight (L.rest looks.old)).basis entry ≡ Some g

@@ -4,7 +4,6 @@ use Rattle.lk_rulebook.specs.Quotients.{ctors_from}
 use Rattle.lk_store.specs.Contents.{name_at, tree_at}
 use Rattle.lk_store.specs.Store.{contents_of}
 use Rattle.lk_env.specs.Units.{block_at, type_at}
-use Rattle.lk_env.specs.Entries.{plain_entry}
 use Rattle.lk_env.proofs.Found.{of_some}
 use Rattle.lk_ask.proofs.Entries.{entry_type}
 use Rattle.std.specs.List.{sum_by}
@@ -16,12 +15,12 @@ use Rattle.lk_quot.proofs.equality.parts_of.Goals as goal
 pub returns-in_err-block-clause-is : goal.returns-in_err-block-clause-is
 returns-in_err-block-clause-is g c e h =
     no_type e e.kind (c.in_err-block.ensures.value e h)
-    ∙ sym (ap (are_eq_parts (contents_of (g.L.Lends.lent c.args.library.now).0))
+    ∙ sym (ap (are_eq_parts (contents_of (g.L.Lends.lent c.args.library.now).tables))
     c.from_residual-in_err-block.ensures)
 
 pub returns-in_err-constructor-clause-is : goal.returns-in_err-constructor-clause-is
 returns-in_err-constructor-clause-is g c e h =
-    let base = contents_of (g.L.Lends.lent c.args.library.now).0 in
+    let base = contents_of (g.L.Lends.lent c.args.library.now).tables in
     no_refl e (block_at base c.in_ok-block.block.now) (type_at base c.in_ok-block.ty.now) e.kind
     (c.in_ok-block.ensures.value e h) (c.in_err-constructor.ensures.is base)
     ∙ sym (ap (are_eq_parts base) c.from_residual-in_err-constructor.ensures)
@@ -29,7 +28,7 @@ returns-in_err-constructor-clause-is g c e h =
 pub returns-then-not-have_one_constructor-clause-is :
     goal.returns-then-not-have_one_constructor-clause-is
 returns-then-not-have_one_constructor-clause-is g c e h =
-    let base = contents_of (g.L.Lends.lent c.args.library.now).0 in
+    let base = contents_of (g.L.Lends.lent c.args.library.now).tables in
     let b = c.in_ok-block.block.now in
     let count : nat_eq (length (ctors_from (map (type_at base) b.types.items))) 1 ≡ false =
     ap (λ n. nat_eq n 1) (counted base b.types.items)
@@ -41,7 +40,7 @@ returns-then-not-have_one_constructor-clause-is g c e h =
 
 pub returns-clause-known : goal.returns-clause-known
 returns-clause-known g c =
-    let base = contents_of (g.L.Lends.lent c.args.library.now).0 in
+    let base = contents_of (g.L.Lends.lent c.args.library.now).tables in
     record {
       level_in = only_in (length base.names) c.levels_of.result.now c.in_ok-level.level.now
           c.levels_of.ensures.known c.in_ok-level.ensures;
@@ -51,8 +50,8 @@ returns-clause-known g c =
 
 pub returns-clause-is : goal.returns-clause-is
 returns-clause-is g c e h =
-    let base = contents_of (g.L.Lends.lent c.args.library.now).0 in
-    let us = (g.L.Lends.lent c.args.library.now).1 in
+    let base = contents_of (g.L.Lends.lent c.args.library.now).tables in
+    let us = (g.L.Lends.lent c.args.library.now).units in
     let b = c.in_ok-block.block.now in
     let u = c.in_ok-level.level.now in
     let count : nat_eq (length (ctors_from (map (type_at base) b.types.items))) 1 ≡ true =
