@@ -9,7 +9,7 @@ use Rattle.lk_store.specs.declared.tables.Tables.{Tables}
 use Rattle.lk_env.specs.Units.{library_at}
 use Rattle.lk_env.specs.declared.unit.Unit.{Unit as StoredUnit}
 use Rattle.lk_env.specs.StoredLibrary.{StoredLibrary}
-use Rattle.lk_members.specs.declared.line.Line.{Line as StoredLine}
+use Rattle.lk_members.specs.declared.line.StoredLine.{StoredLine}
 use Rattle.lk_members.specs.Faults.{first_open}
 use Rattle.lk_members.specs.Units.{units_of}
 use Rattle.lk_members.specs.Stored.{lines_of, unit_stated, AreLinesIn}

@@ -16,8 +16,8 @@ use Rattle.lk_tree.specs.declared.rule.Rule.TheVariants.{BlockShape, ParameterDi
 use Rattle.lk_tree.specs.declared.rule.Rule.TheVariants.{ConstructorResult, NotPositive}
 use Rattle.lk_tree.specs.declared.rule.Rule.TheVariants.{FieldUniverse, NestedForm, RecursorDiffers}
 use Rattle.lk_tree.specs.declared.rule.Rule.TheVariants.{NatLaw, AxiomNotAllowed}
-use Rattle.lk_text.specs.declared.counts.Kind.{Kind}
-use Rattle.lk_text.specs.declared.counts.Kind.TheVariants.{Yes, No, Memory}
+use Rattle.lk_text.specs.declared.counts.VerdictKind.{VerdictKind}
+use Rattle.lk_text.specs.declared.counts.VerdictKind.TheVariants.{Yes, No, Memory}
 use Rattle.lk_rulebook.specs.Units.{Body, as_axiom, as_def, as_thm, as_opaque, as_quot, LibraryUnit}
 use Rattle.lk_rulebook.specs.Units.{of_decl, of_block, Library, Members, members_of}
 use Rattle.lk_reach.specs.Computed.{axioms_of}
@@ -134,7 +134,7 @@ lines_text us n (u ∷ more) (v ∷ vs) =
     (axioms_text us (axioms_of us n) ++ lines_text us (n + 1) more vs)
 
 -- whether a verdict is of this kind
-abbrev pub is_of : Kind → Verdict → Bool
+abbrev pub is_of : VerdictKind → Verdict → Bool
 is_of Yes accepted = true
 is_of Yes (rejected r) = false
 is_of Yes out_of_steps = false
@@ -149,7 +149,7 @@ is_of Memory out_of_steps = false
 is_of Memory out_of_memory = true
 
 -- how many are of this kind
-abbrev pub count : Kind → List Verdict → ℕ
+abbrev pub count : VerdictKind → List Verdict → ℕ
 count k [] = 0
 count k (v ∷ vs) = if is_of k v then count k vs + 1 else count k vs
 
