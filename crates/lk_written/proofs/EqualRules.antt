@@ -66,31 +66,39 @@ value_there : (g : Entry) (v : Tree) → HasValue g v → value_of g.kind ≡ So
 value_there g v (of_def k) = rw k refl
 value_there g v (of_thm k) = rw k refl
 
+delta_passes : (w : Place) (c : Name) (ls : List Level) (g : IsGivenAt w c ls) (v : Tree) → HasValue g.entry v → passes (red_delta w [] (const c ls) (at_levels g v)) ≡ true
+unfolding head args
+delta_passes w c ls g v hv =
+    go_on (w.means c) g.entry _ g.given
+    (go_on (value_of g.entry.kind) v _ (value_there g.entry v hv) (go_test (nat_eq (length ls) (length g.entry.levels)) _ (are_equal (length ls) (length g.entry.levels) g.levels_are) (comes_itself (at_levels g v))))
+
 pub can_delta : (w : Place) (c : Name) (ls : List Level) (g : IsGivenAt w c ls) (v : Tree) → HasValue g.entry v → IsWellFormed (at_levels g v) → CanWrite w (reduces (const c ls) (at_levels g v))
 can_delta w c ls g v hv f =
     let s : IsShaped (reduces (const c ls) (at_levels g v)) = (tt, f, λ z. absurd z) in
-    record {
-      shaped = s;
-      written = λ ps. last_reduct w ps delta_rule (const c ls) (at_levels g v) [] s
-          (go_on (w.means c) g.entry _ g.given
-          (go_on (value_of g.entry.kind) v _ (value_there g.entry v hv) (go_test (nat_eq (length ls) (length g.entry.levels)) _ (are_equal (length ls) (length g.entry.levels) g.levels_are) (comes_itself (at_levels g v)))));
-    }
+    record { shaped = s; written = λ ps. last_reduct w ps delta_rule (const c ls) (at_levels g v) [] s (delta_passes w c ls g v hv) }
 
+-- where the two sides are one tree nothing is written, so the second reduction is of another tree than the first
 pub can_reduce : (w : Place) (a b a' b' : Tree) → CanWrite w (reduces a a') → CanWrite w (reduces b b') → CanWrite w (equals a' b') → CanWrite w (equals a b)
-can_reduce w a b a' b' ha hb hq =
-    let h : IsShaped (equals a b) = (ha.shaped.0, hb.shaped.0) in
-    let G : Claim = equals a b in
-    record {
-      shaped = h;
-      written = λ ps.
-          next w ps (reduces a a') G (ha.written ps) (λ p₁ k₁ i e.
-          next w p₁ (reduces b b') G (hb.written p₁) (λ p₂ k₂ j e₂.
-          next w p₂ (equals a' b') G (hq.written p₂) (λ qs k₃ m e₃.
-          last_equal w qs reduce_rule a b (i ∷ j ∷ m ∷ []) h
-          (go_on (reduced qs (i ∷ j ∷ m ∷ []) a) (a', j ∷ m ∷ []) _ (reduced_there qs i (j ∷ m ∷ []) a a' (k₃ i (reduces a a') (k₂ i (reduces a a') e)))
-          (go_on (reduced qs (j ∷ m ∷ []) b) (b', m ∷ []) _ (reduced_there qs j (m ∷ []) b b' (k₃ j (reduces b b') e₂))
-          (go_on (equal qs (m ∷ []) a' b') [] _ (equal_there qs m [] a' b' e₃) refl))))));
-    }
+can_reduce w a b a' b' ha hb hq = record { shaped = h; written = λ ps. go ps (is_same_tree a b) refl }
+  where
+    h : IsShaped (equals a b)
+    h = (ha.shaped.0, hb.shaped.0)
+
+    two : (t : is_same_tree a b ≡ false) → b ≡ a → b ≡ b'
+    two t e = absurd (differ a b t (sym e))
+
+    go : (ps : List Claim) (x : Bool) → is_same_tree a b ≡ x → IsWritten w ps (equals a b)
+    go ps true t = no_equality w ps a b (same_tree a b t)
+    go ps false t =
+        next w ps (reduces a a') (equals a b) (ha.written ps) (λ p₁ k₁ i e.
+        next w p₁ (reduces b b') (equals a b) (hb.written p₁) (λ p₂ k₂ j e₂.
+        next w p₂ (equals a' b') (equals a b) (hq.written p₂) (λ qs k₃ m e₃.
+        let last : Left = with_equal a' b' m [] in
+        let at : Stands qs j (reduces b b') = k₃ j (reduces b b') e₂ in
+        last_equal w qs reduce_rule a b (with_reduct a a' i (with_reduct b b' j last)) h
+        (go_reduced qs i (with_reduct b b' j last) a a' _ (k₃ i (reduces a a') (k₂ i (reduces a a') e)) (λ y. reduct_next qs j last a b b' (two t) at (equal_next qs m [] a a' b' e₃ refl))
+        (go_reduced qs j last b b' _ at (λ y. equal_next qs m [] b a' b' e₃ refl)
+        (go_equal qs m [] a' b' _ e₃ refl))))))
 
 pub can_sorts : (w : Place) (l m : Level) → is_true (level_test l m) ≡ true → CanWrite w (equals (sort l) (sort m))
 can_sorts w l m t = record { shaped = (tt, tt); written = λ ps. last_equal w ps sorts_rule (sort l) (sort m) [] (tt, tt) (pass_test (is_true (level_test l m)) t) }
@@ -101,6 +109,17 @@ can_consts w c ls ms t = record {
   written = λ ps. last_equal w ps consts_rule (const c ls) (const c ms) [] (tt, tt) (pass_test (same_name c c && same_levels ls ms) (and_true (same_name c c) (same_levels ls ms) (same_self_name c) t));
 }
 
+spine_there : (qs : List Claim) (i j : ℕ) (f g a b : Tree) → Stands qs i (equals f g) → Stands qs j (equals a b) → spines_equal qs (with_equal f g i (with_equal a b j [])) (app f a) (app g b) [] ≡ Some []
+spine_there qs i j f g a b h k =
+    go (equal qs (with_equal f g i (with_equal a b j [])) f g) (equal_there qs i (with_equal a b j []) f g h)
+  where
+    go : (o : Option Left) → o ≡ Some (with_equal a b j []) →
+        elim o as (λ z. Option Left) [ Some r ↦ pairs_equal qs r ((a, b) ∷ []) | None ↦ spines_equal qs (with_equal f g i (with_equal a b j [])) f g ((a, b) ∷ []) ] ≡ Some []
+    go (Some r) e =
+        let s : r ≡ with_equal a b j [] = Some_inj e in
+        subst (λ z. pairs_equal qs z ((a, b) ∷ []) ≡ Some []) (sym s) (some_on (equal qs (with_equal a b j []) a b) [] _ [] (equal_there qs j [] a b k) refl)
+    go None e = absurd cc
+
 pub can_apps : (w : Place) (f g a b : Tree) → IsNeutral f → IsNeutral g → CanWrite w (equals f g) → CanWrite w (equals a b) → CanWrite w (equals (app f a) (app g b))
 can_apps w f g a b nf ng hf ha =
     let h : IsShaped (equals (app f a) (app g b)) = ((hf.shaped.0, ha.shaped.0), (hf.shaped.1, ha.shaped.1)) in
@@ -110,19 +129,19 @@ can_apps w f g a b nf ng hf ha =
       written = λ ps.
           next w ps (equals f g) G (hf.written ps) (λ p₁ k₁ i e.
           next w p₁ (equals a b) G (ha.written p₁) (λ qs k₂ j e₂.
-          last_equal w qs apps_rule (app f a) (app g b) (i ∷ j ∷ []) h
+          let js : Left = with_equal f g i (with_equal a b j []) in
+          last_equal w qs apps_rule (app f a) (app g b) js h
           (go_test (is_neutral f && is_neutral g) _ (and_true (is_neutral f) (is_neutral g) (neutral_passes f nf) (neutral_passes g ng))
-          (go_on (equal qs (i ∷ j ∷ []) f g) (j ∷ []) _ (equal_there qs i (j ∷ []) f g (k₂ i (equals f g) e))
-          (go_on (equal qs (j ∷ []) a b) [] _ (equal_there qs j [] a b e₂) refl)))));
+          (go_on (spines_equal qs js (app f a) (app g b) []) [] _ (spine_there qs i j f g a b (k₂ i (equals f g) e) e₂) refl))));
     }
 
-bodies_pass : (qs : List Claim) (i j k m n : ℕ) (A b A' b' : Tree) → m ≤ k → n ≤ k → slice_get qs i ≡ Some (equals A A') → slice_get qs j ≡ Some (equals (opened b (local k A)) (opened b' (local k A))) →
-    passes (eq_bodies qs (i ∷ j ∷ []) (local k A) m n A b A' b') ≡ true
+bodies_pass : (qs : List Claim) (i j k m n : ℕ) (A b A' b' : Tree) → m ≤ k → n ≤ k → Stands qs i (equals A A') → Stands qs j (equals (opened b (local k A)) (opened b' (local k A))) →
+    passes (eq_bodies qs (with_equal A A' i (with_equal (opened b (local k A)) (opened b' (local k A)) j [])) (local k A) m n A b A' b') ≡ true
 bodies_pass qs i j k m n A b A' b' hm hn e f =
     go_on (local_above m A (local k A)) k _ (above_there m k A hm)
     (go_on (local_above n A (local k A)) k _ (above_there n k A hn)
-    (go_on (equal qs (i ∷ j ∷ []) A A') (j ∷ []) _ (equal_there qs i (j ∷ []) A A' e)
-    (go_on (equal qs (j ∷ []) (opened b (local k A)) (opened b' (local k A))) [] _ (equal_there qs j [] (opened b (local k A)) (opened b' (local k A)) f) refl)))
+    (go_equal qs i (with_equal (opened b (local k A)) (opened b' (local k A)) j []) A A' _ e
+    (go_equal qs j [] (opened b (local k A)) (opened b' (local k A)) _ f refl)))
 
 pub can_lams : (w : Place) (A A' b b' : Tree) (k : ℕ) → bound (lam A b) ≤ k → bound (lam A' b') ≤ k → CanWrite w (equals A A') → CanWrite w (equals (opened b (local k A)) (opened b' (local k A))) → CanWrite w (equals (lam A b) (lam A' b'))
 can_lams w A A' b b' k m n hA hb =
@@ -133,7 +152,7 @@ can_lams w A A' b b' k m n hA hb =
       written = λ ps.
           next w ps (equals A A') G (hA.written ps) (λ p₁ k₁ i e.
           next w p₁ (equals (opened b (local k A)) (opened b' (local k A))) G (hb.written p₁) (λ qs k₂ j e₂.
-          last_equal w qs (lams_rule (local k A)) (lam A b) (lam A' b') (i ∷ j ∷ []) h (bodies_pass qs i j k (bound (lam A b)) (bound (lam A' b')) A b A' b' m n (k₂ i (equals A A') e) e₂)));
+          last_equal w qs (lams_rule (local k A)) (lam A b) (lam A' b') (with_equal A A' i (with_equal (opened b (local k A)) (opened b' (local k A)) j [])) h (bodies_pass qs i j k (bound (lam A b)) (bound (lam A' b')) A b A' b' m n (k₂ i (equals A A') e) e₂)));
     }
 
 pub can_pis : (w : Place) (A A' b b' : Tree) (k : ℕ) → bound (pi A b) ≤ k → bound (pi A' b') ≤ k → CanWrite w (equals A A') → CanWrite w (equals (opened b (local k A)) (opened b' (local k A))) → CanWrite w (equals (pi A b) (pi A' b'))

@@ -14,7 +14,7 @@ use Rattle.lk_rulebook.specs.Place.{Place, Entry, Kind, Block, BlockType, Ctor, 
 use Rattle.lk_tree.specs.Mentions.{same_name}
 use Rattle.lk_rulebook.specs.Structures.{Projectable}
 use Rattle.lk_rulebook.specs.Rules.{HasType, Reduces, HasSort, IsProposition, t_proj, PastParameters, no_more, next, Field, FieldOf, here, past}
-use Rattle.lk_rulebook.proofs.Scopes.{well_formed_of_reduct}
+use Rattle.lk_rulebook.proofs.Scopes.{well_formed_of_type, well_formed_of_reduct}
 use Rattle.lk_rulebook.specs.WellStated.{WellStated, KindStated, CtorsStated}
 use Rattle.lk_claims.proofs.Pieces.{halves, equal_numbers, less_number, same_name_right}
 use Rattle.lk_claims.specs.Claims.{Claim, AllDerived}
@@ -122,7 +122,7 @@ pub proj_is : (w : Place) → WellStated w → (ps : List Claim) → AllDerived 
 proj_is w ok ps d js (proj S i s) A f =
     let G : Type 0 = HasType w (proj S i s) A in
     on_typed w ps d js s _ (λ u. G) (λ T₀ h₀.
-    on_reduced w ps d T₀.1 T₀.0 _ (λ u. G) (λ T hT.
+    on_reduced w ps d T₀.1 T₀.0 (well_formed_of_type h₀).1 _ (λ u. G) (λ T hT.
     on_const (head T.0) _ (λ u. G) (λ h eh.
     on_test (same_name h.0 S) _ (λ u. G) (λ n.
     on_some (w.means S) _ (λ u. G) (λ g m.

@@ -14,7 +14,7 @@ use Rattle.lk_questions.specs.Eta.{is_unit_like}
 use Rattle.lk_questions.specs.Same.{eta_long}
 use Rattle.lk_questions.specs.Strings.{expansion_of}
 use Rattle.lk_claims.specs.Claims.{Claim}
-use Rattle.lk_written.specs.Line.{EqualityRule, same_rule, reduce_rule, sorts_rule, consts_rule, apps_rule, projs_rule, lams_rule, pis_rule, eta_rule, struct_left_rule, struct_right_rule, unit_rule, proof_rule, zero_rule, succ_rule, str_left_rule, str_right_rule}
+use Rattle.lk_written.specs.Line.{EqualityRule, reduce_rule, sorts_rule, consts_rule, apps_rule, projs_rule, lams_rule, pis_rule, eta_rule, struct_left_rule, struct_right_rule, unit_rule, proof_rule, zero_rule, succ_rule, str_left_rule, str_right_rule}
 use Rattle.lk_claims.specs.Tests.{◌>>=◌, test, found, is_true, same_levels}
 use Rattle.lk_written.specs.Premises.{as_const, local_above, Left, ends, typed, reduced, equal, to_pi, is_prop_by}
 use Rattle.lk_written.specs.Typing.{comes_to, the_type}
@@ -31,9 +31,6 @@ is_neutral e = true
 abbrev pub is_head_normal : Tree → Bool
 is_head_normal (lam A b) = true
 is_head_normal e = is_neutral e
-
-abbrev pub eq_same : Left → Tree → Tree → Option (Unit {0})
-eq_same js a b = comes_to b a js
 
 -- a >> a', b >> b', a' == b'
 abbrev pub eq_reduce : List Claim → Left → Tree → Tree → Option (Unit {0})
@@ -55,14 +52,28 @@ eq_consts js (const c ls) (const d ms) = do
   test (same_name d c && same_levels ls ms)
 eq_consts js _ _ = None
 
--- f == g, a == b
+-- x == y for each pair
+abbrev pub pairs_equal : List Claim → Left → List (Tree × Tree) → Option Left
+pairs_equal ps js [] = Some js
+pairs_equal ps js (p ∷ more) = do
+  r ← equal ps js p.0 p.1
+  pairs_equal ps r more
+
+-- a is f x1 .. xn and b is g y1 .. yn, n the least from 1 on where f and g are one tree or the next
+-- premise states f == g; then xi == yi. more: the pairs of arguments that a and b are applied to
+abbrev pub spines_equal : List Claim → Left → Tree → Tree → List (Tree × Tree) → Option Left
+spines_equal ps js (app f x) (app g y) more =
+    elim (equal ps js f g) [
+      | Some r ↦ pairs_equal ps r ((x, y) ∷ more)
+      | None ↦ spines_equal ps js f g ((x, y) ∷ more)
+    ]
+spines_equal ps js _ _ more = None
+
 abbrev pub eq_apps : List Claim → Left → Tree → Tree → Option (Unit {0})
-eq_apps ps js (app f a) (app g b) = do
-  u ← test (is_neutral f && is_neutral g)
-  r ← equal ps js f g
-  s ← equal ps r a b
-  ends s
-eq_apps ps js _ _ = None
+eq_apps ps js a b = do
+  u ← test (is_neutral a && is_neutral b)
+  r ← spines_equal ps js a b []
+  ends r
 
 -- A == A', b[x] == b'[x]
 abbrev pub eq_bodies : List Claim → Left → Tree → ℕ → ℕ → Tree → Tree → Tree → Tree → Option (Unit {0})
@@ -184,7 +195,6 @@ eq_str_right w ps js a (str s) = do
 eq_str_right w ps js a _ = None
 
 abbrev pub eq_test : Place → List Claim → EqualityRule → Tree → Tree → Left → Option (Unit {0})
-eq_test w ps same_rule a b js = eq_same js a b
 eq_test w ps reduce_rule a b js = eq_reduce ps js a b
 eq_test w ps sorts_rule a b js = eq_sorts js a b
 eq_test w ps consts_rule a b js = eq_consts js a b

@@ -1,6 +1,6 @@
 -- Lines of typing, a test for each rule: e => T.
 use Rattle.std.specs.Prelude.{ℕ, zero, suc, ◌+◌, Bool, true, false, ◌&&◌, nat_eq, nat_lt, List, [], ◌∷◌, length, Option, Some, None}
-use Rattle.lk_tree.specs.Tree.{Name, succ_level, imax_level, Tree, sort, const, app, lam, pi, let_in, proj, lit, str, local}
+use Rattle.lk_tree.specs.Tree.{Name, succ_level, imax_level, Tree, sort, const, lam, pi, let_in, proj, lit, str, local}
 use Rattle.lk_tree.specs.Bind.{opened, bound, has_var}
 use Rattle.lk_tree.specs.Level.{is_zero_level}
 use Rattle.lk_tree.specs.Levels.{put_levels}
@@ -13,7 +13,7 @@ use Rattle.lk_questions.specs.Shapes.{nat_shape, string_shape}
 use Rattle.lk_claims.specs.Claims.{Claim}
 use Rattle.lk_written.specs.Line.{TypingRule, sort_rule, local_rule, const_rule, app_rule, let_rule, lit_rule, str_rule, proj_rule, lam_rule, pi_rule}
 use Rattle.lk_claims.specs.Tests.{◌>>=◌, test, found}
-use Rattle.lk_written.specs.Premises.{as_const, local_above, Left, ends, typed, reduced, equal, to_pi, sorted, is_prop_by}
+use Rattle.lk_written.specs.Premises.{as_const, local_above, Left, ends, typing, typed, reduced, equal, to_pi, sorted, is_prop_by, arguments_over}
 
 -- T is this tree, and no premise is left
 abbrev pub comes_to : Tree → Tree → Left → Option (Unit {0})
@@ -36,15 +36,22 @@ type_const w js (const c ls) T = do
   comes_to T (put_levels g.levels ls g.type) js
 type_const w js _ T = None
 
--- f => F, F >> Pi A B, a => A', A' == A
+-- for each x: F >> Pi A B, x => X, X == A; then F is B[x]
+abbrev pub applied_type : List Claim → Left → Tree → List Tree → Option (Tree × Left)
+applied_type ps js F [] = Some (F, js)
+applied_type ps js F (x ∷ xs) = do
+  p ← to_pi ps js F
+  X ← typed ps p.1 x
+  r ← equal ps X.1 X.0 p.0.0
+  applied_type ps r (opened p.0.1 x) xs
+
+-- f => F; e is f x1 .. xn
 abbrev pub type_app : List Claim → Left → Tree → Tree → Option (Unit {0})
-type_app ps js (app f a) T = do
-  F ← typed ps js f
-  p ← to_pi ps F.1 F.0
-  A ← typed ps p.1 a
-  r ← equal ps A.1 A.0 p.0.0
-  comes_to T (opened p.0.1 a) r
-type_app ps js _ T = None
+type_app ps js e T = do
+  f ← typing ps js
+  xs ← arguments_over f.left e []
+  F ← applied_type ps f.after f.right xs
+  comes_to T F.0 F.1
 
 -- sort A = l, b[x] => B[x]
 abbrev pub type_body : List Claim → Left → Tree → Tree → Tree → Tree → Option (Unit {0})

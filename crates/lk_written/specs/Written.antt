@@ -1,6 +1,7 @@
--- What it is for a claim to be written: lines after any others that hold, one of which states it. Nothing is said of the place:
--- a line of an operation on numbers does not ask for its laws.
-use Rattle.std.specs.Prelude.{ℕ, ◌≡◌, true, nat_eq, length, List, [], ◌∷◌, Option, Some, None, slice_get}
+-- What it is for a claim to be written: lines after any others that hold, one of which states it,
+-- where it is not of one tree. Nothing is said of the place: a line of an operation on numbers does
+-- not ask for its laws.
+use Rattle.std.specs.Prelude.{ℕ, ◌≡◌, ◌⊎◌, true, nat_eq, length, List, [], ◌∷◌, Option, Some, None, slice_get}
 use Rattle.lk_rulebook.specs.Place.{Place}
 use Rattle.lk_tree.specs.Tree.{Name, Level, Tree, sort}
 use Rattle.lk_tree.specs.Operations.{Op}
@@ -19,14 +20,20 @@ use Rattle.lk_written.specs.Section.{claims_by}
 abbrev pub Keeps : List Claim → List Claim → Type 0
 Keeps ps qs = (i : ℕ) (c : Claim) → slice_get ps i ≡ Some c → slice_get qs i ≡ Some c
 
--- lines that hold after ps, and state c
+-- line number j states c, or c says of one tree that it reduces to itself, or equals itself
+abbrev pub Stands : List Claim → ℕ → Claim → Type 0
+Stands ps j (types e T) = slice_get ps j ≡ Some (types e T)
+Stands ps j (reduces a b) = (a ≡ b) ⊎ (slice_get ps j ≡ Some (reduces a b))
+Stands ps j (equals a b) = (a ≡ b) ⊎ (slice_get ps j ≡ Some (equals a b))
+
+-- lines that hold after ps, by which c stands
 pub record IsWritten (w : Place) (ps : List Claim) (c : Claim) : Type 0 where
   pub lines : List Line
   pub claims : List Claim
   pub holds : claims_by w ps lines ≡ Some claims
   pub keeps : Keeps ps claims
   pub place : ℕ
-  pub stated : slice_get claims place ≡ Some c
+  pub stands : Stands claims place c
 
 -- c can be written after any lines
 pub record CanWrite (w : Place) (c : Claim) : Type 0 where
