@@ -1,7 +1,7 @@
 -- What can be written follows the rules.
 use Rattle.lk_tree.specs.Tree.{Level, Tree}
 use Rattle.lk_rulebook.specs.Place.{Place}
-use Rattle.lk_written.specs.Written.{CanWrite, CanSort}
+use Rattle.lk_written.specs.Written.{CanWrite, CanSort, KeepsNumerals}
 use Rattle.lk_claims.specs.Follows.{Sorts, FollowsTypes, FollowsReductions, FollowsEqualities}
 use Rattle.lk_written.proofs.OperationRule.{can_operation}
 use Rattle.lk_written.proofs.ProjRule.{can_proj}
@@ -29,8 +29,8 @@ types_follow w = record {
   projs = λ S i s T₀ T F l hs hT less hS a b. can_proj w S i s T₀ T F l hs hT less (in_two w _ l hS) a b;
 }
 
-pub reductions_follow : (w : Place) → FollowsReductions w (CanWrite w)
-reductions_follow w = record {
+pub reductions_follow : (w : Place) → KeepsNumerals w → FollowsReductions w (CanWrite w)
+reductions_follow w kept = record {
   stay = λ a f. can_stay w a f;
   chain = λ a b c h g. can_chain w a b c h g;
   head = λ f g a h fa. can_head w f g a h fa;
@@ -44,7 +44,7 @@ reductions_follow w = record {
   ind = λ ls ks A r B h m A' r' a i im ff hm. can_ind w ls ks A r B h m A' r' a i im ff hm;
   k = λ R k e T₀ D he hT hD hq. can_k w R k e T₀ D he hT hD hq;
   struct = λ R S m T₀ l o hm hT hS z. can_expand w R S m T₀ l o hm hT (in_two w _ l hS) z;
-  operation = λ op es ns r i hn s h hr t. can_operation w op es ns r i hn s h hr t;
+  operation = λ op es ns r i hn s h hr t. can_operation w kept op es ns r i hn s h hr t;
 }
 
 pub equalities_follow : (w : Place) → FollowsEqualities w (CanWrite w)

@@ -1,28 +1,30 @@
 -- What rules of conversion and the unfolding of constants state can be written.
-use Rattle.std.proofs.Common.{ℕ, ◌≡◌, ◌≤◌, Bool, true, ◌&&◌, nat_eq, length, List, [], ◌∷◌, Some, refl, arith}
+use Rattle.std.proofs.Common.{ℕ, ◌≡◌, ◌≤◌, Bool, true, false, ◌&&◌, nat_eq, length, List, [], ◌∷◌, Option, Some, None, refl, sym, subst, arith}
 use Rattle.std.specs.Prelude.{slice_get}
 use Rattle.std.proofs.lemmas.Bool.Decides.{nat_tests}
 use Rattle.lk_tree.specs.Tree.{Name, name_discrete, Level, Tree, var, sort, const, app, lam, pi, let_in, proj, lit, wide, str, local}
 use Rattle.lk_tree.specs.Bind.{opened, bound}
 use Rattle.lk_tree.specs.Level.{is_zero_level}
 use Rattle.lk_tree.specs.LevelTest.{level_test}
-use Rattle.lk_tree.specs.Spine.{IsNeutral, IsHeadNormal}
+use Rattle.lk_tree.specs.Spine.{head, args, IsNeutral, IsHeadNormal}
 use Rattle.lk_tree.specs.WellFormed.{IsWellFormed}
 use Rattle.lk_tree.proofs.Scans.{and_true}
 use Rattle.lk_tree.proofs.Binding.{fine_from_open}
 use Rattle.lk_rulebook.specs.Place.{Place, Entry}
 use Rattle.lk_tree.specs.Mentions.{same_name}
 use Rattle.lk_rulebook.specs.Rules.{HasValue, of_def, of_thm, IsGivenAt, at_levels}
-use Rattle.lk_questions.specs.Steps.{value_of}
+use Rattle.lk_questions.specs.Steps.{is_same_tree, value_of}
 use Rattle.lk_claims.specs.Claims.{Claim, types, reduces, equals}
 use Rattle.lk_written.specs.Line.{delta_rule, reduce_rule, sorts_rule, consts_rule, apps_rule, lams_rule, pis_rule, projs_rule, proof_rule}
 use Rattle.lk_claims.specs.Tests.{passes, is_true, same_levels}
-use Rattle.lk_written.specs.Premises.{Left, local_above, typed, reduced, equal, sorted, is_prop_by}
-use Rattle.lk_written.specs.Equal.{is_neutral, is_head_normal, eq_bodies}
+use Rattle.lk_written.specs.Premises.{Left, local_above, equal, sorted, is_prop_by}
+use Rattle.lk_written.specs.Reducing.{red_delta}
+use Rattle.lk_written.specs.Equal.{is_neutral, is_head_normal, pairs_equal, spines_equal, eq_bodies}
 use Rattle.lk_claims.specs.Claims.{IsShaped}
-use Rattle.lk_written.specs.Written.{CanWrite, CanSort}
-use Rattle.lk_claims.proofs.Facts.{pass_test}
-use Rattle.lk_written.proofs.Writings.{next, last_reduct, last_equal, go_on, go_test, comes_itself, with_sort, typed_there, reduced_there, equal_there, sorted_there, above_there}
+use Rattle.lk_written.specs.Written.{Stands, IsWritten, CanWrite, CanSort}
+use Rattle.lk_claims.proofs.Facts.{pass_test, some_on}
+use Rattle.lk_claims.proofs.Pieces.{Some_inj, same_tree}
+use Rattle.lk_written.proofs.Writings.{next, no_equality, last_reduct, last_equal, go_on, go_test, comes_itself, differ, with_reduct, with_equal, equal_there, sorted_there, above_there, typed_next, equal_next, reduct_next, go_typed, go_reduced, go_equal}
 
 pub same_self_name : (c : Name) → same_name c c ≡ true
 same_self_name c = go (name_discrete c c)
@@ -164,7 +166,7 @@ can_pis w A A' b b' k m n hA hb =
       written = λ ps.
           next w ps (equals A A') G (hA.written ps) (λ p₁ k₁ i e.
           next w p₁ (equals (opened b (local k A)) (opened b' (local k A))) G (hb.written p₁) (λ qs k₂ j e₂.
-          last_equal w qs (pis_rule (local k A)) (pi A b) (pi A' b') (i ∷ j ∷ []) h (bodies_pass qs i j k (bound (pi A b)) (bound (pi A' b')) A b A' b' m n (k₂ i (equals A A') e) e₂)));
+          last_equal w qs (pis_rule (local k A)) (pi A b) (pi A' b') (with_equal A A' i (with_equal (opened b (local k A)) (opened b' (local k A)) j [])) h (bodies_pass qs i j k (bound (pi A b)) (bound (pi A' b')) A b A' b' m n (k₂ i (equals A A') e) e₂)));
     }
 
 pub can_projs : (w : Place) (S : Name) (n : ℕ) (s t : Tree) → CanWrite w (equals s t) → CanWrite w (equals (proj S n s) (proj S n t))
@@ -174,9 +176,9 @@ can_projs w S n s t hs =
       shaped = h;
       written = λ ps.
           next w ps (equals s t) (equals (proj S n s) (proj S n t)) (hs.written ps) (λ qs k i e.
-          last_equal w qs projs_rule (proj S n s) (proj S n t) (i ∷ []) h
+          last_equal w qs projs_rule (proj S n s) (proj S n t) (with_equal s t i []) h
           (go_test (same_name S S && nat_eq n n) _ (and_true (same_name S S) (nat_eq n n) (same_self_name S) (are_equal n n refl))
-          (go_on (equal qs (i ∷ []) s t) [] _ (equal_there qs i [] s t e) refl)));
+          (go_equal qs i [] s t _ e refl)));
     }
 
 -- a => A, A is a proposition, b => B, A == B
@@ -193,14 +195,16 @@ can_proof w a b A B l na nb ha hA z hb hq =
           next w p₂ (reduces S (sort l)) G (hA.reduced.written p₂) (λ p₃ k₃ s e₃.
           next w p₃ (types b B) G (hb.written p₃) (λ p₄ k₄ t e₄.
           next w p₄ (equals A B) G (hq.written p₄) (λ qs k₅ u e₅.
-          last_equal w qs proof_rule a b (i ∷ j ∷ with_sort S s (t ∷ u ∷ [])) h
+          let last : Left = with_equal A B u [] in
+          let more : Left = j ∷ with_reduct S (sort l) s (t ∷ last) in
+          let at : slice_get qs t ≡ Some (types b B) = k₅ t (types b B) e₄ in
+          last_equal w qs proof_rule a b (i ∷ more) h
           (go_test (is_head_normal a && is_head_normal b) _ (and_true (is_head_normal a) (is_head_normal b) (normal_passes a na) (normal_passes b nb))
-          (go_on (typed qs (i ∷ j ∷ with_sort S s (t ∷ u ∷ [])) a) (A, j ∷ with_sort S s (t ∷ u ∷ [])) _
-          (typed_there qs i (j ∷ with_sort S s (t ∷ u ∷ [])) a A (k₅ i (types a A) (k₄ i (types a A) (k₃ i (types a A) (k₂ i (types a A) e)))))
-          (go_on (is_prop_by qs (j ∷ with_sort S s (t ∷ u ∷ [])) A) (t ∷ u ∷ []) _
-          (prop_there qs (j ∷ with_sort S s (t ∷ u ∷ [])) (t ∷ u ∷ []) A l (sorted_there qs j s (t ∷ u ∷ []) A S l hA.reduced.shaped.2 (k₅ j (types A S) (k₄ j (types A S) (k₃ j (types A S) e₂))) (k₅ s (reduces S (sort l)) (k₄ s (reduces S (sort l)) e₃))) z)
-          (go_on (typed qs (t ∷ u ∷ []) b) (B, u ∷ []) _ (typed_there qs t (u ∷ []) b B (k₅ t (types b B) e₄))
-          (go_on (equal qs (u ∷ []) A B) [] _ (equal_there qs u [] A B e₅) refl))))))))));
+          (go_typed qs i more a A _ (k₅ i (types a A) (k₄ i (types a A) (k₃ i (types a A) (k₂ i (types a A) e))))
+          (go_on (is_prop_by qs more A) (t ∷ last) _
+          (prop_there qs more (t ∷ last) A l (sorted_there qs j s (t ∷ last) A S l (k₅ j (types A S) (k₄ j (types A S) (k₃ j (types A S) e₂))) (k₅ s (reduces S (sort l)) (k₄ s (reduces S (sort l)) e₃)) (λ y. typed_next qs t last S b B at)) z)
+          (go_typed qs t last b B _ at
+          (go_equal qs u [] A B _ e₅ refl))))))))));
     }
   where
     prop_there : (qs : List Claim) (js rest : Left) (A : Tree) (l : Level) → sorted qs js A ≡ Some (l, rest) → is_zero_level l ≡ true → is_prop_by qs js A ≡ Some rest

@@ -20,3 +20,4 @@ pub mod StructureRules
 pub mod ProjRule
 pub mod OperationRule
 pub mod Faults
+pub mod Numerals

@@ -39,8 +39,8 @@ chain_is w ps d js a b =
     on_test (is_same_tree c.left a && is_same_tree e.left c.right) _ Q (λ t.
     let x : (is_same_tree c.left a ≡ true) × (is_same_tree e.left c.right ≡ true) = halves (is_same_tree c.left a) (is_same_tree e.left c.right) t in
     let first : Reduces w a c.right = subst (λ z. Reduces w z c.right) (same_tree c.left a x.0) hc in
-    let then : Reduces w c.right e.right = subst (λ z. Reduces w z e.right) (same_tree e.left c.right x.1) he in
-    comes_right b e.right e.after (λ b. Reduces w a b) (r_trans first then))))
+    let second : Reduces w c.right e.right = subst (λ z. Reduces w z e.right) (same_tree e.left c.right x.1) he in
+    comes_right b e.right e.after (λ b. Reduces w a b) (r_trans first second))))
 
 -- a step of the head goes on under arguments
 pub under : (w : Place) (f g : Tree) (xs : List Tree) → AllWellFormed xs → Reduces w f g → Reduces w (apply f xs) (apply g xs)

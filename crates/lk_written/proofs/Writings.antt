@@ -155,7 +155,7 @@ with_reduct a b j js = if is_same_tree a b then js else j ∷ js
 abbrev pub with_equal : Tree → Tree → ℕ → Left → Left
 with_equal a b j js = if is_same_tree a b then js else j ∷ js
 
-differ : (a b : Tree) → is_same_tree a b ≡ false → a ≡ b → ⊥
+pub differ : (a b : Tree) → is_same_tree a b ≡ false → a ≡ b → ⊥
 differ a b f e = let t : is_same_tree a b ≡ true = subst (λ z. is_same_tree a z ≡ true) e (same_self a) in absurd cc
 
 -- no reduction of e is next

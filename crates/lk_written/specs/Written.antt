@@ -2,7 +2,10 @@
 -- where it is not of one tree. Nothing is said of the place: a line of an operation on numbers does
 -- not ask for its laws.
 use Rattle.std.specs.Prelude.{ℕ, ◌≡◌, ◌⊎◌, true, nat_eq, length, List, [], ◌∷◌, Option, Some, None, slice_get}
-use Rattle.lk_rulebook.specs.Place.{Place}
+use Rattle.lk_rulebook.specs.Place.{Place, Entry}
+use Rattle.lk_rulebook.specs.Names.{nat_zero}
+use Rattle.lk_rulebook.specs.Shapes.{HasNat}
+use Rattle.lk_rulebook.specs.Rules.{HasValue}
 use Rattle.lk_tree.specs.Tree.{Name, Level, Tree, sort}
 use Rattle.lk_tree.specs.Operations.{Op}
 use Rattle.lk_rulebook.specs.NumberLaws.{Law, laws_of, stated_by}
@@ -39,6 +42,11 @@ pub record IsWritten (w : Place) (ps : List Claim) (c : Claim) : Type 0 where
 pub record CanWrite (w : Place) (c : Claim) : Type 0 where
   pub shaped : IsShaped c
   pub written : (ps : List Claim) → IsWritten w ps c
+
+-- where Nat has its shape, Nat.zero has no value: so a numeral reduces to itself alone, and a
+-- reduction that an operation on numbers names is not one of an argument that is a numeral already
+abbrev pub KeepsNumerals : Place → Type 0
+KeepsNumerals w = HasNat w → (g : Entry) (v : Tree) → w.means nat_zero ≡ Some g → HasValue g v → ⊥
 
 -- sort A = l, in two claims
 pub record CanSort (w : Place) (A : Tree) (l : Level) : Type 0 where
