@@ -7,8 +7,11 @@ ghost use Rattle.std.specs.Prelude.{ℕ, List, false};
 ghost use Rattle.lk_tree.specs.Tree.{Name, Level, zero_level, Tree, sort};
 ghost use Rattle.lk_tree.specs.WellFormed.{IsWellFormed};
 ghost use Rattle.lk_rulebook.specs.Place.{Place, Ctor};
-ghost use Rattle.lk_rulebook.specs.Rules.{HasType, HasSort, IsProposition, Reduces, IsDefEq, IsNotProp, AllProject, PastParameters, Field, FieldOf};
-ghost use Rattle.lk_declarative.specs.Declared.{IsDeclared, Converts, MayExpand, EachProjects, AfterParameters, FieldDomain};
+ghost use Rattle.lk_rulebook.specs.Rules.{HasType, HasSort, IsProposition, Reduces, IsDefEq};
+ghost use Rattle.lk_rulebook.specs.Rules.{IsNotProposition, ProjectionsEqual};
+ghost use Rattle.lk_rulebook.specs.Rules.{IsTypeAfterParameters, Field, IsFieldType};
+ghost use Rattle.lk_declarative.specs.Declared.{IsDeclared, Converts, MayExpand, EachProjects};
+ghost use Rattle.lk_declarative.specs.Declared.{AfterParameters, FieldDomain};
 ghost use Rattle.lk_declarative.specs.Falsehood.{truth, simple_proof, falsehood};
 ghost use Rattle.lk_declarative.specs.Guarded.{GuardedType, IdealType, IdealEquals};
 ghost use Rattle.lk_declarative.specs.Expected.{Expected, LawfulLocals};
@@ -32,12 +35,13 @@ pub fn derivations_are_declared()
         → IsDeclared w A (sort zero_level) }
     ensures reducts { (w : Place) (a b : Tree) → Reduces w a b → Converts w a b }
     ensures equals { (w : Place) (a b : Tree) → IsDefEq w a b → Converts w a b }
-    ensures no_propositions { (w : Place) (c : Ctor) (T : Tree) → IsNotProp w T → MayExpand w c T }
+    ensures no_propositions { (w : Place) (c : Ctor) (T : Tree) → IsNotProposition w T
+        → MayExpand w c T }
     ensures projections { (w : Place) (J : Name) (a : Tree) (j : ℕ) (xs : List Tree)
-        → AllProject w J a j xs → EachProjects w J a j xs }
+        → ProjectionsEqual w J a j xs → EachProjects w J a j xs }
     ensures parameters { (w : Place) (T : Tree) (n : ℕ) (bs : List Tree) (r : Tree)
-        → PastParameters w T n bs r → AfterParameters w T n bs r }
-    ensures fields { (w : Place) (f : Field) (A : Tree) (j : ℕ) (r : Tree) → FieldOf w f A j r
+        → IsTypeAfterParameters w T n bs r → AfterParameters w T n bs r }
+    ensures fields { (w : Place) (f : Field) (A : Tree) (j : ℕ) (r : Tree) → IsFieldType w f A j r
         → FieldDomain w f A j r }
 {}
 

@@ -51,6 +51,7 @@ fn word_of(rule: Rule) -> &'static [u8]
         Rule::NestedForm => b"NestedForm",
         Rule::RecursorDiffers => b"RecursorDiffers",
         Rule::NatLaw => b"NatLaw",
+        Rule::AxiomNotAllowed => b"AxiomNotAllowed",
     }
 }
 

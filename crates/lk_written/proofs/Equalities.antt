@@ -12,7 +12,7 @@ use Rattle.lk_rulebook.specs.Names.{named, nat_zero, nat_succ}
 use Rattle.lk_rulebook.specs.Literals.{expansion, Expands}
 use Rattle.lk_tree.specs.Mentions.{same_name}
 use Rattle.lk_rulebook.specs.Structures.{is_structure_like, Structure, StructureAt, UnitLike}
-use Rattle.lk_rulebook.specs.Rules.{HasType, Reduces, IsProposition, IsDefEq, e_refl, e_reduce, e_sort, e_const, e_app, e_lam, e_pi, e_proj, e_eta_left, e_eta_right, e_struct_left, e_struct_right, IsByFields, by_fields, e_unit, e_proof, e_zero_left, e_zero_right, e_succ_left, e_succ_right, e_str_left, e_str_right, AllProject, no_more_fields, project}
+use Rattle.lk_rulebook.specs.Rules.{HasType, Reduces, IsProposition, IsDefEq, e_refl, e_reduce, e_sort, e_const, e_app, e_lam, e_pi, e_proj, e_eta_left, e_eta_right, e_struct_left, e_struct_right, IsByFields, by_fields, e_unit, e_proof, e_zero_left, e_zero_right, e_succ_left, e_succ_right, e_str_left, e_str_right, ProjectionsEqual, no_more_fields, project}
 use Rattle.lk_tree.proofs.Binding.{fine_more}
 use Rattle.lk_rulebook.proofs.Scopes.{well_formed_of_type, well_formed_of_reduct}
 use Rattle.lk_rulebook.proofs.Texts.{expansion_fine}
@@ -140,11 +140,11 @@ bodies_are w ps d js x m n A b A' b' G fA fb le f =
     if_none_left s G (f k hm (rw (← same) hn) p q)))))
 
 pub lams_is : (w : Place) (ps : List Claim) → AllDerived w ps → (js : Left) (x a b : Tree) → IsWellFormed a → IfSome (eq_lams ps js x a b) (λ u. IsDefEq w a b)
-lams_is w ps d js x (lam A b) (lam A' b') fa = bodies_are w ps d js x (bound (lam A b)) (bound (lam A' b')) A b A' b' (IsDefEq w (lam A b) (lam A' b')) fa.0 fa.1 (bound_left A b (bound (lam A b)) (omega arith)) (λ k m n p q. e_lam {k = k} m n p q)
+lams_is w ps d js x (lam A b) (lam A' b') fa = bodies_are w ps d js x (bound (lam A b)) (bound (lam A' b')) A b A' b' (IsDefEq w (lam A b) (lam A' b')) fa.0 fa.1 (bound_left A b (bound (lam A b)) (omega arith)) (λ k m n p q. e_lam {k = k} (m, (n, tt)) p q)
 lams_is w ps d js x _ _ fa = tt
 
 pub pis_is : (w : Place) (ps : List Claim) → AllDerived w ps → (js : Left) (x a b : Tree) → IsWellFormed a → IfSome (eq_pis ps js x a b) (λ u. IsDefEq w a b)
-pis_is w ps d js x (pi A b) (pi A' b') fa = bodies_are w ps d js x (bound (pi A b)) (bound (pi A' b')) A b A' b' (IsDefEq w (pi A b) (pi A' b')) fa.0 fa.1 (pi_bound_left A b (bound (pi A b)) (omega arith)) (λ k m n p q. e_pi {k = k} m n p q)
+pis_is w ps d js x (pi A b) (pi A' b') fa = bodies_are w ps d js x (bound (pi A b)) (bound (pi A' b')) A b A' b' (IsDefEq w (pi A b) (pi A' b')) fa.0 fa.1 (pi_bound_left A b (bound (pi A b)) (omega arith)) (λ k m n p q. e_pi {k = k} (m, (n, tt)) p q)
 pis_is w ps d js x _ _ fa = tt
 
 pub projs_is : (w : Place) (ps : List Claim) → AllDerived w ps → (js : Left) (a b : Tree) → IsWellFormed a → IfSome (eq_projs ps js a b) (λ u. IsDefEq w a b)
@@ -187,20 +187,20 @@ eta_is w ps d js (lam A' b) o fa = eta_right w ps d js A' b o fa
 eta_is w ps d js o (lam A' b) fa = eta_left w ps d js A' b o
 eta_is w ps d js _ _ fa = tt
 
-fields_right : (w : Place) (ps : List Claim) → AllDerived w ps → (js : Left) (J : Name) (a : Tree) (j : ℕ) (xs : List Tree) → IsWellFormed a → IfSome (fields_equal ps js J a j xs) (λ r. AllProject w J a j xs)
+fields_right : (w : Place) (ps : List Claim) → AllDerived w ps → (js : Left) (J : Name) (a : Tree) (j : ℕ) (xs : List Tree) → IsWellFormed a → IfSome (fields_equal ps js J a j xs) (λ r. ProjectionsEqual w J a j xs)
 fields_right w ps d js J a j [] f = no_more_fields
 fields_right w ps d js J a j (x ∷ xs) f =
-    on_equal w ps d js (proj J j a) x f _ (λ r. AllProject w J a j (x ∷ xs)) (λ r h.
+    on_equal w ps d js (proj J j a) x f _ (λ r. ProjectionsEqual w J a j (x ∷ xs)) (λ r h.
     map_some (fields_equal ps r J a (suc j) xs) (fields_right w ps d r J a (suc j) xs f) (λ all. project h all))
   where
-    map_some : (o : Option Left) → IfSome o (λ r. AllProject w J a (suc j) xs) → (AllProject w J a (suc j) xs → AllProject w J a j (x ∷ xs)) → IfSome o (λ r. AllProject w J a j (x ∷ xs))
+    map_some : (o : Option Left) → IfSome o (λ r. ProjectionsEqual w J a (suc j) xs) → (ProjectionsEqual w J a (suc j) xs → ProjectionsEqual w J a j (x ∷ xs)) → IfSome o (λ r. ProjectionsEqual w J a j (x ∷ xs))
     map_some (Some v) h f = f h
     map_some None h f = tt
 
 struct_made : (w : Place) → WellStated w → (a b A B : Tree) (c : Name) (ks : List Level) (xs : List Tree) → b ≡ apply (const c ks) xs → (g : Entry) → w.means c ≡ Some g →
     (block : Block) (ind : BlockType) (ctor : Ctor) → g.kind ≡ a_ctor block ind ctor →
     (is_head_normal a && (nat_eq (length xs) (ctor.parameters + ctor.fields) && (has_one_ctor ind.ctors && is_structure_like block ind ctor))) ≡ true →
-    HasType w a A → HasType w b B → IsDefEq w A B → AllProject w ind.name a 0 (drop ctor.parameters xs) → IsDefEq w a b × IsDefEq w b a
+    HasType w a A → HasType w b B → IsDefEq w A B → ProjectionsEqual w ind.name a 0 (drop ctor.parameters xs) → IsDefEq w a b × IsDefEq w b a
 struct_made w ok a b A B c ks xs e g m block ind ctor k t ha hb q all =
     let p : ℕ = ctor.parameters in
     let x : (is_head_normal a ≡ true) × ((nat_eq (length xs) (p + ctor.fields) && (has_one_ctor ind.ctors && is_structure_like block ind ctor)) ≡ true) = halves (is_head_normal a) (nat_eq (length xs) (p + ctor.fields) && (has_one_ctor ind.ctors && is_structure_like block ind ctor)) t in
@@ -239,7 +239,7 @@ struct_is w ok ps d js a b G f =
     on_typed w ps d js a _ (λ u. G) (λ A hA.
     on_typed w ps d A.1 b _ (λ u. G) (λ B hB.
     on_equal w ps d B.1 A.0 B.0 (well_formed_of_type hA).1 _ (λ u. G) (λ r q.
-    if_bind (fields_equal ps r k.1.name a 0 (drop k.2.parameters (args b))) _ (λ r. AllProject w k.1.name a 0 (drop k.2.parameters (args b))) (λ u. G) (fields_right w ps d r k.1.name a 0 (drop k.2.parameters (args b)) (well_formed_of_type hA).0) (λ s all.
+    if_bind (fields_equal ps r k.1.name a 0 (drop k.2.parameters (args b))) _ (λ r. ProjectionsEqual w k.1.name a 0 (drop k.2.parameters (args b))) (λ u. G) (fields_right w ps d r k.1.name a 0 (drop k.2.parameters (args b)) (well_formed_of_type hA).0) (λ s all.
     if_none_left s G (f (struct_made w ok a b A.0 B.0 h.0 h.1 (args b) (spine_is b h.0 h.0 h.1 eh refl) g m k.0 k.1 k.2 hk t hA hB q all))))))))))
 
 unit_made : (w : Place) (g : Entry) (J : Name) → w.means J ≡ Some g → (block : Block) (t : BlockType) → g.kind ≡ a_type block t → (cs : List Ctor) → t.ctors ≡ cs → (ls : List Level) (bs : List Tree) → is_unit_like block t cs bs ≡ true →

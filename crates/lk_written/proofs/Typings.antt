@@ -68,7 +68,7 @@ body_is w ps d js x A b (pi C B) =
     on_above (bound (pi A B)) A x _ (λ u. G) (λ j n f. let same : j ≡ k = cc in
     on_sorted w ps d js A _ (λ u. G) (λ l hl.
     on_typed w ps d l.1 (opened b (local k A)) _ (λ u. G) (λ T hT.
-    comes_by T.0 (opened B (local k A)) T.1 G (λ q. rw i (t_lam {B = B} {k = k} m (rw (← same) n) hl (rw (← q) hT))))))))
+    comes_by T.0 (opened B (local k A)) T.1 G (λ q. rw i (t_lam {B = B} {k = k} (m, (rw (← same) n, tt)) hl (rw (← q) hT))))))))
   where
     comes_by : (T e : Tree) (js : Left) (P : Type 0) → (T ≡ e → P) → IfSome (comes_to T e js) (λ u. P)
     comes_by T e js P h = on_none_left js _ (λ u. P) (if_test (is_same_tree T e) P (λ t. h (same_tree T e t)))
@@ -83,7 +83,7 @@ pi_is w ps d js x (pi A B) T =
     on_above (bound (pi A B)) A x _ (λ u. HasType w (pi A B) T) (λ k m e.
     on_sorted w ps d js A _ (λ u. HasType w (pi A B) T) (λ u hu.
     on_sorted w ps d u.1 (opened B (local k A)) _ (λ u. HasType w (pi A B) T) (λ v hv.
-    comes_right T (sort (imax_level u.0 v.0)) v.1 (λ T. HasType w (pi A B) T) (t_pi m hu hv))))
+    comes_right T (sort (imax_level u.0 v.0)) v.1 (λ T. HasType w (pi A B) T) (t_pi (m, tt) hu hv))))
 pi_is w ps d js x _ T = tt
 
 pub let_is : (w : Place) (ps : List Claim) → AllDerived w ps → (js : Left) (e T : Tree) → IfSome (type_let ps js e T) (λ u. HasType w e T)
