@@ -1,9 +1,9 @@
 -- What rules of conversion and the unfolding of constants state can be written.
-use Rattle.std.proofs.Common.{ℕ, ◌≡◌, ◌≤◌, Bool, true, false, ◌&&◌, nat_eq, length, List, [], ◌∷◌, Option, Some, None, refl, sym, subst, arith}
+use Rattle.std.proofs.Common.{ℕ, ◌≡◌, Bool, true, false, ◌&&◌, nat_eq, length, List, [], ◌∷◌, Option, Some, None, refl, sym, subst, arith}
 use Rattle.std.specs.Prelude.{slice_get}
 use Rattle.std.proofs.lemmas.Bool.Decides.{nat_tests}
 use Rattle.lk_tree.specs.Tree.{Name, name_discrete, Level, Tree, var, sort, const, app, lam, pi, let_in, proj, lit, wide, str, local}
-use Rattle.lk_tree.specs.Bind.{opened, bound}
+use Rattle.lk_tree.specs.Bind.{opened, Fresh}
 use Rattle.lk_tree.specs.Level.{is_zero_level}
 use Rattle.lk_tree.specs.LevelTest.{level_test}
 use Rattle.lk_tree.specs.Spine.{head, args, IsNeutral, IsHeadNormal}
@@ -17,14 +17,14 @@ use Rattle.lk_questions.specs.Steps.{is_same_tree, value_of}
 use Rattle.lk_claims.specs.Claims.{Claim, types, reduces, equals}
 use Rattle.lk_written.specs.Line.{delta_rule, reduce_rule, sorts_rule, consts_rule, apps_rule, lams_rule, pis_rule, projs_rule, proof_rule}
 use Rattle.lk_claims.specs.Tests.{passes, is_true, same_levels}
-use Rattle.lk_written.specs.Premises.{Left, local_above, equal, sorted, is_prop_by}
+use Rattle.lk_written.specs.Premises.{Left, fresh_local, equal, sorted, is_prop_by}
 use Rattle.lk_written.specs.Reducing.{red_delta}
 use Rattle.lk_written.specs.Equal.{is_neutral, is_head_normal, pairs_equal, spines_equal, eq_bodies}
 use Rattle.lk_claims.specs.Claims.{IsShaped}
 use Rattle.lk_written.specs.Written.{Stands, IsWritten, CanWrite, CanSort}
 use Rattle.lk_claims.proofs.Facts.{pass_test, some_on}
 use Rattle.lk_claims.proofs.Pieces.{Some_inj, same_tree}
-use Rattle.lk_written.proofs.Writings.{next, no_equality, last_reduct, last_equal, go_on, go_test, comes_itself, differ, with_reduct, with_equal, equal_there, sorted_there, above_there, typed_next, equal_next, reduct_next, go_typed, go_reduced, go_equal}
+use Rattle.lk_written.proofs.Writings.{next, no_equality, last_reduct, last_equal, go_on, go_test, comes_itself, differ, with_reduct, with_equal, equal_there, sorted_there, fresh_there, typed_next, equal_next, reduct_next, go_typed, go_reduced, go_equal}
 
 pub same_self_name : (c : Name) → same_name c c ≡ true
 same_self_name c = go (name_discrete c c)
@@ -137,16 +137,14 @@ can_apps w f g a b nf ng hf ha =
           (go_on (spines_equal qs js (app f a) (app g b) []) [] _ (spine_there qs i j f g a b (k₂ i (equals f g) e) e₂) refl))));
     }
 
-bodies_pass : (qs : List Claim) (i j k m n : ℕ) (A b A' b' : Tree) → m ≤ k → n ≤ k → Stands qs i (equals A A') → Stands qs j (equals (opened b (local k A)) (opened b' (local k A))) →
-    passes (eq_bodies qs (with_equal A A' i (with_equal (opened b (local k A)) (opened b' (local k A)) j [])) (local k A) m n A b A' b') ≡ true
-bodies_pass qs i j k m n A b A' b' hm hn e f =
-    go_on (local_above m A (local k A)) k _ (above_there m k A hm)
-    (go_on (local_above n A (local k A)) k _ (above_there n k A hn)
-    (go_equal qs i (with_equal (opened b (local k A)) (opened b' (local k A)) j []) A A' _ e
-    (go_equal qs j [] (opened b (local k A)) (opened b' (local k A)) _ f refl)))
+bodies_pass : (qs : List Claim) (i j k : ℕ) (A b A' b' : Tree) → Stands qs i (equals A A') → Stands qs j (equals (opened b (local k A)) (opened b' (local k A))) →
+    passes (eq_bodies qs (with_equal A A' i (with_equal (opened b (local k A)) (opened b' (local k A)) j [])) k (A, b) (A', b')) ≡ true
+bodies_pass qs i j k A b A' b' e f =
+    go_equal qs i (with_equal (opened b (local k A)) (opened b' (local k A)) j []) A A' _ e
+    (go_equal qs j [] (opened b (local k A)) (opened b' (local k A)) _ f refl)
 
-pub can_lams : (w : Place) (A A' b b' : Tree) (k : ℕ) → bound (lam A b) ≤ k → bound (lam A' b') ≤ k → CanWrite w (equals A A') → CanWrite w (equals (opened b (local k A)) (opened b' (local k A))) → CanWrite w (equals (lam A b) (lam A' b'))
-can_lams w A A' b b' k m n hA hb =
+pub can_lams : (w : Place) (A A' b b' : Tree) (k : ℕ) → Fresh k (lam A b ∷ lam A' b' ∷ []) → CanWrite w (equals A A') → CanWrite w (equals (opened b (local k A)) (opened b' (local k A))) → CanWrite w (equals (lam A b) (lam A' b'))
+can_lams w A A' b b' k fresh hA hb =
     let h : IsShaped (equals (lam A b) (lam A' b')) = ((hA.shaped.0, fine_from_open 0 (local k A) b hb.shaped.0), (hA.shaped.1, fine_from_open 0 (local k A) b' hb.shaped.1)) in
     let G : Claim = equals (lam A b) (lam A' b') in
     record {
@@ -154,19 +152,23 @@ can_lams w A A' b b' k m n hA hb =
       written = λ ps.
           next w ps (equals A A') G (hA.written ps) (λ p₁ k₁ i e.
           next w p₁ (equals (opened b (local k A)) (opened b' (local k A))) G (hb.written p₁) (λ qs k₂ j e₂.
-          last_equal w qs (lams_rule (local k A)) (lam A b) (lam A' b') (with_equal A A' i (with_equal (opened b (local k A)) (opened b' (local k A)) j [])) h (bodies_pass qs i j k (bound (lam A b)) (bound (lam A' b')) A b A' b' m n (k₂ i (equals A A') e) e₂)));
+          last_equal w qs (lams_rule (local k A)) (lam A b) (lam A' b') (with_equal A A' i (with_equal (opened b (local k A)) (opened b' (local k A)) j [])) h
+          (go_on (fresh_local A (lam A b ∷ lam A' b' ∷ []) (local k A)) k _ (fresh_there k A (lam A b ∷ lam A' b' ∷ []) fresh)
+          (bodies_pass qs i j k A b A' b' (k₂ i (equals A A') e) e₂))));
     }
 
-pub can_pis : (w : Place) (A A' b b' : Tree) (k : ℕ) → bound (pi A b) ≤ k → bound (pi A' b') ≤ k → CanWrite w (equals A A') → CanWrite w (equals (opened b (local k A)) (opened b' (local k A))) → CanWrite w (equals (pi A b) (pi A' b'))
-can_pis w A A' b b' k m n hA hb =
-    let h : IsShaped (equals (pi A b) (pi A' b')) = ((hA.shaped.0, fine_from_open 0 (local k A) b hb.shaped.0), (hA.shaped.1, fine_from_open 0 (local k A) b' hb.shaped.1)) in
-    let G : Claim = equals (pi A b) (pi A' b') in
+pub can_pis : (w : Place) (A A' B B' : Tree) (k : ℕ) → Fresh k (pi A B ∷ pi A' B' ∷ []) → CanWrite w (equals A A') → CanWrite w (equals (opened B (local k A)) (opened B' (local k A))) → CanWrite w (equals (pi A B) (pi A' B'))
+can_pis w A A' B B' k fresh hA hb =
+    let h : IsShaped (equals (pi A B) (pi A' B')) = ((hA.shaped.0, fine_from_open 0 (local k A) B hb.shaped.0), (hA.shaped.1, fine_from_open 0 (local k A) B' hb.shaped.1)) in
+    let G : Claim = equals (pi A B) (pi A' B') in
     record {
       shaped = h;
       written = λ ps.
           next w ps (equals A A') G (hA.written ps) (λ p₁ k₁ i e.
-          next w p₁ (equals (opened b (local k A)) (opened b' (local k A))) G (hb.written p₁) (λ qs k₂ j e₂.
-          last_equal w qs (pis_rule (local k A)) (pi A b) (pi A' b') (with_equal A A' i (with_equal (opened b (local k A)) (opened b' (local k A)) j [])) h (bodies_pass qs i j k (bound (pi A b)) (bound (pi A' b')) A b A' b' m n (k₂ i (equals A A') e) e₂)));
+          next w p₁ (equals (opened B (local k A)) (opened B' (local k A))) G (hb.written p₁) (λ qs k₂ j e₂.
+          last_equal w qs (pis_rule (local k A)) (pi A B) (pi A' B') (with_equal A A' i (with_equal (opened B (local k A)) (opened B' (local k A)) j [])) h
+          (go_on (fresh_local A (pi A B ∷ pi A' B' ∷ []) (local k A)) k _ (fresh_there k A (pi A B ∷ pi A' B' ∷ []) fresh)
+          (bodies_pass qs i j k A B A' B' (k₂ i (equals A A') e) e₂))));
     }
 
 pub can_projs : (w : Place) (S : Name) (n : ℕ) (s t : Tree) → CanWrite w (equals s t) → CanWrite w (equals (proj S n s) (proj S n t))

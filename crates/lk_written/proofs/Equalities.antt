@@ -32,7 +32,7 @@ use Rattle.lk_written.specs.Typing.{the_type}
 use Rattle.lk_written.specs.Reducing.{the_ctor as ctor_in, tree_in}
 use Rattle.lk_written.specs.Equal.{is_neutral, is_head_normal, eq_reduce, eq_sorts, eq_consts, pairs_equal, spines_equal, eq_apps, eq_bodies, eq_lams, eq_pis, eq_projs, eq_eta, fields_equal, eq_struct, eq_unit, eq_proof, eq_zero, eq_succ, eq_str_left, eq_str_right}
 use Rattle.lk_claims.proofs.Facts.{level_right, levels_right}
-use Rattle.lk_written.proofs.Premises.{IfSome, if_bind, on_some, on_test, if_test, on_none_left, if_none_left, found_right, equal_right, is_prop_right, on_typed, on_reduced, on_equal, on_pi, on_above}
+use Rattle.lk_written.proofs.Premises.{IfSome, if_bind, on_some, on_test, if_test, on_none_left, if_none_left, found_right, equal_right, is_prop_right, on_typed, on_reduced, on_equal, on_pi, on_fresh}
 use Rattle.lk_written.proofs.Typings.{comes_right}
 use Rattle.lk_written.proofs.Projs.{on_const, spine_is, type_right}
 use Rattle.lk_written.proofs.Reductions.{ctor_right}
@@ -129,22 +129,24 @@ apps_is w ps d js a b fa =
     if_bind (spines_equal ps js a b []) _ (λ r. G) (λ u. G) (spines_right w ps d js a b [] (neutral_right a x.0) (neutral_right b x.1) fa tt) (λ r h.
     if_none_left r G h))
 
--- the parts of two binders are equal, under a Local above both
-bodies_are : (w : Place) (ps : List Claim) → AllDerived w ps → (js : Left) (x : Tree) (m n : ℕ) (A b A' b' : Tree) (G : Type 0) → IsWellFormed A → IsWellFormedUnder 1 b → bound A ≤ m →
-    ((k : ℕ) → m ≤ k → n ≤ k → IsDefEq w A A' → IsDefEq w (opened b (local k A)) (opened b' (local k A)) → G) → IfSome (eq_bodies ps js x m n A b A' b') (λ u. G)
-bodies_are w ps d js x m n A b A' b' G fA fb le f =
-    on_above m A x _ (λ u. G) (λ k hm e.
-    on_above n A x _ (λ u. G) (λ j hn i. let same : j ≡ k = cc in
+-- the parts of two binders are equal, under a Local that is fresh for both
+bodies_are : (w : Place) (ps : List Claim) → AllDerived w ps → (js : Left) (k : ℕ) (A b A' b' : Tree) (G : Type 0) → IsWellFormed A → IsWellFormedUnder 1 b → bound A ≤ k →
+    (IsDefEq w A A' → IsDefEq w (opened b (local k A)) (opened b' (local k A)) → G) → IfSome (eq_bodies ps js k (A, b) (A', b')) (λ u. G)
+bodies_are w ps d js k A b A' b' G fA fb le f =
     on_equal w ps d js A A' fA _ (λ u. G) (λ r p.
-    on_equal w ps d r (opened b (local k A)) (opened b' (local k A)) (body_fine k A b fA fb (omega (arith, le, hm))) _ (λ u. G) (λ s q.
-    if_none_left s G (f k hm (rw (← same) hn) p q)))))
+    on_equal w ps d r (opened b (local k A)) (opened b' (local k A)) (body_fine k A b fA fb le) _ (λ u. G) (λ s q.
+    if_none_left s G (f p q)))
 
 pub lams_is : (w : Place) (ps : List Claim) → AllDerived w ps → (js : Left) (x a b : Tree) → IsWellFormed a → IfSome (eq_lams ps js x a b) (λ u. IsDefEq w a b)
-lams_is w ps d js x (lam A b) (lam A' b') fa = bodies_are w ps d js x (bound (lam A b)) (bound (lam A' b')) A b A' b' (IsDefEq w (lam A b) (lam A' b')) fa.0 fa.1 (bound_left A b (bound (lam A b)) (omega arith)) (λ k m n p q. e_lam {k = k} (m, (n, tt)) p q)
+lams_is w ps d js x (lam A b) (lam A' b') fa =
+    let G : Type 0 = IsDefEq w (lam A b) (lam A' b') in
+    on_fresh A (lam A b ∷ lam A' b' ∷ []) x _ (λ u. G) (λ k fresh e. bodies_are w ps d js k A b A' b' G fa.0 fa.1 (bound_left A b k fresh.0) (λ p q. e_lam {k = k} fresh p q))
 lams_is w ps d js x _ _ fa = tt
 
 pub pis_is : (w : Place) (ps : List Claim) → AllDerived w ps → (js : Left) (x a b : Tree) → IsWellFormed a → IfSome (eq_pis ps js x a b) (λ u. IsDefEq w a b)
-pis_is w ps d js x (pi A b) (pi A' b') fa = bodies_are w ps d js x (bound (pi A b)) (bound (pi A' b')) A b A' b' (IsDefEq w (pi A b) (pi A' b')) fa.0 fa.1 (pi_bound_left A b (bound (pi A b)) (omega arith)) (λ k m n p q. e_pi {k = k} (m, (n, tt)) p q)
+pis_is w ps d js x (pi A b) (pi A' b') fa =
+    let G : Type 0 = IsDefEq w (pi A b) (pi A' b') in
+    on_fresh A (pi A b ∷ pi A' b' ∷ []) x _ (λ u. G) (λ k fresh e. bodies_are w ps d js k A b A' b' G fa.0 fa.1 (pi_bound_left A b k fresh.0) (λ p q. e_pi {k = k} fresh p q))
 pis_is w ps d js x _ _ fa = tt
 
 pub projs_is : (w : Place) (ps : List Claim) → AllDerived w ps → (js : Left) (a b : Tree) → IsWellFormed a → IfSome (eq_projs ps js a b) (λ u. IsDefEq w a b)

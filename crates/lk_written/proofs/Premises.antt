@@ -3,7 +3,7 @@ use Rattle.std.proofs.Common.{ℕ, zero, suc, ◌≡◌, ◌<◌, ◌≤◌, ◌
 use Rattle.std.specs.Prelude.{slice_get}
 use Rattle.std.proofs.lemmas.Bool.Decides.{nat_tests}
 use Rattle.lk_tree.specs.Tree.{Level, Tree, var, sort, const, app, lam, pi, let_in, proj, lit, wide, str, local}
-use Rattle.lk_tree.specs.Bind.{bound}
+use Rattle.lk_tree.specs.Bind.{bound, Fresh}
 use Rattle.lk_tree.specs.Spine.{apply}
 use Rattle.lk_tree.specs.WellFormed.{IsWellFormed, IsWellFormedUnder}
 use Rattle.lk_tree.specs.Level.{is_zero_level}
@@ -17,7 +17,7 @@ use Rattle.lk_questions.specs.Steps.{is_same_tree}
 use Rattle.lk_claims.proofs.Pieces.{same_tree, halves}
 use Rattle.lk_claims.specs.Claims.{Claim, types, reduces, equals, Derived, AllDerived}
 use Rattle.lk_claims.specs.Tests.{◌>>=◌, test, passes, found}
-use Rattle.lk_written.specs.Premises.{is_fine, as_sort, as_pi, as_const, local_above, Left, ends, Stated, next_claim, as_typing, as_reduction, as_equality, typing, reduction, equality, typed, next_reduct, reduced, next_equal, equal, to_sort, to_pi, sorted, is_prop_by, arguments_over}
+use Rattle.lk_written.specs.Premises.{is_fine, as_sort, as_pi, as_const, is_fresh, fresh_local, Left, ends, Stated, next_claim, as_typing, as_reduction, as_equality, typing, reduction, equality, typed, next_reduct, reduced, next_equal, equal, to_sort, to_pi, sorted, is_prop_by, arguments_over}
 
 abbrev pub IfSome : {A : Type 0} → Option A → (A → Type 0) → Type 0
 IfSome (Some v) P = P v
@@ -107,13 +107,18 @@ pub pi_right : (h : Tree) → IfSome (as_pi h) (λ p. h ≡ pi p.0 p.1)
 pi_right (pi A B) = refl
 pi_right _ = tt
 
--- x is a Local of number k and type A, above n
-pub above_right : (n : ℕ) (A x : Tree) → IfSome (local_above n A x) (λ k. n ≤ k × (x ≡ local k A))
-above_right n A (local k T) = on_test (is_same_tree T A && nat_le n k) (λ u. Some k) (λ k. n ≤ k × (local _ T ≡ local k A)) (λ h.
-    let y : (is_same_tree T A ≡ true) × (nat_le n k ≡ true) = halves (is_same_tree T A) (nat_le n k) h in
-    let e : T ≡ A = same_tree T A y.0 in
-    (at_most_right n k y.1, rw e refl))
-above_right n A _ = tt
+fresh_trees : (k : ℕ) (es : List Tree) → is_fresh k es ≡ true → Fresh k es
+fresh_trees k [] h = tt
+fresh_trees k (e ∷ es) h =
+    let x : (nat_le (bound e) k ≡ true) × (is_fresh k es ≡ true) = halves (nat_le (bound e) k) (is_fresh k es) h in
+    (at_most_right (bound e) k x.0, fresh_trees k es x.1)
+
+-- x is a Local of number k and type A, fresh for the trees
+pub fresh_right : (A : Tree) (es : List Tree) (x : Tree) → IfSome (fresh_local A es x) (λ k. Fresh k es × (x ≡ local k A))
+fresh_right A es (local k T) = on_test (is_same_tree T A && is_fresh k es) (λ u. Some k) (λ k. Fresh k es × (local _ T ≡ local k A)) (λ h.
+    let y : (is_same_tree T A ≡ true) × (is_fresh k es ≡ true) = halves (is_same_tree T A) (is_fresh k es) h in
+    (fresh_trees k es y.1, ap (local k) (same_tree T A y.0)))
+fresh_right A es _ = tt
 
 claim_there : (w : Place) (ps : List Claim) → AllDerived w ps → (j : ℕ) → IfSome (slice_get ps j) (λ c. Derived w c)
 claim_there w [] d j = tt
@@ -232,5 +237,5 @@ pub on_pi : (w : Place) (ps : List Claim) → AllDerived w ps → (js : Left) (F
     ((r : (Tree × Tree) × Left) → Reduces w F (pi r.0.0 r.0.1) → IfSome (k r) Q) → IfSome (to_pi ps js F >>= k) Q
 on_pi w ps d js F k Q g f = if_bind (to_pi ps js F) k (λ r. Reduces w F (pi r.0.0 r.0.1)) Q (to_pi_right w ps d js F g) f
 
-pub on_above : (n : ℕ) (A x : Tree) {B : Type 0} (k : ℕ → Option B) (Q : B → Type 0) → ((m : ℕ) → n ≤ m → x ≡ local m A → IfSome (k m) Q) → IfSome (local_above n A x >>= k) Q
-on_above n A x k Q f = if_bind (local_above n A x) k (λ m. n ≤ m × (x ≡ local m A)) Q (above_right n A x) (λ m h. f m h.0 h.1)
+pub on_fresh : (A : Tree) (es : List Tree) (x : Tree) {B : Type 0} (k : ℕ → Option B) (Q : B → Type 0) → ((m : ℕ) → Fresh m es → x ≡ local m A → IfSome (k m) Q) → IfSome (fresh_local A es x >>= k) Q
+on_fresh A es x k Q f = if_bind (fresh_local A es x) k (λ m. Fresh m es × (x ≡ local m A)) Q (fresh_right A es x) (λ m h. f m h.0 h.1)

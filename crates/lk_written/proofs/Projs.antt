@@ -73,7 +73,6 @@ pub halves_true : (a b : Bool) → a ≡ true → b ≡ true → (a && b) ≡ tr
 halves_true true b x y = y
 halves_true false b x y = absurd cc
 
--- field number i of s, of this structure, whose type has the sort l
 here_at : (w : Place) (S : Name) (s : Tree) (l : Level) (j i : ℕ) (r A B : Tree) → j + 0 ≡ i → Reduces w r (pi A B) → (SameLevel l zero_level → IsProposition w A) → IsFieldType w (field_at S s l i) A j r
 here_at w S s l j i r A B e c h = let f : j ≡ i = omega (arith, e) in subst (λ x. IsFieldType w (field_at S s l x) A j r) f (here {f = field_at S s l j} c h)
 

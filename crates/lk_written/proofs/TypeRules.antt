@@ -1,10 +1,10 @@
 -- What each rule of typing states can be written.
-use Rattle.std.proofs.Common.{ℕ, ◌≡◌, ◌≤◌, true, nat_eq, length, List, [], ◌∷◌, Some, refl}
+use Rattle.std.proofs.Common.{ℕ, ◌≡◌, true, nat_eq, length, List, [], ◌∷◌, Some, refl}
 use Rattle.std.specs.Prelude.{slice_get}
 use Rattle.std.proofs.lemmas.Bool.Decides.{nat_tests}
 use Rattle.std.proofs.Common.{arith}
 use Rattle.lk_tree.specs.Tree.{Name, Level, imax_level, Tree, sort, const, app, lam, pi, let_in, local}
-use Rattle.lk_tree.specs.Bind.{opened, bound}
+use Rattle.lk_tree.specs.Bind.{opened, Fresh}
 use Rattle.lk_tree.specs.WellFormed.{IsWellFormed}
 use Rattle.lk_tree.proofs.Binding.{open_fine, fine_from_open}
 use Rattle.lk_rulebook.specs.Place.{Place}
@@ -12,12 +12,12 @@ use Rattle.lk_rulebook.specs.Rules.{IsGivenAt, at_levels}
 use Rattle.lk_questions.specs.Steps.{is_same_tree}
 use Rattle.lk_claims.specs.Claims.{Claim, types, reduces, equals}
 use Rattle.lk_written.specs.Line.{const_rule, app_rule, lam_rule, pi_rule, let_rule}
-use Rattle.lk_written.specs.Premises.{Left, local_above, typing, typed, equal, to_pi, arguments_over}
+use Rattle.lk_written.specs.Premises.{Left, fresh_local, typing, typed, equal, to_pi, arguments_over}
 use Rattle.lk_written.specs.Typing.{applied_type}
 use Rattle.lk_claims.specs.Claims.{IsShaped}
 use Rattle.lk_written.specs.Written.{CanWrite, CanSort}
 use Rattle.lk_claims.proofs.Facts.{same_self, some_on}
-use Rattle.lk_written.proofs.Writings.{next, last_type, go_on, go_test, comes_itself, with_reduct, with_equal, typing_there, typed_there, equal_there, to_pi_there, above_there, typed_next, go_typed, go_equal, go_sorted}
+use Rattle.lk_written.proofs.Writings.{next, last_type, go_on, go_test, comes_itself, with_reduct, with_equal, typing_there, typed_there, equal_there, to_pi_there, fresh_there, typed_next, go_typed, go_equal, go_sorted}
 use Rattle.lk_written.proofs.Rules.{one_argument}
 
 are_equal : (m n : ℕ) → m ≡ n → nat_eq m n ≡ true
@@ -57,8 +57,8 @@ can_app w f a F A B A' hf hF ha hq =
           (comes_itself (opened B a)))))))));
     }
 
-pub can_lam : (w : Place) (A b B : Tree) (l : Level) (k : ℕ) → bound (lam A b) ≤ k → bound (pi A B) ≤ k → CanSort w A l → CanWrite w (types (opened b (local k A)) (opened B (local k A))) → CanWrite w (types (lam A b) (pi A B))
-can_lam w A b B l k m n hA hb =
+pub can_lam : (w : Place) (A b B : Tree) (l : Level) (k : ℕ) → Fresh k (lam A b ∷ pi A B ∷ []) → CanSort w A l → CanWrite w (types (opened b (local k A)) (opened B (local k A))) → CanWrite w (types (lam A b) (pi A B))
+can_lam w A b B l k fresh hA hb =
     let G : Claim = types (lam A b) (pi A B) in
     let S : Tree = hA.between in
     let x : Tree = local k A in
@@ -71,15 +71,14 @@ can_lam w A b B l k m n hA hb =
           next w p₁ (reduces S (sort l)) G (hA.reduced.written p₁) (λ p₂ k₂ j e₂.
           next w p₂ (types (opened b x) (opened B x)) G (hb.written p₂) (λ qs k₃ t e₃.
           last_type w qs (lam_rule x) (lam A b) (pi A B) (i ∷ with_reduct S (sort l) j (t ∷ [])) h
-          (go_on (local_above (bound (lam A b)) A x) k _ (above_there (bound (lam A b)) k A m)
           (go_test (is_same_tree A A) _ (same_self A)
-          (go_on (local_above (bound (pi A B)) A x) k _ (above_there (bound (pi A B)) k A n)
+          (go_on (fresh_local A (lam A b ∷ pi A B ∷ []) x) k _ (fresh_there k A (lam A b ∷ pi A B ∷ []) fresh)
           (go_sorted qs i j (t ∷ []) A S l _ (k₃ i (types A S) (k₂ i (types A S) e)) (k₃ j (reduces S (sort l)) e₂) (λ y. typed_next qs t [] S (opened b x) (opened B x) e₃)
-          (go_typed qs t [] (opened b x) (opened B x) _ e₃ (comes_itself (opened B x))))))))));
+          (go_typed qs t [] (opened b x) (opened B x) _ e₃ (comes_itself (opened B x)))))))));
     }
 
-pub can_pi : (w : Place) (A B : Tree) (u v : Level) (k : ℕ) → bound (pi A B) ≤ k → CanSort w A u → CanSort w (opened B (local k A)) v → CanWrite w (types (pi A B) (sort (imax_level u v)))
-can_pi w A B u v k m hA hB =
+pub can_pi : (w : Place) (A B : Tree) (u v : Level) (k : ℕ) → Fresh k (pi A B ∷ []) → CanSort w A u → CanSort w (opened B (local k A)) v → CanWrite w (types (pi A B) (sort (imax_level u v)))
+can_pi w A B u v k fresh hA hB =
     let G : Claim = types (pi A B) (sort (imax_level u v)) in
     let S : Tree = hA.between in
     let T : Tree = hB.between in
@@ -95,7 +94,7 @@ can_pi w A B u v k m hA hB =
           let last : Left = with_reduct T (sort v) t [] in
           let at : slice_get qs s ≡ Some (types (opened B x) T) = k₄ s (types (opened B x) T) e₃ in
           last_type w qs (pi_rule x) (pi A B) (sort (imax_level u v)) (i ∷ with_reduct S (sort u) j (s ∷ last)) h
-          (go_on (local_above (bound (pi A B)) A x) k _ (above_there (bound (pi A B)) k A m)
+          (go_on (fresh_local A (pi A B ∷ []) x) k _ (fresh_there k A (pi A B ∷ []) fresh)
           (go_sorted qs i j (s ∷ last) A S u _ (k₄ i (types A S) (k₃ i (types A S) (k₂ i (types A S) e))) (k₄ j (reduces S (sort u)) (k₃ j (reduces S (sort u)) e₂)) (λ y. typed_next qs s last S (opened B x) T at)
           (go_sorted qs s t [] (opened B x) T v _ at e₄ (λ y. refl) (comes_itself (sort (imax_level u v))))))))));
     }

@@ -1,7 +1,7 @@
 -- Lines of typing are derived.
 use Rattle.std.proofs.Common.{◌≡◌, nat_eq, length, List, [], ◌∷◌, sym, subst}
 use Rattle.lk_tree.specs.Tree.{succ_level, imax_level, Tree, sort, const, app, lam, pi, let_in, lit, str, local}
-use Rattle.lk_tree.specs.Bind.{opened, bound}
+use Rattle.lk_tree.specs.Bind.{opened}
 use Rattle.lk_tree.specs.Spine.{apply}
 use Rattle.lk_tree.specs.WellFormed.{IsWellFormed}
 use Rattle.lk_tree.specs.Levels.{put_levels}
@@ -17,8 +17,8 @@ use Rattle.lk_claims.proofs.Shaped.{sound_nat_shape, sound_string_shape}
 use Rattle.lk_claims.specs.Claims.{Claim, AllDerived}
 use Rattle.lk_claims.specs.Tests.{found}
 use Rattle.lk_written.specs.Premises.{Left, arguments_over}
-use Rattle.lk_written.specs.Typing.{comes_to, type_sort, type_local, type_const, applied_type, type_app, type_body, type_lam, type_pi, type_let, type_lit, type_str}
-use Rattle.lk_written.proofs.Premises.{IfSome, if_bind, on_some, on_test, if_test, on_none_left, found_right, on_typing, on_typed, on_equal, on_sorted, on_pi, on_above, arguments_right}
+use Rattle.lk_written.specs.Typing.{comes_to, type_sort, type_local, type_const, applied_type, type_app, type_lam, type_pi, type_let, type_lit, type_str}
+use Rattle.lk_written.proofs.Premises.{IfSome, if_bind, on_some, on_test, if_test, on_none_left, found_right, on_typing, on_typed, on_equal, on_sorted, on_pi, on_fresh, arguments_right}
 
 -- the tree is the one that the rule comes to
 pub comes_right : (T e : Tree) (js : Left) (P : Tree → Type 0) → P e → IfSome (comes_to T e js) (λ u. P T)
@@ -60,30 +60,25 @@ app_is w ps d js e T =
     if_bind (applied_type ps f.after f.right xs) _ (λ F. HasType w (apply f.left xs) F.0) Q (applied_right w ps d f.after f.left f.right xs hf) (λ F hF.
     comes_right T F.0 F.1 (λ T. HasType w e T) (subst (λ z. HasType w z F.0) (sym i) hF))))
 
-pub body_is : (w : Place) (ps : List Claim) → AllDerived w ps → (js : Left) (x A b T : Tree) → IfSome (type_body ps js x A b T) (λ u. HasType w (lam A b) T)
-body_is w ps d js x A b (pi C B) =
+pub lam_is : (w : Place) (ps : List Claim) → AllDerived w ps → (js : Left) (x e T : Tree) → IfSome (type_lam ps js x e T) (λ u. HasType w e T)
+lam_is w ps d js x (lam A b) (pi C B) =
     let G : Type 0 = HasType w (lam A b) (pi C B) in
-    on_above (bound (lam A b)) A x _ (λ u. G) (λ k m e.
     on_test (is_same_tree C A) _ (λ u. G) (λ t. let i : C ≡ A = same_tree C A t in
-    on_above (bound (pi A B)) A x _ (λ u. G) (λ j n f. let same : j ≡ k = cc in
+    on_fresh A (lam A b ∷ pi A B ∷ []) x _ (λ u. G) (λ k fresh e.
     on_sorted w ps d js A _ (λ u. G) (λ l hl.
     on_typed w ps d l.1 (opened b (local k A)) _ (λ u. G) (λ T hT.
-    comes_by T.0 (opened B (local k A)) T.1 G (λ q. rw i (t_lam {B = B} {k = k} (m, (rw (← same) n, tt)) hl (rw (← q) hT))))))))
+    comes_by T.0 (opened B (local k A)) T.1 G (λ q. rw i (t_lam {B = B} {k = k} fresh hl (rw (← q) hT)))))))
   where
     comes_by : (T e : Tree) (js : Left) (P : Type 0) → (T ≡ e → P) → IfSome (comes_to T e js) (λ u. P)
     comes_by T e js P h = on_none_left js _ (λ u. P) (if_test (is_same_tree T e) P (λ t. h (same_tree T e t)))
-body_is w ps d js x A b _ = tt
-
-pub lam_is : (w : Place) (ps : List Claim) → AllDerived w ps → (js : Left) (x e T : Tree) → IfSome (type_lam ps js x e T) (λ u. HasType w e T)
-lam_is w ps d js x (lam A b) T = body_is w ps d js x A b T
-lam_is w ps d js x _ T = tt
+lam_is w ps d js x _ _ = tt
 
 pub pi_is : (w : Place) (ps : List Claim) → AllDerived w ps → (js : Left) (x e T : Tree) → IfSome (type_pi ps js x e T) (λ u. HasType w e T)
 pi_is w ps d js x (pi A B) T =
-    on_above (bound (pi A B)) A x _ (λ u. HasType w (pi A B) T) (λ k m e.
+    on_fresh A (pi A B ∷ []) x _ (λ u. HasType w (pi A B) T) (λ k fresh e.
     on_sorted w ps d js A _ (λ u. HasType w (pi A B) T) (λ u hu.
     on_sorted w ps d u.1 (opened B (local k A)) _ (λ u. HasType w (pi A B) T) (λ v hv.
-    comes_right T (sort (imax_level u.0 v.0)) v.1 (λ T. HasType w (pi A B) T) (t_pi (m, tt) hu hv))))
+    comes_right T (sort (imax_level u.0 v.0)) v.1 (λ T. HasType w (pi A B) T) (t_pi fresh hu hv))))
 pi_is w ps d js x _ T = tt
 
 pub let_is : (w : Place) (ps : List Claim) → AllDerived w ps → (js : Left) (e T : Tree) → IfSome (type_let ps js e T) (λ u. HasType w e T)

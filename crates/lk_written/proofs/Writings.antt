@@ -3,7 +3,7 @@ use Rattle.std.proofs.Common.{ℕ, zero, suc, ◌≡◌, ◌<◌, ◌≤◌, ◌
 use Rattle.std.specs.Prelude.{slice_get}
 use Rattle.std.proofs.lemmas.Bool.Decides.{nat_tests}
 use Rattle.lk_tree.specs.Tree.{Level, Tree, var, sort, const, app, lam, pi, let_in, proj, lit, wide, str, local}
-use Rattle.lk_tree.specs.Bind.{bound}
+use Rattle.lk_tree.specs.Bind.{bound, Fresh}
 use Rattle.lk_tree.specs.WellFormed.{IsWellFormed, IsWellFormedUnder}
 use Rattle.lk_tree.proofs.Scans.{and_true}
 use Rattle.lk_rulebook.specs.Place.{Place}
@@ -12,7 +12,7 @@ use Rattle.lk_claims.proofs.Pieces.{Some_inj, same_tree}
 use Rattle.lk_claims.specs.Claims.{Claim, types, reduces, equals}
 use Rattle.lk_written.specs.Line.{TypingRule, ReductionRule, EqualityRule, Line, ty, rd, cv, claim_of}
 use Rattle.lk_claims.specs.Tests.{◌>>=◌, test, passes}
-use Rattle.lk_written.specs.Premises.{is_fine, Left, typing, reduction, typed, next_reduct, reduced, next_equal, equal, to_pi, sorted, local_above}
+use Rattle.lk_written.specs.Premises.{is_fine, Left, typing, reduction, typed, next_reduct, reduced, next_equal, equal, to_pi, sorted, is_fresh, fresh_local}
 use Rattle.lk_written.specs.Typing.{comes_to, type_test}
 use Rattle.lk_written.specs.Reducing.{red_test}
 use Rattle.lk_written.specs.Equal.{eq_test}
@@ -249,8 +249,12 @@ pub go_sorted : {B : Type 0} (ps : List Claim) (i j : ℕ) (js : Left) (A S : Tr
     passes (k (l, js)) ≡ true → passes (sorted ps (i ∷ with_reduct S (sort l) j js) A >>= k) ≡ true
 go_sorted ps i j js A S l k h g n p = go_on (sorted ps (i ∷ with_reduct S (sort l) j js) A) (l, js) k (sorted_there ps i j js A S l h g n) p
 
-pub above_there : (n k : ℕ) (A : Tree) → n ≤ k → local_above n A (local k A) ≡ Some k
-above_there n k A h = some_test (is_same_tree A A && nat_le n k) _ k (and_true (is_same_tree A A) (nat_le n k) (same_self A) (is_most n k h)) refl
+fresh_passes : (k : ℕ) (es : List Tree) → Fresh k es → is_fresh k es ≡ true
+fresh_passes k [] h = refl
+fresh_passes k (e ∷ es) h = and_true (nat_le (bound e) k) (is_fresh k es) (is_most (bound e) k h.0) (fresh_passes k es h.1)
+
+pub fresh_there : (k : ℕ) (A : Tree) (es : List Tree) → Fresh k es → fresh_local A es (local k A) ≡ Some k
+fresh_there k A es h = some_test (is_same_tree A A && is_fresh k es) _ k (and_true (is_same_tree A A) (is_fresh k es) (same_self A) (fresh_passes k es h)) refl
 
 -- lines that hold after ps, and then P
 pub record Finishes (w : Place) (ps : List Claim) (P : List Claim → Type 0) : Type 0 where

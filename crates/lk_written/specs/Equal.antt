@@ -1,7 +1,7 @@
 -- Lines of conversion, a test for each rule: a == b.
 use Rattle.std.specs.Prelude.{ℕ, zero, suc, ◌+◌, Bool, true, false, ◌&&◌, nat_eq, List, [], ◌∷◌, length, drop, Option, Some, None}
 use Rattle.lk_tree.specs.Tree.{Name, Tree, sort, const, app, lam, pi, let_in, proj, lit, str, local}
-use Rattle.lk_tree.specs.Bind.{opened, bound}
+use Rattle.lk_tree.specs.Bind.{opened}
 use Rattle.lk_tree.specs.LevelTest.{level_test}
 use Rattle.lk_tree.specs.Spine.{head, args}
 use Rattle.lk_rulebook.specs.Place.{Place}
@@ -16,7 +16,7 @@ use Rattle.lk_questions.specs.Strings.{expansion_of}
 use Rattle.lk_claims.specs.Claims.{Claim}
 use Rattle.lk_written.specs.Line.{EqualityRule, reduce_rule, sorts_rule, consts_rule, apps_rule, projs_rule, lams_rule, pis_rule, eta_rule, struct_left_rule, struct_right_rule, unit_rule, proof_rule, zero_rule, succ_rule, str_left_rule, str_right_rule}
 use Rattle.lk_claims.specs.Tests.{◌>>=◌, test, found, is_true, same_levels}
-use Rattle.lk_written.specs.Premises.{as_const, local_above, Left, ends, typed, reduced, equal, to_pi, is_prop_by}
+use Rattle.lk_written.specs.Premises.{as_const, fresh_local, Left, ends, typed, reduced, equal, to_pi, is_prop_by}
 use Rattle.lk_written.specs.Typing.{comes_to, the_type}
 use Rattle.lk_written.specs.Reducing.{the_ctor, tree_in}
 
@@ -75,21 +75,23 @@ eq_apps ps js a b = do
   r ← spines_equal ps js a b []
   ends r
 
--- A == A', b[x] == b'[x]
-abbrev pub eq_bodies : List Claim → Left → Tree → ℕ → ℕ → Tree → Tree → Tree → Tree → Option (Unit {0})
-eq_bodies ps js x m n A b A' b' = do
-  k ← local_above m A x
-  u ← local_above n A x
-  r ← equal ps js A A'
-  s ← equal ps r (opened b (local k A)) (opened b' (local k A))
+-- A == A', b[x] == b'[x], where x is Local(k, A)
+abbrev pub eq_bodies : List Claim → Left → ℕ → Tree × Tree → Tree × Tree → Option (Unit {0})
+eq_bodies ps js k p q = do
+  r ← equal ps js p.0 q.0
+  s ← equal ps r (opened p.1 (local k p.0)) (opened q.1 (local k p.0))
   ends s
 
 abbrev pub eq_lams : List Claim → Left → Tree → Tree → Tree → Option (Unit {0})
-eq_lams ps js x (lam A b) (lam A' b') = eq_bodies ps js x (bound (lam A b)) (bound (lam A' b')) A b A' b'
+eq_lams ps js x (lam A b) (lam A' b') = do
+  k ← fresh_local A (lam A b ∷ lam A' b' ∷ []) x
+  eq_bodies ps js k (A, b) (A', b')
 eq_lams ps js x _ _ = None
 
 abbrev pub eq_pis : List Claim → Left → Tree → Tree → Tree → Option (Unit {0})
-eq_pis ps js x (pi A b) (pi A' b') = eq_bodies ps js x (bound (pi A b)) (bound (pi A' b')) A b A' b'
+eq_pis ps js x (pi A B) (pi A' B') = do
+  k ← fresh_local A (pi A B ∷ pi A' B' ∷ []) x
+  eq_bodies ps js k (A, B) (A', B')
 eq_pis ps js x _ _ = None
 
 -- s == t
@@ -129,7 +131,8 @@ eq_struct w ps js a b = do
   h ← as_const (head b)
   g ← w.means h.0
   k ← the_ctor g.kind
-  u ← test (is_head_normal a && (nat_eq (length (args b)) (k.2.parameters + k.2.fields) && (has_one_ctor k.1.ctors && is_structure_like k.0 k.1 k.2)))
+  u ← test (is_head_normal a && (nat_eq (length (args b)) (k.2.parameters + k.2.fields)
+      && (has_one_ctor k.1.ctors && is_structure_like k.0 k.1 k.2)))
   A ← typed ps js a
   B ← typed ps A.1 b
   r ← equal ps B.1 A.0 B.0

@@ -1,4 +1,5 @@
--- The tests that lines are made of. A test reads the premises that are left, and gives what it read and those left after it.
+-- The tests that lines are made of. A test reads the premises that are left, and gives what it read
+-- and those left after it.
 use Rattle.std.specs.Prelude.{ℕ, suc, ◌^◌, Bool, true, false, ◌&&◌, nat_lt, nat_le, List, [], ◌∷◌, Option, Some, None, slice_get, if◌then◌else◌}
 use Rattle.lk_tree.specs.Tree.{Name, Level, Tree, var, sort, const, app, lam, pi, let_in, proj, lit, wide, str, local}
 use Rattle.lk_tree.specs.Bind.{bound}
@@ -39,11 +40,16 @@ abbrev pub as_local : Tree → Option (ℕ × Tree)
 as_local (local k T) = Some (k, T)
 as_local _ = None
 
--- the number of a Local of this type, at least n
-abbrev pub local_above : ℕ → Tree → Tree → Option ℕ
-local_above n A x = do
+-- k is at least the bound of each of these trees
+abbrev pub is_fresh : ℕ → List Tree → Bool
+is_fresh k [] = true
+is_fresh k (e ∷ es) = nat_le (bound e) k && is_fresh k es
+
+-- the number of x, where x is a Local of type A that is fresh for these trees
+abbrev pub fresh_local : Tree → List Tree → Tree → Option ℕ
+fresh_local A es x = do
   p ← as_local x
-  u ← test (is_same_tree p.1 A && nat_le n p.0)
+  u ← test (is_same_tree p.1 A && is_fresh p.0 es)
   Some p.0
 
 -- premises that are left

@@ -9,7 +9,7 @@ use Rattle.lk_tree.specs.Operations.{op_value}
 use Rattle.lk_rulebook.specs.Place.{Place, Entry, Kind, Block, BlockType, Ctor, Recursor, RecRule, a_ctor, a_rec}
 use Rattle.lk_rulebook.specs.Names.{quot_mk, quot_lift, quot_ind}
 use Rattle.lk_tree.specs.Mentions.{same_name}
-use Rattle.lk_rulebook.specs.Structures.{is_structure_like, projections, before_major}
+use Rattle.lk_rulebook.specs.Structures.{is_structure_like, projections, before_indices, before_major}
 use Rattle.lk_rulebook.specs.Literals.{may_give}
 use Rattle.lk_questions.specs.Steps.{is_same_tree, value_of}
 use Rattle.lk_questions.specs.Core.{lambdas, beta}
@@ -118,8 +118,10 @@ red_iota w i js (app f e) b = do
   c ← as_const (head e)
   g ← w.means c.0
   k ← the_ctor g.kind
-  u ← test ((same_name rule.ctor c.0 && nat_eq (length R.1) (length R.2.levels)) && nat_eq (length (args e)) (k.2.parameters + rule.fields))
-  comes_to b (apply (apply (put_levels R.2.levels R.1 rule.value) (take (R.3.parameters + R.3.motives + R.3.minors) (args f))) (drop k.2.parameters (args e))) js
+  u ← test ((same_name rule.ctor c.0 && nat_eq (length R.1) (length R.2.levels))
+      && nat_eq (length (args e)) (k.2.parameters + rule.fields))
+  comes_to b (apply (apply (put_levels R.2.levels R.1 rule.value)
+      (take (before_indices R.3) (args f))) (drop k.2.parameters (args e))) js
 red_iota w i js _ b = None
 
 -- e => T0, T0 >> T, d => D, T == D
@@ -151,8 +153,10 @@ red_expand w ps js (app f m) (app g n) = do
   T₀ ← typed ps js m
   T ← reduced ps T₀.1 T₀.0
   J ← as_const (head T.0)
-  v ← test (same_name k.1.name J.0 && (has_one_ctor k.1.ctors && (is_structure_like k.0 k.1 k.2 && nat_eq (length (args T.0)) k.2.parameters)))
-  x ← test (is_same_tree n (apply (const rule.ctor J.1) (args T.0 ++ projections J.0 m 0 k.2.fields)))
+  v ← test (same_name k.1.name J.0 && (has_one_ctor k.1.ctors
+      && (is_structure_like k.0 k.1 k.2 && nat_eq (length (args T.0)) k.2.parameters)))
+  x ← test (is_same_tree n (apply (const rule.ctor J.1)
+      (args T.0 ++ projections J.0 m 0 k.2.fields)))
   l ← sorted ps T.1 T.0
   y ← test (not (is_zero_level l.0))
   ends l.1
@@ -172,7 +176,8 @@ mk_of (const c ks) (A ∷ r ∷ a ∷ []) = do
 mk_of _ _ = None
 
 -- m >> Quot.mk A' r' a
-abbrev pub red_quot : Place → List Claim → Left → Name → Name → Tree → Tree → Tree → Option (Unit {0})
+abbrev pub red_quot : Place → List Claim → Left → Name → Name → Tree → Tree → Tree →
+    Option (Unit {0})
 red_quot w ps js c q f m b = do
   u ← test (same_name c q)
   v ← is_quot w q
@@ -182,11 +187,13 @@ red_quot w ps js c q f m b = do
   comes_to b (app f a) n.1
 
 abbrev pub red_lift : Place → List Claim → Left → Tree → Tree → Option (Unit {0})
-red_lift w ps js (app (app (app (app (app (app (const c ls) A) r) B) f) h) m) b = red_quot w ps js c quot_lift f m b
+red_lift w ps js (app (app (app (app (app (app (const c ls) A) r) B) f) h) m) b =
+    red_quot w ps js c quot_lift f m b
 red_lift w ps js _ b = None
 
 abbrev pub red_ind : Place → List Claim → Left → Tree → Tree → Option (Unit {0})
-red_ind w ps js (app (app (app (app (app (const c ls) A) r) B) h) m) b = red_quot w ps js c quot_ind h m b
+red_ind w ps js (app (app (app (app (app (const c ls) A) r) B) h) m) b =
+    red_quot w ps js c quot_ind h m b
 red_ind w ps js _ b = None
 
 abbrev pub no_levels : List Level → Option (Unit {0})

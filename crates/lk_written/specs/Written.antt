@@ -46,7 +46,8 @@ pub record CanWrite (w : Place) (c : Claim) : Type 0 where
 -- where Nat has its shape, Nat.zero has no value: so a numeral reduces to itself alone, and a
 -- reduction that an operation on numbers names is not one of an argument that is a numeral already
 abbrev pub KeepsNumerals : Place → Type 0
-KeepsNumerals w = HasNat w → (g : Entry) (v : Tree) → w.means nat_zero ≡ Some g → HasValue g v → ⊥
+KeepsNumerals w =
+    HasNat w → (g : Entry) (v : Tree) → w.means nat_zero ≡ Some g → HasValue g v → ⊥
 
 -- sort A = l, in two claims
 pub record CanSort (w : Place) (A : Tree) (l : Level) : Type 0 where
@@ -63,17 +64,22 @@ pub record CanBe (w : Place) (value type : Tree) : Type 0 where
 -- left == right for each law
 abbrev pub CanMeet : Place → List Law → Type 0
 CanMeet w [] = Unit {0}
-CanMeet w (law ∷ laws) = ((found w (held_given law.holds) ≡ Some tt) × CanWrite w (equals law.left law.right)) × CanMeet w laws
+CanMeet w (law ∷ laws) =
+    ((found w (held_given law.holds) ≡ Some tt) × CanWrite w (equals law.left law.right))
+    × CanMeet w laws
 
 -- the laws of the operation that a def with these level parameters and this value is named as
 abbrev pub CanBeLawful : Place → Option Op → List Name → Tree → Type 0
 CanBeLawful w None ls value = Unit {0}
-CanBeLawful w (Some op) ls value = (found w nat_shape ≡ Some tt) × (nat_eq (length ls) 0 ≡ true) × (found w (def_given (stated_by op)) ≡ Some tt) × CanMeet w (laws_of op value)
+CanBeLawful w (Some op) ls value =
+    (found w nat_shape ≡ Some tt) × (nat_eq (length ls) 0 ≡ true)
+    × (found w (def_given (stated_by op)) ≡ Some tt) × CanMeet w (laws_of op value)
 
 -- what the body of a declaration rests on can be written; a test is its own
 abbrev pub CanBody : Place → Decl → Level → Body → Type 0
 CanBody w d l as_axiom = Unit {0}
-CanBody w d l (as_def h value) = CanBe w value d.type × CanBeLawful w (lawful_op d.name) d.levels value
+CanBody w d l (as_def h value) =
+    CanBe w value d.type × CanBeLawful w (lawful_op d.name) d.levels value
 CanBody w d l (as_thm value) = CanBe w value d.type × (is_zero_level l ≡ true)
 CanBody w d l (as_opaque value) = CanBe w value d.type
 CanBody w d l as_quot = found w (quot_steps d.name d.levels d.type) ≡ Some tt
