@@ -24,7 +24,7 @@ use Rattle.lk_claims.specs.Claims.{IsShaped}
 use Rattle.lk_written.specs.Written.{Stands, IsWritten, CanWrite, CanSort}
 use Rattle.lk_claims.proofs.Facts.{pass_test, some_on}
 use Rattle.lk_claims.proofs.Pieces.{Some_inj, same_tree}
-use Rattle.lk_written.proofs.Writings.{next, no_equality, last_reduct, last_equal, go_on, go_test, comes_itself, differ, with_reduct, with_equal, equal_there, sorted_there, fresh_there, typed_next, equal_next, reduct_next, go_typed, go_reduced, go_equal}
+use Rattle.lk_written.proofs.Writings.{are_equal, next, no_equality, last_reduct, last_equal, go_on, go_test, comes_itself, differ, with_reduct, with_equal, equal_there, sorted_there, fresh_there, typed_next, equal_next, reduct_next, go_typed, go_reduced, go_equal}
 
 pub same_self_name : (c : Name) → same_name c c ≡ true
 same_self_name c = go (name_discrete c c)
@@ -32,9 +32,6 @@ same_self_name c = go (name_discrete c c)
     go : (d : Dec (c ≡ c)) → elim d as (λ y. Bool) [ yes e ↦ true | no f ↦ Rattle.std.specs.Prelude.false ] ≡ true
     go (yes e) = refl
     go (no f) = absurd (f refl)
-
-are_equal : (m n : ℕ) → m ≡ n → nat_eq m n ≡ true
-are_equal m n e = grind (arith, nat_tests)
 
 pub neutral_passes : (e : Tree) → IsNeutral e → is_neutral e ≡ true
 neutral_passes (app f a) h = neutral_passes f h

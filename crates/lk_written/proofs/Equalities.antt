@@ -32,7 +32,7 @@ use Rattle.lk_written.specs.Typing.{the_type}
 use Rattle.lk_written.specs.Reducing.{the_ctor as ctor_in, tree_in}
 use Rattle.lk_written.specs.Equal.{is_neutral, is_head_normal, eq_reduce, eq_sorts, eq_consts, pairs_equal, spines_equal, eq_apps, eq_bodies, eq_lams, eq_pis, eq_projs, eq_eta, fields_equal, eq_struct, eq_unit, eq_proof, eq_zero, eq_succ, eq_str_left, eq_str_right}
 use Rattle.lk_claims.proofs.Facts.{level_right, levels_right}
-use Rattle.lk_written.proofs.Premises.{IfSome, if_bind, on_some, on_test, if_test, on_none_left, if_none_left, found_right, equal_right, is_prop_right, on_typed, on_reduced, on_equal, on_pi, on_fresh}
+use Rattle.lk_written.proofs.Premises.{IfSome, if_map, if_bind, on_some, on_test, if_test, on_none_left, if_none_left, found_right, equal_right, is_prop_right, on_typed, on_reduced, on_equal, on_pi, on_fresh}
 use Rattle.lk_written.proofs.Typings.{comes_right}
 use Rattle.lk_written.proofs.Projs.{on_const, spine_is, type_right}
 use Rattle.lk_written.proofs.Reductions.{ctor_right}
@@ -193,11 +193,7 @@ fields_right : (w : Place) (ps : List Claim) → AllDerived w ps → (js : Left)
 fields_right w ps d js J a j [] f = no_more_fields
 fields_right w ps d js J a j (x ∷ xs) f =
     on_equal w ps d js (proj J j a) x f _ (λ r. ProjectionsEqual w J a j (x ∷ xs)) (λ r h.
-    map_some (fields_equal ps r J a (suc j) xs) (fields_right w ps d r J a (suc j) xs f) (λ all. project h all))
-  where
-    map_some : (o : Option Left) → IfSome o (λ r. ProjectionsEqual w J a (suc j) xs) → (ProjectionsEqual w J a (suc j) xs → ProjectionsEqual w J a j (x ∷ xs)) → IfSome o (λ r. ProjectionsEqual w J a j (x ∷ xs))
-    map_some (Some v) h f = f h
-    map_some None h f = tt
+    if_map (fields_equal ps r J a (suc j) xs) (λ r. ProjectionsEqual w J a (suc j) xs) (λ r. ProjectionsEqual w J a j (x ∷ xs)) (fields_right w ps d r J a (suc j) xs f) (λ r all. project h all))
 
 struct_made : (w : Place) → WellStated w → (a b A B : Tree) (c : Name) (ks : List Level) (xs : List Tree) → b ≡ apply (const c ks) xs → (g : Entry) → w.means c ≡ Some g →
     (block : Block) (ind : BlockType) (ctor : Ctor) → g.kind ≡ a_ctor block ind ctor →

@@ -21,3 +21,4 @@ pub mod ProjRule
 pub mod OperationRule
 pub mod Faults
 pub mod Numerals
+pub mod Lines

@@ -26,7 +26,7 @@ use Rattle.lk_written.specs.Reducing.{the_ctor, the_recursor, major_of, red_iota
 use Rattle.lk_claims.specs.Claims.{IsShaped}
 use Rattle.lk_written.specs.Written.{Stands, CanWrite}
 use Rattle.lk_claims.proofs.Facts.{same_self, some_on}
-use Rattle.lk_written.proofs.Writings.{next, last_reduct, go_on, go_test, comes_itself, some_test, with_reduct, with_equal, typed_next, go_typed, go_reduced, go_equal}
+use Rattle.lk_written.proofs.Writings.{are_equal, next, last_reduct, go_on, go_test, comes_itself, some_test, with_reduct, with_equal, typed_next, go_typed, go_reduced, go_equal}
 use Rattle.lk_written.proofs.EqualRules.{same_self_name}
 
 head_applied : (h : Tree) (xs : List Tree) → head (apply h xs) ≡ head h
@@ -54,9 +54,6 @@ const_head c ls xs = head_applied (const c ls) xs
 pub const_args : (c : Name) (ls : List Level) (xs : List Tree) → args (apply (const c ls) xs) ≡ xs
 unfolding args
 const_args c ls xs = args_applied (const c ls) xs
-
-are_equal : (m n : ℕ) → m ≡ n → nat_eq m n ≡ true
-are_equal m n e = grind (arith, nat_tests)
 
 major_at : (w : Place) (R : Name) (ls : List Level) (g : Entry) (r : Recursor) → w.means R ≡ Some g → g.kind ≡ a_rec r → (h : Tree) (n : ℕ) → h ≡ const R ls → n ≡ before_major r → major_of w h n ≡ Some (R, ls, g, r)
 major_at w R ls g r m k h n e c =

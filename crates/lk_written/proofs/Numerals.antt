@@ -15,12 +15,13 @@ use Rattle.lk_claims.specs.Claims.{Claim, types, reduces, equals}
 use Rattle.lk_claims.specs.Tests.{◌>>=◌, passes, found}
 use Rattle.lk_claims.proofs.Pieces.{same_tree, halves, has_value, Some_inj}
 use Rattle.lk_written.specs.Line.{ReductionRule, chain_rule, head_rule, beta_rule, zeta_rule, delta_rule, field_rule, major_rule, k_rule, expand_rule, lift_rule, ind_rule, operation_rule, iota_rule, Line, ty, rd, cv, claim_of}
-use Rattle.lk_written.specs.Premises.{Left, Stated, next_claim, as_reduction, reduction}
+use Rattle.lk_written.specs.Premises.{Left, reduction}
 use Rattle.lk_written.specs.Typing.{comes_to}
 use Rattle.lk_written.specs.Reducing.{tree_in, red_chain, red_test}
 use Rattle.lk_written.specs.Section.{are_fine, line_holds, claims_by}
 use Rattle.lk_written.specs.Written.{Stands, IsWritten, CanWrite, KeepsNumerals}
-use Rattle.lk_written.proofs.Premises.{IfSome, if_bind, on_some, on_test, passed}
+use Rattle.lk_written.proofs.Premises.{IfSome, Each, claim_there, on_some, on_test, on_reduction, passed}
+use Rattle.lk_written.proofs.Lines.{each_line, some_holds}
 use Rattle.lk_written.proofs.Typings.{comes_right}
 
 -- a numeral is said to reduce to itself alone
@@ -32,34 +33,11 @@ ClaimKeeps (types e T) = Unit {0}
 ClaimKeeps (reduces a b) = Keeps a b
 ClaimKeeps (equals a b) = Unit {0}
 
-abbrev AllKeep : List Claim → Type 0
-AllKeep [] = Unit {0}
-AllKeep (c ∷ cs) = ClaimKeeps c × AllKeep cs
-
-claim_at : (ps : List Claim) → AllKeep ps → (j : ℕ) → IfSome (slice_get ps j) ClaimKeeps
-claim_at [] k j = tt
-claim_at (c ∷ cs) k zero = k.0
-claim_at (c ∷ cs) k (suc j) = claim_at cs k.1 j
-
-next_keeps : (ps : List Claim) → AllKeep ps → (js : Left) → IfSome (next_claim ps js) (λ c. ClaimKeeps c.0)
-next_keeps ps k [] = tt
-next_keeps ps k (j ∷ js) = if_bind (slice_get ps j) _ ClaimKeeps (λ c. ClaimKeeps c.0) (claim_at ps k j) (λ c h. h)
-
-reduction_in : (c : Claim) (js : Left) → ClaimKeeps c → IfSome (as_reduction c js) (λ s. Keeps s.left s.right)
-reduction_in (types e T) js h = tt
-reduction_in (reduces a b) js h = h
-reduction_in (equals a b) js h = tt
-
-on_reduction : (ps : List Claim) → AllKeep ps → (js : Left) {B : Type 0} (k : Stated → Option B) (Q : B → Type 0) →
-    ((s : Stated) → Keeps s.left s.right → IfSome (k s) Q) → IfSome (reduction ps js >>= k) Q
-on_reduction ps a js k Q f = if_bind (reduction ps js) k (λ s. Keeps s.left s.right) Q
-    (if_bind (next_claim ps js) _ (λ c. ClaimKeeps c.0) (λ s. Keeps s.left s.right) (next_keeps ps a js) (λ c h. reduction_in c.0 c.1 h)) f
-
-chain_keeps : (ps : List Claim) → AllKeep ps → (js : Left) (a b : Tree) → IfSome (red_chain ps js a b) (λ u. Keeps a b)
+chain_keeps : (ps : List Claim) → Each ClaimKeeps ps → (js : Left) (a b : Tree) → IfSome (red_chain ps js a b) (λ u. Keeps a b)
 chain_keeps ps k js a b =
     let Q : Unit {0} → Type 0 = λ u. Keeps a b in
-    on_reduction ps k js _ Q (λ c hc.
-    on_reduction ps k c.after _ Q (λ e he.
+    on_reduction ClaimKeeps ps k js _ Q (λ c hc.
+    on_reduction ClaimKeeps ps k c.after _ Q (λ e he.
     on_test (is_same_tree c.left a && is_same_tree e.left c.right) _ Q (λ t.
     let x : (is_same_tree c.left a ≡ true) × (is_same_tree e.left c.right ≡ true) = halves (is_same_tree c.left a) (is_same_tree e.left c.right) t in
     let first : Keeps a c.right = subst (λ z. Keeps z c.right) (same_tree c.left a x.0) hc in
@@ -89,7 +67,7 @@ nothing_computed w None b js Q e = tt
 nothing_computed w (Some v) b js Q e = absurd cc
 
 -- no rule but that of two reductions states one of a literal
-lit_keeps : (w : Place) (ps : List Claim) → AllKeep ps → (r : ReductionRule) (n : ℕ) (b : Tree) (js : Left) → IfSome (red_test w ps r (lit n) b js) (λ u. Keeps (lit n) b)
+lit_keeps : (w : Place) (ps : List Claim) → Each ClaimKeeps ps → (r : ReductionRule) (n : ℕ) (b : Tree) (js : Left) → IfSome (red_test w ps r (lit n) b js) (λ u. Keeps (lit n) b)
 unfolding head args
 lit_keeps w ps k chain_rule n b js = chain_keeps ps k js (lit n) b
 lit_keeps w ps k head_rule n b js = on_some (reduction ps js) _ (λ u. Keeps (lit n) b) (λ f e. tt)
@@ -106,7 +84,7 @@ lit_keeps w ps k operation_rule n b js = tt
 lit_keeps w ps k (iota_rule i) n b js = tt
 
 -- nor one of Nat.zero
-zero_keeps : (w : Place) → HasNat w → KeepsNumerals w → (ps : List Claim) → AllKeep ps → (r : ReductionRule) (b : Tree) (js : Left) → IfSome (red_test w ps r (named nat_zero) b js) (λ u. Keeps (named nat_zero) b)
+zero_keeps : (w : Place) → HasNat w → KeepsNumerals w → (ps : List Claim) → Each ClaimKeeps ps → (r : ReductionRule) (b : Tree) (js : Left) → IfSome (red_test w ps r (named nat_zero) b js) (λ u. Keeps (named nat_zero) b)
 unfolding head args
 zero_keeps w nat kept ps k chain_rule b js = chain_keeps ps k js (named nat_zero) b
 zero_keeps w nat kept ps k head_rule b js = on_some (reduction ps js) _ (λ u. Keeps (named nat_zero) b) (λ f e. tt)
@@ -129,37 +107,21 @@ zero_keeps w nat kept ps k operation_rule b js =
     on_some (found w nat_shape) _ Q (λ u z. nothing_computed w (op_value op []) b js Q (no_result op)))))
 zero_keeps w nat kept ps k (iota_rule i) b js = tt
 
-rule_keeps : (w : Place) → HasNat w → KeepsNumerals w → (ps : List Claim) → AllKeep ps → (r : ReductionRule) (a b : Tree) (js : Left) → passes (red_test w ps r a b js) ≡ true → Keeps a b
+rule_keeps : (w : Place) → HasNat w → KeepsNumerals w → (ps : List Claim) → Each ClaimKeeps ps → (r : ReductionRule) (a b : Tree) (js : Left) → passes (red_test w ps r a b js) ≡ true → Keeps a b
 rule_keeps w nat kept ps k r a b js h n of_lit = passed (red_test w ps r (lit n) b js) (Keeps (lit n) b) (lit_keeps w ps k r n b js) h n of_lit
 rule_keeps w nat kept ps k r a b js h n of_zero = passed (red_test w ps r (named nat_zero) b js) (Keeps (named nat_zero) b) (zero_keeps w nat kept ps k r b js) h 0 of_zero
 
-line_keeps : (w : Place) → HasNat w → KeepsNumerals w → (ps : List Claim) → AllKeep ps → (l : Line) → line_holds w ps l ≡ true → ClaimKeeps (claim_of l)
+line_keeps : (w : Place) → HasNat w → KeepsNumerals w → (ps : List Claim) → Each ClaimKeeps ps → (l : Line) → line_holds w ps l ≡ true → ClaimKeeps (claim_of l)
 line_keeps w nat kept ps k (ty r e T js) h = tt
 line_keeps w nat kept ps k (rd r a b js) h = rule_keeps w nat kept ps k r a b js (halves (are_fine a b) (passes (red_test w ps r a b js)) h).1
 line_keeps w nat kept ps k (cv r a b js) h = tt
 
-one_more : (ps : List Claim) (c : Claim) → AllKeep ps → ClaimKeeps c → AllKeep (ps ++ (c ∷ []))
-one_more [] c k h = (h, tt)
-one_more (p ∷ ps) c k h = (k.0, one_more ps c k.1 h)
-
-lines_keep : (w : Place) → HasNat w → KeepsNumerals w → (ls : List Line) (ps : List Claim) → AllKeep ps → IfSome (claims_by w ps ls) AllKeep
-lines_keep w nat kept [] ps k = k
-lines_keep w nat kept (l ∷ ls) ps k = go (line_holds w ps l) refl (λ h. lines_keep w nat kept ls (ps ++ (claim_of l ∷ [])) (one_more ps (claim_of l) k (line_keeps w nat kept ps k l h)))
-  where
-    go : (b : Bool) → line_holds w ps l ≡ b → (line_holds w ps l ≡ true → IfSome (claims_by w (ps ++ (claim_of l ∷ [])) ls) AllKeep) →
-        IfSome (if b then claims_by w (ps ++ (claim_of l ∷ [])) ls else None) AllKeep
-    go true e f = f e
-    go false e f = tt
-
-some_holds : {A : Type 0} (o : Option A) (P : A → Type 0) (v : A) → IfSome o P → o ≡ Some v → P v
-some_holds (Some u) P v h e = subst P (Some_inj e) h
-some_holds None P v h e = absurd cc
-
-standing : (qs : List Claim) (j : ℕ) (a b : Tree) → AllKeep qs → Stands qs j (reduces a b) → Keeps a b
+standing : (qs : List Claim) (j : ℕ) (a b : Tree) → Each ClaimKeeps qs → Stands qs j (reduces a b) → Keeps a b
 standing qs j a b k (inl e) = λ n i. e
-standing qs j a b k (inr h) = some_holds (slice_get qs j) ClaimKeeps (reduces a b) (claim_at qs k j) h
+standing qs j a b k (inr h) = some_holds (slice_get qs j) ClaimKeeps (reduces a b) (claim_there ClaimKeeps qs k j) h
 
 pub numeral_alone : (w : Place) → HasNat w → KeepsNumerals w → (a b : Tree) → CanWrite w (reduces a b) → (n : ℕ) → IsNumeral a n → a ≡ b
 numeral_alone w nat kept a b h =
     let x : IsWritten w [] (reduces a b) = h.written [] in
-    standing x.claims x.place a b (some_holds (claims_by w [] x.lines) AllKeep x.claims (lines_keep w nat kept x.lines [] tt) x.holds) x.stands
+    let all : Each ClaimKeeps x.claims = some_holds (claims_by w [] x.lines) (Each ClaimKeeps) x.claims (each_line w ClaimKeeps (line_keeps w nat kept) x.lines [] tt) x.holds in
+    standing x.claims x.place a b all x.stands

@@ -120,46 +120,62 @@ fresh_right A es (local k T) = on_test (is_same_tree T A && is_fresh k es) (λ u
     (fresh_trees k es y.1, ap (local k) (same_tree T A y.0)))
 fresh_right A es _ = tt
 
-claim_there : (w : Place) (ps : List Claim) → AllDerived w ps → (j : ℕ) → IfSome (slice_get ps j) (λ c. Derived w c)
-claim_there w [] d j = tt
-claim_there w (c ∷ cs) d zero = d.0
-claim_there w (c ∷ cs) d (suc j) = claim_there w cs d.1 j
+-- each claim has the property
+abbrev pub Each : (Claim → Type 0) → List Claim → Type 0
+Each P [] = Unit {0}
+Each P (c ∷ cs) = P c × Each P cs
 
-next_right : (w : Place) (ps : List Claim) → AllDerived w ps → (js : Left) → IfSome (next_claim ps js) (λ c. Derived w c.0)
-next_right w ps d [] = tt
-next_right w ps d (j ∷ js) = if_bind (slice_get ps j) _ (λ c. Derived w c) (λ c. Derived w c.0) (claim_there w ps d j) (λ c h. h)
+pub each_derived : (w : Place) (ps : List Claim) → AllDerived w ps → Each (Derived w) ps
+each_derived w [] d = tt
+each_derived w (c ∷ cs) d = (d.0, each_derived w cs d.1)
 
-typing_in : (w : Place) (c : Claim) (js : Left) → Derived w c → IfSome (as_typing c js) (λ s. HasType w s.left s.right)
-typing_in w (types e T) js h = h
-typing_in w (reduces a b) js h = tt
-typing_in w (equals a b) js h = tt
+pub claim_there : (P : Claim → Type 0) (ps : List Claim) → Each P ps → (j : ℕ) → IfSome (slice_get ps j) P
+claim_there P [] d j = tt
+claim_there P (c ∷ cs) d zero = d.0
+claim_there P (c ∷ cs) d (suc j) = claim_there P cs d.1 j
 
-reduction_in : (w : Place) (c : Claim) (js : Left) → Derived w c → IfSome (as_reduction c js) (λ s. Reduces w s.left s.right)
-reduction_in w (types e T) js h = tt
-reduction_in w (reduces a b) js h = h
-reduction_in w (equals a b) js h = tt
+next_there : (P : Claim → Type 0) (ps : List Claim) → Each P ps → (js : Left) → IfSome (next_claim ps js) (λ c. P c.0)
+next_there P ps d [] = tt
+next_there P ps d (j ∷ js) = if_bind (slice_get ps j) _ P (λ c. P c.0) (claim_there P ps d j) (λ c h. h)
 
-equality_in : (w : Place) (c : Claim) (js : Left) → Derived w c → IfSome (as_equality c js) (λ s. IsDefEq w s.left s.right)
-equality_in w (types e T) js h = tt
-equality_in w (reduces a b) js h = tt
-equality_in w (equals a b) js h = h
+typing_in : (P : Claim → Type 0) (c : Claim) (js : Left) → P c → IfSome (as_typing c js) (λ s. P (types s.left s.right))
+typing_in P (types e T) js h = h
+typing_in P (reduces a b) js h = tt
+typing_in P (equals a b) js h = tt
 
-typing_right : (w : Place) (ps : List Claim) → AllDerived w ps → (js : Left) → IfSome (typing ps js) (λ s. HasType w s.left s.right)
-typing_right w ps d js = if_bind (next_claim ps js) _ (λ c. Derived w c.0) (λ s. HasType w s.left s.right) (next_right w ps d js) (λ c h. typing_in w c.0 c.1 h)
+reduction_in : (P : Claim → Type 0) (c : Claim) (js : Left) → P c → IfSome (as_reduction c js) (λ s. P (reduces s.left s.right))
+reduction_in P (types e T) js h = tt
+reduction_in P (reduces a b) js h = h
+reduction_in P (equals a b) js h = tt
 
-reduction_right : (w : Place) (ps : List Claim) → AllDerived w ps → (js : Left) → IfSome (reduction ps js) (λ s. Reduces w s.left s.right)
-reduction_right w ps d js = if_bind (next_claim ps js) _ (λ c. Derived w c.0) (λ s. Reduces w s.left s.right) (next_right w ps d js) (λ c h. reduction_in w c.0 c.1 h)
+equality_in : (P : Claim → Type 0) (c : Claim) (js : Left) → P c → IfSome (as_equality c js) (λ s. P (equals s.left s.right))
+equality_in P (types e T) js h = tt
+equality_in P (reduces a b) js h = tt
+equality_in P (equals a b) js h = h
 
-equality_right : (w : Place) (ps : List Claim) → AllDerived w ps → (js : Left) → IfSome (equality ps js) (λ s. IsDefEq w s.left s.right)
-equality_right w ps d js = if_bind (next_claim ps js) _ (λ c. Derived w c.0) (λ s. IsDefEq w s.left s.right) (next_right w ps d js) (λ c h. equality_in w c.0 c.1 h)
+-- a premise that is taken as it is
+pub on_reduction : (P : Claim → Type 0) (ps : List Claim) → Each P ps → (js : Left) {B : Type 0} (k : Stated → Option B) (Q : B → Type 0) →
+    ((s : Stated) → P (reduces s.left s.right) → IfSome (k s) Q) → IfSome (reduction ps js >>= k) Q
+on_reduction P ps d js k Q f = if_bind (reduction ps js) k (λ s. P (reduces s.left s.right)) Q
+    (if_bind (next_claim ps js) _ (λ c. P c.0) (λ s. P (reduces s.left s.right)) (next_there P ps d js) (λ c h. reduction_in P c.0 c.1 h)) f
+
+pub on_typing : (w : Place) (ps : List Claim) → AllDerived w ps → (js : Left) {B : Type 0} (k : Stated → Option B) (Q : B → Type 0) →
+    ((s : Stated) → HasType w s.left s.right → IfSome (k s) Q) → IfSome (typing ps js >>= k) Q
+on_typing w ps d js k Q f = if_bind (typing ps js) k (λ s. HasType w s.left s.right) Q
+    (if_bind (next_claim ps js) _ (λ c. Derived w c.0) (λ s. HasType w s.left s.right) (next_there (Derived w) ps (each_derived w ps d) js) (λ c h. typing_in (Derived w) c.0 c.1 h)) f
+
+on_equality : (w : Place) (ps : List Claim) → AllDerived w ps → (js : Left) {B : Type 0} (k : Stated → Option B) (Q : B → Type 0) →
+    ((s : Stated) → IsDefEq w s.left s.right → IfSome (k s) Q) → IfSome (equality ps js >>= k) Q
+on_equality w ps d js k Q f = if_bind (equality ps js) k (λ s. IsDefEq w s.left s.right) Q
+    (if_bind (next_claim ps js) _ (λ c. Derived w c.0) (λ s. IsDefEq w s.left s.right) (next_there (Derived w) ps (each_derived w ps d) js) (λ c h. equality_in (Derived w) c.0 c.1 h)) f
 
 pub typed_right : (w : Place) (ps : List Claim) → AllDerived w ps → (js : Left) (e : Tree) → IfSome (typed ps js e) (λ r. HasType w e r.0)
-typed_right w ps d js e = if_bind (typing ps js) _ (λ s. HasType w s.left s.right) (λ r. HasType w e r.0) (typing_right w ps d js)
-    (λ s h. on_test (is_same_tree s.left e) (λ u. Some (s.right, s.after)) (λ r. HasType w e r.0) (λ t. subst (λ x. HasType w x s.right) (same_tree s.left e t) h))
+typed_right w ps d js e = on_typing w ps d js _ (λ r. HasType w e r.0) (λ s h.
+    on_test (is_same_tree s.left e) (λ u. Some (s.right, s.after)) (λ r. HasType w e r.0) (λ t. subst (λ x. HasType w x s.right) (same_tree s.left e t) h))
 
 next_reduct_right : (w : Place) (ps : List Claim) → AllDerived w ps → (js : Left) (e : Tree) → IfSome (next_reduct ps js e) (λ r. Reduces w e r.0)
-next_reduct_right w ps d js e = if_bind (reduction ps js) _ (λ s. Reduces w s.left s.right) (λ r. Reduces w e r.0) (reduction_right w ps d js)
-    (λ s h. on_test (is_same_tree s.left e) (λ u. Some (s.right, s.after)) (λ r. Reduces w e r.0) (λ t. subst (λ x. Reduces w x s.right) (same_tree s.left e t) h))
+next_reduct_right w ps d js e = on_reduction (Derived w) ps (each_derived w ps d) js _ (λ r. Reduces w e r.0) (λ s h.
+    on_test (is_same_tree s.left e) (λ u. Some (s.right, s.after)) (λ r. Reduces w e r.0) (λ t. subst (λ x. Reduces w x s.right) (same_tree s.left e t) h))
 
 pub reduced_right : (w : Place) (ps : List Claim) → AllDerived w ps → (js : Left) (e : Tree) → IsWellFormed e → IfSome (reduced ps js e) (λ r. Reduces w e r.0)
 reduced_right w ps d js e f = go (next_reduct ps js e) (next_reduct_right w ps d js e)
@@ -169,8 +185,8 @@ reduced_right w ps d js e f = go (next_reduct ps js e) (next_reduct_right w ps d
     go None h = r_refl f
 
 next_equal_right : (w : Place) (ps : List Claim) → AllDerived w ps → (js : Left) (a b : Tree) → IfSome (next_equal ps js a b) (λ r. IsDefEq w a b)
-next_equal_right w ps d js a b = if_bind (equality ps js) _ (λ s. IsDefEq w s.left s.right) (λ r. IsDefEq w a b) (equality_right w ps d js)
-    (λ s h. on_test (is_same_tree s.left a && is_same_tree s.right b) (λ u. Some s.after) (λ r. IsDefEq w a b) (λ t.
+next_equal_right w ps d js a b = on_equality w ps d js _ (λ r. IsDefEq w a b) (λ s h.
+    on_test (is_same_tree s.left a && is_same_tree s.right b) (λ u. Some s.after) (λ r. IsDefEq w a b) (λ t.
     let x : (is_same_tree s.left a ≡ true) × (is_same_tree s.right b ≡ true) = halves (is_same_tree s.left a) (is_same_tree s.right b) t in
     subst (λ y. IsDefEq w a y) (same_tree s.right b x.1) (subst (λ y. IsDefEq w y s.right) (same_tree s.left a x.0) h)))
 
@@ -215,15 +231,6 @@ on_typed w ps d js e k Q f = if_bind (typed ps js e) k (λ r. HasType w e r.0) Q
 pub on_reduced : (w : Place) (ps : List Claim) → AllDerived w ps → (js : Left) (e : Tree) → IsWellFormed e → {B : Type 0} (k : Tree × Left → Option B) (Q : B → Type 0) →
     ((r : Tree × Left) → Reduces w e r.0 → IfSome (k r) Q) → IfSome (reduced ps js e >>= k) Q
 on_reduced w ps d js e g k Q f = if_bind (reduced ps js e) k (λ r. Reduces w e r.0) Q (reduced_right w ps d js e g) f
-
--- a premise that is taken as it is
-pub on_typing : (w : Place) (ps : List Claim) → AllDerived w ps → (js : Left) {B : Type 0} (k : Stated → Option B) (Q : B → Type 0) →
-    ((s : Stated) → HasType w s.left s.right → IfSome (k s) Q) → IfSome (typing ps js >>= k) Q
-on_typing w ps d js k Q f = if_bind (typing ps js) k (λ s. HasType w s.left s.right) Q (typing_right w ps d js) f
-
-pub on_reduction : (w : Place) (ps : List Claim) → AllDerived w ps → (js : Left) {B : Type 0} (k : Stated → Option B) (Q : B → Type 0) →
-    ((s : Stated) → Reduces w s.left s.right → IfSome (k s) Q) → IfSome (reduction ps js >>= k) Q
-on_reduction w ps d js k Q f = if_bind (reduction ps js) k (λ s. Reduces w s.left s.right) Q (reduction_right w ps d js) f
 
 pub on_equal : (w : Place) (ps : List Claim) → AllDerived w ps → (js : Left) (a b : Tree) → IsWellFormed a → {B : Type 0} (k : Left → Option B) (Q : B → Type 0) →
     ((r : Left) → IsDefEq w a b → IfSome (k r) Q) → IfSome (equal ps js a b >>= k) Q

@@ -21,7 +21,7 @@ use Rattle.lk_claims.specs.Claims.{IsShaped}
 use Rattle.lk_written.specs.Written.{Stands, IsWritten, CanWrite, CanSort}
 use Rattle.lk_claims.specs.Follows.{PropWhere, not_due, due, EachParameter, no_parameter, parameter, FieldAt, this_field, field_before}
 use Rattle.lk_claims.proofs.Facts.{some_on}
-use Rattle.lk_written.proofs.Writings.{Stays, next, last_type, go_on, go_test, some_test, comes_itself, NoReduct, with_reduct, typed_next, reduct_next, to_pi_there, sorted_there, go_typed, go_reduced, go_sorted}
+use Rattle.lk_written.proofs.Writings.{are_equal, Stays, next, last_type, go_on, go_test, some_test, comes_itself, NoReduct, with_reduct, typed_next, reduct_next, to_pi_there, sorted_there, go_typed, go_reduced, go_sorted}
 use Rattle.lk_written.proofs.EqualRules.{same_self_name}
 use Rattle.lk_written.proofs.MajorRules.{const_head, const_args}
 
@@ -141,9 +141,6 @@ field_read w qs {q = q} (field_before {r = r} {A = A} {B = B} {F = F} h p k) js 
     let m : Settled qs rest = field_next w qs k js n in
     some_on (to_pi qs (with_reduct r (pi A B) h.place more) r) ((A, B), more) _ (F, js) (to_pi_there qs h.place more r A B h.stands (pi_settled qs more r A B (prop_next w qs p rest m)))
     (some_on (prop_if (q && has_var 0 B) qs more A) rest _ (F, js) (prop_read w qs p rest m) (field_read w qs k js n))
-
-are_equal : (m n : ℕ) → m ≡ n → nat_eq m n ≡ true
-are_equal m n e = grind (arith, nat_tests)
 
 is_less : (m n : ℕ) → m < n → nat_lt m n ≡ true
 is_less m n e = grind (arith, nat_tests)

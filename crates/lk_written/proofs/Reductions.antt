@@ -23,19 +23,20 @@ use Rattle.lk_questions.specs.Quotients.{by_quot}
 use Rattle.lk_claims.proofs.Pieces.{same_tree, halves, equal_numbers, has_value, same_name_right}
 use Rattle.lk_claims.proofs.Facts.{quot_kind}
 use Rattle.lk_claims.proofs.Readings.{sound_text_to_ctor}
-use Rattle.lk_claims.specs.Claims.{Claim, AllDerived}
+use Rattle.lk_claims.specs.Claims.{Claim, Derived, AllDerived}
 use Rattle.lk_claims.specs.Tests.{found}
 use Rattle.lk_written.specs.Premises.{Left, arguments_over}
 use Rattle.lk_written.specs.Reducing.{red_chain, red_head, is_applied_lam, red_beta, opened_let, red_zeta, red_delta, the_ctor, red_field, is_quot, mk_of, red_quot, red_lift, red_ind}
-use Rattle.lk_written.proofs.Premises.{IfSome, if_bind, on_some, on_test, if_test, found_right, on_reduction, on_reduced, arguments_right}
+use Rattle.lk_written.proofs.Premises.{IfSome, Each, each_derived, if_bind, on_some, on_test, if_test, found_right, on_reduction, on_reduced, arguments_right}
 use Rattle.lk_written.proofs.Typings.{comes_right, comes_fine}
 use Rattle.lk_written.proofs.Projs.{on_const, spine_is}
 
 pub chain_is : (w : Place) (ps : List Claim) → AllDerived w ps → (js : Left) (a b : Tree) → IfSome (red_chain ps js a b) (λ u. Reduces w a b)
 chain_is w ps d js a b =
     let Q : Unit {0} → Type 0 = λ u. Reduces w a b in
-    on_reduction w ps d js _ Q (λ c hc.
-    on_reduction w ps d c.after _ Q (λ e he.
+    let each : Each (Derived w) ps = each_derived w ps d in
+    on_reduction (Derived w) ps each js _ Q (λ c hc.
+    on_reduction (Derived w) ps each c.after _ Q (λ e he.
     on_test (is_same_tree c.left a && is_same_tree e.left c.right) _ Q (λ t.
     let x : (is_same_tree c.left a ≡ true) × (is_same_tree e.left c.right ≡ true) = halves (is_same_tree c.left a) (is_same_tree e.left c.right) t in
     let first : Reduces w a c.right = subst (λ z. Reduces w z c.right) (same_tree c.left a x.0) hc in
@@ -50,7 +51,7 @@ under w f g (x ∷ xs) fx h = under w (app f x) (app g x) xs fx.1 (r_head h fx.0
 pub head_is : (w : Place) (ps : List Claim) → AllDerived w ps → (js : Left) (a b : Tree) → IsWellFormed a → IfSome (red_head ps js a b) (λ u. Reduces w a b)
 head_is w ps d js a b fa =
     let Q : Unit {0} → Type 0 = λ u. Reduces w a b in
-    on_reduction w ps d js _ Q (λ f hf.
+    on_reduction (Derived w) ps (each_derived w ps d) js _ Q (λ f hf.
     if_bind (arguments_over f.left a []) _ (λ xs. a ≡ apply f.left xs) Q (arguments_right f.left a []) (λ xs i.
     let fx : AllWellFormed xs = (well_formed_of_apply f.left xs (subst IsWellFormed i fa)).1 in
     comes_right b (apply f.right xs) f.after (λ b. Reduces w a b) (subst (λ z. Reduces w z (apply f.right xs)) (sym i) (under w f.left f.right xs fx hf))))

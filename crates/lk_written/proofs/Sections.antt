@@ -30,17 +30,14 @@ use Rattle.lk_written.specs.Typing.{type_test}
 use Rattle.lk_written.specs.Reducing.{red_test}
 use Rattle.lk_written.specs.Equal.{eq_test}
 use Rattle.lk_written.specs.Section.{Section, are_fine, line_holds, claims_by, value_read, value_test, laws_read, laws_test, body_test, parts_test, section_test}
-use Rattle.lk_written.proofs.Premises.{IfSome, if_bind, on_some, on_test, passed, if_none_left, fine_right, found_right, equal_right, on_typed, on_equal, on_sorted}
+use Rattle.lk_written.proofs.Premises.{IfSome, Each, if_map, if_bind, on_some, on_test, passed, if_none_left, fine_right, found_right, equal_right, on_typed, on_equal, on_sorted}
+use Rattle.lk_written.proofs.Lines.{each_line, some_holds}
 use Rattle.lk_written.proofs.Typings.{sort_is as type_sort_is, local_is, const_is, app_is, lam_is, pi_is, let_is, lit_is, str_is}
 use Rattle.lk_written.proofs.Projs.{proj_is}
 use Rattle.lk_written.proofs.Reductions.{chain_is, head_is, beta_is, zeta_is, delta_is, field_is, lift_is, ind_is}
 use Rattle.lk_written.proofs.Majors.{major_is, iota_is, k_is, expand_is}
 use Rattle.lk_written.proofs.Operations.{operation_is}
 use Rattle.lk_written.proofs.Equalities.{reduce_is, sorts_is, consts_is, apps_is, lams_is, pis_is, projs_is, eta_is, struct_is, unit_is, proof_is, zero_is, succ_is, str_left_is, str_right_is}
-
-map_some : {B : Type 0} (o : Option B) (P Q : B → Type 0) → IfSome o P → ((v : B) → P v → Q v) → IfSome o Q
-map_some (Some v) P Q h f = f v h
-map_some None P Q h f = tt
 
 type_line : (w : Place) → IsSoundPlace w → (ps : List Claim) → AllDerived w ps → (r : TypingRule) (e T : Tree) (js : Left) → IsWellFormed e → IsWellFormed T → IfSome (type_test w ps r e T js) (λ u. HasType w e T)
 type_line w ok ps d sort_rule e T js fe fT = type_sort_is w js e T
@@ -104,24 +101,18 @@ line_right w ok ps d (cv r a b js) h =
     let f : IsWellFormed a × IsWellFormed b = both_fine a b x.0 in
     passed (eq_test w ps r a b js) (IsDefEq w a b) (eq_line w ok ps d r a b js f.0 f.1) x.1
 
-one_more : (w : Place) (ps : List Claim) (c : Claim) → AllDerived w ps → Derived w c → AllDerived w (ps ++ (c ∷ []))
-one_more w [] c d h = (h, tt)
-one_more w (p ∷ ps) c d h = (d.0, one_more w ps c d.1 h)
+all_derived : (w : Place) (ps : List Claim) → Each (Derived w) ps → AllDerived w ps
+all_derived w [] d = tt
+all_derived w (c ∷ cs) d = (d.0, all_derived w cs d.1)
 
 -- each line states what is derived
-pub claims_right : (w : Place) → IsSoundPlace w → (ls : List Line) (ps : List Claim) → AllDerived w ps → IfSome (claims_by w ps ls) (λ qs. AllDerived w qs)
-claims_right w ok [] ps d = d
-claims_right w ok (l ∷ ls) ps d = go (line_holds w ps l) refl (λ h. claims_right w ok ls (ps ++ (claim_of l ∷ [])) (one_more w ps (claim_of l) d (line_right w ok ps d l h)))
-  where
-    go : (b : Bool) → line_holds w ps l ≡ b → (line_holds w ps l ≡ true → IfSome (claims_by w (ps ++ (claim_of l ∷ [])) ls) (λ qs. AllDerived w qs)) →
-        IfSome (if b then claims_by w (ps ++ (claim_of l ∷ [])) ls else None) (λ qs. AllDerived w qs)
-    go true e f = f e
-    go false e f = tt
+claims_right : (w : Place) → IsSoundPlace w → (ls : List Line) → IfSome (claims_by w [] ls) (λ qs. AllDerived w qs)
+claims_right w ok ls = if_map (claims_by w [] ls) (Each (Derived w)) (λ qs. AllDerived w qs) (each_line w (Derived w) (λ ps d l h. line_right w ok ps (all_derived w ps d) l h) ls [] tt) (λ qs d. all_derived w qs d)
 
 value_right : (w : Place) (ps : List Claim) → AllDerived w ps → (js : Left) (type value : Tree) → IfSome (value_read ps js type value) (λ r. IsOf w value type)
 value_right w ps d js type value =
     on_typed w ps d js value _ (λ r. IsOf w value type) (λ V h.
-    map_some (equal ps V.1 V.0 type) (λ r. IsDefEq w V.0 type) (λ r. IsOf w value type) (equal_right w ps d V.1 V.0 type (well_formed_of_type h).1) (λ r q. record { inferred = V.0; types = h; equals = q }))
+    if_map (equal ps V.1 V.0 type) (λ r. IsDefEq w V.0 type) (λ r. IsOf w value type) (equal_right w ps d V.1 V.0 type (well_formed_of_type h).1) (λ r q. record { inferred = V.0; types = h; equals = q }))
 
 value_alone : (w : Place) (ps : List Claim) → AllDerived w ps → (js : Left) (type value : Tree) → IfSome (value_test ps js type value) (λ u. IsOf w value type)
 value_alone w ps d js type value =
@@ -132,7 +123,7 @@ laws_right w ps d js [] f = if_none_left js (AllHold w []) no_more_laws
 laws_right w ps d js (law ∷ laws) f =
     on_some (found w (held_given law.holds)) _ (λ u. AllHold w (law ∷ laws)) (λ u e.
     on_equal w ps d js law.left law.right f.0.0 _ (λ u. AllHold w (law ∷ laws)) (λ r q.
-    map_some (laws_read w ps r laws) (λ u. AllHold w laws) (λ u. AllHold w (law ∷ laws)) (laws_right w ps d r laws f.1) (λ u more. holds q more)))
+    if_map (laws_read w ps r laws) (λ u. AllHold w laws) (λ u. AllHold w (law ∷ laws)) (laws_right w ps d r laws f.1) (λ u more. holds q more)))
 
 lawful_right : (w : Place) (ps : List Claim) → AllDerived w ps → (js : Left) (o : Option Op) (ls : List Name) (type : Tree) (h : Hint) (value : Tree) → IsWellFormed value →
     IfSome (laws_test w ps js o ls value) (λ u. HasLaws w (record { levels = ls; type = type; kind = a_def h value }) o)
@@ -142,31 +133,27 @@ lawful_right w ps d js (Some op) ls type h value f =
     if_bind (found w nat_shape) _ (λ u. HasNat w) (λ u. G) (found_right w nat_shape (λ u. HasNat w) (sound_nat_shape w)) (λ u shape.
     on_test (nat_eq (length ls) 0) _ (λ u. G) (λ n.
     if_bind (found w (def_given (stated_by op))) _ (λ u. CanBeStated w (stated_by op)) (λ u. G) (found_right w (def_given (stated_by op)) (λ u. CanBeStated w (stated_by op)) (sound_def_given w (stated_by op))) (λ y stated.
-    map_some (laws_read w ps js (laws_of op value)) (λ u. AllHold w (laws_of op value)) (λ u. G) (laws_right w ps d js (laws_of op value) (laws_fine op value f))
+    if_map (laws_read w ps js (laws_of op value)) (λ u. AllHold w (laws_of op value)) (λ u. G) (laws_right w ps d js (laws_of op value) (laws_fine op value f))
     (λ u all p e. (shape, subst (λ q. MeetsLaws w q (record { levels = ls; type = type; kind = a_def h value })) (Some_inj e) (meets (λ t. no_item ls (equal_numbers (length ls) 0 n)) stated all))))))
 
 body_right : (w : Place) (ps : List Claim) → AllDerived w ps → (js : Left) (d : Decl) (l : Level) (b : Body) → IfSome (body_test w ps js d l b) (λ u. BodyDerived w d l b)
 body_right w ps h js d l as_axiom = if_none_left js (Unit {0}) tt
 body_right w ps h js d l (as_def i value) =
     if_bind (value_read ps js d.type value) _ (λ r. IsOf w value d.type) (λ u. BodyDerived w d l (as_def i value)) (value_right w ps h js d.type value) (λ r v.
-    map_some (laws_test w ps r (lawful_op d.name) d.levels value) _ (λ u. BodyDerived w d l (as_def i value)) (lawful_right w ps h r (lawful_op d.name) d.levels d.type i value (well_formed_of_type v.types).0) (λ u laws. (v, lawful_of w d i value laws)))
+    if_map (laws_test w ps r (lawful_op d.name) d.levels value) _ (λ u. BodyDerived w d l (as_def i value)) (lawful_right w ps h r (lawful_op d.name) d.levels d.type i value (well_formed_of_type v.types).0) (λ u laws. (v, lawful_of w d i value laws)))
 body_right w ps h js d l (as_opaque value) = value_alone w ps h js d.type value
 body_right w ps h js d l (as_thm value) = on_test (is_zero_level l) _ (λ u. IsOf w value d.type × SameLevel l zero_level)
-    (λ z. map_some (value_test ps js d.type value) (λ u. IsOf w value d.type) (λ u. IsOf w value d.type × SameLevel l zero_level) (value_alone w ps h js d.type value) (λ u i. (i, zero_level_same l z)))
+    (λ z. if_map (value_test ps js d.type value) (λ u. IsOf w value d.type) (λ u. IsOf w value d.type × SameLevel l zero_level) (value_alone w ps h js d.type value) (λ u i. (i, zero_level_same l z)))
 body_right w ps h js d l as_quot = if_bind (found w (quot_steps d.name d.levels d.type)) _ (λ u. IsQuotient w d.name d.levels d.type) (λ u. IsQuotient w d.name d.levels d.type)
     (found_right w (quot_steps d.name d.levels d.type) (λ u. IsQuotient w d.name d.levels d.type) (sound_quot_steps w d.name d.levels d.type)) (λ u q. if_none_left js (IsQuotient w d.name d.levels d.type) q)
 
 parts_right : (w : Place) (ps : List Claim) → AllDerived w ps → (js : Left) (d : Decl) → IfSome (parts_test w ps js d) (λ u. DeclDerived w d)
 parts_right w ps h js d =
     on_sorted w ps h js d.type _ (λ u. DeclDerived w d) (λ l s.
-    map_some (body_test w ps l.1 d l.0 d.body) (λ u. BodyDerived w d l.0 d.body) (λ u. DeclDerived w d) (body_right w ps h l.1 d l.0 d.body) (λ u b. record { level = l.0; sorted = s; body = b }))
+    if_map (body_test w ps l.1 d l.0 d.body) (λ u. BodyDerived w d l.0 d.body) (λ u. DeclDerived w d) (body_right w ps h l.1 d l.0 d.body) (λ u b. record { level = l.0; sorted = s; body = b }))
 
 pub section_right : (w : Place) → IsSoundPlace w → (d : Decl) (s : Section) → IfSome (section_test w d s) (λ u. DeclDerived w d)
-section_right w ok d s = if_bind (claims_by w [] s.lines) _ (λ ps. AllDerived w ps) (λ u. DeclDerived w d) (claims_right w ok s.lines [] tt) (λ ps h. parts_right w ps h s.parts d)
-
-some_holds : {A : Type 0} (o : Option A) (P : A → Type 0) (v : A) → IfSome o P → o ≡ Some v → P v
-some_holds (Some u) P v h e = let i : u ≡ v = Some_inj e in rw (← i) h
-some_holds None P v h e = absurd cc
+section_right w ok d s = if_bind (claims_by w [] s.lines) _ (λ ps. AllDerived w ps) (λ u. DeclDerived w d) (claims_right w ok s.lines) (λ ps h. parts_right w ps h s.parts d)
 
 pub lines_right : (w : Place) → IsSoundPlace w → (ls : List Line) (qs : List Claim) → claims_by w [] ls ≡ Some qs → AllDerived w qs
-lines_right w ok ls qs e = some_holds (claims_by w [] ls) (λ qs. AllDerived w qs) qs (claims_right w ok ls [] tt) e
+lines_right w ok ls qs e = some_holds (claims_by w [] ls) (λ qs. AllDerived w qs) qs (claims_right w ok ls) e

@@ -24,12 +24,9 @@ use Rattle.lk_claims.specs.Follows.{EachField}
 use Rattle.lk_claims.specs.Claims.{IsShaped}
 use Rattle.lk_written.specs.Written.{Stands, IsWritten, CanWrite, CanSort}
 use Rattle.lk_claims.proofs.Facts.{same_self}
-use Rattle.lk_written.proofs.Writings.{Stays, next, last_equal, go_on, go_test, NoReduct, equal_there, last_reduct, with_reduct, with_equal, sorted_there, typed_next, go_typed, go_reduced, go_equal}
+use Rattle.lk_written.proofs.Writings.{are_equal, Stays, next, last_equal, go_on, go_test, NoReduct, equal_there, last_reduct, with_reduct, with_equal, sorted_there, typed_next, go_typed, go_reduced, go_equal}
 use Rattle.lk_written.proofs.EqualRules.{normal_passes, same_self_name}
 use Rattle.lk_written.proofs.MajorRules.{const_head, const_args, major_there}
-
-are_equal : (m n : ℕ) → m ≡ n → nat_eq m n ≡ true
-are_equal m n e = grind (arith, nat_tests)
 
 empty_there : (block : Block) (ind : BlockType) (ctor : Ctor) (cs : List Ctor) (xs : List Tree) → cs ≡ ctor ∷ [] → is_structure_like block ind ctor ≡ true → ctor.fields ≡ 0 → length xs ≡ ind.parameters → is_unit_like block ind cs xs ≡ true
 empty_there block ind ctor cs xs e l z n = rw e (and_true (is_structure_like block ind ctor && nat_eq ctor.fields 0) (nat_eq (length xs) ind.parameters) (and_true (is_structure_like block ind ctor) (nat_eq ctor.fields 0) l (are_equal ctor.fields 0 z)) (are_equal (length xs) ind.parameters n))

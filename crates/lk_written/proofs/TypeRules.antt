@@ -17,11 +17,8 @@ use Rattle.lk_written.specs.Typing.{applied_type}
 use Rattle.lk_claims.specs.Claims.{IsShaped}
 use Rattle.lk_written.specs.Written.{CanWrite, CanSort}
 use Rattle.lk_claims.proofs.Facts.{same_self, some_on}
-use Rattle.lk_written.proofs.Writings.{next, last_type, go_on, go_test, comes_itself, with_reduct, with_equal, typing_there, typed_there, equal_there, to_pi_there, fresh_there, typed_next, go_typed, go_equal, go_sorted}
+use Rattle.lk_written.proofs.Writings.{are_equal, next, last_type, go_on, go_test, comes_itself, with_reduct, with_equal, typing_there, typed_there, equal_there, to_pi_there, fresh_there, typed_next, go_typed, go_equal, go_sorted}
 use Rattle.lk_written.proofs.Rules.{one_argument}
-
-are_equal : (m n : ℕ) → m ≡ n → nat_eq m n ≡ true
-are_equal m n e = grind (arith, nat_tests)
 
 pub can_const : (w : Place) (c : Name) (ls : List Level) (g : IsGivenAt w c ls) → IsWellFormed (at_levels g g.entry.type) → CanWrite w (types (const c ls) (at_levels g g.entry.type))
 can_const w c ls g f =

@@ -1,5 +1,5 @@
 -- Lines are written one after the other.
-use Rattle.std.proofs.Common.{ℕ, zero, suc, ◌≡◌, ◌<◌, ◌≤◌, ◌^◌, ◌⊎◌, inl, inr, Bool, true, false, ◌&&◌, nat_lt, nat_le, length, List, [], ◌∷◌, ◌++◌, Option, Some, None, refl, subst, ap, ◌∙◌, if◌then◌else◌, arith}
+use Rattle.std.proofs.Common.{ℕ, zero, suc, ◌≡◌, ◌<◌, ◌≤◌, ◌^◌, ◌⊎◌, inl, inr, Bool, true, false, ◌&&◌, nat_eq, nat_lt, nat_le, length, List, [], ◌∷◌, ◌++◌, Option, Some, None, refl, subst, ap, ◌∙◌, if◌then◌else◌, arith}
 use Rattle.std.specs.Prelude.{slice_get}
 use Rattle.std.proofs.lemmas.Bool.Decides.{nat_tests}
 use Rattle.lk_tree.specs.Tree.{Level, Tree, var, sort, const, app, lam, pi, let_in, proj, lit, wide, str, local}
@@ -26,6 +26,9 @@ is_below i n h = grind (arith, nat_tests)
 
 is_most : (i n : ℕ) → i ≤ n → nat_le i n ≡ true
 is_most i n h = grind (arith, nat_tests)
+
+pub are_equal : (m n : ℕ) → m ≡ n → nat_eq m n ≡ true
+are_equal m n e = grind (arith, nat_tests)
 
 pub fine_passes : (d : ℕ) (e : Tree) → IsWellFormedUnder d e → is_fine d e ≡ true
 fine_passes d (var i) f = is_below i d f

@@ -1,5 +1,6 @@
 -- Lines of conversion, a test for each rule: a == b.
-use Rattle.std.specs.Prelude.{ℕ, zero, suc, ◌+◌, Bool, true, false, ◌&&◌, nat_eq, List, [], ◌∷◌, length, drop, Option, Some, None}
+use Rattle.std.specs.Prelude.{ℕ, zero, suc, ◌+◌, Bool, true, false, ◌&&◌, nat_eq, List, [], ◌∷◌}
+use Rattle.std.specs.Prelude.{length, drop, Option, Some, None}
 use Rattle.lk_tree.specs.Tree.{Name, Tree, sort, const, app, lam, pi, let_in, proj, lit, str, local}
 use Rattle.lk_tree.specs.Bind.{opened}
 use Rattle.lk_tree.specs.LevelTest.{level_test}
@@ -14,9 +15,13 @@ use Rattle.lk_questions.specs.Eta.{is_unit_like}
 use Rattle.lk_questions.specs.Same.{eta_long}
 use Rattle.lk_questions.specs.Strings.{expansion_of}
 use Rattle.lk_claims.specs.Claims.{Claim}
-use Rattle.lk_written.specs.Line.{EqualityRule, reduce_rule, sorts_rule, consts_rule, apps_rule, projs_rule, lams_rule, pis_rule, eta_rule, struct_left_rule, struct_right_rule, unit_rule, proof_rule, zero_rule, succ_rule, str_left_rule, str_right_rule}
+use Rattle.lk_written.specs.Line.{EqualityRule, reduce_rule, sorts_rule, consts_rule, apps_rule}
+use Rattle.lk_written.specs.Line.{projs_rule, lams_rule, pis_rule, eta_rule, struct_left_rule}
+use Rattle.lk_written.specs.Line.{struct_right_rule, unit_rule, proof_rule, zero_rule, succ_rule}
+use Rattle.lk_written.specs.Line.{str_left_rule, str_right_rule}
 use Rattle.lk_claims.specs.Tests.{◌>>=◌, test, found, is_true, same_levels}
-use Rattle.lk_written.specs.Premises.{as_const, fresh_local, Left, ends, typed, reduced, equal, to_pi, is_prop_by}
+use Rattle.lk_written.specs.Premises.{as_const, fresh_local, Left, ends, typed, reduced, equal}
+use Rattle.lk_written.specs.Premises.{to_pi, is_prop_by}
 use Rattle.lk_written.specs.Typing.{comes_to, the_type}
 use Rattle.lk_written.specs.Reducing.{the_ctor, tree_in}
 

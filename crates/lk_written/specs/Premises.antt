@@ -1,7 +1,9 @@
 -- The tests that lines are made of. A test reads the premises that are left, and gives what it read
 -- and those left after it.
-use Rattle.std.specs.Prelude.{ℕ, suc, ◌^◌, Bool, true, false, ◌&&◌, nat_lt, nat_le, List, [], ◌∷◌, Option, Some, None, slice_get, if◌then◌else◌}
-use Rattle.lk_tree.specs.Tree.{Name, Level, Tree, var, sort, const, app, lam, pi, let_in, proj, lit, wide, str, local}
+use Rattle.std.specs.Prelude.{ℕ, suc, ◌^◌, Bool, true, false, ◌&&◌, nat_lt, nat_le, List, [], ◌∷◌}
+use Rattle.std.specs.Prelude.{Option, Some, None, slice_get, if◌then◌else◌}
+use Rattle.lk_tree.specs.Tree.{Name, Level, Tree, var, sort, const, app, lam, pi, let_in, proj, lit}
+use Rattle.lk_tree.specs.Tree.{wide, str, local}
 use Rattle.lk_tree.specs.Bind.{bound}
 use Rattle.lk_tree.specs.Level.{is_zero_level}
 use Rattle.lk_questions.specs.Steps.{is_same_tree}
@@ -84,7 +86,7 @@ abbrev pub as_equality : Claim → Left → Option Stated
 as_equality (equals a b) js = Some (record { left = a; right = b; after = js })
 as_equality _ js = None
 
--- the next premise, one of typing or of reduction, whatever its trees are
+-- the next premise, where it states this relation, whatever its trees are
 abbrev pub typing : List Claim → Left → Option Stated
 typing ps js = do
   c ← next_claim ps js

@@ -1,15 +1,18 @@
 -- Lines of reduction, a test for each rule: a >> b.
-use Rattle.std.specs.Prelude.{ℕ, ◌+◌, Bool, true, false, ◌&&◌, not, nat_eq, nat_le, List, [], ◌∷◌, ◌++◌, length, take, drop, Option, Some, None, slice_get}
+use Rattle.std.specs.Prelude.{ℕ, ◌+◌, Bool, true, false, ◌&&◌, not, nat_eq, nat_le, List, [], ◌∷◌}
+use Rattle.std.specs.Prelude.{◌++◌, length, take, drop, Option, Some, None, slice_get}
 use Rattle.lk_tree.specs.Tree.{Name, Level, Tree, const, app, lam, let_in, proj}
 use Rattle.lk_tree.specs.Bind.{opened}
 use Rattle.lk_tree.specs.Level.{is_zero_level}
 use Rattle.lk_tree.specs.Levels.{put_levels}
 use Rattle.lk_tree.specs.Spine.{apply, head, args}
 use Rattle.lk_tree.specs.Operations.{op_value}
-use Rattle.lk_rulebook.specs.Place.{Place, Entry, Kind, Block, BlockType, Ctor, Recursor, RecRule, a_ctor, a_rec}
+use Rattle.lk_rulebook.specs.Place.{Place, Entry, Kind, Block, BlockType, Ctor, Recursor, RecRule}
+use Rattle.lk_rulebook.specs.Place.{a_ctor, a_rec}
 use Rattle.lk_rulebook.specs.Names.{quot_mk, quot_lift, quot_ind}
 use Rattle.lk_tree.specs.Mentions.{same_name}
-use Rattle.lk_rulebook.specs.Structures.{is_structure_like, projections, before_indices, before_major}
+use Rattle.lk_rulebook.specs.Structures.{is_structure_like, projections, before_indices}
+use Rattle.lk_rulebook.specs.Structures.{before_major}
 use Rattle.lk_rulebook.specs.Literals.{may_give}
 use Rattle.lk_questions.specs.Steps.{is_same_tree, value_of}
 use Rattle.lk_questions.specs.Core.{lambdas, beta}
@@ -19,9 +22,12 @@ use Rattle.lk_questions.specs.Literals.{ops, op_named, numeral_of, result_of}
 use Rattle.lk_questions.specs.Iota.{has_one_ctor}
 use Rattle.lk_questions.specs.Quotients.{by_quot}
 use Rattle.lk_claims.specs.Claims.{Claim}
-use Rattle.lk_written.specs.Line.{ReductionRule, chain_rule, head_rule, beta_rule, zeta_rule, delta_rule, field_rule, major_rule, k_rule, expand_rule, lift_rule, ind_rule, operation_rule, iota_rule}
+use Rattle.lk_written.specs.Line.{ReductionRule, chain_rule, head_rule, beta_rule, zeta_rule}
+use Rattle.lk_written.specs.Line.{delta_rule, field_rule, major_rule, k_rule, expand_rule}
+use Rattle.lk_written.specs.Line.{lift_rule, ind_rule, operation_rule, iota_rule}
 use Rattle.lk_claims.specs.Tests.{◌>>=◌, test, found}
-use Rattle.lk_written.specs.Premises.{as_const, Left, ends, typed, reduction, reduced, equal, sorted, arguments_over}
+use Rattle.lk_written.specs.Premises.{as_const, Left, ends, typed, reduction, reduced, equal}
+use Rattle.lk_written.specs.Premises.{sorted, arguments_over}
 use Rattle.lk_written.specs.Typing.{comes_to}
 use Rattle.lk_claims.specs.Tests.{reads}
 

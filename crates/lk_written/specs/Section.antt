@@ -1,10 +1,12 @@
 -- Whole sections: the lines one by one, each on those before it, and the last line, which names the
 -- parts of a good unit.
-use Rattle.std.specs.Prelude.{ℕ, suc, length, nat_eq, Bool, false, ◌&&◌, List, [], ◌∷◌, ◌++◌, Option, Some, None, slice_get, if◌then◌else◌}
+use Rattle.std.specs.Prelude.{ℕ, suc, length, nat_eq, Bool, false, ◌&&◌, List, [], ◌∷◌, ◌++◌}
+use Rattle.std.specs.Prelude.{Option, Some, None, slice_get, if◌then◌else◌}
 use Rattle.lk_tree.specs.Tree.{Name, Level, Tree}
 use Rattle.lk_tree.specs.Level.{is_zero_level}
 use Rattle.lk_rulebook.specs.Place.{Place}
-use Rattle.lk_rulebook.specs.Units.{Body, as_axiom, as_def, as_thm, as_opaque, as_quot, Decl, LibraryUnit, of_decl, of_block, Library, place_of}
+use Rattle.lk_rulebook.specs.Units.{Body, as_axiom, as_def, as_thm, as_opaque, as_quot, Decl}
+use Rattle.lk_rulebook.specs.Units.{LibraryUnit, of_decl, of_block, Library, place_of}
 use Rattle.lk_rulebook.specs.Scan.{is_none, scan_of}
 use Rattle.lk_tree.specs.Operations.{Op}
 use Rattle.lk_rulebook.specs.NumberLaws.{Law, laws_of, stated_by}

@@ -1,6 +1,8 @@
 -- Lines of typing, a test for each rule: e => T.
-use Rattle.std.specs.Prelude.{ℕ, zero, suc, ◌+◌, Bool, true, false, ◌&&◌, nat_eq, nat_lt, List, [], ◌∷◌, length, Option, Some, None}
-use Rattle.lk_tree.specs.Tree.{Name, succ_level, imax_level, Tree, sort, const, lam, pi, let_in, proj, lit, str, local}
+use Rattle.std.specs.Prelude.{ℕ, zero, suc, ◌+◌, Bool, true, false, ◌&&◌, nat_eq, nat_lt, List, []}
+use Rattle.std.specs.Prelude.{◌∷◌, length, Option, Some, None}
+use Rattle.lk_tree.specs.Tree.{Name, succ_level, imax_level, Tree, sort, const, lam, pi, let_in}
+use Rattle.lk_tree.specs.Tree.{proj, lit, str, local}
 use Rattle.lk_tree.specs.Bind.{opened, has_var}
 use Rattle.lk_tree.specs.Level.{is_zero_level}
 use Rattle.lk_tree.specs.Levels.{put_levels}
@@ -11,9 +13,11 @@ use Rattle.lk_tree.specs.Mentions.{same_name}
 use Rattle.lk_questions.specs.Steps.{is_same_tree}
 use Rattle.lk_questions.specs.Shapes.{nat_shape, string_shape}
 use Rattle.lk_claims.specs.Claims.{Claim}
-use Rattle.lk_written.specs.Line.{TypingRule, sort_rule, local_rule, const_rule, app_rule, let_rule, lit_rule, str_rule, proj_rule, lam_rule, pi_rule}
+use Rattle.lk_written.specs.Line.{TypingRule, sort_rule, local_rule, const_rule, app_rule, let_rule}
+use Rattle.lk_written.specs.Line.{lit_rule, str_rule, proj_rule, lam_rule, pi_rule}
 use Rattle.lk_claims.specs.Tests.{◌>>=◌, test, found}
-use Rattle.lk_written.specs.Premises.{as_const, fresh_local, Left, ends, typing, typed, reduced, equal, to_pi, sorted, is_prop_by, arguments_over}
+use Rattle.lk_written.specs.Premises.{as_const, fresh_local, Left, ends, typing, typed, reduced}
+use Rattle.lk_written.specs.Premises.{equal, to_pi, sorted, is_prop_by, arguments_over}
 
 -- T is this tree, and no premise is left
 abbrev pub comes_to : Tree → Tree → Left → Option (Unit {0})

@@ -1,7 +1,8 @@
 -- What it is for a claim to be written: lines after any others that hold, one of which states it,
 -- where it is not of one tree. Nothing is said of the place: a line of an operation on numbers does
 -- not ask for its laws.
-use Rattle.std.specs.Prelude.{ℕ, ◌≡◌, ◌⊎◌, true, nat_eq, length, List, [], ◌∷◌, Option, Some, None, slice_get}
+use Rattle.std.specs.Prelude.{ℕ, ◌≡◌, ◌⊎◌, true, nat_eq, length, List, [], ◌∷◌, Option, Some, None}
+use Rattle.std.specs.Prelude.{slice_get}
 use Rattle.lk_rulebook.specs.Place.{Place, Entry}
 use Rattle.lk_rulebook.specs.Names.{nat_zero}
 use Rattle.lk_rulebook.specs.Shapes.{HasNat}
