@@ -1,14 +1,13 @@
 -- Where the names are new, Nat.zero is the constructor of the Nat that has its shape, and has no value.
-use Rattle.std.proofs.Common.{ℕ, zero, suc, ◌≡◌, ◌<◌, ◌⊎◌, inl, inr, List, [], ◌∷◌, ◌++◌, take, Option, Some, None, refl, sym, ap, subst, ◌∙◌, arith}
+use Rattle.std.proofs.Common.{ℕ, zero, suc, ◌≡◌, ◌<◌, List, [], ◌∷◌, ◌++◌, take, Option, Some, None, refl, sym, ap, subst, ◌∙◌, arith}
 use Rattle.std.specs.Prelude.{option_and_then, slice_get}
 use Rattle.lk_tree.specs.Tree.{Name, name_discrete, Tree}
 use Rattle.lk_tree.specs.declared.rule.Rule.{Rule}
-use Rattle.lk_rulebook.specs.Place.{Place, Entry, Kind, a_def, a_thm, an_axiom, an_opaque, a_quot, a_type, a_ctor, a_rec, Block, BlockType, Ctor, BlockRecursor}
-use Rattle.lk_rulebook.specs.Names.{nat, nat_zero}
-use Rattle.lk_rulebook.specs.Shapes.{HasNat}
+use Rattle.lk_rulebook.specs.Place.{Entry, Kind, a_type, a_ctor, a_rec, Block, BlockType, Ctor, BlockRecursor}
+use Rattle.lk_rulebook.specs.Names.{nat}
 use Rattle.lk_rulebook.specs.Rules.{HasValue, of_def, of_thm}
 use Rattle.lk_rulebook.specs.Scan.{AreNew}
-use Rattle.lk_rulebook.specs.Units.{Body, as_axiom, as_def, as_thm, as_opaque, as_quot, Decl, LibraryUnit, of_decl, of_block, Library, Members, type_entries, ctor_entries, all_ctor_entries, rec_members, kind_of, members_of, given_by, Found, first_of_two, at_unit, first_giving, flaw_of, flawless, place_of}
+use Rattle.lk_rulebook.specs.Units.{Body, as_axiom, as_def, as_thm, as_opaque, as_quot, LibraryUnit, of_decl, of_block, Library, Members, type_entries, ctor_entries, all_ctor_entries, rec_members, kind_of, members_of, given_by, first_of_two, at_unit, first_giving, flaw_of, flawless, place_of}
 use Rattle.lk_claims.proofs.Pieces.{Some_inj}
 use Rattle.lk_written.specs.Written.{KeepsNumerals}
 use Rattle.lk_answered.specs.NewNames.{NamesAreNew}

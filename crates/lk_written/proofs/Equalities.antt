@@ -12,7 +12,7 @@ use Rattle.lk_rulebook.specs.Names.{named, nat_zero, nat_succ}
 use Rattle.lk_rulebook.specs.Literals.{expansion, Expands}
 use Rattle.lk_tree.specs.Mentions.{same_name}
 use Rattle.lk_rulebook.specs.Structures.{is_structure_like, Structure, StructureAt, UnitLike}
-use Rattle.lk_rulebook.specs.Rules.{HasType, Reduces, IsProposition, IsDefEq, e_refl, e_reduce, e_sort, e_const, e_app, e_lam, e_pi, e_proj, e_eta_left, e_eta_right, e_struct_left, e_struct_right, IsByFields, by_fields, e_unit, e_proof, e_zero_left, e_zero_right, e_succ_left, e_succ_right, e_str_left, e_str_right, ProjectionsEqual, no_more_fields, project}
+use Rattle.lk_rulebook.specs.Rules.{HasType, Reduces, IsProposition, IsDefEq, e_reduce, e_sort, e_const, e_app, e_lam, e_pi, e_proj, e_eta_left, e_eta_right, e_struct_left, e_struct_right, IsByFields, by_fields, e_unit, e_proof, e_zero_left, e_zero_right, e_succ_left, e_succ_right, e_str_left, e_str_right, ProjectionsEqual, no_more_fields, project}
 use Rattle.lk_tree.proofs.Binding.{fine_more}
 use Rattle.lk_rulebook.proofs.Scopes.{well_formed_of_type, well_formed_of_reduct}
 use Rattle.lk_rulebook.proofs.Texts.{expansion_fine}

@@ -1,7 +1,7 @@
 -- A numeral reduces to itself alone in what can be written, where Nat.zero has no value.
-use Rattle.std.proofs.Common.{ℕ, zero, suc, ◌≡◌, inl, inr, Bool, true, false, ◌&&◌, List, [], ◌∷◌, ◌++◌, Option, Some, None, refl, sym, subst, ◌∙◌, if◌then◌else◌}
+use Rattle.std.proofs.Common.{ℕ, ◌≡◌, inl, inr, true, ◌&&◌, List, [], Option, Some, None, refl, subst, ◌∙◌}
 use Rattle.std.specs.Prelude.{slice_get}
-use Rattle.lk_tree.specs.Tree.{Tree, const, lit}
+use Rattle.lk_tree.specs.Tree.{Tree, lit}
 use Rattle.lk_tree.specs.Operations.{Op, succ, log2, add, sub, mul, div, modulo, gcd, beq, ble, land, lor, xor, shift_left, shift_right, pow, Value, op_value}
 use Rattle.lk_tree.specs.Spine.{head, args}
 use Rattle.lk_rulebook.specs.Place.{Place}
@@ -13,7 +13,7 @@ use Rattle.lk_questions.specs.Shapes.{nat_shape}
 use Rattle.lk_questions.specs.Literals.{ops, op_named, result_of}
 use Rattle.lk_claims.specs.Claims.{Claim, types, reduces, equals}
 use Rattle.lk_claims.specs.Tests.{◌>>=◌, passes, found}
-use Rattle.lk_claims.proofs.Pieces.{same_tree, halves, has_value, Some_inj}
+use Rattle.lk_claims.proofs.Pieces.{same_tree, halves, has_value}
 use Rattle.lk_written.specs.Line.{ReductionRule, chain_rule, head_rule, beta_rule, zeta_rule, delta_rule, field_rule, major_rule, k_rule, expand_rule, lift_rule, ind_rule, operation_rule, iota_rule, Line, ty, rd, cv, claim_of}
 use Rattle.lk_written.specs.Premises.{Left, reduction}
 use Rattle.lk_written.specs.Typing.{comes_to}

@@ -1,5 +1,5 @@
 -- Lines of projections are derived.
-use Rattle.std.proofs.Common.{ℕ, zero, suc, ◌≡◌, ◌+◌, ◌⊎◌, inl, inr, Bool, true, false, ◌&&◌, nat_eq, nat_lt, length, List, [], ◌∷◌, Option, Some, None, refl, subst, ◌∙◌, sym, ap, arith}
+use Rattle.std.proofs.Common.{ℕ, zero, suc, ◌≡◌, ◌+◌, ◌⊎◌, inl, inr, Bool, true, false, ◌&&◌, nat_eq, nat_lt, length, List, [], ◌∷◌, Option, Some, refl, subst, ◌∙◌, sym, ap, arith}
 use Rattle.lk_tree.specs.Tree.{Name, Level, zero_level, Tree, const, pi, proj}
 use Rattle.lk_tree.specs.Level.{SameLevel, is_zero_level}
 use Rattle.lk_tree.specs.Bind.{opened, has_var}

@@ -1,8 +1,8 @@
 -- What the first rules of each relation state can be written.
-use Rattle.std.proofs.Common.{ℕ, suc, ◌≡◌, ◌⊎◌, inl, inr, true, ◌&&◌, List, [], ◌∷◌, Some, refl, subst, sym, ap, ◌∙◌}
+use Rattle.std.proofs.Common.{ℕ, suc, ◌≡◌, inl, inr, true, ◌&&◌, List, [], ◌∷◌, Some, refl, subst, sym, ap, ◌∙◌}
 use Rattle.lk_tree.specs.Tree.{Level, succ_level, Tree, sort, app, lam, let_in, local}
 use Rattle.lk_tree.specs.Bind.{opened}
-use Rattle.lk_tree.specs.Spine.{apply, head, args}
+use Rattle.lk_tree.specs.Spine.{head, args}
 use Rattle.lk_tree.specs.WellFormed.{IsWellFormed}
 use Rattle.lk_tree.proofs.Binding.{open_fine}
 use Rattle.lk_tree.proofs.Scans.{and_true}
@@ -11,7 +11,7 @@ use Rattle.lk_rulebook.specs.Formers.{IsFormer}
 use Rattle.lk_questions.specs.Core.{lambdas, beta}
 use Rattle.lk_questions.specs.Steps.{is_same_tree}
 use Rattle.lk_claims.specs.Claims.{Claim, types, reduces, equals, IsShaped}
-use Rattle.lk_claims.specs.Tests.{◌>>=◌, test, passes}
+use Rattle.lk_claims.specs.Tests.{passes}
 use Rattle.lk_claims.proofs.Facts.{same_self}
 use Rattle.lk_written.specs.Line.{sort_rule, local_rule, chain_rule, head_rule, beta_rule, zeta_rule}
 use Rattle.lk_written.specs.Premises.{reduction, arguments_over}

@@ -1,5 +1,5 @@
 -- What a section that holds states is derived, and its unit is good.
-use Rattle.std.proofs.Common.{◌≡◌, Bool, true, false, List, [], ◌∷◌, ◌++◌, Option, Some, None, refl, subst, nat_eq, length, if◌then◌else◌}
+use Rattle.std.proofs.Common.{◌≡◌, true, List, [], ◌∷◌, Option, Some, None, subst, nat_eq, length}
 use Rattle.lk_tree.specs.Tree.{Name, Level, zero_level, Tree}
 use Rattle.lk_tree.specs.Level.{SameLevel, is_zero_level}
 use Rattle.lk_tree.specs.WellFormed.{IsWellFormed}

@@ -1,6 +1,5 @@
 -- What rules of structures state can be written: eta, and types without fields.
 use Rattle.std.proofs.Common.{ℕ, zero, suc, ◌≡◌, ◌+◌, Bool, true, ◌&&◌, nat_eq, length, drop, List, [], ◌∷◌, ◌++◌, Option, Some, refl, subst, ◌∙◌, sym, ap, arith, length-append, not, false}
-use Rattle.std.proofs.lemmas.Bool.Decides.{nat_tests}
 use Rattle.std.specs.Prelude.{slice_get}
 use Rattle.lk_tree.specs.Tree.{Name, Level, Tree, const, proj, sort, app}
 use Rattle.lk_tree.specs.Spine.{apply, head, args, IsHeadNormal}

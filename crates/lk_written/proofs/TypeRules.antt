@@ -1,8 +1,6 @@
 -- What each rule of typing states can be written.
-use Rattle.std.proofs.Common.{ℕ, ◌≡◌, true, nat_eq, length, List, [], ◌∷◌, Some, refl}
+use Rattle.std.proofs.Common.{ℕ, ◌≡◌, nat_eq, length, List, [], ◌∷◌, Some, refl}
 use Rattle.std.specs.Prelude.{slice_get}
-use Rattle.std.proofs.lemmas.Bool.Decides.{nat_tests}
-use Rattle.std.proofs.Common.{arith}
 use Rattle.lk_tree.specs.Tree.{Name, Level, imax_level, Tree, sort, const, app, lam, pi, let_in, local}
 use Rattle.lk_tree.specs.Bind.{opened, Fresh}
 use Rattle.lk_tree.specs.WellFormed.{IsWellFormed}
