@@ -1,17 +1,18 @@
 -- Sections that hold, and some that do not.
 use Rattle.std.proofs.Common.{◌≡◌, Some, true, false, [], ◌∷◌, refl}
 use Rattle.lk_tree.specs.Decide.{list_discrete, both_discrete}
-use Rattle.lk_tree.specs.Tree.{name_discrete, part_discrete, level_discrete, tree_discrete, Name, number, Level, zero_level, succ_level, Tree, var, sort, app, lam, pi, local}
+use Rattle.lk_tree.specs.Tree.{name_discrete, part_discrete, level_discrete, tree_discrete, Name, number, Level, zero_level, succ_level, Tree, var, sort, app, lam, pi, lit, local}
 use native.Mathlib.Decide.{ℕ_discrete}
 use Rattle.lk_tree.specs.Bind.{bound, open_at}
 use Rattle.lk_tree.specs.Spine.{head, args}
 use Rattle.lk_tree.specs.Tree.{imax_level}
 use Rattle.lk_tree.specs.Operations.{add}
-use Rattle.lk_rulebook.specs.Names.{op_name}
+use Rattle.lk_rulebook.specs.Names.{named, nat_zero, op_name}
 use Rattle.lk_rulebook.specs.Place.{Place, opaque_hint}
 use Rattle.lk_rulebook.specs.Units.{as_axiom, as_def, of_decl, Library}
 use Rattle.lk_claims.specs.Claims.{types, reduces, equals}
 use Rattle.lk_written.specs.Line.{ty, rd, cv, sort_rule, local_rule, app_rule, lam_rule, pi_rule, chain_rule, beta_rule, reduce_rule, apps_rule}
+use Rattle.lk_written.specs.Reducing.{numbers}
 use Rattle.lk_written.specs.Section.{Section, line_holds, section_holds, section_at_fault}
 
 abbrev a_name : Name
@@ -172,3 +173,9 @@ itself w = refl
 pub second_alone : (w : Place) → line_holds w (reduces f g ∷ []) (cv reduce_rule g f (0 ∷ [])) ≡ true
 unfolding tree_discrete level_discrete ℕ_discrete bound
 second_alone w = refl
+
+-- where both arguments of an operation are Nat.zero, a reduction of it is read as the first one's: so
+-- what is said of all that can be written leaves out places at which it has a value
+pub of_the_first : numbers (reduces (named nat_zero) (lit 5) ∷ []) (0 ∷ []) (named nat_zero ∷ named nat_zero ∷ []) ≡ Some (5 ∷ 0 ∷ [], [])
+unfolding tree_discrete level_discrete name_discrete part_discrete list_discrete both_discrete ℕ_discrete
+of_the_first = refl
