@@ -180,7 +180,7 @@ fn pay_for_spine<T: Terms>(
         return false;
     };
     if steps >= most {
-        pace.look(steps);
+        pace.spend_on_look(steps);
         return false;
     }
     pace.spend(arguments.saturating_mul(ARGUMENT).saturating_add(steps));

@@ -15,8 +15,8 @@ use Rattle.lk_store.specs.Contents.{Contents, Extends}
 use Rattle.lk_env.specs.declared.unit.BlockType.{BlockType}
 use Rattle.lk_env.specs.Units.{type_at, constructor_at}
 use Rattle.lk_env.specs.Lent.{type_in}
-use Rattle.lk_quot.specs.declared.equality.Parts.{Parts}
-use Rattle.lk_quot.specs.Equality.{only_of, constructor_count, are_eq_parts, ArePartsIn}
+use Rattle.lk_quot.specs.declared.equality.EqShape.{EqShape}
+use Rattle.lk_quot.specs.Equality.{only_of, constructor_count, is_eq_shape, IsEqShapeIn}
 
 -- the only one is all there is
 pub only_is : {X : Type 0} (xs : List X) (x : X) → Some x ≡ only_of xs → xs ≡ x ∷ []
@@ -101,9 +101,9 @@ module _ (g : Entry) (b : Block) (t : PlainType) where
         and_true false = refl
 
 -- over a store that has what the library has, they are the same
-pub parts_steady : (c d : Contents) → Extends c d → (p : Parts) → ArePartsIn c p
-    → are_eq_parts d (Some p) ≡ are_eq_parts c (Some p)
-parts_steady c d x p known =
+pub eq_shape_steady : (c d : Contents) → Extends c d → (p : EqShape) → IsEqShapeIn c p
+    → is_eq_shape d (Some p) ≡ is_eq_shape c (Some p)
+eq_shape_steady c d x p known =
     let level = x.names.same p.level known.level_in in
     let ty = x.trees.same p.ty known.ty_in in
     let name = x.names.same p.constructor.name known.constructor_in.name_in in

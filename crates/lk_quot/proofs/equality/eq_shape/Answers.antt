@@ -7,15 +7,15 @@ use Rattle.lk_env.specs.Units.{block_at, type_at}
 use Rattle.lk_env.proofs.Found.{of_some}
 use Rattle.lk_ask.proofs.Entries.{entry_type}
 use Rattle.std.specs.List.{sum_by}
-use Rattle.lk_quot.specs.Equality.{constructor_count, are_eq_parts, is_refl_part}
-use Rattle.lk_quot.proofs.Parts.{only_is, only_in, counted, no_type, no_refl, other_count}
-use Rattle.lk_quot.proofs.Parts.{one_count}
-use Rattle.lk_quot.proofs.equality.parts_of.Goals as goal
+use Rattle.lk_quot.specs.Equality.{constructor_count, is_eq_shape, is_refl_shape}
+use Rattle.lk_quot.proofs.EqShapes.{only_is, only_in, counted, no_type, no_refl, other_count}
+use Rattle.lk_quot.proofs.EqShapes.{one_count}
+use Rattle.lk_quot.proofs.equality.eq_shape.Goals as goal
 
 pub returns-in_err-block-clause-is : goal.returns-in_err-block-clause-is
 returns-in_err-block-clause-is g c e h =
     no_type e e.kind (c.in_err-block.ensures.value e h)
-    ∙ sym (ap (are_eq_parts (contents_of (g.L.Lends.lent c.args.library.now).tables))
+    ∙ sym (ap (is_eq_shape (contents_of (g.L.Lends.lent c.args.library.now).tables))
     c.from_residual-in_err-block.ensures)
 
 pub returns-in_err-constructor-clause-is : goal.returns-in_err-constructor-clause-is
@@ -23,7 +23,7 @@ returns-in_err-constructor-clause-is g c e h =
     let base = contents_of (g.L.Lends.lent c.args.library.now).tables in
     no_refl e (block_at base c.in_ok-block.block.now) (type_at base c.in_ok-block.ty.now) e.kind
     (c.in_ok-block.ensures.value e h) (c.in_err-constructor.ensures.is base)
-    ∙ sym (ap (are_eq_parts base) c.from_residual-in_err-constructor.ensures)
+    ∙ sym (ap (is_eq_shape base) c.from_residual-in_err-constructor.ensures)
 
 pub returns-then-not-have_one_constructor-clause-is :
     goal.returns-then-not-have_one_constructor-clause-is
@@ -64,5 +64,5 @@ returns-clause-is g c e h =
     ∙ ap (map (name_at base)) (only_is c.levels_of.result.now u c.in_ok-level.ensures) in
     one_count e (block_at base b) (type_at base c.in_ok-block.ty.now) e.kind
     (c.in_ok-block.ensures.value e h) (name_at base u ∷ []) (tree_at base c.args.entry.stated)
-    (is_refl_part base (Some c.in_ok-constructor.constructor)) levels
+    (is_refl_shape base (Some c.in_ok-constructor.constructor)) levels
     (entry_type base us c.args.entry e h) (c.in_ok-constructor.ensures.is base) count

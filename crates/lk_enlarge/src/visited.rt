@@ -1,12 +1,12 @@
-//! What is kept of a block's terms while its occurrences are replaced, so that what they share is looked through once.
+//! What was found of a block's terms while its occurrences are replaced, so that what they share is looked through once.
 
 use lk_mentions::part::Met;
 use lk_nested::marks::Mark;
 use lk_rows::table::Table;
 
-/// What is kept of a block's terms.
+/// The terms of a block that were visited, and what was found of them.
 #[derive(Drop)]
-pub struct Kept {
+pub struct Visited {
     /// Whether they mention a type of the block.
     pub marks: Table<Mark>,
     /// Those that hold no Local but the parameters.

@@ -8,7 +8,7 @@ use Rattle.lk_inductive.specs.Recursors.{front, rec_name, rec_params}
 use Rattle.lk_block.specs.Shapes.{shape_at}
 use Rattle.lk_block.proofs.Shaping.{shape-steady}
 use Rattle.lk_recursor.proofs.Steady.{front-steady}
-use Rattle.lk_recursor.proofs.rules.recursor_at_front.Goals as goal
+use Rattle.lk_recursor.proofs.recursive.recursor_at_front.Goals as goal
 
 pub at_front-requires-clause-front_is : goal.at_front-requires-clause-front_is
 at_front-requires-clause-front_is g c =

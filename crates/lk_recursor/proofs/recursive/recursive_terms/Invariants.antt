@@ -1,8 +1,8 @@
 use Rattle.std.proofs.Common.{◌≡◌, ◌++◌, length, map, All}
 use Rattle.lk_store.specs.Contents.{tree_at, Extends}
-use Rattle.lk_inductive.specs.Recursors.{hypotheses}
 use Rattle.lk_block.specs.Shapes.{field_at, shape_at, IsFieldIn, AreTreesIn}
-use Rattle.lk_recursor.proofs.minors.hypotheses_of.Given as goal
+use Rattle.lk_recursor.specs.Recursive.{terms_of}
+use Rattle.lk_recursor.proofs.recursive.recursive_terms.Given as goal
 
 abbrev pub invariant-fields : goal.invariant-fields
 invariant-fields g l =
@@ -14,7 +14,7 @@ invariant-fields g l =
       same_rest : g.T.Terms.rest l.terms ≡ g.T.Terms.rest l.fn.terms;
       left_in : All (IsFieldIn before) l.left;
       found_in : AreTreesIn now l.found.items;
-      leads : map (tree_at now) l.found.items ++ hypotheses p (map (field_at before) l.left) ≡ hypotheses p (map (field_at before) l.fn.fields);
+      leads : map (tree_at now) l.found.items ++ terms_of l.heading p (map (field_at before) l.left) ≡ terms_of l.heading p (map (field_at before) l.fn.fields);
     }
 
 abbrev pub decreases-fields : goal.decreases-fields
