@@ -11,11 +11,10 @@ use Rattle.lk_plain.specs.Erased.{Steps, refuses, looked, erased_then}
 use Rattle.lk_questions.specs.Literals.{literal_step}
 use Rattle.lk_questions.specs.LiteralLines.{step_of}
 use Rattle.lk_store.specs.declared.memory.NoMemory.{NoMemory}
-use Rattle.lk_store.specs.declared.tables.Tables.{Tables}
 use Rattle.lk_store.specs.Contents.{Contents, name_at, list_at, tree_at, Extends}
 use Rattle.lk_store.proofs.Made.{Extends-self}
 use Rattle.lk_env.specs.declared.entry.Entry.{Entry}
-use Rattle.lk_env.specs.declared.unit.Unit.{Unit as StoredUnit}
+use Rattle.lk_env.specs.StoredLibrary.{StoredLibrary}
 use Rattle.lk_ask.specs.declared.next.Next.TheVariants.{No}
 use Rattle.lk_ask.specs.Constants.{IsFound, IsRefusedBy}
 use Rattle.lk_ask.specs.Looks.{Basis, Sight}
@@ -25,7 +24,7 @@ use Rattle.lk_lit.specs.Steps.{Then, lit_steps, GivesPart}
 
 -- whatever goes on with the value, a look-up is made first
 module _ {A : Type 0} (w : Place) (k : Option ℕ → A → Steps) (r : Rule) (x : Name) (f : PlainEntry → Program A) where
-  found_then : (l : Tables × List StoredUnit) (before last : Option ℕ) (e : Entry)
+  found_then : (l : StoredLibrary) (before last : Option ℕ) (e : Entry)
       → (h : IsFound l w x before e last)
       → erased_then w k before (look r x f) ≡ erased_then w k last (f h.entry)
   found_then l before last e h =
