@@ -5,9 +5,9 @@ use Rattle.std.specs.Prelude.{ℕ}
 use Rattle.lk_tree.specs.Tree.{name_discrete, Tree}
 use Rattle.lk_tree.specs.Levels.{put_levels}
 use Rattle.lk_tree.specs.Spine.{apply, head, args}
-use Rattle.lk_tree.specs.declared.rule.Rule.TheVariants.{LevelCount, LooseVariable}
+use Rattle.lk_tree.specs.declared.rule.Rule.TheVariants.{LevelCount}
 use Rattle.lk_rulebook.specs.Place.{Place}
-use Rattle.lk_plain.specs.Program.{Program, done, refuse, ◌>>=◌}
+use Rattle.lk_plain.specs.Program.{Program, done, ◌>>=◌}
 use Rattle.lk_questions.specs.Steps.{given, decided}
 use Rattle.lk_questions.specs.Levels.{complete_test, levels_equal}
 use Rattle.lk_questions.specs.Pairs.{same_all, answers, answers_yes, ◌or_else◌}
@@ -129,10 +129,10 @@ module _ (a b : Tree) (p q : PlainUnfolding) where
   pub again_is : (w : Place) → unfolding_at w (head a) ≡ Some p → unfolding_at w (head b) ≡ Some q → unfold_again w a b ≡ unfold_both a b p q
   again_is w e f = ap (λ x. both_by a b x (unfolding_at w (head b))) e ∙ ap (both_by a b (Some p)) f
 
-pub again_left : (w : Place) (a b : Tree) → unfolding_at w (head a) ≡ None → unfold_again w a b ≡ refuse LooseVariable
+pub again_left : (w : Place) (a b : Tree) → unfolding_at w (head a) ≡ None → unfold_again w a b ≡ done false
 again_left w a b e = ap (λ x. both_by a b x (unfolding_at w (head b))) e
 
-pub again_right : (w : Place) (a b : Tree) (p : PlainUnfolding) → unfolding_at w (head a) ≡ Some p → unfolding_at w (head b) ≡ None → unfold_again w a b ≡ refuse LooseVariable
+pub again_right : (w : Place) (a b : Tree) (p : PlainUnfolding) → unfolding_at w (head a) ≡ Some p → unfolding_at w (head b) ≡ None → unfold_again w a b ≡ done false
 again_right w a b p e f = ap (λ x. both_by a b x (unfolding_at w (head b))) e ∙ ap (both_by a b (Some p)) f
 
 -- one of them alone unfolds
