@@ -5,7 +5,6 @@ pub mod InOrder
 pub mod Working
 pub mod Joined
 pub mod Verdicts
-pub mod WordLaws
 pub mod Files
 pub mod Started
 pub mod Staging

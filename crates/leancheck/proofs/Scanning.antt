@@ -17,7 +17,7 @@ use Rattle.lk_verdict.specs.GoodUnit.{IsClearLibrary, IsGoodUnit}
 use Rattle.lk_verdict.specs.Verdict.{PlainVerdict, says_yes, says_no, says_steps, questions_of as plain_questions, verdict_by, verdict_of as plain_of, plain_verdict}
 use Rattle.lk_verdict.specs.Told.{Verdict, accepted, rejected, told, IsPlainVerdict, OperationsAccepted}
 use Rattle.lk_sound.proofs.GoodUnits.{good_of_yes}
-use Rattle.lk_sound.proofs.WholeTable.{sound_steps}
+use Rattle.lk_table_sound.proofs.Derivations.{sound_steps}
 use Rattle.leancheck.specs.Rows.{questions_of, stages_verdict, row_verdict}
 
 -- a scan of the names and of the unit's own lines, then the questions

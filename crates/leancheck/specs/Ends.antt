@@ -9,13 +9,13 @@ use Rattle.lk_verdict.specs.Told.{Verdict, AreVerdicts}
 use Rattle.lk_book.specs.File.{library_of}
 use Rattle.leancheck.specs.declared.status.Status.{Status}
 use Rattle.leancheck.specs.declared.status.Status.TheVariants.{AllYes, SomeNo, Usage, BadFile, ReadFault, WriteFault, NoMemory, SomeMemory}
-use Rattle.leancheck.specs.declared.words.Meaning.{Meaning}
-use Rattle.leancheck.specs.declared.words.Meaning.TheVariants.{Check, Make, Trial}
+use Rattle.lk_command.specs.declared.words.Meaning.{Meaning}
+use Rattle.lk_command.specs.declared.words.Meaning.TheVariants.{Check, Make, Trial}
 use Rattle.leancheck.specs.declared.extent.Extent.{Extent}
 use Rattle.leancheck.specs.declared.extent.Extent.TheVariants.{Report, Summary}
 use Rattle.leancheck.specs.Extents.{text_of}
 use Rattle.lk_text.specs.Text.{bad_line, count}
-use Rattle.lk_text.specs.declared.counts.Kind.TheVariants.{No, Memory}
+use Rattle.lk_text.specs.declared.counts.VerdictKind.TheVariants.{No, Memory}
 use Rattle.lk_generator.specs.Generated.{file_of}
 use Rattle.lk_lines.specs.declared.line.Fault.{Fault}
 use Rattle.lk_store.specs.declared.memory.NoMemory.{NoMemory as WantOfMemory}

@@ -9,17 +9,17 @@ ghost use Rattle.lk_env.specs.Units.{library_at};
 ghost use Rattle.lk_book.specs.File.{library_of};
 ghost use Rattle.lk_text.specs.Text.{bad_line};
 ghost use Rattle.lk_generator.specs.Generated.{file_of};
-ghost use Rattle.leancheck.specs.Command.{usage_line};
-ghost use Rattle.leancheck.specs.Words.{IsMeaningless, Means, MeansCheck, texts_of};
-ghost use Rattle.leancheck.specs.declared.words.Meaning.{Meaning as WordsMeaning};
-ghost use Rattle.leancheck.specs.declared.words.Options.{Options as CheckOptions};
+ghost use Rattle.lk_command.specs.Command.{usage_line};
+ghost use Rattle.lk_command.specs.Words.{IsMeaningless, Means, MeansCheck, texts_of};
+ghost use Rattle.lk_command.specs.declared.words.Meaning.{Meaning as WordsMeaning};
+ghost use Rattle.lk_command.specs.declared.words.Options.{Options as CheckOptions};
 ghost use Rattle.leancheck.specs.Ends.{Begins, Does, FindsFault, Gives, IsChecked, Reports, WritesPrefix};
 
 use crate::extent::{Extent, text_of};
 use crate::status::{Status, status_of};
-use crate::words::{LineError, Meaning, Options, Sample, line_means};
 use crate::workers::check_all;
 use lk_book::{ReadError, read_library};
+use lk_command::{LineError, Meaning, Options, Sample, line_means};
 use lk_env::library::Library;
 use lk_generator::generate;
 use lk_lines::Fault;
@@ -40,7 +40,7 @@ fn checked<R: Threads + Sync, G: Gate>(
     gate: &G,
 ) -> Result<(Vec<u8>, Status), NoMemory>
     ensures gives { (bytes : List ℕ) → library_of bytes
-        ≡ Ok (library_at (contents_of library.now.0) library.now.1)
+        ≡ Ok (library_at (contents_of library.now.tables) library.now.units)
         → Gives extent options.steps bytes result }
     ensures status { IfOk result (λ r. IsChecked r.1) }
 {
@@ -104,12 +104,12 @@ fn tell_verdicts<R: Threads + Sync, K: Sink, G: Gate>(
     gate: &G,
 ) -> Status
     ensures told { IsChecked result → ((bytes : List ℕ) → library_of bytes
-        ≡ Ok (library_at (contents_of library.now.0) library.now.1)
+        ≡ Ok (library_at (contents_of library.now.tables) library.now.units)
         → Reports extent options.steps bytes result (K.written sink.old) (K.written sink.new))
         × (K.faults sink.new ≡ K.faults sink.old) }
     ensures failed { result ≡ Status.WriteFault
         → ((bytes : List ℕ) → library_of bytes
-        ≡ Ok (library_at (contents_of library.now.0) library.now.1)
+        ≡ Ok (library_at (contents_of library.now.tables) library.now.units)
         → WritesPrefix extent options.steps bytes (K.written sink.old) (K.written sink.new))
         × Rose (K.faults sink.old) (K.faults sink.new) }
     ensures no_memory { result ≡ Status.NoMemory → sink.new ≡ sink.old }

@@ -2,7 +2,7 @@
 
 use crate::run::run;
 use crate::status::Status;
-use crate::words::{LineError, Meaning, Options, Sample, line_means};
+use lk_command::{LineError, Meaning, Options, Sample, line_means};
 use lk_port::{Gate, MemSink, MemSource, OpenGate};
 use std::alloc::{AllocError, Global};
 use std::sync::Wait;

@@ -91,7 +91,7 @@ fn by_entry<L: Looks>(
 ) -> Result<CoreNext, NoMemory>
     requires over { IsOver L.contents L.rest L.sight looks.old }
     requires known { IsEntryIn
-        (contents_of (L.sight (L.rest looks.old)).basis.library.0) entry }
+        (contents_of (L.sight (L.rest looks.old)).basis.library.tables) entry }
     requires levels_in { levels < length (L.contents looks.old).lists }
     requires e_in { e < length (L.contents looks.old).trees }
     ensures { (f : Name) (g : PlainEntry)

@@ -6,7 +6,7 @@ use Rattle.lk_tree.specs.Mentions.{same_name, is_one_of}
 use Rattle.lk_plain.specs.Program.{done}
 use Rattle.lk_plain.specs.Sound.{IsSound, IsStated, CtorsStated, TypesStated}
 use Rattle.lk_plain.proofs.Soundness.{sound_bind}
-use Rattle.lk_sound.proofs.Goes.{sound_if}
+use Rattle.lk_claims.proofs.Facts.{sound_if}
 use Rattle.lk_inductive.specs.Relation.{Telescope}
 use Rattle.lk_inductive.specs.BlockSteps.{as_level}
 use Rattle.lk_inductive.specs.Nested.{Aux, Setting, at_args, stated_pis, ctors_at, aux_of, others_of, family_of}

@@ -12,8 +12,8 @@ use Rattle.lk_questions.specs.Steps.{given, sort_of}
 use Rattle.lk_questions.specs.Levels.{tested}
 use Rattle.lk_plain.specs.Sound.{IsSound, IsStated, TypesStated}
 use Rattle.lk_plain.proofs.Soundness.{sound_bind}
-use Rattle.lk_sound.proofs.Pieces.{sound_given, of_yes, sound_sort_of}
-use Rattle.lk_sound.proofs.Lines.{sound_tested}
+use Rattle.lk_claims.proofs.Pieces.{sound_given, of_yes, sound_sort_of}
+use Rattle.lk_claims.proofs.Pieces.{sound_tested}
 use Rattle.lk_inductive.specs.Block.{parameters_of, Frame, frame_of}
 use Rattle.lk_inductive.specs.Relation.{IsAmong, Telescope, Over, IsTypeOver, AreNumbered, AreParams, of_first}
 use Rattle.lk_inductive.specs.BlockSteps.{telescope, over, type_end, next_type, next_types, TypeParts, types_steps}

@@ -8,7 +8,7 @@ use Rattle.lk_tree.specs.Mentions.{same_name}
 use Rattle.lk_plain.specs.Program.{done}
 use Rattle.lk_plain.specs.Sound.{IsSound}
 use Rattle.lk_questions.specs.Declarations.{checked}
-use Rattle.lk_sound.proofs.Pieces.{sound_given}
+use Rattle.lk_claims.proofs.Pieces.{sound_given}
 use Rattle.lk_inductive.specs.Block.{levels_of, parameters_of}
 use Rattle.lk_inductive.specs.Relation.{CtorAgrees, CtorsAgree, TypesAgree, CountsAgree}
 use Rattle.lk_inductive.specs.BlockSteps.{same_names, ctor_agrees, ctors_agree, types_agree, counts_steps}

@@ -18,8 +18,8 @@ use Rattle.lk_questions.specs.Steps.{given, sort_of, is_same_tree}
 use Rattle.lk_questions.specs.Levels.{tested}
 use Rattle.lk_plain.specs.Sound.{IsSound, IsStated, CtorsStated, TypesStated}
 use Rattle.lk_plain.proofs.Soundness.{sound_bind, sound_map}
-use Rattle.lk_sound.proofs.Pieces.{sound_given, sound_sort_of, sound_pi, same_tree}
-use Rattle.lk_sound.proofs.Goes.{sound_if}
+use Rattle.lk_claims.proofs.Pieces.{sound_given, sound_sort_of, sound_pi, same_tree}
+use Rattle.lk_claims.proofs.Facts.{sound_if}
 use Rattle.lk_inductive.specs.Block.{Frame, frame_of, Field, CtorShape, TypeShape, domain}
 use Rattle.lk_tree.specs.Level.{AtMost}
 use Rattle.lk_inductive.specs.Relation.{IsMember, IsPositive, FitsIn, in_prop, in_universe, AreFields, no_field, a_field, IsCtor, AreCtors, no_ctor, a_ctor_more, Over, AreTypes, no_type, a_type_more, IsAmong, AreSmall, MayBeLarge, not_prop, empty, small, IsBlock}

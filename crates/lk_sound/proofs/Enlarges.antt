@@ -11,8 +11,8 @@ use Rattle.lk_tree.specs.Mentions.{is_one_of}
 use Rattle.lk_plain.specs.Program.{Program, done, look, ◌>>=◌}
 use Rattle.lk_plain.specs.Sound.{IsSound, WellStated, IsStated, CtorsStated, TypesStated}
 use Rattle.lk_plain.proofs.Soundness.{sound_bind, sound_map}
-use Rattle.lk_sound.proofs.Pieces.{sound_given}
-use Rattle.lk_sound.proofs.Goes.{sound_if}
+use Rattle.lk_claims.proofs.Pieces.{sound_given}
+use Rattle.lk_claims.proofs.Facts.{sound_if}
 use Rattle.lk_inductive.specs.Block.{domain}
 use Rattle.lk_inductive.specs.Relation.{AreNumbered}
 use Rattle.lk_inductive.specs.BlockSteps.{mention_none}

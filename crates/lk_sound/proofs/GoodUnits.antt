@@ -22,7 +22,7 @@ use Rattle.lk_verdict.specs.GoodUnit.{UnitDerived, declaration, block, nested, I
 use Rattle.lk_verdict.specs.Verdict.{says_yes, questions_of, verdict_of, plain_verdict}
 use Rattle.lk_verdict.proofs.Clears.{block_clear, clear_at}
 use Rattle.lk_verdict.proofs.Verdicts.{IsAnswer, yes_answer, scanned_yes, yes_of}
-use Rattle.lk_sound.proofs.Declarations.{yes_is_good}
+use Rattle.lk_table_sound.proofs.Derivations.{yes_is_good}
 use Rattle.lk_sound.proofs.WholeYes.{yes_whole}
 use Rattle.lk_sound.proofs.NoNested.{nothing_nested}
 use Rattle.lk_sound.proofs.Statedness.{all_well_stated, block_stated}

@@ -16,7 +16,7 @@ use Rattle.lk_plain.specs.Program.{done}
 use Rattle.lk_questions.specs.Steps.{given}
 use Rattle.lk_plain.specs.Sound.{IsSound, IsStated, CtorsStated}
 use Rattle.lk_plain.proofs.Soundness.{sound_bind, sound_map}
-use Rattle.lk_sound.proofs.Pieces.{sound_given}
+use Rattle.lk_claims.proofs.Pieces.{sound_given}
 use Rattle.lk_inductive.specs.Relation.{Telescope, no_pi, a_pi, IsAmong}
 use Rattle.lk_inductive.specs.BlockSteps.{as_level}
 use Rattle.lk_inductive.specs.Nested.{Setting, is_loose, has_pis, past_pis, at_args, stated_pis, ctors_at}

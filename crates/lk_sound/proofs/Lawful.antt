@@ -23,7 +23,7 @@ use Rattle.lk_inductive.proofs.Partials.{half_within}
 use Rattle.lk_verdict.specs.Operations.{GivesOperation}
 use Rattle.lk_verdict.proofs.NestedStays.{none_marked}
 use Rattle.lk_verdict.specs.GoodUnit.{UnitDerived, declaration, IsGoodUnit, IsClearLibrary}
-use Rattle.lk_sound.proofs.Pieces.{Some_inj}
+use Rattle.lk_claims.proofs.Pieces.{Some_inj}
 
 -- an operation without laws has none to meet
 can_state : (w : Place) (op : Op) → has_laws op ≡ false → CanBeStated w (stated_by op)

@@ -14,8 +14,8 @@ use Rattle.lk_tree.specs.Mentions.{is_one_of}
 use Rattle.lk_plain.specs.Program.{Program, done, look, ◌>>=◌}
 use Rattle.lk_plain.specs.Sound.{IsSound, WellStated, KindStated, CtorsStated, TypesStated, IsStated}
 use Rattle.lk_plain.proofs.Soundness.{sound_bind}
-use Rattle.lk_sound.proofs.Pieces.{sound_given, same_tree}
-use Rattle.lk_sound.proofs.Goes.{sound_if}
+use Rattle.lk_claims.proofs.Pieces.{sound_given, same_tree}
+use Rattle.lk_claims.proofs.Facts.{sound_if}
 use Rattle.lk_inductive.specs.Relation.{IsAmong}
 use Rattle.lk_inductive.specs.BlockSteps.{mention_none}
 use Rattle.lk_inductive.specs.Nested.{Aux, Setting, is_loose, has_only, may_nest, same_aux, aux_at, family_of, other_count, aux_applied, aux_name, met, replaced, at_kind, at_head, nest, aux_from}

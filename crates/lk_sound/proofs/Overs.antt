@@ -14,8 +14,8 @@ use Rattle.lk_rulebook.specs.Rules.{r_refl, e_refl}
 use Rattle.lk_questions.specs.Levels.{tested}
 use Rattle.lk_plain.specs.Sound.{IsSound}
 use Rattle.lk_plain.proofs.Soundness.{sound_bind, sound_map}
-use Rattle.lk_sound.proofs.Pieces.{sound_given, of_yes}
-use Rattle.lk_sound.proofs.Lines.{sound_tested}
+use Rattle.lk_claims.proofs.Pieces.{sound_given, of_yes}
+use Rattle.lk_claims.proofs.Pieces.{sound_tested}
 use Rattle.lk_inductive.specs.Block.{domain, Frame, frame_of, parameters_of}
 use Rattle.lk_inductive.specs.Relation.{Telescope, Over, over_none, over_one, AreParams, of_first, IsAmong, AreNumbered, IsTypeOver}
 use Rattle.lk_inductive.specs.Recursors.{number, pis}

@@ -13,8 +13,8 @@ use Rattle.lk_plain.specs.Program.{Program, done, refuse}
 use Rattle.lk_questions.specs.Steps.{is_same_tree}
 use Rattle.lk_plain.specs.Sound.{IsSound}
 use Rattle.lk_plain.proofs.Soundness.{sound_bind}
-use Rattle.lk_sound.proofs.Pieces.{same_tree}
-use Rattle.lk_sound.proofs.Goes.{sound_if}
+use Rattle.lk_claims.proofs.Pieces.{same_tree}
+use Rattle.lk_claims.proofs.Facts.{sound_if}
 use Rattle.lk_inductive.specs.Block.{Frame, FieldKind, plain, under}
 use Rattle.lk_inductive.specs.Relation.{MentionNone, IsListed, IsMember, IsPositive, mentions_none, arrow, member}
 use Rattle.lk_inductive.specs.BlockSteps.{after_params, mention_none, is_listed, plain_indices, as_member, last_kind, walk_on, walk}

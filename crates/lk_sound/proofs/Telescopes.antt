@@ -13,7 +13,7 @@ use Rattle.lk_plain.specs.Query.{whnf}
 use Rattle.lk_plain.specs.Program.{done}
 use Rattle.lk_plain.specs.Sound.{IsSound, IsJustified}
 use Rattle.lk_plain.proofs.Soundness.{sound_bind, sound_map}
-use Rattle.lk_sound.proofs.Pieces.{sound_given, of_yes, sound_pi}
+use Rattle.lk_claims.proofs.Pieces.{sound_given, of_yes, sound_pi}
 use Rattle.lk_inductive.specs.Relation.{IsAmong, Telescope, no_pi, a_pi, Over, over_none, over_one, AreNumbered, AreParams, of_first}
 use Rattle.lk_inductive.specs.BlockSteps.{telescope, over, as_level, type_end}
 use Rattle.lk_sound.proofs.Scoped.{In, AllIn, in_more, all_in_more, open_in, next_local, goes_in, fine_domain}

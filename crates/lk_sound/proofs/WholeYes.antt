@@ -9,7 +9,7 @@ use Rattle.lk_rulebook.specs.Units.{Members, LibraryUnit, given_by, first_of_two
 use Rattle.lk_plain.specs.Answer.{IfAnswered, plain_answer}
 use Rattle.lk_plain.specs.Program.{Table}
 use Rattle.lk_plain.specs.Sound.{WellStated, TypesStated, IsSoundPlace, IsSoundTable}
-use Rattle.lk_sound.proofs.WholeTable.{ans_sound}
+use Rattle.lk_table_sound.proofs.Derivations.{ans_sound}
 use Rattle.lk_inductive.specs.Block.{frame_of, parameters_of, type_entries, all_ctor_entries}
 use Rattle.lk_inductive.specs.Relation.{IsAmong, AreNumbered, IsBlock, CountsAgree}
 use Rattle.lk_inductive.specs.BlockSteps.{TypeParts, counts_steps, types_steps, all_ctor_sorts, shape_steps}

@@ -18,9 +18,9 @@ use Rattle.lk_inductive.proofs.WorkedBlocks.{u, s_type, nat_rec_with, n_unit, t_
 use Rattle.lk_inductive.proofs.WorkedNested.{list_unit, tree_block, tree_recs}
 use Rattle.lk_verdict.specs.GoodUnit.{IsGoodUnit}
 use Rattle.lk_verdict.specs.Operations.{GivesOperation}
-use Rattle.lk_sound.proofs.Pieces.{Some_inj}
+use Rattle.lk_claims.proofs.Pieces.{Some_inj}
 use Rattle.lk_verdict.proofs.Spelled.{spelled_clear}
-use Rattle.lk_sound.proofs.WholeTable.{sound_steps}
+use Rattle.lk_table_sound.proofs.Derivations.{sound_steps}
 use Rattle.lk_sound.proofs.GoodUnits.{good_of_yes}
 use Rattle.lk_verdict.specs.Verdict.{says_yes, says_no, says_steps, plain_verdict}
 use native.Mathlib.Decide.{ℕ_discrete}

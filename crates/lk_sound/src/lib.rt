@@ -1,4 +1,4 @@
-//! Soundness: each answer of the question table has a derivation in the rule book, and each unit that is answered yes is good.
+//! Soundness of blocks and units: each unit that is answered yes is good.
 #![tactic(auto)]
 
 ghost use Rattle.std.specs.Prelude.{◌≡◌, ◌<◌, ℕ, [], List, length};
@@ -6,46 +6,17 @@ ghost use Rattle.lk_inductive.specs.Block.{Shape};
 ghost use Rattle.lk_inductive.specs.NestedRelation.{ClearTypes, NestedDerived};
 ghost use Rattle.lk_inductive.specs.NestedTask.{plain_whole};
 ghost use Rattle.lk_inductive.specs.Whole.{BlockStated, BlockDerived};
-ghost use Rattle.lk_plain.specs.Answer.{answered, outcome_of, plain_answer, IfAnswered};
+ghost use Rattle.lk_plain.specs.Answer.{IfAnswered};
 ghost use Rattle.lk_plain.specs.Program.{Table};
-ghost use Rattle.lk_plain.specs.Query.{Query};
-ghost use Rattle.lk_plain.specs.Sound.{IsAskable, IsJustified, WellStated, IsSoundPlace, IsSoundTable};
-ghost use Rattle.lk_rulebook.specs.Derived.{DeclWellFormed, DeclDerived};
+ghost use Rattle.lk_plain.specs.Sound.{WellStated, IsSoundPlace, IsSoundTable};
 ghost use Rattle.lk_rulebook.specs.Place.{Place, Block, BlockRecursor};
 ghost use Rattle.lk_rulebook.specs.Stated.{GivesNoLocal};
 ghost use Rattle.lk_rulebook.specs.Scan.{AreNew};
-ghost use Rattle.lk_rulebook.specs.Units.{Decl, Members, Library, of_block, members_of, place_of};
-ghost use Rattle.lk_questions.specs.Declarations.{unit_steps};
-ghost use Rattle.lk_questions.specs.Levels.{IsLevelTest, complete_test};
+ghost use Rattle.lk_rulebook.specs.Units.{Members, Library, of_block, members_of, place_of};
 ghost use Rattle.lk_questions.specs.Table.{steps};
 ghost use Rattle.lk_verdict.specs.GoodUnit.{IsGoodUnit, IsClearLibrary};
 ghost use Rattle.lk_verdict.specs.Operations.{OperationsYes};
 ghost use Rattle.lk_verdict.specs.Verdict.{says_yes, plain_verdict};
-
-/// The whole table is sound.
-pub fn whole_table_is_sound()
-    ensures { IsSoundTable steps }
-{}
-
-/// Each answer means what the rule book says.
-pub fn plain_answer_is_sound()
-    ensures each { (table : Table) (w : Place) (q : Query) (b : ℕ) → IsSoundTable table
-        → IsSoundPlace w → IsAskable q → IfAnswered (plain_answer table w q b)
-        (λ v c t. IsJustified w q v) }
-    ensures whole { (w : Place) (q : Query) (b : ℕ) → IsSoundPlace w → IsAskable q
-        → IfAnswered (plain_answer steps w q b) (λ v c t. IsJustified w q v) }
-{}
-
-/// A declaration that is answered yes under any budget is derived in the rule book.
-pub fn yes_is_a_derivation()
-    ensures each { (table : Table) (w : Place) (d : Decl) (b : ℕ) → IsSoundTable table
-        → IsSoundPlace w → DeclWellFormed d
-        → IfAnswered (outcome_of w (plain_answer table w) b (unit_steps d))
-        (λ y c t. DeclDerived w d) }
-    ensures whole { (w : Place) (d : Decl) (b : ℕ) → IsSoundPlace w → DeclWellFormed d
-        → IfAnswered (outcome_of w (plain_answer steps w) b (unit_steps d))
-        (λ y c t. DeclDerived w d) }
-{}
 
 /// A block whose names are new and that is answered yes under any budget, by a table that is sound, is derived, one with nested
 /// occurrences by a larger block, and its recursors too.
@@ -91,9 +62,4 @@ pub fn yes_unit_is_good()
         → IsClearLibrary us
         → ((n : ℕ) → n < length us → (b : ℕ) × (plain_verdict table us n b ≡ says_yes))
         → (n : ℕ) → n < length us → IsGoodUnit us n }
-{}
-
-/// Where the complete test of levels says yes, the two levels are equal under every assignment.
-pub fn level_tests_are_sound()
-    ensures { IsLevelTest complete_test }
 {}

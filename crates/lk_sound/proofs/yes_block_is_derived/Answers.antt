@@ -1,5 +1,5 @@
 use Rattle.lk_questions.specs.Table.{steps}
-use Rattle.lk_sound.proofs.WholeTable.{sound_steps}
+use Rattle.lk_table_sound.proofs.Derivations.{sound_steps}
 use Rattle.lk_sound.proofs.WholeYes.{yes_whole}
 use Rattle.lk_sound.proofs.yes_block_is_derived.Goals as goal
 

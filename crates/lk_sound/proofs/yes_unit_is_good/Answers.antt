@@ -1,5 +1,5 @@
 use Rattle.lk_questions.specs.Table.{steps}
-use Rattle.lk_sound.proofs.WholeTable.{sound_steps}
+use Rattle.lk_table_sound.proofs.Derivations.{sound_steps}
 use Rattle.lk_sound.proofs.GoodUnits.{good_of_yes, all_good}
 use Rattle.lk_sound.proofs.yes_unit_is_good.Goals as goal
 

@@ -1,0 +1,9 @@
+pub mod Pieces
+pub mod Facts
+pub mod Shaped
+pub mod Readings
+pub mod QuotChecks
+pub mod NumberLaws
+pub mod LevelTests
+pub mod Numerals
+pub mod Derivations

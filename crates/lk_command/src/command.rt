@@ -1,0 +1,109 @@
+//! The program's command.
+
+ghost use Rattle.std.specs.Prelude.{◌≡◌, IfOk, false, codes};
+ghost use Rattle.clap.specs.Words.{app_of, new_app, with_rule, with_subcommand};
+ghost use Rattle.clap.specs.declared.builder.command.Command.TheViews.{out-Command};
+ghost use Rattle.lk_command.specs.Command.{check, leancheck, make, option, required_option, trial, with_options, with_sample};
+
+use clap::{Arg, Command};
+use std::alloc::{AllocError, Global};
+
+/// Adds an option with one value.
+fn with_option<'a>(
+    alloc: Global,
+    command: Command<'a>,
+    name: &'a str,
+) -> Result<Command<'a>, AllocError>
+    requires { (out-Command command).has_globals ≡ false }
+    ensures app { IfOk result (λ c. app_of c ≡ with_rule (app_of command.entry)
+        (option name.entry.now)) }
+    ensures local { IfOk result (λ c. (out-Command c).has_globals ≡ false) }
+{
+    command.arg(Arg::new(alloc, name).long(name))
+}
+
+/// Adds an option with one value, which has to be given.
+fn with_required<'a>(
+    alloc: Global,
+    command: Command<'a>,
+    name: &'a str,
+) -> Result<Command<'a>, AllocError>
+    requires { (out-Command command).has_globals ≡ false }
+    ensures app { IfOk result (λ c. app_of c ≡ with_rule (app_of command.entry)
+        (required_option name.entry.now)) }
+    ensures local { IfOk result (λ c. (out-Command c).has_globals ≡ false) }
+{
+    command.arg(Arg::new(alloc, name).long(name).required(true))
+}
+
+/// Adds the options that say how a check is to go.
+fn with_options<'a>(alloc: Global, command: Command<'a>) -> Result<Command<'a>, AllocError>
+    requires { (out-Command command).has_globals ≡ false }
+    ensures app { IfOk result (λ c. app_of c ≡ with_options (app_of command.entry)) }
+    ensures local { IfOk result (λ c. (out-Command c).has_globals ≡ false) }
+{
+    let command = with_option(alloc, command, "workers")?;
+    let command = with_option(alloc, command, "steps")?;
+    with_option(alloc, command, "memo")
+}
+
+/// Adds the options that say which file is to be made.
+fn with_sample<'a>(alloc: Global, command: Command<'a>) -> Result<Command<'a>, AllocError>
+    requires { (out-Command command).has_globals ≡ false }
+    ensures app { IfOk result (λ c. app_of c ≡ with_sample (app_of command.entry)) }
+    ensures local { IfOk result (λ c. (out-Command c).has_globals ≡ false) }
+{
+    let command = with_required(alloc, command, "units")?;
+    with_required(alloc, command, "seed")
+}
+
+/// The subcommand `check`.
+fn check_command<'a>(alloc: Global) -> Result<Command<'a>, AllocError>
+    ensures app { IfOk result (λ c. app_of c ≡ check) }
+    ensures local { IfOk result (λ c. (out-Command c).has_globals ≡ false) }
+{
+    with_options(alloc, Command::new(alloc, "check"))
+}
+
+/// The subcommand `make`.
+fn make_command<'a>(alloc: Global) -> Result<Command<'a>, AllocError>
+    ensures app { IfOk result (λ c. app_of c ≡ make) }
+    ensures local { IfOk result (λ c. (out-Command c).has_globals ≡ false) }
+{
+    with_sample(alloc, Command::new(alloc, "make"))
+}
+
+/// The subcommand `trial`.
+fn trial_command<'a>(alloc: Global) -> Result<Command<'a>, AllocError>
+    ensures app { IfOk result (λ c. app_of c ≡ trial) }
+    ensures local { IfOk result (λ c. (out-Command c).has_globals ≡ false) }
+{
+    let command = with_sample(alloc, Command::new(alloc, "trial"))?;
+    with_options(alloc, command)
+}
+
+/// The command with the subcommand `check`.
+fn with_check<'a>(alloc: Global) -> Result<Command<'a>, AllocError>
+    ensures app { IfOk result (λ c. app_of c
+        ≡ with_subcommand (new_app (codes "leancheck")) check.top) }
+{
+    let check = check_command(alloc)?;
+    Command::new(alloc, "leancheck").subcommand(check)
+}
+
+/// The same with `make`.
+fn with_make<'a>(alloc: Global) -> Result<Command<'a>, AllocError>
+    ensures app { IfOk result (λ c. app_of c
+        ≡ with_subcommand (with_subcommand (new_app (codes "leancheck")) check.top) make.top) }
+{
+    let make = make_command(alloc)?;
+    with_check(alloc)?.subcommand(make)
+}
+
+/// The whole command.
+pub fn command<'a>(alloc: Global) -> Result<Command<'a>, AllocError>
+    ensures app { IfOk result (λ c. app_of c ≡ leancheck) }
+{
+    let trial = trial_command(alloc)?;
+    with_make(alloc)?.subcommand(trial)
+}

@@ -1,0 +1,8 @@
+//! What the program's words mean. `line_means` reads them by the command that `clap` is told, and gives what they ask for: a
+//! check, a file to be made, or a trial, each with its options.
+#![tactic(auto)]
+
+mod command;
+mod words;
+
+pub use words::{LineError, Meaning, Options, Sample, line_means, words_mean_one_thing};

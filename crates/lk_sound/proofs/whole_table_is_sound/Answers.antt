@@ -1,5 +1,0 @@
-use Rattle.lk_sound.proofs.WholeTable.{sound_steps}
-use Rattle.lk_sound.proofs.whole_table_is_sound.Goals as goal
-
-pub returns : goal.returns
-returns c = sound_steps

@@ -1,0 +1,7 @@
+pub mod Line
+pub mod Premises
+pub mod Typing
+pub mod Reducing
+pub mod Equal
+pub mod Section
+pub mod Written
