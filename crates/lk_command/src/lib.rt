@@ -5,4 +5,5 @@
 mod command;
 mod words;
 
+pub use command::command as whole_command;
 pub use words::{LineError, Meaning, Options, Sample, line_means, words_mean_one_thing};

@@ -1,17 +1,17 @@
 //! How far a check is, as one line on standard error, where that is a terminal.
 
-use lk_port::{Failed, Gate, Sink, Source};
-use std::io::IsTerminal;
+use lk_port::Gate;
+use std::io::Eprint;
 use std::sync::atomic::{AtomicU64, Ordering};
-use std::time::Instant;
+use std::time::{Clock, Instant};
 
 /// So many milliseconds lie between two lines at least.
 const PAUSE: u64 = 100;
 
 /// How far a check is, and when that was told last.
 #[derive(Drop)]
-pub struct Progress<'a> {
-    rt: &'a HostRuntime,
+pub struct Progress<'a, R: Eprint + Clock> {
+    rt: &'a R,
     /// When the program began; nothing is told without it.
     start: Option<Instant>,
     /// How many milliseconds after that the line was written last; 0 where it was not.
@@ -22,10 +22,10 @@ pub struct Progress<'a> {
     refused: AtomicU64,
 }
 
-impl<'a> Progress<'a> {
-    /// Nothing is done yet.
-    pub fn new(rt: &'a HostRuntime) -> Progress<'a> {
-        let start = if rt.stderr().is_terminal() {
+impl<'a, R: Eprint + Clock> Progress<'a, R> {
+    /// Nothing is done yet. Only where standard error is a terminal something is told.
+    pub fn new(rt: &'a R, is_terminal: bool) -> Progress<'a, R> {
+        let start = if is_terminal {
             Instant::now(rt).ok()
         } else {
             None
@@ -63,7 +63,7 @@ impl<'a> Progress<'a> {
     }
 
     /// So many more bytes were read.
-    fn took(&self, count: usize) {
+    pub(crate) fn took(&self, count: usize) {
         let bytes = self.bytes.fetch_add(count as u64, Ordering::SeqCst);
         if self.is_due() {
             let _ = eprint!(self.rt; "\r\x1b[Kleancheck: {} MB read", bytes / 1_000_000);
@@ -76,9 +76,14 @@ impl<'a> Progress<'a> {
             let _ = eprint!(self.rt; "\r\x1b[K");
         }
     }
+
+    /// How many units the library has; 0 where none was read.
+    pub fn units(&self) -> u64 {
+        self.units.load(Ordering::SeqCst)
+    }
 }
 
-impl<'a> Gate for Progress<'a> {
+impl<'a, R: Eprint + Clock + Sync> Gate for Progress<'a, R> {
     fn begins(&self, units: u64) {
         self.units.store(units, Ordering::SeqCst);
     }
@@ -99,42 +104,5 @@ impl<'a> Gate for Progress<'a> {
         if !yes {
             self.refused.fetch_add(1, Ordering::SeqCst);
         }
-    }
-}
-
-/// A source of which it is told how much was read.
-#[derive(Drop)]
-pub struct Watched<'a, S: Source + Drop> {
-    pub inner: S,
-    pub progress: &'a Progress<'a>,
-}
-
-impl<'a, S: Source + Drop> Source for Watched<'a, S> {
-    ghost left = { λ s. S.left s.inner };
-
-    ghost faults = { λ s. S.faults s.inner };
-
-    fn read(&mut self, into: &mut [u8]) -> Result<usize, Failed> {
-        let count = self.inner.read(into)?;
-        self.progress.took(count);
-        Ok(count)
-    }
-}
-
-/// A sink before whose writes the line is taken away.
-#[derive(Drop)]
-pub struct Cleared<'a, K: Sink + Drop> {
-    pub inner: K,
-    pub progress: &'a Progress<'a>,
-}
-
-impl<'a, K: Sink + Drop> Sink for Cleared<'a, K> {
-    ghost written = { λ s. K.written s.inner };
-
-    ghost faults = { λ s. K.faults s.inner };
-
-    fn write(&mut self, piece: &[u8]) -> Result<usize, Failed> {
-        self.progress.end();
-        self.inner.write(piece)
     }
 }

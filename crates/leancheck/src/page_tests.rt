@@ -1,0 +1,228 @@
+//! Rows: what the pages state of commands and files. `docs/check.py --write` writes this table.
+
+use crate::status::Status;
+use crate::tests::is_row;
+use std::test::Fail;
+
+// Words, input, output, status.
+const ROWS: [(&str, &[u8], &[u8], Status); 35] = [
+    (
+        "leancheck check",
+        b"2.0.0\n1 #NS 0 p\n2 #NS 0 id\n0 #ES 0\n1 #EV 0\n2 #EV 1\n3 #EP #BD 0 1 2\n4 #EP #BD 1 0 3\n5 #EL #BD 0 1 1\n6 #EL #BD 1 0 5\n#THM 2 4 6\n",
+        b"yes thm 0 id\nunits 1 yes 1 no 0 memory 0\n",
+        Status::AllYes,
+    ),
+    (
+        "leancheck check",
+        b"1 #NS 0 sorryAx\n2 #NS 0 anything\n0 #ES 0\n1 #EV 0\n2 #EP #BD 0 0 1\n3 #EC 1\n#AX 1 2\n#THM 2 2 3\n",
+        b"yes axiom 0 sorryAx\n  axiom sorryAx\nyes thm 1 anything\n  axiom sorryAx\nunits 2 yes 2 no 0 memory 0\n",
+        Status::AllYes,
+    ),
+    (
+        "leancheck check",
+        b"2.0.0\n1 #NS 0 not_a_proposition\n2 #NS 0 wrong_proof\n3 #NS 0 right_proof\n4 #NS 0 open_term\n5 #NS 0 p\n6 #NS 0 h\n0 #ES 0\n1 #EV 0\n2 #EV 1\n3 #EP #BD 6 1 2\n4 #EP #BD 5 0 3\n5 #EL #BD 6 1 1\n6 #EL #BD 5 0 5\n7 #EL #BD 5 0 1\n#THM 1 0 0\n#THM 2 4 7\n#THM 3 4 6\n#THM 3 4 6\n#THM 4 1 6\n",
+        b"no thm 0 not_a_proposition\n  why TheoremNotProp\nno thm 1 wrong_proof\n  why ValueType\nyes thm 2 right_proof\nno thm 3 right_proof\n  why DuplicateName\nno thm 4 open_term\n  why LooseVariable\nunits 5 yes 1 no 4 memory 0\n",
+        Status::SomeNo,
+    ),
+    (
+        "leancheck check",
+        b"3 #US 0\n3 #US 9 0\n",
+        b"bad line 2 ExtraField\n",
+        Status::BadFile,
+    ),
+    (
+        "leancheck trial --units 1000 --seed 7",
+        b"",
+        b"units 1000 yes 1000 no 0 memory 0\n",
+        Status::AllYes,
+    ),
+    (
+        "leancheck check",
+        b"3.0.0\n",
+        b"bad line 1 BadVersion\n",
+        Status::BadFile,
+    ),
+    (
+        "leancheck check",
+        b"2.1\n",
+        b"bad line 1 BadNumber\n",
+        Status::BadFile,
+    ),
+    (
+        "leancheck check",
+        b"x\n",
+        b"bad line 1 BadNumber\n",
+        Status::BadFile,
+    ),
+    (
+        "leancheck check",
+        b"2.0.0 x\n",
+        b"bad line 1 BadNumber\n",
+        Status::BadFile,
+    ),
+    (
+        "leancheck check",
+        b"2.0.0\n2.0.0\n",
+        b"bad line 2 BadNumber\n",
+        Status::BadFile,
+    ),
+    (
+        "leancheck check",
+        b"2\n",
+        b"bad line 1 MissingField\n",
+        Status::BadFile,
+    ),
+    (
+        "leancheck check",
+        b"#ES 0\n",
+        b"bad line 1 UnknownTag\n",
+        Status::BadFile,
+    ),
+    (
+        "leancheck check",
+        b"5 #AX 0 0\n",
+        b"bad line 1 UnknownTag\n",
+        Status::BadFile,
+    ),
+    (
+        "leancheck check",
+        b"0 #EQ 1\n",
+        b"bad line 1 UnknownTag\n",
+        Status::BadFile,
+    ),
+    (
+        "leancheck check",
+        b"4294967296 #EQ\n",
+        b"bad line 1 NumberTooLarge\n",
+        Status::BadFile,
+    ),
+    (
+        "leancheck check",
+        b"0 #EV 4294967296\n",
+        b"bad line 1 NumberTooLarge\n",
+        Status::BadFile,
+    ),
+    (
+        "leancheck check",
+        b"1 #NI 0 18446744073709551616\n",
+        b"bad line 1 NumberTooLarge\n",
+        Status::BadFile,
+    ),
+    (
+        "leancheck check",
+        b"0 #ES 0\n1 #EA 0\n",
+        b"bad line 2 MissingField\n",
+        Status::BadFile,
+    ),
+    (
+        "leancheck check",
+        b"0 #ES 0 0\n",
+        b"bad line 1 ExtraField\n",
+        Status::BadFile,
+    ),
+    (
+        "leancheck check",
+        b"0 #EA 0 0\n",
+        b"bad line 1 IndexUnknown\n",
+        Status::BadFile,
+    ),
+    (
+        "leancheck check",
+        b"0 #ES 1\n",
+        b"bad line 1 IndexUnknown\n",
+        Status::BadFile,
+    ),
+    (
+        "leancheck check",
+        b"0 #NS 0 a\n",
+        b"bad line 1 IndexTaken\n",
+        Status::BadFile,
+    ),
+    (
+        "leancheck check",
+        b"0 #US 0\n",
+        b"bad line 1 IndexTaken\n",
+        Status::BadFile,
+    ),
+    (
+        "leancheck check",
+        b"0 #ES 0\n\n0 #ES 0\n",
+        b"bad line 3 IndexTaken\n",
+        Status::BadFile,
+    ),
+    (
+        "leancheck check",
+        b"0 #ELS 6\n",
+        b"bad line 1 BadHex\n",
+        Status::BadFile,
+    ),
+    (
+        "leancheck check",
+        b"0 #ELS C3\n",
+        b"bad line 1 BadUtf8\n",
+        Status::BadFile,
+    ),
+    (
+        "leancheck check",
+        b"0 #ES 0\n1 #EL #BX 0 0 0\n",
+        b"bad line 2 BadWord\n",
+        Status::BadFile,
+    ),
+    (
+        "leancheck check",
+        b"0 #ES 0\n#DEF 0 0 0 Q\n",
+        b"bad line 2 BadWord\n",
+        Status::BadFile,
+    ),
+    (
+        "leancheck check",
+        b"0 #ES 0\n#DEF 0 0 0 R\n",
+        b"bad line 2 MissingField\n",
+        Status::BadFile,
+    ),
+    (
+        "leancheck check",
+        b"1 #NS 0 T\n0 #ES 0\n#IND 1 0 0 0 0 0 2 1\n",
+        b"bad line 3 BadCount\n",
+        Status::BadFile,
+    ),
+    (
+        "leancheck check",
+        b"1 #NS 0 T\n0 #ES 0\n#IND 1 0 0 0 0 0 1 0 0\n",
+        b"bad line 3 BadCount\n",
+        Status::BadFile,
+    ),
+    (
+        "leancheck check",
+        b"1 #NS 0 T\n0 #ES 0\n#IND 1 0 0 0 0 0 1 1 0\n#IND 1 0 0 0 0 0 1 1 0\n",
+        b"bad line 4 RepeatedMember\n",
+        Status::BadFile,
+    ),
+    (
+        "leancheck check",
+        b"1 #NS 0 T\n2 #NS 1 mk\n0 #ES 0\n#IND 1 0 0 0 0 0 1 1 1 2\n",
+        b"bad line 4 BlockOpen\n",
+        Status::BadFile,
+    ),
+    (
+        "leancheck check",
+        b"1 #NS 0 T\n2 #NS 0 c\n0 #ES 0\n#CTOR 2 0 1 0 0 0\n",
+        b"bad line 4 BlockOpen\n",
+        Status::BadFile,
+    ),
+    (
+        "leancheck check",
+        b"1 #NS 0 p\n2 #NS 0 id\n0 #ES 0\n1 #EV 0\n2 #EV 1\n3 #EP #BD 0 1 2\n4 #EP #BD 1 0 3\n5 #EL #BD 1 0 1\n#THM 2 4 5\n",
+        b"no thm 0 id\n  why ValueType\nunits 1 yes 0 no 1 memory 0\n",
+        Status::SomeNo,
+    ),
+];
+
+#[test]
+fn rows_of_the_pages(rt: HostRuntime) -> Result<(), Fail> {
+    let alloc = rt.alloc();
+    for (line, bytes, written, status) in ROWS {
+        assert!(rt; is_row(&rt, alloc, line, bytes, written, status)?);
+    }
+    Ok(())
+}
