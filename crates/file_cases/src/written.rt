@@ -1,7 +1,9 @@
 //! What a line tells, written as the format writes it: one space between fields, and numbers
 //! without leading zeros. Of the tags those are written whose fields are all the kinds that a field
 //! may be due.
-use lk_lines::{BinderInfo, Declaration, Entry, LineError, ReducibilityHint, Said, read_line};
+use lk_lines::{
+    BinderInfo, DeclarationLine, EntryLine, LineError, ReducibilityHint, Statement, read_line,
+};
 use lk_num::Nat;
 use lk_token::next_line;
 use std::alloc::Global;
@@ -55,32 +57,32 @@ fn lambda_tag(info: BinderInfo) -> &'static str {
 }
 
 /// Writes an entry behind its number.
-fn write_entry(rt: &impl Print, entry: &Entry<'_>) -> io::Result<()> {
+fn write_entry(rt: &impl Print, entry: &EntryLine<'_>) -> io::Result<()> {
     match entry {
-        Entry::NameText { parent, text } => {
+        EntryLine::NameText { parent, text } => {
             write_tagged(rt, "#NS", &[*parent])?;
             write_text(rt, text)
         }
-        Entry::NameNumber { parent, component } => print!(rt; "#NI {parent} {component}"),
-        Entry::Variable { index } => write_tagged(rt, "#EV", &[*index]),
-        Entry::Constant { name, levels } => {
+        EntryLine::NameNumber { parent, component } => print!(rt; "#NI {parent} {component}"),
+        EntryLine::Variable { index } => write_tagged(rt, "#EV", &[*index]),
+        EntryLine::Constant { name, levels } => {
             write_tagged(rt, "#EC", &[*name])?;
             write_numbers(rt, levels)
         }
-        Entry::Apply { function, argument } => write_tagged(rt, "#EA", &[*function, *argument]),
-        Entry::Lambda {
+        EntryLine::Apply { function, argument } => write_tagged(rt, "#EA", &[*function, *argument]),
+        EntryLine::Lambda {
             info,
             name,
             binder_type,
             body,
         } => write_tagged(rt, lambda_tag(*info), &[*name, *binder_type, *body]),
-        Entry::Project {
+        EntryLine::Project {
             structure,
             field,
             subject,
         } => write_tagged(rt, "#EJ", &[*structure, *field, *subject]),
-        Entry::NatLiteral(number) => write_literal(rt, **number),
-        Entry::TextLiteral { text } => {
+        EntryLine::NatLiteral(number) => write_literal(rt, **number),
+        EntryLine::TextLiteral { text } => {
             write_tagged(rt, "#ELS", &[])?;
             write_text(rt, text)
         }
@@ -97,9 +99,9 @@ fn write_hint(rt: &impl Print, hint: ReducibilityHint) -> io::Result<()> {
 }
 
 /// Writes what a line declares.
-fn write_declaration(rt: &impl Print, declaration: &Declaration) -> io::Result<()> {
+fn write_declaration(rt: &impl Print, declaration: &DeclarationLine) -> io::Result<()> {
     match declaration {
-        Declaration::Axiom {
+        DeclarationLine::Axiom {
             name,
             declared_type,
             parameters,
@@ -107,7 +109,7 @@ fn write_declaration(rt: &impl Print, declaration: &Declaration) -> io::Result<(
             write_tagged(rt, "#AX", &[*name, *declared_type])?;
             write_numbers(rt, parameters)
         }
-        Declaration::Definition {
+        DeclarationLine::Definition {
             name,
             declared_type,
             value,
@@ -118,7 +120,7 @@ fn write_declaration(rt: &impl Print, declaration: &Declaration) -> io::Result<(
             write_hint(rt, *hint)?;
             write_numbers(rt, parameters)
         }
-        Declaration::Theorem {
+        DeclarationLine::Theorem {
             name,
             declared_type,
             value,
@@ -127,7 +129,7 @@ fn write_declaration(rt: &impl Print, declaration: &Declaration) -> io::Result<(
             write_tagged(rt, "#THM", &[*name, *declared_type, *value])?;
             write_numbers(rt, parameters)
         }
-        Declaration::Quotient {
+        DeclarationLine::Quotient {
             name,
             declared_type,
             parameters,
@@ -135,7 +137,7 @@ fn write_declaration(rt: &impl Print, declaration: &Declaration) -> io::Result<(
             write_tagged(rt, "#QUOT", &[*name, *declared_type])?;
             write_numbers(rt, parameters)
         }
-        Declaration::Recursor(line) => {
+        DeclarationLine::Recursor(line) => {
             let counts = [
                 line.parameter_count,
                 line.index_count,
@@ -154,15 +156,15 @@ fn write_declaration(rt: &impl Print, declaration: &Declaration) -> io::Result<(
 }
 
 /// Writes what a line tells.
-fn write_said(rt: &impl Print, said: &Said<'_>) -> io::Result<()> {
-    match said {
-        Said::Blank => print!(rt; "blank"),
-        Said::Version => print!(rt; "version"),
-        Said::Entry { own, entry } => {
+fn write_statement(rt: &impl Print, statement: &Statement<'_>) -> io::Result<()> {
+    match statement {
+        Statement::Blank => print!(rt; "blank"),
+        Statement::Version => print!(rt; "version"),
+        Statement::Entry { own, entry } => {
             print!(rt; "{own} ")?;
             write_entry(rt, entry)
         }
-        Said::Declaration(declaration) => write_declaration(rt, declaration),
+        Statement::Declaration(declaration) => write_declaration(rt, declaration),
     }
 }
 
@@ -174,7 +176,7 @@ pub fn write_line(rt: &impl Print, alloc: Global, text: &[u8]) -> io::Result<()>
     };
     let (line, _) = text.split_at(end);
     match read_line(alloc, 2, false, line) {
-        Ok(line) => write_said(rt, &line.said),
+        Ok(line) => write_statement(rt, &line.statement),
         Err(LineError::NoMemory) => print!(rt; "no memory"),
         Err(LineError::Fault(fault)) => print!(rt; "{}", fault.word.text()),
     }

@@ -6,11 +6,11 @@ use Rattle.std.proofs.lemmas.List.{length-map}
 use Rattle.lk_rulebook.specs.Units.{LibraryUnit, Library}
 use Rattle.lk_verdict.specs.GoodUnit.{IsClearLibrary}
 use Rattle.lk_verdict.specs.Told.{Verdict, IsPlainVerdict, AreVerdicts}
-use Rattle.lk_store.specs.declared.tables.Tables.{Tables}
 use Rattle.lk_store.specs.Contents.{Contents}
 use Rattle.lk_store.specs.Store.{contents_of}
 use Rattle.lk_env.specs.declared.unit.Unit.{Unit as StoredUnit}
 use Rattle.lk_env.specs.Units.{unit_at, library_at, library_of, IsUnitIn}
+use Rattle.lk_env.specs.StoredLibrary.{StoredLibrary}
 use Rattle.lk_text.specs.declared.verdicts.Verdict.{Verdict as HeldVerdict}
 use Rattle.lk_text.specs.declared.verdicts.Verdict.TheVariants.{Memory}
 use Rattle.lk_text.specs.Held.{verdict}
@@ -20,7 +20,7 @@ use Rattle.leancheck.specs.Held.{IsPlain}
 use Rattle.leancheck.specs.Drawn.{IsRight, IsRightOne, AreRight, given}
 use Rattle.leancheck.proofs.Scanning.{found_plain, good_of_plain}
 
-module _ (l : Tables × List StoredUnit) (steps n : ℕ) where
+module _ (l : StoredLibrary) (steps n : ℕ) where
   -- the last that was said of a number is right, where all that was said is, and what was said before
   last_right : (v : HeldVerdict) (answers : List UnitVerdict) → IsRight l steps n v → AreRight l steps answers → IsRight l steps n (fold (λ v a. if a.number == n then a.verdict else v) v answers)
   last_right v [] this are = this
@@ -53,23 +53,23 @@ verdict_is steps all n u v there (inl e) = inl (found_plain all steps n u (verdi
 verdict_is steps all n u v there (inr e) = inr e
 
 -- each answer at its number
-module _ (l : Tables × List StoredUnit) (steps : ℕ) (answers : List UnitVerdict) (vs : List HeldVerdict) (are : AreRight l steps answers) (len : length vs ≡ length l.1)
-    (is : (n : ℕ) (d : HeldVerdict) → n < length l.1 → slice_index_or vs n d ≡ given n answers) where
+module _ (l : StoredLibrary) (steps : ℕ) (answers : List UnitVerdict) (vs : List HeldVerdict) (are : AreRight l steps answers) (len : length vs ≡ length l.units)
+    (is : (n : ℕ) (d : HeldVerdict) → n < length l.units → slice_index_or vs n d ≡ given n answers) where
   plain_at : (n : ℕ) (v : Verdict) → slice_get (map verdict vs) n ≡ Some v → IsPlainVerdict (library_of l) steps n v
   plain_at n v at =
       let told = told_at vs n v at in
       let w = told.0 in
       let h = stands_at vs n w told.1 in
-      let below : n < length l.1 = omega (arith, len, h.0) in
+      let below : n < length l.units = omega (arith, len, h.0) in
       let said : given n answers ≡ w = sym (is n w below) ∙ h.1 in
       let right : IsRight l steps n w = subst (IsRight l steps n) said (given_right l steps n answers are) in
-      let as_many = length-map l.1 (unit_at (contents_of l.0)) in
+      let as_many = length-map l.units (unit_at (contents_of l.tables)) in
       let unit = has_unit (library_of l) n (omega (arith, below, as_many)) in
       subst (IsPlainVerdict (library_of l) steps n) told.2 (verdict_is steps (library_of l) n unit.0 w unit.1 (right unit.0 unit.1))
 
   pub in_order : IsClearLibrary (library_of l) → AreVerdicts (library_of l) steps (map verdict vs)
   in_order clear = record {
-    as_many = length-map vs verdict ∙ len ∙ sym (length-map l.1 (unit_at (contents_of l.0)));
+    as_many = length-map vs verdict ∙ len ∙ sym (length-map l.units (unit_at (contents_of l.tables)));
     each = λ n v at. record { plain = plain_at n v at; good = λ yes before. good_of_plain (library_of l) clear steps (map verdict vs) plain_at n v at yes before };
   }
 
@@ -90,6 +90,6 @@ same_unit : (c : Contents) (us : List StoredUnit) (n : ℕ) (u : StoredUnit) (w 
 same_unit c us n u w a b = let e : Some (unit_at c u) ≡ Some w = sym a ∙ b in cc
 
 -- what was judged of the unit that stands at the number is right
-pub judged_right : (l : Tables × List StoredUnit) (steps n : ℕ) (u : StoredUnit) (v : HeldVerdict) → slice_get (library_of l) n ≡ Some (unit_at (contents_of l.0) u)
-    → IsPlain (row_verdict (library_of l) steps n (unit_at (contents_of l.0) u)) v → IsRight l steps n v
-judged_right l steps n u v stands judged = λ w at. subst (λ x. IsPlain (row_verdict (library_of l) steps n x) v) (same_unit (contents_of l.0) l.1 n u w stands at) judged
+pub judged_right : (l : StoredLibrary) (steps n : ℕ) (u : StoredUnit) (v : HeldVerdict) → slice_get (library_of l) n ≡ Some (unit_at (contents_of l.tables) u)
+    → IsPlain (row_verdict (library_of l) steps n (unit_at (contents_of l.tables) u)) v → IsRight l steps n v
+judged_right l steps n u v stands judged = λ w at. subst (λ x. IsPlain (row_verdict (library_of l) steps n x) v) (same_unit (contents_of l.tables) l.units n u w stands at) judged

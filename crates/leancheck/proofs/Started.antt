@@ -3,16 +3,15 @@ use Rattle.std.proofs.Common.{◌≡◌, ℕ, Bool, true, false, List, [], ◌�
 use Rattle.std.specs.Prelude.{slice_get, if◌then◌else◌}
 use Rattle.lk_rulebook.specs.Scan.{is_none, are_new}
 use Rattle.lk_rulebook.specs.Units.{LibraryUnit, of_decl, of_block, Library, Members, members_of, first_giving, place_of}
-use Rattle.lk_store.specs.declared.tables.Tables.{Tables}
 use Rattle.lk_env.specs.declared.entry.Partial.{Partial}
 use Rattle.lk_env.specs.declared.entry.Partial.TheVariants.{Nothing, Types, Members as AllMembers}
 use Rattle.lk_env.specs.declared.entry.Site.{Site}
-use Rattle.lk_env.specs.declared.unit.Unit.{Unit as StoredUnit}
 use Rattle.lk_env.specs.Units.{library_of}
 use Rattle.lk_env.specs.Places.{partial_of, partial_first, partial_last, partial_beside, new_among, beside_at, place_beside}
 use Rattle.lk_env.specs.Scopes.{only_types}
 use Rattle.lk_env.proofs.Partial as partial
 use Rattle.lk_env.proofs.Scoped.{parted}
+use Rattle.lk_env.specs.StoredLibrary.{StoredLibrary}
 use Rattle.std.specs.Prelude.{take}
 
 new_both : (us : Library) (n : ℕ) (a b : Members) → new_among us n (a ++ b) ≡ new_among us n a ++ new_among us n b
@@ -59,7 +58,7 @@ module _ (us : Library) (s : Site) (u : LibraryUnit) (at : slice_get us s.unit �
       ∙ ap (λ k. (partial_first u s.partial ++ aux) ++ k) last_new
 
 -- and so it is given beside the units below, with auxiliary types
-pub all_partial : (l lib : Tables × List StoredUnit) (m n : ℕ) (p : Partial) (aux : Members) (u : LibraryUnit) → l ≡ lib → m ≡ n → slice_get (library_of lib) n ≡ Some u → are_new (library_of lib) n (members_of u) ≡ true
+pub all_partial : (l lib : StoredLibrary) (m n : ℕ) (p : Partial) (aux : Members) (u : LibraryUnit) → l ≡ lib → m ≡ n → slice_get (library_of lib) n ≡ Some u → are_new (library_of lib) n (members_of u) ≡ true
     → place_beside l (record { unit = m; partial = p }) aux ≡ place_of (library_of lib) n (partial_beside u p aux)
 all_partial l lib m n p aux u same unit stands fresh =
     ap (λ k. place_beside k (record { unit = m; partial = p }) aux) same

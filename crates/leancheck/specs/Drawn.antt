@@ -1,9 +1,8 @@
 -- Verdicts of units by their numbers, as workers draw them.
 use Rattle.std.specs.Prelude.{◌≡◌, ◌==◌, ℕ, ◌<◌, List, All, map, fold, length, count_by, slice_get, Some, if◌then◌else◌}
 use Rattle.lk_rulebook.specs.Units.{LibraryUnit}
-use Rattle.lk_store.specs.declared.tables.Tables.{Tables}
-use Rattle.lk_env.specs.declared.unit.Unit.{Unit as StoredUnit}
 use Rattle.lk_env.specs.Units.{library_of}
+use Rattle.lk_env.specs.StoredLibrary.{StoredLibrary}
 use Rattle.lk_text.specs.declared.verdicts.Verdict.{Verdict}
 use Rattle.lk_text.specs.declared.verdicts.Verdict.TheVariants.{Memory}
 use Rattle.leancheck.specs.declared.order.UnitVerdict.{UnitVerdict}
@@ -11,14 +10,15 @@ use Rattle.leancheck.specs.Held.{IsPlain}
 use Rattle.leancheck.specs.Rows.{row_verdict}
 
 -- the plain verdict of unit n under so many steps, or memory in its place
-abbrev pub IsRight : Tables × List StoredUnit → ℕ → ℕ → Verdict → Type 0
-IsRight l steps n v = (u : LibraryUnit) → slice_get (library_of l) n ≡ Some u → IsPlain (row_verdict (library_of l) steps n u) v
+abbrev pub IsRight : StoredLibrary → ℕ → ℕ → Verdict → Type 0
+IsRight l steps n v = (u : LibraryUnit) → slice_get (library_of l) n ≡ Some u
+    → IsPlain (row_verdict (library_of l) steps n u) v
 
 -- it is the verdict of a unit, and right
-abbrev pub IsRightOne : Tables × List StoredUnit → ℕ → UnitVerdict → Type 0
-IsRightOne l steps a = (a.number < length l.1) × IsRight l steps a.number a.verdict
+abbrev pub IsRightOne : StoredLibrary → ℕ → UnitVerdict → Type 0
+IsRightOne l steps a = (a.number < length l.units) × IsRight l steps a.number a.verdict
 
-abbrev pub AreRight : Tables × List StoredUnit → ℕ → List UnitVerdict → Type 0
+abbrev pub AreRight : StoredLibrary → ℕ → List UnitVerdict → Type 0
 AreRight l steps answers = All (IsRightOne l steps) answers
 
 abbrev pub numbers : List UnitVerdict → List ℕ

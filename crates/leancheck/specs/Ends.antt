@@ -15,7 +15,7 @@ use Rattle.leancheck.specs.declared.extent.Extent.{Extent}
 use Rattle.leancheck.specs.declared.extent.Extent.TheVariants.{Report, Summary}
 use Rattle.leancheck.specs.Extents.{text_of}
 use Rattle.lk_text.specs.Text.{bad_line, count}
-use Rattle.lk_text.specs.declared.counts.Kind.TheVariants.{No, Memory}
+use Rattle.lk_text.specs.declared.counts.VerdictKind.TheVariants.{No, Memory}
 use Rattle.lk_generator.specs.Generated.{file_of}
 use Rattle.lk_lines.specs.declared.line.Fault.{Fault}
 use Rattle.lk_store.specs.declared.memory.NoMemory.{NoMemory as WantOfMemory}

@@ -1,7 +1,5 @@
 -- What a worker has done, and what comes of all workers together.
 use Rattle.std.specs.Prelude.{◌≡◌, ◌<◌, ◌≤◌, ◌+◌, ◌++◌, ℕ, All, true, List, [], IfSome, length, slice_index_or}
-use Rattle.lk_store.specs.declared.tables.Tables.{Tables}
-use Rattle.lk_env.specs.declared.unit.Unit.{Unit as StoredUnit}
 use Rattle.lk_desk.specs.Job.{job_of, units_of}
 use Rattle.lk_desk.specs.declared.table.Desk.{Desk}
 use Rattle.lk_desk.specs.declared.table.Seat.{Seat}
@@ -13,6 +11,7 @@ use Rattle.leancheck.specs.declared.worker.Done.{Done}
 use Rattle.leancheck.specs.declared.worker.WorkerSeat.{WorkerSeat}
 use Rattle.leancheck.specs.declared.workers.Report.{Report}
 use Rattle.leancheck.specs.Drawn.{AreRight, numbers, stands, given}
+use Rattle.lk_env.specs.StoredLibrary.{StoredLibrary}
 
 -- a seat that has drawn nothing, and came from itself alone
 abbrev pub IsIdle : Seat → Desk → Type 0
@@ -20,10 +19,10 @@ IsIdle seat desk = Sits seat desk × ((view seat).drawn ≡ []) × ((view seat).
 
 -- it has drawn nothing, and the answers that it shares, if it does, are of the desk's job
 abbrev pub IsWorkerSeat : Desk → WorkerSeat → Type 0
-IsWorkerSeat desk at = IsNew at.seat desk × IfSome at.share (λ s. s.0 ≡ job desk)
+IsWorkerSeat desk at = IsNew at.seat desk × IfSome at.share (λ s. s.job ≡ job desk)
 
 -- the seat drew these numbers, and each has a verdict, which is right
-pub record Draws (l : Tables × List StoredUnit) (steps : ℕ) (desk : Desk) (before after : Seat)
+pub record Draws (l : StoredLibrary) (steps : ℕ) (desk : Desk) (before after : Seat)
     (answers : List UnitVerdict) : Type 0 where
   pub sits : Sits after desk
   pub seats : (view after).seats ≡ (view before).seats
@@ -40,7 +39,7 @@ IsPassed n seat = (b : ℕ) → All (λ x. x < b) (view seat).drawn → n ≤ b
 pub record GoesOnDrawing (desk : Desk) (before after : Seat) (answers more : List UnitVerdict)
     (passed next : ℕ) : Type 0 where
   pub sits : Sits after desk
-  pub draws : (l : Tables × List StoredUnit) (steps : ℕ) (first : Seat) → job desk ≡ job_of l
+  pub draws : (l : StoredLibrary) (steps : ℕ) (first : Seat) → job desk ≡ job_of l
       → Draws l steps desk first before answers → Draws l steps desk first after more
   pub reached : IsPassed next after
   pub count : length answers ≤ length more
@@ -48,7 +47,7 @@ pub record GoesOnDrawing (desk : Desk) (before after : Seat) (answers more : Lis
   pub most : passed ≤ units_of (job desk) → next ≤ units_of (job desk)
 
 -- a worker's seat came from itself alone, and what it drew has a verdict each, which is right
-pub record IsDone (l : Tables × List StoredUnit) (steps : ℕ) (desk : Desk)
+pub record IsDone (l : StoredLibrary) (steps : ℕ) (desk : Desk)
     (done : Done) : Type 0 where
   pub sits : Sits done.seat desk
   pub alone : (view done.seat).seats ≡ 1
@@ -57,10 +56,10 @@ pub record IsDone (l : Tables × List StoredUnit) (steps : ℕ) (desk : Desk)
 
 -- each unit has a verdict, by the answers, which are right; where it ended, each unit was answered
 -- once
-pub record IsWhole (l : Tables × List StoredUnit) (steps : ℕ) (report : Report) : Type 0 where
-  pub count : length report.verdicts.items ≡ length l.1
-  pub each : (n : ℕ) (d : Verdict) → n < length l.1
+pub record IsWhole (l : StoredLibrary) (steps : ℕ) (report : Report) : Type 0 where
+  pub count : length report.verdicts.items ≡ length l.units
+  pub each : (n : ℕ) (d : Verdict) → n < length l.units
       → slice_index_or report.verdicts.items n d ≡ given n report.answers.items
   pub right : AreRight l steps report.answers.items
   pub once : report.ended ≡ true → (n : ℕ)
-      → stands n report.answers.items ≡ once_below n (length l.1)
+      → stands n report.answers.items ≡ once_below n (length l.units)

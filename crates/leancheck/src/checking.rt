@@ -5,8 +5,9 @@ ghost use Rattle.lk_rulebook.specs.Scan.{are_new};
 ghost use Rattle.lk_rulebook.specs.Units.{members_of, place_of, Members};
 ghost use Rattle.lk_questions.specs.Table.{steps as table};
 ghost use Rattle.lk_store.specs.Contents.{Extends};
-ghost use Rattle.lk_store.specs.Store.{over, contents_of};
-ghost use Rattle.lk_engine.specs.Lookouts.{standing_at, places_at};
+ghost use Rattle.lk_store.specs.Store.{contents_of};
+ghost use Rattle.lk_store.specs.Layers.{layers_contents};
+ghost use Rattle.lk_engine.specs.Lookouts.{standing_of, places_at};
 ghost use Rattle.lk_env.specs.declared.entry.Partial.{Partial as GivenMembers};
 ghost use Rattle.lk_env.specs.Places.{partial_beside};
 ghost use Rattle.lk_env.specs.Units.{declared_levels, declaration_at, unit_at, library_of};
@@ -111,15 +112,14 @@ fn judge_declaration<K: Knows>(
     asks: &mut Engine<'_, K>,
     declaration: &Declaration,
 ) -> Verdict
-    requires stated_in { IsStatedIn (contents_of (over asks.old.2.0 asks.old.2.1))
+    requires stated_in { IsStatedIn (layers_contents asks.old.terms)
         declaration.now.name (declared_levels declaration.now) declaration.now.ty }
-    requires body_in { IsBodyIn (contents_of (over asks.old.2.0 asks.old.2.1))
+    requires body_in { IsBodyIn (layers_contents asks.old.terms)
         declaration.now.body }
-    ensures basis { (standing_at asks.new.0 asks.new.1).basis
-        ≡ (standing_at asks.old.0 asks.old.1).basis }
-    ensures verdict { IsPlain (questions_of (standing_at asks.old.0 asks.old.1).place
-        (asks.old.3.left)
-        (declaration_at (contents_of (over asks.old.2.0 asks.old.2.1)) declaration.now)) result }
+    ensures basis { (standing_of asks.new).basis ≡ (standing_of asks.old).basis }
+    ensures verdict { IsPlain (questions_of (standing_of asks.old).place
+        (asks.old.meter.left)
+        (declaration_at (layers_contents asks.old.terms) declaration.now)) result }
 {
     if is_quotient(declaration.body) {
         ask_quotient(asks, declaration)
@@ -140,12 +140,11 @@ fn refused(error: ScanError) -> Verdict
 
 /// The verdict of a unit with which nothing is wrong in itself. Nothing of it is partial yet.
 fn judge_scanned<K: Knows>(alloc: Global, asks: &mut Engine<'_, K>, unit: &Unit) -> Verdict
-    requires place { StandsAt places_at (standing_at asks.old.0 asks.old.1) Partial.Nothing [] }
-    requires known { IsUnitIn (contents_of (over asks.old.2.0 asks.old.2.1)) unit.now }
-    ensures basis { (standing_at asks.new.0 asks.new.1).basis
-        ≡ (standing_at asks.old.0 asks.old.1).basis }
-    ensures verdict { IsPlain (asked_of (places_at (standing_at asks.old.0 asks.old.1).basis)
-        (asks.old.3.left) (unit_at (contents_of (over asks.old.2.0 asks.old.2.1)) unit.now)) result }
+    requires place { StandsAt places_at (standing_of asks.old) Partial.Nothing [] }
+    requires known { IsUnitIn (layers_contents asks.old.terms) unit.now }
+    ensures basis { (standing_of asks.new).basis ≡ (standing_of asks.old).basis }
+    ensures verdict { IsPlain (asked_of (places_at (standing_of asks.old).basis)
+        (asks.old.meter.left) (unit_at (layers_contents asks.old.terms) unit.now)) result }
 {
     match unit {
         Unit::Declaration(declaration) => judge_declaration(alloc, asks, declaration),
@@ -161,14 +160,12 @@ fn judge_new<K: Knows>(
     asks: &mut Engine<'_, K>,
     unit: &Unit,
 ) -> Verdict
-    requires over { Extends (contents_of base.now)
-        (contents_of (over asks.old.2.0 asks.old.2.1)) }
-    requires place { StandsAt places_at (standing_at asks.old.0 asks.old.1) Partial.Nothing [] }
+    requires over { Extends (contents_of base.now) (layers_contents asks.old.terms) }
+    requires place { StandsAt places_at (standing_of asks.old) Partial.Nothing [] }
     requires known { IsUnitIn (contents_of base.now) unit.now }
-    ensures basis { (standing_at asks.new.0 asks.new.1).basis
-        ≡ (standing_at asks.old.0 asks.old.1).basis }
-    ensures verdict { IsPlain (scanned_of (places_at (standing_at asks.old.0 asks.old.1).basis)
-        (asks.old.3.left) (unit_at (contents_of base.now) unit.now)) result }
+    ensures basis { (standing_of asks.new).basis ≡ (standing_of asks.old).basis }
+    ensures verdict { IsPlain (scanned_of (places_at (standing_of asks.old).basis)
+        (asks.old.meter.left) (unit_at (contents_of base.now) unit.now)) result }
 {
     match scan(alloc, base, unit) {
         Ok(()) => judge_scanned(alloc, asks, unit),
@@ -184,19 +181,17 @@ fn judge<K: Knows>(
     number: u32,
     unit: &Unit,
 ) -> Verdict
-    requires over { Extends (contents_of library.now.0)
-        (contents_of (over asks.old.2.0 asks.old.2.1)) }
-    requires place { StandsAt places_at (standing_at asks.old.0 asks.old.1) Partial.Nothing [] }
+    requires over { Extends (contents_of library.now.tables) (layers_contents asks.old.terms) }
+    requires place { StandsAt places_at (standing_of asks.old) Partial.Nothing [] }
     requires places { are_new (library_of library.now) number
-        (members_of (unit_at (contents_of library.now.0) unit.now)) ≡ true → (p : GivenMembers)
-        (aux : Members) → places_at (standing_at asks.old.0 asks.old.1).basis p aux
+        (members_of (unit_at (contents_of library.now.tables) unit.now)) ≡ true → (p : GivenMembers)
+        (aux : Members) → places_at (standing_of asks.old).basis p aux
         ≡ place_of (library_of library.now) number
-        (partial_beside (unit_at (contents_of library.now.0) unit.now) p aux) }
-    requires known { IsUnitIn (contents_of library.now.0) unit.now }
-    ensures basis { (standing_at asks.new.0 asks.new.1).basis
-        ≡ (standing_at asks.old.0 asks.old.1).basis }
-    ensures verdict { IsPlain (row_verdict (library_of library.now) (asks.old.3.left) number
-        (unit_at (contents_of library.now.0) unit.now)) result }
+        (partial_beside (unit_at (contents_of library.now.tables) unit.now) p aux) }
+    requires known { IsUnitIn (contents_of library.now.tables) unit.now }
+    ensures basis { (standing_of asks.new).basis ≡ (standing_of asks.old).basis }
+    ensures verdict { IsPlain (row_verdict (library_of library.now) (asks.old.meter.left) number
+        (unit_at (contents_of library.now.tables) unit.now)) result }
 {
     match are_new(alloc, library, number, unit) {
         Ok(true) => judge_new(alloc, library.base(), asks, unit),
@@ -214,9 +209,9 @@ fn begin_and_judge<K: Knows>(
     number: u32,
     steps: u128,
 ) -> Verdict
-    requires library { engine.old.0.2 ≡ library.now }
-    requires number { number < length library.now.1 }
-    ensures library { engine.new.0.2 ≡ engine.old.0.2 }
+    requires library { engine.old.scope.library ≡ library.now }
+    requires number { number < length library.now.units }
+    ensures library { engine.new.scope.library ≡ engine.old.scope.library }
     ensures right { IsRight library.now steps number result }
 {
     let unit = &library.units()[number as usize];
@@ -233,9 +228,9 @@ pub(crate) fn check_unit<K: Knows>(
     number: u32,
     steps: u128,
 ) -> Verdict
-    requires library { engine.old.0.2 ≡ library.now }
-    requires number { number < length library.now.1 }
-    ensures library { engine.new.0.2 ≡ engine.old.0.2 }
+    requires library { engine.old.scope.library ≡ library.now }
+    requires number { number < length library.now.units }
+    ensures library { engine.new.scope.library ≡ engine.old.scope.library }
     ensures right { IsRight library.now steps number result }
 {
     let verdict = begin_and_judge(alloc, library, engine, number, steps);

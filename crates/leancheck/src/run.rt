@@ -40,7 +40,7 @@ fn checked<R: Threads + Sync, G: Gate>(
     gate: &G,
 ) -> Result<(Vec<u8>, Status), NoMemory>
     ensures gives { (bytes : List ℕ) → library_of bytes
-        ≡ Ok (library_at (contents_of library.now.0) library.now.1)
+        ≡ Ok (library_at (contents_of library.now.tables) library.now.units)
         → Gives extent options.steps bytes result }
     ensures status { IfOk result (λ r. IsChecked r.1) }
 {
@@ -104,12 +104,12 @@ fn tell_verdicts<R: Threads + Sync, K: Sink, G: Gate>(
     gate: &G,
 ) -> Status
     ensures told { IsChecked result → ((bytes : List ℕ) → library_of bytes
-        ≡ Ok (library_at (contents_of library.now.0) library.now.1)
+        ≡ Ok (library_at (contents_of library.now.tables) library.now.units)
         → Reports extent options.steps bytes result (K.written sink.old) (K.written sink.new))
         × (K.faults sink.new ≡ K.faults sink.old) }
     ensures failed { result ≡ Status.WriteFault
         → ((bytes : List ℕ) → library_of bytes
-        ≡ Ok (library_at (contents_of library.now.0) library.now.1)
+        ≡ Ok (library_at (contents_of library.now.tables) library.now.units)
         → WritesPrefix extent options.steps bytes (K.written sink.old) (K.written sink.new))
         × Rose (K.faults sink.old) (K.faults sink.new) }
     ensures no_memory { result ≡ Status.NoMemory → sink.new ≡ sink.old }

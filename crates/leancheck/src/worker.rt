@@ -116,9 +116,9 @@ fn check_from<K: Knows, G: Gate>(
     steps: u128,
     gate: &G,
 )
-    requires library { engine.old.0.2 ≡ library.now }
+    requires library { engine.old.scope.library ≡ library.now }
     requires right { AreRight library.now steps answers.old.items }
-    ensures library { engine.new.0.2 ≡ library.now }
+    ensures library { engine.new.scope.library ≡ library.now }
     ensures numbers { numbers answers.new.items ≡ numbers answers.old.items }
     ensures right { AreRight library.now steps answers.new.items }
 {
@@ -141,7 +141,7 @@ fn draw_all<K: Knows, G: Gate>(
     settings: Settings,
     gate: &G,
 ) -> Vec<UnitVerdict>
-    requires library { engine.old.0.2 ≡ library.now }
+    requires library { engine.old.scope.library ≡ library.now }
     requires sits { Sits seat.old desk.now }
     requires job { job desk.now ≡ job_of library.now }
     ensures { Draws library.now settings.steps desk.now seat.old seat.new result.items }
@@ -179,7 +179,7 @@ fn work_by<S: Sharing + Drop, G: Gate>(
     gate: &G,
 ) -> Done
     requires seat { IsNew seat desk.now }
-    requires share { IfSome (S.shared share) (λ s. s.0 ≡ job desk.now) }
+    requires share { IfSome (S.shared share) (λ s. s.job ≡ job desk.now) }
     requires job { job desk.now ≡ job_of library.now }
     ensures { IsDone library.now settings.steps desk.now result }
 {

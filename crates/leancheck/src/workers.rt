@@ -35,8 +35,8 @@ pub struct Report {
 
 /// One more share in the answers of others, where there is one.
 fn share_of<'a>(share: &mut Option<Share<'a>>) -> Option<Share<'a>>
-    ensures { (j : Job) → IfSome share.old (λ s. s.0 ≡ j)
-        → IfSome share.new (λ s. s.0 ≡ j) × IfSome result (λ s. s.0 ≡ j) }
+    ensures { (j : Job) → IfSome share.old (λ s. s.job ≡ j)
+        → IfSome share.new (λ s. s.job ≡ j) × IfSome result (λ s. s.job ≡ j) }
 {
     match share {
         None => None,
@@ -54,7 +54,7 @@ fn seats_for<'a>(
     workers: u32,
 ) -> Result<Vec<WorkerSeat<'a>>, NoMemory>
     requires first { IsNew first.old desk.now }
-    requires share { IfSome share.old (λ s. s.0 ≡ job desk.now) }
+    requires share { IfSome share.old (λ s. s.job ≡ job desk.now) }
     ensures first { IsIdle first.new desk.now }
     ensures each { IfOk result (λ v. All (IsWorkerSeat desk.now) v.items) }
 {
@@ -174,7 +174,7 @@ fn check_by<'a, R: Threads + Sync, G: Gate>(
     share: &mut Option<Share<'a>>,
     gate: &G,
 ) -> Result<Report, NoMemory>
-    requires { IfSome share.old (λ s. s.0 ≡ job_of library.now) }
+    requires { IfSome share.old (λ s. s.job ≡ job_of library.now) }
     ensures { IfOk result (IsWhole library.now settings.steps) }
 {
     let (desk, mut first) = Desk::new(alloc, library)?;

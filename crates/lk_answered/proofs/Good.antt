@@ -15,7 +15,8 @@ use Rattle.lk_sound.proofs.Lawful.{lawful_at}
 use Rattle.lk_written.specs.Section.{Section, section_holds}
 use Rattle.lk_written.proofs.Units.{unit_derived}
 use Rattle.lk_answered.specs.Operations.{OperationsWritten}
-use Rattle.lk_answered.proofs.Yes.{yes_written}
+use Rattle.lk_sound.proofs.GoodUnits.{good_of_yes}
+use Rattle.lk_table_sound.proofs.Derivations.{sound_steps}
 
 written_at_lawful : (us : Library) (n : ℕ) (s : Section) → IsLawfulPlace (place_of us n []) → IsClearLibrary us → section_holds us n s ≡ true → IsGoodUnit us n
 written_at_lawful us n s lawful cl h =
@@ -35,6 +36,9 @@ good_below (suc k) us cl n s l ops h =
 pub written_good : (us : Library) (n : ℕ) (s : Section) → IsClearLibrary us → OperationsWritten us n → section_holds us n s ≡ true → IsGoodUnit us n
 written_good us n s cl ops h = good_below (suc n) us cl n s (omega arith) ops h
 
--- an operation that is answered yes has a section
+-- an operation that is answered yes is good, and so has its laws
 pub answered_good : (us : Library) (n : ℕ) (s : Section) → IsClearLibrary us → OperationsYes steps us n → section_holds us n s ≡ true → IsGoodUnit us n
-answered_good us n s cl ops h = written_good us n s cl (λ m below gives. let y : (b : ℕ) × (plain_verdict steps us m b ≡ says_yes) = ops m below gives in yes_written us m y.0 gives.decl gives.at y.1) h
+answered_good us n s cl ops h = written_at_lawful us n s (lawful_at us n (λ m below gives. good_answer m below (ops m below gives))) cl h
+  where
+    good_answer : (m : ℕ) → m < n → (b : ℕ) × (plain_verdict steps us m b ≡ says_yes) → IsGoodUnit us m
+    good_answer m below y = good_of_yes steps sound_steps us m y.0 cl (λ i j. ops i (omega (arith, below, j))) y.1

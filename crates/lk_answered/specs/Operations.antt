@@ -6,4 +6,5 @@ use Rattle.lk_written.specs.Section.{Section, section_holds}
 
 -- each such unit before unit n has a section that holds
 abbrev pub OperationsWritten : Library → ℕ → Type 0
-OperationsWritten us n = (m : ℕ) → m < n → GivesOperation us m → (s : Section) × (section_holds us m s ≡ true)
+OperationsWritten us n = (m : ℕ) → m < n → GivesOperation us m →
+    (s : Section) × (section_holds us m s ≡ true)

@@ -3,21 +3,29 @@
 //! is a law.
 #![tactic(auto)]
 
-ghost use Rattle.std.specs.Prelude.{◌≡◌, ℕ, true, Some, slice_get};
+ghost use Rattle.std.specs.Prelude.{◌≡◌, ℕ, true, [], Some, slice_get};
 ghost use Rattle.lk_answered.specs.Operations.{OperationsWritten};
-ghost use Rattle.lk_rulebook.specs.Units.{Decl, of_decl, Library};
+ghost use Rattle.lk_answered.specs.NewNames.{NamesAreNew};
+ghost use Rattle.lk_rulebook.specs.Units.{Decl, of_decl, Library, place_of};
 ghost use Rattle.lk_questions.specs.Table.{steps};
 ghost use Rattle.lk_verdict.specs.GoodUnit.{IsGoodUnit, IsClearLibrary};
 ghost use Rattle.lk_verdict.specs.Operations.{OperationsYes};
 ghost use Rattle.lk_verdict.specs.Verdict.{says_yes, plain_verdict};
 ghost use Rattle.lk_written.specs.Section.{Section, section_holds};
+ghost use Rattle.lk_written.specs.Written.{KeepsNumerals};
 
 /// A declaration that is answered yes, under any budget, has a section that holds, whether the
-/// operations before it have their laws or not.
+/// operations before it have their laws or not, where Nat.zero has no value at it.
 pub fn yes_declaration_is_written()
-    ensures { (us : Library) (n budget : ℕ) (d : Decl) → slice_get us n ≡ Some (of_decl d)
-        → plain_verdict steps us n budget ≡ says_yes
+    ensures { (us : Library) (n budget : ℕ) (d : Decl) → KeepsNumerals (place_of us n [])
+        → slice_get us n ≡ Some (of_decl d) → plain_verdict steps us n budget ≡ says_yes
         → (s : Section) × (section_holds us n s ≡ true) }
+{}
+
+/// So it is at a unit where no name before it is given twice: then Nat.zero is the constructor of
+/// the Nat that has its shape.
+pub fn new_names_keep_numerals()
+    ensures { (us : Library) (n : ℕ) → NamesAreNew us n → KeepsNumerals (place_of us n []) }
 {}
 
 /// A unit with a section that holds is good, where the units before it that give an operation on

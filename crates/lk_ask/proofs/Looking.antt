@@ -1,5 +1,5 @@
 -- Look-ups that were made.
-use Rattle.std.proofs.Common.{◌≡◌, ℕ, List, Option, Some, None, refl, ap, sym, ◌∙◌}
+use Rattle.std.proofs.Common.{◌≡◌, ℕ, Option, Some, None, refl, ap, sym, ◌∙◌}
 use Rattle.std.specs.Prelude.{IsSome, IfErr, Result, Ok, Err}
 use Rattle.lk_tree.specs.Tree.{Name}
 use Rattle.lk_tree.specs.declared.rule.Rule.{Rule}
@@ -9,14 +9,13 @@ use Rattle.lk_plain.specs.Program.{Program, look}
 use Rattle.lk_plain.specs.Erased.{Value, refuses, looked, erased}
 use Rattle.lk_plain.specs.Settled.{fails, settle_look, settle}
 use Rattle.lk_store.specs.Store.{contents_of}
-use Rattle.lk_store.specs.declared.tables.Tables.{Tables}
 use Rattle.lk_env.specs.declared.entry.Entry.{Entry}
-use Rattle.lk_env.specs.declared.unit.Unit.{Unit as StoredUnit}
 use Rattle.lk_env.specs.Entries.{IsMeaning, IsAnswer}
+use Rattle.lk_env.specs.StoredLibrary.{StoredLibrary}
 use Rattle.lk_ask.specs.Constants.{IsFound, IsRefusedBy}
 
 -- what the library answers is what was found
-pub found_is : (l : Tables × List StoredUnit) (w : Place) (x : Name) (before last : Option ℕ) (e : Entry) → IsMeaning (contents_of l.0) l.1 w x e → last ≡ later before (Some e.origin) → IsFound l w x before e last
+pub found_is : (l : StoredLibrary) (w : Place) (x : Name) (before last : Option ℕ) (e : Entry) → IsMeaning (contents_of l.tables) l.units w x e → last ≡ later before (Some e.origin) → IsFound l w x before e last
 found_is l w x before last e m looked_at = go (w.means x) refl m.given
   where
     go : (o : Option PlainEntry) → w.means x ≡ o → IsSome o → IsFound l w x before e last
@@ -29,7 +28,7 @@ module _ {A : Type 0} (w : Place) (f : A → Value) (x : Name) where
   looked_found r before k o g h = ap (λ y. looked r before y (w.origin x) (w.flaw x) (λ u e. erased w f u (k e))) h
 
   -- the program goes on with the entry that was found
-  pub found_goes : (r : Rule) (k : PlainEntry → Program A) (l : Tables × List StoredUnit) (before last : Option ℕ) (e : Entry) → (h : IsFound l w x before e last)
+  pub found_goes : (r : Rule) (k : PlainEntry → Program A) (l : StoredLibrary) (before last : Option ℕ) (e : Entry) → (h : IsFound l w x before e last)
       → erased w f before (look r x k) ≡ erased w f last (k h.entry)
   found_goes r k l before last e h = looked_found r before k (w.means x) h.entry h.means ∙ ap (λ u. erased w f u (k h.entry)) (sym h.looked)
 
@@ -40,7 +39,7 @@ module _ {A : Type 0} (w : Place) (f : A → Value) (x : Name) where
 
 -- the same of a program that asks nothing
 module _ {A : Type 0} (w : Place) (x : Name) where
-  pub found_settles : (r : Rule) (k : PlainEntry → Program A) (l : Tables × List StoredUnit) (before last : Option ℕ) (e : Entry) → (h : IsFound l w x before e last)
+  pub found_settles : (r : Rule) (k : PlainEntry → Program A) (l : StoredLibrary) (before last : Option ℕ) (e : Entry) → (h : IsFound l w x before e last)
       → settle w before (look r x k) ≡ settle w last (k h.entry)
   found_settles r k l before last e h =
       ap (λ o. settle_look r before o (w.origin x) (w.flaw x) (λ u g. settle w u (k g))) h.means ∙ ap (λ u. settle w u (k h.entry)) (sym h.looked)
@@ -50,6 +49,6 @@ module _ {A : Type 0} (w : Place) (x : Name) where
       ap (λ o. settle_look missing before o (w.origin x) (w.flaw x) (λ u g. settle w u (k g))) h.means ∙ ap fails (sym h.rule)
 
 -- a name that is refused at a place means nothing there
-pub refused_means : (l : Tables × List StoredUnit) (w : Place) (x : Name) (o : Result Entry Rule) → IsAnswer (contents_of l.0) l.1 w x o → IfErr o (λ r. w.means x ≡ None)
+pub refused_means : (l : StoredLibrary) (w : Place) (x : Name) (o : Result Entry Rule) → IsAnswer (contents_of l.tables) l.units w x o → IfErr o (λ r. w.means x ≡ None)
 refused_means l w x (Ok e) h = tt
 refused_means l w x (Err r) h = h.means

@@ -8,20 +8,20 @@ use Rattle.lk_tree.specs.declared.rule.Rule.TheVariants.{UnknownConstant}
 use Rattle.lk_rulebook.specs.Place.{Place, Entry as PlainEntry}
 use Rattle.lk_plain.specs.Answer.{later, refusal}
 use Rattle.lk_store.specs.Contents.{Contents, level_at, IsTree}
-use Rattle.lk_store.specs.Store.{contents_of}
-use Rattle.lk_store.specs.declared.tables.Tables.{Tables}
 use Rattle.lk_env.specs.declared.entry.Entry.{Entry}
-use Rattle.lk_env.specs.declared.unit.Unit.{Unit as StoredUnit}
-use Rattle.lk_env.specs.Entries.{plain_entry}
+use Rattle.lk_env.specs.StoredLibrary.{StoredLibrary}
+use Rattle.lk_env.specs.Entries.{library_entry}
 
 -- the name means this entry, whose unit is looked at
-pub record IsFound (l : Tables × List StoredUnit) (w : Place) (x : Name) (before : Option ℕ) (e : Entry) (last : Option ℕ) : Type 0 where
+pub record IsFound (l : StoredLibrary) (w : Place) (x : Name) (before : Option ℕ) (e : Entry)
+    (last : Option ℕ) : Type 0 where
   pub entry : PlainEntry
-  pub is : plain_entry (contents_of l.0) l.1 e ≡ Some entry
+  pub is : library_entry l e ≡ Some entry
   pub means : w.means x ≡ Some entry
   pub looked : last ≡ later before (Some (w.origin x))
 
--- the name means nothing at the place, or what gives it has a flaw; `missing` is the rule where nothing gives it
+-- the name means nothing at the place, or what gives it has a flaw; `missing` is the rule where
+-- nothing gives it
 pub record IsRefusedBy (missing : Rule) (w : Place) (x : Name) (r : Rule) : Type 0 where
   pub means : w.means x ≡ None
   pub rule : r ≡ refusal missing (w.flaw x)
@@ -32,12 +32,14 @@ IsRefused = IsRefusedBy UnknownConstant
 
 -- the number stands for the tree at these levels; there is none where the counts differ
 abbrev pub IsAtLevels : Contents → List Name → List Level → Tree → Option ℕ → Type 0
-IsAtLevels c ps ls t (Some r) = (nat_eq (length ls) (length ps) ≡ true) × IsTree c r (put_levels ps ls t)
+IsAtLevels c ps ls t (Some r) =
+    (nat_eq (length ls) (length ps) ≡ true) × IsTree c r (put_levels ps ls t)
 IsAtLevels c ps ls t None = nat_eq (length ls) (length ps) ≡ false
 
 -- the number stands for the value v at these levels, applied; there is none where the counts differ
 abbrev pub IsUnfolded : Contents → List Name → List Level → Tree → List Tree → Option ℕ → Type 0
-IsUnfolded c ps ls v xs (Some r) = (nat_eq (length ls) (length ps) ≡ true) × IsTree c r (apply (put_levels ps ls v) xs)
+IsUnfolded c ps ls v xs (Some r) =
+    (nat_eq (length ls) (length ps) ≡ true) × IsTree c r (apply (put_levels ps ls v) xs)
 IsUnfolded c ps ls v xs None = nat_eq (length ls) (length ps) ≡ false
 
 -- the numbers of these levels

@@ -1,3 +1,4 @@
+pub mod Outlook
 pub mod Constants
 pub mod Instances
 pub mod Nexts

@@ -1,13 +1,14 @@
 //! What the constants of a term mean in a library.
 
-ghost use Rattle.std.specs.Prelude.{◌≡◌, ◌<◌, List, length, IfOk, IfErr, IfSome, Some, All};
+ghost use Rattle.std.specs.Prelude.{◌≡◌, ◌<◌, length, IfOk, IfErr, IfSome, Some, All};
 ghost use Rattle.lk_tree.specs.Tree.{Name};
 ghost use Rattle.lk_rulebook.specs.Place.{Place, Entry as PlainEntry};
 ghost use Rattle.lk_store.specs.Contents.{name_at, list_at, tree_at, Extends};
 ghost use Rattle.lk_store.specs.Store.{contents_of};
-ghost use Rattle.lk_env.specs.Entries.{plain_entry, IsEntryIn};
+ghost use Rattle.lk_env.specs.Entries.{IsEntryIn, library_entry};
 ghost use Rattle.lk_env.specs.Scopes.{place_in};
 ghost use Rattle.lk_env.specs.Entries.{MeansNothing};
+ghost use Rattle.lk_env.specs.StoredScope.{lent_by};
 ghost use Rattle.lk_ask.specs.Constants.{IsFound, IsRefusedBy, IsAtLevels, IsLevels};
 ghost use Rattle.lk_ask.specs.Instances.{AreInstances, PutsAtLevels};
 
@@ -48,12 +49,11 @@ pub(crate) fn look_up<T: Terms>(
     missing: Rule,
     meter: &mut Meter,
 ) -> Result<Entry, Rule>
-    requires over { Extends (contents_of scope.now.0) (T.contents terms.now) }
+    requires over { Extends (contents_of scope.now.tables) (T.contents terms.now) }
     requires name_in { name < length (T.contents terms.now).names }
-    ensures known { IfOk result (IsEntryIn (contents_of scope.now.0)) }
+    ensures known { IfOk result (IsEntryIn (contents_of scope.now.tables)) }
     ensures left { meter.new.left ≡ meter.old.left }
-    ensures found { IfOk result (λ e. IsFound (scope.now.0, scope.now.1)
-        (place_in scope.now site.now)
+    ensures found { IfOk result (λ e. IsFound (lent_by scope.now) (place_in scope.now site.now)
         (name_at (T.contents terms.now) name) meter.old.last e meter.new.last) }
     ensures refused { IfErr result (IsRefusedBy missing (place_in scope.now site.now)
         (name_at (T.contents terms.now) name)) }
@@ -140,7 +140,7 @@ pub(crate) fn at_levels<L: Lends, T: Terms>(
     entry: Entry,
     tree: TreeAt,
 ) -> Result<Option<u64>, NoMemory>
-    requires over { Extends (contents_of (L.lent library.now).0) (T.contents terms.old) }
+    requires over { Extends (contents_of (L.lent library.now).tables) (T.contents terms.old) }
     requires levels_in { tree.levels < length (T.contents terms.old).lists }
     requires e_in { tree.e < length (T.contents terms.old).trees }
     requires instances { AreInstances (T.contents terms.old) instances.old.table }
@@ -148,7 +148,7 @@ pub(crate) fn at_levels<L: Lends, T: Terms>(
     ensures rest { T.rest terms.new ≡ T.rest terms.old }
     ensures known { IfOk result (λ r. IfSome r (λ t. t < length (T.contents terms.new).trees)) }
     ensures ok { IfOk result (λ r. (g : PlainEntry)
-        → plain_entry (contents_of (L.lent library.now).0) (L.lent library.now).1 entry ≡ Some g
+        → library_entry (L.lent library.now) entry ≡ Some g
         → IsAtLevels (T.contents terms.new) g.levels (list_at (T.contents terms.old) tree.levels)
         (tree_at (T.contents terms.old) tree.e) r) }
     ensures instances { AreInstances (T.contents terms.new) instances.new.table }

@@ -28,28 +28,28 @@ pub struct Lookout<'a, T: Terms> {
 }
 
 impl<'a, T: Terms> Model for Lookout<'a, T> {
-    ghost use Rattle.std.specs.Prelude.{List};
-    ghost use Rattle.lk_store.specs.declared.tables.Tables.{Tables};
-    ghost use Rattle.lk_env.specs.declared.entry.Site.{Site as LookedFrom};
-    ghost use Rattle.lk_env.specs.declared.unit.Unit.{Unit as StoredUnit};
-    ghost use Rattle.lk_meter.specs.declared.meter.Meter.{Meter as Metered};
+    ghost use Rattle.lk_ask.specs.Outlook.{Outlook};
     ghost use Rattle.lk_ask.specs.Instances.{IsLookout};
 
-    ghost Value = { (Tables × List StoredUnit × (Tables × List StoredUnit) × List StoredUnit)
-        × LookedFrom × T × Metered };
+    ghost Value = { Outlook T };
 
-    ghost view = { λ s. (s.scope, s.site, s.terms, s.meter) };
+    ghost view = { λ s. record {
+      scope = s.scope;
+      site = s.site;
+      terms = s.terms;
+      meter = s.meter;
+    } };
 
-    ghost invariant = { λ s. IsLookout s.scope.0 (T.contents s.terms) s.instances };
+    ghost invariant = { λ s. IsLookout s.scope.tables (T.contents s.terms) s.instances };
 }
 
 impl<'a, T: Terms> Terms for Lookout<'a, T> {
     /// All but the terms: the scope, from where it is seen, what is left of the budget, and what the store has beside them.
     type Rest = (Scope<'a>, Site, Meter, T::Rest);
 
-    ghost rest = { λ s. (s.0, s.1, s.3, T.rest s.2) };
+    ghost rest = { λ s. (s.scope, s.site, s.meter, T.rest s.terms) };
 
-    ghost contents = { λ s. T.contents s.2 };
+    ghost contents = { λ s. T.contents s.terms };
 
     fn len(&self) -> u64 {
         self.terms.len()
@@ -150,11 +150,12 @@ impl<'a, T: Terms> Looks for Lookout<'a, T> {
 
     type Scope = Scope<'a>;
 
+    ghost use Rattle.lk_env.specs.StoredScope.{lent_by};
     ghost use Rattle.lk_env.specs.Scopes.{place_in};
 
     ghost sight = { λ r. record {
       basis = record {
-        library = (r.0.0, r.0.1);
+        library = lent_by r.0;
         place = place_in r.0 r.1;
         left = r.2.left;
         beside =

@@ -39,10 +39,10 @@ pub trait Looks: Terms {
         requires { name < length (Self.contents self.now).names }
         ensures over { IsOver Self.contents Self.rest sight self.now }
         ensures known { IfOk result
-            (IsEntryIn (contents_of (sight (Self.rest self.now)).basis.library.0)) }
-        ensures answer { IsAnswer (contents_of (sight (Self.rest self.now)).basis.library.0)
-            (sight (Self.rest self.now)).basis.library.1 (sight (Self.rest self.now)).basis.place
-            (name_at (Self.contents self.now) name) result }
+            (IsEntryIn (contents_of (sight (Self.rest self.now)).basis.library.tables)) }
+        ensures answer { IsAnswer (contents_of (sight (Self.rest self.now)).basis.library.tables)
+            (sight (Self.rest self.now)).basis.library.units (sight
+            (Self.rest self.now)).basis.place (name_at (Self.contents self.now) name) result }
         ensures refused { IfErr result (λ r. (sight (Self.rest self.now)).basis.place.means
             (name_at (Self.contents self.now) name) ≡ None) };
 
@@ -56,7 +56,7 @@ pub trait Looks: Terms {
         ensures stays { (sight (Self.rest self.new)).basis ≡ (sight (Self.rest self.old)).basis }
         ensures over { IsOver Self.contents Self.rest sight self.old }
         ensures known { IfOk result
-            (IsEntryIn (contents_of (sight (Self.rest self.old)).basis.library.0)) }
+            (IsEntryIn (contents_of (sight (Self.rest self.old)).basis.library.tables)) }
         ensures found { IfOk result (λ e. IsFound (sight (Self.rest self.old)).basis.library
             (sight (Self.rest self.old)).basis.place (name_at (Self.contents self.old) name)
             (sight (Self.rest self.old)).last e (sight (Self.rest self.new)).last) }

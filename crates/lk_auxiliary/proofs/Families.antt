@@ -32,10 +32,10 @@ module _ (c d : Contents) (x : Extends c d) where
         ∙ ap (λ bs. parts_form first (levels_of c at) bs (type_at d own) (tree_at d e)) (trees-steady c d at.arguments.now x at_in.arguments_in)
         ∙ ap (λ t. parts_form first (levels_of c at) (arguments_of c at) t (tree_at d e)) (type_stays c d x own own_in)
 
-    pub aux_steady : (list name : ℕ) (p : Parts) → list < length c.lists → list_at c list ≡ levels_of c at → name < length c.names
-        → aux_with (list_at d list) (map (tree_at d) at.arguments.now) (name_at d name) (type_at d own) (parts_at d p) ≡ aux_with (levels_of c at) (arguments_of c at) (name_at c name) (type_at c own) (parts_at d p)
-    aux_steady list name p list_in is name_in =
-        rw (x.lists.same list list_in, is, trees-steady c d at.arguments.now x at_in.arguments_in, x.names.same name name_in, type_stays c d x own own_in) refl
+    pub aux_steady : (name : ℕ) (p : Parts) → name < length c.names
+        → aux_with (list_at d at.list) (arguments_of d at) (name_at d name) (type_at d own) (parts_at d p) ≡ aux_with (levels_of c at) (arguments_of c at) (name_at c name) (type_at c own) (parts_at d p)
+    aux_steady name p name_in =
+        rw (x.lists.same at.list at_in.list_in, at_in.list_is, trees-steady c d at.arguments.now x at_in.arguments_in, x.names.same name name_in, type_stays c d x own own_in) refl
 
   pub instance_stays : (name list e : ℕ) (xs : List ℕ) → name < length c.names → list < length c.lists → All (λ x. x < length c.trees) xs
       → IsTree d e (apply (const (name_at c name) (list_at c list)) (map (tree_at c) xs)) → IsTree d e (apply (const (name_at d name) (list_at d list)) (map (tree_at d) xs))

@@ -1,5 +1,5 @@
 -- Trees at levels and arguments, while the store grows.
-use Rattle.std.proofs.Common.{◌≡◌, ℕ, ◌<◌, List, [], length, map, All, refl, subst, IfOk, Result, arith}
+use Rattle.std.proofs.Common.{◌≡◌, ℕ, ◌<◌, List, [], length, map, All, refl, sym, subst, ◌∙◌, IfOk, Result, arith}
 use Rattle.std.proofs.lemmas.List.Elements.{All-weaker}
 use Rattle.lk_tree.specs.Tree.{zero_level, Tree}
 use Rattle.lk_plain.specs.Program.{done}
@@ -18,7 +18,12 @@ module _ (c d : Contents) (x : Extends c d) where
   levels_stay ls h = values-steady zero_level c.levels d.levels ls x.levels h
 
   pub at_in_stays : (at : At) → IsAtIn c at → IsAtIn d at
-  at_in_stays at h = record { levels_in = values-known zero_level c.levels d.levels at.levels.now x.levels h.levels_in; arguments_in = trees-known c d at.arguments.now x h.arguments_in }
+  at_in_stays at h = record {
+    list_in = (let l = h.list_in in let longer = x.lists.longer in omega arith);
+    list_is = x.lists.same at.list h.list_in ∙ h.list_is ∙ sym (levels_stay at.levels.now h.levels_in);
+    levels_in = values-known zero_level c.levels d.levels at.levels.now x.levels h.levels_in;
+    arguments_in = trees-known c d at.arguments.now x h.arguments_in;
+  }
 
   pub at_steady : (at : At) → IsAtIn c at → (ns ms : List ℕ) (e : ℕ) → ns ≡ ms → All (λ n. n < length c.names) ms → e < length c.trees
       → at_args (levels_of d at) (arguments_of d at) (map (name_at d) ns) (tree_at d e) ≡ at_args (levels_of c at) (arguments_of c at) (map (name_at c) ms) (tree_at c e)

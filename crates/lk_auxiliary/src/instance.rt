@@ -15,9 +15,13 @@ use lk_subst::levels::put_levels_in;
 use lk_tree::rule::Rule;
 use std::alloc::Global;
 
-/// Levels and arguments, at which a block's trees are taken.
+/// Levels and arguments, at which a block's trees are taken, and the number from which on Locals are made there.
 #[derive(Clone, Copy)]
 pub struct At<'a> {
+    pub first: u64,
+    /// The levels as a list of the store.
+    pub list: u64,
+    /// The same, one by one.
     pub levels: &'a [u64],
     pub arguments: &'a [u64],
 }

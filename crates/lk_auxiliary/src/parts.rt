@@ -29,11 +29,10 @@ pub struct Parts {
     pub constructors: Vec<u64>,
 }
 
-/// The parts of a type at levels and arguments, that has become `ty` there. Locals get numbers from this one on.
+/// The parts of a type at levels and arguments, that has become `ty` there.
 pub fn parts_of<T: Terms>(
     alloc: Global,
     terms: &mut T,
-    first: u64,
     at: &At<'_>,
     own: &BlockType,
     ty: u64,
@@ -44,11 +43,11 @@ pub fn parts_of<T: Terms>(
     ensures keeps { Extends (T.contents terms.old) (T.contents terms.new) }
     ensures rest { T.rest terms.new ≡ T.rest terms.old }
     ensures known { IfOk result (ArePartsIn (T.contents terms.new)) }
-    ensures parts { Settles (parts_form first (levels_of (T.contents terms.old) at.now)
+    ensures parts { Settles (parts_form at.now.first (levels_of (T.contents terms.old) at.now)
         (arguments_of (T.contents terms.old) at.now) (type_at (T.contents terms.old) own.now)
         (tree_at (T.contents terms.old) ty)) (parts_at (T.contents terms.new)) result }
 {
-    let end = end_of(alloc, terms, first, own.indices, ty)?;
+    let end = end_of(alloc, terms, at.first, own.indices, ty)?;
     let constructors = ctors_at(alloc, terms, at, &own.constructors)?;
     Ok(Parts {
         ty,

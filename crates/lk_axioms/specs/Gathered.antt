@@ -5,26 +5,27 @@ use Rattle.lk_rulebook.specs.Units.{Library}
 use Rattle.lk_reach.specs.Axioms.{IsListOf}
 use Rattle.lk_store.specs.Contents.{Contents, tree_at}
 use Rattle.lk_store.specs.Store.{contents_of}
-use Rattle.lk_store.specs.declared.tables.Tables.{Tables}
-use Rattle.lk_env.specs.declared.unit.Unit.{Unit as StoredUnit}
 use Rattle.lk_env.specs.Units.{library_of}
+use Rattle.lk_env.specs.StoredLibrary.{StoredLibrary}
 use Rattle.lk_axioms.specs.declared.finding.Finding.{Finding}
 use Rattle.lk_axioms.specs.declared.gathering.Gathering.{Gathering}
 use Rattle.lk_axioms.specs.Lists.{set_at, Keeps, IsUnion}
 use Rattle.lk_axioms.specs.Gives.{TreeGives, TreesGive, IsFinding, IsJoined, cell_at, IsKnown, IsSetOfUnit}
 
--- the units before unit n are done: their sets are their axioms, and what is kept of a tree is right from unit n on
+-- the units before unit n are done: their sets are their axioms, and what is kept of a tree is
+-- right from unit n on
 pub record IsRight (c : Contents) (us : Library) (n : ℕ) (g : Gathering) : Type 0 where
   pub empty_in : 0 < length g.sets
   pub empty : set_at g.sets 0 ≡ []
   pub one_each : length g.cells.items ≡ length c.trees
-  pub cells : (e : ℕ) → e < length c.trees → IsFinding (TreeGives us (tree_at c e)) n g.sets (cell_at g.cells.items e)
+  pub cells : (e : ℕ) → e < length c.trees
+      → IsFinding (TreeGives us (tree_at c e)) n g.sets (cell_at g.cells.items e)
   pub count : length g.units.items ≡ n
   pub units : (m : ℕ) → m < n → IsSetOfUnit us g.sets m (slice_index_or g.units.items m 0)
 
 -- the same of the library of a store's tables and units
-abbrev pub IsRightFor : Tables × List StoredUnit → ℕ → Gathering → Type 0
-IsRightFor l n g = IsRight (contents_of l.0) (library_of l) n g
+abbrev pub IsRightFor : StoredLibrary → ℕ → Gathering → Type 0
+IsRightFor l n g = IsRight (contents_of l.tables) (library_of l) n g
 
 -- the number of a unit, of fewer than 2 ^ 32
 abbrev pub IsUnitNumber : ℕ → Type 0
@@ -56,13 +57,15 @@ pub record IsLeft (c : Contents) (us : Library) (n e : ℕ) (old new : Gathering
   pub known : IsKnown n new.cells.items e
 
 -- a set is what these trees lead to at unit n
-pub record AreGathered (c : Contents) (us : Library) (n : ℕ) (es : List ℕ) (new : Gathering) (set : ℕ) : Type 0 where
+pub record AreGathered (c : Contents) (us : Library) (n : ℕ) (es : List ℕ)
+    (new : Gathering) (set : ℕ) : Type 0 where
   pub right : IsRight c us n new
   pub set_in : set < length new.sets
   pub listed : IsListOf (TreesGive c us es n) (set_at new.sets set)
 
 -- a set is that of unit n
-pub record IsUnitGathered (c : Contents) (us : Library) (n : ℕ) (new : Gathering) (set : ℕ) : Type 0 where
+pub record IsUnitGathered (c : Contents) (us : Library) (n : ℕ)
+    (new : Gathering) (set : ℕ) : Type 0 where
   pub right : IsRight c us n new
   pub unit_set : IsSetOfUnit us new.sets n set
 

@@ -50,10 +50,10 @@ impl Gathering {
 /// The axioms of the first unit that gives the name, if it is a unit before this one.
 fn named(library: &Library, gathering: &Gathering, unit: u32, name: u64) -> Finding
     requires right { IsRightFor library.now unit gathering.now }
-    requires name_in { name < length (contents_of library.now.0).names }
+    requires name_in { name < length (contents_of library.now.tables).names }
     requires few { IsUnitNumber unit }
     ensures finding { IsFinding (NameGives (library_of library.now)
-        (name_at (contents_of library.now.0) name)) unit gathering.now.sets result }
+        (name_at (contents_of library.now.tables) name)) unit gathering.now.sets result }
     ensures known { unit < result.below }
 {
     match library.position_of(name) {
@@ -108,10 +108,10 @@ fn find_in_node(
 ) -> Result<Finding, NoMemory>
     requires right { IsRightFor library.now unit gathering.old }
     requires few { IsUnitNumber unit }
-    requires node_in { IsIn (contents_of library.now.0) node }
+    requires node_in { IsIn (contents_of library.now.tables) node }
     requires parts { AreKnown unit gathering.old.cells.items (parts_back node) }
     ensures { IfOk result (IsMade (TreeGives (library_of library.now)
-        (tree_of (contents_of library.now.0) node)) unit gathering.old gathering.new) }
+        (tree_of (contents_of library.now.tables) node)) unit gathering.old gathering.new) }
 {
     match node {
         Node::Var(_) | Node::Sort(_) | Node::Lit(_) | Node::Wide | Node::Str(_) => Ok(NOTHING),
@@ -142,9 +142,9 @@ fn leave(
 ) -> Result<(), NoMemory>
     requires right { IsRightFor library.now unit gathering.old }
     requires few { IsUnitNumber unit }
-    requires is_node { IsNodeOf (contents_of library.now.0) e node }
+    requires is_node { IsNodeOf (contents_of library.now.tables) e node }
     requires parts { AreKnown unit gathering.old.cells.items (parts_back node) }
-    ensures { OnOk result (IsLeft (contents_of library.now.0) (library_of library.now) unit e
+    ensures { OnOk result (IsLeft (contents_of library.now.tables) (library_of library.now) unit e
         gathering.old gathering.new) }
 {
     let finding = find_in_node(alloc, library, gathering, unit, node)?;
@@ -183,8 +183,9 @@ pub(crate) fn gather(
 ) -> Result<(), NoMemory>
     requires right { IsRightFor library.now unit gathering.old }
     requires few { IsUnitNumber unit }
-    requires tree_in { tree < length (contents_of library.now.0).trees }
-    ensures { OnOk result (IsLeft (contents_of library.now.0) (library_of library.now) unit tree
+    requires tree_in { tree < length (contents_of library.now.tables).trees }
+    ensures { OnOk result (IsLeft (contents_of library.now.tables)
+        (library_of library.now) unit tree
         gathering.old gathering.new) }
 {
     stack.clear();

@@ -35,8 +35,9 @@ fn gather_trees(
 ) -> Result<u32, NoMemory>
     requires right { IsRightFor library.now unit gathering.old }
     requires few { IsUnitNumber unit }
-    requires trees_in { All (λ e. e < length (contents_of library.now.0).trees) trees.now }
-    ensures { IfOk result (AreGathered (contents_of library.now.0) (library_of library.now) unit
+    requires trees_in { All (λ e. e < length (contents_of library.now.tables).trees) trees.now }
+    ensures { IfOk result (AreGathered (contents_of library.now.tables)
+        (library_of library.now) unit
         trees.now gathering.new) }
 {
     let mut used: u32 = 0;
@@ -79,9 +80,10 @@ fn gather_unit(
     requires right { IsRightFor library.now unit gathering.old }
     requires few { IsUnitNumber unit }
     requires stands { slice_get (library_of library.now) unit
-        ≡ Some (unit_at (contents_of library.now.0) stated.now) }
-    requires stated_in { IsUnitIn (contents_of library.now.0) stated.now }
-    ensures { IfOk result (IsUnitGathered (contents_of library.now.0) (library_of library.now) unit
+        ≡ Some (unit_at (contents_of library.now.tables) stated.now) }
+    requires stated_in { IsUnitIn (contents_of library.now.tables) stated.now }
+    ensures { IfOk result (IsUnitGathered (contents_of library.now.tables)
+        (library_of library.now) unit
         gathering.new) }
 {
     list_trees(&mut walks.trees, stated)?;
@@ -112,8 +114,8 @@ fn push_unit(
     requires right { IsRightFor library.now unit gathering.old }
     requires few { IsUnitNumber unit }
     requires stands { slice_get (library_of library.now) unit
-        ≡ Some (unit_at (contents_of library.now.0) stated.now) }
-    requires stated_in { IsUnitIn (contents_of library.now.0) stated.now }
+        ≡ Some (unit_at (contents_of library.now.tables) stated.now) }
+    requires stated_in { IsUnitIn (contents_of library.now.tables) stated.now }
     ensures { OnOk result (IsRightFor library.now (unit + 1) gathering.new) }
 {
     let set = gather_unit(alloc, library, gathering, walks, unit, stated)?;
@@ -128,7 +130,7 @@ pub(crate) fn gather_units(
     gathering: &mut Gathering,
 ) -> Result<(), NoMemory>
     requires { IsRightFor library.now 0 gathering.old }
-    ensures { OnOk result (IsRightFor library.now (length library.now.1) gathering.new) }
+    ensures { OnOk result (IsRightFor library.now (length library.now.units) gathering.new) }
 {
     let units = library.units();
     if units.len() > u32::MAX as usize {

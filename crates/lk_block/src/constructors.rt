@@ -98,13 +98,12 @@ fn rest_of<A: Asks>(
     asks: &mut A,
     frame: &Frame,
     parent: u64,
-    name: u64,
-    count: u64,
+    stated: &Constructor,
     e: u64,
 ) -> Result<ConstructorShape, Stop>
     requires frame_in { IsFrameIn (A.contents asks.old) frame.now }
     requires parent_in { parent < length (A.contents asks.old).names }
-    requires name_in { name < length (A.contents asks.old).names }
+    requires name_in { stated.now.name < length (A.contents asks.old).names }
     requires e_in { e < length (A.contents asks.old).trees }
     ensures keeps { Extends (A.contents asks.old) (A.contents asks.new) }
     ensures stays { A.standing asks.new ≡ A.standing asks.old }
@@ -112,15 +111,15 @@ fn rest_of<A: Asks>(
     ensures outcome { (fuel : ℕ) → A.left asks.old < fuel
         → ComesTo (A.standing asks.old)
         (rest_form fuel (frame_at (A.contents asks.old) frame.now)
-        (name_at (A.contents asks.old) parent) (name_at (A.contents asks.old) name) count
-        (tree_at (A.contents asks.old) e)) (A.left asks.old)
+        (name_at (A.contents asks.old) parent) (name_at (A.contents asks.old) stated.now.name)
+        stated.now.fields (tree_at (A.contents asks.old) e)) (A.left asks.old)
         (constructor_shape_at (A.contents asks.new)) (A.left asks.new) result }
 {
     let first = frame.parameters.len() as u64;
-    let opened = fields(alloc, asks, frame, first, count, e)?;
+    let opened = fields(alloc, asks, frame, first, stated.fields, e)?;
     let indices = result_of(alloc, asks, frame, parent, opened.1)?;
     Ok(ConstructorShape {
-        name,
+        name: stated.name,
         fields: opened.0,
         indices,
     })
@@ -133,26 +132,24 @@ fn constructor_of<A: Asks>(
     asks: &mut A,
     frame: &Frame,
     parent: u64,
-    name: u64,
-    count: u64,
-    ty: u64,
+    stated: &Constructor,
 ) -> Result<ConstructorShape, Stop>
     requires frame_in { IsFrameIn (A.contents asks.old) frame.now }
     requires parent_in { parent < length (A.contents asks.old).names }
-    requires name_in { name < length (A.contents asks.old).names }
-    requires ty_in { ty < length (A.contents asks.old).trees }
+    requires name_in { stated.now.name < length (A.contents asks.old).names }
+    requires ty_in { stated.now.ty < length (A.contents asks.old).trees }
     ensures keeps { Extends (A.contents asks.old) (A.contents asks.new) }
     ensures stays { A.standing asks.new ≡ A.standing asks.old }
     ensures known { IfOk result (IsConstructorShapeIn (A.contents asks.new)) }
     ensures outcome { (fuel : ℕ) → A.left asks.old < fuel
         → ComesTo (A.standing asks.old)
         (constructor_form fuel (frame_at (A.contents asks.old) frame.now)
-        (name_at (A.contents asks.old) parent) (name_at (A.contents asks.old) name) count
-        (tree_at (A.contents asks.old) ty)) (A.left asks.old)
+        (name_at (A.contents asks.old) parent) (name_at (A.contents asks.old) stated.now.name)
+        stated.now.fields (tree_at (A.contents asks.old) stated.now.ty)) (A.left asks.old)
         (constructor_shape_at (A.contents asks.new)) (A.left asks.new) result }
 {
-    let rest = over(alloc, asks, frame.parameters, ty)?;
-    rest_of(alloc, asks, frame, parent, name, count, rest)
+    let rest = over(alloc, asks, frame.parameters, stated.ty)?;
+    rest_of(alloc, asks, frame, parent, stated, rest)
 }
 
 /// The checks of a type's constructors.
@@ -179,15 +176,7 @@ fn constructors_of<A: Asks>(
     let mut shapes: Vec<ConstructorShape> = Vec::new(alloc);
     let mut rest = constructors;
     'constructors: while let Some((stated, more)) = rest.split_first() {
-        let shape = constructor_of(
-            alloc,
-            asks,
-            frame,
-            parent,
-            stated.name,
-            stated.fields,
-            stated.ty,
-        )?;
+        let shape = constructor_of(alloc, asks, frame, parent, stated)?;
         match shapes.push(shape) {
             Ok(_) => {}
             Err(_) => return Err(Stop::NoMemory),

@@ -19,7 +19,7 @@ use Rattle.lk_members.specs.Plain.{PlainLine, library_stated}
 use Rattle.lk_units.proofs.Spellings.{AreSpelledLines, AreSpelledUnits}
 use Rattle.lk_units.proofs.SpelledUnits.{spelled_units}
 use Rattle.lk_units.specs.State.{State, take_item}
-use Rattle.lk_units.proofs.Kept.{Kept, kept_item, kept_begin}
+use Rattle.lk_units.proofs.Kept.{IsSpelledState, kept_item, kept_begin}
 use Rattle.lk_units.proofs.Items.{spelled_item}
 use Rattle.lk_book.specs.Course.{Course, begin_course, passed, taken, unless, at_line, step}
 use Rattle.lk_book.specs.File.{lines_of, has_more, after, course_over, course_of, closed, units_stated, library_of}
@@ -46,7 +46,7 @@ are_cut [] = (All-nil (λ x. x ≢ 10), tt)
 are_cut (b ∷ bytes) = cut_step b (slice_split (λ x. x == 10) bytes) (b == 10) refl (are_cut bytes)
 
 abbrev KeptCourse : Course → Type 0
-KeptCourse c = Kept c.state
+KeptCourse c = IsSpelledState c.state
 
 kept_at : (n : ℕ) (r : Result Course Word) → IfOk r KeptCourse → IfOk (at_line n r) KeptCourse
 kept_at n (Ok c) h = h
@@ -56,30 +56,30 @@ kept_unless : (o : Option Word) (r : Result Course Word) → IfOk r KeptCourse �
 kept_unless (Some w) r h = tt
 kept_unless None r h = h
 
-kept_state : (c : Course) (r : Result State Word) → IfOk r Kept → IfOk (r >>= λ s. Ok (record c { first = false; state = s })) KeptCourse
+kept_state : (c : Course) (r : Result State Word) → IfOk r IsSpelledState → IfOk (r >>= λ s. Ok (record c { first = false; state = s })) KeptCourse
 kept_state c (Ok s) h = h
 kept_state c (Err w) h = tt
 
-kept_taken : (c : Course) (first : Bool) (line : List ℕ) (says : Says) → HasNoLineFeed line → said_of first line ≡ Ok says → Kept c.state → IfOk (taken c says) KeptCourse
+kept_taken : (c : Course) (first : Bool) (line : List ℕ) (says : Says) → HasNoLineFeed line → said_of first line ≡ Ok says → IsSpelledState c.state → IfOk (taken c says) KeptCourse
 kept_taken c first line Blank h e k = k
 kept_taken c first line Version h e k = k
 kept_taken c first line (OfItem item) h e k = kept_state c (take_item c.number c.state item) (kept_item c.number c.state item (spelled_item first line item h e) k)
 
-kept_said : (c : Course) (first : Bool) (line : List ℕ) (said : Result Says Word) → HasNoLineFeed line → said_of first line ≡ said → Kept c.state → IfOk (said >>= taken c) KeptCourse
+kept_said : (c : Course) (first : Bool) (line : List ℕ) (said : Result Says Word) → HasNoLineFeed line → said_of first line ≡ said → IsSpelledState c.state → IfOk (said >>= taken c) KeptCourse
 kept_said c first line (Ok says) h e k = kept_taken c first line says h e k
 kept_said c first line (Err w) h e k = tt
 
-kept_step : (c : Course) (feed : Bool) (line : List ℕ) → HasNoLineFeed line → Kept c.state → IfOk (step c feed line) KeptCourse
+kept_step : (c : Course) (feed : Bool) (line : List ℕ) → HasNoLineFeed line → IsSpelledState c.state → IfOk (step c feed line) KeptCourse
 unfolding step
 kept_step c feed line h k =
     let p = passed c (length line) feed in
     kept_at _ _ (kept_unless (limits c.before (length line) feed) (said_of c.first line >>= taken p) (kept_said p c.first line (said_of c.first line) h refl k))
 
-kept_after : (r : Result Course Fault) (f : Course → Result Course Fault) → IfOk r KeptCourse → ((d : Course) → Kept d.state → IfOk (f d) KeptCourse) → IfOk (after r f) KeptCourse
+kept_after : (r : Result Course Fault) (f : Course → Result Course Fault) → IfOk r KeptCourse → ((d : Course) → IsSpelledState d.state → IfOk (f d) KeptCourse) → IfOk (after r f) KeptCourse
 kept_after (Ok d) f h g = g d h
 kept_after (Err e) f h g = tt
 
-kept_over : (c : Course) (lines : List (List ℕ)) → AreCut lines → Kept c.state → IfOk (course_over c lines) KeptCourse
+kept_over : (c : Course) (lines : List (List ℕ)) → AreCut lines → IsSpelledState c.state → IfOk (course_over c lines) KeptCourse
 kept_over c [] h k = k
 kept_over c (line ∷ lines) h k = kept_after (step c (has_more lines) line) (λ d. course_over d lines) (kept_step c (has_more lines) line h.0 k) (λ d j. kept_over d lines h.1 j)
 

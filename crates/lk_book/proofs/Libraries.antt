@@ -8,7 +8,8 @@ use Rattle.lk_store.specs.Values.{AreApart}
 use Rattle.lk_store.specs.declared.tables.Tables.{Tables}
 use Rattle.lk_env.specs.Units.{library_at}
 use Rattle.lk_env.specs.declared.unit.Unit.{Unit as StoredUnit}
-use Rattle.lk_members.specs.declared.line.Line.{Line as StoredLine}
+use Rattle.lk_env.specs.StoredLibrary.{StoredLibrary}
+use Rattle.lk_members.specs.declared.line.StoredLine.{StoredLine}
 use Rattle.lk_members.specs.Faults.{first_open}
 use Rattle.lk_members.specs.Units.{units_of}
 use Rattle.lk_members.specs.Stored.{lines_of, unit_stated, AreLinesIn}
@@ -33,7 +34,7 @@ module _ (c : Contents) (ls : List StoredLine) (apart : AreApart [] c.names) (k 
   open_told n some = ap (λ o. closed o (lines_at c ls)) (open_stands c apart ls k ∙ some)
 
 -- what was read of the lines is what the bytes state
-pub library_read : (bytes : List ℕ) (c : Contents) (a : Assembler) (r : Result (Tables × List StoredUnit) ReadError) → Reads c (course_of bytes) (Ok a)
+pub library_read : (bytes : List ℕ) (c : Contents) (a : Assembler) (r : Result StoredLibrary ReadError) → Reads c (course_of bytes) (Ok a)
     → ReadsLibrary (units_stated (lines_at c a.members.lines.items)) r → ReadsLibrary (library_of bytes) r
 library_read bytes c a r reads h =
     let is : units_stated (lines_at c a.members.lines.items) ≡ library_of bytes = ap units_stated reads.2.lines ∙ sym (ap (λ x. after x (λ d. units_stated d.state.lines)) reads.1) in
@@ -52,6 +53,8 @@ told_library errors.ReadFault said h = absurd h
 told_library (errors.Fault f) said h = h
 
 -- a library of these units
-pub made_library : (old new : Tables) (ls : List StoredLine) (l : Tables × List StoredUnit) (us : List StoredUnit) → new ≡ old → l ≡ (new, us)
-    → units_stated (lines_at (contents_of new) ls) ≡ Ok (library_at (contents_of new) us) → units_stated (lines_at (contents_of old) ls) ≡ Ok (library_at (contents_of l.0) l.1)
-made_library old new ls l us same is h = subst (λ x. units_stated (lines_at (contents_of x) ls) ≡ Ok (library_at (contents_of l.0) l.1)) same (rw is h)
+pub made_library : (old new : Tables) (ls : List StoredLine) (l : StoredLibrary) (us : List StoredUnit) → new ≡ old → l ≡ record { tables = new; units = us }
+    → units_stated (lines_at (contents_of new) ls) ≡ Ok (library_at (contents_of new) us) → units_stated (lines_at (contents_of old) ls) ≡ Ok (library_at (contents_of l.tables) l.units)
+made_library old new ls l us same is h =
+    subst (λ x. units_stated (lines_at (contents_of x) ls) ≡ Ok (library_at (contents_of l.tables) l.units)) same
+    (subst (λ (k : StoredLibrary). units_stated (lines_at (contents_of new) ls) ≡ Ok (library_at (contents_of k.tables) k.units)) (sym is) h)

@@ -4,9 +4,8 @@ use Rattle.std.specs.declared.option.Option.{Option}
 use Rattle.std.specs.Io.KnownBytes.{Consumes}
 use Rattle.lk_store.specs.Contents.{Contents}
 use Rattle.lk_store.specs.Store.{contents_of}
-use Rattle.lk_store.specs.declared.tables.Tables.{Tables}
-use Rattle.lk_env.specs.declared.unit.Unit.{Unit as StoredUnit}
 use Rattle.lk_env.specs.Units.{library_at}
+use Rattle.lk_env.specs.StoredLibrary.{StoredLibrary}
 use Rattle.lk_rulebook.specs.Units.{Library}
 use Rattle.lk_token.specs.Lines.{HasNoLineFeed}
 use Rattle.lk_lines.specs.declared.words.Word.{Word}
@@ -27,8 +26,8 @@ abbrev pub read_error : LineError → ReadError
 read_error line_errors.NoMemory = errors.NoMemory
 read_error (line_errors.Fault f) = errors.Fault f
 
--- what the assembler holds is what the lines of the file state, or the fault of the first faulty line is told; a failed read
--- and want of memory tell nothing of the file
+-- what the assembler holds is what the lines of the file state, or the fault of the first faulty
+-- line is told; a failed read and want of memory tell nothing of the file
 abbrev pub Reads : Contents → Result Course Fault → Result Assembler ReadError → Type 0
 Reads store said (Ok a) = (c : Course) × (said ≡ Ok c) × Holds a store c.state
 Reads store said (Err errors.NoMemory) = Unit {0}
@@ -36,8 +35,8 @@ Reads store said (Err errors.ReadFault) = Unit {0}
 Reads store said (Err (errors.Fault f)) = said ≡ Err f
 
 -- the library is the one that the file states, or the file's fault is told
-abbrev pub ReadsLibrary : Result Library Fault → Result (Tables × List StoredUnit) ReadError → Type 0
-ReadsLibrary said (Ok l) = said ≡ Ok (library_at (contents_of l.0) l.1)
+abbrev pub ReadsLibrary : Result Library Fault → Result StoredLibrary ReadError → Type 0
+ReadsLibrary said (Ok l) = said ≡ Ok (library_at (contents_of l.tables) l.units)
 ReadsLibrary said (Err errors.NoMemory) = Unit {0}
 ReadsLibrary said (Err errors.ReadFault) = Unit {0}
 ReadsLibrary said (Err (errors.Fault f)) = said ≡ Err f
@@ -48,7 +47,8 @@ TellsOpen errors.NoMemory said = Unit {0}
 TellsOpen errors.ReadFault said = ⊥
 TellsOpen (errors.Fault f) said = said ≡ Err f
 
--- behind its last line the assembler holds what the line makes of the course, or the line's fault is told
+-- behind its last line the assembler holds what the line makes of the course, or the line's fault
+-- is told
 abbrev pub Ends : Contents → Result Assembler LineError → Result Course Fault → Type 0
 Ends store (Ok a) said = (c : Course) × (said ≡ Ok c) × Holds a store c.state
 Ends store (Err e) said = Fails e said
@@ -62,20 +62,24 @@ abbrev pub first_limits : ℕ → List (List ℕ) → Option Word
 first_limits before [] = None
 first_limits before (line ∷ more) = limits before (length line) (has_more more)
 
--- bytes without a line feed were taken from the front, so that a line of so many bytes has so many now
+-- bytes without a line feed were taken from the front, so that a line of so many bytes has so many
+-- now
 pub record Skips (old now : Option (List ℕ)) (length_old length_now : ℕ) : Type 0 where
   pub bytes : List ℕ
   pub consumed : Consumes old now bytes
   pub unfinished : HasNoLineFeed bytes
   pub counted : length_now ≡ length_old + length bytes
 
--- The bytes that were taken from the front led the reader to what it stands for, but for the last ones of them.
-pub record Remains (r : Reader) (store : Contents) (held : List ℕ) (old now : Option (List ℕ)) : Type 0 where
+-- The bytes that were taken from the front led the reader to what it stands for, but for the last
+-- ones of them.
+pub record Remains (r : Reader) (store : Contents) (held : List ℕ)
+    (old now : Option (List ℕ)) : Type 0 where
   pub bytes : List ℕ
   pub consumed : Consumes old now bytes
   pub passes : Passes r store begin_course bytes held
 
--- the fault of a file that a source had at first; a failed read and want of memory tell nothing of it
+-- the fault of a file that a source had at first; a failed read and want of memory tell nothing of
+-- it
 abbrev pub TellsFault : ReadError → Option (List ℕ) → Type 0
 TellsFault errors.NoMemory old = Unit {0}
 TellsFault errors.ReadFault old = Unit {0}

@@ -8,7 +8,7 @@ ghost use Rattle.lk_units.specs.Held.{IsKnown};
 ghost use Rattle.lk_book.specs.Course.{Course, feed_count, taken, at_line, step};
 ghost use Rattle.lk_book.specs.Passing.{Stands, IsCounted, Goes, line_error};
 
-use lk_lines::{Fault, LineError, Said, limit_fault, read_line};
+use lk_lines::{Fault, LineError, Statement, limit_fault, read_line};
 use lk_store::terms::Terms;
 use lk_units::{Assembler, TakeError};
 use std::alloc::Global;
@@ -52,7 +52,7 @@ impl Reader {
         alloc: Global,
         store: &mut T,
         number: u64,
-        said: Said<'_>,
+        statement: Statement<'_>,
     ) -> Result<(), LineError>
         requires known { IsKnown self.old.assembler (T.contents store.old) }
         requires number { number ≡ self.old.number }
@@ -62,22 +62,22 @@ impl Reader {
         ensures counts { (self.new.number ≡ self.old.number) × (self.new.before ≡ self.old.before) }
         ensures follows { (c : Course) → Stands self.old (T.contents store.old) c
             → Goes self.new (T.contents store.new) result
-            (at_line number (taken c (says_of said.entry))) }
+            (at_line number (taken c (says_of statement.entry))) }
     {
-        match said {
-            Said::Blank => Ok(()),
-            Said::Version => {
+        match statement {
+            Statement::Blank => Ok(()),
+            Statement::Version => {
                 self.first = false;
                 Ok(())
             }
-            Said::Entry { own, entry } => {
+            Statement::Entry { own, entry } => {
                 self.first = false;
                 match self.assembler.take_entry(alloc, store, own, entry) {
                     Ok(()) => Ok(()),
                     Err(error) => Err(at_line(number, error)),
                 }
             }
-            Said::Declaration(declaration) => {
+            Statement::Declaration(declaration) => {
                 self.first = false;
                 match self
                     .assembler
@@ -119,6 +119,6 @@ impl Reader {
         let line = read_line(alloc, number, self.first, line)?;
         self.number = number;
         self.before += length + feed_count(feed);
-        self.take_said(alloc, store, number, line.said)
+        self.take_said(alloc, store, number, line.statement)
     }
 }

@@ -25,12 +25,11 @@ use Rattle.lk_questions.specs.Table.{steps}
 use Rattle.lk_store.specs.Contents.{Contents, name_at, list_at, tree_at, Extends, IsTree}
 use Rattle.lk_store.specs.declared.memory.NoMemory.{NoMemory}
 use Rattle.lk_store.specs.Store.{contents_of}
-use Rattle.lk_store.specs.declared.tables.Tables.{Tables}
 use Rattle.lk_store.proofs.Extending.{Extends-trans}
 use Rattle.lk_subst.specs.Numbers.{trees-steady, trees-known}
 use Rattle.lk_env.specs.declared.entry.Entry.{Entry}
-use Rattle.lk_env.specs.declared.unit.Unit.{Unit as StoredUnit}
 use Rattle.lk_env.specs.Entries.{plain_entry, IsEntryIn, IsMeaning}
+use Rattle.lk_env.specs.StoredLibrary.{StoredLibrary}
 use Rattle.lk_ask.specs.Constants.{IsAtLevels}
 use Rattle.lk_ask.proofs.Entries.{entry_type}
 use Rattle.lk_ask.proofs.Looking.{found_is, found_goes}
@@ -48,9 +47,9 @@ pub local_at_once : (w : Place) (k : ℕ) (T : Tree) → HasTypeAtOnce w None (l
 local_at_once w k T b = out-suc steps w (infer (local k T)) b
 
 -- the type of a constant at its levels
-module _ (l : Tables × List StoredUnit) (w : Place) (x : Name) (e : Entry) (ls : List Level) where
-  pub constant_at_once : (m : IsMeaning (contents_of l.0) l.1 w x e) (c : Contents) (t : Tree)
-      (T : ℕ) → t ≡ tree_at (contents_of l.0) e.stated
+module _ (l : StoredLibrary) (w : Place) (x : Name) (e : Entry) (ls : List Level) where
+  pub constant_at_once : (m : IsMeaning (contents_of l.tables) l.units w x e) (c : Contents) (t : Tree)
+      (T : ℕ) → t ≡ tree_at (contents_of l.tables) e.stated
       → let h = found_is l w x None (Some e.origin) e m refl in
       IsAtLevels c h.entry.levels ls t (Some T)
       → HasTypeAtOnce w (Some (w.origin x)) (const x ls) (tree_at c T)
@@ -58,7 +57,7 @@ module _ (l : Tables × List StoredUnit) (w : Place) (x : Name) (e : Entry) (ls 
       let h = found_is l w x None (Some e.origin) e m refl in
       let goes = found_goes w a_tree x UnknownConstant (λ g. with_levels g ls g.type) l None
       (Some e.origin) e h in
-      let type_is : h.entry.type ≡ t = entry_type (contents_of l.0) l.1 e h.entry h.is ∙ sym is_t in
+      let type_is : h.entry.type ≡ t = entry_type (contents_of l.tables) l.units e h.entry h.is ∙ sym is_t in
       out-suc steps w (infer (const x ls)) b
       ∙ (ap (λ s. run_steps (out_of steps w) s b) goes
       ∙ (ap (λ q. run_steps (out_of steps w) (erased w a_tree (Some e.origin) (given q LevelCount
@@ -68,12 +67,12 @@ module _ (l : Tables × List StoredUnit) (w : Place) (x : Name) (e : Entry) (ls 
       ∙ ap (finished (a_tree (tree_at c T)) b) h.looked)))
 
 -- what was found of a constant
-pub constant_typed : (l : Tables × List StoredUnit) (w : Place) {now later : Contents}
-    (name levels e ty : ℕ) (entry : Entry) → Extends now later → Extends (contents_of l.0) now
+pub constant_typed : (l : StoredLibrary) (w : Place) {now later : Contents}
+    (name levels e ty : ℕ) (entry : Entry) → Extends now later → Extends (contents_of l.tables) now
     → name < length now.names → tree_at now e ≡ const (name_at now name) (list_at now levels)
-    → IsEntryIn (contents_of l.0) entry → IsMeaning (contents_of l.0) l.1 w (name_at now name) entry
+    → IsEntryIn (contents_of l.tables) entry → IsMeaning (contents_of l.tables) l.units w (name_at now name) entry
     → ty < length later.trees
-    → ((g : PlainEntry) → plain_entry (contents_of l.0) l.1 entry ≡ Some g → IsAtLevels later
+    → ((g : PlainEntry) → plain_entry (contents_of l.tables) l.units entry ≡ Some g → IsAtLevels later
     g.levels (list_at now levels) (tree_at now entry.stated) (Some ty))
     → IsTypeOf w later (tree_at now e) (ty, Some name)
 constant_typed l w {now} {later} name levels e ty entry grows over name_in is known m ty_in at =

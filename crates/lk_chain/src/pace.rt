@@ -49,7 +49,7 @@ impl Pace {
 
     /// A type was looked at in so many steps, and nothing is put. A look is far cheaper than what
     /// it would have put, so one type that is too large takes the means of no other one.
-    pub fn look(&mut self, steps: u64) {
+    pub fn spend_on_look(&mut self, steps: u64) {
         self.spent = self.spent.saturating_add(steps / STEPS);
     }
 

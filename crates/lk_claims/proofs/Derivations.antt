@@ -6,7 +6,7 @@ use Rattle.lk_tree.specs.Level.{SameLevel, is_zero_level}
 use Rattle.lk_tree.proofs.Zero.{zero_level_same, not_zero_level}
 use Rattle.lk_rulebook.specs.Place.{Place}
 use Rattle.lk_rulebook.specs.Lawful.{IsLawfulPlace}
-use Rattle.lk_rulebook.specs.Rules.{t_sort, t_local, t_const, t_app, t_lam, t_pi, t_let, t_lit, t_str, t_proj, has_sort, IsProposition, is_prop, r_refl, r_trans, r_head, r_beta, r_zeta, r_delta, r_proj, r_major, r_iota, r_k, r_struct, r_quot_lift, r_quot_ind, r_op, e_refl, e_reduce, e_sort, e_const, e_app, e_lam, e_pi, e_proj, e_eta_left, e_eta_right, e_struct_left, e_struct_right, e_unit, e_proof, e_zero_left, e_zero_right, e_succ_left, e_succ_right, e_str_left, e_str_right, Numerals, no_more_numerals, numeral, not_prop, by_fields, AllProject, no_more_fields, project, PastParameters, no_more, next, Field, FieldOf, here, past}
+use Rattle.lk_rulebook.specs.Rules.{t_sort, t_local, t_const, t_app, t_lam, t_pi, t_let, t_lit, t_str, t_proj, has_sort, IsProposition, is_prop, r_refl, r_trans, r_head, r_beta, r_zeta, r_delta, r_proj, r_major, r_iota, r_k, r_struct, r_quot_lift, r_quot_ind, r_op, e_refl, e_reduce, e_sort, e_const, e_app, e_lam, e_pi, e_proj, e_eta_left, e_eta_right, e_struct_left, e_struct_right, e_unit, e_proof, e_zero_left, e_zero_right, e_succ_left, e_succ_right, e_str_left, e_str_right, ReduceToNumerals, no_more_numerals, numeral, not_prop, by_fields, ProjectionsEqual, no_more_fields, project, IsTypeAfterParameters, no_more, next, field_at, IsFieldType, here, past}
 use Rattle.lk_rulebook.proofs.Sorts.{former_stays}
 use Rattle.lk_rulebook.proofs.Scopes.{well_formed_of_type, well_formed_of_reduct, well_formed_of_equal}
 use Rattle.lk_claims.specs.Claims.{Claim, types, reduces, equals, Derived, IsShaped}
@@ -30,15 +30,15 @@ both : (a b : Bool) → a ≡ true → b ≡ true → (a && b) ≡ true
 both true b x y = y
 both false b x y = absurd cc
 
-numerals_derived : (w : Place) {es : List Tree} {ns : List ℕ} → EachNumeral (Derived w) es ns → Numerals w es ns
+numerals_derived : (w : Place) {es : List Tree} {ns : List ℕ} → EachNumeral (Derived w) es ns → ReduceToNumerals w es ns
 numerals_derived w no_numeral = no_more_numerals
 numerals_derived w (a_numeral {v = v} {n = n} h e k) = numeral h (numeral_right v n e) (numerals_derived w k)
 
-fields_derived : (w : Place) (J : Name) (a : Tree) (j : ℕ) (xs : List Tree) → EachField (Derived w) J a j xs → AllProject w J a j xs
+fields_derived : (w : Place) (J : Name) (a : Tree) (j : ℕ) (xs : List Tree) → EachField (Derived w) J a j xs → ProjectionsEqual w J a j xs
 fields_derived w J a j [] h = no_more_fields
 fields_derived w J a j (x ∷ xs) h = project h.0 (fields_derived w J a (suc j) xs h.1)
 
-parameters_derived : (w : Place) {bs : List Tree} {n : ℕ} {r T : Tree} → EachParameter (Derived w) bs n r T → PastParameters w T n bs r
+parameters_derived : (w : Place) {bs : List Tree} {n : ℕ} {r T : Tree} → EachParameter (Derived w) bs n r T → IsTypeAfterParameters w T n bs r
 parameters_derived w no_parameter = no_more
 parameters_derived w (parameter h k) = next h (parameters_derived w k)
 
@@ -47,12 +47,9 @@ prop_derived w not_due e = absurd cc
 prop_derived w (due {l = l} h k z) e = is_prop (has_sort h k) (zero_level_same l z)
 
 -- field number i of s, of this structure, whose type has the sort l
-abbrev field_at : Name → Tree → Level → ℕ → Field
-field_at S s l i = record { structure = S; subject = s; sort = l; number = i }
-
-field_derived : (w : Place) (S : Name) (s : Tree) (l : Level) (i : ℕ) {j n : ℕ} {r F : Tree} → j + n ≡ i → FieldAt (Derived w) S s (is_zero_level l) j n r F → FieldOf w (field_at S s l i) F j r
+field_derived : (w : Place) (S : Name) (s : Tree) (l : Level) (i : ℕ) {j n : ℕ} {r F : Tree} → j + n ≡ i → FieldAt (Derived w) S s (is_zero_level l) j n r F → IsFieldType w (field_at S s l i) F j r
 field_derived w S s l i {j = j} {r = r} {F = F} e (this_field h p) =
-    let x : j ≡ i = omega (arith, e) in subst (λ y. FieldOf w (field_at S s l y) F j r) x (here {f = field_at S s l j} h (λ z. prop_derived w p (zero_then l z)))
+    let x : j ≡ i = omega (arith, e) in subst (λ y. IsFieldType w (field_at S s l y) F j r) x (here {f = field_at S s l j} h (λ z. prop_derived w p (zero_then l z)))
 field_derived w S s l i e (field_before {B = B} h p k) =
     past {f = field_at S s l i} h (λ z v. prop_derived w p (both (is_zero_level l) (has_var 0 B) (zero_then l z) v)) (field_derived w S s l i (omega (arith, e)) k)
 
@@ -62,8 +59,8 @@ types_derived w = record {
   locals = λ k T f. t_local f;
   consts = λ c ls g f. t_const g f;
   apps = λ f a F A B A' hf hF ha hq. t_app hf hF ha hq;
-  lams = λ A b B l k m n hA hb. t_lam {B = B} {k = k} m n (has_sort hA.1 hA.2) hb;
-  pis = λ A B u v k m hA hB. t_pi {k = k} m (has_sort hA.1 hA.2) (has_sort hB.1 hB.2);
+  lams = λ A b B l k fresh hA hb. t_lam {B = B} {k = k} fresh (has_sort hA.1 hA.2) hb;
+  pis = λ A B u v k fresh hA hB. t_pi {k = k} fresh (has_sort hA.1 hA.2) (has_sort hB.1 hB.2);
   lets = λ A v b V B l hA hv hq hb. t_let (has_sort hA.1 hA.2) hv hq hb;
   lits = λ n h t f. t_lit h f;
   strs = λ s h t. t_str h;
@@ -95,8 +92,8 @@ equalities_derived w = record {
   sorts = λ l m t. e_sort (level_right l m t);
   consts = λ c ls ms t. e_const (levels_right ls ms t);
   apps = λ f g a b nf ng hf ha. e_app nf ng hf ha;
-  lams = λ A A' b b' k m n hA hb. e_lam {k = k} m n hA hb;
-  pis = λ A A' b b' k m n hA hb. e_pi {k = k} m n hA hb;
+  lams = λ A A' b b' k fresh hA hb. e_lam {k = k} fresh hA hb;
+  pis = λ A A' b b' k fresh hA hb. e_pi {k = k} fresh hA hb;
   projs = λ S i s t h. e_proj h;
   eta_left = λ o T A B A' b n ho hT hq. e_eta_left n ho hT hq;
   eta_right = λ o T A B A' b n ho hT hq. e_eta_right n ho hT hq;

@@ -1,5 +1,6 @@
 -- Tests in place of what the rules ask of levels, of shapes and of literals.
-use Rattle.std.specs.Prelude.{zero, suc, Bool, true, false, ◌&&◌, List, [], ◌∷◌, Option, Some, None, if◌then◌else◌}
+use Rattle.std.specs.Prelude.{zero, suc, Bool, true, false, ◌&&◌, List, [], ◌∷◌, Option, Some, None}
+use Rattle.std.specs.Prelude.{if◌then◌else◌}
 use Rattle.lk_tree.specs.Tree.{Level, Tree, app, lit, str}
 use Rattle.lk_tree.specs.LevelTest.{level_test}
 use Rattle.lk_rulebook.specs.Place.{Place}

@@ -1,5 +1,6 @@
-//! Claims that two trees are related, what it is for a property of them to follow the rules, and
-//! what programs that ask nothing say at a place. Nothing runs: each function is a law.
+//! Claims that two trees are related, and what it is for a property of claims to follow the rules.
+//! A proof over every such property holds of derivations, and of what can be written. Nothing runs:
+//! each function is a law.
 #![tactic(auto)]
 
 ghost use Rattle.lk_rulebook.specs.Lawful.{IsLawfulPlace};
@@ -8,7 +9,8 @@ ghost use Rattle.lk_questions.specs.Levels.{IsLevelTest, complete_test};
 ghost use Rattle.lk_claims.specs.Claims.{Derived};
 ghost use Rattle.lk_claims.specs.Follows.{FollowsTypes, FollowsReductions, FollowsEqualities};
 
-/// What is derived follows the rules, of reductions where operations have their laws.
+/// Derivations follow the rules: those of typing and of conversion at every place, those of
+/// reduction where operations on numbers have their laws.
 pub fn derivations_follow_the_rules()
     ensures typing { (w : Place) → FollowsTypes w (Derived w) }
     ensures reduction { (w : Place) → IsLawfulPlace w → FollowsReductions w (Derived w) }

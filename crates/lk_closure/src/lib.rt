@@ -3,7 +3,8 @@
 #![tactic(auto)]
 
 ghost use Rattle.std.specs.Prelude.{◌≡◌, ◌<◌, ◌≤◌, ℕ, Bool, true, List, length, Some, slice_get};
-ghost use Rattle.lk_closure.specs.Closure.{IsClosure, IsInClosure, KeepsClosure, IsUnchanged, kept, renumbered};
+ghost use Rattle.lk_closure.specs.Closure.{IsClosure, IsInClosure, KeepsClosure, IsUnchanged, kept};
+ghost use Rattle.lk_closure.specs.Closure.{renumbered};
 ghost use Rattle.lk_closure.specs.Listed.{IsClosureList, is_listed, units_at};
 ghost use Rattle.lk_reach.specs.Axioms.{IsAxiomOf};
 ghost use Rattle.lk_rulebook.specs.Units.{Decl, of_decl, Library};
@@ -28,7 +29,7 @@ pub fn verdict_rests_on_closure()
         → plain_verdict steps vs m budget ≡ plain_verdict steps us n budget }
 {}
 
-/// For a declaration this holds in every library.
+/// The same of a declaration, in every library, clear or not.
 pub fn declaration_rests_on_closure()
     ensures kept { (us : Library) (n : ℕ) (d : Decl) (keep : ℕ → Bool) (budget : ℕ)
         → slice_get us n ≡ Some (of_decl d) → IsClosure us n keep
@@ -72,8 +73,9 @@ pub fn closure_is_least()
     ensures earlier { (us : Library) (n k : ℕ) → IsInClosure us n k → k ≤ n }
 {}
 
-/// The units of a closure, listed in the order of the units, have among themselves the verdicts that
-/// they have among all, and the same axioms; the new number of a unit is its place in the list.
+/// The units of a closure, listed in the order of the units, have among themselves the verdicts
+/// that they have among all, and the same axioms; the new number of a unit is its place in the
+/// list.
 pub fn listed_closure_keeps_verdicts()
     ensures keeps { (us : Library) (n : ℕ) (ks : List ℕ) → IsClosureList us n ks
         → KeepsClosure us n (is_listed ks) }

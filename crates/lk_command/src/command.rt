@@ -84,7 +84,8 @@ fn trial_command<'a>(alloc: Global) -> Result<Command<'a>, AllocError>
 
 /// The command with the subcommand `check`.
 fn with_check<'a>(alloc: Global) -> Result<Command<'a>, AllocError>
-    ensures app { IfOk result (λ c. app_of c ≡ with_subcommand (new_app (codes "leancheck")) check.top) }
+    ensures app { IfOk result (λ c. app_of c
+        ≡ with_subcommand (new_app (codes "leancheck")) check.top) }
 {
     let check = check_command(alloc)?;
     Command::new(alloc, "leancheck").subcommand(check)

@@ -4,10 +4,8 @@ use Rattle.lk_tree.specs.Tree.{Tree}
 use Rattle.lk_rulebook.specs.Place.{a_ctor}
 use Rattle.lk_questions.specs.Iota.{CtorApp}
 use Rattle.lk_store.specs.Contents.{Contents, name_at}
-use Rattle.lk_store.specs.Store.{contents_of}
-use Rattle.lk_store.specs.declared.tables.Tables.{Tables}
-use Rattle.lk_env.specs.declared.unit.Unit.{Unit as StoredUnit}
-use Rattle.lk_env.specs.Entries.{plain_entry}
+use Rattle.lk_env.specs.StoredLibrary.{StoredLibrary}
+use Rattle.lk_env.specs.Entries.{library_entry}
 use Rattle.lk_constructor.specs.declared.constructor.AppliedConstructor.{AppliedConstructor}
 
 -- its numbers are those of the store
@@ -16,18 +14,18 @@ pub record IsKnownConstructor (c : Contents) (u : AppliedConstructor) : Type 0 w
   pub inductive_in : u.inductive < length c.names
 
 -- the numbers stand for it in a library, and xs are the arguments that it is applied to
-pub record IsApplied (c : Contents) (l : Tables × List StoredUnit) (xs : List Tree)
+pub record IsApplied (c : Contents) (l : StoredLibrary) (xs : List Tree)
     (u : AppliedConstructor) (b : CtorApp) : Type 0 where
   pub args_are : b.args ≡ xs
   pub name_is : name_at c u.name ≡ b.name
   pub inductive_is : name_at c u.inductive ≡ b.ind.name
   pub parameters_are : u.parameters ≡ b.ctor.parameters
   pub fields_are : u.fields ≡ b.ctor.fields
-  pub entry_is : plain_entry (contents_of l.0) l.1 u.entry ≡ Some b.entry
+  pub entry_is : library_entry l u.entry ≡ Some b.entry
   pub kind_is : b.entry.kind ≡ a_ctor b.block b.ind b.ctor
 
 -- the one is there exactly where the other is
-abbrev pub IsAppliedIf : Contents → Tables × List StoredUnit → List Tree
+abbrev pub IsAppliedIf : Contents → StoredLibrary → List Tree
     → Option AppliedConstructor → Option CtorApp → Type 0
 IsAppliedIf c l xs None None = Unit {0}
 IsAppliedIf c l xs (Some u) (Some b) = IsApplied c l xs u b

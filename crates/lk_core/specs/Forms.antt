@@ -2,10 +2,9 @@
 use Rattle.std.specs.Prelude.{◌≡◌, ◌<◌, ℕ, List, Option, Some, None, Result, Ok, Err, length, if◌then◌else◌}
 use Rattle.lk_tree.specs.Tree.{Name, Level, Tree, const, proj}
 use Rattle.lk_tree.specs.Spine.{apply, head, args}
-use Rattle.lk_tree.specs.declared.rule.Rule.TheVariants.{LooseVariable}
 use Rattle.lk_rulebook.specs.Place.{Place, Entry}
 use Rattle.lk_plain.specs.Query.{core}
-use Rattle.lk_plain.specs.Program.{Program, done, refuse, asked}
+use Rattle.lk_plain.specs.Program.{Program, done, asked}
 use Rattle.lk_plain.specs.Erased.{a_tree, Steps, gives, with_tree, erased}
 use Rattle.lk_questions.specs.Steps.{is_same_tree, value_of}
 use Rattle.lk_questions.specs.Core.{core_applied, unfolded, stepped, whnf_headed}
@@ -27,12 +26,12 @@ use Rattle.lk_core.specs.Sheets.{map_core, IsKnownCore}
 abbrev pub headed_rest : Tree → Tree → Program Tree
 headed_rest e h = if is_same_tree h (head e) then done e else asked (core (apply h (args e)))
 
--- the constant f ls, which means this, at the head of c is unfolded by its value
+-- the constant f ls, which means this, at the head of c is unfolded by its value, where it has one
 abbrev pub unfolded_by : Tree → Name → List Level → Option Entry → Program Tree
 unfolded_by c f ls (Some g) = unfolded g (const f ls) c (value_of g.kind)
-unfolded_by c f ls None = refuse LooseVariable
+unfolded_by c f ls None = done c
 
--- the head of c, which was looked up, is unfolded
+-- the head of c is unfolded, where it has a value
 abbrev pub unfolded_at : Place → Tree → Tree → Program Tree
 unfolded_at w c (const f ls) = unfolded_by c f ls (w.means f)
 unfolded_at w c _ = done c

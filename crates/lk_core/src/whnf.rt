@@ -91,7 +91,7 @@ fn by_entry<L: Looks>(
 ) -> Result<CoreNext, NoMemory>
     requires over { IsOver L.contents L.rest L.sight looks.old }
     requires known { IsEntryIn
-        (contents_of (L.sight (L.rest looks.old)).basis.library.0) entry }
+        (contents_of (L.sight (L.rest looks.old)).basis.library.tables) entry }
     requires levels_in { levels < length (L.contents looks.old).lists }
     requires e_in { e < length (L.contents looks.old).trees }
     ensures { (f : Name) (g : PlainEntry)
@@ -106,7 +106,7 @@ fn by_entry<L: Looks>(
     }
 }
 
-/// A term whose head was looked up, unfolded.
+/// A term whose head was looked up, unfolded, where that is a constant with a value.
 fn unfolded_again<L: Looks>(looks: &mut L, e: u64) -> Result<CoreNext, NoMemory>
     requires { e < length (L.contents looks.old).trees }
     ensures { let w = (L.sight (L.rest looks.old)).basis.place in
@@ -117,7 +117,7 @@ fn unfolded_again<L: Looks>(looks: &mut L, e: u64) -> Result<CoreNext, NoMemory>
     match looks.view(front) {
         Node::Const(name, levels) => match looks.means(name) {
             Ok(entry) => by_entry(looks, entry, levels, e),
-            Err(_) => Ok(Next::No(Rule::LooseVariable)),
+            Err(_) => Ok(Next::Done(Answer::Term(e))),
         },
         _ => Ok(Next::Done(Answer::Term(e))),
     }

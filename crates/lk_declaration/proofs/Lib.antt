@@ -1,3 +1,4 @@
+pub mod OneKind
 pub mod Leading
 pub mod Moves
 pub mod Running

@@ -14,6 +14,15 @@ use Rattle.lk_ask.specs.declared.stop.Stop.TheVariants.{No, NoMemory}
 use Rattle.lk_ask.specs.Asking.{Standing}
 use Rattle.lk_declaration.specs.Courses.{ComesTo}
 
+-- a question that answers a term, and one that answers yes or no
+abbrev pub AnswersTerm : Query → Type 0
+AnswersTerm (same a b) = ⊥
+AnswersTerm _ = Unit {0}
+
+abbrev pub AnswersTruth : Query → Type 0
+AnswersTruth (same a b) = Unit {0}
+AnswersTruth _ = ⊥
+
 -- of a question that answers yes or no nothing is said
 abbrev pub ComesToTerm : {B : Type 0} → Standing B → Query → ℕ → (ℕ → Tree) → ℕ → Result ℕ Stop → Type 0
 ComesToTerm s (core e) before value left r = ComesTo s (asked (core e)) before value left r

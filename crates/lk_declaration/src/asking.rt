@@ -8,7 +8,8 @@ ghost use Rattle.lk_store.specs.Contents.{level_at, tree_at, Extends};
 ghost use Rattle.lk_questions.specs.Steps.{as_sort, sort_of};
 ghost use Rattle.lk_questions.specs.Levels.{tested};
 ghost use Rattle.lk_ask.specs.Questions.{query_of, IsKnownQuery};
-ghost use Rattle.lk_declaration.specs.Asked.{ComesToTerm, ComesToTruth, sort_form, tested_result};
+ghost use Rattle.lk_declaration.specs.Asked.{AnswersTerm, AnswersTruth, ComesToTerm, ComesToTruth};
+ghost use Rattle.lk_declaration.specs.Asked.{sort_form, tested_result};
 ghost use Rattle.lk_declaration.specs.Courses.{ComesTo, Settles};
 
 use lk_ask::asks::Asks;
@@ -22,7 +23,8 @@ use std::alloc::Global;
 
 /// The answer of a question that answers a term.
 fn ask_term<A: Asks>(asks: &mut A, query: Query<u64>) -> Result<u64, Stop>
-    requires { IsKnownQuery (length (A.contents asks.old).trees) query }
+    requires known { IsKnownQuery (length (A.contents asks.old).trees) query }
+    requires kind { AnswersTerm (query_of (tree_at (A.contents asks.old)) query) }
     ensures keeps { Extends (A.contents asks.old) (A.contents asks.new) }
     ensures stays { A.standing asks.new ≡ A.standing asks.old }
     ensures known { IfOk result (λ e. e < length (A.contents asks.new).trees) }
@@ -32,13 +34,14 @@ fn ask_term<A: Asks>(asks: &mut A, query: Query<u64>) -> Result<u64, Stop>
 {
     match asks.ask(query)? {
         Answer::Term(e) => Ok(e),
-        Answer::Truth(_) => Err(Stop::No(Rule::LooseVariable)),
+        Answer::Truth(_) => unreachable!(),
     }
 }
 
 /// The answer of a question that answers yes or no.
 fn ask_truth<A: Asks>(asks: &mut A, query: Query<u64>) -> Result<bool, Stop>
-    requires { IsKnownQuery (length (A.contents asks.old).trees) query }
+    requires known { IsKnownQuery (length (A.contents asks.old).trees) query }
+    requires kind { AnswersTruth (query_of (tree_at (A.contents asks.old)) query) }
     ensures keeps { Extends (A.contents asks.old) (A.contents asks.new) }
     ensures stays { A.standing asks.new ≡ A.standing asks.old }
     ensures outcome { ComesToTruth (A.standing asks.old)
@@ -47,7 +50,7 @@ fn ask_truth<A: Asks>(asks: &mut A, query: Query<u64>) -> Result<bool, Stop>
 {
     match asks.ask(query)? {
         Answer::Truth(holds) => Ok(holds),
-        Answer::Term(_) => Err(Stop::No(Rule::LooseVariable)),
+        Answer::Term(_) => unreachable!(),
     }
 }
 

@@ -19,16 +19,16 @@ unguarded e = absurd cc
 
 truth_prop : {w : Place} → GuardedType false w truth (sort zero_level)
 unfolding open_at bound
-truth_prop = typed_conv (typed_pi {k = 0} (omega arith) typed_sort (typed_pi {k = 1} (omega arith) (typed_local (tt, omega arith) typed_sort) (typed_local (tt, omega arith) typed_sort))) (same_sort (λ σ. refl)) typed_sort
+truth_prop = typed_conv (typed_pi {k = 0} (omega arith, tt) typed_sort (typed_pi {k = 1} (omega arith, tt) (typed_local (tt, omega arith) typed_sort) (typed_local (tt, omega arith) typed_sort))) (same_sort (λ σ. refl)) typed_sort
 
 falsehood_prop : {w : Place} → GuardedType false w falsehood (sort zero_level)
 unfolding open_at bound
-falsehood_prop = typed_conv (typed_pi {k = 0} (omega arith) typed_sort (typed_local (tt, omega arith) typed_sort)) (same_sort (λ σ. refl)) typed_sort
+falsehood_prop = typed_conv (typed_pi {k = 0} (omega arith, tt) typed_sort (typed_local (tt, omega arith) typed_sort)) (same_sort (λ σ. refl)) typed_sort
 
 proof_type : {w : Place} → GuardedType false w simple_proof truth
 unfolding open_at bound
-proof_type = typed_lam {k = 0} (omega arith) (omega arith) typed_sort
-    (typed_lam {k = 1} (omega arith) (omega arith) (typed_local (tt, omega arith) typed_sort) (typed_local ((tt, omega arith), omega arith) (typed_local (tt, omega arith) typed_sort)))
+proof_type = typed_lam {k = 0} (omega arith, (omega arith, tt)) typed_sort
+    (typed_lam {k = 1} (omega arith, (omega arith, tt)) (typed_local (tt, omega arith) typed_sort) (typed_local ((tt, omega arith), omega arith) (typed_local (tt, omega arith) typed_sort)))
 
 stated_type : {w : Place} (c : Name) (g : Entry) (T U : Tree) → w.means c ≡ Some g → g.levels ≡ [] → g.type ≡ T → IsWellFormed U → put_levels [] [] T ≡ U → GuardedType false w (const c []) U
 stated_type {w = w} c g T U m l t f e =

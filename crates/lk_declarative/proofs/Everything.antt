@@ -10,17 +10,17 @@ use Rattle.lk_declarative.specs.Declared.{IsDeclared, type_sort, type_local, typ
 
 proof_type : {w : Place} → IsDeclared w simple_proof truth
 unfolding open_at bound
-proof_type = type_lam {k = 0} (omega arith) (omega arith) type_sort
-    (type_lam {k = 1} (omega arith) (omega arith) (type_local (tt, omega arith)) (type_local ((tt, omega arith), omega arith)))
+proof_type = type_lam {k = 0} (omega arith, (omega arith, tt)) type_sort
+    (type_lam {k = 1} (omega arith, (omega arith, tt)) (type_local (tt, omega arith)) (type_local ((tt, omega arith), omega arith)))
 
 truth_prop : {w : Place} → IsDeclared w truth (sort zero_level)
 unfolding open_at bound
-truth_prop = type_conv (type_pi {k = 0} (omega arith) type_sort (type_pi {k = 1} (omega arith) (type_local (tt, omega arith)) (type_local (tt, omega arith)))) (conv_sort (λ σ. refl))
+truth_prop = type_conv (type_pi {k = 0} (omega arith, tt) type_sort (type_pi {k = 1} (omega arith, tt) (type_local (tt, omega arith)) (type_local (tt, omega arith)))) (conv_sort (λ σ. refl))
 
 -- (lambda x : truth, x) ~ (lambda x : truth, simple_proof)
 constant : {w : Place} → Converts w (lam truth (var 0)) (lam truth simple_proof)
 unfolding open_at bound
-constant = conv_lam {k = 0} (omega arith) (omega arith) (conv_refl (tt, (omega arith, omega arith)))
+constant = conv_lam {k = 0} (omega arith, (omega arith, tt)) (conv_refl (tt, (omega arith, omega arith)))
     (conv_proof (type_local ((tt, (omega arith, omega arith)), omega arith)) proof_type truth_prop)
 
 -- a ~ (lambda x : truth, x) a ~ (lambda x : truth, simple_proof) a ~ simple_proof, where a need not have the type truth
@@ -40,4 +40,4 @@ falsehood_holds = all_hold falsehood (tt, omega arith)
 
 pub falsehood_prop : {w : Place} → IsDeclared w falsehood (sort zero_level)
 unfolding open_at bound
-falsehood_prop = type_conv (type_pi {k = 0} (omega arith) type_sort (type_local (tt, omega arith))) (conv_sort (λ σ. refl))
+falsehood_prop = type_conv (type_pi {k = 0} (omega arith, tt) type_sort (type_local (tt, omega arith))) (conv_sort (λ σ. refl))

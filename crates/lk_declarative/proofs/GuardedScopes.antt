@@ -21,9 +21,9 @@ mutual
   well_formed_of_type (typed_local f t) = (f, f.0)
   well_formed_of_type (typed_const g f) = (tt, f)
   well_formed_of_type (typed_app {a = a} {A = A} {B = B} f x) = (((well_formed_of_type f).0, (well_formed_of_type x).0), open_fine 0 a B (well_formed_of_type f).1.1 (well_formed_of_type x).0)
-  well_formed_of_type (typed_lam {A = A} {b = b} {B = B} {k = k} i j a f) =
+  well_formed_of_type (typed_lam {A = A} {b = b} {B = B} {k = k} fresh a f) =
       (((well_formed_of_type a).0, fine_from_open 0 (local k A) b (well_formed_of_type f).0), ((well_formed_of_type a).0, fine_from_open 0 (local k A) B (well_formed_of_type f).1))
-  well_formed_of_type (typed_pi {A = A} {B = B} {k = k} i a f) = (((well_formed_of_type a).0, fine_from_open 0 (local k A) B (well_formed_of_type f).0), tt)
+  well_formed_of_type (typed_pi {A = A} {B = B} {k = k} fresh a f) = (((well_formed_of_type a).0, fine_from_open 0 (local k A) B (well_formed_of_type f).0), tt)
   well_formed_of_type (typed_let {v = v} {b = b} a x f) = (((well_formed_of_type a).0, (well_formed_of_type x).0, fine_from_open 0 v b (well_formed_of_type f).0), (well_formed_of_type f).1)
   well_formed_of_type (typed_lit h f) = (f, tt)
   well_formed_of_type (typed_str h) = (tt, tt)
@@ -37,9 +37,9 @@ mutual
   well_formed_of_equal (same_sort h) = (tt, tt)
   well_formed_of_equal (same_const h) = (tt, tt)
   well_formed_of_equal (same_app c d) = (((well_formed_of_equal c).0, (well_formed_of_equal d).0), ((well_formed_of_equal c).1, (well_formed_of_equal d).1))
-  well_formed_of_equal (same_lam {A = A} {b = b} {b' = b'} {k = k} i j c d) =
+  well_formed_of_equal (same_lam {A = A} {b = b} {b' = b'} {k = k} fresh c d) =
       (((well_formed_of_equal c).0, fine_from_open 0 (local k A) b (well_formed_of_equal d).0), ((well_formed_of_equal c).1, fine_from_open 0 (local k A) b' (well_formed_of_equal d).1))
-  well_formed_of_equal (same_pi {A = A} {B = b} {B' = b'} {k = k} i j c d) =
+  well_formed_of_equal (same_pi {A = A} {B = b} {B' = b'} {k = k} fresh c d) =
       (((well_formed_of_equal c).0, fine_from_open 0 (local k A) b (well_formed_of_equal d).0), ((well_formed_of_equal c).1, fine_from_open 0 (local k A) b' (well_formed_of_equal d).1))
   well_formed_of_equal (same_proj g c) = well_formed_of_equal c
   well_formed_of_equal (same_beta {b = b} {a = a} f t) =

@@ -13,7 +13,7 @@ use Rattle.lk_rulebook.specs.Shapes.{HasNat}
 use Rattle.lk_rulebook.specs.Structures.{StructureAt, structure_type, structure_value, projectable_type, ctor_app, RecApp, KMajor, k_type}
 use Rattle.lk_rulebook.specs.Literals.{IsNumeral, of_lit, of_zero, IsOperation, IsResult, ReadsText, as_it_is, as_text, Reads, by_text, as_zero, as_succ}
 use Rattle.lk_tree.proofs.Spines.{well_formed_of_apply}
-use Rattle.lk_rulebook.specs.Rules.{HasType, t_sort, t_local, t_const, t_app, t_lam, t_pi, t_let, t_lit, t_str, t_proj, HasSort, has_sort, IsProposition, is_prop, Reduces, r_refl, r_trans, r_head, r_beta, r_zeta, r_delta, r_proj, r_major, r_iota, r_k, r_struct, r_quot_lift, r_quot_ind, r_op, IsDefEq, e_refl, e_reduce, e_sort, e_const, e_app, e_lam, e_pi, e_proj, e_eta_left, e_eta_right, e_struct_left, e_struct_right, e_unit, e_proof, e_zero_left, e_zero_right, e_succ_left, e_succ_right, e_str_left, e_str_right, Numerals, no_more_numerals, numeral, IsNotProp, not_prop, IsByFields, by_fields, AllProject, no_more_fields, project, PastParameters, no_more, next, Field, IsInProp, FieldOf, here, past}
+use Rattle.lk_rulebook.specs.Rules.{HasType, t_sort, t_local, t_const, t_app, t_lam, t_pi, t_let, t_lit, t_str, t_proj, HasSort, has_sort, IsProposition, is_prop, Reduces, r_refl, r_trans, r_head, r_beta, r_zeta, r_delta, r_proj, r_major, r_iota, r_k, r_struct, r_quot_lift, r_quot_ind, r_op, IsDefEq, e_refl, e_reduce, e_sort, e_const, e_app, e_lam, e_pi, e_proj, e_eta_left, e_eta_right, e_struct_left, e_struct_right, e_unit, e_proof, e_zero_left, e_zero_right, e_succ_left, e_succ_right, e_str_left, e_str_right, ReduceToNumerals, no_more_numerals, numeral, IsNotProposition, not_prop, IsByFields, by_fields, ProjectionsEqual, no_more_fields, project, IsTypeAfterParameters, no_more, next, Field, IsInProp, IsFieldType, here, past}
 use Rattle.lk_declarative.specs.Guarded.{IdealType, typed_sort, typed_local, typed_const, typed_app, typed_lam, typed_pi, typed_let, typed_lit, typed_str, typed_proj, typed_conv, IdealEquals, same_refl, same_sym, same_trans, same_sort, same_const, same_app, same_lam, same_pi, same_proj, same_beta, same_zeta, same_delta, same_iota, same_proj_ctor, same_lit_zero, same_lit_succ, same_quot_lift, same_quot_ind, same_op, same_str, same_eta, same_struct_eta, same_unit, same_struct_ext, same_proof, GuardedExpands, no_proposition_at, GuardedProjects, none_projects, next_projects, GuardedParameters, past_none, past_one, GuardedField, field_here, field_past}
 use Rattle.lk_declarative.specs.Expected.{LawfulLocals, Fits, Expected}
 use Rattle.lk_declarative.proofs.GuardedScopes.{well_formed_of_type}
@@ -162,9 +162,9 @@ unfolding open_at bound
 eta_typed {w = w} {o = o} {A = A} {B = B} t p =
     let k : ℕ = max (bound o) p.number in
     let x : IdealType w (local k A) A = typed_local ((well_formed_of_type p.domain_typed).0, omega (arith, p.above)) p.domain_typed in
-    typed_lam {k = k} (omega (arith, p.above)) (omega (arith, p.above)) p.domain_typed (rw (closed_stays 0 (local k A) o (well_formed_of_type t).0) (typed_app t x))
+    typed_lam {k = k} (omega (arith, p.above), (omega (arith, p.above), tt)) p.domain_typed (rw (closed_stays 0 (local k A) o (well_formed_of_type t).0) (typed_app t x))
 
-field_order : {w : Place} {f : Field} {A : Tree} {j : ℕ} {r : Tree} → FieldOf w f A j r → j ≤ f.number
+field_order : {w : Place} {f : Field} {A : Tree} {j : ℕ} {r : Tree} → IsFieldType w f A j r → j ≤ f.number
 field_order (here c h) = omega arith
 field_order (past {f = f} {j = j} c h d) = let g : suc j ≤ f.number = field_order d in omega arith
 
@@ -195,12 +195,12 @@ mutual
       let p : PiParts w A B = parts kf.typed in
       let tx : IdealType w a A' = ideal_type h x (λ k X m. g k X (inr m)) in
       typed_app (typed_conv tf kf.equal kf.typed) (typed_conv tx (equal h q (h.sorted tx).1 p.domain_typed) p.domain_typed)
-  ideal_type {w = w} h (t_lam {A = A} {b = b} {l = l} {k = k} i j a f) g =
+  ideal_type {w = w} h (t_lam {A = A} {b = b} {l = l} {k = k} fresh a f) g =
       let ta : IdealType w A (sort l) = ideal_sort h a (λ n X m. g n X (inl m)) in
-      typed_lam i j ta (ideal_type h f (lawful_open b (local k A) (λ n X m. g n X (inr m)) (lawful_local k ta)))
-  ideal_type {w = w} h (t_pi {A = A} {B = B} {u = u} {k = k} i a f) g =
+      typed_lam fresh ta (ideal_type h f (lawful_open b (local k A) (λ n X m. g n X (inr m)) (lawful_local k ta)))
+  ideal_type {w = w} h (t_pi {A = A} {B = B} {u = u} {k = k} fresh a f) g =
       let ta : IdealType w A (sort u) = ideal_sort h a (λ n X m. g n X (inl m)) in
-      typed_pi i ta (ideal_sort h f (lawful_open B (local k A) (λ n X m. g n X (inr m)) (lawful_local k ta)))
+      typed_pi fresh ta (ideal_sort h f (lawful_open B (local k A) (λ n X m. g n X (inr m)) (lawful_local k ta)))
   ideal_type {w = w} h (t_let {A = A} {v = v} {b = b} {V = V} {l = l} a x q f) g =
       let ta : IdealType w A (sort l) = ideal_sort h a (λ n X m. g n X (inl m)) in
       let tx : IdealType w v V = ideal_type h x (λ n X m. g n X (inr (inl m))) in
@@ -291,7 +291,7 @@ mutual
       let u : Kept w (apply (named (op_name op)) (map lit ns)) r X = operation_kept h op ns r X o n (well_formed_of_apply (named (op_name op)) (map lit ns) (well_formed_of_type k.typed).0).1 g k.typed in
       record { equal = same_trans k.equal u.equal; typed = u.typed }
 
-  numerals_kept : {w : Place} → Expected w → HasNat w → {es : List Tree} {ns : List ℕ} → Numerals w es ns → (f : Tree) {X : Tree} → IdealType w (apply f es) X → Kept w (apply f es) (apply f (map lit ns)) X
+  numerals_kept : {w : Place} → Expected w → HasNat w → {es : List Tree} {ns : List ℕ} → ReduceToNumerals w es ns → (f : Tree) {X : Tree} → IdealType w (apply f es) X → Kept w (apply f es) (apply f (map lit ns)) X
   numerals_kept h n no_more_numerals f t = record { equal = same_refl (well_formed_of_type t).0; typed = t }
   numerals_kept {w = w} h n (numeral {e = e} {v = v} {n = m} {es = es} {ns = ns} r i s) f {X = X} t =
       let first : Kept w (apply (app f e) es) (apply (app f (lit m)) es) X = applied_kept h es t (λ Y u.
@@ -302,7 +302,7 @@ mutual
       let rest : Kept w (apply (app f (lit m)) es) (apply (app f (lit m)) (map lit ns)) X = numerals_kept h n s (app f (lit m)) first.typed in
       record { equal = same_trans first.equal rest.equal; typed = rest.typed }
 
-  pub ideal_expands : {w : Place} → Expected w → {ctor : Ctor} {T : Tree} → IsNotProp w T → LawfulLocals w T → GuardedExpands true w ctor T
+  pub ideal_expands : {w : Place} → Expected w → {ctor : Ctor} {T : Tree} → IsNotProposition w T → LawfulLocals w T → GuardedExpands true w ctor T
   ideal_expands h (not_prop s n) g = no_proposition_at (ideal_sort h s g) n
 
   pub equal : {w : Place} → Expected w → {a b A B : Tree} → IsDefEq w a b → IdealType w a A → IdealType w b B → IdealEquals w a b
@@ -317,18 +317,18 @@ mutual
       let p : AppParts w f a X = parts t in
       let q : AppParts w g b Y = parts u in
       same_app (equal h c p.function q.function) (equal h d p.argument q.argument)
-  equal {w = w} h (e_lam {A = A} {A' = A'} {b = b} {b' = b'} {k = k} i j c d) t u =
+  equal {w = w} h (e_lam {A = A} {A' = A'} {b = b} {b' = b'} {k = k} fresh c d) t u =
       let p : LamParts w A b = parts t in
       let q : LamParts w A' b' = parts u in
       let e : IdealEquals w A A' = equal h c p.domain_typed q.domain_typed in
-      let x : IdealType w (local k A) A = typed_local ((well_formed_of_type p.domain_typed).0, domain_bound A b k i) p.domain_typed in
-      same_lam i j e (equal h d (h.bodies p.typed x) (h.bodies q.typed (typed_conv x e q.domain_typed)))
-  equal {w = w} h (e_pi {A = A} {A' = A'} {B = b} {B' = b'} {k = k} i j c d) t u =
+      let x : IdealType w (local k A) A = typed_local ((well_formed_of_type p.domain_typed).0, domain_bound A b k fresh.0) p.domain_typed in
+      same_lam fresh e (equal h d (h.bodies p.typed x) (h.bodies q.typed (typed_conv x e q.domain_typed)))
+  equal {w = w} h (e_pi {A = A} {A' = A'} {B = b} {B' = b'} {k = k} fresh c d) t u =
       let p : PiParts w A b = parts t in
       let q : PiParts w A' b' = parts u in
       let e : IdealEquals w A A' = equal h c p.domain_typed q.domain_typed in
-      let x : IdealType w (local k A) A = typed_local ((well_formed_of_type p.domain_typed).0, pi_domain_bound A b k i) p.domain_typed in
-      same_pi i j e (equal h d (body_at h p x) (body_at h q (typed_conv x e q.domain_typed)))
+      let x : IdealType w (local k A) A = typed_local ((well_formed_of_type p.domain_typed).0, pi_domain_bound A b k fresh.0) p.domain_typed in
+      same_pi fresh e (equal h d (body_at h p x) (body_at h q (typed_conv x e q.domain_typed)))
   equal {w = w} h (e_proj {s = s} {t = r} c) t u =
       let p : ProjParts w s = parts t in
       let q : ProjParts w r = parts u in
@@ -383,13 +383,13 @@ mutual
         | inr x ↦ same_struct_ext S xs n tc tb (ideal_projects h p (λ j lt. x j (omega arith)) (all_typed_after w S.params xs ts.1))
       ]
 
-  pub ideal_projects : {w : Place} → Expected w → {J : Name} {a : Tree} {j : ℕ} {xs : List Tree} → AllProject w J a j xs →
+  pub ideal_projects : {w : Place} → Expected w → {J : Name} {a : Tree} {j : ℕ} {xs : List Tree} → ProjectionsEqual w J a j xs →
       ((i : ℕ) → i < j + length xs → (U : Tree) × IdealType w (proj J i a) U) → AllTyped w xs → GuardedProjects true w J a j xs
   ideal_projects h no_more_fields f t = none_projects
   ideal_projects h (project {j = j} {xs = xs} c p) f t =
       next_projects (equal h c (f j (omega arith)).1 t.0.1) (ideal_projects h p (λ i lt. f i (omega arith)) t.1)
 
-  pub ideal_parameters : {w : Place} → Expected w → {T : Tree} {n : ℕ} {bs : List Tree} {r : Tree} {m : Level} → PastParameters w T n bs r → IdealType w r (sort m) → Fits w n bs r →
+  pub ideal_parameters : {w : Place} → Expected w → {T : Tree} {n : ℕ} {bs : List Tree} {r : Tree} {m : Level} → IsTypeAfterParameters w T n bs r → IdealType w r (sort m) → Fits w n bs r →
       GuardedParameters true w T n bs r × ((l : Level) × IdealType w T (sort l))
   ideal_parameters h {m = m} no_more t f = (past_none, (m, t))
   ideal_parameters {w = w} h {m = m} (next {r = r} {A = A} {B = B} c d) t f =
@@ -403,7 +403,7 @@ mutual
   pub ideal_field : {w : Place} → Expected w → {f : Field} {A : Tree} {j : ℕ} {r : Tree} {m : Level} (fields : ℕ) (R : Tree) →
       ((n : ℕ) (C : Tree) → n < fields → GuardedField true w (other_field f n) C 0 R → IdealType w (proj f.structure n f.subject) C) →
       ((n : ℕ) (C : Tree) → GuardedField true w (other_field f n) C j r → GuardedField true w (other_field f n) C 0 R) →
-      IdealType w r (sort m) → f.number < fields → FieldOf w f A j r → GuardedField true w f A j r
+      IdealType w r (sort m) → f.number < fields → IsFieldType w f A j r → GuardedField true w f A j r
   ideal_field {w = w} h fields R typed back t lt (here c x) =
       let k : _ = kept h c t in
       let p : PiParts w _ _ = parts k.typed in

@@ -75,8 +75,8 @@ parts typed_sort = tt
 parts (typed_local f t) = tt
 parts (typed_const g f) = tt
 parts (typed_app {A = A} {B = B} f x) = record { domain = A; body = B; function = f; argument = x; result = same_refl (well_formed_of_type (typed_app f x)).1 }
-parts (typed_lam {B = B} {l = l} i j a f) = record { level = l; body = B; domain_typed = a; typed = typed_lam i j a f }
-parts (typed_pi {u = u} {v = v} {k = k} i a f) = record { domain_level = u; level = v; number = k; above = i; domain_typed = a; body_typed = f }
+parts (typed_lam {B = B} {l = l} fresh a f) = record { level = l; body = B; domain_typed = a; typed = typed_lam fresh a f }
+parts (typed_pi {u = u} {v = v} {k = k} fresh a f) = record { domain_level = u; level = v; number = k; above = fresh.0; domain_typed = a; body_typed = f }
 parts (typed_let {B = B} a x f) = record { type = B; body_typed = f; result = same_refl (well_formed_of_type f).1 }
 parts (typed_lit h f) = record { has_nat = h; result = same_refl tt }
 parts (typed_str h) = tt
@@ -112,10 +112,10 @@ lawful (typed_local f t) k X (inr h) = lawful t k X h
 lawful (typed_const g f) k X h = absurd h
 lawful (typed_app f x) k X (inl h) = lawful f k X h
 lawful (typed_app f x) k X (inr h) = lawful x k X h
-lawful (typed_lam i j a f) k X (inl h) = lawful a k X h
-lawful (typed_lam {A = A} {b = b} {k = n} i j a f) k X (inr h) = lawful f k X (local_kept k X 0 (local n A) b h)
-lawful (typed_pi i a f) k X (inl h) = lawful a k X h
-lawful (typed_pi {A = A} {B = B} {k = n} i a f) k X (inr h) = lawful f k X (local_kept k X 0 (local n A) B h)
+lawful (typed_lam fresh a f) k X (inl h) = lawful a k X h
+lawful (typed_lam {A = A} {b = b} {k = n} fresh a f) k X (inr h) = lawful f k X (local_kept k X 0 (local n A) b h)
+lawful (typed_pi fresh a f) k X (inl h) = lawful a k X h
+lawful (typed_pi {A = A} {B = B} {k = n} fresh a f) k X (inr h) = lawful f k X (local_kept k X 0 (local n A) B h)
 lawful (typed_let a x f) k X (inl h) = lawful a k X h
 lawful (typed_let a x f) k X (inr (inl h)) = lawful x k X h
 lawful (typed_let {v = v} {b = b} a x f) k X (inr (inr h)) = lawful f k X (local_kept k X 0 v b h)
@@ -130,7 +130,7 @@ lawful_open b v f g k X h = elim (local_of_open k X 0 v b h) [ inl x ↦ f k X x
 -- the body of a Pi as the body of a lambda
 pub as_lambda : {w : Place} {A B : Tree} (p : PiParts w A B) → IdealType w (lam A B) (pi A (sort p.level))
 unfolding bound open_at
-as_lambda p = typed_lam {k = p.number} (omega (arith, p.above)) (omega (arith, p.above)) p.domain_typed p.body_typed
+as_lambda p = typed_lam {k = p.number} (omega (arith, p.above), (omega (arith, p.above), tt)) p.domain_typed p.body_typed
 
 -- equal arguments give equal types
 pub opened_agree : {w : Place} {A B a m : Tree} → PiParts w A B → IdealType w a A → IdealType w m A → IdealEquals w a m → IdealEquals w (opened B a) (opened B m)

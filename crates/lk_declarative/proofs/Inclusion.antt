@@ -6,7 +6,7 @@ use Rattle.lk_tree.specs.WellFormed.{IsWellFormed, AllWellFormed}
 use Rattle.lk_tree.specs.Spine.{apply}
 use Rattle.lk_tree.specs.Operations.{Op, succ, log2, add, sub, mul, div, modulo, gcd, beq, ble, land, lor, xor, shift_left, shift_right, pow, op_value}
 use Rattle.lk_rulebook.specs.Place.{Place, Ctor}
-use Rattle.lk_rulebook.specs.Rules.{HasType, t_sort, t_local, t_const, t_app, t_lam, t_pi, t_let, t_lit, t_str, t_proj, HasSort, has_sort, IsProposition, is_prop, Reduces, r_refl, r_trans, r_head, r_beta, r_zeta, r_delta, r_proj, r_major, r_iota, r_k, r_struct, r_quot_lift, r_quot_ind, r_op, IsDefEq, e_refl, e_reduce, e_sort, e_const, e_app, e_lam, e_pi, e_proj, e_eta_left, e_eta_right, e_struct_left, e_struct_right, e_unit, e_proof, e_zero_left, e_zero_right, e_succ_left, e_succ_right, e_str_left, e_str_right, Numerals, no_more_numerals, numeral, IsNotProp, not_prop, by_fields, AllProject, no_more_fields, project, PastParameters, no_more, next, Field, FieldOf, here, past}
+use Rattle.lk_rulebook.specs.Rules.{HasType, t_sort, t_local, t_const, t_app, t_lam, t_pi, t_let, t_lit, t_str, t_proj, HasSort, has_sort, IsProposition, is_prop, Reduces, r_refl, r_trans, r_head, r_beta, r_zeta, r_delta, r_proj, r_major, r_iota, r_k, r_struct, r_quot_lift, r_quot_ind, r_op, IsDefEq, e_refl, e_reduce, e_sort, e_const, e_app, e_lam, e_pi, e_proj, e_eta_left, e_eta_right, e_struct_left, e_struct_right, e_unit, e_proof, e_zero_left, e_zero_right, e_succ_left, e_succ_right, e_str_left, e_str_right, ReduceToNumerals, no_more_numerals, numeral, IsNotProposition, not_prop, by_fields, ProjectionsEqual, no_more_fields, project, IsTypeAfterParameters, no_more, next, Field, IsFieldType, here, past}
 use Rattle.lk_rulebook.specs.Names.{named, nat_succ, op_name}
 use Rattle.lk_rulebook.specs.Shapes.{HasNat}
 use Rattle.lk_rulebook.specs.Literals.{IsNumeral, of_lit, of_zero, IsOperation, IsResult, ReadsText, as_it_is, as_text, Reads, by_text, as_zero, as_succ}
@@ -62,8 +62,8 @@ mutual
   has_type (t_local f) = type_local f
   has_type (t_const g f) = type_const g f
   has_type (t_app f r x q) = type_app (type_conv (has_type f) (converts r)) (type_conv (has_type x) (equal_converts q))
-  has_type (t_lam i j a f) = type_lam i j (sort_has_type a) (has_type f)
-  has_type (t_pi i a f) = type_pi i (sort_has_type a) (sort_has_type f)
+  has_type (t_lam fresh a f) = type_lam fresh (sort_has_type a) (has_type f)
+  has_type (t_pi fresh a f) = type_pi fresh (sort_has_type a) (sort_has_type f)
   has_type (t_let a x q f) = type_let (sort_has_type a) (type_conv (has_type x) (equal_converts q)) (has_type f)
   has_type (t_lit h f) = type_lit h f
   has_type (t_str h) = type_str h
@@ -103,7 +103,7 @@ mutual
       let q : _ = numerals_convert s (conv_refl {a = named (op_name op)} tt) in
       conv_trans q (operation_converts op ns r o h (well_formed_of_apply (named (op_name op)) (map lit ns) (well_formed_of_conversion q).1).1 g)
 
-  numerals_convert : {w : Place} {es : List Tree} {ns : List ℕ} → Numerals w es ns → {f g : Tree} → Converts w f g → Converts w (apply f es) (apply g (map lit ns))
+  numerals_convert : {w : Place} {es : List Tree} {ns : List ℕ} → ReduceToNumerals w es ns → {f g : Tree} → Converts w f g → Converts w (apply f es) (apply g (map lit ns))
   numerals_convert no_more_numerals c = c
   numerals_convert (numeral r i s) c = numerals_convert s (conv_app c (conv_trans (converts r) (numeral_converts i (well_formed_of_conversion (converts r)).1)))
 
@@ -113,8 +113,8 @@ mutual
   equal_converts (e_sort h) = conv_sort h
   equal_converts (e_const h) = conv_const h
   equal_converts (e_app u v c d) = conv_app (equal_converts c) (equal_converts d)
-  equal_converts (e_lam i j c d) = conv_lam i j (equal_converts c) (equal_converts d)
-  equal_converts (e_pi i j c d) = conv_pi i j (equal_converts c) (equal_converts d)
+  equal_converts (e_lam fresh c d) = conv_lam fresh (equal_converts c) (equal_converts d)
+  equal_converts (e_pi fresh c d) = conv_pi fresh (equal_converts c) (equal_converts d)
   equal_converts (e_proj c) = conv_proj (equal_converts c)
   equal_converts (e_eta_left v h r c) = conv_trans (conv_eta (type_conv (has_type h) (converts r))) (equal_converts c)
   equal_converts (e_eta_right v h r c) = conv_trans (equal_converts c) (conv_sym (conv_eta (type_conv (has_type h) (converts r))))
@@ -132,17 +132,17 @@ mutual
   equal_converts (e_str_left x c) = conv_trans (conv_str x) (equal_converts c)
   equal_converts (e_str_right x c) = conv_trans (equal_converts c) (conv_sym (conv_str x))
 
-  pub may_expand : {w : Place} {ctor : Ctor} {T : Tree} → IsNotProp w T → MayExpand w ctor T
+  pub may_expand : {w : Place} {ctor : Ctor} {T : Tree} → IsNotProposition w T → MayExpand w ctor T
   may_expand (not_prop s n) = no_proposition (sort_has_type s) n
 
-  pub each_projects : {w : Place} {J : Name} {a : Tree} {j : ℕ} {xs : List Tree} → AllProject w J a j xs → EachProjects w J a j xs
+  pub each_projects : {w : Place} {J : Name} {a : Tree} {j : ℕ} {xs : List Tree} → ProjectionsEqual w J a j xs → EachProjects w J a j xs
   each_projects no_more_fields = none_left
   each_projects (project c p) = first_projects (equal_converts c) (each_projects p)
 
-  pub after_parameters : {w : Place} {T : Tree} {n : ℕ} {bs : List Tree} {r : Tree} → PastParameters w T n bs r → AfterParameters w T n bs r
+  pub after_parameters : {w : Place} {T : Tree} {n : ℕ} {bs : List Tree} {r : Tree} → IsTypeAfterParameters w T n bs r → AfterParameters w T n bs r
   after_parameters no_more = after_none
   after_parameters (next c p) = after_one (converts c) (after_parameters p)
 
-  pub field_domain : {w : Place} {f : Field} {A : Tree} {j : ℕ} {r : Tree} → FieldOf w f A j r → FieldDomain w f A j r
+  pub field_domain : {w : Place} {f : Field} {A : Tree} {j : ℕ} {r : Tree} → IsFieldType w f A j r → FieldDomain w f A j r
   field_domain (here c h) = this_field (converts c) (λ z. is_proposition (h z))
   field_domain (past c h f) = later_field (converts c) (λ z v. is_proposition (h z v)) (field_domain f)

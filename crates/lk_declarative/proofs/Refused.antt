@@ -67,8 +67,8 @@ variable_typed t_sort h = absurd h
 variable_typed (t_local {T = T} f) h = a_sort T h
 variable_typed (t_const g f) h = absurd h
 variable_typed (t_app f r x q) h = absurd h
-variable_typed (t_lam i j a f) h = absurd h
-variable_typed (t_pi i a f) h = absurd h
+variable_typed (t_lam fresh a f) h = absurd h
+variable_typed (t_pi fresh a f) h = absurd h
 variable_typed (t_let a x q f) h = absurd h
 variable_typed (t_lit x f) h = absurd h
 variable_typed (t_str x) h = absurd h
@@ -92,8 +92,8 @@ pi_is_no_variable (e_reduce {a = a} {b = b} r s c) f g =
 pi_is_no_variable (e_sort h) f g = absurd f
 pi_is_no_variable (e_const h) f g = absurd f
 pi_is_no_variable (e_app u v c d) f g = absurd f
-pi_is_no_variable (e_lam i j c d) f g = absurd f
-pi_is_no_variable (e_pi i j c d) f g = absurd g
+pi_is_no_variable (e_lam fresh c d) f g = absurd f
+pi_is_no_variable (e_pi fresh c d) f g = absurd g
 pi_is_no_variable (e_proj c) f g = absurd f
 pi_is_no_variable (e_eta_left {o = o} v h r c) f g = sort_is_no_pi (former_typed h (a_former o f)) r
 pi_is_no_variable (e_eta_right v h r c) f g = sort_is_no_pi (variable_typed h g) r
@@ -119,8 +119,8 @@ lam_typed t_sort = tt
 lam_typed (t_local f) = tt
 lam_typed (t_const g f) = tt
 lam_typed (t_app f r x q) = tt
-lam_typed (t_lam {B = B} {k = k} i j a f) = (B, k, refl, f)
-lam_typed (t_pi i a f) = tt
+lam_typed (t_lam {B = B} {k = k} fresh a f) = (B, k, refl, f)
+lam_typed (t_pi fresh a f) = tt
 lam_typed (t_let a x q f) = tt
 lam_typed (t_lit x f) = tt
 lam_typed (t_str x) = tt

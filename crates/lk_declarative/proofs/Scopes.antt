@@ -21,9 +21,9 @@ mutual
   well_formed_of_type (type_local f) = (f, f.0)
   well_formed_of_type (type_const g f) = (tt, f)
   well_formed_of_type (type_app {a = a} {A = A} {B = B} f x) = (((well_formed_of_type f).0, (well_formed_of_type x).0), open_fine 0 a B (well_formed_of_type f).1.1 (well_formed_of_type x).0)
-  well_formed_of_type (type_lam {A = A} {b = b} {B = B} {k = k} i j a f) =
+  well_formed_of_type (type_lam {A = A} {b = b} {B = B} {k = k} fresh a f) =
       (((well_formed_of_type a).0, fine_from_open 0 (local k A) b (well_formed_of_type f).0), ((well_formed_of_type a).0, fine_from_open 0 (local k A) B (well_formed_of_type f).1))
-  well_formed_of_type (type_pi {A = A} {B = B} {k = k} i a f) = (((well_formed_of_type a).0, fine_from_open 0 (local k A) B (well_formed_of_type f).0), tt)
+  well_formed_of_type (type_pi {A = A} {B = B} {k = k} fresh a f) = (((well_formed_of_type a).0, fine_from_open 0 (local k A) B (well_formed_of_type f).0), tt)
   well_formed_of_type (type_let {v = v} {b = b} a x f) = (((well_formed_of_type a).0, (well_formed_of_type x).0, fine_from_open 0 v b (well_formed_of_type f).0), (well_formed_of_type f).1)
   well_formed_of_type (type_lit h f) = (f, tt)
   well_formed_of_type (type_str h) = (tt, tt)
@@ -37,9 +37,9 @@ mutual
   well_formed_of_conversion (conv_sort h) = (tt, tt)
   well_formed_of_conversion (conv_const h) = (tt, tt)
   well_formed_of_conversion (conv_app c d) = (((well_formed_of_conversion c).0, (well_formed_of_conversion d).0), ((well_formed_of_conversion c).1, (well_formed_of_conversion d).1))
-  well_formed_of_conversion (conv_lam {A = A} {b = b} {b' = b'} {k = k} i j c d) =
+  well_formed_of_conversion (conv_lam {A = A} {b = b} {b' = b'} {k = k} fresh c d) =
       (((well_formed_of_conversion c).0, fine_from_open 0 (local k A) b (well_formed_of_conversion d).0), ((well_formed_of_conversion c).1, fine_from_open 0 (local k A) b' (well_formed_of_conversion d).1))
-  well_formed_of_conversion (conv_pi {A = A} {B = b} {B' = b'} {k = k} i j c d) =
+  well_formed_of_conversion (conv_pi {A = A} {B = b} {B' = b'} {k = k} fresh c d) =
       (((well_formed_of_conversion c).0, fine_from_open 0 (local k A) b (well_formed_of_conversion d).0), ((well_formed_of_conversion c).1, fine_from_open 0 (local k A) b' (well_formed_of_conversion d).1))
   well_formed_of_conversion (conv_proj c) = well_formed_of_conversion c
   well_formed_of_conversion (conv_beta {b = b} {a = a} f) = (f, open_fine 0 a b f.0.1 f.1)

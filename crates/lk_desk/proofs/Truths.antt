@@ -9,25 +9,25 @@ use Rattle.lk_desk.specs.declared.entry.Entry.{Entry}
 use Rattle.lk_store.specs.Contents.{Contents}
 use Rattle.lk_store.specs.Store.{contents_of}
 use Rattle.lk_store.specs.declared.tables.Tables.{Tables}
-use Rattle.lk_env.specs.declared.unit.Unit.{Unit as StoredUnit}
 use Rattle.lk_memo.specs.declared.key.Key.{Key}
 use Rattle.lk_desk.specs.Job.{Job}
 use Rattle.lk_desk.specs.Truth.{AreTrue, IsTrueIn, IsTrueOf, IsFoundIn, IsFoundOf, IsTablesOf}
 use Rattle.lk_desk.specs.Shards.{Finds, IsMadeOf, AreSpelled, IsPut, IsFull}
 use Rattle.lk_desk.specs.Entries.{IsSpelledAnswer, IsMade}
 use Rattle.lk_desk.proofs.Keys.{key_exact}
+use Rattle.lk_env.specs.StoredLibrary.{StoredLibrary}
 
 -- no answer is false
 pub none_false : (job : Job) (es : List (Key × Entry)) → es ≡ [] → AreTrue job es
 none_false job es e = rw e (record { each = λ x h. absurd (let lt = h.1 in omega arith); few = omega arith })
 
 -- a true entry, by a number of the contents c
-found_in : (l : Tables × List StoredUnit) (c : Contents) (key : Key) (entry : Entry) (kept : Kept) → IsTrueIn l key entry → IsMade (contents_of l.0) c entry kept → IsFoundIn l c key kept
+found_in : (l : StoredLibrary) (c : Contents) (key : Key) (entry : Entry) (kept : Kept) → IsTrueIn l key entry → IsMade (contents_of l.tables) c entry kept → IsFoundIn l c key kept
 found_in l c key entry kept h made = record { query = h.query; answer = made.known; is = rw (made.value, made.cost, made.top) h.is }
 
 -- what is right by numbers is right where it is spelled
-pub left_in : (l : Tables × List StoredUnit) (c : Contents) (key : Key) (entry : Entry) (kept : Kept) → IsFoundIn l c key kept → IsSpelledAnswer (contents_of l.0) entry.answer
-    → IsMade (contents_of l.0) c entry kept → IsTrueIn l key entry
+pub left_in : (l : StoredLibrary) (c : Contents) (key : Key) (entry : Entry) (kept : Kept) → IsFoundIn l c key kept → IsSpelledAnswer (contents_of l.tables) entry.answer
+    → IsMade (contents_of l.tables) c entry kept → IsTrueIn l key entry
 left_in l c key entry kept h spelled made = record { query = h.query; answer = spelled; is = rw (← made.value, ← made.cost, ← made.top) h.is }
 
 pub all_spelled : (job : Job) (t : Tables) (es : List (Key × Entry)) → IsTablesOf job t → AreTrue job es → AreSpelled (contents_of t) es

@@ -9,5 +9,6 @@ pub mod Seats
 pub mod Shelves
 pub mod Held
 pub mod Hooks
+pub mod InMemory
 pub mod Memory
 pub mod Entries

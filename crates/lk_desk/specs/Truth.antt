@@ -7,8 +7,8 @@ use Rattle.lk_questions.specs.Table.{steps}
 use Rattle.lk_store.specs.Contents.{Contents, tree_at}
 use Rattle.lk_store.specs.Store.{contents_of}
 use Rattle.lk_store.specs.declared.tables.Tables.{Tables}
-use Rattle.lk_env.specs.declared.unit.Unit.{Unit as StoredUnit}
 use Rattle.lk_env.specs.Units.{library_of}
+use Rattle.lk_env.specs.StoredLibrary.{StoredLibrary}
 use Rattle.lk_ask.specs.declared.kept.Kept.{Kept}
 use Rattle.lk_ask.specs.declared.query.Query.{Query}
 use Rattle.lk_ask.specs.declared.query.Query.TheVariants as query
@@ -41,28 +41,30 @@ above None = 0
 above (Some t) = t + 1
 
 -- the place of that unit, where nothing of it is partial
-abbrev pub place_above : Tables × List StoredUnit → Option ℕ → Place
+abbrev pub place_above : StoredLibrary → Option ℕ → Place
 place_above l t = place_of (library_of l) (above t) []
 
 -- asked at the place above all units that were looked at for it, the question of the key has this
 -- answer, at just this cost. Terms of the question are numbers of the library's store
-abbrev pub IsAnswerOf : Tables × List StoredUnit → Key → Value → ℕ → Option ℕ → Type 0
+abbrev pub IsAnswerOf : StoredLibrary → Key → Value → ℕ → Option ℕ → Type 0
 IsAnswerOf l key value cost top =
-    IsAnsweredAt (out_of steps (place_above l top) (query_of (tree_at (contents_of l.0)) (question_of key))) value cost top
+    IsAnsweredAt
+    (out_of steps (place_above l top) (query_of (tree_at (contents_of l.tables)) (question_of key)))
+    value cost top
 
 -- the entry is right. Its answer is spelled over the library's store
-pub record IsTrueIn (l : Tables × List StoredUnit) (key : Key) (entry : Entry) : Type 0 where
-  pub query : IsKnownQuery (length (contents_of l.0).trees) (question_of key)
-  pub answer : IsSpelledAnswer (contents_of l.0) entry.answer
-  pub is : IsAnswerOf l key (spelled_value (contents_of l.0) entry.answer) entry.cost entry.top
+pub record IsTrueIn (l : StoredLibrary) (key : Key) (entry : Entry) : Type 0 where
+  pub query : IsKnownQuery (length (contents_of l.tables).trees) (question_of key)
+  pub answer : IsSpelledAnswer (contents_of l.tables) entry.answer
+  pub is : IsAnswerOf l key (spelled_value (contents_of l.tables) entry.answer) entry.cost entry.top
 
 unfoldable pub IsTrueOf : Job → Key → Entry → Type 0
 IsTrueOf None key entry = ⊥
 IsTrueOf (Some l) key entry = IsTrueIn l key entry
 
 -- what is kept is right, where its answer is a number of the contents c
-pub record IsFoundIn (l : Tables × List StoredUnit) (c : Contents) (key : Key) (kept : Kept) : Type 0 where
-  pub query : IsKnownQuery (length (contents_of l.0).trees) (question_of key)
+pub record IsFoundIn (l : StoredLibrary) (c : Contents) (key : Key) (kept : Kept) : Type 0 where
+  pub query : IsKnownQuery (length (contents_of l.tables).trees) (question_of key)
   pub answer : IsKnownAnswer (length c.trees) kept.answer
   pub is : IsAnswerOf l key (value_at (tree_at c) kept.answer) kept.cost kept.top
 
@@ -73,7 +75,7 @@ IsFoundOf (Some l) c key kept = IsFoundIn l c key kept
 -- the tables are those of the job's library
 abbrev pub IsTablesOf : Job → Tables → Type 0
 IsTablesOf None t = ⊥
-IsTablesOf (Some l) t = l.0 ≡ t
+IsTablesOf (Some l) t = l.tables ≡ t
 
 -- answers that are true of the job, and not too many
 pub record AreTrue (job : Job) (entries : List (Key × Entry)) : Type 0 where

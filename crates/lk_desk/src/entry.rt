@@ -2,7 +2,8 @@
 
 ghost use Rattle.std.specs.Prelude.{◌≡◌, length, IfOk};
 ghost use Rattle.lk_store.specs.Contents.{Extends, tree_at};
-ghost use Rattle.lk_store.specs.Store.{over, contents_of};
+ghost use Rattle.lk_store.specs.Store.{contents_of};
+ghost use Rattle.lk_store.specs.Layers.{layers_contents};
 ghost use Rattle.lk_ask.specs.Questions.{IsKnownAnswer, value_at};
 ghost use Rattle.lk_desk.specs.Entries.{IsSpelledAnswer, IsMade, spelled_value};
 
@@ -34,12 +35,12 @@ fn spelled_answer(
     terms: &Overlay,
     answer: Answer<u64>,
 ) -> Result<SpelledAnswer, SpellError>
-    requires known { IsKnownAnswer (length (contents_of (over terms.now.0 terms.now.1)).trees)
+    requires known { IsKnownAnswer (length (layers_contents terms.now).trees)
         answer }
-    requires over { Extends (contents_of terms.now.0) (contents_of (over terms.now.0 terms.now.1)) }
-    ensures spelled { IfOk result (IsSpelledAnswer (contents_of terms.now.0)) }
-    ensures value { IfOk result (λ s. spelled_value (contents_of terms.now.0) s
-        ≡ value_at (tree_at (contents_of (over terms.now.0 terms.now.1))) answer) }
+    requires over { Extends (contents_of terms.now.base) (layers_contents terms.now) }
+    ensures spelled { IfOk result (IsSpelledAnswer (contents_of terms.now.base)) }
+    ensures value { IfOk result (λ s. spelled_value (contents_of terms.now.base) s
+        ≡ value_at (tree_at (layers_contents terms.now)) answer) }
 {
     match answer {
         Answer::Term(e) => Ok(SpelledAnswer::Term(spell(alloc, terms, e)?)),
@@ -53,16 +54,14 @@ fn made_answer(
     terms: &mut Overlay,
     answer: &SpelledAnswer,
 ) -> Result<Answer<u64>, NoMemory>
-    requires spelled { IsSpelledAnswer (contents_of terms.old.0) answer.now }
-    requires over { Extends (contents_of terms.old.0) (contents_of (over terms.old.0 terms.old.1)) }
-    ensures keeps { Extends (contents_of (over terms.old.0 terms.old.1))
-        (contents_of (over terms.new.0 terms.new.1)) }
-    ensures base { terms.new.0 ≡ terms.old.0 }
-    ensures known { IfOk result (IsKnownAnswer
-        (length (contents_of (over terms.new.0 terms.new.1)).trees)) }
+    requires spelled { IsSpelledAnswer (contents_of terms.old.base) answer.now }
+    requires over { Extends (contents_of terms.old.base) (layers_contents terms.old) }
+    ensures keeps { Extends (layers_contents terms.old) (layers_contents terms.new) }
+    ensures base { terms.new.base ≡ terms.old.base }
+    ensures known { IfOk result (IsKnownAnswer (length (layers_contents terms.new).trees)) }
     ensures value { IfOk result (λ a.
-        value_at (tree_at (contents_of (over terms.new.0 terms.new.1))) a
-        ≡ spelled_value (contents_of terms.old.0) answer.now) }
+        value_at (tree_at (layers_contents terms.new)) a
+        ≡ spelled_value (contents_of terms.old.base) answer.now) }
 {
     match answer {
         SpelledAnswer::Term(s) => Ok(Answer::Term(unspell(alloc, terms, s)?)),
@@ -73,13 +72,11 @@ fn made_answer(
 impl Entry {
     /// What is kept of an answer, spelled.
     pub fn spelled(alloc: Global, terms: &Overlay, kept: Kept) -> Result<Entry, SpellError>
-        requires known { IsKnownAnswer
-            (length (contents_of (over terms.now.0 terms.now.1)).trees) kept.answer }
-        requires over { Extends (contents_of terms.now.0)
-            (contents_of (over terms.now.0 terms.now.1)) }
-        ensures spelled { IfOk result (λ x. IsSpelledAnswer (contents_of terms.now.0) x.answer) }
-        ensures made { IfOk result (λ x. IsMade (contents_of terms.now.0)
-            (contents_of (over terms.now.0 terms.now.1)) x kept) }
+        requires known { IsKnownAnswer (length (layers_contents terms.now).trees) kept.answer }
+        requires over { Extends (contents_of terms.now.base) (layers_contents terms.now) }
+        ensures spelled { IfOk result (λ x. IsSpelledAnswer (contents_of terms.now.base) x.answer) }
+        ensures made { IfOk result (λ x. IsMade (contents_of terms.now.base)
+            (layers_contents terms.now) x kept) }
     {
         let answer = spelled_answer(alloc, terms, kept.answer)?;
         Ok(Entry {
@@ -91,14 +88,12 @@ impl Entry {
 
     /// The answer, made in an overlay of the library.
     pub fn made(&self, alloc: Global, terms: &mut Overlay) -> Result<Kept, NoMemory>
-        requires spelled { IsSpelledAnswer (contents_of terms.old.0) self.now.answer }
-        requires over { Extends (contents_of terms.old.0)
-            (contents_of (over terms.old.0 terms.old.1)) }
-        ensures keeps { Extends (contents_of (over terms.old.0 terms.old.1))
-            (contents_of (over terms.new.0 terms.new.1)) }
-        ensures base { terms.new.0 ≡ terms.old.0 }
-        ensures made { IfOk result (IsMade (contents_of terms.old.0)
-            (contents_of (over terms.new.0 terms.new.1)) self.now) }
+        requires spelled { IsSpelledAnswer (contents_of terms.old.base) self.now.answer }
+        requires over { Extends (contents_of terms.old.base) (layers_contents terms.old) }
+        ensures keeps { Extends (layers_contents terms.old) (layers_contents terms.new) }
+        ensures base { terms.new.base ≡ terms.old.base }
+        ensures made { IfOk result (IsMade (contents_of terms.old.base)
+            (layers_contents terms.new) self.now) }
     {
         let answer = made_answer(alloc, terms, &self.answer)?;
         Ok(Kept {

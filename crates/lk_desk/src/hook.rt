@@ -1,10 +1,11 @@
 //! The shelf of a desk and a seat.
 
-ghost use Rattle.std.specs.Prelude.{◌≡◌, ◌+◌, ◌<◌, ◌≤◌, ◌⊎◌, ℕ, [], ◌∷◌, IfOk, OnErr, IfSome, IfNone, Some, None, true};
+ghost use Rattle.std.specs.Prelude.{◌≡◌, ◌+◌, ◌<◌, ◌≤◌, ◌⊎◌, [], ◌∷◌, IfOk, OnErr, IfSome, IfNone, Some, None, true};
 ghost use Rattle.lk_plain.specs.Laws.{IsBelow};
 ghost use Rattle.lk_desk.specs.Truth.{IsTrueOf, IsFoundOf, IsTablesOf};
 ghost use Rattle.lk_store.specs.Contents.{Extends};
-ghost use Rattle.lk_store.specs.Store.{over, contents_of};
+ghost use Rattle.lk_store.specs.Store.{contents_of};
+ghost use Rattle.lk_store.specs.Layers.{layers_contents};
 ghost use Rattle.lk_desk.specs.Seats.{view, hand, job, IsOf, Sits};
 ghost use Rattle.lk_desk.specs.Held.{is_held, still};
 ghost use Rattle.lk_desk.specs.Shards.{shard_number};
@@ -79,16 +80,14 @@ impl Desk {
         key: Key,
     ) -> Result<Option<Kept>, NoMemory>
         requires of { Sits seat.old self.now }
-        requires tables { IsTablesOf (job self.now) terms.old.0 }
-        requires over { Extends (contents_of terms.old.0)
-            (contents_of (over terms.old.0 terms.old.1)) }
-        ensures keeps { Extends (contents_of (over terms.old.0 terms.old.1))
-            (contents_of (over terms.new.0 terms.new.1)) }
-        ensures base { terms.new.0 ≡ terms.old.0 }
+        requires tables { IsTablesOf (job self.now) terms.old.base }
+        requires over { Extends (contents_of terms.old.base) (layers_contents terms.old) }
+        ensures keeps { Extends (layers_contents terms.old) (layers_contents terms.new) }
+        ensures base { terms.new.base ≡ terms.old.base }
         ensures sits { Sits seat.new self.now }
         ensures still { still (view seat.new) ≡ still (view seat.old) }
         ensures some { IfOk result (λ o. IfSome o (λ a. IsFoundOf (job self.now)
-            (contents_of (over terms.new.0 terms.new.1)) key a × IsBelow a.top unit)) }
+            (layers_contents terms.new) key a × IsBelow a.top unit)) }
         ensures none { IfOk result (λ o. IfNone o (
             ((view seat.old).outs < (view seat.new).outs)
             ⊎ TakenMisses (shard_number key) (view seat.new).taken key unit)) }

@@ -25,19 +25,19 @@ pub struct MemShelf<'a> {
 }
 
 impl<'a> Model for MemShelf<'a> {
-    ghost use Rattle.std.specs.Prelude.{◌≡◌, ℕ, List, length, map};
+    ghost use Rattle.std.specs.Prelude.{◌≡◌, length, map};
     ghost use Rattle.lk_desk.specs.Job.{job_of};
     ghost use Rattle.lk_desk.specs.Memory.{AllTrue};
-    ghost use Rattle.std.specs.declared.option.Option.{Option as AnOption};
-    ghost use Rattle.lk_store.specs.declared.tables.Tables.{Tables};
-    ghost use Rattle.lk_env.specs.declared.unit.Unit.{Unit as StoredUnit};
-    ghost use Rattle.lk_desk.specs.declared.entry.Entry.{Entry};
-    ghost use Rattle.lk_memo.specs.declared.key.Key.{Key};
+    ghost use Rattle.lk_desk.specs.InMemory.{InMemory};
     ghost use Rattle.lk_desk.specs.Truth.{entries_of};
 
-    ghost Value = { (Tables × List StoredUnit) × List (List (Key × Entry)) × AnOption ℕ };
+    ghost Value = { InMemory };
 
-    ghost view = { λ s. (s.library.now, map entries_of s.shards.items, s.out) };
+    ghost view = { λ s. record {
+      library = s.library.now;
+      shards = map entries_of s.shards.items;
+      out = s.out;
+    } };
 
     ghost invariant = { λ s. (length s.shards.items ≡ 64)
         × AllTrue (job_of s.library.now) s.shards.items };
@@ -60,9 +60,9 @@ impl<'a> MemShelf<'a> {
 
     /// A shelf for the units of a library, with no answer.
     pub fn new(alloc: Global, library: &'a Library) -> Result<MemShelf<'a>, NoMemory>
-        ensures job { IfOk result (λ m. m.0 ≡ library.now) }
+        ensures job { IfOk result (λ m. m.library ≡ library.now) }
         ensures empty { IfOk result (λ m. (k : ℕ) → k < 64 → mem_told m k ≡ []) }
-        ensures home { IfOk result (λ m. m.2 ≡ None) }
+        ensures home { IfOk result (λ m. m.out ≡ None) }
     {
         let shards = empty_shards(alloc, library)?;
         Ok(MemShelf {

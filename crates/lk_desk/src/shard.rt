@@ -1,8 +1,9 @@
 //! What lies in a shard: true answers by their questions.
 
-ghost use Rattle.std.specs.Prelude.{◌≡◌, ◌<◌, ◌≤◌, ℕ, IfOk, OnErr, IfSome, IfNone, IsTrue, [], true, false};
+ghost use Rattle.std.specs.Prelude.{◌≡◌, ◌<◌, ◌≤◌, IfOk, OnErr, IfSome, IfNone, IsTrue, [], true, false};
 ghost use Rattle.lk_store.specs.Contents.{Extends};
-ghost use Rattle.lk_store.specs.Store.{over, contents_of};
+ghost use Rattle.lk_store.specs.Store.{contents_of};
+ghost use Rattle.lk_store.specs.Layers.{layers_contents};
 ghost use Rattle.lk_desk.specs.Truth.{entries_of};
 ghost use Rattle.lk_desk.specs.Shards.{shard_number, Finds, Misses, IsMadeOf, AreSpelled, HasRoom, IsPut, IsFull};
 
@@ -74,14 +75,12 @@ impl Shard {
         key: Key,
         unit: u32,
     ) -> Result<Option<Kept>, NoMemory>
-        requires spelled { AreSpelled (contents_of terms.old.0) (entries_of self.now) }
-        requires over { Extends (contents_of terms.old.0)
-            (contents_of (over terms.old.0 terms.old.1)) }
-        ensures keeps { Extends (contents_of (over terms.old.0 terms.old.1))
-            (contents_of (over terms.new.0 terms.new.1)) }
-        ensures base { terms.new.0 ≡ terms.old.0 }
+        requires spelled { AreSpelled (contents_of terms.old.base) (entries_of self.now) }
+        requires over { Extends (contents_of terms.old.base) (layers_contents terms.old) }
+        ensures keeps { Extends (layers_contents terms.old) (layers_contents terms.new) }
+        ensures base { terms.new.base ≡ terms.old.base }
         ensures some { IfOk result (λ o. IfSome o (IsMadeOf (entries_of self.now) key unit
-            (contents_of terms.old.0) (contents_of (over terms.new.0 terms.new.1)))) }
+            (contents_of terms.old.base) (layers_contents terms.new))) }
         ensures none { IfOk result (λ o. IfNone o (Misses (entries_of self.now) key unit)) }
     {
         match self.find(key, unit) {

@@ -5,7 +5,8 @@ ghost use Rattle.atomic_table.specs.Seated.{TableId};
 ghost use Rattle.lk_plain.specs.Laws.{IsBelow};
 ghost use Rattle.lk_desk.specs.declared.view.View.{View};
 ghost use Rattle.lk_store.specs.Contents.{Extends};
-ghost use Rattle.lk_store.specs.Store.{over, contents_of};
+ghost use Rattle.lk_store.specs.Store.{contents_of};
+ghost use Rattle.lk_store.specs.Layers.{layers_contents};
 ghost use Rattle.lk_desk.specs.Job.{Job};
 ghost use Rattle.lk_desk.specs.Truth.{AreTrue, IsTrueOf, IsFoundOf, IsTablesOf, entries_of};
 ghost use Rattle.lk_desk.specs.Shards.{shard_number, Misses};
@@ -111,13 +112,12 @@ pub fn look_on<S: Shelf>(
     key: Key,
 ) -> Result<Option<Kept>, NoMemory>
     requires empty { S.in_hand shelf.old ≡ None }
-    requires tables { IsTablesOf (S.job shelf.old) terms.old.0 }
-    requires over { Extends (contents_of terms.old.0) (contents_of (over terms.old.0 terms.old.1)) }
-    ensures keeps { Extends (contents_of (over terms.old.0 terms.old.1))
-        (contents_of (over terms.new.0 terms.new.1)) }
-    ensures base { terms.new.0 ≡ terms.old.0 }
+    requires tables { IsTablesOf (S.job shelf.old) terms.old.base }
+    requires over { Extends (contents_of terms.old.base) (layers_contents terms.old) }
+    ensures keeps { Extends (layers_contents terms.old) (layers_contents terms.new) }
+    ensures base { terms.new.base ≡ terms.old.base }
     ensures some { IfOk result (λ o. IfSome o (λ a. IsFoundOf (S.job shelf.old)
-        (contents_of (over terms.new.0 terms.new.1)) key a × IsBelow a.top unit)) }
+        (layers_contents terms.new) key a × IsBelow a.top unit)) }
     ensures none { IfOk result (λ o. IfNone o ((S.outs shelf.old < S.outs shelf.new)
         ⊎ (S.tells shelf.old ≡ true → Misses (S.told shelf.old (shard_number key)) key unit))) }
     ensures taken { S.remembers shelf.old ≡ true → IfOk result (λ o. IfNone o (

@@ -13,11 +13,9 @@ use Rattle.lk_questions.specs.Core.{stepped, whnf_headed}
 use Rattle.lk_questions.specs.Pairs.{answers, ◌or_else◌}
 use Rattle.lk_questions.specs.Table.{steps}
 use Rattle.lk_plain.specs.Query as plain
-use Rattle.lk_store.specs.declared.tables.Tables.{Tables}
 use Rattle.lk_store.specs.Contents.{Contents, tree_at, Extends}
 use Rattle.lk_store.specs.Store.{contents_of}
 use Rattle.lk_store.proofs.Extending.{Extends-trans}
-use Rattle.lk_env.specs.declared.unit.Unit.{Unit as StoredUnit}
 use Rattle.lk_ask.specs.declared.sheet.Sheet.TheVariants as sheet
 use Rattle.lk_ask.specs.Lines.{Rest}
 use Rattle.lk_ask.proofs.Sheets.{grown}
@@ -104,6 +102,7 @@ use Rattle.lk_engine.specs.declared.sheet.TruthSheet.TheVariants as truths
 use Rattle.lk_engine.specs.Sheets.{AnySheet}
 use Rattle.lk_engine.specs.Rests.{term_rest, truth_rest, any_rest, IsKnownFrame, Linked}
 use Rattle.lk_engine.proofs.Sheets.{any_steady, any_known}
+use Rattle.lk_env.specs.StoredLibrary.{StoredLibrary}
 
 module _ (w : Place) (last : Option ℕ) (b : ℕ) where
   -- it runs as from the beginning, with the last unit seen
@@ -347,7 +346,7 @@ module _ {c d : Contents} (x : Extends c d) where
   }
 
   -- what a table keeps stays true
-  table_steady : (l : Tables × List StoredUnit) (w : Place) (first : Contents) (table : Lasting)
+  table_steady : (l : StoredLibrary) (w : Place) (first : Contents) (table : Lasting)
       → AreLasting l w c first table → AreLasting l w d first table
   table_steady l w first table h = record {
     each = h.each;
@@ -357,11 +356,11 @@ module _ {c d : Contents} (x : Extends c d) where
   }
 
   -- what is kept stays true
-  pub entries_steady : (l : Tables × List StoredUnit) (w : Place) (memo : PrivateMemo) → AreTrue l w c memo
+  pub entries_steady : (l : StoredLibrary) (w : Place) (memo : PrivateMemo) → AreTrue l w c memo
       → AreTrue l w d memo
   entries_steady l w memo h = record {
     each = λ q kept holds. true_steady w q kept (h.each q kept holds);
-    lasting = table_steady l w (contents_of l.0) memo.lasting h.lasting;
+    lasting = table_steady l w (contents_of l.tables) memo.lasting h.lasting;
     first = h.first;
     staying = table_steady l w h.first memo.staying h.staying;
   }

@@ -1,13 +1,12 @@
 -- What a memo keeps stays true: as answers come in and go, and as another unit is at work.
-use Rattle.std.proofs.Common.{◌≡◌, ℕ, List, [], length, Option, Some, None, sym, subst, ◌∙◌, inl, inr}
+use Rattle.std.proofs.Common.{◌≡◌, ℕ, [], length, Option, Some, None, sym, subst, ◌∙◌, inl, inr}
 use Rattle.std.specs.Prelude.{IfSome}
 use Rattle.lk_rulebook.specs.Place.{Place}
 use Rattle.lk_rulebook.specs.Units.{place_of}
-use Rattle.lk_store.specs.declared.tables.Tables.{Tables}
 use Rattle.lk_store.specs.Contents.{Contents, Extends}
 use Rattle.lk_store.specs.Store.{contents_of}
-use Rattle.lk_env.specs.declared.unit.Unit.{Unit as StoredUnit}
 use Rattle.lk_env.specs.Units.{library_of}
+use Rattle.lk_env.specs.StoredLibrary.{StoredLibrary}
 use Rattle.lk_ask.specs.declared.query.Query.{Query}
 use Rattle.lk_ask.specs.declared.kept.Kept.{Kept}
 use Rattle.lk_ask.specs.Questions.{IsKnownQuery, IsKnownAnswer}
@@ -22,7 +21,7 @@ use Rattle.lk_memo.proofs.Keeping.{found_holds, lasting_is}
 use Rattle.lk_engine.specs.Entries.{IsTrueAt, IsLasting, AreLasting, AreTrue, Keeps}
 use Rattle.lk_engine.proofs.Lasting.{lasting_here, here_lasts}
 
-module _ (l : Tables × List StoredUnit) (w : Place) (c : Contents) where
+module _ (l : StoredLibrary) (w : Place) (c : Contents) where
   -- an answer that came in is true
   came_in : (q : Query ℕ) (kept : Kept) (p : Kept → Query ℕ → Type 0) → p kept q
       → (r : Query ℕ) (v : Kept) → key_of r ≡ key_of q → v ≡ kept → p v r
@@ -57,7 +56,7 @@ module _ (l : Tables × List StoredUnit) (w : Place) (c : Contents) where
       | inl before ↦ h.each r v before
       | inr is ↦ came_in q kept (λ k a. IsTrueAt w c a k) this r v is.0 is.1
     ];
-    lasting = table_more (contents_of l.0) old.lasting new.lasting q kept h.lasting more.lasting this;
+    lasting = table_more (contents_of l.tables) old.lasting new.lasting q kept h.lasting more.lasting this;
     first = h.first;
     staying = table_more h.first old.staying new.staying q kept h.staying more.staying this;
   }
@@ -68,7 +67,7 @@ module _ (l : Tables × List StoredUnit) (w : Place) (c : Contents) where
       → new.staying ≡ old.staying → AreTrue l w c new
   entries_fewer old new h fewer lasting staying = record {
     each = λ q kept holds. h.each q kept (fewer (key_of q) kept holds);
-    lasting = subst (λ t. AreLasting l w c (contents_of l.0) t) (sym lasting) h.lasting;
+    lasting = subst (λ t. AreLasting l w c (contents_of l.tables) t) (sym lasting) h.lasting;
     first = h.first;
     staying = subst (λ t. AreLasting l w c h.first t) (sym staying) h.staying;
   }
@@ -87,7 +86,7 @@ module _ (l : Tables × List StoredUnit) (w : Place) (c : Contents) where
   true_at memo q kept h is = elim (found_holds memo q kept is) [
     | inl private ↦ h.each q kept private
     | inr outlasts ↦ elim outlasts [
-      | inl lasts ↦ lasts_at (contents_of l.0) memo.lasting q kept h.lasting lasts
+      | inl lasts ↦ lasts_at (contents_of l.tables) memo.lasting q kept h.lasting lasts
       | inr stays ↦ lasts_at h.first memo.staying q kept h.staying stays
     ]
   ]
@@ -99,8 +98,8 @@ module _ (l : Tables × List StoredUnit) (w : Place) (c : Contents) where
 
   -- a table was emptied, and no unit looks
   table_begins : (table : Lasting) (count : ℕ) → BeginsWith table count None
-      → count ≡ length (contents_of l.0).trees → Extends (contents_of l.0) c
-      → AreLasting l w c (contents_of l.0) table
+      → count ≡ length (contents_of l.tables).trees → Extends (contents_of l.tables) c
+      → AreLasting l w c (contents_of l.tables) table
   table_begins table count h all stand = record {
     each = λ q kept stands. absurd (h.none (key_of q) kept stands);
     terms = h.terms ∙ all;
@@ -111,17 +110,17 @@ module _ (l : Tables × List StoredUnit) (w : Place) (c : Contents) where
   -- all was forgotten, also what outlasts its unit
   pub nothing_kept : (memo : PrivateMemo) (count : ℕ)
       → ((k : Key) (v : Kept) → Holds memo k v → ⊥) → BeginsWith memo.lasting count None
-      → BeginsWith memo.staying count None → count ≡ length (contents_of l.0).trees
-      → Extends (contents_of l.0) c → AreTrue l w c memo
+      → BeginsWith memo.staying count None → count ≡ length (contents_of l.tables).trees
+      → Extends (contents_of l.tables) c → AreTrue l w c memo
   nothing_kept memo count none lasting staying all stand = record {
     each = λ q kept holds. absurd (none (key_of q) kept holds);
     lasting = table_begins memo.lasting count lasting all stand;
-    first = contents_of l.0;
+    first = contents_of l.tables;
     staying = table_begins memo.staying count staying all stand;
   }
 
 -- a table goes on over other terms and at another place; if a unit looks, it is its own
-pub table_goes_on : (l : Tables × List StoredUnit) (w w' : Place) (c c' first : Contents)
+pub table_goes_on : (l : StoredLibrary) (w w' : Place) (c c' first : Contents)
     (old new : Lasting) (looker : Option ℕ) → AreLasting l w c first old
     → GoesOn old new old.terms looker → Extends first c'
     → ((n : ℕ) → looker ≡ Some n → w' ≡ place_of (library_of l) n [])

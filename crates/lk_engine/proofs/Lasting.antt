@@ -12,12 +12,11 @@ use Rattle.lk_plain.proofs.Agreement.{ans_keeps}
 use Rattle.lk_plain.proofs.Places.{found_entry, place_keeps}
 use Rattle.lk_plain.proofs.Exact.{out_exact}
 use Rattle.lk_questions.specs.Table.{steps}
-use Rattle.lk_store.specs.declared.tables.Tables.{Tables}
 use Rattle.lk_store.specs.Contents.{Contents, tree_at, Extends}
-use Rattle.lk_env.specs.declared.unit.Unit.{Unit as StoredUnit}
 use Rattle.lk_env.specs.declared.entry.Partial.TheVariants.{Nothing}
 use Rattle.lk_env.specs.Units.{library_of}
 use Rattle.lk_env.specs.Places.{beside_at, partial_first, partial_last, new_among}
+use Rattle.lk_env.specs.StoredLibrary.{StoredLibrary}
 use Rattle.lk_ask.specs.declared.kept.Kept.{Kept}
 use Rattle.lk_ask.specs.declared.query.Query.{Query}
 use Rattle.lk_ask.specs.Questions.{query_of, value_at, IsKnownQuery, IsKnownAnswer}
@@ -100,7 +99,7 @@ answered_there n w other keeps q v c t below h =
     subst (λ k. IsAnsweredAt (out_of steps other q) v k t) whole
     (out_exact steps other q c v (c - c) t there).1
 
-module _ (l : Tables × List StoredUnit) (w : Place) (c first : Contents) (n : ℕ)
+module _ (l : StoredLibrary) (w : Place) (c first : Contents) (n : ℕ)
     (stand : Extends first c) (place : w ≡ place_of (library_of l) n [])
     (q : Query ℕ) (kept : Kept) where
   abbrev us : Library

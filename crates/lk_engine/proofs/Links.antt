@@ -1,5 +1,5 @@
 -- The work of the loop: questions that wait, the one that is worked on, and what is kept.
-use Rattle.std.proofs.Common.{◌≡◌, ℕ, Bool, true, false, ◌||◌, ◌-◌, ◌<◌, ◌≤◌, List, [], ◌∷◌, ◌++◌, length, Option, Some, None, refl, ap, sym, ◌∙◌, arith, inl, inr, ◌⊎◌}
+use Rattle.std.proofs.Common.{◌≡◌, ℕ, zero, suc, Bool, true, false, ◌||◌, ◌-◌, ◌/◌, ◌<◌, ◌≤◌, List, [], ◌∷◌, ◌++◌, length, drop, Option, Some, None, refl, ap, sym, ◌∙◌, arith, inl, inr, ◌⊎◌}
 use Rattle.std.specs.Prelude.{All}
 use Rattle.std.proofs.lemmas.Bool.Decides.{nat_tests}
 use Rattle.std.proofs.lemmas.List.Elements.{All-push, All-pop}
@@ -27,7 +27,7 @@ use Rattle.lk_engine.specs.Sheets.{AnySheet, map_any, IsKnownAny}
 use Rattle.lk_engine.specs.declared.answering.Frame.{Frame}
 use Rattle.lk_engine.specs.Entries.{IsTrueAt}
 use Rattle.lk_engine.specs.Rests.{any_rest, next_of, query_steps, IsKnownFrame, Linked}
-use Rattle.lk_engine.specs.Waiting.{WaitsFor, is_same, is_waiting}
+use Rattle.lk_engine.specs.Waiting.{WaitsFor, is_same, is_waiting, is_first_again, is_circle}
 use Rattle.lk_engine.proofs.Frames.{any_from, query_steady, query_known, stack_known, links_steady}
 use Rattle.lk_engine.proofs.Waiting.{waits_on, waits_same, waits_for_itself, waits_unseen, waits_begins, waits_asks, waits_goes}
 
@@ -65,12 +65,6 @@ module _ (w : Place) (t : ℕ → Tree) where
       let r = links_pop h.2.0 h.2.1 fs f asked left h.2.4 in
       ((h.0, h.1, (h.2.0, h.2.1, h.2.2, h.2.3, r.0)), r.1, r.2)
 
-  -- a question that waits does so for each one above it
-  links_wait : (q : plain.Query) (b : ℕ) (f : Frame) (fs : List Frame) (asked : plain.Query) (left : ℕ) → Linked w t q b (f ∷ fs) asked left → WaitsFor (out_of steps w q) (out_of steps w asked)
-  links_wait q b f [] asked left h = rw h.2.4.0 (waits_asks steps w f.last h.2.0 (any_rest w None (map_any t f.sheet)) h.2.3)
-  links_wait q b f (g ∷ fs) asked left h =
-      waits_on (waits_asks steps w f.last h.2.0 (any_rest w None (map_any t f.sheet)) h.2.3) (links_wait h.2.0 h.2.1 g fs asked left h.2.4)
-
   same_is : (p q : Query ℕ) → is_same p q ≡ true → p ≡ q
   same_is (Core a) (Core b) h = let e : a ≡ b = grind (arith, nat_tests) in ap Core e
   same_is (Whnf a) (Whnf b) h = let e : a ≡ b = grind (arith, nat_tests) in ap Whnf e
@@ -82,16 +76,44 @@ module _ (w : Place) (t : ℕ → Tree) where
   first_or_later true y h = inl refl
   first_or_later false y h = inr h
 
-  -- one that is asked again waits for itself
+  -- what waits for the first question here waits for each one that waits, and for the one that is asked
+  links_among : (f : ℕ → Out) (q : plain.Query) (b : ℕ) (fs : List Frame) (asked : plain.Query) (left : ℕ) (p : Query ℕ) → WaitsFor f (out_of steps w q) → Linked w t q b fs asked left → is_waiting fs p ≡ true
+      → WaitsFor f (out_of steps w (query_of t p))
+  links_among f q b [] asked left p n h again = absurd cc
+  links_among f q b (g ∷ fs) asked left p n h again = elim (first_or_later (is_same g.asker p) (is_waiting fs p) again) [
+    | inl here ↦
+        let e : q ≡ query_of t p = sym h.0 ∙ ap (query_of t) (same_is g.asker p here) in
+        rw e at n
+    | inr above ↦ links_among f h.2.0 h.2.1 fs asked left p (waits_on n (waits_asks steps w g.last h.2.0 (any_rest w None (map_any t g.sheet)) h.2.3)) h.2.4 above
+  ]
+
+  links_to : (f : ℕ → Out) (q : plain.Query) (b : ℕ) (fs : List Frame) (asked : plain.Query) (left : ℕ) → WaitsFor f (out_of steps w q) → Linked w t q b fs asked left → WaitsFor f (out_of steps w asked)
+  links_to f q b [] asked left n h = rw h.0 n
+  links_to f q b (g ∷ fs) asked left n h = links_to f h.2.0 h.2.1 fs asked left (waits_on n (waits_asks steps w g.last h.2.0 (any_rest w None (map_any t g.sheet)) h.2.3)) h.2.4
+
+  -- the first question waits for itself where it is asked again above
+  links_first : (q : plain.Query) (b : ℕ) (fs : List Frame) (asked : plain.Query) (left : ℕ) → Linked w t q b fs asked left → is_first_again fs ≡ true → WaitsFor (out_of steps w q) (out_of steps w q)
+  links_first q b [] asked left h again = absurd cc
+  links_first q b (f ∷ fs) asked left h again =
+      let n = links_among (out_of steps w q) h.2.0 h.2.1 fs asked left f.asker (waits_asks steps w f.last h.2.0 (any_rest w None (map_any t f.sheet)) h.2.3) h.2.4 again in
+      rw h.0 at n
+
+  -- what was asked before waits for itself
   links_again : (q : plain.Query) (b : ℕ) (fs : List Frame) (asked : Query ℕ) (left : ℕ) → Linked w t q b fs (query_of t asked) left → is_waiting fs asked ≡ true
       → WaitsFor (out_of steps w (query_of t asked)) (out_of steps w (query_of t asked))
   links_again q b [] asked left h again = absurd cc
   links_again q b (f ∷ fs) asked left h again = elim (first_or_later (is_same f.asker asked) (is_waiting fs asked) again) [
     | inl here ↦
         let e : q ≡ query_of t asked = sym h.0 ∙ ap (query_of t) (same_is f.asker asked here) in
-        rw e at (links_wait q b f fs (query_of t asked) left h)
+        rw e at (links_to (out_of steps w q) h.2.0 h.2.1 fs (query_of t asked) left (waits_asks steps w f.last h.2.0 (any_rest w None (map_any t f.sheet)) h.2.3) h.2.4)
     | inr above ↦ links_again h.2.0 h.2.1 fs asked left h.2.4 above
   ]
+
+  -- where one of those that wait waits for itself the first one is used up
+  links_circle : (n : ℕ) (q : plain.Query) (b : ℕ) (fs : List Frame) (asked : plain.Query) (left : ℕ) → Linked w t q b fs asked left → is_first_again (drop n fs) ≡ true → out_of steps w q b ≡ used_up
+  links_circle zero q b fs asked left h again = waits_for_itself (links_first q b fs asked left h again) b
+  links_circle (suc n) q b [] asked left h again = absurd cc
+  links_circle (suc n) q b (f ∷ fs) asked left h again = h.2.2 ∙ ap (waiting f) (links_circle n h.2.0 h.2.1 fs asked left h.2.4 again)
 
   -- a stop goes through to the first question
   links_stop : (q : plain.Query) (b : ℕ) (fs : List Frame) (asked : plain.Query) (left : ℕ) (s : Stop) → Linked w t q b fs asked left → IsStop (out_of steps w asked left) s → IsStop (out_of steps w q b) s
@@ -230,10 +252,14 @@ module _ {w : Place} {q : plain.Query} {b : ℕ} {c : Contents} {stack : List Fr
       go stop.Spent e = sym runs ∙ ap (waiting w (tree_at c) (record { asker = asked; budget = budget; sheet = sheet; last = last })) e
       go stop.NoMemory e = tt
 
-  -- what is asked waits already
-  pub linked_again : is_waiting stack asked ≡ true → IsStop (out_of steps w q b) stop.Spent
-  linked_again again = links_stop w (tree_at c) q b stack (query_of (tree_at c) asked) budget stop.Spent l.links
-      (waits_for_itself (links_again w (tree_at c) q b stack asked budget l.links again) budget)
+  -- what is asked, or what waits in the middle, waits for itself
+  pub linked_again : is_circle stack asked ≡ true → IsStop (out_of steps w q b) stop.Spent
+  linked_again again = elim (first_or_later w (tree_at c) (is_waiting stack asked) (is_first_again (drop (length stack / 2) stack)) again) [
+    | inl here ↦
+        links_stop w (tree_at c) q b stack (query_of (tree_at c) asked) budget stop.Spent l.links
+        (waits_for_itself (links_again w (tree_at c) q b stack asked budget l.links here) budget)
+    | inr middle ↦ links_circle w (tree_at c) (length stack / 2) q b stack (query_of (tree_at c) asked) budget l.links middle
+  ]
 
   pub linked_refused : {rule : Rule} → next ≡ No rule → out_of steps w q b ≡ stopped rule
   linked_refused {rule} is = links_stop w (tree_at c) q b stack (query_of (tree_at c) asked) budget (stop.No rule) l.links (sym (rw is at l.runs))

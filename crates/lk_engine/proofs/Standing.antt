@@ -1,21 +1,23 @@
 -- An engine goes on with what lasts, as another unit is begun or what is partial changes.
-use Rattle.std.proofs.Common.{◌≡◌, ℕ, Bool, true, List, [], length, Option, Some, None, Result, Ok, Err, refl, ap, sym, subst, ◌∙◌}
+use Rattle.std.proofs.Common.{◌≡◌, ℕ, Bool, true, [], length, Option, Some, None, Result, Ok, Err, refl, ap, sym, subst, ◌∙◌}
 use Rattle.std.specs.Prelude.{OnOk, IfErr, IfSome, option_map}
 use Rattle.lk_rulebook.specs.Units.{Members}
 use Rattle.lk_rulebook.specs.Units.{place_of as unit_place}
-use Rattle.lk_store.specs.declared.tables.Tables.{Tables}
 use Rattle.lk_store.specs.declared.memory.NoMemory.{NoMemory as Wanting}
 use Rattle.lk_store.specs.Contents.{Contents, Extends}
 use Rattle.lk_store.specs.Store.{over, contents_of}
 use Rattle.lk_store.proofs.Made.{Extends-self}
+use Rattle.lk_store.specs.Layers.{layers_contents, Layers}
 use Rattle.lk_env.specs.declared.entry.Partial.{Partial}
 use Rattle.lk_env.specs.declared.entry.Partial.TheVariants.{Nothing}
 use Rattle.lk_env.specs.declared.entry.Site.{Site}
-use Rattle.lk_env.specs.declared.unit.Unit.{Unit as StoredUnit}
-use Rattle.lk_env.specs.Scopes.{Scoped, place_in, auxiliary_members}
+use Rattle.lk_env.specs.Scopes.{place_in, auxiliary_members}
 use Rattle.lk_env.specs.Units.{library_of}
+use Rattle.lk_env.specs.StoredLibrary.{StoredLibrary}
+use Rattle.lk_env.specs.StoredScope.{StoredScope}
 use Rattle.lk_ask.specs.declared.kept.Kept.{Kept}
 use Rattle.lk_ask.specs.declared.query.Query.{Query}
+use Rattle.lk_ask.specs.Outlook.{Outlook}
 use Rattle.lk_memo.specs.declared.key.Key.{Key}
 use Rattle.lk_memo.specs.declared.lasting.Lasting.{Lasting}
 use Rattle.lk_memo.specs.declared.memo.PrivateMemo.{PrivateMemo}
@@ -25,24 +27,26 @@ use Rattle.lk_memo.specs.Entries.{Holds}
 use Rattle.lk_desk.specs.Job.{job_of}
 use Rattle.lk_desk.specs.Truth.{above}
 use Rattle.lk_engine.specs.Entries.{IsLasting, AreLasting, AreTrue}
-use Rattle.lk_engine.specs.Lookouts.{Seen, place_of, Restarts, BeginsUnit, GivesMembers, Shares, Stands}
-use Rattle.lk_engine.specs.Shares.{Shared, shared_from}
+use Rattle.lk_engine.specs.Lookouts.{place_of, Restarts, BeginsUnit, GivesMembers, Shares, Stands}
+use Rattle.lk_engine.specs.Shares.{shared_from}
 use Rattle.lk_engine.proofs.Frames.{true_steady}
 use Rattle.lk_engine.proofs.Kept.{nothing_kept, table_goes_on}
 use Rattle.lk_engine.proofs.Lasting.{alone}
+use Rattle.lk_engine.specs.Shared.{Shared}
 
 -- a lookout that was begun anew looks from its unit alone
-begun_at : (s : Scoped × Site) (n : ℕ) → s.0.3 ≡ [] → s.1 ≡ record { unit = n; partial = Nothing }
-    → place_in s.0 s.1 ≡ unit_place (library_of s.0.2) n []
-begun_at s n none site =
-    let members : auxiliary_members (contents_of s.0.0) s.0.3 ≡ [] =
-    ap (auxiliary_members (contents_of s.0.0)) none in
-    rw (site, members) (ap (unit_place (library_of s.0.2) n) (alone (library_of s.0.2) n))
+begun_at : (scope : StoredScope) (site : Site) (n : ℕ) → scope.auxiliary ≡ []
+    → site ≡ record { unit = n; partial = Nothing }
+    → place_in scope site ≡ unit_place (library_of scope.library) n []
+begun_at scope site n none is =
+    let members : auxiliary_members (contents_of scope.tables) scope.auxiliary ≡ [] =
+    ap (auxiliary_members (contents_of scope.tables)) none in
+    rw (is, members) (ap (unit_place (library_of scope.library) n) (alone (library_of scope.library) n))
 
 -- at a desk of the library another unit looks, if any
-shares_from : (old new : Seen (Tables × Tables)) (share : Option Shared) (looker : Option ℕ)
-    → new.0.2 ≡ old.0.2
-    → ((n : ℕ) → looker ≡ Some n → place_of new ≡ unit_place (library_of new.0.2) n [])
+shares_from : (old new : Outlook Layers) (share : Option Shared) (looker : Option ℕ)
+    → new.scope.library ≡ old.scope.library
+    → ((n : ℕ) → looker ≡ Some n → place_of new ≡ unit_place (library_of new.scope.library) n [])
     → IfSome share (Shares old) → IfSome (option_map (shared_from looker) share) (Shares new)
 shares_from old new None looker library looks h = tt
 shares_from old new (Some share) looker library looks h = record {
@@ -50,13 +54,13 @@ shares_from old new (Some share) looker library looks h = record {
   looks = looks;
 }
 
-none_looks : (s : Seen (Tables × Tables)) (n : ℕ) → None ≡ Some n
-    → place_of s ≡ unit_place (library_of s.0.2) n []
+none_looks : (s : Outlook Layers) (n : ℕ) → None ≡ Some n
+    → place_of s ≡ unit_place (library_of s.scope.library) n []
 none_looks s n is = absurd (let no : None ≡ Some n = is in cc)
 
 -- at first no unit looks
-pub shares_new : (s : Seen (Tables × Tables)) (share : Option Shared) (l : Tables × List StoredUnit)
-    → s.0.2 ≡ l → IfSome share (λ a. a.0 ≡ job_of l)
+pub shares_new : (s : Outlook Layers) (share : Option Shared) (l : StoredLibrary)
+    → s.scope.library ≡ l → IfSome share (λ a. a.job ≡ job_of l)
     → IfSome (option_map (shared_from None) share) (Shares s)
 shares_new s None l same h = tt
 shares_new s (Some share) l same h = record {
@@ -65,57 +69,57 @@ shares_new s (Some share) l same h = record {
 }
 
 -- at first nothing is kept, and no unit looks for what outlasts one
-pub new_stands : (s : Seen (Tables × Tables)) (memo : PrivateMemo) (share : Option Shared)
-    (count : ℕ) → IfSome share (Shares s) → s.2.0 ≡ s.0.2.0
+pub new_stands : (s : Outlook Layers) (memo : PrivateMemo) (share : Option Shared)
+    (count : ℕ) → IfSome share (Shares s) → s.terms.base ≡ s.scope.library.tables
     → ((k : Key) (v : Kept) → Holds memo k v → ⊥) → BeginsWith memo.lasting count None
-    → BeginsWith memo.staying count None → count ≡ length (contents_of s.0.2.0).trees
-    → Extends (contents_of s.0.2.0) (contents_of (over s.2.0 s.2.1)) → Stands s memo share
+    → BeginsWith memo.staying count None → count ≡ length (contents_of s.scope.library.tables).trees
+    → Extends (contents_of s.scope.library.tables) (layers_contents s.terms) → Stands s memo share
 new_stands s memo share count shared base none lasting staying all stand = record {
   base = base;
-  entries_true = nothing_kept s.0.2 (place_of s) (contents_of (over s.2.0 s.2.1)) memo count none
+  entries_true = nothing_kept s.scope.library (place_of s) (layers_contents s.terms) memo count none
       lasting staying all stand;
   shared = shared;
 }
 
 -- what was kept is that of the same library
-of_library : (old : Seen (Tables × Tables)) (memo : PrivateMemo) (share : Option Shared)
-    (l : Tables × List StoredUnit) → l ≡ old.0.2 → Stands old memo share
-    → AreTrue l (place_of old) (contents_of (over old.2.0 old.2.1)) memo
+of_library : (old : Outlook Layers) (memo : PrivateMemo) (share : Option Shared)
+    (l : StoredLibrary) → l ≡ old.scope.library → Stands old memo share
+    → AreTrue l (place_of old) (layers_contents old.terms) memo
 of_library old memo share l same s =
-    subst (λ k. AreTrue k (place_of old) (contents_of (over old.2.0 old.2.1)) memo) (sym same)
+    subst (λ k. AreTrue k (place_of old) (layers_contents old.terms) memo) (sym same)
     s.entries_true
 
 -- a unit is begun, which looks for what outlasts one
-module _ {old new : Seen (Tables × Tables)} {memo later : PrivateMemo} {unit budget : ℕ}
+module _ {old new : Outlook Layers} {memo later : PrivateMemo} {unit budget : ℕ}
     {stays : Bool} {share : Option Shared} (h : Restarts old new unit budget stays)
     (s : Stands old memo share)
-    (m : BeginsUnit memo later unit (length (contents_of (over new.2.0 new.2.1)).trees) stays) where
+    (m : BeginsUnit memo later unit (length (layers_contents new.terms).trees) stays) where
   abbrev before : Contents
-  before = contents_of (over old.2.0 old.2.1)
+  before = layers_contents old.terms
 
   abbrev now : Contents
-  now = contents_of (over new.2.0 new.2.1)
+  now = layers_contents new.terms
 
-  was : AreTrue new.0.2 (place_of old) before memo
-  was = of_library old memo share new.0.2 h.library s
+  was : AreTrue new.scope.library (place_of old) before memo
+  was = of_library old memo share new.scope.library h.library s
 
   place : (looker : Option ℕ) → looker ≡ Some unit → (n : ℕ) → looker ≡ Some n
-      → place_of new ≡ unit_place (library_of new.0.2) n []
+      → place_of new ≡ unit_place (library_of new.scope.library) n []
   place looker looks n is =
       let here : unit ≡ n = let e : Some unit ≡ Some n = sym looks ∙ is in cc in
-      begun_at (new.0, new.1) n h.auxiliary
+      begun_at new.scope new.site n h.auxiliary
       (h.site ∙ ap (λ k. record { unit = k; partial = Nothing }) here)
 
-  base : new.2.0 ≡ new.0.2.0
-  base = h.base ∙ s.base ∙ ap (λ l. l.0) (sym h.library)
+  base : new.terms.base ≡ new.scope.library.tables
+  base = h.base ∙ s.base ∙ ap (λ l. l.tables) (sym h.library)
 
   -- what stays is true over all that stands now
   stay : (q : Query ℕ) (kept : Kept) → (stays ≡ true) × Outlasts memo.staying (key_of q) kept
-      → IsLasting new.0.2 now q kept
+      → IsLasting new.scope.library now q kept
   stay q kept is =
-      let same : before ≡ now = ap (λ t. contents_of (over t.0 t.1)) (sym (h.same is.0)) in
+      let same : before ≡ now = ap layers_contents (sym (h.same is.0)) in
       let stand : Extends was.first now = subst (λ c. Extends was.first c) same was.staying.stand in
-      true_steady stand (unit_place (library_of new.0.2) (above kept.top) []) q kept
+      true_steady stand (unit_place (library_of new.scope.library) (above kept.top) []) q kept
       (was.staying.each q kept is.1)
 
   pub restart_stands : Stands new later (option_map (shared_from (Some unit)) share)
@@ -123,7 +127,7 @@ module _ {old new : Seen (Tables × Tables)} {memo later : PrivateMemo} {unit bu
     base = base;
     entries_true = record {
       each = λ q kept holds. absurd (m.private (key_of q) kept holds);
-      lasting = table_goes_on new.0.2 (place_of old) (place_of new) before now (contents_of new.0.2.0)
+      lasting = table_goes_on new.scope.library (place_of old) (place_of new) before now (contents_of new.scope.library.tables)
           memo.lasting later.lasting (Some unit) was.lasting m.lasting
           (subst (λ t. Extends (contents_of t) now) (sym h.base ∙ base) h.contents)
           (place (Some unit) refl);
@@ -139,37 +143,37 @@ module _ {old new : Seen (Tables × Tables)} {memo later : PrivateMemo} {unit bu
   }
 
 -- what outlasts a unit goes on: all else was forgotten, and no unit looks
-goes_on : (old new : Seen (Tables × Tables)) (memo later : PrivateMemo) (share : Option Shared)
-    → new.0.2 ≡ old.0.2 → new.2 ≡ old.2 → Stands old memo share
+goes_on : (old new : Outlook Layers) (memo later : PrivateMemo) (share : Option Shared)
+    → new.scope.library ≡ old.scope.library → new.terms ≡ old.terms → Stands old memo share
     → ((k : Key) (v : Kept) → Holds later k v → ⊥)
     → GoesOn memo.lasting later.lasting memo.lasting.terms None
     → GoesOn memo.staying later.staying memo.staying.terms None
     → Stands new later (option_map (shared_from None) share)
 goes_on old new memo later share library terms s none lasting staying = record {
-  base = ap (λ t. t.0) terms ∙ s.base ∙ ap (λ l. l.0) (sym library);
+  base = ap (λ l. l.base) terms ∙ s.base ∙ ap (λ l. l.tables) (sym library);
   entries_true = record {
     each = λ q kept holds. absurd (none (key_of q) kept holds);
-    lasting = on (contents_of new.0.2.0) memo.lasting later.lasting was.lasting lasting;
+    lasting = on (contents_of new.scope.library.tables) memo.lasting later.lasting was.lasting lasting;
     first = was.first;
     staying = on was.first memo.staying later.staying was.staying staying;
   };
   shared = shares_from old new share None library (none_looks new) s.shared;
 }
   where
-    was : AreTrue new.0.2 (place_of old) (contents_of (over old.2.0 old.2.1)) memo
-    was = of_library old memo share new.0.2 library s
+    was : AreTrue new.scope.library (place_of old) (layers_contents old.terms) memo
+    was = of_library old memo share new.scope.library library s
 
     on : (first : Contents) (table next : Lasting)
-        → AreLasting new.0.2 (place_of old) (contents_of (over old.2.0 old.2.1)) first table
+        → AreLasting new.scope.library (place_of old) (layers_contents old.terms) first table
         → GoesOn table next table.terms None
-        → AreLasting new.0.2 (place_of new) (contents_of (over new.2.0 new.2.1)) first next
-    on first table next h g = table_goes_on new.0.2 (place_of old) (place_of new)
-        (contents_of (over old.2.0 old.2.1)) (contents_of (over new.2.0 new.2.1)) first table next None h g
-        (subst (λ t. Extends first (contents_of (over t.0 t.1))) (sym terms) h.stand)
+        → AreLasting new.scope.library (place_of new) (layers_contents new.terms) first next
+    on first table next h g = table_goes_on new.scope.library (place_of old) (place_of new)
+        (layers_contents old.terms) (layers_contents new.terms) first table next None h g
+        (subst (λ t. Extends first (layers_contents t)) (sym terms) h.stand)
         (λ n is. absurd (let no : None ≡ Some n = is in cc))
 
 -- more of the unit is partial, and no unit looks for what outlasts one
-pub gives_stands : {old new : Seen (Tables × Tables)} {partial : Partial} {aux : Members}
+pub gives_stands : {old new : Outlook Layers} {partial : Partial} {aux : Members}
     {memo later : PrivateMemo} {share : Option Shared} → GivesMembers old new partial aux
     → Stands old memo share
     → ((k : Key) (v : Kept) → Holds later k v → ⊥)
@@ -180,7 +184,7 @@ gives_stands {old} {new} {partial} {aux} {memo} {later} {share} h =
     goes_on old new memo later share h.library h.terms
 
 -- the same where auxiliary types are given beside, if there was memory for them
-pub beside_stands : (old new : Seen (Tables × Tables)) (memo later : PrivateMemo)
+pub beside_stands : (old new : Outlook Layers) (memo later : PrivateMemo)
     (share : Option Shared) (partial : Partial) (aux : Members) (r : Result (Unit {0}) Wanting)
     → OnOk r (GivesMembers old new partial aux)
     → IfErr r (λ e. new ≡ old) → Stands old memo share
@@ -190,4 +194,4 @@ pub beside_stands : (old new : Seen (Tables × Tables)) (memo later : PrivateMem
     → Stands new later (option_map (shared_from None) share)
 beside_stands old new memo later share partial aux (Ok u) h e = gives_stands h
 beside_stands old new memo later share partial aux (Err x) h e =
-    goes_on old new memo later share (ap (λ r. r.0.2) e) (ap (λ r. r.2) e)
+    goes_on old new memo later share (ap (λ (o : Outlook Layers). o.scope.library) e) (ap (λ (o : Outlook Layers). o.terms) e)

@@ -1,14 +1,14 @@
--- What a memo keeps is true: at the place that stands, or at each unit above all that was looked at.
-use Rattle.std.specs.Prelude.{◌≡◌, ◌⊎◌, ℕ, List, [], Some, length}
+-- What a memo keeps is true: at the place that stands, or at each unit above all that was looked
+-- at.
+use Rattle.std.specs.Prelude.{◌≡◌, ◌⊎◌, ℕ, [], Some, length}
 use Rattle.lk_rulebook.specs.Place.{Place}
 use Rattle.lk_rulebook.specs.Units.{place_of}
 use Rattle.lk_plain.specs.Erased.{out_of, IsAnsweredAt}
 use Rattle.lk_questions.specs.Table.{steps}
-use Rattle.lk_store.specs.declared.tables.Tables.{Tables}
 use Rattle.lk_store.specs.Contents.{Contents, tree_at, Extends}
 use Rattle.lk_store.specs.Store.{contents_of}
-use Rattle.lk_env.specs.declared.unit.Unit.{Unit as StoredUnit}
 use Rattle.lk_env.specs.Units.{library_of}
+use Rattle.lk_env.specs.StoredLibrary.{StoredLibrary}
 use Rattle.lk_ask.specs.declared.query.Query.{Query}
 use Rattle.lk_ask.specs.declared.kept.Kept.{Kept}
 use Rattle.lk_ask.specs.Questions.{query_of, value_at, IsKnownQuery, IsKnownAnswer}
@@ -29,12 +29,12 @@ pub record IsTrueAt (w : Place) (c : Contents) (q : Query ℕ) (kept : Kept) : T
       kept.cost kept.top
 
 -- over terms that stay it is true at the first unit above all that were looked at
-abbrev pub IsLasting : Tables × List StoredUnit → Contents → Query ℕ → Kept → Type 0
+abbrev pub IsLasting : StoredLibrary → Contents → Query ℕ → Kept → Type 0
 IsLasting l first q kept = IsTrueAt (place_of (library_of l) (above kept.top) []) first q kept
 
 -- what a table keeps is true over the first terms of those that stand; if a unit looks there, the
 -- place is its own, and nothing of it is partial
-pub record AreLasting (l : Tables × List StoredUnit) (w : Place) (c first : Contents)
+pub record AreLasting (l : StoredLibrary) (w : Place) (c first : Contents)
     (table : Lasting) : Type 0 where
   pub each : (q : Query ℕ) (kept : Kept) → Outlasts table (key_of q) kept → IsLasting l first q kept
   pub terms : table.terms ≡ length first.trees
@@ -43,10 +43,10 @@ pub record AreLasting (l : Tables × List StoredUnit) (w : Place) (c first : Con
 
 -- each answer that is kept is true of its question at the place, and what outlasts its unit is true
 -- over the library's terms, or over those that stood when the unit began
-pub record AreTrue (l : Tables × List StoredUnit) (w : Place) (c : Contents)
+pub record AreTrue (l : StoredLibrary) (w : Place) (c : Contents)
     (memo : PrivateMemo) : Type 0 where
   pub each : (q : Query ℕ) (kept : Kept) → Holds memo (key_of q) kept → IsTrueAt w c q kept
-  pub lasting : AreLasting l w c (contents_of l.0) memo.lasting
+  pub lasting : AreLasting l w c (contents_of l.tables) memo.lasting
   pub first : Contents
   pub staying : AreLasting l w c first memo.staying
 

@@ -3,6 +3,7 @@ pub mod Entries
 pub mod Instants
 pub mod Lookouts
 pub mod Rests
+pub mod Shared
 pub mod Shares
 pub mod Sheets
 pub mod Waiting

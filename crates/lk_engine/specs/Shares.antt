@@ -7,10 +7,7 @@ use Rattle.lk_ask.specs.declared.kept.Kept.{Kept}
 use Rattle.lk_ask.specs.Questions.{IsKnownQuery}
 use Rattle.lk_desk.specs.Job.{Job}
 use Rattle.lk_engine.specs.Entries.{IsLasting}
-
--- the job of the desk, and the unit that looks there, if one does
-abbrev pub Shared : Type 0
-Shared = Job × Option ℕ
+use Rattle.lk_engine.specs.Shared.{Shared}
 
 -- over the job's library an answer outlasts its unit
 abbrev pub LastsAt : Job → Contents → Query ℕ → Kept → Type 0
@@ -20,16 +17,16 @@ LastsAt (Some l) c q kept = IsLasting l c q kept
 -- an answer is found that holds for the unit that looks
 pub record IsShared (share : Shared) (c : Contents) (q : Query ℕ) (kept : Kept) : Type 0 where
   pub unit : ℕ
-  pub looks : share.1 ≡ Some unit
+  pub looks : share.unit ≡ Some unit
   pub below : IsBelow kept.top unit
-  pub lasts : LastsAt share.0 c q kept
+  pub lasts : LastsAt share.job c q kept
 
 -- a unit looks, and the terms of the question are among the first ones
 pub record IsFor (share : Shared) (terms : ℕ) (q : Query ℕ) : Type 0 where
   pub unit : ℕ
-  pub looks : share.1 ≡ Some unit
+  pub looks : share.unit ≡ Some unit
   pub query : IsKnownQuery terms q
 
 -- from here on this unit looks, if any
 abbrev pub shared_from : Option ℕ → Shared → Shared
-shared_from looker share = (share.0, looker)
+shared_from looker share = record share { unit = looker }

@@ -1,5 +1,5 @@
 -- Questions that wait for one another, by their outcomes under every budget.
-use Rattle.std.specs.Prelude.{◌≡◌, ◌<◌, ◌&&◌, ℕ, Bool, false, List, nat_eq}
+use Rattle.std.specs.Prelude.{◌≡◌, ◌<◌, ◌/◌, ◌&&◌, ◌||◌, ℕ, Bool, false, List, [], ◌∷◌, length, drop, nat_eq}
 use Rattle.std.specs.List.{list_any}
 use Rattle.lk_plain.specs.Erased.{Out, used_up}
 use Rattle.lk_ask.specs.declared.query.Query.{Query}
@@ -21,3 +21,12 @@ is_same _ _ = false
 -- whether a question is among those that wait
 abbrev pub is_waiting : List Frame → Query ℕ → Bool
 is_waiting stack asked = list_any (λ f. is_same f.asker asked) stack
+
+-- whether the first of these is asked again above it
+abbrev pub is_first_again : List Frame → Bool
+is_first_again [] = false
+is_first_again (f ∷ fs) = is_waiting fs f.asker
+
+-- whether the question that is asked, or the one in the middle of those that wait, waits for itself
+abbrev pub is_circle : List Frame → Query ℕ → Bool
+is_circle stack asked = is_waiting stack asked || is_first_again (drop (length stack / 2) stack)

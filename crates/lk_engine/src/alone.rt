@@ -1,10 +1,11 @@
 //! Who answers what a unit asks: a worker that is alone, or one that shares answers with others.
 
 ghost use Rattle.std.specs.Prelude.{◌≡◌, Option, None, length, option_map};
-ghost use Rattle.lk_store.specs.Store.{over, contents_of};
+ghost use Rattle.lk_store.specs.Layers.{layers_contents};
 ghost use Rattle.lk_ask.specs.Questions.{IsKnownQuery};
 ghost use Rattle.lk_engine.specs.Lookouts.{AreTrueAt, Answers, AnswersKept, Stands};
-ghost use Rattle.lk_engine.specs.Shares.{Shared, shared_from};
+ghost use Rattle.lk_engine.specs.Shares.{shared_from};
+ghost use Rattle.lk_engine.specs.Shared.{Shared};
 
 use crate::answering::{Stack, answer};
 use lk_ask::lookout::Lookout;
@@ -32,10 +33,9 @@ pub trait Sharing {
         stack: &mut Stack,
         query: Query<u64>,
     ) -> Result<Answer<u64>, Stop>
-        requires query_in { IsKnownQuery
-            (length (contents_of (over lookout.old.2.0 lookout.old.2.1)).trees) query }
+        requires query_in { IsKnownQuery (length (layers_contents lookout.old.terms).trees) query }
         requires stands { Stands lookout.old memo.old (shared self.old) }
-        ensures answers { Answers (λ t. contents_of (over t.0 t.1)) (λ t. t.0) lookout.old
+        ensures answers { Answers layers_contents (λ l. l.base) lookout.old
             lookout.new memo.new result query }
         ensures share { shared self.new ≡ shared self.old };
 }
@@ -48,11 +48,10 @@ pub(crate) fn answer_alone<'a>(
     stack: &mut Stack,
     query: Query<u64>,
 ) -> Result<Answer<u64>, Stop>
-    requires query_in { IsKnownQuery
-        (length (contents_of (over lookout.old.2.0 lookout.old.2.1)).trees) query }
-    requires entries { AreTrueAt lookout.old (contents_of (over lookout.old.2.0 lookout.old.2.1))
+    requires query_in { IsKnownQuery (length (layers_contents lookout.old.terms).trees) query }
+    requires entries { AreTrueAt lookout.old (layers_contents lookout.old.terms)
         memo.old }
-    ensures answers { Answers (λ t. contents_of (over t.0 t.1)) (λ t. t.0) lookout.old lookout.new
+    ensures answers { Answers layers_contents (λ l. l.base) lookout.old lookout.new
         memo.new result query }
     ensures kept { AnswersKept lookout.old lookout.new memo.old result query }
 {

@@ -57,9 +57,9 @@ fn first_step<T: Terms>(
     query: Query<u64>,
     deep: bool,
 ) -> Result<AnyNext, Stop>
-    requires query_in { IsKnownQuery (length (T.contents lookout.old.2).trees) query }
+    requires query_in { IsKnownQuery (length (T.contents lookout.old.terms).trees) query }
     ensures opens { Opens T.contents T.rest lookout.old lookout.new result query }
-    ensures nothing_left { lookout.old.3.left ≡ 0 → result ≡ Err Stop.Spent }
+    ensures nothing_left { lookout.old.meter.left ≡ 0 → result ≡ Err Stop.Spent }
 {
     pay(lookout, 1, None)?;
     Ok(start(lookout, query, deep)?)
@@ -84,12 +84,12 @@ pub(crate) fn known<T: Terms>(
     memo: &mut PrivateMemo,
     query: Query<u64>,
 ) -> Option<Kept>
-    requires query_in { IsKnownQuery (length (T.contents lookout.now.2).trees) query }
-    requires entries { AreTrueAt lookout.now (T.contents lookout.now.2) memo.old }
-    ensures kept { IfSome result (IsTrueAt (place_of lookout.now) (T.contents lookout.now.2)
+    requires query_in { IsKnownQuery (length (T.contents lookout.now.terms).trees) query }
+    requires entries { AreTrueAt lookout.now (T.contents lookout.now.terms) memo.old }
+    ensures kept { IfSome result (IsTrueAt (place_of lookout.now) (T.contents lookout.now.terms)
         query) }
     ensures none { result ≡ None → kept_of memo.old query ≡ None }
-    ensures entries { AreTrueAt lookout.now (T.contents lookout.now.2) memo.new }
+    ensures entries { AreTrueAt lookout.now (T.contents lookout.now.terms) memo.new }
 {
     match at_once(lookout, query) {
         Some(kept) => Some(kept),
@@ -109,11 +109,11 @@ fn keep<T: Terms>(
     answer: Answer<u64>,
     least: u128,
 )
-    requires { lookout.now.3.left ≤ budget }
+    requires { lookout.now.meter.left ≤ budget }
     ensures { Keeps memo.old memo.new query (record {
       answer = answer;
-      cost = budget - lookout.now.3.left;
-      top = lookout.now.3.last;
+      cost = budget - lookout.now.meter.left;
+      top = lookout.now.meter.last;
     }) }
 {
     let cost = budget - left(lookout);
@@ -126,7 +126,7 @@ fn keep<T: Terms>(
 /// Whether a question is for the type of a constant at levels: it costs one step, but the levels are
 /// put into the whole type.
 fn is_at_levels<T: Terms>(lookout: &Lookout<'_, T>, query: Query<u64>) -> bool
-    requires query_in { IsKnownQuery (length (T.contents lookout.now.2).trees) query }
+    requires query_in { IsKnownQuery (length (T.contents lookout.now.terms).trees) query }
 {
     match query {
         Query::Infer(e) => match lookout.terms.view(e) {
@@ -150,10 +150,10 @@ fn first_kept<T: Terms>(
     query: Query<u64>,
     trial: u64,
 ) -> Result<AnyNext, Stop>
-    requires query_in { IsKnownQuery (length (T.contents lookout.old.2).trees) query }
-    requires entries { AreTrueAt lookout.old (T.contents lookout.old.2) memo.old }
+    requires query_in { IsKnownQuery (length (T.contents lookout.old.terms).trees) query }
+    requires entries { AreTrueAt lookout.old (T.contents lookout.old.terms) memo.old }
     ensures opens { Opens T.contents T.rest lookout.old lookout.new result query }
-    ensures entries { AreTrueAt lookout.old (T.contents lookout.new.2) memo.new }
+    ensures entries { AreTrueAt lookout.old (T.contents lookout.new.terms) memo.new }
 {
     let budget = left(lookout);
     let deep = pay_if_deep(lookout, memo, pace, query, trial);
@@ -175,10 +175,10 @@ fn open<T: Terms>(
     query: Query<u64>,
     trial: u64,
 ) -> Result<AnyNext, Stop>
-    requires query_in { IsKnownQuery (length (T.contents lookout.old.2).trees) query }
-    requires entries { AreTrueAt lookout.old (T.contents lookout.old.2) memo.old }
+    requires query_in { IsKnownQuery (length (T.contents lookout.old.terms).trees) query }
+    requires entries { AreTrueAt lookout.old (T.contents lookout.old.terms) memo.old }
     ensures opens { Opens T.contents T.rest lookout.old lookout.new result query }
-    ensures entries { AreTrueAt lookout.old (T.contents lookout.new.2) memo.new }
+    ensures entries { AreTrueAt lookout.old (T.contents lookout.new.terms) memo.new }
 {
     match known(lookout, memo, query) {
         Some(kept) => Ok(Next::Done(repeat(lookout, kept)?)),
@@ -193,8 +193,8 @@ fn work<T: Terms>(
     stack: &mut Stack,
     query: Query<u64>,
 ) -> Result<Answer<u64>, Stop>
-    requires query_in { IsKnownQuery (length (T.contents lookout.old.2).trees) query }
-    requires entries { AreTrueAt lookout.old (T.contents lookout.old.2) memo.old }
+    requires query_in { IsKnownQuery (length (T.contents lookout.old.terms).trees) query }
+    requires entries { AreTrueAt lookout.old (T.contents lookout.old.terms) memo.old }
     ensures { Answers T.contents T.rest lookout.old lookout.new memo.new result query }
 {
     stack.frames.clear();
@@ -267,8 +267,8 @@ pub fn answer<T: Terms>(
     stack: &mut Stack,
     query: Query<u64>,
 ) -> Result<Answer<u64>, Stop>
-    requires query_in { IsKnownQuery (length (T.contents lookout.old.2).trees) query }
-    requires entries { AreTrueAt lookout.old (T.contents lookout.old.2) memo.old }
+    requires query_in { IsKnownQuery (length (T.contents lookout.old.terms).trees) query }
+    requires entries { AreTrueAt lookout.old (T.contents lookout.old.terms) memo.old }
     ensures answers { Answers T.contents T.rest lookout.old lookout.new memo.new result query }
     ensures kept { AnswersKept lookout.old lookout.new memo.old result query }
 {

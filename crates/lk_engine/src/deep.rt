@@ -108,9 +108,9 @@ fn has_type_of<T: Terms>(
     function: u64,
     count: u64,
 ) -> bool
-    requires function_in { function < length (T.contents lookout.now.2).trees }
-    requires entries { AreTrueAt lookout.now (T.contents lookout.now.2) memo.old }
-    ensures { AreTrueAt lookout.now (T.contents lookout.now.2) memo.new }
+    requires function_in { function < length (T.contents lookout.now.terms).trees }
+    requires entries { AreTrueAt lookout.now (T.contents lookout.now.terms) memo.old }
+    ensures { AreTrueAt lookout.now (T.contents lookout.now.terms) memo.new }
 {
     count & count.saturating_sub(1) == 0 && known(lookout, memo, Query::Infer(function)).is_some()
 }
@@ -124,10 +124,10 @@ fn unknown_spine<T: Terms>(
     memo: &mut PrivateMemo,
     e: u64,
 ) -> Option<(u64, u64)>
-    requires e_in { e < length (T.contents lookout.now.2).trees }
-    requires entries { AreTrueAt lookout.now (T.contents lookout.now.2) memo.old }
-    ensures head { IfSome result (λ p. p.0 < length (T.contents lookout.now.2).trees) }
-    ensures entries { AreTrueAt lookout.now (T.contents lookout.now.2) memo.new }
+    requires e_in { e < length (T.contents lookout.now.terms).trees }
+    requires entries { AreTrueAt lookout.now (T.contents lookout.now.terms) memo.old }
+    ensures head { IfSome result (λ p. p.0 < length (T.contents lookout.now.terms).trees) }
+    ensures entries { AreTrueAt lookout.now (T.contents lookout.now.terms) memo.new }
 {
     let mut function = e;
     let mut ahead = e;
@@ -164,9 +164,9 @@ fn pay_for_spine<T: Terms>(
     e: u64,
     trial: u64,
 ) -> bool
-    requires e_in { e < length (T.contents lookout.now.2).trees }
-    requires entries { AreTrueAt lookout.now (T.contents lookout.now.2) memo.old }
-    ensures { AreTrueAt lookout.now (T.contents lookout.now.2) memo.new }
+    requires e_in { e < length (T.contents lookout.now.terms).trees }
+    requires entries { AreTrueAt lookout.now (T.contents lookout.now.terms) memo.old }
+    ensures { AreTrueAt lookout.now (T.contents lookout.now.terms) memo.new }
 {
     pace.note(lookout.terms.len());
     let most = pace.most(trial);
@@ -180,7 +180,7 @@ fn pay_for_spine<T: Terms>(
         return false;
     };
     if steps >= most {
-        pace.look(steps);
+        pace.spend_on_look(steps);
         return false;
     }
     pace.spend(arguments.saturating_mul(ARGUMENT).saturating_add(steps));
@@ -197,9 +197,9 @@ pub(crate) fn pay_if_deep<T: Terms>(
     query: Query<u64>,
     trial: u64,
 ) -> bool
-    requires query_in { IsKnownQuery (length (T.contents lookout.now.2).trees) query }
-    requires entries { AreTrueAt lookout.now (T.contents lookout.now.2) memo.old }
-    ensures { AreTrueAt lookout.now (T.contents lookout.now.2) memo.new }
+    requires query_in { IsKnownQuery (length (T.contents lookout.now.terms).trees) query }
+    requires entries { AreTrueAt lookout.now (T.contents lookout.now.terms) memo.old }
+    ensures { AreTrueAt lookout.now (T.contents lookout.now.terms) memo.new }
 {
     if trial == 0 {
         return false;

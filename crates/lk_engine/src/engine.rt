@@ -3,12 +3,13 @@
 
 ghost use Rattle.std.specs.Prelude.{◌≡◌, ◌<◌, [], map, All, OnOk, IfErr, IfSome};
 ghost use Rattle.lk_store.specs.Contents.{Extends};
-ghost use Rattle.lk_store.specs.Store.{over, contents_of};
+ghost use Rattle.lk_store.specs.Store.{contents_of};
 ghost use Rattle.lk_env.specs.Scopes.{alone_members};
 ghost use Rattle.lk_env.specs.Units.{type_at, IsTypeIn};
 ghost use Rattle.lk_ask.specs.Instances.{AreInstances};
 ghost use Rattle.lk_desk.specs.Job.{job_of};
 ghost use Rattle.lk_store.specs.Sizes.{sizes_of};
+ghost use Rattle.lk_store.specs.Layers.{layers_contents};
 ghost use Rattle.lk_engine.specs.Lookouts.{row_count, IsBounded, Tidies, Restarts, GivesMembers};
 
 use crate::families::family_of;
@@ -51,15 +52,11 @@ pub struct Engine<'a, K: Knows> {
 }
 
 impl<'a, K: Knows> Model for Engine<'a, K> {
-    ghost use Rattle.std.specs.Prelude.{List};
-    ghost use Rattle.lk_store.specs.declared.tables.Tables.{Tables};
-    ghost use Rattle.lk_env.specs.declared.entry.Site.{Site as LookedFrom};
-    ghost use Rattle.lk_env.specs.declared.unit.Unit.{Unit as StoredUnit};
-    ghost use Rattle.lk_meter.specs.declared.meter.Meter.{Meter as Metered};
+    ghost use Rattle.lk_store.specs.Layers.{Layers};
+    ghost use Rattle.lk_ask.specs.Outlook.{Outlook};
     ghost use Rattle.lk_engine.specs.Lookouts.{Stands};
 
-    ghost Value = { (Tables × List StoredUnit × (Tables × List StoredUnit) × List StoredUnit)
-        × LookedFrom × (Tables × Tables) × Metered };
+    ghost Value = { Outlook Layers };
 
     ghost view = { λ s. s.lookout };
 
@@ -81,8 +78,8 @@ impl<K: Knows> Drop for Engine<'_, K> {
 /// Forgets what units made, unless it may stay. Whether it does.
 fn tidy(terms: &mut Overlay<'_>, instances: &mut Instances, limit: &mut Limit) -> bool
     ensures tidies { Tidies terms.old terms.new result }
-    ensures instances { let before = contents_of (over terms.old.0 terms.old.1) in
-        let after = contents_of (over terms.new.0 terms.new.1) in
+    ensures instances { let before = layers_contents terms.old in
+        let after = layers_contents terms.new in
         AreInstances before instances.old.table → AreInstances after instances.new.table }
 {
     let (made, library) = (rows_of(terms.own_sizes()), rows_of(terms.base_sizes()));
@@ -102,7 +99,7 @@ fn restart<'a>(
     unit: u32,
     budget: u128,
 ) -> bool
-    requires { lookout.old.2.0 ≡ lookout.old.0.2.0 }
+    requires { lookout.old.terms.base ≡ lookout.old.scope.library.tables }
     ensures { Restarts lookout.old lookout.new unit budget result }
 {
     let partial = Partial::Nothing;
@@ -129,9 +126,9 @@ fn give_beside_in<'a>(
     partial: Partial,
     types: &[BlockType],
 ) -> Result<(), NoMemory>
-    requires { All (IsTypeIn (contents_of (over lookout.old.2.0 lookout.old.2.1))) types.now }
+    requires { All (IsTypeIn (layers_contents lookout.old.terms)) types.now }
     ensures gives { OnOk result (GivesMembers lookout.old lookout.new partial
-        (alone_members (map (type_at (contents_of (over lookout.old.2.0 lookout.old.2.1)))
+        (alone_members (map (type_at (layers_contents lookout.old.terms))
         types.now))) }
     ensures refused { IfErr result (λ e. lookout.new ≡ lookout.old) }
 {
@@ -143,7 +140,7 @@ fn give_beside_in<'a>(
 
 /// How many turns were taken.
 fn turns_of(lookout: &Lookout<'_, Overlay<'_>>) -> u64
-    ensures { result ≡ lookout.now.3.turns }
+    ensures { result ≡ lookout.now.meter.turns }
 {
     lookout.meter.turns
 }
@@ -152,14 +149,14 @@ impl<'a, K: Knows> Engine<'a, K> {
     /// An engine at the first unit, with nothing to spend. The memo is emptied. Answers are shared
     /// at a desk of the library, if there is one. It takes no memory.
     pub fn new(alloc: Global, library: &'a Library, knowledge: &'a mut K) -> Self
-        requires { IfSome (K.shared knowledge.old) (λ s. s.0 ≡ job_of library.now) }
-        ensures library { result.0.2 ≡ library.now }
-        ensures auxiliary { result.0.3 ≡ [] }
-        ensures unit { result.1.unit ≡ 0 }
-        ensures partial { result.1.partial ≡ Partial.Nothing }
-        ensures contents { contents_of (over result.2.0 result.2.1) ≡ contents_of library.now.0 }
-        ensures left { result.3.left ≡ 0 }
-        ensures turns { result.3.turns ≡ 0 }
+        requires { IfSome (K.shared knowledge.old) (λ s. s.job ≡ job_of library.now) }
+        ensures library { result.scope.library ≡ library.now }
+        ensures auxiliary { result.scope.auxiliary ≡ [] }
+        ensures unit { result.site.unit ≡ 0 }
+        ensures partial { result.site.partial ≡ Partial.Nothing }
+        ensures contents { layers_contents result.terms ≡ contents_of library.now.tables }
+        ensures left { result.meter.left ≡ 0 }
+        ensures turns { result.meter.turns ≡ 0 }
     {
         knowledge.begin(library.base().len());
         let terms = Overlay::new(alloc, library.base());
@@ -186,16 +183,16 @@ impl<'a, K: Knows> Engine<'a, K> {
     /// those over the library's own terms, or over terms that stay. It costs nothing that grows
     /// with the library.
     pub fn start(&mut self, unit: u32, budget: u128)
-        ensures library { self.new.0.2 ≡ self.old.0.2 }
-        ensures auxiliary { self.new.0.3 ≡ [] }
-        ensures unit { self.new.1.unit ≡ unit }
-        ensures partial { self.new.1.partial ≡ Partial.Nothing }
-        ensures contents { Extends (contents_of self.old.0.2.0)
-            (contents_of (over self.new.2.0 self.new.2.1)) }
-        ensures bounded { IsBounded (row_count (sizes_of self.new.2.1))
-            (row_count (sizes_of self.old.0.2.0)) }
-        ensures left { self.new.3.left ≡ budget }
-        ensures turns { self.new.3.turns ≡ 0 }
+        ensures library { self.new.scope.library ≡ self.old.scope.library }
+        ensures auxiliary { self.new.scope.auxiliary ≡ [] }
+        ensures unit { self.new.site.unit ≡ unit }
+        ensures partial { self.new.site.partial ≡ Partial.Nothing }
+        ensures contents { Extends (contents_of self.old.scope.library.tables)
+            (layers_contents self.new.terms) }
+        ensures bounded { IsBounded (row_count (sizes_of self.new.terms.own))
+            (row_count (sizes_of self.old.scope.library.tables)) }
+        ensures left { self.new.meter.left ≡ budget }
+        ensures turns { self.new.meter.turns ≡ 0 }
     {
         let stays = restart(&mut self.lookout, &mut self.limit, unit, budget);
         let terms = self.lookout.len();
@@ -213,22 +210,22 @@ impl<'a, K: Knows> Engine<'a, K> {
     /// How many questions were opened for the unit that was begun last, those of which an answer
     /// was kept among them. At the greatest number it stays.
     pub fn turns(&self) -> u64
-        ensures { result ≡ self.now.3.turns }
+        ensures { result ≡ self.now.meter.turns }
     {
         turns_of(&self.lookout)
     }
 }
 
 impl<'a, K: Knows> Terms for Engine<'a, K> {
-    ghost use Rattle.lk_store.specs.Store.{over, contents_of};
+    ghost use Rattle.lk_store.specs.Layers.{layers_contents};
 
     /// All but the terms: the scope, from where it is seen, what is left of the budget, and the
     /// library's tables.
     type Rest = (Scope<'a>, Site, Meter, Tables);
 
-    ghost rest = { λ s. (s.0, s.1, s.3, s.2.0) };
+    ghost rest = { λ s. (s.scope, s.site, s.meter, s.terms.base) };
 
-    ghost contents = { λ s. contents_of (over s.2.0 s.2.1) };
+    ghost contents = { λ s. layers_contents s.terms };
 
     fn len(&self) -> u64 {
         self.lookout.len()
@@ -330,9 +327,9 @@ impl<'a, K: Knows> Asks for Engine<'a, K> {
     /// The library and the number of the unit at work.
     type Basis = (Library, u32);
 
-    ghost standing = { λ s. standing_at s.0 s.1 };
+    ghost standing = { λ s. standing_at s.scope s.site };
 
-    ghost left = { λ s. s.3.left };
+    ghost left = { λ s. s.meter.left };
 
     ghost places = { places_at };
 

@@ -37,10 +37,10 @@ pub fn family_of<T: Terms>(
     alloc: Global,
     name: u64,
 ) -> Result<Option<Family>, Stop>
-    requires { name < length (T.contents lookout.now.2).names }
-    ensures known { IfOk result (λ o. IfSome o (IsFamilyIn (T.contents lookout.now.2))) }
-    ensures family { HasFamily (place_of lookout.now) (name_at (T.contents lookout.now.2) name)
-        (T.contents lookout.now.2) result }
+    requires { name < length (T.contents lookout.now.terms).names }
+    ensures known { IfOk result (λ o. IfSome o (IsFamilyIn (T.contents lookout.now.terms))) }
+    ensures family { HasFamily (place_of lookout.now) (name_at (T.contents lookout.now.terms) name)
+        (T.contents lookout.now.terms) result }
 {
     match lookout.means(name) {
         Err(rule) => Err(Stop::No(rule)),

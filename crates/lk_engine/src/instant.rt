@@ -1,6 +1,6 @@
 //! Questions whose answer is at hand: it takes no look-up, and no term is made.
 
-ghost use Rattle.std.specs.Prelude.{◌≡◌, ◌<◌, ℕ, None, true, length, IfSome};
+ghost use Rattle.std.specs.Prelude.{◌≡◌, ◌<◌, None, true, length, IfSome};
 ghost use Rattle.lk_store.specs.Contents.{Contents, tree_at, tree_of};
 ghost use Rattle.lk_ask.specs.Questions.{IsKnownQuery};
 ghost use Rattle.lk_ask.specs.declared.query.Answer.TheVariants.{Term, Truth};
@@ -35,8 +35,8 @@ fn is_form(node: Node) -> bool
 /// A weak head form as its own answer, at this cost.
 #[inline(always)]
 fn as_form<T: Terms>(lookout: &Lookout<'_, T>, e: u64, cost: u128) -> Option<Kept>
-    requires { e < length (T.contents lookout.now.2).trees }
-    ensures form { IfSome result (λ k. IsForm (tree_at (T.contents lookout.now.2) e)) }
+    requires { e < length (T.contents lookout.now.terms).trees }
+    ensures form { IfSome result (λ k. IsForm (tree_at (T.contents lookout.now.terms) e)) }
     ensures is { IfSome result (λ k. k ≡ record { answer = Term e; cost = cost; top = None }) }
 {
     if is_form(lookout.terms.view(e)) {
@@ -53,8 +53,8 @@ fn as_form<T: Terms>(lookout: &Lookout<'_, T>, e: u64, cost: u128) -> Option<Kep
 /// The type of a Local, which costs one step.
 #[inline(always)]
 fn type_of_local<T: Terms>(lookout: &Lookout<'_, T>, e: u64) -> Option<Kept>
-    requires { e < length (T.contents lookout.now.2).trees }
-    ensures { IfSome result (IsTypeOf (T.contents lookout.now.2) e) }
+    requires { e < length (T.contents lookout.now.terms).trees }
+    ensures { IfSome result (IsTypeOf (T.contents lookout.now.terms) e) }
 {
     match lookout.terms.view(e) {
         Node::Local(_, ty) => Some(Kept {
@@ -69,10 +69,10 @@ fn type_of_local<T: Terms>(lookout: &Lookout<'_, T>, e: u64) -> Option<Kept>
 /// Whether two terms are one, which costs one step.
 #[inline(always)]
 fn as_one<T: Terms>(lookout: &Lookout<'_, T>, a: u64, b: u64) -> Option<Kept>
-    requires a_in { a < length (T.contents lookout.now.2).trees }
-    requires b_in { b < length (T.contents lookout.now.2).trees }
-    ensures one { IfSome result (λ k. tree_at (T.contents lookout.now.2) a
-        ≡ tree_at (T.contents lookout.now.2) b) }
+    requires a_in { a < length (T.contents lookout.now.terms).trees }
+    requires b_in { b < length (T.contents lookout.now.terms).trees }
+    ensures one { IfSome result (λ k. tree_at (T.contents lookout.now.terms) a
+        ≡ tree_at (T.contents lookout.now.terms) b) }
     ensures is { IfSome result (λ k. k ≡ record { answer = Truth true; cost = 1; top = None }) }
 {
     if lookout.terms.same(a, b) {
@@ -89,8 +89,8 @@ fn as_one<T: Terms>(lookout: &Lookout<'_, T>, a: u64, b: u64) -> Option<Kept>
 /// The answer of a question that is at hand. To look it up in the memo would take longer.
 #[inline(always)]
 pub fn at_once<T: Terms>(lookout: &Lookout<'_, T>, query: Query<u64>) -> Option<Kept>
-    requires { IsKnownQuery (length (T.contents lookout.now.2).trees) query }
-    ensures { IfSome result (IsTrueAt (place_of lookout.now) (T.contents lookout.now.2) query) }
+    requires { IsKnownQuery (length (T.contents lookout.now.terms).trees) query }
+    ensures { IfSome result (IsTrueAt (place_of lookout.now) (T.contents lookout.now.terms) query) }
 {
     match query {
         Query::Core(e) => as_form(lookout, e, 1),

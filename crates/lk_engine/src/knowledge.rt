@@ -1,7 +1,7 @@
 //! What an engine knows and works with beside its terms.
 
 ghost use Rattle.std.specs.Prelude.{◌≡◌, Option, None, Some, length, option_map};
-ghost use Rattle.lk_store.specs.Store.{over, contents_of};
+ghost use Rattle.lk_store.specs.Layers.{layers_contents};
 ghost use Rattle.lk_ask.specs.declared.kept.Kept.{Kept as Answered};
 ghost use Rattle.lk_ask.specs.Questions.{IsKnownQuery};
 ghost use Rattle.lk_memo.specs.declared.key.Key.{Key as Asked};
@@ -9,7 +9,8 @@ ghost use Rattle.lk_memo.specs.declared.memo.PrivateMemo.{PrivateMemo as Memo};
 ghost use Rattle.lk_memo.specs.Lasting.{BeginsWith, GoesOn};
 ghost use Rattle.lk_memo.specs.Entries.{Holds};
 ghost use Rattle.lk_engine.specs.Lookouts.{Answers, BeginsUnit, Stands};
-ghost use Rattle.lk_engine.specs.Shares.{Shared, shared_from};
+ghost use Rattle.lk_engine.specs.Shares.{shared_from};
+ghost use Rattle.lk_engine.specs.Shared.{Shared};
 
 use crate::alone::Sharing;
 use crate::answering::Stack;
@@ -58,10 +59,9 @@ pub trait Knows {
         lookout: &mut Lookout<'a, Overlay<'a>>,
         query: Query<u64>,
     ) -> Result<Answer<u64>, Stop>
-        requires query_in { IsKnownQuery
-            (length (contents_of (over lookout.old.2.0 lookout.old.2.1)).trees) query }
+        requires query_in { IsKnownQuery (length (layers_contents lookout.old.terms).trees) query }
         requires stands { Stands lookout.old (memo self.old) (shared self.old) }
-        ensures answers { Answers (λ t. contents_of (over t.0 t.1)) (λ t. t.0) lookout.old
+        ensures answers { Answers layers_contents (λ l. l.base) lookout.old
             lookout.new (memo self.new) result query }
         ensures share { shared self.new ≡ shared self.old };
 }

@@ -15,11 +15,11 @@ use lk_tree::rule::Rule;
 /// The number of parameters of the type of a block that the name means; none where it means
 /// something else. Nothing is noted, and it takes no memory.
 pub fn parameters_at<T: Terms>(lookout: &Lookout<'_, T>, name: u64) -> Result<Option<u64>, Rule>
-    requires { name < length (T.contents lookout.now.2).names }
+    requires { name < length (T.contents lookout.now.terms).names }
     ensures found { IfOk result (HasParameters (place_of lookout.now)
-        (name_at (T.contents lookout.now.2) name)) }
+        (name_at (T.contents lookout.now.terms) name)) }
     ensures refused { IfErr result (IsRefused (place_of lookout.now)
-        (name_at (T.contents lookout.now.2) name)) }
+        (name_at (T.contents lookout.now.terms) name)) }
 {
     let entry = lookout.means(name)?;
     Ok(parameter_count(lookout.scope(), entry))

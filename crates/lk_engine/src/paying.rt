@@ -10,21 +10,21 @@ use lk_store::terms::Terms;
 
 /// How many steps are left.
 pub(crate) fn left<T: Terms>(lookout: &Lookout<'_, T>) -> u128
-    ensures { result ≡ lookout.now.3.left }
+    ensures { result ≡ lookout.now.meter.left }
 {
     lookout.meter.left
 }
 
 /// How many turns were taken.
 pub(crate) fn turns<T: Terms>(lookout: &Lookout<'_, T>) -> u64
-    ensures { result ≡ lookout.now.3.turns }
+    ensures { result ≡ lookout.now.meter.turns }
 {
     lookout.meter.turns
 }
 
 /// The last unit that was looked at for the question that is at work.
 pub(crate) fn last<T: Terms>(lookout: &Lookout<'_, T>) -> Option<u32>
-    ensures { result ≡ lookout.now.3.last }
+    ensures { result ≡ lookout.now.meter.last }
 {
     lookout.meter.last
 }
@@ -47,8 +47,8 @@ pub(crate) fn pay<T: Terms>(
 /// Notes what was looked at before.
 pub(crate) fn note_before<T: Terms>(lookout: &mut Lookout<'_, T>, before: Option<u32>)
     ensures stays { Metered lookout.old lookout.new }
-    ensures left { lookout.new.3.left ≡ lookout.old.3.left }
-    ensures last { lookout.new.3.last ≡ later before lookout.old.3.last }
+    ensures left { lookout.new.meter.left ≡ lookout.old.meter.left }
+    ensures last { lookout.new.meter.last ≡ later before lookout.old.meter.last }
 {
     lookout.meter.note_before(before);
 }

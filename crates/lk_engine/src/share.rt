@@ -1,8 +1,9 @@
 //! A desk where workers share answers, as one of them looks there and leaves there.
 
-ghost use Rattle.std.specs.Prelude.{◌≡◌, ℕ, Some, None, true, length, IfSome};
+ghost use Rattle.std.specs.Prelude.{◌≡◌, Some, None, true, length, IfSome};
 ghost use Rattle.lk_store.specs.Contents.{Extends};
-ghost use Rattle.lk_store.specs.Store.{over, contents_of};
+ghost use Rattle.lk_store.specs.Store.{contents_of};
+ghost use Rattle.lk_store.specs.Layers.{layers_contents};
 ghost use Rattle.lk_ask.specs.Questions.{IsKnownQuery};
 ghost use Rattle.lk_desk.specs.Seats.{job, Sits};
 ghost use Rattle.lk_desk.specs.Truth.{IsTablesOf};
@@ -35,14 +36,12 @@ pub struct Share<'a> {
 }
 
 impl<'a> Model for Share<'a> {
-    ghost use Rattle.std.specs.Prelude.{List, Option, ℕ};
-    ghost use Rattle.lk_store.specs.declared.tables.Tables.{Tables};
-    ghost use Rattle.lk_env.specs.declared.unit.Unit.{Unit as StoredUnit};
+    ghost use Rattle.lk_engine.specs.Shared.{Shared};
     ghost use Rattle.lk_desk.specs.Seats.{job, Sits};
 
-    ghost Value = { Option (Tables × List StoredUnit) × Option ℕ };
+    ghost Value = { Shared };
 
-    ghost view = { λ s. (job s.answers.now.desk, s.unit) };
+    ghost view = { λ s. record { job = job s.answers.now.desk; unit = s.unit } };
 
     ghost invariant = { λ s. Sits s.seat s.answers.now.desk };
 }
@@ -59,7 +58,7 @@ impl<'a> Share<'a> {
     /// A seat there. No unit looks.
     pub fn new(answers: &'a AnswerDesk, seat: Seat) -> Self
         requires { Sits seat answers.now.desk }
-        ensures { result ≡ (job answers.now.desk, None) }
+        ensures { result ≡ record { job = job answers.now.desk; unit = None } }
     {
         Share {
             answers,
@@ -71,7 +70,7 @@ impl<'a> Share<'a> {
     /// One more seat there, if it is to be had. No unit looks from it.
     pub fn split(&mut self) -> Option<Share<'a>>
         ensures share { self.new ≡ self.old }
-        ensures job { IfSome result (λ s. s.0 ≡ self.old.0) }
+        ensures job { IfSome result (λ s. s.job ≡ self.old.job) }
     {
         let seat = self.answers.desk.split(&mut self.seat)?;
         Some(Share::new(self.answers, seat))
@@ -79,7 +78,7 @@ impl<'a> Share<'a> {
 
     /// Whether the answer of a question is shared: a unit looks, and its terms are the library's.
     pub fn is_for(&self, terms: &Overlay<'_>, query: Query<u64>) -> bool
-        ensures { result ≡ true → IsFor self.now (length (contents_of terms.now.0).trees) query }
+        ensures { result ≡ true → IsFor self.now (length (contents_of terms.now.base).trees) query }
     {
         match self.unit {
             None => false,
@@ -106,15 +105,12 @@ impl<'a> Share<'a> {
         terms: &mut Overlay<'_>,
         query: Query<u64>,
     ) -> Option<Kept>
-        requires tables { IsTablesOf self.old.0 terms.old.0 }
-        requires over { Extends (contents_of terms.old.0)
-            (contents_of (over terms.old.0 terms.old.1)) }
+        requires tables { IsTablesOf self.old.job terms.old.base }
+        requires over { Extends (contents_of terms.old.base) (layers_contents terms.old) }
         ensures share { self.new ≡ self.old }
-        ensures keeps { Extends (contents_of (over terms.old.0 terms.old.1))
-            (contents_of (over terms.new.0 terms.new.1)) }
-        ensures base { terms.new.0 ≡ terms.old.0 }
-        ensures found { IfSome result (IsShared self.old
-            (contents_of (over terms.new.0 terms.new.1)) query) }
+        ensures keeps { Extends (layers_contents terms.old) (layers_contents terms.new) }
+        ensures base { terms.new.base ≡ terms.old.base }
+        ensures found { IfSome result (IsShared self.old (layers_contents terms.new) query) }
     {
         let unit = self.unit?;
         match self
@@ -130,11 +126,10 @@ impl<'a> Share<'a> {
     /// Leaves an answer at the desk. Where it is too wide, its shard is out, or no room or memory
     /// is there, it is not left.
     pub fn leave(&mut self, alloc: Global, terms: &Overlay<'_>, query: Query<u64>, kept: Kept)
-        requires tables { IsTablesOf self.old.0 terms.now.0 }
-        requires over { Extends (contents_of terms.now.0)
-            (contents_of (over terms.now.0 terms.now.1)) }
-        requires query_in { IsKnownQuery (length (contents_of terms.now.0).trees) query }
-        requires lasts { LastsAt self.old.0 (contents_of (over terms.now.0 terms.now.1)) query
+        requires tables { IsTablesOf self.old.job terms.now.base }
+        requires over { Extends (contents_of terms.now.base) (layers_contents terms.now) }
+        requires query_in { IsKnownQuery (length (contents_of terms.now.base).trees) query }
+        requires lasts { LastsAt self.old.job (layers_contents terms.now) query
             kept }
         ensures share { self.new ≡ self.old }
     {

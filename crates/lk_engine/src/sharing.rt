@@ -3,7 +3,8 @@
 
 ghost use Rattle.std.specs.Prelude.{◌≡◌, Some, None, length, IfOk, IfSome};
 ghost use Rattle.lk_store.specs.Contents.{Extends};
-ghost use Rattle.lk_store.specs.Store.{over, contents_of};
+ghost use Rattle.lk_store.specs.Store.{contents_of};
+ghost use Rattle.lk_store.specs.Layers.{layers_contents};
 ghost use Rattle.lk_ask.specs.Questions.{IsKnownQuery};
 ghost use Rattle.lk_engine.specs.Entries.{IsTrueAt, StillHas};
 ghost use Rattle.lk_engine.specs.Lookouts.{place_of, Stays, Fetches, IsWorkedOut, Repeats};
@@ -27,14 +28,14 @@ fn look_up<'a>(
     query: Query<u64>,
 ) -> Option<Kept>
     requires shares { Shares lookout.old share.old }
-    requires base { lookout.old.2.0 ≡ lookout.old.0.2.0 }
-    requires over { Extends (contents_of lookout.old.2.0)
-        (contents_of (over lookout.old.2.0 lookout.old.2.1)) }
-    ensures stays { Stays (λ t. contents_of (over t.0 t.1)) (λ t. t.0) lookout.old lookout.new }
-    ensures meter { lookout.new.3 ≡ lookout.old.3 }
+    requires base { lookout.old.terms.base ≡ lookout.old.scope.library.tables }
+    requires over { Extends (contents_of lookout.old.terms.base)
+        (layers_contents lookout.old.terms) }
+    ensures stays { Stays layers_contents (λ l. l.base) lookout.old lookout.new }
+    ensures meter { lookout.new.meter ≡ lookout.old.meter }
     ensures share { share.new ≡ share.old }
     ensures found { IfSome result (IsTrueAt (place_of lookout.old)
-        (contents_of (over lookout.new.2.0 lookout.new.2.1)) query) }
+        (layers_contents lookout.new.terms) query) }
 {
     let alloc = lookout.alloc;
     share.look(alloc, &mut lookout.terms, query)
@@ -48,13 +49,12 @@ fn fetch_at<'a>(
     share: &mut Share<'_>,
     query: Query<u64>,
 ) -> Option<Kept>
-    requires query_in { IsKnownQuery
-        (length (contents_of (over lookout.old.2.0 lookout.old.2.1)).trees) query }
+    requires query_in { IsKnownQuery (length (layers_contents lookout.old.terms).trees) query }
     requires stands { Stands lookout.old memo.old (Some share.old) }
     ensures fetches { Fetches lookout.old lookout.new memo.new }
     ensures share { share.new ≡ share.old }
     ensures found { IfSome result (IsTrueAt (place_of lookout.old)
-        (contents_of (over lookout.new.2.0 lookout.new.2.1)) query) }
+        (layers_contents lookout.new.terms) query) }
     ensures lacks { result ≡ None → StillHas memo.old memo.new query }
 {
     if !share.is_for(&lookout.terms, query) {
@@ -79,13 +79,12 @@ fn fetch<'a>(
     share: &mut Share<'_>,
     query: Query<u64>,
 ) -> Option<Kept>
-    requires query_in { IsKnownQuery
-        (length (contents_of (over lookout.old.2.0 lookout.old.2.1)).trees) query }
+    requires query_in { IsKnownQuery (length (layers_contents lookout.old.terms).trees) query }
     requires stands { Stands lookout.old memo.old (Some share.old) }
     ensures fetches { Fetches lookout.old lookout.new memo.new }
     ensures share { share.new ≡ share.old }
     ensures found { IfSome result (IsTrueAt (place_of lookout.old)
-        (contents_of (over lookout.new.2.0 lookout.new.2.1)) query) }
+        (layers_contents lookout.new.terms) query) }
     ensures lacks { result ≡ None → StillHas memo.old memo.new query }
 {
     if !share.has_any() {
@@ -105,12 +104,11 @@ fn offer_at<'a>(
     query: Query<u64>,
     kept: Kept,
 )
-    requires base { lookout.now.2.0 ≡ lookout.now.0.2.0 }
-    requires over { Extends (contents_of lookout.now.2.0)
-        (contents_of (over lookout.now.2.0 lookout.now.2.1)) }
+    requires base { lookout.now.terms.base ≡ lookout.now.scope.library.tables }
+    requires over { Extends (contents_of lookout.now.terms.base)
+        (layers_contents lookout.now.terms) }
     requires shares { Shares lookout.now share.old }
-    requires is { IsTrueAt (place_of lookout.now)
-        (contents_of (over lookout.now.2.0 lookout.now.2.1)) query kept }
+    requires is { IsTrueAt (place_of lookout.now) (layers_contents lookout.now.terms) query kept }
     ensures { share.new ≡ share.old }
 {
     if !share.is_for(&lookout.terms, query) {
@@ -135,9 +133,9 @@ fn offer<'a>(
     since: Since,
     outcome: &Result<Answer<u64>, Stop>,
 )
-    requires base { lookout.now.2.0 ≡ lookout.now.0.2.0 }
-    requires over { Extends (contents_of lookout.now.2.0)
-        (contents_of (over lookout.now.2.0 lookout.now.2.1)) }
+    requires base { lookout.now.terms.base ≡ lookout.now.scope.library.tables }
+    requires over { Extends (contents_of lookout.now.terms.base)
+        (layers_contents lookout.now.terms) }
     requires shares { Shares lookout.now share.old }
     requires worked { IfOk outcome.now (IsWorkedOut lookout.now since.budget query) }
     ensures { share.new ≡ share.old }
@@ -164,10 +162,9 @@ fn answer_and_offer<'a>(
     share: &mut Share<'_>,
     query: Query<u64>,
 ) -> Result<Answer<u64>, Stop>
-    requires query_in { IsKnownQuery
-        (length (contents_of (over lookout.old.2.0 lookout.old.2.1)).trees) query }
+    requires query_in { IsKnownQuery (length (layers_contents lookout.old.terms).trees) query }
     requires stands { Stands lookout.old memo.old (Some share.old) }
-    ensures answers { Answers (λ t. contents_of (over t.0 t.1)) (λ t. t.0) lookout.old lookout.new
+    ensures answers { Answers layers_contents (λ l. l.base) lookout.old lookout.new
         memo.new result query }
     ensures kept { AnswersKept lookout.old lookout.new memo.old result query }
     ensures share { share.new ≡ share.old }
@@ -190,12 +187,11 @@ fn answer_after<'a>(
     query: Query<u64>,
     found: Option<Kept>,
 ) -> Result<Answer<u64>, Stop>
-    requires query_in { IsKnownQuery
-        (length (contents_of (over lookout.old.2.0 lookout.old.2.1)).trees) query }
+    requires query_in { IsKnownQuery (length (layers_contents lookout.old.terms).trees) query }
     requires stands { Stands lookout.old memo.old (Some share.old) }
     requires found { IfSome found (IsTrueAt (place_of lookout.old)
-        (contents_of (over lookout.old.2.0 lookout.old.2.1)) query) }
-    ensures answers { Answers (λ t. contents_of (over t.0 t.1)) (λ t. t.0) lookout.old lookout.new
+        (layers_contents lookout.old.terms) query) }
+    ensures answers { Answers layers_contents (λ l. l.base) lookout.old lookout.new
         memo.new result query }
     ensures found { IfSome found (Repeats lookout.old lookout.new result) }
     ensures kept { found ≡ None → AnswersKept lookout.old lookout.new memo.old result query }
@@ -216,10 +212,9 @@ pub(crate) fn answer_shared<'a>(
     share: &mut Share<'_>,
     query: Query<u64>,
 ) -> Result<Answer<u64>, Stop>
-    requires query_in { IsKnownQuery
-        (length (contents_of (over lookout.old.2.0 lookout.old.2.1)).trees) query }
+    requires query_in { IsKnownQuery (length (layers_contents lookout.old.terms).trees) query }
     requires stands { Stands lookout.old memo.old (Some share.old) }
-    ensures answers { Answers (λ t. contents_of (over t.0 t.1)) (λ t. t.0) lookout.old lookout.new
+    ensures answers { Answers layers_contents (λ l. l.base) lookout.old lookout.new
         memo.new result query }
     ensures kept { AnswersKept lookout.old lookout.new memo.old result query }
     ensures share { share.new ≡ share.old }

@@ -2,14 +2,9 @@
 use Rattle.std.proofs.Common.{◌≡◌, ℕ, List, map, All, Option, Some, None, refl, sym, ap, subst, ◌∙◌, arith}
 use Rattle.std.specs.Prelude.{option_map}
 use Rattle.lk_rulebook.specs.Place.{Place}
-use Rattle.lk_inductive.specs.Enlarged.{Aux, Setting as PlainSetting}
+use Rattle.lk_inductive.specs.Enlarged.{Aux}
 use Rattle.lk_store.specs.Contents.{Contents, Extends}
 use Rattle.lk_env.proofs.Stays.{all_stay}
-use Rattle.lk_nested.specs.declared.swap.Pair.{Pair}
-use Rattle.lk_nested.specs.Joined.{AreMet}
-use Rattle.lk_nested.specs.Pairs.{pairs_at, ArePairsIn}
-use Rattle.lk_nested.specs.Swaps.{pairs-steady}
-use Rattle.lk_auxiliary.specs.declared.auxiliary.Auxiliary.{Auxiliary}
 use Rattle.lk_enlarge.specs.declared.draft.Draft.{Draft}
 use Rattle.lk_enlarge.specs.declared.draft.Outline.{Outline}
 use Rattle.lk_auxiliary.specs.declared.setting.Setting.{Setting}
@@ -47,12 +42,6 @@ module _ (c d : Contents) (x : Extends c d) where
     next_steady as_ =
         ap (λ y. next_nests y (setting_at d s) i as_) place
         ∙ ap (λ z. next_nests w z i as_) (setting_stays c d x s h)
-
-  -- what was met stays so
-  pub met_grown : (w : Place) (s : PlainSetting) (as_ : List Auxiliary) (ps : List Pair) → All (IsAuxiliaryIn c) as_ → ArePairsIn c ps → AreMet w s (auxs_at c as_) (pairs_at c ps) → AreMet w s (auxs_at d as_) (pairs_at d ps)
-  met_grown w s as_ ps as_in ps_in met =
-      subst (λ bs. AreMet w s bs (pairs_at d ps)) (sym (auxs_stay c d x as_ as_in))
-      (subst (AreMet w s (auxs_at c as_)) (sym (pairs-steady c d x ps ps_in)) met)
 
 -- an outline that was found is that of the auxiliary type of the number
 pub outlined_by : (p : Option PlainOutline) (o : Option Aux) (y : PlainOutline) → p ≡ option_map outline_of o → p ≡ Some y → (a : Aux) × (o ≡ Some a) × (outline_of a ≡ y)

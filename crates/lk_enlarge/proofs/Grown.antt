@@ -4,7 +4,7 @@ use Rattle.std.proofs.lemmas.List.{map-append}
 use Rattle.std.proofs.lemmas.List.Elements.{All-same, All-push}
 use Rattle.lk_tree.specs.Tree.{Tree, param}
 use Rattle.lk_rulebook.specs.Place.{Place}
-use Rattle.lk_inductive.specs.Enlarged.{Aux}
+use Rattle.lk_inductive.specs.Enlarged.{Aux, Setting as PlainSetting}
 use Rattle.lk_store.specs.Contents.{Contents, name_at, tree_at, Extends}
 use Rattle.lk_subst.specs.Numbers.{values-steady, values-known, trees-steady, trees-known}
 use Rattle.lk_nested.specs.declared.swap.Pair.{Pair}
@@ -15,10 +15,11 @@ use Rattle.lk_auxiliary.specs.declared.setting.Setting.{Setting}
 use Rattle.lk_auxiliary.specs.declared.auxiliary.Auxiliary.{Auxiliary}
 use Rattle.lk_auxiliary.specs.Auxiliaries.{auxs_at, IsAuxiliaryIn}
 use Rattle.lk_auxiliary.specs.Settings.{setting_at, IsSettingIn}
-use Rattle.lk_auxiliary.proofs.Others.{auxs_stay}
+use Rattle.lk_auxiliary.proofs.Others.{auxs_stay, auxs_known}
 use Rattle.lk_nested.proofs.Marking.{marks_stay, owns_stay}
-use Rattle.lk_enlarge.specs.declared.kept.Kept.{Kept}
-use Rattle.lk_enlarge.specs.Kept.{IsKept}
+use Rattle.lk_enlarge.specs.declared.visited.Visited.{Visited}
+use Rattle.lk_enlarge.specs.declared.occurrences.Occurrences.{Occurrences}
+use Rattle.lk_enlarge.specs.Occurrences.{IsVisited, AreOccurrences}
 
 module _ (c d : Contents) (x : Extends c d) where
   module _ (s : Setting) (h : IsSettingIn c s) where
@@ -39,28 +40,31 @@ module _ (c d : Contents) (x : Extends c d) where
       parameters_in = trees-known c d s.parameters.now x h.parameters_in;
     }
 
-    pub kept_stays : (k : Kept) → IsKept c s k → IsKept d s k
-    kept_stays k kept = record {
-      marks = marks_stay c d x s.names.now h.names_in k.marks kept.marks;
-      own = owns_stay c d x s.parameters.now h.parameters_in k.own kept.own;
+    pub visited_stays : (v : Visited) → IsVisited c s v → IsVisited d s v
+    visited_stays v visited = record {
+      marks = marks_stay c d x s.names.now h.names_in v.marks visited.marks;
+      own = owns_stay c d x s.parameters.now h.parameters_in v.own visited.own;
     }
 
     pub meets_steady : (v w : Place) → v ≡ w → (o : Tree) (as_ : List Aux) → meets v (setting_at d s) o as_ ≡ meets w (setting_at c s) o as_
     meets_steady v w place o as_ = ap (λ y. meets y (setting_at d s) o as_) place ∙ ap (λ s. meets w s o as_) setting_stays
 
     module _ (v w : Place) (place : v ≡ w) (as_ : List Auxiliary) (as_in : All (IsAuxiliaryIn c) as_) where
-      pub met_stays : (ps : List Pair) → ArePairsIn c ps → AreMet w (setting_at c s) (auxs_at c as_) (pairs_at c ps) → AreMet v (setting_at d s) (auxs_at d as_) (pairs_at d ps)
-      met_stays ps known met =
-          subst (λ y. AreMet y (setting_at d s) (auxs_at d as_) (pairs_at d ps)) (sym place)
-          (subst (λ z. AreMet w z (auxs_at d as_) (pairs_at d ps)) (sym setting_stays)
-          (subst (λ bs. AreMet w (setting_at c s) bs (pairs_at d ps)) (sym (auxs_stay c d x as_ as_in))
-          (subst (AreMet w (setting_at c s) (auxs_at c as_)) (sym (pairs-steady c d x ps known)) met)))
-
       pub nests_steady : (t : Tree) → nests v (setting_at d s) t (auxs_at d as_) ≡ nests w (setting_at c s) t (auxs_at c as_)
       nests_steady t =
           ap (λ y. nests y (setting_at d s) t (auxs_at d as_)) place
           ∙ ap (λ z. nests w z t (auxs_at d as_)) setting_stays
           ∙ ap (nests w (setting_at c s) t) (auxs_stay c d x as_ as_in)
+
+  -- what was met stays so
+  pub met_grown : (w : Place) (plain : PlainSetting) (s : Setting) → IsSettingIn c s → (m : Occurrences) → AreOccurrences w plain c s m → AreOccurrences w plain d s m
+  met_grown w plain s h m was = record {
+    auxs_in = auxs_known c d x m.auxs.items was.auxs_in;
+    pairs_in = pairs-known c d m.pairs.items x was.pairs_in;
+    visited_in = visited_stays s h m.visited was.visited_in;
+    met = subst (λ bs. AreMet w plain bs (pairs_at d m.pairs.items)) (sym (auxs_stay c d x m.auxs.items was.auxs_in))
+        (subst (AreMet w plain (auxs_at c m.auxs.items)) (sym (pairs-steady c d x m.pairs.items was.pairs_in)) was.met);
+  }
 
   module _ (ps qs : List Pair) (p : Pair) (pushed : qs ≡ ps ++ p ∷ []) (known : ArePairsIn c ps) where
     pub pushed_are : p.from < length c.trees → pairs_at d qs ≡ pairs_at c ps ++ (tree_at c p.from, tree_at d p.to) ∷ []

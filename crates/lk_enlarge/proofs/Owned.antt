@@ -1,14 +1,14 @@
 -- What is found of stated constructors and types, while the store grows.
 use Rattle.std.proofs.Common.{◌≡◌, List, sym, ap, subst, ◌∙◌, arith}
-use Rattle.lk_tree.specs.Tree.{Tree}
 use Rattle.lk_rulebook.specs.Place.{Place}
 use Rattle.lk_inductive.specs.Enlarged.{Aux}
-use Rattle.lk_nested.specs.Joined.{AreMet}
 use Rattle.lk_env.specs.declared.unit.Constructor.{Constructor}
 use Rattle.lk_env.specs.declared.unit.BlockType.{BlockType}
 use Rattle.lk_env.specs.Units.{constructor_at, type_at, IsConstructorIn, IsTypeIn}
 use Rattle.lk_store.specs.Contents.{Contents, Extends}
 use Rattle.lk_env.proofs.Stays.{constructor_stays, type_stays, names_in_stay}
+use Rattle.lk_enlarge.specs.declared.occurrences.Occurrences.{Occurrences}
+use Rattle.lk_enlarge.specs.Occurrences.{AreOccurrences}
 use Rattle.lk_enlarge.specs.Owns.{owns, type_owns}
 use Rattle.lk_auxiliary.specs.declared.setting.Setting.{Setting as CodeSetting}
 use Rattle.lk_auxiliary.specs.Settings.{setting_at, IsSettingIn}
@@ -38,8 +38,10 @@ constructor_known c d x k h = record {
   parent_in = let small = h.parent_in in let longer = x.names.longer in omega arith;
 }
 
-pub met_on : (c d : Contents) (x : Extends c d) (s : CodeSetting) (h : IsSettingIn c s) (v w : Place) → v ≡ w → (as_ : List Aux) (ps : List (Tree × Tree)) → AreMet w (setting_at c s) as_ ps → AreMet v (setting_at d s) as_ ps
-met_on c d x s h v w place as_ ps met = subst (λ y. AreMet y (setting_at d s) as_ ps) (sym place) (subst (λ z. AreMet w z as_ ps) (sym (setting_stays c d x s h)) met)
+-- what was met, at another place and setting that are the same
+module _ (c d : Contents) (x : Extends c d) (s : CodeSetting) (h : IsSettingIn c s) (v w : Place) (place : v ≡ w) (e : Contents) (m : Occurrences) where
+  pub met_on : AreOccurrences w (setting_at c s) e s m → AreOccurrences v (setting_at d s) e s m
+  met_on met = subst (λ y. AreOccurrences y (setting_at d s) e s m) (sym place) (subst (λ z. AreOccurrences w z e s m) (sym (setting_stays c d x s h)) met)
 
-pub met_back : (c d : Contents) (x : Extends c d) (s : CodeSetting) (h : IsSettingIn c s) (v w : Place) → v ≡ w → (as_ : List Aux) (ps : List (Tree × Tree)) → AreMet v (setting_at d s) as_ ps → AreMet w (setting_at c s) as_ ps
-met_back c d x s h v w place as_ ps met = subst (λ y. AreMet y (setting_at c s) as_ ps) place (subst (λ z. AreMet v z as_ ps) (setting_stays c d x s h) met)
+  pub met_back : AreOccurrences v (setting_at d s) e s m → AreOccurrences w (setting_at c s) e s m
+  met_back met = subst (λ y. AreOccurrences y (setting_at c s) e s m) place (subst (λ z. AreOccurrences v z e s m) (setting_stays c d x s h) met)

@@ -1,5 +1,5 @@
 pub mod Met
-pub mod Kept
+pub mod Occurrences
 pub mod Opened
 pub mod Owns
 pub mod Each

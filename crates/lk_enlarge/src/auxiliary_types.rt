@@ -4,28 +4,25 @@ ghost use Rattle.std.specs.Prelude.{◌≡◌, ◌<◌, length, map, option_map,
 ghost use Rattle.lk_nested.specs.Findings.{Finds};
 ghost use Rattle.lk_env.specs.Units.{constructor_at, type_at, IsConstructorIn, IsTypeIn};
 ghost use Rattle.lk_store.specs.Contents.{Contents, name_at, tree_at, Extends};
-ghost use Rattle.lk_nested.specs.Joined.{AreMet};
-ghost use Rattle.lk_nested.specs.Pairs.{pairs_at, ArePairsIn};
-ghost use Rattle.lk_auxiliary.specs.Auxiliaries.{auxs_at, IsAuxiliaryIn};
+ghost use Rattle.lk_auxiliary.specs.Auxiliaries.{auxs_at};
 ghost use Rattle.lk_enlarge.specs.Drafts.{draft_at, outline_at, IsDraftIn, IsOutlineIn};
 ghost use Rattle.lk_enlarge.specs.DraftsNested.{ctor_with, type_with, drafted, outlined};
-ghost use Rattle.lk_enlarge.specs.DraftsNested.{draft_nests, drafts_nest, outline_nests, next_nests, types_nest};
+ghost use Rattle.lk_enlarge.specs.DraftsNested.{draft_nests, drafts_nest, outline_nests};
+ghost use Rattle.lk_enlarge.specs.DraftsNested.{next_nests, types_nest};
 ghost use Rattle.lk_auxiliary.specs.Settings.{setting_at, IsSettingIn};
-ghost use Rattle.lk_enlarge.specs.Kept.{IsKept};
+ghost use Rattle.lk_enlarge.specs.Occurrences.{AreOccurrences};
 
 use crate::components::name_of_constructor;
 use crate::draft::{Draft, Outline, find_outline};
-use crate::kept::Kept;
 use crate::nest::nest;
+use crate::occurrences::Occurrences;
 use crate::past::over_locals;
 use lk_ask::stop::Stop;
-use lk_auxiliary::auxiliary::Auxiliary;
 use lk_auxiliary::made::MOST;
 use lk_auxiliary::naming::name_of_type;
 use lk_auxiliary::setting::Setting;
 use lk_env::unit::{BlockType, Constructor};
 use lk_family::Families;
-use lk_nested::swap::Pair;
 use lk_store::memory::NoMemory;
 use lk_store::terms::Terms;
 use lk_tree::rule::Rule;
@@ -89,41 +86,29 @@ fn nest_draft<F: Families>(
     alloc: Global,
     asks: &mut F,
     setting: &Setting<'_>,
-    auxs: &mut Vec<Auxiliary>,
-    pairs: &mut Vec<Pair>,
-    kept: &mut Kept,
+    met: &mut Occurrences,
     number: u64,
     draft: Draft,
 ) -> Result<Constructor, Stop>
     requires setting_in { IsSettingIn (F.contents asks.old) setting.now }
-    requires auxs_in { All (IsAuxiliaryIn (F.contents asks.old)) auxs.old.items }
-    requires pairs_in { ArePairsIn (F.contents asks.old) pairs.old.items }
-    requires kept_in { IsKept (F.contents asks.old) setting.now kept.old }
-    requires met { AreMet (F.standing asks.old).place
-        (setting_at (F.contents asks.old) setting.now)
-        (auxs_at (F.contents asks.old) auxs.old.items)
-        (pairs_at (F.contents asks.old) pairs.old.items) }
+    requires met { AreOccurrences (F.standing asks.old).place
+        (setting_at (F.contents asks.old) setting.now) (F.contents asks.old) setting.now met.old }
     requires draft_in { IsDraftIn (F.contents asks.old) draft }
     ensures keeps { Extends (F.contents asks.old) (F.contents asks.new) }
     ensures rest { F.rest asks.new ≡ F.rest asks.old }
     ensures made_known { IfOk result (IsConstructorIn (F.contents asks.new)) }
-    ensures known { OnOk result (All (IsAuxiliaryIn (F.contents asks.new)) auxs.new.items) }
-    ensures pairs_known { OnOk result (ArePairsIn (F.contents asks.new) pairs.new.items) }
-    ensures kept_in { OnOk result (IsKept (F.contents asks.new) setting.now kept.new) }
-    ensures met { OnOk result (AreMet (F.standing asks.old).place
-        (setting_at (F.contents asks.old) setting.now)
-        (auxs_at (F.contents asks.new) auxs.new.items)
-        (pairs_at (F.contents asks.new) pairs.new.items)) }
+    ensures met { OnOk result (AreOccurrences (F.standing asks.old).place
+        (setting_at (F.contents asks.old) setting.now) (F.contents asks.new) setting.now met.new) }
     ensures nests { Finds (draft_nests (F.standing asks.old).place
         (setting_at (F.contents asks.old) setting.now) number
-        (draft_at (F.contents asks.old) draft) (auxs_at (F.contents asks.old) auxs.old.items))
+        (draft_at (F.contents asks.old) draft) (auxs_at (F.contents asks.old) met.old.auxs.items))
         (λ k. (
           constructor_at (F.contents asks.new) k,
-          auxs_at (F.contents asks.new) auxs.new.items,
+          auxs_at (F.contents asks.new) met.new.auxs.items,
         ))
         result }
 {
-    let e = nest(alloc, asks, setting, auxs, pairs, kept, draft.ty)?;
+    let e = nest(alloc, asks, setting, met, draft.ty)?;
     Ok(constructor_of(alloc, asks, setting, number, draft, e)?)
 }
 
@@ -132,44 +117,32 @@ fn nest_drafts<F: Families>(
     alloc: Global,
     asks: &mut F,
     setting: &Setting<'_>,
-    auxs: &mut Vec<Auxiliary>,
-    pairs: &mut Vec<Pair>,
-    kept: &mut Kept,
+    met: &mut Occurrences,
     number: u64,
     drafts: &[Draft],
 ) -> Result<Vec<Constructor>, Stop>
     requires setting_in { IsSettingIn (F.contents asks.old) setting.now }
-    requires auxs_in { All (IsAuxiliaryIn (F.contents asks.old)) auxs.old.items }
-    requires pairs_in { ArePairsIn (F.contents asks.old) pairs.old.items }
-    requires kept_in { IsKept (F.contents asks.old) setting.now kept.old }
-    requires met { AreMet (F.standing asks.old).place
-        (setting_at (F.contents asks.old) setting.now)
-        (auxs_at (F.contents asks.old) auxs.old.items)
-        (pairs_at (F.contents asks.old) pairs.old.items) }
+    requires met { AreOccurrences (F.standing asks.old).place
+        (setting_at (F.contents asks.old) setting.now) (F.contents asks.old) setting.now met.old }
     requires drafts_in { All (IsDraftIn (F.contents asks.old)) drafts.now }
     ensures keeps { Extends (F.contents asks.old) (F.contents asks.new) }
     ensures rest { F.rest asks.new ≡ F.rest asks.old }
     ensures made_known { IfOk result (λ v. All (IsConstructorIn (F.contents asks.new)) v.items) }
-    ensures known { OnOk result (All (IsAuxiliaryIn (F.contents asks.new)) auxs.new.items) }
-    ensures pairs_known { OnOk result (ArePairsIn (F.contents asks.new) pairs.new.items) }
-    ensures kept_in { OnOk result (IsKept (F.contents asks.new) setting.now kept.new) }
-    ensures met { OnOk result (AreMet (F.standing asks.old).place
-        (setting_at (F.contents asks.old) setting.now)
-        (auxs_at (F.contents asks.new) auxs.new.items)
-        (pairs_at (F.contents asks.new) pairs.new.items)) }
+    ensures met { OnOk result (AreOccurrences (F.standing asks.old).place
+        (setting_at (F.contents asks.old) setting.now) (F.contents asks.new) setting.now met.new) }
     ensures nests { Finds (drafts_nest (F.standing asks.old).place
         (setting_at (F.contents asks.old) setting.now) number
         (map (draft_at (F.contents asks.old)) drafts.now)
-        (auxs_at (F.contents asks.old) auxs.old.items))
+        (auxs_at (F.contents asks.old) met.old.auxs.items))
         (λ v. (
           map (constructor_at (F.contents asks.new)) v.items,
-          auxs_at (F.contents asks.new) auxs.new.items,
+          auxs_at (F.contents asks.new) met.new.auxs.items,
         )) result }
 {
     let mut made: Vec<Constructor> = Vec::new(alloc);
     let mut left = drafts;
     'constructors: while let Some((first, more)) = left.split_first() {
-        let constructor = nest_draft(alloc, asks, setting, auxs, pairs, kept, number, *first)?;
+        let constructor = nest_draft(alloc, asks, setting, met, number, *first)?;
         match made.push(constructor) {
             Ok(_) => {}
             Err(_) => return Err(Stop::NoMemory),
@@ -236,40 +209,28 @@ fn nest_outline<F: Families>(
     alloc: Global,
     asks: &mut F,
     setting: &Setting<'_>,
-    auxs: &mut Vec<Auxiliary>,
-    pairs: &mut Vec<Pair>,
-    kept: &mut Kept,
+    met: &mut Occurrences,
     number: u64,
     outline: &Outline,
 ) -> Result<BlockType, Stop>
     requires setting_in { IsSettingIn (F.contents asks.old) setting.now }
-    requires auxs_in { All (IsAuxiliaryIn (F.contents asks.old)) auxs.old.items }
-    requires pairs_in { ArePairsIn (F.contents asks.old) pairs.old.items }
-    requires kept_in { IsKept (F.contents asks.old) setting.now kept.old }
-    requires met { AreMet (F.standing asks.old).place
-        (setting_at (F.contents asks.old) setting.now)
-        (auxs_at (F.contents asks.old) auxs.old.items)
-        (pairs_at (F.contents asks.old) pairs.old.items) }
+    requires met { AreOccurrences (F.standing asks.old).place
+        (setting_at (F.contents asks.old) setting.now) (F.contents asks.old) setting.now met.old }
     requires outline_in { IsOutlineIn (F.contents asks.old) outline.now }
     ensures keeps { Extends (F.contents asks.old) (F.contents asks.new) }
     ensures rest { F.rest asks.new ≡ F.rest asks.old }
     ensures made_known { IfOk result (IsTypeIn (F.contents asks.new)) }
-    ensures known { OnOk result (All (IsAuxiliaryIn (F.contents asks.new)) auxs.new.items) }
-    ensures pairs_known { OnOk result (ArePairsIn (F.contents asks.new) pairs.new.items) }
-    ensures kept_in { OnOk result (IsKept (F.contents asks.new) setting.now kept.new) }
-    ensures met { OnOk result (AreMet (F.standing asks.old).place
-        (setting_at (F.contents asks.old) setting.now)
-        (auxs_at (F.contents asks.new) auxs.new.items)
-        (pairs_at (F.contents asks.new) pairs.new.items)) }
+    ensures met { OnOk result (AreOccurrences (F.standing asks.old).place
+        (setting_at (F.contents asks.old) setting.now) (F.contents asks.new) setting.now met.new) }
     ensures nests { Finds (outline_nests (F.standing asks.old).place
         (setting_at (F.contents asks.old) setting.now) number
         (outline_at (F.contents asks.old) outline.now)
-        (auxs_at (F.contents asks.old) auxs.old.items))
-        (λ t. (type_at (F.contents asks.new) t, auxs_at (F.contents asks.new) auxs.new.items))
+        (auxs_at (F.contents asks.old) met.old.auxs.items))
+        (λ t. (type_at (F.contents asks.new) t, auxs_at (F.contents asks.new) met.new.auxs.items))
         result }
 {
     let drafts = &outline.constructors;
-    let constructors = nest_drafts(alloc, asks, setting, auxs, pairs, kept, number, drafts)?;
+    let constructors = nest_drafts(alloc, asks, setting, met, number, drafts)?;
     Ok(type_of(alloc, asks, setting, number, outline, constructors)?)
 }
 
@@ -278,41 +239,29 @@ fn nest_next<F: Families>(
     alloc: Global,
     asks: &mut F,
     setting: &Setting<'_>,
-    auxs: &mut Vec<Auxiliary>,
-    pairs: &mut Vec<Pair>,
-    kept: &mut Kept,
+    met: &mut Occurrences,
     number: u64,
 ) -> Result<Option<BlockType>, Stop>
     requires setting_in { IsSettingIn (F.contents asks.old) setting.now }
-    requires auxs_in { All (IsAuxiliaryIn (F.contents asks.old)) auxs.old.items }
-    requires pairs_in { ArePairsIn (F.contents asks.old) pairs.old.items }
-    requires kept_in { IsKept (F.contents asks.old) setting.now kept.old }
-    requires met { AreMet (F.standing asks.old).place
-        (setting_at (F.contents asks.old) setting.now)
-        (auxs_at (F.contents asks.old) auxs.old.items)
-        (pairs_at (F.contents asks.old) pairs.old.items) }
+    requires met { AreOccurrences (F.standing asks.old).place
+        (setting_at (F.contents asks.old) setting.now) (F.contents asks.old) setting.now met.old }
     ensures keeps { Extends (F.contents asks.old) (F.contents asks.new) }
     ensures rest { F.rest asks.new ≡ F.rest asks.old }
     ensures made_known { IfOk result (λ o. IfSome o (IsTypeIn (F.contents asks.new))) }
-    ensures known { OnOk result (All (IsAuxiliaryIn (F.contents asks.new)) auxs.new.items) }
-    ensures pairs_known { OnOk result (ArePairsIn (F.contents asks.new) pairs.new.items) }
-    ensures kept_in { OnOk result (IsKept (F.contents asks.new) setting.now kept.new) }
-    ensures met { OnOk result (AreMet (F.standing asks.old).place
-        (setting_at (F.contents asks.old) setting.now)
-        (auxs_at (F.contents asks.new) auxs.new.items)
-        (pairs_at (F.contents asks.new) pairs.new.items)) }
+    ensures met { OnOk result (AreOccurrences (F.standing asks.old).place
+        (setting_at (F.contents asks.old) setting.now) (F.contents asks.new) setting.now met.new) }
     ensures nests { Finds (next_nests (F.standing asks.old).place
         (setting_at (F.contents asks.old) setting.now) number
-        (auxs_at (F.contents asks.old) auxs.old.items))
+        (auxs_at (F.contents asks.old) met.old.auxs.items))
         (λ o. (
           option_map (type_at (F.contents asks.new)) o,
-          auxs_at (F.contents asks.new) auxs.new.items,
+          auxs_at (F.contents asks.new) met.new.auxs.items,
         )) result }
 {
-    match find_outline(alloc, auxs, number)? {
+    match find_outline(alloc, &met.auxs, number)? {
         None => Ok(None),
         Some(outline) => {
-            let ty = nest_outline(alloc, asks, setting, auxs, pairs, kept, number, &outline)?;
+            let ty = nest_outline(alloc, asks, setting, met, number, &outline)?;
             Ok(Some(ty))
         }
     }
@@ -323,40 +272,28 @@ pub fn auxiliary_types<F: Families>(
     alloc: Global,
     asks: &mut F,
     setting: &Setting<'_>,
-    auxs: &mut Vec<Auxiliary>,
-    pairs: &mut Vec<Pair>,
-    kept: &mut Kept,
+    met: &mut Occurrences,
 ) -> Result<Vec<BlockType>, Stop>
     requires setting_in { IsSettingIn (F.contents asks.old) setting.now }
-    requires auxs_in { All (IsAuxiliaryIn (F.contents asks.old)) auxs.old.items }
-    requires pairs_in { ArePairsIn (F.contents asks.old) pairs.old.items }
-    requires kept_in { IsKept (F.contents asks.old) setting.now kept.old }
-    requires met { AreMet (F.standing asks.old).place
-        (setting_at (F.contents asks.old) setting.now)
-        (auxs_at (F.contents asks.old) auxs.old.items)
-        (pairs_at (F.contents asks.old) pairs.old.items) }
+    requires met { AreOccurrences (F.standing asks.old).place
+        (setting_at (F.contents asks.old) setting.now) (F.contents asks.old) setting.now met.old }
     ensures keeps { Extends (F.contents asks.old) (F.contents asks.new) }
     ensures rest { F.rest asks.new ≡ F.rest asks.old }
     ensures made_known { IfOk result (λ v. All (IsTypeIn (F.contents asks.new)) v.items) }
-    ensures known { OnOk result (All (IsAuxiliaryIn (F.contents asks.new)) auxs.new.items) }
-    ensures pairs_known { OnOk result (ArePairsIn (F.contents asks.new) pairs.new.items) }
-    ensures kept_in { OnOk result (IsKept (F.contents asks.new) setting.now kept.new) }
-    ensures met { OnOk result (AreMet (F.standing asks.old).place
-        (setting_at (F.contents asks.old) setting.now)
-        (auxs_at (F.contents asks.new) auxs.new.items)
-        (pairs_at (F.contents asks.new) pairs.new.items)) }
+    ensures met { OnOk result (AreOccurrences (F.standing asks.old).place
+        (setting_at (F.contents asks.old) setting.now) (F.contents asks.new) setting.now met.new) }
     ensures nests { Finds (types_nest (F.standing asks.old).place
         (setting_at (F.contents asks.old) setting.now)
-        (auxs_at (F.contents asks.old) auxs.old.items))
+        (auxs_at (F.contents asks.old) met.old.auxs.items))
         (λ v. (
           map (type_at (F.contents asks.new)) v.items,
-          auxs_at (F.contents asks.new) auxs.new.items,
+          auxs_at (F.contents asks.new) met.new.auxs.items,
         )) result }
 {
     let mut made: Vec<BlockType> = Vec::new(alloc);
     let mut number = 0;
     'types: while number <= MOST {
-        match nest_next(alloc, asks, setting, auxs, pairs, kept, number)? {
+        match nest_next(alloc, asks, setting, met, number)? {
             None => return Ok(made),
             Some(ty) => match made.push(ty) {
                 Ok(_) => {}

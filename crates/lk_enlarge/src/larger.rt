@@ -1,6 +1,6 @@
 //! The larger block: a block whose nested occurrences have auxiliary types in their place, and these.
 
-ghost use Rattle.std.specs.Prelude.{◌≡◌, ◌<◌, length, map, All, IfOk, IfSome};
+ghost use Rattle.std.specs.Prelude.{◌≡◌, ◌<◌, [], length, map, All, IfOk, IfSome};
 ghost use Rattle.lk_inductive.specs.Nested.{enlarge as enlarged};
 ghost use Rattle.lk_nested.specs.Findings.{finding, Finds};
 ghost use Rattle.lk_nested.specs.Marks.{AreMarked};
@@ -10,11 +10,12 @@ ghost use Rattle.lk_mentions.specs.Names.{names_at};
 ghost use Rattle.lk_store.specs.Contents.{Extends};
 ghost use Rattle.lk_enlarge.specs.Larger.{larger_at, larger_or, ctors_hold, types_hold, IsLargerIn};
 ghost use Rattle.lk_auxiliary.specs.Settings.{setting_at, IsSettingIn};
-ghost use Rattle.lk_enlarge.specs.Kept.{IsKept};
+ghost use Rattle.lk_enlarge.specs.Occurrences.{AreOccurrences};
 
 use crate::auxiliary_types::auxiliary_types;
-use crate::kept::Kept;
+use crate::occurrences::Occurrences;
 use crate::types::own_types;
+use crate::visited::Visited;
 use lk_ask::asks::Asks;
 use lk_ask::stop::Stop;
 use lk_auxiliary::auxiliary::Auxiliary;
@@ -24,9 +25,9 @@ use lk_family::Families;
 use lk_mentions::names::Names;
 use lk_nested::marks::Mark;
 use lk_nested::nested::{Walked, holds_nested};
-use lk_nested::swap::Pair;
 use lk_rows::table::Table;
 use std::alloc::Global;
+use std::mem::replace;
 
 /// The block's own types with an auxiliary type in the place of each occurrence, the auxiliary types, and what each of these
 /// stands for.
@@ -107,11 +108,13 @@ fn make_larger<F: Families>(
     alloc: Global,
     asks: &mut F,
     setting: &Setting<'_>,
-    kept: &mut Kept,
+    met: &mut Occurrences,
     types: &[BlockType],
 ) -> Result<Larger, Stop>
     requires setting_in { IsSettingIn (F.contents asks.old) setting.now }
-    requires kept_in { IsKept (F.contents asks.old) setting.now kept.old }
+    requires met { AreOccurrences (F.standing asks.old).place
+        (setting_at (F.contents asks.old) setting.now) (F.contents asks.old) setting.now met.old }
+    requires none { met.old.auxs.items ≡ [] }
     requires types_in { All (IsTypeIn (F.contents asks.old)) types.now }
     ensures keeps { Extends (F.contents asks.old) (F.contents asks.new) }
     ensures rest { F.rest asks.new ≡ F.rest asks.old }
@@ -121,10 +124,9 @@ fn make_larger<F: Families>(
         (map (type_at (F.contents asks.old)) types.now)))
         (larger_at (F.contents asks.new)) result }
 {
-    let mut stand: Vec<Auxiliary> = Vec::new(alloc);
-    let mut pairs: Vec<Pair> = Vec::new(alloc);
-    let own = own_types(alloc, asks, setting, &mut stand, &mut pairs, kept, types)?;
-    let auxiliary = auxiliary_types(alloc, asks, setting, &mut stand, &mut pairs, kept)?;
+    let own = own_types(alloc, asks, setting, met, types)?;
+    let auxiliary = auxiliary_types(alloc, asks, setting, met)?;
+    let stand = replace(&mut met.auxs, Vec::new(alloc));
     Ok(Larger {
         own,
         auxiliary,
@@ -132,16 +134,18 @@ fn make_larger<F: Families>(
     })
 }
 
-/// The larger block, if any, by what is kept of the block's terms.
+/// The larger block, if any. No occurrence was met.
 fn enlarge_by<F: Families>(
     alloc: Global,
     asks: &mut F,
     setting: &Setting<'_>,
-    kept: &mut Kept,
+    met: &mut Occurrences,
     types: &[BlockType],
 ) -> Result<Option<Larger>, Stop>
     requires setting_in { IsSettingIn (F.contents asks.old) setting.now }
-    requires kept_in { IsKept (F.contents asks.old) setting.now kept.old }
+    requires met { AreOccurrences (F.standing asks.old).place
+        (setting_at (F.contents asks.old) setting.now) (F.contents asks.old) setting.now met.old }
+    requires none { met.old.auxs.items ≡ [] }
     requires types_in { All (IsTypeIn (F.contents asks.old)) types.now }
     ensures keeps { Extends (F.contents asks.old) (F.contents asks.new) }
     ensures rest { F.rest asks.new ≡ F.rest asks.old }
@@ -152,10 +156,10 @@ fn enlarge_by<F: Families>(
         (larger_or (F.contents asks.new) (map (type_at (F.contents asks.old)) types.now))
         result }
 {
-    if !types_hold(alloc, asks, setting.names, &mut kept.marks, types)? {
+    if !types_hold(alloc, asks, setting.names, &mut met.visited.marks, types)? {
         return Ok(None);
     }
-    let made = make_larger(alloc, asks, setting, kept, types)?;
+    let made = make_larger(alloc, asks, setting, met, types)?;
     Ok(Some(made))
 }
 
@@ -178,9 +182,13 @@ pub fn enlarge<F: Families>(
         (larger_or (F.contents asks.new) (map (type_at (F.contents asks.old)) types.now))
         result }
 {
-    let mut kept = Kept {
-        marks: Table::new(alloc),
-        own: Table::new(alloc),
+    let mut met = Occurrences {
+        auxs: Vec::new(alloc),
+        pairs: Vec::new(alloc),
+        visited: Visited {
+            marks: Table::new(alloc),
+            own: Table::new(alloc),
+        },
     };
-    enlarge_by(alloc, asks, setting, &mut kept, types)
+    enlarge_by(alloc, asks, setting, &mut met, types)
 }

@@ -9,12 +9,13 @@
 pub mod auxiliary_types;
 pub mod components;
 pub mod draft;
-pub mod kept;
 pub mod larger;
 pub mod meet;
 pub mod nest;
+pub mod occurrences;
 pub mod originals;
 pub mod own;
 pub mod past;
 pub mod sorts;
 pub mod types;
+pub mod visited;

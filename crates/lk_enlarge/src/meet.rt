@@ -9,13 +9,13 @@ ghost use Rattle.lk_nested.specs.Joined.{meets};
 ghost use Rattle.lk_nested.specs.Occurrences.{is_occurrence, test_at};
 ghost use Rattle.lk_auxiliary.specs.Auxiliaries.{auxs_at, IsAuxiliaryIn};
 ghost use Rattle.lk_auxiliary.specs.Settings.{setting_at, IsSettingIn};
-ghost use Rattle.lk_enlarge.specs.Kept.{IsKept};
+ghost use Rattle.lk_enlarge.specs.Occurrences.{IsVisited};
 
-use crate::kept::Kept;
+use crate::visited::Visited;
 use lk_ask::stop::Stop;
 use lk_auxiliary::among::{auxiliary_applied, number_of};
 use lk_auxiliary::auxiliary::Auxiliary;
-use lk_auxiliary::made::make;
+use lk_auxiliary::made::{Occurrence, make};
 use lk_auxiliary::setting::Setting;
 use lk_family::Families;
 use lk_nested::foreign::may_nest;
@@ -55,7 +55,14 @@ fn make_for<F: Families>(
     let start = head(asks, e);
     match asks.view(start) {
         Node::Const(name, list) => match asks.family(alloc, name)? {
-            Some(family) => make(alloc, asks, setting, auxs, name, list, arguments, &family),
+            Some(family) => {
+                let of = Occurrence {
+                    name,
+                    list,
+                    arguments,
+                };
+                make(alloc, asks, setting, auxs, &of, &family)
+            }
             None => unreachable!(),
         },
         _ => unreachable!(),
@@ -69,12 +76,12 @@ pub fn meet<F: Families>(
     asks: &mut F,
     setting: &Setting<'_>,
     auxs: &mut Vec<Auxiliary>,
-    kept: &mut Kept,
+    visited: &mut Visited,
     e: u64,
 ) -> Result<u64, Stop>
     requires setting_in { IsSettingIn (F.contents asks.old) setting.now }
     requires auxs_in { All (IsAuxiliaryIn (F.contents asks.old)) auxs.old.items }
-    requires kept_in { IsKept (F.contents asks.old) setting.now kept.old }
+    requires visited_in { IsVisited (F.contents asks.old) setting.now visited.old }
     requires e_in { e < length (F.contents asks.old).trees }
     requires occurs { is_occurrence (test_at (F.standing asks.old).place
         (names_at (F.contents asks.old) setting.now.names.now)
@@ -83,7 +90,7 @@ pub fn meet<F: Families>(
     ensures rest { F.rest asks.new ≡ F.rest asks.old }
     ensures tree_known { IfOk result (λ r. r < length (F.contents asks.new).trees) }
     ensures known { OnOk result (All (IsAuxiliaryIn (F.contents asks.new)) auxs.new.items) }
-    ensures kept_in { OnOk result (IsKept (F.contents asks.new) setting.now kept.new) }
+    ensures visited_in { OnOk result (IsVisited (F.contents asks.new) setting.now visited.new) }
     ensures meets { Finds (meets (F.standing asks.old).place
         (setting_at (F.contents asks.old) setting.now) (tree_at (F.contents asks.old) e)
         (auxs_at (F.contents asks.old) auxs.old.items))
@@ -91,7 +98,13 @@ pub fn meet<F: Families>(
         result }
 {
     let arguments = args(alloc, asks, e)?;
-    if !may_nest(alloc, asks, setting.parameters, &mut kept.own, &arguments)? {
+    if !may_nest(
+        alloc,
+        asks,
+        setting.parameters,
+        &mut visited.own,
+        &arguments,
+    )? {
         return Err(Stop::No(Rule::NestedForm));
     }
     match number_of(asks, auxs, e)? {

@@ -3,18 +3,16 @@
 ghost use Rattle.std.specs.Prelude.{◌≡◌, ◌<◌, length, All, IfOk, OnOk};
 ghost use Rattle.lk_nested.specs.Findings.{Finds};
 ghost use Rattle.lk_store.specs.Contents.{tree_at, Extends};
-ghost use Rattle.lk_nested.specs.Joined.{nests, AreMet};
+ghost use Rattle.lk_nested.specs.Joined.{nests};
 ghost use Rattle.lk_mentions.specs.Names.{names_at};
 ghost use Rattle.lk_nested.specs.Outermost.{AreOutermost};
-ghost use Rattle.lk_nested.specs.Pairs.{pairs_at, ArePairsIn};
-ghost use Rattle.lk_auxiliary.specs.Auxiliaries.{auxs_at, IsAuxiliaryIn};
+ghost use Rattle.lk_auxiliary.specs.Auxiliaries.{auxs_at};
 ghost use Rattle.lk_auxiliary.specs.Settings.{setting_at, IsSettingIn};
-ghost use Rattle.lk_enlarge.specs.Kept.{IsKept};
+ghost use Rattle.lk_enlarge.specs.Occurrences.{AreOccurrences};
 
-use crate::kept::Kept;
 use crate::meet::meet;
+use crate::occurrences::Occurrences;
 use lk_ask::stop::Stop;
-use lk_auxiliary::auxiliary::Auxiliary;
 use lk_auxiliary::setting::Setting;
 use lk_family::Families;
 use lk_nested::outermost::find_outermost;
@@ -28,21 +26,14 @@ fn nest_found<F: Families>(
     alloc: Global,
     asks: &mut F,
     setting: &Setting<'_>,
-    auxs: &mut Vec<Auxiliary>,
-    pairs: &mut Vec<Pair>,
-    kept: &mut Kept,
+    met: &mut Occurrences,
     found: &[u64],
     refused: Option<Rule>,
     e: u64,
 ) -> Result<u64, Stop>
     requires setting_in { IsSettingIn (F.contents asks.old) setting.now }
-    requires auxs_in { All (IsAuxiliaryIn (F.contents asks.old)) auxs.old.items }
-    requires pairs_in { ArePairsIn (F.contents asks.old) pairs.old.items }
-    requires kept_in { IsKept (F.contents asks.old) setting.now kept.old }
-    requires met { AreMet (F.standing asks.old).place
-        (setting_at (F.contents asks.old) setting.now)
-        (auxs_at (F.contents asks.old) auxs.old.items)
-        (pairs_at (F.contents asks.old) pairs.old.items) }
+    requires met { AreOccurrences (F.standing asks.old).place
+        (setting_at (F.contents asks.old) setting.now) (F.contents asks.old) setting.now met.old }
     requires e_in { e < length (F.contents asks.old).trees }
     requires outermost { AreOutermost (F.standing asks.old).place
         (names_at (F.contents asks.old) setting.now.names.now) (F.contents asks.old) e
@@ -50,27 +41,22 @@ fn nest_found<F: Families>(
     ensures keeps { Extends (F.contents asks.old) (F.contents asks.new) }
     ensures rest { F.rest asks.new ≡ F.rest asks.old }
     ensures tree_known { IfOk result (λ r. r < length (F.contents asks.new).trees) }
-    ensures known { OnOk result (All (IsAuxiliaryIn (F.contents asks.new)) auxs.new.items) }
-    ensures pairs_known { OnOk result (ArePairsIn (F.contents asks.new) pairs.new.items) }
-    ensures kept_in { OnOk result (IsKept (F.contents asks.new) setting.now kept.new) }
-    ensures met { OnOk result (AreMet (F.standing asks.old).place
-        (setting_at (F.contents asks.old) setting.now)
-        (auxs_at (F.contents asks.new) auxs.new.items)
-        (pairs_at (F.contents asks.new) pairs.new.items)) }
+    ensures met { OnOk result (AreOccurrences (F.standing asks.old).place
+        (setting_at (F.contents asks.old) setting.now) (F.contents asks.new) setting.now met.new) }
     ensures nests { Finds (nests (F.standing asks.old).place
         (setting_at (F.contents asks.old) setting.now) (tree_at (F.contents asks.old) e)
-        (auxs_at (F.contents asks.old) auxs.old.items))
-        (λ r. (tree_at (F.contents asks.new) r, auxs_at (F.contents asks.new) auxs.new.items))
+        (auxs_at (F.contents asks.old) met.old.auxs.items))
+        (λ r. (tree_at (F.contents asks.new) r, auxs_at (F.contents asks.new) met.new.auxs.items))
         result }
 {
     let mut rest = found;
     'unmet: while let Some((o, more)) = rest.split_first() {
         rest = more;
-        if let Some(_) = instead(asks, pairs, *o) {
+        if let Some(_) = instead(asks, &met.pairs, *o) {
             continue;
         }
-        let to = meet(alloc, asks, setting, auxs, kept, *o)?;
-        match pairs.push(Pair { from: *o, to }) {
+        let to = meet(alloc, asks, setting, &mut met.auxs, &mut met.visited, *o)?;
+        match met.pairs.push(Pair { from: *o, to }) {
             Ok(_) => {}
             Err(_) => return Err(Stop::NoMemory),
         }
@@ -78,7 +64,7 @@ fn nest_found<F: Families>(
     if let Some(rule) = refused {
         return Err(Stop::No(rule));
     }
-    Ok(swap(alloc, asks, pairs, e)?)
+    Ok(swap(alloc, asks, &met.pairs, e)?)
 }
 
 /// A tree with its auxiliary type in the place of each occurrence. Those that were met before, with what takes their place, are
@@ -87,37 +73,32 @@ pub fn nest<F: Families>(
     alloc: Global,
     asks: &mut F,
     setting: &Setting<'_>,
-    auxs: &mut Vec<Auxiliary>,
-    pairs: &mut Vec<Pair>,
-    kept: &mut Kept,
+    met: &mut Occurrences,
     e: u64,
 ) -> Result<u64, Stop>
     requires setting_in { IsSettingIn (F.contents asks.old) setting.now }
-    requires auxs_in { All (IsAuxiliaryIn (F.contents asks.old)) auxs.old.items }
-    requires pairs_in { ArePairsIn (F.contents asks.old) pairs.old.items }
-    requires kept_in { IsKept (F.contents asks.old) setting.now kept.old }
-    requires met { AreMet (F.standing asks.old).place
-        (setting_at (F.contents asks.old) setting.now)
-        (auxs_at (F.contents asks.old) auxs.old.items)
-        (pairs_at (F.contents asks.old) pairs.old.items) }
+    requires met { AreOccurrences (F.standing asks.old).place
+        (setting_at (F.contents asks.old) setting.now) (F.contents asks.old) setting.now met.old }
     requires e_in { e < length (F.contents asks.old).trees }
     ensures keeps { Extends (F.contents asks.old) (F.contents asks.new) }
     ensures rest { F.rest asks.new ≡ F.rest asks.old }
     ensures tree_known { IfOk result (λ r. r < length (F.contents asks.new).trees) }
-    ensures known { OnOk result (All (IsAuxiliaryIn (F.contents asks.new)) auxs.new.items) }
-    ensures pairs_known { OnOk result (ArePairsIn (F.contents asks.new) pairs.new.items) }
-    ensures kept_in { OnOk result (IsKept (F.contents asks.new) setting.now kept.new) }
-    ensures met { OnOk result (AreMet (F.standing asks.old).place
-        (setting_at (F.contents asks.old) setting.now)
-        (auxs_at (F.contents asks.new) auxs.new.items)
-        (pairs_at (F.contents asks.new) pairs.new.items)) }
+    ensures met { OnOk result (AreOccurrences (F.standing asks.old).place
+        (setting_at (F.contents asks.old) setting.now) (F.contents asks.new) setting.now met.new) }
     ensures nests { Finds (nests (F.standing asks.old).place
         (setting_at (F.contents asks.old) setting.now) (tree_at (F.contents asks.old) e)
-        (auxs_at (F.contents asks.old) auxs.old.items))
-        (λ r. (tree_at (F.contents asks.new) r, auxs_at (F.contents asks.new) auxs.new.items))
+        (auxs_at (F.contents asks.old) met.old.auxs.items))
+        (λ r. (tree_at (F.contents asks.new) r, auxs_at (F.contents asks.new) met.new.auxs.items))
         result }
 {
     let mut found: Vec<u64> = Vec::new(alloc);
-    let refused = find_outermost(alloc, asks, setting.names, &mut kept.marks, &mut found, e)?;
-    nest_found(alloc, asks, setting, auxs, pairs, kept, &found, refused, e)
+    let refused = find_outermost(
+        alloc,
+        asks,
+        setting.names,
+        &mut met.visited.marks,
+        &mut found,
+        e,
+    )?;
+    nest_found(alloc, asks, setting, met, &found, refused, e)
 }

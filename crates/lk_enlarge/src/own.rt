@@ -7,18 +7,15 @@ ghost use Rattle.lk_nested.specs.Nestings.{nested_in};
 ghost use Rattle.lk_env.specs.Units.{constructor_at, type_at, IsConstructorIn, IsTypeIn};
 ghost use Rattle.lk_mentions.specs.Names.{names_at};
 ghost use Rattle.lk_store.specs.Contents.{Contents, tree_at, Extends};
-ghost use Rattle.lk_nested.specs.Joined.{AreMet};
-ghost use Rattle.lk_nested.specs.Pairs.{pairs_at, ArePairsIn};
-ghost use Rattle.lk_auxiliary.specs.Auxiliaries.{auxs_at, IsAuxiliaryIn};
+ghost use Rattle.lk_auxiliary.specs.Auxiliaries.{auxs_at};
 ghost use Rattle.lk_enlarge.specs.Owns.{typed, held, owns, all_owns, with_ctors, type_owns};
 ghost use Rattle.lk_auxiliary.specs.Settings.{setting_at, IsSettingIn};
-ghost use Rattle.lk_enlarge.specs.Kept.{IsKept};
+ghost use Rattle.lk_enlarge.specs.Occurrences.{AreOccurrences};
 
-use crate::kept::Kept;
+use crate::occurrences::Occurrences;
 use crate::past::nest_past;
 use lk_ask::asks::Asks;
 use lk_ask::stop::Stop;
-use lk_auxiliary::auxiliary::Auxiliary;
 use lk_auxiliary::past::has_pis;
 use lk_auxiliary::setting::Setting;
 use lk_env::unit::{BlockType, Constructor};
@@ -27,7 +24,6 @@ use lk_family::copies::copy_constructor;
 use lk_mentions::names::Names;
 use lk_nested::marks::Mark;
 use lk_nested::nested::{Walked, holds_nested};
-use lk_nested::swap::Pair;
 use lk_rows::table::Table;
 use lk_store::memory::NoMemory;
 use lk_store::terms::Terms;
@@ -83,43 +79,30 @@ fn held_ctor<F: Families>(
     alloc: Global,
     asks: &mut F,
     setting: &Setting<'_>,
-    auxs: &mut Vec<Auxiliary>,
-    pairs: &mut Vec<Pair>,
-    kept: &mut Kept,
+    met: &mut Occurrences,
     stated: &Constructor,
 ) -> Result<Constructor, Stop>
     requires setting_in { IsSettingIn (F.contents asks.old) setting.now }
-    requires auxs_in { All (IsAuxiliaryIn (F.contents asks.old)) auxs.old.items }
-    requires pairs_in { ArePairsIn (F.contents asks.old) pairs.old.items }
-    requires kept_in { IsKept (F.contents asks.old) setting.now kept.old }
-    requires met { AreMet (F.standing asks.old).place
-        (setting_at (F.contents asks.old) setting.now)
-        (auxs_at (F.contents asks.old) auxs.old.items)
-        (pairs_at (F.contents asks.old) pairs.old.items) }
+    requires met { AreOccurrences (F.standing asks.old).place
+        (setting_at (F.contents asks.old) setting.now) (F.contents asks.old) setting.now met.old }
     requires stated_in { IsConstructorIn (F.contents asks.old) stated.now }
     ensures keeps { Extends (F.contents asks.old) (F.contents asks.new) }
     ensures rest { F.rest asks.new ≡ F.rest asks.old }
     ensures constructor_known { IfOk result (IsConstructorIn (F.contents asks.new)) }
-    ensures known { OnOk result (All (IsAuxiliaryIn (F.contents asks.new)) auxs.new.items) }
-    ensures pairs_known { OnOk result (ArePairsIn (F.contents asks.new) pairs.new.items) }
-    ensures kept_in { OnOk result (IsKept (F.contents asks.new) setting.now kept.new) }
-    ensures met { OnOk result (AreMet (F.standing asks.old).place
-        (setting_at (F.contents asks.old) setting.now)
-        (auxs_at (F.contents asks.new) auxs.new.items)
-        (pairs_at (F.contents asks.new) pairs.new.items)) }
+    ensures met { OnOk result (AreOccurrences (F.standing asks.old).place
+        (setting_at (F.contents asks.old) setting.now) (F.contents asks.new) setting.now met.new) }
     ensures held { Finds (held (F.standing asks.old).place
         (setting_at (F.contents asks.old) setting.now)
         (constructor_at (F.contents asks.old) stated.now) true
-        (auxs_at (F.contents asks.old) auxs.old.items)) (λ k. (
-          constructor_at
-              (F.contents asks.new) k,
-          auxs_at (F.contents asks.new) auxs.new.items,
+        (auxs_at (F.contents asks.old) met.old.auxs.items)) (λ k. (
+          constructor_at (F.contents asks.new) k,
+          auxs_at (F.contents asks.new) met.new.auxs.items,
         )) result }
 {
     if !has_pis(asks, setting.parameters.len() as u64, stated.ty) {
         return Err(Stop::No(Rule::BlockShape));
     }
-    let ty = nest_past(alloc, asks, setting, auxs, pairs, kept, stated.ty)?;
+    let ty = nest_past(alloc, asks, setting, met, stated.ty)?;
     Ok(with_type(alloc, stated, ty)?)
 }
 
@@ -129,41 +112,34 @@ pub fn own_ctor<F: Families>(
     alloc: Global,
     asks: &mut F,
     setting: &Setting<'_>,
-    auxs: &mut Vec<Auxiliary>,
-    pairs: &mut Vec<Pair>,
-    kept: &mut Kept,
+    met: &mut Occurrences,
     stated: &Constructor,
 ) -> Result<Constructor, Stop>
     requires setting_in { IsSettingIn (F.contents asks.old) setting.now }
-    requires auxs_in { All (IsAuxiliaryIn (F.contents asks.old)) auxs.old.items }
-    requires pairs_in { ArePairsIn (F.contents asks.old) pairs.old.items }
-    requires kept_in { IsKept (F.contents asks.old) setting.now kept.old }
-    requires met { AreMet (F.standing asks.old).place
-        (setting_at (F.contents asks.old) setting.now)
-        (auxs_at (F.contents asks.old) auxs.old.items)
-        (pairs_at (F.contents asks.old) pairs.old.items) }
+    requires met { AreOccurrences (F.standing asks.old).place
+        (setting_at (F.contents asks.old) setting.now) (F.contents asks.old) setting.now met.old }
     requires stated_in { IsConstructorIn (F.contents asks.old) stated.now }
     ensures keeps { Extends (F.contents asks.old) (F.contents asks.new) }
     ensures rest { F.rest asks.new ≡ F.rest asks.old }
     ensures constructor_known { IfOk result (IsConstructorIn (F.contents asks.new)) }
-    ensures known { OnOk result (All (IsAuxiliaryIn (F.contents asks.new)) auxs.new.items) }
-    ensures pairs_known { OnOk result (ArePairsIn (F.contents asks.new) pairs.new.items) }
-    ensures kept_in { OnOk result (IsKept (F.contents asks.new) setting.now kept.new) }
-    ensures met { OnOk result (AreMet (F.standing asks.old).place
-        (setting_at (F.contents asks.old) setting.now)
-        (auxs_at (F.contents asks.new) auxs.new.items)
-        (pairs_at (F.contents asks.new) pairs.new.items)) }
+    ensures met { OnOk result (AreOccurrences (F.standing asks.old).place
+        (setting_at (F.contents asks.old) setting.now) (F.contents asks.new) setting.now met.new) }
     ensures owns { Finds (owns (F.standing asks.old).place
         (setting_at (F.contents asks.old) setting.now)
         (constructor_at (F.contents asks.old) stated.now)
-        (auxs_at (F.contents asks.old) auxs.old.items)) (λ k. (
-          constructor_at
-              (F.contents asks.new) k,
-          auxs_at (F.contents asks.new) auxs.new.items,
+        (auxs_at (F.contents asks.old) met.old.auxs.items)) (λ k. (
+          constructor_at (F.contents asks.new) k,
+          auxs_at (F.contents asks.new) met.new.auxs.items,
         )) result }
 {
-    if holds(alloc, asks, setting.names, &mut kept.marks, stated.ty)? {
-        return held_ctor(alloc, asks, setting, auxs, pairs, kept, stated);
+    if holds(
+        alloc,
+        asks,
+        setting.names,
+        &mut met.visited.marks,
+        stated.ty,
+    )? {
+        return held_ctor(alloc, asks, setting, met, stated);
     }
     Ok(copy_constructor(alloc, stated)?)
 }
@@ -173,43 +149,31 @@ pub fn own_ctors<F: Families>(
     alloc: Global,
     asks: &mut F,
     setting: &Setting<'_>,
-    auxs: &mut Vec<Auxiliary>,
-    pairs: &mut Vec<Pair>,
-    kept: &mut Kept,
+    met: &mut Occurrences,
     stated: &[Constructor],
 ) -> Result<Vec<Constructor>, Stop>
     requires setting_in { IsSettingIn (F.contents asks.old) setting.now }
-    requires auxs_in { All (IsAuxiliaryIn (F.contents asks.old)) auxs.old.items }
-    requires pairs_in { ArePairsIn (F.contents asks.old) pairs.old.items }
-    requires kept_in { IsKept (F.contents asks.old) setting.now kept.old }
-    requires met { AreMet (F.standing asks.old).place
-        (setting_at (F.contents asks.old) setting.now)
-        (auxs_at (F.contents asks.old) auxs.old.items)
-        (pairs_at (F.contents asks.old) pairs.old.items) }
+    requires met { AreOccurrences (F.standing asks.old).place
+        (setting_at (F.contents asks.old) setting.now) (F.contents asks.old) setting.now met.old }
     requires stated_in { All (IsConstructorIn (F.contents asks.old)) stated.now }
     ensures keeps { Extends (F.contents asks.old) (F.contents asks.new) }
     ensures rest { F.rest asks.new ≡ F.rest asks.old }
     ensures made_known { IfOk result (λ v. All (IsConstructorIn (F.contents asks.new)) v.items) }
-    ensures known { OnOk result (All (IsAuxiliaryIn (F.contents asks.new)) auxs.new.items) }
-    ensures pairs_known { OnOk result (ArePairsIn (F.contents asks.new) pairs.new.items) }
-    ensures kept_in { OnOk result (IsKept (F.contents asks.new) setting.now kept.new) }
-    ensures met { OnOk result (AreMet (F.standing asks.old).place
-        (setting_at (F.contents asks.old) setting.now)
-        (auxs_at (F.contents asks.new) auxs.new.items)
-        (pairs_at (F.contents asks.new) pairs.new.items)) }
+    ensures met { OnOk result (AreOccurrences (F.standing asks.old).place
+        (setting_at (F.contents asks.old) setting.now) (F.contents asks.new) setting.now met.new) }
     ensures owns { Finds (all_owns (F.standing asks.old).place
         (setting_at (F.contents asks.old) setting.now)
         (map (constructor_at (F.contents asks.old)) stated.now)
-        (auxs_at (F.contents asks.old) auxs.old.items)) (λ v. (
+        (auxs_at (F.contents asks.old) met.old.auxs.items)) (λ v. (
           map (constructor_at
               (F.contents asks.new)) v.items,
-          auxs_at (F.contents asks.new) auxs.new.items,
+          auxs_at (F.contents asks.new) met.new.auxs.items,
         )) result }
 {
     let mut made: Vec<Constructor> = Vec::new(alloc);
     let mut left = stated;
     'constructors: while let Some((first, more)) = left.split_first() {
-        let constructor = own_ctor(alloc, asks, setting, auxs, pairs, kept, first)?;
+        let constructor = own_ctor(alloc, asks, setting, met, first)?;
         match made.push(constructor) {
             Ok(_) => {}
             Err(_) => return Err(Stop::NoMemory),
@@ -246,47 +210,27 @@ pub fn own_type<F: Families>(
     alloc: Global,
     asks: &mut F,
     setting: &Setting<'_>,
-    auxs: &mut Vec<Auxiliary>,
-    pairs: &mut Vec<Pair>,
-    kept: &mut Kept,
+    met: &mut Occurrences,
     stated: &BlockType,
 ) -> Result<BlockType, Stop>
     requires setting_in { IsSettingIn (F.contents asks.old) setting.now }
-    requires auxs_in { All (IsAuxiliaryIn (F.contents asks.old)) auxs.old.items }
-    requires pairs_in { ArePairsIn (F.contents asks.old) pairs.old.items }
-    requires kept_in { IsKept (F.contents asks.old) setting.now kept.old }
-    requires met { AreMet (F.standing asks.old).place
-        (setting_at (F.contents asks.old) setting.now)
-        (auxs_at (F.contents asks.old) auxs.old.items)
-        (pairs_at (F.contents asks.old) pairs.old.items) }
+    requires met { AreOccurrences (F.standing asks.old).place
+        (setting_at (F.contents asks.old) setting.now) (F.contents asks.old) setting.now met.old }
     requires stated_in { IsTypeIn (F.contents asks.old) stated.now }
     ensures keeps { Extends (F.contents asks.old) (F.contents asks.new) }
     ensures rest { F.rest asks.new ≡ F.rest asks.old }
     ensures type_known { IfOk result (IsTypeIn (F.contents asks.new)) }
-    ensures known { OnOk result (All (IsAuxiliaryIn (F.contents asks.new)) auxs.new.items) }
-    ensures pairs_known { OnOk result (ArePairsIn (F.contents asks.new) pairs.new.items) }
-    ensures kept_in { OnOk result (IsKept (F.contents asks.new) setting.now kept.new) }
-    ensures met { OnOk result (AreMet (F.standing asks.old).place
-        (setting_at (F.contents asks.old) setting.now)
-        (auxs_at (F.contents asks.new) auxs.new.items)
-        (pairs_at (F.contents asks.new) pairs.new.items)) }
+    ensures met { OnOk result (AreOccurrences (F.standing asks.old).place
+        (setting_at (F.contents asks.old) setting.now) (F.contents asks.new) setting.now met.new) }
     ensures owns { Finds (type_owns (F.standing asks.old).place
         (setting_at (F.contents asks.old) setting.now)
         (type_at (F.contents asks.old) stated.now)
-        (auxs_at (F.contents asks.old) auxs.old.items)) (λ t. (
+        (auxs_at (F.contents asks.old) met.old.auxs.items)) (λ t. (
           type_at
               (F.contents asks.new) t,
-          auxs_at (F.contents asks.new) auxs.new.items,
+          auxs_at (F.contents asks.new) met.new.auxs.items,
         )) result }
 {
-    let made = own_ctors(
-        alloc,
-        asks,
-        setting,
-        auxs,
-        pairs,
-        kept,
-        &stated.constructors,
-    )?;
+    let made = own_ctors(alloc, asks, setting, met, &stated.constructors)?;
     Ok(with_constructors(alloc, stated, made)?)
 }

@@ -8,21 +8,17 @@ ghost use Rattle.lk_store.specs.Contents.{tree_at, Extends, IsTree};
 ghost use Rattle.lk_declaration.specs.Courses.{Settles};
 ghost use Rattle.lk_inductive.specs.Block.{domain};
 ghost use Rattle.lk_inductive.specs.Recursors.{number, pis};
-ghost use Rattle.lk_nested.specs.Joined.{AreMet};
-ghost use Rattle.lk_nested.specs.Pairs.{pairs_at, ArePairsIn};
-ghost use Rattle.lk_auxiliary.specs.Auxiliaries.{auxs_at, IsAuxiliaryIn};
+ghost use Rattle.lk_auxiliary.specs.Auxiliaries.{auxs_at};
 ghost use Rattle.lk_enlarge.specs.Opened.{past_local, past_locals, nests_past};
 ghost use Rattle.lk_auxiliary.specs.Settings.{setting_at, IsSettingIn};
-ghost use Rattle.lk_enlarge.specs.Kept.{IsKept};
+ghost use Rattle.lk_enlarge.specs.Occurrences.{AreOccurrences};
 
-use crate::kept::Kept;
 use crate::nest::nest;
+use crate::occurrences::Occurrences;
 use lk_ask::stop::Stop;
-use lk_auxiliary::auxiliary::Auxiliary;
 use lk_auxiliary::setting::Setting;
 use lk_family::Families;
 use lk_mentions::pis::head_pi;
-use lk_nested::swap::Pair;
 use lk_store::memory::NoMemory;
 use lk_store::node::Node;
 use lk_store::terms::Terms;
@@ -153,37 +149,25 @@ pub fn nest_past<F: Families>(
     alloc: Global,
     asks: &mut F,
     setting: &Setting<'_>,
-    auxs: &mut Vec<Auxiliary>,
-    pairs: &mut Vec<Pair>,
-    kept: &mut Kept,
+    met: &mut Occurrences,
     e: u64,
 ) -> Result<u64, Stop>
     requires setting_in { IsSettingIn (F.contents asks.old) setting.now }
-    requires auxs_in { All (IsAuxiliaryIn (F.contents asks.old)) auxs.old.items }
-    requires pairs_in { ArePairsIn (F.contents asks.old) pairs.old.items }
-    requires kept_in { IsKept (F.contents asks.old) setting.now kept.old }
-    requires met { AreMet (F.standing asks.old).place
-        (setting_at (F.contents asks.old) setting.now)
-        (auxs_at (F.contents asks.old) auxs.old.items)
-        (pairs_at (F.contents asks.old) pairs.old.items) }
+    requires met { AreOccurrences (F.standing asks.old).place
+        (setting_at (F.contents asks.old) setting.now) (F.contents asks.old) setting.now met.old }
     requires e_in { e < length (F.contents asks.old).trees }
     ensures keeps { Extends (F.contents asks.old) (F.contents asks.new) }
     ensures rest { F.rest asks.new ≡ F.rest asks.old }
     ensures tree_known { IfOk result (λ r. r < length (F.contents asks.new).trees) }
-    ensures known { OnOk result (All (IsAuxiliaryIn (F.contents asks.new)) auxs.new.items) }
-    ensures pairs_known { OnOk result (ArePairsIn (F.contents asks.new) pairs.new.items) }
-    ensures kept_in { OnOk result (IsKept (F.contents asks.new) setting.now kept.new) }
-    ensures met { OnOk result (AreMet (F.standing asks.old).place
-        (setting_at (F.contents asks.old) setting.now)
-        (auxs_at (F.contents asks.new) auxs.new.items)
-        (pairs_at (F.contents asks.new) pairs.new.items)) }
+    ensures met { OnOk result (AreOccurrences (F.standing asks.old).place
+        (setting_at (F.contents asks.old) setting.now) (F.contents asks.new) setting.now met.new) }
     ensures nests { Finds (nests_past (F.standing asks.old).place
         (setting_at (F.contents asks.old) setting.now) (tree_at (F.contents asks.old) e)
-        (auxs_at (F.contents asks.old) auxs.old.items))
-        (λ r. (tree_at (F.contents asks.new) r, auxs_at (F.contents asks.new) auxs.new.items))
+        (auxs_at (F.contents asks.old) met.old.auxs.items))
+        (λ r. (tree_at (F.contents asks.new) r, auxs_at (F.contents asks.new) met.new.auxs.items))
         result }
 {
     let (locals, inner) = past_locals(alloc, asks, setting.parameters, e)?;
-    let nested = nest(alloc, asks, setting, auxs, pairs, kept, inner)?;
+    let nested = nest(alloc, asks, setting, met, inner)?;
     Ok(over_locals(alloc, asks, &locals, nested)?)
 }

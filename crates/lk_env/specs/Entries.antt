@@ -7,6 +7,8 @@ use Rattle.lk_rulebook.specs.Place.{Place, Ctor, BlockType, BlockRecursor, a_typ
 use Rattle.lk_rulebook.specs.Place.{Entry as PlainEntry}
 use Rattle.lk_rulebook.specs.Units.{LibraryUnit, of_decl, of_block, kind_of}
 use Rattle.lk_store.specs.Contents.{Contents, name_at, tree_at}
+use Rattle.lk_store.specs.Store.{contents_of}
+use Rattle.lk_env.specs.StoredLibrary.{StoredLibrary}
 use Rattle.lk_env.specs.declared.entry.Kind.{Kind}
 use Rattle.lk_env.specs.declared.entry.Kind.TheVariants as kind
 use Rattle.lk_env.specs.declared.entry.Entry.{Entry}
@@ -15,18 +17,35 @@ use Rattle.lk_env.specs.Units.{body_at, unit_at, library_at, IsBodyIn}
 
 -- the entry of the member that a kind says of a unit, with T as its type
 abbrev pub entry_of : Contents → LibraryUnit → Kind → Tree → Option PlainEntry
-entry_of c (of_decl d) (kind.Declared b) T = Some (record { levels = d.levels; type = T; kind = kind_of (body_at c b) })
+entry_of c (of_decl d) (kind.Declared b) T =
+    Some (record { levels = d.levels; type = T; kind = kind_of (body_at c b) })
 entry_of c (of_decl d) _ T = None
 entry_of c (of_block b rs) (kind.Declared _) T = None
-entry_of c (of_block b rs) (kind.Type i) T = option_map (λ (t : BlockType). record { levels = t.levels; type = T; kind = a_type b t }) (slice_get b.types i)
+entry_of c (of_block b rs) (kind.Type i) T = option_map
+    (λ (t : BlockType). record { levels = t.levels; type = T; kind = a_type b t })
+    (slice_get b.types i)
 entry_of c (of_block b rs) (kind.Constructor i j) T =
-    option_and_then (λ (t : BlockType). option_map (λ (k : Ctor). record { levels = k.levels; type = T; kind = a_ctor b t k }) (slice_get t.ctors j)) (slice_get b.types i)
-entry_of c (of_block b rs) (kind.Recursor i) T = option_map (λ (r : BlockRecursor). record { levels = r.levels; type = T; kind = a_rec r.recursor }) (slice_get rs i)
-entry_of c (of_block b rs) (kind.BareRecursor i) T = option_map (λ (r : BlockRecursor). record { levels = r.levels; type = T; kind = a_rec (record r.recursor { rules = [] }) }) (slice_get rs i)
+    option_and_then (λ (t : BlockType). option_map
+    (λ (k : Ctor). record { levels = k.levels; type = T; kind = a_ctor b t k })
+    (slice_get t.ctors j)) (slice_get b.types i)
+entry_of c (of_block b rs) (kind.Recursor i) T = option_map
+    (λ (r : BlockRecursor). record { levels = r.levels; type = T; kind = a_rec r.recursor })
+    (slice_get rs i)
+entry_of c (of_block b rs) (kind.BareRecursor i) T = option_map
+    (λ (r : BlockRecursor). record {
+      levels = r.levels;
+      type = T;
+      kind = a_rec (record r.recursor { rules = [] });
+    }) (slice_get rs i)
 
 -- what an entry stands for
 abbrev pub plain_entry : Contents → List StoredUnit → Entry → Option PlainEntry
-plain_entry c us e = option_and_then (λ u. entry_of c u e.kind (tree_at c e.stated)) (slice_get (library_at c us) e.unit)
+plain_entry c us e = option_and_then (λ u. entry_of c u e.kind (tree_at c e.stated))
+    (slice_get (library_at c us) e.unit)
+
+-- the same of a library
+abbrev pub library_entry : StoredLibrary → Entry → Option PlainEntry
+library_entry l e = plain_entry (contents_of l.tables) l.units e
 
 -- the trees of an entry are numbers of the store
 abbrev pub IsKindIn : Contents → Kind → Type 0
@@ -54,7 +73,8 @@ pub record MeansNothing (w : Place) (x : Name) (r : Rule) : Type 0 where
   pub unknown : r ≡ UnknownConstant → w.flaw x ≡ None
 
 -- the name means this entry at the place
-pub record IsMeaning (c : Contents) (us : List StoredUnit) (w : Place) (x : Name) (e : Entry) : Type 0 where
+pub record IsMeaning (c : Contents) (us : List StoredUnit) (w : Place) (x : Name)
+    (e : Entry) : Type 0 where
   pub given : IsSome (w.means x)
   pub means : w.means x ≡ plain_entry c us e
   pub origin : w.origin x ≡ e.origin
@@ -66,4 +86,5 @@ IsAnswer c us w x (Err r) = MeansNothing w x r
 
 -- the level parameters of the member that a kind says of a unit
 abbrev pub HasLevels : Contents → StoredUnit → Kind → Tree → List ℕ → Type 0
-HasLevels c u k T names = IfSome (entry_of c (unit_at c u) k T) (λ y. y.levels ≡ map (name_at c) names)
+HasLevels c u k T names =
+    IfSome (entry_of c (unit_at c u) k T) (λ y. y.levels ≡ map (name_at c) names)

@@ -1,3 +1,5 @@
+pub mod StoredLibrary
+pub mod StoredScope
 pub mod Units
 pub mod Places
 pub mod Index

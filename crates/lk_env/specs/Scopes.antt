@@ -1,11 +1,11 @@
--- Auxiliary types of a block that is at work, beside a library: each is a block of its own, of that one type, without constructors.
+-- Auxiliary types of a block that is at work, beside a library: each is a block of its own, of that
+-- one type, without constructors.
 use Rattle.std.specs.Prelude.{◌≡◌, ℕ, List, [], ◌∷◌, ◌++◌, Option, Some, None, length, All}
 use Rattle.lk_tree.specs.Tree.{Name}
 use Rattle.lk_rulebook.specs.Place.{Entry as PlainEntry, Place, BlockType as PlainType}
 use Rattle.lk_rulebook.specs.Units.{Members, LibraryUnit, of_block, given_by}
 use Rattle.lk_store.specs.Contents.{Contents, tree_at}
 use Rattle.lk_store.specs.Store.{contents_of}
-use Rattle.lk_store.specs.declared.tables.Tables.{Tables}
 use Rattle.lk_env.specs.declared.entry.Entry.{Entry}
 use Rattle.lk_env.specs.declared.entry.Partial.{Partial}
 use Rattle.lk_env.specs.declared.entry.Partial.TheVariants.{Nothing, Types, Members as AllMembers}
@@ -17,11 +17,7 @@ use Rattle.lk_env.specs.declared.unit.Unit.TheVariants as unit
 use Rattle.lk_env.specs.Entries.{entry_of, plain_entry, IsEntryIn}
 use Rattle.lk_env.specs.Places.{partial_of, place_beside}
 use Rattle.lk_env.specs.Units.{unit_at, type_at, IsTypeIn, IsUnitIn}
-
--- tables in which all stands; the units of the library, with those of auxiliary types behind them; the library; and these
--- auxiliary units
-abbrev pub Scoped : Type 0
-Scoped = Tables × List StoredUnit × (Tables × List StoredUnit) × List StoredUnit
+use Rattle.lk_env.specs.StoredScope.{StoredScope}
 
 -- what these units give as they are partial
 abbrev pub auxiliary_members : Contents → List StoredUnit → Members
@@ -29,8 +25,8 @@ auxiliary_members c [] = []
 auxiliary_members c (u ∷ us) = partial_of (unit_at c u) Types ++ auxiliary_members c us
 
 -- what names mean at a site
-abbrev pub place_in : Scoped → Site → Place
-place_in l s = place_beside l.2 s (auxiliary_members (contents_of l.0) l.3)
+abbrev pub place_in : StoredScope → Site → Place
+place_in l s = place_beside l.library s (auxiliary_members (contents_of l.tables) l.auxiliary)
 
 -- of whose own unit no more than types are partial
 abbrev pub only_types : Partial → Partial
@@ -78,9 +74,12 @@ AreAloneOf (t ∷ ts) [] = ⊥
 abbrev pub AnswersAmong : Contents → ℕ → List StoredUnit → Name → Option Entry → Type 0
 AnswersAmong c first us x None = given_by (auxiliary_members c us) x ≡ None
 AnswersAmong c first us x (Some e) =
-    (p : PlainEntry) × (given_by (auxiliary_members c us) x ≡ Some p) × IsEntryIn c e × ((before : List StoredUnit) → length before ≡ first → plain_entry c (before ++ us) e ≡ Some p)
+    (p : PlainEntry) × (given_by (auxiliary_members c us) x ≡ Some p) × IsEntryIn c e
+    × ((before : List StoredUnit) → length before ≡ first → plain_entry c (before ++ us) e ≡ Some p)
 
 -- the same of one unit
 abbrev pub AnswersAlone : Contents → StoredUnit → Name → Option Entry → Type 0
 AnswersAlone c u x None = given_by (partial_of (unit_at c u) Types) x ≡ None
-AnswersAlone c u x (Some e) = (p : PlainEntry) × (given_by (partial_of (unit_at c u) Types) x ≡ Some p) × (entry_of c (unit_at c u) e.kind (tree_at c e.stated) ≡ Some p) × IsEntryIn c e
+AnswersAlone c u x (Some e) =
+    (p : PlainEntry) × (given_by (partial_of (unit_at c u) Types) x ≡ Some p)
+    × (entry_of c (unit_at c u) e.kind (tree_at c e.stated) ≡ Some p) × IsEntryIn c e

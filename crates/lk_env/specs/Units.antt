@@ -8,7 +8,6 @@ use Rattle.lk_rulebook.specs.Place.{Hint as PlainHint}
 use Rattle.lk_rulebook.specs.Units.{Body as PlainBody, as_axiom, as_def, as_thm, as_opaque, as_quot, Decl, LibraryUnit, of_decl, of_block, Library}
 use Rattle.lk_store.specs.Contents.{Contents, name_at, tree_at}
 use Rattle.lk_store.specs.Store.{contents_of}
-use Rattle.lk_store.specs.declared.tables.Tables.{Tables}
 use Rattle.lk_env.specs.declared.unit.Hint.{Hint}
 use Rattle.lk_env.specs.declared.unit.Hint.TheVariants as hint
 use Rattle.lk_env.specs.declared.unit.Body.{Body}
@@ -20,6 +19,7 @@ use Rattle.lk_env.specs.declared.unit.RecursorRule.{RecursorRule}
 use Rattle.lk_env.specs.declared.unit.Recursor.{Recursor}
 use Rattle.lk_env.specs.declared.unit.Block.{Block}
 use Rattle.lk_env.specs.declared.unit.Unit.{Unit as StoredUnit}
+use Rattle.lk_env.specs.StoredLibrary.{StoredLibrary}
 use Rattle.lk_env.specs.declared.unit.Unit.TheVariants as unit
 
 abbrev pub hint_of : Hint → PlainHint
@@ -43,7 +43,12 @@ abbrev pub declared_levels : Declaration → List ℕ
 declared_levels d = shared_names d.levels
 
 abbrev pub declaration_at : Contents → Declaration → Decl
-declaration_at c d = record { name = name_at c d.name; levels = map (name_at c) (declared_levels d); type = tree_at c d.ty; body = body_at c d.body }
+declaration_at c d = record {
+  name = name_at c d.name;
+  levels = map (name_at c) (declared_levels d);
+  type = tree_at c d.ty;
+  body = body_at c d.body;
+}
 
 abbrev pub constructor_at : Contents → Constructor → Ctor
 constructor_at c k = record {
@@ -67,14 +72,22 @@ type_at c t = record {
 }
 
 abbrev pub rule_at : Contents → RecursorRule → RecRule
-rule_at c r = record { ctor = name_at c r.constructor; fields = r.fields; value = tree_at c r.value }
+rule_at c r =
+    record { ctor = name_at c r.constructor; fields = r.fields; value = tree_at c r.value }
 
 abbrev pub recursor_at : Contents → Recursor → BlockRecursor
 recursor_at c r = record {
   name = name_at c r.name;
   levels = map (name_at c) r.levels.items;
   type = tree_at c r.ty;
-  recursor = record { parameters = r.parameters; indices = r.indices; motives = r.motives; minors = r.minors; k = r.k; rules = map (rule_at c) r.rules.items };
+  recursor = record {
+    parameters = r.parameters;
+    indices = r.indices;
+    motives = r.motives;
+    minors = r.minors;
+    k = r.k;
+    rules = map (rule_at c) r.rules.items;
+  };
 }
 
 abbrev pub block_at : Contents → Block → PlainBlock
@@ -89,8 +102,8 @@ abbrev pub library_at : Contents → List StoredUnit → Library
 library_at c us = map (unit_at c) us
 
 -- the library of a store's tables and units
-abbrev pub library_of : Tables × List StoredUnit → Library
-library_of l = library_at (contents_of l.0) l.1
+abbrev pub library_of : StoredLibrary → Library
+library_of l = library_at (contents_of l.tables) l.units
 
 -- the names and trees of these parts are numbers of the store
 abbrev pub IsBodyIn : Contents → Body → Type 0
@@ -124,7 +137,8 @@ pub record IsRecursorIn (c : Contents) (r : Recursor) : Type 0 where
 
 abbrev pub IsUnitIn : Contents → StoredUnit → Type 0
 IsUnitIn c (unit.Declaration d) = IsStatedIn c d.name (declared_levels d) d.ty × IsBodyIn c d.body
-IsUnitIn c (unit.Block b) = All (IsTypeIn c) b.types.items × All (IsRecursorIn c) b.recursors.value.items
+IsUnitIn c (unit.Block b) =
+    All (IsTypeIn c) b.types.items × All (IsRecursorIn c) b.recursors.value.items
 
 abbrev pub AreUnitsIn : Contents → List StoredUnit → Type 0
 AreUnitsIn c us = All (IsUnitIn c) us

@@ -1,12 +1,12 @@
 //! What a place is, in the words of the rule book.
 
-ghost use Rattle.std.specs.Prelude.{◌≡◌, ℕ, true, List, [], Some, option_map, option_and_then, slice_get};
+ghost use Rattle.std.specs.Prelude.{◌≡◌, ℕ, true, [], Some, option_map, option_and_then, slice_get};
 ghost use Rattle.lk_tree.specs.Tree.{Name};
 ghost use Rattle.lk_rulebook.specs.Units.{Library, LibraryUnit, members_of, first_giving, place_of};
 ghost use Rattle.lk_rulebook.specs.Scan.{are_new};
-ghost use Rattle.lk_store.specs.declared.tables.Tables.{Tables};
 ghost use Rattle.lk_env.specs.Units.{library_of};
 ghost use Rattle.lk_env.specs.Places.{position_in, found_at, partial_of, partial_at, place_at};
+ghost use Rattle.lk_env.specs.StoredLibrary.{StoredLibrary};
 
 use crate::entry::{Partial, Site};
 use crate::unit::Unit;
@@ -27,7 +27,7 @@ pub fn new_members_are_partial()
     ensures new { (us : Library) (s : Site) (u : LibraryUnit) → slice_get us s.unit ≡ Some u
         → are_new us s.unit (members_of u) ≡ true
         → partial_at us s ≡ partial_of u s.partial }
-    ensures nothing { (l : Tables × List Unit) (n : ℕ)
+    ensures nothing { (l : StoredLibrary) (n : ℕ)
         → place_at l (record { unit = n; partial = Partial.Nothing })
         ≡ place_of (library_of l) n [] }
 {}

@@ -7,7 +7,7 @@ ghost use Rattle.lk_store.specs.Contents.{Contents, name_at};
 ghost use Rattle.lk_store.specs.Store.{contents_of};
 ghost use Rattle.lk_env.specs.Units.{type_at, block_at, constructor_at};
 ghost use Rattle.lk_env.specs.Units.{IsUnitIn, AreUnitsIn, IsTypeIn, IsConstructorIn, IsRecursorIn, IsRuleIn};
-ghost use Rattle.lk_env.specs.Entries.{plain_entry};
+ghost use Rattle.lk_env.specs.Entries.{library_entry};
 ghost use Rattle.lk_env.specs.Lent.{recursor_in, constructor_in, member_in, type_in, parameters_in};
 ghost use Rattle.lk_env.specs.Lent.{given_recursor, member_at, HasRecursor, HasMember, HasType, IsMemberIn, IsBlockTypeIn};
 
@@ -51,12 +51,12 @@ fn unit_recursor(unit: &Unit, kind: Kind) -> Option<(&Recursor, &[RecursorRule])
 
 /// The recursor of an entry, where it is one, with the rules that are given: none while it is partial. It takes no memory.
 pub fn recursor_of<L: Lends>(library: &L, entry: Entry) -> Option<(&Recursor, &[RecursorRule])>
-    ensures value { (g : PlainEntry)
-        → plain_entry (contents_of (L.lent library.now).0) (L.lent library.now).1 entry ≡ Some g
+    ensures value { (g : PlainEntry) → library_entry (L.lent library.now) entry ≡ Some g
         → recursor_in g.kind ≡ option_map
-        (λ p. given_recursor (contents_of (L.lent library.now).0) p.0.now p.1.now) result }
-    ensures known { IfSome result (λ p. IsRecursorIn (contents_of (L.lent library.now).0) p.0.now
-        × All (IsRuleIn (contents_of (L.lent library.now).0)) p.1.now) }
+        (λ p. given_recursor (contents_of (L.lent library.now).tables) p.0.now p.1.now) result }
+    ensures known { IfSome result (λ p. IsRecursorIn (contents_of
+        (L.lent library.now).tables) p.0.now
+        × All (IsRuleIn (contents_of (L.lent library.now).tables)) p.1.now) }
 {
     match library.unit(entry.unit) {
         Some(unit) => unit_recursor(unit, entry.kind),
@@ -97,12 +97,11 @@ fn unit_member(unit: &Unit, kind: Kind) -> Option<(&Block, &BlockType, &Construc
 
 /// The constructor of an entry, with its block and its type, where it is one. It takes no memory.
 pub fn member_of<L: Lends>(library: &L, entry: Entry) -> Option<(&Block, &BlockType, &Constructor)>
-    ensures value { (g : PlainEntry)
-        → plain_entry (contents_of (L.lent library.now).0) (L.lent library.now).1 entry ≡ Some g
+    ensures value { (g : PlainEntry) → library_entry (L.lent library.now) entry ≡ Some g
         → member_in g.kind ≡ option_map
-        (λ p. member_at (contents_of (L.lent library.now).0) p.0.now p.1.now p.2.now) result }
+        (λ p. member_at (contents_of (L.lent library.now).tables) p.0.now p.1.now p.2.now) result }
     ensures known { IfSome result
-        (λ p. IsMemberIn (contents_of (L.lent library.now).0) p.0.now p.1.now p.2.now) }
+        (λ p. IsMemberIn (contents_of (L.lent library.now).tables) p.0.now p.1.now p.2.now) }
 {
     match library.unit(entry.unit) {
         Some(unit) => unit_member(unit, entry.kind),
@@ -112,16 +111,15 @@ pub fn member_of<L: Lends>(library: &L, entry: Entry) -> Option<(&Block, &BlockT
 
 /// The constructor of an entry, with its type, where it is one. It takes no memory.
 pub fn constructor_of<L: Lends>(library: &L, entry: Entry) -> Option<(&BlockType, &Constructor)>
-    ensures value { (g : PlainEntry)
-        → plain_entry (contents_of (L.lent library.now).0) (L.lent library.now).1 entry ≡ Some g
+    ensures value { (g : PlainEntry) → library_entry (L.lent library.now) entry ≡ Some g
         → constructor_in g.kind ≡ option_map
         (λ p. (
-          type_at (contents_of (L.lent library.now).0) p.0.now,
+          type_at (contents_of (L.lent library.now).tables) p.0.now,
           constructor_at
-              (contents_of (L.lent library.now).0) p.1.now,
+              (contents_of (L.lent library.now).tables) p.1.now,
         )) result }
-    ensures known { IfSome result (λ p. IsTypeIn (contents_of (L.lent library.now).0) p.0.now
-        × IsConstructorIn (contents_of (L.lent library.now).0) p.1.now) }
+    ensures known { IfSome result (λ p. IsTypeIn (contents_of (L.lent library.now).tables) p.0.now
+        × IsConstructorIn (contents_of (L.lent library.now).tables) p.1.now) }
 {
     match member_of(library, entry) {
         Some((_, ty, constructor)) => Some((ty, constructor)),
@@ -159,14 +157,13 @@ fn unit_type(unit: &Unit, kind: Kind) -> Option<(&Block, &BlockType)>
 
 /// The type of a block that an entry is, with its block, where it is one. It takes no memory.
 pub fn type_of<L: Lends>(library: &L, entry: Entry) -> Option<(&Block, &BlockType)>
-    ensures value { (g : PlainEntry)
-        → plain_entry (contents_of (L.lent library.now).0) (L.lent library.now).1 entry ≡ Some g
+    ensures value { (g : PlainEntry) → library_entry (L.lent library.now) entry ≡ Some g
         → type_in g.kind ≡ option_map (λ p. (
-          block_at (contents_of (L.lent library.now).0) p.0.now,
-          type_at (contents_of (L.lent library.now).0) p.1.now,
+          block_at (contents_of (L.lent library.now).tables) p.0.now,
+          type_at (contents_of (L.lent library.now).tables) p.1.now,
         )) result }
     ensures known { IfSome result
-        (λ p. IsBlockTypeIn (contents_of (L.lent library.now).0) p.0.now p.1.now) }
+        (λ p. IsBlockTypeIn (contents_of (L.lent library.now).tables) p.0.now p.1.now) }
 {
     match library.unit(entry.unit) {
         Some(unit) => unit_type(unit, entry.kind),
@@ -176,8 +173,7 @@ pub fn type_of<L: Lends>(library: &L, entry: Entry) -> Option<(&Block, &BlockTyp
 
 /// The number of parameters of an entry that is a type of a block. It takes no memory.
 pub fn parameter_count<L: Lends>(library: &L, entry: Entry) -> Option<u64>
-    ensures { (g : PlainEntry)
-        → plain_entry (contents_of (L.lent library.now).0) (L.lent library.now).1 entry ≡ Some g
+    ensures { (g : PlainEntry) → library_entry (L.lent library.now) entry ≡ Some g
         → result ≡ parameters_in g.kind }
 {
     match type_of(library, entry) {
@@ -188,10 +184,10 @@ pub fn parameter_count<L: Lends>(library: &L, entry: Entry) -> Option<u64>
 
 /// The level parameters of an entry, by the numbers of their names. It takes no memory.
 pub fn levels_of<L: Lends>(library: &L, entry: Entry) -> &[u64]
-    ensures value { (g : PlainEntry) → plain_entry (contents_of (L.lent library.now).0)
-        (L.lent library.now).1 entry ≡ Some g
-        → g.levels ≡ map (name_at (contents_of (L.lent library.now).0)) result.now }
-    ensures known { All (λ n. n < length (contents_of (L.lent library.now).0).names) result.now }
+    ensures value { (g : PlainEntry) → library_entry (L.lent library.now) entry ≡ Some g
+        → g.levels ≡ map (name_at (contents_of (L.lent library.now).tables)) result.now }
+    ensures known { All (λ n. n < length (contents_of
+        (L.lent library.now).tables).names) result.now }
 {
     match library.unit(entry.unit) {
         Some(unit) => parameters_in(unit, entry.kind),

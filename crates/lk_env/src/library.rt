@@ -27,18 +27,16 @@ pub struct Library {
 }
 
 impl Model for Library {
-    ghost use Rattle.std.specs.Prelude.{List};
-    ghost use Rattle.lk_store.specs.declared.tables.Tables.{Tables};
-    ghost use Rattle.lk_env.specs.declared.unit.Unit.{Unit as StoredUnit};
+    ghost use Rattle.lk_env.specs.StoredLibrary.{StoredLibrary};
 
-    ghost Value = { Tables × List StoredUnit };
+    ghost Value = { StoredLibrary };
 
     ghost use Rattle.lk_store.specs.Store.{contents_of};
     ghost use Rattle.lk_env.specs.Units.{AreUnitsIn};
     ghost use Rattle.lk_env.specs.Index.{IsIndex};
     ghost use Rattle.lk_env.specs.Scan.{AreFlaws};
 
-    ghost view = { λ l. (l.base, l.units.items) };
+    ghost view = { λ l. record { tables = l.base; units = l.units.items } };
 
     ghost invariant = { λ l. AreUnitsIn (contents_of l.base) l.units.items
         × IsIndex (contents_of l.base) l.units.items l.cells.items
@@ -145,7 +143,7 @@ impl Library {
     /// Makes the index. Units are fewer than 2^32; more are want of memory.
     pub fn new(alloc: Global, base: BaseStore, units: Vec<Unit>) -> Result<Library, NoMemory>
         requires { AreUnitsIn (contents_of base) units.items }
-        ensures { IfOk result (λ l. l ≡ (base, units.items)) }
+        ensures { IfOk result (λ l. l ≡ record { tables = base; units = units.items }) }
     {
         let cells = index_of(alloc, &base, &units)?;
         let flaws = flaws_of(alloc, &base, &units)?;
@@ -159,24 +157,24 @@ impl Library {
 
     /// The units, in their order.
     pub fn units(&self) -> &[Unit]
-        ensures value { result.now ≡ self.now.1 }
-        ensures known { AreUnitsIn (contents_of self.now.0) result.now }
+        ensures value { result.now ≡ self.now.units }
+        ensures known { AreUnitsIn (contents_of self.now.tables) result.now }
     {
         self.units.as_slice()
     }
 
     /// The store that has the units' names and trees.
     pub fn base(&self) -> &BaseStore
-        ensures { result.now ≡ self.now.0 }
+        ensures { result.now ≡ self.now.tables }
     {
         &self.base
     }
 
     /// The first unit that gives the name, and which of its members. It takes no memory.
     pub fn position_of(&self, name: u64) -> Option<Position>
-        requires { name < length (contents_of self.now.0).names }
+        requires { name < length (contents_of self.now.tables).names }
         ensures { option_map pair_of result
-            ≡ position_in 0 (library_of self.now) (name_at (contents_of self.now.0) name) }
+            ≡ position_in 0 (library_of self.now) (name_at (contents_of self.now.tables) name) }
     {
         self.cells[name as usize]
     }
@@ -184,10 +182,10 @@ impl Library {
     /// The first of so many units that gives the name, and which of its members. It takes no
     /// memory.
     pub fn position_before(&self, units: u32, name: u64) -> Option<Position>
-        requires { name < length (contents_of self.now.0).names }
+        requires { name < length (contents_of self.now.tables).names }
         ensures { option_map pair_of result
             ≡ position_in 0 (take units (library_of self.now))
-            (name_at (contents_of self.now.0) name) }
+            (name_at (contents_of self.now.tables) name) }
     {
         position_among(self.position_of(name), units)
     }
@@ -195,12 +193,12 @@ impl Library {
     /// What the name means among the partial members of the site's unit, where no unit before gives
     /// it.
     fn among_partial(&self, site: &Site, name: u64) -> Result<Entry, Rule>
-        requires name_in { name < length (contents_of self.now.0).names }
+        requires name_in { name < length (contents_of self.now.tables).names }
         requires new { position_in 0 (take site.now.unit (library_of self.now))
-            (name_at (contents_of self.now.0) name) ≡ None }
-        ensures known { IfOk result (IsEntryIn (contents_of self.now.0)) }
-        ensures answer { IsAnswer (contents_of self.now.0) self.now.1
-            (place_at self.now site.now) (name_at (contents_of self.now.0) name) result }
+            (name_at (contents_of self.now.tables) name) ≡ None }
+        ensures known { IfOk result (IsEntryIn (contents_of self.now.tables)) }
+        ensures answer { IsAnswer (contents_of self.now.tables) self.now.units
+            (place_at self.now site.now) (name_at (contents_of self.now.tables) name) result }
     {
         match member_of(self.position_of(name), site.unit) {
             Some(member) => partial_in(&self.units, site, member as usize),
@@ -211,10 +209,10 @@ impl Library {
     /// What the name means at the site. A name that nothing gives is UnknownConstant; where its unit has a flaw, the flaw is
     /// told. It takes no memory, and of the library it reads one unit.
     pub fn at(&self, site: &Site, name: u64) -> Result<Entry, Rule>
-        requires { name < length (contents_of self.now.0).names }
-        ensures known { IfOk result (IsEntryIn (contents_of self.now.0)) }
-        ensures answer { IsAnswer (contents_of self.now.0) self.now.1
-            (place_at self.now site.now) (name_at (contents_of self.now.0) name) result }
+        requires { name < length (contents_of self.now.tables).names }
+        ensures known { IfOk result (IsEntryIn (contents_of self.now.tables)) }
+        ensures answer { IsAnswer (contents_of self.now.tables) self.now.units
+            (place_at self.now site.now) (name_at (contents_of self.now.tables) name) result }
     {
         match self.position_before(site.unit, name) {
             Some(position) => entry_in(&self.units, &self.flaws, position),
@@ -226,10 +224,10 @@ impl Library {
     /// library has, under the same numbers: an overlay over the library's store is such a store.
     /// Names that the library does not have mean nothing.
     pub fn means<T: Terms>(&self, site: &Site, terms: &T, name: u64) -> Result<Entry, Rule>
-        requires over { Extends (contents_of self.now.0) (T.contents terms.now) }
+        requires over { Extends (contents_of self.now.tables) (T.contents terms.now) }
         requires name_in { name < length (T.contents terms.now).names }
-        ensures known { IfOk result (IsEntryIn (contents_of self.now.0)) }
-        ensures answer { IsAnswer (contents_of self.now.0) self.now.1
+        ensures known { IfOk result (IsEntryIn (contents_of self.now.tables)) }
+        ensures answer { IsAnswer (contents_of self.now.tables) self.now.units
             (place_at self.now site.now) (name_at (T.contents terms.now) name) result }
     {
         if name < self.base.count_names() {
@@ -244,9 +242,9 @@ impl Library {
     /// What `position_of` says, of the name that a node makes of its parts. It need not be in the
     /// store.
     pub fn find(&self, node: NameNode) -> Option<Position>
-        requires { IsNameIn (contents_of self.now.0) node }
+        requires { IsNameIn (contents_of self.now.tables) node }
         ensures { option_map pair_of result
-            ≡ position_in 0 (library_of self.now) (name_of (contents_of self.now.0) node) }
+            ≡ position_in 0 (library_of self.now) (name_of (contents_of self.now.tables) node) }
     {
         match self.base.find_name(node) {
             Some(n) => self.position_of(n),

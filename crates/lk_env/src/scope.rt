@@ -1,10 +1,11 @@
 //! What names mean while a unit is at work: a library, and auxiliary types of a block beside it.
 
-ghost use Rattle.std.specs.Prelude.{◌≡◌, ℕ, ◌<◌, ◌+◌, ◌^◌, [], length, map, All, IfOk, IfSome};
+ghost use Rattle.std.specs.Prelude.{◌≡◌, ◌<◌, ◌+◌, ◌^◌, [], length, map, All, IfOk, IfSome};
 ghost use Rattle.lk_store.specs.Contents.{Contents, name_at, Extends};
 ghost use Rattle.lk_store.specs.Store.{over, contents_of};
+ghost use Rattle.lk_store.specs.Layers.{layers_contents};
 ghost use Rattle.lk_env.specs.Units.{unit_at, type_at, IsUnitIn, AreUnitsIn, IsTypeIn};
-ghost use Rattle.lk_env.specs.Entries.{plain_entry, IsEntryIn, IsAnswer};
+ghost use Rattle.lk_env.specs.Entries.{IsEntryIn, IsAnswer};
 ghost use Rattle.lk_env.specs.Scopes.{place_in, alone_members, auxiliary_members, IsAlone, AreAlone, IsAloneOf, AreAloneOf, AnswersAmong, AnswersAlone, of_types};
 
 use crate::entry::{Entry, Kind, Partial, Site};
@@ -30,30 +31,29 @@ pub struct Scope<'a> {
 }
 
 impl<'a> Model for Scope<'a> {
-    ghost use Rattle.std.specs.Prelude.{◌<◌, ◌+◌, ◌^◌, length, All, List, ◌++◌};
-    ghost use Rattle.lk_store.specs.declared.tables.Tables.{Tables};
+    ghost use Rattle.std.specs.Prelude.{◌<◌, ◌+◌, ◌^◌, length, All, ◌++◌};
     ghost use Rattle.lk_store.specs.Contents.{Extends};
     ghost use Rattle.lk_store.specs.Store.{over, contents_of};
-    ghost use Rattle.lk_env.specs.declared.unit.Unit.{Unit as StoredUnit};
+    ghost use Rattle.lk_store.specs.Layers.{layers_contents};
+    ghost use Rattle.lk_env.specs.StoredScope.{StoredScope};
     ghost use Rattle.lk_env.specs.Units.{AreUnitsIn};
     ghost use Rattle.lk_env.specs.Scopes.{AreAlone};
 
-    ghost Value = { Tables × List StoredUnit × (Tables × List StoredUnit) × List StoredUnit };
+    ghost Value = { StoredScope };
 
-    ghost view = { λ s. (
-      over s.given.value.0 s.given.value.1,
-      s.library.now.1 ++ s.auxiliary.items,
-      s.library.now,
-      s.auxiliary.items,
-    ) };
+    ghost view = { λ s. record {
+      tables = over s.given.value.base s.given.value.own;
+      units = s.library.now.units ++ s.auxiliary.items;
+      library = s.library.now;
+      auxiliary = s.auxiliary.items;
+    } };
 
     ghost invariant = { λ s.
-        Extends (contents_of s.library.now.0) (contents_of (over s.given.value.0 s.given.value.1))
-        × AreUnitsIn (contents_of s.library.now.0) s.library.now.1
-        × AreUnitsIn (contents_of (over s.given.value.0 s.given.value.1)) s.auxiliary.items
-        × AreAlone s.auxiliary.items
+        Extends (contents_of s.library.now.tables) (layers_contents s.given.value)
+        × AreUnitsIn (contents_of s.library.now.tables) s.library.now.units
+        × AreUnitsIn (layers_contents s.given.value) s.auxiliary.items × AreAlone s.auxiliary.items
         × (0 < length s.auxiliary.items
-        → length s.library.now.1 + length s.auxiliary.items < 2 ^ 32) };
+        → length s.library.now.units + length s.auxiliary.items < 2 ^ 32) };
 }
 
 /// A type of a block as a block alone, without constructors.
@@ -167,11 +167,10 @@ fn of_types(site: &Site) -> Site
 impl<'a> Scope<'a> {
     /// A library alone. It takes no memory.
     pub fn new(alloc: Global, library: &'a Library, store: &Overlay<'a>) -> Self
-        requires { Extends (contents_of library.now.0)
-            (contents_of (over store.now.0 store.now.1)) }
-        ensures tables { result.0 ≡ over store.now.0 store.now.1 }
-        ensures library { result.2 ≡ library.now }
-        ensures auxiliary { result.3 ≡ [] }
+        requires { Extends (contents_of library.now.tables) (layers_contents store.now) }
+        ensures tables { result.tables ≡ over store.now.base store.now.own }
+        ensures library { result.library ≡ library.now }
+        ensures auxiliary { result.auxiliary ≡ [] }
     {
         // Names and trees of the units are numbers of the library.
         let _units = library.units();
@@ -190,15 +189,13 @@ impl<'a> Scope<'a> {
         store: &Overlay<'a>,
         types: &[BlockType],
     ) -> Result<Self, NoMemory>
-        requires over { Extends (contents_of library.now.0)
-            (contents_of (over store.now.0 store.now.1)) }
-        requires types_in { All (IsTypeIn (contents_of (over store.now.0 store.now.1))) types.now }
-        ensures tables { IfOk result (λ s. s.0 ≡ over store.now.0 store.now.1) }
-        ensures library { IfOk result (λ s. s.2 ≡ library.now) }
+        requires over { Extends (contents_of library.now.tables) (layers_contents store.now) }
+        requires types_in { All (IsTypeIn (layers_contents store.now)) types.now }
+        ensures tables { IfOk result (λ s. s.tables ≡ over store.now.base store.now.own) }
+        ensures library { IfOk result (λ s. s.library ≡ library.now) }
         ensures auxiliary { IfOk result (λ s. auxiliary_members
-            (contents_of (over store.now.0 store.now.1)) s.3
-            ≡ alone_members
-            (map (type_at (contents_of (over store.now.0 store.now.1))) types.now)) }
+            (layers_contents store.now) s.auxiliary ≡ alone_members
+            (map (type_at (layers_contents store.now)) types.now)) }
     {
         let auxiliary = all_alone(alloc, types)?;
         let Some(count) = library.units().len().checked_add(auxiliary.len()) else {
@@ -216,18 +213,19 @@ impl<'a> Scope<'a> {
 
     /// The library.
     pub fn library(&self) -> &'a Library
-        ensures is { result.now ≡ self.now.2 }
-        ensures over { Extends (contents_of self.now.2.0) (contents_of self.now.0) }
+        ensures is { result.now ≡ self.now.library }
+        ensures over { Extends (contents_of self.now.library.tables) (contents_of self.now.tables) }
     {
         self.library
     }
 
     /// The auxiliary type of a name, given by this unit.
     fn auxiliary_named<T: Terms>(&self, terms: &T, origin: u32, name: u64) -> Option<Entry>
-        requires over { Extends (contents_of self.now.0) (T.contents terms.now) }
+        requires over { Extends (contents_of self.now.tables) (T.contents terms.now) }
         requires name_in { name < length (T.contents terms.now).names }
         ensures origin { IfSome result (λ e. e.origin ≡ origin) }
-        ensures answer { AnswersAmong (contents_of self.now.0) (length self.now.2.1) self.now.3
+        ensures answer { AnswersAmong (contents_of self.now.tables)
+            (length self.now.library.units) self.now.auxiliary
             (name_at (T.contents terms.now) name) result }
     {
         if self.auxiliary.is_empty() {
@@ -246,10 +244,10 @@ impl<'a> Scope<'a> {
     /// unit, or what the library has below the unit. The number is one of a store that has what the scope has. It takes no
     /// memory.
     pub fn means<T: Terms>(&self, site: &Site, terms: &T, name: u64) -> Result<Entry, Rule>
-        requires over { Extends (contents_of self.now.0) (T.contents terms.now) }
+        requires over { Extends (contents_of self.now.tables) (T.contents terms.now) }
         requires name_in { name < length (T.contents terms.now).names }
-        ensures known { IfOk result (IsEntryIn (contents_of self.now.0)) }
-        ensures answer { IsAnswer (contents_of self.now.0) self.now.1
+        ensures known { IfOk result (IsEntryIn (contents_of self.now.tables)) }
+        ensures answer { IsAnswer (contents_of self.now.tables) self.now.units
             (place_in self.now site.now) (name_at (T.contents terms.now) name) result }
     {
         match self.auxiliary_named(terms, site.unit, name) {
@@ -269,7 +267,9 @@ impl<'a> Scope<'a> {
 }
 
 impl<'a> Lends for Scope<'a> {
-    ghost lent = { λ s. (s.0, s.1) };
+    ghost use Rattle.lk_env.specs.StoredScope.{lent_by};
+
+    ghost lent = { lent_by };
 
     fn unit(&self, number: u32) -> Option<&Unit> {
         let units = self.library.units();

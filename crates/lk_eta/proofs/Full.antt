@@ -7,12 +7,11 @@ use Rattle.lk_rulebook.specs.Structures.{is_structure_like}
 use Rattle.lk_questions.specs.Iota.{has_one_ctor}
 use Rattle.lk_store.specs.Contents.{Contents, Extends}
 use Rattle.lk_store.specs.Store.{contents_of}
-use Rattle.lk_store.specs.declared.tables.Tables.{Tables}
-use Rattle.lk_env.specs.declared.unit.Unit.{Unit as StoredUnit}
 use Rattle.lk_env.specs.declared.unit.BlockType.{BlockType as StoredType}
 use Rattle.lk_env.specs.declared.unit.Constructor.{Constructor}
 use Rattle.lk_env.specs.Units.{type_at, constructor_at, IsTypeIn}
 use Rattle.lk_env.specs.Lent.{constructor_in}
+use Rattle.lk_env.specs.StoredLibrary.{StoredLibrary}
 use Rattle.lk_mentions.specs.declared.structures.Structure.{Structure}
 use Rattle.lk_mentions.specs.Structures.{is_alone, structure_in, IsStructure, IsStructureIf}
 use Rattle.lk_eta.specs.Structures.{is_full}
@@ -27,8 +26,8 @@ none_of c None i = refl
 none_of c (Some q) i = absurd i
 
 -- a stored constructor with its type, of a library that a store has
-pub stored : (l : Tables × List StoredUnit) (c : Contents) → Extends (contents_of l.0) c → (t : StoredType) (k : Constructor) → IsTypeIn (contents_of l.0) t → (o : Option (BlockType × Ctor))
-    → o ≡ Some (type_at (contents_of l.0) t, constructor_at (contents_of l.0) k) → IsStructureIf c (Some (record { inductive = t.name; parameters = k.parameters; fields = k.fields })) o
+pub stored : (l : StoredLibrary) (c : Contents) → Extends (contents_of l.tables) c → (t : StoredType) (k : Constructor) → IsTypeIn (contents_of l.tables) t → (o : Option (BlockType × Ctor))
+    → o ≡ Some (type_at (contents_of l.tables) t, constructor_at (contents_of l.tables) k) → IsStructureIf c (Some (record { inductive = t.name; parameters = k.parameters; fields = k.fields })) o
 stored l c x t k known o e =
     let small = known.stated.name_in in
     let longer = x.names.longer in

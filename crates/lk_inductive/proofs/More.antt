@@ -12,7 +12,7 @@ use Rattle.lk_rulebook.specs.Literals.{by_def, may_give, IsOperation, IsDef, Can
 use Rattle.lk_rulebook.specs.Quotients.{IsQuot}
 use Rattle.lk_tree.specs.Operations.{Op, succ, Value}
 use Rattle.std.specs.Str.{chars}
-use Rattle.lk_rulebook.specs.Rules.{HasValue, of_def, of_thm, IsGivenAt, at_levels, Field, HasType, t_sort, t_local, t_const, t_app, t_lam, t_pi, t_let, t_lit, t_str, t_proj, HasSort, has_sort, IsProposition, is_prop, Reduces, r_refl, r_trans, r_head, r_beta, r_zeta, r_delta, r_proj, r_major, r_iota, r_k, r_struct, r_quot_lift, r_quot_ind, r_op, IsDefEq, e_refl, e_reduce, e_sort, e_const, e_app, e_lam, e_pi, e_proj, e_eta_left, e_eta_right, e_struct_left, e_struct_right, e_unit, e_proof, e_zero_left, e_zero_right, e_succ_left, e_succ_right, e_str_left, e_str_right, MeetsLaws, meets, AllHold, no_more_laws, holds, Numerals, no_more_numerals, numeral, IsNotProp, not_prop, IsByFields, by_fields, AllProject, no_more_fields, project, PastParameters, no_more, next, FieldOf, here, past}
+use Rattle.lk_rulebook.specs.Rules.{HasValue, of_def, of_thm, IsGivenAt, at_levels, Field, HasType, t_sort, t_local, t_const, t_app, t_lam, t_pi, t_let, t_lit, t_str, t_proj, HasSort, has_sort, IsProposition, is_prop, Reduces, r_refl, r_trans, r_head, r_beta, r_zeta, r_delta, r_proj, r_major, r_iota, r_k, r_struct, r_quot_lift, r_quot_ind, r_op, IsDefEq, e_refl, e_reduce, e_sort, e_const, e_app, e_lam, e_pi, e_proj, e_eta_left, e_eta_right, e_struct_left, e_struct_right, e_unit, e_proof, e_zero_left, e_zero_right, e_succ_left, e_succ_right, e_str_left, e_str_right, MeetsLaws, meets, AllHold, no_more_laws, holds, ReduceToNumerals, no_more_numerals, numeral, IsNotProposition, not_prop, IsByFields, by_fields, ProjectionsEqual, no_more_fields, project, IsTypeAfterParameters, no_more, next, IsFieldType, here, past}
 use Rattle.lk_inductive.specs.Grows.{IsWithin}
 
 -- what is no recursor without rules is kept as it is
@@ -245,8 +245,8 @@ mutual
   more_type w w' i (t_local f) = t_local f
   more_type w w' i (t_const g f) = const_more w w' i g f
   more_type w w' i (t_app f p a q) = t_app (more_type w w' i f) (more_reduct w w' i p) (more_type w w' i a) (more_equal w w' i q)
-  more_type w w' i (t_lam h k a f) = t_lam h k (more_sort w w' i a) (more_type w w' i f)
-  more_type w w' i (t_pi h a f) = t_pi h (more_sort w w' i a) (more_sort w w' i f)
+  more_type w w' i (t_lam fresh a f) = t_lam fresh (more_sort w w' i a) (more_type w w' i f)
+  more_type w w' i (t_pi fresh a f) = t_pi fresh (more_sort w w' i a) (more_sort w w' i f)
   more_type w w' i (t_let a v q f) = t_let (more_sort w w' i a) (more_type w w' i v) (more_equal w w' i q) (more_type w w' i f)
   more_type w w' i (t_lit h n) = t_lit (more_nat w w' i h) n
   more_type w w' i (t_str h) = t_str (more_string w w' i h)
@@ -293,8 +293,8 @@ mutual
   more_equal w w' i (e_sort h) = e_sort h
   more_equal w w' i (e_const h) = e_const h
   more_equal w w' i (e_app u v p q) = e_app u v (more_equal w w' i p) (more_equal w w' i q)
-  more_equal w w' i (e_lam h k p q) = e_lam h k (more_equal w w' i p) (more_equal w w' i q)
-  more_equal w w' i (e_pi h k p q) = e_pi h k (more_equal w w' i p) (more_equal w w' i q)
+  more_equal w w' i (e_lam fresh p q) = e_lam fresh (more_equal w w' i p) (more_equal w w' i q)
+  more_equal w w' i (e_pi fresh p q) = e_pi fresh (more_equal w w' i p) (more_equal w w' i q)
   more_equal w w' i (e_proj p) = e_proj (more_equal w w' i p)
   more_equal w w' i (e_eta_left v t p q) = e_eta_left v (more_type w w' i t) (more_reduct w w' i p) (more_equal w w' i q)
   more_equal w w' i (e_eta_right v t p q) = e_eta_right v (more_type w w' i t) (more_reduct w w' i p) (more_equal w w' i q)
@@ -318,24 +318,24 @@ mutual
   more_hold w w' i no_more_laws = no_more_laws
   more_hold w w' i (holds q h) = holds (more_equal w w' i q) (more_hold w w' i h)
 
-  more_numerals : (w w' : Place) → IsWithin w w' → {es : List Tree} {ns : List ℕ} → Numerals w es ns → Numerals w' es ns
+  more_numerals : (w w' : Place) → IsWithin w w' → {es : List Tree} {ns : List ℕ} → ReduceToNumerals w es ns → ReduceToNumerals w' es ns
   more_numerals w w' i no_more_numerals = no_more_numerals
   more_numerals w w' i (numeral p n s) = numeral (more_reduct w w' i p) n (more_numerals w w' i s)
 
-  pub more_no_proof : (w w' : Place) → IsWithin w w' → {T : Tree} → IsNotProp w T → IsNotProp w' T
+  pub more_no_proof : (w w' : Place) → IsWithin w w' → {T : Tree} → IsNotProposition w T → IsNotProposition w' T
   more_no_proof w w' i (not_prop t h) = not_prop (more_sort w w' i t) h
 
   more_by_fields : (w w' : Place) (i : IsWithin w w') → {S : StructureAt w} {xs : List Tree} {a : Tree} → IsByFields w S xs a → IsByFields w' (more_structure_at w w' i S) xs a
   more_by_fields w w' i (by_fields n ha hb q p) = by_fields n (more_type w w' i ha) (more_type w w' i hb) (more_equal w w' i q) (more_project w w' i p)
 
-  more_project : (w w' : Place) → IsWithin w w' → {J : Name} {a : Tree} {j : ℕ} {xs : List Tree} → AllProject w J a j xs → AllProject w' J a j xs
+  more_project : (w w' : Place) → IsWithin w w' → {J : Name} {a : Tree} {j : ℕ} {xs : List Tree} → ProjectionsEqual w J a j xs → ProjectionsEqual w' J a j xs
   more_project w w' i no_more_fields = no_more_fields
   more_project w w' i (project c p) = project (more_equal w w' i c) (more_project w w' i p)
 
-  more_past : (w w' : Place) → IsWithin w w' → {T r : Tree} {n : ℕ} {bs : List Tree} → PastParameters w T n bs r → PastParameters w' T n bs r
+  more_past : (w w' : Place) → IsWithin w w' → {T r : Tree} {n : ℕ} {bs : List Tree} → IsTypeAfterParameters w T n bs r → IsTypeAfterParameters w' T n bs r
   more_past w w' i no_more = no_more
   more_past w w' i (next c p) = next (more_reduct w w' i c) (more_past w w' i p)
 
-  more_field : (w w' : Place) → IsWithin w w' → {f : Field} {A r : Tree} {j : ℕ} → FieldOf w f A j r → FieldOf w' f A j r
+  more_field : (w w' : Place) → IsWithin w w' → {f : Field} {A r : Tree} {j : ℕ} → IsFieldType w f A j r → IsFieldType w' f A j r
   more_field w w' i (here c h) = here (more_reduct w w' i c) (λ z. more_prop w w' i (h z))
   more_field w w' i (past c h f) = past (more_reduct w w' i c) (λ z v. more_prop w w' i (h z v)) (more_field w w' i f)

@@ -16,8 +16,6 @@ use Rattle.lk_questions.specs.Iota.{CtorApp, only_ctor, to_ctor_when_k, to_ctor_
 use Rattle.lk_questions.specs.Iota.{iota, core_constant}
 use Rattle.lk_questions.specs.Quotients.{by_quot}
 use Rattle.lk_store.specs.Contents.{Contents}
-use Rattle.lk_store.specs.declared.tables.Tables.{Tables}
-use Rattle.lk_env.specs.declared.unit.Unit.{Unit as StoredUnit}
 use Rattle.lk_iota.specs.declared.sheet.IotaTermSheet.TheVariants.{MajorType, Candidate}
 use Rattle.lk_iota.specs.declared.major.Redex.{Redex}
 use Rattle.lk_iota.specs.Redexes.{PlainRedex, at_major, split_at, redex_by, redex_at, IsRedex}
@@ -26,14 +24,15 @@ use Rattle.lk_iota.specs.OnlyRule.{only_at}
 use Rattle.lk_iota.specs.Expansions.{at_ctor, by_only}
 use Rattle.lk_iota.specs.Iotas.{after_k, with_k, of_redex, of_redex_if, by_app, at_levels}
 use Rattle.lk_iota.specs.Iotas.{by_type_if, type_rest, compared_rest, iota_term_rest}
+use Rattle.lk_env.specs.StoredLibrary.{StoredLibrary}
 
 -- what numbers stand for, where they do
-pub some_redex : (c : Contents) (l : Tables × List StoredUnit) (u : Redex) (o : Option PlainRedex)
+pub some_redex : (c : Contents) (l : StoredLibrary) (u : Redex) (o : Option PlainRedex)
     → IsRedexIf c l (Some u) o → (p : PlainRedex) × (o ≡ Some p) × IsRedex c l u p
 some_redex c l u (Some p) i = (p, refl, i)
 some_redex c l u None i = absurd i
 
-pub none_redex : (c : Contents) (l : Tables × List StoredUnit) (o : Option PlainRedex)
+pub none_redex : (c : Contents) (l : StoredLibrary) (o : Option PlainRedex)
     → IsRedexIf c l None o → o ≡ None
 none_redex c l None i = refl
 none_redex c l (Some p) i = absurd i

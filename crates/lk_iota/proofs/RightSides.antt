@@ -18,15 +18,14 @@ use Rattle.lk_plain.specs.Erased.{a_tree, asks, gives, with_tree, erased}
 use Rattle.lk_questions.specs.Steps.{given}
 use Rattle.lk_questions.specs.Iota.{CtorApp, fitting_rule, by_rule}
 use Rattle.lk_store.specs.Contents.{Contents, name_at, list_at, tree_at, Extends}
-use Rattle.lk_store.specs.declared.tables.Tables.{Tables}
 use Rattle.lk_store.proofs.Extending.{Extends-trans}
 use Rattle.lk_subst.specs.Numbers.{trees-steady}
 use Rattle.lk_env.specs.declared.unit.RecursorRule.{RecursorRule}
 use Rattle.lk_env.specs.declared.unit.Recursor.{Recursor}
-use Rattle.lk_env.specs.declared.unit.Unit.{Unit as StoredUnit}
 use Rattle.lk_env.specs.Units.{rule_at, IsRuleIn}
 use Rattle.lk_ask.specs.Constants.{IsAtLevels}
 use Rattle.lk_env.specs.Lent.{recursor_in, given_recursor}
+use Rattle.lk_env.specs.StoredLibrary.{StoredLibrary}
 use Rattle.lk_constructor.specs.declared.constructor.AppliedConstructor.{AppliedConstructor}
 use Rattle.lk_constructor.specs.Applied.{IsApplied}
 use Rattle.lk_iota.specs.declared.major.Redex.{Redex}
@@ -129,7 +128,7 @@ take_fewer (suc m) zero xs h = absurd (omega arith)
 take_fewer (suc m) (suc n) [] h = refl
 take_fewer (suc m) (suc n) (y ∷ ys) h = ap (λ r. y ∷ r) (take_fewer m n ys (omega arith))
 
-module _ (c : Contents) (l : Tables × List StoredUnit) (u : Redex) (p : PlainRedex)
+module _ (c : Contents) (l : StoredLibrary) (u : Redex) (p : PlainRedex)
     (known : IsKnownRedex c u) (is : IsRedex c l u p)
     (s : AppliedConstructor) (b : CtorApp) (subject : List ℕ)
     (applied : IsApplied c l (map (tree_at c) subject) s b)

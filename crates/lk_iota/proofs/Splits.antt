@@ -10,10 +10,9 @@ use Rattle.lk_rulebook.specs.Place.{a_thm, an_opaque, a_quot, a_type, a_ctor, a_
 use Rattle.lk_rulebook.specs.Structures.{before_major}
 use Rattle.lk_store.specs.Contents.{Contents, list_at, tree_at}
 use Rattle.lk_store.specs.Store.{contents_of}
-use Rattle.lk_store.specs.declared.tables.Tables.{Tables}
-use Rattle.lk_env.specs.declared.unit.Unit.{Unit as StoredUnit}
 use Rattle.lk_env.specs.Entries.{plain_entry}
 use Rattle.lk_env.specs.Lent.{recursor_in}
+use Rattle.lk_env.specs.StoredLibrary.{StoredLibrary}
 use Rattle.lk_iota.specs.declared.major.Redex.{Redex}
 use Rattle.lk_iota.specs.Redexes.{at_major, split_at, redex_by, IsRedexIf}
 
@@ -39,10 +38,10 @@ no_redex ls xs g a_quot h = refl
 no_redex ls xs g (a_type b t) h = refl
 no_redex ls xs g (a_ctor b t c) h = refl
 
-module _ (c : Contents) (l : Tables × List StoredUnit) where
+module _ (c : Contents) (l : StoredLibrary) where
   -- there are enough arguments
   pub split_found : (u : Redex) (g : PlainEntry) (r : Recursor)
-      → plain_entry (contents_of l.0) l.1 u.entry ≡ Some g → g.kind ≡ a_rec r
+      → plain_entry (contents_of l.tables) l.units u.entry ≡ Some g → g.kind ≡ a_rec r
       → u.shared ≡ r.parameters + r.motives + r.minors → u.before ≡ before_major r → u.k ≡ r.k
       → u.before < length u.arguments.items → u.major ≡ get_or u.arguments.items u.before u.major
       → IsRedexIf c l (Some u) (split_at (list_at c u.levels) g r

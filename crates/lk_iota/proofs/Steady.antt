@@ -6,13 +6,12 @@ use Rattle.std.proofs.lemmas.List.{take-map, drop-map, map-append}
 use Rattle.lk_tree.specs.Tree.{Level, Tree}
 use Rattle.lk_questions.specs.Iota.{CtorApp}
 use Rattle.lk_store.specs.Contents.{Contents, tree_at, Extends}
-use Rattle.lk_store.specs.declared.tables.Tables.{Tables}
 use Rattle.lk_subst.specs.Numbers.{trees-steady, trees-known}
-use Rattle.lk_env.specs.declared.unit.Unit.{Unit as StoredUnit}
 use Rattle.lk_constructor.specs.declared.constructor.AppliedConstructor.{AppliedConstructor}
 use Rattle.lk_constructor.specs.Applied.{IsKnownConstructor, IsApplied}
 use Rattle.lk_iota.specs.declared.major.Redex.{Redex}
 use Rattle.lk_iota.specs.Redexes.{PlainRedex, IsKnownRedex, IsRedex}
+use Rattle.lk_env.specs.StoredLibrary.{StoredLibrary}
 
 module _ {c d : Contents} (x : Extends c d) where
   module _ (es : List ℕ) (es_in : All (λ e. e < length c.trees) es) where
@@ -38,7 +37,7 @@ module _ {c d : Contents} (x : Extends c d) where
         major_in = omega arith;
       }
 
-  pub redex_steady : (l : Tables × List StoredUnit) (u : Redex) (p : PlainRedex)
+  pub redex_steady : (l : StoredLibrary) (u : Redex) (p : PlainRedex)
       → IsKnownRedex c u → IsRedex c l u p → IsRedex d l u p
   redex_steady l u p known h = record {
     levels_are = x.lists.same u.levels known.levels_in ∙ h.levels_are;
@@ -63,7 +62,7 @@ module _ {c d : Contents} (x : Extends c d) where
       }
 
   -- with other arguments, and at other levels
-  pub applied_steady : (l : Tables × List StoredUnit) (xs ys zs : List Tree) (ls : List Level)
+  pub applied_steady : (l : StoredLibrary) (xs ys zs : List Tree) (ls : List Level)
       (u : AppliedConstructor) (k : CtorApp) → IsKnownConstructor c u → IsApplied c l xs u k
       → ys ≡ zs → IsApplied d l zs u (record k { levels = ls; args = ys })
   applied_steady l xs ys zs ls u k known h are = record {

@@ -3,9 +3,8 @@ use Rattle.std.specs.Prelude.{Option, Some, None, List, [], if◌then◌else◌}
 use Rattle.lk_tree.specs.Tree.{Level, Tree}
 use Rattle.lk_tree.specs.Level.{is_zero_level}
 use Rattle.lk_tree.specs.Spine.{head, args}
-use Rattle.lk_tree.specs.declared.rule.Rule.TheVariants.{LooseVariable}
 use Rattle.lk_rulebook.specs.Place.{Place}
-use Rattle.lk_plain.specs.Program.{Program, done, refuse, ◌>>=◌}
+use Rattle.lk_plain.specs.Program.{Program, done, ◌>>=◌}
 use Rattle.lk_questions.specs.Steps.{as_sort}
 use Rattle.lk_questions.specs.Iota.{CtorApp, levels_at, expanded, expand_at, iota_at_ctor}
 use Rattle.lk_questions.specs.Iota.{to_ctor_when_structure}
@@ -29,11 +28,11 @@ by_structure e p m k T = do
   at_ctor e p c
 
 abbrev pub by_structure_if : Tree → PlainRedex → Tree → Tree → Option CtorApp → Program Tree
-by_structure_if e p m T None = refuse LooseVariable
+by_structure_if e p m T None = at_ctor e p None
 by_structure_if e p m T (Some k) = by_structure e p m k T
 
 abbrev pub structure_rest : Place → Tree → Option PlainRedex → Tree → Tree → Program Tree
-structure_rest w e None m T = refuse LooseVariable
+structure_rest w e None m T = done e
 structure_rest w e (Some p) m T = by_structure_if e p m T (only_at w p.recursor.rules)
 
 -- there are levels wherever an expansion is made
@@ -63,9 +62,9 @@ by_sort e p m k T S = do
   at_ctor e p c
 
 abbrev pub by_sort_if : Tree → PlainRedex → Tree → Tree → Tree → Option CtorApp → Program Tree
-by_sort_if e p m T S None = refuse LooseVariable
+by_sort_if e p m T S None = at_ctor e p None
 by_sort_if e p m T S (Some k) = by_sort e p m k T S
 
 abbrev pub sort_rest : Place → Tree → Option PlainRedex → Tree → Tree → Tree → Program Tree
-sort_rest w e None m T S = refuse LooseVariable
+sort_rest w e None m T S = done e
 sort_rest w e (Some p) m T S = by_sort_if e p m T S (only_at w p.recursor.rules)

@@ -2,10 +2,9 @@
 use Rattle.std.specs.Prelude.{ℕ, Bool, List, Option, Some, None, Result, if◌then◌else◌}
 use Rattle.lk_tree.specs.Tree.{Level, Tree}
 use Rattle.lk_tree.specs.Spine.{head}
-use Rattle.lk_tree.specs.declared.rule.Rule.TheVariants.{LooseVariable}
 use Rattle.lk_rulebook.specs.Place.{Place}
 use Rattle.lk_plain.specs.Query.{whnf, same}
-use Rattle.lk_plain.specs.Program.{Program, done, refuse, ask, ◌>>=◌}
+use Rattle.lk_plain.specs.Program.{Program, done, ask, ◌>>=◌}
 use Rattle.lk_plain.specs.Erased.{Value, a_tree, Steps, gives, erased}
 use Rattle.lk_questions.specs.Iota.{CtorApp, only_ctor, to_ctor_when_k, levels_at, k_from}
 use Rattle.lk_questions.specs.Iota.{as_ctor_app, iota_of, iota_after_k, iota}
@@ -65,8 +64,9 @@ by_form e p m = do
   s ← literal_to_ctor m
   by_subject e p s
 
+-- what is no recursor applied is its own Core, here as in the first step
 abbrev pub form_rest : Tree → Option PlainRedex → Tree → Program Tree
-form_rest e None m = refuse LooseVariable
+form_rest e None m = done e
 form_rest e (Some p) m = by_form e p m
 
 -- T is the weak head form of the major premise's type, and b the constructor of the only rule
@@ -79,16 +79,16 @@ abbrev pub by_type : Tree → PlainRedex → CtorApp → Tree → Program Tree
 by_type e p b T = at_levels e p b T (levels_at b.ind.name (head T))
 
 abbrev pub by_type_if : Tree → PlainRedex → Tree → Option CtorApp → Program Tree
-by_type_if e p T None = refuse LooseVariable
+by_type_if e p T None = after_k e p None
 by_type_if e p T (Some b) = by_type e p b T
 
 abbrev pub type_rest : Place → Tree → Option PlainRedex → Tree → Program Tree
-type_rest w e None T = refuse LooseVariable
+type_rest w e None T = done e
 type_rest w e (Some p) T = by_type_if e p T (only_at w p.recursor.rules)
 
 -- the candidate d, once its type was compared
 abbrev pub compared_rest : Tree → Option PlainRedex → Tree → Bool → Program Tree
-compared_rest e None d equal = refuse LooseVariable
+compared_rest e None d equal = done e
 compared_rest e (Some p) d equal = do
   o ← if equal then done (Some d) else done None
   after_k e p o

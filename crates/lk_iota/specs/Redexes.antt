@@ -6,10 +6,8 @@ use Rattle.lk_tree.specs.Spine.{head, args}
 use Rattle.lk_rulebook.specs.Place.{Place, Entry, Kind, Recursor, a_rec}
 use Rattle.lk_rulebook.specs.Structures.{before_major}
 use Rattle.lk_store.specs.Contents.{Contents, list_at, tree_at}
-use Rattle.lk_store.specs.Store.{contents_of}
-use Rattle.lk_store.specs.declared.tables.Tables.{Tables}
-use Rattle.lk_env.specs.declared.unit.Unit.{Unit as StoredUnit}
-use Rattle.lk_env.specs.Entries.{plain_entry}
+use Rattle.lk_env.specs.StoredLibrary.{StoredLibrary}
+use Rattle.lk_env.specs.Entries.{library_entry}
 use Rattle.lk_ask.specs.Looks.{Sight}
 use Rattle.lk_iota.specs.declared.major.Redex.{Redex}
 
@@ -54,10 +52,10 @@ pub record IsKnownRedex (c : Contents) (u : Redex) : Type 0 where
   pub major_in : u.major < length c.trees
 
 -- the numbers stand for it
-pub record IsRedex (c : Contents) (l : Tables × List StoredUnit) (u : Redex) (p : PlainRedex)
+pub record IsRedex (c : Contents) (l : StoredLibrary) (u : Redex) (p : PlainRedex)
     : Type 0 where
   pub levels_are : list_at c u.levels ≡ p.levels
-  pub entry_is : plain_entry (contents_of l.0) l.1 u.entry ≡ Some p.entry
+  pub entry_is : library_entry l u.entry ≡ Some p.entry
   pub kind_is : p.entry.kind ≡ a_rec p.recursor
   pub shared_is : u.shared ≡ p.recursor.parameters + p.recursor.motives + p.recursor.minors
   pub k_is : u.k ≡ p.recursor.k
@@ -66,7 +64,7 @@ pub record IsRedex (c : Contents) (l : Tables × List StoredUnit) (u : Redex) (p
   pub rest_is : map (tree_at c) (drop (suc u.before) u.arguments.items) ≡ p.rest
 
 -- the one is there exactly where the other is
-abbrev pub IsRedexIf : Contents → Tables × List StoredUnit → Option Redex → Option PlainRedex
+abbrev pub IsRedexIf : Contents → StoredLibrary → Option Redex → Option PlainRedex
     → Type 0
 IsRedexIf c l None None = Unit {0}
 IsRedexIf c l (Some u) (Some p) = IsRedex c l u p

@@ -23,7 +23,6 @@ use lk_constructor::{AppliedConstructor, levels_of_type};
 use lk_spine::{apply, args};
 use lk_store::memory::NoMemory;
 use lk_store::node::Node;
-use lk_tree::rule::Rule;
 
 /// The candidate: the only constructor at these levels and at the parameters of the major premise's
 /// type. Its type is asked for, where that type has so many arguments.
@@ -108,7 +107,7 @@ pub(crate) fn after_type<L: Looks>(
 {
     match only_constructor(looks, redex.entry) {
         Some(constructor) => by_type(looks, redex, constructor, e, ty),
-        None => Ok(Next::No(Rule::LooseVariable)),
+        None => Ok(ask_major(redex, e)),
     }
 }
 

@@ -5,11 +5,10 @@ ghost use Rattle.lk_tree.specs.Spine.{args as args_of};
 ghost use Rattle.lk_rulebook.specs.Place.{Entry as PlainEntry, a_rec};
 ghost use Rattle.lk_store.specs.Contents.{Contents, list_at, tree_at};
 ghost use Rattle.lk_store.specs.Store.{contents_of};
-ghost use Rattle.lk_store.specs.declared.tables.Tables.{Tables};
 ghost use Rattle.lk_env.specs.declared.unit.RecursorRule.{RecursorRule};
-ghost use Rattle.lk_env.specs.declared.unit.Unit.{Unit as StoredUnit};
-ghost use Rattle.lk_env.specs.Entries.{plain_entry};
+ghost use Rattle.lk_env.specs.Entries.{library_entry};
 ghost use Rattle.lk_env.specs.Lent.{given_recursor};
+ghost use Rattle.lk_env.specs.StoredLibrary.{StoredLibrary};
 ghost use Rattle.lk_ask.specs.Looks.{entry_at};
 ghost use Rattle.lk_iota.specs.Redexes.{split_at, redex_by as plain_redex_by, redex_at};
 ghost use Rattle.lk_iota.specs.Redexes.{IsKnownRedex, IsRedexIf};
@@ -53,11 +52,12 @@ fn counts(parameters: u64, motives: u64, minors: u64, indices: u64) -> (u128, u1
 fn split(entry: Entry, levels: u64, recursor: &Recursor, arguments: Vec<u64>) -> Option<Redex>
     ensures known { (c : Contents) → levels < length c.lists
         → All (λ x. x < length c.trees) arguments.items → IfSome result (IsKnownRedex c) }
-    ensures is { (c : Contents) (l : Tables × List StoredUnit) (g : PlainEntry)
-        (rules : List RecursorRule) → plain_entry (contents_of l.0) l.1 entry ≡ Some g
-        → g.kind ≡ a_rec (given_recursor (contents_of l.0) recursor.now rules)
+    ensures is { (c : Contents) (l : StoredLibrary) (g : PlainEntry)
+        (rules : List RecursorRule) → library_entry l entry ≡ Some g
+        → g.kind ≡ a_rec (given_recursor (contents_of l.tables) recursor.now rules)
         → IsRedexIf c l result (split_at (list_at c levels) g
-        (given_recursor (contents_of l.0) recursor.now rules) (map (tree_at c) arguments.items)) }
+        (given_recursor (contents_of l.tables) recursor.now rules) (map
+        (tree_at c) arguments.items)) }
 {
     let (shared, before) = counts(
         recursor.parameters,

@@ -1,5 +1,5 @@
 //! How a recursor goes on with an answer: it is found anew from the whole term, whose head was looked
-//! up before.
+//! up before. Here as in the first step a term that is no recursor applied is its own `Core`.
 
 ghost use Rattle.std.specs.Prelude.{◌<◌, length};
 ghost use Rattle.lk_iota.specs.Redexes.{redex_at};
@@ -13,8 +13,8 @@ use crate::structure::{after_sort, after_structure};
 use crate::subject::by_form;
 use lk_ask::looks::Looks;
 use lk_ask::next::Next;
+use lk_ask::query::Answer;
 use lk_store::memory::NoMemory;
-use lk_tree::rule::Rule;
 
 /// Goes on with the weak head form of the major premise's type.
 pub(crate) fn resume_type<L: Looks>(looks: &mut L, e: u64, ty: u64) -> Result<IotaNext, NoMemory>
@@ -26,7 +26,7 @@ pub(crate) fn resume_type<L: Looks>(looks: &mut L, e: u64, ty: u64) -> Result<Io
 {
     match applied_recursor(looks, e)? {
         Some(redex) => after_type(looks, &redex, e, ty),
-        None => Ok(Next::No(Rule::LooseVariable)),
+        None => Ok(Next::Done(Answer::Term(e))),
     }
 }
 
@@ -45,7 +45,7 @@ pub(crate) fn resume_candidate<L: Looks>(
 {
     match applied_recursor(looks, e)? {
         Some(redex) => by_candidate(looks, &redex, e, candidate, equal),
-        None => Ok(Next::No(Rule::LooseVariable)),
+        None => Ok(Next::Done(Answer::Term(e))),
     }
 }
 
@@ -59,7 +59,7 @@ pub(crate) fn resume_form<L: Looks>(looks: &mut L, e: u64, m: u64) -> Result<Iot
 {
     match applied_recursor(looks, e)? {
         Some(redex) => by_form(looks, &redex, e, m),
-        None => Ok(Next::No(Rule::LooseVariable)),
+        None => Ok(Next::Done(Answer::Term(e))),
     }
 }
 
@@ -79,7 +79,7 @@ pub(crate) fn resume_structure<L: Looks>(
 {
     match applied_recursor(looks, e)? {
         Some(redex) => after_structure(looks, &redex, e, m, ty),
-        None => Ok(Next::No(Rule::LooseVariable)),
+        None => Ok(Next::Done(Answer::Term(e))),
     }
 }
 
@@ -101,6 +101,6 @@ pub(crate) fn resume_sort<L: Looks>(
 {
     match applied_recursor(looks, e)? {
         Some(redex) => after_sort(looks, &redex, e, m, ty, sort),
-        None => Ok(Next::No(Rule::LooseVariable)),
+        None => Ok(Next::Done(Answer::Term(e))),
     }
 }

@@ -132,7 +132,7 @@ pub(crate) fn after_structure<L: Looks>(
 {
     match only_constructor(looks, redex.entry) {
         Some(constructor) => by_structure(looks, constructor, e, m, ty),
-        None => Ok(Next::No(Rule::LooseVariable)),
+        None => Ok(Next::Done(Answer::Term(e))),
     }
 }
 
@@ -246,6 +246,6 @@ pub(crate) fn after_sort<L: Looks>(
 {
     match only_constructor(looks, redex.entry) {
         Some(constructor) => by_sort(looks, redex, constructor, e, m, ty, sort),
-        None => Ok(Next::No(Rule::LooseVariable)),
+        None => Ok(Next::Done(Answer::Term(e))),
     }
 }

@@ -1,11 +1,10 @@
 //! What stands for the major premise: its weak head form, or a constructor that K gave.
 
-ghost use Rattle.std.specs.Prelude.{◌≡◌, ◌<◌, ℕ, Option, None, List, length};
+ghost use Rattle.std.specs.Prelude.{◌≡◌, ◌<◌, ℕ, Option, None, length};
 ghost use Rattle.lk_rulebook.specs.Place.{Place};
 ghost use Rattle.lk_plain.specs.Erased.{a_tree, erased};
 ghost use Rattle.lk_store.specs.Contents.{Contents, tree_at};
-ghost use Rattle.lk_store.specs.declared.tables.Tables.{Tables};
-ghost use Rattle.lk_env.specs.declared.unit.Unit.{Unit as StoredUnit};
+ghost use Rattle.lk_env.specs.StoredLibrary.{StoredLibrary};
 ghost use Rattle.lk_ask.specs.Nexts.{IsKnownNext};
 ghost use Rattle.lk_iota.specs.Sheets.{IsKnownIotaSheet};
 ghost use Rattle.lk_iota.specs.Redexes.{PlainRedex, redex_at, IsKnownRedex, IsRedex};
@@ -30,7 +29,7 @@ use lk_store::memory::NoMemory;
 /// Asks for the weak head form of the major premise.
 pub(crate) fn ask_major(redex: &Redex, e: u64) -> IotaNext
     ensures known { (n : ℕ) → redex.now.major < n → e < n → IsKnownNext IsKnownIotaSheet n result }
-    ensures steps { (w : Place) (c : Contents) (l : Tables × List StoredUnit) (last : Option ℕ)
+    ensures steps { (w : Place) (c : Contents) (l : StoredLibrary) (last : Option ℕ)
         (p : PlainRedex) → redex_at w (tree_at c e) ≡ Some p → IsRedex c l redex.now p
         → iota_next w (tree_at c) last result
         ≡ erased w a_tree last (after_k (tree_at c e) p None) }

@@ -1,13 +1,13 @@
 -- What the programs of unfolding come to, case by case.
-use Rattle.std.proofs.Common.{◌≡◌, Bool, true, false, ◌&&◌, nat_eq, List, length}
+use Rattle.std.proofs.Common.{◌≡◌, Bool, true, false, ◌&&◌, nat_eq, length}
 use Rattle.std.proofs.Common.{Option, Some, None, refl, sym, ap, ◌∙◌, arith, if◌then◌else◌}
 use Rattle.std.specs.Prelude.{ℕ}
 use Rattle.lk_tree.specs.Tree.{name_discrete, Tree}
 use Rattle.lk_tree.specs.Levels.{put_levels}
 use Rattle.lk_tree.specs.Spine.{apply, head, args}
-use Rattle.lk_tree.specs.declared.rule.Rule.TheVariants.{LevelCount, LooseVariable}
+use Rattle.lk_tree.specs.declared.rule.Rule.TheVariants.{LevelCount}
 use Rattle.lk_rulebook.specs.Place.{Place}
-use Rattle.lk_plain.specs.Program.{Program, done, refuse, ◌>>=◌}
+use Rattle.lk_plain.specs.Program.{Program, done, ◌>>=◌}
 use Rattle.lk_questions.specs.Steps.{given, decided}
 use Rattle.lk_questions.specs.Levels.{complete_test, levels_equal}
 use Rattle.lk_questions.specs.Pairs.{same_all, answers, answers_yes, ◌or_else◌}
@@ -15,25 +15,24 @@ use Rattle.lk_questions.specs.Unfolding.{Unfolding as PlainUnfolding, is_less, b
 use Rattle.lk_questions.specs.Unfolding.{unfold_first, unfold_second, unfold_both}
 use Rattle.lk_questions.specs.Unfolding.{same_by_arguments}
 use Rattle.lk_store.specs.Contents.{Contents, tree_at, Extends}
-use Rattle.lk_store.specs.declared.tables.Tables.{Tables}
-use Rattle.lk_env.specs.declared.unit.Unit.{Unit as StoredUnit}
 use Rattle.lk_ask.specs.Constants.{IsUnfolded}
 use Rattle.lk_lazy.specs.declared.heads.Unfolding.{Unfolding}
 use Rattle.lk_lazy.specs.Heads.{unfolding_at, IsUnfolding, IsUnfoldingIf}
 use Rattle.lk_lazy.specs.Lazies.{both_by, unfold_again, arguments_or_both, same_or_both, ranked}
 use Rattle.lk_lazy.proofs.Programs.{answers_alone}
+use Rattle.lk_env.specs.StoredLibrary.{StoredLibrary}
 
 -- what numbers stand for, where they do
-pub some_of : (c : Contents) (l : Tables × List StoredUnit) (u : Unfolding) (o : Option PlainUnfolding) → IsUnfoldingIf c l (Some u) o → (p : PlainUnfolding) × (o ≡ Some p) × IsUnfolding c l u p
+pub some_of : (c : Contents) (l : StoredLibrary) (u : Unfolding) (o : Option PlainUnfolding) → IsUnfoldingIf c l (Some u) o → (p : PlainUnfolding) × (o ≡ Some p) × IsUnfolding c l u p
 some_of c l u (Some p) i = (p, refl, i)
 some_of c l u None i = absurd i
 
-pub none_of : (c : Contents) (l : Tables × List StoredUnit) (o : Option PlainUnfolding) → IsUnfoldingIf c l None o → o ≡ None
+pub none_of : (c : Contents) (l : StoredLibrary) (o : Option PlainUnfolding) → IsUnfoldingIf c l None o → o ≡ None
 none_of c l None i = refl
 none_of c l (Some p) i = absurd i
 
 -- numbers stand for what they stood for
-pub still_unfolds : (c d : Contents) (l : Tables × List StoredUnit) (u : Unfolding)
+pub still_unfolds : (c d : Contents) (l : StoredLibrary) (u : Unfolding)
     (p : PlainUnfolding) → Extends c d → IsUnfolding c l u p → IsUnfolding d l u p
 still_unfolds c d l u p x i = record {
   known = record {
@@ -129,10 +128,10 @@ module _ (a b : Tree) (p q : PlainUnfolding) where
   pub again_is : (w : Place) → unfolding_at w (head a) ≡ Some p → unfolding_at w (head b) ≡ Some q → unfold_again w a b ≡ unfold_both a b p q
   again_is w e f = ap (λ x. both_by a b x (unfolding_at w (head b))) e ∙ ap (both_by a b (Some p)) f
 
-pub again_left : (w : Place) (a b : Tree) → unfolding_at w (head a) ≡ None → unfold_again w a b ≡ refuse LooseVariable
+pub again_left : (w : Place) (a b : Tree) → unfolding_at w (head a) ≡ None → unfold_again w a b ≡ done false
 again_left w a b e = ap (λ x. both_by a b x (unfolding_at w (head b))) e
 
-pub again_right : (w : Place) (a b : Tree) (p : PlainUnfolding) → unfolding_at w (head a) ≡ Some p → unfolding_at w (head b) ≡ None → unfold_again w a b ≡ refuse LooseVariable
+pub again_right : (w : Place) (a b : Tree) (p : PlainUnfolding) → unfolding_at w (head a) ≡ Some p → unfolding_at w (head b) ≡ None → unfold_again w a b ≡ done false
 again_right w a b p e f = ap (λ x. both_by a b x (unfolding_at w (head b))) e ∙ ap (both_by a b (Some p)) f
 
 -- one of them alone unfolds

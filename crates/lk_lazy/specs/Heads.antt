@@ -1,5 +1,5 @@
 -- What the head of a term unfolds by, by numbers, and what it means.
-use Rattle.std.specs.Prelude.{◌≡◌, ◌<◌, ℕ, Bool, List, length, Option, Some, None}
+use Rattle.std.specs.Prelude.{◌≡◌, ◌<◌, ℕ, Bool, length, Option, Some, None}
 use Rattle.std.specs.Prelude.{IfOk, IfErr, Result}
 use Rattle.lk_tree.specs.Tree.{Tree, const}
 use Rattle.lk_tree.specs.Spine.{head}
@@ -8,10 +8,8 @@ use Rattle.lk_plain.specs.Program.{Program, ◌>>=◌}
 use Rattle.lk_plain.specs.Erased.{truth, Steps, refuses, erased}
 use Rattle.lk_questions.specs.Unfolding.{Unfolding as PlainUnfolding, Rank as PlainRank, lowest, height, highest, unfolding_by, unfolding_of}
 use Rattle.lk_store.specs.Contents.{Contents, name_at, list_at, tree_at}
-use Rattle.lk_store.specs.Store.{contents_of}
-use Rattle.lk_store.specs.declared.tables.Tables.{Tables}
-use Rattle.lk_env.specs.declared.unit.Unit.{Unit as StoredUnit}
-use Rattle.lk_env.specs.Entries.{plain_entry}
+use Rattle.lk_env.specs.StoredLibrary.{StoredLibrary}
+use Rattle.lk_env.specs.Entries.{library_entry}
 use Rattle.lk_tree.specs.declared.rule.Rule.{Rule}
 use Rattle.lk_ask.specs.Looks.{Basis, Sight}
 use Rattle.lk_lazy.specs.declared.rank.Rank.{Rank}
@@ -39,16 +37,18 @@ pub record IsKnownUnfolding (c : Contents) (u : Unfolding) : Type 0 where
   pub value_in : u.value < length c.trees
 
 -- the numbers stand for it
-pub record IsUnfolding (c : Contents) (l : Tables × List StoredUnit) (u : Unfolding) (p : PlainUnfolding) : Type 0 where
+pub record IsUnfolding (c : Contents) (l : StoredLibrary) (u : Unfolding)
+    (p : PlainUnfolding) : Type 0 where
   pub known : IsKnownUnfolding c u
   pub name_is : name_at c u.name ≡ p.name
   pub levels_are : list_at c u.levels ≡ p.levels
   pub value_is : tree_at c u.value ≡ p.value
-  pub entry_is : plain_entry (contents_of l.0) l.1 u.entry ≡ Some p.entry
+  pub entry_is : library_entry l u.entry ≡ Some p.entry
   pub rank_is : rank_at u.rank ≡ p.rank
 
 -- the one is there exactly where the other is
-abbrev pub IsUnfoldingIf : Contents → Tables × List StoredUnit → Option Unfolding → Option PlainUnfolding → Type 0
+abbrev pub IsUnfoldingIf : Contents → StoredLibrary → Option Unfolding
+    → Option PlainUnfolding → Type 0
 IsUnfoldingIf c l None None = Unit {0}
 IsUnfoldingIf c l (Some u) (Some p) = IsUnfolding c l u p
 IsUnfoldingIf c l (Some u) None = ⊥

@@ -3,9 +3,8 @@ use Rattle.std.specs.Prelude.{ℕ, ◌≡◌, Bool, false, nat_eq, List, length,
 use Rattle.std.specs.Prelude.{Option, Some, None, IfOk, IfSome, Result}
 use Rattle.lk_tree.specs.Tree.{Tree}
 use Rattle.lk_tree.specs.Spine.{head, args}
-use Rattle.lk_tree.specs.declared.rule.Rule.TheVariants.{LooseVariable}
 use Rattle.lk_rulebook.specs.Place.{Place}
-use Rattle.lk_plain.specs.Program.{Program, done, refuse}
+use Rattle.lk_plain.specs.Program.{Program, done}
 use Rattle.lk_plain.specs.Erased.{truth, Steps, gives, with_truth, erased}
 use Rattle.lk_questions.specs.Pairs.{same_all, Line, answers_yes, ◌or_else◌}
 use Rattle.lk_questions.specs.Unfolding.{Unfolding as PlainUnfolding, is_less, unfold_first, unfold_second, unfold_both, same_by_arguments}
@@ -22,12 +21,13 @@ use Rattle.lk_lazy.specs.Heads.{unfolding_at}
 use Rattle.lk_lazy.specs.Sheets.{map_lazy, IsKnownLazy}
 use Rattle.lk_ask.specs.Lines.{lefts, rights}
 
+-- whether they are the same, by unfolding both: not where one of them does not unfold
 abbrev pub both_by : Tree → Tree → Option PlainUnfolding → Option PlainUnfolding → Program Bool
 both_by a b (Some u) (Some v) = unfold_both a b u v
-both_by a b (Some u) None = refuse LooseVariable
-both_by a b None v = refuse LooseVariable
+both_by a b (Some u) None = done false
+both_by a b None v = done false
 
--- both unfold, by what their heads mean at the place
+-- the same, by what their heads mean at the place
 abbrev pub unfold_again : Place → Tree → Tree → Program Bool
 unfold_again w a b = both_by a b (unfolding_at w (head a)) (unfolding_at w (head b))
 

@@ -1,14 +1,13 @@
 //! What the head of a term unfolds by.
 
-ghost use Rattle.std.specs.Prelude.{◌≡◌, ◌<◌, List, Some, length};
+ghost use Rattle.std.specs.Prelude.{◌≡◌, ◌<◌, Some, length};
 ghost use Rattle.lk_tree.specs.Spine.{head as head_of};
 ghost use Rattle.lk_rulebook.specs.Place.{Entry as PlainEntry};
 ghost use Rattle.lk_questions.specs.Unfolding.{unfolding_by as plain_by};
 ghost use Rattle.lk_store.specs.Contents.{Contents, name_at, list_at, tree_at, Extends};
 ghost use Rattle.lk_store.specs.Store.{contents_of};
-ghost use Rattle.lk_store.specs.declared.tables.Tables.{Tables};
-ghost use Rattle.lk_env.specs.declared.unit.Unit.{Unit as StoredUnit};
-ghost use Rattle.lk_env.specs.Entries.{plain_entry, IsEntryIn};
+ghost use Rattle.lk_env.specs.Entries.{IsEntryIn, library_entry};
+ghost use Rattle.lk_env.specs.StoredLibrary.{StoredLibrary};
 ghost use Rattle.lk_lazy.specs.Heads.{IsUnfoldingIf, IsHeadUnfolding, LooksUp};
 
 use crate::rank::{Rank, rank_of};
@@ -32,10 +31,9 @@ pub struct Unfolding {
 
 /// What a constant unfolds by whose name means this entry.
 fn unfolding_by(name: u64, levels: u64, entry: Entry) -> Option<Unfolding>
-    ensures { (c : Contents) (l : Tables × List StoredUnit) (g : PlainEntry)
-        → Extends (contents_of l.0) c → IsEntryIn (contents_of l.0) entry
-        → name < length c.names → levels < length c.lists
-        → plain_entry (contents_of l.0) l.1 entry ≡ Some g
+    ensures { (c : Contents) (l : StoredLibrary) (g : PlainEntry)
+        → Extends (contents_of l.tables) c → IsEntryIn (contents_of l.tables) entry
+        → name < length c.names → levels < length c.lists → library_entry l entry ≡ Some g
         → IsUnfoldingIf c l result (plain_by (name_at c name) (list_at c levels) g g.kind) }
 {
     match entry.kind {

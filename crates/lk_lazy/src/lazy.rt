@@ -244,7 +244,8 @@ pub fn begin<L: Looks>(looks: &mut L, a: u64, b: u64) -> Result<Option<LazyNext>
     by_heads(looks, left, right, a, b)
 }
 
-/// Both terms unfold, after their arguments were not the same.
+/// Both terms unfold, after their arguments were not the same. Where one of them does not, they are
+/// not the same.
 fn after_arguments<L: Looks>(looks: &mut L, a: u64, b: u64) -> Result<LazyNext, NoMemory>
     requires a_in { a < length (L.contents looks.old).trees }
     requires b_in { b < length (L.contents looks.old).trees }
@@ -254,9 +255,9 @@ fn after_arguments<L: Looks>(looks: &mut L, a: u64, b: u64) -> Result<LazyNext, 
     match unfolding_again(looks, a) {
         Some(u) => match unfolding_again(looks, b) {
             Some(v) => unfold_both(looks, u, v, a, b),
-            None => Ok(Next::No(Rule::LooseVariable)),
+            None => Ok(Next::Done(Answer::Truth(false))),
         },
-        None => Ok(Next::No(Rule::LooseVariable)),
+        None => Ok(Next::Done(Answer::Truth(false))),
     }
 }
 

@@ -3,7 +3,7 @@ use Rattle.std.proofs.Common.{ℕ, zero, suc, ◌≡◌, ◌≢◌, ◌<◌, ◌
 use Rattle.std.proofs.Math.Nat.{pow-le-pow_right}
 use Rattle.lk_tree.specs.Tree.{Name, Level}
 use Rattle.lk_store.specs.Contents.{Contents, level_at}
-use Rattle.lk_level_order.specs.declared.placing.Part.{Part}
+use Rattle.lk_level_order.specs.declared.placing.PlacedLevel.{PlacedLevel}
 use Rattle.lk_level_order.specs.declared.cases.Question.{Question}
 use Rattle.lk_level_order.specs.declared.relation.Relation.{Relation}
 use Rattle.lk_level_order.specs.Placing.{IsOrder}
@@ -36,7 +36,7 @@ module _ (r : Relation) (ns : List Name) (l m : Level) where
   refuted vs x y is_x is_y fails = record { values = vs; fails = rw (is_x, is_y) at fails }
 
 -- one case
-module _ (parts : List Part) (vs : List ℕ) (q : Question) where
+module _ (parts : List PlacedLevel) (vs : List ℕ) (q : Question) where
   -- it holds where each of the first n parameters is far, but those of the first k that are 0
   abbrev pub HoldsFar : ℕ → ℕ → List ℕ → ℕ → Type 0
   HoldsFar k far ws n = (n < k → get_or ws n 0 ≢ 0) → OverOrders parts ws (λ d. asked_where d q (slice_set ws n far) ≡ true)
@@ -81,7 +81,7 @@ digits_end xs count at rest case h e =
     sym (append-nil xs) ∙ ap (λ ds. xs ++ ds) (sym none) ∙ e
 
 -- one case, by its number
-module _ (parts : List Part) (q : Question) (k count case : ℕ) (ws : List ℕ) (e : ws ≡ digits count case) where
+module _ (parts : List PlacedLevel) (q : Question) (k count case : ℕ) (ws : List ℕ) (e : ws ≡ digits count case) where
   counted : (n : ℕ) → count ≡ n → length ws ≡ n
   counted n few = ap length e ∙ digits_length count case ∙ few
 
@@ -92,7 +92,7 @@ module _ (parts : List Part) (q : Question) (k count case : ℕ) (ws : List ℕ)
   number_refuted here d order few = here d order (counted (length d.names) few)
 
 -- all cases, one after another
-pub cases_more : (parts : List Part) (q : Question) (k count case : ℕ) → ((d : Contents) → IsOrder d parts → count ≡ length d.names → IsTestedOf d q k (digits count case))
+pub cases_more : (parts : List PlacedLevel) (q : Question) (k count case : ℕ) → ((d : Contents) → IsOrder d parts → count ≡ length d.names → IsTestedOf d q k (digits count case))
     → ((d : Contents) → IsOrder d parts → count ≡ length d.names → (n : ℕ) → n < case → IsTestedOf d q k (digits count n))
     → (d : Contents) → IsOrder d parts → count ≡ length d.names → (n : ℕ) → n < case + 1 → IsTestedOf d q k (digits count n)
 cases_more parts q k count case here before d order few = below_more (λ n. IsTestedOf d q k (digits count n)) case (before d order few) (here d order few)

@@ -7,7 +7,7 @@ use Rattle.lk_tree.specs.LevelTest.{params_of, right_params}
 use Rattle.lk_tree.specs.Mentions.{is_one_of}
 use Rattle.lk_tree.proofs.LevelTests.{bool_cases, in_first, in_rest, name_same}
 use Rattle.lk_store.specs.Contents.{Contents, level_at, level_of}
-use Rattle.lk_level_order.specs.declared.placing.Part.{Part}
+use Rattle.lk_level_order.specs.declared.placing.PlacedLevel.{PlacedLevel}
 use Rattle.lk_level_order.specs.declared.support.Support.{Support}
 use Rattle.lk_level_order.specs.declared.listing.Chosen.{Chosen}
 use Rattle.lk_level_order.specs.declared.listing.Cases.{Cases}
@@ -173,8 +173,8 @@ module _ (d : Contents) (k : ℕ) where
       j (rw longer at l)
 
   -- the next level of an order
-  pub next_cover : (parts : List Part) (old new : List Chosen) (covers : List Cover) (place : ℕ) (c : Cover) (part : Part) → IsOrder d parts → place < length parts → length covers ≡ place
-      → ((e : Part) → part ≡ get_or parts place e) → Grows old new → AreCovers d k old covers → IsCover (take k d.names) new c (level_of d part.node) → AreCovers d k new (covers ++ c ∷ [])
+  pub next_cover : (parts : List PlacedLevel) (old new : List Chosen) (covers : List Cover) (place : ℕ) (c : Cover) (part : PlacedLevel) → IsOrder d parts → place < length parts → length covers ≡ place
+      → ((e : PlacedLevel) → part ≡ get_or parts place e) → Grows old new → AreCovers d k old covers → IsCover (take k d.names) new c (level_of d part.node) → AreCovers d k new (covers ++ c ∷ [])
   next_cover parts old new covers place c part order l count is g h i =
       let node : level_of d part.node ≡ level_at d place = rw (is part) (order.nodes place part l) in
       covers_push new covers c (covers_stay old new covers g h)

@@ -4,7 +4,7 @@ use Rattle.std.proofs.lemmas.Result.{IfOk-weaker}
 use Rattle.lk_store.specs.Contents.{Contents, level_at}
 use Rattle.lk_store.specs.declared.node.LevelNode.TheVariants.{Zero}
 use Rattle.lk_level_order.specs.declared.parameters.Parameter.{Parameter}
-use Rattle.lk_level_order.specs.declared.placing.Part.{Part}
+use Rattle.lk_level_order.specs.declared.placing.PlacedLevel.{PlacedLevel}
 use Rattle.lk_level_order.specs.declared.cases.Question.{Question}
 use Rattle.lk_level_order.specs.Parameters.{names_of}
 use Rattle.lk_level_order.specs.Placing.{gathered, IsPlaceOf, ArePlaced, IsOrder}
@@ -17,12 +17,12 @@ use Rattle.lk_level_order.proofs.Placed.{place_level, placed_order}
 use Rattle.lk_level_order.proofs.Decided.{all_enough, holds_by_cases, fails_somewhere}
 
 -- the answer is that of the definitions, whatever the order stands for
-abbrev pub IsAnswer : List Part → Question → ℕ → ℕ → Bool → Type 0
+abbrev pub IsAnswer : List PlacedLevel → Question → ℕ → ℕ → Bool → Type 0
 IsAnswer parts q k count r =
     (d : Contents) → IsOrder d parts → count ≡ length d.names → HasParameters d.names k (level_at d q.places.left) (level_at d q.places.right)
     → compared_by q.relation (level_at d q.places.left) (level_at d q.places.right) ≡ Some r
 
-module _ (parts : List Part) (q : Question) (k count : ℕ) (few : k ≤ 20) where
+module _ (parts : List PlacedLevel) (q : Question) (k count : ℕ) (few : k ≤ 20) where
   abbrev Tested : (ℕ → Type 0) → Type 0
   Tested P = (d : Contents) → IsOrder d parts → count ≡ length d.names → (case : ℕ) → P case → IsTestedOf d q k (digits count case)
 
@@ -52,13 +52,13 @@ module _ (parts : List Part) (q : Question) (k count : ℕ) (few : k ≤ 20) whe
   pub decided_by_all : {E : Type 0} (r : Result Bool E) → IfOk r (λ r. r ≡ true → Tested (λ case. case < 2 ^ k)) → IfOk r (λ r. r ≡ false → Somewhere) → IfOk r (IsAnswer parts q k count)
   decided_by_all r y n = decided (λ case. case < 2 ^ k) (all q.places.left) (all q.places.right) r y n
 
-module _ (c : Contents) (names : List Parameter) (parts : List Part) (q : Question) (a b k count : ℕ)
+module _ (c : Contents) (names : List Parameter) (parts : List PlacedLevel) (q : Question) (a b k count : ℕ)
     (h : HasParameters (names_of c names) k (level_at c a) (level_at c b)) (few : k ≤ 20) (placed : ArePlaced c names parts)
     (left : IsPlaceOf a parts q.places.left) (right : IsPlaceOf b parts q.places.right) (is : count ≡ length names) where
   abbrev d : Contents
   d = gathered c names parts
 
-  none : Part
+  none : PlacedLevel
   none = record { level = 0; node = Zero }
 
   order : IsOrder d parts

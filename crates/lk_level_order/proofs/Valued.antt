@@ -2,7 +2,7 @@
 use Rattle.std.proofs.Common.{ℕ, ◌≡◌, ◌<◌, ◌+◌, List, [], ◌∷◌, ◌++◌, length, get_or, sym, ap, ◌∙◌, arith, below_more}
 use Rattle.std.proofs.lemmas.Grind.{common_steps}
 use Rattle.lk_store.specs.Contents.{Contents, level_at, level_of}
-use Rattle.lk_level_order.specs.declared.placing.Part.{Part}
+use Rattle.lk_level_order.specs.declared.placing.PlacedLevel.{PlacedLevel}
 use Rattle.lk_level_order.specs.Placing.{IsOrder}
 use Rattle.lk_level_order.specs.Values.{value_at, AreValues}
 
@@ -16,7 +16,7 @@ values_push d vs values v h e k l =
     k (rw longer at l)
 
 -- the next level of an order
-pub next_value : (d : Contents) (parts : List Part) (vs values : List ℕ) (place v : ℕ) (part : Part) → IsOrder d parts → place < length parts → length values ≡ place → ((e : Part) → part ≡ get_or parts place e)
+pub next_value : (d : Contents) (parts : List PlacedLevel) (vs values : List ℕ) (place v : ℕ) (part : PlacedLevel) → IsOrder d parts → place < length parts → length values ≡ place → ((e : PlacedLevel) → part ≡ get_or parts place e)
     → AreValues d vs values → (AreValues d vs values → v ≡ value_at d.names vs (level_of d part.node)) → AreValues d vs (values ++ v ∷ [])
 next_value d parts vs values place v part order l count is h f =
     let node : level_of d part.node ≡ level_at d place = rw (is part) (order.nodes place part l) in

@@ -8,7 +8,7 @@ ghost use Rattle.lk_level_order.specs.Cases.{asked_where, IsTestedOf, IsRefutedO
 ghost use Rattle.lk_level_order.specs.Covers.{IsAmong};
 
 use crate::listing::{Cases, Chosen};
-use crate::placing::Part;
+use crate::placing::PlacedLevel;
 use crate::relation::{Relation, relates};
 use crate::values::{Pair, above, pair_values};
 use lk_rows::table::Table;
@@ -25,7 +25,7 @@ pub struct Question {
 /// Whether the relation holds where one parameter has another value.
 fn far_relates(
     question: Question,
-    parts: &Table<Part>,
+    parts: &Table<PlacedLevel>,
     assignment: &mut [u64],
     values: &mut Vec<u64>,
     p: usize,
@@ -46,7 +46,7 @@ fn far_relates(
 /// The same, for each parameter but those of the first that are 0 in this case.
 fn far_holds(
     question: Question,
-    parts: &Table<Part>,
+    parts: &Table<PlacedLevel>,
     rights: usize,
     assignment: &mut [u64],
     values: &mut Vec<u64>,
@@ -71,7 +71,7 @@ fn far_holds(
 /// Whether the relation holds in a case: at its least values, and where one parameter is far above all else.
 fn case_holds(
     question: Question,
-    parts: &Table<Part>,
+    parts: &Table<PlacedLevel>,
     rights: usize,
     assignment: &mut [u64],
     values: &mut Vec<u64>,
@@ -112,7 +112,7 @@ fn set_case(assignment: &mut Vec<u64>, case: u64, count: u64) -> Result<(), NoMe
 /// Whether the relation holds in the case of this number.
 pub fn number_holds(
     question: Question,
-    parts: &Table<Part>,
+    parts: &Table<PlacedLevel>,
     rights: u64,
     count: u64,
     case: u64,
@@ -132,7 +132,7 @@ pub fn number_holds(
 pub fn cases_hold(
     alloc: Global,
     question: Question,
-    parts: &Table<Part>,
+    parts: &Table<PlacedLevel>,
     rights: u64,
     count: u64,
 ) -> Result<bool, NoMemory>
@@ -166,7 +166,7 @@ pub fn cases_hold(
 pub fn listed_hold(
     alloc: Global,
     question: Question,
-    parts: &Table<Part>,
+    parts: &Table<PlacedLevel>,
     rows: &Table<Chosen>,
     cases: Cases,
     rights: u64,

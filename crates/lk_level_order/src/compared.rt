@@ -10,7 +10,7 @@ use crate::cases::Question;
 use crate::enough::holds;
 use crate::gathering::{Side, gather};
 use crate::parameters::Parameter;
-use crate::placing::{Part, place, place_of};
+use crate::placing::{PlacedLevel, place, place_of};
 use crate::relation::Relation;
 use crate::values::Pair;
 use lk_rows::table::Table;
@@ -132,7 +132,7 @@ fn related<T: Terms>(
     ensures { IfOk result (λ r. compared_by relation (level_at (T.contents terms.now) a)
         (level_at (T.contents terms.now) b) ≡ Some r) }
 {
-    let mut parts: Table<Part> = Table::new(alloc);
+    let mut parts: Table<PlacedLevel> = Table::new(alloc);
     place(alloc, terms, names, &mut parts, a)?;
     place(alloc, terms, names, &mut parts, b)?;
     let left = place_of(&parts, a)?;

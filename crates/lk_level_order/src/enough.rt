@@ -7,7 +7,7 @@ ghost use Rattle.lk_level_order.specs.Compared.{compared_by, HasParameters};
 
 use crate::cases::{Question, cases_hold, listed_hold};
 use crate::listing::{Chosen, Cover, list_cases};
-use crate::placing::Part;
+use crate::placing::PlacedLevel;
 use lk_rows::table::Table;
 use lk_store::memory::NoMemory;
 use std::alloc::Global;
@@ -20,7 +20,7 @@ const FEW: u64 = 4;
 pub fn holds(
     alloc: Global,
     question: Question,
-    parts: &Table<Part>,
+    parts: &Table<PlacedLevel>,
     rights: u64,
     count: u64,
 ) -> Result<bool, NoMemory>

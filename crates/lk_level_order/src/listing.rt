@@ -13,7 +13,7 @@ ghost use Rattle.lk_level_order.specs.Placing.{IsOrder};
 ghost use Rattle.lk_level_order.specs.Covers.{IsListed, IsAmong, IsJoined, IsOfNone, Grows, IsCover};
 ghost use Rattle.lk_level_order.specs.Covers.{AreInRows, AreCovers, AreEnoughWithin, OverNames};
 
-use crate::placing::Part;
+use crate::placing::PlacedLevel;
 use crate::support::{NEVER, SURELY, Support, either, is_by, is_met, put_digit};
 use crate::values::Pair;
 use lk_rows::row::Row;
@@ -322,7 +322,7 @@ fn node_cover(
 fn list_all(
     rows: &mut Table<Chosen>,
     covers: &mut Vec<Cover>,
-    parts: &Table<Part>,
+    parts: &Table<PlacedLevel>,
     rights: u64,
     count: u64,
 ) -> Result<(), NoMemory>
@@ -344,7 +344,7 @@ fn list_all(
 pub fn list_cases(
     rows: &mut Table<Chosen>,
     covers: &mut Vec<Cover>,
-    parts: &Table<Part>,
+    parts: &Table<PlacedLevel>,
     places: Pair,
     rights: u64,
     count: u64,

@@ -16,12 +16,12 @@ use std::alloc::Global;
 
 /// A level of the store, and its node: the parts are numbers of the order, and of the parameters.
 #[derive(Clone, Copy)]
-pub struct Part {
+pub struct PlacedLevel {
     pub level: u64,
     pub node: LevelNode,
 }
 
-impl Row for Part {
+impl Row for PlacedLevel {
     type Key = u64;
 
     ghost key = { λ p. p.level };
@@ -44,7 +44,7 @@ impl Row for Part {
 }
 
 /// Where a level stands. The parts of a level come before it.
-pub fn place_of(parts: &Table<Part>, level: u64) -> Result<u64, NoMemory>
+pub fn place_of(parts: &Table<PlacedLevel>, level: u64) -> Result<u64, NoMemory>
     ensures { IfOk result (λ i. IsPlaceOf level parts.now i) }
 {
     match parts.find(&level) {
@@ -57,7 +57,7 @@ pub fn place_of(parts: &Table<Part>, level: u64) -> Result<u64, NoMemory>
 fn placed_node<T: Terms>(
     terms: &T,
     names: &Table<Parameter>,
-    parts: &Table<Part>,
+    parts: &Table<PlacedLevel>,
     level: u64,
 ) -> Result<LevelNode, NoMemory>
     requires { level < length (T.contents terms.now).levels }
@@ -92,7 +92,7 @@ pub fn place<T: Terms>(
     alloc: Global,
     terms: &T,
     names: &Table<Parameter>,
-    parts: &mut Table<Part>,
+    parts: &mut Table<PlacedLevel>,
     level: u64,
 ) -> Result<(), NoMemory>
     requires level_in { level < length (T.contents terms.now).levels }
@@ -107,7 +107,7 @@ pub fn place<T: Terms>(
     'walk: while let Some(visit) = stack.pop() {
         if visit.opened {
             let node = placed_node(terms, names, parts, visit.level)?;
-            parts.push(Part {
+            parts.push(PlacedLevel {
                 level: visit.level,
                 node,
             })?;

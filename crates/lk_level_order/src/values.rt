@@ -6,7 +6,7 @@ ghost use Rattle.lk_level_order.specs.Parameters.{AreDifferent};
 ghost use Rattle.lk_level_order.specs.Placing.{IsOrder};
 ghost use Rattle.lk_level_order.specs.Values.{value_at, AreValues, OverOrders};
 
-use crate::placing::Part;
+use crate::placing::PlacedLevel;
 use lk_rows::table::Table;
 use lk_store::memory::NoMemory;
 use lk_store::node::LevelNode;
@@ -70,7 +70,11 @@ fn node_value(node: LevelNode, assignment: &[u64], values: &[u64]) -> Result<u64
 }
 
 /// Computes all levels of an order, one after another.
-fn evaluate(parts: &Table<Part>, assignment: &[u64], values: &mut Vec<u64>) -> Result<(), NoMemory>
+fn evaluate(
+    parts: &Table<PlacedLevel>,
+    assignment: &[u64],
+    values: &mut Vec<u64>,
+) -> Result<(), NoMemory>
     ensures { OnOk result (OverOrders parts.now assignment.now
         (λ d. AreValues d assignment.now values.new.items)) }
 {
@@ -84,7 +88,7 @@ fn evaluate(parts: &Table<Part>, assignment: &[u64], values: &mut Vec<u64>) -> R
 
 /// The values of two levels of an order.
 pub fn pair_values(
-    parts: &Table<Part>,
+    parts: &Table<PlacedLevel>,
     assignment: &[u64],
     values: &mut Vec<u64>,
     places: Pair,

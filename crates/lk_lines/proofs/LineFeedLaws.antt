@@ -4,9 +4,9 @@ use Rattle.std.specs.List.{position_or_len}
 use Rattle.std.proofs.lemmas.List.Elements.{All-tail, All-drop}
 use Rattle.lk_token.specs.Lines.{HasNoLineFeed}
 use Rattle.lk_token.specs.Fields.{skip_spaces, skip_field, text_behind}
-use Rattle.lk_lines.specs.declared.line.Entry.TheVariants as entries
-use Rattle.lk_lines.specs.declared.line.Said.{Said}
-use Rattle.lk_lines.specs.declared.line.Said.TheVariants as said
+use Rattle.lk_lines.specs.declared.line.EntryLine.TheVariants as entries
+use Rattle.lk_lines.specs.declared.line.Statement.{Statement}
+use Rattle.lk_lines.specs.declared.line.Statement.TheVariants as statement
 use Rattle.lk_lines.specs.declared.dues.Due.TheVariants as due
 use Rattle.lk_lines.specs.declared.dues.Numbering.TheVariants.{Names}
 use Rattle.lk_lines.specs.Values.{Number, Bytes}
@@ -48,8 +48,8 @@ said_spelled first bytes says e = elim (said_outcome first bytes) [
   | inr (w, is, h) ↦ absurd (let both = is in cc)
 ]
 
-pub names_lem : (first : Bool) (bytes : List ℕ) (s : Said) → HasNoLineFeed bytes → said_of first bytes ≡ Ok (says_of s) → NamesHaveNoLineFeed s
-names_lem first bytes (said.Entry own (entries.NameText parent text)) h e =
+pub names_lem : (first : Bool) (bytes : List ℕ) (s : Statement) → HasNoLineFeed bytes → said_of first bytes ≡ Ok (says_of s) → NamesHaveNoLineFeed s
+names_lem first bytes (statement.Entry own (entries.NameText parent text)) h e =
     let s = said_spelled first bytes _ e in
     let same : text.now ≡ text_behind bytes = text_lem (text_behind bytes) text.now parent _ s.2.3 in
     let P : List ℕ → Type 0 = λ xs. HasNoLineFeed xs in

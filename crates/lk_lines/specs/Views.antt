@@ -5,12 +5,12 @@ use Rattle.lk_lines.specs.declared.tags.EntryTag.TheVariants as entry
 use Rattle.lk_lines.specs.declared.tags.DeclarationTag.{DeclarationTag}
 use Rattle.lk_lines.specs.declared.tags.DeclarationTag.TheVariants as declaration
 use Rattle.lk_lines.specs.declared.tags.Tag.TheVariants as tag
-use Rattle.lk_lines.specs.declared.line.Entry.{Entry}
-use Rattle.lk_lines.specs.declared.line.Entry.TheVariants as entries
-use Rattle.lk_lines.specs.declared.line.Declaration.{Declaration}
-use Rattle.lk_lines.specs.declared.line.Declaration.TheVariants as declarations
-use Rattle.lk_lines.specs.declared.line.Said.{Said}
-use Rattle.lk_lines.specs.declared.line.Said.TheVariants as said
+use Rattle.lk_lines.specs.declared.line.EntryLine.{EntryLine}
+use Rattle.lk_lines.specs.declared.line.EntryLine.TheVariants as entries
+use Rattle.lk_lines.specs.declared.line.DeclarationLine.{DeclarationLine}
+use Rattle.lk_lines.specs.declared.line.DeclarationLine.TheVariants as declarations
+use Rattle.lk_lines.specs.declared.line.Statement.{Statement}
+use Rattle.lk_lines.specs.declared.line.Statement.TheVariants as statement
 use Rattle.lk_lines.specs.declared.steps.FieldError.{FieldError}
 use Rattle.lk_lines.specs.Reading.{read_dues}
 use Rattle.lk_lines.specs.Table.{dues_of}
@@ -19,7 +19,7 @@ use Rattle.lk_lines.specs.Says.{Says, Blank, Version, OfItem}
 use Rattle.lk_lines.specs.Values.{Value, Number, Literal, OfInfo, OfHint, Flag, Numbers, Bytes}
 
 -- what stands behind the tag
-abbrev pub entry_values : Entry → List Value
+abbrev pub entry_values : EntryLine → List Value
 entry_values (entries.NameText parent text) = Number parent ∷ Bytes text.now ∷ []
 entry_values (entries.NameNumber parent component) = Number parent ∷ Number component ∷ []
 entry_values (entries.Successor level) = Number level ∷ []
@@ -43,7 +43,7 @@ entry_values (entries.TextLiteral text) = Bytes text.items ∷ []
 entry_values (entries.Rule constructor field_count value) =
     Number constructor ∷ Number field_count ∷ Number value ∷ []
 
-abbrev pub entry_tag : Entry → EntryTag
+abbrev pub entry_tag : EntryLine → EntryTag
 entry_tag (entries.NameText parent text) = entry.NameText
 entry_tag (entries.NameNumber parent component) = entry.NameNumber
 entry_tag (entries.Successor level) = entry.Successor
@@ -63,7 +63,7 @@ entry_tag (entries.TextLiteral text) = entry.TextLiteral
 entry_tag (entries.Rule constructor field_count value) = entry.Rule
 
 -- what stands behind the tag
-abbrev pub declaration_values : Declaration → List Value
+abbrev pub declaration_values : DeclarationLine → List Value
 declaration_values (declarations.Axiom name declared_type parameters) =
     Number name ∷ Number declared_type ∷ Numbers parameters.items ∷ []
 declaration_values (declarations.Definition name declared_type value hint parameters) =
@@ -90,7 +90,7 @@ declaration_values (declarations.Recursor stated) =
     ∷ Number line.minor_count ∷ Numbers line.rules.items ∷ Flag line.k
     ∷ Numbers line.parameters.items ∷ []
 
-abbrev pub declaration_tag : Declaration → DeclarationTag
+abbrev pub declaration_tag : DeclarationLine → DeclarationTag
 declaration_tag (declarations.Axiom name declared_type parameters) = declaration.Axiom
 declaration_tag (declarations.Definition name declared_type value hint parameters) =
     declaration.Definition
@@ -101,25 +101,25 @@ declaration_tag (declarations.Inductive stated) = declaration.Inductive
 declaration_tag (declarations.Constructor stated) = declaration.Constructor
 declaration_tag (declarations.Recursor stated) = declaration.Recursor
 
--- what a reader of entries with this tag answers, from the text behind the third field of a line and the fields that
--- are left
-abbrev pub GivesEntry : EntryTag → List ℕ → List (List ℕ) → Result Entry FieldError → Type 0
+-- what a reader of entries with this tag answers, from the text behind the third field of a line
+-- and the fields that are left
+abbrev pub GivesEntry : EntryTag → List ℕ → List (List ℕ) → Result EntryLine FieldError → Type 0
 GivesEntry t text fields result =
     Gives entry_values result (read_dues (dues_of (tag.Entry t)) text fields)
 
 -- the same of declarations
 abbrev pub GivesDeclaration : DeclarationTag → List ℕ → List (List ℕ)
-    → Result Declaration FieldError → Type 0
+    → Result DeclarationLine FieldError → Type 0
 GivesDeclaration t text fields result =
     Gives declaration_values result (read_dues (dues_of (tag.Declaration t)) text fields)
 
 -- a line that was read, as what its bytes say
-abbrev pub says_of : Said → Says
-says_of said.Blank = Blank
-says_of said.Version = Version
-says_of (said.Entry own e) =
+abbrev pub says_of : Statement → Says
+says_of statement.Blank = Blank
+says_of statement.Version = Version
+says_of (statement.Entry own e) =
     OfItem (record { own = Some own; tag = tag.Entry (entry_tag e); values = entry_values e })
-says_of (said.Declaration d) =
+says_of (statement.Declaration d) =
     OfItem (record {
       own = None;
       tag = tag.Declaration (declaration_tag d);

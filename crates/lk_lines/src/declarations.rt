@@ -5,10 +5,10 @@ ghost use Rattle.lk_token.specs.Fields.{fields_of};
 ghost use Rattle.lk_lines.specs.Views.{GivesDeclaration, declaration_tag};
 
 use crate::steps::{FieldError, counted, flag, hint, number, numbers_left};
-use crate::{Constructor, Declaration, DeclarationTag, InductiveType, Recursor};
+use crate::{ConstructorLine, DeclarationLine, DeclarationTag, RecursorLine, TypeLine};
 use std::alloc::Global;
 
-fn axiom(alloc: Global, line: &[u8]) -> Result<Declaration, FieldError>
+fn axiom(alloc: Global, line: &[u8]) -> Result<DeclarationLine, FieldError>
     ensures values { (text : List ℕ) →
         GivesDeclaration DeclarationTag.Axiom text (fields_of line.now) result }
     ensures tag { IfOk result (λ e. declaration_tag e ≡ DeclarationTag.Axiom) }
@@ -16,14 +16,14 @@ fn axiom(alloc: Global, line: &[u8]) -> Result<Declaration, FieldError>
     let (name, rest) = number(line)?;
     let (declared_type, rest) = number(rest)?;
     let parameters = numbers_left(alloc, rest)?;
-    Ok(Declaration::Axiom {
+    Ok(DeclarationLine::Axiom {
         name,
         declared_type,
         parameters,
     })
 }
 
-fn definition(alloc: Global, line: &[u8]) -> Result<Declaration, FieldError>
+fn definition(alloc: Global, line: &[u8]) -> Result<DeclarationLine, FieldError>
     ensures values { (text : List ℕ) →
         GivesDeclaration DeclarationTag.Definition text (fields_of line.now) result }
     ensures tag { IfOk result (λ e. declaration_tag e ≡ DeclarationTag.Definition) }
@@ -33,7 +33,7 @@ fn definition(alloc: Global, line: &[u8]) -> Result<Declaration, FieldError>
     let (value, rest) = number(rest)?;
     let (hint, rest) = hint(rest)?;
     let parameters = numbers_left(alloc, rest)?;
-    Ok(Declaration::Definition {
+    Ok(DeclarationLine::Definition {
         name,
         declared_type,
         value,
@@ -42,7 +42,7 @@ fn definition(alloc: Global, line: &[u8]) -> Result<Declaration, FieldError>
     })
 }
 
-fn theorem(alloc: Global, line: &[u8]) -> Result<Declaration, FieldError>
+fn theorem(alloc: Global, line: &[u8]) -> Result<DeclarationLine, FieldError>
     ensures values { (text : List ℕ) →
         GivesDeclaration DeclarationTag.Theorem text (fields_of line.now) result }
     ensures tag { IfOk result (λ e. declaration_tag e ≡ DeclarationTag.Theorem) }
@@ -51,7 +51,7 @@ fn theorem(alloc: Global, line: &[u8]) -> Result<Declaration, FieldError>
     let (declared_type, rest) = number(rest)?;
     let (value, rest) = number(rest)?;
     let parameters = numbers_left(alloc, rest)?;
-    Ok(Declaration::Theorem {
+    Ok(DeclarationLine::Theorem {
         name,
         declared_type,
         value,
@@ -59,7 +59,7 @@ fn theorem(alloc: Global, line: &[u8]) -> Result<Declaration, FieldError>
     })
 }
 
-fn opaque(alloc: Global, line: &[u8]) -> Result<Declaration, FieldError>
+fn opaque(alloc: Global, line: &[u8]) -> Result<DeclarationLine, FieldError>
     ensures values { (text : List ℕ) →
         GivesDeclaration DeclarationTag.Opaque text (fields_of line.now) result }
     ensures tag { IfOk result (λ e. declaration_tag e ≡ DeclarationTag.Opaque) }
@@ -68,7 +68,7 @@ fn opaque(alloc: Global, line: &[u8]) -> Result<Declaration, FieldError>
     let (declared_type, rest) = number(rest)?;
     let (value, rest) = number(rest)?;
     let parameters = numbers_left(alloc, rest)?;
-    Ok(Declaration::Opaque {
+    Ok(DeclarationLine::Opaque {
         name,
         declared_type,
         value,
@@ -76,7 +76,7 @@ fn opaque(alloc: Global, line: &[u8]) -> Result<Declaration, FieldError>
     })
 }
 
-fn quotient(alloc: Global, line: &[u8]) -> Result<Declaration, FieldError>
+fn quotient(alloc: Global, line: &[u8]) -> Result<DeclarationLine, FieldError>
     ensures values { (text : List ℕ) →
         GivesDeclaration DeclarationTag.Quotient text (fields_of line.now) result }
     ensures tag { IfOk result (λ e. declaration_tag e ≡ DeclarationTag.Quotient) }
@@ -84,14 +84,14 @@ fn quotient(alloc: Global, line: &[u8]) -> Result<Declaration, FieldError>
     let (name, rest) = number(line)?;
     let (declared_type, rest) = number(rest)?;
     let parameters = numbers_left(alloc, rest)?;
-    Ok(Declaration::Quotient {
+    Ok(DeclarationLine::Quotient {
         name,
         declared_type,
         parameters,
     })
 }
 
-fn inductive(alloc: Global, line: &[u8]) -> Result<Declaration, FieldError>
+fn inductive(alloc: Global, line: &[u8]) -> Result<DeclarationLine, FieldError>
     ensures values { (text : List ℕ) →
         GivesDeclaration DeclarationTag.Inductive text (fields_of line.now) result }
     ensures tag { IfOk result (λ e. declaration_tag e ≡ DeclarationTag.Inductive) }
@@ -107,7 +107,7 @@ fn inductive(alloc: Global, line: &[u8]) -> Result<Declaration, FieldError>
     let parameters = numbers_left(alloc, rest)?;
     let stated = Box::new(
         alloc,
-        InductiveType {
+        TypeLine {
             name,
             declared_type,
             recursive,
@@ -119,10 +119,10 @@ fn inductive(alloc: Global, line: &[u8]) -> Result<Declaration, FieldError>
             parameters,
         },
     )?;
-    Ok(Declaration::Inductive(stated))
+    Ok(DeclarationLine::Inductive(stated))
 }
 
-fn constructor(alloc: Global, line: &[u8]) -> Result<Declaration, FieldError>
+fn constructor(alloc: Global, line: &[u8]) -> Result<DeclarationLine, FieldError>
     ensures values { (text : List ℕ) →
         GivesDeclaration DeclarationTag.Constructor text (fields_of line.now) result }
     ensures tag { IfOk result (λ e. declaration_tag e ≡ DeclarationTag.Constructor) }
@@ -136,7 +136,7 @@ fn constructor(alloc: Global, line: &[u8]) -> Result<Declaration, FieldError>
     let parameters = numbers_left(alloc, rest)?;
     let stated = Box::new(
         alloc,
-        Constructor {
+        ConstructorLine {
             name,
             declared_type,
             parent,
@@ -146,10 +146,10 @@ fn constructor(alloc: Global, line: &[u8]) -> Result<Declaration, FieldError>
             parameters,
         },
     )?;
-    Ok(Declaration::Constructor(stated))
+    Ok(DeclarationLine::Constructor(stated))
 }
 
-fn recursor(alloc: Global, line: &[u8]) -> Result<Declaration, FieldError>
+fn recursor(alloc: Global, line: &[u8]) -> Result<DeclarationLine, FieldError>
     ensures values { (text : List ℕ) →
         GivesDeclaration DeclarationTag.Recursor text (fields_of line.now) result }
     ensures tag { IfOk result (λ e. declaration_tag e ≡ DeclarationTag.Recursor) }
@@ -166,7 +166,7 @@ fn recursor(alloc: Global, line: &[u8]) -> Result<Declaration, FieldError>
     let parameters = numbers_left(alloc, rest)?;
     let stated = Box::new(
         alloc,
-        Recursor {
+        RecursorLine {
             name,
             declared_type,
             types,
@@ -179,7 +179,7 @@ fn recursor(alloc: Global, line: &[u8]) -> Result<Declaration, FieldError>
             parameters,
         },
     )?;
-    Ok(Declaration::Recursor(stated))
+    Ok(DeclarationLine::Recursor(stated))
 }
 
 /// What stands behind a tag.
@@ -187,7 +187,7 @@ pub(crate) fn read_declaration(
     alloc: Global,
     tag: DeclarationTag,
     line: &[u8],
-) -> Result<Declaration, FieldError>
+) -> Result<DeclarationLine, FieldError>
     ensures values { (text : List ℕ) → GivesDeclaration tag text (fields_of line.now) result }
     ensures tag { IfOk result (λ d. declaration_tag d ≡ tag) }
 {

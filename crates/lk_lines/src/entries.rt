@@ -6,22 +6,22 @@ ghost use Rattle.lk_token.specs.Fields.{fields_of, text_behind};
 ghost use Rattle.lk_lines.specs.Views.{GivesEntry, entry_tag};
 
 use crate::steps::{FieldError, end, hex, info, literal, long, number, numbers_left, text};
-use crate::{Entry, EntryTag};
+use crate::{EntryLine, EntryTag};
 use lk_token::text_behind;
 use std::alloc::Global;
 
-fn name_text<'b>(raw: &'b [u8], line: &[u8]) -> Result<Entry<'b>, FieldError>
+fn name_text<'b>(raw: &'b [u8], line: &[u8]) -> Result<EntryLine<'b>, FieldError>
     ensures values { GivesEntry EntryTag.NameText (text_behind raw.now)
         (fields_of line.now) result }
     ensures tag { IfOk result (λ e. entry_tag e ≡ EntryTag.NameText) }
 {
     let (parent, _) = number(line)?;
     let text = text(text_behind(raw))?;
-    Ok(Entry::NameText { parent, text })
+    Ok(EntryLine::NameText { parent, text })
 }
 
 #[inline(never)]
-fn name_number(line: &[u8]) -> Result<Entry<'static>, FieldError>
+fn name_number(line: &[u8]) -> Result<EntryLine<'static>, FieldError>
     ensures values { (text : List ℕ) →
         GivesEntry EntryTag.NameNumber text (fields_of line.now) result }
     ensures tag { IfOk result (λ e. entry_tag e ≡ EntryTag.NameNumber) }
@@ -29,94 +29,94 @@ fn name_number(line: &[u8]) -> Result<Entry<'static>, FieldError>
     let (parent, rest) = number(line)?;
     let (component, rest) = long(rest)?;
     end(rest)?;
-    Ok(Entry::NameNumber { parent, component })
+    Ok(EntryLine::NameNumber { parent, component })
 }
 
 #[inline(never)]
-fn successor(line: &[u8]) -> Result<Entry<'static>, FieldError>
+fn successor(line: &[u8]) -> Result<EntryLine<'static>, FieldError>
     ensures values { (text : List ℕ) →
         GivesEntry EntryTag.Successor text (fields_of line.now) result }
     ensures tag { IfOk result (λ e. entry_tag e ≡ EntryTag.Successor) }
 {
     let (level, rest) = number(line)?;
     end(rest)?;
-    Ok(Entry::Successor { level })
+    Ok(EntryLine::Successor { level })
 }
 
 #[inline(never)]
-fn max(line: &[u8]) -> Result<Entry<'static>, FieldError>
+fn max(line: &[u8]) -> Result<EntryLine<'static>, FieldError>
     ensures values { (text : List ℕ) → GivesEntry EntryTag.Max text (fields_of line.now) result }
     ensures tag { IfOk result (λ e. entry_tag e ≡ EntryTag.Max) }
 {
     let (left, rest) = number(line)?;
     let (right, rest) = number(rest)?;
     end(rest)?;
-    Ok(Entry::Max { left, right })
+    Ok(EntryLine::Max { left, right })
 }
 
 #[inline(never)]
-fn imax(line: &[u8]) -> Result<Entry<'static>, FieldError>
+fn imax(line: &[u8]) -> Result<EntryLine<'static>, FieldError>
     ensures values { (text : List ℕ) → GivesEntry EntryTag.Imax text (fields_of line.now) result }
     ensures tag { IfOk result (λ e. entry_tag e ≡ EntryTag.Imax) }
 {
     let (left, rest) = number(line)?;
     let (right, rest) = number(rest)?;
     end(rest)?;
-    Ok(Entry::Imax { left, right })
+    Ok(EntryLine::Imax { left, right })
 }
 
 #[inline(never)]
-fn parameter(line: &[u8]) -> Result<Entry<'static>, FieldError>
+fn parameter(line: &[u8]) -> Result<EntryLine<'static>, FieldError>
     ensures values { (text : List ℕ) →
         GivesEntry EntryTag.Parameter text (fields_of line.now) result }
     ensures tag { IfOk result (λ e. entry_tag e ≡ EntryTag.Parameter) }
 {
     let (name, rest) = number(line)?;
     end(rest)?;
-    Ok(Entry::Parameter { name })
+    Ok(EntryLine::Parameter { name })
 }
 
-fn variable(line: &[u8]) -> Result<Entry<'static>, FieldError>
+fn variable(line: &[u8]) -> Result<EntryLine<'static>, FieldError>
     ensures values { (text : List ℕ) →
         GivesEntry EntryTag.Variable text (fields_of line.now) result }
     ensures tag { IfOk result (λ e. entry_tag e ≡ EntryTag.Variable) }
 {
     let (index, rest) = number(line)?;
     end(rest)?;
-    Ok(Entry::Variable { index })
+    Ok(EntryLine::Variable { index })
 }
 
-fn sort(line: &[u8]) -> Result<Entry<'static>, FieldError>
+fn sort(line: &[u8]) -> Result<EntryLine<'static>, FieldError>
     ensures values { (text : List ℕ) → GivesEntry EntryTag.Sort text (fields_of line.now) result }
     ensures tag { IfOk result (λ e. entry_tag e ≡ EntryTag.Sort) }
 {
     let (level, rest) = number(line)?;
     end(rest)?;
-    Ok(Entry::Sort { level })
+    Ok(EntryLine::Sort { level })
 }
 
 #[inline(never)]
-fn constant(alloc: Global, line: &[u8]) -> Result<Entry<'static>, FieldError>
+fn constant(alloc: Global, line: &[u8]) -> Result<EntryLine<'static>, FieldError>
     ensures values { (text : List ℕ) →
         GivesEntry EntryTag.Constant text (fields_of line.now) result }
     ensures tag { IfOk result (λ e. entry_tag e ≡ EntryTag.Constant) }
 {
     let (name, rest) = number(line)?;
     let levels = numbers_left(alloc, rest)?;
-    Ok(Entry::Constant { name, levels })
+    Ok(EntryLine::Constant { name, levels })
 }
 
-fn apply(line: &[u8]) -> Result<Entry<'static>, FieldError>
+fn apply(line: &[u8]) -> Result<EntryLine<'static>, FieldError>
     ensures values { (text : List ℕ) → GivesEntry EntryTag.Apply text (fields_of line.now) result }
     ensures tag { IfOk result (λ e. entry_tag e ≡ EntryTag.Apply) }
 {
     let (function, rest) = number(line)?;
     let (argument, rest) = number(rest)?;
     end(rest)?;
-    Ok(Entry::Apply { function, argument })
+    Ok(EntryLine::Apply { function, argument })
 }
 
-fn lambda(line: &[u8]) -> Result<Entry<'static>, FieldError>
+fn lambda(line: &[u8]) -> Result<EntryLine<'static>, FieldError>
     ensures values { (text : List ℕ) → GivesEntry EntryTag.Lambda text (fields_of line.now) result }
     ensures tag { IfOk result (λ e. entry_tag e ≡ EntryTag.Lambda) }
 {
@@ -125,7 +125,7 @@ fn lambda(line: &[u8]) -> Result<Entry<'static>, FieldError>
     let (binder_type, rest) = number(rest)?;
     let (body, rest) = number(rest)?;
     end(rest)?;
-    Ok(Entry::Lambda {
+    Ok(EntryLine::Lambda {
         info,
         name,
         binder_type,
@@ -133,7 +133,7 @@ fn lambda(line: &[u8]) -> Result<Entry<'static>, FieldError>
     })
 }
 
-fn pi(line: &[u8]) -> Result<Entry<'static>, FieldError>
+fn pi(line: &[u8]) -> Result<EntryLine<'static>, FieldError>
     ensures values { (text : List ℕ) → GivesEntry EntryTag.Pi text (fields_of line.now) result }
     ensures tag { IfOk result (λ e. entry_tag e ≡ EntryTag.Pi) }
 {
@@ -142,7 +142,7 @@ fn pi(line: &[u8]) -> Result<Entry<'static>, FieldError>
     let (binder_type, rest) = number(rest)?;
     let (body, rest) = number(rest)?;
     end(rest)?;
-    Ok(Entry::Pi {
+    Ok(EntryLine::Pi {
         info,
         name,
         binder_type,
@@ -151,7 +151,7 @@ fn pi(line: &[u8]) -> Result<Entry<'static>, FieldError>
 }
 
 #[inline(never)]
-fn let_in(line: &[u8]) -> Result<Entry<'static>, FieldError>
+fn let_in(line: &[u8]) -> Result<EntryLine<'static>, FieldError>
     ensures values { (text : List ℕ) → GivesEntry EntryTag.Let text (fields_of line.now) result }
     ensures tag { IfOk result (λ e. entry_tag e ≡ EntryTag.Let) }
 {
@@ -160,7 +160,7 @@ fn let_in(line: &[u8]) -> Result<Entry<'static>, FieldError>
     let (value, rest) = number(rest)?;
     let (body, rest) = number(rest)?;
     end(rest)?;
-    Ok(Entry::Let {
+    Ok(EntryLine::Let {
         name,
         binder_type,
         value,
@@ -169,7 +169,7 @@ fn let_in(line: &[u8]) -> Result<Entry<'static>, FieldError>
 }
 
 #[inline(never)]
-fn project(line: &[u8]) -> Result<Entry<'static>, FieldError>
+fn project(line: &[u8]) -> Result<EntryLine<'static>, FieldError>
     ensures values { (text : List ℕ) →
         GivesEntry EntryTag.Project text (fields_of line.now) result }
     ensures tag { IfOk result (λ e. entry_tag e ≡ EntryTag.Project) }
@@ -178,7 +178,7 @@ fn project(line: &[u8]) -> Result<Entry<'static>, FieldError>
     let (field, rest) = number(rest)?;
     let (subject, rest) = number(rest)?;
     end(rest)?;
-    Ok(Entry::Project {
+    Ok(EntryLine::Project {
         structure,
         field,
         subject,
@@ -186,7 +186,7 @@ fn project(line: &[u8]) -> Result<Entry<'static>, FieldError>
 }
 
 #[inline(never)]
-fn nat_literal(alloc: Global, line: &[u8]) -> Result<Entry<'static>, FieldError>
+fn nat_literal(alloc: Global, line: &[u8]) -> Result<EntryLine<'static>, FieldError>
     ensures values { (text : List ℕ) →
         GivesEntry EntryTag.NatLiteral text (fields_of line.now) result }
     ensures tag { IfOk result (λ e. entry_tag e ≡ EntryTag.NatLiteral) }
@@ -194,21 +194,21 @@ fn nat_literal(alloc: Global, line: &[u8]) -> Result<Entry<'static>, FieldError>
     let (number, rest) = literal(line)?;
     end(rest)?;
     let number = Box::new(alloc, number)?;
-    Ok(Entry::NatLiteral(number))
+    Ok(EntryLine::NatLiteral(number))
 }
 
 #[inline(never)]
-fn text_literal(alloc: Global, line: &[u8]) -> Result<Entry<'static>, FieldError>
+fn text_literal(alloc: Global, line: &[u8]) -> Result<EntryLine<'static>, FieldError>
     ensures values { (text : List ℕ) →
         GivesEntry EntryTag.TextLiteral text (fields_of line.now) result }
     ensures tag { IfOk result (λ e. entry_tag e ≡ EntryTag.TextLiteral) }
 {
     let text = hex(alloc, line)?;
-    Ok(Entry::TextLiteral { text })
+    Ok(EntryLine::TextLiteral { text })
 }
 
 #[inline(never)]
-fn rule(line: &[u8]) -> Result<Entry<'static>, FieldError>
+fn rule(line: &[u8]) -> Result<EntryLine<'static>, FieldError>
     ensures values { (text : List ℕ) → GivesEntry EntryTag.Rule text (fields_of line.now) result }
     ensures tag { IfOk result (λ e. entry_tag e ≡ EntryTag.Rule) }
 {
@@ -216,7 +216,7 @@ fn rule(line: &[u8]) -> Result<Entry<'static>, FieldError>
     let (field_count, rest) = number(rest)?;
     let (value, rest) = number(rest)?;
     end(rest)?;
-    Ok(Entry::Rule {
+    Ok(EntryLine::Rule {
         constructor,
         field_count,
         value,
@@ -229,7 +229,7 @@ pub(crate) fn read_entry<'b>(
     tag: EntryTag,
     raw: &'b [u8],
     line: &[u8],
-) -> Result<Entry<'b>, FieldError>
+) -> Result<EntryLine<'b>, FieldError>
     ensures values { GivesEntry tag (text_behind raw.now) (fields_of line.now) result }
     ensures tag { IfOk result (λ e. entry_tag e ≡ tag) }
 {

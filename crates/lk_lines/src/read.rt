@@ -13,38 +13,38 @@ use crate::entries::read_entry;
 use crate::steps::{FieldError, number};
 use crate::tags::{declaration_tag, entry_tag};
 use crate::version::{is_two, version_of};
-use crate::{Fault, Line, LineError, Said, Word};
+use crate::{Fault, FileLine, LineError, Statement, Word};
 use lk_token::first_byte;
 use std::alloc::Global;
 
 // A line that defines a number.
 #[tactic(auto, unfolding(crate::specs::Items::numbered_at))]
-fn numbered(alloc: Global, line: &[u8]) -> Result<Said<'_>, FieldError>
+fn numbered(alloc: Global, line: &[u8]) -> Result<Statement<'_>, FieldError>
     ensures { Gives says_of result
         (as_item (numbered_at (text_behind line.now) (fields_of line.now))) }
 {
     let (own, rest) = number(line)?;
     let (tag, rest) = entry_tag(rest)?;
     let entry = read_entry(alloc, tag, line, rest)?;
-    Ok(Said::Entry { own, entry })
+    Ok(Statement::Entry { own, entry })
 }
 
 // A line that begins with its tag.
 #[inline(never)]
 #[tactic(auto, unfolding(crate::specs::Items::plain_at))]
-fn plain(alloc: Global, line: &[u8]) -> Result<Said<'_>, FieldError>
+fn plain(alloc: Global, line: &[u8]) -> Result<Statement<'_>, FieldError>
     ensures { (text : List ℕ) → Gives says_of result
         (as_item (plain_at text (fields_of line.now))) }
 {
     let (tag, rest) = declaration_tag(line)?;
     let declaration = read_declaration(alloc, tag, rest)?;
-    Ok(Said::Declaration(declaration))
+    Ok(Statement::Declaration(declaration))
 }
 
 // What a line says that is neither blank nor the version. Its first field begins with `byte`.
 #[inline(always)]
 #[tactic(auto, unfolding(crate::specs::Items::item_at))]
-fn item<'b>(alloc: Global, byte: u8, line: &'b [u8]) -> Result<Said<'b>, FieldError>
+fn item<'b>(alloc: Global, byte: u8, line: &'b [u8]) -> Result<Statement<'b>, FieldError>
     ensures { (field : List ℕ) (fields : List (List ℕ))
         → fields_of line.now ≡ (byte ∷ field) ∷ fields
         → Gives says_of result (item_said (text_behind line.now) (fields_of line.now)) }
@@ -58,18 +58,18 @@ fn item<'b>(alloc: Global, byte: u8, line: &'b [u8]) -> Result<Said<'b>, FieldEr
 
 // What a line says.
 #[tactic(auto, unfolding(crate::specs::Says::said_at))]
-fn said(alloc: Global, first: bool, line: &[u8]) -> Result<Said<'_>, FieldError>
+fn read_statement(alloc: Global, first: bool, line: &[u8]) -> Result<Statement<'_>, FieldError>
     ensures { Gives says_of result (said_at first (text_behind line.now) (fields_of line.now)) }
 {
     let Some(byte) = first_byte(line) else {
-        return Ok(Said::Blank);
+        return Ok(Statement::Blank);
     };
     if first {
         match version_of(alloc, line) {
             Err(_) => return Err(FieldError::NoMemory),
             Ok(Some(n)) => {
                 if is_two(n) {
-                    return Ok(Said::Version);
+                    return Ok(Statement::Version);
                 }
                 return Err(FieldError::Fault(Word::BadVersion));
             }
@@ -94,13 +94,13 @@ pub fn read_line(
     number: u64,
     first: bool,
     bytes: &[u8],
-) -> Result<Line<'_>, LineError>
+) -> Result<FileLine<'_>, LineError>
     requires { HasNoLineFeed bytes.now }
-    ensures said { Tells number result (said_of first bytes.now) }
-    ensures names { IfOk result (λ line. NamesHaveNoLineFeed line.said) }
+    ensures tells { Tells number result (said_of first bytes.now) }
+    ensures names { IfOk result (λ line. NamesHaveNoLineFeed line.statement) }
 {
-    match said(alloc, first, bytes) {
-        Ok(said) => Ok(Line { number, said }),
+    match read_statement(alloc, first, bytes) {
+        Ok(statement) => Ok(FileLine { number, statement }),
         Err(FieldError::NoMemory) => Err(LineError::NoMemory),
         Err(FieldError::Fault(word)) => Err(LineError::Fault(Fault { line: number, word })),
     }

@@ -1,5 +1,5 @@
 -- Two trees by literals: the literal step of either, and numbers.
-use Rattle.std.proofs.Common.{◌≡◌, ℕ, Bool, Option, None, refl, sym, ap, subst, ◌∙◌}
+use Rattle.std.proofs.Common.{◌≡◌, ◌<◌, ℕ, Bool, Option, None, refl, sym, ap, subst, ◌∙◌}
 use Rattle.std.specs.Prelude.{Result, Ok, Err, IfOk}
 use Rattle.lk_tree.specs.Tree.{Tree, lit}
 use Rattle.lk_rulebook.specs.Place.{Place}
@@ -17,13 +17,29 @@ use Rattle.lk_ask.specs.declared.next.Line.{Line}
 use Rattle.lk_ask.specs.Lines.{Rest, GivesLine}
 use Rattle.lk_ask.specs.Looks.{Basis, Sight}
 use Rattle.lk_lit.specs.declared.step.LitPart.{LitPart}
-use Rattle.lk_lit.specs.Literals.{number_in, numbers_line}
-use Rattle.lk_lit.specs.Steps.{Then, lit_steps, GivesPart}
+use Rattle.lk_lit.specs.declared.literals.Side.{Side}
+use Rattle.lk_lit.specs.declared.literals.Side.TheVariants as side
+use Rattle.lk_lit.specs.declared.sheet.LitSheet.{LitSheet}
+use Rattle.lk_lit.specs.Literals.{number_in, numbers_line, literals_rest, after, sheet_of}
+use Rattle.lk_lit.specs.Sheets.{map_lit, map_literals, IsKnownLit, IsKnownLiterals}
+use Rattle.lk_lit.specs.Steps.{Then, lit_rest, lit_steps, GivesPart}
 
 -- a line that begins with m, and what stands behind it
 pub begins_with : (m : Program (Option Tree)) (f : Option Tree → PlainLine) (n : PlainLine) (p : Program Bool)
     → (m >>= λ r. (f r or_line n) or_else p) ≡ (((m >>= f) or_line n) or_else p)
 begins_with m f n p = sym (ap (λ (l : PlainLine). l or_else p) (bind_bind m f _) ∙ bind_bind m (λ r. f r or_line n) _)
+
+-- what is kept while the literal step on one side waits
+pub waiting_rest : (side : Side) (p : Rest) (w : Place) (t : ℕ → Tree) (a b : ℕ) (s : LitSheet ℕ)
+    → literals_rest p w None (map_literals t (sheet_of side a b s))
+    ≡ lit_rest (after side p w (t a) (t b)) w None (map_lit t s)
+waiting_rest side.Left p w t a b s = refl
+waiting_rest side.Right p w t a b s = refl
+
+pub waiting_known : (side : Side) (n a b : ℕ) (s : LitSheet ℕ) → a < n → b < n → IsKnownLit n s
+    → IsKnownLiterals n (sheet_of side a b s)
+waiting_known side.Left n a b s h i k = (h, i, k)
+waiting_known side.Right n a b s h i k = (h, i, k)
 
 -- two trees as numbers
 pub numbers_are : (a b : Tree) → numbers_line (number_in a) (number_in b) a b ≡ same_numbers a b

@@ -8,5 +8,6 @@ pub mod Operations
 pub mod Arguments
 pub mod Sheets
 pub mod Parts
+pub mod Heads
 pub mod Halves
 pub mod TextForms

@@ -14,17 +14,19 @@ use Rattle.lk_lit.specs.declared.given.Given.{Given}
 -- the number is that of the name, which means this entry; last is the last unit that was looked at
 pub record IsGiven {B : Type 0} (c : Contents) (b : Basis B) (x : Name) (before last : Option ℕ)
     (given : Given) : Type 0 where
-  pub over : Extends (contents_of b.library.0) c
+  pub over : Extends (contents_of b.library.tables) c
   pub name_is : IsName c given.name x
-  pub known : IsEntryIn (contents_of b.library.0) given.entry
+  pub known : IsEntryIn (contents_of b.library.tables) given.entry
   pub found : IsFound b.library b.place x before given.entry last
 
 -- the name means this, or is refused
-abbrev pub IsGivenOr : {B : Type 0} → Contents → Basis B → Name → Option ℕ → Option ℕ → Result Given Rule → Type 0
+abbrev pub IsGivenOr : {B : Type 0} → Contents → Basis B → Name → Option ℕ → Option ℕ
+    → Result Given Rule → Type 0
 IsGivenOr c b x before last (Ok given) = IsGiven c b x before last given
 IsGivenOr c b x before last (Err r) = IsRefusedBy NoBuiltin b.place x r
 
--- numbers stand for what they stood for, and of all else no more than the last unit is another one; the name was looked up
+-- numbers stand for what they stood for, and of all else no more than the last unit is another one;
+-- the name was looked up
 pub record FindsBuiltin {S R B : Type 0} (contents : S → Contents) (rest : S → R)
     (sight : R → Sight B) (old new : S) (result : Result (Result Given Rule) NoMemory)
     (x : Name) : Type 0 where

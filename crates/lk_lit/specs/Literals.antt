@@ -7,7 +7,8 @@ use Rattle.lk_rulebook.specs.Place.{Place}
 use Rattle.lk_plain.specs.Program.{Program}
 use Rattle.lk_plain.specs.Erased.{truth, Steps, erased}
 use Rattle.lk_questions.specs.Pairs.{Line as PlainLine, goes_on, ◌or_else◌, ◌or_line◌}
-use Rattle.lk_questions.specs.LiteralLines.{NatCtor as PlainCtor, is_zero, is_succ, nat_ctor, lit_first, lit_second}
+use Rattle.lk_questions.specs.LiteralLines.{NatCtor as PlainCtor, is_zero, is_succ, nat_ctor}
+use Rattle.lk_questions.specs.LiteralLines.{lit_first, lit_second}
 use Rattle.lk_questions.specs.LiteralLines.{same_first, same_second, step_second, same_numbers}
 use Rattle.lk_store.specs.declared.memory.NoMemory.{NoMemory}
 use Rattle.lk_store.specs.Contents.{Contents, tree_at}
@@ -25,6 +26,9 @@ use Rattle.lk_lit.specs.declared.answer.AnswerSheet.{AnswerSheet}
 use Rattle.lk_lit.specs.declared.answer.AnswerSheet.TheVariants.{Passed}
 use Rattle.lk_lit.specs.declared.literals.NatCtor.{NatCtor}
 use Rattle.lk_lit.specs.declared.literals.NatCtor.TheVariants.{Zero, Succ}
+use Rattle.lk_lit.specs.declared.literals.Side.{Side}
+use Rattle.lk_lit.specs.declared.literals.Side.TheVariants as side
+use Rattle.lk_lit.specs.declared.sheet.LitSheet.{LitSheet}
 use Rattle.lk_lit.specs.declared.sheet.LiteralsSheet.{LiteralsSheet}
 use Rattle.lk_lit.specs.declared.sheet.LiteralsSheet.TheVariants.{Left, Right}
 use Rattle.lk_lit.specs.Sheets.{map_literals_sheet, IsKnownLiteralsSheet}
@@ -39,6 +43,11 @@ number_in _ = None
 abbrev pub is_nat_succ : Tree → Bool
 is_nat_succ (const c []) = same_name c nat_succ
 is_nat_succ _ = false
+
+-- a number on this side, and what may be a constructor of Nat on the other one
+abbrev pub number_line : Side → ℕ → Option PlainCtor → PlainLine
+number_line side.Left n k = lit_first n k
+number_line side.Right n k = lit_second k n
 
 -- two trees by the numbers that they are, where they are some
 abbrev pub numbers_line : Option ℕ → Option ℕ → Tree → Tree → PlainLine
@@ -71,7 +80,17 @@ after_right p w a b c last r = erased w truth last (right_line a b r or_else p a
 abbrev pub after_left : Rest → Place → Tree → Tree → Tree → Option ℕ → Option Tree → Steps
 after_left p w a b c last r = erased w truth last (left_line a b r or_else p a b)
 
--- what a sheet goes on with, once the term is there; last is the last unit that was looked at before
+-- the same of the literal step on this side
+abbrev pub after : Side → Rest → Place → Tree → Tree → Tree → Option ℕ → Option Tree → Steps
+after side.Left = after_left
+after side.Right = after_right
+
+-- what is kept while the literal step on this side waits
+abbrev pub sheet_of : Side → ℕ → ℕ → LitSheet ℕ → LiteralsSheet ℕ
+sheet_of side.Left a b s = Left a b s
+sheet_of side.Right a b s = Right a b s
+
+-- what a sheet goes on with, once the term is there; last is the last unit that was looked at
 abbrev pub literals_rest : Rest → Place → Option ℕ → LiteralsSheet Tree → Tree → Steps
 literals_rest p w last (Left a b s) v = lit_rest (after_left p w a b) w last s v
 literals_rest p w last (Right a b s) v = lit_rest (after_right p w a b) w last s v

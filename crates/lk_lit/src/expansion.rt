@@ -1,6 +1,6 @@
 //! Texts that expand.
 
-ghost use Rattle.std.specs.Prelude.{◌≡◌, ◌<◌, ◌&&◌, ℕ, List, Option, Some, IfOk, IfSome, length, map, option_map, All};
+ghost use Rattle.std.specs.Prelude.{◌≡◌, ◌<◌, ◌&&◌, Some, IfOk, IfSome, length, map, option_map, All};
 ghost use Rattle.std.specs.Str.{chars};
 ghost use Rattle.lk_rulebook.specs.Place.{Entry as PlainEntry};
 ghost use Rattle.lk_rulebook.specs.Literals.{expansion_names};
@@ -39,9 +39,9 @@ fn only(constructors: &[Constructor]) -> Option<&Constructor>
 /// Whether the only one of these constructors is `String.mk`.
 fn is_mk_alone<L: Looks>(looks: &L, constructors: &[Constructor]) -> bool
     requires over { IsOver L.contents L.rest L.sight looks.now }
-    requires known { let b = contents_of (L.sight (L.rest looks.now)).basis.library.0 in
+    requires known { let b = contents_of (L.sight (L.rest looks.now)).basis.library.tables in
         All (IsConstructorIn b) constructors.now }
-    ensures { let b = contents_of (L.sight (L.rest looks.now)).basis.library.0 in
+    ensures { let b = contents_of (L.sight (L.rest looks.now)).basis.library.tables in
         result ≡ is_mk_alone (map (constructor_at b) constructors.now) }
 {
     match only(constructors) {
@@ -141,7 +141,7 @@ fn expansion_by<L: Looks>(
     text: u64,
 ) -> Result<Result<Option<u64>, Rule>, NoMemory>
     requires over { IsOver L.contents L.rest L.sight looks.old }
-    requires entry_in { let b = contents_of (L.sight (L.rest looks.old)).basis.library.0 in
+    requires entry_in { let b = contents_of (L.sight (L.rest looks.old)).basis.library.tables in
         IsEntryIn b entry }
     requires text_in { text < length (L.contents looks.old).texts }
     ensures settles { (g : PlainEntry)

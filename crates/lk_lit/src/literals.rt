@@ -4,17 +4,19 @@ ghost use Rattle.std.specs.Prelude.{◌≡◌, ◌<◌, ℕ, Ok, Option, length}
 ghost use Rattle.lk_plain.specs.Erased.{truth, erased};
 ghost use Rattle.lk_questions.specs.Pairs.{◌or_else◌, ◌or_line◌};
 ghost use Rattle.lk_questions.specs.LiteralLines.{NatCtor as PlainCtor, nat_ctor as plain_ctor};
-ghost use Rattle.lk_questions.specs.LiteralLines.{by_literals, step_second, same_numbers};
-ghost use Rattle.lk_questions.specs.LiteralLines.{lit_first as plain_first};
-ghost use Rattle.lk_questions.specs.LiteralLines.{lit_second as plain_second};
-ghost use Rattle.lk_tree.specs.Tree.{const};
+ghost use Rattle.lk_questions.specs.LiteralLines.{by_literals, step_of, step_second, same_numbers};
+ghost use Rattle.lk_tree.specs.Tree.{Tree, const};
 ghost use Rattle.lk_tree.specs.Spine.{head as head_of};
+ghost use Rattle.lk_rulebook.specs.Place.{Place};
 ghost use Rattle.lk_store.specs.Contents.{name_at, list_at, tree_at};
-ghost use Rattle.lk_lit.specs.Literals.{number_in, is_nat_succ, numbers_line, IsCtorIf};
-ghost use Rattle.lk_lit.specs.Literals.{after_left, after_right};
-ghost use Rattle.lk_lit.specs.Literals.{asks_same, literals_rest, Compares, Continues};
-ghost use Rattle.lk_lit.specs.Sheets.{map_literals, IsKnownLiterals};
-ghost use Rattle.lk_lit.specs.Steps.{IsKnownPart, lit_steps};
+ghost use Rattle.lk_ask.specs.Lines.{Rest, IsKnownLine};
+ghost use Rattle.lk_ask.specs.Nexts.{IsKnownNext};
+ghost use Rattle.lk_lit.specs.Literals.{number_in, is_nat_succ, number_line, numbers_line};
+ghost use Rattle.lk_lit.specs.Literals.{after, after_left, after_right, sheet_of, literals_line};
+ghost use Rattle.lk_lit.specs.Literals.{asks_same, literals_rest, IsCtorIf, Compares, Continues};
+ghost use Rattle.lk_lit.specs.Sheets.{map_literals, IsKnownLit, IsKnownLiterals};
+ghost use Rattle.lk_lit.specs.Sheets.{IsKnownLiteralsSheet};
+ghost use Rattle.lk_lit.specs.Steps.{IsKnownPart, lit_steps, GivesPart};
 
 use crate::answer::AnswerSheet;
 use crate::builtin::{Builtin, is_builtin};
@@ -97,38 +99,19 @@ fn ask_same(a: u64, b: u64) -> LiteralsLine
     Line::Goes(Next::Ask(Query::Same(a, b), Sheet::Truth(AnswerSheet::Passed)))
 }
 
-/// A number beside what may be a constructor of `Nat`. `a` is the number, and `b` the constructor.
-fn lit_first<L: Looks>(
-    looks: &mut L,
-    number: u128,
-    ctor: Option<NatCtor>,
-    a: u64,
-    b: u64,
-) -> Result<LiteralsLine, NoMemory>
-    requires a_in { a < length (L.contents looks.old).trees }
-    requires b_in { b < length (L.contents looks.old).trees }
-    ensures { (k : Option PlainCtor) → IsCtorIf (L.contents looks.old) ctor k
-        → Compares L.contents L.rest L.sight looks.old looks.new result
-        (λ p t. plain_first number k or_else p (t a) (t b)) }
-{
-    match ctor {
-        None => Ok(Line::Behind { left: a, right: b }),
-        Some(NatCtor::Zero) => Ok(Line::Goes(Next::Done(Answer::Truth(number == 0)))),
-        Some(NatCtor::Succ(argument)) => {
-            if number == 0 {
-                return Ok(Line::Goes(Next::Done(Answer::Truth(false))));
-            }
-            let before = looks.make(Node::Lit(number - 1))?;
-            Ok(ask_same(before, argument))
-        }
-    }
+/// Which of the two terms it is.
+#[derive(Clone, Copy)]
+pub(crate) enum Side {
+    Left,
+    Right,
 }
 
-/// The same, where `a` is the constructor and `b` the number.
-fn lit_second<L: Looks>(
+/// A number beside what may be a constructor of `Nat`. The number is the term on this side.
+fn number_beside<L: Looks>(
     looks: &mut L,
-    ctor: Option<NatCtor>,
+    side: Side,
     number: u128,
+    ctor: Option<NatCtor>,
     a: u64,
     b: u64,
 ) -> Result<LiteralsLine, NoMemory>
@@ -136,7 +119,7 @@ fn lit_second<L: Looks>(
     requires b_in { b < length (L.contents looks.old).trees }
     ensures { (k : Option PlainCtor) → IsCtorIf (L.contents looks.old) ctor k
         → Compares L.contents L.rest L.sight looks.old looks.new result
-        (λ p t. plain_second k number or_else p (t a) (t b)) }
+        (λ p t. number_line side number k or_else p (t a) (t b)) }
 {
     match ctor {
         None => Ok(Line::Behind { left: a, right: b }),
@@ -146,7 +129,10 @@ fn lit_second<L: Looks>(
                 return Ok(Line::Goes(Next::Done(Answer::Truth(false))));
             }
             let before = looks.make(Node::Lit(number - 1))?;
-            Ok(ask_same(argument, before))
+            match side {
+                Side::Left => Ok(ask_same(before, argument)),
+                Side::Right => Ok(ask_same(argument, before)),
+            }
         }
     }
 }
@@ -161,14 +147,79 @@ fn numbers<L: Looks>(looks: &mut L, a: u64, b: u64) -> Result<LiteralsLine, NoMe
 {
     if let Some(number) = number_of(looks, a) {
         let ctor = nat_ctor(looks, b);
-        return lit_first(looks, number, ctor, a, b);
+        return number_beside(looks, Side::Left, number, ctor, a, b);
     }
     match number_of(looks, b) {
         Some(number) => {
             let ctor = nat_ctor(looks, a);
-            lit_second(looks, ctor, number, a, b)
+            number_beside(looks, Side::Right, number, ctor, a, b)
         }
         None => Ok(Line::Behind { left: a, right: b }),
+    }
+}
+
+/// What literals keep while the literal step of one of two terms waits.
+fn waiting(side: Side, left: u64, right: u64, step: LitSheet<u64>) -> LiteralsSheet<u64>
+    ensures { result ≡ sheet_of side left right step }
+{
+    match side {
+        Side::Left => LiteralsSheet::Left { left, right, step },
+        Side::Right => LiteralsSheet::Right { left, right, step },
+    }
+}
+
+/// What the literal step of the term on this side does next, as a line of both.
+fn stepping(next: Next<u64, LitSheet<u64>>, side: Side, left: u64, right: u64) -> LiteralsLine
+    ensures known { (n : ℕ) → IsKnownNext IsKnownLit n next → left < n → right < n
+        → IsKnownLine IsKnownLiteralsSheet n result }
+    ensures steps { (p : Rest) (w : Place) (t : ℕ → Tree) (last : Option ℕ)
+        → literals_line p w t last result
+        ≡ lit_steps (after side p w (t left) (t right)) w t last (LitPart.Goes next) }
+{
+    match next {
+        Next::Ask(asked, step) => Line::Goes(Next::Ask(
+            asked,
+            Sheet::Term(waiting(side, left, right, step)),
+        )),
+        Next::Done(answer) => Line::Goes(Next::Done(answer)),
+        Next::No(rule) => Line::Goes(Next::No(rule)),
+    }
+}
+
+/// The literal step of a term whose head is this constant, once that is looked up.
+fn constant_step<L: Looks>(
+    looks: &mut L,
+    name: u64,
+    levels: u64,
+    e: u64,
+) -> Result<LitPart, NoMemory>
+    requires name_in { name < length (L.contents looks.old).names }
+    requires levels_in { levels < length (L.contents looks.old).lists }
+    requires e_in { e < length (L.contents looks.old).trees }
+    requires head_is { const (name_at (L.contents looks.old) name)
+        (list_at (L.contents looks.old) levels) ≡ head_of (tree_at (L.contents looks.old) e) }
+    ensures { GivesPart L.contents L.rest L.sight looks.old looks.new result e
+        (λ t. step_of (t e) (head_of (t e))) }
+{
+    match looks.look(name, Rule::UnknownConstant) {
+        Ok(entry) => step::begin(looks, entry, name, levels, e),
+        Err(rule) => Ok(LitPart::Goes(Next::No(rule))),
+    }
+}
+
+/// The literal step of a term. Only a constant at its head may have one.
+fn step_of<L: Looks>(looks: &mut L, e: u64) -> Result<LitPart, NoMemory>
+    requires { e < length (L.contents looks.old).trees }
+    ensures { GivesPart L.contents L.rest L.sight looks.old looks.new result e
+        (λ t. step_of (t e) (head_of (t e))) }
+{
+    let front = head(looks, e);
+    match looks.view(front) {
+        Node::Const(name, levels) => constant_step(looks, name, levels, e),
+        _ => Ok(LitPart::Comes {
+            term: e,
+            value: None,
+        }),
     }
 }
 
@@ -186,48 +237,12 @@ fn of_right<L: Looks>(
         (λ p w t last. lit_steps (after_right p w (t a) (t b)) w t last part) }
 {
     match part {
-        LitPart::Goes(next) => match next {
-            Next::Ask(asked, step) => Ok(Line::Goes(Next::Ask(
-                asked,
-                Sheet::Term(LiteralsSheet::Right {
-                    left: a,
-                    right: b,
-                    step,
-                }),
-            ))),
-            Next::Done(answer) => Ok(Line::Goes(Next::Done(answer))),
-            Next::No(rule) => Ok(Line::Goes(Next::No(rule))),
-        },
+        LitPart::Goes(next) => Ok(stepping(next, Side::Right, a, b)),
         LitPart::Comes { term: _, value } => match value {
             Some(e) => Ok(ask_same(a, e)),
             None => numbers(looks, a, b),
         },
     }
-}
-
-/// Two terms, once the left one has no literal step. The head of the right one is this constant.
-fn right_step<L: Looks>(
-    looks: &mut L,
-    name: u64,
-    levels: u64,
-    a: u64,
-    b: u64,
-) -> Result<LiteralsLine, NoMemory>
-    requires name_in { name < length (L.contents looks.old).names }
-    requires levels_in { levels < length (L.contents looks.old).lists }
-    requires a_in { a < length (L.contents looks.old).trees }
-    requires b_in { b < length (L.contents looks.old).trees }
-    requires head_is { const (name_at (L.contents looks.old) name)
-        (list_at (L.contents looks.old) levels) ≡ head_of (tree_at (L.contents looks.old) b) }
-    ensures { Compares L.contents L.rest L.sight looks.old looks.new result
-        (λ p t. (step_second (t a) (t b) or_line same_numbers (t a) (t b)) or_else p (t a) (t b)) }
-{
-    let entry = match looks.look(name, Rule::UnknownConstant) {
-        Ok(entry) => entry,
-        Err(rule) => return Ok(Line::Goes(Next::No(rule))),
-    };
-    let part = step::begin(looks, entry, name, levels, b)?;
-    of_right(looks, part, a, b)
 }
 
 /// Two terms, once the left one has no literal step: by that of the right one, then as numbers.
@@ -237,11 +252,8 @@ fn right<L: Looks>(looks: &mut L, a: u64, b: u64) -> Result<LiteralsLine, NoMemo
     ensures { Compares L.contents L.rest L.sight looks.old looks.new result
         (λ p t. (step_second (t a) (t b) or_line same_numbers (t a) (t b)) or_else p (t a) (t b)) }
 {
-    let front = head(looks, b);
-    match looks.view(front) {
-        Node::Const(name, levels) => right_step(looks, name, levels, a, b),
-        _ => numbers(looks, a, b),
-    }
+    let part = step_of(looks, b)?;
+    of_right(looks, part, a, b)
 }
 
 /// Goes on with the literal step of the left one: what it gives is compared with the right one.
@@ -253,48 +265,12 @@ fn of_left<L: Looks>(looks: &mut L, part: LitPart, a: u64, b: u64) -> Result<Lit
         (λ p w t last. lit_steps (after_left p w (t a) (t b)) w t last part) }
 {
     match part {
-        LitPart::Goes(next) => match next {
-            Next::Ask(asked, step) => Ok(Line::Goes(Next::Ask(
-                asked,
-                Sheet::Term(LiteralsSheet::Left {
-                    left: a,
-                    right: b,
-                    step,
-                }),
-            ))),
-            Next::Done(answer) => Ok(Line::Goes(Next::Done(answer))),
-            Next::No(rule) => Ok(Line::Goes(Next::No(rule))),
-        },
+        LitPart::Goes(next) => Ok(stepping(next, Side::Left, a, b)),
         LitPart::Comes { term: _, value } => match value {
             Some(e) => Ok(ask_same(e, b)),
             None => right(looks, a, b),
         },
     }
-}
-
-/// Two terms by literals. The head of the left one is this constant.
-fn left_step<L: Looks>(
-    looks: &mut L,
-    name: u64,
-    levels: u64,
-    a: u64,
-    b: u64,
-) -> Result<LiteralsLine, NoMemory>
-    requires name_in { name < length (L.contents looks.old).names }
-    requires levels_in { levels < length (L.contents looks.old).lists }
-    requires a_in { a < length (L.contents looks.old).trees }
-    requires b_in { b < length (L.contents looks.old).trees }
-    requires head_is { const (name_at (L.contents looks.old) name)
-        (list_at (L.contents looks.old) levels) ≡ head_of (tree_at (L.contents looks.old) a) }
-    ensures { Compares L.contents L.rest L.sight looks.old looks.new result
-        (λ p t. by_literals (t a) (t b) or_else p (t a) (t b)) }
-{
-    let entry = match looks.look(name, Rule::UnknownConstant) {
-        Ok(entry) => entry,
-        Err(rule) => return Ok(Line::Goes(Next::No(rule))),
-    };
-    let part = step::begin(looks, entry, name, levels, a)?;
-    of_left(looks, part, a, b)
 }
 
 /// Two terms by literals: by the literal step of the left one, else of the right one, else as
@@ -305,11 +281,8 @@ pub fn begin<L: Looks>(looks: &mut L, a: u64, b: u64) -> Result<LiteralsLine, No
     ensures { Compares L.contents L.rest L.sight looks.old looks.new result
         (λ p t. by_literals (t a) (t b) or_else p (t a) (t b)) }
 {
-    let front = head(looks, a);
-    match looks.view(front) {
-        Node::Const(name, levels) => left_step(looks, name, levels, a, b),
-        _ => right(looks, a, b),
-    }
+    let part = step_of(looks, a)?;
+    of_left(looks, part, a, b)
 }
 
 /// Goes on once the term is there that a sheet waits for.

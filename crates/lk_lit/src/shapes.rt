@@ -79,10 +79,10 @@ fn is_sort_one<L: Looks>(looks: &mut L, e: u64) -> Result<Result<bool, Rule>, No
 
 /// The type of a block that an entry is, with its block, where it is one.
 pub(crate) fn inductive<L: Looks>(looks: &L, entry: Entry) -> Option<(&Block, &BlockType)>
-    ensures value { let b = contents_of (L.sight (L.rest looks.now)).basis.library.0 in
+    ensures value { let b = contents_of (L.sight (L.rest looks.now)).basis.library.tables in
         (g : PlainEntry) → entry_at (L.sight (L.rest looks.now)).basis entry ≡ Some g
         → type_in g.kind ≡ option_map (λ p. (block_at b p.0.now, type_at b p.1.now)) result }
-    ensures known { let b = contents_of (L.sight (L.rest looks.now)).basis.library.0 in
+    ensures known { let b = contents_of (L.sight (L.rest looks.now)).basis.library.tables in
         IfSome result (λ p. IsBlockTypeIn b p.0.now p.1.now) }
     ensures over { IsOver L.contents L.rest L.sight looks.now }
 {
@@ -132,9 +132,9 @@ fn two(constructors: &[Constructor]) -> Option<(&Constructor, &Constructor)>
 /// Whether the constructors are `Nat.zero : Nat` and `Nat.succ : Nat -> Nat`.
 fn are_nat_ctors<L: Looks>(looks: &L, constructors: &[Constructor]) -> bool
     requires over { IsOver L.contents L.rest L.sight looks.now }
-    requires known { let b = contents_of (L.sight (L.rest looks.now)).basis.library.0 in
+    requires known { let b = contents_of (L.sight (L.rest looks.now)).basis.library.tables in
         All (IsConstructorIn b) constructors.now }
-    ensures { let b = contents_of (L.sight (L.rest looks.now)).basis.library.0 in
+    ensures { let b = contents_of (L.sight (L.rest looks.now)).basis.library.tables in
         result ≡ are_nat_ctors (map (constructor_at b) constructors.now) }
 {
     match two(constructors) {
@@ -174,7 +174,7 @@ fn required(holds: bool) -> Result<(), Rule>
 /// Whether the entry of `Nat` has its shape.
 fn nat_shape_by<L: Looks>(looks: &mut L, entry: Entry) -> Result<Result<(), Rule>, NoMemory>
     requires over { IsOver L.contents L.rest L.sight looks.old }
-    requires known { let b = contents_of (L.sight (L.rest looks.old)).basis.library.0 in
+    requires known { let b = contents_of (L.sight (L.rest looks.old)).basis.library.tables in
         IsEntryIn b entry }
     ensures { (g : PlainEntry) → entry_at (L.sight (L.rest looks.old)).basis entry ≡ Some g
         → Settles L.contents L.rest L.sight looks.old looks.new result (λ _ _. tt)
@@ -210,7 +210,7 @@ pub(crate) fn has_string_shape<L: Looks>(
     entry: Entry,
 ) -> Result<Result<bool, Rule>, NoMemory>
     requires over { IsOver L.contents L.rest L.sight looks.old }
-    requires known { let b = contents_of (L.sight (L.rest looks.old)).basis.library.0 in
+    requires known { let b = contents_of (L.sight (L.rest looks.old)).basis.library.tables in
         IsEntryIn b entry }
     ensures keeps { Extends (L.contents looks.old) (L.contents looks.new) }
     ensures settles { (g : PlainEntry)
@@ -228,7 +228,7 @@ pub(crate) fn has_string_shape<L: Looks>(
 /// Whether the entry of `String` has its shape.
 fn string_shape_by<L: Looks>(looks: &mut L, entry: Entry) -> Result<Result<(), Rule>, NoMemory>
     requires over { IsOver L.contents L.rest L.sight looks.old }
-    requires known { let b = contents_of (L.sight (L.rest looks.old)).basis.library.0 in
+    requires known { let b = contents_of (L.sight (L.rest looks.old)).basis.library.tables in
         IsEntryIn b entry }
     ensures { (g : PlainEntry) → entry_at (L.sight (L.rest looks.old)).basis entry ≡ Some g
         → Settles L.contents L.rest L.sight looks.old looks.new result (λ _ _. tt)

@@ -66,11 +66,11 @@ nat_sort = has_sort nat_typed (r_refl tt)
 
 to_nat_sort : HasSort after_nat to_nat (imax_level level_one level_one)
 unfolding open_at bound
-to_nat_sort = has_sort (t_pi {k = 0} (omega arith) nat_sort nat_sort) (r_refl tt)
+to_nat_sort = has_sort (t_pi {k = 0} (omega arith, tt) nat_sort nat_sort) (r_refl tt)
 
 type_sort : HasSort after_nat (pi (named nat) to_nat) (imax_level level_one (imax_level level_one level_one))
 unfolding open_at bound
-type_sort = has_sort (t_pi {k = 0} (omega arith) nat_sort to_nat_sort) (r_refl tt)
+type_sort = has_sort (t_pi {k = 0} (omega arith, tt) nat_sort to_nat_sort) (r_refl tt)
 
 one_typed : HasType after_nat (app (named nat_succ) (named nat_zero)) (named nat)
 unfolding open_at
@@ -78,11 +78,11 @@ one_typed = t_app {B = named nat} succ_typed (r_refl (tt, tt)) zero_typed (e_ref
 
 inner_typed : HasType after_nat (lam (named nat) (app (named nat_succ) (named nat_zero))) to_nat
 unfolding open_at bound
-inner_typed = t_lam {k = 0} (omega arith) (omega arith) nat_sort one_typed
+inner_typed = t_lam {k = 0} (omega arith, (omega arith, tt)) nat_sort one_typed
 
 value_typed : HasType after_nat always_one (pi (named nat) to_nat)
 unfolding open_at bound
-value_typed = t_lam {k = 0} (omega arith) (omega arith) nat_sort inner_typed
+value_typed = t_lam {k = 0} (omega arith, (omega arith, tt)) nat_sort inner_typed
 
 pub derived_by_another_name : (c : Name) (h : Hint) → ((op : Op) → has_laws op ≡ true → op_name op ≡ c → ⊥) → DeclDerived after_nat (always_one_as c h)
 derived_by_another_name c h other = record {

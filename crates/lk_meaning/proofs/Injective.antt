@@ -169,7 +169,7 @@ injective {w} {c} z ns (e_app {f = f} {g = g} {a = a} {b = b} d l e q) o p s r h
     let j : OfApp p g b = of_app k g b refl in
     let n : SameSpine w i.front j.front = injective z ns e i.front j.front (front_applied c o i.front a i.is s) (front_applied c p j.front b j.is r) i.rest j.rest in
     rw (i.is, j.is) (same_args n q)
-injective {w} {c} z ns (e_lam {A = A} {A' = A'} {b = b} {b' = b'} {k = m} i j d e) o p s r h k =
+injective {w} {c} z ns (e_lam {A = A} {A' = A'} {b = b} {b' = b'} {k = m} fresh d e) o p s r h k =
     let x : Tree = local m A in
     let u : OfLam o b = of_lam c s h A b refl in
     let v : OfLam p b' = of_lam c r k A' b' refl in
@@ -190,7 +190,7 @@ injective {c = c} z ns (e_succ_right {n = n} x e) o p s r h k = absurd (lit_not 
 injective {c = c} z ns (e_str_left x e) o p s r h k = absurd (long_heads c s h)
 injective {c = c} z ns (e_str_right x e) o p s r h k = absurd (long_heads c r k)
 injective {c = c} z ns (e_sort x) o p s r h k = absurd (long_heads c s h)
-injective {c = c} z ns (e_pi i j d e) o p s r h k = absurd (long_heads c s h)
+injective {c = c} z ns (e_pi fresh d e) o p s r h k = absurd (long_heads c s h)
 injective {c = c} z ns (e_proj e) o p s r h k = absurd (long_heads c s h)
 
 pub same_spine : (w : Place) (c : Name) (a b : Tree) → IsRigid w c → (IsOperation w succ → c ≡ nat_succ → ⊥) → IsDefEq w a b → IsApplied c a → IsApplied c b → SameSpine w a b

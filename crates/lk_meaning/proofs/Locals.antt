@@ -63,7 +63,7 @@ rigid_not_local {c = c} k T s (e_refl {a = a} x) h n = not_both c k T a h n
 rigid_not_local k T s (e_reduce p q e) h n = rigid_not_local k T s e (heads_stay s p h) (local_stays k T q n)
 rigid_not_local k T s (e_const x) h n = absurd n
 rigid_not_local k T s (e_app u v e f) h n = rigid_not_local k T s e h n
-rigid_not_local {c = c} k T s (e_lam {A = A} {b = b} {b' = b'} {k = m} i j e f) h n =
+rigid_not_local {c = c} k T s (e_lam {A = A} {b = b} {b' = b'} {k = m} fresh e f) h n =
     rigid_not_local k T s f (heads_open c 0 (local m A) b h) (local_open k T 0 (local m A) b' n)
 rigid_not_local k T s (e_eta_left v i r e) h n = rigid_not_local k T s e h n
 rigid_not_local k T s (e_eta_right v i r e) h n = rigid_not_local k T s e h n
@@ -78,7 +78,7 @@ rigid_not_local k T s (e_succ_right x e) h n = absurd n
 rigid_not_local k T s (e_str_left x e) h n = absurd h
 rigid_not_local k T s (e_str_right x e) h n = absurd n
 rigid_not_local k T s (e_sort x) h n = absurd h
-rigid_not_local k T s (e_pi i j e f) h n = absurd h
+rigid_not_local k T s (e_pi fresh e f) h n = absurd h
 rigid_not_local k T s (e_proj e) h n = absurd h
 
 -- the type of what has a Local of a data type at its head is a data type
@@ -87,10 +87,10 @@ local_typed {w} k T d (t_local f) h = subst (IsDataType w) h.1 d
 local_typed {w} k T d (t_app {a = a} {F = F} {A = A} {B = B} f r x q) h =
     let i : IsDataType w F = local_typed k T d f h in
     data_open w 0 a B (subst (IsDataType w) (data_stays w F (pi A B) i r) i)
-local_typed {w} k T d (t_lam {A = A} {b = b} {B = B} {k = m} i j a f) h = data_from w 0 m A B (local_typed k T d f (local_open k T 0 (local m A) b h))
+local_typed {w} k T d (t_lam {A = A} {b = b} {B = B} {k = m} fresh a f) h = data_from w 0 m A B (local_typed k T d f (local_open k T 0 (local m A) b h))
 local_typed k T d t_sort h = absurd h
 local_typed k T d (t_const g f) h = absurd h
-local_typed k T d (t_pi i a f) h = absurd h
+local_typed k T d (t_pi fresh a f) h = absurd h
 local_typed k T d (t_let a x q f) h = absurd h
 local_typed k T d (t_lit x f) h = absurd h
 local_typed k T d (t_str x) h = absurd h
@@ -101,7 +101,7 @@ local_not_rigid {c = c} k T s d (e_refl {a = a} x) n h = not_both c k T a h n
 local_not_rigid k T s d (e_reduce p q e) n h = local_not_rigid k T s d e (local_stays k T p n) (heads_stay s q h)
 local_not_rigid k T s d (e_const x) n h = absurd n
 local_not_rigid k T s d (e_app u v e f) n h = local_not_rigid k T s d e n h
-local_not_rigid {c = c} k T s d (e_lam {A = A} {b = b} {b' = b'} {k = m} i j e f) n h =
+local_not_rigid {c = c} k T s d (e_lam {A = A} {b = b} {b' = b'} {k = m} fresh e f) n h =
     local_not_rigid k T s d f (local_open k T 0 (local m A) b n) (heads_open c 0 (local m A) b' h)
 local_not_rigid k T s d (e_eta_left v i r e) n h = local_not_rigid k T s d e n h
 local_not_rigid k T s d (e_eta_right v i r e) n h = local_not_rigid k T s d e n h
@@ -116,5 +116,5 @@ local_not_rigid k T s d (e_succ_right x e) n h = absurd n
 local_not_rigid k T s d (e_str_left x e) n h = absurd n
 local_not_rigid k T s d (e_str_right x e) n h = absurd h
 local_not_rigid k T s d (e_sort x) n h = absurd n
-local_not_rigid k T s d (e_pi i j e f) n h = absurd n
+local_not_rigid k T s d (e_pi fresh e f) n h = absurd n
 local_not_rigid k T s d (e_proj e) n h = absurd n

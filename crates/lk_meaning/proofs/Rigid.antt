@@ -339,8 +339,8 @@ applied_type s (t_app {a = a} {F = F} {A = A} {B = B} f r x q) h =
     ends_open 0 a B (subst EndsInType e i)
 applied_type s t_sort h = absurd h
 applied_type s (t_local f) h = absurd h
-applied_type s (t_lam i j a f) h = absurd h
-applied_type s (t_pi i a f) h = absurd h
+applied_type s (t_lam fresh a f) h = absurd h
+applied_type s (t_pi fresh a f) h = absurd h
 applied_type s (t_let a x q f) h = absurd h
 applied_type s (t_lit x f) h = absurd h
 applied_type s (t_str x) h = absurd h
@@ -376,12 +376,12 @@ mutual
 
   typed_no_prop : {w : Place} {T S : Tree} {l : Level} → HasType w T S → IsDataType w T → Reduces w S (sort l) → SameLevel l zero_level → ⊥
   typed_no_prop {l = l} (t_sort {l = m}) d r z = above_zero m l (sort_level (succ_level m) l (former_stays r tt)) z
-  typed_no_prop {w} {l = l} (t_pi {A = A} {B = B} {u = u} {v = v} {k = k} i a f) d r z =
+  typed_no_prop {w} {l = l} (t_pi {A = A} {B = B} {u = u} {v = v} {k = k} fresh a f) d r z =
       data_no_prop f (data_open w 0 (local k A) B d) (body_zero u v l (sort_level (imax_level u v) l (former_stays r tt)) z)
   typed_no_prop (t_const g f) d r z = applied_no_prop d.1 (t_const g f) d.2 r z
   typed_no_prop (t_app f p x q) d r z = applied_no_prop d.1 (t_app f p x q) d.2 r z
   typed_no_prop (t_local f) d r z = absurd d
-  typed_no_prop (t_lam i j a f) d r z = absurd d
+  typed_no_prop (t_lam fresh a f) d r z = absurd d
   typed_no_prop (t_let a x q f) d r z = absurd d
   typed_no_prop (t_lit x f) d r z = absurd d
   typed_no_prop (t_str x) d r z = absurd d
@@ -497,12 +497,12 @@ heads_typed {w} s (t_const {ls = ls} g f) h = data_put w g.entry.levels ls g.ent
 heads_typed {w} s (t_app {a = a} {F = F} {A = A} {B = B} f r x q) h =
     let i : IsDataType w F = heads_typed s f h in
     data_open w 0 a B (subst (IsDataType w) (data_stays w F (pi A B) i r) i)
-heads_typed {w} {c} s (t_lam {A = A} {b = b} {B = B} {k = k} i j a f) h = data_from w 0 k A B (heads_typed s f (heads_open c 0 (local k A) b h))
+heads_typed {w} {c} s (t_lam {A = A} {b = b} {B = B} {k = k} fresh a f) h = data_from w 0 k A B (heads_typed s f (heads_open c 0 (local k A) b h))
 heads_typed s (t_lit x f) h = (nat, nat_data x, refl)
 heads_typed s (t_str x) h = absurd h
 heads_typed s t_sort h = absurd h
 heads_typed s (t_local f) h = absurd h
-heads_typed s (t_pi i a f) h = absurd h
+heads_typed s (t_pi fresh a f) h = absurd h
 heads_typed s (t_let a x q f) h = absurd h
 heads_typed s (t_proj S e r q d p v) h = absurd h
 
@@ -530,7 +530,7 @@ one_head {c = c} {d = d} s t (e_refl {a = a} x) h k = heads_one c d a h k
 one_head s t (e_reduce p q e) h k = one_head s t e (heads_stay s p h) (heads_stay t q k)
 one_head s t (e_const x) h k = h ∙ sym k
 one_head s t (e_app u v e f) h k = one_head s t e h k
-one_head {c = c} {d = d} s t (e_lam {A = A} {b = b} {b' = b'} {k = n} i j e f) h k = one_head s t f (heads_open c 0 (local n A) b h) (heads_open d 0 (local n A) b' k)
+one_head {c = c} {d = d} s t (e_lam {A = A} {b = b} {b' = b'} {k = n} fresh e f) h k = one_head s t f (heads_open c 0 (local n A) b h) (heads_open d 0 (local n A) b' k)
 one_head s t (e_eta_left v i r e) h k = one_head s t e h k
 one_head s t (e_eta_right v i r e) h k = one_head s t e h k
 one_head s t (e_struct_left i xs v q) h k = absurd (struct_head i xs t k)
@@ -544,7 +544,7 @@ one_head s t (e_succ_right x e) h k = h ∙ sym k
 one_head s t (e_str_left x e) h k = absurd h
 one_head s t (e_str_right x e) h k = absurd k
 one_head s t (e_sort x) h k = absurd h
-one_head s t (e_pi i j e f) h k = absurd h
+one_head s t (e_pi fresh e f) h k = absurd h
 one_head s t (e_proj e) h k = absurd h
 
 -- Sorts and Pis
@@ -588,10 +588,10 @@ former_first t (e_struct_right i xs v q) f k = absurd (applied_former (const i.s
 former_first t (e_unit i ls bs a b A B u v n ha r hb q) f k = former_no_constant i.name ls bs ha r f
 former_first t (e_proof {A = A} u v ha p hb q) f k = sort_is_no_prop p (former_typed ha f).0 (former_typed ha f).1
 former_first t (e_sort x) f k = absurd k
-former_first t (e_pi i j e g) f k = absurd k
+former_first t (e_pi fresh e g) f k = absurd k
 former_first t (e_const x) f k = absurd f
 former_first t (e_app u v e g) f k = absurd f
-former_first t (e_lam i j e g) f k = absurd f
+former_first t (e_lam fresh e g) f k = absurd f
 former_first t (e_proj e) f k = absurd f
 former_first t (e_str_left x e) f k = absurd f
 former_first t (e_str_right x e) f k = absurd k
@@ -610,10 +610,10 @@ former_second s (e_struct_right i xs v q) h f = struct_head i xs s h
 former_second s (e_unit i ls bs a b A B u v n ha r hb q) h f = no_unit_like i (data_at i.name ls bs (heads_typed s ha h) r)
 former_second s (e_proof u v ha p hb q) h f = heads_no_prop s ha h p
 former_second s (e_sort x) h f = absurd h
-former_second s (e_pi i j e g) h f = absurd h
+former_second s (e_pi fresh e g) h f = absurd h
 former_second s (e_const x) h f = absurd f
 former_second s (e_app u v e g) h f = absurd f
-former_second s (e_lam i j e g) h f = absurd f
+former_second s (e_lam fresh e g) h f = absurd f
 former_second s (e_proj e) h f = absurd f
 former_second s (e_str_left x e) h f = absurd h
 former_second s (e_str_right x e) h f = absurd f

@@ -88,8 +88,8 @@ forms_apart (e_reduce p q e) r s f g = forms_apart e (forward_form f p r) (forwa
 forms_apart (e_sort x) r s f g = at_once (e_sort x) tt tt r s f g
 forms_apart (e_const x) r s f g = at_once (e_const x) tt tt r s f g
 forms_apart (e_app u v e d) r s f g = at_once (e_app u v e d) u v r s f g
-forms_apart (e_lam i j e d) r s f g = at_once (e_lam i j e d) tt tt r s f g
-forms_apart (e_pi i j e d) r s f g = at_once (e_pi i j e d) tt tt r s f g
+forms_apart (e_lam fresh e d) r s f g = at_once (e_lam fresh e d) tt tt r s f g
+forms_apart (e_pi fresh e d) r s f g = at_once (e_pi fresh e d) tt tt r s f g
 forms_apart (e_proj e) r s f g = at_once (e_proj e) tt tt r s f g
 forms_apart (e_eta_left {o = o} v t h e) r s f g = at_once (e_eta_left v t h e) (normal_neutral o v) tt r s f g
 forms_apart (e_eta_right {o = o} v t h e) r s f g = at_once (e_eta_right v t h e) tt (normal_neutral o v) r s f g

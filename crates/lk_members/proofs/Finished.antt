@@ -9,11 +9,11 @@ use Rattle.lk_env.specs.Units.{unit_at, IsUnitIn}
 use Rattle.lk_env.specs.declared.unit.Block.{Block}
 use Rattle.lk_env.specs.declared.unit.Unit.{Unit as StoredUnit}
 use Rattle.lk_env.specs.declared.unit.Unit.TheVariants as unit
-use Rattle.lk_members.specs.declared.line.Line.{Line as StoredLine}
-use Rattle.lk_members.specs.declared.line.Said.{Said as StoredSaid}
-use Rattle.lk_members.specs.declared.line.Said.TheVariants as said
+use Rattle.lk_members.specs.declared.line.StoredLine.{StoredLine}
+use Rattle.lk_members.specs.declared.line.StoredMember.{StoredMember}
+use Rattle.lk_members.specs.declared.line.StoredMember.TheVariants as stored
 use Rattle.lk_members.specs.Units.{if_any, block_with, block_at, ended, at_line, units_from, units_of}
-use Rattle.lk_members.specs.Stored.{NumberedLine, NumberedUnit, said_of, line_of, lines_of, unit_stated, IsSaidIn, AreLinesIn}
+use Rattle.lk_members.specs.Stored.{NumberedLine, NumberedUnit, said_of, line_of, lines_of, unit_stated, IsStoredMemberIn, AreLinesIn}
 use Rattle.lk_members.specs.Finishing.{IsFaultless, AreBlocksMade, AreUnitsMade, IsBlockIn, AreEnded, IsNext, begins_with, any_begins, ended_unless, block_unit, unit_here}
 use Rattle.lk_members.proofs.Gathering.{IsUnderWay, made_more, all_made}
 use Rattle.lk_members.proofs.Owned.{ended_is}
@@ -56,7 +56,7 @@ ending_more lines rest more l met new blocks pushed b fine cut is added made e =
     }
 
 -- a line's unit is made
-unit_known : (lines : List StoredLine) (later : List NumberedLine) (l : StoredLine) (b : Option Block) → ((c : Contents) → AreLinesIn c lines → IsSaidIn c l.said)
+unit_known : (lines : List StoredLine) (later : List NumberedLine) (l : StoredLine) (b : Option Block) → ((c : Contents) → AreLinesIn c lines → IsStoredMemberIn c l.said)
     → AreBlocksMade lines (ended nat_eq (lines_of lines) later (block_at nat_eq (lines_of lines) (said_of l.said))) (if_any b) → AreUnitsMade lines (at_line nat_eq (lines_of lines) later (said_of l.said)) (if_any (unit_here l.said b))
 unit_known lines later l b known made = go l.said known made
   where
@@ -64,12 +64,12 @@ unit_known lines later l b known made = go l.said known made
     of_block us None m = record { same = m.same; known = λ c all. All-nil (IsUnitIn c) }
     of_block us (Some x) m = record { same = m.same; known = λ c all. All-cons (IsUnitIn c) (unit.Block x) [] (All-head (IsBlockIn c) x [] (m.known c all)) (All-nil (IsUnitIn c)) }
 
-    go : (s : StoredSaid) → ((c : Contents) → AreLinesIn c lines → IsSaidIn c s) → AreBlocksMade lines (ended nat_eq (lines_of lines) later (block_at nat_eq (lines_of lines) (said_of s))) (if_any b)
+    go : (s : StoredMember) → ((c : Contents) → AreLinesIn c lines → IsStoredMemberIn c s) → AreBlocksMade lines (ended nat_eq (lines_of lines) later (block_at nat_eq (lines_of lines) (said_of s))) (if_any b)
         → AreUnitsMade lines (at_line nat_eq (lines_of lines) later (said_of s)) (if_any (unit_here s b))
-    go (said.Alone d) k m = record { same = λ c. refl; known = λ c all. All-cons (IsUnitIn c) (unit.Declaration d) [] (k c all) (All-nil (IsUnitIn c)) }
-    go (said.Type head types) k m = of_block (ended nat_eq (lines_of lines) later (Some types.items)) b m
-    go (said.Constructor x) k m = of_block (ended nat_eq (lines_of lines) later (block_at nat_eq (lines_of lines) (said_of (said.Constructor x)))) b m
-    go (said.Recursor types r) k m = of_block [] b m
+    go (stored.Alone d) k m = record { same = λ c. refl; known = λ c all. All-cons (IsUnitIn c) (unit.Declaration d) [] (k c all) (All-nil (IsUnitIn c)) }
+    go (stored.Type head types) k m = of_block (ended nat_eq (lines_of lines) later (Some types.items)) b m
+    go (stored.Constructor x) k m = of_block (ended nat_eq (lines_of lines) later (block_at nat_eq (lines_of lines) (said_of (stored.Constructor x)))) b m
+    go (stored.Recursor types r) k m = of_block [] b m
 
 -- one line more, from the first
 pub gathering_more : (lines rest more : List StoredLine) (l : StoredLine) (blocks left : List (Option Block)) (popped : Option Block) (units pushed : List StoredUnit)
@@ -90,10 +90,10 @@ gathering_more lines rest more l blocks left popped units pushed cut next pu g =
     go [] n e = absurd e
     go (o ∷ os) n e = record {
       ended = subst (AreEnded lines (lines_of (reverse more))) (sym n.1) e.1;
-      among = λ c all. All-tail (λ (k : StoredLine). IsSaidIn c k.said) l (reverse more) (known c all);
+      among = λ c all. All-tail (λ (k : StoredLine). IsStoredMemberIn c k.said) l (reverse more) (known c all);
       made = made_more unit_at unit_stated IsUnitIn lines (units_from nat_eq (lines_of lines) (lines_of (reverse rest))) (at_line nat_eq (lines_of lines) (lines_of (reverse more)) (said_of l.said)) (units_from nat_eq (lines_of lines) (lines_of (reverse more)))
           (units_of nat_eq (lines_of lines)) units (if_any (unit_here l.said popped)) pushed (ap (λ ls. units_from nat_eq (lines_of lines) (lines_of ls)) turned) pu
-          (unit_known lines (lines_of (reverse more)) l popped (λ c all. All-head (λ (k : StoredLine). IsSaidIn c k.said) l (reverse more) (known c all)) (subst (λ (p : Option Block). AreBlocksMade lines (ended nat_eq (lines_of lines) (lines_of (reverse more)) (block_at nat_eq (lines_of lines) (said_of l.said))) (if_any p)) (sym n.0) e.0)) g.made;
+          (unit_known lines (lines_of (reverse more)) l popped (λ c all. All-head (λ (k : StoredLine). IsStoredMemberIn c k.said) l (reverse more) (known c all)) (subst (λ (p : Option Block). AreBlocksMade lines (ended nat_eq (lines_of lines) (lines_of (reverse more)) (block_at nat_eq (lines_of lines) (said_of l.said))) (if_any p)) (sym n.0) e.0)) g.made;
     }
 
 pub gathered : (lines rest : List StoredLine) (blocks : List (Option Block)) (units : List StoredUnit) → length rest ≡ 0 → IsGathering lines rest blocks units → AreUnitsMade lines (units_of nat_eq (lines_of lines)) units

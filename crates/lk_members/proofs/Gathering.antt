@@ -5,7 +5,7 @@ use Rattle.std.specs.List.{flat_map}
 use Rattle.std.proofs.lemmas.List.{map-append, append-nil}
 use Rattle.std.proofs.lemmas.List.Elements.{All-append, All-nil, All-same}
 use Rattle.lk_store.specs.Contents.{Contents}
-use Rattle.lk_members.specs.declared.line.Line.{Line as StoredLine}
+use Rattle.lk_members.specs.declared.line.StoredLine.{StoredLine}
 use Rattle.lk_members.specs.Stored.{AreLinesIn}
 use Rattle.lk_members.specs.Finishing.{AreMade}
 

@@ -12,14 +12,14 @@ use Rattle.lk_env.specs.declared.unit.Constructor.{Constructor}
 use Rattle.lk_env.specs.declared.unit.RecursorRule.{RecursorRule}
 use Rattle.lk_env.specs.declared.unit.Recursor.{Recursor}
 use Rattle.lk_members.specs.declared.line.TypeHead.{TypeHead}
-use Rattle.lk_members.specs.declared.line.Said.{Said as StoredSaid}
-use Rattle.lk_members.specs.declared.line.Said.TheVariants as said
-use Rattle.lk_members.specs.declared.line.Line.{Line as StoredLine}
+use Rattle.lk_members.specs.declared.line.StoredMember.{StoredMember}
+use Rattle.lk_members.specs.declared.line.StoredMember.TheVariants as stored
+use Rattle.lk_members.specs.declared.line.StoredLine.{StoredLine}
 use Rattle.lk_tree.specs.Tree.{Name}
 use Rattle.lk_rulebook.specs.Place.{Ctor, BlockRecursor}
 use Rattle.lk_members.specs.Lines.{alone, a_type, a_ctor, a_recursor}
-use Rattle.lk_members.specs.Stored.{AreNames, IsSaidIn, AreLinesIn}
-use Rattle.lk_members.specs.Plain.{Head, PlainSaid, head_at, said_at, line_at, lines_at}
+use Rattle.lk_members.specs.Stored.{AreNames, IsStoredMemberIn, AreLinesIn}
+use Rattle.lk_members.specs.Plain.{Head, PlainMember, head_at, said_at, line_at, lines_at}
 
 -- two functions that agree on each element
 map_same : {X Y : Type 0} (P : X → Type 0) (f g : X → Y) → ((x : X) → P x → g x ≡ f x) → (xs : List X) → All P xs → map g xs ≡ map f xs
@@ -29,19 +29,19 @@ map_same P f g same (x ∷ xs) h =
     let others = map_same P f g same xs (All-tail P x xs h) in
     cc
 
-abbrev type_said : Name → List Name → List Name → Head → PlainSaid
+abbrev type_said : Name → List Name → List Name → Head → PlainMember
 type_said n ts cs t = a_type n ts cs t
 
 typed : (n m : Name) (ts us cs ds : List Name) (t u : Head) → n ≡ m → ts ≡ us → cs ≡ ds → t ≡ u → type_said n ts cs t ≡ type_said m us ds u
 typed n m ts us cs ds t u a b e f = rw (a, b, e, f) refl
 
-abbrev ctor_said : Name → Name → Ctor → PlainSaid
+abbrev ctor_said : Name → Name → Ctor → PlainMember
 ctor_said p n k = a_ctor p n k
 
 built_of : (p q n m : Name) (k l : Ctor) → p ≡ q → n ≡ m → k ≡ l → ctor_said p n k ≡ ctor_said q m l
 built_of p q n m k l a b e = rw (a, b, e) refl
 
-abbrev recursor_said : List Name → Name → BlockRecursor → PlainSaid
+abbrev recursor_said : List Name → Name → BlockRecursor → PlainMember
 recursor_said ts n r = a_recursor ts n r
 
 eliminated : (ts us : List Name) (n m : Name) (r s : BlockRecursor) → ts ≡ us → n ≡ m → r ≡ s → recursor_said ts n r ≡ recursor_said us m s
@@ -78,25 +78,25 @@ module _ (c d : Contents) (x : Extends c d) where
   head_same : (t : TypeHead) → IsStatedIn c t.name t.levels.items t.ty → head_at d t ≡ head_at c t
   head_same t h = rw (x.names.same t.name h.name_in, names_same t.levels.items h.levels_in, tree_same t.ty h.ty_in) refl
 
-  said_same : (s : StoredSaid) → IsSaidIn c s → said_at d s ≡ said_at c s
-  said_same (said.Alone t) h = ap alone (declaration_same t h.0 h.1)
-  said_same (said.Type head types) h =
+  said_same : (s : StoredMember) → IsStoredMemberIn c s → said_at d s ≡ said_at c s
+  said_same (stored.Alone t) h = ap alone (declaration_same t h.0 h.1)
+  said_same (stored.Type head types) h =
       let t : TypeHead = head.value in
       let name : name_at d t.name ≡ name_at c t.name = x.names.same t.name h.0.name_in in
       let listed : map (name_at d) types.items ≡ map (name_at c) types.items = names_same types.items h.1.0 in
       let ctors : map (name_at d) t.constructors.items ≡ map (name_at c) t.constructors.items = names_same t.constructors.items h.1.1 in
       typed (name_at d t.name) (name_at c t.name) _ _ _ _ (head_at d t) (head_at c t) name listed ctors (head_same t h.0)
-  said_same (said.Constructor kept) h =
+  said_same (stored.Constructor kept) h =
       let k : Constructor = kept.value in
       built_of (name_at d k.parent) (name_at c k.parent) _ _ (constructor_at d k) (constructor_at c k) (x.names.same k.parent h.parent_in) (x.names.same k.name h.stated.name_in) (constructor_same k h)
-  said_same (said.Recursor types r) h = eliminated _ _ (name_at d r.value.name) (name_at c r.value.name) (recursor_at d r.value) (recursor_at c r.value) (names_same types.items h.0) (x.names.same r.value.name h.1.stated.name_in) (recursor_same r.value h.1)
+  said_same (stored.Recursor types r) h = eliminated _ _ (name_at d r.value.name) (name_at c r.value.name) (recursor_at d r.value) (recursor_at c r.value) (names_same types.items h.0) (x.names.same r.value.name h.1.stated.name_in) (recursor_same r.value h.1)
 
-  line_same : (l : StoredLine) → IsSaidIn c l.said → line_at d l ≡ line_at c l
+  line_same : (l : StoredLine) → IsStoredMemberIn c l.said → line_at d l ≡ line_at c l
   line_same l h = ap (λ s. record { number = l.number; said = s }) (said_same l.said h)
 
   -- lines that are held stand for the same for good
   pub lines_steady : (ls : List StoredLine) → AreLinesIn c ls → lines_at d ls ≡ lines_at c ls
-  lines_steady ls h = map_same (λ (l : StoredLine). IsSaidIn c l.said) (line_at c) (line_at d) line_same ls h
+  lines_steady ls h = map_same (λ (l : StoredLine). IsStoredMemberIn c l.said) (line_at c) (line_at d) line_same ls h
 
   body_stays : (b : Body) → IsBodyIn c b → IsBodyIn d b
   body_stays Axiom h = tt
@@ -130,11 +130,11 @@ module _ (c d : Contents) (x : Extends c d) where
   names_stay : (ns : List ℕ) → AreNames c ns → AreNames d ns
   names_stay ns h = All-weaker (λ n. n < length c.names) (λ n. n < length d.names) name_stays ns h
 
-  said_stays : (s : StoredSaid) → IsSaidIn c s → IsSaidIn d s
-  said_stays (said.Alone t) h = (stated_stays t.name (declared_levels t) t.ty h.0, body_stays t.body h.1)
-  said_stays (said.Type t types) h = (stated_stays t.value.name t.value.levels.items t.value.ty h.0, (names_stay types.items h.1.0, names_stay t.value.constructors.items h.1.1))
-  said_stays (said.Constructor k) h = constructor_stays k.value h
-  said_stays (said.Recursor types r) h = (names_stay types.items h.0, recursor_stays r.value h.1)
+  said_stays : (s : StoredMember) → IsStoredMemberIn c s → IsStoredMemberIn d s
+  said_stays (stored.Alone t) h = (stated_stays t.name (declared_levels t) t.ty h.0, body_stays t.body h.1)
+  said_stays (stored.Type t types) h = (stated_stays t.value.name t.value.levels.items t.value.ty h.0, (names_stay types.items h.1.0, names_stay t.value.constructors.items h.1.1))
+  said_stays (stored.Constructor k) h = constructor_stays k.value h
+  said_stays (stored.Recursor types r) h = (names_stay types.items h.0, recursor_stays r.value h.1)
 
   pub lines_stay : (ls : List StoredLine) → AreLinesIn c ls → AreLinesIn d ls
-  lines_stay ls h = All-weaker (λ (l : StoredLine). IsSaidIn c l.said) (λ (l : StoredLine). IsSaidIn d l.said) (λ l. said_stays l.said) ls h
+  lines_stay ls h = All-weaker (λ (l : StoredLine). IsStoredMemberIn c l.said) (λ (l : StoredLine). IsStoredMemberIn d l.said) (λ l. said_stays l.said) ls h

@@ -13,9 +13,9 @@ use Rattle.lk_env.specs.declared.unit.Recursor.{Recursor}
 use Rattle.lk_members.specs.declared.members.Key.{Key}
 use Rattle.lk_members.specs.declared.members.Members.{Members}
 use Rattle.lk_members.specs.declared.line.TypeHead.{TypeHead}
-use Rattle.lk_members.specs.declared.line.Line.{Line as StoredLine}
+use Rattle.lk_members.specs.declared.line.StoredLine.{StoredLine}
 use Rattle.lk_members.specs.Lines.{alone, a_type, a_ctor, a_recursor, or_next, has, same_list, types_with, block_of, type_here, type_of, ctor_here, ctor_of}
-use Rattle.lk_members.specs.Stored.{NumberedSaid, NumberedLine}
+use Rattle.lk_members.specs.Stored.{NumberedMember, NumberedLine}
 use Rattle.lk_members.specs.Indices.{key_eq, IsLed, group_of, recursor_at, IsIndexOf}
 use Rattle.lk_members.specs.Taking.{with_line, with_place}
 use Rattle.lk_members.proofs.Appending.{next_none, type_more, ctor_more, block_more}
@@ -23,7 +23,7 @@ use Rattle.lk_members.proofs.Grouping.{group_in, AreGrouped, grouped_other, grou
 use Rattle.lk_members.proofs.Leading.{here_at, led_more}
 
 -- the places of all members but recursors, behind a line
-pub record ArePlaced (m new : Members) (lines : List NumberedLine) (said : NumberedSaid) : Type 0 where
+pub record ArePlaced (m new : Members) (lines : List NumberedLine) (said : NumberedMember) : Type 0 where
   pub types : (n : ℕ) → hash_map.get nat_eq new.types n ≡ or_next (hash_map.get nat_eq m.types n) (here_at (type_here nat_eq said n) (length lines))
   pub ctors : (t n : ℕ) → hash_map.get key_eq new.constructors (record { under = t; name = n }) ≡ or_next (hash_map.get key_eq m.constructors (record { under = t; name = n })) (here_at (ctor_here nat_eq said t n) (length lines))
   pub blocks : (n : ℕ) → hash_map.get nat_eq new.blocks n ≡ or_next (hash_map.get nat_eq m.blocks n) (here_at (types_with nat_eq said n) (length lines))
@@ -70,7 +70,7 @@ index_of m lines types ctors blocks h few = record {
 }
 
 -- with a line more
-pub indexed_more : (m new : Members) (lines : List NumberedLine) (number : ℕ) (said : NumberedSaid) → IsIndexOf m lines → length lines + 1 < 2 ^ 32 → ArePlaced m new lines said
+pub indexed_more : (m new : Members) (lines : List NumberedLine) (number : ℕ) (said : NumberedMember) → IsIndexOf m lines → length lines + 1 < 2 ^ 32 → ArePlaced m new lines said
     → AreGrouped new.lists (groups_of new) (named_in new) (with_line lines number said) → IsIndexOf new (with_line lines number said)
 indexed_more m new lines number said h room p g =
     let l : NumberedLine = record { number = number; said = said } in
@@ -115,7 +115,7 @@ module _ (m new : Members) (lines : List NumberedLine) (number place : ℕ) (h :
 module _ (m new : Members) (lines : List NumberedLine) (number : ℕ) (h : IsIndexOf m lines) (room : length lines + 1 < 2 ^ 32)
     (types : (n : ℕ) → hash_map.get nat_eq new.types n ≡ hash_map.get nat_eq m.types n) (ctors : (q : Key) → hash_map.get key_eq new.constructors q ≡ hash_map.get key_eq m.constructors q)
     (blocks : (n : ℕ) → hash_map.get nat_eq new.blocks n ≡ hash_map.get nat_eq m.blocks n) where
-  still_placed : (said : NumberedSaid) → ((n : ℕ) → type_here nat_eq said n ≡ None) → ((t n : ℕ) → ctor_here nat_eq said t n ≡ None) → ((n : ℕ) → types_with nat_eq said n ≡ None) → ArePlaced m new lines said
+  still_placed : (said : NumberedMember) → ((n : ℕ) → type_here nat_eq said n ≡ None) → ((t n : ℕ) → ctor_here nat_eq said t n ≡ None) → ((n : ℕ) → types_with nat_eq said n ≡ None) → ArePlaced m new lines said
   still_placed said no_type no_ctor no_block = record {
     types = λ n. types n ∙ same (hash_map.get nat_eq m.types n) (type_here nat_eq said n) (no_type n);
     ctors = λ t n. ctors (record { under = t; name = n }) ∙ same (hash_map.get key_eq m.constructors (record { under = t; name = n })) (ctor_here nat_eq said t n) (no_ctor t n);

@@ -2,7 +2,7 @@
 use Rattle.std.proofs.Common.{◌≡◌, ℕ, List, [], ◌∷◌, ◌++◌, length, Option, Some, None, refl, sym, subst}
 use Rattle.std.specs.Prelude.{is_some, IsSome, if◌then◌else◌}
 use Rattle.lk_members.specs.Lines.{or_next}
-use Rattle.lk_members.specs.Stored.{NumberedSaid, NumberedLine}
+use Rattle.lk_members.specs.Stored.{NumberedMember, NumberedLine}
 use Rattle.lk_members.specs.Indices.{IsLed}
 use Rattle.lk_members.proofs.Appending.{get_before, get_last}
 
@@ -10,7 +10,7 @@ use Rattle.lk_members.proofs.Appending.{get_before, get_last}
 abbrev pub here_at : {A : Type 0} → Option A → ℕ → Option ℕ
 here_at o i = if is_some o then Some i else None
 
-module _ {A : Type 0} (here : NumberedSaid → Option A) (lines : List NumberedLine) (l : NumberedLine) where
+module _ {A : Type 0} (here : NumberedMember → Option A) (lines : List NumberedLine) (l : NumberedLine) where
   led_new : (o : Option A) → here l.said ≡ o → IsLed here (lines ++ l ∷ []) (here_at o (length lines)) o
   led_new None e = refl
   led_new (Some a) e = (l, get_last lines l, e, refl)

@@ -11,12 +11,12 @@ use Rattle.lk_members.specs.declared.fault.MemberFault.TheVariants.{BadCount, Re
 use Rattle.lk_members.specs.declared.line.TypeHead.{TypeHead}
 use Rattle.lk_members.specs.Lines.{or_next, has, type_here, type_of, a_type}
 use Rattle.lk_members.specs.Faults.{fault_of, bad_lists, lists_ctor}
-use Rattle.lk_members.specs.Stored.{NumberedLine, NumberedSaid}
+use Rattle.lk_members.specs.Stored.{NumberedLine, NumberedMember}
 use Rattle.lk_members.specs.Indices.{key_eq}
 use Rattle.lk_members.specs.Finishing.{AreFaultless, IsFaultless, Listed, is_listed_by}
 
 -- what a line states of a type
-abbrev pub stated_here : NumberedSaid → ℕ → Option (TypeHead × List ℕ)
+abbrev pub stated_here : NumberedMember → ℕ → Option (TypeHead × List ℕ)
 stated_here s x = type_here nat_eq s x
 
 pub record IsListing {S : Type 0} (lines rest : List NumberedLine) (listed : HashSet Key S) : Type 0 where
@@ -64,7 +64,7 @@ listed_more before l n ts cs t old new is fine added h q =
     let still = λ (e : nat_eq n q.under ≡ true). ap (λ u. is_some (type_of nat_eq before u)) (sym (test_is n q.under e)) ∙ new_type in
     let is_more = more_lists (type_of nat_eq before q.under) (nat_eq n q.under) cs t q.name still in
     let whole : type_of nat_eq (before ++ l ∷ []) q.under ≡ or_next (type_of nat_eq before q.under) (or_next (stated_here (a_type n ts cs t) q.under) None) =
-    type_of-append before (l ∷ []) q.under ∙ ap (λ (s : NumberedSaid). or_next (type_of nat_eq before q.under) (or_next (stated_here s q.under) None)) is in
+    type_of-append before (l ∷ []) q.under ∙ ap (λ (s : NumberedMember). or_next (type_of nat_eq before q.under) (or_next (stated_here s q.under) None)) is in
     added q ∙ ap (λ b. is_listed_by n cs q || b) (h q) ∙ sym is_more ∙ ap (λ o. lists_ctor nat_eq o q.name) (sym whole)
 
 pub begins : {S : Type 0} (lines : List NumberedLine) (s : HashSet Key S) → s.keys ≡ [] → IsFaultless lines → IsListing lines lines s

@@ -8,7 +8,7 @@ use Rattle.lk_members.specs.declared.line.TypeHead.{TypeHead}
 use Rattle.lk_members.specs.Lines.{or_next, has, same_list, is_distinct, types_with, block_of, alone, a_type, a_ctor, a_recursor}
 use Rattle.lk_members.specs.Faults.{fault_of, is_other, crosses}
 use Rattle.lk_members.specs.Units.{is_this, block_at, block_with, ended}
-use Rattle.lk_members.specs.Stored.{NumberedLine, NumberedSaid}
+use Rattle.lk_members.specs.Stored.{NumberedLine, NumberedMember}
 use Rattle.lk_members.specs.Finishing.{AreFaultless, IsFaultless, begins_with, any_begins, ended_unless}
 use Rattle.lk_members.proofs.Equal.{number_itself, number_is, list_itself, list_is}
 use Rattle.lk_members.proofs.Listing.{type_is_new, or_next_assoc}
@@ -17,7 +17,7 @@ use Rattle.lk_members.proofs.Listing.{type_is_new, or_next_assoc}
 abbrev listed : List NumberedLine → ℕ → Option (List ℕ)
 listed lines x = block_of nat_eq lines x
 
-abbrev stated : NumberedSaid → ℕ → Option (List ℕ)
+abbrev stated : NumberedMember → ℕ → Option (List ℕ)
 stated s x = types_with nat_eq s x
 
 listed-append : (xs ys : List NumberedLine) (x : ℕ) → listed (xs ++ ys) x ≡ or_next (listed xs x) (listed ys x)
@@ -52,7 +52,7 @@ abbrev IsOneEach : List NumberedLine → Type 0
 IsOneEach lines = (x y : ℕ) (us : List ℕ) → listed lines x ≡ Some us → has nat_eq us y ≡ true → listed lines y ≡ Some us
 
 -- the name of a line's type leads to the line's list
-abbrev pub IsOwn : List NumberedLine → NumberedSaid → Type 0
+abbrev pub IsOwn : List NumberedLine → NumberedMember → Type 0
 IsOwn lines (a_type n ts cs t) = listed lines n ≡ Some ts
 IsOwn lines (alone d) = Unit {0}
 IsOwn lines (a_ctor p n k) = Unit {0}
@@ -62,7 +62,7 @@ abbrev pub AreOwn : List NumberedLine → List NumberedLine → Type 0
 AreOwn lines [] = Unit {0}
 AreOwn lines (l ∷ ls) = IsOwn lines l.said × AreOwn lines ls
 
-own_still : (xs ys : List NumberedLine) (s : NumberedSaid) → IsOwn xs s → IsOwn (xs ++ ys) s
+own_still : (xs ys : List NumberedLine) (s : NumberedMember) → IsOwn xs s → IsOwn (xs ++ ys) s
 own_still xs ys (a_type n ts cs t) h = listed_still xs ys n ts h
 own_still xs ys (alone d) h = tt
 own_still xs ys (a_ctor p n k) h = tt
@@ -92,7 +92,7 @@ module _ (before : List NumberedLine) (l : NumberedLine) (n : ℕ) (ts cs : List
   good = good_lists (has nat_eq ts n) (crosses nat_eq before ts) (not (is_distinct nat_eq ts) || not (is_distinct nat_eq cs)) (type_is_new before n ts cs t (ap (fault_of nat_eq before) (sym is) ∙ fine)).0
 
   states : (y : ℕ) → stated l.said y ≡ (if has nat_eq ts y then Some ts else None)
-  states y = ap (λ (s : NumberedSaid). stated s y) is
+  states y = ap (λ (s : NumberedMember). stated s y) is
 
   leads_here : (y : ℕ) → has nat_eq ts y ≡ true → listed (before ++ l ∷ []) y ≡ Some ts
   leads_here y h =
@@ -123,13 +123,13 @@ record AreKept (lines : List NumberedLine) : Type 0 where
 line_kept : (before : List NumberedLine) (l : NumberedLine) → fault_of nat_eq before l.said ≡ None → AreKept before → AreKept (before ++ l ∷ [])
 line_kept before l fine k = go l.said refl
   where
-    other : (s : NumberedSaid) → l.said ≡ s → ((x : ℕ) → stated s x ≡ None) → IsOwn (before ++ l ∷ []) s → AreKept (before ++ l ∷ [])
+    other : (s : NumberedMember) → l.said ≡ s → ((x : ℕ) → stated s x ≡ None) → IsOwn (before ++ l ∷ []) s → AreKept (before ++ l ∷ [])
     other s is none own = record {
-      one = other_kept before l (λ x. ap (λ (u : NumberedSaid). stated u x) is ∙ none x) k.one;
+      one = other_kept before l (λ x. ap (λ (u : NumberedMember). stated u x) is ∙ none x) k.one;
       own = all_own_push before before l k.own (subst (IsOwn (before ++ l ∷ [])) (sym is) own);
     }
 
-    go : (s : NumberedSaid) → l.said ≡ s → AreKept (before ++ l ∷ [])
+    go : (s : NumberedMember) → l.said ≡ s → AreKept (before ++ l ∷ [])
     go (a_type n ts cs t) is = record { one = type_kept before l n ts cs t is fine k.one; own = all_own_push before before l k.own (type_own before l n ts cs t is fine) }
     go (alone d) is = other (alone d) is (λ x. refl) tt
     go (a_ctor p n c) is = other (a_ctor p n c) is (λ x. refl) tt
@@ -151,7 +151,7 @@ holds (l ∷ lines) x us e = go (λ i. holds lines x us i) l.said e
     of_test more ts true h i = let same : ts ≡ us = cc in subst (λ ws. has nat_eq ws x ≡ true) same h
     of_test more ts false h i = more i
 
-    go : (listed lines x ≡ Some us → has nat_eq us x ≡ true) → (s : NumberedSaid) → or_next (stated s x) (listed lines x) ≡ Some us → has nat_eq us x ≡ true
+    go : (listed lines x ≡ Some us → has nat_eq us x ≡ true) → (s : NumberedMember) → or_next (stated s x) (listed lines x) ≡ Some us → has nat_eq us x ≡ true
     go more (a_type n ts cs t) i = of_test more ts (has nat_eq ts x) refl i
     go more (alone d) i = more i
     go more (a_ctor p n c) i = more i
@@ -167,7 +167,7 @@ headed lines k x [] e = let h = holds lines x [] e in false≢true h
 headed lines k x (t ∷ ts) e = k.one x t (t ∷ ts) e (ap (λ b. b || has nat_eq ts t) (number_itself t))
 
 -- so does the list of each line's block
-block_headed : (lines : List NumberedLine) (k : AreKept lines) (s : NumberedSaid) → IsOwn lines s → (us : List ℕ) → block_at nat_eq lines s ≡ Some us → IsHeaded lines us
+block_headed : (lines : List NumberedLine) (k : AreKept lines) (s : NumberedMember) → IsOwn lines s → (us : List ℕ) → block_at nat_eq lines s ≡ Some us → IsHeaded lines us
 block_headed lines k (a_type n ts cs t) own us e = headed lines k n us (own ∙ e)
 block_headed lines k (a_ctor p n c) own us e = headed lines k p us e
 block_headed lines k (alone d) own us e = absurd (cc)

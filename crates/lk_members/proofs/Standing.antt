@@ -11,24 +11,24 @@ use Rattle.lk_store.specs.Values.{AreApart}
 use Rattle.lk_env.specs.Units.{declaration_at, constructor_at, recursor_at}
 use Rattle.lk_env.specs.declared.unit.Constructor.{Constructor}
 use Rattle.lk_members.specs.declared.line.TypeHead.{TypeHead}
-use Rattle.lk_members.specs.declared.line.Said.{Said as StoredSaid}
-use Rattle.lk_members.specs.declared.line.Said.TheVariants as said
-use Rattle.lk_members.specs.declared.line.Line.{Line as StoredLine}
+use Rattle.lk_members.specs.declared.line.StoredMember.{StoredMember}
+use Rattle.lk_members.specs.declared.line.StoredMember.TheVariants as stored
+use Rattle.lk_members.specs.declared.line.StoredLine.{StoredLine}
 use Rattle.lk_members.specs.Faults.{fault_of, first_open}
 use Rattle.lk_members.specs.Units.{one, block, units_of}
-use Rattle.lk_members.specs.Stored.{NumberedUnit, said_of, lines_of, type_stated, unit_stated, IsSaidIn, AreLinesIn}
+use Rattle.lk_members.specs.Stored.{NumberedUnit, said_of, lines_of, type_stated, unit_stated, IsStoredMemberIn, AreLinesIn}
 use Rattle.lk_members.specs.Plain.{with_its_ctors, unit_of, library_stated, head_at, said_at, lines_at}
-use Rattle.lk_members.proofs.Renamed.{said_renamed, line_renamed, IsKnownSaid, AreKnownLines, typed_put, unit_renamed, fault_stays, first_stays, units_stay}
+use Rattle.lk_members.proofs.Renamed.{said_renamed, line_renamed, IsKnownMember, AreKnownLines, typed_put, unit_renamed, fault_stays, first_stays, units_stay}
 
 module _ (c : Contents) where
   abbrev IsName : ℕ → Type 0
   IsName n = n < length c.names
 
-  said_named : (s : StoredSaid) → said_at c s ≡ said_renamed (name_at c) (declaration_at c) (head_at c) (constructor_at c) (recursor_at c) (said_of s)
-  said_named (said.Alone d) = refl
-  said_named (said.Type t types) = refl
-  said_named (said.Constructor k) = refl
-  said_named (said.Recursor types r) = refl
+  said_named : (s : StoredMember) → said_at c s ≡ said_renamed (name_at c) (declaration_at c) (head_at c) (constructor_at c) (recursor_at c) (said_of s)
+  said_named (stored.Alone d) = refl
+  said_named (stored.Type t types) = refl
+  said_named (stored.Constructor k) = refl
+  said_named (stored.Recursor types r) = refl
 
   lines_named : (ls : List StoredLine) → lines_at c ls ≡ map (line_renamed (name_at c) (declaration_at c) (head_at c) (constructor_at c) (recursor_at c)) (lines_of ls)
   lines_named [] = refl
@@ -37,15 +37,15 @@ module _ (c : Contents) where
       let b : lines_at c ls ≡ map (line_renamed (name_at c) (declaration_at c) (head_at c) (constructor_at c) (recursor_at c)) (lines_of ls) = lines_named ls in
       rw (a, b) refl
 
-  said_known : (s : StoredSaid) → IsSaidIn c s → IsKnownSaid IsName (said_of s)
-  said_known (said.Alone d) h = tt
-  said_known (said.Type t types) h = (h.0.name_in, (h.1.0, h.1.1))
-  said_known (said.Constructor k) h = (h.parent_in, h.stated.name_in)
-  said_known (said.Recursor types r) h = (h.0, h.1.stated.name_in)
+  said_known : (s : StoredMember) → IsStoredMemberIn c s → IsKnownMember IsName (said_of s)
+  said_known (stored.Alone d) h = tt
+  said_known (stored.Type t types) h = (h.0.name_in, (h.1.0, h.1.1))
+  said_known (stored.Constructor k) h = (h.parent_in, h.stated.name_in)
+  said_known (stored.Recursor types r) h = (h.0, h.1.stated.name_in)
 
   lines_known : (ls : List StoredLine) → AreLinesIn c ls → AreKnownLines IsName (lines_of ls)
   lines_known [] h = tt
-  lines_known (l ∷ ls) h = (said_known l.said (All-head (λ (x : StoredLine). IsSaidIn c x.said) l ls h), lines_known ls (All-tail (λ (x : StoredLine). IsSaidIn c x.said) l ls h))
+  lines_known (l ∷ ls) h = (said_known l.said (All-head (λ (x : StoredLine). IsStoredMemberIn c x.said) l ls h), lines_known ls (All-tail (λ (x : StoredLine). IsStoredMemberIn c x.said) l ls h))
 
   module _ (apart : AreApart [] c.names) where
     -- two names are equal where their numbers are
@@ -61,7 +61,7 @@ module _ (c : Contents) where
         go (no f) = sym (same_number (nat_eq x y) refl f)
 
     -- the fault of a line among those before it is found by numbers
-    pub fault_stands : (ls : List StoredLine) (s : StoredSaid) → AreLinesIn c ls → IsSaidIn c s → fault_of same_name (lines_at c ls) (said_at c s) ≡ fault_of nat_eq (lines_of ls) (said_of s)
+    pub fault_stands : (ls : List StoredLine) (s : StoredMember) → AreLinesIn c ls → IsStoredMemberIn c s → fault_of same_name (lines_at c ls) (said_at c s) ≡ fault_of nat_eq (lines_of ls) (said_of s)
     fault_stands ls s k h =
         rw (lines_named ls, said_named s)
         (fault_stays nat_eq same_name (name_at c) IsName faithful (declaration_at c) (head_at c) (constructor_at c) (recursor_at c) (lines_of ls) (said_of s) (lines_known ls k) (said_known s h))

@@ -6,28 +6,30 @@ use Rattle.lk_store.specs.Contents.{Contents, name_at, tree_at}
 use Rattle.lk_env.specs.declared.unit.Declaration.{Declaration}
 use Rattle.lk_env.specs.declared.unit.Constructor.{Constructor}
 use Rattle.lk_env.specs.declared.unit.Recursor.{Recursor}
-use Rattle.lk_env.specs.Units.{declared_levels, declaration_at, constructor_at, recursor_at, IsStatedIn, IsBodyIn, IsConstructorIn, IsRecursorIn}
+use Rattle.lk_env.specs.Units.{declared_levels, declaration_at, constructor_at, recursor_at}
+use Rattle.lk_env.specs.Units.{IsStatedIn, IsBodyIn, IsConstructorIn, IsRecursorIn}
 use Rattle.lk_members.specs.declared.line.TypeHead.{TypeHead}
-use Rattle.lk_members.specs.declared.line.Said.{Said as StoredSaid}
-use Rattle.lk_members.specs.declared.line.Said.TheVariants as said
-use Rattle.lk_members.specs.declared.line.Line.{Line as StoredLine}
-use Rattle.lk_members.specs.Lines.{Said, alone, a_type, a_ctor, a_recursor, Line}
+use Rattle.lk_members.specs.declared.line.StoredMember.{StoredMember}
+use Rattle.lk_members.specs.declared.line.StoredMember.TheVariants as stored
+use Rattle.lk_members.specs.declared.line.StoredLine.{StoredLine}
+use Rattle.lk_members.specs.Lines.{StatedMember, alone, a_type, a_ctor, a_recursor, MemberLine}
 use Rattle.lk_members.specs.Units.{Gathered, one, block}
 
-abbrev pub NumberedSaid : Type 0
-NumberedSaid = Said ℕ Declaration TypeHead Constructor Recursor
+abbrev pub NumberedMember : Type 0
+NumberedMember = StatedMember ℕ Declaration TypeHead Constructor Recursor
 
 abbrev pub NumberedLine : Type 0
-NumberedLine = Line ℕ Declaration TypeHead Constructor Recursor
+NumberedLine = MemberLine ℕ Declaration TypeHead Constructor Recursor
 
 abbrev pub NumberedUnit : Type 0
 NumberedUnit = Gathered Declaration TypeHead Constructor Recursor
 
-abbrev pub said_of : StoredSaid → NumberedSaid
-said_of (said.Alone d) = alone d
-said_of (said.Type head types) = a_type head.value.name types.items head.value.constructors.items head.value
-said_of (said.Constructor k) = a_ctor k.value.parent k.value.name k.value
-said_of (said.Recursor types r) = a_recursor types.items r.value.name r.value
+abbrev pub said_of : StoredMember → NumberedMember
+said_of (stored.Alone d) = alone d
+said_of (stored.Type head types) =
+    a_type head.value.name types.items head.value.constructors.items head.value
+said_of (stored.Constructor k) = a_ctor k.value.parent k.value.name k.value
+said_of (stored.Recursor types r) = a_recursor types.items r.value.name r.value
 
 abbrev pub line_of : StoredLine → NumberedLine
 line_of l = record { number = l.number; said = said_of l.said }
@@ -48,17 +50,21 @@ type_stated c t = record {
 
 abbrev pub unit_stated : Contents → NumberedUnit → LibraryUnit
 unit_stated c (one d) = of_decl (declaration_at c d)
-unit_stated c (block ts rs) = of_block (record { types = map (type_stated c) ts }) (map (recursor_at c) rs)
+unit_stated c (block ts rs) =
+    of_block (record { types = map (type_stated c) ts }) (map (recursor_at c) rs)
 
 -- the names and trees of a line are numbers of the store
 abbrev pub AreNames : Contents → List ℕ → Type 0
 AreNames c ns = All (λ n. n < length c.names) ns
 
-abbrev pub IsSaidIn : Contents → StoredSaid → Type 0
-IsSaidIn c (said.Alone d) = IsStatedIn c d.name (declared_levels d) d.ty × IsBodyIn c d.body
-IsSaidIn c (said.Type head types) = IsStatedIn c head.value.name head.value.levels.items head.value.ty × (AreNames c types.items × AreNames c head.value.constructors.items)
-IsSaidIn c (said.Constructor k) = IsConstructorIn c k.value
-IsSaidIn c (said.Recursor types r) = AreNames c types.items × IsRecursorIn c r.value
+abbrev pub IsStoredMemberIn : Contents → StoredMember → Type 0
+IsStoredMemberIn c (stored.Alone d) =
+    IsStatedIn c d.name (declared_levels d) d.ty × IsBodyIn c d.body
+IsStoredMemberIn c (stored.Type head types) =
+    IsStatedIn c head.value.name head.value.levels.items head.value.ty
+    × (AreNames c types.items × AreNames c head.value.constructors.items)
+IsStoredMemberIn c (stored.Constructor k) = IsConstructorIn c k.value
+IsStoredMemberIn c (stored.Recursor types r) = AreNames c types.items × IsRecursorIn c r.value
 
 abbrev pub AreLinesIn : Contents → List StoredLine → Type 0
-AreLinesIn c ls = All (λ (l : StoredLine). IsSaidIn c l.said) ls
+AreLinesIn c ls = All (λ (l : StoredLine). IsStoredMemberIn c l.said) ls

@@ -3,12 +3,12 @@ ghost use Rattle.std.specs.Prelude.{◌≡◌, ℕ, nat_eq, [], ◌∷◌, ◌++
 ghost use Rattle.std.specs.List.{flat_map};
 ghost use Rattle.lk_members.specs.Lines.{type_of, ctor_of, recursor_here, recursors_of};
 ghost use Rattle.lk_members.specs.Units.{if_any, ctors_listed, with_ctors, block_with};
-ghost use Rattle.lk_members.specs.Stored.{said_of, lines_of, IsSaidIn};
+ghost use Rattle.lk_members.specs.Stored.{said_of, lines_of, IsStoredMemberIn};
 ghost use Rattle.lk_store.specs.Contents.{Contents};
 ghost use Rattle.lk_members.specs.Indices.{recursor_at, IsIndexed};
 ghost use Rattle.lk_members.specs.Finishing.{IsConstructorCopy, IsRecursorCopy, AreConstructorsMade, AreTypesMade, AreRecursorsMade, AreBlocksMade, IsTypeCopy, IsRecursorMade, types_listed};
 
-use crate::line::{Said, TypeHead};
+use crate::line::{StoredMember, TypeHead};
 use crate::members::{Key, Members};
 use crate::names::Names;
 use lk_env::unit::{Block, BlockType, Constructor, Recursor};
@@ -78,12 +78,16 @@ fn copy_type(
 }
 
 /// The recursor of a line, where it is one of the block with just these types.
-fn recursor_made(alloc: Global, said: &Said, types: &[u64]) -> Result<Option<Recursor>, NoMemory>
+fn recursor_made(
+    alloc: Global,
+    said: &StoredMember,
+    types: &[u64],
+) -> Result<Option<Recursor>, NoMemory>
     ensures { IfOk result (λ o. IsRecursorMade said.now
         (recursor_here nat_eq (said_of said.now) types.now) (if_any o)) }
 {
     match said {
-        Said::Recursor {
+        StoredMember::Recursor {
             types: own,
             recursor,
         } => {
@@ -124,7 +128,7 @@ impl Members {
             return Ok(None);
         };
         match &self.lines[*place as usize].said {
-            Said::Constructor(k) => {
+            StoredMember::Constructor(k) => {
                 let copy = copy_constructor(alloc, k)?;
                 Ok(Some(copy))
             }
@@ -164,7 +168,7 @@ impl Members {
             return Ok(None);
         };
         match &self.lines[*place as usize].said {
-            Said::Type { head, .. } => {
+            StoredMember::Type { head, .. } => {
                 let made = self.constructors_made(alloc, name, &head.constructors)?;
                 let copy = copy_type(alloc, head, made)?;
                 Ok(Some(copy))

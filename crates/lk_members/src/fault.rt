@@ -13,20 +13,20 @@ pub enum MemberFault {
 
 /// Why a line is not taken.
 #[derive(Clone, Copy)]
-pub enum TakeError {
+pub enum MemberError {
     /// Memory ran out.
     NoMemory,
     /// The line has a fault among those before it.
     Fault(MemberFault),
 }
 
-impl From<NoMemory> for TakeError {
+impl From<NoMemory> for MemberError {
     ghost use Rattle.std.specs.Prelude.{◌≡◌};
-    ghost use Rattle.lk_members.specs.declared.fault.TakeError.TheVariants.{NoMemory};
+    ghost use Rattle.lk_members.specs.declared.fault.MemberError.TheVariants.{NoMemory};
 
     ghost from_gives = { λ _ e. e ≡ NoMemory };
 
-    fn from(_e: NoMemory) -> TakeError {
-        TakeError::NoMemory
+    fn from(_e: NoMemory) -> MemberError {
+        MemberError::NoMemory
     }
 }

@@ -11,7 +11,7 @@ ghost use Rattle.lk_members.specs.Finishing.{IsFaultless, AreBlocksMade, AreEnde
 
 use crate::blocks::push_any;
 use crate::ends::Ends;
-use crate::line::{Line, Said};
+use crate::line::{StoredLine, StoredMember};
 use crate::members::Members;
 use lk_env::unit::{Block, Unit};
 use lk_store::memory::NoMemory;
@@ -39,20 +39,20 @@ impl From<NoMemory> for FinishError {
 }
 
 /// The unit that stands at a line, where a block is what ends there.
-fn unit_here(said: Said, block: Option<Block>) -> Option<Unit>
+fn unit_here(said: StoredMember, block: Option<Block>) -> Option<Unit>
     ensures { result ≡ unit_here said block }
 {
     match said {
-        Said::Alone(declaration) => Some(Unit::Declaration(declaration)),
-        Said::Type { .. } => block.map(Unit::Block),
-        Said::Constructor(_) => block.map(Unit::Block),
-        Said::Recursor { .. } => block.map(Unit::Block),
+        StoredMember::Alone(declaration) => Some(Unit::Declaration(declaration)),
+        StoredMember::Type { .. } => block.map(Unit::Block),
+        StoredMember::Constructor(_) => block.map(Unit::Block),
+        StoredMember::Recursor { .. } => block.map(Unit::Block),
     }
 }
 
 /// Gives back the room of lines that were taken, once it is an eighth of all: so lines and the units made of them never
 /// take the room of both in full.
-fn give_back(lines: &mut Vec<Line>)
+fn give_back(lines: &mut Vec<StoredLine>)
     ensures { lines.new.items ≡ lines.old.items }
 {
     if lines.len() < lines.capacity() / 8 * 7 {
@@ -61,7 +61,7 @@ fn give_back(lines: &mut Vec<Line>)
 }
 
 /// The units of the lines: the declarations alone, and the blocks that end at a line.
-fn gather(alloc: Global, mut lines: Vec<Line>, mut ends: Ends) -> Result<Vec<Unit>, NoMemory>
+fn gather(alloc: Global, mut lines: Vec<StoredLine>, mut ends: Ends) -> Result<Vec<Unit>, NoMemory>
     requires { AreEnded lines.items (lines_of lines.items) (blocks_at ends) }
     ensures { IfOk result (λ us. AreUnitsMade lines.items
         (units_of nat_eq (lines_of lines.items)) us.items) }
@@ -79,16 +79,16 @@ fn gather(alloc: Global, mut lines: Vec<Line>, mut ends: Ends) -> Result<Vec<Uni
 
 impl Members {
     /// The types of the block that a line of a type or a constructor is of.
-    fn block_types<'a>(&'a self, said: &'a Said) -> Option<&'a [u64]>
+    fn block_types<'a>(&'a self, said: &'a StoredMember) -> Option<&'a [u64]>
         requires { IsIndexed self.now }
         ensures { option_copied result ≡ block_at nat_eq (lines_of self.now.lines.items)
             (said_of said.now) }
     {
         match said {
-            Said::Type { types, .. } => Some(types.as_slice()),
-            Said::Constructor(k) => match self.blocks.get(&k.parent) {
+            StoredMember::Type { types, .. } => Some(types.as_slice()),
+            StoredMember::Constructor(k) => match self.blocks.get(&k.parent) {
                 Some(place) => match &self.lines[*place as usize].said {
-                    Said::Type { types, .. } => Some(types.as_slice()),
+                    StoredMember::Type { types, .. } => Some(types.as_slice()),
                     _ => None,
                 },
                 None => None,
@@ -102,7 +102,7 @@ impl Members {
         &self,
         alloc: Global,
         met: &mut HashSet<u64>,
-        said: &Said,
+        said: &StoredMember,
     ) -> Result<Option<Block>, NoMemory>
         requires { IsIndexed self.now }
         ensures met { OnOk result ((q : ℕ) → contains nat_eq met.new q

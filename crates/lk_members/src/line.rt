@@ -21,7 +21,7 @@ pub struct TypeHead {
 
 /// What a line declares. What is rare and large is boxed, so that the line of a declaration alone takes no room for it.
 #[derive(Drop)]
-pub enum Said {
+pub enum StoredMember {
     /// A declaration that is a unit alone.
     Alone(Declaration),
     /// A type, with the types of its block.
@@ -40,18 +40,18 @@ pub enum Said {
 
 /// A line, with its number in the file.
 #[derive(Drop)]
-pub struct Line {
+pub struct StoredLine {
     pub number: u64,
-    pub said: Said,
+    pub said: StoredMember,
 }
 
-impl Line {
+impl StoredLine {
     /// Whether the line is a type's, with this list of the types of its block.
     pub(crate) fn has_list(&self, names: &[u64]) -> bool
         ensures { result ≡ states_list (said_of self.now.said) names.now }
     {
         match &self.said {
-            Said::Type { types, .. } => are_same(types, names),
+            StoredMember::Type { types, .. } => are_same(types, names),
             _ => false,
         }
     }

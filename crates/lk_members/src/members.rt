@@ -3,7 +3,7 @@
 ghost use Rattle.std.specs.Prelude.{◌≡◌, []};
 ghost use Rattle.lk_members.specs.Indices.{IsIndexed};
 
-use crate::line::{Line, Said};
+use crate::line::{StoredLine, StoredMember};
 use crate::names::Names;
 use lk_rows::table::Table;
 use std::alloc::Global;
@@ -21,7 +21,7 @@ pub struct Key {
 /// The lines so far, and where each member stands among them, by the place of its line.
 #[derive(Drop)]
 pub struct Members {
-    pub lines: Vec<Line>,
+    pub lines: Vec<StoredLine>,
     /// The line of each type.
     pub types: HashMap<u64, u32>,
     /// The line of each constructor, under the name of its type.
@@ -57,7 +57,7 @@ impl Members {
     pub fn last_parameters(&self) -> Option<&Arc<Vec<u64>>> {
         match self.lines.last() {
             Some(line) => match &line.said {
-                Said::Alone(declaration) => Some(&declaration.levels),
+                StoredMember::Alone(declaration) => Some(&declaration.levels),
                 _ => None,
             },
             None => None,

@@ -9,7 +9,7 @@ ghost use Rattle.lk_members.specs.Stored.{said_of, lines_of};
 ghost use Rattle.lk_members.specs.Indices.{key_eq, IsIndexed};
 ghost use Rattle.lk_members.specs.Finishing.{IsFaultless, Listed, is_listed_by, lacks_type, lacks_ctor};
 
-use crate::line::{Line, Said};
+use crate::line::{StoredLine, StoredMember};
 use crate::members::{Key, Members};
 use lk_store::memory::NoMemory;
 use std::alloc::Global;
@@ -33,14 +33,14 @@ fn list_all(listed: &mut HashSet<Key>, under: u64, names: &[u64]) -> Result<(), 
 }
 
 /// The constructors that the types of these lines list, each under the name of its type.
-fn listed_in(alloc: Global, lines: &[Line]) -> Result<HashSet<Key>, NoMemory>
+fn listed_in(alloc: Global, lines: &[StoredLine]) -> Result<HashSet<Key>, NoMemory>
     requires { IsFaultless (lines_of lines.now) }
     ensures { IfOk result (λ listed. Listed (lines_of lines.now) listed) }
 {
     let mut listed = HashSet::new(alloc);
     let mut rest = lines;
     while let Some((line, more)) = rest.split_first() {
-        if let Said::Type { head, .. } = &line.said {
+        if let StoredMember::Type { head, .. } = &line.said {
             list_all(&mut listed, head.name, &head.constructors)?;
         }
         rest = more;
@@ -104,30 +104,30 @@ impl Members {
             return false;
         };
         match &self.lines[*place as usize].said {
-            Said::Type { types: own, .. } => own.as_slice() == types,
+            StoredMember::Type { types: own, .. } => own.as_slice() == types,
             _ => false,
         }
     }
 
     /// Whether a line is open, by the constructors that types list.
-    fn is_open(&self, listed: &HashSet<Key>, said: &Said) -> bool
+    fn is_open(&self, listed: &HashSet<Key>, said: &StoredMember) -> bool
         requires indexed { IsIndexed self.now }
         requires listed { Listed (lines_of self.now.lines.items) listed.now }
         ensures { result ≡ is_open nat_eq (lines_of self.now.lines.items) (said_of said.now) }
     {
         match said {
-            Said::Alone(_) => false,
-            Said::Type { head, types } => {
+            StoredMember::Alone(_) => false,
+            StoredMember::Type { head, types } => {
                 self.lacks_type(types) || self.lacks_constructor(head.name, &head.constructors)
             }
-            Said::Constructor(k) => {
+            StoredMember::Constructor(k) => {
                 let key = Key {
                     under: k.parent,
                     name: k.name,
                 };
                 !listed.contains(&key)
             }
-            Said::Recursor { types, .. } => !self.is_block(types),
+            StoredMember::Recursor { types, .. } => !self.is_block(types),
         }
     }
 

@@ -10,8 +10,8 @@ ghost use Rattle.lk_members.specs.Stored.{said_of, lines_of};
 ghost use Rattle.lk_members.specs.Indices.{IsIndexOf, IsIndexed};
 ghost use Rattle.lk_members.specs.Taking.{Takes, list_at, with_line};
 
-use crate::fault::{MemberFault, TakeError};
-use crate::line::{Line, Said};
+use crate::fault::{MemberError, MemberFault};
+use crate::line::{StoredLine, StoredMember};
 use crate::lists::{are_distinct, has_name};
 use crate::members::{Key, Members};
 use crate::names::Names;
@@ -20,7 +20,7 @@ use lk_store::memory::NoMemory;
 use std::alloc::Global;
 
 /// Puts the line behind the others.
-fn push_line(lines: &mut Vec<Line>, line: Line) -> Result<(), NoMemory>
+fn push_line(lines: &mut Vec<StoredLine>, line: StoredLine) -> Result<(), NoMemory>
     ensures { OnOk result (lines.new.items ≡ lines.old.items ++ line ∷ []) }
 {
     lines.push(line)?;
@@ -105,7 +105,7 @@ impl Members {
         name: u64,
         types: &[u64],
         constructors: &[u64],
-    ) -> Result<(), TakeError>
+    ) -> Result<(), MemberError>
         requires indexed { IsIndexed self.old }
         requires room { length self.old.lines.items + 1 < 2 ^ 32 }
         ensures lines { OnOk result (self.new.lines ≡ self.old.lines) }
@@ -117,10 +117,10 @@ impl Members {
             (a_type name types.now constructors.now t)) }
     {
         if self.has_bad_lists(alloc, name, types, constructors)? {
-            return Err(TakeError::Fault(MemberFault::BadCount));
+            return Err(MemberError::Fault(MemberFault::BadCount));
         }
         if self.types.contains_key(&name) {
-            return Err(TakeError::Fault(MemberFault::RepeatedMember));
+            return Err(MemberError::Fault(MemberFault::RepeatedMember));
         }
         let place = self.lines.len() as u32;
         put_first(&mut self.types, name, place)?;
@@ -129,7 +129,7 @@ impl Members {
     }
 
     /// Notes where a constructor stands.
-    fn note_constructor(&mut self, parent: u64, name: u64) -> Result<(), TakeError>
+    fn note_constructor(&mut self, parent: u64, name: u64) -> Result<(), MemberError>
         requires indexed { IsIndexed self.old }
         requires room { length self.old.lines.items + 1 < 2 ^ 32 }
         ensures lines { OnOk result (self.new.lines ≡ self.old.lines) }
@@ -145,7 +145,7 @@ impl Members {
             name,
         };
         if self.constructors.contains_key(&member) {
-            return Err(TakeError::Fault(MemberFault::RepeatedMember));
+            return Err(MemberError::Fault(MemberFault::RepeatedMember));
         }
         let place = self.lines.len() as u32;
         put_member(&mut self.constructors, member, place)?;
@@ -170,7 +170,7 @@ impl Members {
     }
 
     /// Notes where a recursor stands.
-    fn note_recursor(&mut self, alloc: Global, types: &[u64], name: u64) -> Result<(), TakeError>
+    fn note_recursor(&mut self, alloc: Global, types: &[u64], name: u64) -> Result<(), MemberError>
         requires indexed { IsIndexed self.old }
         requires room { length self.old.lines.items + 1 < 2 ^ 32 }
         ensures lines { OnOk result (self.new.lines ≡ self.old.lines) }
@@ -183,7 +183,7 @@ impl Members {
         let list = self.list_number(alloc, types)?;
         let member = Key { under: list, name };
         if self.recursor_names.contains(&member) {
-            return Err(TakeError::Fault(MemberFault::RepeatedMember));
+            return Err(MemberError::Fault(MemberFault::RepeatedMember));
         }
         let place = self.lines.len() as u32;
         add_member(&mut self.recursor_names, member)?;
@@ -192,7 +192,7 @@ impl Members {
     }
 
     /// Notes where the member of the next line stands.
-    fn note(&mut self, alloc: Global, said: &Said) -> Result<(), TakeError>
+    fn note(&mut self, alloc: Global, said: &StoredMember) -> Result<(), MemberError>
         requires indexed { IsIndexed self.old }
         requires room { length self.old.lines.items + 1 < 2 ^ 32 }
         ensures lines { OnOk result (self.new.lines ≡ self.old.lines) }
@@ -203,20 +203,29 @@ impl Members {
             (said_of said.now)) }
     {
         match said {
-            Said::Alone(_) => Ok(()),
-            Said::Type { head, types } => {
+            StoredMember::Alone(_) => Ok(()),
+            StoredMember::Type { head, types } => {
                 self.note_type(alloc, head.name, types, &head.constructors)
             }
-            Said::Constructor(constructor) => {
+            StoredMember::Constructor(constructor) => {
                 self.note_constructor(constructor.parent, constructor.name)
             }
-            Said::Recursor { types, recursor } => self.note_recursor(alloc, types, recursor.name),
+            StoredMember::Recursor { types, recursor } => self.note_recursor(
+                alloc,
+                types,
+                recursor.name,
+            ),
         }
     }
 
     /// Takes the next line. Bad lists come before a member that has a line already. Lines are fewer than 2^32, and more are
     /// want of memory. Behind an error nothing is said of the members.
-    pub fn take(&mut self, alloc: Global, number: u64, said: Said) -> Result<(), TakeError>
+    pub fn take(
+        &mut self,
+        alloc: Global,
+        number: u64,
+        said: StoredMember,
+    ) -> Result<(), MemberError>
         requires indexed { IsIndexed self.old }
         ensures indexed { OnOk result (IsIndexed self.new) }
         ensures lines { OnOk result (self.new.lines.items ≡ self.old.lines.items
@@ -227,10 +236,10 @@ impl Members {
             (said_of said)) }
     {
         if self.lines.len() >= u32::MAX as usize {
-            return Err(TakeError::NoMemory);
+            return Err(MemberError::NoMemory);
         }
         self.note(alloc, &said)?;
-        push_line(&mut self.lines, Line { number, said })?;
+        push_line(&mut self.lines, StoredLine { number, said })?;
         Ok(())
     }
 }

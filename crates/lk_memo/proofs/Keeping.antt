@@ -11,6 +11,7 @@ use Rattle.lk_ask.specs.declared.query.Query.{Query}
 use Rattle.lk_memo.specs.declared.memo.PrivateMemo.{PrivateMemo}
 use Rattle.lk_memo.specs.Keys.{key_of}
 use Rattle.lk_memo.specs.Slots.{found_in}
+use Rattle.lk_memo.specs.LastAnswers.{LastAnswers}
 use Rattle.lk_memo.specs.declared.lasting.Lasting.{Lasting}
 use Rattle.lk_memo.specs.Lasting.{is_query_below, is_below, for_unit, lasting_at, lasting_of, Outlasts}
 use Rattle.lk_memo.specs.Entries.{Holds, first_of, outlasting_of, kept_of}
@@ -21,17 +22,17 @@ none_or_some [] = inl refl
 none_or_some (x ∷ xs) = inr (omega arith)
 
 -- it is found, in its slot or, where there are none, farther off
-pub found_then : (old new : List Slot × ℕ) (far : Option Kept) (key : Key) (kept : Kept)
-    → (0 < length old.0 → found_in new key ≡ Some kept) → (old.0 ≡ [] → new ≡ old)
-    → (old.0 ≡ [] → far ≡ Some kept) → first_of (found_in new key) far ≡ Some kept
-found_then old new far key kept in_slot same there = elim (none_or_some old.0) [
+pub found_then : (old new : LastAnswers) (far : Option Kept) (key : Key) (kept : Kept)
+    → (0 < length old.slots → found_in new key ≡ Some kept) → (old.slots ≡ [] → new ≡ old)
+    → (old.slots ≡ [] → far ≡ Some kept) → first_of (found_in new key) far ≡ Some kept
+found_then old new far key kept in_slot same there = elim (none_or_some old.slots) [
   | inr some ↦ ap (λ o. first_of o far) (in_slot some)
   | inl none ↦ nothing old new (same none) none ∙ there none
 ]
   where
-    nothing : (old new : List Slot × ℕ) → new ≡ old → old.0 ≡ []
+    nothing : (old new : LastAnswers) → new ≡ old → old.slots ≡ []
         → first_of (found_in new key) far ≡ far
-    nothing (slots, era) new e n = rw (e, n) refl
+    nothing old new e n = rw (e, n) refl
 
 -- one of two that is found
 of_two : (o far : Option Kept) (kept : Kept) → first_of o far ≡ Some kept

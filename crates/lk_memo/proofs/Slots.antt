@@ -43,7 +43,7 @@ module _ (slots : List Slot) (era : ℕ) (key : Key) (kept : Kept) (i : ℕ) (is
   abbrev new : List Slot
   new = set slots i (record { era = era; key = key; kept = kept })
 
-  at : (k : Key) → found_in (new, era) k ≡ option_and_then (in_slot era k) (slice_get new (slot_of k (length slots)))
+  at : (k : Key) → found_in (record { slots = new; era = era }) k ≡ option_and_then (in_slot era k) (slice_get new (slot_of k (length slots)))
   at k = ap (λ n. option_and_then (in_slot era k) (slice_get new (slot_of k n))) (length-set slots i (record { era = era; key = key; kept = kept }))
 
   some_of : {A B : Type 0} (f : A → Option B) (o : Option A) (b : B) → option_and_then f o ≡ Some b → (a : A) × (o ≡ Some a) × (f a ≡ Some b)
@@ -51,7 +51,7 @@ module _ (slots : List Slot) (era : ℕ) (key : Key) (kept : Kept) (i : ℕ) (is
   some_of f None b h = absurd cc
 
   -- the answer that was kept is found
-  pub kept_there : found_in (new, era) key ≡ Some kept
+  pub kept_there : found_in (record { slots = new; era = era }) key ≡ Some kept
   kept_there =
       let there : slice_get new (slot_of key (length slots)) ≡ Some (record { era = era; key = key; kept = kept }) =
       ap (slice_get new) (sym is) ∙ written slots i _ within in
@@ -59,7 +59,7 @@ module _ (slots : List Slot) (era : ℕ) (key : Key) (kept : Kept) (i : ℕ) (is
       at key ∙ ap (option_and_then (in_slot era key)) there ∙ ap (λ b. cond (b && same_key key key) (Some kept) None) same
       ∙ ap (λ b. cond b (Some kept) None) (key_refl key)
 
-  pub others : (k : Key) (v : Kept) → found_in (new, era) k ≡ Some v → (found_in (slots, era) k ≡ Some v) ⊎ ((k ≡ key) × (v ≡ kept))
+  pub others : (k : Key) (v : Kept) → found_in (record { slots = new; era = era }) k ≡ Some v → (found_in (record { slots = slots; era = era }) k ≡ Some v) ⊎ ((k ≡ key) × (v ≡ kept))
   others k v h =
       let t : (s : Slot) × (slice_get new (slot_of k (length slots)) ≡ Some s) × (in_slot era k s ≡ Some v) =
       some_of (in_slot era k) (slice_get new (slot_of k (length slots))) v (sym (at k) ∙ h) in

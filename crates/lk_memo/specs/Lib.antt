@@ -1,3 +1,4 @@
+pub mod LastAnswers
 pub mod Keys
 pub mod Slots
 pub mod Lasting

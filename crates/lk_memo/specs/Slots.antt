@@ -6,6 +6,7 @@ use Rattle.lk_store.specs.Hashes.{mixed}
 use Rattle.lk_memo.specs.declared.key.Key.{Key}
 use Rattle.lk_memo.specs.declared.recent.Slot.{Slot}
 use Rattle.lk_memo.specs.Keys.{kind_number, same_key}
+use Rattle.lk_memo.specs.LastAnswers.{LastAnswers}
 
 -- the hash of a key
 unfoldable pub hash_of : Key → ℕ
@@ -30,6 +31,6 @@ abbrev pub in_slot : ℕ → Key → Slot → Option Kept
 in_slot era key s = if nat_eq s.era era && same_key s.key key then Some s.kept else None
 
 -- what these slots have in this era under the key
-abbrev pub found_in : List Slot × ℕ → Key → Option Kept
-found_in (slots, era) key =
-    option_and_then (in_slot era key) (slice_get slots (slot_of key (length slots)))
+abbrev pub found_in : LastAnswers → Key → Option Kept
+found_in r key =
+    option_and_then (in_slot r.era key) (slice_get r.slots (slot_of key (length r.slots)))

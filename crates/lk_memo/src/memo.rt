@@ -174,7 +174,7 @@ impl PrivateMemo {
         ensures staying { self.new.staying ≡ self.old.staying }
         ensures entries { (e : _) → Contains self.new.cache.entries e
             → Contains self.old.cache.entries e ⊎ (e ≡ (key, kept)) }
-        ensures kept { OnOk result (self.old.recent.0 ≡ []
+        ensures kept { OnOk result (self.old.recent.slots ≡ []
             → lookup (same_key key) self.new.cache.entries ≡ Some kept) }
         ensures refused { OnErr result (self.new ≡ self.old) }
     {
@@ -205,7 +205,7 @@ impl PrivateMemo {
         ensures cache { self.new.cache ≡ self.old.cache }
         ensures lasting { Loses self.old.lasting self.new.lasting }
         ensures staying { Loses self.old.staying self.new.staying }
-        ensures none { self.old.recent.0 ≡ [] → (k : Asked) (v : Answered)
+        ensures none { self.old.recent.slots ≡ [] → (k : Asked) (v : Answered)
             → (Outlasts self.new.lasting k v → ⊥) × (Outlasts self.new.staying k v → ⊥) }
     {
         if self.recent.is_empty() {
@@ -222,7 +222,7 @@ impl PrivateMemo {
         ensures cache { self.new.cache ≡ self.old.cache }
         ensures lasting { TakesIn self.old.lasting self.new.lasting query kept }
         ensures staying { TakesIn self.old.staying self.new.staying query kept }
-        ensures some { result ≡ true → self.old.recent.0 ≢ [] }
+        ensures some { result ≡ true → self.old.recent.slots ≢ [] }
         ensures refused { result ≡ false → self.new ≡ self.old }
     {
         if self.recent.is_empty() {
@@ -240,7 +240,7 @@ impl PrivateMemo {
             → Contains self.old.cache.entries e ⊎ (e ≡ (key, kept)) }
         ensures lasting { TakesIn self.old.lasting self.new.lasting query kept }
         ensures staying { TakesIn self.old.staying self.new.staying query kept }
-        ensures kept { OnOk result (self.old.recent.0 ≡ []
+        ensures kept { OnOk result (self.old.recent.slots ≡ []
             → first_of (outlasting_of self.new query)
             (lookup (same_key key) self.new.cache.entries) ≡ Some kept) }
         ensures refused { OnErr result (self.new ≡ self.old) }

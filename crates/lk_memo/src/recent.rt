@@ -34,14 +34,14 @@ pub struct Recent {
 }
 
 impl Model for Recent {
-    ghost use Rattle.std.specs.Prelude.{ℕ, List, ◌≤◌, All};
-    ghost use Rattle.lk_memo.specs.declared.recent.Slot.{Slot as Standing};
+    ghost use Rattle.std.specs.Prelude.{◌≤◌, All};
+    ghost use Rattle.lk_memo.specs.LastAnswers.{LastAnswers};
 
-    ghost Value = { List Standing × ℕ };
+    ghost Value = { LastAnswers };
 
     ghost use Rattle.lk_memo.specs.Slots.{AreTagged};
 
-    ghost view = { λ r. (r.slots.items, r.era) };
+    ghost view = { λ r. record { slots = r.slots.items; era = r.era } };
 
     ghost invariant = { λ r. All (λ s. s.era ≤ r.era) r.slots.items
         × AreTagged r.slots.items r.tags.items r.era };
@@ -106,7 +106,7 @@ impl Recent {
 
     /// Whether there are no slots.
     pub fn is_empty(&self) -> bool
-        ensures { self.now.0 ≡ [] → result ≡ true }
+        ensures { self.now.slots ≡ [] → result ≡ true }
     {
         let _era = self.era;
         self.slots.is_empty()
@@ -144,8 +144,8 @@ impl Recent {
 
     /// Keeps an answer under a key, where there are slots.
     pub fn keep(&mut self, key: Key, kept: Kept)
-        ensures kept { 0 < length self.old.0 → found_in self.new key ≡ Some kept }
-        ensures none { self.old.0 ≡ [] → self.new ≡ self.old }
+        ensures kept { 0 < length self.old.slots → found_in self.new key ≡ Some kept }
+        ensures none { self.old.slots ≡ [] → self.new ≡ self.old }
         ensures others { (k : Asked) (v : Answered) → found_in self.new k ≡ Some v
             → (found_in self.old k ≡ Some v) ⊎ ((k ≡ key) × (v ≡ kept)) }
     {

@@ -6,7 +6,7 @@ ghost use Rattle.lk_rulebook.specs.Structures.{is_structure_like, projections};
 ghost use Rattle.lk_store.specs.Contents.{name_at, tree_at, Extends};
 ghost use Rattle.lk_store.specs.Store.{contents_of};
 ghost use Rattle.lk_env.specs.Units.{block_at, type_at, constructor_at, IsTypeIn, IsConstructorIn};
-ghost use Rattle.lk_env.specs.Entries.{plain_entry};
+ghost use Rattle.lk_env.specs.Entries.{library_entry};
 ghost use Rattle.lk_mentions.specs.Structures.{structure_in, unit_with, unit_in};
 ghost use Rattle.lk_mentions.specs.Structures.{IsOnlyIn, IsStructureIf};
 
@@ -39,13 +39,15 @@ fn is_like<L: Lends, T: Terms>(
     ty: &BlockType,
     constructor: &Constructor,
 ) -> Result<bool, NoMemory>
-    requires over { Extends (contents_of (L.lent library.now).0) (T.contents terms.now) }
-    requires block_in { All (IsTypeIn (contents_of (L.lent library.now).0)) block.now.types.items }
-    requires constructor_in { IsConstructorIn (contents_of (L.lent library.now).0) constructor.now }
+    requires over { Extends (contents_of (L.lent library.now).tables) (T.contents terms.now) }
+    requires block_in { All (IsTypeIn (contents_of
+        (L.lent library.now).tables)) block.now.types.items }
+    requires constructor_in { IsConstructorIn (contents_of
+        (L.lent library.now).tables) constructor.now }
     ensures { IfOk result (λ r. r ≡ is_structure_like
-        (block_at (contents_of (L.lent library.now).0) block.now)
-        (type_at (contents_of (L.lent library.now).0) ty.now)
-        (constructor_at (contents_of (L.lent library.now).0) constructor.now)) }
+        (block_at (contents_of (L.lent library.now).tables) block.now)
+        (type_at (contents_of (L.lent library.now).tables) ty.now)
+        (constructor_at (contents_of (L.lent library.now).tables) constructor.now)) }
 {
     if ty.indices != 0 {
         return Ok(false);
@@ -68,11 +70,10 @@ pub fn structure_of<L: Lends, T: Terms>(
     terms: &T,
     entry: Entry,
 ) -> Result<Option<Structure>, NoMemory>
-    requires over { Extends (contents_of (L.lent library.now).0) (T.contents terms.now) }
+    requires over { Extends (contents_of (L.lent library.now).tables) (T.contents terms.now) }
     ensures known { IfOk result (λ s. IfSome s
         (λ s. s.inductive < length (T.contents terms.now).names)) }
-    ensures is { (g : PlainEntry)
-        → plain_entry (contents_of (L.lent library.now).0) (L.lent library.now).1 entry ≡ Some g
+    ensures is { (g : PlainEntry) → library_entry (L.lent library.now) entry ≡ Some g
         → IfOk result (λ s. IsStructureIf (T.contents terms.now) s (structure_in g.kind)) }
 {
     match member_of(library, entry) {
@@ -103,13 +104,15 @@ fn unit_by<L: Lends, T: Terms>(
     ty: &BlockType,
     constructor: &Constructor,
 ) -> Result<Option<u64>, NoMemory>
-    requires over { Extends (contents_of (L.lent library.now).0) (T.contents terms.now) }
-    requires block_in { All (IsTypeIn (contents_of (L.lent library.now).0)) block.now.types.items }
-    requires constructor_in { IsConstructorIn (contents_of (L.lent library.now).0) constructor.now }
+    requires over { Extends (contents_of (L.lent library.now).tables) (T.contents terms.now) }
+    requires block_in { All (IsTypeIn (contents_of
+        (L.lent library.now).tables)) block.now.types.items }
+    requires constructor_in { IsConstructorIn (contents_of
+        (L.lent library.now).tables) constructor.now }
     ensures { IfOk result (λ n. n ≡ unit_with
-        (block_at (contents_of (L.lent library.now).0) block.now)
-        (type_at (contents_of (L.lent library.now).0) ty.now)
-        (constructor_at (contents_of (L.lent library.now).0) constructor.now)) }
+        (block_at (contents_of (L.lent library.now).tables) block.now)
+        (type_at (contents_of (L.lent library.now).tables) ty.now)
+        (constructor_at (contents_of (L.lent library.now).tables) constructor.now)) }
 {
     if constructor.fields == 0 && is_like(alloc, library, terms, block, ty, constructor)? {
         Ok(Some(ty.parameters))
@@ -135,9 +138,8 @@ pub fn unit_parameters_of<L: Lends, T: Terms>(
     terms: &T,
     entry: Entry,
 ) -> Result<Option<u64>, NoMemory>
-    requires over { Extends (contents_of (L.lent library.now).0) (T.contents terms.now) }
-    ensures { (g : PlainEntry)
-        → plain_entry (contents_of (L.lent library.now).0) (L.lent library.now).1 entry ≡ Some g
+    requires over { Extends (contents_of (L.lent library.now).tables) (T.contents terms.now) }
+    ensures { (g : PlainEntry) → library_entry (L.lent library.now) entry ≡ Some g
         → IfOk result (λ n. n ≡ unit_in g.kind) }
 {
     match type_of(library, entry) {

@@ -13,7 +13,6 @@ use Rattle.lk_plain.specs.Program.{refuse}
 use Rattle.lk_questions.specs.Projections.{of_struct, of_kind}
 use Rattle.lk_store.specs.Contents.{Contents, tree_at, Extends}
 use Rattle.lk_store.specs.Store.{contents_of}
-use Rattle.lk_store.specs.declared.tables.Tables.{Tables}
 use Rattle.lk_env.specs.declared.entry.Kind.TheVariants as kind
 use Rattle.lk_env.specs.declared.entry.Entry.{Entry}
 use Rattle.lk_env.specs.declared.unit.BlockType.{BlockType}
@@ -22,6 +21,7 @@ use Rattle.lk_env.specs.declared.unit.Unit.{Unit as StoredUnit}
 use Rattle.lk_env.specs.Units.{type_at, constructor_at, library_at}
 use Rattle.lk_env.specs.Entries.{entry_of, plain_entry}
 use Rattle.lk_env.specs.Lent.{type_in}
+use Rattle.lk_env.specs.StoredLibrary.{StoredLibrary}
 use Rattle.lk_proj.specs.declared.structure.Structure.{Structure}
 use Rattle.lk_proj.specs.Structures.{with_one, structure_in, IsStructure, IsStructureIf}
 
@@ -97,9 +97,9 @@ structure_of_type a_quot b t h = absurd (cc)
 structure_of_type (a_ctor d u k) b t h = absurd (cc)
 structure_of_type (a_rec r) b t h = absurd (cc)
 
-module _ (l : Tables × List StoredUnit) (e : Entry) (g : PlainEntry) (b : PlainBlock)
-    (t : BlockType) (i : ℕ) (h : plain_entry (contents_of l.0) l.1 e ≡ Some g)
-    (is : type_in g.kind ≡ Some (b, type_at (contents_of l.0) t)) where
+module _ (l : StoredLibrary) (e : Entry) (g : PlainEntry) (b : PlainBlock)
+    (t : BlockType) (i : ℕ) (h : plain_entry (contents_of l.tables) l.units e ≡ Some g)
+    (is : type_in g.kind ≡ Some (b, type_at (contents_of l.tables) t)) where
   -- it has just this constructor
   pub with_ctor : (k : Constructor) (s : Structure) → t.constructors.items ≡ k ∷ []
       → e.kind ≡ kind.Type i → s.constructor.kind ≡ kind.Constructor i 0
@@ -107,10 +107,10 @@ module _ (l : Tables × List StoredUnit) (e : Entry) (g : PlainEntry) (b : Plain
       → s.indices ≡ t.indices → s.fields ≡ k.fields
       → IsStructureIf l (Some s) (structure_in g.kind)
   with_ctor k s one of_type of_ctor at stated parameters indices fields =
-      let c = contents_of l.0 in
+      let c = contents_of l.tables in
       let ctors : map (constructor_at c) t.constructors.items ≡ constructor_at c k ∷ [] =
       ap (map (constructor_at c)) one in
-      let there = ctor_there c l.1 e s.constructor g i (type_at c t) (constructor_at c k) b h
+      let there = ctor_there c l.units e s.constructor g i (type_at c t) (constructor_at c k) b h
       of_type of_ctor at is ctors in
       subst (IsStructureIf l (Some s))
       (sym (structure_of_type g.kind b (type_at c t) is ∙ ap (with_one (type_at c t)) ctors))
@@ -131,7 +131,7 @@ module _ (l : Tables × List StoredUnit) (e : Entry) (g : PlainEntry) (b : Plain
       (sym (structure_of_type g.kind b (type_at c t) is ∙ go t.constructors.items none)) tt
     where
       c : Contents
-      c = contents_of l.0
+      c = contents_of l.tables
 
       go : (ks : List Constructor) → (length ks ≡ 1 → ⊥)
           → with_one (type_at c t) (map (constructor_at c) ks) ≡ None
@@ -140,7 +140,7 @@ module _ (l : Tables × List StoredUnit) (e : Entry) (g : PlainEntry) (b : Plain
       go (k ∷ j ∷ ks) h = refl
 
 -- a kind that is no type
-pub no_type : (l : Tables × List StoredUnit) (kd : PlainKind) → type_in kd ≡ None
+pub no_type : (l : StoredLibrary) (kd : PlainKind) → type_in kd ≡ None
     → IsStructureIf l None (structure_in kd)
 no_type l (a_type b t) h = absurd (cc)
 no_type l an_axiom h = tt
@@ -152,29 +152,29 @@ no_type l (a_ctor b t k) h = tt
 no_type l (a_rec r) h = tt
 
 -- what the numbers stand for, where they do
-pub some_structure : (l : Tables × List StoredUnit) (s : Structure) (o : Option (PlainType × Ctor))
+pub some_structure : (l : StoredLibrary) (s : Structure) (o : Option (PlainType × Ctor))
     → IsStructureIf l (Some s) o → (p : PlainType × Ctor) × (o ≡ Some p) × IsStructure l s p
 some_structure l s (Some p) i = (p, refl, i)
 some_structure l s None i = absurd i
 
-pub none_structure : (l : Tables × List StoredUnit) (o : Option (PlainType × Ctor))
+pub none_structure : (l : StoredLibrary) (o : Option (PlainType × Ctor))
     → IsStructureIf l None o → o ≡ None
 none_structure l None i = refl
 none_structure l (Some p) i = absurd i
 
 -- in the library that is lent, whose numbers are those of a store
-module _ (l m : Tables × List StoredUnit) (c : Contents) (s : Structure) (is : l ≡ m)
-    (over : Extends (contents_of m.0) c) (known : s.constructor.stated < length
-    (contents_of l.0).trees) where
-  there : s.constructor.stated < length (contents_of m.0).trees
-  there = subst (λ (k : Tables × List StoredUnit).
-      s.constructor.stated < length (contents_of k.0).trees) is known
+module _ (l m : StoredLibrary) (c : Contents) (s : Structure) (is : l ≡ m)
+    (over : Extends (contents_of m.tables) c) (known : s.constructor.stated < length
+    (contents_of l.tables).trees) where
+  there : s.constructor.stated < length (contents_of m.tables).trees
+  there = subst (λ (k : StoredLibrary).
+      s.constructor.stated < length (contents_of k.tables).trees) is known
 
   pub stated_known : s.constructor.stated < length c.trees
   stated_known = let longer = over.trees.longer in let h = there in omega arith
 
   pub lent_is : (p : PlainType × Ctor) → IsStructure l s p → IsStructure m s p
-  lent_is p h = subst (λ (k : Tables × List StoredUnit). IsStructure k s p) is h
+  lent_is p h = subst (λ (k : StoredLibrary). IsStructure k s p) is h
 
   pub stated_is : (p : PlainType × Ctor) → IsStructure l s p
       → tree_at c s.constructor.stated ≡ p.1.type

@@ -3,10 +3,9 @@ use Rattle.std.specs.Prelude.{◌≡◌, List, [], ◌∷◌, length, Option, So
 use Rattle.lk_rulebook.specs.Place.{Entry as PlainEntry, Kind, BlockType as PlainType, Ctor, a_type}
 use Rattle.lk_store.specs.Contents.{tree_at}
 use Rattle.lk_store.specs.Store.{contents_of}
-use Rattle.lk_store.specs.declared.tables.Tables.{Tables}
 use Rattle.lk_env.specs.declared.unit.Constructor.{Constructor}
-use Rattle.lk_env.specs.declared.unit.Unit.{Unit as StoredUnit}
-use Rattle.lk_env.specs.Entries.{plain_entry}
+use Rattle.lk_env.specs.StoredLibrary.{StoredLibrary}
+use Rattle.lk_env.specs.Entries.{library_entry}
 use Rattle.lk_proj.specs.declared.structure.Structure.{Structure}
 
 abbrev pub with_one : PlainType → List Ctor → Option (PlainType × Ctor)
@@ -25,18 +24,18 @@ IsOnlyIn ks None = length ks ≡ 1 → ⊥
 IsOnlyIn ks (Some k) = ks ≡ k ∷ []
 
 -- the numbers stand for it
-pub record IsStructure (l : Tables × List StoredUnit) (s : Structure)
+pub record IsStructure (l : StoredLibrary) (s : Structure)
     (p : PlainType × Ctor) : Type 0 where
   pub parameters_are : s.parameters ≡ p.0.parameters
   pub indices_are : s.indices ≡ p.0.indices
   pub fields_are : s.fields ≡ p.1.fields
   pub entry : PlainEntry
-  pub entry_is : plain_entry (contents_of l.0) l.1 s.constructor ≡ Some entry
+  pub entry_is : library_entry l s.constructor ≡ Some entry
   pub levels_are : entry.levels ≡ p.1.levels
-  pub type_is : tree_at (contents_of l.0) s.constructor.stated ≡ p.1.type
+  pub type_is : tree_at (contents_of l.tables) s.constructor.stated ≡ p.1.type
 
 -- the one is there exactly where the other is
-abbrev pub IsStructureIf : Tables × List StoredUnit → Option Structure → Option (PlainType × Ctor)
+abbrev pub IsStructureIf : StoredLibrary → Option Structure → Option (PlainType × Ctor)
     → Type 0
 IsStructureIf l None None = Unit {0}
 IsStructureIf l (Some s) (Some p) = IsStructure l s p

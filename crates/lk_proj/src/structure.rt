@@ -1,14 +1,13 @@
 //! Types with exactly one constructor.
 
-ghost use Rattle.std.specs.Prelude.{◌≡◌, ◌<◌, List, Some, length, IfSome, option_map};
+ghost use Rattle.std.specs.Prelude.{◌≡◌, ◌<◌, Some, length, IfSome, option_map};
 ghost use Rattle.lk_rulebook.specs.Place.{Entry as PlainEntry, Block as PlainBlock};
 ghost use Rattle.lk_store.specs.Contents.{Contents};
 ghost use Rattle.lk_store.specs.Store.{contents_of};
-ghost use Rattle.lk_store.specs.declared.tables.Tables.{Tables};
-ghost use Rattle.lk_env.specs.declared.unit.Unit.{Unit as StoredUnit};
 ghost use Rattle.lk_env.specs.Units.{type_at, IsTypeIn};
-ghost use Rattle.lk_env.specs.Entries.{plain_entry};
+ghost use Rattle.lk_env.specs.Entries.{library_entry};
 ghost use Rattle.lk_env.specs.Lent.{type_in};
+ghost use Rattle.lk_env.specs.StoredLibrary.{StoredLibrary};
 ghost use Rattle.lk_proj.specs.Structures.{structure_in, IsOnlyIn, IsStructureIf};
 
 use lk_env::entry::{Entry, Kind};
@@ -38,9 +37,9 @@ fn only(constructors: &[Constructor]) -> Option<&Constructor>
 
 /// The type of this number of a block, where it has exactly one constructor.
 fn structure_by(ty: &BlockType, number: usize, unit: u32) -> Option<Structure>
-    ensures is { (l : Tables × List StoredUnit) (e : Entry) (g : PlainEntry) (b : PlainBlock)
-        → plain_entry (contents_of l.0) l.1 e ≡ Some g → type_in g.kind
-        ≡ Some (b, type_at (contents_of l.0) ty.now) → e.kind ≡ Kind.Type number
+    ensures is { (l : StoredLibrary) (e : Entry) (g : PlainEntry) (b : PlainBlock)
+        → library_entry l e ≡ Some g → type_in g.kind
+        ≡ Some (b, type_at (contents_of l.tables) ty.now) → e.kind ≡ Kind.Type number
         → e.unit ≡ unit → IsStructureIf l result (structure_in g.kind) }
     ensures known { (c : Contents) → IsTypeIn c ty.now → IfSome result
         (λ s. s.constructor.stated < length c.trees) }
@@ -67,9 +66,8 @@ fn structure_by(ty: &BlockType, number: usize, unit: u32) -> Option<Structure>
 /// The type with exactly one constructor that an entry is, where it is one. It takes no memory.
 pub(crate) fn structure_of<L: Lends>(library: &L, entry: Entry) -> Option<Structure>
     ensures known { IfSome result
-        (λ s. s.constructor.stated < length (contents_of (L.lent library.now).0).trees) }
-    ensures is { (g : PlainEntry)
-        → plain_entry (contents_of (L.lent library.now).0) (L.lent library.now).1 entry ≡ Some g
+        (λ s. s.constructor.stated < length (contents_of (L.lent library.now).tables).trees) }
+    ensures is { (g : PlainEntry) → library_entry (L.lent library.now) entry ≡ Some g
         → IsStructureIf (L.lent library.now) result (structure_in g.kind) }
 {
     match entry.kind {

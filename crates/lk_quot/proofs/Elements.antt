@@ -13,10 +13,9 @@ use Rattle.lk_plain.specs.Program.{Program, done, look}
 use Rattle.lk_plain.specs.Erased.{a_tree, asks, gives, with_tree, erased}
 use Rattle.lk_questions.specs.Quotients.{by_quot, at_mk}
 use Rattle.lk_store.specs.Contents.{Contents, tree_at, Extends}
-use Rattle.lk_store.specs.declared.tables.Tables.{Tables}
 use Rattle.lk_subst.specs.Numbers.{trees-steady}
 use Rattle.lk_env.specs.declared.entry.Entry.{Entry}
-use Rattle.lk_env.specs.declared.unit.Unit.{Unit as StoredUnit}
+use Rattle.lk_env.specs.StoredLibrary.{StoredLibrary}
 use Rattle.lk_ask.specs.Constants.{IsFound}
 use Rattle.lk_ask.proofs.Looking.{found_goes}
 use Rattle.lk_quot.specs.declared.redex.Redex.{Redex}
@@ -46,7 +45,7 @@ applied c d f u front element next others x known behind front_is is last =
     ∙ ap (λ t. apply t (map (tree_at c) (drop (suc u.before) es))) front_is)
 
 -- a quotient unit gives Quot.mk, or not
-pub looked_is : (w : Place) (e : Tree) (p : PlainRedex) (a : Tree) (l : Tables × List StoredUnit)
+pub looked_is : (w : Place) (e : Tree) (p : PlainRedex) (a : Tree) (l : StoredLibrary)
     (x : Name) (before last : Option ℕ) (entry : Entry) (h : IsFound l w x before entry last)
     → x ≡ quot_mk → (b : Bool) → by_quot h.entry.kind ≡ b
     → erased w a_tree before (looked_mk e p a)

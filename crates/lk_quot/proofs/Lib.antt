@@ -1,6 +1,6 @@
 pub mod Elements
 pub mod Lasts
 pub mod Naming
-pub mod Parts
+pub mod EqShapes
 pub mod Sheets
 pub mod Testing

@@ -1,14 +1,13 @@
 -- A look-up of what a quotient unit rests on.
-use Rattle.std.proofs.Common.{◌≡◌, ℕ, Bool, List, Option, sym, ap, ◌∙◌}
+use Rattle.std.proofs.Common.{◌≡◌, ℕ, Bool, Option, sym, ap, ◌∙◌}
 use Rattle.lk_tree.specs.Tree.{Name}
 use Rattle.lk_tree.specs.declared.rule.Rule.TheVariants.{QuotShape}
 use Rattle.lk_rulebook.specs.Place.{Place, Entry as PlainEntry}
 use Rattle.lk_plain.specs.Program.{Program, done, look}
 use Rattle.lk_plain.specs.Settled.{settle}
 use Rattle.lk_questions.specs.Steps.{given}
-use Rattle.lk_store.specs.declared.tables.Tables.{Tables}
 use Rattle.lk_env.specs.declared.entry.Entry.{Entry}
-use Rattle.lk_env.specs.declared.unit.Unit.{Unit as StoredUnit}
+use Rattle.lk_env.specs.StoredLibrary.{StoredLibrary}
 use Rattle.lk_ask.specs.Constants.{IsFound}
 use Rattle.lk_ask.proofs.Looking.{found_settles}
 
@@ -17,7 +16,7 @@ abbrev pub if_so : Bool → Program (Unit {0})
 if_so b = given b QuotShape (done tt)
 
 -- a test of what a name means
-pub tested : (w : Place) (x y : Name) (l : Tables × List StoredUnit) (before last : Option ℕ)
+pub tested : (w : Place) (x y : Name) (l : StoredLibrary) (before last : Option ℕ)
     (entry : Entry) (h : IsFound l w x before entry last) → x ≡ y → (test : PlainEntry → Bool)
     (b : Bool) → test h.entry ≡ b
     → settle w before (look QuotShape y λ g. if_so (test g)) ≡ settle w last (if_so b)

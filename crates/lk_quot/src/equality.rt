@@ -12,10 +12,10 @@ ghost use Rattle.lk_questions.specs.QuotientUnits.{is_eq_type, is_refl_type};
 ghost use Rattle.lk_store.specs.Contents.{Contents, name_at, tree_at};
 ghost use Rattle.lk_store.specs.Store.{contents_of};
 ghost use Rattle.lk_env.specs.Units.{type_at, IsTypeIn};
-ghost use Rattle.lk_env.specs.Entries.{plain_entry, IsEntryIn};
+ghost use Rattle.lk_env.specs.Entries.{IsEntryIn, library_entry};
 ghost use Rattle.lk_ask.specs.Looks.{entry_at, Made, MakesTree};
-ghost use Rattle.lk_quot.specs.Equality.{only_of, constructor_count, is_refl_part, are_eq_parts};
-ghost use Rattle.lk_quot.specs.Equality.{IsPartIn, ArePartsIn};
+ghost use Rattle.lk_quot.specs.Equality.{only_of, constructor_count, is_refl_shape, is_eq_shape};
+ghost use Rattle.lk_quot.specs.Equality.{IsReflShapeIn, IsEqShapeIn};
 
 use crate::due::eq_at;
 use crate::names::is_dotted;
@@ -29,20 +29,20 @@ use lk_store::memory::NoMemory;
 use lk_store::node::{LevelNode, Node};
 use lk_store::terms::Terms;
 
-/// What is read of a constructor of one level parameter.
+/// What is read of a constructor that may be `Eq.refl`. It has one level parameter.
 #[derive(Clone, Copy)]
-struct Part {
+struct ReflShape {
     name: u64,
     level: u64,
     ty: u64,
 }
 
-/// What is read of a type of one level parameter that has one constructor.
+/// What is read of a type that may be `Eq`. It has one level parameter and one constructor.
 #[derive(Clone, Copy)]
-struct Parts {
+struct EqShape {
     level: u64,
     ty: u64,
-    constructor: Part,
+    constructor: ReflShape,
 }
 
 /// The only one, where there is just one.
@@ -71,14 +71,14 @@ fn have_one_constructor(types: &[BlockType]) -> bool
 }
 
 /// What is read of the only constructor of a type.
-fn constructor_part(ty: &BlockType) -> Option<Part>
-    ensures known { (c : Contents) → IsTypeIn c ty.now → IfSome result (IsPartIn c) }
+fn refl_shape(ty: &BlockType) -> Option<ReflShape>
+    ensures known { (c : Contents) → IsTypeIn c ty.now → IfSome result (IsReflShapeIn c) }
     ensures is { (c : Contents)
-        → is_refl_alone (type_at c ty.now).ctors ≡ is_refl_part c result }
+        → is_refl_alone (type_at c ty.now).ctors ≡ is_refl_shape c result }
 {
     let constructor = only(&ty.constructors)?;
     let level = only(&constructor.levels)?;
-    Some(Part {
+    Some(ReflShape {
         name: constructor.name,
         level: *level,
         ty: constructor.ty,
@@ -86,20 +86,19 @@ fn constructor_part(ty: &BlockType) -> Option<Part>
 }
 
 /// What is read of an entry that may be `Eq`. There is none where it cannot be.
-fn parts_of<L: Lends>(library: &L, entry: Entry) -> Option<Parts>
-    requires { IsEntryIn (contents_of (L.lent library.now).0) entry }
-    ensures known { IfSome result (ArePartsIn (contents_of (L.lent library.now).0)) }
-    ensures is { (g : PlainEntry)
-        → plain_entry (contents_of (L.lent library.now).0) (L.lent library.now).1 entry ≡ Some g
-        → plain_is_eq g g.kind ≡ are_eq_parts (contents_of (L.lent library.now).0) result }
+fn eq_shape<L: Lends>(library: &L, entry: Entry) -> Option<EqShape>
+    requires { IsEntryIn (contents_of (L.lent library.now).tables) entry }
+    ensures known { IfSome result (IsEqShapeIn (contents_of (L.lent library.now).tables)) }
+    ensures is { (g : PlainEntry) → library_entry (L.lent library.now) entry ≡ Some g
+        → plain_is_eq g g.kind ≡ is_eq_shape (contents_of (L.lent library.now).tables) result }
 {
     let level = only(levels_of(library, entry))?;
     let (block, ty) = type_of(library, entry)?;
-    let constructor = constructor_part(ty)?;
+    let constructor = refl_shape(ty)?;
     if !have_one_constructor(&block.types) {
         return None;
     }
-    Some(Parts {
+    Some(EqShape {
         level: *level,
         ty: entry.stated,
         constructor,
@@ -168,26 +167,26 @@ fn is_type_of_refl<L: Looks>(looks: &mut L, u: u64, ty: u64) -> Result<bool, NoM
 }
 
 /// Whether the constructor is `Eq.refl`.
-fn is_refl<L: Looks>(looks: &mut L, part: Part) -> Result<bool, NoMemory>
-    requires { IsPartIn (L.contents looks.old) part }
+fn is_shape_of_refl<L: Looks>(looks: &mut L, shape: ReflShape) -> Result<bool, NoMemory>
+    requires { IsReflShapeIn (L.contents looks.old) shape }
     ensures made { Made L.contents L.rest looks.old looks.new }
-    ensures ok { IfOk result (λ b. b ≡ is_refl_part (L.contents looks.old) (Some part)) }
+    ensures ok { IfOk result (λ b. b ≡ is_refl_shape (L.contents looks.old) (Some shape)) }
 {
-    if is_dotted(looks, part.name, b"Eq", b"refl") {
-        is_type_of_refl(looks, part.level, part.ty)
+    if is_dotted(looks, shape.name, b"Eq", b"refl") {
+        is_type_of_refl(looks, shape.level, shape.ty)
     } else {
         Ok(false)
     }
 }
 
 /// Whether the type is `Eq`, and its only constructor `Eq.refl`.
-fn are_eq<L: Looks>(looks: &mut L, parts: Parts) -> Result<bool, NoMemory>
-    requires { ArePartsIn (L.contents looks.old) parts }
+fn is_shape_of_eq<L: Looks>(looks: &mut L, shape: EqShape) -> Result<bool, NoMemory>
+    requires { IsEqShapeIn (L.contents looks.old) shape }
     ensures made { Made L.contents L.rest looks.old looks.new }
-    ensures ok { IfOk result (λ b. b ≡ are_eq_parts (L.contents looks.old) (Some parts)) }
+    ensures ok { IfOk result (λ b. b ≡ is_eq_shape (L.contents looks.old) (Some shape)) }
 {
-    if is_type_of_eq(looks, parts.level, parts.ty)? {
-        is_refl(looks, parts.constructor)
+    if is_type_of_eq(looks, shape.level, shape.ty)? {
+        is_shape_of_refl(looks, shape.constructor)
     } else {
         Ok(false)
     }
@@ -195,14 +194,14 @@ fn are_eq<L: Looks>(looks: &mut L, parts: Parts) -> Result<bool, NoMemory>
 
 /// Whether an entry is `Eq` as it has to be.
 pub(crate) fn is_eq<L: Looks>(looks: &mut L, entry: Entry) -> Result<bool, NoMemory>
-    requires { IsEntryIn (contents_of (L.sight (L.rest looks.old)).basis.library.0) entry }
+    requires { IsEntryIn (contents_of (L.sight (L.rest looks.old)).basis.library.tables) entry }
     ensures made { Made L.contents L.rest looks.old looks.new }
     ensures ok { IfOk result (λ b. (g : PlainEntry)
         → entry_at (L.sight (L.rest looks.old)).basis entry ≡ Some g
         → b ≡ plain_is_eq g g.kind) }
 {
-    match parts_of(looks.scope(), entry) {
-        Some(parts) => are_eq(looks, parts),
+    match eq_shape(looks.scope(), entry) {
+        Some(shape) => is_shape_of_eq(looks, shape),
         None => Ok(false),
     }
 }

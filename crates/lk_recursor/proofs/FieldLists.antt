@@ -1,5 +1,6 @@
--- Fields, hypotheses and minor premises, one after another.
+-- Fields and what they give, one after another.
 use Rattle.std.proofs.Common.{◌≡◌, ◌<◌, ℕ, List, [], ◌∷◌, ◌++◌, map, length, All, refl, sym, ap, ◌∙◌, append_assoc}
+use Rattle.std.proofs.lemmas.List.{append-nil}
 use Rattle.std.proofs.lemmas.List.Elements.{All-map, All-same, All-weaker}
 use Rattle.lk_tree.specs.Tree.{Name, Tree}
 use Rattle.lk_store.specs.Contents.{Contents, tree_at}
@@ -7,7 +8,9 @@ use Rattle.lk_inductive.specs.Block as plain
 use Rattle.lk_inductive.specs.Recursors.{variables, with_hypothesis, hypotheses, with_induction, inductions}
 use Rattle.lk_block.specs.declared.shape.Field.{Field}
 use Rattle.lk_block.specs.Shapes.{field_at, IsFieldIn}
-use Rattle.lk_recursor.specs.Hypotheses.{hypothesis, induction}
+use Rattle.lk_recursor.specs.declared.recursive.Heading.{Heading}
+use Rattle.lk_recursor.specs.declared.recursive.Heading.TheVariants.{Motives, Recursors}
+use Rattle.lk_recursor.specs.Recursive.{term_of, terms_of}
 
 -- the Locals of fields
 pub variables_are : (c : Contents) (fs : List Field) → variables (map (field_at c) fs) ≡ map (tree_at c) (map (λ (f : Field). f.variable) fs)
@@ -24,26 +27,27 @@ variables_at c given fs same = ap (map (tree_at c)) same ∙ sym (variables_are 
 pub variables_in : (c : Contents) (given : List ℕ) (fs : List Field) → given ≡ map (λ (f : Field). f.variable) fs → All (IsFieldIn c) fs → All (λ e. e < length c.trees) given
 variables_in c given fs same h = All-same (λ e. e < length c.trees) given (map (λ (f : Field). f.variable) fs) same (variables_known c fs h)
 
--- a hypothesis more
+-- one field's term stands before those of the others
 with_hypothesis-front : (s : plain.Shape) (x : Tree) (k : plain.FieldKind) (rest : List Tree) → with_hypothesis s x k rest ≡ with_hypothesis s x k [] ++ rest
 with_hypothesis-front s x plain.plain rest = refl
 with_hypothesis-front s x (plain.recursive ys T is) rest = refl
-
-pub hypotheses-cons : (s : plain.Shape) (f : plain.Field) (fs : List plain.Field) → hypotheses s (f ∷ fs) ≡ hypotheses s (f ∷ []) ++ hypotheses s fs
-hypotheses-cons s f fs = with_hypothesis-front s f.variable f.kind (hypotheses s fs)
-
-pub hypothesis_one : (s : plain.Shape) (x : Tree) (k : plain.FieldKind) (ys : List Tree) (T : Name) (is : List Tree) → k ≡ plain.recursive ys T is → with_hypothesis s x k [] ≡ hypothesis s x ys T is ∷ []
-hypothesis_one s x k ys T is e = ap (λ (j : plain.FieldKind). with_hypothesis s x j []) e
 
 with_induction-front : (s : plain.Shape) (x : Tree) (k : plain.FieldKind) (rest : List Tree) → with_induction s x k rest ≡ with_induction s x k [] ++ rest
 with_induction-front s x plain.plain rest = refl
 with_induction-front s x (plain.recursive ys T is) rest = refl
 
-pub inductions-cons : (s : plain.Shape) (f : plain.Field) (fs : List plain.Field) → inductions s (f ∷ fs) ≡ inductions s (f ∷ []) ++ inductions s fs
-inductions-cons s f fs = with_induction-front s f.variable f.kind (inductions s fs)
+pub terms-cons : (h : Heading) (s : plain.Shape) (f : plain.Field) (fs : List plain.Field) → terms_of h s (f ∷ fs) ≡ terms_of h s (f ∷ []) ++ terms_of h s fs
+terms-cons (Motives h) s f fs = with_hypothesis-front s f.variable f.kind (hypotheses s fs)
+terms-cons (Recursors h) s f fs = with_induction-front s f.variable f.kind (inductions s fs)
 
-pub induction_one : (s : plain.Shape) (x : Tree) (k : plain.FieldKind) (ys : List Tree) (T : Name) (is : List Tree) → k ≡ plain.recursive ys T is → with_induction s x k [] ≡ induction s x ys T is ∷ []
-induction_one s x k ys T is e = ap (λ (j : plain.FieldKind). with_induction s x j []) e
+-- that of a recursive field, and none of another one
+pub terms-one : (h : Heading) (s : plain.Shape) (f : plain.Field) (ys : List Tree) (T : Name) (is : List Tree) → f.kind ≡ plain.recursive ys T is → terms_of h s (f ∷ []) ≡ term_of h s f.variable ys T is ∷ []
+terms-one (Motives h) s f ys T is e = ap (λ (k : plain.FieldKind). with_hypothesis s f.variable k []) e
+terms-one (Recursors h) s f ys T is e = ap (λ (k : plain.FieldKind). with_induction s f.variable k []) e
+
+pub terms-none : (h : Heading) (s : plain.Shape) (f : plain.Field) (found : List Tree) → f.kind ≡ plain.plain → found ≡ found ++ terms_of h s (f ∷ [])
+terms-none (Motives h) s f found e = sym (ap (λ (k : plain.FieldKind). found ++ with_hypothesis s f.variable k []) e ∙ append-nil found)
+terms-none (Recursors h) s f found e = sym (ap (λ (k : plain.FieldKind). found ++ with_induction s f.variable k []) e ∙ append-nil found)
 
 -- what one step adds to what is found, where something is left
 pub added_more : (found more one rest front whole : List Tree) → found ++ front ≡ whole → front ≡ one ++ rest → more ≡ found ++ one → more ++ rest ≡ whole

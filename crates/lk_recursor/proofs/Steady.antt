@@ -17,6 +17,9 @@ use Rattle.lk_recursor.specs.declared.front.Front.{Front}
 use Rattle.lk_restore.specs.Originals.{AreOriginals, restoring_at}
 use Rattle.lk_restore.specs.Steady.{originals-stay, restoring-steady}
 use Rattle.lk_recursor.specs.Fronts.{AreHeads, IsFront, read_by, own_recursors}
+use Rattle.lk_recursor.specs.declared.recursive.Heading.{Heading}
+use Rattle.lk_recursor.specs.declared.recursive.Heading.TheVariants.{Motives, Recursors}
+use Rattle.lk_recursor.specs.Recursive.{IsHeading}
 use Rattle.lk_recursor.specs.Telescopes.{IsFrontTelescope}
 use Rattle.lk_recursor.proofs.Telescopes.{front_telescope-steady}
 
@@ -54,6 +57,10 @@ module _ (c d : Contents) (grown : Extends c d) where
             (IfSome_then f.telescope was.telescope_is (λ t h. front_telescope-steady c d grown (shape_at c s) f.originals.now t h));
         major_is = subst (λ (p : plain.Shape). f.major ≡ shape_bound p + (length p.types + length (minors p))) same was.major_is;
       }
+
+  pub heading-steady : (s : Shape) (h : Heading) → IsShapeIn c s → IsHeading c s h → IsHeading d s h
+  heading-steady s (Motives h) known was = heads-steady s h.now known was
+  heading-steady s (Recursors f) known was = front-steady s f.now known was
 
   -- names and trees are read back as before
   pub read_by-steady : (s : Shape) (f : Front) → IsShapeIn c s → IsFront c s f → read_by d s f ≡ read_by c s f

@@ -5,7 +5,8 @@ ghost use Rattle.lk_tree.specs.Tree.{app, const, param};
 ghost use Rattle.lk_tree.specs.Spine.{apply as applied};
 ghost use Rattle.lk_store.specs.Contents.{name_at, level_at, tree_at, Extends, IsList, IsTree};
 ghost use Rattle.lk_spine.specs.Reading.{AreTrees};
-ghost use Rattle.lk_inductive.specs.Recursors.{at_params, elim_level, motive_type, motives, motive_in, motive_of, shape_bound};
+ghost use Rattle.lk_inductive.specs.Recursors.{at_params, elim_level, shape_bound};
+ghost use Rattle.lk_inductive.specs.Recursors.{motive_type, motives, motive_in, motive_of};
 ghost use Rattle.lk_block.specs.Shapes.{type_shape_at, shape_at, IsTypeShapeIn, IsShapeIn};
 ghost use Rattle.lk_recursor.specs.Fronts.{AreHeads};
 
@@ -170,7 +171,7 @@ fn find_motive<T: Terms>(terms: &T, types: &[TypeShape], motives: &[u64], name: 
 }
 
 /// The motive of the type of a name. Where the block has no such type it is the constant.
-fn motive_for<T: Terms>(
+pub(crate) fn motive_for<T: Terms>(
     terms: &mut T,
     shape: &Shape,
     heads: &Heads,

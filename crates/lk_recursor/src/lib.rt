@@ -12,6 +12,7 @@ pub mod heads;
 mod levels;
 mod minors;
 mod own;
+mod recursive;
 pub mod recursor;
 mod renaming;
 pub mod rules;

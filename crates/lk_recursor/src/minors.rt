@@ -1,17 +1,18 @@
-//! Minor premises: their hypotheses, their types and their Locals.
+//! Minor premises: their types and their Locals.
 
-ghost use Rattle.std.specs.Prelude.{◌≡◌, ◌<◌, ◌+◌, ◌++◌, ◌∷◌, [], length, map, All, IfOk, OnOk};
-ghost use Rattle.lk_store.specs.Contents.{name_at, tree_at, Extends, IsTree};
+ghost use Rattle.std.specs.Prelude.{◌≡◌, ◌+◌, ◌++◌, length, map, IfOk, OnOk};
+ghost use Rattle.lk_store.specs.Contents.{tree_at, Extends, IsTree};
 ghost use Rattle.lk_spine.specs.Reading.{AreTrees};
-ghost use Rattle.lk_inductive.specs.Recursors.{hypotheses, minor_type, minor_types, minors, shape_bound};
-ghost use Rattle.lk_block.specs.Shapes.{AreTreesIn, field_at, constructor_shape_at, type_shape_at, shape_at, IsFieldIn, IsRecursionIn, IsConstructorShapeIn, IsTypeShapeIn, IsShapeIn};
+ghost use Rattle.lk_inductive.specs.Recursors.{minor_type, minor_types, minors, shape_bound};
+ghost use Rattle.lk_block.specs.Shapes.{constructor_shape_at, type_shape_at, shape_at, AreTreesIn};
+ghost use Rattle.lk_block.specs.Shapes.{IsConstructorShapeIn, IsTypeShapeIn, IsShapeIn};
 ghost use Rattle.lk_recursor.specs.Fronts.{AreHeads};
-ghost use Rattle.lk_recursor.specs.Hypotheses.{hypothesis, minor_body};
+ghost use Rattle.lk_recursor.specs.Hypotheses.{minor_body};
 
 use crate::binders::{Binder, arrows_to, locals_of, over_locals};
 use crate::heads::{Heads, at_parameters, motive_at};
-use lk_block::shape::{ConstructorShape, Field, FieldKind, Recursion, Shape, TypeShape};
-use lk_spine::apply;
+use crate::recursive::{Heading, recursive_terms};
+use lk_block::shape::{ConstructorShape, Field, Shape, TypeShape};
 use lk_store::memory::NoMemory;
 use lk_store::terms::Terms;
 use std::alloc::Global;
@@ -23,98 +24,6 @@ pub fn variables_of(alloc: Global, fields: &[Field]) -> Result<Vec<u64>, NoMemor
     let mut found = Vec::new(alloc);
     for field in fields {
         found.push(field.variable)?;
-    }
-    Ok(found)
-}
-
-/// The hypothesis for a field of type `(ys) -> T P is`.
-fn hypothesis_of<T: Terms>(
-    alloc: Global,
-    terms: &mut T,
-    shape: &Shape,
-    heads: &Heads,
-    variable: u64,
-    recursion: &Recursion,
-) -> Result<u64, NoMemory>
-    requires shape_in { IsShapeIn (T.contents terms.old) shape.now }
-    requires heads_are { AreHeads (T.contents terms.old) shape.now heads.now }
-    requires variable_in { variable < length (T.contents terms.old).trees }
-    requires recursion_in { IsRecursionIn (T.contents terms.old) recursion.now }
-    ensures keeps { Extends (T.contents terms.old) (T.contents terms.new) }
-    ensures rest { T.rest terms.new ≡ T.rest terms.old }
-    ensures ok { IfOk result (λ e. IsTree (T.contents terms.new) e
-        (hypothesis (shape_at (T.contents terms.old) shape.now)
-        (tree_at (T.contents terms.old) variable)
-        (map (tree_at (T.contents terms.old)) recursion.now.arguments.items)
-        (name_at (T.contents terms.old) recursion.now.name)
-        (map (tree_at (T.contents terms.old)) recursion.now.indices.items))) }
-{
-    let subject = apply(terms, variable, &recursion.arguments)?;
-    let body = motive_at(
-        terms,
-        shape,
-        heads,
-        recursion.name,
-        &recursion.indices,
-        subject,
-    )?;
-    let made = over_locals(alloc, terms, Binder::Pi, &recursion.arguments, body)?;
-    Ok(made)
-}
-
-/// Adds the hypothesis for a field, if it has one.
-fn add_hypothesis<T: Terms>(
-    alloc: Global,
-    terms: &mut T,
-    shape: &Shape,
-    heads: &Heads,
-    field: &Field,
-    found: &mut Vec<u64>,
-) -> Result<(), NoMemory>
-    requires shape_in { IsShapeIn (T.contents terms.old) shape.now }
-    requires heads_are { AreHeads (T.contents terms.old) shape.now heads.now }
-    requires field_in { IsFieldIn (T.contents terms.old) field.now }
-    requires found_in { AreTreesIn (T.contents terms.old) found.old.items }
-    ensures keeps { Extends (T.contents terms.old) (T.contents terms.new) }
-    ensures rest { T.rest terms.new ≡ T.rest terms.old }
-    ensures known { OnOk result (AreTreesIn (T.contents terms.new) found.new.items) }
-    ensures ok { OnOk result (map (tree_at (T.contents terms.new)) found.new.items
-        ≡ map (tree_at (T.contents terms.old)) found.old.items
-        ++ hypotheses (shape_at (T.contents terms.old) shape.now)
-        (field_at (T.contents terms.old) field.now ∷ [])) }
-{
-    match &field.kind {
-        FieldKind::Plain => Ok(()),
-        FieldKind::Recursive(recursion) => {
-            let made = hypothesis_of(alloc, terms, shape, heads, field.variable, recursion)?;
-            found.push(made)?;
-            Ok(())
-        }
-    }
-}
-
-/// The hypotheses for fields.
-fn hypotheses_of<T: Terms>(
-    alloc: Global,
-    terms: &mut T,
-    shape: &Shape,
-    heads: &Heads,
-    fields: &[Field],
-) -> Result<Vec<u64>, NoMemory>
-    requires shape_in { IsShapeIn (T.contents terms.old) shape.now }
-    requires heads_are { AreHeads (T.contents terms.old) shape.now heads.now }
-    requires fields_in { All (IsFieldIn (T.contents terms.old)) fields.now }
-    ensures keeps { Extends (T.contents terms.old) (T.contents terms.new) }
-    ensures rest { T.rest terms.new ≡ T.rest terms.old }
-    ensures ok { IfOk result (λ es. AreTrees (T.contents terms.new) es.items
-        (hypotheses (shape_at (T.contents terms.old) shape.now)
-        (map (field_at (T.contents terms.old)) fields.now))) }
-{
-    let mut found = Vec::new(alloc);
-    let mut left = fields;
-    'fields: while let Some((field, others)) = left.split_first() {
-        add_hypothesis(alloc, terms, shape, heads, field, &mut found)?;
-        left = others;
     }
     Ok(found)
 }
@@ -142,7 +51,8 @@ fn body_of_minor<T: Terms>(
         (constructor_shape_at (T.contents terms.old) constructor.now)
         (map (tree_at (T.contents terms.old)) variables.now))) }
 {
-    let hypotheses = hypotheses_of(alloc, terms, shape, heads, &constructor.fields)?;
+    let heading = Heading::Motives(heads);
+    let hypotheses = recursive_terms(alloc, terms, shape, &heading, &constructor.fields)?;
     let own = heads.own_levels;
     let subject = at_parameters(terms, shape, own, constructor.name, variables)?;
     let end = motive_at(terms, shape, heads, of.name, &constructor.indices, subject)?;

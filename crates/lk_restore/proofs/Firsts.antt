@@ -2,7 +2,7 @@
 use Rattle.std.proofs.Common.{◌≡◌, Bool, true, false, List, [], ◌∷◌, Option, Some, None, refl, sym, ap, subst, ◌∙◌, ◌↔◌, IsTrue}
 use Rattle.std.specs.Prelude.{All, option_map, if◌then◌else◌}
 use Rattle.std.proofs.lemmas.List.Elements.{All-tail}
-use Rattle.lk_tree.specs.Tree.{Name, name_discrete, Tree, tree_discrete}
+use Rattle.lk_tree.specs.Tree.{Name, Tree, tree_discrete}
 use Rattle.lk_tree.specs.Mentions.{same_name}
 use Rattle.lk_rulebook.specs.SameTree.{decided}
 use Rattle.lk_inductive.specs.Restore.{stands_for, name_back}
@@ -11,16 +11,6 @@ use Rattle.lk_restore.specs.declared.originals.Original.{Original}
 use Rattle.lk_restore.specs.declared.originals.Original.TheVariants.{Applied, Renamed}
 use Rattle.lk_restore.specs.Originals.{number_of, original_at, originals_at}
 use Rattle.lk_restore.specs.Marks.{Mark, whole, another, mark_at, marks_at, marked, first, at_once, instead}
-
--- a test of two names decides as the definition does
-pub name_decides : (r : Bool) (m n : Name) → (IsTrue r ↔ (m ≡ n)) → r ≡ same_name m n
-name_decides r m n h = go r (name_discrete m n) h
-  where
-    go : (s : Bool) (d : Dec (m ≡ n)) → (IsTrue s ↔ (m ≡ n)) → s ≡ elim d [ yes e ↦ true | no f ↦ false ]
-    go true (yes e) i = refl
-    go true (no f) i = absurd (f (i.0 refl))
-    go false (yes e) i = i.1 e
-    go false (no f) i = refl
 
 module _ (m : Mark) (ms : List Mark) (c : Name) where
   pub first_found : same_name (marked m) c ≡ true → first (m ∷ ms) c ≡ Some m

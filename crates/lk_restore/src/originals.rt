@@ -1,11 +1,11 @@
 //! What constants of the larger block stand for.
 
 ghost use Rattle.std.specs.Prelude.{◌≡◌, ◌<◌, length, IfSome, option_map};
-ghost use Rattle.lk_tree.specs.Mentions.{same_name};
 ghost use Rattle.lk_store.specs.Contents.{name_at};
 ghost use Rattle.lk_restore.specs.Originals.{number_of, read_name, AreOriginalsIn, IsOriginalIn};
 ghost use Rattle.lk_restore.specs.Marks.{mark_at, marks_at, first};
 
+use lk_lists::names::names_equal;
 use lk_store::terms::Terms;
 
 /// What a constant of the larger block stands for. All numbers are those of one store.
@@ -24,17 +24,6 @@ pub enum Original {
         name: u64,
         to: u64,
     },
-}
-
-/// Whether two names are equal.
-#[tactic(auto, using(crate::proofs::Firsts::name_decides))]
-fn names_equal<T: Terms>(terms: &T, name: u64, other: u64) -> bool
-    requires name_in { name < length (T.contents terms.now).names }
-    requires other_in { other < length (T.contents terms.now).names }
-    ensures { result ≡ same_name (name_at (T.contents terms.now) name)
-        (name_at (T.contents terms.now) other) }
-{
-    terms.same_name(name, other)
 }
 
 /// The name of the constant that stands for something.

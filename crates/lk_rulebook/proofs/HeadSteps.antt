@@ -137,8 +137,8 @@ apart_behind_steps (e_reduce p q e) r s f g = apart_behind_steps e (forward p []
 apart_behind_steps (e_sort x) r s f g = both_there (e_sort x) tt tt r s f g
 apart_behind_steps (e_const x) r s f g = absurd (not_there r f tt (λ z. z))
 apart_behind_steps (e_app u v e h) r s f g = absurd (not_there r f u (λ z. z))
-apart_behind_steps (e_lam i j e h) r s f g = absurd (not_there r f tt (λ z. z))
-apart_behind_steps (e_pi i j e h) r s f g = both_there (e_pi i j e h) tt tt r s f g
+apart_behind_steps (e_lam fresh e h) r s f g = absurd (not_there r f tt (λ z. z))
+apart_behind_steps (e_pi fresh e h) r s f g = both_there (e_pi fresh e h) tt tt r s f g
 apart_behind_steps (e_proj e) r s f g = absurd (not_there r f tt (λ z. z))
 apart_behind_steps (e_eta_left v t h e) r s f g = absurd (not_there s g tt (λ z. z))
 apart_behind_steps (e_eta_right v t h e) r s f g = absurd (not_there r f tt (λ z. z))
@@ -173,10 +173,10 @@ comes_along n (e_reduce p q e) r f =
     let i : _ = comes_along n e (forward p [] r f) f in
     (i.0, r_trans q i.1, i.2, i.3)
 comes_along n (e_sort x) r f = at_once (e_sort x) tt r f tt
-comes_along n (e_pi i j e h) r f = at_once (e_pi i j e h) tt r f tt
+comes_along n (e_pi fresh e h) r f = at_once (e_pi fresh e h) tt r f tt
 comes_along n (e_const x) r f = absurd (not_there r f tt (λ z. z))
 comes_along n (e_app u v e h) r f = absurd (not_there r f u (λ z. z))
-comes_along n (e_lam i j e h) r f = absurd (not_there r f tt (λ z. z))
+comes_along n (e_lam fresh e h) r f = absurd (not_there r f tt (λ z. z))
 comes_along n (e_proj e) r f = absurd (not_there r f tt (λ z. z))
 comes_along n (e_eta_left {o = o} v t h e) r f = absurd (no_pi t h (is_former (normal_neutral o v) r f))
 comes_along n (e_eta_right v t h e) r f = absurd (not_there r f tt (λ z. z))

@@ -1,7 +1,7 @@
 -- Types and reducts bring no new Local.
 use Rattle.std.proofs.Common.{ℕ, zero, suc, ◌≡◌, ◌≤◌, ◌⊎◌, inl, inr, List, [], ◌∷◌, ◌++◌, ◌+◌, take, drop, ◌∙◌, arith}
 use Rattle.lk_tree.specs.Tree.{Name, Level, Tree, var, sort, const, app, lam, pi, let_in, proj, lit, wide, str, local}
-use Rattle.lk_tree.specs.Bind.{open_at, opened, bound}
+use Rattle.lk_tree.specs.Bind.{open_at, opened, bound, Fresh}
 use Rattle.lk_tree.specs.Levels.{put_levels}
 use Rattle.lk_tree.specs.Spine.{apply}
 use Rattle.lk_tree.specs.WellFormed.{HasLocal, LocalsWithin}
@@ -13,7 +13,7 @@ use Rattle.lk_rulebook.specs.Names.{named, op_name}
 use Rattle.lk_rulebook.proofs.Texts.{text_within, read_within, result_within}
 use Rattle.lk_rulebook.specs.Structures.{expanded, projections, ctor_app, before_indices, on_major}
 use Rattle.lk_rulebook.specs.Stated.{GivesNoLocal}
-use Rattle.lk_rulebook.specs.Rules.{HasType, t_sort, t_local, t_const, t_app, t_lam, t_pi, t_let, t_lit, t_str, t_proj, Reduces, r_refl, r_trans, r_head, r_beta, r_zeta, r_delta, r_proj, r_major, r_iota, r_k, r_struct, r_quot_lift, r_quot_ind, r_op, Field, FieldOf, here, past, PastParameters, no_more, next}
+use Rattle.lk_rulebook.specs.Rules.{HasType, t_sort, t_local, t_const, t_app, t_lam, t_pi, t_let, t_lit, t_str, t_proj, Reduces, r_refl, r_trans, r_head, r_beta, r_zeta, r_delta, r_proj, r_major, r_iota, r_k, r_struct, r_quot_lift, r_quot_ind, r_op, Field, IsFieldType, here, past, IsTypeAfterParameters, no_more, next}
 
 -- opening keeps the Locals of the body
 local_kept : (k : ℕ) (T : Tree) (d : ℕ) (v b : Tree) → HasLocal k T b → HasLocal k T (open_at d v b)
@@ -65,13 +65,13 @@ bound_of_lam : (A b : Tree) (k : ℕ) → bound (lam A b) ≤ k → bound A ≤ 
 unfolding bound
 bound_of_lam A b k h = omega arith
 
-lam_within : (A b B : Tree) (k : ℕ) → bound (lam A b) ≤ k → bound (pi A B) ≤ k → LocalsWithin (opened b (local k A)) (opened B (local k A)) → LocalsWithin (lam A b) (pi A B)
-lam_within A b B k i j w n T (inl h) = inl h
-lam_within A b B k i j w n T (inr h) = go (local_of_open n T 0 (local k A) b (w n T (local_kept n T 0 (local k A) B h)))
+lam_within : (A b B : Tree) (k : ℕ) → Fresh k (lam A b ∷ pi A B ∷ []) → LocalsWithin (opened b (local k A)) (opened B (local k A)) → LocalsWithin (lam A b) (pi A B)
+lam_within A b B k fresh w n T (inl h) = inl h
+lam_within A b B k fresh w n T (inr h) = go (local_of_open n T 0 (local k A) b (w n T (local_kept n T 0 (local k A) B h)))
   where
     go : HasLocal n T b ⊎ HasLocal n T (local k A) → HasLocal n T A ⊎ HasLocal n T b
     go (inl x) = inr x
-    go (inr (inl e)) = let f : n ≡ k = e.0 in absurd (omega (arith, below_bound n T B h, bound_of_pi A B k j))
+    go (inr (inl e)) = let f : n ≡ k = e.0 in absurd (omega (arith, below_bound n T B h, bound_of_pi A B k fresh.1.0))
     go (inr (inr x)) = inl x
 
 mutual
@@ -81,8 +81,8 @@ mutual
   type_within s (t_const {c = c} {ls = ls} g f) = stated (const c ls) g.entry.type g.entry.levels ls (s.types c g.entry g.given)
   type_within s (t_app {f = f} {a = a} {F = F} {A = A} {B = B} h r x q) =
       within_open (app f a) B a (λ k T m. inl (type_within s h k T (reduct_within s r k T (inr m)))) (λ k T m. inr m)
-  type_within s (t_lam {A = A} {b = b} {B = B} {k = k} i j a f) = lam_within A b B k i j (type_within s f)
-  type_within s (t_pi i a f) = λ k T h. absurd h
+  type_within s (t_lam {A = A} {b = b} {B = B} {k = k} fresh a f) = lam_within A b B k fresh (type_within s f)
+  type_within s (t_pi fresh a f) = λ k T h. absurd h
   type_within s (t_let {A = A} {v = v} {b = b} {B = B} a x q f) =
       within_trans (let_in A v b) (opened b v) B (within_open (let_in A v b) b v (λ k T m. inr (inr m)) (λ k T m. inr (inl m))) (type_within s f)
   type_within s (t_lit h f) = λ k T m. absurd m
@@ -128,12 +128,12 @@ mutual
   reduct_within s (r_quot_ind ls ks i j f r) = λ k T. elim [ inl x ↦ inl (inr x) | inr x ↦ inr (reduct_within s r k T (inr x)) ]
   reduct_within s (r_op op es ns r o h l t g) = result_within (apply (named (op_name op)) es) g
 
-  field_within : {w : Place} → GivesNoLocal w → {x : Field} {A : Tree} {j : ℕ} {r : Tree} → FieldOf w x A j r → LocalsWithin x.subject r → LocalsWithin x.subject A
+  field_within : {w : Place} → GivesNoLocal w → {x : Field} {A : Tree} {j : ℕ} {r : Tree} → IsFieldType w x A j r → LocalsWithin x.subject r → LocalsWithin x.subject A
   field_within s (here c h) g = λ k T m. g k T (reduct_within s c k T (inl m))
   field_within s (past {f = x} {j = j} {B = B} c h f) g =
       field_within s f (within_open x.subject B (proj x.structure j x.subject) (λ k T m. g k T (reduct_within s c k T (inr m))) (λ k T m. m))
 
-  past_within : {w : Place} → GivesNoLocal w → (s : Tree) {T : Tree} {n : ℕ} {bs : List Tree} {r : Tree} → PastParameters w T n bs r → AllWithin s bs → LocalsWithin s r → LocalsWithin s T
+  past_within : {w : Place} → GivesNoLocal w → (s : Tree) {T : Tree} {n : ℕ} {bs : List Tree} {r : Tree} → IsTypeAfterParameters w T n bs r → AllWithin s bs → LocalsWithin s r → LocalsWithin s T
   past_within st s no_more f g = g
   past_within st s (next {b = b} {B = B} c p) f g =
       past_within st s p (λ k X h. f k X (inr h)) (within_open s B b (λ k X m. g k X (reduct_within st c k X (inr m))) (λ k X m. f k X (inl m)))

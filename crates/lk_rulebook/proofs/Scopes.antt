@@ -8,7 +8,7 @@ use Rattle.lk_tree.specs.WellFormed.{IsWellFormed, AllWellFormed}
 use Rattle.lk_tree.proofs.Binding.{open_fine, fine_from_open, fine_more}
 use Rattle.lk_tree.proofs.Spines.{fine_apply, well_formed_of_apply, all_fine_append}
 use Rattle.lk_rulebook.specs.Place.{Place}
-use Rattle.lk_rulebook.specs.Rules.{HasType, t_sort, t_local, t_const, t_app, t_lam, t_pi, t_let, t_lit, t_str, t_proj, HasSort, has_sort, Reduces, r_refl, r_trans, r_head, r_beta, r_zeta, r_delta, r_proj, r_major, r_iota, r_k, r_struct, r_quot_lift, r_quot_ind, r_op, IsDefEq, e_refl, e_reduce, e_sort, e_const, e_app, e_lam, e_pi, e_proj, e_eta_left, e_eta_right, e_struct_left, e_struct_right, e_unit, e_proof, e_zero_left, e_zero_right, e_succ_left, e_succ_right, e_str_left, e_str_right, Numerals, no_more_numerals, numeral, by_fields, Field, FieldOf, here, past}
+use Rattle.lk_rulebook.specs.Rules.{HasType, t_sort, t_local, t_const, t_app, t_lam, t_pi, t_let, t_lit, t_str, t_proj, HasSort, has_sort, Reduces, r_refl, r_trans, r_head, r_beta, r_zeta, r_delta, r_proj, r_major, r_iota, r_k, r_struct, r_quot_lift, r_quot_ind, r_op, IsDefEq, e_refl, e_reduce, e_sort, e_const, e_app, e_lam, e_pi, e_proj, e_eta_left, e_eta_right, e_struct_left, e_struct_right, e_unit, e_proof, e_zero_left, e_zero_right, e_succ_left, e_succ_right, e_str_left, e_str_right, ReduceToNumerals, no_more_numerals, numeral, by_fields, Field, IsFieldType, here, past}
 
 projections_fine : (J : Name) (m : Tree) (j n : ℕ) → IsWellFormed m → AllWellFormed (projections J m j n)
 projections_fine J m j zero f = tt
@@ -26,9 +26,9 @@ mutual
   well_formed_of_type (t_local f) = (f, f.0)
   well_formed_of_type (t_const g f) = (tt, f)
   well_formed_of_type (t_app {a = a} {A = A} {B = B} f r x q) = (((well_formed_of_type f).0, (well_formed_of_type x).0), open_fine 0 a B (well_formed_of_reduct r).1.1 (well_formed_of_type x).0)
-  well_formed_of_type (t_lam {A = A} {b = b} {B = B} {k = k} i j a f) =
+  well_formed_of_type (t_lam {A = A} {b = b} {B = B} {k = k} fresh a f) =
       ((well_formed_of_sort a, fine_from_open 0 (local k A) b (well_formed_of_type f).0), (well_formed_of_sort a, fine_from_open 0 (local k A) B (well_formed_of_type f).1))
-  well_formed_of_type (t_pi {A = A} {B = B} {k = k} i a f) = ((well_formed_of_sort a, fine_from_open 0 (local k A) B (well_formed_of_sort f)), tt)
+  well_formed_of_type (t_pi {A = A} {B = B} {k = k} fresh a f) = ((well_formed_of_sort a, fine_from_open 0 (local k A) B (well_formed_of_sort f)), tt)
   well_formed_of_type (t_let {v = v} {b = b} a x q f) = ((well_formed_of_sort a, (well_formed_of_type x).0, fine_from_open 0 v b (well_formed_of_type f).0), (well_formed_of_type f).1)
   well_formed_of_type (t_lit h f) = (f, tt)
   well_formed_of_type (t_str h) = (tt, tt)
@@ -61,9 +61,9 @@ mutual
   well_formed_of_equal (e_sort h) = (tt, tt)
   well_formed_of_equal (e_const h) = (tt, tt)
   well_formed_of_equal (e_app u v c d) = (((well_formed_of_equal c).0, (well_formed_of_equal d).0), ((well_formed_of_equal c).1, (well_formed_of_equal d).1))
-  well_formed_of_equal (e_lam {A = A} {b = b} {b' = b'} {k = k} i j c d) =
+  well_formed_of_equal (e_lam {A = A} {b = b} {b' = b'} {k = k} fresh c d) =
       (((well_formed_of_equal c).0, fine_from_open 0 (local k A) b (well_formed_of_equal d).0), ((well_formed_of_equal c).1, fine_from_open 0 (local k A) b' (well_formed_of_equal d).1))
-  well_formed_of_equal (e_pi {A = A} {B = b} {B' = b'} {k = k} i j c d) =
+  well_formed_of_equal (e_pi {A = A} {B = b} {B' = b'} {k = k} fresh c d) =
       (((well_formed_of_equal c).0, fine_from_open 0 (local k A) b (well_formed_of_equal d).0), ((well_formed_of_equal c).1, fine_from_open 0 (local k A) b' (well_formed_of_equal d).1))
   well_formed_of_equal (e_proj c) = well_formed_of_equal c
   well_formed_of_equal (e_eta_left v h r c) = ((well_formed_of_type h).0, (well_formed_of_equal c).1)
@@ -79,11 +79,11 @@ mutual
   well_formed_of_equal (e_str_left x c) = (tt, (well_formed_of_equal c).1)
   well_formed_of_equal (e_str_right x c) = ((well_formed_of_equal c).0, tt)
 
-  pub well_formed_of_numerals : {w : Place} {es : List Tree} {ns : List ℕ} → Numerals w es ns → AllWellFormed es
+  pub well_formed_of_numerals : {w : Place} {es : List Tree} {ns : List ℕ} → ReduceToNumerals w es ns → AllWellFormed es
   well_formed_of_numerals no_more_numerals = tt
   well_formed_of_numerals (numeral r i s) = ((well_formed_of_reduct r).0, well_formed_of_numerals s)
 
-  pub well_formed_of_field : {w : Place} {f : Field} {A : Tree} {j : ℕ} {r : Tree} → FieldOf w f A j r → IsWellFormed A
+  pub well_formed_of_field : {w : Place} {f : Field} {A : Tree} {j : ℕ} {r : Tree} → IsFieldType w f A j r → IsWellFormed A
   well_formed_of_field (here c h) = (well_formed_of_reduct c).1.0
   well_formed_of_field (past c h f) = well_formed_of_field f
 

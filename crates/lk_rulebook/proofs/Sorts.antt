@@ -36,8 +36,8 @@ former_typed (t_sort {l = l}) h = (succ_level l, refl)
 former_typed (t_local f) h = absurd h
 former_typed (t_const g f) h = absurd h
 former_typed (t_app f r x q) h = absurd h
-former_typed (t_lam i j a f) h = absurd h
-former_typed (t_pi {u = u} {v = v} i a f) h = (imax_level u v, refl)
+former_typed (t_lam fresh a f) h = absurd h
+former_typed (t_pi {u = u} {v = v} fresh a f) h = (imax_level u v, refl)
 former_typed (t_let a x q f) h = absurd h
 former_typed (t_lit x f) h = absurd h
 former_typed (t_str x) h = absurd h
@@ -48,8 +48,8 @@ sort_typed (t_sort {l = m}) l e = cc
 sort_typed (t_local f) l e = absurd cc
 sort_typed (t_const g f) l e = absurd cc
 sort_typed (t_app f r x q) l e = absurd cc
-sort_typed (t_lam i j a f) l e = absurd cc
-sort_typed (t_pi i a f) l e = absurd cc
+sort_typed (t_lam fresh a f) l e = absurd cc
+sort_typed (t_pi fresh a f) l e = absurd cc
 sort_typed (t_let a x q f) l e = absurd cc
 sort_typed (t_lit x f) l e = absurd cc
 sort_typed (t_str x) l e = absurd cc
@@ -76,7 +76,7 @@ same_self : (w : Place) (a : Tree) → IsWellFormed a → IsFormer a → SameFor
 same_self w (sort l) x h = λ σ. refl
 same_self w (pi A B) x h =
     let k : ℕ = bound (pi A B) in
-    record { number = k; left = omega arith; right = omega arith; domains = e_refl x.0; bodies = e_refl (open_fine 0 (local k A) B x.1 (x.0, pi_bound A B)) }
+    record { number = k; fresh = (omega arith, (omega arith, tt)); domains = e_refl x.0; bodies = e_refl (open_fine 0 (local k A) B x.1 (x.0, pi_bound A B)) }
 same_self w _ x h = absurd h
 
 -- what has a former's type reduces to no Pi and to no applied constant
@@ -102,8 +102,8 @@ same_former {w} (e_reduce {a = a} {b = b} {a' = a'} {b' = b'} r s c) f g =
 same_former (e_sort h) f g = h
 same_former (e_const h) f g = absurd f
 same_former (e_app u v c d) f g = absurd f
-same_former (e_lam i j c d) f g = absurd f
-same_former (e_pi {k = k} i j c d) f g = record { number = k; left = i; right = j; domains = c; bodies = d }
+same_former (e_lam fresh c d) f g = absurd f
+same_former (e_pi {k = k} fresh c d) f g = record { number = k; fresh = fresh; domains = c; bodies = d }
 same_former (e_proj c) f g = absurd f
 same_former (e_eta_left v h r c) f g = absurd (no_pi h r f)
 same_former (e_eta_right v h r c) f g = absurd (no_pi h r g)

@@ -1,8 +1,8 @@
 -- Sorts and Pis.
-use Rattle.std.specs.Prelude.{ℕ, ◌≡◌, ◌≤◌, Some}
+use Rattle.std.specs.Prelude.{ℕ, ◌≡◌, [], ◌∷◌, Some}
 use Rattle.lk_tree.specs.Tree.{Name, Tree, sort, pi, local}
 use Rattle.lk_tree.specs.Level.{SameLevel}
-use Rattle.lk_tree.specs.Bind.{opened, bound}
+use Rattle.lk_tree.specs.Bind.{opened, Fresh}
 use Rattle.lk_rulebook.specs.Place.{Place, Entry, Kind, a_type, a_ctor}
 use Rattle.lk_rulebook.specs.Rules.{IsDefEq}
 
@@ -21,11 +21,10 @@ IsFormer (sort l) = Unit {0}
 IsFormer (pi A B) = Unit {0}
 IsFormer _ = ⊥
 
--- two Pis that are equal in their parts
+-- two Pis that are equal in their parts, the bodies under a fresh Local
 pub record SamePi (w : Place) (A B C D : Tree) : Type 0 where
   pub number : ℕ
-  pub left : bound (pi A B) ≤ number
-  pub right : bound (pi C D) ≤ number
+  pub fresh : Fresh number (pi A B ∷ pi C D ∷ [])
   pub domains : IsDefEq w A C
   pub bodies : IsDefEq w (opened B (local number A)) (opened D (local number A))
 

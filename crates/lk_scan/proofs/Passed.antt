@@ -5,8 +5,8 @@ use Rattle.lk_tree.specs.Tree.{Name, Level, zero_level, succ_level, max_level, i
 use Rattle.lk_tree.specs.Scan.{level_over, levels_over, tree_over}
 use Rattle.lk_store.specs.Contents.{Contents, level_at, list_at, tree_at}
 use Rattle.lk_store.specs.Measures.{level_has_params, list_has_params, has_params}
-use Rattle.lk_scan.specs.declared.part.Part.{Part}
-use Rattle.lk_scan.specs.declared.part.Part.TheVariants as part
+use Rattle.lk_scan.specs.declared.part.TermPart.{TermPart}
+use Rattle.lk_scan.specs.declared.part.TermPart.TheVariants as part
 use Rattle.lk_scan.specs.declared.part.Met.{Met}
 use Rattle.lk_scan.specs.Parts.{part_over, part_has_params}
 use Rattle.lk_scan.specs.Walks.{AreOver}
@@ -52,15 +52,15 @@ module _ (ps : List Name) where
   tree_without (local k T) h = tree_without T h
 
 module _ (c : Contents) where
-  pub part_without : (ps : List Name) (p : Part) → part_has_params c p ≡ false → part_over c ps p ≡ true
+  pub part_without : (ps : List Name) (p : TermPart) → part_has_params c p ≡ false → part_over c ps p ≡ true
   part_without ps (part.Tree e) h = tree_without ps (tree_at c e) h
   part_without ps (part.Level l) h = level_without ps (level_at c l) h
   part_without ps (part.Levels ls) h = levels_without ps (list_at c ls) h
 
-  pub part_met : (ps : List Name) (p : Part) (met : List Met) (i : ℕ) → AreOver c ps met → i < length met → ((d : Met) → (slice_index_or met i d).part ≡ p) → part_over c ps p ≡ true
+  pub part_met : (ps : List Name) (p : TermPart) (met : List Met) (i : ℕ) → AreOver c ps met → i < length met → ((d : Met) → (slice_index_or met i d).part ≡ p) → part_over c ps p ≡ true
   part_met ps p met i over l is = let d : Met = record { part = p } in sym (ap (part_over c ps) (is d)) ∙ over i d l
 
   -- it was met
-  pub met_before : (ps : List Name) (p : Part) (met : List Met) (o : Option ℕ) → AreOver c ps met → IfSome o (λ i. i < length met) → IfSome o (λ i. (d : Met) → (slice_index_or met i d).part ≡ p) → (b : Bool) → is_some o ≡ not b → b ≡ false → part_over c ps p ≡ true
+  pub met_before : (ps : List Name) (p : TermPart) (met : List Met) (o : Option ℕ) → AreOver c ps met → IfSome o (λ i. i < length met) → IfSome o (λ i. (d : Met) → (slice_index_or met i d).part ≡ p) → (b : Bool) → is_some o ≡ not b → b ≡ false → part_over c ps p ≡ true
   met_before ps p met (Some i) over known present b is h = part_met ps p met i over known present
   met_before ps p met None over known present b is h = absurd (let e : false ≡ true = is ∙ ap not h in cc)

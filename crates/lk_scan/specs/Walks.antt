@@ -6,7 +6,7 @@ use Rattle.lk_store.specs.declared.memory.NoMemory.{NoMemory}
 use Rattle.lk_seek.specs.Sought.{Sought, truth}
 use Rattle.lk_scan.specs.declared.declared.Declared.{Declared}
 use Rattle.lk_scan.specs.declared.seen.Seen.{Seen}
-use Rattle.lk_scan.specs.declared.part.Part.{Part}
+use Rattle.lk_scan.specs.declared.part.TermPart.{TermPart}
 use Rattle.lk_scan.specs.declared.part.Met.{Met}
 use Rattle.lk_scan.specs.Seen.{has_number, any_number}
 use Rattle.lk_scan.specs.Parts.{IsPartIn, part_over, part_cost}
@@ -33,7 +33,7 @@ abbrev pub AreWithin : Contents → Declared → List Met → Type 0
 AreWithin c d met = AreOver c (names_of c d) met
 
 -- what the walk looks for: whether a part has a level parameter that is none of the names
-abbrev pub undeclared : Contents → List Name → Sought Part NoMemory
+abbrev pub undeclared : Contents → List Name → Sought TermPart NoMemory
 undeclared c ps = record {
   findings = truth;
   found_in = λ p. not (part_over c ps p);

@@ -18,7 +18,7 @@ use std::alloc::Global;
 
 /// Whether none of the first units gives the name.
 fn is_new(library: &Library, units: u32, name: u64) -> bool
-    requires { name < length (contents_of library.now.0).names }
+    requires { name < length (contents_of library.now.tables).names }
     ensures { result ≡ number_is_new library.now units name }
 {
     let place = library.position_before(units, name);
@@ -27,7 +27,7 @@ fn is_new(library: &Library, units: u32, name: u64) -> bool
 
 /// Whether none of the first units gives one of the names.
 fn none_given(library: &Library, units: u32, names: &[u64]) -> bool
-    requires { All (λ n. n < length (contents_of library.now.0).names) names.now }
+    requires { All (λ n. n < length (contents_of library.now.tables).names) names.now }
     ensures { result ≡ list_all (number_is_new library.now units) names.now }
 {
     for name in names {
@@ -42,9 +42,9 @@ fn none_given(library: &Library, units: u32, names: &[u64]) -> bool
 /// two of its members have one name. Each name is looked up once, so that a block of many members
 /// takes no longer than its names.
 pub fn are_new(alloc: Global, library: &Library, number: u32, unit: &Unit) -> Result<bool, NoMemory>
-    requires { IsUnitIn (contents_of library.now.0) unit.now }
+    requires { IsUnitIn (contents_of library.now.tables) unit.now }
     ensures { IfOk result (λ r. r ≡ are_new (library_of library.now) number
-        (members_of (unit_at (contents_of library.now.0) unit.now))) }
+        (members_of (unit_at (contents_of library.now.tables) unit.now))) }
 {
     if let Unit::Declaration(declaration) = unit {
         let new = is_new(library, number, u64::from(declaration.name));

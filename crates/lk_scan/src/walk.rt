@@ -11,7 +11,7 @@ ghost use Rattle.lk_scan.specs.Parts.{IsPartIn, part_over, part_has_params};
 ghost use Rattle.lk_scan.specs.Walks.{IsDeclared, names_of, AreOver, AreWithin, undeclared};
 
 use crate::declared::{Declared, is_declared};
-use crate::part::{Met, Part, push_level_parts, push_list_parts, push_parts};
+use crate::part::{Met, TermPart, push_level_parts, push_list_parts, push_parts};
 use lk_rows::table::Table;
 use lk_seek::Seek;
 use lk_seek::visit::{Visit, push};
@@ -23,23 +23,23 @@ use lk_store::terms::Terms;
 use std::alloc::Global;
 
 /// Opens a tree.
-fn open_tree(base: &BaseStore, stack: &mut Vec<Visit<Part>>, e: u64) -> Result<(), NoMemory>
+fn open_tree(base: &BaseStore, stack: &mut Vec<Visit<TermPart>>, e: u64) -> Result<(), NoMemory>
     requires { e < length (contents_of base.now).trees }
     ensures { OnOk result ((ps : List Name) → IsOpened (undeclared (contents_of base.now) ps)
-        (Part.Tree e) stack.old.items stack.new.items) }
+        (TermPart.Tree e) stack.old.items stack.new.items) }
 {
-    push(stack, Visit::Leave(Part::Tree(e)))?;
+    push(stack, Visit::Leave(TermPart::Tree(e)))?;
     push_parts(stack, base.view(e))?;
     Ok(())
 }
 
 /// Opens a list of levels.
-fn open_levels(base: &BaseStore, stack: &mut Vec<Visit<Part>>, ls: u64) -> Result<(), NoMemory>
+fn open_levels(base: &BaseStore, stack: &mut Vec<Visit<TermPart>>, ls: u64) -> Result<(), NoMemory>
     requires { ls < length (contents_of base.now).lists }
     ensures { OnOk result ((ps : List Name) → IsOpened (undeclared (contents_of base.now) ps)
-        (Part.Levels ls) stack.old.items stack.new.items) }
+        (TermPart.Levels ls) stack.old.items stack.new.items) }
 {
-    push(stack, Visit::Leave(Part::Levels(ls)))?;
+    push(stack, Visit::Leave(TermPart::Levels(ls)))?;
     push_list_parts(stack, base.levels(ls))?;
     Ok(())
 }
@@ -48,13 +48,13 @@ fn open_levels(base: &BaseStore, stack: &mut Vec<Visit<Part>>, ls: u64) -> Resul
 fn open_level(
     base: &BaseStore,
     declared: &Declared,
-    stack: &mut Vec<Visit<Part>>,
+    stack: &mut Vec<Visit<TermPart>>,
     l: u64,
 ) -> Result<bool, NoMemory>
     requires declared { IsDeclared (contents_of base.now) declared.now }
     requires level_in { l < length (contents_of base.now).levels }
     ensures { IsLooked (undeclared (contents_of base.now)
-        (names_of (contents_of base.now) declared.now)) (Part.Level l)
+        (names_of (contents_of base.now) declared.now)) (TermPart.Level l)
         stack.old.items stack.new.items result }
 {
     let node = base.level(l);
@@ -63,7 +63,7 @@ fn open_level(
             return Ok(true);
         }
     }
-    push(stack, Visit::Leave(Part::Level(l)))?;
+    push(stack, Visit::Leave(TermPart::Level(l)))?;
     push_level_parts(stack, node)?;
     Ok(false)
 }
@@ -72,8 +72,8 @@ fn open_level(
 fn open(
     base: &BaseStore,
     declared: &Declared,
-    stack: &mut Vec<Visit<Part>>,
-    part: Part,
+    stack: &mut Vec<Visit<TermPart>>,
+    part: TermPart,
 ) -> Result<bool, NoMemory>
     requires declared { IsDeclared (contents_of base.now) declared.now }
     requires part_in { IsPartIn (contents_of base.now) part }
@@ -82,12 +82,12 @@ fn open(
         stack.old.items stack.new.items result }
 {
     match part {
-        Part::Tree(e) => {
+        TermPart::Tree(e) => {
             open_tree(base, stack, e)?;
             Ok(false)
         }
-        Part::Level(l) => open_level(base, declared, stack, l),
-        Part::Levels(ls) => {
+        TermPart::Level(l) => open_level(base, declared, stack, l),
+        TermPart::Levels(ls) => {
             open_levels(base, stack, ls)?;
             Ok(false)
         }
@@ -95,19 +95,19 @@ fn open(
 }
 
 /// Whether a level parameter stands in a part.
-fn has_params(base: &BaseStore, part: Part) -> bool
+fn has_params(base: &BaseStore, part: TermPart) -> bool
     requires { IsPartIn (contents_of base.now) part }
     ensures { result ≡ part_has_params (contents_of base.now) part }
 {
     match part {
-        Part::Tree(e) => base.has_params(e),
-        Part::Level(l) => base.level_has_params(l),
-        Part::Levels(ls) => base.levels_have_params(ls),
+        TermPart::Tree(e) => base.has_params(e),
+        TermPart::Level(l) => base.level_has_params(l),
+        TermPart::Levels(ls) => base.levels_have_params(ls),
     }
 }
 
 /// Whether a part has to be looked through: a level parameter stands in it, and it was not met.
-fn is_open(base: &BaseStore, met: &Table<Met>, part: Part) -> bool
+fn is_open(base: &BaseStore, met: &Table<Met>, part: TermPart) -> bool
     requires { IsPartIn (contents_of base.now) part }
     ensures { (ps : List Name) → AreOver (contents_of base.now) ps met.now → result ≡ false
         → part_over (contents_of base.now) ps part ≡ true }
@@ -124,7 +124,7 @@ struct Undeclared<'a> {
 }
 
 impl<'a> Seek for Undeclared<'a> {
-    type Part = Part;
+    type Part = TermPart;
 
     type Kept = Table<Met>;
 
@@ -144,8 +144,8 @@ impl<'a> Seek for Undeclared<'a> {
     fn look(
         &self,
         met: &mut Table<Met>,
-        stack: &mut Vec<Visit<Part>>,
-        part: Part,
+        stack: &mut Vec<Visit<TermPart>>,
+        part: TermPart,
     ) -> Result<bool, NoMemory> {
         if !is_open(self.base, met, part) {
             return Ok(false);
@@ -153,7 +153,7 @@ impl<'a> Seek for Undeclared<'a> {
         open(self.base, self.declared, stack, part)
     }
 
-    fn keep(&self, met: &mut Table<Met>, part: Part) -> Result<(), NoMemory> {
+    fn keep(&self, met: &mut Table<Met>, part: TermPart) -> Result<(), NoMemory> {
         met.push(Met { part })?;
         Ok(())
     }
@@ -176,6 +176,6 @@ pub fn is_over(
     ensures met { IfOk result (λ r. AreWithin (contents_of base.now) declared.now met.new) }
 {
     let seeker = Undeclared { base, declared };
-    let found = seek(alloc, &seeker, met, Part::Tree(tree))?;
+    let found = seek(alloc, &seeker, met, TermPart::Tree(tree))?;
     Ok(!found)
 }

@@ -2,7 +2,8 @@
 
 ghost use Rattle.std.specs.Prelude.{◌≡◌, IfOk};
 ghost use Rattle.lk_store.specs.Contents.{Extends, IsTree};
-ghost use Rattle.lk_store.specs.Store.{over, contents_of};
+ghost use Rattle.lk_store.specs.Store.{contents_of};
+ghost use Rattle.lk_store.specs.Layers.{layers_contents};
 ghost use Rattle.lk_spell.specs.Moved.{AreDone, moved};
 ghost use Rattle.lk_spell.specs.Spelled.{IsOwnIn, IsSpelled, spelled_tree};
 ghost use Rattle.lk_spell.specs.Standing.{own_parts, IsNumberOf};
@@ -26,13 +27,11 @@ fn make_own(
     node: &OwnNode,
 ) -> Result<u64, NoMemory>
     requires done { AreDone numbers.now (own_parts node.now) }
-    requires known { IsOwnIn (contents_of (over terms.old.0 terms.old.1))
-        (moved numbers.now node.now) }
-    ensures keeps { Extends (contents_of (over terms.old.0 terms.old.1))
-        (contents_of (over terms.new.0 terms.new.1)) }
-    ensures base { terms.new.0 ≡ terms.old.0 }
-    ensures made { IfOk result (IsNumberOf (contents_of (over terms.old.0 terms.old.1))
-        (contents_of (over terms.new.0 terms.new.1)) (moved numbers.now node.now)) }
+    requires known { IsOwnIn (layers_contents terms.old) (moved numbers.now node.now) }
+    ensures keeps { Extends (layers_contents terms.old) (layers_contents terms.new) }
+    ensures base { terms.new.base ≡ terms.old.base }
+    ensures made { IfOk result (IsNumberOf (layers_contents terms.old)
+        (layers_contents terms.new) (moved numbers.now node.now)) }
 {
     match node {
         OwnNode::Name(x) => terms.make_name(moved_name(numbers, *x)),
@@ -49,13 +48,12 @@ fn make_own(
 /// The number of a spelled term in an overlay of the library that it is spelled over. Its own nodes
 /// are made in turn; a term of the library is its number.
 pub fn unspell(alloc: Global, terms: &mut Overlay, spelled: &Spelled) -> Result<u64, NoMemory>
-    requires spelled { IsSpelled (contents_of terms.old.0) spelled.now }
-    requires over { Extends (contents_of terms.old.0) (contents_of (over terms.old.0 terms.old.1)) }
-    ensures keeps { Extends (contents_of (over terms.old.0 terms.old.1))
-        (contents_of (over terms.new.0 terms.new.1)) }
-    ensures base { terms.new.0 ≡ terms.old.0 }
-    ensures tree { IfOk result (λ e. IsTree (contents_of (over terms.new.0 terms.new.1)) e
-        (spelled_tree (contents_of terms.old.0) spelled.now)) }
+    requires spelled { IsSpelled (contents_of terms.old.base) spelled.now }
+    requires over { Extends (contents_of terms.old.base) (layers_contents terms.old) }
+    ensures keeps { Extends (layers_contents terms.old) (layers_contents terms.new) }
+    ensures base { terms.new.base ≡ terms.old.base }
+    ensures tree { IfOk result (λ e. IsTree (layers_contents terms.new) e
+        (spelled_tree (contents_of terms.old.base) spelled.now)) }
 {
     let mut sizes = terms.base_sizes();
     let mut numbers = Numbers::new(alloc, sizes);

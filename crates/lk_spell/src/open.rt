@@ -1,7 +1,7 @@
 //! A part is opened: its node is read, and its own parts come onto the stack of the walk.
 
 ghost use Rattle.std.specs.Prelude.{◌≡◌, ◌++◌, ◌∷◌, [], map, OnOk};
-ghost use Rattle.lk_store.specs.Store.{over, contents_of};
+ghost use Rattle.lk_store.specs.Layers.{layers_contents};
 ghost use Rattle.lk_spell.specs.Parts.{IsPartIn};
 ghost use Rattle.lk_spell.specs.Opened.{part_of, parts_back, IsOpenedIn};
 ghost use Rattle.lk_spell.specs.declared.open.Visit.TheVariants as visit;
@@ -47,9 +47,9 @@ impl Opened {
 
 /// Reads the node of a part.
 pub(crate) fn open(terms: &Overlay, part: Part) -> Opened
-    requires { IsPartIn (contents_of (over terms.now.0 terms.now.1)) part }
+    requires { IsPartIn (layers_contents terms.now) part }
     ensures part { part_of result ≡ part }
-    ensures opened { IsOpenedIn (contents_of (over terms.now.0 terms.now.1)) result }
+    ensures opened { IsOpenedIn (layers_contents terms.now) result }
 {
     match part {
         Part::Name(n) => Opened::Name(n, terms.name(n)),

@@ -3,7 +3,7 @@
 ghost use Rattle.std.specs.Prelude.{◌≡◌, ◌+◌, ◌≤◌, OnOk, IfOk, IfErr, None, true, [], ◌∷◌, ◌++◌, if◌then◌else◌};
 ghost use Rattle.std.specs.HashMap.{get};
 ghost use Rattle.lk_store.specs.Contents.{Contents};
-ghost use Rattle.lk_store.specs.Store.{over, contents_of};
+ghost use Rattle.lk_store.specs.Layers.{layers_contents};
 ghost use Rattle.lk_spell.specs.Moved.{AreDone, moved};
 ghost use Rattle.lk_spell.specs.Numbers.{part_eq, IsDone, number_or};
 ghost use Rattle.lk_spell.specs.Opened.{part_of, parts_back, IsOpenedIn};
@@ -49,9 +49,9 @@ fn is_counted(node: &OwnNode) -> bool
 
 /// The node of an opened part.
 fn own_node(alloc: Global, terms: &Overlay, opened: Opened) -> Result<OwnNode, NoMemory>
-    requires { IsOpenedIn (contents_of (over terms.now.0 terms.now.1)) opened }
+    requires { IsOpenedIn (layers_contents terms.now) opened }
     ensures { IfOk result (λ x.
-        x ≡ own_node (contents_of (over terms.now.0 terms.now.1)) opened) }
+        x ≡ own_node (layers_contents terms.now) opened) }
 {
     match opened {
         Opened::Name(_, node) => Ok(OwnNode::Name(node)),
@@ -79,8 +79,8 @@ pub(crate) fn enter(
     stack: &mut Vec<Visit>,
     part: Part,
 ) -> Result<(), NoMemory>
-    requires { IsPartIn (contents_of (over terms.now.0 terms.now.1)) part }
-    ensures { OnOk result (IsEntered (contents_of (over terms.now.0 terms.now.1)) numbers.now part
+    requires { IsPartIn (layers_contents terms.now) part }
+    ensures { OnOk result (IsEntered (layers_contents terms.now) numbers.now part
         stack.old.items stack.new.items) }
 {
     if numbers.find(part).is_some() {
@@ -149,7 +149,7 @@ impl Speller {
         opened: Opened,
     ) -> Result<(), SpellError>
         requires few { self.old.counted ≤ 4096 }
-        requires opened { IsOpenedIn (contents_of (over terms.now.0 terms.now.1)) opened }
+        requires opened { IsOpenedIn (layers_contents terms.now) opened }
         requires done { AreDone self.old.numbers (parts_back opened) }
         ensures few { OnOk result (self.new.counted ≤ 4096) }
         ensures stays { OnOk result ((q : Part) → IsDone self.old.numbers q
@@ -157,9 +157,8 @@ impl Speller {
         ensures done { OnOk result (IsDone self.new.numbers (part_of opened)) }
         ensures counted { OnOk result (IsCounted (part_of opened) self.old self.new) }
         ensures wide { IfErr result (λ e. IfTooWide e (IsOneMore (part_of opened) self.old)) }
-        ensures spells { (b : Contents)
-            → IsSpeller b (contents_of (over terms.now.0 terms.now.1)) self.old
-            → OnOk result (IsSpeller b (contents_of (over terms.now.0 terms.now.1)) self.new) }
+        ensures spells { (b : Contents) → IsSpeller b (layers_contents terms.now) self.old
+            → OnOk result (IsSpeller b (layers_contents terms.now) self.new) }
     {
         if self.numbers.find(opened.part()).is_some() {
             return Ok(());

@@ -1,12 +1,12 @@
 -- The bytes of a text: few of them stand in place, in front of room that is left.
 use Rattle.std.specs.Prelude.{◌≤◌, ℕ, List, take}
-use Rattle.lk_store.specs.declared.text.Kept.{Kept}
-use Rattle.lk_store.specs.declared.text.Kept.TheVariants.{Short, Long}
+use Rattle.lk_store.specs.declared.text.TextBytes.{TextBytes}
+use Rattle.lk_store.specs.declared.text.TextBytes.TheVariants.{Short, Long}
 
-abbrev pub bytes_of : Kept → List ℕ
+abbrev pub bytes_of : TextBytes → List ℕ
 bytes_of (Short len room) = take len room
 bytes_of (Long bytes) = bytes.items
 
-abbrev pub IsKept : Kept → Type 0
-IsKept (Short len room) = len ≤ 30
-IsKept (Long bytes) = Unit {0}
+abbrev pub IsWithinRoom : TextBytes → Type 0
+IsWithinRoom (Short len room) = len ≤ 30
+IsWithinRoom (Long bytes) = Unit {0}

@@ -4,12 +4,11 @@
 ghost use Rattle.std.specs.Prelude.{◌≡◌, ◌≢◌, ◌<◌, ◌≤◌, ◌^◌, ℕ, List, length};
 ghost use Rattle.std.specs.Prelude.{IfOk, OnErr, IfNone, IfSome, IsTrue};
 ghost use Rattle.lk_rows.specs.Rows.{NoRowHas};
-ghost use Rattle.lk_tree.specs.Level.{is_zero_level};
-ghost use Rattle.lk_store.specs.Measures.{level_has_params, list_has_params};
+ghost use Rattle.lk_store.specs.Measures.{list_has_params};
 ghost use Rattle.lk_store.specs.Contents.{name_at, name_of, level_of, list_of, tree_of};
 ghost use Rattle.lk_store.specs.Contents.{IsNameIn, IsLevelIn, IsListIn, IsIn};
 ghost use Rattle.lk_store.specs.Contents.{IsName, IsText, IsLevel, IsList, IsTree};
-ghost use Rattle.lk_store.specs.Keys.{IsCodeOf, hash_of_tree};
+ghost use Rattle.lk_store.specs.Keys.{IsCodeOf, IsMarkedLevel, hash_of_tree};
 ghost use Rattle.lk_store.specs.declared.key.TreeRow.{TreeRow};
 ghost use Rattle.lk_store.specs.declared.key.Number.{Number};
 ghost use Rattle.lk_store.specs.Nodes.{name_node, level_node, list_node, number_in, IsKeyOf};
@@ -21,7 +20,7 @@ use crate::key::{LevelKey, LevelRow, ListKey, ListRow, NameKey, Number, TreeKey,
 use crate::memory::NoMemory;
 use crate::node::{LevelNode, ListNode, NameNode, Node};
 use crate::parts::{has_level_parts, has_list_parts, has_name_parts, has_tree_parts};
-use crate::reading::{level_params_in, level_zero_in, list_params_in, marks_of, tree_row};
+use crate::reading::{level_params_in, level_row, list_params_in, marks_of, tree_row};
 use crate::stored::StoredTree;
 use crate::tables::Tables;
 use crate::text::Text;
@@ -102,33 +101,27 @@ fn list_key(node: ListNode) -> ListKey
     }
 }
 
-/// Whether a parameter stands in the level of a node.
-fn params_of_level(base: &Tables, own: &Tables, node: LevelNode) -> bool
+/// A row for a level that has none.
+fn level_row_for(base: &Tables, own: &Tables, key: LevelKey, node: LevelNode) -> LevelRow
     requires store { IsStore (over base.now own.now) }
     requires known { IsLevelIn (contents_of (over base.now own.now)) node }
-    ensures { result ≡ level_has_params (level_of (contents_of (over base.now own.now)) node) }
+    ensures key { result.key ≡ key }
+    ensures marks { IsMarkedLevel (level_of (contents_of (over base.now own.now)) node) result }
 {
-    match node {
-        LevelNode::Zero => false,
-        LevelNode::Succ(l) => level_params_in(base, own, l),
-        LevelNode::Max(l, m) | LevelNode::IMax(l, m) => level_params_in(base, own, l)
-            || level_params_in(base, own, m),
-        LevelNode::Param(_) => true,
-    }
-}
-
-/// Whether the level of a node is 0 under every assignment.
-fn zero_of_level(base: &Tables, own: &Tables, node: LevelNode) -> bool
-    requires store { IsStore (over base.now own.now) }
-    requires known { IsLevelIn (contents_of (over base.now own.now)) node }
-    ensures { result ≡ is_zero_level (level_of (contents_of (over base.now own.now)) node) }
-{
-    match node {
-        LevelNode::Zero => true,
-        LevelNode::Succ(_) | LevelNode::Param(_) => false,
-        LevelNode::Max(l, m) => level_zero_in(base, own, l) && level_zero_in(base, own, m),
-        LevelNode::IMax(_, m) => level_zero_in(base, own, m),
-    }
+    let (params, zero) = match node {
+        LevelNode::Zero => (false, true),
+        LevelNode::Succ(l) => (level_row(base, own, l).params, false),
+        LevelNode::Max(l, m) => {
+            let (first, second) = (level_row(base, own, l), level_row(base, own, m));
+            (first.params || second.params, first.zero && second.zero)
+        }
+        LevelNode::IMax(l, m) => {
+            let (first, second) = (level_row(base, own, l), level_row(base, own, m));
+            (first.params || second.params, second.zero)
+        }
+        LevelNode::Param(_) => (true, false),
+    };
+    LevelRow { key, params, zero }
 }
 
 /// Whether a parameter stands in the list of a node.
@@ -163,14 +156,8 @@ pub(crate) fn make_level_in(
     match find(&base.levels, &own.levels, &key, hash, in_base) {
         Some(l) => Ok(l),
         None => {
-            let params = params_of_level(base, own, node);
-            let zero = zero_of_level(base, own, node);
-            let l = add(
-                &base.levels,
-                &mut own.levels,
-                LevelRow { key, params, zero },
-                hash,
-            )?;
+            let row = level_row_for(base, own, key, node);
+            let l = add(&base.levels, &mut own.levels, row, hash)?;
             Ok(l)
         }
     }
@@ -346,23 +333,10 @@ fn short_row(base: &Tables, own: &Tables, key: TreeKey, node: Node) -> Option<Tr
             let second = tree_row(base, own, a);
             joined(key, tree_row(base, own, f), second, second.loose)
         }
-        Node::Lam(t, b) => {
+        Node::Lam(t, b) | Node::Pi(t, b) => {
             let second = tree_row(base, own, b);
-            joined(
-                key,
-                tree_row(base, own, t),
-                second,
-                second.loose.saturating_sub(1),
-            )
-        }
-        Node::Pi(t, b) => {
-            let second = tree_row(base, own, b);
-            joined(
-                key,
-                tree_row(base, own, t),
-                second,
-                second.loose.saturating_sub(1),
-            )
+            let loose = second.loose.saturating_sub(1);
+            joined(key, tree_row(base, own, t), second, loose)
         }
         _ => None,
     }
@@ -474,8 +448,8 @@ fn make_coded(base: &Tables, own: &mut Tables, node: Node) -> Result<u64, NoMemo
     make_keyed(base, own, node, key)
 }
 
-/// The number of a tree. Each arm makes its node anew, of numbers: a node that is copied whole
-/// waits until its parts, which were written one by one, are in memory.
+/// The number of a tree. The arms of the frequent kinds make their node anew, of numbers: a node that
+/// is copied whole waits until its parts, which were written one by one, are in memory.
 pub(crate) fn make_in(base: &Tables, own: &mut Tables, node: Node) -> Result<u64, NoMemory>
     requires base { IsStore base.now }
     requires store { IsStore (over base.now own.old) }
@@ -490,14 +464,6 @@ pub(crate) fn make_in(base: &Tables, own: &mut Tables, node: Node) -> Result<u64
         Node::App(f, a) => make_keyed(base, own, Node::App(f, a), coded_key(Node::App(f, a), 0)),
         Node::Lam(t, b) => make_keyed(base, own, Node::Lam(t, b), coded_key(Node::Lam(t, b), 0)),
         Node::Pi(t, b) => make_keyed(base, own, Node::Pi(t, b), coded_key(Node::Pi(t, b), 0)),
-        Node::Var(i) => make_coded(base, own, Node::Var(i)),
-        Node::Sort(l) => make_coded(base, own, Node::Sort(l)),
-        Node::Const(n, ls) => make_coded(base, own, Node::Const(n, ls)),
-        Node::Let(t, v, b) => make_coded(base, own, Node::Let(t, v, b)),
-        Node::Proj(n, i, e) => make_coded(base, own, Node::Proj(n, i, e)),
-        Node::Lit(n) => make_coded(base, own, Node::Lit(n)),
-        Node::Wide => make_coded(base, own, Node::Wide),
-        Node::Str(s) => make_coded(base, own, Node::Str(s)),
-        Node::Local(i, t) => make_coded(base, own, Node::Local(i, t)),
+        _ => make_coded(base, own, node),
     }
 }

@@ -28,13 +28,13 @@ pub struct Overlay<'a> {
 }
 
 impl<'a> Model for Overlay<'a> {
-    ghost use Rattle.lk_store.specs.declared.tables.Tables.{Tables};
+    ghost use Rattle.lk_store.specs.Layers.{Layers};
 
-    ghost Value = { Tables × Tables };
+    ghost Value = { Layers };
 
     ghost use Rattle.lk_store.specs.Store.{over, IsStore};
 
-    ghost view = { λ s. (s.base.now, s.own) };
+    ghost view = { λ s. record { base = s.base.now; own = s.own } };
 
     ghost invariant = { λ s. IsStore s.base.now × IsStore (over s.base.now s.own) };
 }
@@ -49,13 +49,14 @@ impl Drop for Overlay<'_> {
 
 impl<'a> Overlay<'a> {
     ghost use Rattle.lk_store.specs.Sizes.{sizes_of};
-    ghost use Rattle.lk_store.specs.Store.{no_tables, over, contents_of};
+    ghost use Rattle.lk_store.specs.Store.{no_tables, contents_of};
+    ghost use Rattle.lk_store.specs.Layers.{layers_contents};
 
     /// A store that has what the library has. It takes no memory.
     #[tactic(auto, using(crate::proofs::Overlaid::contents_over_nothing))]
     pub fn new(alloc: Global, base: &'a BaseStore) -> Self
-        ensures value { result ≡ (base.now, no_tables) }
-        ensures contents { contents_of (over result.0 result.1) ≡ contents_of base.now }
+        ensures value { result ≡ record { base = base.now; own = no_tables } }
+        ensures contents { layers_contents result ≡ contents_of base.now }
     {
         Overlay {
             base: &base.tables,
@@ -66,14 +67,14 @@ impl<'a> Overlay<'a> {
 
     /// How much the library has of each kind. What has a lower number is the library's.
     pub fn base_sizes(&self) -> Sizes
-        ensures { result ≡ sizes_of self.now.0 }
+        ensures { result ≡ sizes_of self.now.base }
     {
         self.base.sizes()
     }
 
     /// How much was made here of each kind since `new` or the last `clear`.
     pub fn own_sizes(&self) -> Sizes
-        ensures { result ≡ sizes_of self.now.1 }
+        ensures { result ≡ sizes_of self.now.own }
     {
         self.own.sizes()
     }
@@ -83,22 +84,22 @@ impl<'a> Overlay<'a> {
     /// is kept for what is made next.
     #[tactic(auto, using(crate::proofs::Overlaid::contents_over_nothing))]
     pub fn clear(&mut self)
-        ensures value { self.new ≡ (self.old.0, no_tables) }
-        ensures contents { contents_of (over self.new.0 self.new.1) ≡ contents_of self.old.0 }
+        ensures value { self.new ≡ record { base = self.old.base; own = no_tables } }
+        ensures contents { layers_contents self.new ≡ contents_of self.old.base }
     {
         self.own.clear();
     }
 }
 
 impl<'a> Terms for Overlay<'a> {
-    ghost use Rattle.lk_store.specs.Store.{over, contents_of};
+    ghost use Rattle.lk_store.specs.Layers.{layers_contents};
 
     /// The library's tables.
     type Rest = Tables;
 
-    ghost rest = { λ s. s.0 };
+    ghost rest = { λ s. s.base };
 
-    ghost contents = { λ s. contents_of (over s.0 s.1) };
+    ghost contents = { layers_contents };
 
     #[inline]
     fn len(&self) -> u64 {

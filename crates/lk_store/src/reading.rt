@@ -160,7 +160,7 @@ pub(crate) fn text_in<'a>(base: &'a Tables, own: &'a Tables, s: u64) -> &'a Text
 
 /// The row of a level.
 #[inline]
-fn level_row(base: &Tables, own: &Tables, l: u64) -> LevelRow
+pub(crate) fn level_row(base: &Tables, own: &Tables, l: u64) -> LevelRow
     requires store { IsStore (over base.now own.now) }
     requires known { l < length (contents_of (over base.now own.now)).levels }
     ensures known { IsLevelIn (contents_of (over base.now own.now)) (level_node result.key) }

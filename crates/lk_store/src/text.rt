@@ -1,7 +1,7 @@
 //! Texts in memory.
 
 ghost use Rattle.std.specs.Prelude.{◌≡◌, ◌↔◌, IsTrue, IfOk, IfSome};
-ghost use Rattle.lk_store.specs.Texts.{bytes_of, IsKept};
+ghost use Rattle.lk_store.specs.Texts.{bytes_of, IsWithinRoom};
 
 use crate::hashing::hash_bytes;
 use lk_rows::row::Row;
@@ -13,22 +13,22 @@ const SHORT: usize = 30;
 
 /// The bytes of a text. Nearly every component of a name is short, and takes no memory of its own.
 #[derive(Drop)]
-pub(crate) enum Kept {
+pub(crate) enum TextBytes {
     Short { len: u8, room: [u8; SHORT] },
     Long(Vec<u8>),
 }
 
 /// The bytes in place, where they are few.
-fn in_place(bytes: &[u8]) -> Option<Kept>
-    ensures kept { IfSome result IsKept }
-    ensures bytes { IfSome result (λ k. bytes_of k ≡ bytes.now) }
+fn in_place(bytes: &[u8]) -> Option<TextBytes>
+    ensures within { IfSome result IsWithinRoom }
+    ensures bytes { IfSome result (λ text. bytes_of text ≡ bytes.now) }
 {
     if bytes.len() > SHORT {
         return None;
     }
     let mut room = [0; SHORT];
     room[..bytes.len()].copy_from_slice(bytes);
-    Some(Kept::Short {
+    Some(TextBytes::Short {
         len: bytes.len() as u8,
         room,
     })
@@ -37,7 +37,7 @@ fn in_place(bytes: &[u8]) -> Option<Kept>
 /// A text, as bytes.
 #[derive(Drop)]
 pub struct Text {
-    kept: Kept,
+    bytes: TextBytes,
 }
 
 impl Model for Text {
@@ -45,11 +45,11 @@ impl Model for Text {
 
     ghost Value = { List ℕ };
 
-    ghost use Rattle.lk_store.specs.Texts.{bytes_of, IsKept};
+    ghost use Rattle.lk_store.specs.Texts.{bytes_of, IsWithinRoom};
 
-    ghost view = { λ t. bytes_of t.kept };
+    ghost view = { λ t. bytes_of t.bytes };
 
-    ghost invariant = { λ t. IsKept t.kept };
+    ghost invariant = { λ t. IsWithinRoom t.bytes };
 }
 
 impl Text {
@@ -58,9 +58,9 @@ impl Text {
         ensures { result ≡ bytes.items }
     {
         match in_place(&bytes) {
-            Some(kept) => Text { kept },
+            Some(bytes) => Text { bytes },
             None => Text {
-                kept: Kept::Long(bytes),
+                bytes: TextBytes::Long(bytes),
             },
         }
     }
@@ -70,9 +70,9 @@ impl Text {
         ensures { IfOk result (λ t. t ≡ bytes.now) }
     {
         match in_place(bytes) {
-            Some(kept) => Ok(Text { kept }),
+            Some(bytes) => Ok(Text { bytes }),
             None => Ok(Text {
-                kept: Kept::Long(Vec::from_slice(alloc, bytes)?),
+                bytes: TextBytes::Long(Vec::from_slice(alloc, bytes)?),
             }),
         }
     }
@@ -81,9 +81,9 @@ impl Text {
     pub fn as_bytes(&self) -> &[u8]
         ensures { result.now ≡ self.now }
     {
-        match &self.kept {
-            Kept::Short { len, room } => &room[..*len as usize],
-            Kept::Long(bytes) => bytes.as_slice(),
+        match &self.bytes {
+            TextBytes::Short { len, room } => &room[..*len as usize],
+            TextBytes::Long(bytes) => bytes.as_slice(),
         }
     }
 

@@ -4,7 +4,7 @@ use Rattle.std.proofs.Common.{ℕ, suc, arith, ◌≡◌, ◌<◌, ◌≤◌, �
 use Rattle.std.specs.Prelude.{slice_get}
 use Rattle.std.specs.Str.{chars}
 use Rattle.lk_tree.specs.Tree.{Name, Level, succ_level, imax_level, Tree, var, sort, const, app, lam, pi, let_in, proj, lit, str, local}
-use Rattle.lk_tree.specs.Bind.{opened, bound, has_var}
+use Rattle.lk_tree.specs.Bind.{opened, Fresh, has_var}
 use Rattle.lk_tree.specs.Level.{is_zero_level}
 use Rattle.lk_tree.specs.LevelTest.{level_test}
 use Rattle.lk_tree.specs.Operations.{Op, Value, op_value}
@@ -72,12 +72,12 @@ pub record IsProposition (w : Book) (A : Tree) : Type 0 where
 pub is_prop : {w : Book} {A : Tree} {l : Level} → HasSort w A l → is_zero_level l ≡ true → IsProposition w A
 is_prop {l = l} h z = record { level = l; sorted = h; is_zero = z }
 
-pub record IsNotProp (w : Book) (A : Tree) : Type 0 where
+pub record IsNotProposition (w : Book) (A : Tree) : Type 0 where
   pub level : Level
   pub sorted : HasSort w A level
   pub not_zero : is_zero_level level ≡ false
 
-pub not_prop : {w : Book} {A : Tree} {l : Level} → HasSort w A l → is_zero_level l ≡ false → IsNotProp w A
+pub not_prop : {w : Book} {A : Tree} {l : Level} → HasSort w A l → is_zero_level l ≡ false → IsNotProposition w A
 not_prop {l = l} h z = record { level = l; sorted = h; not_zero = z }
 
 -- levels are equal by the test
@@ -147,46 +147,46 @@ pub record IsResult (w : Book) (o : Option Value) (r : Tree) : Type 0 where
   pub tested : found w.place (result_of o) ≡ Some (Some r)
 
 -- lists of premises
-pub record Numerals (w : Book) (es : List Tree) (ns : List ℕ) : Type 0 where
+pub record ReduceToNumerals (w : Book) (es : List Tree) (ns : List ℕ) : Type 0 where
   pub shown : EachNumeral w.holds es ns
 
-pub no_more_numerals : {w : Book} → Numerals w [] []
+pub no_more_numerals : {w : Book} → ReduceToNumerals w [] []
 no_more_numerals = record { shown = no_numeral }
 
-pub numeral : {w : Book} {e v : Tree} {n : ℕ} {es : List Tree} {ns : List ℕ} → Reduces w e v → numeral_of v ≡ Some n → Numerals w es ns → Numerals w (e ∷ es) (n ∷ ns)
+pub numeral : {w : Book} {e v : Tree} {n : ℕ} {es : List Tree} {ns : List ℕ} → Reduces w e v → numeral_of v ≡ Some n → ReduceToNumerals w es ns → ReduceToNumerals w (e ∷ es) (n ∷ ns)
 numeral h e k = record { shown = a_numeral h.shown e k.shown }
 
-pub record AllProject (w : Book) (J : Name) (a : Tree) (j : ℕ) (xs : List Tree) : Type 0 where
+pub record ProjectionsEqual (w : Book) (J : Name) (a : Tree) (j : ℕ) (xs : List Tree) : Type 0 where
   pub shown : EachField w.holds J a j xs
 
-pub no_more_fields : {w : Book} {J : Name} {a : Tree} {j : ℕ} → AllProject w J a j []
+pub no_more_fields : {w : Book} {J : Name} {a : Tree} {j : ℕ} → ProjectionsEqual w J a j []
 no_more_fields = record { shown = tt }
 
-pub project : {w : Book} {J : Name} {a x : Tree} {j : ℕ} {xs : List Tree} → IsDefEq w (proj J j a) x → AllProject w J a (suc j) xs → AllProject w J a j (x ∷ xs)
+pub project : {w : Book} {J : Name} {a x : Tree} {j : ℕ} {xs : List Tree} → IsDefEq w (proj J j a) x → ProjectionsEqual w J a (suc j) xs → ProjectionsEqual w J a j (x ∷ xs)
 project h k = record { shown = (h.shown, k.shown) }
 
-pub record PastParameters (w : Book) (T : Tree) (n : ℕ) (bs : List Tree) (r : Tree) : Type 0 where
+pub record IsTypeAfterParameters (w : Book) (T : Tree) (n : ℕ) (bs : List Tree) (r : Tree) : Type 0 where
   pub shown : EachParameter w.holds bs n r T
 
-pub no_more : {w : Book} {bs : List Tree} {r : Tree} → PastParameters w r 0 bs r
+pub no_more : {w : Book} {bs : List Tree} {r : Tree} → IsTypeAfterParameters w r 0 bs r
 no_more = record { shown = no_parameter }
 
-pub next : {w : Book} {b : Tree} {bs : List Tree} {n : ℕ} {r A B T : Tree} → Reduces w r (pi A B) → PastParameters w T n bs (opened B b) → PastParameters w T (suc n) (b ∷ bs) r
+pub next : {w : Book} {b : Tree} {bs : List Tree} {n : ℕ} {r A B T : Tree} → Reduces w r (pi A B) → IsTypeAfterParameters w T n bs (opened B b) → IsTypeAfterParameters w T (suc n) (b ∷ bs) r
 next h k = record { shown = parameter h.shown k.shown }
 
 -- the field that is n further on than number j
-pub record FieldOf (w : Book) (S : Name) (s : Tree) (l : Level) (j n : ℕ) (r F : Tree) : Type 0 where
+pub record IsFieldType (w : Book) (S : Name) (s : Tree) (l : Level) (j n : ℕ) (r F : Tree) : Type 0 where
   pub shown : FieldAt w.holds S s (is_zero_level l) j n r F
 
 prop_where : {w : Book} {A : Tree} (q : Bool) → (q ≡ true → IsProposition w A) → PropWhere w.holds q A
 prop_where {w = w} {A = A} true h = let p : IsProposition w A = h refl in due p.sorted.types.shown p.sorted.reduces.shown p.is_zero
 prop_where false h = not_due
 
-pub here : {w : Book} {S : Name} {s : Tree} {l : Level} {j : ℕ} {r A B : Tree} → Reduces w r (pi A B) → (is_zero_level l ≡ true → IsProposition w A) → FieldOf w S s l j 0 r A
+pub here : {w : Book} {S : Name} {s : Tree} {l : Level} {j : ℕ} {r A B : Tree} → Reduces w r (pi A B) → (is_zero_level l ≡ true → IsProposition w A) → IsFieldType w S s l j 0 r A
 here {l = l} h p = record { shown = this_field h.shown (prop_where (is_zero_level l) p) }
 
-pub past : {w : Book} {S : Name} {s : Tree} {l : Level} {j n : ℕ} {r A B F : Tree} → Reduces w r (pi A B) → ((is_zero_level l && has_var 0 B) ≡ true → IsProposition w A) → FieldOf w S s l (suc j) n (opened B (proj S j s)) F →
-    FieldOf w S s l j (suc n) r F
+pub past : {w : Book} {S : Name} {s : Tree} {l : Level} {j n : ℕ} {r A B F : Tree} → Reduces w r (pi A B) → ((is_zero_level l && has_var 0 B) ≡ true → IsProposition w A) → IsFieldType w S s l (suc j) n (opened B (proj S j s)) F →
+    IsFieldType w S s l j (suc n) r F
 past {l = l} {B = B} h p k = record { shown = field_before h.shown (prop_where (is_zero_level l && has_var 0 B) p) k.shown }
 
 -- rules of typing
@@ -202,11 +202,11 @@ t_const {w = w} {c = c} {ls = ls} g f = record { shown = w.typing.consts c ls g 
 pub t_app : {w : Book} {f a F A B A' : Tree} → HasType w f F → Reduces w F (pi A B) → HasType w a A' → IsDefEq w A' A → HasType w (app f a) (opened B a)
 t_app {w = w} {f = f} {a = a} {F = F} {A = A} {B = B} {A' = A'} hf hF ha hq = record { shown = w.typing.apps f a F A B A' hf.shown hF.shown ha.shown hq.shown }
 
-pub t_lam : {w : Book} {A b B : Tree} {l : Level} {k : ℕ} → bound (lam A b) ≤ k → bound (pi A B) ≤ k → HasSort w A l → HasType w (opened b (local k A)) (opened B (local k A)) → HasType w (lam A b) (pi A B)
-t_lam {w = w} {A = A} {b = b} {B = B} {l = l} {k = k} m n hA hb = record { shown = w.typing.lams A b B l k m n (sorts hA) hb.shown }
+pub t_lam : {w : Book} {A b B : Tree} {l : Level} {k : ℕ} → Fresh k (lam A b ∷ pi A B ∷ []) → HasSort w A l → HasType w (opened b (local k A)) (opened B (local k A)) → HasType w (lam A b) (pi A B)
+t_lam {w = w} {A = A} {b = b} {B = B} {l = l} {k = k} fresh hA hb = record { shown = w.typing.lams A b B l k fresh (sorts hA) hb.shown }
 
-pub t_pi : {w : Book} {A B : Tree} {u v : Level} {k : ℕ} → bound (pi A B) ≤ k → HasSort w A u → HasSort w (opened B (local k A)) v → HasType w (pi A B) (sort (imax_level u v))
-t_pi {w = w} {A = A} {B = B} {u = u} {v = v} {k = k} m hA hB = record { shown = w.typing.pis A B u v k m (sorts hA) (sorts hB) }
+pub t_pi : {w : Book} {A B : Tree} {u v : Level} {k : ℕ} → Fresh k (pi A B ∷ []) → HasSort w A u → HasSort w (opened B (local k A)) v → HasType w (pi A B) (sort (imax_level u v))
+t_pi {w = w} {A = A} {B = B} {u = u} {v = v} {k = k} fresh hA hB = record { shown = w.typing.pis A B u v k fresh (sorts hA) (sorts hB) }
 
 pub t_let : {w : Book} {A v b V B : Tree} {l : Level} → HasSort w A l → HasType w v V → IsDefEq w V A → HasType w (opened b v) B → HasType w (let_in A v b) B
 t_let {w = w} {A = A} {v = v} {b = b} {V = V} {B = B} {l = l} hA hv hq hb = record { shown = w.typing.lets A v b V B l (sorts hA) hv.shown hq.shown hb.shown }
@@ -218,7 +218,7 @@ pub t_str : {w : Book} {s : List ℕ} → HasString w → HasType w (str s) (nam
 t_str {w = w} {s = s} h = record { shown = w.typing.strs s h.rule h.tested }
 
 pub t_proj : {w : Book} (S : Projectable w) {i : ℕ} {e T₀ T A : Tree} {l : Level} → HasType w e T₀ → Reduces w T₀ (projectable_type S) → i < S.ctor.fields → HasSort w (projectable_type S) l →
-    PastParameters w T S.ind.parameters S.args (ctor_type S) → FieldOf w S.name e l 0 i T A → HasType w (proj S.name i e) A
+    IsTypeAfterParameters w T S.ind.parameters S.args (ctor_type S) → IsFieldType w S.name e l 0 i T A → HasType w (proj S.name i e) A
 t_proj {w = w} S {i = i} {e = e} {T₀ = T₀} {T = T} {A = A} {l = l} he hT less hS a b = record { shown = w.typing.projs S i e T₀ T A l he.shown hT.shown less (sorts hS) a.shown b.shown }
 
 -- rules of reduction
@@ -252,7 +252,7 @@ r_iota {w = w} R c h f g = record { shown = w.reduction.iota R c h f g }
 pub r_k : {w : Book} (R : RecApp w) (k : KMajor R) {e T₀ D : Tree} → HasType w e T₀ → Reduces w T₀ (k_type k) → HasType w (ctor_app k.ctor) D → IsDefEq w (k_type k) D → Reduces w (on_major R e) (on_major R (ctor_app k.ctor))
 r_k {w = w} R k {e = e} {T₀ = T₀} {D = D} he hT hD hq = record { shown = w.reduction.k R k e T₀ D he.shown hT.shown hD.shown hq.shown }
 
-pub r_struct : {w : Book} (R : RecApp w) (S : StructureAt w) {m T₀ : Tree} → HasOnlyRule R S.structure.ctor_name → HasType w m T₀ → Reduces w T₀ (structure_type S) → IsNotProp w (structure_type S) → Reduces w (on_major R m) (on_major R (expanded S m))
+pub r_struct : {w : Book} (R : RecApp w) (S : StructureAt w) {m T₀ : Tree} → HasOnlyRule R S.structure.ctor_name → HasType w m T₀ → Reduces w T₀ (structure_type S) → IsNotProposition w (structure_type S) → Reduces w (on_major R m) (on_major R (expanded S m))
 r_struct {w = w} R S {m = m} {T₀ = T₀} o hm hT z = record { shown = w.reduction.struct R S m T₀ z.level o hm.shown hT.shown (sorts z.sorted) z.not_zero }
 
 pub r_quot_lift : {w : Book} (ls ks : List Level) {A r B f h e A' r' a : Tree} → IsQuot w quot_lift → IsQuot w quot_mk → AllWellFormed (A ∷ r ∷ B ∷ f ∷ h ∷ []) → Reduces w e (apply (const quot_mk ks) (A' ∷ r' ∷ a ∷ [])) →
@@ -263,7 +263,7 @@ pub r_quot_ind : {w : Book} (ls ks : List Level) {A r B h e A' r' a : Tree} → 
     Reduces w (apply (const quot_ind ls) (A ∷ r ∷ B ∷ h ∷ e ∷ [])) (app h a)
 r_quot_ind {w = w} ls ks {A = A} {r = r} {B = B} {h = h} {e = e} {A' = A'} {r' = r'} {a = a} i im ff he = record { shown = w.reduction.ind ls ks A r B h e A' r' a i im ff he.shown }
 
-pub r_op : {w : Book} (op : Op) (es : List Tree) (ns : List ℕ) (r : Tree) → IsOperation w op → HasNat w → Numerals w es ns → IsResult w (op_value op ns) r → Reduces w (apply (named (op_name op)) es) r
+pub r_op : {w : Book} (op : Op) (es : List Tree) (ns : List ℕ) (r : Tree) → IsOperation w op → HasNat w → ReduceToNumerals w es ns → IsResult w (op_value op ns) r → Reduces w (apply (named (op_name op)) es) r
 r_op {w = w} op es ns r i h s t = record { shown = w.reduction.operation op es ns r i h.rule h.tested s.shown t.rule t.tested }
 
 -- rules of conversion
@@ -282,11 +282,11 @@ e_const {w = w} {c = c} {ls = ls} {ms = ms} h = record { shown = w.conversion.co
 pub e_app : {w : Book} {f g a b : Tree} → IsNeutral f → IsNeutral g → IsDefEq w f g → IsDefEq w a b → IsDefEq w (app f a) (app g b)
 e_app {w = w} {f = f} {g = g} {a = a} {b = b} nf ng h k = record { shown = w.conversion.apps f g a b nf ng h.shown k.shown }
 
-pub e_lam : {w : Book} {A A' b b' : Tree} {k : ℕ} → bound (lam A b) ≤ k → bound (lam A' b') ≤ k → IsDefEq w A A' → IsDefEq w (opened b (local k A)) (opened b' (local k A)) → IsDefEq w (lam A b) (lam A' b')
-e_lam {w = w} {A = A} {A' = A'} {b = b} {b' = b'} {k = k} m n h i = record { shown = w.conversion.lams A A' b b' k m n h.shown i.shown }
+pub e_lam : {w : Book} {A A' b b' : Tree} {k : ℕ} → Fresh k (lam A b ∷ lam A' b' ∷ []) → IsDefEq w A A' → IsDefEq w (opened b (local k A)) (opened b' (local k A)) → IsDefEq w (lam A b) (lam A' b')
+e_lam {w = w} {A = A} {A' = A'} {b = b} {b' = b'} {k = k} fresh h i = record { shown = w.conversion.lams A A' b b' k fresh h.shown i.shown }
 
-pub e_pi : {w : Book} {A A' B B' : Tree} {k : ℕ} → bound (pi A B) ≤ k → bound (pi A' B') ≤ k → IsDefEq w A A' → IsDefEq w (opened B (local k A)) (opened B' (local k A)) → IsDefEq w (pi A B) (pi A' B')
-e_pi {w = w} {A = A} {A' = A'} {B = B} {B' = B'} {k = k} m n h i = record { shown = w.conversion.pis A A' B B' k m n h.shown i.shown }
+pub e_pi : {w : Book} {A A' B B' : Tree} {k : ℕ} → Fresh k (pi A B ∷ pi A' B' ∷ []) → IsDefEq w A A' → IsDefEq w (opened B (local k A)) (opened B' (local k A)) → IsDefEq w (pi A B) (pi A' B')
+e_pi {w = w} {A = A} {A' = A'} {B = B} {B' = B'} {k = k} fresh h i = record { shown = w.conversion.pis A A' B B' k fresh h.shown i.shown }
 
 pub e_proj : {w : Book} {S : Name} {i : ℕ} {s t : Tree} → IsDefEq w s t → IsDefEq w (proj S i s) (proj S i t)
 e_proj {w = w} {S = S} {i = i} {s = s} {t = t} h = record { shown = w.conversion.projs S i s t h.shown }
@@ -305,9 +305,9 @@ pub record IsByFields (w : Book) (S : StructureAt w) (xs : List Tree) (a : Tree)
   pub left_type : HasType w a left
   pub right_type : HasType w (structure_value S xs) right
   pub same_type : IsDefEq w left right
-  pub fields : AllProject w S.structure.ind.name a 0 xs
+  pub fields : ProjectionsEqual w S.structure.ind.name a 0 xs
 
-pub by_fields : {w : Book} {S : StructureAt w} {xs : List Tree} {a A B : Tree} → length xs ≡ S.structure.ctor.fields → HasType w a A → HasType w (structure_value S xs) B → IsDefEq w A B → AllProject w S.structure.ind.name a 0 xs → IsByFields w S xs a
+pub by_fields : {w : Book} {S : StructureAt w} {xs : List Tree} {a A B : Tree} → length xs ≡ S.structure.ctor.fields → HasType w a A → HasType w (structure_value S xs) B → IsDefEq w A B → ProjectionsEqual w S.structure.ind.name a 0 xs → IsByFields w S xs a
 by_fields {A = A} {B = B} n ha hb q all = record { count = n; left = A; right = B; left_type = ha; right_type = hb; same_type = q; fields = all }
 
 pub e_struct_left : {w : Book} (S : StructureAt w) (xs : List Tree) {a : Tree} → IsHeadNormal a → IsByFields w S xs a → IsDefEq w a (structure_value S xs)

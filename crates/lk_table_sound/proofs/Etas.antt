@@ -6,7 +6,7 @@ use Rattle.lk_tree.specs.Spine.{apply, head, args, IsHeadNormal}
 use Rattle.lk_tree.specs.WellFormed.{IsWellFormed, AllWellFormed}
 use Rattle.lk_tree.proofs.Spines.{well_formed_of_apply}
 use Rattle.lk_tree.proofs.Lists.{fine_drop, length_taken}
-use Rattle.lk_table_sound.proofs.Book.{Book, StructureAt, HasType, IsDefEq, e_struct_left, e_struct_right, IsByFields, by_fields, AllProject, no_more_fields, project, well_formed_of_type, IsSound, WellStated}
+use Rattle.lk_table_sound.proofs.Book.{Book, StructureAt, HasType, IsDefEq, e_struct_left, e_struct_right, IsByFields, by_fields, ProjectionsEqual, no_more_fields, project, well_formed_of_type, IsSound, WellStated}
 use Rattle.lk_rulebook.specs.Structures.{is_structure_like}
 use Rattle.lk_plain.specs.Program.{done}
 use Rattle.lk_questions.specs.Iota.{CtorApp, ctor_app_of, has_one_ctor}
@@ -21,12 +21,12 @@ use Rattle.lk_table_sound.proofs.Lines.{SoundLine, sound_answers_yes}
 use Rattle.lk_table_sound.proofs.Iotas.{IsCtorApp, IfCtorApp, sound_ctor_app_of}
 use Rattle.lk_claims.proofs.Facts.{the_ctor, listed_of}
 
-sound_fields : (w : Book) (J : Name) (a : Tree) → IsWellFormed a → (j : ℕ) (xs : List Tree) → AllWellFormed xs → IsSound w (same_fields J a j xs) (λ e. IfYes e (AllProject w J a j xs))
+sound_fields : (w : Book) (J : Name) (a : Tree) → IsWellFormed a → (j : ℕ) (xs : List Tree) → AllWellFormed xs → IsSound w (same_fields J a j xs) (λ e. IfYes e (ProjectionsEqual w J a j xs))
 sound_fields w J a fa j [] f = no_more_fields
 sound_fields w J a fa j (x ∷ xs) f = (
   (fa, f.0),
-  λ equal m. sound_if w equal (same_fields J a (suc j) xs) (done false) (λ e. IfYes e (AllProject w J a j (x ∷ xs)))
-      (λ t. sound_map w (same_fields J a (suc j) xs) (λ e. IfYes e (AllProject w J a (suc j) xs)) (λ e. IfYes e (AllProject w J a j (x ∷ xs)))
+  λ equal m. sound_if w equal (same_fields J a (suc j) xs) (done false) (λ e. IfYes e (ProjectionsEqual w J a j (x ∷ xs)))
+      (λ t. sound_map w (same_fields J a (suc j) xs) (λ e. IfYes e (ProjectionsEqual w J a (suc j) xs)) (λ e. IfYes e (ProjectionsEqual w J a j (x ∷ xs)))
       (λ e. if_yes_map e (project (of_yes equal t m))) (sound_fields w J a fa (suc j) xs f.1))
       (λ t. tt),
 )
@@ -38,7 +38,7 @@ and_two false b h = absurd cc
 
 eta_ext : (w : Book) → WellStated w → (a b : Tree) → IsHeadNormal a → (k : CtorApp) → IsCtorApp w b k →
     (nat_eq (length k.args) (k.ctor.parameters + k.ctor.fields) && (has_one_ctor k.ind.ctors && is_structure_like k.block k.ind k.ctor)) ≡ true →
-    (A B : Tree) → HasType w a A → HasType w b B → IsDefEq w A B → AllProject w k.ind.name a 0 (drop k.ctor.parameters k.args) → IsDefEq w a b × IsDefEq w b a
+    (A B : Tree) → HasType w a A → HasType w b B → IsDefEq w A B → ProjectionsEqual w k.ind.name a 0 (drop k.ctor.parameters k.args) → IsDefEq w a b × IsDefEq w b a
 eta_ext w ok a b na k j y A B ha hb q all =
     let p : ℕ = k.ctor.parameters in
     let tests : (nat_eq (length k.args) (p + k.ctor.fields) ≡ true) × ((has_one_ctor k.ind.ctors && is_structure_like k.block k.ind k.ctor) ≡ true) =
@@ -87,7 +87,7 @@ sound_eta_struct w ok a b fa fb na (Some k) j C h =
           λ equal mE.
               sound_if w equal _ goes_on (λ o. IfAnswers o C)
               (λ z. sound_answers_yes w (same_fields k.ind.name a 0 (drop p k.args)) C
-              (sound_map w (same_fields k.ind.name a 0 (drop p k.args)) (λ e. IfYes e (AllProject w k.ind.name a 0 (drop p k.args))) (λ e. IfYes e C)
+              (sound_map w (same_fields k.ind.name a 0 (drop p k.args)) (λ e. IfYes e (ProjectionsEqual w k.ind.name a 0 (drop p k.args))) (λ e. IfYes e C)
               (λ e. if_yes_map e (λ all. h (eta_ext w ok a b na k j y A B mA.0 mB.0 (of_yes equal z mE) all)))
               (sound_fields w k.ind.name a fa 0 (drop p k.args) (fine_drop p k.args fx))))
               (λ z. tt),

@@ -2,7 +2,7 @@
 use Rattle.std.proofs.Common.{ℕ, zero, suc, ◌≡◌, ◌<◌, ◌+◌, inl, inr, Bool, true, false, ◌&&◌, nat_eq, nat_lt, length, List, [], ◌∷◌, Option, Some, None, refl, ◌∙◌, arith}
 use Rattle.std.proofs.lemmas.Bool.Decides.{nat_tests}
 use Rattle.lk_tree.specs.Tree.{Name, Level, Tree, const, pi, proj}
-use Rattle.lk_table_sound.proofs.Book.{Book, Reduces, HasSort, IsProposition, is_prop, t_proj, PastParameters, no_more, next, FieldOf, here, past, well_formed_of_type, well_formed_of_reduct, IsSound, IsJustified, WellStated}
+use Rattle.lk_table_sound.proofs.Book.{Book, Reduces, HasSort, IsProposition, is_prop, t_proj, IsTypeAfterParameters, no_more, next, IsFieldType, here, past, well_formed_of_type, well_formed_of_reduct, IsSound, IsJustified, WellStated}
 use Rattle.lk_tree.specs.Level.{is_zero_level}
 use Rattle.lk_tree.specs.Bind.{opened, has_var}
 use Rattle.lk_tree.specs.Levels.{put_levels}
@@ -32,12 +32,12 @@ kept_open s v A B R r w k g e h =
     (open_fine 0 v B f.1 h.0, within_open s B v (λ j T m. k.1 j T (g.1 j T (rw e (inr m)))) h.1)
 
 sound_past : (w : Book) (s : Tree) (bs : List Tree) (n : ℕ) (r : Tree) → AllWellFormed bs → AllWithin s bs → Kept s r →
-    IsSound w (past_parameters bs n r) (λ t. PastParameters w t n bs r × Kept s t)
+    IsSound w (past_parameters bs n r) (λ t. IsTypeAfterParameters w t n bs r × Kept s t)
 sound_past w s bs zero r f l k = (no_more, k)
 sound_past w s (b ∷ bs) (suc n) r f l k = (
   k.0,
   λ R m. sound_pi w BadProjection R (λ p. past_parameters bs n (opened p.1 b)) _ (λ A B e.
-      sound_map w (past_parameters bs n (opened B b)) (λ t. PastParameters w t n bs (opened B b) × Kept s t) _
+      sound_map w (past_parameters bs n (opened B b)) (λ t. IsTypeAfterParameters w t n bs (opened B b) × Kept s t) _
       (λ t h. (next (rw e at m.0) h.0, h.1))
       (sound_past w s bs n (opened B b) f.1 (λ j T x. l j T (inr x)) (kept_open s b A B R r w k m e (f.0, λ j T x. l j T (inl x))))),
 )
@@ -51,7 +51,7 @@ sound_prop w true A f =
     (λ l h z y. is_prop h z)
 
 sound_field : (w : Book) (S : Name) (s : Tree) → IsWellFormed s → (l : Level) (j n : ℕ) (r : Tree) → Kept s r →
-    IsSound w (field_type S s (is_zero_level l) j n r) (λ A. FieldOf w S s l j n r A × LocalsWithin s A)
+    IsSound w (field_type S s (is_zero_level l) j n r) (λ A. IsFieldType w S s l j n r A × LocalsWithin s A)
 sound_field w S s fs l j zero r k = (
   k.0,
   λ R m. sound_pi w BadProjection R _ _ (λ A B eR.
@@ -68,7 +68,7 @@ sound_field w S s fs l j (suc n) r k = (
       let fA : IsWellFormed A = (well_formed_of_reduct c).1.0 in
       sound_bind w (is_prop_if (is_zero_level l && has_var 0 B) A) _ _ _ (sound_prop w (is_zero_level l && has_var 0 B) A fA)
       (λ ok h. sound_given w ok PropProjection (field_type S s (is_zero_level l) (suc j) n (opened B (proj S j s))) _
-      (λ y. sound_map w (field_type S s (is_zero_level l) (suc j) n (opened B (proj S j s))) (λ C. FieldOf w S s l (suc j) n (opened B (proj S j s)) C × LocalsWithin s C) _
+      (λ y. sound_map w (field_type S s (is_zero_level l) (suc j) n (opened B (proj S j s))) (λ C. IsFieldType w S s l (suc j) n (opened B (proj S j s)) C × LocalsWithin s C) _
       (λ C g. (past c (λ z. h y z) g.0, g.1))
       (sound_field w S s fs l (suc j) n (opened B (proj S j s)) (kept_open s (proj S j s) A B R r w k m eR (fs, within_refl s)))))),
 )
@@ -106,9 +106,9 @@ sound_struct w ok S i s T fs hT wT ls eT g mg block ind kg (c ∷ []) ec =
     (λ l hl. sound_bind w (with_params c.levels ls c.type) _ (λ r. (r ≡ ty) × (length ls ≡ length c.levels)) (IsJustified w (infer (proj S i s)))
     (sound_with_params w c.levels ls c.type (λ r. (r ≡ ty) × (length ls ≡ length c.levels)) (λ count. (refl, count)))
     (λ r er. let kr : Kept s r = rw er.0 (fine_put_levels c.levels ls 0 c.type st.0, no_local s ty (bound_put_levels c.levels ls c.type ∙ st.1)) in
-    sound_bind w (past_parameters (args T) ind.parameters r) _ (λ u. PastParameters w u ind.parameters (args T) r × Kept s u) (IsJustified w (infer (proj S i s)))
+    sound_bind w (past_parameters (args T) ind.parameters r) _ (λ u. IsTypeAfterParameters w u ind.parameters (args T) r × Kept s u) (IsJustified w (infer (proj S i s)))
     (sound_past w s (args T) ind.parameters r fargs (λ k U m. wT k U (rw (← eT) (local_of_arg k U (const S ls) (args T) m))) kr)
-    (λ u hu. sound_map w (field_type S s (is_zero_level l) 0 i u) (λ A. FieldOf w S s l 0 i u A × LocalsWithin s A) (IsJustified w (infer (proj S i s)))
+    (λ u hu. sound_map w (field_type S s (is_zero_level l) 0 i u) (λ A. IsFieldType w S s l 0 i u A × LocalsWithin s A) (IsJustified w (infer (proj S i s)))
     (λ A hA. (
       t_proj (record { name = S; levels = ls; args = args T; entry = g; block = block; ind = ind; ctor = c; given = mg; kind = kg; args_are = count_is (args T) ind c i t; one_ctor = ec; levels_are = er.1 })
           hT.types (rw eT hT.reduces) (below_is (args T) ind c i t) (rw eT hl) (rw er.0 at hu.0) hA.0,

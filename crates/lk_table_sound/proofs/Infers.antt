@@ -70,7 +70,7 @@ infer_lam w A b fA fb =
     (λ l hA. (
       body_fine k A b fA fb (bound_left A b k (omega arith)),
       λ B m. (
-        t_lam (omega arith) (lam_closed_bound A b B k (omega arith) (well_formed_of_type m.0).1 m.1) hA
+        t_lam (omega arith, (lam_closed_bound A b B k (omega arith) (well_formed_of_type m.0).1 m.1, tt)) hA
             (rw (closed_reopens k A b B (bound_left A b k (omega arith)) (bound_right A b k (omega arith)) (well_formed_of_type m.0).1 m.1) m.0),
         lam_within A b B k (omega arith) (well_formed_of_type m.0).1 m.1,
       ),
@@ -82,7 +82,7 @@ infer_pi w A B fA fB =
     sound_bind w (sort_of A) _ (λ u. HasSort w A u) (IsJustified w (infer (pi A B))) (sound_sort_of w A fA)
     (λ u hA. sound_bind w (sort_of (opened B (local k A))) _ (λ v. HasSort w (opened B (local k A)) v) (IsJustified w (infer (pi A B)))
     (sound_sort_of w (opened B (local k A)) (body_fine k A B fA fB (pi_bound_left A B k (omega arith))))
-    (λ v hB. (t_pi (omega arith) hA hB, λ j T m. absurd m)))
+    (λ v hB. (t_pi (omega arith, tt) hA hB, λ j T m. absurd m)))
 
 infer_let : (w : Book) (A v b : Tree) → IsWellFormed A → IsWellFormed v → IsWellFormedUnder 1 b → IsSound w (infer_steps (let_in A v b)) (IsJustified w (infer (let_in A v b)))
 infer_let w A v b fA fv fb =

@@ -6,7 +6,7 @@ use Rattle.lk_tree.specs.Bind.{bound}
 use Rattle.lk_tree.specs.Operations.{Op, arity, op_value}
 use Rattle.lk_tree.specs.Spine.{apply, args}
 use Rattle.lk_tree.specs.WellFormed.{AllWellFormed}
-use Rattle.lk_table_sound.proofs.Book.{Book, HasNat, IsOperation, r_op, Numerals, no_more_numerals, numeral, IsSound}
+use Rattle.lk_table_sound.proofs.Book.{Book, HasNat, IsOperation, r_op, ReduceToNumerals, no_more_numerals, numeral, IsSound}
 use Rattle.lk_rulebook.specs.Place.{Entry}
 use Rattle.lk_rulebook.specs.Names.{named, op_name}
 use Rattle.lk_tree.specs.Mentions.{same_name}
@@ -22,17 +22,17 @@ use Rattle.lk_table_sound.proofs.Goes.{sound_if, GoesTo}
 
 abbrev IfNumerals : Book → List Tree → Option (List ℕ) → Type 0
 IfNumerals w es None = Unit {0}
-IfNumerals w es (Some ns) = Numerals w es ns
+IfNumerals w es (Some ns) = ReduceToNumerals w es ns
 
 sound_numerals : (w : Book) (es : List Tree) → AllWellFormed es → IsSound w (numerals es) (IfNumerals w es)
 sound_numerals w [] f = no_more_numerals
 sound_numerals w (e ∷ es) f = (f.0, λ m mm. first (numeral_of m) (λ n h. λ ns s. numeral mm.0 h s) (sound_numerals w es f.1))
   where
-    rest : (n : ℕ) → ((ns : List ℕ) → Numerals w es ns → Numerals w (e ∷ es) (n ∷ ns)) → (o : Option (List ℕ)) → IfNumerals w es o → IfNumerals w (e ∷ es) (option_map (λ ns. n ∷ ns) o)
+    rest : (n : ℕ) → ((ns : List ℕ) → ReduceToNumerals w es ns → ReduceToNumerals w (e ∷ es) (n ∷ ns)) → (o : Option (List ℕ)) → IfNumerals w es o → IfNumerals w (e ∷ es) (option_map (λ ns. n ∷ ns) o)
     rest n k None s = tt
     rest n k (Some ns) s = k ns s
 
-    first : (o : Option ℕ) → ((n : ℕ) → o ≡ Some n → (ns : List ℕ) → Numerals w es ns → Numerals w (e ∷ es) (n ∷ ns)) → IsSound w (numerals es) (IfNumerals w es) →
+    first : (o : Option ℕ) → ((n : ℕ) → o ≡ Some n → (ns : List ℕ) → ReduceToNumerals w es ns → ReduceToNumerals w (e ∷ es) (n ∷ ns)) → IsSound w (numerals es) (IfNumerals w es) →
         IsSound w (with_first o (numerals es)) (IfNumerals w (e ∷ es))
     first None k s = tt
     first (Some n) k s = sound_bind w (numerals es) _ (IfNumerals w es) (IfNumerals w (e ∷ es)) s (rest n (k n refl))

@@ -44,14 +44,14 @@ pub lambdas_same : (w : Book) (A b A' b' : Tree) → IsWellFormed (lam A b) → 
 lambdas_same w A b A' b' f g =
     let k : ℕ = max (bound (lam A b)) (bound (lam A' b')) in
     let o : (bound (lam A b) ≤ k) × (bound (lam A' b') ≤ k) = bounds (bound (lam A b)) (bound (lam A' b')) in
-    sound_bodies w k A b A' b' (IsDefEq w (lam A b) (lam A' b')) f.0 f.1 g.0 g.1 (bound_left A b k o.0) (λ c d. e_lam o.0 o.1 c d)
+    sound_bodies w k A b A' b' (IsDefEq w (lam A b) (lam A' b')) f.0 f.1 g.0 g.1 (bound_left A b k o.0) (λ c d. e_lam (o.0, (o.1, tt)) c d)
 
 pub pis_same : (w : Book) (A b A' b' : Tree) → IsWellFormed (pi A b) → IsWellFormed (pi A' b') →
     IsSound w (same_bodies (max (bound (pi A b)) (bound (pi A' b'))) A b A' b') (IsJustified w (same (pi A b) (pi A' b')))
 pis_same w A b A' b' f g =
     let k : ℕ = max (bound (pi A b)) (bound (pi A' b')) in
     let o : (bound (pi A b) ≤ k) × (bound (pi A' b') ≤ k) = bounds (bound (pi A b)) (bound (pi A' b')) in
-    sound_bodies w k A b A' b' (IsDefEq w (pi A b) (pi A' b')) f.0 f.1 g.0 g.1 (pi_bound_left A b k o.0) (λ c d. e_pi o.0 o.1 c d)
+    sound_bodies w k A b A' b' (IsDefEq w (pi A b) (pi A' b')) f.0 f.1 g.0 g.1 (pi_bound_left A b k o.0) (λ c d. e_pi (o.0, (o.1, tt)) c d)
 
 -- where both are their own Core, what comes next has head normal trees
 pub cores_same : (w : Book) (a b : Tree) (next : Program Bool) → IsWellFormed a → IsWellFormed b →

@@ -1,4 +1,5 @@
-//! Soundness of the question table: each answer has a derivation in the rule book.
+//! Soundness of the question table: each answer has a derivation in the rule book. Nothing runs:
+//! each function is a law.
 #![tactic(auto)]
 
 ghost use Rattle.std.specs.Prelude.{ℕ};
@@ -12,12 +13,13 @@ ghost use Rattle.lk_rulebook.specs.Units.{Decl};
 ghost use Rattle.lk_questions.specs.Declarations.{unit_steps};
 ghost use Rattle.lk_questions.specs.Table.{steps};
 
-/// The whole table is sound.
+/// The whole table is sound: where the answers to what a row asks are justified, its own answer is.
 pub fn whole_table_is_sound()
     ensures { IsSoundTable steps }
 {}
 
-/// Each answer means what the rule book says.
+/// Each answer of a sound table is justified by a derivation, at a sound place; so is each answer
+/// of the whole table.
 pub fn plain_answer_is_sound()
     ensures each { (table : Table) (w : Place) (q : Query) (b : ℕ) → IsSoundTable table
         → IsSoundPlace w → IsAskable q → IfAnswered (plain_answer table w q b)

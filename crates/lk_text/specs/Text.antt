@@ -1,13 +1,25 @@
 -- What is written.
-use Rattle.std.specs.Prelude.{ℕ, ◌+◌, Bool, true, false, List, [], ◌∷◌, ◌++◌, length, slice_get, Option, Some, None, decimal, codes, if◌then◌else◌}
+use Rattle.std.specs.Prelude.{ℕ, ◌+◌, Bool, true, false, List, [], ◌∷◌, ◌++◌, length, slice_get}
+use Rattle.std.specs.Prelude.{Option, Some, None, decimal, codes, if◌then◌else◌}
 use Rattle.lk_tree.specs.Tree.{Name, Part, text, number}
 use Rattle.lk_lines.specs.declared.line.Fault.{Fault}
 use Rattle.lk_lines.specs.Words.{word_text}
 use Rattle.lk_tree.specs.declared.rule.Rule.{Rule}
-use Rattle.lk_tree.specs.declared.rule.Rule.TheVariants.{UnknownConstant, LevelCount, UndeclaredLevel, DuplicateLevel, DuplicateName, LooseVariable, NotASort, NotAFunction, ArgumentType, LetType, ValueType, TheoremNotProp, BadProjection, PropProjection, WideLiteral, NoBuiltin, BuiltinShape, QuotShape, LevelWidth, BlockShape, ParameterDiffers, ConstructorResult, NotPositive, FieldUniverse, NestedForm, RecursorDiffers, NatLaw}
-use Rattle.lk_text.specs.declared.counts.Kind.{Kind}
-use Rattle.lk_text.specs.declared.counts.Kind.TheVariants.{Yes, No, Memory}
-use Rattle.lk_rulebook.specs.Units.{Body, as_axiom, as_def, as_thm, as_opaque, as_quot, LibraryUnit, of_decl, of_block, Library, Members, members_of}
+use Rattle.lk_tree.specs.declared.rule.Rule.TheVariants.{UnknownConstant, LevelCount}
+use Rattle.lk_tree.specs.declared.rule.Rule.TheVariants.{UndeclaredLevel, DuplicateLevel}
+use Rattle.lk_tree.specs.declared.rule.Rule.TheVariants.{DuplicateName, LooseVariable, NotASort}
+use Rattle.lk_tree.specs.declared.rule.Rule.TheVariants.{NotAFunction, ArgumentType, LetType}
+use Rattle.lk_tree.specs.declared.rule.Rule.TheVariants.{ValueType, TheoremNotProp, BadProjection}
+use Rattle.lk_tree.specs.declared.rule.Rule.TheVariants.{PropProjection, WideLiteral, NoBuiltin}
+use Rattle.lk_tree.specs.declared.rule.Rule.TheVariants.{BuiltinShape, QuotShape, LevelWidth}
+use Rattle.lk_tree.specs.declared.rule.Rule.TheVariants.{BlockShape, ParameterDiffers}
+use Rattle.lk_tree.specs.declared.rule.Rule.TheVariants.{ConstructorResult, NotPositive}
+use Rattle.lk_tree.specs.declared.rule.Rule.TheVariants.{FieldUniverse, NestedForm, RecursorDiffers}
+use Rattle.lk_tree.specs.declared.rule.Rule.TheVariants.{NatLaw, AxiomNotAllowed}
+use Rattle.lk_text.specs.declared.counts.VerdictKind.{VerdictKind}
+use Rattle.lk_text.specs.declared.counts.VerdictKind.TheVariants.{Yes, No, Memory}
+use Rattle.lk_rulebook.specs.Units.{Body, as_axiom, as_def, as_thm, as_opaque, as_quot, LibraryUnit}
+use Rattle.lk_rulebook.specs.Units.{of_decl, of_block, Library, Members, members_of}
 use Rattle.lk_reach.specs.Computed.{axioms_of}
 use Rattle.lk_verdict.specs.Told.{Verdict, accepted, rejected, out_of_steps, out_of_memory}
 
@@ -57,6 +69,7 @@ rule_word FieldUniverse = codes "FieldUniverse"
 rule_word NestedForm = codes "NestedForm"
 rule_word RecursorDiffers = codes "RecursorDiffers"
 rule_word NatLaw = codes "NatLaw"
+rule_word AxiomNotAllowed = codes "AxiomNotAllowed"
 
 abbrev pub body_word : Body → List ℕ
 body_word as_axiom = codes "axiom"
@@ -93,8 +106,10 @@ why_text word = codes "  why " ++ (word ++ 10 ∷ [])
 abbrev pub verdict_text : List ℕ → ℕ → List ℕ → Verdict → List ℕ
 verdict_text kind n name accepted = head_text (codes "yes") kind n name
 verdict_text kind n name (rejected r) = head_text (codes "no") kind n name ++ why_text (rule_word r)
-verdict_text kind n name out_of_steps = head_text (codes "no") kind n name ++ why_text (codes "steps")
-verdict_text kind n name out_of_memory = head_text (codes "no") kind n name ++ why_text (codes "memory")
+verdict_text kind n name out_of_steps =
+    head_text (codes "no") kind n name ++ why_text (codes "steps")
+verdict_text kind n name out_of_memory =
+    head_text (codes "no") kind n name ++ why_text (codes "memory")
 
 -- the line of an axiom of this name
 abbrev pub axiom_text : List ℕ → List ℕ
@@ -114,10 +129,12 @@ axioms_text us (k ∷ ks) = axiom_at (slice_get us k) ++ axioms_text us ks
 abbrev pub lines_text : Library → ℕ → Library → List Verdict → List ℕ
 lines_text us n [] vs = []
 lines_text us n (u ∷ more) [] = []
-lines_text us n (u ∷ more) (v ∷ vs) = verdict_text (kind_word u) n (name_word u) v ++ (axioms_text us (axioms_of us n) ++ lines_text us (n + 1) more vs)
+lines_text us n (u ∷ more) (v ∷ vs) =
+    verdict_text (kind_word u) n (name_word u) v ++
+    (axioms_text us (axioms_of us n) ++ lines_text us (n + 1) more vs)
 
 -- whether a verdict is of this kind
-abbrev pub is_of : Kind → Verdict → Bool
+abbrev pub is_of : VerdictKind → Verdict → Bool
 is_of Yes accepted = true
 is_of Yes (rejected r) = false
 is_of Yes out_of_steps = false
@@ -132,7 +149,7 @@ is_of Memory out_of_steps = false
 is_of Memory out_of_memory = true
 
 -- how many are of this kind
-abbrev pub count : Kind → List Verdict → ℕ
+abbrev pub count : VerdictKind → List Verdict → ℕ
 count k [] = 0
 count k (v ∷ vs) = if is_of k v then count k vs + 1 else count k vs
 
@@ -142,7 +159,10 @@ counted_text word n = word ++ decimal n
 
 -- the last line
 abbrev pub summary_text : List Verdict → List ℕ
-summary_text vs = counted_text (codes "units ") (length vs) ++ (counted_text (codes " yes ") (count Yes vs) ++ (counted_text (codes " no ") (count No vs) ++ (counted_text (codes " memory ") (count Memory vs) ++ 10 ∷ [])))
+summary_text vs =
+    counted_text (codes "units ") (length vs) ++ (counted_text (codes " yes ") (count Yes vs) ++
+    (counted_text (codes " no ") (count No vs) ++
+    (counted_text (codes " memory ") (count Memory vs) ++ 10 ∷ [])))
 
 -- the whole text for these units and verdicts
 abbrev pub report_text : Library → List Verdict → List ℕ

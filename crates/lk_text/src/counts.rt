@@ -11,30 +11,30 @@ use std::alloc::Global;
 
 /// What a verdict is counted as.
 #[derive(Clone, Copy)]
-pub enum Kind {
+pub enum VerdictKind {
     Yes,
     No,
     Memory,
 }
 
 /// Whether a verdict is of this kind.
-fn is_of(kind: Kind, v: &Verdict) -> bool
+fn is_of(kind: VerdictKind, v: &Verdict) -> bool
     ensures { result ≡ is_of kind (verdict v.now) }
 {
     match kind {
-        Kind::Yes => match v {
+        VerdictKind::Yes => match v {
             Verdict::Yes => true,
             Verdict::No(_) => false,
             Verdict::Steps => false,
             Verdict::Memory => false,
         },
-        Kind::No => match v {
+        VerdictKind::No => match v {
             Verdict::Yes => false,
             Verdict::No(_) => true,
             Verdict::Steps => true,
             Verdict::Memory => false,
         },
-        Kind::Memory => match v {
+        VerdictKind::Memory => match v {
             Verdict::Yes => false,
             Verdict::No(_) => false,
             Verdict::Steps => false,
@@ -44,7 +44,7 @@ fn is_of(kind: Kind, v: &Verdict) -> bool
 }
 
 /// How many are of this kind.
-pub fn count(kind: Kind, verdicts: &[Verdict]) -> u64
+pub fn count(kind: VerdictKind, verdicts: &[Verdict]) -> u64
     ensures { result ≡ count kind (map verdict verdicts.now) }
 {
     let mut n = 0;
@@ -73,9 +73,9 @@ pub fn add_summary(out: &mut Vec<u8>, verdicts: &[Verdict]) -> Result<(), NoMemo
         ++ summary_text (map verdict verdicts.now)) }
 {
     add_counted(out, b"units ", verdicts.len() as u64)?;
-    add_counted(out, b" yes ", count(Kind::Yes, verdicts))?;
-    add_counted(out, b" no ", count(Kind::No, verdicts))?;
-    add_counted(out, b" memory ", count(Kind::Memory, verdicts))?;
+    add_counted(out, b" yes ", count(VerdictKind::Yes, verdicts))?;
+    add_counted(out, b" no ", count(VerdictKind::No, verdicts))?;
+    add_counted(out, b" memory ", count(VerdictKind::Memory, verdicts))?;
     out.push(b'\n')?;
     Ok(())
 }

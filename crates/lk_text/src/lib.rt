@@ -8,6 +8,6 @@ mod texts;
 mod units;
 mod verdicts;
 
-pub use counts::{Kind, count, summary};
+pub use counts::{VerdictKind, count, summary};
 pub use texts::{fault_line, report};
 pub use verdicts::Verdict;

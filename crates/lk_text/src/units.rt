@@ -73,9 +73,9 @@ struct Writing {
 /// Writes the name that a unit goes by. What was written there before is gone.
 #[tactic(auto, using(crate::proofs::Naming::named, crate::proofs::Naming::unnamed))]
 fn write_name(writing: &mut Writing, library: &Library, unit: &Unit) -> Result<(), NoMemory>
-    requires { IsUnitIn (contents_of library.now.0) unit.now }
+    requires { IsUnitIn (contents_of library.now.tables) unit.now }
     ensures { OnOk result (writing.new.name.items
-        ≡ unit_text (contents_of library.now.0) unit.now) }
+        ≡ unit_text (contents_of library.now.tables) unit.now) }
 {
     writing.name.clear();
     match first_number(unit) {
@@ -130,9 +130,9 @@ fn add_unit(
     unit: &Unit,
     said: Verdict,
 ) -> Result<(), NoMemory>
-    requires { IsUnitIn (contents_of library.now.0) unit.now }
+    requires { IsUnitIn (contents_of library.now.tables) unit.now }
     ensures { OnOk result (out.new.items ≡ out.old.items
-        ++ (unit_lines (contents_of library.now.0) number unit.now (verdict said)
+        ++ (unit_lines (contents_of library.now.tables) number unit.now (verdict said)
         ++ axioms_text (library_of library.now) axioms.now)) }
 {
     write_name(writing, library, unit)?;

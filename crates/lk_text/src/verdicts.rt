@@ -2,7 +2,8 @@
 
 ghost use Rattle.std.specs.Prelude.{◌≡◌, ◌++◌, codes, OnOk};
 ghost use Rattle.lk_text.specs.Held.{verdict};
-ghost use Rattle.lk_text.specs.Text.{rule_word, title_text, head_text, why_text, axiom_text, verdict_text};
+ghost use Rattle.lk_text.specs.Text.{rule_word, title_text, head_text, why_text, axiom_text};
+ghost use Rattle.lk_text.specs.Text.{verdict_text};
 
 use crate::names::add_number;
 use lk_store::memory::NoMemory;
@@ -51,10 +52,12 @@ fn word_of(rule: Rule) -> &'static [u8]
         Rule::NestedForm => b"NestedForm",
         Rule::RecursorDiffers => b"RecursorDiffers",
         Rule::NatLaw => b"NatLaw",
+        Rule::AxiomNotAllowed => b"AxiomNotAllowed",
     }
 }
 
-/// Appends the end of a unit's line, from the word of its kind; `name` is its name as it is written.
+/// Appends the end of a unit's line, from the word of its kind; `name` is its name as it is
+/// written.
 #[tactic(auto, unfolding(crate::specs::Text::title_text))]
 fn add_title(out: &mut Vec<u8>, kind: &[u8], unit: u64, name: &[u8]) -> Result<(), NoMemory>
     ensures { OnOk result (out.new.items ≡ out.old.items ++ title_text kind.now unit name.now) }

@@ -35,7 +35,7 @@ pub enum Rule {
     WideLiteral,
     /// A built-in name is asked for that no unit before gives.
     NoBuiltin,
-    /// A built-in name is given in another shape.
+    /// `Nat` or `String` is given in another shape than the rules state.
     BuiltinShape,
     /// A quotient constant of another shape.
     QuotShape,
@@ -58,4 +58,6 @@ pub enum Rule {
     /// A definition that is named as an operation on numbers, and breaks a law of it, or has level parameters, or the operation by
     /// which its laws are stated is given by no definition.
     NatLaw,
+    /// An axiom that the policy of the run does not allow.
+    AxiomNotAllowed,
 }

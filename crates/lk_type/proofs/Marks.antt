@@ -11,10 +11,10 @@ use Rattle.lk_tree.specs.Loose.{loose}
 use Rattle.lk_store.specs.Contents.{Contents, tree_at, Extends}
 use Rattle.lk_type.specs.declared.sheet.Binders.{Binders}
 use Rattle.lk_type.specs.declared.sheet.Binders.TheVariants.{Pis, Lambdas}
-use Rattle.lk_type.specs.declared.marking.Part.{Part}
+use Rattle.lk_type.specs.declared.marking.Subterm.{Subterm}
 use Rattle.lk_type.specs.Telescopes.{bound_by}
 use Rattle.lk_type.specs.Openings.{IsBinder}
-use Rattle.lk_type.specs.Marks.{body_of, body_at, IsMentioned, AreMarks, AreAll, IsPart, AreParts, Mentions, IsOutermost, IsLeft, Leaves, AreFound, Raises, IsMarked}
+use Rattle.lk_type.specs.Marks.{body_of, body_at, IsMentioned, AreMarks, AreAll, IsSubterm, AreSubterms, Mentions, IsOutermost, IsLeft, Leaves, AreFound, Raises, IsMarked}
 use Rattle.lk_type.proofs.Looseness.{outermost_occurs}
 use Rattle.lk_type.proofs.Openings.{or_either, or_left, or_right}
 
@@ -40,21 +40,21 @@ next_body {c} {b} {inside} {domain} {body} e n is k =
     sym (ap (body_of b) (sym is) ∙ body_is b (tree_at c inside) (tree_at c domain) (tree_at c body) k.is)
 
 module _ {c : Contents} {b : Binders} {e : Tree} where
-  -- the outermost loose variable of a part
-  pub outermost_is : {p : Part} (l n : ℕ) → IsPart c b e p → l ≡ loose (tree_at c p.e) → 0 < l → l ≤ p.depth → p.depth < l + p.count → n ≡ p.depth - l → IsMentioned b e n p.count
+  -- the outermost loose variable of a subterm
+  pub outermost_is : {p : Subterm} (l n : ℕ) → IsSubterm c b e p → l ≡ loose (tree_at c p.e) → 0 < l → l ≤ p.depth → p.depth < l + p.count → n ≡ p.depth - l → IsMentioned b e n p.count
   outermost_is {p} l n h is some low high n_is =
       let occurs = outermost_occurs (l - 1) (tree_at c p.e) (omega (arith, is, some)) in
       let there = h.occurs (l - 1) (omega (arith, some, low)) (omega (arith, some, high)) occurs in
       let m : p.depth - 1 - (l - 1) ≡ n = omega (arith, some, low, n_is) in
       rw m at there
 
-  pub inside_part : {p : Part} (q : ℕ) → IsPart c b e p → q < length c.trees → ((v : ℕ) → has_var v (tree_at c q) ≡ true → has_var v (tree_at c p.e) ≡ true)
-      → IsPart c b e (record { e = q; depth = p.depth; count = p.count })
-  inside_part q h known f = record { known = known; within = h.within; occurs = λ v l m o. h.occurs v l m (f v o) }
+  pub inside_subterm : {p : Subterm} (q : ℕ) → IsSubterm c b e p → q < length c.trees → ((v : ℕ) → has_var v (tree_at c q) ≡ true → has_var v (tree_at c p.e) ≡ true)
+      → IsSubterm c b e (record { e = q; depth = p.depth; count = p.count })
+  inside_subterm q h known f = record { known = known; within = h.within; occurs = λ v l m o. h.occurs v l m (f v o) }
 
-  pub body_part : {p : Part} (q : ℕ) → IsPart c b e p → q < length c.trees → ((v : ℕ) → has_var (suc v) (tree_at c q) ≡ true → has_var v (tree_at c p.e) ≡ true)
-      → IsPart c b e (record { e = q; depth = suc p.depth; count = p.count })
-  body_part {p} q h known f = record { known = known; within = (let w = h.within in omega arith); occurs = inner }
+  pub body_subterm : {p : Subterm} (q : ℕ) → IsSubterm c b e p → q < length c.trees → ((v : ℕ) → has_var (suc v) (tree_at c q) ≡ true → has_var v (tree_at c p.e) ≡ true)
+      → IsSubterm c b e (record { e = q; depth = suc p.depth; count = p.count })
+  body_subterm {p} q h known f = record { known = known; within = (let w = h.within in omega arith); occurs = inner }
     where
       inner : (v : ℕ) → v < suc p.depth → suc p.depth ≤ v + p.count → has_var v (tree_at c q) ≡ true → IsMentioned b e (suc p.depth - 1 - v) p.count
       inner zero l m o = let w = h.within in absurd (omega (arith, w, m))
@@ -63,7 +63,7 @@ module _ {c : Contents} {b : Binders} {e : Tree} where
           rw same at (h.occurs v (omega arith) (omega arith) (f v o))
 
   -- what occurs in a body does so in those around it too
-  around : {inside domain body n : ℕ} → tree_at c inside ≡ body_at b n e → IsPart c b e (record { e = inside; depth = n; count = n }) → IsBinder c b inside (domain, body)
+  around : {inside domain body n : ℕ} → tree_at c inside ≡ body_at b n e → IsSubterm c b e (record { e = inside; depth = n; count = n }) → IsBinder c b inside (domain, body)
       → (v m k : ℕ) → m + v ≡ n → has_var v (tree_at c body) ≡ true → m + k < suc n → has_var k (body_at b (suc (m + k)) e) ≡ true
   around {inside} {domain} {body} {n} is h k v m j at o lt = go v at o (nat_eq j v) refl
     where
@@ -80,20 +80,20 @@ module _ {c : Contents} {b : Binders} {e : Tree} where
           let mentioned : IsMentioned b e m n = rw same at there in
           mentioned j (omega (arith, at, lt, other))
 
-  pub chain_on : {inside domain body n : ℕ} → tree_at c inside ≡ body_at b n e → IsPart c b e (record { e = inside; depth = n; count = n }) → IsBinder c b inside (domain, body)
-      → IsPart c b e (record { e = body; depth = suc n; count = suc n })
+  pub chain_on : {inside domain body n : ℕ} → tree_at c inside ≡ body_at b n e → IsSubterm c b e (record { e = inside; depth = n; count = n }) → IsBinder c b inside (domain, body)
+      → IsSubterm c b e (record { e = body; depth = suc n; count = suc n })
   chain_on {inside} {domain} {body} {n} is h k = record {
     known = k.body_in;
     within = omega arith;
     occurs = λ v l m o j lt. around is h k v (suc n - 1 - v) j (omega (arith, l)) o lt;
   }
 
-  pub domain_part : {inside domain body n : ℕ} → IsPart c b e (record { e = inside; depth = n; count = n }) → IsBinder c b inside (domain, body)
-      → IsPart c b e (record { e = domain; depth = n; count = n })
-  domain_part {domain = domain} {body = body} h k = inside_part domain h k.domain_in (λ v o. ap (has_var v) k.is ∙ in_domain b v (tree_at c domain) (tree_at c body) o)
+  pub domain_subterm : {inside domain body n : ℕ} → IsSubterm c b e (record { e = inside; depth = n; count = n }) → IsBinder c b inside (domain, body)
+      → IsSubterm c b e (record { e = domain; depth = n; count = n })
+  domain_subterm {domain = domain} {body = body} h k = inside_subterm domain h k.domain_in (λ v o. ap (has_var v) k.is ∙ in_domain b v (tree_at c domain) (tree_at c body) o)
 
-  pub one_more : (old new : List Part) (p : Part) → AreParts c b e old → IsPart c b e p → new ≡ old ++ p ∷ [] → AreParts c b e new
-  one_more old new p h k is = rw is (All-push (IsPart c b e) old p h k)
+  pub one_more : (old new : List Subterm) (p : Subterm) → AreSubterms c b e old → IsSubterm c b e p → new ≡ old ++ p ∷ [] → AreSubterms c b e new
+  one_more old new p h k is = rw is (All-push (IsSubterm c b e) old p h k)
 
 unmarked : (marks : List ℕ) (n : ℕ) → slice_index_or (marks ++ 0 ∷ []) n 0 ≡ slice_index_or marks n 0
 unmarked [] zero = refl
@@ -106,23 +106,23 @@ no_mark_more b e old new h is n k l =
     let same : slice_index_or new n 0 ≡ slice_index_or old n 0 = ap (λ l. slice_index_or l n 0) is ∙ unmarked old n in
     h n k (omega (arith, l, same))
 
--- what is left, in lists of parts
-pub left_of : (c : Contents) (ps qs : List Part) (n : ℕ) → IsLeft c ps n → IsLeft c (ps ++ qs) n
+-- what is left, in lists of subterms
+pub left_of : (c : Contents) (ps qs : List Subterm) (n : ℕ) → IsLeft c ps n → IsLeft c (ps ++ qs) n
 left_of c (p ∷ ps) qs n (inl h) = inl h
 left_of c (p ∷ ps) qs n (inr h) = inr (left_of c ps qs n h)
 left_of c [] qs n h = absurd h
 
-pub right_of : (c : Contents) (ps qs : List Part) (n : ℕ) → IsLeft c qs n → IsLeft c (ps ++ qs) n
+pub right_of : (c : Contents) (ps qs : List Subterm) (n : ℕ) → IsLeft c qs n → IsLeft c (ps ++ qs) n
 right_of c [] qs n h = h
 right_of c (p ∷ ps) qs n h = inr (right_of c ps qs n h)
 
-pub left_last : {c : Contents} (ps : List Part) (p : Part) (n : ℕ) → IsLeft c (ps ++ p ∷ []) n → IsLeft c ps n ⊎ Mentions c n p
+pub left_last : {c : Contents} (ps : List Subterm) (p : Subterm) (n : ℕ) → IsLeft c (ps ++ p ∷ []) n → IsLeft c ps n ⊎ Mentions c n p
 left_last [] p n (inl h) = inr h
 left_last [] p n (inr h) = absurd h
 left_last (q ∷ ps) p n (inl h) = inl (inl h)
 left_last (q ∷ ps) p n (inr h) = elim (left_last ps p n h) [ inl g ↦ inl (inr g) | inr g ↦ inr g ]
 
-pub is_last : {c : Contents} (ps : List Part) (p : Part) (n : ℕ) → Mentions c n p → IsLeft c (ps ++ p ∷ []) n
+pub is_last : {c : Contents} (ps : List Subterm) (p : Subterm) (n : ℕ) → Mentions c n p → IsLeft c (ps ++ p ∷ []) n
 is_last {c} ps p n h = right_of c ps (p ∷ []) n (inl h)
 
 -- a variable that occurs is below the bound of what is loose
@@ -155,14 +155,14 @@ has_below v wide h = absurd cc
 has_below v (str s) h = absurd cc
 has_below v (local j T) h = absurd cc
 
--- parts of a part
-abbrev pub part_at : Part → ℕ → Part
-part_at p q = record { e = q; depth = p.depth; count = p.count }
+-- subterms of a subterm
+abbrev pub subterm_at : Subterm → ℕ → Subterm
+subterm_at p q = record { e = q; depth = p.depth; count = p.count }
 
-abbrev pub body_under : Part → ℕ → Part
+abbrev pub body_under : Subterm → ℕ → Subterm
 body_under p q = record { e = q; depth = suc p.depth; count = p.count }
 
--- it has no parts
+-- it has no subterms
 abbrev pub IsLeaf : Tree → Type 0
 IsLeaf (app f a) = ⊥
 IsLeaf (lam A b) = ⊥
@@ -171,16 +171,16 @@ IsLeaf (let_in A v b) = ⊥
 IsLeaf (proj S i s) = ⊥
 IsLeaf _ = Unit {0}
 
-module _ {c : Contents} {p : Part} where
-  -- a part without a loose variable leaves what was left
-  pub leaves_closed : (ps : List Part) → loose (tree_at c p.e) ≡ 0 → Leaves c p ps ps
+module _ {c : Contents} {p : Subterm} where
+  -- a subterm without a loose variable leaves what was left
+  pub leaves_closed : (ps : List Subterm) → loose (tree_at c p.e) ≡ 0 → Leaves c p ps ps
   leaves_closed ps z n h = elim (left_last ps p n h) [
     | inl g ↦ inl g
     | inr g ↦ let l = has_below g.index (tree_at c p.e) g.occurs in absurd (omega arith)
   ]
 
-  -- a part that is a variable
-  pub leaves_variable : (ps : List Part) (i : ℕ) → tree_at c p.e ≡ var i → Leaves c p ps ps
+  -- a subterm that is a variable
+  pub leaves_variable : (ps : List Subterm) (i : ℕ) → tree_at c p.e ≡ var i → Leaves c p ps ps
   leaves_variable ps i is n h = elim (left_last ps p n h) [
     | inl g ↦ inl g
     | inr g ↦ inr (here g)
@@ -194,8 +194,8 @@ module _ {c : Contents} {p : Part} where
           let at = g.at in
           record { among = g.among; some = omega (arith, l); at = omega (arith, l, same, at) }
 
-  -- a part that has no parts
-  pub leaves_leaf : (ps : List Part) → IsLeaf (tree_at c p.e) → Leaves c p ps ps
+  -- a subterm that has no subterms
+  pub leaves_leaf : (ps : List Subterm) → IsLeaf (tree_at c p.e) → Leaves c p ps ps
   leaves_leaf ps h = go (tree_at c p.e) refl h
     where
       go : (t : Tree) → tree_at c p.e ≡ t → IsLeaf t → Leaves c p ps ps
@@ -212,9 +212,9 @@ module _ {c : Contents} {p : Part} where
       go (str s) is k = leaves_closed ps (ap loose is)
       go (local n T) is k = leaves_closed ps (ap loose is)
 
-  -- one part more, of the part
-  pub mentions_part : {n : ℕ} (q : ℕ) (g : Mentions c n p) → has_var g.index (tree_at c q) ≡ true → Mentions c n (record { e = q; depth = p.depth; count = p.count })
-  mentions_part q g o = record { index = g.index; among = g.among; at = g.at; occurs = o }
+  -- one subterm more, of the subterm
+  pub mentions_subterm : {n : ℕ} (q : ℕ) (g : Mentions c n p) → has_var g.index (tree_at c q) ≡ true → Mentions c n (record { e = q; depth = p.depth; count = p.count })
+  mentions_subterm q g o = record { index = g.index; among = g.among; at = g.at; occurs = o }
 
   pub mentions_body : {n : ℕ} (q : ℕ) (g : Mentions c n p) → has_var (suc g.index) (tree_at c q) ≡ true → Mentions c n (record { e = q; depth = suc p.depth; count = p.count })
   mentions_body {n} q g o = record {
@@ -224,40 +224,40 @@ module _ {c : Contents} {p : Part} where
     occurs = o;
   }
 
-  pub leaves_part : (q : ℕ) (old new : List Part) → new ≡ old ++ part_at p q ∷ [] → ((v : ℕ) → has_var v (tree_at c p.e) ≡ has_var v (tree_at c q)) → Leaves c p old new
-  leaves_part q old new is same n h = elim (left_last old p n h) [
-    | inl g ↦ inl (rw is (left_of c old (part_at p q ∷ []) n g))
-    | inr g ↦ inl (rw is (is_last old (part_at p q) n (mentions_part q g (sym (same g.index) ∙ g.occurs))))
+  pub leaves_subterm : (q : ℕ) (old new : List Subterm) → new ≡ old ++ subterm_at p q ∷ [] → ((v : ℕ) → has_var v (tree_at c p.e) ≡ has_var v (tree_at c q)) → Leaves c p old new
+  leaves_subterm q old new is same n h = elim (left_last old p n h) [
+    | inl g ↦ inl (rw is (left_of c old (subterm_at p q ∷ []) n g))
+    | inr g ↦ inl (rw is (is_last old (subterm_at p q) n (mentions_subterm q g (sym (same g.index) ∙ g.occurs))))
   ]
 
-  pub leaves_both : (q r : ℕ) (old mid new : List Part) → mid ≡ old ++ part_at p q ∷ [] → new ≡ mid ++ part_at p r ∷ []
+  pub leaves_both : (q r : ℕ) (old mid new : List Subterm) → mid ≡ old ++ subterm_at p q ∷ [] → new ≡ mid ++ subterm_at p r ∷ []
       → ((v : ℕ) → has_var v (tree_at c p.e) ≡ (has_var v (tree_at c q) || has_var v (tree_at c r))) → Leaves c p old new
   leaves_both q r old mid new is is2 same n h = elim (left_last old p n h) [
-    | inl g ↦ inl (rw is2 (left_of c mid (part_at p r ∷ []) n (rw is (left_of c old (part_at p q ∷ []) n g))))
+    | inl g ↦ inl (rw is2 (left_of c mid (subterm_at p r ∷ []) n (rw is (left_of c old (subterm_at p q ∷ []) n g))))
     | inr g ↦ elim (or_either (has_var g.index (tree_at c q)) (has_var g.index (tree_at c r)) (sym (same g.index) ∙ g.occurs)) [
-      | inl o ↦ inl (rw is2 (left_of c mid (part_at p r ∷ []) n (rw is (is_last old (part_at p q) n (mentions_part q g o)))))
-      | inr o ↦ inl (rw is2 (is_last mid (part_at p r) n (mentions_part r g o)))
+      | inl o ↦ inl (rw is2 (left_of c mid (subterm_at p r ∷ []) n (rw is (is_last old (subterm_at p q) n (mentions_subterm q g o)))))
+      | inr o ↦ inl (rw is2 (is_last mid (subterm_at p r) n (mentions_subterm r g o)))
     ]
   ]
 
-  pub leaves_binder : (q r : ℕ) (old mid new : List Part) → mid ≡ old ++ part_at p q ∷ [] → new ≡ mid ++ body_under p r ∷ []
+  pub leaves_binder : (q r : ℕ) (old mid new : List Subterm) → mid ≡ old ++ subterm_at p q ∷ [] → new ≡ mid ++ body_under p r ∷ []
       → ((v : ℕ) → has_var v (tree_at c p.e) ≡ (has_var v (tree_at c q) || has_var (suc v) (tree_at c r))) → Leaves c p old new
   leaves_binder q r old mid new is is2 same n h = elim (left_last old p n h) [
-    | inl g ↦ inl (rw is2 (left_of c mid (body_under p r ∷ []) n (rw is (left_of c old (part_at p q ∷ []) n g))))
+    | inl g ↦ inl (rw is2 (left_of c mid (body_under p r ∷ []) n (rw is (left_of c old (subterm_at p q ∷ []) n g))))
     | inr g ↦ elim (or_either (has_var g.index (tree_at c q)) (has_var (suc g.index) (tree_at c r)) (sym (same g.index) ∙ g.occurs)) [
-      | inl o ↦ inl (rw is2 (left_of c mid (body_under p r ∷ []) n (rw is (is_last old (part_at p q) n (mentions_part q g o)))))
+      | inl o ↦ inl (rw is2 (left_of c mid (body_under p r ∷ []) n (rw is (is_last old (subterm_at p q) n (mentions_subterm q g o)))))
       | inr o ↦ inl (rw is2 (is_last mid (body_under p r) n (mentions_body r g o)))
     ]
   ]
 
-  pub leaves_let : (q r s : ℕ) (old mid more new : List Part) → mid ≡ old ++ part_at p q ∷ [] → more ≡ mid ++ part_at p r ∷ [] → new ≡ more ++ body_under p s ∷ []
+  pub leaves_let : (q r s : ℕ) (old mid more new : List Subterm) → mid ≡ old ++ subterm_at p q ∷ [] → more ≡ mid ++ subterm_at p r ∷ [] → new ≡ more ++ body_under p s ∷ []
       → ((v : ℕ) → has_var v (tree_at c p.e) ≡ (has_var v (tree_at c q) || (has_var v (tree_at c r) || has_var (suc v) (tree_at c s)))) → Leaves c p old new
   leaves_let q r s old mid more new is is2 is3 same n h = elim (left_last old p n h) [
-    | inl g ↦ inl (in_mid (rw is (left_of c old (part_at p q ∷ []) n g)))
+    | inl g ↦ inl (in_mid (rw is (left_of c old (subterm_at p q ∷ []) n g)))
     | inr g ↦ elim (or_either (has_var g.index (tree_at c q)) (has_var g.index (tree_at c r) || has_var (suc g.index) (tree_at c s)) (sym (same g.index) ∙ g.occurs)) [
-      | inl o ↦ inl (in_mid (rw is (is_last old (part_at p q) n (mentions_part q g o))))
+      | inl o ↦ inl (in_mid (rw is (is_last old (subterm_at p q) n (mentions_subterm q g o))))
       | inr t ↦ elim (or_either (has_var g.index (tree_at c r)) (has_var (suc g.index) (tree_at c s)) t) [
-        | inl o ↦ inl (in_more (rw is2 (is_last mid (part_at p r) n (mentions_part r g o))))
+        | inl o ↦ inl (in_more (rw is2 (is_last mid (subterm_at p r) n (mentions_subterm r g o))))
         | inr o ↦ inl (rw is3 (is_last more (body_under p s) n (mentions_body s g o)))
       ]
     ]
@@ -267,7 +267,7 @@ module _ {c : Contents} {p : Part} where
       in_more h = rw is3 (left_of c more (body_under p s ∷ []) n h)
 
       in_mid : IsLeft c mid n → IsLeft c new n
-      in_mid h = in_more (rw is2 (left_of c mid (part_at p r ∷ []) n h))
+      in_mid h = in_more (rw is2 (left_of c mid (subterm_at p r ∷ []) n h))
 
 -- a mark that is raised, or stays
 pub raises_none : (n count : ℕ) (xs : List ℕ) → (n < length xs → count ≤ slice_index_or xs n 0) → Raises n count xs xs
@@ -296,7 +296,7 @@ raises_set n count xs l h = record {
       | inr s ↦ let same : slice_index_or xs k 0 ≡ slice_index_or xs n 0 = ap (λ i. slice_index_or xs i 0) s.0 in let there = s.1 in omega (arith, same, there, h)
     ]
 
-module _ {c : Contents} {b : Binders} {e : Tree} {p : Part} where
+module _ {c : Contents} {b : Binders} {e : Tree} {p : Subterm} where
   -- no variable of a binder is the outermost
   pub marked_none : (xs : List ℕ) → AreMarks b e xs → ((n : ℕ) → IsOutermost c n p → None ≡ Some n) → IsMarked c b e p xs xs
   marked_none xs h is = record {
@@ -329,8 +329,8 @@ module _ {c : Contents} {b : Binders} {e : Tree} {p : Part} where
           let among = o.among in
           omega (arith, there, among)
 
-  -- after the part all are found as before
-  pub found_on : (marks later : List ℕ) (before old new : List Part) → before ≡ old ++ p ∷ [] → AreFound c b e marks before → IsMarked c b e p marks later → Leaves c p old new → AreFound c b e later new
+  -- after the subterm all are found as before
+  pub found_on : (marks later : List ℕ) (before old new : List Subterm) → before ≡ old ++ p ∷ [] → AreFound c b e marks before → IsMarked c b e p marks later → Leaves c p old new → AreFound c b e later new
   found_on marks later before old new is found marked leaves n l o =
       let lower : n < length marks = (let s = marked.same in omega arith) in
       elim (found n lower o) [
@@ -341,41 +341,41 @@ module _ {c : Contents} {b : Binders} {e : Tree} {p : Part} where
         ]
       ]
 
-pub found_all : (c : Contents) (b : Binders) (e : Tree) (marks : List ℕ) (parts : List Part) → parts ≡ [] → AreFound c b e marks parts → AreAll b e marks
-found_all c b e marks parts is found n l o = elim (found n l o) [ inl h ↦ h | inr h ↦ absurd (rw is at h) ]
+pub found_all : (c : Contents) (b : Binders) (e : Tree) (marks : List ℕ) (subterms : List Subterm) → subterms ≡ [] → AreFound c b e marks subterms → AreAll b e marks
+found_all c b e marks subterms is found n l o = elim (found n l o) [ inl h ↦ h | inr h ↦ absurd (rw is at h) ]
 
--- the last part, and those before it
-pub last_part : {c : Contents} {b : Binders} {e : Tree} (old new : List Part) (p : Part) → old ≡ new ++ p ∷ [] → AreParts c b e old → IsPart c b e p
-last_part {c} {b} {e} old new p is h =
-    let all : AreParts c b e (new ++ p ∷ []) = rw is at h in
+-- the last subterm, and those before it
+pub last_subterm : {c : Contents} {b : Binders} {e : Tree} (old new : List Subterm) (p : Subterm) → old ≡ new ++ p ∷ [] → AreSubterms c b e old → IsSubterm c b e p
+last_subterm {c} {b} {e} old new p is h =
+    let all : AreSubterms c b e (new ++ p ∷ []) = rw is at h in
     let long = length-append new (p ∷ []) in
-    subst (IsPart c b e) (get_or-append_seam new p [] p) (all (length new) p (omega (arith, long)))
+    subst (IsSubterm c b e) (get_or-append_seam new p [] p) (all (length new) p (omega (arith, long)))
 
-pub front_parts : {c : Contents} {b : Binders} {e : Tree} (old new : List Part) (p : Part) → old ≡ new ++ p ∷ [] → AreParts c b e old → AreParts c b e new
-front_parts {c} {b} {e} old new p is h k d l =
-    let all : AreParts c b e (new ++ p ∷ []) = rw is at h in
+pub front_subterms : {c : Contents} {b : Binders} {e : Tree} (old new : List Subterm) (p : Subterm) → old ≡ new ++ p ∷ [] → AreSubterms c b e old → AreSubterms c b e new
+front_subterms {c} {b} {e} old new p is h k d l =
+    let all : AreSubterms c b e (new ++ p ∷ []) = rw is at h in
     let long = length-append new (p ∷ []) in
-    subst (IsPart c b e) (get_or_append_left new (p ∷ []) d k l) (all k d (omega (arith, long, l)))
+    subst (IsSubterm c b e) (get_or_append_left new (p ∷ []) d k l) (all k d (omega (arith, long, l)))
 
 -- before the walk: each variable of a binder that was passed occurs in a domain or further inside
-pub record IsPassed (c : Contents) (b : Binders) (e : Tree) (count inside : ℕ) (parts : List Part) : Type 0 where
-  pub is : (n : ℕ) → n < count → has_var 0 (body_at b (suc n) e) ≡ true → IsLeft c (parts ++ record { e = inside; depth = count; count = count } ∷ []) n
+pub record IsPassed (c : Contents) (b : Binders) (e : Tree) (count inside : ℕ) (subterms : List Subterm) : Type 0 where
+  pub is : (n : ℕ) → n < count → has_var 0 (body_at b (suc n) e) ≡ true → IsLeft c (subterms ++ record { e = inside; depth = count; count = count } ∷ []) n
 
-pub passed_none : (c : Contents) (b : Binders) (e : Tree) (inside : ℕ) (parts : List Part) → IsPassed c b e 0 inside parts
-passed_none c b e inside parts = record { is = λ n l o. absurd (omega arith) }
+pub passed_none : (c : Contents) (b : Binders) (e : Tree) (inside : ℕ) (subterms : List Subterm) → IsPassed c b e 0 inside subterms
+passed_none c b e inside subterms = record { is = λ n l o. absurd (omega arith) }
 
 binder_has : (b : Binders) (v : ℕ) (A B : Tree) → has_var v (bound_by b A B) ≡ (has_var v A || has_var (suc v) B)
 binder_has Pis v A B = refl
 binder_has Lambdas v A B = refl
 
-pub passed_on : {c : Contents} {b : Binders} {e : Tree} {count inside domain body : ℕ} (old new : List Part) → tree_at c inside ≡ body_at b count e → IsBinder c b inside (domain, body)
+pub passed_on : {c : Contents} {b : Binders} {e : Tree} {count inside domain body : ℕ} (old new : List Subterm) → tree_at c inside ≡ body_at b count e → IsBinder c b inside (domain, body)
     → new ≡ old ++ record { e = domain; depth = count; count = count } ∷ [] → IsPassed c b e count inside old → IsPassed c b e (suc count) body new
 passed_on {c} {b} {e} {count} {inside} {domain} {body} old new at k is was = record { is = passed }
   where
-    of_domain : Part
+    of_domain : Subterm
     of_domain = record { e = domain; depth = count; count = count }
 
-    of_body : Part
+    of_body : Subterm
     of_body = record { e = body; depth = suc count; count = suc count }
 
     step : (n : ℕ) → IsLeft c old n ⊎ Mentions c n (record { e = inside; depth = count; count = count }) → IsLeft c (new ++ of_body ∷ []) n
@@ -397,7 +397,7 @@ passed_on {c} {b} {e} {count} {inside} {domain} {body} old new at k is was = rec
             let less : n < count = grind (arith, nat_tests) in
             step n (left_last old (record { e = inside; depth = count; count = count }) n (was.is n less o))
 
-pub passed_found : {c : Contents} {b : Binders} {e : Tree} {count inside : ℕ} {old new : List Part} (marks : List ℕ) → length marks ≡ count → new ≡ old ++ record { e = inside; depth = count; count = count } ∷ []
+pub passed_found : {c : Contents} {b : Binders} {e : Tree} {count inside : ℕ} {old new : List Subterm} (marks : List ℕ) → length marks ≡ count → new ≡ old ++ record { e = inside; depth = count; count = count } ∷ []
     → IsPassed c b e count inside old → AreFound c b e marks new
 passed_found marks same is was n l o = inr (rw is (was.is n (omega (arith, l, same)) o))
 

@@ -9,9 +9,8 @@ use Rattle.lk_plain.specs.Erased.{Value, a_tree, Steps, gives, refuses, erased}
 use Rattle.lk_questions.specs.Steps.{given, with_params, with_levels}
 use Rattle.lk_store.specs.Contents.{Contents, tree_at}
 use Rattle.lk_store.specs.Store.{contents_of}
-use Rattle.lk_store.specs.declared.tables.Tables.{Tables}
 use Rattle.lk_env.specs.declared.entry.Entry.{Entry}
-use Rattle.lk_env.specs.declared.unit.Unit.{Unit as StoredUnit}
+use Rattle.lk_env.specs.StoredLibrary.{StoredLibrary}
 use Rattle.lk_ask.specs.Constants.{IsFound, IsAtLevels}
 use Rattle.lk_ask.proofs.Entries.{entry_type}
 use Rattle.lk_ask.proofs.Looking.{found_goes}
@@ -28,7 +27,7 @@ given_is w f last b v e = ap (λ t. erased w f last (given t LevelCount (done v)
 not_given : {A : Type 0} (w : Place) (f : A → Value) (last : Option ℕ) (b : Bool) (v : A) → b ≡ false → erased w f last (given b LevelCount (done v)) ≡ refuses LevelCount
 not_given w f last b v e = ap (λ t. erased w f last (given t LevelCount (done v))) e
 
-module _ (l : Tables × List StoredUnit) (w : Place) (x : Name) (before last : Option ℕ) (e : Entry) (h : IsFound l w x before e last) (ls : List Level) where
+module _ (l : StoredLibrary) (w : Place) (x : Name) (before last : Option ℕ) (e : Entry) (h : IsFound l w x before e last) (ls : List Level) where
   -- the row of a constant
   abbrev row : Steps
   row = erased w a_tree before (look UnknownConstant x (λ g. with_levels g ls g.type))
@@ -36,9 +35,9 @@ module _ (l : Tables × List StoredUnit) (w : Place) (x : Name) (before last : O
   goes : row ≡ erased w a_tree last (with_params h.entry.levels ls h.entry.type)
   goes = found_goes w a_tree x UnknownConstant (λ g. with_levels g ls g.type) l before last e h
 
-  module _ (c : Contents) (t : Tree) (is_t : t ≡ tree_at (contents_of l.0) e.stated) where
+  module _ (c : Contents) (t : Tree) (is_t : t ≡ tree_at (contents_of l.tables) e.stated) where
     type_is : h.entry.type ≡ t
-    type_is = entry_type (contents_of l.0) l.1 e h.entry h.is ∙ sym is_t
+    type_is = entry_type (contents_of l.tables) l.units e h.entry h.is ∙ sym is_t
 
     pub typed_row : (r : ℕ) → IsAtLevels c h.entry.levels ls t (Some r) → gives last (a_tree (tree_at c r)) ≡ row
     typed_row r at =

@@ -1,12 +1,13 @@
 -- In which bodies of a telescope the variables of its binders occur.
-use Rattle.std.specs.Prelude.{◌≡◌, ◌<◌, ◌≤◌, ◌+◌, ◌-◌, ◌⊎◌, ◌∷◌, ◌++◌, [], ℕ, zero, suc, Bool, true, List, All, Option, Some, slice_index_or, length}
+use Rattle.std.specs.Prelude.{◌≡◌, ◌<◌, ◌≤◌, ◌+◌, ◌-◌, ◌⊎◌, ◌∷◌, ◌++◌, [], ℕ, zero, suc, Bool, true}
+use Rattle.std.specs.Prelude.{List, All, Option, Some, slice_index_or, length}
 use Rattle.lk_tree.specs.Tree.{Tree, lam, pi}
 use Rattle.lk_tree.specs.Bind.{has_var}
 use Rattle.lk_tree.specs.Loose.{loose}
 use Rattle.lk_store.specs.Contents.{Contents, tree_at}
 use Rattle.lk_type.specs.declared.sheet.Binders.{Binders}
 use Rattle.lk_type.specs.declared.sheet.Binders.TheVariants.{Pis, Lambdas}
-use Rattle.lk_type.specs.declared.marking.Part.{Part}
+use Rattle.lk_type.specs.declared.marking.Subterm.{Subterm}
 
 -- the body of a binder
 abbrev pub body_of : Binders → Tree → Tree
@@ -32,43 +33,43 @@ AreAll b e marks =
     (n : ℕ) → n < length marks → has_var 0 (body_at b (suc n) e) ≡ true
     → 0 < slice_index_or marks n 0
 
--- what is loose in a part, and bound by a binder of the telescope, occurs in the bodies around it
-pub record IsPart (c : Contents) (b : Binders) (e : Tree) (p : Part) : Type 0 where
+-- what is loose in a subterm, and bound by a binder of the telescope, occurs in the bodies around
+pub record IsSubterm (c : Contents) (b : Binders) (e : Tree) (p : Subterm) : Type 0 where
   pub known : p.e < length c.trees
   pub within : p.count ≤ p.depth
   pub occurs : (v : ℕ) → v < p.depth → p.depth ≤ v + p.count → has_var v (tree_at c p.e) ≡ true
       → IsMentioned b e (p.depth - 1 - v) p.count
 
-abbrev pub AreParts : Contents → Binders → Tree → List Part → Type 0
-AreParts c b e = All (IsPart c b e)
+abbrev pub AreSubterms : Contents → Binders → Tree → List Subterm → Type 0
+AreSubterms c b e = All (IsSubterm c b e)
 
--- the variable of the binder inside n others occurs in the part
-pub record Mentions (c : Contents) (n : ℕ) (p : Part) : Type 0 where
+-- the variable of the binder inside n others occurs in the subterm
+pub record Mentions (c : Contents) (n : ℕ) (p : Subterm) : Type 0 where
   pub index : ℕ
   pub among : n < p.count
   pub at : p.depth ≡ suc (n + index)
   pub occurs : has_var index (tree_at c p.e) ≡ true
 
 -- it is the outermost that is loose there
-pub record IsOutermost (c : Contents) (n : ℕ) (p : Part) : Type 0 where
+pub record IsOutermost (c : Contents) (n : ℕ) (p : Subterm) : Type 0 where
   pub among : n < p.count
   pub some : 0 < loose (tree_at c p.e)
   pub at : p.depth ≡ n + loose (tree_at c p.e)
 
--- it occurs in one of the parts
-abbrev pub IsLeft : Contents → List Part → ℕ → Type 0
+-- it occurs in one of the subterms
+abbrev pub IsLeft : Contents → List Subterm → ℕ → Type 0
 IsLeft c [] n = ⊥
 IsLeft c (p ∷ ps) n = Mentions c n p ⊎ IsLeft c ps n
 
--- after a part: what was left is left, or is the outermost variable of the part
-abbrev pub Leaves : Contents → Part → List Part → List Part → Type 0
+-- after a subterm: what was left is left, or is the outermost variable of the subterm
+abbrev pub Leaves : Contents → Subterm → List Subterm → List Subterm → Type 0
 Leaves c p old new = (n : ℕ) → IsLeft c (old ++ p ∷ []) n → IsLeft c new n ⊎ IsOutermost c n p
 
--- each binder is marked whose variable occurs, or it occurs in a part that is left
-abbrev pub AreFound : Contents → Binders → Tree → List ℕ → List Part → Type 0
-AreFound c b e marks parts =
+-- each binder is marked whose variable occurs, or it occurs in a subterm that is left
+abbrev pub AreFound : Contents → Binders → Tree → List ℕ → List Subterm → Type 0
+AreFound c b e marks subterms =
     (n : ℕ) → n < length marks → has_var 0 (body_at b (suc n) e) ≡ true
-    → (0 < slice_index_or marks n 0) ⊎ IsLeft c parts n
+    → (0 < slice_index_or marks n 0) ⊎ IsLeft c subterms n
 
 -- one mark is raised to a count, if it was lower
 pub record Raises (n count : ℕ) (old new : List ℕ) : Type 0 where
@@ -78,8 +79,8 @@ pub record Raises (n count : ℕ) (old new : List ℕ) : Type 0 where
   pub either : (k : ℕ) → (slice_index_or new k 0 ≡ slice_index_or old k 0)
       ⊎ ((k ≡ n) × (slice_index_or new k 0 ≡ count))
 
--- the outermost variable of a part is marked
-pub record IsMarked (c : Contents) (b : Binders) (e : Tree) (p : Part) (old new : List ℕ) : Type 0
+-- the outermost variable of a subterm is marked
+pub record IsMarked (c : Contents) (b : Binders) (e : Tree) (p : Subterm) (old new : List ℕ) : Type 0
   where
     pub marks : AreMarks b e new
     pub same : length new ≡ length old

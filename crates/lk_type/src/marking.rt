@@ -1,8 +1,10 @@
 //! In which bodies of a telescope the variables of its binders occur, as far as a short walk tells.
 
-ghost use Rattle.std.specs.Prelude.{◌≡◌, ◌<◌, ◌++◌, ◌∷◌, [], ℕ, suc, true, length, Some, slice_index_or, IfOk, OnOk, IfSome};
+ghost use Rattle.std.specs.Prelude.{◌≡◌, ◌<◌, ◌++◌, ◌∷◌, [], ℕ, suc, true, length, Some};
+ghost use Rattle.std.specs.Prelude.{slice_index_or, IfOk, OnOk, IfSome};
 ghost use Rattle.lk_store.specs.Contents.{tree_at};
-ghost use Rattle.lk_type.specs.Marks.{IsMentioned, AreMarks, AreAll, IsPart, AreParts, IsOutermost, Leaves, AreFound, Raises, IsMarked};
+ghost use Rattle.lk_type.specs.Marks.{IsMentioned, AreMarks, AreAll, AreFound, IsMarked, Raises};
+ghost use Rattle.lk_type.specs.Marks.{IsSubterm, AreSubterms, IsOutermost, Leaves};
 
 use crate::binding::parts_of;
 use crate::sheet::Binders;
@@ -10,12 +12,12 @@ use lk_ask::looks::Looks;
 use lk_store::memory::NoMemory;
 use lk_store::node::Node;
 
-/// So many parts are looked at for each binder. What stands further away is not found.
+/// So many subterms are looked at for each binder. What stands further away is not found.
 const SHORT: u64 = 8;
 
-/// A part of a telescope under so many binders, of which the first `count` are the telescope's.
+/// A subterm of a telescope under so many binders, of which the first `count` are the telescope's.
 #[derive(Clone, Copy)]
-pub struct Part {
+pub struct Subterm {
     pub e: u64,
     pub depth: u64,
     pub count: u64,
@@ -32,23 +34,23 @@ pub(crate) fn mark_of(marks: &[u64], n: u64) -> u64
     0
 }
 
-/// The binder of the outermost variable that is loose in a part, if it is one of the telescope.
-fn outermost<L: Looks>(looks: &L, binders: Binders, e: u64, part: Part) -> Option<u64>
-    requires { IsPart (L.contents looks.now) binders (tree_at (L.contents looks.now) e) part }
+/// The binder of the outermost variable that is loose in a subterm, if it is one of the telescope.
+fn outermost<L: Looks>(looks: &L, binders: Binders, e: u64, subterm: Subterm) -> Option<u64>
+    requires { IsSubterm (L.contents looks.now) binders (tree_at (L.contents looks.now) e) subterm }
     ensures mentioned { IfSome result (λ n. IsMentioned binders
-        (tree_at (L.contents looks.now) e) n part.count) }
-    ensures is { (n : ℕ) → IsOutermost (L.contents looks.now) n part → result ≡ Some n }
+        (tree_at (L.contents looks.now) e) n subterm.count) }
+    ensures is { (n : ℕ) → IsOutermost (L.contents looks.now) n subterm → result ≡ Some n }
 {
     let _of = (binders, e);
-    let loose = looks.loose_bound(part.e);
-    let depth = u128::from(part.depth);
+    let loose = looks.loose_bound(subterm.e);
+    let depth = u128::from(subterm.depth);
     if loose == 0 {
         return None;
     }
     if loose > depth {
         return None;
     }
-    if depth >= loose + u128::from(part.count) {
+    if depth >= loose + u128::from(subterm.count) {
         return None;
     }
     match u64::try_from(depth - loose) {
@@ -70,114 +72,116 @@ fn raise(marks: &mut Vec<u64>, n: u64, count: u64)
     marks[n as usize] = count;
 }
 
-/// Marks the binder of the outermost variable that is loose in a part.
-fn mark<L: Looks>(looks: &L, binders: Binders, e: u64, part: Part, marks: &mut Vec<u64>)
-    requires part { IsPart (L.contents looks.now) binders (tree_at (L.contents looks.now) e) part }
+/// Marks the binder of the outermost variable that is loose in a subterm.
+fn mark<L: Looks>(looks: &L, binders: Binders, e: u64, subterm: Subterm, marks: &mut Vec<u64>)
+    requires subterm { IsSubterm (L.contents looks.now) binders
+        (tree_at (L.contents looks.now) e) subterm }
     requires marks { AreMarks binders (tree_at (L.contents looks.now) e) marks.old.items }
-    ensures { IsMarked (L.contents looks.now) binders (tree_at (L.contents looks.now) e) part
+    ensures { IsMarked (L.contents looks.now) binders (tree_at (L.contents looks.now) e) subterm
         marks.old.items marks.new.items }
 {
-    match outermost(looks, binders, e, part) {
+    match outermost(looks, binders, e, subterm) {
         None => return,
-        Some(n) => raise(marks, n, part.count),
+        Some(n) => raise(marks, n, subterm.count),
     }
 }
 
-/// Adds a part under as many binders as another one.
-fn add_part(parts: &mut Vec<Part>, part: Part, e: u64) -> Result<(), NoMemory>
-    ensures { OnOk result (parts.new.items ≡ parts.old.items ++ record {
+/// Adds a subterm under as many binders as another one.
+fn add_subterm(subterms: &mut Vec<Subterm>, subterm: Subterm, e: u64) -> Result<(), NoMemory>
+    ensures { OnOk result (subterms.new.items ≡ subterms.old.items ++ record {
       e = e;
-      depth = part.depth;
-      count = part.count;
+      depth = subterm.depth;
+      count = subterm.count;
     } ∷ []) }
 {
-    let depth = part.depth;
-    let count = part.count;
-    parts.push(Part { e, depth, count })?;
+    let depth = subterm.depth;
+    let count = subterm.count;
+    subterms.push(Subterm { e, depth, count })?;
     Ok(())
 }
 
-/// Adds a part under one binder more.
-fn add_body(parts: &mut Vec<Part>, part: Part, e: u64) -> Result<(), NoMemory>
-    ensures { OnOk result (parts.new.items ≡ parts.old.items ++ record {
+/// Adds a subterm under one binder more.
+fn add_body(subterms: &mut Vec<Subterm>, subterm: Subterm, e: u64) -> Result<(), NoMemory>
+    ensures { OnOk result (subterms.new.items ≡ subterms.old.items ++ record {
       e = e;
-      depth = suc part.depth;
-      count = part.count;
+      depth = suc subterm.depth;
+      count = subterm.count;
     } ∷ []) }
 {
     // No term in memory is so deep that this fails.
-    let depth = part.depth.checked_add(1).ok_or(NoMemory)?;
-    add_part(parts, Part { depth, ..part }, e)
+    let depth = subterm.depth.checked_add(1).ok_or(NoMemory)?;
+    add_subterm(subterms, Subterm { depth, ..subterm }, e)
 }
 
-/// Adds the parts of a part.
-fn add_parts<L: Looks>(
+/// Adds the subterms of a subterm.
+fn add_subterms<L: Looks>(
     looks: &L,
     binders: Binders,
     e: u64,
-    part: Part,
-    parts: &mut Vec<Part>,
+    subterm: Subterm,
+    subterms: &mut Vec<Subterm>,
 ) -> Result<(), NoMemory>
-    requires part { IsPart (L.contents looks.now) binders (tree_at (L.contents looks.now) e) part }
-    requires parts { AreParts (L.contents looks.now) binders (tree_at (L.contents looks.now) e)
-        parts.old.items }
-    ensures parts { OnOk result (AreParts (L.contents looks.now) binders
-        (tree_at (L.contents looks.now) e) parts.new.items) }
-    ensures left { OnOk result (Leaves (L.contents looks.now) part parts.old.items
-        parts.new.items) }
+    requires subterm { IsSubterm (L.contents looks.now) binders
+        (tree_at (L.contents looks.now) e) subterm }
+    requires subterms { AreSubterms (L.contents looks.now) binders
+        (tree_at (L.contents looks.now) e) subterms.old.items }
+    ensures subterms { OnOk result (AreSubterms (L.contents looks.now) binders
+        (tree_at (L.contents looks.now) e) subterms.new.items) }
+    ensures left { OnOk result (Leaves (L.contents looks.now) subterm subterms.old.items
+        subterms.new.items) }
 {
     let _of = (binders, e);
-    if looks.loose_bound(part.e) == 0 {
+    if looks.loose_bound(subterm.e) == 0 {
         return Ok(());
     }
-    match looks.view(part.e) {
+    match looks.view(subterm.e) {
         Node::App(f, a) => {
-            add_part(parts, part, f)?;
-            add_part(parts, part, a)
+            add_subterm(subterms, subterm, f)?;
+            add_subterm(subterms, subterm, a)
         }
         Node::Lam(domain, body) => {
-            add_part(parts, part, domain)?;
-            add_body(parts, part, body)
+            add_subterm(subterms, subterm, domain)?;
+            add_body(subterms, subterm, body)
         }
         Node::Pi(domain, body) => {
-            add_part(parts, part, domain)?;
-            add_body(parts, part, body)
+            add_subterm(subterms, subterm, domain)?;
+            add_body(subterms, subterm, body)
         }
         Node::Let(ty, value, body) => {
-            add_part(parts, part, ty)?;
-            add_part(parts, part, value)?;
-            add_body(parts, part, body)
+            add_subterm(subterms, subterm, ty)?;
+            add_subterm(subterms, subterm, value)?;
+            add_body(subterms, subterm, body)
         }
-        Node::Proj(_, _, subject) => add_part(parts, part, subject),
+        Node::Proj(_, _, subject) => add_subterm(subterms, subterm, subject),
         _ => Ok(()),
     }
 }
 
-/// Looks at so many parts.
+/// Looks at so many subterms.
 fn walk<L: Looks>(
     looks: &L,
     binders: Binders,
     e: u64,
-    parts: &mut Vec<Part>,
+    subterms: &mut Vec<Subterm>,
     marks: &mut Vec<u64>,
     steps: u64,
 ) -> Result<bool, NoMemory>
-    requires parts { AreParts (L.contents looks.now) binders (tree_at (L.contents looks.now) e)
-        parts.old.items }
+    requires subterms { AreSubterms (L.contents looks.now) binders
+        (tree_at (L.contents looks.now) e) subterms.old.items }
     requires marks { AreMarks binders (tree_at (L.contents looks.now) e) marks.old.items }
     requires found { AreFound (L.contents looks.now) binders (tree_at (L.contents looks.now) e)
-        marks.old.items parts.old.items }
+        marks.old.items subterms.old.items }
     ensures marks { AreMarks binders (tree_at (L.contents looks.now) e) marks.new.items }
     ensures all { IfOk result (λ all. all ≡ true
         → AreAll binders (tree_at (L.contents looks.now) e) marks.new.items) }
 {
     let mut left = steps;
-    'parts: while left > 0 {
-        match parts.pop() {
+    'subterms: while left > 0 {
+        match subterms.pop() {
             None => return Ok(true),
-            Some(part) => {
-                mark(looks, binders, e, part, marks);
-                add_parts(looks, binders, e, part, parts)?;
+            Some(subterm) => {
+                mark(looks, binders, e, subterm, marks);
+                add_subterms(looks, binders, e, subterm, subterms)?;
                 left -= 1;
             }
         }
@@ -185,29 +189,29 @@ fn walk<L: Looks>(
     Ok(false)
 }
 
-/// The parts of a telescope, its domains and what stands inside, and no mark for each binder.
+/// The subterms of a telescope, its domains and what stands inside, and no mark for each binder.
 fn begin<L: Looks>(
     looks: &L,
     binders: Binders,
     e: u64,
-    parts: &mut Vec<Part>,
+    subterms: &mut Vec<Subterm>,
     marks: &mut Vec<u64>,
 ) -> Result<(), NoMemory>
     requires e_in { e < length (L.contents looks.now).trees }
-    requires no_part { parts.old.items ≡ [] }
+    requires no_subterm { subterms.old.items ≡ [] }
     requires no_mark { marks.old.items ≡ [] }
-    ensures parts { OnOk result (AreParts (L.contents looks.now) binders
-        (tree_at (L.contents looks.now) e) parts.new.items) }
+    ensures subterms { OnOk result (AreSubterms (L.contents looks.now) binders
+        (tree_at (L.contents looks.now) e) subterms.new.items) }
     ensures marks { AreMarks binders (tree_at (L.contents looks.now) e) marks.new.items }
     ensures found { OnOk result (AreFound (L.contents looks.now) binders
-        (tree_at (L.contents looks.now) e) marks.new.items parts.new.items) }
+        (tree_at (L.contents looks.now) e) marks.new.items subterms.new.items) }
 {
     let mut inside = e;
     let mut count: u64 = 0;
     'binders: while let Some((domain, body)) = parts_of(looks, binders, inside) {
         let e = domain;
         let depth = count;
-        parts.push(Part { e, depth, count })?;
+        subterms.push(Subterm { e, depth, count })?;
         marks.push(0)?;
         inside = body;
         // No term in memory has so many binders that this fails.
@@ -215,7 +219,7 @@ fn begin<L: Looks>(
     }
     let e = inside;
     let depth = count;
-    parts.push(Part { e, depth, count })?;
+    subterms.push(Subterm { e, depth, count })?;
     Ok(())
 }
 
@@ -232,8 +236,8 @@ pub(crate) fn marks_of<L: Looks>(
     ensures all { IfOk result (λ all. all ≡ true
         → AreAll binders (tree_at (L.contents looks.now) e) marks.new.items) }
 {
-    let mut parts = Vec::new(looks.alloc());
-    begin(looks, binders, e, &mut parts, marks)?;
+    let mut subterms = Vec::new(looks.alloc());
+    begin(looks, binders, e, &mut subterms, marks)?;
     let steps = (marks.len() as u64).saturating_mul(SHORT);
-    walk(looks, binders, e, &mut parts, marks, steps)
+    walk(looks, binders, e, &mut subterms, marks, steps)
 }

@@ -8,11 +8,13 @@ use Rattle.lk_store.proofs.Made.{Extends-self}
 use Rattle.lk_lines.specs.declared.words.Word.TheVariants.{IndexUnknown}
 use Rattle.lk_units.specs.declared.numbering.Numbering.{Numbering}
 use Rattle.lk_units.specs.declared.assembler.Assembler.{Assembler}
+use Rattle.lk_units.specs.declared.assembler.TakeError.{TakeError}
+use Rattle.lk_units.specs.declared.assembler.TakeError.TheVariants as errors
 use Rattle.lk_units.specs.Numbering.{entry}
 use Rattle.lk_units.specs.State.{State, known, known_of, put}
 use Rattle.lk_env.specs.declared.unit.RecursorRule.{RecursorRule}
 use Rattle.lk_env.specs.Units.{IsRuleIn}
-use Rattle.lk_units.specs.Held.{Numbered, Below, rule_at_place, rule_held, IsKnown, Holds}
+use Rattle.lk_units.specs.Held.{Numbered, Below, rule_at_place, rule_held, IsKnown, Holds, Fails}
 use Rattle.lk_members.proofs.Growing.{rule_same, rule_stays, lines_steady, lines_stay}
 
 -- a store that did not change extends itself
@@ -26,6 +28,10 @@ found numbers have mean n i h e = ap known_of (mean_is numbers have mean n (Some
 
 pub missing : {X : Type 0} → (numbers : Numbering) (have : ℕ → X) (mean : ℕ → Option X) (n : ℕ) → Numbered numbers have mean → entry numbers n ≡ None → known mean n ≡ Err IndexUnknown
 missing numbers have mean n h e = ap known_of (mean_is numbers have mean n None h e)
+
+pub failing : {X : Type 0} (numbers : Numbering) (have : ℕ → X) (mean : ℕ → Option X) (n : ℕ) (e : TakeError) → Numbered numbers have mean
+    → e ≡ errors.Fault IndexUnknown → entry numbers n ≡ None → Fails e (known mean n)
+failing numbers have mean n e h is none = rw is (missing numbers have mean n h none)
 
 if_some : (o : Option ℕ) (i len : ℕ) → IfSome o (λ j. j < len) → o ≡ Some i → i < len
 if_some o i len h e = rw e at h

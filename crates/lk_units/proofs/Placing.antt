@@ -7,14 +7,14 @@ use Rattle.lk_tree.specs.Mentions.{same_name}
 use Rattle.lk_store.specs.Contents.{Contents}
 use Rattle.lk_store.specs.Values.{AreApart}
 use Rattle.lk_members.specs.declared.fault.MemberFault.{MemberFault}
-use Rattle.lk_members.specs.declared.fault.TakeError.{TakeError as MemberError}
-use Rattle.lk_members.specs.declared.fault.TakeError.TheVariants as members
+use Rattle.lk_members.specs.declared.fault.MemberError.{MemberError}
+use Rattle.lk_members.specs.declared.fault.MemberError.TheVariants as members
 use Rattle.lk_members.specs.Taking.{Takes}
-use Rattle.lk_members.specs.declared.line.Said.{Said as StoredSaid}
-use Rattle.lk_members.specs.declared.line.Line.{Line as StoredLine}
+use Rattle.lk_members.specs.declared.line.StoredMember.{StoredMember}
+use Rattle.lk_members.specs.declared.line.StoredLine.{StoredLine}
 use Rattle.lk_members.specs.declared.members.Members.{Members}
 use Rattle.lk_members.specs.Faults.{fault_of}
-use Rattle.lk_members.specs.Stored.{NumberedLine, said_of, line_of, lines_of, IsSaidIn}
+use Rattle.lk_members.specs.Stored.{NumberedLine, said_of, line_of, lines_of, IsStoredMemberIn}
 use Rattle.lk_members.specs.Indices.{IsIndexed}
 use Rattle.lk_members.specs.Finishing.{AreFaultless}
 use Rattle.lk_members.specs.Plain.{said_at, line_at, lines_at}
@@ -23,10 +23,10 @@ use Rattle.lk_units.specs.declared.assembler.Assembler.{Assembler}
 use Rattle.lk_units.specs.State.{State, fault_word, unless_fault, with_line}
 use Rattle.lk_units.specs.Held.{IsKnown, Holds, Fails, told}
 
-abbrev line : ℕ → StoredSaid → StoredLine
+abbrev line : ℕ → StoredMember → StoredLine
 line l x = record { number = l; said = x }
 
-module _ (a : Assembler) (c : Contents) (s : State) (x : StoredSaid) (apart : AreApart [] c.names) (k : IsKnown a c) (h : Holds a c s) (known : IsSaidIn c x) where
+module _ (a : Assembler) (c : Contents) (s : State) (x : StoredMember) (apart : AreApart [] c.names) (k : IsKnown a c) (h : Holds a c s) (known : IsStoredMemberIn c x) where
   -- its fault is found by numbers
   line_fault : fault_of same_name s.lines (said_at c x) ≡ fault_of nat_eq (lines_of a.members.lines.items) (said_of x)
   line_fault = rw (← h.lines) (fault_stands c apart a.members.lines.items x k.lines_in known)
@@ -59,7 +59,7 @@ faultless_push : (before ls : List NumberedLine) (l : NumberedLine) → AreFault
 faultless_push before [] l h n = (rw (append-nil before) at n, tt)
 faultless_push before (k ∷ ls) l h n = (h.0, faultless_push (before ++ k ∷ []) ls l h.1 (rw (append_assoc before (k ∷ []) ls) n))
 
-pub placed_known : (a : Assembler) (c : Contents) (x : StoredSaid) (l : ℕ) (m : Members) → IsKnown a c → IsSaidIn c x → IsIndexed m → m.lines.items ≡ a.members.lines.items ++ line l x ∷ []
+pub placed_known : (a : Assembler) (c : Contents) (x : StoredMember) (l : ℕ) (m : Members) → IsKnown a c → IsStoredMemberIn c x → IsIndexed m → m.lines.items ≡ a.members.lines.items ++ line l x ∷ []
     → fault_of nat_eq (lines_of a.members.lines.items) (said_of x) ≡ None → IsKnown (record a { members = m }) c
 placed_known a c x l m k known i e n = record {
   names_below = k.names_below;
@@ -67,7 +67,7 @@ placed_known a c x l m k known i e n = record {
   trees_below = k.trees_below;
   rules_below = k.rules_below;
   rules_in = k.rules_in;
-  lines_in = rw e (All-push (λ (y : StoredLine). IsSaidIn c y.said) a.members.lines.items (line l x) k.lines_in known);
+  lines_in = rw e (All-push (λ (y : StoredLine). IsStoredMemberIn c y.said) a.members.lines.items (line l x) k.lines_in known);
   indexed = i;
   faultless = rw (e, map-append line_of a.members.lines.items (line l x ∷ [])) (faultless_push [] (lines_of a.members.lines.items) (line_of (line l x)) k.faultless n);
 }

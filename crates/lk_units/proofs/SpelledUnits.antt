@@ -9,8 +9,8 @@ use Rattle.lk_rulebook.specs.Place.{Ctor, BlockRecursor}
 use Rattle.lk_rulebook.specs.Units.{Decl}
 use Rattle.lk_members.specs.Lines.{alone, a_type, a_ctor, a_recursor, or_next, same_list, block_of, type_here, type_of, ctor_here, ctor_of, recursor_here, recursors_of}
 use Rattle.lk_members.specs.Units.{Gathered, if_any, ctors_listed, with_ctors, block_with, is_last, ended, at_line, units_from}
-use Rattle.lk_members.specs.Plain.{Head, PlainSaid, PlainLine, with_its_ctors, unit_of, library_stated}
-use Rattle.lk_units.proofs.Spellings.{Each, IsSpelledCtor, IsSpelledType, IsSpelledRec, IsSpelledUnit, AreSpelledUnits, IsSpelledHead, IsSpelledSaid, AreSpelledLines}
+use Rattle.lk_members.specs.Plain.{Head, PlainMember, PlainLine, with_its_ctors, unit_of, library_stated}
+use Rattle.lk_units.proofs.Spellings.{Each, IsSpelledCtor, IsSpelledType, IsSpelledRec, IsSpelledUnit, AreSpelledUnits, IsSpelledHead, IsSpelledMember, AreSpelledLines}
 
 each_append : {X : Type 0} (P : X → Type 0) (xs ys : List X) → Each P xs → Each P ys → Each P (xs ++ ys)
 each_append P [] ys h g = g
@@ -23,7 +23,7 @@ if_next P None p h g = g
 abbrev IsSpelledStated : Head × List Name → Type 0
 IsSpelledStated t = IsSpelledHead t.0
 
-type_here_spelled : (s : PlainSaid) (x : Name) → IsSpelledSaid s → IfSome (type_here same_name s x) IsSpelledStated
+type_here_spelled : (s : PlainMember) (x : Name) → IsSpelledMember s → IfSome (type_here same_name s x) IsSpelledStated
 type_here_spelled (alone d) x h = tt
 type_here_spelled (a_ctor p n c) x h = tt
 type_here_spelled (a_recursor ts n r) x h = tt
@@ -37,7 +37,7 @@ type_spelled : (ls : List PlainLine) (x : Name) → AreSpelledLines ls → IfSom
 type_spelled [] x h = tt
 type_spelled (l ∷ ls) x h = if_next IsSpelledStated (type_here same_name l.said x) (type_of same_name ls x) (type_here_spelled l.said x h.0) (type_spelled ls x h.1)
 
-ctor_here_spelled : (s : PlainSaid) (t x : Name) → IsSpelledSaid s → IfSome (ctor_here same_name s t x) IsSpelledCtor
+ctor_here_spelled : (s : PlainMember) (t x : Name) → IsSpelledMember s → IfSome (ctor_here same_name s t x) IsSpelledCtor
 ctor_here_spelled (alone d) t x h = tt
 ctor_here_spelled (a_type n ts cs u) t x h = tt
 ctor_here_spelled (a_recursor ts n r) t x h = tt
@@ -51,7 +51,7 @@ ctor_spelled : (ls : List PlainLine) (t x : Name) → AreSpelledLines ls → IfS
 ctor_spelled [] t x h = tt
 ctor_spelled (l ∷ ls) t x h = if_next IsSpelledCtor (ctor_here same_name l.said t x) (ctor_of same_name ls t x) (ctor_here_spelled l.said t x h.0) (ctor_spelled ls t x h.1)
 
-recursor_here_spelled : (s : PlainSaid) (us : List Name) → IsSpelledSaid s → Each IsSpelledRec (recursor_here same_name s us)
+recursor_here_spelled : (s : PlainMember) (us : List Name) → IsSpelledMember s → Each IsSpelledRec (recursor_here same_name s us)
 recursor_here_spelled (alone d) us h = tt
 recursor_here_spelled (a_type n ts cs u) us h = tt
 recursor_here_spelled (a_ctor p n c) us h = tt
@@ -95,7 +95,7 @@ ended_spelled ls later (Some ts) h = go (is_last same_name ls later ts)
     go true = ((types_spelled ls ts h, recursors_spelled ls ts h), tt)
     go false = tt
 
-at_spelled : (ls later : List PlainLine) (s : PlainSaid) → AreSpelledLines ls → IsSpelledSaid s → Each IsSpelledGathered (at_line same_name ls later s)
+at_spelled : (ls later : List PlainLine) (s : PlainMember) → AreSpelledLines ls → IsSpelledMember s → Each IsSpelledGathered (at_line same_name ls later s)
 at_spelled ls later (alone d) h g = (g, tt)
 at_spelled ls later (a_type n ts cs t) h g = ended_spelled ls later (Some ts) h
 at_spelled ls later (a_ctor p n c) h g = ended_spelled ls later (block_of same_name ls p) h

@@ -5,7 +5,7 @@ use Rattle.lk_rulebook.specs.Place.{Ctor, BlockType, RecRule, BlockRecursor}
 use Rattle.lk_rulebook.specs.Units.{Body, as_axiom, as_def, as_thm, as_opaque, as_quot, Decl, LibraryUnit, of_decl, of_block, Library}
 use Rattle.lk_rulebook.specs.Spelled.{no_lf, is_spelled, tree_spelled}
 use Rattle.lk_members.specs.Lines.{alone, a_type, a_ctor, a_recursor}
-use Rattle.lk_members.specs.Plain.{Head, PlainSaid, PlainLine}
+use Rattle.lk_members.specs.Plain.{Head, PlainMember, PlainLine}
 use Rattle.lk_lines.specs.declared.tags.EntryTag.TheVariants as entry
 use Rattle.lk_lines.specs.declared.tags.Tag.{Tag}
 use Rattle.lk_lines.specs.declared.tags.Tag.TheVariants.{Entry}
@@ -66,11 +66,11 @@ AreSpelledUnits us = Each IsSpelledUnit us
 abbrev pub IsSpelledHead : Head → Type 0
 IsSpelledHead h = IsSpelledName h.name × IsSpelledTree h.type
 
-abbrev pub IsSpelledSaid : PlainSaid → Type 0
-IsSpelledSaid (alone d) = IsSpelledDecl d
-IsSpelledSaid (a_type n ts cs h) = IsSpelledHead h
-IsSpelledSaid (a_ctor p n c) = IsSpelledCtor c
-IsSpelledSaid (a_recursor ts n r) = IsSpelledRec r
+abbrev pub IsSpelledMember : PlainMember → Type 0
+IsSpelledMember (alone d) = IsSpelledDecl d
+IsSpelledMember (a_type n ts cs h) = IsSpelledHead h
+IsSpelledMember (a_ctor p n c) = IsSpelledCtor c
+IsSpelledMember (a_recursor ts n r) = IsSpelledRec r
 
 abbrev pub AreSpelledLines : List PlainLine → Type 0
-AreSpelledLines ls = Each (λ (l : PlainLine). IsSpelledSaid l.said) ls
+AreSpelledLines ls = Each (λ (l : PlainLine). IsSpelledMember l.said) ls

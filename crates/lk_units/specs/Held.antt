@@ -1,5 +1,6 @@
 -- What an assembler holds, by what its numbers have in a store.
-use Rattle.std.specs.Prelude.{◌≡◌, ◌<◌, ◌==◌, ℕ, List, length, All, slice_index_or, IfSome, Result, Ok, Err, Some, option_map, is_some, if◌then◌else◌}
+use Rattle.std.specs.Prelude.{◌≡◌, ◌<◌, ◌==◌, ℕ, List, length, All, slice_index_or, IfSome, Result}
+use Rattle.std.specs.Prelude.{Ok, Err, Some, option_map, is_some, if◌then◌else◌}
 use Rattle.std.specs.declared.option.Option.{Option}
 use Rattle.lk_tree.specs.Tree.{Level, max_level, imax_level, Tree, lam, pi}
 use Rattle.lk_store.specs.Contents.{Contents, name_at, level_at, tree_at}
@@ -14,10 +15,10 @@ use Rattle.lk_members.specs.Indices.{IsIndexed}
 use Rattle.lk_lines.specs.declared.words.Word.{Word}
 use Rattle.lk_lines.specs.declared.words.Word.TheVariants.{IndexTaken}
 use Rattle.lk_units.specs.Numbering.{entry}
-use Rattle.lk_members.specs.declared.fault.TakeError.{TakeError as MemberError}
-use Rattle.lk_members.specs.declared.fault.TakeError.TheVariants as members
+use Rattle.lk_members.specs.declared.fault.MemberError.{MemberError}
+use Rattle.lk_members.specs.declared.fault.MemberError.TheVariants as members
 use Rattle.lk_units.specs.State.{State, Counts, fault_word}
-use Rattle.lk_units.specs.declared.stating.RecursorCounts.{RecursorCounts}
+use Rattle.lk_lines.specs.declared.line.RecursorLine.{RecursorLine}
 use Rattle.lk_units.specs.declared.numbering.Numbering.{Numbering}
 use Rattle.lk_units.specs.declared.assembler.Assembler.{Assembler}
 use Rattle.lk_units.specs.declared.assembler.Binder.{Binder}
@@ -30,7 +31,8 @@ use Rattle.lk_units.specs.declared.assembler.TakeError.{TakeError}
 use Rattle.lk_units.specs.declared.assembler.TakeError.TheVariants as errors
 
 -- what the numbers have stands for what they mean
-pub record Numbered {X : Type 0} (numbers : Numbering) (have : ℕ → X) (mean : ℕ → Option X) : Type 0 where
+pub record Numbered {X : Type 0} (numbers : Numbering) (have : ℕ → X) (mean : ℕ → Option X)
+    : Type 0 where
   pub same : (n : ℕ) → option_map have (entry numbers n) ≡ mean n
 
 -- what the numbers have is below a length
@@ -88,11 +90,15 @@ Makes have (Err e) said = Fails e said
 
 -- what a line made, where its own number has no place yet
 abbrev pub unless_taken : Numbering → ℕ → Result ℕ TakeError → Result ℕ TakeError
-unless_taken numbers own made = if is_some (entry numbers own) then Err (errors.Fault IndexTaken) else made
+unless_taken numbers own made =
+    if is_some (entry numbers own) then Err (errors.Fault IndexTaken) else made
 
 -- the number of a line has what the line made, or its fault is told
-abbrev pub Puts : Numbering → Numbering → ℕ → Result ℕ TakeError → Result (Unit {0}) TakeError → Type 0
-Puts old new own made (Ok u) = (i : ℕ) × (unless_taken old own made ≡ Ok i) × ((q : ℕ) → entry new q ≡ (if q == own then Some i else entry old q))
+abbrev pub Puts : Numbering → Numbering → ℕ → Result ℕ TakeError → Result (Unit {0}) TakeError
+    → Type 0
+Puts old new own made (Ok u) =
+    (i : ℕ) × (unless_taken old own made ≡ Ok i)
+    × ((q : ℕ) → entry new q ≡ (if q == own then Some i else entry old q))
 Puts old new own made (Err errors.NoMemory) = Unit {0}
 Puts old new own made (Err (errors.Fault w)) = unless_taken old own made ≡ Err (errors.Fault w)
 
@@ -101,8 +107,15 @@ abbrev pub Follows : Assembler → Contents → Result (Unit {0}) TakeError → 
 Follows a c (Ok u) said = (s : State) × (said ≡ Ok s) × Holds a c s
 Follows a c (Err e) said = Fails e said
 
-abbrev pub counts_of : RecursorCounts → Counts
-counts_of n = record { parameters = n.parameters; indices = n.indices; motives = n.motives; minors = n.minors; k = n.k }
+abbrev pub counts_of : RecursorLine → Counts
+counts_of line =
+    record {
+      parameters = line.parameter_count;
+      indices = line.index_count;
+      motives = line.motive_count;
+      minors = line.minor_count;
+      k = line.k;
+    }
 
 -- why a line is not taken among those before it
 abbrev pub told : MemberError → TakeError

@@ -10,4 +10,3 @@ mod taking;
 
 pub use assembler::{Assembler, Binder, LevelPair, TakeError, ValueUse};
 pub use numbering::Numbering;
-pub use stating::{ConstructorCounts, RecursorCounts, TypeCounts};

@@ -4,7 +4,7 @@ ghost use Rattle.lk_tree.specs.Tree.{Level, text, number, var, const, str};
 ghost use Rattle.lk_rulebook.specs.Units.{Body as PlainBody};
 ghost use Rattle.lk_store.specs.Contents.{Contents, name_at, level_at, tree_at, level_of, tree_of, IsIn, IsLevelIn, IsName, IsList, Extends};
 ghost use Rattle.lk_env.specs.Units.{shared_names, body_at, rule_at, IsBodyIn, IsRuleIn};
-ghost use Rattle.lk_members.specs.Stored.{IsSaidIn};
+ghost use Rattle.lk_members.specs.Stored.{IsStoredMemberIn};
 ghost use Rattle.lk_members.specs.Plain.{said_at};
 ghost use Rattle.lk_lines.specs.declared.words.Word.{Word as LineWord};
 ghost use Rattle.lk_units.specs.State.{State, all_known, longer_name, successor_level, pair_level, parameter_level, sort_tree, constant_tree, application_tree, binder_tree, let_tree, projection_tree, number_literal, rule_of, declaration_of, value_body, valued_of, axiom_of, quotient_of};
@@ -13,7 +13,7 @@ ghost use Rattle.lk_units.specs.Held.{IsKnown, Holds, Makes, binder_of, pair_of,
 use crate::{Assembler, Binder, LevelPair, TakeError, ValueUse};
 use lk_env::unit::{Body, Declaration, RecursorRule};
 use lk_lines::Word;
-use lk_members::line::Said;
+use lk_members::line::StoredMember;
 use lk_num::Nat;
 use lk_store::memory::NoMemory;
 use lk_store::node::{LevelNode, ListNode, NameNode, Node};
@@ -193,7 +193,7 @@ fn shared(
 
 impl Assembler {
     /// The sort of a level.
-    #[tactic(auto, using(crate::proofs::Holding::found, crate::proofs::Holding::missing, crate::proofs::Holding::is_below, crate::proofs::Holding::unchanged))]
+    #[tactic(auto, using(crate::proofs::Lines::looked_up, crate::proofs::Holding::unchanged))]
     pub(crate) fn sort<T: Terms>(&self, store: &mut T, level: u32) -> Result<u64, TakeError>
         requires { IsKnown self.now (T.contents store.old) }
         ensures keeps { Extends (T.contents store.old) (T.contents store.new) }
@@ -202,14 +202,12 @@ impl Assembler {
         ensures made { (s : State) → Holds self.now (T.contents store.old) s
             → Makes (tree_at (T.contents store.new)) result (sort_tree s level) }
     {
-        let Some(level) = self.by_level.find(level) else {
-            return Err(TakeError::Fault(Word::IndexUnknown));
-        };
+        let level = self.by_level.known(level)?;
         make(store, Node::Sort(level))
     }
 
     /// A constant at the levels under several numbers.
-    #[tactic(auto, using(crate::proofs::Holding::found, crate::proofs::Holding::missing, crate::proofs::Holding::is_below, crate::proofs::Holding::unchanged))]
+    #[tactic(auto, using(crate::proofs::Lines::looked_up, crate::proofs::Holding::unchanged))]
     pub(crate) fn constant<T: Terms>(
         &self,
         alloc: Global,
@@ -224,9 +222,7 @@ impl Assembler {
         ensures made { (s : State) → Holds self.now (T.contents store.old) s
             → Makes (tree_at (T.contents store.new)) result (constant_tree s name levels.now) }
     {
-        let Some(name) = self.by_name.find(name) else {
-            return Err(TakeError::Fault(Word::IndexUnknown));
-        };
+        let name = self.by_name.known(name)?;
         match self.by_level.find_all(alloc, levels) {
             Ok(levels) => make_constant(store, name, levels),
             Err(error) => Err(error),
@@ -234,7 +230,7 @@ impl Assembler {
     }
 
     /// An application.
-    #[tactic(auto, using(crate::proofs::Holding::found, crate::proofs::Holding::missing, crate::proofs::Holding::is_below, crate::proofs::Holding::unchanged))]
+    #[tactic(auto, using(crate::proofs::Lines::looked_up, crate::proofs::Holding::unchanged))]
     pub(crate) fn application<T: Terms>(
         &self,
         store: &mut T,
@@ -248,17 +244,13 @@ impl Assembler {
         ensures made { (s : State) → Holds self.now (T.contents store.old) s
             → Makes (tree_at (T.contents store.new)) result (application_tree s function argument) }
     {
-        let Some(function) = self.by_tree.find(function) else {
-            return Err(TakeError::Fault(Word::IndexUnknown));
-        };
-        let Some(argument) = self.by_tree.find(argument) else {
-            return Err(TakeError::Fault(Word::IndexUnknown));
-        };
+        let function = self.by_tree.known(function)?;
+        let argument = self.by_tree.known(argument)?;
         make(store, Node::App(function, argument))
     }
 
     /// A lambda or a Pi.
-    #[tactic(auto, using(crate::proofs::Holding::found, crate::proofs::Holding::missing, crate::proofs::Holding::is_below, crate::proofs::Holding::unchanged))]
+    #[tactic(auto, using(crate::proofs::Lines::looked_up, crate::proofs::Holding::unchanged))]
     pub(crate) fn binder<T: Terms>(
         &self,
         store: &mut T,
@@ -275,20 +267,14 @@ impl Assembler {
             → Makes (tree_at (T.contents store.new)) result
             (binder_tree s (binder_of binder) name domain body) }
     {
-        let Some(_) = self.by_name.find(name) else {
-            return Err(TakeError::Fault(Word::IndexUnknown));
-        };
-        let Some(domain) = self.by_tree.find(domain) else {
-            return Err(TakeError::Fault(Word::IndexUnknown));
-        };
-        let Some(body) = self.by_tree.find(body) else {
-            return Err(TakeError::Fault(Word::IndexUnknown));
-        };
+        let _name = self.by_name.known(name)?;
+        let domain = self.by_tree.known(domain)?;
+        let body = self.by_tree.known(body)?;
         make(store, binder_node(binder, domain, body))
     }
 
     /// A let.
-    #[tactic(auto, using(crate::proofs::Holding::found, crate::proofs::Holding::missing, crate::proofs::Holding::is_below, crate::proofs::Holding::unchanged))]
+    #[tactic(auto, using(crate::proofs::Lines::looked_up, crate::proofs::Holding::unchanged))]
     pub(crate) fn let_in<T: Terms>(
         &self,
         store: &mut T,
@@ -304,23 +290,15 @@ impl Assembler {
         ensures made { (s : State) → Holds self.now (T.contents store.old) s
             → Makes (tree_at (T.contents store.new)) result (let_tree s name domain value body) }
     {
-        let Some(_name) = self.by_name.find(name) else {
-            return Err(TakeError::Fault(Word::IndexUnknown));
-        };
-        let Some(domain) = self.by_tree.find(domain) else {
-            return Err(TakeError::Fault(Word::IndexUnknown));
-        };
-        let Some(value) = self.by_tree.find(value) else {
-            return Err(TakeError::Fault(Word::IndexUnknown));
-        };
-        let Some(body) = self.by_tree.find(body) else {
-            return Err(TakeError::Fault(Word::IndexUnknown));
-        };
+        let _name = self.by_name.known(name)?;
+        let domain = self.by_tree.known(domain)?;
+        let value = self.by_tree.known(value)?;
+        let body = self.by_tree.known(body)?;
         make(store, Node::Let(domain, value, body))
     }
 
     /// A projection.
-    #[tactic(auto, using(crate::proofs::Holding::found, crate::proofs::Holding::missing, crate::proofs::Holding::is_below, crate::proofs::Holding::unchanged))]
+    #[tactic(auto, using(crate::proofs::Lines::looked_up, crate::proofs::Holding::unchanged))]
     pub(crate) fn projection<T: Terms>(
         &self,
         store: &mut T,
@@ -336,17 +314,13 @@ impl Assembler {
             → Makes (tree_at (T.contents store.new)) result
             (projection_tree s structure field subject) }
     {
-        let Some(structure) = self.by_name.find(structure) else {
-            return Err(TakeError::Fault(Word::IndexUnknown));
-        };
-        let Some(subject) = self.by_tree.find(subject) else {
-            return Err(TakeError::Fault(Word::IndexUnknown));
-        };
+        let structure = self.by_name.known(structure)?;
+        let subject = self.by_tree.known(subject)?;
         make(store, Node::Proj(structure, u64::from(field), subject))
     }
 
     /// The successor of a level.
-    #[tactic(auto, using(crate::proofs::Holding::found, crate::proofs::Holding::missing, crate::proofs::Holding::is_below, crate::proofs::Holding::unchanged))]
+    #[tactic(auto, using(crate::proofs::Lines::looked_up, crate::proofs::Holding::unchanged))]
     pub(crate) fn successor<T: Terms>(&self, store: &mut T, level: u32) -> Result<u64, TakeError>
         requires { IsKnown self.now (T.contents store.old) }
         ensures keeps { Extends (T.contents store.old) (T.contents store.new) }
@@ -355,14 +329,12 @@ impl Assembler {
         ensures made { (s : State) → Holds self.now (T.contents store.old) s
             → Makes (level_at (T.contents store.new)) result (successor_level s level) }
     {
-        let Some(level) = self.by_level.find(level) else {
-            return Err(TakeError::Fault(Word::IndexUnknown));
-        };
+        let level = self.by_level.known(level)?;
         make_level(store, LevelNode::Succ(level))
     }
 
     /// The maximum of two levels, or 0 where it is an `imax` and the right one is 0.
-    #[tactic(auto, using(crate::proofs::Holding::found, crate::proofs::Holding::missing, crate::proofs::Holding::is_below, crate::proofs::Holding::unchanged))]
+    #[tactic(auto, using(crate::proofs::Lines::looked_up, crate::proofs::Holding::unchanged))]
     pub(crate) fn level_pair<T: Terms>(
         &self,
         store: &mut T,
@@ -378,17 +350,13 @@ impl Assembler {
             → Makes (level_at (T.contents store.new)) result
             (pair_level s (pair_of pair) left right) }
     {
-        let Some(left) = self.by_level.find(left) else {
-            return Err(TakeError::Fault(Word::IndexUnknown));
-        };
-        let Some(right) = self.by_level.find(right) else {
-            return Err(TakeError::Fault(Word::IndexUnknown));
-        };
+        let left = self.by_level.known(left)?;
+        let right = self.by_level.known(right)?;
         make_level(store, pair_node(pair, left, right))
     }
 
     /// A level parameter.
-    #[tactic(auto, using(crate::proofs::Holding::found, crate::proofs::Holding::missing, crate::proofs::Holding::is_below, crate::proofs::Holding::unchanged))]
+    #[tactic(auto, using(crate::proofs::Lines::looked_up, crate::proofs::Holding::unchanged))]
     pub(crate) fn parameter<T: Terms>(&self, store: &mut T, name: u32) -> Result<u64, TakeError>
         requires { IsKnown self.now (T.contents store.old) }
         ensures keeps { Extends (T.contents store.old) (T.contents store.new) }
@@ -397,14 +365,12 @@ impl Assembler {
         ensures made { (s : State) → Holds self.now (T.contents store.old) s
             → Makes (level_at (T.contents store.new)) result (parameter_level s name) }
     {
-        let Some(name) = self.by_name.find(name) else {
-            return Err(TakeError::Fault(Word::IndexUnknown));
-        };
+        let name = self.by_name.known(name)?;
         make_level(store, LevelNode::Param(name))
     }
 
     /// A name with one more component, a text.
-    #[tactic(auto, using(crate::proofs::Holding::found, crate::proofs::Holding::missing, crate::proofs::Holding::is_below, crate::proofs::Holding::unchanged))]
+    #[tactic(auto, using(crate::proofs::Lines::looked_up, crate::proofs::Holding::unchanged))]
     pub(crate) fn text_name<T: Terms>(
         &self,
         alloc: Global,
@@ -420,9 +386,7 @@ impl Assembler {
             → Makes (name_at (T.contents store.new)) result
             (longer_name s parent (text bytes.now)) }
     {
-        let Some(parent) = self.by_name.find(parent) else {
-            return Err(TakeError::Fault(Word::IndexUnknown));
-        };
+        let parent = self.by_name.known(parent)?;
         match with_text(alloc, store, parent, bytes) {
             Ok(n) => Ok(n),
             Err(_) => Err(TakeError::NoMemory),
@@ -430,7 +394,7 @@ impl Assembler {
     }
 
     /// A name with one more component, a number.
-    #[tactic(auto, using(crate::proofs::Holding::found, crate::proofs::Holding::missing, crate::proofs::Holding::is_below, crate::proofs::Holding::unchanged))]
+    #[tactic(auto, using(crate::proofs::Lines::looked_up, crate::proofs::Holding::unchanged))]
     pub(crate) fn number_name<T: Terms>(
         &self,
         store: &mut T,
@@ -445,9 +409,7 @@ impl Assembler {
             → Makes (name_at (T.contents store.new)) result
             (longer_name s parent (number component)) }
     {
-        let Some(parent) = self.by_name.find(parent) else {
-            return Err(TakeError::Fault(Word::IndexUnknown));
-        };
+        let parent = self.by_name.known(parent)?;
         match store.make_name(NameNode::Number(parent, component)) {
             Ok(n) => Ok(n),
             Err(_) => Err(TakeError::NoMemory),
@@ -455,7 +417,7 @@ impl Assembler {
     }
 
     /// A rule of a recursor.
-    #[tactic(auto, using(crate::proofs::Holding::found, crate::proofs::Holding::missing, crate::proofs::Holding::is_below))]
+    #[tactic(auto, using(crate::proofs::Lines::looked_up))]
     pub(crate) fn rule(
         &self,
         constructor: u32,
@@ -466,12 +428,8 @@ impl Assembler {
         ensures made { (c : Contents) (s : State) → Holds self.now c s
             → Makes (rule_at c) result (rule_of s constructor fields value) }
     {
-        let Some(constructor) = self.by_name.find(constructor) else {
-            return Err(TakeError::Fault(Word::IndexUnknown));
-        };
-        let Some(value) = self.by_tree.find(value) else {
-            return Err(TakeError::Fault(Word::IndexUnknown));
-        };
+        let constructor = self.by_name.known(constructor)?;
+        let value = self.by_tree.known(value)?;
         Ok(RecursorRule {
             constructor,
             fields: u64::from(fields),
@@ -502,9 +460,9 @@ impl Assembler {
         ty: u32,
         body: Result<Body, TakeError>,
         parameters: &[u32],
-    ) -> Result<Said, TakeError>
+    ) -> Result<StoredMember, TakeError>
         ensures known { (c : Contents) → IsKnown self.now c → IfOk body (λ b. IsBodyIn c b)
-            → IfOk result (IsSaidIn c) }
+            → IfOk result (IsStoredMemberIn c) }
         ensures made { (c : Contents) (s : State) (said : Result PlainBody LineWord)
             → Holds self.now c s → Makes (body_at c) body said
             → Makes (said_at c) result (declaration_of s name ty said parameters.now) }
@@ -520,7 +478,7 @@ impl Assembler {
             Err(error) => return Err(error),
         };
         match self.parameters(alloc, parameters) {
-            Ok(levels) => Ok(Said::Alone(Declaration {
+            Ok(levels) => Ok(StoredMember::Alone(Declaration {
                 name,
                 ty,
                 levels,
@@ -552,8 +510,8 @@ impl Assembler {
         ty: u32,
         value: u32,
         parameters: &[u32],
-    ) -> Result<Said, TakeError>
-        ensures known { (c : Contents) → IsKnown self.now c → IfOk result (IsSaidIn c) }
+    ) -> Result<StoredMember, TakeError>
+        ensures known { (c : Contents) → IsKnown self.now c → IfOk result (IsStoredMemberIn c) }
         ensures made { (c : Contents) (s : State) → Holds self.now c s
             → Makes (said_at c) result (valued_of s
             (body_of value_use) name ty value parameters.now) }
@@ -569,8 +527,8 @@ impl Assembler {
         name: u32,
         ty: u32,
         parameters: &[u32],
-    ) -> Result<Said, TakeError>
-        ensures known { (c : Contents) → IsKnown self.now c → IfOk result (IsSaidIn c) }
+    ) -> Result<StoredMember, TakeError>
+        ensures known { (c : Contents) → IsKnown self.now c → IfOk result (IsStoredMemberIn c) }
         ensures made { (c : Contents) (s : State) → Holds self.now c s
             → Makes (said_at c) result (axiom_of s name ty parameters.now) }
     {
@@ -584,8 +542,8 @@ impl Assembler {
         name: u32,
         ty: u32,
         parameters: &[u32],
-    ) -> Result<Said, TakeError>
-        ensures known { (c : Contents) → IsKnown self.now c → IfOk result (IsSaidIn c) }
+    ) -> Result<StoredMember, TakeError>
+        ensures known { (c : Contents) → IsKnown self.now c → IfOk result (IsStoredMemberIn c) }
         ensures made { (c : Contents) (s : State) → Holds self.now c s
             → Makes (said_at c) result (quotient_of s name ty parameters.now) }
     {

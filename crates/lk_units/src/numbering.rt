@@ -1,5 +1,6 @@
 //! One of the file's numberings: its numbers, and what each has in a store.
-ghost use Rattle.std.specs.Prelude.{◌≡◌, ◌==◌, ◌<◌, ℕ, All, length, nat_eq, IfOk, OnOk, OnErr, Some, None, if◌then◌else◌};
+ghost use Rattle.std.specs.Prelude.{◌≡◌, ◌==◌, ◌<◌, ℕ, All, length, nat_eq, IfOk, IfErr, OnOk, OnErr, Some, None};
+ghost use Rattle.std.specs.Prelude.{if◌then◌else◌};
 ghost use Rattle.std.specs.HashMap.{get};
 ghost use Rattle.lk_units.specs.Numbering.{entry};
 ghost use Rattle.lk_units.specs.State.{all_known};
@@ -76,6 +77,19 @@ impl Numbering {
         match self.find_place(number) {
             Some(place) => Some(u64::from(place)),
             None => None,
+        }
+    }
+
+    /// The place of a number, or the fault that it has none.
+    #[inline(always)]
+    pub(crate) fn known(&self, number: u32) -> Result<u64, TakeError>
+        ensures ok { IfOk result (λ place. entry self.now number ≡ Some place) }
+        ensures err { IfErr result (λ e. e ≡ TakeError.Fault Word.IndexUnknown) }
+        ensures absent { OnErr result (entry self.now number ≡ None) }
+    {
+        match self.find(number) {
+            Some(place) => Ok(place),
+            None => Err(TakeError::Fault(Word::IndexUnknown)),
         }
     }
 

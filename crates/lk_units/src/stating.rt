@@ -2,43 +2,17 @@
 ghost use Rattle.std.specs.Prelude.{◌≡◌, ◌<◌, length, map, All, IfOk};
 ghost use Rattle.lk_store.specs.Contents.{Contents, name_at};
 ghost use Rattle.lk_env.specs.Units.{rule_at, IsRuleIn};
-ghost use Rattle.lk_members.specs.Stored.{IsSaidIn};
+ghost use Rattle.lk_members.specs.Stored.{IsStoredMemberIn};
 ghost use Rattle.lk_members.specs.Plain.{said_at};
-ghost use Rattle.lk_lines.specs.Views.{declaration_tag, declaration_values};
-ghost use Rattle.lk_units.specs.State.{State, all_known, type_said, ctor_said, recursor_said, declaration_said};
+ghost use Rattle.lk_units.specs.State.{State, all_known, type_said, ctor_said, recursor_said};
 ghost use Rattle.lk_units.specs.Held.{Below, IsKnown, Holds, Makes, counts_of, rule_at_place};
 
 use crate::{Assembler, TakeError};
 use lk_env::unit::{Constructor, Recursor, RecursorRule};
-use lk_lines::{Declaration, DeclarationTag, Word};
-use lk_members::line::{Said, TypeHead};
+use lk_lines::{ConstructorLine, RecursorLine, TypeLine};
+use lk_members::line::{StoredMember, TypeHead};
 use lk_store::memory::NoMemory;
 use std::alloc::Global;
-
-/// How a type counts its arguments, as its line states it.
-#[derive(Clone, Copy)]
-pub struct TypeCounts {
-    pub parameters: u32,
-    pub indices: u32,
-}
-
-/// The place of a constructor in its type's list, and how it counts its arguments, as its line states it.
-#[derive(Clone, Copy)]
-pub struct ConstructorCounts {
-    pub place: u32,
-    pub parameters: u32,
-    pub fields: u32,
-}
-
-/// How a recursor counts its arguments, and whether it has K, as its line states it.
-#[derive(Clone, Copy)]
-pub struct RecursorCounts {
-    pub parameters: u32,
-    pub indices: u32,
-    pub motives: u32,
-    pub minors: u32,
-    pub k: bool,
-}
 
 /// The value in a box.
 fn boxed<T: Drop>(alloc: Global, value: T) -> Result<Box<T>, NoMemory>
@@ -95,216 +69,97 @@ impl Assembler {
         }
     }
 
-    /// A type of a block, with the types of its block and its own constructors.
+    /// What the line of a type states, with the types of its block and its own constructors.
+    #[tactic(auto, using(crate::proofs::Lines::looked_up))]
     pub(crate) fn inductive(
         &self,
         alloc: Global,
-        name: u32,
-        ty: u32,
-        counts: TypeCounts,
-        types: &[u32],
-        constructors: &[u32],
-        parameters: &[u32],
-    ) -> Result<Said, TakeError>
-        ensures known { (c : Contents) → IsKnown self.now c → IfOk result (IsSaidIn c) }
+        line: &TypeLine,
+    ) -> Result<StoredMember, TakeError>
+        ensures known { (c : Contents) → IsKnown self.now c → IfOk result (IsStoredMemberIn c) }
         ensures made { (c : Contents) (s : State) → Holds self.now c s
-            → Makes (said_at c) result (type_said s name ty counts.parameters counts.indices
-            types.now constructors.now parameters.now) }
+            → Makes (said_at c) result (type_said s line.now.name line.now.declared_type
+            line.now.parameter_count line.now.index_count line.now.types.items
+            line.now.constructors.items line.now.parameters.items) }
     {
-        let Some(name) = self.by_name.find(name) else {
-            return Err(TakeError::Fault(Word::IndexUnknown));
-        };
-        let Some(ty) = self.by_tree.find(ty) else {
-            return Err(TakeError::Fault(Word::IndexUnknown));
-        };
-        let types = self.names_of(alloc, types)?;
-        let constructors = self.names_of(alloc, constructors)?;
-        let levels = self.names_of(alloc, parameters)?;
+        let name = self.by_name.known(line.name)?;
+        let ty = self.by_tree.known(line.declared_type)?;
+        let types = self.names_of(alloc, &line.types)?;
+        let constructors = self.names_of(alloc, &line.constructors)?;
+        let levels = self.names_of(alloc, &line.parameters)?;
         let head = TypeHead {
             name,
             levels,
             ty,
-            parameters: u64::from(counts.parameters),
-            indices: u64::from(counts.indices),
+            parameters: u64::from(line.parameter_count),
+            indices: u64::from(line.index_count),
             constructors,
         };
         let head = boxed(alloc, head)?;
-        Ok(Said::Type { head, types })
+        Ok(StoredMember::Type { head, types })
     }
 
-    /// A constructor.
+    /// What the line of a constructor states.
+    #[tactic(auto, using(crate::proofs::Lines::looked_up))]
     pub(crate) fn constructor(
         &self,
         alloc: Global,
-        name: u32,
-        ty: u32,
-        parent: u32,
-        counts: ConstructorCounts,
-        parameters: &[u32],
-    ) -> Result<Said, TakeError>
-        ensures known { (c : Contents) → IsKnown self.now c → IfOk result (IsSaidIn c) }
+        line: &ConstructorLine,
+    ) -> Result<StoredMember, TakeError>
+        ensures known { (c : Contents) → IsKnown self.now c → IfOk result (IsStoredMemberIn c) }
         ensures made { (c : Contents) (s : State) → Holds self.now c s
-            → Makes (said_at c) result (ctor_said s name ty parent counts.place counts.parameters
-            counts.fields parameters.now) }
+            → Makes (said_at c) result (ctor_said s line.now.name line.now.declared_type
+            line.now.parent line.now.place line.now.parameter_count line.now.field_count
+            line.now.parameters.items) }
     {
-        let Some(name) = self.by_name.find(name) else {
-            return Err(TakeError::Fault(Word::IndexUnknown));
-        };
-        let Some(ty) = self.by_tree.find(ty) else {
-            return Err(TakeError::Fault(Word::IndexUnknown));
-        };
-        let Some(parent) = self.by_name.find(parent) else {
-            return Err(TakeError::Fault(Word::IndexUnknown));
-        };
-        let levels = self.names_of(alloc, parameters)?;
+        let name = self.by_name.known(line.name)?;
+        let ty = self.by_tree.known(line.declared_type)?;
+        let parent = self.by_name.known(line.parent)?;
+        let levels = self.names_of(alloc, &line.parameters)?;
         let constructor = Constructor {
             name,
             levels,
             ty,
             parent,
-            place: u64::from(counts.place),
-            parameters: u64::from(counts.parameters),
-            fields: u64::from(counts.fields),
+            place: u64::from(line.place),
+            parameters: u64::from(line.parameter_count),
+            fields: u64::from(line.field_count),
         };
         let constructor = boxed(alloc, constructor)?;
-        Ok(Said::Constructor(constructor))
+        Ok(StoredMember::Constructor(constructor))
     }
 
-    /// A recursor of the block with these types.
+    /// What the line of a recursor states, with the types of its block.
+    #[tactic(auto, using(crate::proofs::Lines::looked_up))]
     pub(crate) fn recursor(
         &self,
         alloc: Global,
-        name: u32,
-        ty: u32,
-        types: &[u32],
-        counts: RecursorCounts,
-        rules: &[u32],
-        parameters: &[u32],
-    ) -> Result<Said, TakeError>
+        line: &RecursorLine,
+    ) -> Result<StoredMember, TakeError>
         requires { Below self.now.by_rule (length self.now.rules.items) }
-        ensures known { (c : Contents) → IsKnown self.now c → IfOk result (IsSaidIn c) }
+        ensures known { (c : Contents) → IsKnown self.now c → IfOk result (IsStoredMemberIn c) }
         ensures made { (c : Contents) (s : State) → Holds self.now c s
-            → Makes (said_at c) result (recursor_said s name ty types.now
-            (counts_of counts) rules.now parameters.now) }
+            → Makes (said_at c) result (recursor_said s line.now.name line.now.declared_type
+            line.now.types.items (counts_of line.now) line.now.rules.items
+            line.now.parameters.items) }
     {
-        let Some(name) = self.by_name.find(name) else {
-            return Err(TakeError::Fault(Word::IndexUnknown));
-        };
-        let Some(ty) = self.by_tree.find(ty) else {
-            return Err(TakeError::Fault(Word::IndexUnknown));
-        };
-        let types = self.names_of(alloc, types)?;
-        let rules = self.rules_of(alloc, rules)?;
-        let levels = self.names_of(alloc, parameters)?;
+        let name = self.by_name.known(line.name)?;
+        let ty = self.by_tree.known(line.declared_type)?;
+        let types = self.names_of(alloc, &line.types)?;
+        let rules = self.rules_of(alloc, &line.rules)?;
+        let levels = self.names_of(alloc, &line.parameters)?;
         let recursor = Recursor {
             name,
             levels,
             ty,
-            parameters: u64::from(counts.parameters),
-            indices: u64::from(counts.indices),
-            motives: u64::from(counts.motives),
-            minors: u64::from(counts.minors),
-            k: counts.k,
+            parameters: u64::from(line.parameter_count),
+            indices: u64::from(line.index_count),
+            motives: u64::from(line.motive_count),
+            minors: u64::from(line.minor_count),
+            k: line.k,
             rules,
         };
         let recursor = boxed(alloc, recursor)?;
-        Ok(Said::Recursor { types, recursor })
-    }
-
-    /// What the line of a type states.
-    #[tactic(auto, unfolding(crate::specs::State::declaration_said))]
-    pub(crate) fn inductive_said(
-        &self,
-        alloc: Global,
-        declaration: &Declaration,
-    ) -> Result<Said, TakeError>
-        requires tag { declaration_tag declaration.now ≡ DeclarationTag.Inductive }
-        ensures known { (c : Contents) → IsKnown self.now c → IfOk result (IsSaidIn c) }
-        ensures made { (c : Contents) (s : State) → Holds self.now c s
-            → Makes (said_at c) result (declaration_said s DeclarationTag.Inductive
-            (declaration_values declaration.now)) }
-    {
-        let Declaration::Inductive(line) = declaration else {
-            unreachable!();
-        };
-        let counts = TypeCounts {
-            parameters: line.parameter_count,
-            indices: line.index_count,
-        };
-        self.inductive(
-            alloc,
-            line.name,
-            line.declared_type,
-            counts,
-            &line.types,
-            &line.constructors,
-            &line.parameters,
-        )
-    }
-
-    /// What the line of a constructor states.
-    #[tactic(auto, unfolding(crate::specs::State::declaration_said))]
-    pub(crate) fn constructor_said(
-        &self,
-        alloc: Global,
-        declaration: &Declaration,
-    ) -> Result<Said, TakeError>
-        requires tag { declaration_tag declaration.now ≡ DeclarationTag.Constructor }
-        ensures known { (c : Contents) → IsKnown self.now c → IfOk result (IsSaidIn c) }
-        ensures made { (c : Contents) (s : State) → Holds self.now c s
-            → Makes (said_at c) result (declaration_said s DeclarationTag.Constructor
-            (declaration_values declaration.now)) }
-    {
-        let Declaration::Constructor(line) = declaration else {
-            unreachable!();
-        };
-        let counts = ConstructorCounts {
-            place: line.place,
-            parameters: line.parameter_count,
-            fields: line.field_count,
-        };
-        self.constructor(
-            alloc,
-            line.name,
-            line.declared_type,
-            line.parent,
-            counts,
-            &line.parameters,
-        )
-    }
-
-    /// What the line of a recursor states.
-    #[tactic(auto, unfolding(crate::specs::State::declaration_said))]
-    pub(crate) fn recursor_said(
-        &self,
-        alloc: Global,
-        declaration: &Declaration,
-    ) -> Result<Said, TakeError>
-        requires tag { declaration_tag declaration.now ≡ DeclarationTag.Recursor }
-        requires rules { Below self.now.by_rule (length self.now.rules.items) }
-        ensures known { (c : Contents) → IsKnown self.now c → IfOk result (IsSaidIn c) }
-        ensures made { (c : Contents) (s : State) → Holds self.now c s
-            → Makes (said_at c) result (declaration_said s DeclarationTag.Recursor
-            (declaration_values declaration.now)) }
-    {
-        let Declaration::Recursor(line) = declaration else {
-            unreachable!();
-        };
-        let counts = RecursorCounts {
-            parameters: line.parameter_count,
-            indices: line.index_count,
-            motives: line.motive_count,
-            minors: line.minor_count,
-            k: line.k,
-        };
-        self.recursor(
-            alloc,
-            line.name,
-            line.declared_type,
-            &line.types,
-            counts,
-            &line.rules,
-            &line.parameters,
-        )
+        Ok(StoredMember::Recursor { types, recursor })
     }
 }

@@ -4,7 +4,7 @@ ghost use Rattle.lk_tree.specs.Tree.{text, number, var, str};
 ghost use Rattle.lk_rulebook.specs.Place.{RecRule};
 ghost use Rattle.lk_store.specs.Contents.{Contents, Extends};
 ghost use Rattle.lk_env.specs.Units.{hint_of, IsRuleIn, rule_at};
-ghost use Rattle.lk_members.specs.Stored.{IsSaidIn};
+ghost use Rattle.lk_members.specs.Stored.{IsStoredMemberIn};
 ghost use Rattle.lk_members.specs.Plain.{said_at};
 ghost use Rattle.lk_lines.specs.declared.words.Word.{Word as LineWord};
 ghost use Rattle.lk_lines.specs.declared.tags.Tag.TheVariants as tag;
@@ -15,23 +15,21 @@ ghost use Rattle.lk_units.specs.Held.{Below, IsKnown, Holds, Makes, Follows, rul
 use crate::making::{nat_literal, text_literal, variable};
 use crate::{Assembler, Binder, LevelPair, TakeError, ValueUse};
 use lk_env::unit::{Hint, RecursorRule};
-use lk_lines::{Declaration, Entry, ReducibilityHint, Word};
-use lk_members::fault::MemberFault;
-use lk_members::line::Said;
+use lk_lines::{DeclarationLine, EntryLine, ReducibilityHint, Word};
+use lk_members::fault::{MemberError, MemberFault};
+use lk_members::line::StoredMember;
 use lk_num::Nat;
 use lk_store::terms::Terms;
 use std::alloc::Global;
 
 // Why a line is not taken among those before it.
-fn member_error(error: lk_members::fault::TakeError) -> TakeError
+fn member_error(error: MemberError) -> TakeError
     ensures { result ≡ told error }
 {
     match error {
-        lk_members::fault::TakeError::NoMemory => TakeError::NoMemory,
-        lk_members::fault::TakeError::Fault(MemberFault::BadCount) => {
-            TakeError::Fault(Word::BadCount)
-        }
-        lk_members::fault::TakeError::Fault(MemberFault::RepeatedMember) => {
+        MemberError::NoMemory => TakeError::NoMemory,
+        MemberError::Fault(MemberFault::BadCount) => { TakeError::Fault(Word::BadCount) }
+        MemberError::Fault(MemberFault::RepeatedMember) => {
             TakeError::Fault(Word::RepeatedMember)
         }
     }
@@ -379,7 +377,7 @@ impl Assembler {
         alloc: Global,
         store: &mut T,
         own: u32,
-        line: Entry<'_>,
+        line: EntryLine<'_>,
     ) -> Result<(), TakeError>
         requires { IsKnown self.old (T.contents store.old) }
         ensures keeps { Extends (T.contents store.old) (T.contents store.new) }
@@ -390,52 +388,52 @@ impl Assembler {
             (entry_added s own (entry_tag line.entry) (entry_values line.entry)) }
     {
         match line {
-            Entry::NameText { parent, text } => self.text_line(alloc, store, own, parent, text),
-            Entry::NameNumber { parent, component } => {
+            EntryLine::NameText { parent, text } => self.text_line(alloc, store, own, parent, text),
+            EntryLine::NameNumber { parent, component } => {
                 self.number_line(store, own, parent, component)
             }
-            Entry::Successor { level } => self.successor_line(store, own, level),
-            Entry::Max { left, right } => {
+            EntryLine::Successor { level } => self.successor_line(store, own, level),
+            EntryLine::Max { left, right } => {
                 self.pair_line(store, own, LevelPair::Max, left, right)
             }
-            Entry::Imax { left, right } => {
+            EntryLine::Imax { left, right } => {
                 self.pair_line(store, own, LevelPair::Imax, left, right)
             }
-            Entry::Parameter { name } => self.parameter_line(store, own, name),
-            Entry::Variable { index } => self.variable_line(store, own, index),
-            Entry::Sort { level } => self.sort_line(store, own, level),
-            Entry::Constant { name, levels } => {
+            EntryLine::Parameter { name } => self.parameter_line(store, own, name),
+            EntryLine::Variable { index } => self.variable_line(store, own, index),
+            EntryLine::Sort { level } => self.sort_line(store, own, level),
+            EntryLine::Constant { name, levels } => {
                 self.constant_line(alloc, store, own, name, &levels)
             }
-            Entry::Apply { function, argument } => {
+            EntryLine::Apply { function, argument } => {
                 self.application_line(store, own, function, argument)
             }
-            Entry::Lambda {
+            EntryLine::Lambda {
                 name,
                 binder_type,
                 body,
                 ..
             } => self.binder_line(store, own, Binder::Lambda, name, binder_type, body),
-            Entry::Pi {
+            EntryLine::Pi {
                 name,
                 binder_type,
                 body,
                 ..
             } => self.binder_line(store, own, Binder::Pi, name, binder_type, body),
-            Entry::Let {
+            EntryLine::Let {
                 name,
                 binder_type,
                 value,
                 body,
             } => self.let_line(store, own, name, binder_type, value, body),
-            Entry::Project {
+            EntryLine::Project {
                 structure,
                 field,
                 subject,
             } => self.projection_line(store, own, structure, field, subject),
-            Entry::NatLiteral(number) => self.nat_line(store, own, *number),
-            Entry::TextLiteral { text } => self.string_line(store, own, text),
-            Entry::Rule {
+            EntryLine::NatLiteral(number) => self.nat_line(store, own, *number),
+            EntryLine::TextLiteral { text } => self.string_line(store, own, text),
+            EntryLine::Rule {
                 constructor,
                 field_count,
                 value,
@@ -445,15 +443,15 @@ impl Assembler {
 
     // What a line that declares something adds.
     #[tactic(auto, unfolding(crate::specs::State::declaration_said))]
-    fn said(&self, alloc: Global, declaration: &Declaration) -> Result<Said, TakeError>
+    fn said(&self, alloc: Global, declaration: &DeclarationLine) -> Result<StoredMember, TakeError>
         requires { Below self.now.by_rule (length self.now.rules.items) }
-        ensures known { (c : Contents) → IsKnown self.now c → IfOk result (IsSaidIn c) }
+        ensures known { (c : Contents) → IsKnown self.now c → IfOk result (IsStoredMemberIn c) }
         ensures made { (c : Contents) (s : State) → Holds self.now c s
             → Makes (said_at c) result (declaration_said s (declaration_tag declaration.now)
             (declaration_values declaration.now)) }
     {
         match declaration {
-            Declaration::Definition {
+            DeclarationLine::Definition {
                 name,
                 declared_type,
                 value,
@@ -463,7 +461,7 @@ impl Assembler {
                 let value_use = ValueUse::Definition(held_hint(*hint));
                 self.valued(alloc, value_use, *name, *declared_type, *value, parameters)
             }
-            Declaration::Theorem {
+            DeclarationLine::Theorem {
                 name,
                 declared_type,
                 value,
@@ -472,7 +470,7 @@ impl Assembler {
                 let value_use = ValueUse::Theorem;
                 self.valued(alloc, value_use, *name, *declared_type, *value, parameters)
             }
-            Declaration::Opaque {
+            DeclarationLine::Opaque {
                 name,
                 declared_type,
                 value,
@@ -481,19 +479,19 @@ impl Assembler {
                 let value_use = ValueUse::Opaque;
                 self.valued(alloc, value_use, *name, *declared_type, *value, parameters)
             }
-            Declaration::Axiom {
+            DeclarationLine::Axiom {
                 name,
                 declared_type,
                 parameters,
             } => self.axiom(alloc, *name, *declared_type, parameters),
-            Declaration::Quotient {
+            DeclarationLine::Quotient {
                 name,
                 declared_type,
                 parameters,
             } => self.quotient(alloc, *name, *declared_type, parameters),
-            Declaration::Inductive(_) => self.inductive_said(alloc, declaration),
-            Declaration::Constructor(_) => self.constructor_said(alloc, declaration),
-            Declaration::Recursor(_) => self.recursor_said(alloc, declaration),
+            DeclarationLine::Inductive(line) => self.inductive(alloc, line),
+            DeclarationLine::Constructor(line) => self.constructor(alloc, line),
+            DeclarationLine::Recursor(line) => self.recursor(alloc, line),
         }
     }
 
@@ -503,10 +501,10 @@ impl Assembler {
         alloc: Global,
         store: &T,
         number: u64,
-        said: Said,
+        said: StoredMember,
     ) -> Result<(), TakeError>
         requires known { IsKnown self.old (T.contents store.now) }
-        requires said_in { IsSaidIn (T.contents store.now) said }
+        requires said_in { IsStoredMemberIn (T.contents store.now) said }
         ensures known { OnOk result (IsKnown self.new (T.contents store.now)) }
         ensures follows { (s : State) → Holds self.old (T.contents store.now) s
             → Follows self.new (T.contents store.now) result
@@ -528,7 +526,7 @@ impl Assembler {
         alloc: Global,
         store: &mut T,
         own: u32,
-        line: Entry<'_>,
+        line: EntryLine<'_>,
     ) -> Result<(), TakeError>
         requires { IsKnown self.old (T.contents store.old) }
         ensures keeps { Extends (T.contents store.old) (T.contents store.new) }
@@ -557,7 +555,7 @@ impl Assembler {
         alloc: Global,
         store: &mut T,
         number: u64,
-        declaration: Declaration,
+        declaration: DeclarationLine,
     ) -> Result<(), TakeError>
         requires { IsKnown self.old (T.contents store.old) }
         ensures keeps { Extends (T.contents store.old) (T.contents store.new) }

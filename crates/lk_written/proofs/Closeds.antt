@@ -1,7 +1,7 @@
 -- What can be written follows the rules.
 use Rattle.lk_tree.specs.Tree.{Level, Tree}
 use Rattle.lk_rulebook.specs.Place.{Place}
-use Rattle.lk_written.specs.Written.{CanWrite, CanSort}
+use Rattle.lk_written.specs.Written.{CanWrite, CanSort, KeepsNumerals}
 use Rattle.lk_claims.specs.Follows.{Sorts, FollowsTypes, FollowsReductions, FollowsEqualities}
 use Rattle.lk_written.proofs.OperationRule.{can_operation}
 use Rattle.lk_written.proofs.ProjRule.{can_proj}
@@ -21,16 +21,16 @@ types_follow w = record {
   locals = λ k T f. can_local w k T f;
   consts = λ c ls g f. can_const w c ls g f;
   apps = λ f a F A B A' hf hF ha hq. can_app w f a F A B A' hf hF ha hq;
-  lams = λ A b B l k m n hA hb. can_lam w A b B l k m n (in_two w A l hA) hb;
-  pis = λ A B u v k m hA hB. can_pi w A B u v k m (in_two w A u hA) (in_two w _ v hB);
+  lams = λ A b B l k fresh hA hb. can_lam w A b B l k fresh (in_two w A l hA) hb;
+  pis = λ A B u v k fresh hA hB. can_pi w A B u v k fresh (in_two w A u hA) (in_two w _ v hB);
   lets = λ A v b V B l hA hv hq hb. can_let w A v b V B l (in_two w A l hA) hv hq hb;
   lits = λ n h t f. can_lit w n h t f;
   strs = λ s h t. can_str w s h t;
   projs = λ S i s T₀ T F l hs hT less hS a b. can_proj w S i s T₀ T F l hs hT less (in_two w _ l hS) a b;
 }
 
-pub reductions_follow : (w : Place) → FollowsReductions w (CanWrite w)
-reductions_follow w = record {
+pub reductions_follow : (w : Place) → KeepsNumerals w → FollowsReductions w (CanWrite w)
+reductions_follow w kept = record {
   stay = λ a f. can_stay w a f;
   chain = λ a b c h g. can_chain w a b c h g;
   head = λ f g a h fa. can_head w f g a h fa;
@@ -44,7 +44,7 @@ reductions_follow w = record {
   ind = λ ls ks A r B h m A' r' a i im ff hm. can_ind w ls ks A r B h m A' r' a i im ff hm;
   k = λ R k e T₀ D he hT hD hq. can_k w R k e T₀ D he hT hD hq;
   struct = λ R S m T₀ l o hm hT hS z. can_expand w R S m T₀ l o hm hT (in_two w _ l hS) z;
-  operation = λ op es ns r i hn s h hr t. can_operation w op es ns r i hn s h hr t;
+  operation = λ op es ns r i hn s h hr t. can_operation w kept op es ns r i hn s h hr t;
 }
 
 pub equalities_follow : (w : Place) → FollowsEqualities w (CanWrite w)
@@ -54,8 +54,8 @@ equalities_follow w = record {
   sorts = λ l m t. can_sorts w l m t;
   consts = λ c ls ms t. can_consts w c ls ms t;
   apps = λ f g a b nf ng hf ha. can_apps w f g a b nf ng hf ha;
-  lams = λ A A' b b' k m n hA hb. can_lams w A A' b b' k m n hA hb;
-  pis = λ A A' b b' k m n hA hb. can_pis w A A' b b' k m n hA hb;
+  lams = λ A A' b b' k fresh hA hb. can_lams w A A' b b' k fresh hA hb;
+  pis = λ A A' b b' k fresh hA hb. can_pis w A A' b b' k fresh hA hb;
   projs = λ S i s t h. can_projs w S i s t h;
   eta_left = λ o T A B A' b n ho hT hq. can_eta_left w o T A B A' b n ho hT hq;
   eta_right = λ o T A B A' b n ho hT hq. can_eta_right w o T A B A' b n ho hT hq;

@@ -1,28 +1,29 @@
 -- What rules of conversion and the unfolding of constants state can be written.
-use Rattle.std.proofs.Common.{ℕ, ◌≡◌, ◌≤◌, Bool, true, ◌&&◌, nat_eq, length, List, [], ◌∷◌, Some, refl, arith}
+use Rattle.std.proofs.Common.{ℕ, ◌≡◌, Bool, true, false, ◌&&◌, nat_eq, length, List, [], ◌∷◌, Option, Some, None, refl, sym, subst}
 use Rattle.std.specs.Prelude.{slice_get}
-use Rattle.std.proofs.lemmas.Bool.Decides.{nat_tests}
 use Rattle.lk_tree.specs.Tree.{Name, name_discrete, Level, Tree, var, sort, const, app, lam, pi, let_in, proj, lit, wide, str, local}
-use Rattle.lk_tree.specs.Bind.{opened, bound}
+use Rattle.lk_tree.specs.Bind.{opened, Fresh}
 use Rattle.lk_tree.specs.Level.{is_zero_level}
 use Rattle.lk_tree.specs.LevelTest.{level_test}
-use Rattle.lk_tree.specs.Spine.{IsNeutral, IsHeadNormal}
+use Rattle.lk_tree.specs.Spine.{head, args, IsNeutral, IsHeadNormal}
 use Rattle.lk_tree.specs.WellFormed.{IsWellFormed}
 use Rattle.lk_tree.proofs.Scans.{and_true}
 use Rattle.lk_tree.proofs.Binding.{fine_from_open}
 use Rattle.lk_rulebook.specs.Place.{Place, Entry}
 use Rattle.lk_tree.specs.Mentions.{same_name}
 use Rattle.lk_rulebook.specs.Rules.{HasValue, of_def, of_thm, IsGivenAt, at_levels}
-use Rattle.lk_questions.specs.Steps.{value_of}
+use Rattle.lk_questions.specs.Steps.{is_same_tree, value_of}
 use Rattle.lk_claims.specs.Claims.{Claim, types, reduces, equals}
 use Rattle.lk_written.specs.Line.{delta_rule, reduce_rule, sorts_rule, consts_rule, apps_rule, lams_rule, pis_rule, projs_rule, proof_rule}
 use Rattle.lk_claims.specs.Tests.{passes, is_true, same_levels}
-use Rattle.lk_written.specs.Premises.{Left, local_above, typed, reduced, equal, sorted, is_prop_by}
-use Rattle.lk_written.specs.Equal.{is_neutral, is_head_normal, eq_bodies}
+use Rattle.lk_written.specs.Premises.{Left, fresh_local, equal, sorted, is_prop_by}
+use Rattle.lk_written.specs.Reducing.{red_delta}
+use Rattle.lk_written.specs.Equal.{is_neutral, is_head_normal, pairs_equal, spines_equal, eq_bodies}
 use Rattle.lk_claims.specs.Claims.{IsShaped}
-use Rattle.lk_written.specs.Written.{CanWrite, CanSort}
-use Rattle.lk_claims.proofs.Facts.{pass_test}
-use Rattle.lk_written.proofs.Writings.{next, last_reduct, last_equal, go_on, go_test, comes_itself, with_sort, typed_there, reduced_there, equal_there, sorted_there, above_there}
+use Rattle.lk_written.specs.Written.{Stands, IsWritten, CanWrite, CanSort}
+use Rattle.lk_claims.proofs.Facts.{pass_test, some_on}
+use Rattle.lk_claims.proofs.Pieces.{Some_inj, same_tree}
+use Rattle.lk_written.proofs.Writings.{are_equal, next, no_equality, last_reduct, last_equal, go_on, go_test, comes_itself, differ, with_reduct, with_equal, equal_there, sorted_there, fresh_there, typed_next, equal_next, reduct_next, go_typed, go_reduced, go_equal}
 
 pub same_self_name : (c : Name) → same_name c c ≡ true
 same_self_name c = go (name_discrete c c)
@@ -30,9 +31,6 @@ same_self_name c = go (name_discrete c c)
     go : (d : Dec (c ≡ c)) → elim d as (λ y. Bool) [ yes e ↦ true | no f ↦ Rattle.std.specs.Prelude.false ] ≡ true
     go (yes e) = refl
     go (no f) = absurd (f refl)
-
-are_equal : (m n : ℕ) → m ≡ n → nat_eq m n ≡ true
-are_equal m n e = grind (arith, nat_tests)
 
 pub neutral_passes : (e : Tree) → IsNeutral e → is_neutral e ≡ true
 neutral_passes (app f a) h = neutral_passes f h
@@ -66,31 +64,39 @@ value_there : (g : Entry) (v : Tree) → HasValue g v → value_of g.kind ≡ So
 value_there g v (of_def k) = rw k refl
 value_there g v (of_thm k) = rw k refl
 
+delta_passes : (w : Place) (c : Name) (ls : List Level) (g : IsGivenAt w c ls) (v : Tree) → HasValue g.entry v → passes (red_delta w [] (const c ls) (at_levels g v)) ≡ true
+unfolding head args
+delta_passes w c ls g v hv =
+    go_on (w.means c) g.entry _ g.given
+    (go_on (value_of g.entry.kind) v _ (value_there g.entry v hv) (go_test (nat_eq (length ls) (length g.entry.levels)) _ (are_equal (length ls) (length g.entry.levels) g.levels_are) (comes_itself (at_levels g v))))
+
 pub can_delta : (w : Place) (c : Name) (ls : List Level) (g : IsGivenAt w c ls) (v : Tree) → HasValue g.entry v → IsWellFormed (at_levels g v) → CanWrite w (reduces (const c ls) (at_levels g v))
 can_delta w c ls g v hv f =
     let s : IsShaped (reduces (const c ls) (at_levels g v)) = (tt, f, λ z. absurd z) in
-    record {
-      shaped = s;
-      written = λ ps. last_reduct w ps delta_rule (const c ls) (at_levels g v) [] s
-          (go_on (w.means c) g.entry _ g.given
-          (go_on (value_of g.entry.kind) v _ (value_there g.entry v hv) (go_test (nat_eq (length ls) (length g.entry.levels)) _ (are_equal (length ls) (length g.entry.levels) g.levels_are) (comes_itself (at_levels g v)))));
-    }
+    record { shaped = s; written = λ ps. last_reduct w ps delta_rule (const c ls) (at_levels g v) [] s (delta_passes w c ls g v hv) }
 
+-- where the two sides are one tree nothing is written, so the second reduction is of another tree than the first
 pub can_reduce : (w : Place) (a b a' b' : Tree) → CanWrite w (reduces a a') → CanWrite w (reduces b b') → CanWrite w (equals a' b') → CanWrite w (equals a b)
-can_reduce w a b a' b' ha hb hq =
-    let h : IsShaped (equals a b) = (ha.shaped.0, hb.shaped.0) in
-    let G : Claim = equals a b in
-    record {
-      shaped = h;
-      written = λ ps.
-          next w ps (reduces a a') G (ha.written ps) (λ p₁ k₁ i e.
-          next w p₁ (reduces b b') G (hb.written p₁) (λ p₂ k₂ j e₂.
-          next w p₂ (equals a' b') G (hq.written p₂) (λ qs k₃ m e₃.
-          last_equal w qs reduce_rule a b (i ∷ j ∷ m ∷ []) h
-          (go_on (reduced qs (i ∷ j ∷ m ∷ []) a) (a', j ∷ m ∷ []) _ (reduced_there qs i (j ∷ m ∷ []) a a' (k₃ i (reduces a a') (k₂ i (reduces a a') e)))
-          (go_on (reduced qs (j ∷ m ∷ []) b) (b', m ∷ []) _ (reduced_there qs j (m ∷ []) b b' (k₃ j (reduces b b') e₂))
-          (go_on (equal qs (m ∷ []) a' b') [] _ (equal_there qs m [] a' b' e₃) refl))))));
-    }
+can_reduce w a b a' b' ha hb hq = record { shaped = h; written = λ ps. go ps (is_same_tree a b) refl }
+  where
+    h : IsShaped (equals a b)
+    h = (ha.shaped.0, hb.shaped.0)
+
+    two : (t : is_same_tree a b ≡ false) → b ≡ a → b ≡ b'
+    two t e = absurd (differ a b t (sym e))
+
+    go : (ps : List Claim) (x : Bool) → is_same_tree a b ≡ x → IsWritten w ps (equals a b)
+    go ps true t = no_equality w ps a b (same_tree a b t)
+    go ps false t =
+        next w ps (reduces a a') (equals a b) (ha.written ps) (λ p₁ k₁ i e.
+        next w p₁ (reduces b b') (equals a b) (hb.written p₁) (λ p₂ k₂ j e₂.
+        next w p₂ (equals a' b') (equals a b) (hq.written p₂) (λ qs k₃ m e₃.
+        let last : Left = with_equal a' b' m [] in
+        let at : Stands qs j (reduces b b') = k₃ j (reduces b b') e₂ in
+        last_equal w qs reduce_rule a b (with_reduct a a' i (with_reduct b b' j last)) h
+        (go_reduced qs i (with_reduct b b' j last) a a' _ (k₃ i (reduces a a') (k₂ i (reduces a a') e)) (λ y. reduct_next qs j last a b b' (two t) at (equal_next qs m [] a a' b' e₃ refl))
+        (go_reduced qs j last b b' _ at (λ y. equal_next qs m [] b a' b' e₃ refl)
+        (go_equal qs m [] a' b' _ e₃ refl))))))
 
 pub can_sorts : (w : Place) (l m : Level) → is_true (level_test l m) ≡ true → CanWrite w (equals (sort l) (sort m))
 can_sorts w l m t = record { shaped = (tt, tt); written = λ ps. last_equal w ps sorts_rule (sort l) (sort m) [] (tt, tt) (pass_test (is_true (level_test l m)) t) }
@@ -101,6 +107,17 @@ can_consts w c ls ms t = record {
   written = λ ps. last_equal w ps consts_rule (const c ls) (const c ms) [] (tt, tt) (pass_test (same_name c c && same_levels ls ms) (and_true (same_name c c) (same_levels ls ms) (same_self_name c) t));
 }
 
+spine_there : (qs : List Claim) (i j : ℕ) (f g a b : Tree) → Stands qs i (equals f g) → Stands qs j (equals a b) → spines_equal qs (with_equal f g i (with_equal a b j [])) (app f a) (app g b) [] ≡ Some []
+spine_there qs i j f g a b h k =
+    go (equal qs (with_equal f g i (with_equal a b j [])) f g) (equal_there qs i (with_equal a b j []) f g h)
+  where
+    go : (o : Option Left) → o ≡ Some (with_equal a b j []) →
+        elim o as (λ z. Option Left) [ Some r ↦ pairs_equal qs r ((a, b) ∷ []) | None ↦ spines_equal qs (with_equal f g i (with_equal a b j [])) f g ((a, b) ∷ []) ] ≡ Some []
+    go (Some r) e =
+        let s : r ≡ with_equal a b j [] = Some_inj e in
+        subst (λ z. pairs_equal qs z ((a, b) ∷ []) ≡ Some []) (sym s) (some_on (equal qs (with_equal a b j []) a b) [] _ [] (equal_there qs j [] a b k) refl)
+    go None e = absurd cc
+
 pub can_apps : (w : Place) (f g a b : Tree) → IsNeutral f → IsNeutral g → CanWrite w (equals f g) → CanWrite w (equals a b) → CanWrite w (equals (app f a) (app g b))
 can_apps w f g a b nf ng hf ha =
     let h : IsShaped (equals (app f a) (app g b)) = ((hf.shaped.0, ha.shaped.0), (hf.shaped.1, ha.shaped.1)) in
@@ -110,22 +127,20 @@ can_apps w f g a b nf ng hf ha =
       written = λ ps.
           next w ps (equals f g) G (hf.written ps) (λ p₁ k₁ i e.
           next w p₁ (equals a b) G (ha.written p₁) (λ qs k₂ j e₂.
-          last_equal w qs apps_rule (app f a) (app g b) (i ∷ j ∷ []) h
+          let js : Left = with_equal f g i (with_equal a b j []) in
+          last_equal w qs apps_rule (app f a) (app g b) js h
           (go_test (is_neutral f && is_neutral g) _ (and_true (is_neutral f) (is_neutral g) (neutral_passes f nf) (neutral_passes g ng))
-          (go_on (equal qs (i ∷ j ∷ []) f g) (j ∷ []) _ (equal_there qs i (j ∷ []) f g (k₂ i (equals f g) e))
-          (go_on (equal qs (j ∷ []) a b) [] _ (equal_there qs j [] a b e₂) refl)))));
+          (go_on (spines_equal qs js (app f a) (app g b) []) [] _ (spine_there qs i j f g a b (k₂ i (equals f g) e) e₂) refl))));
     }
 
-bodies_pass : (qs : List Claim) (i j k m n : ℕ) (A b A' b' : Tree) → m ≤ k → n ≤ k → slice_get qs i ≡ Some (equals A A') → slice_get qs j ≡ Some (equals (opened b (local k A)) (opened b' (local k A))) →
-    passes (eq_bodies qs (i ∷ j ∷ []) (local k A) m n A b A' b') ≡ true
-bodies_pass qs i j k m n A b A' b' hm hn e f =
-    go_on (local_above m A (local k A)) k _ (above_there m k A hm)
-    (go_on (local_above n A (local k A)) k _ (above_there n k A hn)
-    (go_on (equal qs (i ∷ j ∷ []) A A') (j ∷ []) _ (equal_there qs i (j ∷ []) A A' e)
-    (go_on (equal qs (j ∷ []) (opened b (local k A)) (opened b' (local k A))) [] _ (equal_there qs j [] (opened b (local k A)) (opened b' (local k A)) f) refl)))
+bodies_pass : (qs : List Claim) (i j k : ℕ) (A b A' b' : Tree) → Stands qs i (equals A A') → Stands qs j (equals (opened b (local k A)) (opened b' (local k A))) →
+    passes (eq_bodies qs (with_equal A A' i (with_equal (opened b (local k A)) (opened b' (local k A)) j [])) k (A, b) (A', b')) ≡ true
+bodies_pass qs i j k A b A' b' e f =
+    go_equal qs i (with_equal (opened b (local k A)) (opened b' (local k A)) j []) A A' _ e
+    (go_equal qs j [] (opened b (local k A)) (opened b' (local k A)) _ f refl)
 
-pub can_lams : (w : Place) (A A' b b' : Tree) (k : ℕ) → bound (lam A b) ≤ k → bound (lam A' b') ≤ k → CanWrite w (equals A A') → CanWrite w (equals (opened b (local k A)) (opened b' (local k A))) → CanWrite w (equals (lam A b) (lam A' b'))
-can_lams w A A' b b' k m n hA hb =
+pub can_lams : (w : Place) (A A' b b' : Tree) (k : ℕ) → Fresh k (lam A b ∷ lam A' b' ∷ []) → CanWrite w (equals A A') → CanWrite w (equals (opened b (local k A)) (opened b' (local k A))) → CanWrite w (equals (lam A b) (lam A' b'))
+can_lams w A A' b b' k fresh hA hb =
     let h : IsShaped (equals (lam A b) (lam A' b')) = ((hA.shaped.0, fine_from_open 0 (local k A) b hb.shaped.0), (hA.shaped.1, fine_from_open 0 (local k A) b' hb.shaped.1)) in
     let G : Claim = equals (lam A b) (lam A' b') in
     record {
@@ -133,19 +148,23 @@ can_lams w A A' b b' k m n hA hb =
       written = λ ps.
           next w ps (equals A A') G (hA.written ps) (λ p₁ k₁ i e.
           next w p₁ (equals (opened b (local k A)) (opened b' (local k A))) G (hb.written p₁) (λ qs k₂ j e₂.
-          last_equal w qs (lams_rule (local k A)) (lam A b) (lam A' b') (i ∷ j ∷ []) h (bodies_pass qs i j k (bound (lam A b)) (bound (lam A' b')) A b A' b' m n (k₂ i (equals A A') e) e₂)));
+          last_equal w qs (lams_rule (local k A)) (lam A b) (lam A' b') (with_equal A A' i (with_equal (opened b (local k A)) (opened b' (local k A)) j [])) h
+          (go_on (fresh_local A (lam A b ∷ lam A' b' ∷ []) (local k A)) k _ (fresh_there k A (lam A b ∷ lam A' b' ∷ []) fresh)
+          (bodies_pass qs i j k A b A' b' (k₂ i (equals A A') e) e₂))));
     }
 
-pub can_pis : (w : Place) (A A' b b' : Tree) (k : ℕ) → bound (pi A b) ≤ k → bound (pi A' b') ≤ k → CanWrite w (equals A A') → CanWrite w (equals (opened b (local k A)) (opened b' (local k A))) → CanWrite w (equals (pi A b) (pi A' b'))
-can_pis w A A' b b' k m n hA hb =
-    let h : IsShaped (equals (pi A b) (pi A' b')) = ((hA.shaped.0, fine_from_open 0 (local k A) b hb.shaped.0), (hA.shaped.1, fine_from_open 0 (local k A) b' hb.shaped.1)) in
-    let G : Claim = equals (pi A b) (pi A' b') in
+pub can_pis : (w : Place) (A A' B B' : Tree) (k : ℕ) → Fresh k (pi A B ∷ pi A' B' ∷ []) → CanWrite w (equals A A') → CanWrite w (equals (opened B (local k A)) (opened B' (local k A))) → CanWrite w (equals (pi A B) (pi A' B'))
+can_pis w A A' B B' k fresh hA hb =
+    let h : IsShaped (equals (pi A B) (pi A' B')) = ((hA.shaped.0, fine_from_open 0 (local k A) B hb.shaped.0), (hA.shaped.1, fine_from_open 0 (local k A) B' hb.shaped.1)) in
+    let G : Claim = equals (pi A B) (pi A' B') in
     record {
       shaped = h;
       written = λ ps.
           next w ps (equals A A') G (hA.written ps) (λ p₁ k₁ i e.
-          next w p₁ (equals (opened b (local k A)) (opened b' (local k A))) G (hb.written p₁) (λ qs k₂ j e₂.
-          last_equal w qs (pis_rule (local k A)) (pi A b) (pi A' b') (i ∷ j ∷ []) h (bodies_pass qs i j k (bound (pi A b)) (bound (pi A' b')) A b A' b' m n (k₂ i (equals A A') e) e₂)));
+          next w p₁ (equals (opened B (local k A)) (opened B' (local k A))) G (hb.written p₁) (λ qs k₂ j e₂.
+          last_equal w qs (pis_rule (local k A)) (pi A B) (pi A' B') (with_equal A A' i (with_equal (opened B (local k A)) (opened B' (local k A)) j [])) h
+          (go_on (fresh_local A (pi A B ∷ pi A' B' ∷ []) (local k A)) k _ (fresh_there k A (pi A B ∷ pi A' B' ∷ []) fresh)
+          (bodies_pass qs i j k A B A' B' (k₂ i (equals A A') e) e₂))));
     }
 
 pub can_projs : (w : Place) (S : Name) (n : ℕ) (s t : Tree) → CanWrite w (equals s t) → CanWrite w (equals (proj S n s) (proj S n t))
@@ -155,9 +174,9 @@ can_projs w S n s t hs =
       shaped = h;
       written = λ ps.
           next w ps (equals s t) (equals (proj S n s) (proj S n t)) (hs.written ps) (λ qs k i e.
-          last_equal w qs projs_rule (proj S n s) (proj S n t) (i ∷ []) h
+          last_equal w qs projs_rule (proj S n s) (proj S n t) (with_equal s t i []) h
           (go_test (same_name S S && nat_eq n n) _ (and_true (same_name S S) (nat_eq n n) (same_self_name S) (are_equal n n refl))
-          (go_on (equal qs (i ∷ []) s t) [] _ (equal_there qs i [] s t e) refl)));
+          (go_equal qs i [] s t _ e refl)));
     }
 
 -- a => A, A is a proposition, b => B, A == B
@@ -174,14 +193,16 @@ can_proof w a b A B l na nb ha hA z hb hq =
           next w p₂ (reduces S (sort l)) G (hA.reduced.written p₂) (λ p₃ k₃ s e₃.
           next w p₃ (types b B) G (hb.written p₃) (λ p₄ k₄ t e₄.
           next w p₄ (equals A B) G (hq.written p₄) (λ qs k₅ u e₅.
-          last_equal w qs proof_rule a b (i ∷ j ∷ with_sort S s (t ∷ u ∷ [])) h
+          let last : Left = with_equal A B u [] in
+          let more : Left = j ∷ with_reduct S (sort l) s (t ∷ last) in
+          let at : slice_get qs t ≡ Some (types b B) = k₅ t (types b B) e₄ in
+          last_equal w qs proof_rule a b (i ∷ more) h
           (go_test (is_head_normal a && is_head_normal b) _ (and_true (is_head_normal a) (is_head_normal b) (normal_passes a na) (normal_passes b nb))
-          (go_on (typed qs (i ∷ j ∷ with_sort S s (t ∷ u ∷ [])) a) (A, j ∷ with_sort S s (t ∷ u ∷ [])) _
-          (typed_there qs i (j ∷ with_sort S s (t ∷ u ∷ [])) a A (k₅ i (types a A) (k₄ i (types a A) (k₃ i (types a A) (k₂ i (types a A) e)))))
-          (go_on (is_prop_by qs (j ∷ with_sort S s (t ∷ u ∷ [])) A) (t ∷ u ∷ []) _
-          (prop_there qs (j ∷ with_sort S s (t ∷ u ∷ [])) (t ∷ u ∷ []) A l (sorted_there qs j s (t ∷ u ∷ []) A S l hA.reduced.shaped.2 (k₅ j (types A S) (k₄ j (types A S) (k₃ j (types A S) e₂))) (k₅ s (reduces S (sort l)) (k₄ s (reduces S (sort l)) e₃))) z)
-          (go_on (typed qs (t ∷ u ∷ []) b) (B, u ∷ []) _ (typed_there qs t (u ∷ []) b B (k₅ t (types b B) e₄))
-          (go_on (equal qs (u ∷ []) A B) [] _ (equal_there qs u [] A B e₅) refl))))))))));
+          (go_typed qs i more a A _ (k₅ i (types a A) (k₄ i (types a A) (k₃ i (types a A) (k₂ i (types a A) e))))
+          (go_on (is_prop_by qs more A) (t ∷ last) _
+          (prop_there qs more (t ∷ last) A l (sorted_there qs j s (t ∷ last) A S l (k₅ j (types A S) (k₄ j (types A S) (k₃ j (types A S) e₂))) (k₅ s (reduces S (sort l)) (k₄ s (reduces S (sort l)) e₃)) (λ y. typed_next qs t last S b B at)) z)
+          (go_typed qs t last b B _ at
+          (go_equal qs u [] A B _ e₅ refl))))))))));
     }
   where
     prop_there : (qs : List Claim) (js rest : Left) (A : Tree) (l : Level) → sorted qs js A ≡ Some (l, rest) → is_zero_level l ≡ true → is_prop_by qs js A ≡ Some rest

@@ -20,3 +20,5 @@ pub mod StructureRules
 pub mod ProjRule
 pub mod OperationRule
 pub mod Faults
+pub mod Numerals
+pub mod Lines

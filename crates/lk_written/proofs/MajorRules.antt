@@ -19,14 +19,14 @@ use Rattle.lk_questions.specs.Strings.{text_to_ctor}
 use Rattle.lk_claims.specs.Claims.{Claim, reduces, types, equals}
 use Rattle.lk_written.specs.Line.{major_rule, iota_rule, lift_rule, ind_rule, field_rule, k_rule}
 use Rattle.lk_claims.specs.Tests.{passes, found}
-use Rattle.lk_written.specs.Premises.{as_const, reduced, typed, equal}
+use Rattle.lk_written.specs.Premises.{Left, as_const}
 use Rattle.lk_written.specs.Typing.{comes_to}
 use Rattle.lk_claims.specs.Tests.{reads}
 use Rattle.lk_written.specs.Reducing.{the_ctor, the_recursor, major_of, red_iota, is_quot, mk_of, red_quot, red_field, the_rule, red_k}
 use Rattle.lk_claims.specs.Claims.{IsShaped}
-use Rattle.lk_written.specs.Written.{CanWrite}
+use Rattle.lk_written.specs.Written.{Stands, CanWrite}
 use Rattle.lk_claims.proofs.Facts.{same_self, some_on}
-use Rattle.lk_written.proofs.Writings.{next, last_reduct, go_on, go_test, comes_itself, reduced_there, some_test, typed_there, equal_there}
+use Rattle.lk_written.proofs.Writings.{are_equal, next, last_reduct, go_on, go_test, comes_itself, some_test, with_reduct, with_equal, typed_next, go_typed, go_reduced, go_equal}
 use Rattle.lk_written.proofs.EqualRules.{same_self_name}
 
 head_applied : (h : Tree) (xs : List Tree) → head (apply h xs) ≡ head h
@@ -55,9 +55,6 @@ pub const_args : (c : Name) (ls : List Level) (xs : List Tree) → args (apply (
 unfolding args
 const_args c ls xs = args_applied (const c ls) xs
 
-are_equal : (m n : ℕ) → m ≡ n → nat_eq m n ≡ true
-are_equal m n e = grind (arith, nat_tests)
-
 major_at : (w : Place) (R : Name) (ls : List Level) (g : Entry) (r : Recursor) → w.means R ≡ Some g → g.kind ≡ a_rec r → (h : Tree) (n : ℕ) → h ≡ const R ls → n ≡ before_major r → major_of w h n ≡ Some (R, ls, g, r)
 major_at w R ls g r m k h n e c =
     some_on (as_const h) (R, ls) _ (R, ls, g, r) (rw e refl)
@@ -82,10 +79,10 @@ can_major w R e m n he rd t =
       shaped = h;
       written = λ ps.
           next w ps (reduces e m) (reduces (app F e) (app F n)) (he.written ps) (λ qs k j x.
-          last_reduct w qs major_rule (app F e) (app F n) (j ∷ []) h
+          last_reduct w qs major_rule (app F e) (app F n) (with_reduct e m j []) h
           (go_on (major_of w (head F) (length (args F))) (R.name, R.levels, R.entry, R.recursor) _ (major_there w R.name R.levels R.front R.entry R.recursor R.given R.kind R.front_is)
           (go_test (is_same_tree F F) _ (same_self F)
-          (go_on (reduced qs (j ∷ []) e) (m, []) _ (reduced_there qs j [] e m x)
+          (go_reduced qs j [] e m _ x (λ y. refl)
           (go_on (reads w m n) tt _ (passed_some (reads w m n) t) refl)))));
     }
 
@@ -132,13 +129,13 @@ quot_there w c i = some_on (w.means c) i.entry _ tt i.given (rw i.kind refl)
 mk_there : (h : Tree) (ys : List Tree) (ks : List Level) (A r a : Tree) → h ≡ const quot_mk ks → ys ≡ A ∷ r ∷ a ∷ [] → mk_of h ys ≡ Some a
 mk_there h ys ks A r a e i = rw (e, i) (some_test (same_name quot_mk quot_mk) _ a (same_self_name quot_mk) refl)
 
-quot_passes : (w : Place) (qs : List Claim) (j : ℕ) (q : Name) (f m : Tree) (ks : List Level) (A r a : Tree) → IsQuot w q → IsQuot w quot_mk → slice_get qs j ≡ Some (reduces m (apply (const quot_mk ks) (A ∷ r ∷ a ∷ []))) →
-    passes (red_quot w qs (j ∷ []) q q f m (app f a)) ≡ true
+quot_passes : (w : Place) (qs : List Claim) (j : ℕ) (q : Name) (f m : Tree) (ks : List Level) (A r a : Tree) → IsQuot w q → IsQuot w quot_mk → Stands qs j (reduces m (apply (const quot_mk ks) (A ∷ r ∷ a ∷ []))) →
+    passes (red_quot w qs (with_reduct m (apply (const quot_mk ks) (A ∷ r ∷ a ∷ [])) j []) q q f m (app f a)) ≡ true
 quot_passes w qs j q f m ks A r a i im e =
     go_test (same_name q q) _ (same_self_name q)
     (go_on (is_quot w q) tt _ (quot_there w q i)
     (go_on (is_quot w quot_mk) tt _ (quot_there w quot_mk im)
-    (go_on (reduced qs (j ∷ []) m) (apply (const quot_mk ks) (A ∷ r ∷ a ∷ []), []) _ (reduced_there qs j [] m (apply (const quot_mk ks) (A ∷ r ∷ a ∷ [])) e)
+    (go_reduced qs j [] m (apply (const quot_mk ks) (A ∷ r ∷ a ∷ [])) _ e (λ y. refl)
     (go_on (mk_of (head (apply (const quot_mk ks) (A ∷ r ∷ a ∷ []))) (args (apply (const quot_mk ks) (A ∷ r ∷ a ∷ [])))) a _
     (mk_there (head (apply (const quot_mk ks) (A ∷ r ∷ a ∷ []))) (args (apply (const quot_mk ks) (A ∷ r ∷ a ∷ []))) ks A r a (const_head quot_mk ks (A ∷ r ∷ a ∷ [])) (const_args quot_mk ks (A ∷ r ∷ a ∷ []))) (comes_itself (app f a))))))
 
@@ -151,7 +148,7 @@ can_lift w ls ks A r B f h m A' r' a i im ff hm =
       shaped = d;
       written = λ ps.
           next w ps (reduces m (apply (const quot_mk ks) (A' ∷ r' ∷ a ∷ []))) (reduces s (app f a)) (hm.written ps) (λ qs k j e.
-          last_reduct w qs lift_rule s (app f a) (j ∷ []) d (quot_passes w qs j quot_lift f m ks A' r' a i im e));
+          last_reduct w qs lift_rule s (app f a) (with_reduct m (apply (const quot_mk ks) (A' ∷ r' ∷ a ∷ [])) j []) d (quot_passes w qs j quot_lift f m ks A' r' a i im e));
     }
 
 pub can_ind : (w : Place) (ls ks : List Level) (A r B h m A' r' a : Tree) → IsQuot w quot_ind → IsQuot w quot_mk → AllWellFormed (A ∷ r ∷ B ∷ h ∷ []) → CanWrite w (reduces m (apply (const quot_mk ks) (A' ∷ r' ∷ a ∷ []))) →
@@ -163,13 +160,13 @@ can_ind w ls ks A r B h m A' r' a i im ff hm =
       shaped = d;
       written = λ ps.
           next w ps (reduces m (apply (const quot_mk ks) (A' ∷ r' ∷ a ∷ []))) (reduces s (app h a)) (hm.written ps) (λ qs k j e.
-          last_reduct w qs ind_rule s (app h a) (j ∷ []) d (quot_passes w qs j quot_ind h m ks A' r' a i im e));
+          last_reduct w qs ind_rule s (app h a) (with_reduct m (apply (const quot_mk ks) (A' ∷ r' ∷ a ∷ [])) j []) d (quot_passes w qs j quot_ind h m ks A' r' a i im e));
     }
 
-field_passes : (w : Place) (qs : List Claim) (j : ℕ) (c : CtorApp w) (i : ℕ) (s m x M : Tree) → slice_get qs j ≡ Some (reduces s m) →
-    found w (text_to_ctor m) ≡ Some M → head M ≡ const c.name c.levels → args M ≡ c.args → slice_get c.args (c.ctor.parameters + i) ≡ Some x → passes (red_field w qs (j ∷ []) (proj c.ind.name i s) x) ≡ true
+field_passes : (w : Place) (qs : List Claim) (j : ℕ) (c : CtorApp w) (i : ℕ) (s m x M : Tree) → Stands qs j (reduces s m) →
+    found w (text_to_ctor m) ≡ Some M → head M ≡ const c.name c.levels → args M ≡ c.args → slice_get c.args (c.ctor.parameters + i) ≡ Some x → passes (red_field w qs (with_reduct s m j []) (proj c.ind.name i s) x) ≡ true
 field_passes w qs j c i s m x M e t hM aM at =
-    go_on (reduced qs (j ∷ []) s) (m, []) _ (reduced_there qs j [] s m e)
+    go_reduced qs j [] s m _ e (λ y. refl)
     (go_on (found w (text_to_ctor m)) M _ t
     (go_on (as_const (head M)) (c.name, c.levels) _ (rw hM refl)
     (go_on (w.means c.name) c.entry _ c.given
@@ -186,7 +183,7 @@ can_field w c i s m x hs rd t at f =
       shaped = h;
       written = λ ps.
           next w ps (reduces s m) (reduces (proj c.ind.name i s) x) (hs.written ps) (λ qs kq j e.
-          last_reduct w qs field_rule (proj c.ind.name i s) x (j ∷ []) h (field_passes w qs j c i s m x (ctor_app c) e t (const_head c.name c.levels c.args) (const_args c.name c.levels c.args) at));
+          last_reduct w qs field_rule (proj c.ind.name i s) x (with_reduct s m j []) h (field_passes w qs j c i s m x (ctor_app c) e t (const_head c.name c.levels c.args) (const_args c.name c.levels c.args) at));
     }
 
 -- the constructor's rule
@@ -198,8 +195,9 @@ taken [] xs = refl
 taken (y ∷ ys) xs = ap (λ zs. y ∷ zs) (taken ys xs)
 
 k_passes : (w : Place) (qs : List Claim) (i j m n : ℕ) (R : RecApp w) (k : KMajor R) (e T₀ D F T d : Tree) → head F ≡ const R.name R.levels → args F ≡ R.front → head T ≡ const k.ctor.ind.name k.ctor.levels → args T ≡ k.ctor.args ++ k.rest →
-    d ≡ ctor_app k.ctor → slice_get qs i ≡ Some (types e T₀) → slice_get qs j ≡ Some (reduces T₀ T) → slice_get qs m ≡ Some (types d D) → slice_get qs n ≡ Some (equals T D) → passes (red_k w qs (i ∷ j ∷ m ∷ n ∷ []) (app F e) (app F d)) ≡ true
+    d ≡ ctor_app k.ctor → slice_get qs i ≡ Some (types e T₀) → Stands qs j (reduces T₀ T) → slice_get qs m ≡ Some (types d D) → Stands qs n (equals T D) → passes (red_k w qs (i ∷ with_reduct T₀ T j (m ∷ with_equal T D n [])) (app F e) (app F d)) ≡ true
 k_passes w qs i j m n R k e T₀ D F T d hF aF hT aT ed e₁ e₂ e₃ e₄ =
+    let last : Left = with_equal T D n [] in
     let c : CtorApp w = k.ctor in
     let rule : RecRule = k.only.rule in
     let p : ℕ = c.ctor.parameters in
@@ -212,14 +210,14 @@ k_passes w qs i j m n R k e T₀ D F T d hF aF hT aT ed e₁ e₂ e₃ e₄ =
     (go_on (the_rule R.recursor.rules) rule _ (rule_there R.recursor.rules rule k.only.one_rule)
     (go_on (w.means rule.ctor) c.entry _ given
     (go_on (the_ctor c.entry.kind) (c.block, c.ind, c.ctor) _ (rw c.kind refl)
-    (go_on (typed qs (i ∷ j ∷ m ∷ n ∷ []) e) (T₀, j ∷ m ∷ n ∷ []) _ (typed_there qs i (j ∷ m ∷ n ∷ []) e T₀ e₁)
-    (go_on (reduced qs (j ∷ m ∷ n ∷ []) T₀) (T, m ∷ n ∷ []) _ (reduced_there qs j (m ∷ n ∷ []) T₀ T e₂)
+    (go_typed qs i (with_reduct T₀ T j (m ∷ last)) e T₀ _ e₁
+    (go_reduced qs j (m ∷ last) T₀ T _ e₂ (λ y. typed_next qs m last T₀ d D e₃)
     (go_on (as_const (head T)) (c.ind.name, c.levels) _ (rw hT refl)
     (go_test (same_name c.ind.name c.ind.name && nat_le p (length (args T))) _ (and_true (same_name c.ind.name c.ind.name) (nat_le p (length (args T))) (same_self_name c.ind.name)
     (enough p c.args k.rest (length (args T)) (ap (length {A = Tree}) aT) k.params_are))
     (go_test (is_same_tree d target) _ (subst (λ z. is_same_tree d z ≡ true) same (same_self d))
-    (go_on (typed qs (m ∷ n ∷ []) d) (D, n ∷ []) _ (typed_there qs m (n ∷ []) d D e₃)
-    (go_on (equal qs (n ∷ []) T D) [] _ (equal_there qs n [] T D e₄) refl)))))))))))
+    (go_typed qs m last d D _ e₃
+    (go_equal qs n [] T D _ e₄ refl)))))))))))
   where
     most : (a b : ℕ) → a ≤ b → nat_le a b ≡ true
     most a b h = grind (arith, nat_tests)
@@ -242,7 +240,7 @@ can_k w R k e T₀ D he hT hD hq =
           next w p₁ (reduces T₀ T) G (hT.written p₁) (λ p₂ k₂ j x₂.
           next w p₂ (types d D) G (hD.written p₂) (λ p₃ k₃ m x₃.
           next w p₃ (equals T D) G (hq.written p₃) (λ qs k₄ n x₄.
-          last_reduct w qs k_rule (app F e) (app F d) (i ∷ j ∷ m ∷ n ∷ []) h
+          last_reduct w qs k_rule (app F e) (app F d) (i ∷ with_reduct T₀ T j (m ∷ with_equal T D n [])) h
           (k_passes w qs i j m n R k e T₀ D F T d (const_head R.name R.levels R.front) (const_args R.name R.levels R.front) (const_head k.ctor.ind.name k.ctor.levels (k.ctor.args ++ k.rest)) (const_args k.ctor.ind.name k.ctor.levels (k.ctor.args ++ k.rest)) refl
           (k₄ i (types e T₀) (k₃ i (types e T₀) (k₂ i (types e T₀) x))) (k₄ j (reduces T₀ T) (k₃ j (reduces T₀ T) x₂)) (k₄ m (types d D) x₃) x₄)))));
     }

@@ -14,6 +14,7 @@ use Rattle.lk_tree.specs.Mentions.{same_name}
 use Rattle.lk_rulebook.specs.Structures.{is_structure_like, projections, before_major, IsRuleOf, Structure, StructureAt, CtorApp, RecApp, HasRule, KMajor}
 use Rattle.lk_rulebook.specs.Literals.{ReadsText, Reads, by_text, as_it_is, as_zero, as_succ}
 use Rattle.lk_rulebook.specs.Rules.{HasType, Reduces, IsDefEq, HasSort, not_prop, r_major, r_iota, r_k, r_struct}
+use Rattle.lk_rulebook.proofs.Scopes.{well_formed_of_type, well_formed_of_reduct}
 use Rattle.lk_questions.specs.Steps.{is_same_tree}
 use Rattle.lk_questions.specs.Strings.{text_to_ctor}
 use Rattle.lk_questions.specs.Iota.{has_one_ctor}
@@ -93,7 +94,7 @@ major_is w ps d js (app f e) (app g n) fa =
     let G : Type 0 = Reduces w (app f e) (app g n) in
     on_major w (head f) (length (args f)) _ (λ u. G) (λ R im.
     on_test (is_same_tree g f) _ (λ u. G) (λ t.
-    on_reduced w ps d js e _ (λ u. G) (λ m h.
+    on_reduced w ps d js e fa.1 _ (λ u. G) (λ m h.
     if_bind (reads w m.0 n) _ (λ u. Reads w m.0 n) (λ u. G) (reads_right w m.0 n) (λ u rd.
     if_none_left m.1 G (major_made w f g e m.0 n R im (args f) refl (spine_is f R.0 R.0 R.1 im.head_is refl) (same_tree g f t) fa.0 h rd)))))
 major_is w ps d js _ _ fa = tt
@@ -159,13 +160,13 @@ k_is w ps d js (app f e) (app g t) fa =
     on_some (w.means rule.ctor) _ (λ u. G) (λ m mm.
     if_bind (ctor_in m.kind) _ (λ k. m.kind ≡ a_ctor k.0 k.1 k.2) (λ u. G) (ctor_right m.kind) (λ k hk.
     on_typed w ps d js e _ (λ u. G) (λ T₀ h₀.
-    on_reduced w ps d T₀.1 T₀.0 _ (λ u. G) (λ T hT.
+    on_reduced w ps d T₀.1 T₀.0 (well_formed_of_type h₀).1 _ (λ u. G) (λ T hT.
     on_const (head T.0) _ (λ u. G) (λ J eJ.
     on_test (same_name k.1.name J.0 && nat_le k.2.parameters (length (args T.0))) _ (λ u. G) (λ v.
     let vs : (same_name k.1.name J.0 ≡ true) × (nat_le k.2.parameters (length (args T.0)) ≡ true) = halves (same_name k.1.name J.0) (nat_le k.2.parameters (length (args T.0))) v in
     on_test (is_same_tree t (apply (const rule.ctor J.1) (take k.2.parameters (args T.0)))) _ (λ u. G) (λ x.
     on_typed w ps d T.1 t _ (λ u. G) (λ D hD.
-    on_equal w ps d D.1 T.0 D.0 _ (λ u. G) (λ r q.
+    on_equal w ps d D.1 T.0 D.0 (well_formed_of_reduct hT).1 _ (λ u. G) (λ r q.
     if_none_left r G (k_made w f g e t R im (args f) refl (spine_is f R.0 R.0 R.1 im.head_is refl) (same_tree g f both.0) both.1 rule one m mm k.0 k.1 k.2 hk T₀.0 T.0 h₀ hT J.1 (args T.0)
     (spine_is T.0 J.0 k.1.name J.1 eJ (sym (same_name_right k.1.name J.0 vs.0))) (at_most_right k.2.parameters (length (args T.0)) vs.1)
     (same_tree t (apply (const rule.ctor J.1) (take k.2.parameters (args T.0))) x) D.0 hD q fa.0)))))))))))))
@@ -207,7 +208,7 @@ expand_is w ok ps d js (app f m) (app g n) fa =
     on_some (w.means rule.ctor) _ (λ u. G) (λ e me.
     if_bind (ctor_in e.kind) _ (λ k. e.kind ≡ a_ctor k.0 k.1 k.2) (λ u. G) (ctor_right e.kind) (λ k hk.
     on_typed w ps d js m _ (λ u. G) (λ T₀ h₀.
-    on_reduced w ps d T₀.1 T₀.0 _ (λ u. G) (λ T hT.
+    on_reduced w ps d T₀.1 T₀.0 (well_formed_of_type h₀).1 _ (λ u. G) (λ T hT.
     on_const (head T.0) _ (λ u. G) (λ J eJ.
     on_test (same_name k.1.name J.0 && (has_one_ctor k.1.ctors && (is_structure_like k.0 k.1 k.2 && nat_eq (length (args T.0)) k.2.parameters))) _ (λ u. G) (λ v.
     let vs : (same_name k.1.name J.0 ≡ true) × ((has_one_ctor k.1.ctors && (is_structure_like k.0 k.1 k.2 && nat_eq (length (args T.0)) k.2.parameters)) ≡ true) =

@@ -20,7 +20,7 @@ use Rattle.lk_written.specs.Equal.{is_neutral, eq_eta}
 use Rattle.lk_claims.specs.Claims.{IsShaped}
 use Rattle.lk_written.specs.Written.{CanWrite}
 use Rattle.lk_claims.proofs.Facts.{same_self}
-use Rattle.lk_written.proofs.Writings.{next, last_type, last_equal, go_on, go_test, comes_itself, with_pi, typed_there, equal_there, to_pi_there}
+use Rattle.lk_written.proofs.Writings.{next, last_type, last_equal, go_on, go_test, comes_itself, with_reduct, with_equal, equal_next, go_typed, go_equal, go_pi}
 use Rattle.lk_written.proofs.EqualRules.{neutral_passes}
 
 -- where the shape passes its test
@@ -41,9 +41,9 @@ can_succ_left w n x f h = record {
   shaped = (f, (tt, h.shaped.1));
   written = λ ps.
       next w ps (equals (lit n) x) (equals (lit (suc n)) (app (named nat_succ) x)) (h.written ps) (λ qs k i e.
-      last_equal w qs succ_rule (lit (suc n)) (app (named nat_succ) x) (i ∷ []) (f, (tt, h.shaped.1))
+      last_equal w qs succ_rule (lit (suc n)) (app (named nat_succ) x) (with_equal (lit n) x i []) (f, (tt, h.shaped.1))
       (go_test (is_same_tree (named nat_succ) (named nat_succ)) _ (same_self (named nat_succ))
-      (go_on (equal qs (i ∷ []) (lit n) x) [] _ (equal_there qs i [] (lit n) x e) refl)));
+      (go_equal qs i [] (lit n) x _ e refl)));
 }
 
 pub can_succ_right : (w : Place) (n : ℕ) (x : Tree) → IsWellFormed (lit (suc n)) → CanWrite w (equals x (lit n)) → CanWrite w (equals (app (named nat_succ) x) (lit (suc n)))
@@ -51,9 +51,9 @@ can_succ_right w n x f h = record {
   shaped = ((tt, h.shaped.0), f);
   written = λ ps.
       next w ps (equals x (lit n)) (equals (app (named nat_succ) x) (lit (suc n))) (h.written ps) (λ qs k i e.
-      last_equal w qs succ_rule (app (named nat_succ) x) (lit (suc n)) (i ∷ []) ((tt, h.shaped.0), f)
+      last_equal w qs succ_rule (app (named nat_succ) x) (lit (suc n)) (with_equal x (lit n) i []) ((tt, h.shaped.0), f)
       (go_test (is_same_tree (named nat_succ) (named nat_succ)) _ (same_self (named nat_succ))
-      (go_on (equal qs (i ∷ []) x (lit n)) [] _ (equal_there qs i [] x (lit n) e) refl)));
+      (go_equal qs i [] x (lit n) _ e refl)));
 }
 
 -- a lambda stands second
@@ -72,11 +72,13 @@ can_eta_right w o T A B A' b n ho hT hq =
           next w ps (types o T) G (ho.written ps) (λ p₁ k₁ i e.
           next w p₁ (reduces T (pi A B)) G (hT.written p₁) (λ p₂ k₂ j e₂.
           next w p₂ (equals (lam A' b) (lam A (app o (var 0)))) G (hq.written p₂) (λ qs k₃ m e₃.
-          last_equal w qs eta_rule (lam A' b) o (i ∷ with_pi T j (m ∷ [])) h
+          let last : Left = with_equal (lam A' b) (eta_long A o) m [] in
+          let more : Left = with_reduct T (pi A B) j last in
+          last_equal w qs eta_rule (lam A' b) o (i ∷ more) h
           (go_test (is_neutral o) _ (neutral_passes o n)
-          (go_on (typed qs (i ∷ with_pi T j (m ∷ [])) o) (T, with_pi T j (m ∷ [])) _ (typed_there qs i (with_pi T j (m ∷ [])) o T (k₃ i (types o T) (k₂ i (types o T) e)))
-          (go_on (to_pi qs (with_pi T j (m ∷ [])) T) ((A, B), m ∷ []) _ (to_pi_there qs j (m ∷ []) T A B hT.shaped.2 (k₃ j (reduces T (pi A B)) e₂))
-          (go_on (equal qs (m ∷ []) (lam A' b) (eta_long A o)) [] _ (equal_there qs m [] (lam A' b) (eta_long A o) e₃) refl)))))));
+          (go_typed qs i more o T _ (k₃ i (types o T) (k₂ i (types o T) e))
+          (go_pi qs j last T A B _ (k₃ j (reduces T (pi A B)) e₂) (λ y. equal_next qs m [] T (lam A' b) (eta_long A o) e₃ refl)
+          (go_equal qs m [] (lam A' b) (eta_long A o) _ e₃ refl)))))));
     }
 
 pub can_eta_left : (w : Place) (o T A B A' b : Tree) → IsNeutral o → CanWrite w (types o T) → CanWrite w (reduces T (pi A B)) → CanWrite w (equals (lam A (app o (var 0))) (lam A' b)) → CanWrite w (equals o (lam A' b))
@@ -89,12 +91,14 @@ can_eta_left w o T A B A' b n ho hT hq =
           next w ps (types o T) G (ho.written ps) (λ p₁ k₁ i e.
           next w p₁ (reduces T (pi A B)) G (hT.written p₁) (λ p₂ k₂ j e₂.
           next w p₂ (equals (lam A (app o (var 0))) (lam A' b)) G (hq.written p₂) (λ qs k₃ m e₃.
-          last_equal w qs eta_rule o (lam A' b) (i ∷ with_pi T j (m ∷ [])) h
-          (second_lam qs (i ∷ with_pi T j (m ∷ [])) o A' b n
+          let last : Left = with_equal (eta_long A o) (lam A' b) m [] in
+          let more : Left = with_reduct T (pi A B) j last in
+          last_equal w qs eta_rule o (lam A' b) (i ∷ more) h
+          (second_lam qs (i ∷ more) o A' b n
           (go_test (is_neutral o) _ (neutral_passes o n)
-          (go_on (typed qs (i ∷ with_pi T j (m ∷ [])) o) (T, with_pi T j (m ∷ [])) _ (typed_there qs i (with_pi T j (m ∷ [])) o T (k₃ i (types o T) (k₂ i (types o T) e)))
-          (go_on (to_pi qs (with_pi T j (m ∷ [])) T) ((A, B), m ∷ []) _ (to_pi_there qs j (m ∷ []) T A B hT.shaped.2 (k₃ j (reduces T (pi A B)) e₂))
-          (go_on (equal qs (m ∷ []) (eta_long A o) (lam A' b)) [] _ (equal_there qs m [] (eta_long A o) (lam A' b) e₃) refl))))))));
+          (go_typed qs i more o T _ (k₃ i (types o T) (k₂ i (types o T) e))
+          (go_pi qs j last T A B _ (k₃ j (reduces T (pi A B)) e₂) (λ y. equal_next qs m [] T (eta_long A o) (lam A' b) e₃ refl)
+          (go_equal qs m [] (eta_long A o) (lam A' b) _ e₃ refl))))))));
     }
 
 -- where the text passes its test
@@ -103,9 +107,9 @@ can_str_left w s b x t h = record {
   shaped = (tt, h.shaped.1);
   written = λ ps.
       next w ps (equals (expansion (chars s)) b) (equals (str s) b) (h.written ps) (λ qs k i e.
-      last_equal w qs str_left_rule (str s) b (i ∷ []) (tt, h.shaped.1)
+      last_equal w qs str_left_rule (str s) b (with_equal (expansion (chars s)) b i []) (tt, h.shaped.1)
       (go_on (found w (expansion_of s)) (Some (expansion (chars s))) _ t
-      (go_on (equal qs (i ∷ []) (expansion (chars s)) b) [] _ (equal_there qs i [] (expansion (chars s)) b e) refl)));
+      (go_equal qs i [] (expansion (chars s)) b _ e refl)));
 }
 
 pub can_str_right : (w : Place) (s : List ℕ) (a : Tree) → Expands w s → found w (expansion_of s) ≡ Some (Some (expansion (chars s))) → CanWrite w (equals a (expansion (chars s))) → CanWrite w (equals a (str s))
@@ -113,7 +117,7 @@ can_str_right w s a x t h = record {
   shaped = (h.shaped.0, tt);
   written = λ ps.
       next w ps (equals a (expansion (chars s))) (equals a (str s)) (h.written ps) (λ qs k i e.
-      last_equal w qs str_right_rule a (str s) (i ∷ []) (h.shaped.0, tt)
+      last_equal w qs str_right_rule a (str s) (with_equal a (expansion (chars s)) i []) (h.shaped.0, tt)
       (go_on (found w (expansion_of s)) (Some (expansion (chars s))) _ t
-      (go_on (equal qs (i ∷ []) a (expansion (chars s))) [] _ (equal_there qs i [] a (expansion (chars s)) e) refl)));
+      (go_equal qs i [] a (expansion (chars s)) _ e refl)));
 }

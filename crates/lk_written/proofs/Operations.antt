@@ -2,7 +2,9 @@
 use Rattle.std.proofs.Common.{◌≡◌, Bool, true, false, List, [], ◌∷◌, Option, Some, None, refl, subst, ◌∙◌, sym, ap, if◌then◌else◌}
 use Rattle.lk_tree.specs.Tree.{Name, Level, Tree, const}
 use Rattle.lk_tree.specs.Spine.{apply, head, args}
+use Rattle.lk_tree.specs.WellFormed.{IsWellFormed, AllWellFormed}
 use Rattle.lk_tree.specs.Operations.{Op, op_value, Value}
+use Rattle.lk_tree.proofs.Spines.{well_formed_of_apply}
 use Rattle.lk_tree.proofs.Within.{apply_head_args}
 use Rattle.lk_rulebook.specs.Place.{Place}
 use Rattle.lk_rulebook.specs.Names.{named, op_name}
@@ -10,7 +12,7 @@ use Rattle.lk_tree.specs.Mentions.{same_name}
 use Rattle.lk_rulebook.specs.Shapes.{HasNat}
 use Rattle.lk_rulebook.specs.Literals.{IsResult, may_give}
 use Rattle.lk_rulebook.specs.Lawful.{IsLawfulPlace}
-use Rattle.lk_rulebook.specs.Rules.{Reduces, r_op, Numerals, no_more_numerals, numeral}
+use Rattle.lk_rulebook.specs.Rules.{Reduces, r_op, ReduceToNumerals, no_more_numerals, numeral}
 use Rattle.lk_questions.specs.Shapes.{nat_shape}
 use Rattle.lk_questions.specs.Literals.{ops, op_named, numeral_of, result_of}
 use Rattle.lk_claims.proofs.Pieces.{same_name_right, Some_inj}
@@ -24,12 +26,12 @@ use Rattle.lk_written.proofs.Typings.{comes_right}
 use Rattle.lk_written.proofs.Projs.{on_const}
 use Rattle.lk_claims.proofs.Numerals.{numeral_right, IfResult, sound_result}
 
-numbers_right : (w : Place) (ps : List Claim) → AllDerived w ps → (js : Left) (es : List Tree) → IfSome (numbers ps js es) (λ r. Numerals w es r.0)
-numbers_right w ps d js [] = no_more_numerals
-numbers_right w ps d js (e ∷ es) =
-    on_reduced w ps d js e _ (λ r. Numerals w (e ∷ es) r.0) (λ v h.
-    on_some (numeral_of v.0) _ (λ r. Numerals w (e ∷ es) r.0) (λ n i.
-    if_bind (numbers ps v.1 es) _ (λ r. Numerals w es r.0) (λ r. Numerals w (e ∷ es) r.0) (numbers_right w ps d v.1 es) (λ ns s. numeral h (numeral_right v.0 n i) s)))
+numbers_right : (w : Place) (ps : List Claim) → AllDerived w ps → (js : Left) (es : List Tree) → AllWellFormed es → IfSome (numbers ps js es) (λ r. ReduceToNumerals w es r.0)
+numbers_right w ps d js [] f = no_more_numerals
+numbers_right w ps d js (e ∷ es) f =
+    on_reduced w ps d js e f.0 _ (λ r. ReduceToNumerals w (e ∷ es) r.0) (λ v h.
+    on_some (numeral_of v.0) _ (λ r. ReduceToNumerals w (e ∷ es) r.0) (λ n i.
+    if_bind (numbers ps v.1 es) _ (λ r. ReduceToNumerals w es r.0) (λ r. ReduceToNumerals w (e ∷ es) r.0) (numbers_right w ps d v.1 es f.1) (λ ns s. numeral h (numeral_right v.0 n i) s)))
 
 pub tree_right : (o : Option Tree) → IfSome (tree_in o) (λ t. o ≡ Some t)
 tree_right (Some t) = refl
@@ -54,16 +56,17 @@ none_there (l ∷ ls) = tt
 operation_tree : (a : Tree) (c f : Name) (ls : List Level) → head a ≡ const c ls → ls ≡ [] → f ≡ c → apply (named f) (args a) ≡ a
 operation_tree a c f ls e n i = ap (λ h. apply h (args a)) (ap (λ d. const d []) i ∙ (ap (λ ls. const c ls) (sym n) ∙ sym e)) ∙ apply_head_args a
 
-pub operation_is : (w : Place) → IsLawfulPlace w → (ps : List Claim) → AllDerived w ps → (js : Left) (a b : Tree) → IfSome (red_operation w ps js a b) (λ u. Reduces w a b)
-operation_is w laws ps d js a b =
+pub operation_is : (w : Place) → IsLawfulPlace w → (ps : List Claim) → AllDerived w ps → (js : Left) (a b : Tree) → IsWellFormed a → IfSome (red_operation w ps js a b) (λ u. Reduces w a b)
+operation_is w laws ps d js a b fa =
     let G : Type 0 = Reduces w a b in
+    let fx : AllWellFormed (args a) = (well_formed_of_apply (head a) (args a) (subst IsWellFormed (sym (apply_head_args a)) fa)).1 in
     on_const (head a) _ (λ u. G) (λ c e.
     if_bind (no_levels c.1) _ (λ u. c.1 ≡ []) (λ u. G) (none_there c.1) (λ u n.
     on_some (op_named ops c.0) _ (λ u. G) (λ op i.
     on_some (w.means c.0) _ (λ u. G) (λ g m.
     on_test (may_give op g.kind) _ (λ u. G) (λ k.
     if_bind (found w nat_shape) _ (λ u. HasNat w) (λ u. G) (found_right w nat_shape (λ u. HasNat w) (sound_nat_shape w)) (λ s hn.
-    if_bind (numbers ps js (args a)) _ (λ r. Numerals w (args a) r.0) (λ u. G) (numbers_right w ps d js (args a)) (λ ns hs.
+    if_bind (numbers ps js (args a)) _ (λ r. ReduceToNumerals w (args a) r.0) (λ u. G) (numbers_right w ps d js (args a) fx) (λ ns hs.
     if_bind (found w (result_of (op_value op ns.0))) _ (IfResult w (op_value op ns.0)) (λ u. G) (found_right w (result_of (op_value op ns.0)) (IfResult w (op_value op ns.0)) (sound_result w (op_value op ns.0))) (λ o ho.
     if_bind (tree_in o) _ (λ t. o ≡ Some t) (λ u. G) (tree_right o) (λ r hr.
     let f : op_name op ≡ c.0 = op_named_right ops c.0 op i in

@@ -1,7 +1,8 @@
 -- Lines of typing are derived.
-use Rattle.std.proofs.Common.{◌≡◌, nat_eq, length, List}
+use Rattle.std.proofs.Common.{◌≡◌, nat_eq, length, List, [], ◌∷◌, sym, subst}
 use Rattle.lk_tree.specs.Tree.{succ_level, imax_level, Tree, sort, const, app, lam, pi, let_in, lit, str, local}
-use Rattle.lk_tree.specs.Bind.{opened, bound}
+use Rattle.lk_tree.specs.Bind.{opened}
+use Rattle.lk_tree.specs.Spine.{apply}
 use Rattle.lk_tree.specs.WellFormed.{IsWellFormed}
 use Rattle.lk_tree.specs.Levels.{put_levels}
 use Rattle.lk_rulebook.specs.Place.{Place}
@@ -15,9 +16,9 @@ use Rattle.lk_claims.proofs.Pieces.{same_tree, equal_numbers}
 use Rattle.lk_claims.proofs.Shaped.{sound_nat_shape, sound_string_shape}
 use Rattle.lk_claims.specs.Claims.{Claim, AllDerived}
 use Rattle.lk_claims.specs.Tests.{found}
-use Rattle.lk_written.specs.Premises.{Left}
-use Rattle.lk_written.specs.Typing.{comes_to, type_sort, type_local, type_const, type_app, type_body, type_lam, type_pi, type_let, type_lit, type_str}
-use Rattle.lk_written.proofs.Premises.{IfSome, if_bind, on_some, on_test, if_test, on_none_left, found_right, on_typed, on_equal, on_sorted, on_pi, on_above}
+use Rattle.lk_written.specs.Premises.{Left, arguments_over}
+use Rattle.lk_written.specs.Typing.{comes_to, type_sort, type_local, type_const, applied_type, type_app, type_lam, type_pi, type_let, type_lit, type_str}
+use Rattle.lk_written.proofs.Premises.{IfSome, if_bind, on_some, on_test, if_test, on_none_left, found_right, on_typing, on_typed, on_equal, on_sorted, on_pi, on_fresh, arguments_right}
 
 -- the tree is the one that the rule comes to
 pub comes_right : (T e : Tree) (js : Left) (P : Tree → Type 0) → P e → IfSome (comes_to T e js) (λ u. P T)
@@ -42,46 +43,49 @@ const_is w js (const c ls) T f =
     comes_fine T (put_levels g.levels ls g.type) js (λ T. HasType w (const c ls) T) f (λ h. t_const (record { entry = g; given = m; levels_are = equal_numbers (length ls) (length g.levels) n }) h)))
 const_is w js _ T f = tt
 
-pub app_is : (w : Place) (ps : List Claim) → AllDerived w ps → (js : Left) (e T : Tree) → IfSome (type_app ps js e T) (λ u. HasType w e T)
-app_is w ps d js (app f a) T =
-    on_typed w ps d js f _ (λ u. HasType w (app f a) T) (λ F hF.
-    on_pi w ps d F.1 F.0 _ (λ u. HasType w (app f a) T) (well_formed_of_type hF).1 (λ p hp.
-    on_typed w ps d p.1 a _ (λ u. HasType w (app f a) T) (λ A hA.
-    on_equal w ps d A.1 A.0 p.0.0 _ (λ u. HasType w (app f a) T) (λ r q.
-    comes_right T (opened p.0.1 a) r (λ T. HasType w (app f a) T) (t_app hF hp hA q)))))
-app_is w ps d js _ T = tt
+applied_right : (w : Place) (ps : List Claim) → AllDerived w ps → (js : Left) (f F : Tree) (xs : List Tree) → HasType w f F → IfSome (applied_type ps js F xs) (λ r. HasType w (apply f xs) r.0)
+applied_right w ps d js f F [] h = h
+applied_right w ps d js f F (x ∷ xs) h =
+    let Q : Tree × Left → Type 0 = λ r. HasType w (apply (app f x) xs) r.0 in
+    on_pi w ps d js F _ Q (well_formed_of_type h).1 (λ p hp.
+    on_typed w ps d p.1 x _ Q (λ X hX.
+    on_equal w ps d X.1 X.0 p.0.0 (well_formed_of_type hX).1 _ Q (λ r q.
+    applied_right w ps d r (app f x) (opened p.0.1 x) xs (t_app h hp hX q))))
 
-pub body_is : (w : Place) (ps : List Claim) → AllDerived w ps → (js : Left) (x A b T : Tree) → IfSome (type_body ps js x A b T) (λ u. HasType w (lam A b) T)
-body_is w ps d js x A b (pi C B) =
+pub app_is : (w : Place) (ps : List Claim) → AllDerived w ps → (js : Left) (e T : Tree) → IfSome (type_app ps js e T) (λ u. HasType w e T)
+app_is w ps d js e T =
+    let Q : Unit {0} → Type 0 = λ u. HasType w e T in
+    on_typing w ps d js _ Q (λ f hf.
+    if_bind (arguments_over f.left e []) _ (λ xs. e ≡ apply f.left xs) Q (arguments_right f.left e []) (λ xs i.
+    if_bind (applied_type ps f.after f.right xs) _ (λ F. HasType w (apply f.left xs) F.0) Q (applied_right w ps d f.after f.left f.right xs hf) (λ F hF.
+    comes_right T F.0 F.1 (λ T. HasType w e T) (subst (λ z. HasType w z F.0) (sym i) hF))))
+
+pub lam_is : (w : Place) (ps : List Claim) → AllDerived w ps → (js : Left) (x e T : Tree) → IfSome (type_lam ps js x e T) (λ u. HasType w e T)
+lam_is w ps d js x (lam A b) (pi C B) =
     let G : Type 0 = HasType w (lam A b) (pi C B) in
-    on_above (bound (lam A b)) A x _ (λ u. G) (λ k m e.
     on_test (is_same_tree C A) _ (λ u. G) (λ t. let i : C ≡ A = same_tree C A t in
-    on_above (bound (pi A B)) A x _ (λ u. G) (λ j n f. let same : j ≡ k = cc in
+    on_fresh A (lam A b ∷ pi A B ∷ []) x _ (λ u. G) (λ k fresh e.
     on_sorted w ps d js A _ (λ u. G) (λ l hl.
     on_typed w ps d l.1 (opened b (local k A)) _ (λ u. G) (λ T hT.
-    comes_by T.0 (opened B (local k A)) T.1 G (λ q. rw i (t_lam {B = B} {k = k} m (rw (← same) n) hl (rw (← q) hT))))))))
+    comes_by T.0 (opened B (local k A)) T.1 G (λ q. rw i (t_lam {B = B} {k = k} fresh hl (rw (← q) hT)))))))
   where
     comes_by : (T e : Tree) (js : Left) (P : Type 0) → (T ≡ e → P) → IfSome (comes_to T e js) (λ u. P)
     comes_by T e js P h = on_none_left js _ (λ u. P) (if_test (is_same_tree T e) P (λ t. h (same_tree T e t)))
-body_is w ps d js x A b _ = tt
-
-pub lam_is : (w : Place) (ps : List Claim) → AllDerived w ps → (js : Left) (x e T : Tree) → IfSome (type_lam ps js x e T) (λ u. HasType w e T)
-lam_is w ps d js x (lam A b) T = body_is w ps d js x A b T
-lam_is w ps d js x _ T = tt
+lam_is w ps d js x _ _ = tt
 
 pub pi_is : (w : Place) (ps : List Claim) → AllDerived w ps → (js : Left) (x e T : Tree) → IfSome (type_pi ps js x e T) (λ u. HasType w e T)
 pi_is w ps d js x (pi A B) T =
-    on_above (bound (pi A B)) A x _ (λ u. HasType w (pi A B) T) (λ k m e.
+    on_fresh A (pi A B ∷ []) x _ (λ u. HasType w (pi A B) T) (λ k fresh e.
     on_sorted w ps d js A _ (λ u. HasType w (pi A B) T) (λ u hu.
     on_sorted w ps d u.1 (opened B (local k A)) _ (λ u. HasType w (pi A B) T) (λ v hv.
-    comes_right T (sort (imax_level u.0 v.0)) v.1 (λ T. HasType w (pi A B) T) (t_pi m hu hv))))
+    comes_right T (sort (imax_level u.0 v.0)) v.1 (λ T. HasType w (pi A B) T) (t_pi fresh hu hv))))
 pi_is w ps d js x _ T = tt
 
 pub let_is : (w : Place) (ps : List Claim) → AllDerived w ps → (js : Left) (e T : Tree) → IfSome (type_let ps js e T) (λ u. HasType w e T)
 let_is w ps d js (let_in A v b) T =
     on_sorted w ps d js A _ (λ u. HasType w (let_in A v b) T) (λ l hl.
     on_typed w ps d l.1 v _ (λ u. HasType w (let_in A v b) T) (λ V hV.
-    on_equal w ps d V.1 V.0 A _ (λ u. HasType w (let_in A v b) T) (λ r q.
+    on_equal w ps d V.1 V.0 A (well_formed_of_type hV).1 _ (λ u. HasType w (let_in A v b) T) (λ r q.
     on_typed w ps d r (opened b v) _ (λ u. HasType w (let_in A v b) T) (λ B hB.
     comes_right T B.0 B.1 (λ T. HasType w (let_in A v b) T) (t_let hl hV q hB)))))
 let_is w ps d js _ T = tt

@@ -15,11 +15,11 @@ use Rattle.lk_rulebook.proofs.Scans.{scan_passes}
 use Rattle.lk_questions.specs.QuotientUnits.{quot_steps}
 use Rattle.lk_claims.specs.Claims.{Claim, types, reduces, equals}
 use Rattle.lk_claims.specs.Tests.{passes, found}
-use Rattle.lk_written.specs.Premises.{Left, typed, equal, sorted}
+use Rattle.lk_written.specs.Premises.{Left, typed}
 use Rattle.lk_written.specs.Section.{Section, claims_by, value_read, value_test, laws_read, laws_test, body_test, parts_test, section_test, unit_section, section_holds}
-use Rattle.lk_written.specs.Written.{Keeps, CanBe, CanMeet, CanBeLawful, CanBody, CanDeclare}
+use Rattle.lk_written.specs.Written.{Stands, CanBe, CanMeet, CanBeLawful, CanBody, CanDeclare}
 use Rattle.lk_claims.proofs.Facts.{some_on}
-use Rattle.lk_written.proofs.Writings.{go_on, go_test, typed_there, equal_there, sorted_there, with_sort, Finishes, finish, go_first}
+use Rattle.lk_written.proofs.Writings.{Stays, go_on, go_test, NoReduct, with_reduct, with_equal, typed_there, equal_there, typed_next, go_equal, go_sorted, Finishes, finish, go_first}
 
 -- premises that the parts pass with
 abbrev Parts : Place → Decl → List Claim → Type 0
@@ -34,58 +34,67 @@ record ValueStands (qs : List Claim) (type value inferred : Tree) : Type 0 where
   typed_at : ℕ
   equal_at : ℕ
   is_typed : slice_get qs typed_at ≡ Some (types value inferred)
-  is_equal : slice_get qs equal_at ≡ Some (equals inferred type)
+  is_equal : Stands qs equal_at (equals inferred type)
 
-stands_later : (ps qs : List Claim) (type value V : Tree) → Keeps ps qs → ValueStands ps type value V → ValueStands qs type value V
+stands_later : (ps qs : List Claim) (type value V : Tree) → Stays ps qs → ValueStands ps type value V → ValueStands qs type value V
 stands_later ps qs type value V k h = record { typed_at = h.typed_at; equal_at = h.equal_at; is_typed = k h.typed_at (types value V) h.is_typed; is_equal = k h.equal_at (equals V type) h.is_equal }
 
 abbrev value_premises : {qs : List Claim} {type value V : Tree} → ValueStands qs type value V → Left → Left
-value_premises h js = h.typed_at ∷ h.equal_at ∷ js
+value_premises {type = type} {V = V} h js = h.typed_at ∷ with_equal V type h.equal_at js
 
 value_there : (qs : List Claim) (type value V : Tree) (h : ValueStands qs type value V) (js : Left) → value_read qs (value_premises h js) type value ≡ Some js
 value_there qs type value V h js =
-    some_on (typed qs (h.typed_at ∷ h.equal_at ∷ js) value) (V, h.equal_at ∷ js) _ js (typed_there qs h.typed_at (h.equal_at ∷ js) value V h.is_typed) (equal_there qs h.equal_at js V type h.is_equal)
+    some_on (typed qs (h.typed_at ∷ with_equal V type h.equal_at js) value) (V, with_equal V type h.equal_at js) _ js (typed_there qs h.typed_at (with_equal V type h.equal_at js) value V h.is_typed) (equal_there qs h.equal_at js V type h.is_equal)
 
-value_written : (w : Place) (ps : List Claim) (type value : Tree) (P : List Claim → Type 0) (h : CanBe w value type) → ((qs : List Claim) → Keeps ps qs → ValueStands qs type value h.inferred → Finishes w qs P) → Finishes w ps P
+value_written : (w : Place) (ps : List Claim) (type value : Tree) (P : List Claim → Type 0) (h : CanBe w value type) → ((qs : List Claim) → Stays ps qs → ValueStands qs type value h.inferred → Finishes w qs P) → Finishes w ps P
 value_written w ps type value P h f =
     go_first w ps (types value h.inferred) P (h.typed.written ps) (λ p₁ k₁ i e.
     go_first w p₁ (equals h.inferred type) P (h.equal.written p₁) (λ qs k₂ j e₂.
     f qs (λ n c x. k₂ n c (k₁ n c x)) (record { typed_at = i; equal_at = j; is_typed = k₂ i (types value h.inferred) e; is_equal = e₂ })))
 
+-- no reduction is next
+abbrev NoneNext : List Claim → Left → Type 0
+NoneNext qs js = (e : Tree) → NoReduct qs js e
+
+value_next : (qs : List Claim) (type value V : Tree) (h : ValueStands qs type value V) (js : Left) → NoneNext qs (value_premises h js)
+value_next qs type value V h js e = typed_next qs h.typed_at (with_equal V type h.equal_at js) e value V h.is_typed
+
 value_alone : (w : Place) (ps : List Claim) (type value : Tree) (P : List Claim → Type 0) → CanBe w value type →
-    ((qs : List Claim) → Keeps ps qs → (js : Left) → passes (value_test qs js type value) ≡ true → P qs) → Finishes w ps P
+    ((qs : List Claim) → Stays ps qs → (js : Left) → NoneNext qs js → passes (value_test qs js type value) ≡ true → P qs) → Finishes w ps P
 value_alone w ps type value P h f =
-    value_written w ps type value P h (λ qs k s. finish w qs P (f qs k (value_premises s []) (go_on (value_read qs (value_premises s []) type value) [] _ (value_there qs type value h.inferred s []) refl)))
+    value_written w ps type value P h (λ qs k s.
+    finish w qs P (f qs k (value_premises s []) (value_next qs type value h.inferred s []) (go_on (value_read qs (value_premises s []) type value) [] _ (value_there qs type value h.inferred s []) refl)))
 
 -- each law, one after the other
 laws_written : (w : Place) (ps : List Claim) (laws : List Law) (P : List Claim → Type 0) → CanMeet w laws →
-    ((qs : List Claim) → Keeps ps qs → (js : Left) → passes (laws_read w qs js laws) ≡ true → P qs) → Finishes w ps P
+    ((qs : List Claim) → Stays ps qs → (js : Left) → passes (laws_read w qs js laws) ≡ true → P qs) → Finishes w ps P
 laws_written w ps [] P h f = finish w ps P (f ps (λ n c x. x) [] refl)
 laws_written w ps (law ∷ laws) P h f =
     go_first w ps (equals law.left law.right) P (h.0.1.written ps) (λ p₁ k₁ i e.
     laws_written w p₁ laws P h.1 (λ qs k₂ js x.
-    f qs (λ n c y. k₂ n c (k₁ n c y)) (i ∷ js)
+    f qs (λ n c y. k₂ n c (k₁ n c y)) (with_equal law.left law.right i js)
     (go_on (found w (held_given law.holds)) tt _ h.0.0
-    (go_on (equal qs (i ∷ js) law.left law.right) js _ (equal_there qs i js law.left law.right (k₂ i (equals law.left law.right) e)) x))))
+    (go_equal qs i js law.left law.right _ (k₂ i (equals law.left law.right) e) x))))
 
 lawful_written : (w : Place) (ps : List Claim) (o : Option Op) (ls : List Name) (value : Tree) (P : List Claim → Type 0) → CanBeLawful w o ls value →
-    ((qs : List Claim) → Keeps ps qs → (js : Left) → passes (laws_test w qs js o ls value) ≡ true → P qs) → Finishes w ps P
+    ((qs : List Claim) → Stays ps qs → (js : Left) → passes (laws_test w qs js o ls value) ≡ true → P qs) → Finishes w ps P
 lawful_written w ps None ls value P h f = finish w ps P (f ps (λ n c x. x) [] refl)
 lawful_written w ps (Some op) ls value P h f =
     laws_written w ps (laws_of op value) P h.3 (λ qs k js x.
     f qs k js (go_on (found w nat_shape) tt _ h.0 (go_test (nat_eq (length ls) 0) _ h.1 (go_on (found w (def_given (stated_by op))) tt _ h.2 x))))
 
 body_written : (w : Place) (ps : List Claim) (d : Decl) (l : Level) (b : Body) (P : List Claim → Type 0) → CanBody w d l b →
-    ((qs : List Claim) → Keeps ps qs → (js : Left) → passes (body_test w qs js d l b) ≡ true → P qs) → Finishes w ps P
-body_written w ps d l as_axiom P h f = finish w ps P (f ps (λ n c x. x) [] refl)
+    ((qs : List Claim) → Stays ps qs → (js : Left) → NoneNext qs js → passes (body_test w qs js d l b) ≡ true → P qs) → Finishes w ps P
+body_written w ps d l as_axiom P h f = finish w ps P (f ps (λ n c x. x) [] (λ e. refl) refl)
 body_written w ps d l (as_def i value) P h f =
+    let V : Tree = h.0.inferred in
     value_written w ps d.type value P h.0 (λ p₁ k₁ s.
     lawful_written w p₁ (lawful_op d.name) d.levels value P h.1 (λ qs k₂ js x.
-    let t : ValueStands qs d.type value h.0.inferred = stands_later p₁ qs d.type value h.0.inferred k₂ s in
-    f qs (λ n c y. k₂ n c (k₁ n c y)) (value_premises t js) (go_on (value_read qs (value_premises t js) d.type value) js _ (value_there qs d.type value h.0.inferred t js) x)))
+    let t : ValueStands qs d.type value V = stands_later p₁ qs d.type value V k₂ s in
+    f qs (λ n c y. k₂ n c (k₁ n c y)) (value_premises t js) (value_next qs d.type value V t js) (go_on (value_read qs (value_premises t js) d.type value) js _ (value_there qs d.type value V t js) x)))
 body_written w ps d l (as_opaque value) P h f = value_alone w ps d.type value P h f
-body_written w ps d l (as_thm value) P h f = value_alone w ps d.type value P h.0 (λ qs k js x. f qs k js (go_test (is_zero_level l) _ h.1 x))
-body_written w ps d l as_quot P h f = finish w ps P (f ps (λ n c x. x) [] (go_on (found w (quot_steps d.name d.levels d.type)) tt _ h refl))
+body_written w ps d l (as_thm value) P h f = value_alone w ps d.type value P h.0 (λ qs k js n x. f qs k js n (go_test (is_zero_level l) _ h.1 x))
+body_written w ps d l as_quot P h f = finish w ps P (f ps (λ n c x. x) [] (λ e. refl) (go_on (found w (quot_steps d.name d.levels d.type)) tt _ h refl))
 
 parts_written : (w : Place) (d : Decl) → CanDeclare w d → Finishes w [] (Parts w d)
 parts_written w d h =
@@ -93,10 +102,9 @@ parts_written w d h =
     let S : Tree = h.sorted.between in
     go_first w [] (types d.type S) (Parts w d) (h.sorted.typed.written []) (λ p₁ k₁ i e.
     go_first w p₁ (reduces S (sort l)) (Parts w d) (h.sorted.reduced.written p₁) (λ p₂ k₂ j e₂.
-    body_written w p₂ d l d.body (Parts w d) h.body (λ qs k₃ js x. (
-      i ∷ with_sort S j js,
-      go_on (sorted qs (i ∷ with_sort S j js) d.type) (l, js) _
-          (sorted_there qs i j js d.type S l h.sorted.reduced.shaped.2 (k₃ i (types d.type S) (k₂ i (types d.type S) e)) (k₃ j (reduces S (sort l)) e₂)) x,
+    body_written w p₂ d l d.body (Parts w d) h.body (λ qs k₃ js n x. (
+      i ∷ with_reduct S (sort l) j js,
+      go_sorted qs i j js d.type S l _ (k₃ i (types d.type S) (k₂ i (types d.type S) e)) (k₃ j (reduces S (sort l)) e₂) (λ y. n S) x,
     ))))
 
 section_written : (w : Place) (d : Decl) → Finishes w [] (Parts w d) → (s : Section) × (passes (section_test w d s) ≡ true)

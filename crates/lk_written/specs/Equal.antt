@@ -1,7 +1,8 @@
 -- Lines of conversion, a test for each rule: a == b.
-use Rattle.std.specs.Prelude.{ℕ, zero, suc, ◌+◌, Bool, true, false, ◌&&◌, nat_eq, List, [], ◌∷◌, length, drop, Option, Some, None}
+use Rattle.std.specs.Prelude.{ℕ, zero, suc, ◌+◌, Bool, true, false, ◌&&◌, nat_eq, List, [], ◌∷◌}
+use Rattle.std.specs.Prelude.{length, drop, Option, Some, None}
 use Rattle.lk_tree.specs.Tree.{Name, Tree, sort, const, app, lam, pi, let_in, proj, lit, str, local}
-use Rattle.lk_tree.specs.Bind.{opened, bound}
+use Rattle.lk_tree.specs.Bind.{opened}
 use Rattle.lk_tree.specs.LevelTest.{level_test}
 use Rattle.lk_tree.specs.Spine.{head, args}
 use Rattle.lk_rulebook.specs.Place.{Place}
@@ -14,9 +15,13 @@ use Rattle.lk_questions.specs.Eta.{is_unit_like}
 use Rattle.lk_questions.specs.Same.{eta_long}
 use Rattle.lk_questions.specs.Strings.{expansion_of}
 use Rattle.lk_claims.specs.Claims.{Claim}
-use Rattle.lk_written.specs.Line.{EqualityRule, same_rule, reduce_rule, sorts_rule, consts_rule, apps_rule, projs_rule, lams_rule, pis_rule, eta_rule, struct_left_rule, struct_right_rule, unit_rule, proof_rule, zero_rule, succ_rule, str_left_rule, str_right_rule}
+use Rattle.lk_written.specs.Line.{EqualityRule, reduce_rule, sorts_rule, consts_rule, apps_rule}
+use Rattle.lk_written.specs.Line.{projs_rule, lams_rule, pis_rule, eta_rule, struct_left_rule}
+use Rattle.lk_written.specs.Line.{struct_right_rule, unit_rule, proof_rule, zero_rule, succ_rule}
+use Rattle.lk_written.specs.Line.{str_left_rule, str_right_rule}
 use Rattle.lk_claims.specs.Tests.{◌>>=◌, test, found, is_true, same_levels}
-use Rattle.lk_written.specs.Premises.{as_const, local_above, Left, ends, typed, reduced, equal, to_pi, is_prop_by}
+use Rattle.lk_written.specs.Premises.{as_const, fresh_local, Left, ends, typed, reduced, equal}
+use Rattle.lk_written.specs.Premises.{to_pi, is_prop_by}
 use Rattle.lk_written.specs.Typing.{comes_to, the_type}
 use Rattle.lk_written.specs.Reducing.{the_ctor, tree_in}
 
@@ -31,9 +36,6 @@ is_neutral e = true
 abbrev pub is_head_normal : Tree → Bool
 is_head_normal (lam A b) = true
 is_head_normal e = is_neutral e
-
-abbrev pub eq_same : Left → Tree → Tree → Option (Unit {0})
-eq_same js a b = comes_to b a js
 
 -- a >> a', b >> b', a' == b'
 abbrev pub eq_reduce : List Claim → Left → Tree → Tree → Option (Unit {0})
@@ -55,30 +57,46 @@ eq_consts js (const c ls) (const d ms) = do
   test (same_name d c && same_levels ls ms)
 eq_consts js _ _ = None
 
--- f == g, a == b
-abbrev pub eq_apps : List Claim → Left → Tree → Tree → Option (Unit {0})
-eq_apps ps js (app f a) (app g b) = do
-  u ← test (is_neutral f && is_neutral g)
-  r ← equal ps js f g
-  s ← equal ps r a b
-  ends s
-eq_apps ps js _ _ = None
+-- x == y for each pair
+abbrev pub pairs_equal : List Claim → Left → List (Tree × Tree) → Option Left
+pairs_equal ps js [] = Some js
+pairs_equal ps js (p ∷ more) = do
+  r ← equal ps js p.0 p.1
+  pairs_equal ps r more
 
--- A == A', b[x] == b'[x]
-abbrev pub eq_bodies : List Claim → Left → Tree → ℕ → ℕ → Tree → Tree → Tree → Tree → Option (Unit {0})
-eq_bodies ps js x m n A b A' b' = do
-  k ← local_above m A x
-  u ← local_above n A x
-  r ← equal ps js A A'
-  s ← equal ps r (opened b (local k A)) (opened b' (local k A))
+-- a is f x1 .. xn and b is g y1 .. yn, n the least from 1 on where f and g are one tree or the next
+-- premise states f == g; then xi == yi. more: the pairs of arguments that a and b are applied to
+abbrev pub spines_equal : List Claim → Left → Tree → Tree → List (Tree × Tree) → Option Left
+spines_equal ps js (app f x) (app g y) more =
+    elim (equal ps js f g) [
+      | Some r ↦ pairs_equal ps r ((x, y) ∷ more)
+      | None ↦ spines_equal ps js f g ((x, y) ∷ more)
+    ]
+spines_equal ps js _ _ more = None
+
+abbrev pub eq_apps : List Claim → Left → Tree → Tree → Option (Unit {0})
+eq_apps ps js a b = do
+  u ← test (is_neutral a && is_neutral b)
+  r ← spines_equal ps js a b []
+  ends r
+
+-- A == A', b[x] == b'[x], where x is Local(k, A)
+abbrev pub eq_bodies : List Claim → Left → ℕ → Tree × Tree → Tree × Tree → Option (Unit {0})
+eq_bodies ps js k p q = do
+  r ← equal ps js p.0 q.0
+  s ← equal ps r (opened p.1 (local k p.0)) (opened q.1 (local k p.0))
   ends s
 
 abbrev pub eq_lams : List Claim → Left → Tree → Tree → Tree → Option (Unit {0})
-eq_lams ps js x (lam A b) (lam A' b') = eq_bodies ps js x (bound (lam A b)) (bound (lam A' b')) A b A' b'
+eq_lams ps js x (lam A b) (lam A' b') = do
+  k ← fresh_local A (lam A b ∷ lam A' b' ∷ []) x
+  eq_bodies ps js k (A, b) (A', b')
 eq_lams ps js x _ _ = None
 
 abbrev pub eq_pis : List Claim → Left → Tree → Tree → Tree → Option (Unit {0})
-eq_pis ps js x (pi A b) (pi A' b') = eq_bodies ps js x (bound (pi A b)) (bound (pi A' b')) A b A' b'
+eq_pis ps js x (pi A B) (pi A' B') = do
+  k ← fresh_local A (pi A B ∷ pi A' B' ∷ []) x
+  eq_bodies ps js k (A, B) (A', B')
 eq_pis ps js x _ _ = None
 
 -- s == t
@@ -118,7 +136,8 @@ eq_struct w ps js a b = do
   h ← as_const (head b)
   g ← w.means h.0
   k ← the_ctor g.kind
-  u ← test (is_head_normal a && (nat_eq (length (args b)) (k.2.parameters + k.2.fields) && (has_one_ctor k.1.ctors && is_structure_like k.0 k.1 k.2)))
+  u ← test (is_head_normal a && (nat_eq (length (args b)) (k.2.parameters + k.2.fields)
+      && (has_one_ctor k.1.ctors && is_structure_like k.0 k.1 k.2)))
   A ← typed ps js a
   B ← typed ps A.1 b
   r ← equal ps B.1 A.0 B.0
@@ -184,7 +203,6 @@ eq_str_right w ps js a (str s) = do
 eq_str_right w ps js a _ = None
 
 abbrev pub eq_test : Place → List Claim → EqualityRule → Tree → Tree → Left → Option (Unit {0})
-eq_test w ps same_rule a b js = eq_same js a b
 eq_test w ps reduce_rule a b js = eq_reduce ps js a b
 eq_test w ps sorts_rule a b js = eq_sorts js a b
 eq_test w ps consts_rule a b js = eq_consts js a b

@@ -1,4 +1,5 @@
--- Lines of a written derivation: each states that two trees are related, and names the rule and the earlier lines that it rests on.
+-- Lines of a written derivation: each states that two trees are related, and names the rule and the
+-- earlier lines that it rests on.
 use Rattle.std.specs.Prelude.{ℕ, List}
 use Rattle.lk_tree.specs.Tree.{Tree}
 use Rattle.lk_claims.specs.Claims.{Claim, types, reduces, equals}
@@ -10,13 +11,15 @@ pub data TypingRule : Type 0 where
 
 -- the number beside iota is the place of the recursor's rule in its list
 pub data ReductionRule : Type 0 where
-  stay_rule chain_rule head_rule beta_rule zeta_rule delta_rule field_rule major_rule k_rule expand_rule lift_rule ind_rule operation_rule : ReductionRule
+  chain_rule head_rule beta_rule zeta_rule delta_rule field_rule major_rule : ReductionRule
+  k_rule expand_rule lift_rule ind_rule operation_rule : ReductionRule
   iota_rule : ℕ → ReductionRule
 
 pub data EqualityRule : Type 0 where
-  same_rule reduce_rule sorts_rule consts_rule apps_rule projs_rule : EqualityRule
+  reduce_rule sorts_rule consts_rule apps_rule projs_rule : EqualityRule
   lams_rule pis_rule : Tree → EqualityRule
-  eta_rule struct_left_rule struct_right_rule unit_rule proof_rule zero_rule succ_rule str_left_rule str_right_rule : EqualityRule
+  eta_rule struct_left_rule struct_right_rule unit_rule proof_rule : EqualityRule
+  zero_rule succ_rule str_left_rule str_right_rule : EqualityRule
 
 -- a rule, the two trees, and the numbers of the lines that are its premises
 pub data Line : Type 0 where

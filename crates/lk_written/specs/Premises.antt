@@ -1,6 +1,9 @@
--- The tests that lines are made of. A test reads the premises that are left, and gives what it read and those left after it.
-use Rattle.std.specs.Prelude.{ℕ, suc, ◌^◌, Bool, true, false, ◌&&◌, nat_lt, nat_le, List, [], ◌∷◌, Option, Some, None, slice_get}
-use Rattle.lk_tree.specs.Tree.{Name, Level, Tree, var, sort, const, app, lam, pi, let_in, proj, lit, wide, str, local}
+-- The tests that lines are made of. A test reads the premises that are left, and gives what it read
+-- and those left after it.
+use Rattle.std.specs.Prelude.{ℕ, suc, ◌^◌, Bool, true, false, ◌&&◌, nat_lt, nat_le, List, [], ◌∷◌}
+use Rattle.std.specs.Prelude.{Option, Some, None, slice_get, if◌then◌else◌}
+use Rattle.lk_tree.specs.Tree.{Name, Level, Tree, var, sort, const, app, lam, pi, let_in, proj, lit}
+use Rattle.lk_tree.specs.Tree.{wide, str, local}
 use Rattle.lk_tree.specs.Bind.{bound}
 use Rattle.lk_tree.specs.Level.{is_zero_level}
 use Rattle.lk_questions.specs.Steps.{is_same_tree}
@@ -39,11 +42,16 @@ abbrev pub as_local : Tree → Option (ℕ × Tree)
 as_local (local k T) = Some (k, T)
 as_local _ = None
 
--- the number of a Local of this type, at least n
-abbrev pub local_above : ℕ → Tree → Tree → Option ℕ
-local_above n A x = do
+-- k is at least the bound of each of these trees
+abbrev pub is_fresh : ℕ → List Tree → Bool
+is_fresh k [] = true
+is_fresh k (e ∷ es) = nat_le (bound e) k && is_fresh k es
+
+-- the number of x, where x is a Local of type A that is fresh for these trees
+abbrev pub fresh_local : Tree → List Tree → Tree → Option ℕ
+fresh_local A es x = do
   p ← as_local x
-  u ← test (is_same_tree p.1 A && nat_le n p.0)
+  u ← test (is_same_tree p.1 A && is_fresh p.0 es)
   Some p.0
 
 -- premises that are left
@@ -55,55 +63,83 @@ abbrev pub ends : Left → Option (Unit {0})
 ends [] = Some tt
 ends (j ∷ js) = None
 
--- the claim of the next premise
+-- the two trees of what the next premise states, and the premises after it
+pub record Stated : Type 0 where
+  pub left : Tree
+  pub right : Tree
+  pub after : Left
+
+-- the claim of the next premise, and the premises after it
 abbrev pub next_claim : List Claim → Left → Option (Claim × Left)
 next_claim ps [] = None
 next_claim ps (j ∷ js) = slice_get ps j >>= λ c. Some (c, js)
 
-abbrev pub type_in : Claim → Tree → Option Tree
-type_in (types a T) e = test (is_same_tree a e) >>= λ u. Some T
-type_in _ e = None
+abbrev pub as_typing : Claim → Left → Option Stated
+as_typing (types e T) js = Some (record { left = e; right = T; after = js })
+as_typing _ js = None
 
-abbrev pub reduct_in : Claim → Tree → Option Tree
-reduct_in (reduces a b) e = test (is_same_tree a e) >>= λ u. Some b
-reduct_in _ e = None
+abbrev pub as_reduction : Claim → Left → Option Stated
+as_reduction (reduces a b) js = Some (record { left = a; right = b; after = js })
+as_reduction _ js = None
 
-abbrev pub equal_in : Claim → Tree → Tree → Option (Unit {0})
-equal_in (equals a b) c d = test (is_same_tree a c && is_same_tree b d)
-equal_in _ c d = None
+abbrev pub as_equality : Claim → Left → Option Stated
+as_equality (equals a b) js = Some (record { left = a; right = b; after = js })
+as_equality _ js = None
+
+-- the next premise, where it states this relation, whatever its trees are
+abbrev pub typing : List Claim → Left → Option Stated
+typing ps js = do
+  c ← next_claim ps js
+  as_typing c.0 c.1
+
+abbrev pub reduction : List Claim → Left → Option Stated
+reduction ps js = do
+  c ← next_claim ps js
+  as_reduction c.0 c.1
+
+abbrev pub equality : List Claim → Left → Option Stated
+equality ps js = do
+  c ← next_claim ps js
+  as_equality c.0 c.1
 
 -- e => T
 abbrev pub typed : List Claim → Left → Tree → Option (Tree × Left)
 typed ps js e = do
-  c ← next_claim ps js
-  T ← type_in c.0 e
-  Some (T, c.1)
+  s ← typing ps js
+  u ← test (is_same_tree s.left e)
+  Some (s.right, s.after)
 
--- e >> b
+-- e >> b, where the next premise is a reduction of e
+abbrev pub next_reduct : List Claim → Left → Tree → Option (Tree × Left)
+next_reduct ps js e = do
+  s ← reduction ps js
+  u ← test (is_same_tree s.left e)
+  Some (s.right, s.after)
+
+-- e >> b; else nothing is read, and b is e
 abbrev pub reduced : List Claim → Left → Tree → Option (Tree × Left)
-reduced ps js e = do
-  c ← next_claim ps js
-  b ← reduct_in c.0 e
-  Some (b, c.1)
+reduced ps js e = elim (next_reduct ps js e) [ Some r ↦ Some r | None ↦ Some (e, js) ]
 
--- a == b
+-- a == b, where the next premise states it
+abbrev pub next_equal : List Claim → Left → Tree → Tree → Option Left
+next_equal ps js a b = do
+  s ← equality ps js
+  u ← test (is_same_tree s.left a && is_same_tree s.right b)
+  Some s.after
+
+-- a == b; nothing is read where they are one tree
 abbrev pub equal : List Claim → Left → Tree → Tree → Option Left
-equal ps js a b = do
-  c ← next_claim ps js
-  u ← equal_in c.0 a b
-  Some c.1
+equal ps js a b = if is_same_tree a b then Some js else next_equal ps js a b
 
--- S >> Sort l; no premise is read where S is a Sort
+-- S >> Sort l
 abbrev pub to_sort : List Claim → Left → Tree → Option (Level × Left)
-to_sort ps js (sort l) = Some (l, js)
 to_sort ps js S = do
   b ← reduced ps js S
   l ← as_sort b.0
   Some (l, b.1)
 
--- F >> Pi A B; no premise is read where F is a Pi
+-- F >> Pi A B
 abbrev pub to_pi : List Claim → Left → Tree → Option ((Tree × Tree) × Left)
-to_pi ps js (pi A B) = Some ((A, B), js)
 to_pi ps js F = do
   b ← reduced ps js F
   p ← as_pi b.0
@@ -121,3 +157,9 @@ is_prop_by ps js A = do
   l ← sorted ps js A
   u ← test (is_zero_level l.0)
   Some l.1
+
+-- the arguments, one or more, where e is f applied to them; xs: those that e itself is applied to
+abbrev pub arguments_over : Tree → Tree → List Tree → Option (List Tree)
+arguments_over f (app g x) xs =
+    if is_same_tree g f then Some (x ∷ xs) else arguments_over f g (x ∷ xs)
+arguments_over f _ xs = None

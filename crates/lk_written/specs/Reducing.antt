@@ -1,61 +1,77 @@
 -- Lines of reduction, a test for each rule: a >> b.
-use Rattle.std.specs.Prelude.{ℕ, ◌+◌, ◌&&◌, not, nat_eq, nat_le, List, [], ◌∷◌, ◌++◌, length, take, drop, Option, Some, None, slice_get}
+use Rattle.std.specs.Prelude.{ℕ, ◌+◌, Bool, true, false, ◌&&◌, not, nat_eq, nat_le, List, [], ◌∷◌}
+use Rattle.std.specs.Prelude.{◌++◌, length, take, drop, Option, Some, None, slice_get}
 use Rattle.lk_tree.specs.Tree.{Name, Level, Tree, const, app, lam, let_in, proj}
 use Rattle.lk_tree.specs.Bind.{opened}
 use Rattle.lk_tree.specs.Level.{is_zero_level}
 use Rattle.lk_tree.specs.Levels.{put_levels}
 use Rattle.lk_tree.specs.Spine.{apply, head, args}
 use Rattle.lk_tree.specs.Operations.{op_value}
-use Rattle.lk_rulebook.specs.Place.{Place, Entry, Kind, Block, BlockType, Ctor, Recursor, RecRule, a_ctor, a_rec}
+use Rattle.lk_rulebook.specs.Place.{Place, Entry, Kind, Block, BlockType, Ctor, Recursor, RecRule}
+use Rattle.lk_rulebook.specs.Place.{a_ctor, a_rec}
 use Rattle.lk_rulebook.specs.Names.{quot_mk, quot_lift, quot_ind}
 use Rattle.lk_tree.specs.Mentions.{same_name}
-use Rattle.lk_rulebook.specs.Structures.{is_structure_like, projections, before_major}
+use Rattle.lk_rulebook.specs.Structures.{is_structure_like, projections, before_indices}
+use Rattle.lk_rulebook.specs.Structures.{before_major}
 use Rattle.lk_rulebook.specs.Literals.{may_give}
 use Rattle.lk_questions.specs.Steps.{is_same_tree, value_of}
+use Rattle.lk_questions.specs.Core.{lambdas, beta}
 use Rattle.lk_questions.specs.Shapes.{nat_shape}
 use Rattle.lk_questions.specs.Strings.{text_to_ctor}
 use Rattle.lk_questions.specs.Literals.{ops, op_named, numeral_of, result_of}
 use Rattle.lk_questions.specs.Iota.{has_one_ctor}
 use Rattle.lk_questions.specs.Quotients.{by_quot}
 use Rattle.lk_claims.specs.Claims.{Claim}
-use Rattle.lk_written.specs.Line.{ReductionRule, stay_rule, chain_rule, head_rule, beta_rule, zeta_rule, delta_rule, field_rule, major_rule, k_rule, expand_rule, lift_rule, ind_rule, operation_rule, iota_rule}
+use Rattle.lk_written.specs.Line.{ReductionRule, chain_rule, head_rule, beta_rule, zeta_rule}
+use Rattle.lk_written.specs.Line.{delta_rule, field_rule, major_rule, k_rule, expand_rule}
+use Rattle.lk_written.specs.Line.{lift_rule, ind_rule, operation_rule, iota_rule}
 use Rattle.lk_claims.specs.Tests.{◌>>=◌, test, found}
-use Rattle.lk_written.specs.Premises.{as_const, Left, ends, typed, reduced, equal, sorted}
+use Rattle.lk_written.specs.Premises.{as_const, Left, ends, typed, reduction, reduced, equal}
+use Rattle.lk_written.specs.Premises.{sorted, arguments_over}
 use Rattle.lk_written.specs.Typing.{comes_to}
 use Rattle.lk_claims.specs.Tests.{reads}
-
-abbrev pub red_stay : Left → Tree → Tree → Option (Unit {0})
-red_stay js a b = comes_to b a js
 
 -- a >> c, c >> b
 abbrev pub red_chain : List Claim → Left → Tree → Tree → Option (Unit {0})
 red_chain ps js a b = do
-  c ← reduced ps js a
-  d ← reduced ps c.1 c.0
-  comes_to b d.0 d.1
+  c ← reduction ps js
+  d ← reduction ps c.after
+  u ← test (is_same_tree c.left a && is_same_tree d.left c.right)
+  comes_to b d.right d.after
 
--- f >> g
+-- f >> g; a is f x1 .. xn
 abbrev pub red_head : List Claim → Left → Tree → Tree → Option (Unit {0})
-red_head ps js (app f a) b = do
-  g ← reduced ps js f
-  comes_to b (app g.0 a) g.1
-red_head ps js _ b = None
+red_head ps js a b = do
+  f ← reduction ps js
+  xs ← arguments_over f.left a []
+  comes_to b (apply f.right xs) f.after
 
+abbrev pub is_applied_lam : Tree → List Tree → Bool
+is_applied_lam (lam A b) (x ∷ xs) = true
+is_applied_lam _ _ = false
+
+-- as many of the lambdas at the head as there are arguments for are opened with them
 abbrev pub red_beta : Left → Tree → Tree → Option (Unit {0})
-red_beta js (app (lam A c) a) b = comes_to b (opened c a) js
-red_beta js _ b = None
+red_beta js a b = do
+  u ← test (is_applied_lam (head a) (args a))
+  comes_to b (beta (lambdas (head a)) (head a) (args a)) js
+
+abbrev pub opened_let : Tree → Option Tree
+opened_let (let_in A v b) = Some (opened b v)
+opened_let _ = None
 
 abbrev pub red_zeta : Left → Tree → Tree → Option (Unit {0})
-red_zeta js (let_in A v c) b = comes_to b (opened c v) js
-red_zeta js _ b = None
+red_zeta js a b = do
+  h ← opened_let (head a)
+  comes_to b (apply h (args a)) js
 
 abbrev pub red_delta : Place → Left → Tree → Tree → Option (Unit {0})
-red_delta w js (const c ls) b = do
-  g ← w.means c
+red_delta w js a b = do
+  c ← as_const (head a)
+  g ← w.means c.0
   v ← value_of g.kind
-  u ← test (nat_eq (length ls) (length g.levels))
-  comes_to b (put_levels g.levels ls v) js
-red_delta w js _ b = None
+  u ← test (nat_eq (length c.1) (length g.levels))
+  comes_to b (apply (put_levels g.levels c.1 v) (args a)) js
 
 abbrev pub the_ctor : Kind → Option (Block × BlockType × Ctor)
 the_ctor (a_ctor block ind c) = Some (block, ind, c)
@@ -108,8 +124,10 @@ red_iota w i js (app f e) b = do
   c ← as_const (head e)
   g ← w.means c.0
   k ← the_ctor g.kind
-  u ← test ((same_name rule.ctor c.0 && nat_eq (length R.1) (length R.2.levels)) && nat_eq (length (args e)) (k.2.parameters + rule.fields))
-  comes_to b (apply (apply (put_levels R.2.levels R.1 rule.value) (take (R.3.parameters + R.3.motives + R.3.minors) (args f))) (drop k.2.parameters (args e))) js
+  u ← test ((same_name rule.ctor c.0 && nat_eq (length R.1) (length R.2.levels))
+      && nat_eq (length (args e)) (k.2.parameters + rule.fields))
+  comes_to b (apply (apply (put_levels R.2.levels R.1 rule.value)
+      (take (before_indices R.3) (args f))) (drop k.2.parameters (args e))) js
 red_iota w i js _ b = None
 
 -- e => T0, T0 >> T, d => D, T == D
@@ -141,8 +159,10 @@ red_expand w ps js (app f m) (app g n) = do
   T₀ ← typed ps js m
   T ← reduced ps T₀.1 T₀.0
   J ← as_const (head T.0)
-  v ← test (same_name k.1.name J.0 && (has_one_ctor k.1.ctors && (is_structure_like k.0 k.1 k.2 && nat_eq (length (args T.0)) k.2.parameters)))
-  x ← test (is_same_tree n (apply (const rule.ctor J.1) (args T.0 ++ projections J.0 m 0 k.2.fields)))
+  v ← test (same_name k.1.name J.0 && (has_one_ctor k.1.ctors
+      && (is_structure_like k.0 k.1 k.2 && nat_eq (length (args T.0)) k.2.parameters)))
+  x ← test (is_same_tree n (apply (const rule.ctor J.1)
+      (args T.0 ++ projections J.0 m 0 k.2.fields)))
   l ← sorted ps T.1 T.0
   y ← test (not (is_zero_level l.0))
   ends l.1
@@ -162,7 +182,8 @@ mk_of (const c ks) (A ∷ r ∷ a ∷ []) = do
 mk_of _ _ = None
 
 -- m >> Quot.mk A' r' a
-abbrev pub red_quot : Place → List Claim → Left → Name → Name → Tree → Tree → Tree → Option (Unit {0})
+abbrev pub red_quot : Place → List Claim → Left → Name → Name → Tree → Tree → Tree →
+    Option (Unit {0})
 red_quot w ps js c q f m b = do
   u ← test (same_name c q)
   v ← is_quot w q
@@ -172,11 +193,13 @@ red_quot w ps js c q f m b = do
   comes_to b (app f a) n.1
 
 abbrev pub red_lift : Place → List Claim → Left → Tree → Tree → Option (Unit {0})
-red_lift w ps js (app (app (app (app (app (app (const c ls) A) r) B) f) h) m) b = red_quot w ps js c quot_lift f m b
+red_lift w ps js (app (app (app (app (app (app (const c ls) A) r) B) f) h) m) b =
+    red_quot w ps js c quot_lift f m b
 red_lift w ps js _ b = None
 
 abbrev pub red_ind : Place → List Claim → Left → Tree → Tree → Option (Unit {0})
-red_ind w ps js (app (app (app (app (app (const c ls) A) r) B) h) m) b = red_quot w ps js c quot_ind h m b
+red_ind w ps js (app (app (app (app (app (const c ls) A) r) B) h) m) b =
+    red_quot w ps js c quot_ind h m b
 red_ind w ps js _ b = None
 
 abbrev pub no_levels : List Level → Option (Unit {0})
@@ -210,7 +233,6 @@ red_operation w ps js a b = do
   comes_to b r ns.1
 
 abbrev pub red_test : Place → List Claim → ReductionRule → Tree → Tree → Left → Option (Unit {0})
-red_test w ps stay_rule a b js = red_stay js a b
 red_test w ps chain_rule a b js = red_chain ps js a b
 red_test w ps head_rule a b js = red_head ps js a b
 red_test w ps beta_rule a b js = red_beta js a b

@@ -1,9 +1,12 @@
--- Whole sections: the lines one by one, each on those before it, and the last line, which names the parts of a good unit.
-use Rattle.std.specs.Prelude.{ℕ, suc, length, nat_eq, Bool, false, ◌&&◌, List, [], ◌∷◌, ◌++◌, Option, Some, None, slice_get, if◌then◌else◌}
+-- Whole sections: the lines one by one, each on those before it, and the last line, which names the
+-- parts of a good unit.
+use Rattle.std.specs.Prelude.{ℕ, suc, length, nat_eq, Bool, false, ◌&&◌, List, [], ◌∷◌, ◌++◌}
+use Rattle.std.specs.Prelude.{Option, Some, None, slice_get, if◌then◌else◌}
 use Rattle.lk_tree.specs.Tree.{Name, Level, Tree}
 use Rattle.lk_tree.specs.Level.{is_zero_level}
 use Rattle.lk_rulebook.specs.Place.{Place}
-use Rattle.lk_rulebook.specs.Units.{Body, as_axiom, as_def, as_thm, as_opaque, as_quot, Decl, LibraryUnit, of_decl, of_block, Library, place_of}
+use Rattle.lk_rulebook.specs.Units.{Body, as_axiom, as_def, as_thm, as_opaque, as_quot, Decl}
+use Rattle.lk_rulebook.specs.Units.{LibraryUnit, of_decl, of_block, Library, place_of}
 use Rattle.lk_rulebook.specs.Scan.{is_none, scan_of}
 use Rattle.lk_tree.specs.Operations.{Op}
 use Rattle.lk_rulebook.specs.NumberLaws.{Law, laws_of, stated_by}
@@ -35,7 +38,8 @@ line_holds w ps (cv r a b js) = are_fine a b && passes (eq_test w ps r a b js)
 -- what the lines state, where each holds
 abbrev pub claims_by : Place → List Claim → List Line → Option (List Claim)
 claims_by w ps [] = Some ps
-claims_by w ps (l ∷ ls) = if line_holds w ps l then claims_by w (ps ++ (claim_of l ∷ [])) ls else None
+claims_by w ps (l ∷ ls) =
+    if line_holds w ps l then claims_by w (ps ++ (claim_of l ∷ [])) ls else None
 
 -- value => V, V == type; the premises after them
 abbrev pub value_read : List Claim → Left → Tree → Tree → Option Left
@@ -56,7 +60,8 @@ laws_read w ps js (law ∷ laws) = do
   r ← equal ps js law.left law.right
   laws_read w ps r laws
 
--- of a def with these level parameters and this value that is named as an operation with laws: then its laws
+-- of a def with these level parameters and this value that is named as an operation with laws: then
+-- its laws
 abbrev pub laws_test : Place → List Claim → Left → Option Op → List Name → Tree → Option (Unit {0})
 laws_test w ps js None ls value = ends js
 laws_test w ps js (Some op) ls value = do
@@ -87,7 +92,8 @@ section_test w d s = do
 
 -- the section is one of unit n, which is no block
 abbrev pub unit_section : Library → ℕ → LibraryUnit → Section → Bool
-unit_section us n (of_decl d) s = is_none (scan_of us n (of_decl d)) && passes (section_test (place_of us n []) d s)
+unit_section us n (of_decl d) s =
+    is_none (scan_of us n (of_decl d)) && passes (section_test (place_of us n []) d s)
 unit_section us n (of_block b rs) s = false
 
 abbrev pub section_holds : Library → ℕ → Section → Bool
@@ -96,12 +102,20 @@ section_holds us n s = elim (slice_get us n) [ Some u ↦ unit_section us n u s 
 -- the number of the first line that does not hold, where the first of them has number i
 abbrev pub line_at_fault : Place → List Claim → ℕ → List Line → Option ℕ
 line_at_fault w ps i [] = None
-line_at_fault w ps i (l ∷ ls) = if line_holds w ps l then line_at_fault w (ps ++ (claim_of l ∷ [])) (suc i) ls else Some i
+line_at_fault w ps i (l ∷ ls) =
+    if line_holds w ps l then line_at_fault w (ps ++ (claim_of l ∷ [])) (suc i) ls else Some i
 
--- else the number of the last line, which comes after them, where the names, the scan or the parts are at fault
+-- else the number of the last line, which comes after them, where the names, the scan or the parts
+-- are at fault
 abbrev pub unit_at_fault : Library → ℕ → LibraryUnit → Section → Option ℕ
-unit_at_fault us n u s = elim (line_at_fault (place_of us n []) [] 0 s.lines) [ Some i ↦ Some i | None ↦ if unit_section us n u s then None else Some (length s.lines) ]
+unit_at_fault us n u s = elim (line_at_fault (place_of us n []) [] 0 s.lines) [
+  | Some i ↦ Some i
+  | None ↦ if unit_section us n u s then None else Some (length s.lines)
+]
 
 -- the number of the first line of the section that is at fault
 abbrev pub section_at_fault : Library → ℕ → Section → Option ℕ
-section_at_fault us n s = elim (slice_get us n) [ Some u ↦ unit_at_fault us n u s | None ↦ Some (length s.lines) ]
+section_at_fault us n s = elim (slice_get us n) [
+  | Some u ↦ unit_at_fault us n u s
+  | None ↦ Some (length s.lines)
+]

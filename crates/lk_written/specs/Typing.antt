@@ -1,7 +1,9 @@
 -- Lines of typing, a test for each rule: e => T.
-use Rattle.std.specs.Prelude.{ℕ, zero, suc, ◌+◌, Bool, true, false, ◌&&◌, nat_eq, nat_lt, List, [], ◌∷◌, length, Option, Some, None}
-use Rattle.lk_tree.specs.Tree.{Name, succ_level, imax_level, Tree, sort, const, app, lam, pi, let_in, proj, lit, str, local}
-use Rattle.lk_tree.specs.Bind.{opened, bound, has_var}
+use Rattle.std.specs.Prelude.{ℕ, zero, suc, ◌+◌, Bool, true, false, ◌&&◌, nat_eq, nat_lt, List, []}
+use Rattle.std.specs.Prelude.{◌∷◌, length, Option, Some, None}
+use Rattle.lk_tree.specs.Tree.{Name, succ_level, imax_level, Tree, sort, const, lam, pi, let_in}
+use Rattle.lk_tree.specs.Tree.{proj, lit, str, local}
+use Rattle.lk_tree.specs.Bind.{opened, has_var}
 use Rattle.lk_tree.specs.Level.{is_zero_level}
 use Rattle.lk_tree.specs.Levels.{put_levels}
 use Rattle.lk_tree.specs.Spine.{head, args}
@@ -11,9 +13,11 @@ use Rattle.lk_tree.specs.Mentions.{same_name}
 use Rattle.lk_questions.specs.Steps.{is_same_tree}
 use Rattle.lk_questions.specs.Shapes.{nat_shape, string_shape}
 use Rattle.lk_claims.specs.Claims.{Claim}
-use Rattle.lk_written.specs.Line.{TypingRule, sort_rule, local_rule, const_rule, app_rule, let_rule, lit_rule, str_rule, proj_rule, lam_rule, pi_rule}
+use Rattle.lk_written.specs.Line.{TypingRule, sort_rule, local_rule, const_rule, app_rule, let_rule}
+use Rattle.lk_written.specs.Line.{lit_rule, str_rule, proj_rule, lam_rule, pi_rule}
 use Rattle.lk_claims.specs.Tests.{◌>>=◌, test, found}
-use Rattle.lk_written.specs.Premises.{as_const, local_above, Left, ends, typed, reduced, equal, to_pi, sorted, is_prop_by}
+use Rattle.lk_written.specs.Premises.{as_const, fresh_local, Left, ends, typing, typed, reduced}
+use Rattle.lk_written.specs.Premises.{equal, to_pi, sorted, is_prop_by, arguments_over}
 
 -- T is this tree, and no premise is left
 abbrev pub comes_to : Tree → Tree → Left → Option (Unit {0})
@@ -36,35 +40,37 @@ type_const w js (const c ls) T = do
   comes_to T (put_levels g.levels ls g.type) js
 type_const w js _ T = None
 
--- f => F, F >> Pi A B, a => A', A' == A
+-- for each x: F >> Pi A B, x => X, X == A; then F is B[x]
+abbrev pub applied_type : List Claim → Left → Tree → List Tree → Option (Tree × Left)
+applied_type ps js F [] = Some (F, js)
+applied_type ps js F (x ∷ xs) = do
+  p ← to_pi ps js F
+  X ← typed ps p.1 x
+  r ← equal ps X.1 X.0 p.0.0
+  applied_type ps r (opened p.0.1 x) xs
+
+-- f => F; e is f x1 .. xn
 abbrev pub type_app : List Claim → Left → Tree → Tree → Option (Unit {0})
-type_app ps js (app f a) T = do
-  F ← typed ps js f
-  p ← to_pi ps F.1 F.0
-  A ← typed ps p.1 a
-  r ← equal ps A.1 A.0 p.0.0
-  comes_to T (opened p.0.1 a) r
-type_app ps js _ T = None
+type_app ps js e T = do
+  f ← typing ps js
+  xs ← arguments_over f.left e []
+  F ← applied_type ps f.after f.right xs
+  comes_to T F.0 F.1
 
 -- sort A = l, b[x] => B[x]
-abbrev pub type_body : List Claim → Left → Tree → Tree → Tree → Tree → Option (Unit {0})
-type_body ps js x A b (pi C B) = do
-  k ← local_above (bound (lam A b)) A x
+abbrev pub type_lam : List Claim → Left → Tree → Tree → Tree → Option (Unit {0})
+type_lam ps js x (lam A b) (pi C B) = do
   u ← test (is_same_tree C A)
-  v ← local_above (bound (pi A B)) A x
+  k ← fresh_local A (lam A b ∷ pi A B ∷ []) x
   l ← sorted ps js A
   T ← typed ps l.1 (opened b (local k A))
   comes_to T.0 (opened B (local k A)) T.1
-type_body ps js x A b _ = None
-
-abbrev pub type_lam : List Claim → Left → Tree → Tree → Tree → Option (Unit {0})
-type_lam ps js x (lam A b) T = type_body ps js x A b T
-type_lam ps js x _ T = None
+type_lam ps js x _ _ = None
 
 -- sort A = u, sort of B[x] = v
 abbrev pub type_pi : List Claim → Left → Tree → Tree → Tree → Option (Unit {0})
 type_pi ps js x (pi A B) T = do
-  k ← local_above (bound (pi A B)) A x
+  k ← fresh_local A (pi A B ∷ []) x
   u ← sorted ps js A
   v ← sorted ps u.1 (opened B (local k A))
   comes_to T (sort (imax_level u.0 v.0)) v.1
@@ -105,8 +111,8 @@ abbrev pub prop_if : Bool → List Claim → Left → Tree → Option Left
 prop_if true ps js A = is_prop_by ps js A
 prop_if false ps js A = Some js
 
--- r >> Pi A B for each field from number j on, up to the one that is n further on; after each Pi that its domain is a
--- proposition, where q holds and, before the last, B mentions the variable
+-- r >> Pi A B for each field from number j on, up to the one that is n further on; after each Pi
+-- that its domain is a proposition, where q holds and, before the last, B mentions the variable
 abbrev pub field_of : List Claim → Left → Name → Tree → Bool → ℕ → ℕ → Tree → Option (Tree × Left)
 field_of ps js S s q j zero r = do
   p ← to_pi ps js r
@@ -135,7 +141,8 @@ type_proj w ps js (proj S i s) A = do
   g ← w.means S
   t ← the_type g.kind
   c ← the_one t.1.ctors
-  v ← test ((nat_eq (length (args T.0)) (t.1.parameters + t.1.indices) && nat_eq (length h.1) (length c.levels)) && nat_lt i c.fields)
+  v ← test ((nat_eq (length (args T.0)) (t.1.parameters + t.1.indices)
+      && nat_eq (length h.1) (length c.levels)) && nat_lt i c.fields)
   l ← sorted ps T.1 T.0
   r ← past ps l.1 (args T.0) t.1.parameters (put_levels c.levels h.1 c.type)
   F ← field_of ps r.1 S s (is_zero_level l.0) 0 i r.0

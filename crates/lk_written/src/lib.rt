@@ -12,7 +12,7 @@ ghost use Rattle.lk_claims.specs.Follows.{FollowsTypes, FollowsReductions, Follo
 ghost use Rattle.lk_claims.specs.Claims.{Claim, Derived, AllDerived};
 ghost use Rattle.lk_written.specs.Line.{Line, claim_of};
 ghost use Rattle.lk_written.specs.Section.{Section, line_holds, claims_by, section_holds, section_at_fault};
-ghost use Rattle.lk_written.specs.Written.{CanWrite, CanDeclare};
+ghost use Rattle.lk_written.specs.Written.{CanWrite, CanDeclare, KeepsNumerals};
 
 /// At a sound place, so where operations on numbers have their laws, what a line that holds states
 /// is derived, where what it rests on is; so each line of a section that holds states what is
@@ -42,11 +42,12 @@ pub fn written_declaration_is_derived()
 {}
 
 /// What can be written, by lines that hold after any others, follows each rule: where its premises
-/// can be written, so can its conclusion. This holds at every place: the laws of operations on
-/// numbers are not asked.
+/// can be written, so can its conclusion. The laws of operations on numbers are not asked; that of
+/// reduction holds where Nat.zero has no value, since a line of such an operation does not tell of
+/// which of two equal arguments a reduction is.
 pub fn rules_are_written()
     ensures typing { (w : Place) → FollowsTypes w (CanWrite w) }
-    ensures reduction { (w : Place) → FollowsReductions w (CanWrite w) }
+    ensures reduction { (w : Place) → KeepsNumerals w → FollowsReductions w (CanWrite w) }
     ensures conversion { (w : Place) → FollowsEqualities w (CanWrite w) }
 {}
 

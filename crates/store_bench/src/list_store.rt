@@ -27,14 +27,13 @@ pub struct ListStore<T: Terms + Drop> {
 }
 
 impl<T: Terms + Drop> Model for ListStore<T> {
-    ghost use Rattle.std.specs.Prelude.{List};
-    ghost use Rattle.store_bench.specs.declared.list_store.Listed.{Listed};
+    ghost use Rattle.store_bench.specs.Lists.{Lists};
 
-    ghost Value = { T × List Listed };
+    ghost Value = { Lists T };
 
     ghost use Rattle.store_bench.specs.Listing.{AreListed};
 
-    ghost view = { λ s. (s.store, s.rows.items) };
+    ghost view = { λ s. record { store = s.store; rows = s.rows.items } };
 
     ghost invariant = { λ s. AreListed (T.contents s.store) s.rows.items };
 }
@@ -94,7 +93,7 @@ impl<T: Terms + Drop> ListStore<T> {
 
     /// A list of no trees, over a store.
     pub fn new(alloc: Global, store: T) -> Self
-        ensures { result ≡ (store, []) }
+        ensures { result ≡ record { store = store; rows = [] } }
     {
         ListStore {
             store,
@@ -108,9 +107,9 @@ impl<T: Terms + Drop> Terms for ListStore<T> {
 
     type Rest = T::Rest;
 
-    ghost rest = { λ s. T.rest s.0 };
+    ghost rest = { λ s. T.rest s.store };
 
-    ghost contents = { λ s. listed (T.contents s.0) s.1 };
+    ghost contents = { λ s. listed (T.contents s.store) s.rows };
 
     #[tactic(auto, using(crate::proofs::Rows::rows_read))]
     fn len(&self) -> u64 {

@@ -1,13 +1,10 @@
 -- What a shelf in memory is as a shelf.
-use Rattle.std.specs.Prelude.{ℕ, Bool, true, false, List, [], slice_index_or, Option, None}
+use Rattle.std.specs.Prelude.{ℕ, Bool, true, false, [], slice_index_or, Option, None}
 use Rattle.atomic_table.specs.Seated.{TableId}
-use Rattle.lk_store.specs.declared.tables.Tables.{Tables}
-use Rattle.lk_env.specs.declared.unit.Unit.{Unit as StoredUnit}
-use Rattle.lk_desk.specs.declared.entry.Entry.{Entry}
-use Rattle.lk_memo.specs.declared.key.Key.{Key}
 use Rattle.lk_desk.specs.declared.view.View.{View}
 use Rattle.lk_desk.specs.Job.{Job, job_of}
 use Rattle.lk_desk.specs.Rule.{spent_view}
+use Rattle.lk_desk.specs.InMemory.{InMemory}
 use Rattle.lk_desk.specs.Shelves as shelves
 
 -- the number of no table
@@ -23,12 +20,8 @@ no_table =
       slot_names = [];
     }
 
--- a library, the answers of each shard, and the number of the one that is out
-abbrev pub InMemory : Type 0
-InMemory = (Tables × List StoredUnit) × List (List (Key × Entry)) × Option ℕ
-
 abbrev pub mem_job : InMemory → Job
-mem_job m = job_of m.0
+mem_job m = job_of m.library
 
 abbrev pub mem_place : InMemory → ℕ
 mem_place m = 0
@@ -43,7 +36,7 @@ abbrev pub mem_outs : InMemory → ℕ
 mem_outs m = 0
 
 abbrev pub mem_in_hand : InMemory → Option ℕ
-mem_in_hand m = m.2
+mem_in_hand m = m.out
 
 abbrev pub mem_tells : InMemory → Bool
 mem_tells m = true
@@ -58,4 +51,4 @@ abbrev pub mem_taken : InMemory → shelves.Numbered
 mem_taken m = None
 
 abbrev pub mem_told : InMemory → shelves.Told
-mem_told m k = slice_index_or m.1 k []
+mem_told m k = slice_index_or m.shards k []

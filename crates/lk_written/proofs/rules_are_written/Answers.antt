@@ -2,4 +2,4 @@ use Rattle.lk_written.proofs.Closeds.{types_follow, reductions_follow, equalitie
 use Rattle.lk_written.proofs.rules_are_written.Goals as goal
 
 pub returns : goal.returns
-returns c = record { typing = λ w. types_follow w; reduction = λ w. reductions_follow w; conversion = λ w. equalities_follow w }
+returns c = record { typing = λ w. types_follow w; reduction = λ w kept. reductions_follow w kept; conversion = λ w. equalities_follow w }

@@ -2,7 +2,8 @@
 
 ghost use Rattle.std.specs.Prelude.{◌≡◌, ◌<◌, length, IfOk};
 ghost use Rattle.lk_store.specs.Contents.{Extends};
-ghost use Rattle.lk_store.specs.Store.{over, contents_of};
+ghost use Rattle.lk_store.specs.Store.{contents_of};
+ghost use Rattle.lk_store.specs.Layers.{layers_contents};
 
 use lk_spell::{SpellError, spell, unspell};
 use lk_store::base_store::BaseStore;
@@ -16,11 +17,10 @@ use std::test::Fail;
 
 // A variable applied to itself, that to itself, and so on: so many terms and one.
 fn doubled(terms: &mut Overlay, times: u64) -> Result<u64, NoMemory>
-    ensures keeps { Extends (contents_of (over terms.old.0 terms.old.1))
-        (contents_of (over terms.new.0 terms.new.1)) }
-    ensures base { terms.new.0 ≡ terms.old.0 }
+    ensures keeps { Extends (layers_contents terms.old) (layers_contents terms.new) }
+    ensures base { terms.new.base ≡ terms.old.base }
     ensures known { IfOk result (λ e.
-        e < length (contents_of (over terms.new.0 terms.new.1)).trees) }
+        e < length (layers_contents terms.new).trees) }
 {
     let mut body = terms.make(Node::Var(0))?;
     'doublings: for _ in 0..times {
@@ -31,11 +31,10 @@ fn doubled(terms: &mut Overlay, times: u64) -> Result<u64, NoMemory>
 
 // A name of a text, both of which the library lacks.
 fn named(alloc: Global, terms: &mut Overlay) -> Result<u64, NoMemory>
-    ensures keeps { Extends (contents_of (over terms.old.0 terms.old.1))
-        (contents_of (over terms.new.0 terms.new.1)) }
-    ensures base { terms.new.0 ≡ terms.old.0 }
+    ensures keeps { Extends (layers_contents terms.old) (layers_contents terms.new) }
+    ensures base { terms.new.base ≡ terms.old.base }
     ensures known { IfOk result (λ n.
-        n < length (contents_of (over terms.new.0 terms.new.1)).names) }
+        n < length (layers_contents terms.new).names) }
 {
     let mut bytes = Vec::new(alloc);
     bytes.push(120)?;
@@ -46,12 +45,11 @@ fn named(alloc: Global, terms: &mut Overlay) -> Result<u64, NoMemory>
 
 // A constant of this name, at a level that is a parameter of the same name.
 fn constant(terms: &mut Overlay, name: u64) -> Result<u64, NoMemory>
-    requires { name < length (contents_of (over terms.old.0 terms.old.1)).names }
-    ensures keeps { Extends (contents_of (over terms.old.0 terms.old.1))
-        (contents_of (over terms.new.0 terms.new.1)) }
-    ensures base { terms.new.0 ≡ terms.old.0 }
+    requires { name < length (layers_contents terms.old).names }
+    ensures keeps { Extends (layers_contents terms.old) (layers_contents terms.new) }
+    ensures base { terms.new.base ≡ terms.old.base }
     ensures known { IfOk result (λ e.
-        e < length (contents_of (over terms.new.0 terms.new.1)).trees) }
+        e < length (layers_contents terms.new).trees) }
 {
     let level = terms.make_level(LevelNode::Param(name))?;
     let empty = terms.make_levels(ListNode::Empty)?;
@@ -66,12 +64,10 @@ fn comes_back(
     second: &mut Overlay,
     e: u64,
 ) -> Result<bool, NoMemory>
-    requires known { e < length (contents_of (over first.old.0 first.old.1)).trees }
-    requires one_base { second.old.0 ≡ first.old.0 }
-    requires first_over { Extends (contents_of first.old.0)
-        (contents_of (over first.old.0 first.old.1)) }
-    requires second_over { Extends (contents_of second.old.0)
-        (contents_of (over second.old.0 second.old.1)) }
+    requires known { e < length (layers_contents first.old).trees }
+    requires one_base { second.old.base ≡ first.old.base }
+    requires first_over { Extends (contents_of first.old.base) (layers_contents first.old) }
+    requires second_over { Extends (contents_of second.old.base) (layers_contents second.old) }
 {
     let Ok(out) = spell(alloc, first, e) else {
         return Ok(false);
@@ -85,11 +81,9 @@ fn comes_back(
 }
 
 fn constant_in(alloc: Global, first: &mut Overlay, second: &mut Overlay) -> Result<bool, NoMemory>
-    requires one_base { second.old.0 ≡ first.old.0 }
-    requires first_over { Extends (contents_of first.old.0)
-        (contents_of (over first.old.0 first.old.1)) }
-    requires second_over { Extends (contents_of second.old.0)
-        (contents_of (over second.old.0 second.old.1)) }
+    requires one_base { second.old.base ≡ first.old.base }
+    requires first_over { Extends (contents_of first.old.base) (layers_contents first.old) }
+    requires second_over { Extends (contents_of second.old.base) (layers_contents second.old) }
 {
     let name = named(alloc, first)?;
     let e = constant(first, name)?;
@@ -111,7 +105,7 @@ fn over_a_base(alloc: Global) -> Result<bool, NoMemory> {
 
 // How many own nodes a tower of so many doublings has: none where it is too wide.
 fn own_nodes(alloc: Global, terms: &mut Overlay, times: u64) -> Result<u64, NoMemory>
-    requires { Extends (contents_of terms.old.0) (contents_of (over terms.old.0 terms.old.1)) }
+    requires { Extends (contents_of terms.old.base) (layers_contents terms.old) }
 {
     let e = doubled(terms, times)?;
     match spell(alloc, terms, e) {

@@ -19,7 +19,7 @@ loop-i-preserved g c =
     let right : Right old.number c.check_unit-verdict.result =
     subst (λ (a : UnitVerdict). Right a.number c.check_unit-verdict.result) same
     c.check_unit-verdict.ensures.right in
-    let below = subst (λ (a : UnitVerdict). a.number < length c.args.library.now.1)
+    let below = subst (λ (a : UnitVerdict). a.number < length c.args.library.now.units)
     (sym c.index_mut.ensures.value) (i.right at old lt).0 in
     let one : UnitVerdict = record { number = old.number; verdict = c.check_unit-verdict.result } in
     record {

@@ -7,10 +7,10 @@ use Rattle.lk_ask.proofs.constants.at_levels.Goals as goal
 pub returns-clause-ok : goal.returns-clause-ok
 returns-clause-ok g c =
     let lent = g.L.Lends.lent c.args.library.now in
-    let base = contents_of lent.0 in
+    let base = contents_of lent.tables in
     let before = g.T.Terms.contents c.args.terms.now in
     let params = c.levels_of-params in
     of_unit base before (g.T.Terms.contents c.find_or_put.new.terms)
-    (plain_entry base lent.1 c.args.entry) params.result.now (list_at before c.args.tree.levels)
+    (plain_entry base lent.units c.args.entry) params.result.now (list_at before c.args.tree.levels)
     (tree_at before c.args.tree.e) c.find_or_put.result c.requires.over params.ensures.known
     params.ensures.value c.find_or_put.ensures.puts.ok

@@ -24,5 +24,5 @@ returns-clause-other g c =
     let found = c.args.found.now.items in
     let other = c.in_ok-other.other in
     let at = c.args.at.now in
-    other_made c.args.first (levels_of before at) (arguments_of before at) (name_at before c.args.name) (auxs_at before found) (type_at before c.args.stated.now) (aux_at after other) (sym c.names_equal.ensures ∙ c.if-names_equal.false) c.in_ok-other.ensures.aux
+    other_made at.first (levels_of before at) (arguments_of before at) (name_at before c.args.name) (auxs_at before found) (type_at before c.args.stated.now) (aux_at after other) (sym c.names_equal.ensures ∙ c.if-names_equal.false) c.in_ok-other.ensures.aux
     ∙ ap done (sym (ap (auxs_at after) c.in-Ok.ensures.items ∙ map-append (aux_at after) found (other ∷ []) ∙ ap (λ as_. as_ ++ aux_at after other ∷ []) (auxs_stay before after c.in_ok-other.ensures.keeps found c.requires.found_in)))

@@ -18,7 +18,7 @@ invariant-types g l =
       same_rest : g.T.Terms.rest l.terms ≡ g.T.Terms.rest l.fn.terms;
       found_in : All (IsAuxiliaryIn now) l.found.items;
       rest_in : All (IsTypeIn before) l.rest;
-      leads : more_others l.fn.first ls bs J (auxs_at before l.fn.found.items) (map (type_at before) l.fn.types) ≡ more_others l.fn.first ls bs J (auxs_at now l.found.items) (map (type_at before) l.rest);
+      leads : more_others l.fn.at.first ls bs J (auxs_at before l.fn.found.items) (map (type_at before) l.fn.types) ≡ more_others l.fn.at.first ls bs J (auxs_at now l.found.items) (map (type_at before) l.rest);
     }
 
 abbrev pub decreases-types : goal.decreases-types

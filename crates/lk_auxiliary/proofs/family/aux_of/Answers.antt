@@ -23,10 +23,10 @@ returns-clause-known g c =
     let names = first.names.longer in
     let lists = first.lists.longer in
     let name_in = c.requires.name_in in
-    let list_in = c.requires.list_in in
+    let list_in = c.requires.at_in.list_in in
     c.in_ok-auxiliary_with.ensures.known after (let l = whole.names.longer in omega arith) (type_in_stays before after whole c.args.own.now c.requires.own_in) (let l = whole.lists.longer in omega arith)
     (trees-known before after arguments whole c.requires.at_in.arguments_in)
-    (instance_stays mid after second c.args.name c.args.list c.in_ok-instance.instance arguments (omega arith) (omega arith) (trees-known before mid arguments first c.requires.at_in.arguments_in) c.in_ok-instance.ensures.ok)
+    (instance_stays mid after second c.args.name c.args.at.now.list c.in_ok-instance.instance arguments (omega arith) (omega arith) (trees-known before mid arguments first c.requires.at_in.arguments_in) c.in_ok-instance.ensures.ok)
     (parts_known mid after second c.in_ok-parts.parts c.in_ok-parts.ensures.known)
 
 pub returns-clause-aux : goal.returns-clause-aux
@@ -42,7 +42,7 @@ returns-clause-aux g c =
     let ls = levels_of before at in
     let bs = arguments_of before at in
     let parts = c.in_ok-parts.parts in
-    aux_is c.args.first ls bs (type_at before own) (name_at before c.args.name) (parts_at mid parts) c.in_ok-parts.ensures.parts
+    aux_is c.args.at.now.first ls bs (type_at before own) (name_at before c.args.name) (parts_at mid parts) c.in_ok-parts.ensures.parts
     ∙ ap done (sym (c.in_ok-auxiliary_with.ensures.value after
-    ∙ aux_steady before after whole at c.requires.at_in own c.requires.own_in c.args.list c.args.name parts c.requires.list_in c.requires.list_is c.requires.name_in
+    ∙ aux_steady before after whole at c.requires.at_in own c.requires.own_in c.args.name parts c.requires.name_in
     ∙ ap (aux_with ls bs (name_at before c.args.name) (type_at before own)) (parts_stay mid after second parts c.in_ok-parts.ensures.known)))

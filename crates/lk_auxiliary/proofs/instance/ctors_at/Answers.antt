@@ -12,7 +12,7 @@ use Rattle.lk_lists.proofs.Lists.{rest_have, first_has}
 use Rattle.lk_auxiliary.proofs.Pasts.{refuses_too}
 use Rattle.lk_auxiliary.specs.Places.{levels_of, arguments_of}
 use Rattle.lk_auxiliary.proofs.Instances.{at_first, at_next, at_refused}
-use Rattle.lk_auxiliary.proofs.Steady.{at_steady}
+use Rattle.lk_auxiliary.proofs.Steady.{at_in_stays, at_steady}
 use Rattle.lk_auxiliary.proofs.instance.ctors_at.Goals as goal
 
 pub constructors-init : goal.constructors-init
@@ -25,6 +25,10 @@ constructors-init g c =
       rest_in = c.requires.constructors_in;
       leads = rw c.new-found.ensures.items (at_first (levels_of before c.args.at.now) (arguments_of before c.args.at.now) (map (constructor_at before) c.args.constructors.now));
     }
+
+pub at_args-requires-clause-at_in : goal.at_args-requires-clause-at_in
+at_args-requires-clause-at_in g c =
+    at_in_stays (g.T.Terms.contents c.args.terms.now) (g.T.Terms.contents c.constructors.terms) c.constructors.invariant.keeps c.args.at.now c.requires.at_in
 
 pub returns-in_err-made-clause-made : goal.returns-in_err-made-clause-made
 returns-in_err-made-clause-made g c =

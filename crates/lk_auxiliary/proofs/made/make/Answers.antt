@@ -29,10 +29,10 @@ returns-clause-made g c =
     let old = c.args.auxs.now.items in
     let made = c.in_ok-made.made.items in
     let family = c.args.family.now in
-    let J = name_at before c.args.name in
+    let J = name_at before c.args.of.now.name in
     let count_is : c.count_of-count.result ≡ length (auxs_at before old) = c.count_of-count.ensures ∙ ap length c.deref.ensures.value ∙ sym (length-map old (aux_at before)) in
     let others_is = c.in_ok-others.ensures ∙ ap (λ ts. other_count J (map (type_at before) ts)) c.deref-2.ensures.value in
-    made_to s (auxs_at before old) (auxs_at mid made) J (list_at before c.args.list) (map (tree_at before) c.args.arguments.now) (map (type_at before) family.types.items) (type_at before family.own)
+    made_to s (auxs_at before old) (auxs_at mid made) J (list_at before c.args.of.now.list) (map (tree_at before) c.args.of.now.arguments.now) (map (type_at before) family.types.items) (type_at before family.own)
     c.count_of-count.result c.in_ok-others.others _ count_is others_is (sym (length-map c.args.setting.now.parameters.now (tree_at before))) (sym c.has_room.ensures ∙ c.if-not-has_room.false) c.in_ok-made.ensures.family
     ∙ ap (λ (r : Tree). done (r, auxs_at before old ++ auxs_at mid made)) (sym (applied_is before mid after first second c.args.setting.now c.in_ok-applied.applied c.count_of-count.result (length (auxs_at before old)) c.requires.setting_in count_is c.in_ok-applied.ensures.ok.is))
     ∙ ap (λ (as_ : List Aux). done (tree_at after c.in_ok-applied.applied, as_)) (sym (joined_are before mid after first second old made c.join.new.auxs.items c.in_ok-join.ensures c.requires.auxs_in c.in_ok-made.ensures.known))

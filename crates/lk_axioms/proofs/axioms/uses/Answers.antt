@@ -7,11 +7,11 @@ use Rattle.lk_axioms.proofs.axioms.uses.Goals as goal
 
 pub gather_units-requires : goal.gather_units-requires
 gather_units-requires c =
-    c.in_ok-gathering.ensures (contents_of c.args.library.now.0) (library_of c.args.library.now)
+    c.in_ok-gathering.ensures (contents_of c.args.library.now.tables) (library_of c.args.library.now)
     (sym (c.len.ensures ∙ ap (λ t. length (contents_of t).trees) c.base.ensures))
 
 pub returns : goal.returns
 returns c =
     c.finish.ensures
-    ∙ all_done (contents_of c.args.library.now.0) (library_of c.args.library.now) (length c.args.library.now.1) c.gather_units.new.gathering
-    (sym (length-map c.args.library.now.1 (unit_at (contents_of c.args.library.now.0)))) c.in_ok-gather_units.ensures
+    ∙ all_done (contents_of c.args.library.now.tables) (library_of c.args.library.now) (length c.args.library.now.units) c.gather_units.new.gathering
+    (sym (length-map c.args.library.now.units (unit_at (contents_of c.args.library.now.tables)))) c.in_ok-gather_units.ensures

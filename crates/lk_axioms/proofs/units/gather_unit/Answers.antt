@@ -12,11 +12,11 @@ use Rattle.lk_axioms.proofs.units.gather_unit.Goals as goal
 pub gather_trees-requires-clause-trees_in : goal.gather_trees-requires-clause-trees_in
 gather_trees-requires-clause-trees_in c =
     let is : c.deref.result.now ≡ stated_numbers c.args.stated.now = c.deref.ensures.value ∙ c.in_ok-list_trees.ensures in
-    subst (All (IsTree (contents_of c.args.library.now.0))) (sym is) (stated_in (contents_of c.args.library.now.0) c.args.stated.now c.requires.stated_in)
+    subst (All (IsTree (contents_of c.args.library.now.tables))) (sym is) (stated_in (contents_of c.args.library.now.tables) c.args.stated.now c.requires.stated_in)
 
 pub returns-then-is_axiom : goal.returns-then-is_axiom
 returns-then-is_axiom c =
-    let d = contents_of c.args.library.now.0 in
+    let d = contents_of c.args.library.now.tables in
     let us = library_of c.args.library.now in
     let is : c.deref.result.now ≡ stated_numbers c.args.stated.now = c.deref.ensures.value ∙ c.in_ok-list_trees.ensures in
     let a : AreGathered d us c.args.unit (stated_numbers c.args.stated.now) c.gather_trees.new.gathering c.in_ok-used.used =
@@ -26,7 +26,7 @@ returns-then-is_axiom c =
 
 pub returns-else-is_axiom : goal.returns-else-is_axiom
 returns-else-is_axiom c =
-    let d = contents_of c.args.library.now.0 in
+    let d = contents_of c.args.library.now.tables in
     let us = library_of c.args.library.now in
     let is : c.deref.result.now ≡ stated_numbers c.args.stated.now = c.deref.ensures.value ∙ c.in_ok-list_trees.ensures in
     let a : AreGathered d us c.args.unit (stated_numbers c.args.stated.now) c.gather_trees.new.gathering c.in_ok-used.used =

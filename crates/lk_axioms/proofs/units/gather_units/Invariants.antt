@@ -4,4 +4,4 @@ use Rattle.lk_axioms.specs.Gathered.{IsRight}
 use Rattle.lk_axioms.proofs.units.gather_units.Given as goal
 
 abbrev pub invariant-loop-i : goal.invariant-loop-i
-invariant-loop-i l = IsRight (contents_of l.library.0) (library_of l.library) l.i l.gathering
+invariant-loop-i l = IsRight (contents_of l.library.tables) (library_of l.library) l.i l.gathering

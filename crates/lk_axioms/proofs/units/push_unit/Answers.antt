@@ -6,4 +6,4 @@ use Rattle.lk_axioms.proofs.units.push_unit.Goals as goal
 
 pub returns : goal.returns
 returns c =
-    unit_done (contents_of c.args.library.now.0) (library_of c.args.library.now) c.args.unit c.gather_unit.new.gathering _ c.in_ok-set.set c.in_ok-set.ensures refl refl c.in_ok-push.ensures.items
+    unit_done (contents_of c.args.library.now.tables) (library_of c.args.library.now) c.args.unit c.gather_unit.new.gathering _ c.in_ok-set.set c.in_ok-set.ensures refl refl c.in_ok-push.ensures.items

@@ -20,18 +20,18 @@ returns-clause-outcome g c fuel enough =
     let after = g.A.Terms.contents c.rest_of.new.asks in
     let F = frame_at before c.args.frame.now in
     let T = name_at before c.args.parent in
-    let n = name_at before c.args.name in
-    let A = tree_at before c.args.ty in
+    let n = name_at before c.args.stated.now.name in
+    let A = tree_at before c.args.stated.now.ty in
     let r = tree_at between c.in_ok-rest.rest in
     let start = g.A.Asks.left c.args.asks.now in
     let middle = g.A.Asks.left c.over.new.asks in
     let end = g.A.Asks.left c.rest_of.new.asks in
     let less = goes_within (g.A.Asks.standing c.args.asks.now) (over F.params A) start r middle c.in_ok-rest.ensures.outcome in
     gives_on (g.A.Asks.standing c.args.asks.now) (g.A.Asks.standing c.over.new.asks) c.in_ok-rest.ensures.stays
-    (over F.params A) (λ (r : Tree). rest_form fuel F T n c.args.count r) start middle end r (constructor_shape_at after) c.rest_of.result c.in_ok-rest.ensures.outcome
+    (over F.params A) (λ (r : Tree). rest_form fuel F T n c.args.stated.now.fields r) start middle end r (constructor_shape_at after) c.rest_of.result c.in_ok-rest.ensures.outcome
     (subst (λ p. ComesTo (g.A.Asks.standing c.over.new.asks) p middle (constructor_shape_at after) end c.rest_of.result)
-    (rest_kept fuel (frame_at between c.args.frame.now) F (name_at between c.args.parent) T (name_at between c.args.name) n c.args.count r
-    (frame-steady before between c.args.frame.now c.in_ok-rest.ensures.keeps c.requires.frame_in) (c.in_ok-rest.ensures.keeps.names.same c.args.parent c.requires.parent_in) (c.in_ok-rest.ensures.keeps.names.same c.args.name c.requires.name_in))
+    (rest_kept fuel (frame_at between c.args.frame.now) F (name_at between c.args.parent) T (name_at between c.args.stated.now.name) n c.args.stated.now.fields r
+    (frame-steady before between c.args.frame.now c.in_ok-rest.ensures.keeps c.requires.frame_in) (c.in_ok-rest.ensures.keeps.names.same c.args.parent c.requires.parent_in) (c.in_ok-rest.ensures.keeps.names.same c.args.stated.now.name c.requires.name_in))
     (c.rest_of.ensures.outcome fuel (omega arith)))
 
 pub returns-in_err-rest-clause-outcome : goal.returns-in_err-rest-clause-outcome
@@ -39,5 +39,5 @@ returns-in_err-rest-clause-outcome g c fuel enough =
     let before = g.A.Terms.contents c.args.asks.now in
     let F = frame_at before c.args.frame.now in
     let p = err_from_is_err_and c.from_residual.result c.from_residual.ensures.1 in
-    rw (p.1, p.2) (halts_first (g.A.Asks.standing c.args.asks.now) (over F.params (tree_at before c.args.ty)) (λ (r : Tree). rest_form fuel F (name_at before c.args.parent) (name_at before c.args.name) c.args.count r)
+    rw (p.1, p.2) (halts_first (g.A.Asks.standing c.args.asks.now) (over F.params (tree_at before c.args.stated.now.ty)) (λ (r : Tree). rest_form fuel F (name_at before c.args.parent) (name_at before c.args.stated.now.name) c.args.stated.now.fields r)
     (g.A.Asks.left c.args.asks.now) c.in_err-rest.field-0.0 c.in_err-rest.ensures.outcome)

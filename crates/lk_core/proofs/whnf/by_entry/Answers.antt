@@ -13,11 +13,11 @@ returns-in-Some g c f y there =
     let t = tree_at (g.L.Terms.contents c.args.looks.now) in
     let ls = list_at (g.L.Terms.contents c.args.looks.now) c.args.levels in
     let s = g.L.Looks.sight (g.L.Terms.rest c.args.looks.now) in
-    let base = contents_of s.basis.library.0 in
+    let base = contents_of s.basis.library.tables in
     let v = c.in-Some.value in
     let over = c.requires.over.trees.same v (c.in-Some.ensures.known base c.requires.known) in
     let value : value_of y.kind ≡ Some (t v) =
-    c.in-Some.ensures.value base s.basis.library.1 y there ∙ ap Some (sym over) in
+    c.in-Some.ensures.value base s.basis.library.units y there ∙ ap Some (sym over) in
     same_steps (ap (λ o. erased s.basis.place a_tree s.last (unfolded y (const f ls) (t c.args.e) o))
     (sym value)) (c.by_value.ensures f y there)
 
@@ -26,7 +26,7 @@ returns-in-None g c f y there =
     let t = tree_at (g.L.Terms.contents c.args.looks.now) in
     let ls = list_at (g.L.Terms.contents c.args.looks.now) c.args.levels in
     let s = g.L.Looks.sight (g.L.Terms.rest c.args.looks.now) in
-    let base = contents_of s.basis.library.0 in
+    let base = contents_of s.basis.library.tables in
     gives_now _ _ _ c.requires.e_in
     (ap (λ o. erased s.basis.place a_tree s.last (unfolded y (const f ls) (t c.args.e) o))
-    (sym (c.in-None.ensures.value base s.basis.library.1 y there)))
+    (sym (c.in-None.ensures.value base s.basis.library.units y there)))

@@ -106,7 +106,7 @@ work-preserved-in-Done-2 g c =
       asker = c.work.asked;
       budget = c.work.budget;
       sheet = c.in-Ask.sheet;
-      last = c.work.lookout.3.last;
+      last = c.work.lookout.meter.last;
     } in
     let asked = linked_asks c.work.invariant.linked c.in-Ask.is refl h.stays.keeps h.known
     (rw place at h.runs) (rw place at h.waits) in
@@ -116,7 +116,7 @@ work-preserved-in-Done-2 g c =
     let all = stays_on c.work.invariant.stays h.stays in
     let there = place_stays (stays_on all (metered_stays note.stays)) in
     let k = rw c.in_ok-next-in-Done-2.was at c.resume.ensures in
-    let left : c.resume.new.looks.3.left ≡ c.«open».new.lookout.3.left = ap (λ b. b.left)
+    let left : c.resume.new.looks.meter.left ≡ c.«open».new.lookout.meter.left = ap (λ b. b.left)
     c.resume.ensures.stays ∙ note.left in
     record {
       stays = stays_on {new = c.resume.new.looks} all stays;
@@ -130,7 +130,7 @@ pub returns-in-No-2 : goal.returns-in-No-2
 returns-in-No-2 g c =
     let place = place_stays c.work.invariant.stays in
     let h = rw (c.in_ok-deeper-in-Ask.was, c.in-No-2.is) at c.«open».ensures.opens in
-    let after = c.«open».new.lookout.3 in
+    let after = c.«open».new.lookout.meter in
     let asked = linked_asks c.work.invariant.linked {left' = after.left} {last' = after.last}
     c.in-Ask.is refl h.stays.keeps h.known (rw place at h.runs) (rw place at h.waits) in
     halts (stays_on c.work.invariant.stays h.stays) (entries_back c.work.invariant.stays c.«open».ensures.entries)
@@ -178,7 +178,7 @@ work-preserved g c =
     (step_stays c.resume-in-Some.ensures) in
     let place = place_stays (stays_on c.work.invariant.stays (metered_stays note.stays)) in
     let h = rw c.in_ok-next-in-Some.was at c.resume-in-Some.ensures in
-    let left : c.resume-in-Some.new.looks.3.left ≡ c.work.lookout.3.left = ap (λ b. b.left)
+    let left : c.resume-in-Some.new.looks.meter.left ≡ c.work.lookout.meter.left = ap (λ b. b.left)
     c.resume-in-Some.ensures.stays ∙ note.left in
     record {
       stays = stays_on {new = c.resume-in-Some.new.looks} c.work.invariant.stays stays;

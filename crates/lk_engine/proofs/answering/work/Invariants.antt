@@ -11,13 +11,13 @@ invariant-work g l =
     let began = l.fn.lookout in
     record {
       stays : Stays contents g.T.Terms.rest began l.lookout;
-      entries : AreTrueAt began (contents l.lookout.2) l.memo;
-      linked : IsLinked (place_of began) (query_of (tree_at (contents began.2)) l.fn.query)
-          began.3.left (contents l.lookout.2) l.stack.frames.items l.asked l.budget l.next
-          l.lookout.3.left
-          l.lookout.3.last;
+      entries : AreTrueAt began (contents l.lookout.terms) l.memo;
+      linked : IsLinked (place_of began) (query_of (tree_at (contents began.terms)) l.fn.query)
+          began.meter.left (contents l.lookout.terms) l.stack.frames.items l.asked l.budget l.next
+          l.lookout.meter.left
+          l.lookout.meter.last;
     }
 
 -- each question takes from the budget, and each answer one frame from the stack
 abbrev pub decreases-work : goal.decreases-work
-decreases-work g l = 2 * l.lookout.3.left + vec_len l.stack.frames
+decreases-work g l = 2 * l.lookout.meter.left + vec_len l.stack.frames

@@ -6,7 +6,7 @@ use Rattle.lk_engine.proofs.deep.unknown_spine.Given as goal
 
 abbrev pub invariant-functions : goal.invariant-functions
 invariant-functions g l =
-    let c = g.T.Terms.contents l.lookout.2 in
+    let c = g.T.Terms.contents l.lookout.terms in
     record {
       function_in : l.function < length c.trees;
       ahead_in : l.ahead < length c.trees;
@@ -14,4 +14,4 @@ invariant-functions g l =
     }
 
 abbrev pub decreases-functions : goal.decreases-functions
-decreases-functions g l = left_depth (tree_at (g.T.Terms.contents l.lookout.2) l.ahead)
+decreases-functions g l = left_depth (tree_at (g.T.Terms.contents l.lookout.terms) l.ahead)

@@ -2,21 +2,22 @@ use Rattle.std.proofs.Common.{◌≡◌, sym, subst}
 use Rattle.lk_store.specs.Contents.{Extends}
 use Rattle.lk_store.specs.Store.{over, contents_of}
 use Rattle.lk_store.proofs.Made.{Extends-self}
+use Rattle.lk_store.specs.Layers.{layers_contents}
 use Rattle.lk_engine.proofs.Lookouts.{tidied}
 use Rattle.lk_engine.proofs.engine.restart.Goals as goal
 
 pub new-requires : goal.new-requires
 new-requires c =
     let inside = c.lookout.inside in
-    let base = subst (λ s. s.2.0 ≡ s.0.2.0) (sym c.lookout.view_is) c.requires in
-    let now = contents_of (over c.tidy-stays.new.terms.0 c.tidy-stays.new.terms.1) in
-    subst (λ l. Extends (contents_of l.0) now) (sym c.library-library.ensures.is)
-    (tidied inside.scope.2.0 (contents_of inside.scope.0) inside.terms c.tidy-stays.new.terms
+    let base = subst (λ s. s.terms.base ≡ s.scope.library.tables) (sym c.lookout.view_is) c.requires in
+    let now = layers_contents c.tidy-stays.new.terms in
+    subst (λ l. Extends (contents_of l.tables) now) (sym c.library-library.ensures.is)
+    (tidied inside.scope.library.tables (contents_of inside.scope.tables) inside.terms c.tidy-stays.new.terms
     c.tidy-stays.result base c.library-library.ensures.over c.lookout.invariant.over c.tidy-stays.ensures.tidies)
 
 pub invariant_of-lookout : goal.invariant_of-lookout
 invariant_of-lookout c =
-    let now = contents_of (over c.tidy-stays.new.terms.0 c.tidy-stays.new.terms.1) in
+    let now = layers_contents c.tidy-stays.new.terms in
     record {
       over = subst (λ t. Extends (contents_of t) now) (sym c.new.ensures.tables) (Extends-self now);
       made = c.tidy-stays.ensures.instances c.lookout.invariant.made;

@@ -1,10 +1,10 @@
 use Rattle.std.specs.Prelude.{IfSome}
 use Rattle.std.proofs.Common.{sym, subst}
-use Rattle.lk_store.specs.Store.{over, contents_of}
 use Rattle.lk_engine.specs.Entries.{IsTrueAt}
 use Rattle.lk_engine.proofs.Frames.{query_known}
 use Rattle.lk_engine.proofs.Lookouts.{place_stays, still_stands}
 use Rattle.lk_engine.proofs.Shared.{answers_after, kept_after}
+use Rattle.lk_store.specs.Layers.{layers_contents}
 use Rattle.lk_engine.proofs.sharing.answer_shared.Goals as goal
 
 pub answer_after-requires-clause-query_in : goal.answer_after-requires-clause-query_in
@@ -20,7 +20,7 @@ pub answer_after-requires-clause-found : goal.answer_after-requires-clause-found
 answer_after-requires-clause-found c =
     let new = c.fetch-found.new.lookout in
     subst (λ w. IfSome c.fetch-found.result
-    (IsTrueAt w (contents_of (over new.2.0 new.2.1)) c.args.query))
+    (IsTrueAt w (layers_contents new.terms) c.args.query))
     (sym (place_stays c.fetch-found.ensures.fetches.stays)) c.fetch-found.ensures.found
 
 pub returns-clause-answers : goal.returns-clause-answers

@@ -9,7 +9,7 @@ returns-then-is_quotient g c =
     let look = c.look.ensures in
     let b = (g.L.Looks.sight (g.L.Terms.rest c.args.looks.now)).basis in
     let h = c.in-Ok.ensures.found in
-    let kind = c.is_quotient.ensures (contents_of b.library.0) b.library.1 h.entry h.is in
+    let kind = c.is_quotient.ensures (contents_of b.library.tables) b.library.units h.entry h.is in
     wrapped c.of_quotient.ensures
     (by_quotient_unit look.contents look.stays c.args.name c.args.levels c.args.e c.in-Ok.entry h
     c.requires.head_is (sym kind ∙ c.if-is_quotient.true) c.in_ok-begin.ensures)
@@ -19,7 +19,7 @@ returns-in_err-begin-2 g c =
     let look = c.look.ensures in
     let b = (g.L.Looks.sight (g.L.Terms.rest c.args.looks.now)).basis in
     let h = c.in-Ok.ensures.found in
-    let kind = c.is_quotient.ensures (contents_of b.library.0) b.library.1 h.entry h.is in
+    let kind = c.is_quotient.ensures (contents_of b.library.tables) b.library.units h.entry h.is in
     let made = by_recursor look.contents look.stays c.args.name c.args.levels c.args.e c.in-Ok.entry
     h c.requires.head_is (sym kind ∙ c.if-is_quotient.false) c.begin-2.ensures in
     record { keeps = made.keeps; stays = made.stays; known = search rules; steps = search rules }
@@ -29,7 +29,7 @@ returns g c =
     let look = c.look.ensures in
     let b = (g.L.Looks.sight (g.L.Terms.rest c.args.looks.now)).basis in
     let h = c.in-Ok.ensures.found in
-    let kind = c.is_quotient.ensures (contents_of b.library.0) b.library.1 h.entry h.is in
+    let kind = c.is_quotient.ensures (contents_of b.library.tables) b.library.units h.entry h.is in
     wrapped c.of_iota.ensures
     (by_recursor look.contents look.stays c.args.name c.args.levels c.args.e c.in-Ok.entry
     h c.requires.head_is (sym kind ∙ c.if-is_quotient.false) c.in_ok-begin-2.ensures)

@@ -8,7 +8,6 @@ use Rattle.lk_nested.specs.Findings.{found, FindsNothing}
 use Rattle.lk_env.proofs.Stays.{types_stay, type_in_stays}
 use Rattle.lk_env.specs.Units.{type_at, IsTypeIn}
 use Rattle.lk_store.proofs.Extending.{Extends-trans}
-use Rattle.lk_nested.specs.Pairs.{pairs_at}
 use Rattle.lk_auxiliary.specs.Auxiliaries.{auxs_at}
 use Rattle.lk_auxiliary.specs.Settings.{setting_at}
 use Rattle.lk_enlarge.proofs.Drafts.{LeadsTypes, types_first, types_next, types_end, types_stop}
@@ -24,13 +23,10 @@ types-init g c =
     record {
       keeps = search rules;
       same_rest = refl;
-      auxs_in = c.requires.auxs_in;
-      pairs_in = c.requires.pairs_in;
-      kept_in = c.requires.kept_in;
       met = c.requires.met;
       made_in = All-same (IsTypeIn before) c.new-made.result.items [] c.new-made.ensures.items (All-nil (IsTypeIn before));
       within = omega arith;
-      leads = rw c.new-made.ensures.items (types_first w (setting_at before c.args.setting.now) 1025 (auxs_at before c.args.auxs.now.items));
+      leads = rw c.new-made.ensures.items (types_first w (setting_at before c.args.setting.now) 1025 (auxs_at before c.args.met.now.auxs.items));
     }
 
 pub nest_next-requires-clause-setting_in : goal.nest_next-requires-clause-setting_in
@@ -44,7 +40,7 @@ nest_next-requires-clause-met g c =
     let w = (g.F.Asks.standing c.args.asks.now).place in
     let v = (g.F.Asks.standing c.types.asks).place in
     let place = ap (λ x. x.place) (g.met.F.Asks.decided c.types.asks c.args.asks.now was.same_rest).0 in
-    met_on before now was.keeps c.args.setting.now c.requires.setting_in v w place (auxs_at now c.types.auxs.items) (pairs_at now c.types.pairs.items) was.met
+    met_on before now was.keeps c.args.setting.now c.requires.setting_in v w place now c.types.met was.met
 
 pub returns-in_err-nest_next-clause-nests : goal.returns-in_err-nest_next-clause-nests
 returns-in_err-nest_next-clause-nests g c =
@@ -57,10 +53,10 @@ returns-in_err-nest_next-clause-nests g c =
     let i = c.types.number in
     let small = c.types-test.true in
     let one : 1025 - i ≡ suc (1024 - i) = omega arith in
-    let as_ = auxs_at now c.types.auxs.items in
+    let as_ = auxs_at now c.types.met.auxs.items in
     let stop = c.in_err-nest_next.field-0.0 in
     let p = err_from_is_err_and c.from_residual.result c.from_residual.ensures.1 in
-    rw (p.1, p.2) (types_stop w (setting_at before c.args.setting.now) 1025 (auxs_at before c.args.auxs.now.items) (map (type_at now) c.types.made.items) (1025 - i) i as_ was.leads (1024 - i) one stop
+    rw (p.1, p.2) (types_stop w (setting_at before c.args.setting.now) 1025 (auxs_at before c.args.met.now.auxs.items) (map (type_at now) c.types.made.items) (1025 - i) i as_ was.leads (1024 - i) one stop
     (subst (λ f. FindsNothing f stop) (next_steady before now was.keeps c.args.setting.now c.requires.setting_in v w place i as_) c.in_err-nest_next.ensures.nests))
 
 pub returns-in-None-clause-met : goal.returns-in-None-clause-met
@@ -72,7 +68,7 @@ returns-in-None-clause-met g c =
     let w = (g.F.Asks.standing c.args.asks.now).place in
     let v = (g.F.Asks.standing c.types.asks).place in
     let place = ap (λ x. x.place) (g.met.F.Asks.decided c.types.asks c.args.asks.now was.same_rest).0 in
-    met_back before now was.keeps c.args.setting.now c.requires.setting_in v w place (auxs_at after c.nest_next.new.auxs.items) (pairs_at after c.nest_next.new.pairs.items) c.in_ok-nest_next.ensures.met
+    met_back before now was.keeps c.args.setting.now c.requires.setting_in v w place after c.nest_next.new.met c.in_ok-nest_next.ensures.met
 
 pub returns-in-None-clause-nests : goal.returns-in-None-clause-nests
 returns-in-None-clause-nests g c =
@@ -86,11 +82,11 @@ returns-in-None-clause-nests g c =
     let i = c.types.number in
     let small = c.types-test.true in
     let one : 1025 - i ≡ suc (1024 - i) = omega arith in
-    let as_ = auxs_at now c.types.auxs.items in
-    let bs = auxs_at after c.nest_next.new.auxs.items in
+    let as_ = auxs_at now c.types.met.auxs.items in
+    let bs = auxs_at after c.nest_next.new.met.auxs.items in
     let made = c.types.made.items in
     let none = sym (next_steady before now was.keeps c.args.setting.now c.requires.setting_in v w place i as_) ∙ c.in_ok-nest_next.ensures.nests ∙ ap (λ (o : Option BlockType). found (o, bs)) (ap (option_map (type_at after)) c.in-None.is) in
-    types_end w (setting_at before c.args.setting.now) 1025 (auxs_at before c.args.auxs.now.items) (map (type_at now) made) (1025 - i) i as_ was.leads (1024 - i) one bs none
+    types_end w (setting_at before c.args.setting.now) 1025 (auxs_at before c.args.met.now.auxs.items) (map (type_at now) made) (1025 - i) i as_ was.leads (1024 - i) one bs none
     ∙ ap (λ (ts : List BlockType). found (ts, bs)) (sym (types_stay now after c.in_ok-nest_next.ensures.keeps made was.made_in))
 
 pub types-preserved : goal.types-preserved
@@ -107,9 +103,9 @@ types-preserved g c =
     let one : 1025 - i ≡ suc (1024 - i) = omega arith in
     let less : 1025 - (i + 1) ≡ 1024 - i = omega arith in
     let next : i + 1 ≡ suc i = omega arith in
-    let as_ = auxs_at now c.types.auxs.items in
-    let bs = auxs_at after c.nest_next.new.auxs.items in
-    let start = auxs_at before c.args.auxs.now.items in
+    let as_ = auxs_at now c.types.met.auxs.items in
+    let bs = auxs_at after c.nest_next.new.met.auxs.items in
+    let start = auxs_at before c.args.met.now.auxs.items in
     let plain = setting_at before c.args.setting.now in
     let new = c.in-Some.ty in
     let grown = c.in_ok-nest_next.ensures.keeps in
@@ -120,10 +116,7 @@ types-preserved g c =
     record {
       keeps = Extends-trans before now after was.keeps grown;
       same_rest = c.in_ok-nest_next.ensures.rest ∙ was.same_rest;
-      auxs_in = c.in_ok-nest_next.ensures.known;
-      pairs_in = c.in_ok-nest_next.ensures.pairs_known;
-      kept_in = c.in_ok-nest_next.ensures.kept_in;
-      met = met_back before now was.keeps c.args.setting.now c.requires.setting_in v w place bs (pairs_at after c.nest_next.new.pairs.items) c.in_ok-nest_next.ensures.met;
+      met = met_back before now was.keeps c.args.setting.now c.requires.setting_in v w place after c.nest_next.new.met c.in_ok-nest_next.ensures.met;
       made_in = All-same (IsTypeIn after) c.push.new.self.items (made ++ new ∷ []) pushed (All-push (IsTypeIn after) made new (All-weaker (IsTypeIn now) (IsTypeIn after) (type_in_stays now after grown) made was.made_in) new_in);
       within = omega arith;
       leads =

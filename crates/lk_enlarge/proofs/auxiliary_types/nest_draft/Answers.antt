@@ -10,9 +10,9 @@ use Rattle.lk_enlarge.specs.Drafts.{draft_at}
 use Rattle.lk_enlarge.specs.DraftsNested.{drafted}
 use Rattle.lk_auxiliary.specs.Settings.{setting_at}
 use Rattle.lk_enlarge.proofs.Drafts.{draft_found, draft_stops}
-use Rattle.lk_enlarge.proofs.DraftsStay.{draft_stays, draft_known, met_grown}
-use Rattle.lk_enlarge.proofs.Grown.{setting_stays, setting_known, kept_stays}
-use Rattle.lk_auxiliary.proofs.Others.{auxs_stay, auxs_known}
+use Rattle.lk_enlarge.proofs.DraftsStay.{draft_stays, draft_known}
+use Rattle.lk_enlarge.proofs.Grown.{setting_stays, setting_known, met_grown}
+use Rattle.lk_auxiliary.proofs.Others.{auxs_stay}
 use Rattle.lk_enlarge.proofs.auxiliary_types.nest_draft.Goals as goal
 
 pub returns-in_err-e-clause-nests : goal.returns-in_err-e-clause-nests
@@ -20,7 +20,7 @@ returns-in_err-e-clause-nests g c =
     let before = g.F.Terms.contents c.args.asks.now in
     let w = (g.F.Asks.standing c.args.asks.now).place in
     let p = err_from_is_err_and c.from_residual.result c.from_residual.ensures.1 in
-    rw (p.1, p.2) (draft_stops w (setting_at before c.args.setting.now) c.args.number (draft_at before c.args.draft) (auxs_at before c.args.auxs.now.items) c.in_err-e.field-0.0 c.in_err-e.ensures.nests)
+    rw (p.1, p.2) (draft_stops w (setting_at before c.args.setting.now) c.args.number (draft_at before c.args.draft) (auxs_at before c.args.met.now.auxs.items) c.in_err-e.field-0.0 c.in_err-e.ensures.nests)
 
 pub constructor_of-requires-clause-setting_in : goal.constructor_of-requires-clause-setting_in
 constructor_of-requires-clause-setting_in g c = setting_known (g.F.Terms.contents c.args.asks.now) (g.F.Terms.contents c.nest.new.asks) c.in_ok-e.ensures.keeps c.args.setting.now c.requires.setting_in
@@ -28,20 +28,15 @@ constructor_of-requires-clause-setting_in g c = setting_known (g.F.Terms.content
 pub constructor_of-requires-clause-draft_in : goal.constructor_of-requires-clause-draft_in
 constructor_of-requires-clause-draft_in g c = draft_known (g.F.Terms.contents c.args.asks.now) (g.F.Terms.contents c.nest.new.asks) c.in_ok-e.ensures.keeps c.args.draft c.requires.draft_in
 
-pub returns-clause-known : goal.returns-clause-known
-returns-clause-known g c = auxs_known (g.F.Terms.contents c.nest.new.asks) (g.F.Terms.contents c.constructor_of.new.terms) c.in_ok-constructor_of.ensures.keeps c.nest.new.auxs.items c.in_ok-e.ensures.known
-
-pub returns-clause-kept_in : goal.returns-clause-kept_in
-returns-clause-kept_in g c =
-    let before = g.F.Terms.contents c.args.asks.now in
-    let now = g.F.Terms.contents c.nest.new.asks in
-    kept_stays now (g.F.Terms.contents c.constructor_of.new.terms) c.in_ok-constructor_of.ensures.keeps c.args.setting.now (setting_known before now c.in_ok-e.ensures.keeps c.args.setting.now c.requires.setting_in) c.nest.new.kept c.in_ok-e.ensures.kept_in
-
 pub returns-clause-met : goal.returns-clause-met
 returns-clause-met g c =
+    let before = g.F.Terms.contents c.args.asks.now in
     let now = g.F.Terms.contents c.nest.new.asks in
-    met_grown now (g.F.Terms.contents c.constructor_of.new.terms) c.in_ok-constructor_of.ensures.keeps (g.F.Asks.standing c.args.asks.now).place (setting_at (g.F.Terms.contents c.args.asks.now) c.args.setting.now) c.nest.new.auxs.items c.nest.new.pairs.items
-    c.in_ok-e.ensures.known c.in_ok-e.ensures.pairs_known c.in_ok-e.ensures.met
+    let s = c.args.setting.now in
+    met_grown now (g.F.Terms.contents c.constructor_of.new.terms) c.in_ok-constructor_of.ensures.keeps
+    (g.F.Asks.standing c.args.asks.now).place (setting_at before s) s
+    (setting_known before now c.in_ok-e.ensures.keeps s c.requires.setting_in) c.nest.new.met
+    c.in_ok-e.ensures.met
 
 pub returns-clause-nests : goal.returns-clause-nests
 returns-clause-nests g c =
@@ -51,10 +46,10 @@ returns-clause-nests g c =
     let w = (g.F.Asks.standing c.args.asks.now).place in
     let plain = setting_at before c.args.setting.now in
     let grown = c.in_ok-e.ensures.keeps in
-    let as_ = c.nest.new.auxs.items in
+    let as_ = c.nest.new.met.auxs.items in
     let e = tree_at now c.in_ok-e.e in
     let made = c.in_ok-constructor_of.ensures.value ∙ ap (λ s. drafted s c.args.number (draft_at now c.args.draft) e) (setting_stays before now grown c.args.setting.now c.requires.setting_in)
     ∙ ap (λ d. drafted plain c.args.number d e) (draft_stays before now grown c.args.draft c.requires.draft_in) in
-    draft_found w plain c.args.number (draft_at before c.args.draft) (auxs_at before c.args.auxs.now.items) (e, auxs_at now as_) c.in_ok-e.ensures.nests
+    draft_found w plain c.args.number (draft_at before c.args.draft) (auxs_at before c.args.met.now.auxs.items) (e, auxs_at now as_) c.in_ok-e.ensures.nests
     ∙ ap (λ (k : Ctor). found (k, auxs_at now as_)) (sym made)
-    ∙ ap (λ (x : List Aux). found (constructor_at after c.in_ok-constructor_of.field-0, x)) (sym (auxs_stay now after c.in_ok-constructor_of.ensures.keeps as_ c.in_ok-e.ensures.known))
+    ∙ ap (λ (x : List Aux). found (constructor_at after c.in_ok-constructor_of.field-0, x)) (sym (auxs_stay now after c.in_ok-constructor_of.ensures.keeps as_ c.in_ok-e.ensures.met.auxs_in))

@@ -7,7 +7,6 @@ use Rattle.lk_lists.proofs.Lists.{rest_have, first_has, none_left}
 use Rattle.lk_env.proofs.Stays.{constructors_stay}
 use Rattle.lk_env.specs.Units.{constructor_at, IsConstructorIn}
 use Rattle.lk_store.proofs.Extending.{Extends-trans}
-use Rattle.lk_nested.specs.Pairs.{pairs_at}
 use Rattle.lk_auxiliary.specs.Auxiliaries.{auxs_at}
 use Rattle.lk_enlarge.specs.Drafts.{draft_at, IsDraftIn}
 use Rattle.lk_enlarge.specs.DraftsNested.{nest_draft}
@@ -25,13 +24,10 @@ constructors-init g c =
     record {
       keeps = search rules;
       same_rest = refl;
-      auxs_in = c.requires.auxs_in;
-      pairs_in = c.requires.pairs_in;
-      kept_in = c.requires.kept_in;
       met = c.requires.met;
       made_in = All-same (IsConstructorIn before) c.new-made.result.items [] c.new-made.ensures.items (All-nil (IsConstructorIn before));
       left_in = c.requires.drafts_in;
-      leads = rw c.new-made.ensures.items (each_first w (nest_draft (setting_at before c.args.setting.now) c.args.number) (map (draft_at before) c.args.drafts.now) (auxs_at before c.args.auxs.now.items));
+      leads = rw c.new-made.ensures.items (each_first w (nest_draft (setting_at before c.args.setting.now) c.args.number) (map (draft_at before) c.args.drafts.now) (auxs_at before c.args.met.now.auxs.items));
     }
 
 pub nest_draft-requires-clause-setting_in : goal.nest_draft-requires-clause-setting_in
@@ -45,7 +41,7 @@ nest_draft-requires-clause-met g c =
     let w = (g.F.Asks.standing c.args.asks.now).place in
     let v = (g.F.Asks.standing c.constructors.asks).place in
     let place = ap (λ x. x.place) (g.met.F.Asks.decided c.constructors.asks c.args.asks.now was.same_rest).0 in
-    met_on before now was.keeps c.args.setting.now c.requires.setting_in v w place (auxs_at now c.constructors.auxs.items) (pairs_at now c.constructors.pairs.items) was.met
+    met_on before now was.keeps c.args.setting.now c.requires.setting_in v w place now c.constructors.met was.met
 
 pub nest_draft-requires-clause-draft_in : goal.nest_draft-requires-clause-draft_in
 nest_draft-requires-clause-draft_in g c =
@@ -65,10 +61,10 @@ returns-in_err-constructor-clause-nests g c =
     let more = c.in-Some.more.now in
     let split = c.in-Some.ensures.cases.0 in
     let known = first_has (IsDraftIn before) c.constructors.left.now k more split was.left_in in
-    let as_ = auxs_at now c.constructors.auxs.items in
+    let as_ = auxs_at now c.constructors.met.auxs.items in
     let stop = c.in_err-constructor.field-0.0 in
     let p = err_from_is_err_and c.from_residual.result c.from_residual.ensures.1 in
-    rw (p.1, p.2) (each_stopped w (nest_draft (setting_at before c.args.setting.now) c.args.number) (map (draft_at before) c.args.drafts.now) (auxs_at before c.args.auxs.now.items) (map (constructor_at now) c.constructors.made.items) (map (draft_at before) c.constructors.left.now) as_ was.leads
+    rw (p.1, p.2) (each_stopped w (nest_draft (setting_at before c.args.setting.now) c.args.number) (map (draft_at before) c.args.drafts.now) (auxs_at before c.args.met.now.auxs.items) (map (constructor_at now) c.constructors.made.items) (map (draft_at before) c.constructors.left.now) as_ was.leads
     (draft_at before k) (map (draft_at before) more) (ap (map (draft_at before)) split) stop
     (subst (λ f. FindsNothing f stop) (draft_steady before now was.keeps c.args.setting.now c.requires.setting_in v w place c.args.number k known as_) c.in_err-constructor.ensures.nests))
 
@@ -85,8 +81,8 @@ constructors-preserved g c =
     let more = c.in-Some.more.now in
     let split = c.in-Some.ensures.cases.0 in
     let known = first_has (IsDraftIn before) c.constructors.left.now k more split was.left_in in
-    let as_ = auxs_at now c.constructors.auxs.items in
-    let bs = auxs_at after c.nest_draft.new.auxs.items in
+    let as_ = auxs_at now c.constructors.met.auxs.items in
+    let bs = auxs_at after c.nest_draft.new.met.auxs.items in
     let new = c.in_ok-constructor.constructor in
     let grown = c.in_ok-constructor.ensures.keeps in
     let made = c.constructors.made.items in
@@ -94,14 +90,11 @@ constructors-preserved g c =
     record {
       keeps = Extends-trans before now after was.keeps grown;
       same_rest = c.in_ok-constructor.ensures.rest ∙ was.same_rest;
-      auxs_in = c.in_ok-constructor.ensures.known;
-      pairs_in = c.in_ok-constructor.ensures.pairs_known;
-      kept_in = c.in_ok-constructor.ensures.kept_in;
-      met = met_back before now was.keeps c.args.setting.now c.requires.setting_in v w place bs (pairs_at after c.nest_draft.new.pairs.items) c.in_ok-constructor.ensures.met;
+      met = met_back before now was.keeps c.args.setting.now c.requires.setting_in v w place after c.nest_draft.new.met c.in_ok-constructor.ensures.met;
       made_in = All-same (IsConstructorIn after) c.push.new.self.items (made ++ new ∷ []) pushed (All-push (IsConstructorIn after) made new (All-weaker (IsConstructorIn now) (IsConstructorIn after) (constructor_known now after grown) made was.made_in) c.in_ok-constructor.ensures.made_known);
       left_in = rest_have (IsDraftIn before) c.constructors.left.now k more split was.left_in;
       leads =
-          each_next w (nest_draft (setting_at before c.args.setting.now) c.args.number) (map (draft_at before) c.args.drafts.now) (auxs_at before c.args.auxs.now.items) (map (constructor_at now) made) (map (draft_at before) c.constructors.left.now) as_ was.leads
+          each_next w (nest_draft (setting_at before c.args.setting.now) c.args.number) (map (draft_at before) c.args.drafts.now) (auxs_at before c.args.met.now.auxs.items) (map (constructor_at now) made) (map (draft_at before) c.constructors.left.now) as_ was.leads
           (draft_at before k) (map (draft_at before) more) (ap (map (draft_at before)) split)
           (constructor_at after new) bs (map (constructor_at after) c.push.new.self.items)
           (ap (map (constructor_at after)) pushed ∙ map-append (constructor_at after) made (new ∷ []) ∙ ap (λ ks. ks ++ constructor_at after new ∷ []) (constructors_stay now after grown made was.made_in))
@@ -113,5 +106,5 @@ returns-clause-nests g c =
     let before = g.F.Terms.contents c.args.asks.now in
     let now = g.F.Terms.contents c.constructors.asks in
     let w = (g.F.Asks.standing c.args.asks.now).place in
-    each_end w (nest_draft (setting_at before c.args.setting.now) c.args.number) (map (draft_at before) c.args.drafts.now) (auxs_at before c.args.auxs.now.items) (map (constructor_at now) c.constructors.made.items) (map (draft_at before) c.constructors.left.now) (auxs_at now c.constructors.auxs.items) c.constructors.invariant.leads
+    each_end w (nest_draft (setting_at before c.args.setting.now) c.args.number) (map (draft_at before) c.args.drafts.now) (auxs_at before c.args.met.now.auxs.items) (map (constructor_at now) c.constructors.made.items) (map (draft_at before) c.constructors.left.now) (auxs_at now c.constructors.met.auxs.items) c.constructors.invariant.leads
     (none_left (draft_at before) c.constructors.left.now c.in_default.ensures.cases)

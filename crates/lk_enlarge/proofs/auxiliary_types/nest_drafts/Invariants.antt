@@ -1,11 +1,9 @@
 use Rattle.std.proofs.Common.{◌≡◌, length, map, All}
 use Rattle.lk_env.specs.Units.{constructor_at, IsConstructorIn}
 use Rattle.lk_store.specs.Contents.{Extends}
-use Rattle.lk_nested.specs.Joined.{AreMet}
-use Rattle.lk_nested.specs.Pairs.{pairs_at, ArePairsIn}
-use Rattle.lk_auxiliary.specs.Auxiliaries.{auxs_at, IsAuxiliaryIn}
+use Rattle.lk_auxiliary.specs.Auxiliaries.{auxs_at}
 use Rattle.lk_auxiliary.specs.Settings.{setting_at}
-use Rattle.lk_enlarge.specs.Kept.{IsKept}
+use Rattle.lk_enlarge.specs.Occurrences.{AreOccurrences}
 use Rattle.lk_enlarge.specs.Drafts.{draft_at, IsDraftIn}
 use Rattle.lk_enlarge.specs.DraftsNested.{nest_draft}
 use Rattle.lk_enlarge.proofs.Each.{LeadsEach}
@@ -20,14 +18,11 @@ invariant-constructors g l =
     record {
       keeps : Extends before now;
       same_rest : g.F.Terms.rest l.asks ≡ g.F.Terms.rest l.fn.asks;
-      auxs_in : All (IsAuxiliaryIn now) l.auxs.items;
-      pairs_in : ArePairsIn now l.pairs.items;
-      kept_in : IsKept now l.fn.setting l.kept;
-      met : AreMet w plain (auxs_at now l.auxs.items) (pairs_at now l.pairs.items);
+      met : AreOccurrences w plain now l.fn.setting l.met;
       made_in : All (IsConstructorIn now) l.made.items;
       left_in : All (IsDraftIn before) l.left;
-      leads : LeadsEach w (nest_draft plain l.fn.number) (map (draft_at before) l.fn.drafts) (auxs_at before l.fn.auxs.items)
-          (map (constructor_at now) l.made.items) (map (draft_at before) l.left) (auxs_at now l.auxs.items);
+      leads : LeadsEach w (nest_draft plain l.fn.number) (map (draft_at before) l.fn.drafts) (auxs_at before l.fn.met.auxs.items)
+          (map (constructor_at now) l.made.items) (map (draft_at before) l.left) (auxs_at now l.met.auxs.items);
     }
 
 abbrev pub decreases-constructors : goal.decreases-constructors

@@ -9,9 +9,9 @@ use Rattle.lk_store.specs.Contents.{tree_at}
 use Rattle.lk_auxiliary.specs.Auxiliaries.{auxs_at}
 use Rattle.lk_enlarge.specs.Met.{IsMadeFor, IsNumbered}
 use Rattle.lk_auxiliary.specs.Settings.{setting_at}
-use Rattle.lk_enlarge.specs.declared.kept.Kept.{Kept}
-use Rattle.lk_enlarge.specs.Kept.{IsKept}
-use Rattle.lk_enlarge.proofs.Grown.{kept_stays}
+use Rattle.lk_enlarge.specs.declared.visited.Visited.{Visited}
+use Rattle.lk_enlarge.specs.Occurrences.{IsVisited}
+use Rattle.lk_enlarge.proofs.Grown.{visited_stays}
 use Rattle.lk_enlarge.proofs.Meetings.{met_again, met_first}
 use Rattle.lk_auxiliary.proofs.Others.{auxs_stay, auxs_known}
 use Rattle.lk_enlarge.proofs.meet.meet.Goals as goal
@@ -56,15 +56,15 @@ returns-clause-meets g c =
     met_first w plain e auxs c.requires.occurs value c.make_for.result may number
     (subst (λ xs. IsMadeFor w plain e xs auxs value c.make_for.result) arguments c.make_for.ensures.made)
 
-pub returns-in-Some-clause-kept_in : goal.returns-in-Some-clause-kept_in
-returns-in-Some-clause-kept_in g c =
-    kept_stays (g.F.Terms.contents c.args.asks.now) (g.F.Terms.contents c.auxiliary_applied.new.terms) c.in_ok-auxiliary_applied-in-Some.ensures.keeps c.args.setting.now c.requires.setting_in
-    (record { marks = c.args.kept.now.marks; own = c.may_nest.new.met }) (record { marks = c.requires.kept_in.marks; own = c.in_ok-may_nest.ensures.met })
+pub returns-in-Some-clause-visited_in : goal.returns-in-Some-clause-visited_in
+returns-in-Some-clause-visited_in g c =
+    visited_stays (g.F.Terms.contents c.args.asks.now) (g.F.Terms.contents c.auxiliary_applied.new.terms) c.in_ok-auxiliary_applied-in-Some.ensures.keeps c.args.setting.now c.requires.setting_in
+    (record { marks = c.args.visited.now.marks; own = c.may_nest.new.met }) (record { marks = c.requires.visited_in.marks; own = c.in_ok-may_nest.ensures.met })
 
-pub returns-clause-kept_in : goal.returns-clause-kept_in
-returns-clause-kept_in g c =
+pub returns-clause-visited_in : goal.returns-clause-visited_in
+returns-clause-visited_in g c =
     let before = g.F.Terms.contents c.args.asks.now in
     let after = g.F.Terms.contents c.make_for.new.asks in
-    let kept : Kept = record { marks = c.args.kept.now.marks; own = c.may_nest.new.met } in
-    always c.make_for.result (IsKept after c.args.setting.now kept)
-    (kept_stays before after c.make_for.ensures.keeps c.args.setting.now c.requires.setting_in kept (record { marks = c.requires.kept_in.marks; own = c.in_ok-may_nest.ensures.met }))
+    let visited : Visited = record { marks = c.args.visited.now.marks; own = c.may_nest.new.met } in
+    always c.make_for.result (IsVisited after c.args.setting.now visited)
+    (visited_stays before after c.make_for.ensures.keeps c.args.setting.now c.requires.setting_in visited (record { marks = c.requires.visited_in.marks; own = c.in_ok-may_nest.ensures.met }))

@@ -12,16 +12,16 @@ use Rattle.lk_store.specs.Contents.{Contents, tree_at, Extends}
 use Rattle.lk_store.proofs.Extending.{Extends-trans}
 use Rattle.lk_lists.proofs.Lists.{rest_have, first_has, none_left}
 use Rattle.lk_nested.specs.declared.swap.Pair.{Pair}
-use Rattle.lk_nested.specs.Joined.{AreMet, occurrences}
+use Rattle.lk_nested.specs.Joined.{occurrences}
 use Rattle.lk_nested.specs.Occurrences.{test_at, is_occurrence}
 use Rattle.lk_nested.specs.Outermost.{last_of}
 use Rattle.lk_nested.specs.Pairs.{pairs_at}
-use Rattle.lk_nested.specs.Swaps.{instead, swapped, pairs-steady}
+use Rattle.lk_nested.specs.Swaps.{instead, swapped}
 use Rattle.lk_nested.proofs.Swapping.{instead_among, instead_none}
 use Rattle.lk_auxiliary.specs.Auxiliaries.{auxs_at}
 use Rattle.lk_auxiliary.specs.Settings.{setting_at}
-use Rattle.lk_auxiliary.proofs.Others.{auxs_stay, auxs_known}
-use Rattle.lk_enlarge.proofs.Grown.{setting_known, setting_stays, kept_stays, meets_steady, pushed_are, pushed_known}
+use Rattle.lk_auxiliary.proofs.Others.{auxs_stay}
+use Rattle.lk_enlarge.proofs.Grown.{setting_known, setting_stays, met_grown, meets_steady, pushed_are, pushed_known}
 use Rattle.lk_enlarge.proofs.Loops.{CameTo, came_end, came_refused, came_stops, came_on}
 use Rattle.lk_enlarge.proofs.Telling.{AreLeft, left_end, left_known, left_new, left_on}
 use Rattle.lk_enlarge.proofs.Unmets.{new_occurs}
@@ -59,13 +59,13 @@ unmet-preserved-in-Some-instead g c =
     let more = c.in-Some.more.now in
     let split = c.in-Some.ensures.cases.0 in
     let known = first_has (λ x. x < length before.trees) c.unmet.rest.now o more split was.rest_in in
-    let ps = c.unmet.pairs.items in
+    let ps = c.unmet.met.pairs.items in
     record {
       keeps = was.keeps;
       same_rest = was.same_rest;
       auxs_in = was.auxs_in;
       pairs_in = was.pairs_in;
-      kept_in = was.kept_in;
+      visited_in = was.visited_in;
       came = was.came;
       rest_in = rest_have (λ x. x < length before.trees) c.unmet.rest.now o more split was.rest_in;
       left =
@@ -98,7 +98,7 @@ meet-requires-clause-occurs g c =
     let more = c.in-Some.more.now in
     let split = c.in-Some.ensures.cases.0 in
     let known = first_has (λ x. x < length before.trees) c.unmet.rest.now o more split was.rest_in in
-    let ps = c.unmet.pairs.items in
+    let ps = c.unmet.met.pairs.items in
     let E = tree_at before c.args.e in
     let first =
     left_new w plain.names E (last_of c.args.refused) (occurrences (pairs_at now ps)) (map (tree_at before) c.unmet.rest.now) (map (tree_at before) more) (tree_at now o)
@@ -121,16 +121,16 @@ returns-in_err-to-clause-nests g c =
     let more = c.in-Some.more.now in
     let split = c.in-Some.ensures.cases.0 in
     let known = first_has (λ x. x < length before.trees) c.unmet.rest.now o more split was.rest_in in
-    let ps = c.unmet.pairs.items in
+    let ps = c.unmet.met.pairs.items in
     let E = tree_at before c.args.e in
     let first =
     left_new w plain.names E (last_of c.args.refused) (occurrences (pairs_at now ps)) (map (tree_at before) c.unmet.rest.now) (map (tree_at before) more) (tree_at now o)
     (split_now before now was.keeps c.unmet.rest.now more o split known) was.left
     (was_not_met now ps c.deref.result.now c.deref.ensures.value o c.instead.result c.instead.ensures.is (none_of c.instead.result c.in_default-instead.not-Some)) in
-    let as_ = auxs_at now c.unmet.auxs.items in
+    let as_ = auxs_at now c.unmet.met.auxs.items in
     let stop = c.in_err-to.field-0.0 in
     let p = err_from_is_err_and c.from_residual.result c.from_residual.ensures.1 in
-    rw (p.1, p.2) (came_stops w plain E (auxs_at before c.args.auxs.now.items) as_ (pairs_at now ps) was.came (tree_at now o) first stop
+    rw (p.1, p.2) (came_stops w plain E (auxs_at before c.args.met.now.auxs.items) as_ (pairs_at now ps) was.came (tree_at now o) first stop
     (subst (λ f. FindsNothing f stop) (meets_steady before now was.keeps c.args.setting.now c.requires.setting_in v w place (tree_at now o) as_) c.in_err-to.ensures.meets))
 
 pub unmet-preserved : goal.unmet-preserved
@@ -148,7 +148,7 @@ unmet-preserved g c =
     let split = c.in-Some.ensures.cases.0 in
     let known = first_has (λ x. x < length before.trees) c.unmet.rest.now o more split was.rest_in in
     let known_now : o < length now.trees = (let longer = was.keeps.trees.longer in omega arith) in
-    let ps = c.unmet.pairs.items in
+    let ps = c.unmet.met.pairs.items in
     let pushed = c.push.new.self.items in
     let E = tree_at before c.args.e in
     let last = last_of c.args.refused in
@@ -159,8 +159,8 @@ unmet-preserved g c =
     let first = left_new w plain.names E last met all os (tree_at now o) split_is was.left (was_not_met now ps c.deref.result.now c.deref.ensures.value o c.instead.result c.instead.ensures.is (none_of c.instead.result c.in_default-instead.not-Some)) in
     let t = tree_at after c.in_ok-to.to in
     let grown = c.in_ok-to.ensures.keeps in
-    let start = auxs_at before c.args.auxs.now.items in
-    let as_ = auxs_at now c.unmet.auxs.items in
+    let start = auxs_at before c.args.met.now.auxs.items in
+    let as_ = auxs_at now c.unmet.met.auxs.items in
     let bs = auxs_at after c.meet.new.auxs.items in
     let pair : Pair = record { from = o; to = c.in_ok-to.to } in
     let pairs_are = pushed_are now after grown ps pushed pair c.in-Ok.ensures.items was.pairs_in known_now in
@@ -169,7 +169,7 @@ unmet-preserved g c =
       same_rest = c.in_ok-to.ensures.rest ∙ was.same_rest;
       auxs_in = c.in_ok-to.ensures.known;
       pairs_in = pushed_known now after grown ps pushed pair c.in-Ok.ensures.items was.pairs_in known_now c.in_ok-to.ensures.tree_known;
-      kept_in = c.in_ok-to.ensures.kept_in;
+      visited_in = c.in_ok-to.ensures.visited_in;
       came = subst (CameTo w plain E start bs) (sym pairs_are)
           (came_on w plain E start as_ (pairs_at now ps) was.came (tree_at now o) first t bs
           (sym (meets_steady before now was.keeps c.args.setting.now c.requires.setting_in v w place (tree_at now o) as_) ∙ c.in_ok-to.ensures.meets));
@@ -185,32 +185,21 @@ returns-in-Some-refused-clause-nests g c =
     let was = c.unmet.invariant in
     let w = (g.F.Asks.standing c.args.asks.now).place in
     let plain = setting_at before c.args.setting.now in
-    let ps = pairs_at now c.unmet.pairs.items in
+    let ps = pairs_at now c.unmet.met.pairs.items in
     let E = tree_at before c.args.e in
     let end = left_end w plain.names E (last_of c.args.refused) (occurrences ps) (map (tree_at before) c.unmet.rest.now) (none_left (tree_at before) c.unmet.rest.now c.in_default.ensures.cases) was.left in
-    came_refused w plain E (auxs_at before c.args.auxs.now.items) (auxs_at now c.unmet.auxs.items) ps was.came (No c.in-Some-refused.rule) (end ∙ ap last_of c.in-Some-refused.is)
-
-pub returns-clause-known : goal.returns-clause-known
-returns-clause-known g c = auxs_known (g.F.Terms.contents c.unmet.asks) (g.F.Terms.contents c.swap.new.terms) c.in_ok-swap.ensures.keeps c.unmet.auxs.items c.unmet.invariant.auxs_in
-
-pub returns-clause-kept_in : goal.returns-clause-kept_in
-returns-clause-kept_in g c =
-    let before = g.F.Terms.contents c.args.asks.now in
-    let now = g.F.Terms.contents c.unmet.asks in
-    let was = c.unmet.invariant in
-    kept_stays now (g.F.Terms.contents c.swap.new.terms) c.in_ok-swap.ensures.keeps c.args.setting.now (setting_known before now was.keeps c.args.setting.now c.requires.setting_in) c.unmet.kept was.kept_in
+    came_refused w plain E (auxs_at before c.args.met.now.auxs.items) (auxs_at now c.unmet.met.auxs.items) ps was.came (No c.in-Some-refused.rule) (end ∙ ap last_of c.in-Some-refused.is)
 
 pub returns-clause-met : goal.returns-clause-met
 returns-clause-met g c =
     let before = g.F.Terms.contents c.args.asks.now in
     let now = g.F.Terms.contents c.unmet.asks in
-    let after = g.F.Terms.contents c.swap.new.terms in
     let was = c.unmet.invariant in
     let w = (g.F.Asks.standing c.args.asks.now).place in
-    let plain = setting_at before c.args.setting.now in
-    let grown = c.in_ok-swap.ensures.keeps in
-    subst (λ as_. AreMet w plain as_ (pairs_at after c.unmet.pairs.items)) (sym (auxs_stay now after grown c.unmet.auxs.items was.auxs_in))
-    (subst (AreMet w plain (auxs_at now c.unmet.auxs.items)) (sym (pairs-steady now after grown c.unmet.pairs.items was.pairs_in)) was.came.met)
+    met_grown now (g.F.Terms.contents c.swap.new.terms) c.in_ok-swap.ensures.keeps w
+    (setting_at before c.args.setting.now) c.args.setting.now
+    (setting_known before now was.keeps c.args.setting.now c.requires.setting_in) c.unmet.met
+    (record { auxs_in = was.auxs_in; pairs_in = was.pairs_in; visited_in = was.visited_in; met = was.came.met })
 
 pub returns-clause-nests : goal.returns-clause-nests
 returns-clause-nests g c =
@@ -220,13 +209,13 @@ returns-clause-nests g c =
     let was = c.unmet.invariant in
     let w = (g.F.Asks.standing c.args.asks.now).place in
     let plain = setting_at before c.args.setting.now in
-    let ps = pairs_at now c.unmet.pairs.items in
-    let as_ = auxs_at now c.unmet.auxs.items in
+    let ps = pairs_at now c.unmet.met.pairs.items in
+    let as_ = auxs_at now c.unmet.met.auxs.items in
     let E = tree_at before c.args.e in
     let end = left_end w plain.names E (last_of c.args.refused) (occurrences ps) (map (tree_at before) c.unmet.rest.now) (none_left (tree_at before) c.unmet.rest.now c.in_default.ensures.cases) was.left in
     let none : c.args.refused ≡ None = none_of c.args.refused c.in_default-refused.not-Some in
     let grown = c.in_ok-swap.ensures.keeps in
     let tree = c.in_ok-swap.ensures.ok.is ∙ ap (λ x. swapped (pairs_at now x) (tree_at now c.args.e)) c.deref-2.ensures.value ∙ ap (swapped ps) (was.keeps.trees.same c.args.e c.requires.e_in) in
-    came_end w plain E (auxs_at before c.args.auxs.now.items) as_ ps was.came (end ∙ ap last_of none)
+    came_end w plain E (auxs_at before c.args.met.now.auxs.items) as_ ps was.came (end ∙ ap last_of none)
     ∙ ap (λ (t : Tree). found (t, as_)) (sym tree)
-    ∙ ap (λ (x : List Aux). found (tree_at after c.in_ok-swap.field-0, x)) (sym (auxs_stay now after grown c.unmet.auxs.items was.auxs_in))
+    ∙ ap (λ (x : List Aux). found (tree_at after c.in_ok-swap.field-0, x)) (sym (auxs_stay now after grown c.unmet.met.auxs.items was.auxs_in))

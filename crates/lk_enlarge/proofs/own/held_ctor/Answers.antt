@@ -20,7 +20,7 @@ returns-in_err-ty-clause-held g c =
     let k = constructor_at before c.args.stated.now in
     let pis : has_pis (length (setting_at before c.args.setting.now).params) k.type ≡ true = ap (λ n. has_pis n k.type) (length-map c.args.setting.now.parameters.now (tree_at before)) ∙ sym c.has_pis.ensures ∙ c.if-not-has_pis.false in
     let p = err_from_is_err_and c.from_residual.result c.from_residual.ensures.1 in
-    rw (p.1, p.2) (held_stops w (setting_at before c.args.setting.now) k (auxs_at before c.args.auxs.now.items) pis c.in_err-ty.field-0.0 c.in_err-ty.ensures.nests)
+    rw (p.1, p.2) (held_stops w (setting_at before c.args.setting.now) k (auxs_at before c.args.met.now.auxs.items) pis c.in_err-ty.field-0.0 c.in_err-ty.ensures.nests)
 
 pub returns-clause-held : goal.returns-clause-held
 returns-clause-held g c =
@@ -28,9 +28,9 @@ returns-clause-held g c =
     let after = g.F.Terms.contents c.nest_past.new.asks in
     let w = (g.F.Asks.standing c.args.asks.now).place in
     let k = constructor_at before c.args.stated.now in
-    let bs = auxs_at after c.nest_past.new.auxs.items in
+    let bs = auxs_at after c.nest_past.new.met.auxs.items in
     let t = tree_at after c.in_ok-ty.ty in
     let pis : has_pis (length (setting_at before c.args.setting.now).params) k.type ≡ true = ap (λ n. has_pis n k.type) (length-map c.args.setting.now.parameters.now (tree_at before)) ∙ sym c.has_pis.ensures ∙ c.if-not-has_pis.false in
-    held_found w (setting_at before c.args.setting.now) k (auxs_at before c.args.auxs.now.items) pis (t, bs) c.in_ok-ty.ensures.nests
+    held_found w (setting_at before c.args.setting.now) k (auxs_at before c.args.met.now.auxs.items) pis (t, bs) c.in_ok-ty.ensures.nests
     ∙ ap (λ (x : Ctor). found (typed x t, bs)) (sym (constructor_stays before after c.in_ok-ty.ensures.keeps c.args.stated.now c.requires.stated_in))
     ∙ ap (λ (x : Ctor). found (x, bs)) (sym (c.in_ok-with_type.ensures.value after))

@@ -15,7 +15,7 @@ returns-in_err-made-clause-owns g c =
     let before = g.F.Terms.contents c.args.asks.now in
     let w = (g.F.Asks.standing c.args.asks.now).place in
     let plain = setting_at before c.args.setting.now in
-    let as_ = auxs_at before c.args.auxs.now.items in
+    let as_ = auxs_at before c.args.met.now.auxs.items in
     let stop = c.in_err-made.field-0.0 in
     let p = err_from_is_err_and c.from_residual.result c.from_residual.ensures.1 in
     rw (p.1, p.2) (type_stops w plain (type_at before c.args.stated.now) as_ stop
@@ -27,8 +27,8 @@ returns-clause-owns g c =
     let after = g.F.Terms.contents c.own_ctors.new.asks in
     let w = (g.F.Asks.standing c.args.asks.now).place in
     let plain = setting_at before c.args.setting.now in
-    let as_ = auxs_at before c.args.auxs.now.items in
-    let bs = auxs_at after c.own_ctors.new.auxs.items in
+    let as_ = auxs_at before c.args.met.now.auxs.items in
+    let bs = auxs_at after c.own_ctors.new.met.auxs.items in
     let ks = map (constructor_at after) c.in_ok-made.made.items in
     type_found w plain (type_at before c.args.stated.now) as_ (ks, bs)
     (subst (λ xs. all_owns w plain (map (constructor_at before) xs) as_ ≡ found (ks, bs)) c.deref.ensures.value c.in_ok-made.ensures.owns)

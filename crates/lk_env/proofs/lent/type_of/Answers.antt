@@ -13,14 +13,14 @@ use Rattle.lk_env.proofs.lent.type_of.Goals as goal
 pub returns-in-Some-clause-value : goal.returns-in-Some-clause-value
 returns-in-Some-clause-value g c p h =
     let lent = g.L.Lends.lent c.args.library.now in
-    let base = contents_of lent.0 in
-    of_some (λ (y : PlainEntry). type_in y.kind ≡ option_map (λ p. (block_at base p.0.now, type_at base p.1.now)) c.unit_type.result) (plain_entry base lent.1 c.args.entry) p
-    (rw (entry_there base lent.1 c.args.entry c.in-Some.unit.now (sym c.in-Some.ensures.value)) (c.unit_type.ensures.value base (tree_at base c.args.entry.stated))) h
+    let base = contents_of lent.tables in
+    of_some (λ (y : PlainEntry). type_in y.kind ≡ option_map (λ p. (block_at base p.0.now, type_at base p.1.now)) c.unit_type.result) (plain_entry base lent.units c.args.entry) p
+    (rw (entry_there base lent.units c.args.entry c.in-Some.unit.now (sym c.in-Some.ensures.value)) (c.unit_type.ensures.value base (tree_at base c.args.entry.stated))) h
 
 pub returns-in-None-clause-value : goal.returns-in-None-clause-value
 returns-in-None-clause-value g c p h =
     let lent = g.L.Lends.lent c.args.library.now in
-    absurd (not_there (contents_of lent.0) lent.1 c.args.entry p (sym c.in-None.ensures.value) h)
+    absurd (not_there (contents_of lent.tables) lent.units c.args.entry p (sym c.in-None.ensures.value) h)
 
 pub returns-in-Some-clause-known : goal.returns-in-Some-clause-known
-returns-in-Some-clause-known g c = c.unit_type.ensures.known (contents_of (g.L.Lends.lent c.args.library.now).0) c.in-Some.ensures.known
+returns-in-Some-clause-known g c = c.unit_type.ensures.known (contents_of (g.L.Lends.lent c.args.library.now).tables) c.in-Some.ensures.known

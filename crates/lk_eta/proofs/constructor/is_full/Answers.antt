@@ -21,7 +21,7 @@ returns-in-Some-2 g c e h =
     let d = g.L.Terms.contents c.args.looks.now in
     let s = c.in-Some.found in
     let many : nat_eq (length (args (tree_at d c.args.e))) (s.parameters + s.fields) ≡ true = sym c.has_arguments.ensures ∙ c.if-not-has_arguments.false in
-    let here = subst (λ l. plain_entry (contents_of l.0) l.1 c.args.entry ≡ Some e) (sym c.scope.ensures.is) h in
+    let here = subst (λ l. plain_entry (contents_of l.tables) l.units c.args.entry ≡ Some e) (sym c.scope.ensures.is) h in
     is_structure d e.kind _ s (c.in-Some.ensures e h) many c.in-Some-2.field-0 (rw c.in-Some-2.is at (c.in_ok-structure_of.ensures.is e here))
 
 pub returns-in-None-2 : goal.returns-in-None-2
@@ -29,5 +29,5 @@ returns-in-None-2 g c e h =
     let d = g.L.Terms.contents c.args.looks.now in
     let s = c.in-Some.found in
     let many : nat_eq (length (args (tree_at d c.args.e))) (s.parameters + s.fields) ≡ true = sym c.has_arguments.ensures ∙ c.if-not-has_arguments.false in
-    let here = subst (λ l. plain_entry (contents_of l.0) l.1 c.args.entry ≡ Some e) (sym c.scope.ensures.is) h in
+    let here = subst (λ l. plain_entry (contents_of l.tables) l.units c.args.entry ≡ Some e) (sym c.scope.ensures.is) h in
     no_structure d e.kind _ s (c.in-Some.ensures e h) many (rw c.in-None-2.is at (c.in_ok-structure_of.ensures.is e here))

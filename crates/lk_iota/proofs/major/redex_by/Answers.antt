@@ -1,11 +1,10 @@
-use Rattle.std.proofs.Common.{◌≡◌, List, subst}
+use Rattle.std.proofs.Common.{◌≡◌, subst}
 use Rattle.lk_tree.specs.Spine.{args}
 use Rattle.lk_rulebook.specs.Place.{a_rec}
 use Rattle.lk_store.specs.Store.{contents_of}
 use Rattle.lk_store.specs.Contents.{list_at, tree_at}
-use Rattle.lk_store.specs.declared.tables.Tables.{Tables}
-use Rattle.lk_env.specs.declared.unit.Unit.{Unit as StoredUnit}
 use Rattle.lk_env.specs.Lent.{given_recursor}
+use Rattle.lk_env.specs.StoredLibrary.{StoredLibrary}
 use Rattle.lk_iota.specs.Redexes.{split_at, redex_by, IsRedexIf}
 use Rattle.lk_constructor.proofs.Giving.{entry_there}
 use Rattle.lk_iota.proofs.Splits.{recursor_kind, redex_of_kind, no_redex_of_kind}
@@ -18,10 +17,10 @@ returns-in_ok-arguments-in-Some-clause-is g c p h =
     let l = (g.L.Scope.Lends.lent c.scope.result.now) in
     let ls = list_at d c.args.levels in
     let xs = args (tree_at d c.args.e) in
-    let r = given_recursor (contents_of l.0) c.in-Some.recursor.now c.in-Some.field-0-1.now in
+    let r = given_recursor (contents_of l.tables) c.in-Some.recursor.now c.in-Some.field-0-1.now in
     let there = entry_there basis l c.args.entry p c.scope.ensures.is h in
     let kind : p.kind ≡ a_rec r = recursor_kind p.kind r (c.in-Some.ensures.value p there) in
-    subst (λ (k : Tables × List StoredUnit). IsRedexIf d k c.split.result (redex_by ls xs p p.kind))
+    subst (λ (k : StoredLibrary). IsRedexIf d k c.split.result (redex_by ls xs p p.kind))
     c.scope.ensures.is
     (redex_of_kind d l c.split.result ls xs p p.kind r kind
     (subst (λ ys. IsRedexIf d l c.split.result (split_at ls p r ys))

@@ -28,5 +28,5 @@ returns-in-None g c =
     let e = tree_at d c.args.e in
     let none = none_redex d sight.basis.library (redex_at w e)
     (rw c.in-None.is at c.in_ok-redex.ensures.is) in
-    gives_now c.args.looks.now _ _ tt
+    gives_now c.args.looks.now _ _ c.requires.e_in
     (ap (λ o. erased w a_tree sight.last (sort_rest w e o (tree_at d c.args.m) (tree_at d c.args.ty) (tree_at d c.args.sort))) (sym none))

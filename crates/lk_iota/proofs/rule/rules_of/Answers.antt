@@ -10,9 +10,9 @@ returns-in-Some-clause-value g c p r h kind =
     let l = (g.L.Scope.Lends.lent c.scope.result.now) in
     let d = g.L.Terms.contents c.args.looks.now in
     let rules = c.in-Some.rules.now in
-    rules_are (contents_of l.0) p.kind r c.in-Some.field-0-0.now rules
+    rules_are (contents_of l.tables) p.kind r c.in-Some.field-0-0.now rules
     (c.in-Some.ensures.value p (entry_there basis l c.args.entry p c.scope.ensures.is h)) kind
-    ∙ sym (rules_steady (contents_of l.0) d rules
+    ∙ sym (rules_steady (contents_of l.tables) d rules
     (over_there basis l d c.scope.ensures.is c.scope.ensures.over) c.in-Some.ensures.known.1)
 
 pub returns-in-None-clause-value : goal.returns-in-None-clause-value

@@ -1,13 +1,13 @@
 use Rattle.std.proofs.Common.{rules, ◌≡◌, ◌++◌, ◌∷◌, []}
 use Rattle.lk_subst.proofs.LevelCosts.{popped_less, popped_known}
-use Rattle.lk_level_order.specs.declared.placing.Part.{Part}
+use Rattle.lk_level_order.specs.declared.placing.PlacedLevel.{PlacedLevel}
 use Rattle.lk_level_order.proofs.Placed.{placed_push}
 use Rattle.lk_level_order.proofs.placing.place.Goals as goal
 
 pub walk-preserved-in-Continue-branch-3 : goal.walk-preserved-in-Continue-branch-3
 walk-preserved-in-Continue-branch-3 g c =
     let t = g.T.Terms.contents c.args.terms.now in
-    let row : Part = record { level = c.in-Some.visit.level; node = c.in_ok-node.node } in
+    let row : PlacedLevel = record { level = c.in-Some.visit.level; node = c.in_ok-node.node } in
     let pushed : c.push-then-visit.new.self ≡ c.walk.parts ++ row ∷ [] = search rules in
     let node = c.in_ok-node.ensures in
     record {

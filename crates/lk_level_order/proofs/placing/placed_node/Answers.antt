@@ -2,11 +2,11 @@ use Rattle.std.proofs.Common.{ap, ◌∙◌}
 use Rattle.lk_tree.specs.Tree.{succ_level, param}
 use Rattle.lk_store.specs.declared.node.LevelNode.TheVariants.{Zero}
 use Rattle.lk_level_order.specs.declared.parameters.Parameter.{Parameter}
-use Rattle.lk_level_order.specs.declared.placing.Part.{Part}
+use Rattle.lk_level_order.specs.declared.placing.PlacedLevel.{PlacedLevel}
 use Rattle.lk_level_order.proofs.Placed.{place_level, place_name}
 use Rattle.lk_level_order.proofs.placing.placed_node.Goals as goal
 
-none : Part
+none : PlacedLevel
 none = record { level = 0; node = Zero }
 
 pub returns-in_ok-place_of-in-Succ-clause-level : goal.returns-in_ok-place_of-in-Succ-clause-level

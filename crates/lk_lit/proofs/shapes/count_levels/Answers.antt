@@ -9,6 +9,6 @@ use Rattle.lk_lit.proofs.shapes.count_levels.Goals as goal
 pub returns : goal.returns
 returns g c e is =
     let l = (g.L.Scope.Lends.lent c.scope.result.now) in
-    let b = contents_of l.0 in
-    let there = subst (λ k. plain_entry (contents_of k.0) k.1 c.args.entry ≡ Some e) (sym c.scope.ensures.is) is in
+    let b = contents_of l.tables in
+    let there = subst (λ k. plain_entry (contents_of k.tables) k.units c.args.entry ≡ Some e) (sym c.scope.ensures.is) is in
     sym (length-map c.levels_of.result.now (name_at b)) ∙ ap length (sym (c.levels_of.ensures.value e there))

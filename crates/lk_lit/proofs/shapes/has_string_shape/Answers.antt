@@ -10,7 +10,7 @@ use Rattle.lk_lit.proofs.shapes.has_string_shape.Goals as goal
 pub returns-then-is_alone-clause-settles : goal.returns-then-is_alone-clause-settles
 returns-then-is_alone-clause-settles g c e is =
     let l = (g.L.Looks.sight (g.L.Terms.rest c.args.looks.now)).basis.library in
-    let ty = entry_type (contents_of l.0) l.1 c.args.entry e is
+    let ty = entry_type (contents_of l.tables) l.units c.args.entry e is
     ∙ sym (c.requires.over.trees.same c.args.entry.stated c.requires.known.stated_in) in
     let alone = sym (c.is_alone.ensures e is) ∙ c.if-is_alone.true in
     same_program (string_alone e e.kind alone ∙ ap is_sort_one ty) c.is_sort_one.ensures

@@ -9,11 +9,11 @@ use Rattle.lk_lit.proofs.shapes.inductive.Goals as goal
 
 pub returns-clause-value : goal.returns-clause-value
 returns-clause-value g c =
-    subst (λ l. (x : PlainEntry) → plain_entry (contents_of l.0) l.1 c.args.entry ≡ Some x → type_in x.kind
-    ≡ option_map (λ p. (block_at (contents_of l.0) p.0.now, type_at (contents_of l.0) p.1.now)) c.type_of.result)
+    subst (λ l. (x : PlainEntry) → plain_entry (contents_of l.tables) l.units c.args.entry ≡ Some x → type_in x.kind
+    ≡ option_map (λ p. (block_at (contents_of l.tables) p.0.now, type_at (contents_of l.tables) p.1.now)) c.type_of.result)
     c.scope.ensures.is c.type_of.ensures.value
 
 pub returns-clause-known : goal.returns-clause-known
 returns-clause-known g c =
-    subst (λ l. IfSome c.type_of.result (λ p. IsBlockTypeIn (contents_of l.0) p.0.now p.1.now))
+    subst (λ l. IfSome c.type_of.result (λ p. IsBlockTypeIn (contents_of l.tables) p.0.now p.1.now))
     c.scope.ensures.is c.type_of.ensures.known

@@ -21,7 +21,7 @@ pub returns-after-one : goal.returns-after-one
 returns-after-one g c e is =
     let l = (g.L.Looks.sight (g.L.Terms.rest c.args.looks.now)).basis.library in
     let o = type_in e.kind in
-    let ty = entry_type (contents_of l.0) l.1 c.args.entry e is
+    let ty = entry_type (contents_of l.tables) l.units c.args.entry e is
     ∙ sym (c.requires.over.trees.same c.args.entry.stated c.requires.known.stated_in) in
     let counted = sym (c.has_nat_counts.ensures e is) ∙ c.if-not-has_nat_counts.false in
     let both : c.if-one.fits ≡ (c.in-Ok.one && c.has_nat_ctors-has_ctors.result) =
@@ -41,7 +41,7 @@ pub returns-in-Err : goal.returns-in-Err
 returns-in-Err g c e is =
     let l = (g.L.Looks.sight (g.L.Terms.rest c.args.looks.now)).basis.library in
     let o = type_in e.kind in
-    let ty = entry_type (contents_of l.0) l.1 c.args.entry e is
+    let ty = entry_type (contents_of l.tables) l.units c.args.entry e is
     ∙ sym (c.requires.over.trees.same c.args.entry.stated c.requires.known.stated_in) in
     let counted = sym (c.has_nat_counts.ensures e is) ∙ c.if-not-has_nat_counts.false in
     settles_not (nat_end o) (rw c.in-Err.is at c.in_ok-one.ensures)

@@ -13,7 +13,7 @@ returns-in-Some g c e there at_head =
     let ls = list_at t c.args.levels in
     let l = (g.L.Looks.sight (g.L.Terms.rest c.args.looks.now)).basis.library in
     let op = operation_at c.in-Some.operation in
-    let is = c.in-Some.ensures (contents_of l.0) l.1 c.args.entry e refl there in
+    let is = c.in-Some.ensures (contents_of l.tables) l.units c.args.entry e refl there in
     part_now c.args.e (λ t. literal_step (t c.args.e) f ls e) (operation_step _ f ls e op is)
     (c.begin_applied.ensures (head_names _ f ls e op is at_head))
 
@@ -23,5 +23,5 @@ returns-in-None g c e there at_head =
     let f = name_at t c.args.name in
     let ls = list_at t c.args.levels in
     let l = (g.L.Looks.sight (g.L.Terms.rest c.args.looks.now)).basis.library in
-    let none = c.in-None.ensures (contents_of l.0) l.1 c.args.entry e refl there in
+    let none = c.in-None.ensures (contents_of l.tables) l.units c.args.entry e refl there in
     part_now c.args.e (λ t. literal_step (t c.args.e) f ls e) (no_operation _ f ls e none) (nothing c.args.e c.requires.e_in)

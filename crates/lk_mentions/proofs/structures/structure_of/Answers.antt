@@ -8,14 +8,14 @@ use Rattle.lk_mentions.proofs.structures.structure_of.Goals as goal
 
 pub returns-then-len-ne1-clause-is : goal.returns-then-len-ne1-clause-is
 returns-then-len-ne1-clause-is g c e h =
-    let base = contents_of (g.L.Lends.lent c.args.library.now).0 in
+    let base = contents_of (g.L.Lends.lent c.args.library.now).tables in
     let t = c.in-Some.ty.now in
     let more : nat_eq (length t.constructors.items) 1 ≡ false = grind (arith, nat_tests, c.if-len-ne1.true, c.len.ensures) in
     not_alone (g.T.Terms.contents c.args.terms.now) e.kind (block_at base c.in-Some.block.now) (type_at base t) (constructor_at base c.in-Some.constructor.now) (c.in-Some.ensures.value e h) (alone_is base t.constructors.items ∙ more)
 
 pub returns-then-branch-clause-is : goal.returns-then-branch-clause-is
 returns-then-branch-clause-is g c e h =
-    let base = contents_of (g.L.Lends.lent c.args.library.now).0 in
+    let base = contents_of (g.L.Lends.lent c.args.library.now).tables in
     let t = c.in-Some.ty.now in
     let one : nat_eq (length t.constructors.items) 1 ≡ true = grind (arith, nat_tests, c.if-len-ne1.false, c.len.ensures) in
     let like : is_structure_like (block_at base c.in-Some.block.now) (type_at base t) (constructor_at base c.in-Some.constructor.now) ≡ true = sym c.in_ok-is_like-in-Some.ensures ∙ c.if-branch.true in
@@ -27,7 +27,7 @@ returns-then-branch-clause-is g c e h =
 
 pub returns-else-branch-clause-is : goal.returns-else-branch-clause-is
 returns-else-branch-clause-is g c e h =
-    let base = contents_of (g.L.Lends.lent c.args.library.now).0 in
+    let base = contents_of (g.L.Lends.lent c.args.library.now).tables in
     let t = c.in-Some.ty.now in
     let one : nat_eq (length t.constructors.items) 1 ≡ true = grind (arith, nat_tests, c.if-len-ne1.false, c.len.ensures) in
     let other : is_structure_like (block_at base c.in-Some.block.now) (type_at base t) (constructor_at base c.in-Some.constructor.now) ≡ false = sym c.in_ok-is_like-in-Some.ensures ∙ c.if-branch.false in

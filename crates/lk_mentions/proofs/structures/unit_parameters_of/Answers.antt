@@ -12,13 +12,13 @@ if_same x y (Err n) e h = tt
 
 pub unit_by-requires-clause-constructor_in : goal.unit_by-requires-clause-constructor_in
 unit_by-requires-clause-constructor_in g c =
-    let base = contents_of (g.L.Lends.lent c.args.library.now).0 in
+    let base = contents_of (g.L.Lends.lent c.args.library.now).tables in
     let is : c.in-Some.ty.now.constructors.items ≡ c.in-Some-only.constructor.now ∷ [] = rw c.deref.ensures.value at c.in-Some-only.ensures in
     All-head (IsConstructorIn base) c.in-Some-only.constructor.now [] (subst (All (IsConstructorIn base)) is c.in-Some.ensures.known.type_in.constructors_in)
 
 pub returns-in-Some-only : goal.returns-in-Some-only
 returns-in-Some-only g c e h =
-    let base = contents_of (g.L.Lends.lent c.args.library.now).0 in
+    let base = contents_of (g.L.Lends.lent c.args.library.now).tables in
     let t = c.in-Some.ty.now in
     let b = block_at base c.in-Some.block.now in
     let is : t.constructors.items ≡ c.in-Some-only.constructor.now ∷ [] = rw c.deref.ensures.value at c.in-Some-only.ensures in
@@ -26,7 +26,7 @@ returns-in-Some-only g c e h =
 
 pub returns-in-None-only : goal.returns-in-None-only
 returns-in-None-only g c e h =
-    let base = contents_of (g.L.Lends.lent c.args.library.now).0 in
+    let base = contents_of (g.L.Lends.lent c.args.library.now).tables in
     let t = c.in-Some.ty.now in
     let b = block_at base c.in-Some.block.now in
     let none : length t.constructors.items ≡ 1 → ⊥ = rw c.deref.ensures.value at c.in-None-only.ensures in

@@ -6,12 +6,12 @@ use Rattle.lk_proj.proofs.structure.structure_of.Goals as goal
 
 pub returns-in-Some-clause-known : goal.returns-in-Some-clause-known
 returns-in-Some-clause-known g c =
-    c.structure_by.ensures.known (contents_of (g.L.Lends.lent c.args.library.now).0) c.in-Some.ensures.known.type_in
+    c.structure_by.ensures.known (contents_of (g.L.Lends.lent c.args.library.now).tables) c.in-Some.ensures.known.type_in
 
 pub returns-in-Some-clause-is : goal.returns-in-Some-clause-is
 returns-in-Some-clause-is g c e h =
     c.structure_by.ensures.is (g.L.Lends.lent c.args.library.now) c.args.entry e
-    (block_at (contents_of (g.L.Lends.lent c.args.library.now).0) c.in-Some.field-0-0.now) h
+    (block_at (contents_of (g.L.Lends.lent c.args.library.now).tables) c.in-Some.field-0-0.now) h
     (c.in-Some.ensures.value e h) c.in-Type.is refl
 
 pub returns-in-None-clause-is : goal.returns-in-None-clause-is

@@ -15,7 +15,7 @@ returns-then-is_quotient g c =
     let last = (g.L.Looks.sight (g.L.Terms.rest c.look.new.self)).last in
     let u = c.args.redex.now in
     let h = c.in-Ok.ensures.found in
-    let kind = c.is_quotient.ensures (contents_of b.library.0) b.library.1 h.entry h.is in
+    let kind = c.is_quotient.ensures (contents_of b.library.tables) b.library.units h.entry h.is in
     same_steps
     (sym (looked_is b.place (tree_at t c.args.e) (plain_redex (tree_at t) u)
     (tree_at t c.args.element) b.library (name_at t c.args.name) _ last c.in-Ok.entry h
@@ -30,7 +30,7 @@ returns-else-is_quotient g c =
     let b = (g.L.Looks.sight (g.L.Terms.rest c.args.looks.now)).basis in
     let last = (g.L.Looks.sight (g.L.Terms.rest c.look.new.self)).last in
     let h = c.in-Ok.ensures.found in
-    let kind = c.is_quotient.ensures (contents_of b.library.0) b.library.1 h.entry h.is in
+    let kind = c.is_quotient.ensures (contents_of b.library.tables) b.library.units h.entry h.is in
     record {
       keeps = search rules;
       stays = search rules;

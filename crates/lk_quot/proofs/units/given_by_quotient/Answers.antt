@@ -10,7 +10,7 @@ returns-then-is_quotient g c =
     let b = (g.L.Looks.sight (g.L.Terms.rest c.args.looks.now)).basis in
     let x = name_at (g.L.Terms.contents c.args.looks.now) c.args.name in
     let h = c.in_ok-entry.ensures.found in
-    let kind = c.is_quotient.ensures (contents_of b.library.0) b.library.1 h.entry h.is in
+    let kind = c.is_quotient.ensures (contents_of b.library.tables) b.library.units h.entry h.is in
     record {
       keeps = search rules;
       stays = search rules;
@@ -23,7 +23,7 @@ returns-else-is_quotient g c =
     let b = (g.L.Looks.sight (g.L.Terms.rest c.args.looks.now)).basis in
     let x = name_at (g.L.Terms.contents c.args.looks.now) c.args.name in
     let h = c.in_ok-entry.ensures.found in
-    let kind = c.is_quotient.ensures (contents_of b.library.0) b.library.1 h.entry h.is in
+    let kind = c.is_quotient.ensures (contents_of b.library.tables) b.library.units h.entry h.is in
     record {
       keeps = search rules;
       stays = search rules;

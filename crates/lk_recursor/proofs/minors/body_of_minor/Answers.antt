@@ -13,13 +13,13 @@ use Rattle.lk_recursor.proofs.minors.body_of_minor.Goals as goal
 
 pub at_parameters-requires-clause-levels_are : goal.at_parameters-requires-clause-levels_are
 at_parameters-requires-clause-levels_are g c =
-    levels-steady (g.T.Terms.contents c.args.terms.now) (g.T.Terms.contents c.hypotheses_of.new.terms) c.in_ok-hypotheses.ensures.keeps c.args.shape.now c.args.heads.now.own_levels c.requires.shape_in c.requires.heads_are.own_levels_are
+    levels-steady (g.T.Terms.contents c.args.terms.now) (g.T.Terms.contents c.recursive_terms.new.terms) c.in_ok-hypotheses.ensures.keeps c.args.shape.now c.args.heads.now.own_levels c.requires.shape_in c.requires.heads_are.own_levels_are
 
 pub motive_at-requires-clause-heads_are : goal.motive_at-requires-clause-heads_are
 motive_at-requires-clause-heads_are g c =
     let before = g.T.Terms.contents c.args.terms.now in
     let second = g.T.Terms.contents c.at_parameters.new.terms in
-    heads-steady before second (Extends-trans before (g.T.Terms.contents c.hypotheses_of.new.terms) second c.in_ok-hypotheses.ensures.keeps c.in_ok-subject.ensures.keeps) c.args.shape.now c.args.heads.now c.requires.shape_in c.requires.heads_are
+    heads-steady before second (Extends-trans before (g.T.Terms.contents c.recursive_terms.new.terms) second c.in_ok-hypotheses.ensures.keeps c.in_ok-subject.ensures.keeps) c.args.shape.now c.args.heads.now c.requires.shape_in c.requires.heads_are
 
 pub motive_at-requires-clause-indices_in : goal.motive_at-requires-clause-indices_in
 motive_at-requires-clause-indices_in g c =
@@ -27,11 +27,11 @@ motive_at-requires-clause-indices_in g c =
     let second = g.T.Terms.contents c.at_parameters.new.terms in
     let indices = c.args.constructor.now.indices.items in
     All-same (λ e. e < length second.trees) c.deref-2.result.now indices c.deref-2.ensures.value
-    (trees-known before second indices (Extends-trans before (g.T.Terms.contents c.hypotheses_of.new.terms) second c.in_ok-hypotheses.ensures.keeps c.in_ok-subject.ensures.keeps) c.requires.constructor_in.indices_in)
+    (trees-known before second indices (Extends-trans before (g.T.Terms.contents c.recursive_terms.new.terms) second c.in_ok-hypotheses.ensures.keeps c.in_ok-subject.ensures.keeps) c.requires.constructor_in.indices_in)
 
 pub arrows_to-requires-clause-domains_in : goal.arrows_to-requires-clause-domains_in
 arrows_to-requires-clause-domains_in g c =
-    let first = g.T.Terms.contents c.hypotheses_of.new.terms in
+    let first = g.T.Terms.contents c.recursive_terms.new.terms in
     let third = g.T.Terms.contents c.motive_at.new.terms in
     let found = c.in_ok-hypotheses.hypotheses.items in
     All-same (λ e. e < length third.trees) c.deref-3.result.now found c.deref-3.ensures.value
@@ -40,7 +40,7 @@ arrows_to-requires-clause-domains_in g c =
 pub returns-clause-ok : goal.returns-clause-ok
 returns-clause-ok g c =
     let before = g.T.Terms.contents c.args.terms.now in
-    let first = g.T.Terms.contents c.hypotheses_of.new.terms in
+    let first = g.T.Terms.contents c.recursive_terms.new.terms in
     let second = g.T.Terms.contents c.at_parameters.new.terms in
     let third = g.T.Terms.contents c.motive_at.new.terms in
     let s = c.args.shape.now in

@@ -9,7 +9,7 @@ use Rattle.lk_recursor.proofs.rules.minor_applied.Goals as goal
 pub returns-clause-ok : goal.returns-clause-ok
 returns-clause-ok g c =
     let before = g.T.Terms.contents c.args.terms.now in
-    let first = g.T.Terms.contents c.inductions_of.new.terms in
+    let first = g.T.Terms.contents c.recursive_terms.new.terms in
     let second = g.T.Terms.contents c.apply.new.terms in
     let after = g.T.Terms.contents c.apply-2.new.terms in
     let p = shape_at before c.args.shape.now in

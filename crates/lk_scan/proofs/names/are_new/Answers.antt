@@ -15,12 +15,12 @@ use Rattle.lk_scan.proofs.names.are_new.Goals as goal
 
 pub none_given-requires : goal.none_given-requires
 none_given-requires c =
-    let d = contents_of c.args.library.now.0 in
+    let d = contents_of c.args.library.now.tables in
     subst (All (λ n. n < length d.names)) (sym (c.deref.ensures.value ∙ c.in_ok-names.ensures)) (members_known d c.args.unit.now c.requires)
 
 pub returns-then-not-none_given : goal.returns-then-not-none_given
 returns-then-not-none_given c =
-    let d = contents_of c.args.library.now.0 in
+    let d = contents_of c.args.library.now.tables in
     let us = library_of c.args.library.now in
     let n = c.args.number in
     let u = c.args.unit.now in
@@ -29,12 +29,12 @@ returns-then-not-none_given c =
 
 pub none_twice-requires : goal.none_twice-requires
 none_twice-requires c =
-    let d = contents_of c.args.library.now.0 in
+    let d = contents_of c.args.library.now.tables in
     rw c.base.ensures (subst (All (λ n. n < length d.names)) (sym (c.deref-2.ensures.value ∙ c.in_ok-names.ensures)) (members_known d c.args.unit.now c.requires))
 
 pub returns : goal.returns
 returns c =
-    let d = contents_of c.args.library.now.0 in
+    let d = contents_of c.args.library.now.tables in
     let us = library_of c.args.library.now in
     let n = c.args.number in
     let u = c.args.unit.now in

@@ -1,6 +1,6 @@
 use Rattle.std.specs.Prelude.{◌≤◌, All}
 use Rattle.lk_store.specs.Contents.{Contents}
-use Rattle.lk_store.specs.Store.{over, contents_of}
+use Rattle.lk_store.specs.Layers.{layers_contents}
 use Rattle.lk_spell.specs.Spelling.{IsSpeller}
 use Rattle.lk_spell.specs.Waiting.{turns}
 use Rattle.lk_spell.specs.Wide.{IsPartOf, IsCounting}
@@ -10,7 +10,7 @@ use Rattle.lk_spell.proofs.walk.walk.Given as goal
 
 abbrev pub invariant-walk : goal.invariant-walk
 invariant-walk l =
-    let c = contents_of (over l.terms.0 l.terms.1) in
+    let c = layers_contents l.terms in
     record {
       few : l.speller.counted ≤ 4096;
       under_way : IsUnderWay c l.speller.numbers l.fn.root l.stack.items;
@@ -20,4 +20,4 @@ invariant-walk l =
     }
 
 abbrev pub decreases-walk : goal.decreases-walk
-decreases-walk l = turns (contents_of (over l.terms.0 l.terms.1)) l.stack.items
+decreases-walk l = turns (layers_contents l.terms) l.stack.items

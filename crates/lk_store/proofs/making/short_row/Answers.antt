@@ -1,3 +1,4 @@
+use Rattle.std.proofs.Common.{inl, inr}
 use Rattle.lk_store.specs.Store.{over}
 use Rattle.lk_store.proofs.Joined.{app_row, lam_row, pi_row}
 use Rattle.lk_store.proofs.making.short_row.Goals as goal
@@ -13,15 +14,12 @@ returns-in-App c =
 pub returns-in-Lam : goal.returns-in-Lam
 returns-in-Lam c =
     let r = over c.args.base.now c.args.own.now in
-    rw c.in-Lam.is
-    (lam_row r c.tree_row-in-Lam.result c.tree_row-second-in-Lam.result c.args.key c.in-Lam.t c.in-Lam.b
-    c.tree_row-in-Lam.ensures c.tree_row-second-in-Lam.ensures c.joined-in-Lam.result (rw c.saturating_sub.ensures at c.joined-in-Lam.ensures)
-    (rw c.in-Lam.is at c.requires.key))
-
-pub returns-in-Pi : goal.returns-in-Pi
-returns-in-Pi c =
-    let r = over c.args.base.now c.args.own.now in
-    rw c.in-Pi.is
-    (pi_row r c.tree_row-in-Pi.result c.tree_row-second-in-Pi.result c.args.key c.in-Pi.t c.in-Pi.b
-    c.tree_row-in-Pi.ensures c.tree_row-second-in-Pi.ensures c.joined-in-Pi.result (rw c.saturating_sub-in-Pi.ensures at c.joined-in-Pi.ensures)
-    (rw c.in-Pi.is at c.requires.key))
+    let joined = rw c.saturating_sub-loose.ensures at c.joined-in-Lam.ensures in
+    elim c.in-Lam.is [
+      | inl is ↦ rw is
+          (lam_row r c.tree_row-in-Lam.result c.tree_row-second-in-Lam.result c.args.key c.in-Lam.t c.in-Lam.b
+          c.tree_row-in-Lam.ensures c.tree_row-second-in-Lam.ensures c.joined-in-Lam.result joined (rw is at c.requires.key))
+      | inr is ↦ rw is
+          (pi_row r c.tree_row-in-Lam.result c.tree_row-second-in-Lam.result c.args.key c.in-Lam.t c.in-Lam.b
+          c.tree_row-in-Lam.ensures c.tree_row-second-in-Lam.ensures c.joined-in-Lam.result joined (rw is at c.requires.key))
+    ]

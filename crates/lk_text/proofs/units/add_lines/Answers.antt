@@ -8,13 +8,13 @@ use Rattle.lk_text.proofs.units.add_lines.Goals as goal
 
 pub of-requires : goal.of-requires
 of-requires c =
-    let stands = is_left c.args.library.now.1 c.loop-unit.left.now c.in-Some.more.now c.in-Some.unit.now c.loop-unit.number c.in-Some.ensures.cases.0 c.loop-unit.invariant.few in
+    let stands = is_left c.args.library.now.units c.loop-unit.left.now c.in-Some.more.now c.in-Some.unit.now c.loop-unit.number c.in-Some.ensures.cases.0 c.loop-unit.invariant.few in
     is_listed c.args.library.now c.args.axioms.now c.loop-unit.number c.loop-unit.number c.requires refl stands
 
 pub loop-unit-preserved : goal.loop-unit-preserved
 loop-unit-preserved c =
-    let at = contents_of c.args.library.now.0 in
-    let stands = is_left c.args.library.now.1 c.loop-unit.left.now c.in-Some.more.now c.in-Some.unit.now c.loop-unit.number c.in-Some.ensures.cases.0 c.loop-unit.invariant.few in
+    let at = contents_of c.args.library.now.tables in
+    let stands = is_left c.args.library.now.units c.loop-unit.left.now c.in-Some.more.now c.in-Some.unit.now c.loop-unit.number c.in-Some.ensures.cases.0 c.loop-unit.invariant.few in
     record {
       text = text_more (library_of c.args.library.now) at _ _ _ c.loop-unit.number _ c.loop-unit.left.now c.in-Some.more.now c.in-Some.unit.now c.loop-unit.said.now c.in-Some-split_first.others.now c.in-Some-split_first.v.now
           c.in-Some.ensures.cases.0 c.in-Some-split_first.ensures.cases.0 (listed c.args.library.now c.args.axioms.now c.loop-unit.number c.loop-unit.number c.of.result.now c.requires refl stands c.of.ensures) c.in_ok-add_unit.ensures

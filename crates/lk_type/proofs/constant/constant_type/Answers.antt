@@ -13,7 +13,7 @@ returns-in-Some g c =
     let library = (g.L.Looks.sight (g.L.Terms.rest c.args.looks.now)).basis.library in
     let before = g.L.Terms.contents c.args.looks.now in
     let same = c.look.ensures.over.trees.same c.in-Ok.entry.stated c.in-Ok.ensures.known.stated_in in
-    let there = subst (λ (b : Basis _). plain_entry (contents_of b.library.0) b.library.1 c.in-Ok.entry ≡ Some h.entry) (sym c.look.ensures.stays) h.is in
+    let there = subst (λ (b : Basis _). plain_entry (contents_of b.library.tables) b.library.units c.in-Ok.entry ≡ Some h.entry) (sym c.look.ensures.stays) h.is in
     let at = rw (c.look.ensures.contents, c.in-Some.is) at (c.in_ok-e.ensures.ok h.entry there) in
     record {
       keeps = search rules;
@@ -30,7 +30,7 @@ returns-in-None g c =
     let library = (g.L.Looks.sight (g.L.Terms.rest c.args.looks.now)).basis.library in
     let before = g.L.Terms.contents c.args.looks.now in
     let same = c.look.ensures.over.trees.same c.in-Ok.entry.stated c.in-Ok.ensures.known.stated_in in
-    let there = subst (λ (b : Basis _). plain_entry (contents_of b.library.0) b.library.1 c.in-Ok.entry ≡ Some h.entry) (sym c.look.ensures.stays) h.is in
+    let there = subst (λ (b : Basis _). plain_entry (contents_of b.library.tables) b.library.units c.in-Ok.entry ≡ Some h.entry) (sym c.look.ensures.stays) h.is in
     let at = rw (c.look.ensures.contents, c.in-None.is) at (c.in_ok-e.ensures.ok h.entry there) in
     record {
       keeps = search rules;

@@ -10,7 +10,7 @@ returns-in-None g c =
 
 pub returns : goal.returns
 returns g c =
-    let mentioned : IsMentioned c.args.binders (tree_at (g.L.Terms.contents c.args.looks.now) c.args.e) c.in-Some.n c.args.part.count =
+    let mentioned : IsMentioned c.args.binders (tree_at (g.L.Terms.contents c.args.looks.now) c.args.e) c.in-Some.n c.args.subterm.count =
     rw c.in-Some.is at c.outermost.ensures.mentioned in
     marked_one c.in-Some.n c.args.marks.now.items c.raise.new.marks.items c.requires.marks mentioned
     (λ n o. sym c.in-Some.is ∙ c.outermost.ensures.is n o) c.raise.ensures

@@ -11,6 +11,6 @@ pub returns-in-Ok-clause-is : goal.returns-in-Ok-clause-is
 returns-in-Ok-clause-is g c m h =
     let at = h.at in
     let l = c.loose_bound-loose.ensures in
-    let n : c.in-Ok.n ≡ c.args.part.depth - c.loose_bound-loose.result = search rules in
+    let n : c.in-Ok.n ≡ c.args.subterm.depth - c.loose_bound-loose.result = search rules in
     let same : c.in-Ok.n ≡ m = omega (arith, at, l, n) in
     ap Some same

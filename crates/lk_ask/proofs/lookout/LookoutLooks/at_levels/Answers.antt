@@ -10,6 +10,6 @@ use Rattle.lk_ask.proofs.lookout.LookoutLooks.at_levels.Goals as goal
 pub returns-clause-ok : goal.returns-clause-ok
 returns-clause-ok g c =
     let after = g.T.Terms.contents c.at_levels.new.terms in
-    subst (λ s. IfOk c.at_levels.result (λ r. (x : PlainEntry) → plain_entry (contents_of s.0.0) s.0.1 c.args.entry ≡ Some x
-    → IsAtLevels after x.levels (list_at (g.T.Terms.contents s.2) c.args.levels) (tree_at (g.T.Terms.contents s.2) c.args.e) r))
+    subst (λ s. IfOk c.at_levels.result (λ r. (x : PlainEntry) → plain_entry (contents_of s.scope.tables) s.scope.units c.args.entry ≡ Some x
+    → IsAtLevels after x.levels (list_at (g.T.Terms.contents s.terms) c.args.levels) (tree_at (g.T.Terms.contents s.terms) c.args.e) r))
     c.self.view_is c.at_levels.ensures.ok

@@ -9,4 +9,4 @@ use Rattle.lk_env.proofs.library.Library.position_before.Goals as goal
 pub returns : goal.returns
 returns c =
     c.position_among.ensures ∙ ap (position_below c.args.units) c.position_of.ensures
-    ∙ sym (position_before_is (name_at (contents_of c.args.self.now.0) c.args.name) (library_of c.args.self.now) c.args.units)
+    ∙ sym (position_before_is (name_at (contents_of c.args.self.now.tables) c.args.name) (library_of c.args.self.now) c.args.units)

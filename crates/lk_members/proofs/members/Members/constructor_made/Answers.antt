@@ -2,7 +2,7 @@ use Rattle.std.proofs.Common.{◌≡◌, nat_eq, Some, rules}
 use Rattle.std.specs.HashMap as hash_map
 use Rattle.lk_members.specs.declared.members.Key.{Key}
 use Rattle.lk_members.specs.Lines.{ctor_here, ctor_of}
-use Rattle.lk_members.specs.Stored.{NumberedSaid, lines_of}
+use Rattle.lk_members.specs.Stored.{NumberedMember, lines_of}
 use Rattle.lk_members.specs.Indices.{key_eq}
 use Rattle.lk_members.proofs.Led.{led_within, led_to, led_some, said_known}
 use Rattle.lk_members.proofs.Made.{ctor_copied, no_ctor}
@@ -24,7 +24,7 @@ returns-in_ok-copy-in-Constructor c =
     let ls = m.lines.items in
     let t = c.args.under in
     let n = c.args.name in
-    let here = λ (s : NumberedSaid). ctor_here nat_eq s t n in
+    let here = λ (s : NumberedMember). ctor_here nat_eq s t n in
     let i = c.in-Some.place.now in
     let q : Key = record { under = t; name = n } in
     let o = hash_map.get key_eq m.constructors q in
@@ -40,7 +40,7 @@ returns-in_default-said c =
     let ls = m.lines.items in
     let t = c.args.under in
     let n = c.args.name in
-    let here = λ (s : NumberedSaid). ctor_here nat_eq s t n in
+    let here = λ (s : NumberedMember). ctor_here nat_eq s t n in
     let i = c.in-Some.place.now in
     let q : Key = record { under = t; name = n } in
     let o = hash_map.get key_eq m.constructors q in

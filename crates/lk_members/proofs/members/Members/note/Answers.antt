@@ -2,7 +2,7 @@ use Rattle.std.proofs.Common.{◌≡◌, ◌∙◌, length, refl, ap, sym, subst
 use Rattle.std.specs.Prelude.{nat_eq}
 use Rattle.std.proofs.lemmas.List.{length-map}
 use Rattle.lk_members.specs.declared.line.TypeHead.{TypeHead}
-use Rattle.lk_members.specs.declared.line.Said.{Said as StoredSaid}
+use Rattle.lk_members.specs.declared.line.StoredMember.{StoredMember}
 use Rattle.lk_members.specs.Faults.{fault_of}
 use Rattle.lk_members.specs.Stored.{line_of, lines_of, said_of}
 use Rattle.lk_members.specs.Indices.{IsIndexOf}
@@ -15,7 +15,7 @@ returns-in-Alone-clause-indexed c = λ number.
     let m = c.args.self.now in
     let lines = lines_of m.lines.items in
     let len : length lines ≡ length m.lines.items = length-map m.lines.items line_of in
-    subst (λ (s : StoredSaid). IsIndexOf m (with_line lines number (said_of s))) (sym c.in-Alone.is)
+    subst (λ (s : StoredMember). IsIndexOf m (with_line lines number (said_of s))) (sym c.in-Alone.is)
     (alone_noted m m lines number c.requires.indexed (omega arith) (λ n. refl) (λ q. refl) (λ n. refl) c.in-Alone.field-0 (groups_are m lines c.requires.indexed))
 
 pub returns-in-Type-clause-fault : goal.returns-in-Type-clause-fault
@@ -27,7 +27,7 @@ returns-in-Type-clause-fault c =
 pub returns-in-Constructor-clause-fault : goal.returns-in-Constructor-clause-fault
 returns-in-Constructor-clause-fault c =
     let lines = lines_of c.args.self.now.lines.items in
-    subst (λ (s : StoredSaid). Takes c.note_constructor.result (fault_of nat_eq lines (said_of s))) (sym c.in-Constructor.is) (rw (c.deref-in-Constructor.ensures, c.deref-in-Constructor-2.ensures) at (c.note_constructor.ensures.fault c.in-Constructor.constructor.value))
+    subst (λ (s : StoredMember). Takes c.note_constructor.result (fault_of nat_eq lines (said_of s))) (sym c.in-Constructor.is) (rw (c.deref-in-Constructor.ensures, c.deref-in-Constructor-2.ensures) at (c.note_constructor.ensures.fault c.in-Constructor.constructor.value))
 
 pub returns-in-Recursor-clause-fault : goal.returns-in-Recursor-clause-fault
 returns-in-Recursor-clause-fault c =

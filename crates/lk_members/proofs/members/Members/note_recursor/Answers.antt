@@ -2,7 +2,7 @@ use Rattle.std.proofs.Common.{◌≡◌, true, false, length, refl, ap, sym, sub
 use Rattle.std.specs.Prelude.{Vec, nat_eq}
 use Rattle.std.specs.declared.alloc.Global.{Global}
 use Rattle.std.proofs.lemmas.List.{length-map}
-use Rattle.lk_members.specs.declared.line.Line.{Line as StoredLine}
+use Rattle.lk_members.specs.declared.line.StoredLine.{StoredLine}
 use Rattle.lk_members.specs.declared.members.Members.{Members}
 use Rattle.lk_members.specs.Lines.{a_recursor, has_recursor}
 use Rattle.lk_members.specs.Stored.{line_of, lines_of}

@@ -2,7 +2,7 @@ use Rattle.std.proofs.Common.{◌≡◌, ◌∷◌, ◌++◌, [], ap, sym, subst
 use Rattle.std.specs.Prelude.{Vec}
 use Rattle.std.specs.declared.alloc.Global.{Global}
 use Rattle.std.proofs.lemmas.List.{map-append}
-use Rattle.lk_members.specs.declared.line.Line.{Line as StoredLine}
+use Rattle.lk_members.specs.declared.line.StoredLine.{StoredLine}
 use Rattle.lk_members.specs.Stored.{line_of, lines_of, said_of}
 use Rattle.lk_members.specs.Indices.{IsIndexOf}
 use Rattle.lk_members.specs.Taking.{with_line}

@@ -1,7 +1,7 @@
 use Rattle.std.proofs.Common.{◌≡◌, nat_eq, Some, rules}
 use Rattle.std.specs.HashMap as hash_map
 use Rattle.lk_members.specs.Lines.{type_of}
-use Rattle.lk_members.specs.Stored.{NumberedSaid, lines_of}
+use Rattle.lk_members.specs.Stored.{NumberedMember, lines_of}
 use Rattle.lk_members.proofs.Led.{led_within, led_to, led_some, said_known}
 use Rattle.lk_members.proofs.Listing.{stated_here}
 use Rattle.lk_members.proofs.Made.{type_copied, no_type}
@@ -12,7 +12,7 @@ returns-in_ok-copy-in-Type c =
     let m = c.args.self.now in
     let ls = m.lines.items in
     let n = c.args.name in
-    let here = λ (s : NumberedSaid). stated_here s n in
+    let here = λ (s : NumberedMember). stated_here s n in
     let i = c.in-Some.place.now in
     let o = hash_map.get nat_eq m.types n in
     let found = type_of nat_eq (lines_of ls) n in
@@ -27,7 +27,7 @@ returns-in_default-said c =
     let m = c.args.self.now in
     let ls = m.lines.items in
     let n = c.args.name in
-    let here = λ (s : NumberedSaid). stated_here s n in
+    let here = λ (s : NumberedMember). stated_here s n in
     let i = c.in-Some.place.now in
     let o = hash_map.get nat_eq m.types n in
     let found = type_of nat_eq (lines_of ls) n in

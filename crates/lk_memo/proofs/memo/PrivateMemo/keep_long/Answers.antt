@@ -11,8 +11,8 @@ returns-clause-entries c = λ e h.
 
 pub returns-clause-kept : goal.returns-clause-kept
 returns-clause-kept c = λ none.
-    let before = ap (λ s. s.0) c.keep_outlasting.ensures.recent ∙ none in
-    let still = ap (λ s. s.0) c.in_ok-keep_dear.ensures.recent ∙ before in
+    let before = ap (λ s. s.slots) c.keep_outlasting.ensures.recent ∙ none in
+    let still = ap (λ s. s.slots) c.in_ok-keep_dear.ensures.recent ∙ before in
     none_found c.end_outlasting.new.self c.args.query _ c.args.kept (c.end_outlasting.ensures.none still)
     (rw (← c.end_outlasting.ensures.cache) at (c.in_ok-keep_dear.ensures.kept before))
 

@@ -1,5 +1,4 @@
 use Rattle.std.proofs.Common.{rules}
-use Rattle.lk_store.specs.Store.{over, contents_of}
 use Rattle.lk_spell.proofs.Spelling.{spells}
 use Rattle.std.proofs.lemmas.Result.{on_ok_weaker}
 use Rattle.std.specs.Prelude.{OnOk}
@@ -7,11 +6,12 @@ use Rattle.lk_spell.specs.Spelling.{Spells}
 use Rattle.lk_spell.specs.Moved.{moved}
 use Rattle.lk_spell.specs.Opened.{part_of}
 use Rattle.lk_spell.specs.Standing.{own_node}
+use Rattle.lk_store.specs.Layers.{layers_contents}
 use Rattle.lk_spell.proofs.speller.Speller.leave.Goals as goal
 
 pub returns-clause-spells : goal.returns-clause-spells
 returns-clause-spells c = λ b h.
-    let now = contents_of (over c.args.terms.now.0 c.args.terms.now.1) in
+    let now = layers_contents c.args.terms.now in
     let old = c.args.self.now in
     let new = c.add.new.self in
     let this : OnOk c.add.result (Spells old new (part_of c.args.opened) (moved old.numbers (own_node now c.args.opened))) = search rules in
