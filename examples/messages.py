@@ -82,6 +82,8 @@ CASES = [
     fault('0 #EV \x1b[2K\x07\n', 1, NUMBER, '0 #EV \\x1b[2K\\x07'),
     fault('1 #NS 0 x\n0 #ES 0\n1 #EZ #BD 1 0 0 0\n', 3, NUMBER, '1 #EZ #BD 1 0 0 0',
           'leancheck: lines of lets have no binder info in this format\n'),
+    fault('0 #EM 1 2\n', 1, 'no such tag, or a number stands before it that should not, or is missing', '0 #EM 1 2',
+          'leancheck: lines of metadata (#EM) are no part of this format\n'),
     # what the input seems to be
     fault('{"meta":{}}\n', 1, NUMBER, '{"meta":{}}',
           SEEMS + 'NDJSON, format 3 of lean4export; this program reads the text format 2\n'),

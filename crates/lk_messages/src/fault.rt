@@ -2,7 +2,7 @@
 
 use crate::front::Front;
 use lk_num::{Nat, read_nat};
-use memchr::memchr;
+use memchr::{memchr, memmem};
 
 /// The words of faults, and what each means.
 const MEANINGS: [(&[u8], &str); 17] = [
@@ -87,8 +87,11 @@ pub fn meaning(word: &[u8]) -> &'static str {
 
 /// What may be at work where a line has this fault, beside what its word says.
 pub fn likely(line: &[u8], word: &[u8]) -> Option<&'static str> {
-    if word == b"BadNumber".as_slice() && memchr::memmem::find(line, b"#EZ #B").is_some() {
+    if word == b"BadNumber".as_slice() && memmem::find(line, b"#EZ #B").is_some() {
         return Some("lines of lets have no binder info in this format");
+    }
+    if word == b"UnknownTag".as_slice() && memmem::find(line, b" #EM ").is_some() {
+        return Some("lines of metadata (#EM) are no part of this format");
     }
     None
 }

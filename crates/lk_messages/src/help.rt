@@ -127,19 +127,19 @@ fn asks_help(words: &[String]) -> bool {
     false
 }
 
-/// Tells why words have no meaning, and the help. There are none where they are not all UTF-8.
+/// Tells why words have no meaning, and the help. There are no words where they are not all UTF-8.
 pub fn tell_usage<R: Eprint>(rt: &R, alloc: Global, words: &[String]) {
-    let given = match words {
-        [_, given @ ..] => given,
+    match words {
         [] => {
             let _ = eprintln!(rt; "leancheck: the words are not all UTF-8");
-            return;
         }
-    };
-    if asks_help(given) {
-        let _ = eprintln!(rt; "leancheck {VERSION}");
-    } else {
-        tell_why(rt, alloc, words);
+        [_, given @ ..] => {
+            if asks_help(given) {
+                let _ = eprintln!(rt; "leancheck {VERSION}");
+            } else {
+                tell_why(rt, alloc, words);
+            }
+        }
     }
     let _ = eprint!(rt; "{HELP}");
 }

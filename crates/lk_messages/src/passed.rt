@@ -1,8 +1,21 @@
 //! What is kept of an input that passes: a few bytes of it, so that whoever sends much takes no more room.
 
 use crate::front::Front;
-use memchr::{memchr, memchr_iter, memrchr};
+use memchr::{memchr, memrchr};
 use std::alloc::Global;
+
+/// How many line feeds there are. Each small sum fits a byte, so that many bytes are looked at in one step.
+fn line_feeds(bytes: &[u8]) -> u64 {
+    let mut all: u64 = 0;
+    for piece in bytes.chunks(192) {
+        let mut some: u8 = 0;
+        for byte in piece {
+            some = some.wrapping_add(u8::from(*byte == b'\n'));
+        }
+        all = all.saturating_add(u64::from(some));
+    }
+    all
+}
 
 /// What stands behind the first line feed.
 fn behind_line(bytes: &[u8]) -> Option<&[u8]> {
@@ -57,7 +70,7 @@ impl Passed {
 
     /// Keeps of the last piece how many lines ended in it, and the first bytes of the line that is open behind it.
     fn leave_piece(&mut self) {
-        let ended = memchr_iter(b'\n', &self.piece).count() as u64;
+        let ended = line_feeds(&self.piece);
         self.lines = match self.lines {
             Some(lines) => Some(lines.saturating_add(ended)),
             None => None,
