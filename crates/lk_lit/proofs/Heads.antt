@@ -45,9 +45,9 @@ ok_part l (Ok part) d e is h = λ k. h k ∙ is k
 ok_part l (Err m) d e is h = tt
 
 module _ {S R B : Type 0} {contents : S → Contents} {rest : S → R} {sight : R → Sight B}
-    {old middle new : S} (e name levels : ℕ) where
+    {old middle : S} (e name levels : ℕ) where
   -- the name is found, and the step is taken from there
-  pub found_part : {result : Result LitPart NoMemory} (entry : Entry)
+  pub found_part : {new : S} {result : Result LitPart NoMemory} (entry : Entry)
       → contents middle ≡ contents old
       → (sight (rest middle)).basis ≡ (sight (rest old)).basis
       → (h : IsFound (sight (rest old)).basis.library (sight (rest old)).basis.place
@@ -58,7 +58,7 @@ module _ {S R B : Type 0} {contents : S → Contents} {rest : S → R} {sight : 
       (λ t. literal_step (t e) (name_at (contents middle) name)
       (list_at (contents middle) levels) h.entry)
       → GivesPart contents rest sight old new result e (λ t. step_of (t e) (head (t e)))
-  found_part {result} entry same stays h head_is g =
+  found_part {new} {result} entry same stays h head_is g =
       let now = contents new in
       let before = sight (rest old) in
       let w = before.basis.place in

@@ -17,6 +17,7 @@ returns-in-Ask-clause-known c n known left_in right_in =
 pub returns-in-Ask-clause-steps : goal.returns-in-Ask-clause-steps
 returns-in-Ask-clause-steps c p w t last =
     let q = query_of t c.in-Ask.asked in
-    ap (λ s. asks last q (with_tree (literals_rest p w None (map_literals t s)))) c.waiting.ensures
+    rw c.in-Ask.is
+    (ap (λ s. asks last q (with_tree (literals_rest p w None (map_literals t s)))) c.waiting.ensures
     ∙ ap (λ r. asks last q (with_tree r))
-    (waiting_rest c.args.side p w t c.args.left c.args.right c.in-Ask.step)
+    (waiting_rest c.args.side p w t c.args.left c.args.right c.in-Ask.step))
