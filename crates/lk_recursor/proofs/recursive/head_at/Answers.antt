@@ -3,7 +3,6 @@ use Rattle.lk_tree.specs.Tree.{Tree, app}
 use Rattle.lk_tree.specs.Spine.{apply}
 use Rattle.lk_store.specs.Contents.{name_at, tree_at}
 use Rattle.lk_store.proofs.Extending.{Extends-trans}
-use Rattle.lk_subst.specs.Numbers.{trees-known}
 use Rattle.lk_block.specs.Shapes.{shape_at}
 use Rattle.lk_recursor.specs.Recursive.{head_in}
 use Rattle.lk_recursor.proofs.Applied.{applied_then}
