@@ -1,4 +1,5 @@
--- The closure of a unit: the least set of units that the unit's verdict rests on.
+-- The closure of a unit: the least set that has the unit, the units that give the built-in names,
+-- and those that give the names its units use.
 use Rattle.std.specs.Prelude.{ℕ, zero, suc, ◌≡◌, Bool, true, false, ◌⊎◌, List, [], ◌∷◌, take}
 use Rattle.std.specs.Prelude.{slice_get, Some, if◌then◌else◌}
 use Rattle.lk_tree.specs.Tree.{Name}

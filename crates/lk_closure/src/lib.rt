@@ -29,7 +29,7 @@ pub fn verdict_rests_on_closure()
         → plain_verdict steps vs m budget ≡ plain_verdict steps us n budget }
 {}
 
-/// The same of a declaration, in every library, clear or not.
+/// The first and the last of these, of a declaration, in every library, clear or not.
 pub fn declaration_rests_on_closure()
     ensures kept { (us : Library) (n : ℕ) (d : Decl) (keep : ℕ → Bool) (budget : ℕ)
         → slice_get us n ≡ Some (of_decl d) → IsClosure us n keep
@@ -51,8 +51,8 @@ pub fn unchanged_closure_keeps_verdict()
         → plain_verdict steps vs n budget ≡ plain_verdict steps us n budget }
 {}
 
-/// What a unit reaches by the names that trees mention is the same among the kept units,
-/// renumbered, and so are its axioms; a kept unit stands there as it did.
+/// The axioms of a unit are the same among the kept units, renumbered; a kept unit stands there as
+/// it did.
 pub fn axioms_rest_on_closure()
     ensures stands { (us : Library) (n : ℕ) (keep : ℕ → Bool) → keep n ≡ true
         → slice_get (kept 0 keep us) (renumbered 0 keep n) ≡ slice_get us n }
@@ -93,8 +93,8 @@ pub fn listed_closure_keeps_verdicts()
         → (m : ℕ) × (slice_get ks q ≡ Some m) × IsAxiomOf us k m }
 {}
 
-/// Where no unit of the closures of unit n in two libraries differs between them, the closures are
-/// the same, and so are the verdict and the axioms.
+/// Where no unit of the closures of unit n in two libraries differs between them, the verdict is the
+/// same, and what is in the closure in the one is in that in the other, and so with the axioms.
 pub fn unchanged_units_keep_verdict()
     ensures closure { (us vs : Library) (n k : ℕ) → IsUnchanged us vs n → IsInClosure us n k
         → IsInClosure vs n k }

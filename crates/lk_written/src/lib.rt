@@ -32,8 +32,8 @@ pub fn section_is_at_fault_or_holds()
         → section_holds us n s ≡ true }
 {}
 
-/// A unit with a section that holds is a declaration: its names are new, its scan holds, and at a
-/// sound place it is derived from the units before it, with the laws of the operation that it is
+/// At a sound place a unit with a section that holds is a declaration whose names are new and whose
+/// scan holds, and it is derived from the units before it, with the laws of the operation that it is
 /// named as, where that has laws.
 pub fn written_declaration_is_derived()
     ensures { (us : Library) (n : ℕ) (s : Section) → IsSoundPlace (place_of us n [])
