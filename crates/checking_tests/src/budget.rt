@@ -44,7 +44,12 @@ fn is_answered_over(alloc: Global, library: &Library) -> Result<bool, NoMemory> 
 }
 
 fn is_answered_over_nothing(alloc: Global) -> Result<bool, NoMemory> {
-    let library = Library::new(alloc, BaseStore::new(alloc), Vec::new(alloc))?;
+    let library = Library::new(
+        alloc,
+        BaseStore::new(alloc),
+        Vec::new(alloc),
+        Vec::new(alloc),
+    )?;
     is_answered_over(alloc, &library)
 }
 

@@ -83,7 +83,7 @@ fn library(alloc: Global, node: Node) -> Result<Library, NoMemory>
 {
     let mut base = BaseStore::new(alloc);
     let units = theorems(alloc, &mut base, node)?;
-    Library::new(alloc, base, units)
+    Library::new(alloc, base, units, Vec::new(alloc))
 }
 
 // Where the library gives the name that is this number.

@@ -250,7 +250,7 @@ fn units<T: Terms>(alloc: Global, store: &mut T, k: bool) -> Result<Vec<Unit>, N
 fn library(alloc: Global, k: bool) -> Result<Library, NoMemory> {
     let mut base = BaseStore::new(alloc);
     let units = units(alloc, &mut base, k)?;
-    Library::new(alloc, base, units)
+    Library::new(alloc, base, units, Vec::new(alloc))
 }
 
 /// Whether the recursor gives its minor premise where the major premise is a Local of its type.

@@ -269,7 +269,7 @@ fn blocks<T: Terms>(alloc: Global, store: &mut T) -> Result<Vec<Unit>, NoMemory>
 fn library(alloc: Global) -> Result<Library, NoMemory> {
     let mut base = BaseStore::new(alloc);
     let units = blocks(alloc, &mut base)?;
-    Library::new(alloc, base, units)
+    Library::new(alloc, base, units, Vec::new(alloc))
 }
 
 // Whether the names of this unit are new where the first so many units are seen.

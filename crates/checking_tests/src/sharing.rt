@@ -145,7 +145,7 @@ fn is_found(alloc: Global, library: &Library, case: Case) -> Result<bool, NoMemo
 fn finds_a_term_of_the_library(alloc: Global) -> Result<bool, NoMemory> {
     let mut base = BaseStore::new(alloc);
     let query = Query::Whnf(behind(&mut base, 400)?);
-    let library = Library::new(alloc, base, Vec::new(alloc))?;
+    let library = Library::new(alloc, base, Vec::new(alloc), Vec::new(alloc))?;
     let cost = 402;
     let doubled = None;
     is_found(
@@ -162,7 +162,7 @@ fn finds_a_term_of_the_library(alloc: Global) -> Result<bool, NoMemory> {
 fn finds_a_sort_that_was_made(alloc: Global) -> Result<bool, NoMemory> {
     let mut base = BaseStore::new(alloc);
     let query = Query::Infer(doubled(&mut base, 60)?);
-    let library = Library::new(alloc, base, Vec::new(alloc))?;
+    let library = Library::new(alloc, base, Vec::new(alloc), Vec::new(alloc))?;
     let cost = (6 << 60) - 5;
     let doubled = Some(60);
     is_found(

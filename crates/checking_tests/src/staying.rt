@@ -30,7 +30,12 @@ fn turns_at<K: Knows>(engine: &mut Engine<'_, K>, unit: u32) -> Result<u64, NoMe
 
 /// The first unit makes the terms, the second one keeps an answer over them, the third one finds it.
 fn is_found_by_the_third_unit(alloc: Global) -> Result<bool, NoMemory> {
-    let library = Library::new(alloc, BaseStore::new(alloc), Vec::new(alloc))?;
+    let library = Library::new(
+        alloc,
+        BaseStore::new(alloc),
+        Vec::new(alloc),
+        Vec::new(alloc),
+    )?;
     let memo = PrivateMemo::new(alloc, 65_536)?;
     let mut knowledge = Knowledge::new(alloc, memo, Alone);
     let mut engine = Engine::new(alloc, &library, &mut knowledge);

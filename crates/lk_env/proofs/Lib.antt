@@ -1,4 +1,5 @@
 pub mod Given
+pub mod Limits
 pub mod Members
 pub mod Noted
 pub mod Before

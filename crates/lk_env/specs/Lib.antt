@@ -3,6 +3,7 @@ pub mod StoredScope
 pub mod Units
 pub mod Places
 pub mod Index
+pub mod Budgets
 pub mod Entries
 pub mod Scan
 pub mod Member

@@ -13,4 +13,4 @@ pub record StoredScope : Type 0 where
 
 -- what a scope lends: all units there
 abbrev pub lent_by : StoredScope → StoredLibrary
-lent_by s = record { tables = s.tables; units = s.units }
+lent_by s = record { tables = s.tables; units = s.units; budgets = s.library.budgets }

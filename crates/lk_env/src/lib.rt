@@ -1,6 +1,7 @@
 //! What a library states: its units, and what a name means at a place.
 #![tactic(auto)]
 
+pub mod budget;
 pub mod closed;
 pub mod entry;
 pub mod index;

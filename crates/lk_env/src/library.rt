@@ -1,6 +1,7 @@
 //! A library: a store, units whose names and trees are numbers of it, and an index over their
 //! names.
 
+use crate::budget::{Budget, limits_of};
 use crate::entry::{Entry, Site};
 use crate::index::index_of;
 use crate::member::{member_entry, partial_entry};
@@ -24,6 +25,10 @@ pub struct Library {
     cells: Vec<Option<Position>>,
     /// For each unit why look-ups of its members are refused, if they are.
     flaws: Vec<Option<Rule>>,
+    /// What lines state of the units' budgets.
+    budgets: Vec<Budget>,
+    /// For each unit the least number that is stated of it; empty where nothing is stated.
+    limits: Vec<Option<u64>>,
 }
 
 impl Model for Library {
@@ -35,12 +40,15 @@ impl Model for Library {
     ghost use Rattle.lk_env.specs.Units.{AreUnitsIn};
     ghost use Rattle.lk_env.specs.Index.{IsIndex};
     ghost use Rattle.lk_env.specs.Scan.{AreFlaws};
+    ghost use Rattle.lk_env.specs.Budgets.{AreBudgetsIn, AreLimits};
 
-    ghost view = { λ l. record { tables = l.base; units = l.units.items } };
+    ghost view = { λ l. record { tables = l.base; units = l.units.items; budgets = l.budgets.items } };
 
     ghost invariant = { λ l. AreUnitsIn (contents_of l.base) l.units.items
         × IsIndex (contents_of l.base) l.units.items l.cells.items
-        × AreFlaws (contents_of l.base) l.units.items l.flaws.items };
+        × AreFlaws (contents_of l.base) l.units.items l.flaws.items
+        × AreBudgetsIn (contents_of l.base) l.budgets.items
+        × AreLimits (contents_of l.base) l.units.items l.budgets.items l.limits.items };
 }
 
 ghost use Rattle.std.specs.Prelude.{◌≡◌, ℕ, ◌<◌, length, map, option_map, IfOk};
@@ -52,6 +60,7 @@ ghost use Rattle.lk_env.specs.Places.{position_below, own_member, found_at, part
 ghost use Rattle.lk_env.specs.Index.{pair_of};
 ghost use Rattle.lk_env.specs.Entries.{judged, IsEntryIn, IsAnswer};
 ghost use Rattle.lk_env.specs.Scan.{AreFlaws};
+ghost use Rattle.lk_env.specs.Budgets.{own_budget, budgets_of, AreBudgetsIn};
 
 /// The position, where its unit is one of the first ones.
 fn position_among(position: Option<Position>, units: u32) -> Option<Position>
@@ -125,11 +134,15 @@ impl Drop for Library {
             units,
             cells,
             flaws,
+            budgets,
+            limits,
         } = self;
         drop(base);
         drop(units);
         drop(cells);
         drop(flaws);
+        drop(budgets);
+        drop(limits);
     }
 }
 
@@ -140,18 +153,29 @@ impl Library {
     ghost use Rattle.lk_env.specs.Places.{position_in, place_at};
     ghost use Rattle.lk_store.specs.Contents.{Extends};
 
-    /// Makes the index. Units are fewer than 2^32; more are want of memory.
-    pub fn new(alloc: Global, base: BaseStore, units: Vec<Unit>) -> Result<Library, NoMemory>
-        requires { AreUnitsIn (contents_of base) units.items }
-        ensures { IfOk result (λ l. l ≡ record { tables = base; units = units.items }) }
+    /// Makes the index, and notes the own budget of each unit. Units are fewer than 2^32; more are
+    /// want of memory.
+    pub fn new(
+        alloc: Global,
+        base: BaseStore,
+        units: Vec<Unit>,
+        budgets: Vec<Budget>,
+    ) -> Result<Library, NoMemory>
+        requires units { AreUnitsIn (contents_of base) units.items }
+        requires budgets { AreBudgetsIn (contents_of base) budgets.items }
+        ensures { IfOk result (λ l. l
+            ≡ record { tables = base; units = units.items; budgets = budgets.items }) }
     {
         let cells = index_of(alloc, &base, &units)?;
         let flaws = flaws_of(alloc, &base, &units)?;
+        let limits = limits_of(alloc, &base, &units, &cells, &budgets)?;
         Ok(Library {
             base,
             units,
             cells,
             flaws,
+            budgets,
+            limits,
         })
     }
 
@@ -168,6 +192,25 @@ impl Library {
         ensures { result.now ≡ self.now.tables }
     {
         &self.base
+    }
+
+    /// The own budget of a unit: the least number that a line states of it. None where no line
+    /// does. It takes no memory.
+    pub fn budget(&self, unit: u32) -> Option<u64>
+        ensures { result ≡ own_budget (library_of self.now) (budgets_of self.now) unit }
+    {
+        match self.limits.get(unit as usize) {
+            Some(limit) => *limit,
+            None => None,
+        }
+    }
+
+    /// What lines state of the units' budgets.
+    pub fn budgets(&self) -> &[Budget]
+        ensures value { result.now ≡ self.now.budgets }
+        ensures known { AreBudgetsIn (contents_of self.now.tables) result.now }
+    {
+        self.budgets.as_slice()
     }
 
     /// The first unit that gives the name, and which of its members. It takes no memory.
@@ -206,8 +249,8 @@ impl Library {
         }
     }
 
-    /// What the name means at the site. A name that nothing gives is UnknownConstant; where its unit has a flaw, the flaw is
-    /// told. It takes no memory, and of the library it reads one unit.
+    /// What the name means at the site. A name that nothing gives is UnknownConstant; where its
+    /// unit has a flaw, the flaw is told. It takes no memory, and of the library it reads one unit.
     pub fn at(&self, site: &Site, name: u64) -> Result<Entry, Rule>
         requires { name < length (contents_of self.now.tables).names }
         ensures known { IfOk result (IsEntryIn (contents_of self.now.tables)) }
