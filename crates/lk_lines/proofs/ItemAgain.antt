@@ -49,6 +49,7 @@ tag_begins (tag.Declaration declaration.Quotient) = refl
 tag_begins (tag.Declaration declaration.Inductive) = refl
 tag_begins (tag.Declaration declaration.Constructor) = refl
 tag_begins (tag.Declaration declaration.Recursor) = refl
+tag_begins tag.Budget = refl
 
 -- a numeral does not
 no_mark : (c : ℕ) → digit_value c < 10 → c ≡ 35 → ⊥

@@ -35,7 +35,7 @@ numbered_led t among = All-contains (IsLed numbered_tags) numbered_tags t
 
 pub plain_led : (t : Tag) → Contains plain_tags t → IsLed plain_tags t
 plain_led t among = All-contains (IsLed plain_tags) plain_tags t
-    (All-from_recursion (IsLed plain_tags) plain_tags (refl, (refl, (refl, (refl, (refl, (refl, (refl, (refl, tt)))))))))
+    (All-from_recursion (IsLed plain_tags) plain_tags (refl, (refl, (refl, (refl, (refl, (refl, (refl, (refl, (refl, tt))))))))))
     among
 
 abbrev Tagged : List Tag → List ℕ → List (List ℕ) → Type 0

@@ -29,11 +29,14 @@ numbered_at text fields = number_at MissingField (2 ^ 32) fields >>= λ n.
     >>= λ t. (read_dues (dues_of t.0) text t.1
     >>= λ values. Ok (record { own = Some n.0; tag = t.0; values = values })))
 
+-- what a line says behind the tag that it begins with
+abbrev pub plain_behind : Tag → List ℕ → List (List ℕ) → Result Item Word
+plain_behind t text fields = read_dues (dues_of t) text fields
+    >>= λ values. Ok (record { own = None; tag = t; values = values })
+
 -- a line that begins with its tag
 unfoldable pub plain_at : List ℕ → List (List ℕ) → Result Item Word
-plain_at text fields = tag_at plain_tags fields >>= λ t.
-    (read_dues (dues_of t.0) text t.1
-    >>= λ values. Ok (record { own = None; tag = t.0; values = values }))
+plain_at text fields = tag_at plain_tags fields >>= λ t. plain_behind t.0 text t.1
 
 -- the field begins with '#'
 abbrev pub is_tag : List ℕ → Bool

@@ -5,8 +5,10 @@ use Rattle.lk_lines.specs.declared.words.Word.{Word}
 use Rattle.lk_lines.specs.declared.words.Word.TheVariants.{UnknownTag}
 use Rattle.lk_lines.specs.declared.tags.EntryTag.TheVariants as entry
 use Rattle.lk_lines.specs.declared.tags.DeclarationTag.TheVariants as declaration
+use Rattle.lk_lines.specs.declared.tags.PlainTag.{PlainTag}
+use Rattle.lk_lines.specs.declared.tags.PlainTag.TheVariants as plain
 use Rattle.lk_lines.specs.declared.tags.Tag.{Tag}
-use Rattle.lk_lines.specs.declared.tags.Tag.TheVariants.{Entry, Declaration}
+use Rattle.lk_lines.specs.declared.tags.Tag.TheVariants.{Entry, Declaration, Budget}
 
 -- the word of a tag
 abbrev pub tag_word : Tag → List ℕ
@@ -35,6 +37,7 @@ tag_word (Declaration declaration.Quotient) = codes "#QUOT"
 tag_word (Declaration declaration.Inductive) = codes "#IND"
 tag_word (Declaration declaration.Constructor) = codes "#CTOR"
 tag_word (Declaration declaration.Recursor) = codes "#REC"
+tag_word Budget = codes "#BUD"
 
 -- those of lines that define a number which are not often met
 abbrev pub rare_tags : List Tag
@@ -53,7 +56,11 @@ abbrev pub plain_tags : List Tag
 plain_tags = Declaration declaration.Theorem ∷ Declaration declaration.Definition
     ∷ Declaration declaration.Axiom ∷ Declaration declaration.Opaque
     ∷ Declaration declaration.Quotient ∷ Declaration declaration.Inductive
-    ∷ Declaration declaration.Constructor ∷ Declaration declaration.Recursor ∷ []
+    ∷ Declaration declaration.Constructor ∷ Declaration declaration.Recursor ∷ Budget ∷ []
+
+abbrev pub plain_tag : PlainTag → Tag
+plain_tag (plain.Declaration t) = Declaration t
+plain_tag plain.Budget = Budget
 
 -- the tag among these with this word
 abbrev pub find_tag : List Tag → List ℕ → Result Tag Word

@@ -113,6 +113,10 @@ abbrev pub GivesDeclaration : DeclarationTag → List ℕ → List (List ℕ)
 GivesDeclaration t text fields result =
     Gives declaration_values result (read_dues (dues_of (tag.Declaration t)) text fields)
 
+-- what stands behind `#BUD`
+abbrev pub budget_values : ℕ → ℕ → List Value
+budget_values name steps = Number name ∷ Number steps ∷ []
+
 -- a line that was read, as what its bytes say
 abbrev pub says_of : Statement → Says
 says_of statement.Blank = Blank
@@ -126,3 +130,5 @@ says_of (statement.Declaration d) =
       values =
           declaration_values d;
     })
+says_of (statement.Budget name steps) =
+    OfItem (record { own = None; tag = tag.Budget; values = budget_values name steps })

@@ -4,16 +4,17 @@ ghost use Rattle.lk_token.specs.Lines.{HasNoLineFeed};
 ghost use Rattle.lk_lines.specs.Told.{Gives};
 ghost use Rattle.lk_lines.specs.LineFeeds.{NamesHaveNoLineFeed};
 ghost use Rattle.lk_lines.specs.Lines.{Tells};
-ghost use Rattle.lk_lines.specs.Items.{is_tag, numbered_at, plain_at};
+ghost use Rattle.lk_lines.specs.declared.tags.Tag.{Tag};
+ghost use Rattle.lk_lines.specs.Items.{is_tag, numbered_at, plain_at, plain_behind};
 ghost use Rattle.lk_lines.specs.Says.{as_item, item_said, said_at, said_of};
 ghost use Rattle.lk_lines.specs.Views.{says_of};
 
 use crate::declarations::read_declaration;
 use crate::entries::read_entry;
-use crate::steps::{FieldError, number};
-use crate::tags::{declaration_tag, entry_tag};
+use crate::steps::{FieldError, end, long, number};
+use crate::tags::{PlainTag, entry_tag, plain_tag};
 use crate::version::{is_two, version_of};
-use crate::{Fault, FileLine, LineError, Statement, Word};
+use crate::{DeclarationTag, Fault, FileLine, LineError, Statement, Tag, Word};
 use lk_token::first_byte;
 use std::alloc::Global;
 
@@ -29,6 +30,30 @@ fn numbered(alloc: Global, line: &[u8]) -> Result<Statement<'_>, FieldError>
     Ok(Statement::Entry { own, entry })
 }
 
+// What a line states behind `#BUD`.
+fn budget(line: &[u8]) -> Result<Statement<'static>, FieldError>
+    ensures { (text : List ℕ) → Gives says_of result
+        (as_item (plain_behind Tag.Budget text (fields_of line.now))) }
+{
+    let (name, rest) = number(line)?;
+    let (steps, rest) = long(rest)?;
+    end(rest)?;
+    Ok(Statement::Budget { name, steps })
+}
+
+// What a line declares behind its tag.
+fn declaration(
+    alloc: Global,
+    tag: DeclarationTag,
+    line: &[u8],
+) -> Result<Statement<'static>, FieldError>
+    ensures { (text : List ℕ) → Gives says_of result
+        (as_item (plain_behind (Tag.Declaration tag) text (fields_of line.now))) }
+{
+    let declaration = read_declaration(alloc, tag, line)?;
+    Ok(Statement::Declaration(declaration))
+}
+
 // A line that begins with its tag.
 #[inline(never)]
 #[tactic(auto, unfolding(crate::specs::Items::plain_at))]
@@ -36,9 +61,11 @@ fn plain(alloc: Global, line: &[u8]) -> Result<Statement<'_>, FieldError>
     ensures { (text : List ℕ) → Gives says_of result
         (as_item (plain_at text (fields_of line.now))) }
 {
-    let (tag, rest) = declaration_tag(line)?;
-    let declaration = read_declaration(alloc, tag, rest)?;
-    Ok(Statement::Declaration(declaration))
+    let (tag, rest) = plain_tag(line)?;
+    match tag {
+        PlainTag::Declaration(tag) => declaration(alloc, tag, rest),
+        PlainTag::Budget => budget(rest),
+    }
 }
 
 // What a line says that is neither blank nor the version. Its first field begins with `byte`.

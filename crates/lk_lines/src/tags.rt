@@ -2,7 +2,7 @@ ghost use Rattle.std.specs.Prelude.{◌≡◌, Ok, Err};
 ghost use Rattle.lk_lines.specs.Told.{Gives};
 ghost use Rattle.lk_token.specs.Fields.{fields_of};
 ghost use Rattle.lk_lines.specs.Items.{tag_at};
-ghost use Rattle.lk_lines.specs.Tags.{find_tag, numbered_tags, rare_tags, plain_tags};
+ghost use Rattle.lk_lines.specs.Tags.{find_tag, numbered_tags, rare_tags, plain_tags, plain_tag};
 
 use crate::Word;
 use crate::steps::{FieldError, is, is_three};
@@ -48,6 +48,15 @@ pub enum DeclarationTag {
 pub enum Tag {
     Entry(EntryTag),
     Declaration(DeclarationTag),
+    /// The tag of lines that state how many steps a unit may take. They begin with their tag.
+    Budget,
+}
+
+/// The tags that lines begin with.
+#[derive(Clone, Copy)]
+pub enum PlainTag {
+    Declaration(DeclarationTag),
+    Budget,
 }
 
 // The tag of this word, of those with a number in front. The commonest ones come first.
@@ -101,25 +110,27 @@ fn find_rare_entry(word: &[u8]) -> Result<EntryTag, FieldError>
     }
 }
 
-fn find_declaration(word: &[u8]) -> Result<DeclarationTag, FieldError>
-    ensures { Gives (λ t. Tag.Declaration t) result (find_tag plain_tags word.now) }
+fn find_plain(word: &[u8]) -> Result<PlainTag, FieldError>
+    ensures { Gives plain_tag result (find_tag plain_tags word.now) }
 {
     if is(word, b"#THM") {
-        Ok(DeclarationTag::Theorem)
+        Ok(PlainTag::Declaration(DeclarationTag::Theorem))
     } else if is(word, b"#DEF") {
-        Ok(DeclarationTag::Definition)
+        Ok(PlainTag::Declaration(DeclarationTag::Definition))
     } else if is_three(word, b'#', b'A', b'X') {
-        Ok(DeclarationTag::Axiom)
+        Ok(PlainTag::Declaration(DeclarationTag::Axiom))
     } else if is(word, b"#OPAQ") {
-        Ok(DeclarationTag::Opaque)
+        Ok(PlainTag::Declaration(DeclarationTag::Opaque))
     } else if is(word, b"#QUOT") {
-        Ok(DeclarationTag::Quotient)
+        Ok(PlainTag::Declaration(DeclarationTag::Quotient))
     } else if is(word, b"#IND") {
-        Ok(DeclarationTag::Inductive)
+        Ok(PlainTag::Declaration(DeclarationTag::Inductive))
     } else if is(word, b"#CTOR") {
-        Ok(DeclarationTag::Constructor)
+        Ok(PlainTag::Declaration(DeclarationTag::Constructor))
     } else if is(word, b"#REC") {
-        Ok(DeclarationTag::Recursor)
+        Ok(PlainTag::Declaration(DeclarationTag::Recursor))
+    } else if is(word, b"#BUD") {
+        Ok(PlainTag::Budget)
     } else {
         Err(FieldError::Fault(Word::UnknownTag))
     }
@@ -142,12 +153,12 @@ pub(crate) fn entry_tag(line: &[u8]) -> Result<(EntryTag, &[u8]), FieldError>
 
 /// The tag that a line begins with, and what is left of the line.
 #[tactic(auto, unfolding(crate::specs::Items::tag_at))]
-pub(crate) fn declaration_tag(line: &[u8]) -> Result<(DeclarationTag, &[u8]), FieldError>
-    ensures { Gives (λ r. (Tag.Declaration r.0, fields_of r.1.now)) result
+pub(crate) fn plain_tag(line: &[u8]) -> Result<(PlainTag, &[u8]), FieldError>
+    ensures { Gives (λ r. (plain_tag r.0, fields_of r.1.now)) result
         (tag_at plain_tags (fields_of line.now)) }
 {
     match next_field(line) {
         None => Err(FieldError::Fault(Word::MissingField)),
-        Some((field, rest)) => Ok((find_declaration(field)?, rest)),
+        Some((field, rest)) => Ok((find_plain(field)?, rest)),
     }
 }

@@ -1,4 +1,4 @@
-use Rattle.std.proofs.Common.{rules, arith}
+use Rattle.std.proofs.Common.{rules}
 use Rattle.lk_lines.proofs.Leading.{plain_lem}
 use Rattle.lk_lines.proofs.steps.plain_number.Goals as goal
 
