@@ -165,6 +165,7 @@ fn write_statement(rt: &impl Print, statement: &Statement<'_>) -> io::Result<()>
             write_entry(rt, entry)
         }
         Statement::Declaration(declaration) => write_declaration(rt, declaration),
+        Statement::Budget { name, steps } => print!(rt; "#BUD {name} {steps}"),
     }
 }
 

@@ -1,5 +1,5 @@
 -- No name that a file states holds a line feed.
-use Rattle.std.proofs.Common.{◌≡◌, ◌≢◌, ℕ, ◌==◌, Bool, true, false, List, [], ◌∷◌, length, Ok, Err, Some, None, refl, cond, arith}
+use Rattle.std.proofs.Common.{◌≡◌, ◌≢◌, ℕ, ◌==◌, Bool, true, false, List, [], ◌∷◌, length, Ok, Err, Some, None, refl, ap, cond, arith}
 use Rattle.std.specs.Prelude.{IfOk}
 use Rattle.std.specs.declared.option.Option.{Option}
 use Rattle.std.specs.Prelude.{Result}
@@ -12,7 +12,7 @@ use Rattle.lk_lines.specs.declared.line.Fault.{Fault}
 use Rattle.lk_lines.specs.Limits.{limits}
 use Rattle.lk_lines.specs.Reading.{◌>>=◌}
 use Rattle.lk_lines.specs.Says.{Says, Blank, Version, OfItem, said_of}
-use Rattle.lk_rulebook.specs.Units.{Library}
+use Rattle.lk_env.specs.Budgets.{StatedBudget}
 use Rattle.lk_tree.specs.Mentions.{same_name}
 use Rattle.lk_members.specs.Faults.{first_open}
 use Rattle.lk_members.specs.Plain.{PlainLine, library_stated}
@@ -22,7 +22,7 @@ use Rattle.lk_units.specs.State.{State, take_item}
 use Rattle.lk_units.proofs.Kept.{IsSpelledState, kept_item, kept_begin}
 use Rattle.lk_units.proofs.Items.{spelled_item}
 use Rattle.lk_book.specs.Course.{Course, begin_course, passed, taken, unless, at_line, step}
-use Rattle.lk_book.specs.File.{lines_of, has_more, after, course_over, course_of, closed, units_stated, library_of}
+use Rattle.lk_book.specs.File.{lines_of, Export, has_more, after, course_over, course_of, closed, export_stated, export_of}
 
 other_byte : (b : ℕ) → (b == 10) ≡ false → b ≢ 10
 other_byte b h = grind (arith, nat_tests, h)
@@ -87,14 +87,17 @@ kept_course : (bytes : List ℕ) → IfOk (course_of bytes) KeptCourse
 unfolding course_of
 kept_course bytes = kept_over begin_course (lines_of bytes) (are_cut bytes) kept_begin
 
-closed_spelled : (o : Option ℕ) (lines : List PlainLine) (us : Library) → AreSpelledLines lines → closed o lines ≡ Ok us → AreSpelledUnits us
-closed_spelled None lines us k e = let is : library_stated lines ≡ us = cc in rw (← is) (spelled_units lines k)
-closed_spelled (Some n) lines us k e = absurd (cc)
+closed_spelled : (o : Option ℕ) (lines : List PlainLine) (bs : List StatedBudget) (e : Export) → AreSpelledLines lines → after (closed o lines) (λ us. Ok (record { units = us; budgets = bs })) ≡ Ok e → AreSpelledUnits e.units
+closed_spelled None lines bs e k q =
+    let same : record { units = library_stated lines; budgets = bs } ≡ e = cc in
+    let is : library_stated lines ≡ e.units = ap (λ (x : Export). x.units) same in
+    rw (← is) (spelled_units lines k)
+closed_spelled (Some n) lines bs e k q = absurd (cc)
 
-stated : (r : Result Course Fault) (us : Library) → IfOk r KeptCourse → after r (λ c. units_stated c.state.lines) ≡ Ok us → AreSpelledUnits us
-stated (Ok c) us k e = closed_spelled (first_open same_name c.state.lines c.state.lines) c.state.lines us k.lines e
-stated (Err f) us k e = absurd (cc)
+stated : (r : Result Course Fault) (e : Export) → IfOk r KeptCourse → after r (λ c. export_stated c.state) ≡ Ok e → AreSpelledUnits e.units
+stated (Ok c) e k q = closed_spelled (first_open same_name c.state.lines c.state.lines) c.state.lines c.state.budgets e k.lines q
+stated (Err f) e k q = absurd (cc)
 
 -- what a file states
-pub library_kept : (bytes : List ℕ) (us : Library) → library_of bytes ≡ Ok us → AreSpelledUnits us
-library_kept bytes us e = stated (course_of bytes) us (kept_course bytes) e
+pub export_kept : (bytes : List ℕ) (e : Export) → export_of bytes ≡ Ok e → AreSpelledUnits e.units
+export_kept bytes e q = stated (course_of bytes) e (kept_course bytes) q

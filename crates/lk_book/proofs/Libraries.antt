@@ -6,6 +6,7 @@ use Rattle.lk_store.specs.Contents.{Contents}
 use Rattle.lk_store.specs.Store.{contents_of}
 use Rattle.lk_store.specs.Values.{AreApart}
 use Rattle.lk_store.specs.declared.tables.Tables.{Tables}
+use Rattle.lk_env.specs.Budgets.{StatedBudget}
 use Rattle.lk_env.specs.Units.{library_at}
 use Rattle.lk_env.specs.declared.unit.Unit.{Unit as StoredUnit}
 use Rattle.lk_env.specs.StoredLibrary.{StoredLibrary}
@@ -15,10 +16,11 @@ use Rattle.lk_members.specs.Units.{units_of}
 use Rattle.lk_members.specs.Stored.{lines_of, unit_stated, AreLinesIn}
 use Rattle.lk_members.specs.Plain.{lines_at}
 use Rattle.lk_members.proofs.Standing.{open_stands, library_stands}
-use Rattle.lk_lines.specs.declared.line.Fault.{Fault}
 use Rattle.lk_lines.specs.declared.words.Word.TheVariants.{BlockOpen}
+use Rattle.lk_units.specs.State.{State}
+use Rattle.lk_units.specs.Held.{Holds}
 use Rattle.lk_units.specs.declared.assembler.Assembler.{Assembler}
-use Rattle.lk_book.specs.File.{after, course_of, closed, units_stated, library_of}
+use Rattle.lk_book.specs.File.{Export, export_at, after, course_of, closed, units_stated, export_stated, export_of}
 use Rattle.lk_book.specs.Reading.{TellsOpen, Reads, ReadsLibrary}
 use Rattle.lk_book.specs.declared.error.ReadError.{ReadError}
 use Rattle.lk_book.specs.declared.error.ReadError.TheVariants as errors
@@ -35,26 +37,32 @@ module _ (c : Contents) (ls : List StoredLine) (apart : AreApart [] c.names) (k 
 
 -- what was read of the lines is what the bytes state
 pub library_read : (bytes : List ℕ) (c : Contents) (a : Assembler) (r : Result StoredLibrary ReadError) → Reads c (course_of bytes) (Ok a)
-    → ReadsLibrary (units_stated (lines_at c a.members.lines.items)) r → ReadsLibrary (library_of bytes) r
+    → ((s : State) → Holds a c s → ReadsLibrary (export_stated s) r) → ReadsLibrary (export_of bytes) r
 library_read bytes c a r reads h =
-    let is : units_stated (lines_at c a.members.lines.items) ≡ library_of bytes = ap units_stated reads.2.lines ∙ sym (ap (λ x. after x (λ d. units_stated d.state.lines)) reads.1) in
-    subst (λ x. ReadsLibrary x r) is h
+    let is : export_of bytes ≡ export_stated reads.0.state = ap (λ x. after x (λ d. export_stated d.state)) reads.1 in
+    subst (λ x. ReadsLibrary x r) (sym is) (h reads.0.state reads.2)
 
 -- where no lines were read there is no library
-pub library_not_read : (bytes : List ℕ) (c : Contents) (e : ReadError) → Reads c (course_of bytes) (Err e) → ReadsLibrary (library_of bytes) (Err e)
+pub library_not_read : (bytes : List ℕ) (c : Contents) (e : ReadError) → Reads c (course_of bytes) (Err e) → ReadsLibrary (export_of bytes) (Err e)
 library_not_read bytes c errors.NoMemory h = tt
 library_not_read bytes c errors.ReadFault h = tt
-library_not_read bytes c (errors.Fault f) h = ap (λ x. after x (λ d. units_stated d.state.lines)) h
+library_not_read bytes c (errors.Fault f) h = ap (λ x. after x (λ d. export_stated d.state)) h
+
+abbrev stated : Library → List StatedBudget → Export
+stated us bs = record { units = us; budgets = bs }
 
 -- why there are no units is why there is no library
-pub told_library : (e : ReadError) (said : Result Library Fault) → TellsOpen e said → ReadsLibrary said (Err e)
-told_library errors.NoMemory said h = tt
-told_library errors.ReadFault said h = absurd h
-told_library (errors.Fault f) said h = h
+pub told_library : (e : ReadError) (c : Contents) (a : Assembler) (s : State) → TellsOpen e (units_stated (lines_at c a.members.lines.items)) → Holds a c s → ReadsLibrary (export_stated s) (Err e)
+told_library errors.NoMemory c a s t h = tt
+told_library errors.ReadFault c a s t h = absurd t
+told_library (errors.Fault f) c a s t h =
+    let none : units_stated s.lines ≡ Err f = subst (λ ls. units_stated ls ≡ Err f) h.lines t in
+    ap (λ x. after x (λ us. Ok (stated us s.budgets))) none
 
--- a library of these units
-pub made_library : (old new : Tables) (ls : List StoredLine) (l : StoredLibrary) (us : List StoredUnit) → new ≡ old → l ≡ record { tables = new; units = us }
-    → units_stated (lines_at (contents_of new) ls) ≡ Ok (library_at (contents_of new) us) → units_stated (lines_at (contents_of old) ls) ≡ Ok (library_at (contents_of l.tables) l.units)
-made_library old new ls l us same is h =
-    subst (λ x. units_stated (lines_at (contents_of x) ls) ≡ Ok (library_at (contents_of l.tables) l.units)) same
-    (subst (λ (k : StoredLibrary). units_stated (lines_at (contents_of new) ls) ≡ Ok (library_at (contents_of k.tables) k.units)) (sym is) h)
+-- a library of these units and budgets
+pub made_library : (tables : Tables) (a : Assembler) (l : StoredLibrary) (us : List StoredUnit) (s : State) → l ≡ record { tables = tables; units = us; budgets = a.budgets.items }
+    → units_stated (lines_at (contents_of tables) a.members.lines.items) ≡ Ok (library_at (contents_of tables) us) → Holds a (contents_of tables) s → export_stated s ≡ Ok (export_at l)
+made_library tables a l us s is u h =
+    let units = library_at (contents_of tables) us in
+    let some : units_stated s.lines ≡ Ok units = subst (λ ls. units_stated ls ≡ Ok units) h.lines u in
+    ap (λ x. after x (λ vs. Ok (stated vs s.budgets))) some ∙ ap (λ bs. Ok (stated units bs)) (sym h.budgets) ∙ ap (λ k. Ok (export_at k)) (sym is)

@@ -6,8 +6,8 @@ use Rattle.lk_rulebook.specs.Place.{Ctor, BlockType, Block, RecRule, BlockRecurs
 use Rattle.lk_rulebook.specs.Units.{Body, as_axiom, as_def, as_thm, as_opaque, as_quot, LibraryUnit, of_decl, of_block, Library, Members, type_entries, ctor_entries, all_ctor_entries, rec_members, members_of, Trees, body_trees, type_trees, ctor_trees, all_ctor_trees, rule_trees, rec_trees, trees_of}
 use Rattle.lk_rulebook.specs.Spelled.{is_spelled, tree_spelled, names_spelled, all_spelled, library_spelled}
 use Rattle.lk_units.proofs.Spellings.{Each, IsSpelledBody, IsSpelledCtor, IsSpelledType, IsSpelledRule, IsSpelledRec, IsSpelledUnit, AreSpelledUnits}
-use Rattle.lk_book.specs.File.{library_of}
-use Rattle.lk_book.proofs.Kept.{library_kept}
+use Rattle.lk_book.specs.File.{Export, export_of}
+use Rattle.lk_book.proofs.Kept.{export_kept}
 
 body_spelled : (ps : List Name) (v : Body) → IsSpelledBody v → all_spelled (body_trees ps v) ≡ true
 body_spelled ps as_axiom b = refl
@@ -81,5 +81,5 @@ pub spelled : (us : Library) → AreSpelledUnits us → library_spelled us ≡ t
 spelled [] b = refl
 spelled (u ∷ us) b = and_true (names_spelled (members_of u) && all_spelled (trees_of u)) (library_spelled us) (unit_spelled u b.0) (spelled us b.1)
 
-pub read_spelled : (bytes : List ℕ) (us : Library) → library_of bytes ≡ Ok us → library_spelled us ≡ true
-read_spelled bytes us h = spelled us (library_kept bytes us h)
+pub read_spelled : (bytes : List ℕ) (e : Export) → export_of bytes ≡ Ok e → library_spelled e.units ≡ true
+read_spelled bytes e h = spelled e.units (export_kept bytes e h)

@@ -3,8 +3,6 @@ use Rattle.std.specs.Prelude.{◌≡◌, ◌+◌, ℕ, List, ◌∷◌, [], leng
 use Rattle.std.specs.declared.option.Option.{Option}
 use Rattle.std.specs.Io.KnownBytes.{Consumes}
 use Rattle.lk_store.specs.Contents.{Contents}
-use Rattle.lk_store.specs.Store.{contents_of}
-use Rattle.lk_env.specs.Units.{library_at}
 use Rattle.lk_env.specs.StoredLibrary.{StoredLibrary}
 use Rattle.lk_rulebook.specs.Units.{Library}
 use Rattle.lk_token.specs.Lines.{HasNoLineFeed}
@@ -16,7 +14,7 @@ use Rattle.lk_lines.specs.Limits.{limits}
 use Rattle.lk_units.specs.Held.{Holds}
 use Rattle.lk_units.specs.declared.assembler.Assembler.{Assembler}
 use Rattle.lk_book.specs.Course.{Course, begin_course}
-use Rattle.lk_book.specs.File.{has_more, course_of}
+use Rattle.lk_book.specs.File.{Export, export_at, has_more, course_of}
 use Rattle.lk_book.specs.Passing.{Fails, Passes}
 use Rattle.lk_book.specs.declared.reader.Reader.{Reader}
 use Rattle.lk_book.specs.declared.error.ReadError.{ReadError}
@@ -34,9 +32,9 @@ Reads store said (Err errors.NoMemory) = Unit {0}
 Reads store said (Err errors.ReadFault) = Unit {0}
 Reads store said (Err (errors.Fault f)) = said ≡ Err f
 
--- the library is the one that the file states, or the file's fault is told
-abbrev pub ReadsLibrary : Result Library Fault → Result StoredLibrary ReadError → Type 0
-ReadsLibrary said (Ok l) = said ≡ Ok (library_at (contents_of l.tables) l.units)
+-- the library is what the file states, or the file's fault is told
+abbrev pub ReadsLibrary : Result Export Fault → Result StoredLibrary ReadError → Type 0
+ReadsLibrary said (Ok l) = said ≡ Ok (export_at l)
 ReadsLibrary said (Err errors.NoMemory) = Unit {0}
 ReadsLibrary said (Err errors.ReadFault) = Unit {0}
 ReadsLibrary said (Err (errors.Fault f)) = said ≡ Err f

@@ -6,20 +6,26 @@ ghost use Rattle.lk_store.specs.Contents.{Extends};
 ghost use Rattle.lk_store.specs.Store.{contents_of};
 ghost use Rattle.lk_port.specs.Bytes.{Rose};
 ghost use Rattle.lk_token.specs.Lines.{HasNoLineFeed};
-ghost use Rattle.lk_units.specs.Held.{IsKnown};
+ghost use Rattle.lk_units.specs.State.{State};
+ghost use Rattle.lk_units.specs.Held.{IsKnown, Holds};
 ghost use Rattle.lk_book.specs.Course.{Course, step};
 ghost use Rattle.lk_env.specs.Units.{library_at, AreUnitsIn};
+ghost use Rattle.lk_members.specs.Stored.{lines_of, AreLinesIn};
+ghost use Rattle.lk_members.specs.Finishing.{IsFaultless};
+ghost use Rattle.lk_members.specs.Indices.{IsIndexed};
 ghost use Rattle.lk_members.specs.Plain.{lines_at};
-ghost use Rattle.lk_book.specs.File.{course_of, units_stated, library_of};
+ghost use Rattle.lk_book.specs.File.{course_of, units_stated, export_stated, export_of};
 ghost use Rattle.lk_book.specs.Passing.{Stands, IsCounted};
 ghost use Rattle.lk_book.specs.Reading.{Remains, ConsumesSome, TellsFault, TellsOpen, Ends, Reads, ReadsLibrary};
 
 use crate::lines::take_piece;
 use crate::long::long_line;
 use crate::{MAX_LINE, PIECE, ReadError, Reader};
+use lk_env::budget::Budget;
 use lk_env::library::Library;
 use lk_env::unit::Unit;
 use lk_lines::{Fault, LineError, Word};
+use lk_members::Members;
 use lk_members::finish::FinishError;
 use lk_port::Source;
 use lk_store::base_store::BaseStore;
@@ -194,18 +200,20 @@ fn read_all_lines<T: Terms, S: Source>(
 }
 
 /// The units of the lines that were read, or the first line of a block that is open.
-fn units_of(alloc: Global, store: &BaseStore, assembler: Assembler) -> Result<Vec<Unit>, ReadError>
-    requires { IsKnown assembler (contents_of store.now) }
+fn units_of(alloc: Global, store: &BaseStore, members: Members) -> Result<Vec<Unit>, ReadError>
+    requires lines { AreLinesIn (contents_of store.now) members.lines.items }
+    requires indexed { IsIndexed members }
+    requires faultless { IsFaultless (lines_of members.lines.items) }
     ensures known { IfOk result (λ us. AreUnitsIn (contents_of store.now) us.items) }
     ensures units { IfOk result (λ us. units_stated
-        (lines_at (contents_of store.now) assembler.members.lines.items)
+        (lines_at (contents_of store.now) members.lines.items)
         ≡ Ok (library_at (contents_of store.now) us.items)) }
     ensures fault { IfErr result (λ e. TellsOpen e
-        (units_stated (lines_at (contents_of store.now) assembler.members.lines.items))) }
+        (units_stated (lines_at (contents_of store.now) members.lines.items))) }
 {
     // The names of the store are apart, so that their numbers tell.
     let _names = store.count_names();
-    match assembler.members.finish(alloc) {
+    match members.finish(alloc) {
         Ok(units) => Ok(units),
         Err(FinishError::NoMemory) => Err(ReadError::NoMemory),
         Err(FinishError::Open(line)) => Err(ReadError::Fault(Fault {
@@ -215,6 +223,14 @@ fn units_of(alloc: Global, store: &BaseStore, assembler: Assembler) -> Result<Ve
     }
 }
 
+/// What was gathered of units and of their budgets. The numberings are needed no more.
+fn lines_and_budgets(assembler: Assembler) -> (Members, Vec<Budget>)
+    ensures members { result.0 ≡ assembler.members }
+    ensures budgets { result.1 ≡ assembler.budgets }
+{
+    (assembler.members, assembler.budgets)
+}
+
 /// The library of the lines that were read.
 fn library_of(
     alloc: Global,
@@ -222,16 +238,17 @@ fn library_of(
     assembler: Assembler,
 ) -> Result<Library, ReadError>
     requires { IsKnown assembler (contents_of store) }
-    ensures library { ReadsLibrary (units_stated
-        (lines_at (contents_of store) assembler.members.lines.items)) result }
+    ensures library { (s : State) → Holds assembler (contents_of store) s
+        → ReadsLibrary (export_stated s) result }
     ensures read { result ≢ Err ReadError.ReadFault }
 {
     store.freeze();
-    let units = match units_of(alloc, &store, assembler) {
+    let (members, budgets) = lines_and_budgets(assembler);
+    let units = match units_of(alloc, &store, members) {
         Ok(units) => units,
         Err(error) => return Err(error),
     };
-    match Library::new(alloc, store, units) {
+    match Library::new(alloc, store, units, budgets) {
         Ok(library) => Ok(library),
         Err(_) => Err(ReadError::NoMemory),
     }
@@ -245,7 +262,7 @@ fn library_of(
 pub fn read_library<S: Source>(alloc: Global, source: &mut S) -> Result<Library, ReadError>
     // Where the source tells its bytes, the answer is what they state.
     ensures reads { (bytes : List ℕ) → S.left source.old ≡ Some bytes
-        → ReadsLibrary (library_of bytes) result }
+        → ReadsLibrary (export_of bytes) result }
 
     ensures front { ConsumesSome (S.left source.old) (S.left source.new) }
     ensures end { OnOk result (IsAtEnd (S.left source.new)) }

@@ -87,6 +87,13 @@ impl Reader {
                     Err(error) => Err(at_line(number, error)),
                 }
             }
+            Statement::Budget { name, steps } => {
+                self.first = false;
+                match self.assembler.take_budget(name, steps) {
+                    Ok(()) => Ok(()),
+                    Err(error) => Err(at_line(number, error)),
+                }
+            }
         }
     }
 

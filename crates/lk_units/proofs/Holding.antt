@@ -1,8 +1,8 @@
 -- What an assembler stands for, by what it has.
-use Rattle.std.proofs.Common.{◌≡◌, ℕ, ◌<◌, ◌≤◌, ◌==◌, Bool, true, false, List, length, Some, None, refl, sym, ◌∙◌, ap, arith}
+use Rattle.std.proofs.Common.{◌≡◌, ℕ, ◌<◌, ◌≤◌, ◌==◌, Bool, true, false, List, [], ◌∷◌, length, Some, None, refl, sym, ◌∙◌, ap, arith}
 use Rattle.std.specs.Prelude.{option_map, All, IfSome, is_some, if◌then◌else◌, Ok, Err}
 use Rattle.std.specs.declared.option.Option.{Option}
-use Rattle.std.proofs.lemmas.List.Elements.{All-weaker}
+use Rattle.std.proofs.lemmas.List.Elements.{All-weaker, All-head, All-tail}
 use Rattle.lk_store.specs.Contents.{Contents, name_at, level_at, tree_at, Extends}
 use Rattle.lk_store.proofs.Made.{Extends-self}
 use Rattle.lk_lines.specs.declared.words.Word.TheVariants.{IndexUnknown}
@@ -14,6 +14,8 @@ use Rattle.lk_units.specs.Numbering.{entry}
 use Rattle.lk_units.specs.State.{State, known, known_of, put}
 use Rattle.lk_env.specs.declared.unit.RecursorRule.{RecursorRule}
 use Rattle.lk_env.specs.Units.{IsRuleIn}
+use Rattle.lk_env.specs.declared.budget.Budget.{Budget}
+use Rattle.lk_env.specs.Budgets.{budget_at, budgets_at, AreBudgetsIn}
 use Rattle.lk_units.specs.Held.{Numbered, Below, rule_at_place, rule_held, IsKnown, Holds, Fails}
 use Rattle.lk_members.proofs.Growing.{rule_same, rule_stays, lines_steady, lines_stay}
 
@@ -58,6 +60,20 @@ grown_below numbers len len2 le h = record { below = λ n. below_lem (entry numb
 rules_steady : (c d : Contents) → Extends c d → (rules : List RecursorRule) → All (IsRuleIn c) rules → (i : ℕ) → i < length rules → rule_held d rules i ≡ rule_held c rules i
 rules_steady c d x rules h i l = rule_same c d x (rule_at_place rules i) (h i _ l)
 
+-- what lines state of budgets stays the same for good
+budget_steady : (c d : Contents) → Extends c d → (b : Budget) → b.name < length c.names → budget_at d b ≡ budget_at c b
+budget_steady c d x b l = rw (x.names.same b.name l) refl
+
+budgets_steady : (c d : Contents) → Extends c d → (bs : List Budget) → AreBudgetsIn c bs → budgets_at d bs ≡ budgets_at c bs
+budgets_steady c d x [] h = refl
+budgets_steady c d x (b ∷ bs) h =
+    let P : Budget → Type 0 = λ k. k.name < length c.names in
+    rw (budget_steady c d x b (All-head P b bs h), budgets_steady c d x bs (All-tail P b bs h)) refl
+
+budgets_stay : (c d : Contents) → Extends c d → (bs : List Budget) → AreBudgetsIn c bs → AreBudgetsIn d bs
+budgets_stay c d x bs h =
+    All-weaker (λ (b : Budget). b.name < length c.names) (λ (b : Budget). b.name < length d.names) (λ b l. let longer = x.names.longer in omega arith) bs h
+
 -- an assembler as the store grows
 pub grown_holds : (c d : Contents) → Extends c d → (a : Assembler) (s : State) → IsKnown a c → Holds a c s → Holds a d s
 grown_holds c d x a s k h = record {
@@ -66,6 +82,7 @@ grown_holds c d x a s k h = record {
   trees = grown_numbered a.by_tree (length c.trees) (tree_at c) (tree_at d) s.trees x.trees.same k.trees_below h.trees;
   rules = grown_numbered a.by_rule (length a.rules.items) (rule_held c a.rules.items) (rule_held d a.rules.items) s.rules (rules_steady c d x a.rules.items k.rules_in) k.rules_below h.rules;
   lines = lines_steady c d x a.members.lines.items k.lines_in ∙ h.lines;
+  budgets = budgets_steady c d x a.budgets.items k.budgets_in ∙ h.budgets;
   count = h.count;
 }
 
@@ -79,6 +96,7 @@ grown_known c d x a k = record {
   lines_in = lines_stay c d x a.members.lines.items k.lines_in;
   indexed = k.indexed;
   faultless = k.faultless;
+  budgets_in = budgets_stay c d x a.budgets.items k.budgets_in;
 }
 
 -- one more number

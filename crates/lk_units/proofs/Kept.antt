@@ -21,13 +21,13 @@ use Rattle.lk_lines.specs.declared.tags.EntryTag.TheVariants as entry
 use Rattle.lk_lines.specs.declared.tags.DeclarationTag.{DeclarationTag}
 use Rattle.lk_lines.specs.declared.tags.DeclarationTag.TheVariants as decl
 use Rattle.lk_lines.specs.declared.tags.Tag.{Tag}
-use Rattle.lk_lines.specs.declared.tags.Tag.TheVariants.{Entry, Declaration}
+use Rattle.lk_lines.specs.declared.tags.Tag.TheVariants.{Entry, Declaration, Budget}
 use Rattle.lk_lines.specs.Reading.{◌>>=◌}
 use Rattle.lk_lines.specs.Items.{Item}
 use Rattle.lk_lines.specs.Values.{Value}
 use Rattle.lk_lines.specs.Values as value
 use Rattle.lk_units.proofs.Spellings.{Each, AreSpelledValues, IsSpelledItem, IsSpelledName, IsSpelledTree, IsSpelledBody, IsSpelledRule, IsSpelledMember, AreSpelledLines}
-use Rattle.lk_units.specs.State.{State, Counts, begin, known, known_of, all_known, fresh, put, with_name, with_level, with_tree, with_rule, longer_name, successor_level, pair_level, parameter_level, sort_tree, constant_tree, application_tree, binder_tree, let_tree, projection_tree, number_literal, rule_of, type_said, ctor_said, recursor_said, declaration_of, hint_said, value_body, valued_of, entry_added, declaration_said, counted, unless_fault, with_line, declared, added, take_item}
+use Rattle.lk_units.specs.State.{State, Counts, begin, known, known_of, all_known, fresh, put, with_name, with_level, with_tree, with_rule, longer_name, successor_level, pair_level, parameter_level, sort_tree, constant_tree, application_tree, binder_tree, let_tree, projection_tree, number_literal, rule_of, type_said, ctor_said, recursor_said, declaration_of, hint_said, value_body, valued_of, entry_added, declaration_said, counted, unless_fault, with_line, declared, with_budget, added, take_item}
 
 pub record IsSpelledState (s : State) : Type 0 where
   pub names : (n : ℕ) → IfSome (s.names n) IsSpelledName
@@ -243,10 +243,16 @@ kept_declared l s said k h =
     if_then IsSpelledMember IsSpelledState said (λ x. (counted s >>= λ t. with_line l t x)) h
     (λ x p. if_then IsSpelledState IsSpelledState (counted s) (λ t. with_line l t x) (kept_counted s k) (λ t kt. kept_line l t x kt p))
 
+kept_budget : (s : State) (n steps : ℕ) → IsSpelledState s → IfOk (with_budget s n steps) IsSpelledState
+kept_budget s n steps k = for_any IsSpelledState (known s.names n) (λ name. Ok (record s { budgets = s.budgets ++ record { name = name; steps = steps } ∷ [] })) (λ name. record { names = k.names; trees = k.trees; rules = k.rules; lines = k.lines })
+
 kept_added : (l : ℕ) (s : State) (own : Option ℕ) (t : Tag) (values : List Value) → AreSpelledValues t values → IsSpelledState s → IfOk (added l s own t values) IsSpelledState
 kept_added l s (Some own) (Entry t) values i k = if_then IsSpelledState IsSpelledState (entry_added s own t values) (λ u. counted u) (kept_entry s own t values i k) (λ u ku. kept_counted u ku)
 kept_added l s None (Declaration t) values i k = kept_declared l s (declaration_said s t values) k (kept_declaration s t values k)
+kept_added l s None Budget (value.Number n ∷ value.Number steps ∷ []) i k = kept_budget s n steps k
+kept_added l s None Budget values i k = tt
 kept_added l s (Some own) (Declaration t) values i k = tt
+kept_added l s (Some own) Budget values i k = tt
 kept_added l s None (Entry t) values i k = tt
 
 pub kept_item : (l : ℕ) (s : State) (item : Item) → IsSpelledItem item → IsSpelledState s → IfOk (take_item l s item) IsSpelledState

@@ -42,6 +42,7 @@ module _ (a : Assembler) (c : Contents) (s : State) (x : StoredMember) (apart : 
       trees = h.trees;
       rules = h.rules;
       lines = ap (lines_at c) e ∙ map-append (line_at c) a.members.lines.items (line l x ∷ []) ∙ ap (λ ls. ls ++ line_at c (line l x) ∷ []) h.lines;
+      budgets = h.budgets;
       count = h.count;
     },
   )
@@ -70,4 +71,5 @@ placed_known a c x l m k known i e n = record {
   lines_in = rw e (All-push (λ (y : StoredLine). IsStoredMemberIn c y.said) a.members.lines.items (line l x) k.lines_in known);
   indexed = i;
   faultless = rw (e, map-append line_of a.members.lines.items (line l x ∷ [])) (faultless_push [] (lines_of a.members.lines.items) (line_of (line l x)) k.faultless n);
+  budgets_in = k.budgets_in;
 }

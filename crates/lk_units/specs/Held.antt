@@ -8,6 +8,7 @@ use Rattle.lk_rulebook.specs.Units.{Body as PlainBody, as_def, as_thm, as_opaque
 use Rattle.lk_rulebook.specs.Place.{RecRule}
 use Rattle.lk_env.specs.Units.{hint_of, rule_at, IsRuleIn}
 use Rattle.lk_env.specs.declared.unit.RecursorRule.{RecursorRule}
+use Rattle.lk_env.specs.Budgets.{budgets_at, AreBudgetsIn}
 use Rattle.lk_members.specs.Stored.{lines_of, AreLinesIn}
 use Rattle.lk_members.specs.Finishing.{IsFaultless}
 use Rattle.lk_members.specs.Plain.{lines_at}
@@ -56,6 +57,7 @@ pub record IsKnown (a : Assembler) (c : Contents) : Type 0 where
   pub lines_in : AreLinesIn c a.members.lines.items
   pub indexed : IsIndexed a.members
   pub faultless : IsFaultless (lines_of a.members.lines.items)
+  pub budgets_in : AreBudgetsIn c a.budgets.items
 
 -- the assembler stands for the state
 pub record Holds (a : Assembler) (c : Contents) (s : State) : Type 0 where
@@ -64,6 +66,7 @@ pub record Holds (a : Assembler) (c : Contents) (s : State) : Type 0 where
   pub trees : Numbered a.by_tree (tree_at c) s.trees
   pub rules : Numbered a.by_rule (rule_held c a.rules.items) s.rules
   pub lines : lines_at c a.members.lines.items ≡ s.lines
+  pub budgets : budgets_at c a.budgets.items ≡ s.budgets
   pub count : a.count ≡ s.count
 
 abbrev pub binder_of : Binder → Tree → Tree → Tree

@@ -9,6 +9,7 @@ use Rattle.lk_tree.specs.Tree.{proj, lit, wide, str}
 use Rattle.lk_tree.specs.Mentions.{same_name}
 use Rattle.lk_rulebook.specs.Place.{Hint, opaque_hint, abbreviation, regular, RecRule}
 use Rattle.lk_rulebook.specs.Units.{Body, as_axiom, as_def, as_thm, as_opaque, as_quot}
+use Rattle.lk_env.specs.Budgets.{StatedBudget}
 use Rattle.lk_members.specs.declared.fault.MemberFault.{MemberFault}
 use Rattle.lk_members.specs.declared.fault.MemberFault.TheVariants as faults
 use Rattle.lk_members.specs.Lines.{alone, a_type, a_ctor, a_recursor}
@@ -26,7 +27,7 @@ use Rattle.lk_lines.specs.declared.tags.EntryTag.TheVariants as entry
 use Rattle.lk_lines.specs.declared.tags.DeclarationTag.{DeclarationTag}
 use Rattle.lk_lines.specs.declared.tags.DeclarationTag.TheVariants as decl
 use Rattle.lk_lines.specs.declared.tags.Tag.{Tag}
-use Rattle.lk_lines.specs.declared.tags.Tag.TheVariants.{Entry, Declaration}
+use Rattle.lk_lines.specs.declared.tags.Tag.TheVariants.{Entry, Declaration, Budget}
 use Rattle.lk_lines.specs.Reading.{◌>>=◌}
 use Rattle.lk_lines.specs.Items.{Item}
 use Rattle.lk_lines.specs.Values.{Value}
@@ -38,6 +39,7 @@ pub record State : Type 0 where
   pub trees : ℕ → Option Tree
   pub rules : ℕ → Option RecRule
   pub lines : List PlainLine
+  pub budgets : List StatedBudget
   pub count : ℕ
 
 -- name 0 is the anonymous name, and level 0 is zero
@@ -48,6 +50,7 @@ begin = record {
   trees = λ n. None;
   rules = λ n. None;
   lines = [];
+  budgets = [];
   count = 0;
 }
 
@@ -317,10 +320,17 @@ with_line l s said =
 abbrev pub declared : ℕ → State → Result PlainMember Word → Result State Word
 declared l s said = said >>= λ x. (counted s >>= λ t. with_line l t x)
 
--- the item of line l, by its own number, its tag and its values
+-- the first unit that gives the name takes so many steps at most, by a line that is not counted
+abbrev pub with_budget : State → ℕ → ℕ → Result State Word
+with_budget s n steps =
+    known s.names n >>= λ name.
+    Ok (record s { budgets = s.budgets ++ record { name = name; steps = steps } ∷ [] })
+
+-- what line l adds, by its own number, its tag and its values
 abbrev pub added : ℕ → State → Option ℕ → Tag → List Value → Result State Word
 added l s (Some own) (Entry t) values = entry_added s own t values >>= λ u. counted u
 added l s None (Declaration t) values = declared l s (declaration_said s t values)
+added l s None Budget (value.Number n ∷ value.Number steps ∷ []) = with_budget s n steps
 added l s own t values = Err UnknownTag
 
 unfoldable pub take_item : ℕ → State → Item → Result State Word

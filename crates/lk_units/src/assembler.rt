@@ -5,6 +5,7 @@ ghost use Rattle.lk_units.specs.State.{State, begin, counted};
 ghost use Rattle.lk_units.specs.Held.{Numbered, Below, IsKnown, Holds, Follows};
 
 use crate::numbering::Numbering;
+use lk_env::budget::Budget;
 use lk_env::unit::{Hint, RecursorRule};
 use lk_lines::Word;
 use lk_members::Members;
@@ -26,6 +27,8 @@ pub struct Assembler {
     pub by_rule: Numbering,
     pub rules: Vec<RecursorRule>,
     pub members: Members,
+    /// What lines state of the units' budgets, in their order.
+    pub budgets: Vec<Budget>,
     pub count: u64,
 }
 
@@ -85,6 +88,7 @@ fn over(alloc: Global, by_name: Numbering, by_level: Numbering) -> Assembler
         by_rule: Numbering::new(alloc),
         rules: Vec::new(alloc),
         members: Members::new(alloc),
+        budgets: Vec::new(alloc),
         count: 0,
     }
 }

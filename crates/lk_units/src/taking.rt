@@ -8,12 +8,13 @@ ghost use Rattle.lk_members.specs.Stored.{IsStoredMemberIn};
 ghost use Rattle.lk_members.specs.Plain.{said_at};
 ghost use Rattle.lk_lines.specs.declared.words.Word.{Word as LineWord};
 ghost use Rattle.lk_lines.specs.declared.tags.Tag.TheVariants as tag;
-ghost use Rattle.lk_lines.specs.Views.{entry_tag, entry_values, declaration_tag, declaration_values};
+ghost use Rattle.lk_lines.specs.Views.{entry_tag, entry_values, declaration_tag, declaration_values, budget_values};
 ghost use Rattle.lk_units.specs.State.{State, longer_name, successor_level, pair_level, parameter_level, sort_tree, constant_tree, application_tree, binder_tree, let_tree, projection_tree, number_literal, rule_of, with_name, with_level, with_tree, with_rule, hint_said, valued_of, axiom_of, entry_added, declaration_said, with_line, take_item};
 ghost use Rattle.lk_units.specs.Held.{Below, IsKnown, Holds, Makes, Follows, rule_held, told, binder_of, pair_of, body_of};
 
 use crate::making::{nat_literal, text_literal, variable};
 use crate::{Assembler, Binder, LevelPair, TakeError, ValueUse};
+use lk_env::budget::Budget;
 use lk_env::unit::{Hint, RecursorRule};
 use lk_lines::{DeclarationLine, EntryLine, ReducibilityHint, Word};
 use lk_members::fault::{MemberError, MemberFault};
@@ -579,5 +580,25 @@ impl Assembler {
             Err(error) => return Err(error),
         }
         self.place(alloc, store, number, said)
+    }
+
+    /// Takes a line that states how many steps the first unit that gives the name may take. It is
+    /// not counted among the items.
+    #[inline(never)]
+    #[tactic(auto, using(crate::proofs::Holding::failing, crate::proofs::Lines::fails_then, crate::proofs::Putting::budget_pushed_known), unfolding(crate::specs::State::take_item))]
+    pub fn take_budget(&mut self, name: u32, steps: u64) -> Result<(), TakeError>
+        ensures known { OnOk result ((c : Contents) → IsKnown self.old c → IsKnown self.new c) }
+        ensures follows { (c : Contents) (number : ℕ) (s : State) → Holds self.old c s
+            → Follows self.new c result (take_item number s (record {
+              own = None;
+              tag = tag.Budget;
+              values = budget_values name steps;
+            })) }
+    {
+        let name = self.by_name.known(name)?;
+        match self.budgets.push(Budget { name, steps }) {
+            Ok(()) => Ok(()),
+            Err(_) => Err(TakeError::NoMemory),
+        }
     }
 }

@@ -2,4 +2,4 @@ use Rattle.lk_book.proofs.Spelled.{read_spelled}
 use Rattle.lk_book.proofs.laws.files_are_spelled.Goals as goal
 
 pub returns : goal.returns
-returns c = λ bytes us e. read_spelled bytes us e
+returns c = λ bytes e q. read_spelled bytes e q

@@ -15,6 +15,7 @@ returns-clause-known c store names levels = record {
   lines_in = rw c.new-4.ensures.lines (All-nil _);
   indexed = c.new-4.ensures.indexed;
   faultless = rw c.new-4.ensures.lines tt;
+  budgets_in = rw c.new-5.ensures.items (All-nil _);
 }
 
 pub returns-clause-holds : goal.returns-clause-holds
@@ -24,5 +25,6 @@ returns-clause-holds c store names levels = record {
   trees = none_numbered c.new.result (tree_at store) c.new.ensures;
   rules = none_numbered c.new-2.result _ c.new-2.ensures;
   lines = rw c.new-4.ensures.lines refl;
+  budgets = rw c.new-5.ensures.items refl;
   count = refl;
 }
