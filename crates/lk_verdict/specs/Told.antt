@@ -32,7 +32,7 @@ pub record IsVerdict (us : Library) (budget : ℕ) (vs : List Verdict) (n : ℕ)
   pub plain : IsPlainVerdict us budget n v
   pub good : v ≡ accepted → OperationsAccepted us vs n → IsGoodUnit us n
 
--- the verdicts of a library's units, in their order
-pub record AreVerdicts (us : Library) (budget : ℕ) (vs : List Verdict) : Type 0 where
+-- the verdicts of a library's units, in their order, each under the budget of its own number
+pub record AreVerdicts (us : Library) (budget : ℕ → ℕ) (vs : List Verdict) : Type 0 where
   pub as_many : length vs ≡ length us
-  pub each : (n : ℕ) (v : Verdict) → slice_get vs n ≡ Some v → IsVerdict us budget vs n v
+  pub each : (n : ℕ) (v : Verdict) → slice_get vs n ≡ Some v → IsVerdict us (budget n) vs n v
