@@ -1,3 +1,6 @@
 pub mod Held
+pub mod Marks
 pub mod Names
+pub mod Policy
+pub mod Table
 pub mod Text

@@ -1,13 +1,19 @@
 //! What is written of a library: the lines of its units by their verdicts, with names as they are, and the line that counts them;
-//! and the line of a file's fault. Each call gives the exact bytes.
+//! and the line of a file's fault. Each call gives the exact bytes. Before that, verdicts are put under a policy on axioms.
 #![tactic(auto)]
 
 mod counts;
+mod laws;
 mod names;
+mod policy;
 mod texts;
+mod under;
 mod units;
 mod verdicts;
 
 pub use counts::{VerdictKind, count, summary};
+pub use laws::{allowed_axioms_are_listed, joined_texts_are_split_again, policies_only_refuse};
+pub use policy::Policy;
 pub use texts::{fault_line, report};
+pub use under::apply;
 pub use verdicts::Verdict;

@@ -65,14 +65,28 @@ fn first_of_block(types: &[BlockType], recursors: &[Recursor]) -> Option<u64>
 
 /// Room in which a name is written, used again for the next one.
 #[derive(Drop)]
-struct Writing {
+pub(crate) struct Writing {
     pub parts: Vec<Component>,
     pub name: Vec<u8>,
 }
 
+impl Writing {
+    /// Nothing is written yet.
+    pub(crate) fn new(alloc: Global) -> Writing {
+        Writing {
+            parts: Vec::new(alloc),
+            name: Vec::new(alloc),
+        }
+    }
+}
+
 /// Writes the name that a unit goes by. What was written there before is gone.
 #[tactic(auto, using(crate::proofs::Naming::named, crate::proofs::Naming::unnamed))]
-fn write_name(writing: &mut Writing, library: &Library, unit: &Unit) -> Result<(), NoMemory>
+pub(crate) fn write_name(
+    writing: &mut Writing,
+    library: &Library,
+    unit: &Unit,
+) -> Result<(), NoMemory>
     requires { IsUnitIn (contents_of library.now.tables) unit.now }
     ensures { OnOk result (writing.new.name.items
         ≡ unit_text (contents_of library.now.tables) unit.now) }
@@ -153,10 +167,7 @@ pub fn add_lines(
         ++ lines_text (library_of library.now) 0 (library_of library.now)
         (map verdict verdicts.now)) }
 {
-    let mut writing = Writing {
-        parts: Vec::new(alloc),
-        name: Vec::new(alloc),
-    };
+    let mut writing = Writing::new(alloc);
     let mut left = library.units();
     let mut said = verdicts;
     let mut number = 0;
