@@ -12,7 +12,11 @@ required_option id = record (option id) { required = true }
 
 -- how a check is to go
 abbrev pub with_options : App → App
-with_options a = with_rule (with_rule (with_rule a (option (codes "workers"))) (option (codes "steps"))) (option (codes "memo"))
+with_options a =
+    let workers = with_rule a (option (codes "workers")) in
+    let steps = with_rule workers (option (codes "steps")) in
+    let memo = with_rule steps (option (codes "memo")) in
+    with_rule memo (option (codes "allow"))
 
 -- which file is to be made
 abbrev pub with_sample : App → App
@@ -31,4 +35,4 @@ abbrev pub leancheck : App
 leancheck = with_subcommand (with_subcommand (with_subcommand (new_app (codes "leancheck")) check.top) make.top) trial.top
 
 abbrev pub usage_line : List ℕ
-usage_line = codes "usage: leancheck check|make|trial [--workers W] [--steps N] [--memo M] [--units N] [--seed S]\n"
+usage_line = codes "usage: leancheck check|make|trial [--workers W] [--steps N] [--memo M] [--allow LIST] [--units N] [--seed S]\n"

@@ -44,7 +44,8 @@ fn with_options<'a>(alloc: Global, command: Command<'a>) -> Result<Command<'a>, 
 {
     let command = with_option(alloc, command, "workers")?;
     let command = with_option(alloc, command, "steps")?;
-    with_option(alloc, command, "memo")
+    let command = with_option(alloc, command, "memo")?;
+    with_option(alloc, command, "allow")
 }
 
 /// Adds the options that say which file is to be made.

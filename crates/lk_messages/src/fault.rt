@@ -35,7 +35,7 @@ const MEANINGS: [(&[u8], &str); 17] = [
     (b"BadUtf8", "a name or a text is not UTF-8"),
     (
         b"NumberTooLarge",
-        "a number is above 2^32 - 1, or above 2^64 - 1 in a name",
+        "a number is above 2^32 - 1, or above 2^64 - 1 in a name or a budget",
     ),
     (
         b"BadWord",

@@ -12,17 +12,18 @@ const HELP: &str = "
   leancheck reads an export of a Lean 4 library on standard input, in the text format 2 of lean4export,
   and writes for each declaration whether it follows from the ones before it.
 
-  leancheck check [--workers W] [--steps N] [--memo M]
+  leancheck check [--workers W] [--steps N] [--memo M] [--allow LIST]
   leancheck make --units N --seed S
-  leancheck trial --units N --seed S [--workers W] [--steps N] [--memo M]
+  leancheck trial --units N --seed S [--workers W] [--steps N] [--memo M] [--allow LIST]
 
   check   checks standard input, and writes a verdict for each declaration
   make    writes an export that it makes
   trial   checks that export in memory, and writes the last line alone
 
   --workers W   threads that check: 1 to 64, 1 if not given
-  --steps N     budget of each declaration: 1 to 2^64 - 1, 2^100 if not given
+  --steps N     budget of each declaration: 1 to 2^64 - 1, 2^100 if not given; the export may lower it
   --memo M      answers that each thread keeps: 1 to 1048576, 65536 if not given
+  --allow LIST  axioms to allow: names joined by commas, '' for none; every axiom if not given
   --units N     declarations to make: 1 to 1048576
   --seed S      number that they are made by: 0 to 2147483647
 

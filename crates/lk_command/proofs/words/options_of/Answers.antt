@@ -20,4 +20,5 @@ returns-clause-some c = record {
   workers = rw (← first_value-rows (found_of c.args.matches.now) (codes "workers")) c.in_ok-workers.ensures.some;
   steps = rw (← first_value-rows (found_of c.args.matches.now) (codes "steps")) c.in_ok-steps.ensures.some;
   memo = rw (← first_value-rows (found_of c.args.matches.now) (codes "memo")) c.in_ok-memo.ensures.some;
+  allow = rw (← first_value-rows (found_of c.args.matches.now) (codes "allow")) c.get_str.ensures;
 }
