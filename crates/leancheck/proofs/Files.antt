@@ -2,13 +2,11 @@
 use Rattle.std.proofs.Common.{◌≡◌, ℕ, List, Ok, Some, None, refl}
 use Rattle.std.specs.Prelude.{IfSome}
 use Rattle.std.specs.declared.option.Option.{Option}
-use Rattle.lk_store.specs.Store.{contents_of}
-use Rattle.lk_env.specs.Units.{library_at}
 use Rattle.lk_env.specs.StoredLibrary.{StoredLibrary}
-use Rattle.lk_book.specs.File.{library_of}
+use Rattle.lk_book.specs.File.{export_at, export_of}
 use Rattle.lk_book.specs.Reading.{ReadsLibrary}
 
-pub of_bytes : (P : List ℕ → Type 0) (left : Option (List ℕ)) (l : StoredLibrary) → ((bytes : List ℕ) → left ≡ Some bytes → ReadsLibrary (library_of bytes) (Ok l))
-    → ((bytes : List ℕ) → library_of bytes ≡ Ok (library_at (contents_of l.tables) l.units) → P bytes) → IfSome left P
+pub of_bytes : (P : List ℕ → Type 0) (left : Option (List ℕ)) (l : StoredLibrary) → ((bytes : List ℕ) → left ≡ Some bytes → ReadsLibrary (export_of bytes) (Ok l))
+    → ((bytes : List ℕ) → export_of bytes ≡ Ok (export_at l) → P bytes) → IfSome left P
 of_bytes P None l reads told = tt
 of_bytes P (Some bytes) l reads told = told bytes (reads bytes refl)

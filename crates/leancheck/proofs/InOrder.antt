@@ -17,7 +17,7 @@ use Rattle.lk_text.specs.Held.{verdict}
 use Rattle.leancheck.specs.declared.order.UnitVerdict.{UnitVerdict}
 use Rattle.leancheck.specs.Rows.{row_verdict}
 use Rattle.leancheck.specs.Held.{IsPlain}
-use Rattle.leancheck.specs.Drawn.{IsRight, IsRightOne, AreRight, given}
+use Rattle.leancheck.specs.Drawn.{IsPlainUnder, unit_budget, IsRight, AreRight, given}
 use Rattle.leancheck.proofs.Scanning.{found_plain, good_of_plain}
 
 module _ (l : StoredLibrary) (steps n : ℕ) where
@@ -55,7 +55,7 @@ verdict_is steps all n u v there (inr e) = inr e
 -- each answer at its number
 module _ (l : StoredLibrary) (steps : ℕ) (answers : List UnitVerdict) (vs : List HeldVerdict) (are : AreRight l steps answers) (len : length vs ≡ length l.units)
     (is : (n : ℕ) (d : HeldVerdict) → n < length l.units → slice_index_or vs n d ≡ given n answers) where
-  plain_at : (n : ℕ) (v : Verdict) → slice_get (map verdict vs) n ≡ Some v → IsPlainVerdict (library_of l) steps n v
+  plain_at : (n : ℕ) (v : Verdict) → slice_get (map verdict vs) n ≡ Some v → IsPlainVerdict (library_of l) (unit_budget l steps n) n v
   plain_at n v at =
       let told = told_at vs n v at in
       let w = told.0 in
@@ -65,12 +65,13 @@ module _ (l : StoredLibrary) (steps : ℕ) (answers : List UnitVerdict) (vs : Li
       let right : IsRight l steps n w = subst (IsRight l steps n) said (given_right l steps n answers are) in
       let as_many = length-map l.units (unit_at (contents_of l.tables)) in
       let unit = has_unit (library_of l) n (omega (arith, below, as_many)) in
-      subst (IsPlainVerdict (library_of l) steps n) told.2 (verdict_is steps (library_of l) n unit.0 w unit.1 (right unit.0 unit.1))
+      let budget = unit_budget l steps n in
+      subst (IsPlainVerdict (library_of l) budget n) told.2 (verdict_is budget (library_of l) n unit.0 w unit.1 (right unit.0 unit.1))
 
-  pub in_order : IsClearLibrary (library_of l) → AreVerdicts (library_of l) steps (map verdict vs)
+  pub in_order : IsClearLibrary (library_of l) → AreVerdicts (library_of l) (unit_budget l steps) (map verdict vs)
   in_order clear = record {
     as_many = length-map vs verdict ∙ len ∙ sym (length-map l.units (unit_at (contents_of l.tables)));
-    each = λ n v at. record { plain = plain_at n v at; good = λ yes before. good_of_plain (library_of l) clear steps (map verdict vs) plain_at n v at yes before };
+    each = λ n v at. record { plain = plain_at n v at; good = λ yes before. good_of_plain (library_of l) clear (unit_budget l steps) (map verdict vs) plain_at n v at yes before };
   }
 
 unit_got : (c : Contents) (us : List StoredUnit) (n : ℕ) (d : StoredUnit) → n < length us → slice_get (library_at c us) n ≡ Some (unit_at c (slice_index_or us n d))
@@ -91,5 +92,5 @@ same_unit c us n u w a b = let e : Some (unit_at c u) ≡ Some w = sym a ∙ b i
 
 -- what was judged of the unit that stands at the number is right
 pub judged_right : (l : StoredLibrary) (steps n : ℕ) (u : StoredUnit) (v : HeldVerdict) → slice_get (library_of l) n ≡ Some (unit_at (contents_of l.tables) u)
-    → IsPlain (row_verdict (library_of l) steps n (unit_at (contents_of l.tables) u)) v → IsRight l steps n v
+    → IsPlain (row_verdict (library_of l) steps n (unit_at (contents_of l.tables) u)) v → IsPlainUnder l steps n v
 judged_right l steps n u v stands judged = λ w at. subst (λ x. IsPlain (row_verdict (library_of l) steps n x) v) (same_unit (contents_of l.tables) l.units n u w stands at) judged

@@ -4,6 +4,8 @@ pub mod Worked
 pub mod InOrder
 pub mod Working
 pub mod Joined
+pub mod AllGood
+pub mod Unjudged
 pub mod Verdicts
 pub mod Files
 pub mod Started

@@ -67,8 +67,8 @@ plain_yes us budget n v (inl e) says = told_yes (plain_verdict steps us n budget
 plain_yes us budget n v (inr e) says = absurd cc
 
 -- a yes is good, where the operations before it are accepted
-pub good_of_plain : (us : Library) → IsClearLibrary us → (budget : ℕ) (vs : List Verdict) → ((n : ℕ) (v : Verdict) → slice_get vs n ≡ Some v → IsPlainVerdict us budget n v) →
+pub good_of_plain : (us : Library) → IsClearLibrary us → (budget : ℕ → ℕ) (vs : List Verdict) → ((n : ℕ) (v : Verdict) → slice_get vs n ≡ Some v → IsPlainVerdict us (budget n) n v) →
     (n : ℕ) (v : Verdict) → slice_get vs n ≡ Some v → v ≡ accepted → OperationsAccepted us vs n → IsGoodUnit us n
 good_of_plain us clear budget vs each n v at says before =
-    good_of_yes steps sound_steps us n budget clear (λ m below gives. (budget, plain_yes us budget m accepted (each m accepted (before m below gives)) refl))
-    (plain_yes us budget n v (each n v at) says)
+    good_of_yes steps sound_steps us n (budget n) clear (λ m below gives. (budget m, plain_yes us (budget m) m accepted (each m accepted (before m below gives)) refl))
+    (plain_yes us (budget n) n v (each n v at) says)

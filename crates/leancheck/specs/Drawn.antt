@@ -3,6 +3,7 @@ use Rattle.std.specs.Prelude.{◌≡◌, ◌==◌, ℕ, ◌<◌, List, All, map,
 use Rattle.lk_rulebook.specs.Units.{LibraryUnit}
 use Rattle.lk_env.specs.Units.{library_of}
 use Rattle.lk_env.specs.StoredLibrary.{StoredLibrary}
+use Rattle.lk_book.specs.File.{budget_of, export_at}
 use Rattle.lk_text.specs.declared.verdicts.Verdict.{Verdict}
 use Rattle.lk_text.specs.declared.verdicts.Verdict.TheVariants.{Memory}
 use Rattle.leancheck.specs.declared.order.UnitVerdict.{UnitVerdict}
@@ -10,9 +11,17 @@ use Rattle.leancheck.specs.Held.{IsPlain}
 use Rattle.leancheck.specs.Rows.{row_verdict}
 
 -- the plain verdict of unit n under so many steps, or memory in its place
-abbrev pub IsRight : StoredLibrary → ℕ → ℕ → Verdict → Type 0
-IsRight l steps n v = (u : LibraryUnit) → slice_get (library_of l) n ≡ Some u
+abbrev pub IsPlainUnder : StoredLibrary → ℕ → ℕ → Verdict → Type 0
+IsPlainUnder l steps n v = (u : LibraryUnit) → slice_get (library_of l) n ≡ Some u
     → IsPlain (row_verdict (library_of l) steps n u) v
+
+-- the budget of unit n in a run that gives each unit so many steps
+abbrev pub unit_budget : StoredLibrary → ℕ → ℕ → ℕ
+unit_budget l steps n = budget_of (export_at l) steps n
+
+-- the plain verdict of unit n under its budget, or memory in its place
+abbrev pub IsRight : StoredLibrary → ℕ → ℕ → Verdict → Type 0
+IsRight l steps n v = IsPlainUnder l (unit_budget l steps n) n v
 
 -- it is the verdict of a unit, and right
 abbrev pub IsRightOne : StoredLibrary → ℕ → UnitVerdict → Type 0

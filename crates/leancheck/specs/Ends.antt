@@ -1,20 +1,26 @@
 -- How a run ends.
-use Rattle.std.specs.Prelude.{ℕ, ◌≡◌, ◌⊎◌, List, if◌then◌else◌, nat_eq, IfSome, Vec, Result, Ok, Err}
+use Rattle.std.specs.Prelude.{ℕ, ◌≡◌, ◌<◌, ◌⊎◌, List, length, if◌then◌else◌, nat_eq, Some}
+use Rattle.std.specs.Prelude.{IfSome, Vec, Result, Ok, Err}
 use Rattle.std.specs.declared.alloc.Global.{Global}
 use Rattle.std.specs.declared.option.Option.{Option}
+use Rattle.std.specs.List.{Contains}
 use Rattle.std.specs.Io.KnownBytes.{Appends}
 use Rattle.lk_port.specs.Bytes.{AppendsSome}
-use Rattle.lk_rulebook.specs.Units.{Library}
+use Rattle.lk_verdict.specs.GoodUnit.{IsGoodUnit}
 use Rattle.lk_verdict.specs.Told.{Verdict, AreVerdicts}
-use Rattle.lk_book.specs.File.{library_of}
+use Rattle.lk_reach.specs.Computed.{axioms_of}
+use Rattle.lk_book.specs.File.{Export, export_of, budget_of}
 use Rattle.leancheck.specs.declared.status.Status.{Status}
 use Rattle.leancheck.specs.declared.status.Status.TheVariants.{AllYes, SomeNo, Usage, BadFile, ReadFault, WriteFault, NoMemory, SomeMemory}
+use Rattle.lk_command.specs.declared.words.Options.{Options}
+use Rattle.lk_command.specs.Words.{allowed_text}
 use Rattle.lk_command.specs.declared.words.Meaning.{Meaning}
 use Rattle.lk_command.specs.declared.words.Meaning.TheVariants.{Check, Make, Trial}
 use Rattle.leancheck.specs.declared.extent.Extent.{Extent}
 use Rattle.leancheck.specs.declared.extent.Extent.TheVariants.{Report, Summary}
 use Rattle.leancheck.specs.Extents.{text_of}
 use Rattle.lk_text.specs.Text.{bad_line, count}
+use Rattle.lk_text.specs.Policy.{Policy, policy_of, texts_of, IsOnList, all_under}
 use Rattle.lk_text.specs.declared.counts.VerdictKind.TheVariants.{No, Memory}
 use Rattle.lk_generator.specs.Generated.{file_of}
 use Rattle.lk_lines.specs.declared.line.Fault.{Fault}
@@ -46,48 +52,73 @@ IsChecked ReadFault = ⊥
 IsChecked WriteFault = ⊥
 IsChecked NoMemory = ⊥
 
--- the bytes spell a library, and what is told of it is by a verdict for each of its units, the plain one under these steps or
--- memory; a unit whose verdict is yes is good, where each unit before it that gives an operation on numbers with laws says yes
--- too; the status belongs to the verdicts
-pub record IsReport (extent : Extent) (steps : ℕ) (bytes : List ℕ) (status : Status) (text : List ℕ) : Type 0 where
-  pub library : Library
-  pub verdicts : List Verdict
-  pub spelled : library_of bytes ≡ Ok library
-  pub are : AreVerdicts library steps verdicts
-  pub status_is : status ≡ status_of verdicts
-  pub text_is : text ≡ text_of extent library verdicts
+-- which axioms the options allow
+abbrev pub policy_in : Options → Policy
+policy_in o = policy_of (allowed_text o)
 
--- a report of the bytes under these steps was written
-pub record Reports (extent : Extent) (steps : ℕ) (bytes : List ℕ) (status : Status) (old new : Option (List ℕ)) : Type 0 where
+-- The bytes spell an export. Each of its units has a verdict, the plain one under the unit's budget
+-- or memory; a unit whose verdict is yes is good, where each unit before it that gives an operation
+-- on numbers with laws says yes too. What is told are these verdicts under the policy on axioms, and
+-- the status belongs to them.
+pub record IsReport (extent : Extent) (o : Options) (bytes : List ℕ) (status : Status)
+    (text : List ℕ) : Type 0 where
+  pub export : Export
+  pub plain : List Verdict
+  pub verdicts : List Verdict
+  pub spelled : export_of bytes ≡ Ok export
+  pub are : AreVerdicts export.units (budget_of export o.steps) plain
+  pub judged : verdicts ≡ all_under (policy_in o) export.units 0 plain
+  pub status_is : status ≡ status_of verdicts
+  pub text_is : text ≡ text_of extent export.units verdicts
+
+-- a report of the bytes with these options was written
+pub record Reports (extent : Extent) (o : Options) (bytes : List ℕ) (status : Status)
+    (old new : Option (List ℕ)) : Type 0 where
   pub text : List ℕ
-  pub report : IsReport extent steps bytes status text
+  pub report : IsReport extent o bytes status text
   pub written : Appends old new text
 
--- a prefix of the text that belongs to the bytes under these steps was written
-abbrev pub WritesPrefix : Extent → ℕ → List ℕ → Option (List ℕ) → Option (List ℕ) → Type 0
-WritesPrefix extent steps bytes old new = ((f : Fault) × (library_of bytes ≡ Err f) × AppendsSome old new (bad_line f))
-    ⊎ ((status : Status) × (text : List ℕ) × IsReport extent steps bytes status text × AppendsSome old new text)
+-- a prefix of the text that belongs to the bytes with these options was written
+abbrev pub WritesPrefix : Extent → Options → List ℕ → Option (List ℕ) → Option (List ℕ) → Type 0
+WritesPrefix extent o bytes old new =
+    ((f : Fault) × (export_of bytes ≡ Err f) × AppendsSome old new (bad_line f))
+    ⊎ ((status : Status) × (text : List ℕ) × IsReport extent o bytes status text
+    × AppendsSome old new text)
 
--- the text that was made, and the status, belong to the bytes under these steps
-abbrev pub Gives : Extent → ℕ → List ℕ → Result (Vec ℕ Global × Status) WantOfMemory → Type 0
-Gives extent steps bytes (Ok (text, status)) = IsReport extent steps bytes status text.items
-Gives extent steps bytes (Err e) = Unit {0}
+-- the text that was made, and the status, belong to the bytes with these options
+abbrev pub Gives : Extent → Options → List ℕ → Result (Vec ℕ Global × Status) WantOfMemory → Type 0
+Gives extent o bytes (Ok (text, status)) = IsReport extent o bytes status text.items
+Gives extent o bytes (Err e) = Unit {0}
 
--- What words ask for was done, and this is its status, over the bytes of a source, where it tells them: a check writes its report, `make`
--- its file, and a trial the last line of what a check of that file would write.
+-- The bytes spell an export of which each unit is good. Where a list of axioms is given, each axiom
+-- that a unit rests on prints as one of the names on it.
+pub record IsAllGood (o : Options) (bytes : List ℕ) : Type 0 where
+  pub export : Export
+  pub spelled : export_of bytes ≡ Ok export
+  pub good : (n : ℕ) → n < length export.units → IsGoodUnit export.units n
+  pub allowed : (list : List ℕ) → allowed_text o ≡ Some list → (n k : ℕ)
+      → n < length export.units → Contains (axioms_of export.units n) k
+      → IsOnList (texts_of list) export.units k
+
+-- What words ask for was done, and this is its status, over the bytes of a source, where it tells
+-- them: a check writes its report, `make` its file, and a trial the last line of what a check of
+-- that file would write.
 abbrev pub Does : Meaning → Option (List ℕ) → Status → Option (List ℕ) → Option (List ℕ) → Type 0
-Does (Check o) left status old new = IfSome left (λ bytes. Reports Report o.steps bytes status old new)
+Does (Check o) left status old new = IfSome left (λ bytes. Reports Report o bytes status old new)
 Does (Make s) left status old new = (status ≡ AllYes) × Appends old new (file_of s.units s.seed)
-Does (Trial s o) left status old new = Reports Summary o.steps (file_of s.units s.seed) status old new
+Does (Trial s o) left status old new =
+    Reports Summary o (file_of s.units s.seed) status old new
 
 -- the file that was to be checked has a fault, and its line was written
 abbrev pub FindsFault : Meaning → Option (List ℕ) → Option (List ℕ) → Option (List ℕ) → Type 0
-FindsFault (Check o) left old new = (f : Fault) × IfSome left (λ bytes. library_of bytes ≡ Err f) × Appends old new (bad_line f)
+FindsFault (Check o) left old new =
+    (f : Fault) × IfSome left (λ bytes. export_of bytes ≡ Err f) × Appends old new (bad_line f)
 FindsFault (Make s) left old new = ⊥
-FindsFault (Trial s o) left old new = (f : Fault) × (library_of (file_of s.units s.seed) ≡ Err f) × Appends old new (bad_line f)
+FindsFault (Trial s o) left old new =
+    (f : Fault) × (export_of (file_of s.units s.seed) ≡ Err f) × Appends old new (bad_line f)
 
 -- a prefix was written of what the words ask for
 abbrev pub Begins : Meaning → Option (List ℕ) → Option (List ℕ) → Option (List ℕ) → Type 0
-Begins (Check o) left old new = IfSome left (λ bytes. WritesPrefix Report o.steps bytes old new)
+Begins (Check o) left old new = IfSome left (λ bytes. WritesPrefix Report o bytes old new)
 Begins (Make s) left old new = AppendsSome old new (file_of s.units s.seed)
-Begins (Trial s o) left old new = WritesPrefix Summary o.steps (file_of s.units s.seed) old new
+Begins (Trial s o) left old new = WritesPrefix Summary o (file_of s.units s.seed) old new

@@ -18,7 +18,7 @@ ghost use Rattle.lk_env.specs.Units.{declared_levels, declaration_at, unit_at, l
 ghost use Rattle.lk_env.specs.Units.{IsStatedIn, IsBodyIn, IsUnitIn};
 ghost use Rattle.leancheck.specs.Rows.{questions_of, asked_of, scanned_of, row_verdict};
 ghost use Rattle.leancheck.specs.Standing.{StandsAt};
-ghost use Rattle.leancheck.specs.Drawn.{IsRight};
+ghost use Rattle.leancheck.specs.Drawn.{IsPlainUnder};
 ghost use Rattle.leancheck.specs.Held.{result_verdict, scan_verdict, IsPlain};
 
 use crate::blocks::check_block;
@@ -50,7 +50,7 @@ pub(crate) fn check_unit<K: Knows>(
     requires library { engine.old.scope.library ≡ library.now }
     requires number { number < length library.now.units }
     ensures library { engine.new.scope.library ≡ engine.old.scope.library }
-    ensures right { IsRight library.now steps number result }
+    ensures right { IsPlainUnder library.now steps number result }
 {
     let verdict = begin_and_judge(alloc, library, engine, number, steps);
     if matches!(verdict, Verdict::Memory) {
@@ -71,7 +71,7 @@ fn begin_and_judge<K: Knows>(
     requires library { engine.old.scope.library ≡ library.now }
     requires number { number < length library.now.units }
     ensures library { engine.new.scope.library ≡ engine.old.scope.library }
-    ensures right { IsRight library.now steps number result }
+    ensures right { IsPlainUnder library.now steps number result }
 {
     let unit = &library.units()[number as usize];
     engine.start(number, steps);

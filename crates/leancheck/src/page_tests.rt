@@ -5,7 +5,7 @@ use crate::tests::is_row;
 use std::test::Fail;
 
 // Words, input, output, status.
-const ROWS: [(&str, &[u8], &[u8], Status); 35] = [
+const ROWS: [(&str, &[u8], &[u8], Status); 39] = [
     (
         "leancheck check",
         b"2.0.0\n1 #NS 0 p\n2 #NS 0 id\n0 #ES 0\n1 #EV 0\n2 #EV 1\n3 #EP #BD 0 1 2\n4 #EP #BD 1 0 3\n5 #EL #BD 0 1 1\n6 #EL #BD 1 0 5\n#THM 2 4 6\n",
@@ -29,12 +29,6 @@ const ROWS: [(&str, &[u8], &[u8], Status); 35] = [
         b"3 #US 0\n3 #US 9 0\n",
         b"bad line 2 ExtraField\n",
         Status::BadFile,
-    ),
-    (
-        "leancheck trial --units 1000 --seed 7",
-        b"",
-        b"units 1000 yes 1000 no 0 memory 0\n",
-        Status::AllYes,
     ),
     (
         "leancheck check",
@@ -106,6 +100,36 @@ const ROWS: [(&str, &[u8], &[u8], Status); 35] = [
         "leancheck check",
         b"1 #NI 0 18446744073709551616\n",
         b"bad line 1 NumberTooLarge\n",
+        Status::BadFile,
+    ),
+    (
+        "leancheck check",
+        b"1 #NS 0 a\n#BUD 1 18446744073709551616\n",
+        b"bad line 2 NumberTooLarge\n",
+        Status::BadFile,
+    ),
+    (
+        "leancheck check",
+        b"1 #NS 0 a\n#BUD 1\n",
+        b"bad line 2 MissingField\n",
+        Status::BadFile,
+    ),
+    (
+        "leancheck check",
+        b"1 #NS 0 a\n#BUD\n",
+        b"bad line 2 MissingField\n",
+        Status::BadFile,
+    ),
+    (
+        "leancheck check",
+        b"1 #NS 0 a\n0 #BUD 1 5\n",
+        b"bad line 2 UnknownTag\n",
+        Status::BadFile,
+    ),
+    (
+        "leancheck check",
+        b"#BUD 1 5\n1 #NS 0 a\n",
+        b"bad line 1 IndexUnknown\n",
         Status::BadFile,
     ),
     (

@@ -4,18 +4,17 @@ ghost use Rattle.std.specs.Prelude.{◌≡◌, ◌≢◌, ◌⊎◌, ℕ, List, 
 ghost use Rattle.std.specs.Io.KnownBytes.{Appends};
 ghost use Rattle.lk_port.specs.Bytes.{Rose, AppendsSome};
 ghost use Rattle.lk_lines.specs.declared.line.Fault.{Fault as LineFault};
-ghost use Rattle.lk_store.specs.Store.{contents_of};
-ghost use Rattle.lk_env.specs.Units.{library_at};
-ghost use Rattle.lk_book.specs.File.{library_of};
+ghost use Rattle.lk_book.specs.File.{export_at, export_of};
 ghost use Rattle.lk_text.specs.Text.{bad_line};
 ghost use Rattle.lk_generator.specs.Generated.{file_of};
 ghost use Rattle.lk_command.specs.Command.{usage_line};
 ghost use Rattle.lk_command.specs.Words.{IsMeaningless, Means, MeansCheck, texts_of};
 ghost use Rattle.lk_command.specs.declared.words.Meaning.{Meaning as WordsMeaning};
 ghost use Rattle.lk_command.specs.declared.words.Options.{Options as CheckOptions};
-ghost use Rattle.leancheck.specs.Ends.{Begins, Does, FindsFault, Gives, IsChecked, Reports, WritesPrefix};
+ghost use Rattle.leancheck.specs.Ends.{Begins, Does, FindsFault, Gives, IsAllGood, IsChecked};
+ghost use Rattle.leancheck.specs.Ends.{Reports, WritesPrefix};
 
-use crate::extent::{Extent, text_of};
+use crate::extent::{Extent, judged_text};
 use crate::status::{Status, status_of};
 use crate::workers::check_all;
 use lk_book::{ReadError, read_library};
@@ -36,18 +35,17 @@ fn checked<R: Threads + Sync, G: Gate>(
     alloc: Global,
     extent: Extent,
     library: &Library,
-    options: Options,
+    options: Options<'_>,
     gate: &G,
 ) -> Result<(Vec<u8>, Status), NoMemory>
-    ensures gives { (bytes : List ℕ) → library_of bytes
-        ≡ Ok (library_at (contents_of library.now.tables) library.now.units)
-        → Gives extent options.steps bytes result }
+    ensures gives { (bytes : List ℕ) → export_of bytes ≡ Ok (export_at library.now)
+        → Gives extent options.entry bytes result }
     ensures status { IfOk result (λ r. IsChecked r.1) }
 {
-    let Ok(verdicts) = check_all(rt, alloc, library, options, gate) else {
+    let Ok(mut verdicts) = check_all(rt, alloc, library, options, gate) else {
         return Err(NoMemory);
     };
-    let Ok(text) = text_of(alloc, extent, library, &verdicts) else {
+    let Ok(text) = judged_text(alloc, extent, library, options.allow, &mut verdicts) else {
         return Err(NoMemory);
     };
     let status = status_of(&verdicts);
@@ -65,7 +63,7 @@ fn tell_usage<K: Sink>(sink: &mut K) -> Status
 {
     match write_all(
         sink,
-        b"usage: leancheck check|make|trial [--workers W] [--steps N] [--memo M] [--units N] [--seed S]\n",
+        b"usage: leancheck check|make|trial [--workers W] [--steps N] [--memo M] [--allow LIST] [--units N] [--seed S]\n",
     ) {
         Ok(()) => Status::Usage,
         Err(_) => Status::WriteFault,
@@ -99,18 +97,16 @@ fn tell_verdicts<R: Threads + Sync, K: Sink, G: Gate>(
     alloc: Global,
     extent: Extent,
     library: &Library,
-    options: Options,
+    options: Options<'_>,
     sink: &mut K,
     gate: &G,
 ) -> Status
-    ensures told { IsChecked result → ((bytes : List ℕ) → library_of bytes
-        ≡ Ok (library_at (contents_of library.now.tables) library.now.units)
-        → Reports extent options.steps bytes result (K.written sink.old) (K.written sink.new))
+    ensures told { IsChecked result → ((bytes : List ℕ) → export_of bytes ≡ Ok (export_at library.now)
+        → Reports extent options.entry bytes result (K.written sink.old) (K.written sink.new))
         × (K.faults sink.new ≡ K.faults sink.old) }
     ensures failed { result ≡ Status.WriteFault
-        → ((bytes : List ℕ) → library_of bytes
-        ≡ Ok (library_at (contents_of library.now.tables) library.now.units)
-        → WritesPrefix extent options.steps bytes (K.written sink.old) (K.written sink.new))
+        → ((bytes : List ℕ) → export_of bytes ≡ Ok (export_at library.now)
+        → WritesPrefix extent options.entry bytes (K.written sink.old) (K.written sink.new))
         × Rose (K.faults sink.old) (K.faults sink.new) }
     ensures no_memory { result ≡ Status.NoMemory → sink.new ≡ sink.old }
     ensures only { IsChecked result ⊎ (result ≡ Status.WriteFault) ⊎ (result ≡ Status.NoMemory) }
@@ -129,7 +125,7 @@ fn check<R: Threads + Sync, S: Source, K: Sink, G: Gate>(
     rt: &R,
     alloc: Global,
     extent: Extent,
-    options: Options,
+    options: Options<'_>,
     source: &mut S,
     sink: &mut K,
     gate: &G,
@@ -139,14 +135,14 @@ fn check<R: Threads + Sync, S: Source, K: Sink, G: Gate>(
         × (K.written sink.new ≡ K.written sink.old) }
     ensures no_read { result ≢ Status.ReadFault → S.faults source.new ≡ S.faults source.old }
     ensures bad { result ≡ Status.BadFile
-        → ((f : LineFault) × IfSome (S.left source.old) (λ bytes. library_of bytes ≡ Err f)
+        → ((f : LineFault) × IfSome (S.left source.old) (λ bytes. export_of bytes ≡ Err f)
         × Appends (K.written sink.old) (K.written sink.new) (bad_line f)) }
     ensures verdicts { IsChecked result → IfSome (S.left source.old) (λ bytes.
-        Reports extent options.steps bytes result (K.written sink.old) (K.written sink.new)) }
+        Reports extent options.entry bytes result (K.written sink.old) (K.written sink.new)) }
     ensures write { result ≡ Status.WriteFault → Rose (K.faults sink.old) (K.faults sink.new) }
     ensures no_write { result ≢ Status.WriteFault → K.faults sink.new ≡ K.faults sink.old }
     ensures prefix { result ≡ Status.WriteFault → IfSome (S.left source.old) (λ bytes.
-        WritesPrefix extent options.steps bytes (K.written sink.old) (K.written sink.new)) }
+        WritesPrefix extent options.entry bytes (K.written sink.old) (K.written sink.new)) }
     ensures no_memory { result ≡ Status.NoMemory → K.written sink.new ≡ K.written sink.old }
 {
     match read_library(alloc, source) {
@@ -183,20 +179,20 @@ fn trial<R: Threads + Sync, K: Sink, G: Gate>(
     rt: &R,
     alloc: Global,
     sample: Sample,
-    options: Options,
+    options: Options<'_>,
     sink: &mut K,
     gate: &G,
 ) -> Status
     ensures no_usage { result ≢ Status.Usage }
     ensures no_read { result ≢ Status.ReadFault }
     ensures bad { result ≡ Status.BadFile
-        → ((f : LineFault) × (library_of (file_of sample.units sample.seed) ≡ Err f)
+        → ((f : LineFault) × (export_of (file_of sample.units sample.seed) ≡ Err f)
         × Appends (K.written sink.old) (K.written sink.new) (bad_line f)) }
-    ensures verdicts { IsChecked result → Reports Extent.Summary options.steps
+    ensures verdicts { IsChecked result → Reports Extent.Summary options.entry
         (file_of sample.units sample.seed) result (K.written sink.old) (K.written sink.new) }
     ensures write { result ≡ Status.WriteFault → Rose (K.faults sink.old) (K.faults sink.new) }
     ensures no_write { result ≢ Status.WriteFault → K.faults sink.new ≡ K.faults sink.old }
-    ensures prefix { result ≡ Status.WriteFault → WritesPrefix Extent.Summary options.steps
+    ensures prefix { result ≡ Status.WriteFault → WritesPrefix Extent.Summary options.entry
         (file_of sample.units sample.seed) (K.written sink.old) (K.written sink.new) }
     ensures no_memory { result ≡ Status.NoMemory → K.written sink.new ≡ K.written sink.old }
 {
@@ -238,6 +234,12 @@ pub fn run<R: Threads + Wait + Sync, S: Source, K: Sink, G: Gate>(
     ensures verdicts { IsChecked result
         → ((m : WordsMeaning) × Means (texts_of words.now) m
         × Does m (S.left source.old) result (K.written sink.old) (K.written sink.new)) }
+
+    // Where a check ends with status 0, an auditor may rely on each unit, and on no axiom that the
+    // words do not allow.
+    ensures all_yes { result ≡ Status.AllYes
+        → ((o : CheckOptions) → MeansCheck (texts_of words.now) o
+        → IfSome (S.left source.old) (IsAllGood o)) }
     ensures write { result ≡ Status.WriteFault → Rose (K.faults sink.old) (K.faults sink.new) }
     ensures no_write { result ≢ Status.WriteFault → K.faults sink.new ≡ K.faults sink.old }
     ensures prefix { result ≡ Status.WriteFault

@@ -31,7 +31,7 @@ const NOT_POSITIVE: &[u8] =
     b"1 #NS 0 N\n2 #NS 0 T\n3 #NS 2 mk\n1 #US 0\n0 #ES 1\n1 #EC 1\n2 #EC 2\n3 #EP #BD 0 2 1\n4 #EP #BD 0 3 2\n5 #EP #BD 0 4 2\n#AX 1 0\n#IND 2 0 1 0 0 0 1 2 1 3\n#CTOR 3 5 2 0 0 1\n";
 
 const USAGE: &[u8] =
-    b"usage: leancheck check|make|trial [--workers W] [--steps N] [--memo M] [--units N] [--seed S]\n";
+    b"usage: leancheck check|make|trial [--workers W] [--steps N] [--memo M] [--allow LIST] [--units N] [--seed S]\n";
 
 pub(crate) fn words_of(alloc: Global, line: &str) -> Result<Vec<String>, AllocError> {
     let mut words = Vec::new(alloc);
@@ -361,30 +361,55 @@ fn steps(rt: HostRuntime) -> Result<(), Fail> {
     Ok(())
 }
 
-fn meaning_of(alloc: Global, line: &str) -> Result<Result<Meaning, LineError>, AllocError> {
-    let words = words_of(alloc, line)?;
-    Ok(line_means(alloc, words.as_slice()))
+fn are_options(found: Options<'_>, options: Options<'_>) -> bool {
+    found.workers == options.workers
+        && found.steps == options.steps
+        && found.memo == options.memo
+        && found.allow == options.allow
 }
 
-fn means_check(meaning: Result<Meaning, LineError>, options: Options) -> bool {
-    let Ok(Meaning::Check(found)) = meaning else {
-        return false;
-    };
-    found.workers == options.workers && found.steps == options.steps && found.memo == options.memo
-}
-
-fn means_make(meaning: Result<Meaning, LineError>, sample: Sample) -> bool {
-    let Ok(Meaning::Make(found)) = meaning else {
-        return false;
-    };
+fn is_sample(found: Sample, sample: Sample) -> bool {
     found.units == sample.units && found.seed == sample.seed
 }
 
-fn means_trial(meaning: Result<Meaning, LineError>, sample: Sample, options: Options) -> bool {
-    let Ok(Meaning::Trial(found, how)) = meaning else {
-        return false;
-    };
-    means_make(Ok(Meaning::Make(found)), sample) && means_check(Ok(Meaning::Check(how)), options)
+// Whether a line means nothing.
+fn is_meaningless(alloc: Global, line: &str) -> Result<bool, AllocError> {
+    let words = words_of(alloc, line)?;
+    Ok(matches!(line_means(alloc, words.as_slice()), Err(LineError::Usage)))
+}
+
+// Whether a line asks for this check.
+fn is_check(alloc: Global, line: &str, options: Options<'_>) -> Result<bool, AllocError> {
+    let words = words_of(alloc, line)?;
+    match line_means(alloc, words.as_slice()) {
+        Ok(Meaning::Check(found)) => Ok(are_options(found, options)),
+        _ => Ok(false),
+    }
+}
+
+// Whether a line asks for this file.
+fn is_make(alloc: Global, line: &str, sample: Sample) -> Result<bool, AllocError> {
+    let words = words_of(alloc, line)?;
+    match line_means(alloc, words.as_slice()) {
+        Ok(Meaning::Make(found)) => Ok(is_sample(found, sample)),
+        _ => Ok(false),
+    }
+}
+
+// Whether a line asks for this trial.
+fn is_trial(
+    alloc: Global,
+    line: &str,
+    sample: Sample,
+    options: Options<'_>,
+) -> Result<bool, AllocError> {
+    let words = words_of(alloc, line)?;
+    match line_means(alloc, words.as_slice()) {
+        Ok(Meaning::Trial(found, how)) => {
+            Ok(is_sample(found, sample) && are_options(how, options))
+        }
+        _ => Ok(false),
+    }
 }
 
 #[test]
@@ -412,13 +437,13 @@ fn words_without_a_meaning(rt: HostRuntime) -> Result<(), Fail> {
         "leancheck check --steps 18446744073709551616",
         "leancheck check --memo 0",
         "leancheck check --memo 1048577",
+        "leancheck check --allow",
+        "leancheck check --allow a --allow b",
+        "leancheck make --units 5 --seed 1 --allow a",
         "leancheck check --words 3",
         "leancheck check -- 3",
     ] {
-        assert!(rt;
-            matches!(meaning_of(alloc, line)?, Err(LineError::Usage)),
-            "{line}"
-        );
+        assert!(rt; is_meaningless(alloc, line)?, "{line}");
     }
     Ok(())
 }
@@ -430,6 +455,7 @@ fn words_with_a_meaning(rt: HostRuntime) -> Result<(), Fail> {
         workers: 1,
         steps: 1 << 100,
         memo: 65536,
+        allow: None,
     };
     for (line, options) in [
         ("leancheck check", defaults),
@@ -454,10 +480,25 @@ fn words_with_a_meaning(rt: HostRuntime) -> Result<(), Fail> {
                 workers: 64,
                 steps: 18446744073709551615,
                 memo: 1048576,
+                allow: None,
+            },
+        ),
+        (
+            "leancheck check --allow=propext,Quot.sound",
+            Options {
+                allow: Some("propext,Quot.sound"),
+                ..defaults
+            },
+        ),
+        (
+            "leancheck check --allow ",
+            Options {
+                allow: Some(""),
+                ..defaults
             },
         ),
     ] {
-        assert!(rt; means_check(meaning_of(alloc, line)?, options), "{line}");
+        assert!(rt; is_check(alloc, line, options)?, "{line}");
     }
     Ok(())
 }
@@ -473,21 +514,20 @@ fn words_that_ask_for_a_file(rt: HostRuntime) -> Result<(), Fail> {
             2147483647,
         ),
     ] {
-        assert!(rt;
-            means_make(meaning_of(alloc, line)?, Sample { units, seed }),
-            "{line}"
-        );
+        assert!(rt; is_make(alloc, line, Sample { units, seed })?, "{line}");
     }
     assert!(rt;
-        means_trial(
-            meaning_of(alloc, "leancheck trial --steps 19 --units 5 --seed 1")?,
+        is_trial(
+            alloc,
+            "leancheck trial --steps 19 --units 5 --seed 1",
             Sample { units: 5, seed: 1 },
             Options {
                 workers: 1,
                 steps: 19,
-                memo: 65536
+                memo: 65536,
+                allow: None
             }
-        )
+        )?
     );
     Ok(())
 }

@@ -3,7 +3,7 @@
 ghost use Rattle.std.specs.Prelude.{◌≡◌, IfSome};
 ghost use Rattle.lk_desk.specs.Job.{job_of};
 ghost use Rattle.lk_desk.specs.Seats.{job, IsNew, Sits};
-ghost use Rattle.leancheck.specs.Drawn.{AreRight, numbers};
+ghost use Rattle.leancheck.specs.Drawn.{AreRight, numbers, unit_budget};
 ghost use Rattle.leancheck.specs.Workers.{IsPassed, GoesOnDrawing, Draws, IsDone, IsWorkerSeat};
 
 use crate::checking::check_unit;
@@ -26,7 +26,7 @@ const PART: u64 = 16;
 /// How units are checked.
 #[derive(Clone, Copy)]
 pub struct Settings {
-    /// How many steps the questions of one unit may take.
+    /// How many steps the questions of one unit may take; a budget of its own may be less.
     pub steps: u128,
     /// How many answers a worker keeps at most.
     pub kept: u32,
@@ -106,6 +106,17 @@ fn draw(
     next
 }
 
+/// The budget of a unit in a run that gives each unit so many steps: its own, where it has one that
+/// is less.
+fn budget_of(library: &Library, number: u32, steps: u128) -> u128
+    ensures { result ≡ unit_budget library.now steps number }
+{
+    match library.budget(number) {
+        Some(own) if u128::from(own) < steps => u128::from(own),
+        _ => steps,
+    }
+}
+
 /// Gives a verdict for each unit among the answers from this place on.
 fn check_from<K: Knows, G: Gate>(
     alloc: Global,
@@ -125,7 +136,8 @@ fn check_from<K: Knows, G: Gate>(
     for i in place..answers.len() {
         let number = answers[i].number;
         gate.before_unit(number);
-        let verdict = check_unit(alloc, library, engine, number, steps);
+        let budget = budget_of(library, number, steps);
+        let verdict = check_unit(alloc, library, engine, number, budget);
         gate.after_unit(number, says_yes(verdict));
         answers[i].verdict = verdict;
     }

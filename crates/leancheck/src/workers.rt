@@ -8,7 +8,7 @@ ghost use Rattle.lk_desk.specs.Job.{Job, job_of, units_of};
 ghost use Rattle.lk_desk.specs.Rule.{HasEach};
 ghost use Rattle.lk_desk.specs.Seats.{view, job, IsNew, Sits};
 ghost use Rattle.lk_text.specs.Held.{verdict};
-ghost use Rattle.leancheck.specs.Drawn.{AreRight, numbers};
+ghost use Rattle.leancheck.specs.Drawn.{AreRight, numbers, unit_budget};
 ghost use Rattle.leancheck.specs.Workers.{IsDone, IsIdle, IsWorkerSeat, IsWhole};
 
 use crate::order::{UnitVerdict, blank, fill};
@@ -202,17 +202,18 @@ pub(crate) fn check_with<R: Threads + Sync, G: Gate>(
 }
 
 /// The verdicts of the units, in their order, by so many workers; the questions of each unit may
-/// take so many steps, and each worker keeps at most so many answers. A unit that no worker drew
-/// says memory.
+/// take so many steps, or fewer by its own budget, and each worker keeps at most so many answers. A
+/// unit that no worker drew says memory. Which axioms are allowed is not asked here.
 pub(crate) fn check_all<R: Threads + Sync, G: Gate>(
     rt: &R,
     alloc: Global,
     library: &Library,
-    options: Options,
+    options: Options<'_>,
     gate: &G,
 ) -> Result<Vec<Verdict>, NoMemory>
     ensures { IfOk result (λ v. IsClearLibrary (library_of library.now)
-        → AreVerdicts (library_of library.now) options.steps (map verdict v.items)) }
+        → AreVerdicts (library_of library.now) (unit_budget library.now options.entry.steps)
+        (map verdict v.items)) }
 {
     gate.begins(library.units().len() as u64);
     let settings = Settings {

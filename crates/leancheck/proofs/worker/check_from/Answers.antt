@@ -2,7 +2,7 @@ use Rattle.std.proofs.Common.{◌≡◌, ◌<◌, length, ap, sym, subst, ◌∙
 use Rattle.std.proofs.lemmas.List.{get_or_default}
 use Rattle.std.proofs.lemmas.List.Elements.{All-set}
 use Rattle.leancheck.specs.declared.order.UnitVerdict.{UnitVerdict}
-use Rattle.leancheck.specs.Drawn.{IsRight, IsRightOne}
+use Rattle.leancheck.specs.Drawn.{IsPlainUnder, IsRight, IsRightOne}
 use Rattle.leancheck.proofs.Working.{numbers_set}
 use Rattle.leancheck.proofs.worker.check_from.Goals as goal
 
@@ -18,7 +18,7 @@ loop-i-preserved g c =
     let Right = IsRight c.args.library.now c.args.steps in
     let right : Right old.number c.check_unit-verdict.result =
     subst (λ (a : UnitVerdict). Right a.number c.check_unit-verdict.result) same
-    c.check_unit-verdict.ensures.right in
+    (subst (λ b. IsPlainUnder c.args.library.now b c.index.result.now.number c.check_unit-verdict.result) c.budget_of-budget.ensures c.check_unit-verdict.ensures.right) in
     let below = subst (λ (a : UnitVerdict). a.number < length c.args.library.now.units)
     (sym c.index_mut.ensures.value) (i.right at old lt).0 in
     let one : UnitVerdict = record { number = old.number; verdict = c.check_unit-verdict.result } in
