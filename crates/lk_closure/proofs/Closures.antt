@@ -13,7 +13,7 @@ use Rattle.lk_inductive.specs.Restore.{first_name, rec_numbered}
 use Rattle.lk_reach.specs.Reach.{TreesMention}
 use Rattle.lk_closure.proofs.Names.{Over, HasBuiltins}
 use Rattle.lk_closure.proofs.Over.{TreesOver, NamesOver, RulesFor, RecsFor, UnitFor, TypesGive, MayGive, UnitOver, IsClosureOver}
-use Rattle.lk_closure.specs.Closure.{Bears, HasRuleFor, HaveRuleFor, IsRecOf, BlockUses, Uses, IsIn, builtins, IsClosure}
+use Rattle.lk_uses.specs.Closure.{Bears, HasRuleFor, HaveRuleFor, IsRecOf, BlockUses, Uses, IsIn, builtins, IsClosure}
 
 -- a kept unit that uses the name
 pub record IsUsed (us : Library) (keep : ℕ → Bool) (c : Name) : Type 0 where

@@ -5,7 +5,7 @@ use Rattle.lk_tree.specs.Tree.{Name}
 use Rattle.lk_rulebook.specs.Place.{Entry}
 use Rattle.lk_rulebook.specs.Units.{LibraryUnit, Library, members_of, Found, given_by, first_of_two, at_unit, flaw_of, first_giving}
 use Rattle.lk_closure.proofs.Over.{IsClosureOver, SameFound, IsSeenAlike}
-use Rattle.lk_closure.specs.Closure.{kept, renumbered}
+use Rattle.lk_uses.specs.Closure.{kept, renumbered}
 
 pub kept_gives : (i j : ℕ) (keep : ℕ → Bool) (us : Library) (c : Name) → ((f : Found) → first_giving i us c ≡ Some f → keep f.unit ≡ true) →
     SameFound (first_giving i us c) (first_giving j (kept i keep us) c)

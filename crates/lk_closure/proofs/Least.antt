@@ -10,7 +10,7 @@ use Rattle.lk_verdict.specs.Verdict.{plain_verdict}
 use Rattle.lk_reach.specs.Reach.{Mentions, Reaches, itself, through}
 use Rattle.lk_reach.specs.Axioms.{IsAxiomUnit, IsAxiomOf}
 use Rattle.lk_reach.proofs.Found.{IsFrom, found_from, taken, taken_below, still_taken, found_below}
-use Rattle.lk_closure.specs.Closure.{IsClosure, IsInClosure, own_unit, of_builtin, of_used, KeepsClosure, IsUnchanged}
+use Rattle.lk_uses.specs.Closure.{IsClosure, IsInClosure, own_unit, of_builtin, of_used, KeepsClosure, IsUnchanged}
 use Rattle.lk_closure.proofs.Units.{unit_moved}
 use Rattle.lk_closure.proofs.Axioms.{kept_same}
 use Rattle.lk_plain.proofs.Places.{prefix_gives}

@@ -11,8 +11,8 @@ use Rattle.lk_reach.specs.Axioms.{IsAxiomOf}
 use Rattle.lk_questions.specs.Table.{steps}
 use Rattle.lk_verdict.specs.GoodUnit.{IsClearLibrary}
 use Rattle.lk_verdict.specs.Verdict.{plain_verdict}
-use Rattle.lk_closure.specs.Closure.{IsClosure, KeepsClosure, kept, renumbered}
-use Rattle.lk_closure.specs.Listed.{IsClosureList, is_listed, units_at}
+use Rattle.lk_uses.specs.Closure.{IsClosure, KeepsClosure, kept, renumbered}
+use Rattle.lk_uses.specs.Listed.{IsClosureList, is_listed, units_at}
 use Rattle.lk_closure.proofs.Axioms.{axioms_kept, axioms_back, unit_stands}
 use Rattle.lk_closure.proofs.Least.{least_closed, closure_earlier}
 use Rattle.lk_closure.proofs.Units.{each_kept, closed_below}

@@ -15,7 +15,7 @@ use Rattle.lk_verdict.specs.GoodUnit.{NamesClear, IsClearLibrary}
 use Rattle.lk_verdict.specs.Verdict.{questions_of, plain_verdict}
 use Rattle.lk_closure.proofs.Names.{IsClosed, HasBuiltins}
 use Rattle.lk_closure.proofs.Over.{UnitOver, IsClosureOver, IsSeenAlike}
-use Rattle.lk_closure.specs.Closure.{IsClosure, kept, renumbered}
+use Rattle.lk_uses.specs.Closure.{IsClosure, kept, renumbered}
 use Rattle.lk_closure.proofs.Pieces.{Any}
 use Rattle.lk_closure.proofs.Entries.{MembersOver, first_test, closure_is_closed}
 use Rattle.lk_closure.proofs.Kept.{kept_stands, kept_alike}

@@ -17,7 +17,7 @@ use Rattle.lk_inductive.proofs.Worked.{nat_block}
 use Rattle.lk_plain.specs.Answer.{answer_to_depth}
 use Rattle.lk_questions.specs.Table.{steps}
 use Rattle.lk_verdict.specs.Verdict.{says_yes, says_no, plain_verdict}
-use Rattle.lk_closure.specs.Closure.{kept, renumbered, IsInClosure, own_unit, of_builtin, of_used, KeepsClosure}
+use Rattle.lk_uses.specs.Closure.{kept, renumbered, IsInClosure, own_unit, of_builtin, of_used, KeepsClosure}
 use Rattle.lk_closure.proofs.Least.{closure_earlier}
 use native.Mathlib.Decide.{ℕ_discrete}
 

@@ -3,9 +3,9 @@
 #![tactic(auto)]
 
 ghost use Rattle.std.specs.Prelude.{◌≡◌, ◌<◌, ◌≤◌, ℕ, Bool, true, List, length, Some, slice_get};
-ghost use Rattle.lk_closure.specs.Closure.{IsClosure, IsInClosure, KeepsClosure, IsUnchanged, kept};
-ghost use Rattle.lk_closure.specs.Closure.{renumbered};
-ghost use Rattle.lk_closure.specs.Listed.{IsClosureList, is_listed, units_at};
+ghost use Rattle.lk_uses.specs.Closure.{IsClosure, IsInClosure, KeepsClosure, IsUnchanged, kept};
+ghost use Rattle.lk_uses.specs.Closure.{renumbered};
+ghost use Rattle.lk_uses.specs.Listed.{IsClosureList, is_listed, units_at};
 ghost use Rattle.lk_reach.specs.Axioms.{IsAxiomOf};
 ghost use Rattle.lk_rulebook.specs.Units.{Decl, of_decl, Library};
 ghost use Rattle.lk_questions.specs.Table.{steps};

@@ -2,7 +2,7 @@
 use Rattle.std.specs.Prelude.{ℕ, ◌||◌, nat_eq, Bool, false, List, [], ◌∷◌, slice_get, Some, None}
 use Rattle.lk_rulebook.specs.Units.{Library}
 use Rattle.lk_reach.specs.Axioms.{IsListOf}
-use Rattle.lk_closure.specs.Closure.{IsInClosure}
+use Rattle.lk_uses.specs.Closure.{IsInClosure}
 
 -- the closure of unit n, in the order of the units
 abbrev pub IsClosureList : Library → ℕ → List ℕ → Type 0
