@@ -1,0 +1,11 @@
+pub mod Lists
+pub mod Marked
+pub mod Digits
+pub mod Following
+pub mod Spelled
+pub mod Nodes
+pub mod Units
+pub mod Opened
+pub mod Stored
+pub mod Searching
+pub mod Listed

@@ -1,0 +1,15 @@
+//! The closure of a unit: the numbers of the units on which its verdict rests. They are found by a
+//! search over units, names and trees: each leads to others, is marked as it is found, and is looked
+//! through once.
+#![tactic(auto)]
+
+mod builtins;
+pub mod closing;
+mod endings;
+mod followers;
+mod listing;
+mod needs;
+mod opening;
+mod thing;
+
+pub use closing::closure;
