@@ -1,0 +1,18 @@
+use Rattle.std.proofs.Common.{◌≡◌, length, map}
+use Rattle.std.specs.Prelude.{All}
+use Rattle.lk_env.specs.Units.{type_at, IsTypeIn}
+use Rattle.lk_trim.specs.Units.{write_all_ctors}
+use Rattle.lk_trim.specs.Stored.{file_at, AreNumbersIn}
+use Rattle.lk_trim.proofs.blocks.write_all_constructors.Given as goal
+
+abbrev pub invariant-loop-t : goal.invariant-loop-t
+invariant-loop-t g l =
+    let c = g.T.Terms.contents l.store in
+    record {
+      numbers : AreNumbersIn c l.writer.numbers;
+      known : All (IsTypeIn c) l.rest;
+      leads : write_all_ctors (map (type_at c) l.rest) (file_at c l.writer) ≡ write_all_ctors (map (type_at c) l.types) (file_at c l.fn.writer);
+    }
+
+abbrev pub decreases-loop-t : goal.decreases-loop-t
+decreases-loop-t g l = length l.rest

@@ -1,0 +1,9 @@
+use Rattle.std.proofs.Common.{refl}
+use Rattle.lk_trim.proofs.Lines.{name_line}
+use Rattle.lk_trim.proofs.names.add_line.Goals as goal
+
+pub returns : goal.returns
+returns g c =
+    name_line (g.T.Terms.contents c.args.store.now) c.args.writer.now _ c.requires.numbers c.add_number.new.out.items c.add_node.new.out.items c.in_ok-push.ensures.items refl
+    c.args.name c.requires.name_in c.name-node.result c.name-node.ensures.name c.len_from_one.result c.len_from_one.ensures c.in_ok-add_number.ensures c.in_ok-add_node.ensures
+    c.in_ok-note.ensures refl refl

@@ -1,0 +1,9 @@
+pub mod Written
+pub mod Numbering
+pub mod Names
+pub mod Levels
+pub mod Trees
+pub mod Units
+pub mod Whole
+pub mod Stored
+pub mod Walks

@@ -1,0 +1,20 @@
+//! What is written so far.
+
+use crate::numbering::Numbering;
+
+/// The names, levels and trees that have a line, by their numbers in a store, and how many rules
+/// have one.
+#[derive(Drop)]
+pub struct Numbers {
+    pub(crate) names: Numbering,
+    pub(crate) levels: Numbering,
+    pub(crate) trees: Numbering,
+    pub(crate) rules: u64,
+}
+
+/// The text, and what has a line in it.
+#[derive(Drop)]
+pub struct Writer {
+    pub(crate) out: Vec<u8>,
+    pub(crate) numbers: Numbers,
+}
