@@ -4,7 +4,7 @@ use Rattle.std.specs.Prelude.{IfSome}
 use Rattle.lk_tree.specs.Tree.{Name}
 use Rattle.lk_tree.specs.declared.rule.Rule.{Rule}
 use Rattle.lk_rulebook.specs.Place.{Place, Entry, BlockType}
-use Rattle.lk_plain.specs.Program.{Program, done, refuse, ask, look}
+use Rattle.lk_questions.specs.Program.{Program, done, refuse, ask, look}
 use Rattle.lk_ask.specs.declared.stop.Stop.{Stop}
 use Rattle.lk_inductive.specs.Block.{levels_of}
 use Rattle.lk_inductive.specs.Nested.{Aux, Setting, Larger as PlainLarger, larger_block, own_ctors, own_types, aux_types, enlarge}

@@ -3,7 +3,7 @@ use Rattle.std.proofs.Common.{◌≡◌, ℕ, true, List, [], map, refl, sym, su
 use Rattle.lk_rulebook.specs.Place.{Block}
 use Rattle.lk_tree.specs.Decide.{list_discrete}
 use Rattle.lk_tree.specs.Tree.{name_discrete, tree_discrete}
-use Rattle.lk_plain.specs.Program.{Program, done, refuse, ask, look}
+use Rattle.lk_questions.specs.Program.{Program, done, refuse, ask, look}
 use Rattle.lk_questions.specs.Steps.{decided}
 use Rattle.lk_store.specs.Contents.{Contents, tree_at, Extends}
 use Rattle.lk_env.specs.declared.unit.BlockType.{BlockType}

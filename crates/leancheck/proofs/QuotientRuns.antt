@@ -2,7 +2,7 @@
 use Rattle.std.proofs.Common.{◌≡◌, List, ap, ◌∙◌}
 use Rattle.lk_tree.specs.Tree.{Name, Tree}
 use Rattle.lk_rulebook.specs.Units.{Decl, as_quot}
-use Rattle.lk_plain.specs.Program.{Program, ◌>>=◌}
+use Rattle.lk_questions.specs.Program.{Program, ◌>>=◌}
 use Rattle.lk_questions.specs.QuotientUnits.{quot_steps}
 use Rattle.lk_questions.specs.Declarations.{Yes, body_steps, unit_steps}
 use Rattle.lk_declaration.specs.Asked.{axiom_steps}

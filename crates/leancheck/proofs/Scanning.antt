@@ -4,8 +4,8 @@ use Rattle.std.specs.Prelude.{slice_get, if◌then◌else◌}
 use Rattle.lk_tree.specs.declared.rule.Rule.{Rule}
 use Rattle.lk_tree.specs.declared.rule.Rule.TheVariants.{DuplicateName}
 use Rattle.lk_rulebook.specs.Units.{LibraryUnit, of_decl, of_block, Library, members_of, place_of}
-use Rattle.lk_plain.specs.Answer.{Outcome, answered, refused, spent}
-use Rattle.lk_plain.specs.Erased.{Out, finished, stopped, used_up}
+use Rattle.lk_questions.specs.Answer.{Outcome, answered, refused, spent}
+use Rattle.lk_questions.specs.Erased.{Out, finished, stopped, used_up}
 use Rattle.lk_env.specs.Places.{partial_beside}
 use Rattle.lk_inductive.specs.NestedTask.{plain_whole}
 use Rattle.lk_block.specs.Agreeing.{Agrees}

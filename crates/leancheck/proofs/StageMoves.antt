@@ -4,7 +4,7 @@ use Rattle.std.proofs.lemmas.List.Elements.{All-weaker}
 use Rattle.lk_tree.specs.Tree.{Tree, param, const}
 use Rattle.lk_tree.specs.Spine.{apply}
 use Rattle.lk_rulebook.specs.Place.{Block, BlockRecursor}
-use Rattle.lk_plain.specs.Program.{Table}
+use Rattle.lk_questions.specs.Program.{Table}
 use Rattle.lk_ask.specs.declared.stop.Stop.{Stop}
 use Rattle.lk_store.specs.Contents.{Contents, name_at, Extends}
 use Rattle.lk_env.proofs.Stays.{types_stay}

@@ -1,8 +1,8 @@
 -- Stages of the check of a block, told by who answers at the time.
 use Rattle.std.proofs.Common.{◌≡◌, ℕ, Bool, true, false, List, None, Ok, Err, Result, refl, ap, subst}
 use Rattle.lk_rulebook.specs.Place.{BlockType}
-use Rattle.lk_plain.specs.Program.{Program, Table, done}
-use Rattle.lk_plain.specs.Erased.{Out, out_of}
+use Rattle.lk_questions.specs.Program.{Program, Table, done}
+use Rattle.lk_questions.specs.Erased.{Out, out_of}
 use Rattle.lk_questions.specs.Declarations.{Yes, checked}
 use Rattle.lk_env.specs.declared.entry.Partial.{Partial}
 use Rattle.lk_ask.specs.declared.stop.Stop.{Stop}

@@ -3,10 +3,10 @@ use Rattle.std.proofs.Common.{◌≡◌, ℕ, suc, List, inl, inr, true, Ok, Err
 use Rattle.lk_tree.specs.declared.rule.Rule.{Rule}
 use Rattle.lk_rulebook.specs.Place.{Place, Block, BlockRecursor}
 use Rattle.lk_rulebook.specs.Units.{Decl}
-use Rattle.lk_plain.specs.Program.{Table}
-use Rattle.lk_plain.specs.Answer.{Outcome, answered, refused, spent, outcome_of, plain_answer}
-use Rattle.lk_plain.specs.Erased.{Out, Value, truth, finished, stopped, used_up, left_of, out_of}
-use Rattle.lk_plain.proofs.Erasing.{run_erased}
+use Rattle.lk_questions.specs.Program.{Table}
+use Rattle.lk_questions.specs.Answer.{Outcome, answered, refused, spent, outcome_of, plain_answer}
+use Rattle.lk_questions.specs.Erased.{Out, Value, truth, finished, stopped, used_up, left_of, out_of}
+use Rattle.lk_questions.proofs.Erasing.{run_erased}
 use Rattle.lk_questions.specs.Declarations.{checked, unit_steps}
 use Rattle.lk_questions.specs.Table.{steps}
 use Rattle.lk_verdict.specs.Told.{accepted, rejected, out_of_steps}

@@ -8,7 +8,7 @@ use Rattle.lk_tree.specs.LevelTest.{level_le}
 use Rattle.lk_tree.specs.Spine.{head, args}
 use Rattle.lk_tree.specs.declared.rule.Rule.TheVariants.{DuplicateName, LooseVariable, ArgumentType, ValueType, TheoremNotProp}
 use Rattle.lk_rulebook.specs.Units.{as_axiom, as_thm, LibraryUnit, of_decl, Library}
-use Rattle.lk_plain.specs.Answer.{answer_to_depth}
+use Rattle.lk_questions.specs.Answer.{answer_to_depth}
 use Rattle.lk_questions.specs.Table.{steps}
 use Rattle.lk_verdict.specs.Verdict.{says_yes, says_no, says_steps, plain_verdict}
 use native.Mathlib.Decide.{ℕ_discrete}

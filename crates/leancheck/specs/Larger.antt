@@ -2,8 +2,8 @@
 -- types, and what their names stand for.
 use Rattle.std.specs.Prelude.{◌≡◌, ℕ, List, [], ◌++◌, map}
 use Rattle.lk_rulebook.specs.Place.{Block as PlainBlock}
-use Rattle.lk_plain.specs.Program.{Table}
-use Rattle.lk_plain.specs.Erased.{Out}
+use Rattle.lk_questions.specs.Program.{Table}
+use Rattle.lk_questions.specs.Erased.{Out}
 use Rattle.lk_store.specs.Contents.{Contents, tree_at}
 use Rattle.lk_env.specs.declared.entry.Partial.TheVariants.{Members as AllMembers}
 use Rattle.lk_env.specs.declared.unit.BlockType.{BlockType}

@@ -4,8 +4,8 @@ use Rattle.lk_tree.specs.declared.rule.Rule.TheVariants.{DuplicateName}
 use Rattle.lk_rulebook.specs.Place.{Place}
 use Rattle.lk_rulebook.specs.Units.{Decl, LibraryUnit, of_decl, of_block, Library, members_of, place_of}
 use Rattle.lk_rulebook.specs.Scan.{are_new, own_scan}
-use Rattle.lk_plain.specs.Answer.{Outcome, outcome_of, plain_answer}
-use Rattle.lk_plain.specs.Erased.{Out, finished, stopped, used_up}
+use Rattle.lk_questions.specs.Answer.{Outcome, outcome_of, plain_answer}
+use Rattle.lk_questions.specs.Erased.{Out, finished, stopped, used_up}
 use Rattle.lk_questions.specs.Declarations.{unit_steps}
 use Rattle.lk_questions.specs.Table.{steps}
 use Rattle.lk_verdict.specs.Verdict.{verdict_by}

@@ -11,7 +11,7 @@ use Rattle.lk_rulebook.specs.Units.{Body, as_axiom, as_def, as_thm, as_opaque, a
 use Rattle.lk_rulebook.specs.Scan.{IsScanned, scan_of}
 use Rattle.lk_rulebook.specs.Derived.{BodyWellFormed}
 use Rattle.lk_rulebook.proofs.Scans.{scan_right, AllStated, scanned_stated}
-use Rattle.lk_plain.specs.Answer.{outcome_of, plain_answer}
+use Rattle.lk_questions.specs.Answer.{outcome_of, plain_answer}
 use Rattle.lk_questions.specs.Table.{steps}
 use Rattle.lk_questions.specs.Declarations.{unit_steps}
 use Rattle.lk_verdict.specs.Verdict.{says_yes, questions_of, verdict_of, plain_verdict}

@@ -4,10 +4,10 @@ use Rattle.std.specs.Prelude.{IsSome, IfErr, Result, Ok, Err}
 use Rattle.lk_tree.specs.Tree.{Name}
 use Rattle.lk_tree.specs.declared.rule.Rule.{Rule}
 use Rattle.lk_rulebook.specs.Place.{Place, Entry as PlainEntry}
-use Rattle.lk_plain.specs.Answer.{later}
-use Rattle.lk_plain.specs.Program.{Program, look}
-use Rattle.lk_plain.specs.Erased.{Value, refuses, looked, erased}
-use Rattle.lk_plain.specs.Settled.{fails, settle_look, settle}
+use Rattle.lk_questions.specs.Answer.{later}
+use Rattle.lk_questions.specs.Program.{Program, look}
+use Rattle.lk_questions.specs.Erased.{Value, refuses, looked, erased}
+use Rattle.lk_questions.specs.Settled.{fails, settle_look, settle}
 use Rattle.lk_store.specs.Store.{contents_of}
 use Rattle.lk_env.specs.declared.entry.Entry.{Entry}
 use Rattle.lk_env.specs.Entries.{IsMeaning, IsAnswer}

@@ -4,9 +4,9 @@ use Rattle.std.specs.Prelude.{Result, Ok, Err, IfOk}
 use Rattle.lk_tree.specs.Tree.{Tree}
 use Rattle.lk_tree.specs.declared.rule.Rule.{Rule}
 use Rattle.lk_rulebook.specs.Place.{Place}
-use Rattle.lk_plain.specs.Program.{Program, ◌>>=◌}
-use Rattle.lk_plain.specs.Erased.{Value, Steps, refuses, erased, erased_then}
-use Rattle.lk_plain.proofs.Settling as settling
+use Rattle.lk_questions.specs.Program.{Program, ◌>>=◌}
+use Rattle.lk_questions.specs.Erased.{Value, Steps, refuses, erased, erased_then}
+use Rattle.lk_questions.proofs.Settling as settling
 use Rattle.lk_store.specs.declared.memory.NoMemory.{NoMemory}
 use Rattle.lk_store.specs.Contents.{Contents, tree_at}
 use Rattle.lk_store.proofs.Extending.{Extends-trans}

@@ -3,7 +3,7 @@ use Rattle.std.specs.Prelude.{◌≡◌, ℕ, IfOk, Result}
 use Rattle.lk_tree.specs.Tree.{Tree}
 use Rattle.lk_rulebook.specs.Place.{Place}
 use Rattle.lk_rulebook.specs.Units.{Members}
-use Rattle.lk_plain.specs.Program.{Table}
+use Rattle.lk_questions.specs.Program.{Table}
 use Rattle.lk_store.specs.declared.memory.NoMemory.{NoMemory}
 use Rattle.lk_store.specs.Contents.{Contents, Extends, IsTree}
 use Rattle.lk_env.specs.declared.entry.Partial.{Partial}

@@ -6,7 +6,7 @@ use Rattle.lk_tree.specs.Spine.{apply}
 use Rattle.lk_tree.specs.declared.rule.Rule.{Rule}
 use Rattle.lk_tree.specs.declared.rule.Rule.TheVariants.{UnknownConstant}
 use Rattle.lk_rulebook.specs.Place.{Place, Entry as PlainEntry}
-use Rattle.lk_plain.specs.Answer.{later, refusal}
+use Rattle.lk_questions.specs.Answer.{later, refusal}
 use Rattle.lk_store.specs.Contents.{Contents, level_at, IsTree}
 use Rattle.lk_env.specs.declared.entry.Entry.{Entry}
 use Rattle.lk_env.specs.StoredLibrary.{StoredLibrary}

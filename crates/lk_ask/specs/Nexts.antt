@@ -1,7 +1,7 @@
 -- What a question does next, where what is kept of it goes on in this way.
 use Rattle.std.specs.Prelude.{ℕ, Option}
 use Rattle.lk_tree.specs.Tree.{Tree}
-use Rattle.lk_plain.specs.Erased.{Value, Steps, asks, gives, refuses}
+use Rattle.lk_questions.specs.Erased.{Value, Steps, asks, gives, refuses}
 use Rattle.lk_ask.specs.declared.next.Next.{Next}
 use Rattle.lk_ask.specs.declared.next.Next.TheVariants.{Ask, Done, No}
 use Rattle.lk_ask.specs.Questions.{query_of, value_at, IsKnownQuery, IsKnownAnswer}

@@ -1,7 +1,7 @@
 -- What whoever answers a question says.
 use Rattle.std.specs.Prelude.{◌≡◌, ℕ, Option, Ok, Err, Result}
 use Rattle.lk_store.specs.Contents.{Contents, tree_at}
-use Rattle.lk_plain.specs.Erased.{Out, finished, stopped, used_up}
+use Rattle.lk_questions.specs.Erased.{Out, finished, stopped, used_up}
 use Rattle.lk_ask.specs.declared.query.Answer.{Answer}
 use Rattle.lk_ask.specs.declared.stop.Stop.{Stop}
 use Rattle.lk_ask.specs.declared.stop.Stop.TheVariants.{No, Spent, NoMemory}

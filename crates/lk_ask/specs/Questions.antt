@@ -1,8 +1,8 @@
 -- What questions and answers over numbers stand for.
 use Rattle.std.specs.Prelude.{ℕ, ◌<◌}
 use Rattle.lk_tree.specs.Tree.{Tree}
-use Rattle.lk_plain.specs.Query as plain
-use Rattle.lk_plain.specs.Erased.{Value, a_tree, truth}
+use Rattle.lk_questions.specs.Query as plain
+use Rattle.lk_questions.specs.Erased.{Value, a_tree, truth}
 use Rattle.lk_ask.specs.declared.query.Query.{Query}
 use Rattle.lk_ask.specs.declared.query.Query.TheVariants.{Core, Whnf, Infer, Same}
 use Rattle.lk_ask.specs.declared.query.Answer.{Answer}

@@ -1,8 +1,8 @@
 -- What a call does that runs a program which asks nothing.
 use Rattle.std.specs.Prelude.{◌≡◌, ℕ, Option, IfOk, Result, Ok, Err}
 use Rattle.lk_tree.specs.declared.rule.Rule.{Rule}
-use Rattle.lk_plain.specs.Program.{Program}
-use Rattle.lk_plain.specs.Settled.{Settled, comes, fails, settle}
+use Rattle.lk_questions.specs.Program.{Program}
+use Rattle.lk_questions.specs.Settled.{Settled, comes, fails, settle}
 use Rattle.lk_store.specs.declared.memory.NoMemory.{NoMemory}
 use Rattle.lk_store.specs.Contents.{Contents, Extends}
 use Rattle.lk_ask.specs.Looks.{Sight}

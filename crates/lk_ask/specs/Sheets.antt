@@ -1,7 +1,7 @@
 -- What waits for a term and what waits for yes or no: over other things, with known numbers, and what it goes on with.
 use Rattle.std.specs.Prelude.{ℕ, Bool, ◌<◌}
 use Rattle.lk_tree.specs.Tree.{Tree}
-use Rattle.lk_plain.specs.Erased.{Value, Steps, with_tree, with_truth}
+use Rattle.lk_questions.specs.Erased.{Value, Steps, with_tree, with_truth}
 use Rattle.lk_ask.specs.declared.sheet.Pair.{Pair}
 use Rattle.lk_ask.specs.declared.sheet.Sheet.{Sheet}
 use Rattle.lk_ask.specs.declared.sheet.Sheet.TheVariants.{Term, Truth}

@@ -2,7 +2,7 @@
 
 ghost use Rattle.std.specs.Prelude.{◌≡◌, ◌<◌, ℕ, [], length, map, All, IfOk, IfErr, OnOk};
 ghost use Rattle.lk_rulebook.specs.Place.{Place};
-ghost use Rattle.lk_plain.specs.Erased.{out_of};
+ghost use Rattle.lk_questions.specs.Erased.{out_of};
 ghost use Rattle.lk_store.specs.Contents.{name_at, tree_at, Extends};
 ghost use Rattle.lk_env.specs.declared.entry.Partial.{Partial as GivenMembers};
 ghost use Rattle.lk_ask.specs.Asking.{Standing, given};

@@ -9,7 +9,7 @@ use Rattle.lk_tree.specs.declared.rule.Rule.TheVariants.{LevelCount, BlockShape}
 use Rattle.lk_questions.specs.Steps.{given}
 use Rattle.lk_tree.specs.declared.rule.Rule.{Rule}
 use Rattle.lk_rulebook.specs.Place.{Ctor}
-use Rattle.lk_plain.specs.Program.{done, refuse, ◌>>=◌}
+use Rattle.lk_questions.specs.Program.{done, refuse, ◌>>=◌}
 use Rattle.lk_inductive.specs.Nested.{has_pis, past_pis, at_args, ctors_at}
 use Rattle.lk_auxiliary.proofs.Pasts.{bind_ext, bind_assoc, bind_done}
 

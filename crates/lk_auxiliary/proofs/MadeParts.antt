@@ -7,7 +7,7 @@ use Rattle.lk_tree.specs.Tree.{Name, Level, Tree, const, param}
 use Rattle.lk_tree.specs.Spine.{apply}
 use Rattle.lk_tree.specs.declared.rule.Rule.TheVariants.{NestedForm}
 use Rattle.lk_rulebook.specs.Place.{BlockType}
-use Rattle.lk_plain.specs.Program.{done, ◌>>=◌}
+use Rattle.lk_questions.specs.Program.{done, ◌>>=◌}
 use Rattle.lk_questions.specs.Steps.{given}
 use Rattle.lk_inductive.specs.Enlarged.{Aux, Setting as PlainSetting, aux_name}
 use Rattle.lk_inductive.specs.Nested.{other_count, aux_applied}

@@ -6,7 +6,7 @@ use Rattle.lk_tree.specs.Tree.{Name, Level, Tree}
 use Rattle.lk_tree.specs.Mentions.{same_name}
 use Rattle.lk_tree.specs.declared.rule.Rule.{Rule}
 use Rattle.lk_rulebook.specs.Place.{BlockType as PlainType}
-use Rattle.lk_plain.specs.Program.{done, refuse, ◌>>=◌}
+use Rattle.lk_questions.specs.Program.{done, refuse, ◌>>=◌}
 use Rattle.lk_env.specs.declared.unit.BlockType.{BlockType}
 use Rattle.lk_env.specs.Units.{type_at, IsTypeIn}
 use Rattle.lk_inductive.specs.Enlarged.{Aux}

@@ -3,7 +3,7 @@ use Rattle.std.proofs.Common.{◌≡◌, ℕ, List, ap, ◌∙◌}
 use Rattle.lk_tree.specs.Tree.{Name, Level, Tree}
 use Rattle.lk_tree.specs.declared.rule.Rule.{Rule}
 use Rattle.lk_rulebook.specs.Place.{BlockType}
-use Rattle.lk_plain.specs.Program.{Program, done, refuse, ◌>>=◌}
+use Rattle.lk_questions.specs.Program.{Program, done, refuse, ◌>>=◌}
 use Rattle.lk_inductive.specs.Nested.{at_args, ctors_at}
 use Rattle.lk_auxiliary.specs.Ends.{end_form}
 use Rattle.lk_auxiliary.specs.Parts.{PlainParts, parts_form, whole_parts, aux_with, aux_form}

@@ -4,7 +4,7 @@ use Rattle.std.proofs.Math.Path.{fun_ext}
 use Rattle.std.proofs.lemmas.List.{append-nil}
 use Rattle.lk_tree.specs.Tree.{Tree, var, sort, const, app, lam, pi, let_in, proj, lit, wide, str, local}
 use Rattle.lk_tree.specs.declared.rule.Rule.{Rule}
-use Rattle.lk_plain.specs.Program.{Program, done, refuse, ask, look, ◌>>=◌}
+use Rattle.lk_questions.specs.Program.{Program, done, refuse, ask, look, ◌>>=◌}
 use Rattle.lk_ask.specs.declared.stop.Stop.{Stop}
 use Rattle.lk_ask.specs.declared.stop.Stop.TheVariants.{No, Spent, NoMemory}
 use Rattle.lk_declaration.specs.Courses.{Refuses}

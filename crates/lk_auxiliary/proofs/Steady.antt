@@ -2,7 +2,7 @@
 use Rattle.std.proofs.Common.{◌≡◌, ℕ, ◌<◌, List, [], length, map, All, refl, sym, subst, ◌∙◌, IfOk, Result, arith}
 use Rattle.std.proofs.lemmas.List.Elements.{All-weaker}
 use Rattle.lk_tree.specs.Tree.{zero_level, Tree}
-use Rattle.lk_plain.specs.Program.{done}
+use Rattle.lk_questions.specs.Program.{done}
 use Rattle.lk_inductive.specs.Nested.{at_args, ctors_at}
 use Rattle.lk_env.specs.declared.unit.Constructor.{Constructor}
 use Rattle.lk_env.specs.Units.{constructor_at, IsConstructorIn}

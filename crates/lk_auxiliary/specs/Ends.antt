@@ -1,7 +1,7 @@
 -- The end of an auxiliary type.
 use Rattle.std.specs.Prelude.{ℕ, List}
 use Rattle.lk_tree.specs.Tree.{Level, Tree}
-use Rattle.lk_plain.specs.Program.{Program, done, ◌>>=◌}
+use Rattle.lk_questions.specs.Program.{Program, done, ◌>>=◌}
 use Rattle.lk_inductive.specs.BlockSteps.{as_level}
 use Rattle.lk_inductive.specs.Nested.{stated_pis}
 

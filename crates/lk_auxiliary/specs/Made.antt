@@ -3,7 +3,7 @@ use Rattle.std.specs.Prelude.{List, All, ◌++◌, ◌<◌, length, nat_le, suc,
 use Rattle.lk_tree.specs.Tree.{Name, Level, Tree}
 use Rattle.lk_tree.specs.declared.rule.Rule.TheVariants.{NestedForm}
 use Rattle.lk_rulebook.specs.Place.{BlockType}
-use Rattle.lk_plain.specs.Program.{Program, done, ◌>>=◌}
+use Rattle.lk_questions.specs.Program.{Program, done, ◌>>=◌}
 use Rattle.lk_questions.specs.Steps.{given}
 use Rattle.lk_inductive.specs.Enlarged.{Aux, Setting}
 use Rattle.lk_inductive.specs.Nested.{other_count, aux_applied}

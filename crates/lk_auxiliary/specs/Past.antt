@@ -3,7 +3,7 @@ use Rattle.std.specs.Prelude.{ℕ}
 use Rattle.lk_tree.specs.Tree.{Tree, pi, local}
 use Rattle.lk_tree.specs.Bind.{opened}
 use Rattle.lk_tree.specs.declared.rule.Rule.TheVariants.{BlockShape}
-use Rattle.lk_plain.specs.Program.{Program, done, refuse}
+use Rattle.lk_questions.specs.Program.{Program, done, refuse}
 
 -- x is put for its variable
 abbrev pub past_pi : Tree → Tree → Program Tree

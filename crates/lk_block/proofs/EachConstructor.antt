@@ -5,9 +5,9 @@ use Rattle.std.proofs.lemmas.List.{reverse-append}
 use Rattle.lk_tree.specs.Tree.{Name, Tree}
 use Rattle.lk_tree.specs.Spine.{head, args}
 use Rattle.lk_rulebook.specs.Place.{Place, BlockType, Ctor}
-use Rattle.lk_plain.specs.Query.{Query}
-use Rattle.lk_plain.specs.Program.{Program, done, ◌>>=◌}
-use Rattle.lk_plain.specs.Erased.{Out, out_of}
+use Rattle.lk_questions.specs.Query.{Query}
+use Rattle.lk_questions.specs.Program.{Program, done, ◌>>=◌}
+use Rattle.lk_questions.specs.Erased.{Out, out_of}
 use Rattle.lk_inductive.specs.Block.{Frame, Field, CtorShape, TypeShape}
 use Rattle.lk_inductive.specs.BlockSteps.{as_member, own_indices, fields_steps, ctor_steps, ctors_steps, shapes_steps}
 use Rattle.lk_tree.specs.declared.rule.Rule.TheVariants.{BlockShape}

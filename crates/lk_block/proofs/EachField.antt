@@ -6,9 +6,9 @@ use Rattle.lk_tree.specs.Level.{is_zero_level}
 use Rattle.lk_tree.specs.Bind.{opened}
 use Rattle.lk_tree.specs.declared.rule.Rule.TheVariants.{BlockShape, FieldUniverse}
 use Rattle.lk_rulebook.specs.Place.{Place}
-use Rattle.lk_plain.specs.Query.{Query, whnf}
-use Rattle.lk_plain.specs.Program.{Program, done, ◌>>=◌}
-use Rattle.lk_plain.specs.Erased.{Out, out_of}
+use Rattle.lk_questions.specs.Query.{Query, whnf}
+use Rattle.lk_questions.specs.Program.{Program, done, ◌>>=◌}
+use Rattle.lk_questions.specs.Erased.{Out, out_of}
 use Rattle.lk_questions.specs.Steps.{given, as_pi}
 use Rattle.lk_inductive.specs.Block.{Frame, FieldKind, Field}
 use Rattle.lk_inductive.specs.BlockSteps.{fits, fits_in, walk, fields_steps}

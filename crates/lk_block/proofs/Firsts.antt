@@ -8,9 +8,9 @@ use Rattle.lk_tree.specs.Tree.{Tree, Level}
 use Rattle.lk_tree.specs.LevelTest.{level_test}
 use Rattle.lk_tree.specs.declared.rule.Rule.TheVariants.{BlockShape}
 use Rattle.lk_rulebook.specs.Place.{Place, BlockType}
-use Rattle.lk_plain.specs.Query.{Query}
-use Rattle.lk_plain.specs.Program.{Program, done, ◌>>=◌}
-use Rattle.lk_plain.specs.Erased.{Out, out_of}
+use Rattle.lk_questions.specs.Query.{Query}
+use Rattle.lk_questions.specs.Program.{Program, done, ◌>>=◌}
+use Rattle.lk_questions.specs.Erased.{Out, out_of}
 use Rattle.lk_questions.specs.Steps.{given, sort_of}
 use Rattle.lk_questions.specs.Levels.{tested}
 use Rattle.lk_inductive.specs.BlockSteps.{TypeParts as PlainParts, telescope, type_end, next_type, next_types, types_steps}

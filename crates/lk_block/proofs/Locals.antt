@@ -6,9 +6,9 @@ use Rattle.lk_tree.specs.Bind.{opened}
 use Rattle.lk_tree.specs.declared.rule.Rule.{Rule}
 use Rattle.lk_tree.specs.declared.rule.Rule.TheVariants.{BlockShape}
 use Rattle.lk_rulebook.specs.Place.{Place, Entry, BlockType}
-use Rattle.lk_plain.specs.Query.{Query, AnswerTo, core, whnf, infer, same}
-use Rattle.lk_plain.specs.Program.{Program, done, refuse, ask, look}
-use Rattle.lk_plain.specs.Erased.{Value, a_tree, truth, Out, finished, stopped, used_up, seen, go_on, out_of}
+use Rattle.lk_questions.specs.Query.{Query, AnswerTo, core, whnf, infer, same}
+use Rattle.lk_questions.specs.Program.{Program, done, refuse, ask, look}
+use Rattle.lk_questions.specs.Erased.{Value, a_tree, truth, Out, finished, stopped, used_up, seen, go_on, out_of}
 use Rattle.lk_questions.specs.Steps.{given, as_pi, sort_of}
 use Rattle.lk_questions.specs.Levels.{tested}
 use Rattle.lk_inductive.specs.Block.{a_local, AreLocals}

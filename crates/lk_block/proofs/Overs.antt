@@ -4,9 +4,9 @@ use Rattle.lk_tree.specs.Tree.{Tree}
 use Rattle.lk_tree.specs.Bind.{opened}
 use Rattle.lk_tree.specs.declared.rule.Rule.TheVariants.{BlockShape, ParameterDiffers}
 use Rattle.lk_rulebook.specs.Place.{Place}
-use Rattle.lk_plain.specs.Query.{Query, whnf, same}
-use Rattle.lk_plain.specs.Program.{Program, done, asked, ◌>>=◌}
-use Rattle.lk_plain.specs.Erased.{Out, out_of}
+use Rattle.lk_questions.specs.Query.{Query, whnf, same}
+use Rattle.lk_questions.specs.Program.{Program, done, asked, ◌>>=◌}
+use Rattle.lk_questions.specs.Erased.{Out, out_of}
 use Rattle.lk_questions.specs.Steps.{as_pi, given}
 use Rattle.lk_inductive.specs.Block.{domain}
 use Rattle.lk_inductive.specs.BlockSteps.{over}

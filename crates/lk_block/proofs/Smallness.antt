@@ -4,8 +4,8 @@ use Rattle.std.specs.Prelude.{if◌then◌else◌}
 use Rattle.std.proofs.lemmas.List.Elements.{All-head, All-tail}
 use Rattle.lk_tree.specs.Tree.{Tree, Level}
 use Rattle.lk_tree.specs.Level.{is_zero_level}
-use Rattle.lk_plain.specs.Program.{done, ◌>>=◌}
-use Rattle.lk_plain.specs.Erased.{Out}
+use Rattle.lk_questions.specs.Program.{done, ◌>>=◌}
+use Rattle.lk_questions.specs.Erased.{Out}
 use Rattle.lk_questions.specs.Steps.{sort_of}
 use Rattle.lk_inductive.specs.Block as plain
 use Rattle.lk_inductive.specs.Block.{domain}

@@ -3,8 +3,8 @@ use Rattle.std.proofs.Common.{◌≡◌, ℕ, List, [], ◌∷◌, map, All, ref
 use Rattle.std.proofs.lemmas.List.Elements.{All-head, All-tail}
 use Rattle.lk_tree.specs.Tree.{Tree, Level}
 use Rattle.lk_rulebook.specs.Place.{BlockType, Ctor}
-use Rattle.lk_plain.specs.Program.{Program, done, ◌>>=◌}
-use Rattle.lk_plain.specs.Erased.{Out}
+use Rattle.lk_questions.specs.Program.{Program, done, ◌>>=◌}
+use Rattle.lk_questions.specs.Erased.{Out}
 use Rattle.lk_questions.specs.Declarations.{Yes, checked}
 use Rattle.lk_questions.specs.Steps.{sort_of}
 use Rattle.lk_inductive.specs.BlockSteps.{ctor_sorts, all_ctor_sorts}

@@ -4,10 +4,10 @@ use Rattle.std.proofs.lemmas.List.{append-nil}
 use Rattle.lk_tree.specs.declared.rule.Rule.{Rule}
 use Rattle.lk_rulebook.specs.Place.{Place, Entry, Block, BlockRecursor}
 use Rattle.lk_rulebook.specs.Units.{Members, Library, of_block, place_of, partial_types, partial_members}
-use Rattle.lk_plain.specs.Query.{Query, AnswerTo, core, whnf, infer, same}
-use Rattle.lk_plain.specs.Program.{Program, Table, done, refuse, ask, look}
-use Rattle.lk_plain.specs.Answer.{Outcome, answered, refused, spent, after, and_then, looked_up, plain_answer}
-use Rattle.lk_plain.specs.Erased.{truth, value_of, Out, finished, stopped, used_up, seen, go_on, left_of, out_of}
+use Rattle.lk_questions.specs.Query.{Query, AnswerTo, core, whnf, infer, same}
+use Rattle.lk_questions.specs.Program.{Program, Table, done, refuse, ask, look}
+use Rattle.lk_questions.specs.Answer.{Outcome, answered, refused, spent, after, and_then, looked_up, plain_answer}
+use Rattle.lk_questions.specs.Erased.{truth, value_of, Out, finished, stopped, used_up, seen, go_on, left_of, out_of}
 use Rattle.lk_env.specs.Places.{partial_beside}
 use Rattle.lk_inductive.specs.Block.{parameters_of, Shape}
 use Rattle.lk_inductive.specs.BlockSteps.{TypeParts, counts_steps, types_steps, all_ctor_sorts, shape_steps}

@@ -5,9 +5,9 @@ use Rattle.lk_tree.specs.Tree.{Tree, local}
 use Rattle.lk_tree.specs.Bind.{opened}
 use Rattle.lk_tree.specs.declared.rule.Rule.TheVariants.{BlockShape}
 use Rattle.lk_rulebook.specs.Place.{Place}
-use Rattle.lk_plain.specs.Query.{Query, whnf}
-use Rattle.lk_plain.specs.Program.{Program, done, ◌>>=◌}
-use Rattle.lk_plain.specs.Erased.{Out, out_of}
+use Rattle.lk_questions.specs.Query.{Query, whnf}
+use Rattle.lk_questions.specs.Program.{Program, done, ◌>>=◌}
+use Rattle.lk_questions.specs.Erased.{Out, out_of}
 use Rattle.lk_questions.specs.Steps.{as_pi}
 use Rattle.lk_inductive.specs.BlockSteps.{telescope}
 use Rattle.lk_ask.specs.declared.stop.Stop.{Stop}

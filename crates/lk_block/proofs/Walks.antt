@@ -7,10 +7,10 @@ use Rattle.lk_tree.specs.Spine.{head, args}
 use Rattle.lk_tree.specs.Mentions.{mentions}
 use Rattle.lk_tree.specs.declared.rule.Rule.TheVariants.{NotPositive}
 use Rattle.lk_rulebook.specs.Place.{Place}
-use Rattle.lk_plain.specs.Query.{Query, whnf}
-use Rattle.lk_plain.specs.Program.{Program, done, refuse, asked, ◌>>=◌}
-use Rattle.lk_plain.specs.Answer.{Outcome, answered, refused, spent, IfAnswered, later, plain_answer}
-use Rattle.lk_plain.specs.Erased.{a_tree, Out, finished, stopped, used_up, go_on, left_of, out_of}
+use Rattle.lk_questions.specs.Query.{Query, whnf}
+use Rattle.lk_questions.specs.Program.{Program, done, refuse, asked, ◌>>=◌}
+use Rattle.lk_questions.specs.Answer.{Outcome, answered, refused, spent, IfAnswered, later, plain_answer}
+use Rattle.lk_questions.specs.Erased.{a_tree, Out, finished, stopped, used_up, go_on, left_of, out_of}
 use Rattle.lk_inductive.specs.Block.{Frame, FieldKind, plain, recursive, under}
 use Rattle.lk_inductive.specs.BlockSteps.{as_member, last_kind, walk_on, walk}
 use Rattle.lk_inductive.proofs.Fuel.{plain_costs}

@@ -2,9 +2,9 @@
 use Rattle.std.specs.Prelude.{ℕ, ◌≡◌, suc, List}
 use Rattle.lk_rulebook.specs.Place.{Block, BlockRecursor}
 use Rattle.lk_rulebook.specs.Units.{Library, of_block, place_of}
-use Rattle.lk_plain.specs.Answer.{Outcome, answered, refused, spent}
-use Rattle.lk_plain.specs.Erased.{Out, finished, stopped, used_up}
-use Rattle.lk_plain.specs.Program.{Table}
+use Rattle.lk_questions.specs.Answer.{Outcome, answered, refused, spent}
+use Rattle.lk_questions.specs.Erased.{Out, finished, stopped, used_up}
+use Rattle.lk_questions.specs.Program.{Table}
 use Rattle.lk_env.specs.Places.{partial_beside}
 use Rattle.lk_inductive.specs.NestedTask.{plain_whole}
 use Rattle.lk_block.specs.Stages.{block_stages}

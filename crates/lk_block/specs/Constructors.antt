@@ -3,8 +3,8 @@ use Rattle.std.specs.Prelude.{ℕ, List, ◌++◌, length}
 use Rattle.lk_tree.specs.Tree.{Name, Tree}
 use Rattle.lk_tree.specs.Spine.{head, args}
 use Rattle.lk_rulebook.specs.Place.{BlockType, Ctor}
-use Rattle.lk_plain.specs.Query.{whnf}
-use Rattle.lk_plain.specs.Program.{Program, done, asked, ◌>>=◌}
+use Rattle.lk_questions.specs.Query.{whnf}
+use Rattle.lk_questions.specs.Program.{Program, done, asked, ◌>>=◌}
 use Rattle.lk_inductive.specs.Block.{Frame, CtorShape, TypeShape}
 use Rattle.lk_inductive.specs.BlockSteps.{over, as_member, own_indices, fields_steps, ctors_steps, shapes_steps}
 

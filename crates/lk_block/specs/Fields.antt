@@ -3,7 +3,7 @@ use Rattle.std.specs.Prelude.{ℕ, suc}
 use Rattle.lk_tree.specs.Tree.{Tree, local}
 use Rattle.lk_tree.specs.Bind.{opened}
 use Rattle.lk_tree.specs.declared.rule.Rule.TheVariants.{FieldUniverse}
-use Rattle.lk_plain.specs.Program.{Program, done, ◌>>=◌}
+use Rattle.lk_questions.specs.Program.{Program, done, ◌>>=◌}
 use Rattle.lk_questions.specs.Steps.{given}
 use Rattle.lk_inductive.specs.Block.{Frame, FieldKind, Field}
 use Rattle.lk_inductive.specs.BlockSteps.{fits_in, walk}

@@ -4,8 +4,8 @@ use Rattle.lk_tree.specs.Tree.{Level, Tree, local}
 use Rattle.lk_tree.specs.Bind.{opened}
 use Rattle.lk_tree.specs.LevelTest.{level_test}
 use Rattle.lk_tree.specs.declared.rule.Rule.TheVariants.{BlockShape, ParameterDiffers}
-use Rattle.lk_plain.specs.Query.{whnf, same}
-use Rattle.lk_plain.specs.Program.{Program, done, asked, ◌>>=◌}
+use Rattle.lk_questions.specs.Query.{whnf, same}
+use Rattle.lk_questions.specs.Program.{Program, done, asked, ◌>>=◌}
 use Rattle.lk_questions.specs.Steps.{given, as_pi, sort_of}
 use Rattle.lk_questions.specs.Levels.{tested}
 use Rattle.lk_inductive.specs.Block.{domain}

@@ -5,8 +5,8 @@ use Rattle.lk_tree.specs.Bind.{opened}
 use Rattle.lk_tree.specs.Spine.{head, args}
 use Rattle.lk_tree.specs.Mentions.{mentions}
 use Rattle.lk_tree.specs.declared.rule.Rule.TheVariants.{NotPositive}
-use Rattle.lk_plain.specs.Query.{whnf}
-use Rattle.lk_plain.specs.Program.{Program, done, refuse, asked, ◌>>=◌}
+use Rattle.lk_questions.specs.Query.{whnf}
+use Rattle.lk_questions.specs.Program.{Program, done, refuse, asked, ◌>>=◌}
 use Rattle.lk_store.specs.Contents.{Contents, tree_at}
 use Rattle.lk_inductive.specs.Block.{Frame, FieldKind, plain, recursive, under}
 use Rattle.lk_inductive.specs.BlockSteps.{as_member}

@@ -3,7 +3,7 @@ use Rattle.std.specs.Prelude.{List, Bool, ◌||◌}
 use Rattle.lk_tree.specs.Tree.{Level, Tree, zero_level, succ_level}
 use Rattle.lk_tree.specs.Level.{is_zero_level}
 use Rattle.lk_tree.specs.LevelTest.{level_le_test}
-use Rattle.lk_plain.specs.Program.{Program, done, ◌>>=◌}
+use Rattle.lk_questions.specs.Program.{Program, done, ◌>>=◌}
 use Rattle.lk_questions.specs.Steps.{sort_of}
 use Rattle.lk_questions.specs.Levels.{tested}
 use Rattle.lk_inductive.specs.Block.{domain}

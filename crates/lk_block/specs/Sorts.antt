@@ -1,7 +1,7 @@
 -- Sorts that are asked for, whatever their levels are.
 use Rattle.std.specs.Prelude.{List}
 use Rattle.lk_rulebook.specs.Place.{BlockType, Ctor}
-use Rattle.lk_plain.specs.Program.{Program, done, ◌>>=◌}
+use Rattle.lk_questions.specs.Program.{Program, done, ◌>>=◌}
 use Rattle.lk_questions.specs.Declarations.{Yes, checked}
 use Rattle.lk_inductive.specs.BlockSteps.{ctor_sorts, all_ctor_sorts}
 

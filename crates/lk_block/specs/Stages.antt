@@ -3,8 +3,8 @@
 use Rattle.std.specs.Prelude.{ℕ, true, List, [], ◌++◌, None}
 use Rattle.lk_rulebook.specs.Place.{Place, Block, BlockRecursor}
 use Rattle.lk_rulebook.specs.Units.{Members}
-use Rattle.lk_plain.specs.Program.{Program, Table}
-use Rattle.lk_plain.specs.Erased.{truth, Out, finished, out_of}
+use Rattle.lk_questions.specs.Program.{Program, Table}
+use Rattle.lk_questions.specs.Erased.{truth, Out, finished, out_of}
 use Rattle.lk_env.specs.declared.entry.Partial.{Partial}
 use Rattle.lk_env.specs.declared.entry.Partial.TheVariants.{Nothing, Types, Members as AllMembers}
 use Rattle.lk_inductive.specs.Block.{parameters_of, Shape}

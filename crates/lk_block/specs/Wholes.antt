@@ -2,7 +2,7 @@
 use Rattle.std.specs.Prelude.{ℕ, Bool, List}
 use Rattle.lk_tree.specs.Tree.{Level, Tree}
 use Rattle.lk_rulebook.specs.Place.{Block, BlockType}
-use Rattle.lk_plain.specs.Program.{Program, done, ◌>>=◌}
+use Rattle.lk_questions.specs.Program.{Program, done, ◌>>=◌}
 use Rattle.lk_inductive.specs.Block.{levels_of, frame_of, TypeShape, Shape}
 use Rattle.lk_inductive.specs.BlockSteps.{shapes_steps, large_steps}
 

@@ -2,10 +2,10 @@
 use Rattle.std.proofs.Common.{ℕ, zero, suc, None, ◌≡◌, refl, ap, sym, ◌∙◌}
 use Rattle.lk_tree.specs.Tree.{Tree, Level, var, sort, const, app, lam, pi, let_in, proj, lit, wide, str, local}
 use Rattle.lk_rulebook.specs.Place.{Place}
-use Rattle.lk_plain.specs.Query.{Query, AnswerTo, core, whnf, infer, same}
-use Rattle.lk_plain.specs.Program.{Program, ask, ◌>>=◌}
-use Rattle.lk_plain.specs.Erased.{Value, a_tree, truth, Steps, with_answer, erased, Out, finished, stopped, used_up, seen, go_on, run_steps, out_of}
-use Rattle.lk_plain.proofs.Erasing.{out-suc, out-zero}
+use Rattle.lk_questions.specs.Query.{Query, AnswerTo, core, whnf, infer, same}
+use Rattle.lk_questions.specs.Program.{Program, ask, ◌>>=◌}
+use Rattle.lk_questions.specs.Erased.{Value, a_tree, truth, Steps, with_answer, erased, Out, finished, stopped, used_up, seen, go_on, run_steps, out_of}
+use Rattle.lk_questions.proofs.Erasing.{out-suc, out-zero}
 use Rattle.lk_questions.specs.Infer.{infer_steps}
 use Rattle.lk_questions.specs.Steps.{as_sort}
 use Rattle.lk_questions.specs.Table.{steps}

@@ -14,11 +14,11 @@ use Rattle.lk_tree.proofs.Puttings.{put_nothing}
 use Rattle.lk_tree.proofs.Within.{apply_head_args}
 use Rattle.lk_rulebook.specs.Place.{Place}
 use Rattle.lk_rulebook.specs.Place.{Entry as PlainEntry}
-use Rattle.lk_plain.specs.Answer.{later}
-use Rattle.lk_plain.specs.Program.{done}
-use Rattle.lk_plain.specs.Query.{infer}
-use Rattle.lk_plain.specs.Erased.{a_tree, erased, finished, seen, run_steps, out_of}
-use Rattle.lk_plain.proofs.Erasing.{out-suc}
+use Rattle.lk_questions.specs.Answer.{later}
+use Rattle.lk_questions.specs.Program.{done}
+use Rattle.lk_questions.specs.Query.{infer}
+use Rattle.lk_questions.specs.Erased.{a_tree, erased, finished, seen, run_steps, out_of}
+use Rattle.lk_questions.proofs.Erasing.{out-suc}
 use Rattle.lk_questions.specs.Infer.{infer_steps}
 use Rattle.lk_questions.specs.Steps.{given, with_levels}
 use Rattle.lk_questions.specs.Table.{steps}

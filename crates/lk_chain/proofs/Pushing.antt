@@ -8,8 +8,8 @@ use Rattle.lk_tree.specs.Bind.{opened}
 use Rattle.lk_tree.specs.Loose.{loose}
 use Rattle.lk_tree.specs.Putting.{put, put_at}
 use Rattle.lk_rulebook.specs.Place.{Place}
-use Rattle.lk_plain.specs.Query.{whnf, infer, same}
-use Rattle.lk_plain.specs.Program.{done, asked}
+use Rattle.lk_questions.specs.Query.{whnf, infer, same}
+use Rattle.lk_questions.specs.Program.{done, asked}
 use Rattle.lk_tree.specs.declared.rule.Rule.TheVariants.{LetType}
 use Rattle.lk_questions.specs.Infer.{infer_steps}
 use Rattle.lk_questions.specs.Steps.{given}

@@ -7,11 +7,11 @@ use Rattle.lk_tree.specs.Loose.{loose}
 use Rattle.lk_tree.specs.Spine.{apply, head}
 use Rattle.lk_tree.specs.declared.rule.Rule.TheVariants.{NotAFunction, ArgumentType}
 use Rattle.lk_rulebook.specs.Place.{Place}
-use Rattle.lk_plain.specs.Query.{Query, AnswerTo, core, whnf, infer, same}
-use Rattle.lk_plain.specs.Program.{Program, done, ask, ◌>>=◌}
-use Rattle.lk_plain.specs.Answer.{later}
-use Rattle.lk_plain.specs.Erased.{Value, a_tree, truth, Steps, asks, with_tree, with_answer, erased, Out, finished, stopped, used_up, seen, go_on, run_steps, out_of}
-use Rattle.lk_plain.proofs.Erasing.{out-suc, out-zero, seen_seen, seen_none, seen_goes, later_none, run_from}
+use Rattle.lk_questions.specs.Query.{Query, AnswerTo, core, whnf, infer, same}
+use Rattle.lk_questions.specs.Program.{Program, done, ask, ◌>>=◌}
+use Rattle.lk_questions.specs.Answer.{later}
+use Rattle.lk_questions.specs.Erased.{Value, a_tree, truth, Steps, asks, with_tree, with_answer, erased, Out, finished, stopped, used_up, seen, go_on, run_steps, out_of}
+use Rattle.lk_questions.proofs.Erasing.{out-suc, out-zero, seen_seen, seen_none, seen_goes, later_none, run_from}
 use Rattle.lk_questions.specs.Core.{whnf_headed}
 use Rattle.lk_questions.specs.Infer.{infer_steps}
 use Rattle.lk_questions.specs.Steps.{given, as_pi}

@@ -2,8 +2,8 @@
 use Rattle.std.specs.Prelude.{◌≡◌, ◌<◌, ℕ, Option, Result, IfOk, length}
 use Rattle.lk_tree.specs.Tree.{Tree}
 use Rattle.lk_rulebook.specs.Place.{Place}
-use Rattle.lk_plain.specs.Program.{Program}
-use Rattle.lk_plain.specs.Erased.{a_tree, erased, run_steps, out_of}
+use Rattle.lk_questions.specs.Program.{Program}
+use Rattle.lk_questions.specs.Erased.{a_tree, erased, run_steps, out_of}
 use Rattle.lk_questions.specs.Infer.{infer_steps}
 use Rattle.lk_questions.specs.Table.{steps}
 use Rattle.lk_store.specs.declared.memory.NoMemory.{NoMemory}

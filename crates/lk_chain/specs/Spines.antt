@@ -3,8 +3,8 @@ use Rattle.std.specs.Prelude.{◌≡◌, ◌<◌, ℕ, suc, List, [], ◌∷◌,
 use Rattle.lk_tree.specs.Tree.{Tree, pi}
 use Rattle.lk_tree.specs.Bind.{opened}
 use Rattle.lk_rulebook.specs.Place.{Place}
-use Rattle.lk_plain.specs.Query.{infer}
-use Rattle.lk_plain.specs.Erased.{a_tree, erased, finished, run_steps, out_of}
+use Rattle.lk_questions.specs.Query.{infer}
+use Rattle.lk_questions.specs.Erased.{a_tree, erased, finished, run_steps, out_of}
 use Rattle.lk_questions.specs.Infer.{infer_steps}
 use Rattle.lk_questions.specs.Table.{steps}
 use Rattle.lk_store.specs.declared.memory.NoMemory.{NoMemory}

@@ -3,7 +3,7 @@
 ghost use Rattle.std.specs.Prelude.{◌≡◌, ◌<◌, true, length, map, All, IfOk, IfSome};
 ghost use Rattle.lk_tree.specs.Loose.{loose};
 ghost use Rattle.lk_tree.specs.Putting.{put as put_values};
-ghost use Rattle.lk_plain.specs.Answer.{later};
+ghost use Rattle.lk_questions.specs.Answer.{later};
 ghost use Rattle.lk_store.specs.Contents.{tree_at};
 ghost use Rattle.lk_ask.specs.Looks.{MakesTree};
 ghost use Rattle.lk_chain.specs.Lets.{AreClosed};

@@ -12,8 +12,8 @@ use Rattle.lk_tree.proofs.LevelTests.{level_test_right}
 use Rattle.lk_rulebook.specs.Place.{Place, Entry, Kind, Block, BlockType, Ctor, a_quot, a_ctor}
 use Rattle.lk_rulebook.specs.WellStated.{IsListed, KindStated}
 use Rattle.lk_rulebook.specs.Rules.{SameLevels, none, more}
-use Rattle.lk_plain.specs.Program.{Program, done, refuse, ask, look}
-use Rattle.lk_plain.specs.Sound.{IsSound, IfYes}
+use Rattle.lk_questions.specs.Program.{Program, done, refuse, ask, look}
+use Rattle.lk_questions.specs.Sound.{IsSound, IfYes}
 use Rattle.lk_questions.specs.Steps.{decided, is_same_tree}
 use Rattle.lk_questions.specs.Iota.{has_one_ctor, levels_at}
 use Rattle.lk_questions.specs.Quotients.{by_quot}

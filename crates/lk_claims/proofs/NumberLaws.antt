@@ -14,9 +14,9 @@ use Rattle.lk_rulebook.specs.Literals.{by_def, CanBeStated}
 use Rattle.lk_rulebook.specs.Rules.{MeetsLaws, meets, AllHold, no_more_laws, holds}
 use Rattle.lk_rulebook.specs.Units.{Decl}
 use Rattle.lk_rulebook.specs.Derived.{IsLawful}
-use Rattle.lk_plain.specs.Program.{done}
-use Rattle.lk_plain.specs.Sound.{IsSound}
-use Rattle.lk_plain.proofs.Soundness.{sound_bind, sound_map}
+use Rattle.lk_questions.specs.Program.{done}
+use Rattle.lk_questions.specs.Sound.{IsSound}
+use Rattle.lk_questions.proofs.Soundness.{sound_bind, sound_map}
 use Rattle.lk_questions.specs.Shapes.{nat_shape}
 use Rattle.lk_questions.specs.NumberLaws.{lawful_op, def_given, held_given, laws_hold, law_steps}
 use Rattle.lk_claims.proofs.Pieces.{sound_given, of_yes, equal_numbers, no_item, Some_inj}

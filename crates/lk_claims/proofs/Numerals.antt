@@ -7,7 +7,7 @@ use Rattle.lk_rulebook.specs.Names.{nat_zero}
 use Rattle.lk_tree.specs.Mentions.{same_name}
 use Rattle.lk_rulebook.specs.Literals.{IsNumeral, of_lit, of_zero, IsResult, a_number, a_truth}
 use Rattle.lk_questions.specs.Literals.{numeral_of, result_of}
-use Rattle.lk_plain.specs.Sound.{IsSound}
+use Rattle.lk_questions.specs.Sound.{IsSound}
 use Rattle.lk_claims.proofs.Pieces.{same_name_right, Some_inj, less_number}
 
 zero_numeral : (c : Name) (n : ℕ) (b : Bool) → same_name c nat_zero ≡ b → (if b then Some 0 else None) ≡ Some n → IsNumeral (const c []) n

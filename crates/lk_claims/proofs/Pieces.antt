@@ -14,9 +14,9 @@ use Rattle.lk_tree.specs.WellFormed.{IsWellFormed}
 use Rattle.lk_rulebook.specs.Place.{Place, Entry, Kind, a_def, a_thm, an_axiom, an_opaque, a_quot, a_type, a_ctor, a_rec}
 use Rattle.lk_rulebook.specs.Rules.{HasType, HasSort, has_sort, Reduces, HasValue, of_def, of_thm}
 use Rattle.lk_rulebook.proofs.Scopes.{well_formed_of_type, well_formed_of_reduct}
-use Rattle.lk_plain.specs.Program.{Program, done, ◌>>=◌}
+use Rattle.lk_questions.specs.Program.{Program, done, ◌>>=◌}
 use Rattle.lk_questions.specs.Steps.{given, as_sort, as_pi, sort_of, with_params, with_levels, value_of, decided, is_same_tree}
-use Rattle.lk_plain.specs.Sound.{IfYes, IsSound, IsStated, KindStated}
+use Rattle.lk_questions.specs.Sound.{IfYes, IsSound, IsStated, KindStated}
 
 pub sound_given : {A : Type 0} (w : Place) (b : Bool) (r : Rule) (p : Program A) (P : A → Type 0) → (b ≡ true → IsSound w p P) → IsSound w (given b r p) P
 sound_given w true r p P h = h refl

@@ -6,11 +6,11 @@ use Rattle.lk_rulebook.specs.Place.{Place, Entry, Kind, Ctor, a_type}
 use Rattle.lk_rulebook.specs.Names.{eq, eq_refl, quot, quot_mk}
 use Rattle.lk_tree.specs.Mentions.{same_name}
 use Rattle.lk_rulebook.specs.Quotients.{IsQuot, HasEq, eq_type, eq_refl_type, ctors_from, Quotient, the_type, the_mk, the_lift, the_ind, quot_name, quot_type, RestsOn, IsQuotient}
-use Rattle.lk_plain.specs.Program.{done}
+use Rattle.lk_questions.specs.Program.{done}
 use Rattle.lk_questions.specs.Quotients.{by_quot}
 use Rattle.lk_questions.specs.QuotientUnits.{quotients, quotient_named, quot_given, is_eq_type, is_refl_type, is_refl_alone, is_eq, eq_shape, rests_steps, is_this, quotient_steps, quot_steps}
-use Rattle.lk_plain.specs.Sound.{IsSound}
-use Rattle.lk_plain.proofs.Soundness.{sound_bind, sound_map}
+use Rattle.lk_questions.specs.Sound.{IsSound}
+use Rattle.lk_questions.proofs.Soundness.{sound_bind, sound_map}
 use Rattle.lk_claims.proofs.Pieces.{Some_inj, sound_given, halves, equal_numbers, same_tree, same_name_right}
 use Rattle.lk_claims.proofs.Facts.{quot_kind}
 

@@ -6,11 +6,11 @@ use Rattle.lk_rulebook.specs.Place.{Place, Entry, Kind, Block, BlockType, Ctor, 
 use Rattle.lk_rulebook.specs.Names.{string, string_mk}
 use Rattle.lk_rulebook.specs.Shapes.{AllGiven}
 use Rattle.lk_rulebook.specs.Literals.{expansion, expansion_names, Expands, ReadsText, as_it_is, as_text, Reads, by_text, as_zero, as_succ}
-use Rattle.lk_plain.specs.Program.{done}
+use Rattle.lk_questions.specs.Program.{done}
 use Rattle.lk_questions.specs.Shapes.{has_string_shape}
 use Rattle.lk_questions.specs.Strings.{look_all, is_mk_alone, has_mk_alone, expansion_by, expansion_of, tree_or, text_to_ctor, literal_to_ctor}
-use Rattle.lk_plain.specs.Sound.{IfYes, IsSound}
-use Rattle.lk_plain.proofs.Soundness.{sound_bind, sound_map}
+use Rattle.lk_questions.specs.Sound.{IfYes, IsSound}
+use Rattle.lk_questions.proofs.Soundness.{sound_bind, sound_map}
 use Rattle.lk_claims.proofs.Pieces.{of_yes, halves, same_name_right}
 use Rattle.lk_claims.proofs.Facts.{sound_if}
 use Rattle.lk_claims.proofs.Shaped.{IsStringKind, sound_string_by}

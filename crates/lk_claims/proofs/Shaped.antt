@@ -8,12 +8,12 @@ use Rattle.lk_rulebook.specs.Place.{Place, Entry, Kind, Block, BlockType, Ctor, 
 use Rattle.lk_rulebook.specs.Names.{named, nat, nat_zero, nat_succ, string}
 use Rattle.lk_tree.specs.Mentions.{same_name}
 use Rattle.lk_rulebook.specs.Shapes.{HasNat, HasString}
-use Rattle.lk_plain.specs.Program.{done}
+use Rattle.lk_questions.specs.Program.{done}
 use Rattle.lk_questions.specs.Steps.{is_same_tree}
 use Rattle.lk_questions.specs.Levels.{tested}
 use Rattle.lk_questions.specs.Shapes.{is_sort_one, are_nat_ctors, nat_shape_by, nat_shape, has_string_shape, string_shape}
-use Rattle.lk_plain.specs.Sound.{IfYes, IsSound}
-use Rattle.lk_plain.proofs.Soundness.{sound_bind, sound_map}
+use Rattle.lk_questions.specs.Sound.{IfYes, IsSound}
+use Rattle.lk_questions.proofs.Soundness.{sound_bind, sound_map}
 use Rattle.lk_claims.proofs.Pieces.{sound_given, of_yes, same_tree, halves, equal_numbers, no_item, same_name_right, sound_tested, if_yes_map}
 use Rattle.lk_claims.proofs.Facts.{sound_if}
 

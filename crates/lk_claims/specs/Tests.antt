@@ -5,7 +5,7 @@ use Rattle.lk_tree.specs.Tree.{Level, Tree, app, lit, str}
 use Rattle.lk_tree.specs.LevelTest.{level_test}
 use Rattle.lk_rulebook.specs.Place.{Place}
 use Rattle.lk_rulebook.specs.Names.{named, nat_zero, nat_succ}
-use Rattle.lk_plain.specs.Program.{Program, done, refuse, ask, look}
+use Rattle.lk_questions.specs.Program.{Program, done, refuse, ask, look}
 use Rattle.lk_questions.specs.Steps.{is_same_tree}
 use Rattle.lk_questions.specs.Strings.{text_to_ctor}
 

@@ -5,12 +5,12 @@ use Rattle.lk_tree.specs.Tree.{Name}
 use Rattle.lk_tree.specs.declared.rule.Rule.{Rule}
 use Rattle.lk_rulebook.specs.Place.{Place, Entry}
 use Rattle.lk_rulebook.specs.Units.{Decl, Library, Members, Found, given_by, first_of_two, at_partial, flawless, first_giving, place_of}
-use Rattle.lk_plain.specs.Query.{Query}
-use Rattle.lk_plain.specs.Program.{Program, done, refuse, ask, look}
-use Rattle.lk_plain.specs.Answer.{outcome_of, plain_answer}
-use Rattle.lk_plain.specs.Program.{Table}
+use Rattle.lk_questions.specs.Query.{Query}
+use Rattle.lk_questions.specs.Program.{Program, done, refuse, ask, look}
+use Rattle.lk_questions.specs.Answer.{outcome_of, plain_answer}
+use Rattle.lk_questions.specs.Program.{Table}
 use Rattle.lk_questions.specs.Declarations.{unit_steps}
-use Rattle.lk_plain.proofs.Renamed.{Renaming, Reads, Alike, SameContents, run_alike, answer_alike}
+use Rattle.lk_questions.proofs.Renamed.{Renaming, Reads, Alike, SameContents, run_alike, answer_alike}
 use Rattle.lk_closure.proofs.Names.{Over, IsClosed, HasBuiltins}
 use Rattle.lk_closure.proofs.Within.{QueryOver, AnswerOver, Within, KeepsTo}
 use Rattle.lk_closure.proofs.Over.{SameFound, IsSeenAlike}

@@ -4,7 +4,7 @@ use Rattle.std.specs.Prelude.{slice_get}
 use Rattle.lk_tree.specs.Tree.{Name}
 use Rattle.lk_rulebook.specs.Place.{Entry}
 use Rattle.lk_rulebook.specs.Units.{trees_of, LibraryUnit, Library, members_of, Found, given_by, first_of_two, at_unit, flaw_of, first_giving}
-use Rattle.lk_plain.proofs.Places.{prefix_gives}
+use Rattle.lk_questions.proofs.Places.{prefix_gives}
 use Rattle.lk_closure.proofs.Over.{SameFound}
 use Rattle.lk_uses.specs.Closure.{IsClosure, kept, renumbered}
 use Rattle.lk_reach.specs.Reach.{TreesMention, Mentions, Reaches, itself, through}

@@ -9,8 +9,8 @@ use Rattle.lk_rulebook.specs.Place.{Entry, Kind, Recursor, RecRule, a_def, a_thm
 use Rattle.lk_rulebook.specs.Names.{quot_mk, quot_lift, quot_ind}
 use Rattle.lk_tree.specs.Mentions.{same_name}
 use Rattle.lk_rulebook.specs.Structures.{before_major, projections}
-use Rattle.lk_plain.specs.Query.{core, whnf}
-use Rattle.lk_plain.specs.Program.{Program, done, asked, ◌>>=◌}
+use Rattle.lk_questions.specs.Query.{core, whnf}
+use Rattle.lk_questions.specs.Program.{Program, done, asked, ◌>>=◌}
 use Rattle.lk_questions.specs.Steps.{is_same_tree, sort_of, with_levels, value_of}
 use Rattle.lk_questions.specs.Strings.{literal_to_ctor, text_to_ctor}
 use Rattle.lk_questions.specs.Literals.{literal_step}

@@ -7,8 +7,8 @@ use Rattle.lk_tree.specs.Spine.{head, args}
 use Rattle.lk_rulebook.specs.Place.{Kind, BlockType, Ctor, a_type}
 use Rattle.lk_rulebook.specs.Names.{nat, string, named}
 use Rattle.lk_tree.specs.Mentions.{same_name}
-use Rattle.lk_plain.specs.Query.{infer, same}
-use Rattle.lk_plain.specs.Program.{done, asked, ◌>>=◌}
+use Rattle.lk_questions.specs.Query.{infer, same}
+use Rattle.lk_questions.specs.Program.{done, asked, ◌>>=◌}
 use Rattle.lk_questions.specs.Steps.{given, as_pi, sort_of, with_params}
 use Rattle.lk_questions.specs.Shapes.{nat_shape, string_shape}
 use Rattle.lk_questions.specs.Iota.{levels_at}

@@ -13,7 +13,7 @@ use Rattle.lk_reach.proofs.Found.{IsFrom, found_from, taken, taken_below, still_
 use Rattle.lk_uses.specs.Closure.{IsClosure, IsInClosure, own_unit, of_builtin, of_used, KeepsClosure, IsUnchanged}
 use Rattle.lk_closure.proofs.Units.{unit_moved}
 use Rattle.lk_closure.proofs.Axioms.{kept_same}
-use Rattle.lk_plain.proofs.Places.{prefix_gives}
+use Rattle.lk_questions.proofs.Places.{prefix_gives}
 use Rattle.lk_reach.proofs.Reached.{mentioned_below}
 
 pub least_closed : (us : Library) (n : ℕ) (keep : ℕ → Bool) → KeepsClosure us n keep → IsClosure us n keep

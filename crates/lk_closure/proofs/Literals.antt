@@ -9,7 +9,7 @@ use Rattle.lk_tree.specs.LevelTest.{level_test}
 use Rattle.lk_tree.specs.Operations.{Op, Value, number, truth, op_value, arity}
 use Rattle.lk_rulebook.specs.Place.{Entry, Kind, a_type}
 use Rattle.lk_rulebook.specs.Literals.{expansion, expansion_names, may_give}
-use Rattle.lk_plain.specs.Program.{Program, done, ◌>>=◌}
+use Rattle.lk_questions.specs.Program.{Program, done, ◌>>=◌}
 use Rattle.lk_questions.specs.Steps.{given}
 use Rattle.lk_questions.specs.Shapes.{is_sort_one, are_nat_ctors, nat_shape_by, nat_shape, has_string_shape, string_shape}
 use Rattle.lk_questions.specs.Strings.{look_all, has_mk_alone, expansion_by, expansion_of, tree_or, text_to_ctor, literal_to_ctor}

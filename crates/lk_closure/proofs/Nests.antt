@@ -9,7 +9,7 @@ use Rattle.lk_tree.specs.Bind.{opened, close}
 use Rattle.lk_tree.specs.Spine.{head, args}
 use Rattle.lk_rulebook.specs.Place.{Kind, Block, BlockType, Ctor, a_type}
 use Rattle.lk_tree.specs.Mentions.{is_one_of, same_name}
-use Rattle.lk_plain.specs.Program.{Program, done, look, ◌>>=◌}
+use Rattle.lk_questions.specs.Program.{Program, done, look, ◌>>=◌}
 use Rattle.lk_questions.specs.Steps.{given}
 use Rattle.lk_questions.specs.Levels.{tested}
 use Rattle.lk_inductive.specs.BlockSteps.{as_level, mention_none}

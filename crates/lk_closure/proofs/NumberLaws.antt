@@ -6,8 +6,8 @@ use Rattle.lk_tree.specs.declared.rule.Rule.TheVariants.{NatLaw}
 use Rattle.lk_rulebook.specs.Names.{op_name}
 use Rattle.lk_rulebook.specs.NumberLaws.{Law, laws_of, stated_by}
 use Rattle.lk_rulebook.specs.Literals.{by_def}
-use Rattle.lk_plain.specs.Query.{same}
-use Rattle.lk_plain.specs.Program.{done, asked, ◌>>=◌}
+use Rattle.lk_questions.specs.Query.{same}
+use Rattle.lk_questions.specs.Program.{done, asked, ◌>>=◌}
 use Rattle.lk_questions.specs.Steps.{given}
 use Rattle.lk_questions.specs.Shapes.{nat_shape}
 use Rattle.lk_questions.specs.NumberLaws.{def_given, held_given, laws_hold, law_steps}

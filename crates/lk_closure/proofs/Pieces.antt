@@ -4,7 +4,7 @@ use Rattle.lk_tree.specs.Tree.{Name, Level, Tree, sort, pi}
 use Rattle.lk_tree.specs.declared.rule.Rule.{Rule}
 use Rattle.lk_tree.specs.LevelTest.{level_test}
 use Rattle.lk_rulebook.specs.Place.{Entry}
-use Rattle.lk_plain.specs.Program.{Program, done, refuse, ask, look, ◌>>=◌}
+use Rattle.lk_questions.specs.Program.{Program, done, refuse, ask, look, ◌>>=◌}
 use Rattle.lk_questions.specs.Steps.{given, as_sort, as_pi, sort_of, with_params, with_levels}
 use Rattle.lk_questions.specs.Levels.{LevelTest, complete_test, tested, level_pairs_equal, levels_equal}
 use Rattle.lk_closure.proofs.Names.{Over}

@@ -5,8 +5,8 @@ use Rattle.lk_tree.specs.declared.rule.Rule.TheVariants.{RecursorDiffers}
 use Rattle.lk_tree.specs.Spine.{apply}
 use Rattle.lk_rulebook.specs.Place.{BlockRecursor, RecRule, Ctor}
 use Rattle.lk_tree.specs.Mentions.{same_name}
-use Rattle.lk_plain.specs.Query.{same}
-use Rattle.lk_plain.specs.Program.{asked, ◌>>=◌}
+use Rattle.lk_questions.specs.Query.{same}
+use Rattle.lk_questions.specs.Program.{asked, ◌>>=◌}
 use Rattle.lk_questions.specs.Steps.{given, is_same_tree, sort_of}
 use Rattle.lk_inductive.specs.Block.{FieldKind, plain, recursive, Field, CtorShape, TypeShape, Shape}
 use Rattle.lk_inductive.specs.BlockSteps.{after_params}

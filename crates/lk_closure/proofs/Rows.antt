@@ -5,8 +5,8 @@ use Rattle.lk_tree.specs.Level.{is_zero_level}
 use Rattle.lk_rulebook.specs.Names.{quot, quot_mk}
 use Rattle.lk_rulebook.specs.Quotients.{Quotient, the_type, the_mk, the_lift, the_ind, quot_type}
 use Rattle.lk_rulebook.specs.Units.{Body, as_axiom, as_def, as_thm, as_opaque, as_quot, Decl}
-use Rattle.lk_plain.specs.Query.{Query, core, whnf, infer, same}
-use Rattle.lk_plain.specs.Program.{done, refuse, ◌>>=◌}
+use Rattle.lk_questions.specs.Query.{Query, core, whnf, infer, same}
+use Rattle.lk_questions.specs.Program.{done, refuse, ◌>>=◌}
 use Rattle.lk_questions.specs.Steps.{sort_of}
 use Rattle.lk_questions.specs.Quotients.{by_quot}
 use Rattle.lk_questions.specs.QuotientUnits.{quotients, quotient_named, quot_given, is_eq, eq_shape, rests_steps, is_this, quotient_steps, quot_steps}

@@ -9,8 +9,8 @@ use Rattle.lk_rulebook.specs.Place.{Entry, Kind, a_def, a_thm}
 use Rattle.lk_rulebook.specs.Names.{nat_zero, nat_succ}
 use Rattle.lk_tree.specs.Mentions.{same_name}
 use Rattle.lk_rulebook.specs.Structures.{is_structure_like}
-use Rattle.lk_plain.specs.Query.{infer, same}
-use Rattle.lk_plain.specs.Program.{Program, done, asked, ◌>>=◌}
+use Rattle.lk_questions.specs.Query.{infer, same}
+use Rattle.lk_questions.specs.Program.{Program, done, asked, ◌>>=◌}
 use Rattle.lk_questions.specs.Steps.{is_same_tree, decided, sort_of, with_levels}
 use Rattle.lk_questions.specs.Levels.{complete_test, levels_equal}
 use Rattle.lk_questions.specs.Pairs.{same_bodies, same_all, Line, otherwise, ◌or_else◌, unless, ◌or_line◌, yes_alone, answers, answers_yes, goes_on}

@@ -3,11 +3,11 @@ use Rattle.std.proofs.Common.{ℕ, ◌-◌, ◌++◌, refl}
 use Rattle.lk_tree.specs.Tree.{Name}
 use Rattle.lk_rulebook.specs.Place.{Entry}
 use Rattle.lk_rulebook.specs.Units.{Library, Members, place_of}
-use Rattle.lk_plain.specs.Query.{AnswerTo}
-use Rattle.lk_plain.specs.Program.{Program, done, refuse, ask, look}
-use Rattle.lk_plain.specs.Answer.{plain_answer}
-use Rattle.lk_plain.specs.Program.{Table}
-use Rattle.lk_plain.proofs.Renamed.{SameContents, Alike, alike_then, alike_found}
+use Rattle.lk_questions.specs.Query.{AnswerTo}
+use Rattle.lk_questions.specs.Program.{Program, done, refuse, ask, look}
+use Rattle.lk_questions.specs.Answer.{plain_answer}
+use Rattle.lk_questions.specs.Program.{Table}
+use Rattle.lk_questions.proofs.Renamed.{SameContents, Alike, alike_then, alike_found}
 use Rattle.lk_inductive.specs.Task.{Task, done_with, stopped, asking, looking, with_partial, here, ◌>>=◌, run_task}
 use Rattle.lk_closure.proofs.Names.{EntryOver, IsClosed, HasBuiltins}
 use Rattle.lk_closure.proofs.Within.{QueryOver, AnswerOver, Within, KeepsTo}

@@ -7,7 +7,7 @@ use Rattle.lk_tree.specs.declared.rule.Rule.TheVariants.{DuplicateName, Duplicat
 use Rattle.lk_rulebook.specs.Place.{Entry}
 use Rattle.lk_rulebook.specs.Units.{trees_of, all_bound, Decl, LibraryUnit, of_decl, of_block, Library, Members, members_of, Found, given_by, first_of_two, at_unit, first_giving, place_of}
 use Rattle.lk_rulebook.specs.Scan.{scan_of, own_scan, are_new, are_distinct}
-use Rattle.lk_plain.proofs.Places.{prefix_gives}
+use Rattle.lk_questions.proofs.Places.{prefix_gives}
 use Rattle.lk_questions.specs.Table.{steps}
 use Rattle.lk_inductive.specs.NestedRelation.{IsMarked}
 use Rattle.lk_inductive.specs.NestedTask.{whole_task, plain_whole}

@@ -5,10 +5,10 @@ use Rattle.lk_tree.specs.declared.rule.Rule.{Rule}
 use Rattle.lk_tree.specs.declared.rule.Rule.TheVariants.{DuplicateName}
 use Rattle.lk_rulebook.specs.Units.{trees_of, all_bound, Body, as_axiom, as_def, as_thm, as_opaque, as_quot, Decl, LibraryUnit, of_decl, Library, Members, members_of, body_trees, Found, given_by, first_giving, place_of}
 use Rattle.lk_rulebook.specs.Scan.{is_none, are_new, own_scan, scan_of}
-use Rattle.lk_plain.specs.Program.{Table}
-use Rattle.lk_plain.specs.Answer.{Outcome, answered, refused, spent, outcome_of, plain_answer}
+use Rattle.lk_questions.specs.Program.{Table}
+use Rattle.lk_questions.specs.Answer.{Outcome, answered, refused, spent, outcome_of, plain_answer}
 use Rattle.lk_questions.specs.Declarations.{unit_steps}
-use Rattle.lk_plain.proofs.Renamed.{Alike}
+use Rattle.lk_questions.proofs.Renamed.{Alike}
 use Rattle.lk_verdict.specs.Verdict.{PlainVerdict, says_no, says_steps, verdict_by, questions_of, verdict_of}
 use Rattle.lk_closure.proofs.Over.{TreesOver, NamesOver, UnitOver, SameFound, IsSeenAlike}
 use Rattle.lk_closure.proofs.Names.{IsClosed, HasBuiltins}

@@ -1,8 +1,8 @@
 -- Questions' programs that keep to a set of names.
 use Rattle.lk_tree.specs.Tree.{Name}
 use Rattle.lk_rulebook.specs.Place.{Entry}
-use Rattle.lk_plain.specs.Query.{Query, AnswerTo, core, whnf, infer, same}
-use Rattle.lk_plain.specs.Program.{Program, done, refuse, ask, look, Table}
+use Rattle.lk_questions.specs.Query.{Query, AnswerTo, core, whnf, infer, same}
+use Rattle.lk_questions.specs.Program.{Program, done, refuse, ask, look, Table}
 use Rattle.lk_closure.proofs.Names.{Over, EntryOver}
 
 abbrev pub QueryOver : (Name → Type 0) → Query → Type 0

@@ -14,7 +14,7 @@ use Rattle.lk_rulebook.specs.Place.{abbreviation}
 use Rattle.lk_rulebook.specs.Names.{op_name}
 use Rattle.lk_rulebook.specs.Units.{Body, as_axiom, as_def, LibraryUnit, of_decl, of_block, Library}
 use Rattle.lk_inductive.proofs.Worked.{nat_block}
-use Rattle.lk_plain.specs.Answer.{answer_to_depth}
+use Rattle.lk_questions.specs.Answer.{answer_to_depth}
 use Rattle.lk_questions.specs.Table.{steps}
 use Rattle.lk_verdict.specs.Verdict.{says_yes, says_no, plain_verdict}
 use Rattle.lk_uses.specs.Closure.{kept, renumbered, IsInClosure, own_unit, of_builtin, of_used, KeepsClosure}

@@ -3,7 +3,7 @@ use Rattle.std.specs.Prelude.{List, Option, Some, None, Result, Ok, IfOk}
 use Rattle.lk_tree.specs.Tree.{Name, Level, Tree, const}
 use Rattle.lk_tree.specs.declared.rule.Rule.{Rule}
 use Rattle.lk_rulebook.specs.Place.{Place}
-use Rattle.lk_plain.specs.Program.{Program}
+use Rattle.lk_questions.specs.Program.{Program}
 use Rattle.lk_questions.specs.Iota.{CtorApp, ctor_app_by, ctor_app_of}
 use Rattle.lk_store.specs.Contents.{Contents}
 use Rattle.lk_ask.specs.Looks.{Sight}

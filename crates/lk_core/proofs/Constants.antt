@@ -3,10 +3,10 @@ use Rattle.std.proofs.Common.{◌≡◌, ℕ, List, Option, Some, ap, sym, subst
 use Rattle.std.specs.Prelude.{Result, Ok, IfOk}
 use Rattle.lk_tree.specs.Tree.{Name, Level, Tree, const}
 use Rattle.lk_rulebook.specs.Place.{Place, Entry}
-use Rattle.lk_plain.specs.Program.{Program}
+use Rattle.lk_questions.specs.Program.{Program}
 use Rattle.lk_questions.specs.Core.{unfolded}
 use Rattle.lk_questions.specs.Steps.{value_of}
-use Rattle.lk_plain.specs.Erased.{erased_then}
+use Rattle.lk_questions.specs.Erased.{erased_then}
 use Rattle.lk_store.specs.declared.memory.NoMemory.{NoMemory}
 use Rattle.lk_store.specs.Contents.{Contents, tree_at}
 use Rattle.lk_store.proofs.Extending.{Extends-trans}

@@ -2,7 +2,7 @@
 use Rattle.std.proofs.Common.{◌≡◌, sym, subst}
 use Rattle.lk_tree.specs.Tree.{Tree, app}
 use Rattle.lk_tree.specs.Spine.{head, args}
-use Rattle.lk_plain.specs.Program.{Program}
+use Rattle.lk_questions.specs.Program.{Program}
 use Rattle.lk_questions.specs.Core.{core_applied, core_steps}
 
 -- it goes by its head and its arguments

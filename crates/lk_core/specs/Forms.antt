@@ -3,9 +3,9 @@ use Rattle.std.specs.Prelude.{◌≡◌, ◌<◌, ℕ, List, Option, Some, None,
 use Rattle.lk_tree.specs.Tree.{Name, Level, Tree, const, proj}
 use Rattle.lk_tree.specs.Spine.{apply, head, args}
 use Rattle.lk_rulebook.specs.Place.{Place, Entry}
-use Rattle.lk_plain.specs.Query.{core}
-use Rattle.lk_plain.specs.Program.{Program, done, asked}
-use Rattle.lk_plain.specs.Erased.{a_tree, Steps, gives, with_tree, erased}
+use Rattle.lk_questions.specs.Query.{core}
+use Rattle.lk_questions.specs.Program.{Program, done, asked}
+use Rattle.lk_questions.specs.Erased.{a_tree, Steps, gives, with_tree, erased}
 use Rattle.lk_questions.specs.Steps.{is_same_tree, value_of}
 use Rattle.lk_questions.specs.Core.{core_applied, unfolded, stepped, whnf_headed}
 use Rattle.lk_store.specs.declared.memory.NoMemory.{NoMemory}

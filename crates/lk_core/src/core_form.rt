@@ -2,8 +2,8 @@
 
 ghost use Rattle.std.specs.Prelude.{◌<◌, length};
 ghost use Rattle.lk_tree.specs.Spine.{head as head_of, args as args_of};
-ghost use Rattle.lk_plain.specs.Program.{asked};
-ghost use Rattle.lk_plain.specs.Query.{core};
+ghost use Rattle.lk_questions.specs.Program.{asked};
+ghost use Rattle.lk_questions.specs.Query.{core};
 ghost use Rattle.lk_questions.specs.Core.{beta as beta_of, lambdas, core_applied, core_steps};
 ghost use Rattle.lk_store.specs.Contents.{tree_at};
 ghost use Rattle.lk_core.specs.Forms.{headed_rest, Begins, Reduces};

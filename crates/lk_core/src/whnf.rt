@@ -4,7 +4,7 @@ ghost use Rattle.std.specs.Prelude.{◌≡◌, ◌<◌, ℕ, Option, Some, List,
 ghost use Rattle.lk_tree.specs.Tree.{Name, Tree, const};
 ghost use Rattle.lk_tree.specs.Spine.{head as head_of};
 ghost use Rattle.lk_rulebook.specs.Place.{Place, Entry as PlainEntry};
-ghost use Rattle.lk_plain.specs.Erased.{a_tree, erased};
+ghost use Rattle.lk_questions.specs.Erased.{a_tree, erased};
 ghost use Rattle.lk_questions.specs.Core.{unfolded, whnf_headed, whnf_steps};
 ghost use Rattle.lk_questions.specs.Steps.{value_of as plain_value};
 ghost use Rattle.lk_store.specs.Contents.{Contents, name_at, list_at, tree_at};

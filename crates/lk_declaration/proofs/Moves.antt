@@ -1,6 +1,6 @@
 -- What a program gives, told of things that are equal.
 use Rattle.std.proofs.Common.{◌≡◌, ℕ, Result, subst}
-use Rattle.lk_plain.specs.Program.{Program}
+use Rattle.lk_questions.specs.Program.{Program}
 use Rattle.lk_ask.specs.declared.stop.Stop.{Stop}
 use Rattle.lk_ask.specs.Asking.{Standing}
 use Rattle.lk_declaration.specs.Courses.{ComesTo}

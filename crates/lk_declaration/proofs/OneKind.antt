@@ -2,10 +2,10 @@
 use Rattle.std.proofs.Common.{◌≡◌, ℕ, Bool, Option}
 use Rattle.lk_tree.specs.Tree.{Tree}
 use Rattle.lk_rulebook.specs.Place.{Place}
-use Rattle.lk_plain.specs.Query.{Query, core, whnf, infer, same}
-use Rattle.lk_plain.specs.Program.{Table}
-use Rattle.lk_plain.specs.Answer.{Outcome, answered, refused, spent, plain_answer}
-use Rattle.lk_plain.specs.Erased.{a_tree, truth, finished, left_of, out_of}
+use Rattle.lk_questions.specs.Query.{Query, core, whnf, infer, same}
+use Rattle.lk_questions.specs.Program.{Table}
+use Rattle.lk_questions.specs.Answer.{Outcome, answered, refused, spent, plain_answer}
+use Rattle.lk_questions.specs.Erased.{a_tree, truth, finished, left_of, out_of}
 use Rattle.lk_declaration.specs.Asked.{AnswersTerm, AnswersTruth}
 
 term_given : (o : Outcome Tree) (b left : ℕ) (last : Option ℕ) (r : Bool) → left_of a_tree b o ≡ finished (truth r) left last → ⊥

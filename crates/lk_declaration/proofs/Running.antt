@@ -2,11 +2,11 @@
 use Rattle.std.proofs.Common.{◌≡◌, ℕ, Option, None, Some, Ok, Err, Result, refl, ap, sym, subst, ◌∙◌}
 use Rattle.lk_tree.specs.declared.rule.Rule.{Rule}
 use Rattle.lk_rulebook.specs.Place.{Place, Entry}
-use Rattle.lk_plain.specs.Query.{Query, AnswerTo, core, whnf, infer, same}
-use Rattle.lk_plain.specs.Program.{Program, done, refuse, ask, look, ◌>>=◌}
-use Rattle.lk_plain.specs.Answer.{later}
-use Rattle.lk_plain.specs.Erased.{Value, a_tree, truth, Out, finished, stopped, used_up, seen, go_on, out_of}
-use Rattle.lk_plain.proofs.Erasing.{seen_seen, seen_none}
+use Rattle.lk_questions.specs.Query.{Query, AnswerTo, core, whnf, infer, same}
+use Rattle.lk_questions.specs.Program.{Program, done, refuse, ask, look, ◌>>=◌}
+use Rattle.lk_questions.specs.Answer.{later}
+use Rattle.lk_questions.specs.Erased.{Value, a_tree, truth, Out, finished, stopped, used_up, seen, go_on, out_of}
+use Rattle.lk_questions.proofs.Erasing.{seen_seen, seen_none}
 use Rattle.lk_ask.specs.declared.stop.Stop.{Stop}
 use Rattle.lk_ask.specs.declared.stop.Stop.TheVariants.{No, Spent, NoMemory}
 use Rattle.lk_ask.specs.Asking.{Standing}

@@ -1,8 +1,8 @@
 -- A stage of a check, and all that follow it.
 use Rattle.std.proofs.Common.{ℕ, Ok, Err, Result, ap, ◌∙◌}
-use Rattle.lk_plain.specs.Answer.{later}
-use Rattle.lk_plain.specs.Program.{Program}
-use Rattle.lk_plain.specs.Erased.{Out, seen, out_of}
+use Rattle.lk_questions.specs.Answer.{later}
+use Rattle.lk_questions.specs.Program.{Program}
+use Rattle.lk_questions.specs.Erased.{Out, seen, out_of}
 use Rattle.lk_ask.specs.declared.stop.Stop.{Stop}
 use Rattle.lk_ask.specs.declared.stop.Stop.TheVariants.{No, Spent, NoMemory}
 use Rattle.lk_ask.specs.Asking.{Standing}

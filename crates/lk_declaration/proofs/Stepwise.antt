@@ -2,11 +2,11 @@
 use Rattle.std.proofs.Common.{◌≡◌, ℕ, true, Option, None, Some, refl, sym, ap, ◌∙◌}
 use Rattle.lk_tree.specs.declared.rule.Rule.{Rule}
 use Rattle.lk_rulebook.specs.Place.{Place, Entry}
-use Rattle.lk_plain.specs.Query.{Query, AnswerTo, core, whnf, infer, same}
-use Rattle.lk_plain.specs.Program.{Program, done, refuse, ask, look}
-use Rattle.lk_plain.specs.Answer.{later}
-use Rattle.lk_plain.specs.Erased.{Value, a_tree, truth, Steps, with_answer, looked, erased, Out, finished, seen, run_steps, out_of}
-use Rattle.lk_plain.proofs.Erasing.{later_none, seen_seen, seen_none}
+use Rattle.lk_questions.specs.Query.{Query, AnswerTo, core, whnf, infer, same}
+use Rattle.lk_questions.specs.Program.{Program, done, refuse, ask, look}
+use Rattle.lk_questions.specs.Answer.{later}
+use Rattle.lk_questions.specs.Erased.{Value, a_tree, truth, Steps, with_answer, looked, erased, Out, finished, seen, run_steps, out_of}
+use Rattle.lk_questions.proofs.Erasing.{later_none, seen_seen, seen_none}
 use Rattle.lk_declaration.specs.Courses.{answer_then, look_then, run_then, CoursesAreSteps}
 use Rattle.lk_declaration.proofs.Running.{go_on_same}
 

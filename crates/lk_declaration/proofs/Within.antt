@@ -2,10 +2,10 @@
 use Rattle.std.proofs.Common.{ℕ, ◌-◌, ◌≤◌, true, Option, None, Some, subst, arith}
 use Rattle.lk_tree.specs.declared.rule.Rule.{Rule}
 use Rattle.lk_rulebook.specs.Place.{Place, Entry}
-use Rattle.lk_plain.specs.Query.{Query, AnswerTo, core, whnf, infer, same}
-use Rattle.lk_plain.specs.Program.{Program, Table, done, refuse, ask, look}
-use Rattle.lk_plain.specs.Answer.{Outcome, answered, refused, spent, plain_answer}
-use Rattle.lk_plain.specs.Erased.{Value, a_tree, truth, value_of, Out, finished, stopped, used_up, seen, go_on, left_of, out_of}
+use Rattle.lk_questions.specs.Query.{Query, AnswerTo, core, whnf, infer, same}
+use Rattle.lk_questions.specs.Program.{Program, Table, done, refuse, ask, look}
+use Rattle.lk_questions.specs.Answer.{Outcome, answered, refused, spent, plain_answer}
+use Rattle.lk_questions.specs.Erased.{Value, a_tree, truth, value_of, Out, finished, stopped, used_up, seen, go_on, left_of, out_of}
 use Rattle.lk_ask.specs.Asking.{Standing}
 use Rattle.lk_declaration.specs.Courses.{answer_then, look_then, run_then, Goes}
 

@@ -3,8 +3,8 @@ use Rattle.std.specs.Prelude.{ℕ, Bool, Ok, Err, Result, if◌then◌else◌}
 use Rattle.lk_tree.specs.Tree.{Level, Tree}
 use Rattle.lk_tree.specs.Level.{is_zero_level}
 use Rattle.lk_tree.specs.declared.rule.Rule.TheVariants.{ValueType, TheoremNotProp, LevelWidth}
-use Rattle.lk_plain.specs.Query.{Query, core, whnf, infer, same}
-use Rattle.lk_plain.specs.Program.{Program, done, refuse, asked, ◌>>=◌}
+use Rattle.lk_questions.specs.Query.{Query, core, whnf, infer, same}
+use Rattle.lk_questions.specs.Program.{Program, done, refuse, asked, ◌>>=◌}
 use Rattle.lk_questions.specs.Steps.{given, as_sort, sort_of}
 use Rattle.lk_questions.specs.Declarations.{Yes, checked, value_steps}
 use Rattle.lk_level_order.specs.declared.compared.LevelError.{LevelError}

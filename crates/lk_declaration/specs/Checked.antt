@@ -1,6 +1,6 @@
 -- What a check says of its outcome.
 use Rattle.std.specs.Prelude.{◌≡◌, ℕ, true, Option, Ok, Err, Result}
-use Rattle.lk_plain.specs.Erased.{truth, Out, finished}
+use Rattle.lk_questions.specs.Erased.{truth, Out, finished}
 use Rattle.lk_ask.specs.declared.stop.Stop.{Stop}
 use Rattle.lk_ask.specs.Outcomes.{IsStop}
 

@@ -5,10 +5,10 @@ use Rattle.lk_tree.specs.Tree.{Tree}
 use Rattle.lk_tree.specs.declared.rule.Rule.{Rule}
 use Rattle.lk_tree.specs.declared.rule.Rule.TheVariants.{LooseVariable}
 use Rattle.lk_rulebook.specs.Place.{Place, Entry}
-use Rattle.lk_plain.specs.Query.{Query, AnswerTo, core, whnf, infer, same}
-use Rattle.lk_plain.specs.Program.{Program, Table, done, refuse, ask, look}
-use Rattle.lk_plain.specs.Answer.{refusal}
-use Rattle.lk_plain.specs.Erased.{Value, a_tree, truth, erased, Out, finished, stopped, seen, go_on, run_steps, out_of}
+use Rattle.lk_questions.specs.Query.{Query, AnswerTo, core, whnf, infer, same}
+use Rattle.lk_questions.specs.Program.{Program, Table, done, refuse, ask, look}
+use Rattle.lk_questions.specs.Answer.{refusal}
+use Rattle.lk_questions.specs.Erased.{Value, a_tree, truth, erased, Out, finished, stopped, seen, go_on, run_steps, out_of}
 use Rattle.lk_questions.specs.Declarations.{Yes}
 use Rattle.lk_ask.specs.declared.stop.Stop.{Stop}
 use Rattle.lk_ask.specs.declared.stop.Stop.TheVariants.{No, Spent, NoMemory}

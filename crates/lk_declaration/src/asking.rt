@@ -2,8 +2,8 @@
 
 ghost use Rattle.std.specs.Prelude.{◌≡◌, ◌<◌, length, IfOk};
 ghost use Rattle.lk_tree.specs.LevelTest.{level_test, level_le_test};
-ghost use Rattle.lk_plain.specs.Query.{whnf, infer, same};
-ghost use Rattle.lk_plain.specs.Program.{asked};
+ghost use Rattle.lk_questions.specs.Query.{whnf, infer, same};
+ghost use Rattle.lk_questions.specs.Program.{asked};
 ghost use Rattle.lk_store.specs.Contents.{level_at, tree_at, Extends};
 ghost use Rattle.lk_questions.specs.Steps.{as_sort, sort_of};
 ghost use Rattle.lk_questions.specs.Levels.{tested};

@@ -2,7 +2,7 @@
 use Rattle.std.proofs.Common.{◌≡◌, ℕ, Bool, true, false, List, [], Ok, Err, Result, Option, Some, None, refl, sym, subst, arith, inl, inr}
 use Rattle.std.specs.Prelude.{IfSome, IfOk, OnErr}
 use Rattle.std.proofs.lemmas.Map.Views.{Contains-from_lookup}
-use Rattle.lk_plain.specs.Laws.{IsBelow}
+use Rattle.lk_questions.specs.Laws.{IsBelow}
 use Rattle.lk_store.specs.declared.memory.NoMemory.{NoMemory}
 use Rattle.lk_ask.specs.declared.kept.Kept.{Kept}
 use Rattle.lk_desk.specs.declared.entry.Entry.{Entry}

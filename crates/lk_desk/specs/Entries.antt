@@ -1,6 +1,6 @@
 -- Answers that are spelled, and their numbers in an overlay.
 use Rattle.std.specs.Prelude.{◌≡◌, length}
-use Rattle.lk_plain.specs.Erased.{Value, a_tree, truth}
+use Rattle.lk_questions.specs.Erased.{Value, a_tree, truth}
 use Rattle.lk_store.specs.Contents.{Contents, tree_at}
 use Rattle.lk_spell.specs.Spelled.{IsSpelled, spelled_tree}
 use Rattle.lk_ask.specs.Questions.{value_at, IsKnownAnswer}

@@ -1,7 +1,7 @@
 -- Where a question belongs, and what a shard has of it.
 use Rattle.std.specs.Prelude.{◌≡◌, ℕ, ◌+◌, ◌*◌, ◌%◌, ◌<◌, ◌≤◌, ◌⊎◌, false, List, length, Contains, Option, Some, None, IsSome}
 use Rattle.std.specs.Map.{lookup}
-use Rattle.lk_plain.specs.Laws.{IsBelow}
+use Rattle.lk_questions.specs.Laws.{IsBelow}
 use Rattle.lk_ask.specs.declared.kept.Kept.{Kept}
 use Rattle.lk_desk.specs.declared.entry.Entry.{Entry}
 use Rattle.lk_store.specs.Contents.{Contents}

@@ -2,7 +2,7 @@
 use Rattle.std.specs.Prelude.{◌≡◌, ℕ, ◌+◌, ◌≤◌, List, [], length, Contains, Option, Some, None}
 use Rattle.lk_rulebook.specs.Place.{Place}
 use Rattle.lk_rulebook.specs.Units.{place_of}
-use Rattle.lk_plain.specs.Erased.{Value, out_of, IsAnsweredAt}
+use Rattle.lk_questions.specs.Erased.{Value, out_of, IsAnsweredAt}
 use Rattle.lk_questions.specs.Table.{steps}
 use Rattle.lk_store.specs.Contents.{Contents, tree_at}
 use Rattle.lk_store.specs.Store.{contents_of}

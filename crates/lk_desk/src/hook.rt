@@ -1,7 +1,7 @@
 //! The shelf of a desk and a seat.
 
 ghost use Rattle.std.specs.Prelude.{◌≡◌, ◌+◌, ◌<◌, ◌≤◌, ◌⊎◌, [], ◌∷◌, IfOk, OnErr, IfSome, IfNone, Some, None, true};
-ghost use Rattle.lk_plain.specs.Laws.{IsBelow};
+ghost use Rattle.lk_questions.specs.Laws.{IsBelow};
 ghost use Rattle.lk_desk.specs.Truth.{IsTrueOf, IsFoundOf, IsTablesOf};
 ghost use Rattle.lk_store.specs.Contents.{Extends};
 ghost use Rattle.lk_store.specs.Store.{contents_of};

@@ -2,7 +2,7 @@
 
 ghost use Rattle.std.specs.Prelude.{◌≡◌, ◌≢◌, ◌+◌, ◌<◌, ◌≤◌, ◌⊎◌, ℕ, IfOk, OnErr, IfSome, IfNone, Some, None, Bool, true, Option};
 ghost use Rattle.atomic_table.specs.Seated.{TableId};
-ghost use Rattle.lk_plain.specs.Laws.{IsBelow};
+ghost use Rattle.lk_questions.specs.Laws.{IsBelow};
 ghost use Rattle.lk_desk.specs.declared.view.View.{View};
 ghost use Rattle.lk_store.specs.Contents.{Extends};
 ghost use Rattle.lk_store.specs.Store.{contents_of};

@@ -5,8 +5,8 @@ use Rattle.lk_tree.specs.Tree.{Name, Level, Tree, const}
 use Rattle.lk_tree.specs.declared.rule.Rule.TheVariants.{UnknownConstant}
 use Rattle.lk_tree.specs.Spine.{head, args}
 use Rattle.lk_rulebook.specs.Place.{Place, Kind, Entry as PlainEntry, an_axiom, a_def, a_thm, an_opaque, a_quot, a_type, a_ctor, a_rec}
-use Rattle.lk_plain.specs.Erased.{a_tree, Steps, erased}
-use Rattle.lk_plain.specs.Program.{Program}
+use Rattle.lk_questions.specs.Erased.{a_tree, Steps, erased}
+use Rattle.lk_questions.specs.Program.{Program}
 use Rattle.lk_questions.specs.Iota.{core_constant}
 use Rattle.lk_questions.specs.Core.{core_applied}
 use Rattle.lk_questions.specs.Quotients.{by_quot, core_quot}

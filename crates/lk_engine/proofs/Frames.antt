@@ -5,14 +5,14 @@ use Rattle.std.proofs.lemmas.List.Elements.{All-weaker, All-head, All-tail}
 use Rattle.lk_tree.specs.Tree.{Tree}
 use Rattle.lk_tree.specs.Spine.{head}
 use Rattle.lk_rulebook.specs.Place.{Place}
-use Rattle.lk_plain.specs.Erased.{Value, a_tree, truth, Steps, gives, erased, erased_then, finished, seen, run_steps, out_of}
-use Rattle.lk_plain.specs.Program.{Program, ask, asked, ◌>>=◌}
-use Rattle.lk_plain.proofs.Continuing.{then_is}
-use Rattle.lk_plain.proofs.Erasing.{later_none, run_from}
+use Rattle.lk_questions.specs.Erased.{Value, a_tree, truth, Steps, gives, erased, erased_then, finished, seen, run_steps, out_of}
+use Rattle.lk_questions.specs.Program.{Program, ask, asked, ◌>>=◌}
+use Rattle.lk_questions.proofs.Continuing.{then_is}
+use Rattle.lk_questions.proofs.Erasing.{later_none, run_from}
 use Rattle.lk_questions.specs.Core.{stepped, whnf_headed}
 use Rattle.lk_questions.specs.Pairs.{answers, ◌or_else◌}
 use Rattle.lk_questions.specs.Table.{steps}
-use Rattle.lk_plain.specs.Query as plain
+use Rattle.lk_questions.specs.Query as plain
 use Rattle.lk_store.specs.Contents.{Contents, tree_at, Extends}
 use Rattle.lk_store.specs.Store.{contents_of}
 use Rattle.lk_store.proofs.Extending.{Extends-trans}

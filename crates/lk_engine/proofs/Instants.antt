@@ -4,10 +4,10 @@ use Rattle.std.specs.Prelude.{IfSome, true, if◌then◌else◌}
 use Rattle.lk_tree.specs.Tree.{tree_discrete, Tree, var, sort, const, app, lam, pi, let_in, proj, lit, wide, str, local}
 use Rattle.lk_tree.specs.Spine.{head}
 use Rattle.lk_rulebook.specs.Place.{Place}
-use Rattle.lk_plain.specs.Query.{Query as Plain, core, whnf, infer, same}
-use Rattle.lk_plain.specs.Erased.{Value, a_tree, truth, gives, erased, Out, finished, used_up, seen, go_on, with_tree, run_steps, out_of, steps_of, IsAnsweredAt}
-use Rattle.lk_plain.proofs.Erasing.{out-step, out-none}
-use Rattle.lk_plain.specs.Program.{done}
+use Rattle.lk_questions.specs.Query.{Query as Plain, core, whnf, infer, same}
+use Rattle.lk_questions.specs.Erased.{Value, a_tree, truth, gives, erased, Out, finished, used_up, seen, go_on, with_tree, run_steps, out_of, steps_of, IsAnsweredAt}
+use Rattle.lk_questions.proofs.Erasing.{out-step, out-none}
+use Rattle.lk_questions.specs.Program.{done}
 use Rattle.lk_rulebook.specs.SameTree.{decided, is_same_tree}
 use Rattle.lk_questions.specs.Core.{whnf_headed}
 use Rattle.lk_questions.specs.Same.{by_shape}

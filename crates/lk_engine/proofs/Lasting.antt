@@ -4,13 +4,13 @@ use Rattle.std.specs.Prelude.{option_and_then, slice_get}
 use Rattle.lk_tree.specs.Tree.{Name}
 use Rattle.lk_rulebook.specs.Place.{Place, Entry}
 use Rattle.lk_rulebook.specs.Units.{LibraryUnit, Library, Found, given_by, first_of_two, at_unit, first_giving, unit_or, flawless, place_of, members_of}
-use Rattle.lk_plain.specs.Query as plain
-use Rattle.lk_plain.specs.Answer.{Outcome, answered, refused, spent, IfAnswered, plain_answer}
-use Rattle.lk_plain.specs.Laws.{IsBelow, Keeps}
-use Rattle.lk_plain.specs.Erased.{Value, finished, left_of, value_of, out_of, IsAnsweredAt}
-use Rattle.lk_plain.proofs.Agreement.{ans_keeps}
-use Rattle.lk_plain.proofs.Places.{found_entry, place_keeps}
-use Rattle.lk_plain.proofs.Exact.{out_exact}
+use Rattle.lk_questions.specs.Query as plain
+use Rattle.lk_questions.specs.Answer.{Outcome, answered, refused, spent, IfAnswered, plain_answer}
+use Rattle.lk_questions.specs.Laws.{IsBelow, Keeps}
+use Rattle.lk_questions.specs.Erased.{Value, finished, left_of, value_of, out_of, IsAnsweredAt}
+use Rattle.lk_questions.proofs.Agreement.{ans_keeps}
+use Rattle.lk_questions.proofs.Places.{found_entry, place_keeps}
+use Rattle.lk_questions.proofs.Exact.{out_exact}
 use Rattle.lk_questions.specs.Table.{steps}
 use Rattle.lk_store.specs.Contents.{Contents, tree_at, Extends}
 use Rattle.lk_env.specs.declared.entry.Partial.TheVariants.{Nothing}

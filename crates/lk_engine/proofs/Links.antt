@@ -5,11 +5,11 @@ use Rattle.std.proofs.lemmas.Bool.Decides.{nat_tests}
 use Rattle.std.proofs.lemmas.List.Elements.{All-push, All-pop}
 use Rattle.lk_tree.specs.Tree.{Tree}
 use Rattle.lk_rulebook.specs.Place.{Place}
-use Rattle.lk_plain.specs.Query as plain
-use Rattle.lk_plain.specs.Answer.{later}
-use Rattle.lk_plain.specs.Erased.{Value, Steps, asks, Out, finished, stopped, used_up, seen, go_on, run_steps, out_of, steps_of}
-use Rattle.lk_plain.proofs.Erasing.{out-zero, out-step, seen_seen}
-use Rattle.lk_plain.proofs.Exact.{out_exact}
+use Rattle.lk_questions.specs.Query as plain
+use Rattle.lk_questions.specs.Answer.{later}
+use Rattle.lk_questions.specs.Erased.{Value, Steps, asks, Out, finished, stopped, used_up, seen, go_on, run_steps, out_of, steps_of}
+use Rattle.lk_questions.proofs.Erasing.{out-zero, out-step, seen_seen}
+use Rattle.lk_questions.proofs.Exact.{out_exact}
 use Rattle.lk_questions.specs.Table.{steps}
 use Rattle.lk_store.specs.Contents.{Contents, tree_at, Extends}
 use Rattle.lk_ask.specs.declared.query.Query.{Query}

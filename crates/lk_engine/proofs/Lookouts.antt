@@ -1,7 +1,7 @@
 -- What a step, an answer that is kept, and a question leave of a lookout, and what they come to.
 use Rattle.std.proofs.Common.{◌≡◌, ◌≢◌, ℕ, Bool, true, false, ◌<◌, [], Option, Some, None, Ok, Err, Result, refl, ap, sym, subst, ◌∙◌, arith}
 use Rattle.std.specs.Prelude.{IfOk, IfErr, IfSome, OnOk}
-use Rattle.lk_plain.specs.Erased.{Steps}
+use Rattle.lk_questions.specs.Erased.{Steps}
 use Rattle.lk_rulebook.specs.Units.{Members}
 use Rattle.lk_rulebook.specs.Units.{place_of as unit_place}
 use Rattle.lk_questions.specs.Table.{steps}

@@ -1,6 +1,6 @@
 -- An outcome that is known whole.
 use Rattle.std.proofs.Common.{ℕ, Option, Ok, Err, Result}
-use Rattle.lk_plain.specs.Erased.{Out}
+use Rattle.lk_questions.specs.Erased.{Out}
 use Rattle.lk_store.specs.Contents.{Contents}
 use Rattle.lk_ask.specs.declared.query.Answer.{Answer}
 use Rattle.lk_ask.specs.declared.stop.Stop.{Stop}

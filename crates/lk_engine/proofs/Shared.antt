@@ -2,9 +2,9 @@
 -- left.
 use Rattle.std.proofs.Common.{◌≡◌, ℕ, ◌<◌, ◌+◌, ◌-◌, ◌^◌, ◌≤◌, length, Option, Some, None, Ok, Err, Result, refl, ap, sym, subst, ◌∙◌, arith}
 use Rattle.std.specs.Prelude.{IfOk, IfSome}
-use Rattle.lk_plain.specs.Laws.{IsBelow}
-use Rattle.lk_plain.specs.Erased.{Out, out_of, IsAnsweredAt}
-use Rattle.lk_plain.proofs.Exact.{out_exact}
+use Rattle.lk_questions.specs.Laws.{IsBelow}
+use Rattle.lk_questions.specs.Erased.{Out, out_of, IsAnsweredAt}
+use Rattle.lk_questions.proofs.Exact.{out_exact}
 use Rattle.lk_questions.specs.Table.{steps}
 use Rattle.lk_store.specs.declared.tables.Tables.{Tables}
 use Rattle.lk_store.specs.Contents.{Contents, tree_at, Extends}

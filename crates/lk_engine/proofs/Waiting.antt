@@ -1,10 +1,10 @@
 -- A question waits for what it asks, and one that waits for itself is neither answered nor refused. It holds of every table.
 use Rattle.std.proofs.Common.{ℕ, zero, suc, ◌≡◌, ◌<◌, ◌≤◌, ◌-◌, ◌⊎◌, inl, inr, Option, ap, sym, ◌∙◌, arith}
 use Rattle.lk_rulebook.specs.Place.{Place}
-use Rattle.lk_plain.specs.Query.{Query}
-use Rattle.lk_plain.specs.Program.{Table}
-use Rattle.lk_plain.specs.Erased.{Value, Steps, asks, gives, Out, finished, stopped, used_up, seen, go_on, run_steps, out_of, steps_of, IsAnsweredAt}
-use Rattle.lk_plain.proofs.Erasing.{out-zero, out-suc}
+use Rattle.lk_questions.specs.Query.{Query}
+use Rattle.lk_questions.specs.Program.{Table}
+use Rattle.lk_questions.specs.Erased.{Value, Steps, asks, gives, Out, finished, stopped, used_up, seen, go_on, run_steps, out_of, steps_of, IsAnsweredAt}
+use Rattle.lk_questions.proofs.Erasing.{out-zero, out-suc}
 use Rattle.lk_engine.specs.Waiting.{WaitsFor}
 
 pub waits_on : {f g h : ℕ → Out} → WaitsFor f g → WaitsFor g h → WaitsFor f h

@@ -3,7 +3,7 @@
 use Rattle.std.specs.Prelude.{◌≡◌, ◌⊎◌, ℕ, [], Some, length}
 use Rattle.lk_rulebook.specs.Place.{Place}
 use Rattle.lk_rulebook.specs.Units.{place_of}
-use Rattle.lk_plain.specs.Erased.{out_of, IsAnsweredAt}
+use Rattle.lk_questions.specs.Erased.{out_of, IsAnsweredAt}
 use Rattle.lk_questions.specs.Table.{steps}
 use Rattle.lk_store.specs.Contents.{Contents, tree_at, Extends}
 use Rattle.lk_store.specs.Store.{contents_of}

@@ -3,7 +3,7 @@ use Rattle.std.specs.Prelude.{◌≡◌, ◌≢◌, ◌<◌, ◌≤◌, ◌+◌,
 use Rattle.lk_rulebook.specs.Place.{Place}
 use Rattle.lk_rulebook.specs.Units.{Members}
 use Rattle.lk_rulebook.specs.Units.{place_of as unit_place}
-use Rattle.lk_plain.specs.Erased.{Out, IsAnsweredAt, run_steps, out_of}
+use Rattle.lk_questions.specs.Erased.{Out, IsAnsweredAt, run_steps, out_of}
 use Rattle.lk_questions.specs.Table.{steps}
 use Rattle.lk_store.specs.declared.sizes.Sizes.{Sizes}
 use Rattle.lk_store.specs.Sizes.{sizes_of}

@@ -4,8 +4,8 @@ use Rattle.lk_store.specs.declared.memory.NoMemory.{NoMemory}
 use Rattle.lk_store.specs.Contents.{Contents, tree_at, Extends}
 use Rattle.lk_tree.specs.Tree.{Tree}
 use Rattle.lk_rulebook.specs.Place.{Place}
-use Rattle.lk_plain.specs.Program.{Program}
-use Rattle.lk_plain.specs.Erased.{Value, a_tree, truth, Steps, asks, erased, seen, go_on, run_steps, out_of}
+use Rattle.lk_questions.specs.Program.{Program}
+use Rattle.lk_questions.specs.Erased.{Value, a_tree, truth, Steps, asks, erased, seen, go_on, run_steps, out_of}
 use Rattle.lk_questions.specs.Core.{core_steps, whnf_steps}
 use Rattle.lk_questions.specs.Infer.{infer_steps}
 use Rattle.lk_questions.specs.Same.{same_steps}
@@ -13,7 +13,7 @@ use Rattle.lk_questions.specs.Table.{steps}
 use Rattle.lk_ask.specs.declared.query.Query.{Query}
 use Rattle.lk_ask.specs.declared.query.Query.TheVariants.{Core, Whnf, Infer, Same}
 use Rattle.lk_ask.specs.declared.next.Next.{Next}
-use Rattle.lk_plain.specs.Query as plain
+use Rattle.lk_questions.specs.Query as plain
 use Rattle.lk_ask.specs.Questions.{query_of, IsKnownQuery}
 use Rattle.lk_ask.specs.Looks.{Sight}
 use Rattle.lk_ask.specs.Gives.{Gives}

@@ -1,6 +1,6 @@
 -- Answers that workers share: a desk has what is true above all that was looked at.
 use Rattle.std.specs.Prelude.{◌≡◌, ℕ, Option, Some, None}
-use Rattle.lk_plain.specs.Laws.{IsBelow}
+use Rattle.lk_questions.specs.Laws.{IsBelow}
 use Rattle.lk_store.specs.Contents.{Contents}
 use Rattle.lk_ask.specs.declared.query.Query.{Query}
 use Rattle.lk_ask.specs.declared.kept.Kept.{Kept}

@@ -1,7 +1,7 @@
 -- Questions that wait for one another, by their outcomes under every budget.
 use Rattle.std.specs.Prelude.{◌≡◌, ◌<◌, ◌/◌, ◌&&◌, ◌||◌, ℕ, Bool, false, List, [], ◌∷◌, length, drop, nat_eq}
 use Rattle.std.specs.List.{list_any}
-use Rattle.lk_plain.specs.Erased.{Out, used_up}
+use Rattle.lk_questions.specs.Erased.{Out, used_up}
 use Rattle.lk_ask.specs.declared.query.Query.{Query}
 use Rattle.lk_ask.specs.declared.query.Query.TheVariants.{Core, Whnf, Infer, Same}
 use Rattle.lk_engine.specs.declared.answering.Frame.{Frame}

@@ -4,7 +4,7 @@ ghost use Rattle.std.specs.Prelude.{◌≡◌, ◌<◌, length};
 ghost use Rattle.lk_tree.specs.Tree.{const};
 ghost use Rattle.lk_tree.specs.Loose.{loose};
 ghost use Rattle.lk_tree.specs.Spine.{head as head_of, args as args_of};
-ghost use Rattle.lk_plain.specs.Erased.{a_tree};
+ghost use Rattle.lk_questions.specs.Erased.{a_tree};
 ghost use Rattle.lk_questions.specs.Core.{core_applied, core_steps};
 ghost use Rattle.lk_questions.specs.Infer.{infer_steps};
 ghost use Rattle.lk_store.specs.Contents.{name_at, list_at, tree_at};

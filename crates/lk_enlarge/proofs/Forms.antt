@@ -3,7 +3,7 @@ use Rattle.std.proofs.Common.{◌≡◌, ◌+◌, ◌++◌, suc, None, Bool, tru
 use Rattle.lk_tree.specs.Tree.{Name, Level, Tree}
 use Rattle.lk_tree.specs.Mentions.{same_name}
 use Rattle.lk_rulebook.specs.Place.{Block, BlockType}
-use Rattle.lk_plain.specs.Program.{Program, done, ◌>>=◌}
+use Rattle.lk_questions.specs.Program.{Program, done, ◌>>=◌}
 use Rattle.lk_inductive.specs.BlockSteps.{as_level}
 use Rattle.lk_inductive.specs.Enlarged.{Aux, Setting}
 use Rattle.lk_inductive.specs.Nested.{at_args, stated_pis, ctors_at, aux_of, others_of, family_of, other_count, aux_applied, met}

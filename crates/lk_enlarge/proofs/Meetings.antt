@@ -5,7 +5,7 @@ use Rattle.lk_tree.specs.Spine.{apply, head, args}
 use Rattle.lk_tree.proofs.Within.{apply_head_args}
 use Rattle.lk_tree.specs.declared.rule.Rule.TheVariants.{NestedForm}
 use Rattle.lk_rulebook.specs.Place.{Place}
-use Rattle.lk_plain.specs.Program.{Program}
+use Rattle.lk_questions.specs.Program.{Program}
 use Rattle.lk_questions.specs.Steps.{given}
 use Rattle.lk_inductive.specs.Enlarged.{Aux, Setting}
 use Rattle.lk_inductive.specs.Nested.{may_nest, aux_at, aux_applied, met}

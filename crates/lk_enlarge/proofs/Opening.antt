@@ -5,7 +5,7 @@ use Rattle.lk_tree.specs.Tree.{Tree, var, sort, const, app, lam, pi, let_in, pro
 use Rattle.lk_tree.specs.Bind.{opened, close}
 use Rattle.lk_tree.specs.declared.rule.Rule.{Rule}
 use Rattle.lk_rulebook.specs.Place.{Place}
-use Rattle.lk_plain.specs.Program.{Program, done, refuse, ◌>>=◌}
+use Rattle.lk_questions.specs.Program.{Program, done, refuse, ◌>>=◌}
 use Rattle.lk_ask.specs.declared.stop.Stop.{Stop}
 use Rattle.lk_ask.specs.declared.stop.Stop.TheVariants.{No, Spent, NoMemory}
 use Rattle.lk_declaration.specs.Courses.{Refuses}

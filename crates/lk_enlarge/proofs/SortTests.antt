@@ -3,7 +3,7 @@ use Rattle.std.proofs.Common.{◌≡◌, true, false, List, ◌∷◌, ap, ◌�
 use Rattle.lk_tree.specs.Tree.{Level}
 use Rattle.lk_tree.specs.LevelTest.{level_test}
 use Rattle.lk_tree.specs.declared.rule.Rule.TheVariants.{BlockShape}
-use Rattle.lk_plain.specs.Program.{done, refuse, ◌>>=◌}
+use Rattle.lk_questions.specs.Program.{done, refuse, ◌>>=◌}
 use Rattle.lk_ask.specs.declared.stop.Stop.{Stop}
 use Rattle.lk_ask.specs.declared.stop.Stop.TheVariants.{No, Spent, NoMemory}
 use Rattle.lk_declaration.specs.Courses.{Refuses}

@@ -2,7 +2,7 @@
 use Rattle.std.specs.Prelude.{ℕ, List, length, Option, Some, None}
 use Rattle.lk_tree.specs.Tree.{Name, Tree}
 use Rattle.lk_rulebook.specs.Place.{Place, Ctor, BlockType}
-use Rattle.lk_plain.specs.Program.{Program, done, ◌>>=◌}
+use Rattle.lk_questions.specs.Program.{Program, done, ◌>>=◌}
 use Rattle.lk_inductive.specs.Enlarged.{Aux, Setting, aux_name, aux_ctor, aux_from}
 use Rattle.lk_inductive.specs.Nested.{nest, aux_types}
 use Rattle.lk_inductive.specs.Recursors.{pis}

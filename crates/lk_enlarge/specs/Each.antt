@@ -1,6 +1,6 @@
 -- Several things, one after another, while auxiliary types are added.
 use Rattle.std.specs.Prelude.{List, [], ◌∷◌}
-use Rattle.lk_plain.specs.Program.{Program, done, ◌>>=◌}
+use Rattle.lk_questions.specs.Program.{Program, done, ◌>>=◌}
 use Rattle.lk_inductive.specs.Enlarged.{Aux}
 
 abbrev pub each : {X Y : Type 0} → (X → List Aux → Program (Y × List Aux)) → List X → List Aux → Program (List Y × List Aux)

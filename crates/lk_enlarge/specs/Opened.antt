@@ -4,7 +4,7 @@ use Rattle.lk_tree.specs.Tree.{Tree, pi, local}
 use Rattle.lk_tree.specs.Bind.{opened}
 use Rattle.lk_tree.specs.declared.rule.Rule.TheVariants.{BlockShape}
 use Rattle.lk_rulebook.specs.Place.{Place}
-use Rattle.lk_plain.specs.Program.{Program, done, refuse, ◌>>=◌}
+use Rattle.lk_questions.specs.Program.{Program, done, refuse, ◌>>=◌}
 use Rattle.lk_inductive.specs.Enlarged.{Aux, Setting}
 use Rattle.lk_inductive.specs.Nested.{nest_past}
 use Rattle.lk_inductive.specs.Recursors.{number}

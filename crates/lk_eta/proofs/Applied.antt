@@ -4,8 +4,8 @@ use Rattle.lk_tree.specs.Tree.{Name, Level, Tree, const}
 use Rattle.lk_tree.specs.Spine.{head, args}
 use Rattle.lk_tree.specs.declared.rule.Rule.TheVariants.{UnknownConstant}
 use Rattle.lk_rulebook.specs.Place.{Place, Entry as PlainEntry, Kind, an_axiom, a_def, a_thm, an_opaque, a_quot, a_type, a_ctor, a_rec}
-use Rattle.lk_plain.specs.Program.{Program, look, ◌>>=◌}
-use Rattle.lk_plain.specs.Erased.{truth, erased}
+use Rattle.lk_questions.specs.Program.{Program, look, ◌>>=◌}
+use Rattle.lk_questions.specs.Erased.{truth, erased}
 use Rattle.lk_questions.specs.Iota.{ctor_app_by, ctor_app_of}
 use Rattle.lk_questions.specs.Pairs.{Line, goes_on, ◌or_else◌}
 use Rattle.lk_questions.specs.Eta.{eta_struct, by_structure_eta}

@@ -2,9 +2,9 @@
 use Rattle.std.proofs.Common.{◌≡◌, ◌<◌, ℕ, Option, None, length, ap, ◌∙◌}
 use Rattle.lk_tree.specs.Tree.{Tree, pi}
 use Rattle.lk_rulebook.specs.Place.{Place}
-use Rattle.lk_plain.specs.Query.{same}
-use Rattle.lk_plain.specs.Program.{done}
-use Rattle.lk_plain.specs.Erased.{truth, Steps, asks, with_truth, erased}
+use Rattle.lk_questions.specs.Query.{same}
+use Rattle.lk_questions.specs.Program.{done}
+use Rattle.lk_questions.specs.Erased.{truth, Steps, asks, with_truth, erased}
 use Rattle.lk_questions.specs.Pairs.{yes_alone, ◌or_else◌}
 use Rattle.lk_questions.specs.Same.{eta_long, eta_first, eta_second}
 use Rattle.lk_store.specs.Contents.{Contents, tree_at, Extends, IsTree}

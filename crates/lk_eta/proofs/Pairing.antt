@@ -7,9 +7,9 @@ use Rattle.lk_tree.specs.Tree.{Name, Tree, proj}
 use Rattle.lk_tree.specs.Spine.{args}
 use Rattle.lk_rulebook.specs.Place.{Place, BlockType, Ctor}
 use Rattle.lk_rulebook.specs.Structures.{projections}
-use Rattle.lk_plain.specs.Query.{same}
-use Rattle.lk_plain.specs.Program.{Program, done, ask}
-use Rattle.lk_plain.specs.Erased.{truth, erased}
+use Rattle.lk_questions.specs.Query.{same}
+use Rattle.lk_questions.specs.Program.{Program, done, ask}
+use Rattle.lk_questions.specs.Erased.{truth, erased}
 use Rattle.lk_questions.specs.Pairs.{same_all, answers_yes, ◌or_else◌}
 use Rattle.lk_questions.specs.Eta.{same_fields}
 use Rattle.lk_store.specs.Contents.{Contents, name_at, tree_at, Extends}

@@ -4,7 +4,7 @@ use Rattle.lk_tree.specs.Tree.{Name, Level, Tree, const}
 use Rattle.lk_tree.specs.declared.rule.Rule.TheVariants.{UnknownConstant}
 use Rattle.lk_rulebook.specs.Place.{Kind, Block, BlockType, Ctor, an_axiom, a_def, a_thm, an_opaque, a_quot, a_type, a_ctor, a_rec}
 use Rattle.lk_rulebook.specs.Structures.{is_structure_like}
-use Rattle.lk_plain.specs.Program.{Program, look}
+use Rattle.lk_questions.specs.Program.{Program, look}
 use Rattle.lk_questions.specs.Pairs.{◌or_else◌}
 use Rattle.lk_questions.specs.Eta.{is_unit_like, is_unit_like_at, eta_unit}
 use Rattle.lk_mentions.specs.Structures.{unit_by, unit_in}

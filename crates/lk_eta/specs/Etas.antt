@@ -2,8 +2,8 @@
 use Rattle.std.specs.Prelude.{ℕ, Bool, Option, None, Result}
 use Rattle.lk_tree.specs.Tree.{Tree}
 use Rattle.lk_rulebook.specs.Place.{Place}
-use Rattle.lk_plain.specs.Program.{Program, done}
-use Rattle.lk_plain.specs.Erased.{Value, truth, Steps, gives, erased}
+use Rattle.lk_questions.specs.Program.{Program, done}
+use Rattle.lk_questions.specs.Erased.{Value, truth, Steps, gives, erased}
 use Rattle.lk_questions.specs.Pairs.{yes_alone, ◌or_else◌}
 use Rattle.lk_questions.specs.Eta.{by_structure_eta, by_unit_eta}
 use Rattle.lk_questions.specs.Same.{by_function_eta}

@@ -2,9 +2,9 @@
 use Rattle.std.specs.Prelude.{ℕ, Option}
 use Rattle.lk_tree.specs.Tree.{Tree}
 use Rattle.lk_rulebook.specs.Place.{Place}
-use Rattle.lk_plain.specs.Query.{whnf}
-use Rattle.lk_plain.specs.Program.{ask}
-use Rattle.lk_plain.specs.Erased.{truth, Steps, erased}
+use Rattle.lk_questions.specs.Query.{whnf}
+use Rattle.lk_questions.specs.Program.{ask}
+use Rattle.lk_questions.specs.Erased.{truth, Steps, erased}
 use Rattle.lk_questions.specs.Pairs.{Line, ◌or_else◌}
 use Rattle.lk_questions.specs.Same.{eta_first, eta_second}
 use Rattle.lk_ask.specs.Lines.{Rest}

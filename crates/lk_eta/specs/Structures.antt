@@ -4,9 +4,9 @@ use Rattle.lk_tree.specs.Tree.{Tree, const}
 use Rattle.lk_tree.specs.Spine.{head, args}
 use Rattle.lk_rulebook.specs.Place.{Place, Kind, BlockType, Ctor, a_ctor}
 use Rattle.lk_rulebook.specs.Structures.{is_structure_like}
-use Rattle.lk_plain.specs.Query.{infer, same}
-use Rattle.lk_plain.specs.Program.{Program, done, ask}
-use Rattle.lk_plain.specs.Erased.{Value, truth, Steps, erased}
+use Rattle.lk_questions.specs.Query.{infer, same}
+use Rattle.lk_questions.specs.Program.{Program, done, ask}
+use Rattle.lk_questions.specs.Erased.{Value, truth, Steps, erased}
 use Rattle.lk_questions.specs.Iota.{has_one_ctor}
 use Rattle.lk_questions.specs.Pairs.{Line as PlainLine, same_all, answers_yes, ◌or_else◌, goes_on}
 use Rattle.lk_questions.specs.Eta.{same_fields}

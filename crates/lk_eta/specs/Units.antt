@@ -3,9 +3,9 @@ use Rattle.std.specs.Prelude.{ℕ, List, Option, if◌then◌else◌}
 use Rattle.lk_tree.specs.Tree.{Tree}
 use Rattle.lk_tree.specs.Spine.{head, args}
 use Rattle.lk_rulebook.specs.Place.{Place, Kind}
-use Rattle.lk_plain.specs.Query.{whnf, infer, same}
-use Rattle.lk_plain.specs.Program.{ask, asked, ◌>>=◌}
-use Rattle.lk_plain.specs.Erased.{truth, Steps, erased}
+use Rattle.lk_questions.specs.Query.{whnf, infer, same}
+use Rattle.lk_questions.specs.Program.{ask, asked, ◌>>=◌}
+use Rattle.lk_questions.specs.Erased.{truth, Steps, erased}
 use Rattle.lk_questions.specs.Pairs.{Line, answers, ◌or_else◌, goes_on}
 use Rattle.lk_questions.specs.Eta.{is_unit_like_at, eta_unit}
 use Rattle.lk_ask.specs.Lines.{Rest}

@@ -4,7 +4,7 @@ ghost use Rattle.std.specs.Prelude.{◌≡◌, ◌<◌, ℕ, List, Option, Some,
 ghost use Rattle.lk_tree.specs.Tree.{Name, Level, Tree};
 ghost use Rattle.lk_tree.specs.Spine.{head as head_of, args};
 ghost use Rattle.lk_rulebook.specs.Place.{Place, Entry as PlainEntry, BlockType, Ctor};
-ghost use Rattle.lk_plain.specs.Erased.{truth, erased};
+ghost use Rattle.lk_questions.specs.Erased.{truth, erased};
 ghost use Rattle.lk_questions.specs.Iota.{ctor_app_by};
 ghost use Rattle.lk_questions.specs.Pairs.{answers_yes, ◌or_else◌};
 ghost use Rattle.lk_questions.specs.Eta.{eta_struct, by_structure_eta};

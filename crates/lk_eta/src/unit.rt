@@ -4,7 +4,7 @@ ghost use Rattle.std.specs.Prelude.{◌≡◌, ◌<◌, ℕ, Option, Some, IfOk,
 ghost use Rattle.lk_tree.specs.Tree.{Tree};
 ghost use Rattle.lk_tree.specs.Spine.{args};
 ghost use Rattle.lk_rulebook.specs.Place.{Place, Entry as PlainEntry};
-ghost use Rattle.lk_plain.specs.Erased.{truth, erased};
+ghost use Rattle.lk_questions.specs.Erased.{truth, erased};
 ghost use Rattle.lk_questions.specs.Pairs.{◌or_else◌};
 ghost use Rattle.lk_questions.specs.Eta.{is_unit_like_at};
 ghost use Rattle.lk_store.specs.Contents.{tree_at};

@@ -2,8 +2,8 @@
 use Rattle.std.proofs.Common.{◌≡◌, Bool, true, false, refl, if◌then◌else◌}
 use Rattle.lk_tree.specs.declared.rule.Rule.{Rule}
 use Rattle.lk_rulebook.specs.Place.{Entry}
-use Rattle.lk_plain.specs.Query.{AnswerTo}
-use Rattle.lk_plain.specs.Program.{Program, done, refuse, ask, look, ◌>>=◌}
+use Rattle.lk_questions.specs.Query.{AnswerTo}
+use Rattle.lk_questions.specs.Program.{Program, done, refuse, ask, look, ◌>>=◌}
 use Rattle.lk_questions.specs.Steps.{given}
 
 -- it has the property

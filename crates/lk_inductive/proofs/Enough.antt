@@ -7,10 +7,10 @@ use Rattle.lk_tree.specs.Spine.{head, args}
 use Rattle.lk_tree.specs.declared.rule.Rule.TheVariants.{UnknownConstant, BlockShape, NestedForm}
 use Rattle.lk_rulebook.specs.Place.{Place, Kind, Block, BlockType, Ctor, a_type}
 use Rattle.lk_tree.specs.Mentions.{same_name, is_one_of}
-use Rattle.lk_plain.specs.Query.{Query, AnswerTo}
-use Rattle.lk_plain.specs.Program.{Program, done, refuse, ask, look, ◌>>=◌}
-use Rattle.lk_plain.specs.Answer.{Outcome, answered, refused, spent, and_then, IfAnswered, outcome_of}
-use Rattle.lk_plain.proofs.Outcomes.{if_and_then, if_found}
+use Rattle.lk_questions.specs.Query.{Query, AnswerTo}
+use Rattle.lk_questions.specs.Program.{Program, done, refuse, ask, look, ◌>>=◌}
+use Rattle.lk_questions.specs.Answer.{Outcome, answered, refused, spent, and_then, IfAnswered, outcome_of}
+use Rattle.lk_questions.proofs.Outcomes.{if_and_then, if_found}
 use Rattle.lk_inductive.specs.BlockSteps.{mention_none}
 use Rattle.lk_inductive.specs.Nested.{Aux, Setting, may_nest, aux_at, has_pis, aux_of, others_of, family_of, other_count, aux_applied, met, replaced, at_kind, at_head, nest, holds_nested, nest_past, held_ctor, own_ctor, own_ctors, own_types, aux_ctors, aux_from, next_aux, aux_types, Larger, enlarge}
 use Rattle.lk_inductive.proofs.Always.{Always, always_any, always_bind, always_given, always_if}

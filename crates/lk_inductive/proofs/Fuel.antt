@@ -6,12 +6,12 @@ use Rattle.lk_tree.specs.declared.rule.Rule.{Rule}
 use Rattle.lk_tree.specs.declared.rule.Rule.TheVariants.{BlockShape, NotPositive, FieldUniverse}
 use Rattle.lk_rulebook.specs.Place.{Place, Block, BlockType, Ctor}
 use Rattle.lk_tree.specs.Mentions.{mentions}
-use Rattle.lk_plain.specs.Query.{Query, AnswerTo, whnf}
-use Rattle.lk_plain.specs.Program.{Table, Program, done, refuse, ask, look, asked, ◌>>=◌}
-use Rattle.lk_plain.specs.Answer.{Outcome, answered, refused, spent, after, and_then, IfAnswered, outcome_of, answer_to_depth, plain_answer}
+use Rattle.lk_questions.specs.Query.{Query, AnswerTo, whnf}
+use Rattle.lk_questions.specs.Program.{Table, Program, done, refuse, ask, look, asked, ◌>>=◌}
+use Rattle.lk_questions.specs.Answer.{Outcome, answered, refused, spent, after, and_then, IfAnswered, outcome_of, answer_to_depth, plain_answer}
 use Rattle.lk_questions.specs.Steps.{given, as_pi}
-use Rattle.lk_plain.proofs.Outcomes.{if_after, if_map, and_then_same, found_same}
-use Rattle.lk_plain.proofs.Budgets.{ans_steady}
+use Rattle.lk_questions.proofs.Outcomes.{if_after, if_map, and_then_same, found_same}
+use Rattle.lk_questions.proofs.Budgets.{ans_steady}
 use Rattle.lk_inductive.specs.Block.{Frame, frame_of, FieldKind, plain, under}
 use Rattle.lk_inductive.specs.BlockSteps.{over, walk_on, walk, fits_in, fields_steps, ctor_steps, ctors_steps, shapes_steps, TypeParts, shape_steps}
 use Rattle.lk_inductive.proofs.Tasks.{and_then_then, then_found, after_none}

@@ -2,11 +2,11 @@
 use Rattle.std.proofs.Common.{ℕ, suc, ◌-◌, List, [], ◌++◌, refl}
 use Rattle.lk_rulebook.specs.Place.{Place, Block, BlockRecursor}
 use Rattle.lk_rulebook.specs.Units.{Members, Library, place_of}
-use Rattle.lk_plain.specs.Query.{Query, AnswerTo}
-use Rattle.lk_plain.specs.Program.{Table}
-use Rattle.lk_plain.specs.Answer.{Outcome, plain_answer}
-use Rattle.lk_plain.specs.Parts.{IsPartOf}
-use Rattle.lk_plain.proofs.Parts.{Gives, gives_then, gives_found, ans_gives}
+use Rattle.lk_questions.specs.Query.{Query, AnswerTo}
+use Rattle.lk_questions.specs.Program.{Table}
+use Rattle.lk_questions.specs.Answer.{Outcome, plain_answer}
+use Rattle.lk_questions.specs.Parts.{IsPartOf}
+use Rattle.lk_questions.proofs.Parts.{Gives, gives_then, gives_found, ans_gives}
 use Rattle.lk_inductive.specs.Task.{Task, done_with, stopped, asking, looking, with_partial, run_task}
 use Rattle.lk_inductive.specs.NestedTask.{whole_task, plain_whole}
 

@@ -4,7 +4,7 @@ use Rattle.std.specs.Prelude.{option_and_then}
 use Rattle.lk_tree.specs.Tree.{Name, name_discrete}
 use Rattle.lk_rulebook.specs.Place.{Entry}
 use Rattle.lk_rulebook.specs.Units.{Members, LibraryUnit, given_by, first_of_two, first_giving, flawless, place_of, at_partial}
-use Rattle.lk_plain.specs.Sound.{WellStated, IsStated, KindStated}
+use Rattle.lk_questions.specs.Sound.{WellStated, IsStated, KindStated}
 use Rattle.lk_inductive.specs.Grows.{IsWithin}
 
 abbrev pub MembersStated : Members → Type 0

@@ -2,12 +2,12 @@
 use Rattle.std.proofs.Common.{ℕ, suc, ◌≡◌, ◌≤◌, ◌<◌, ◌+◌, ◌-◌, ◌++◌, List, [], Option, None, refl, ap, ◌∙◌, arith}
 use Rattle.lk_rulebook.specs.Place.{Place, Block}
 use Rattle.lk_rulebook.specs.Units.{Members, LibraryUnit, place_of}
-use Rattle.lk_plain.specs.Query.{Query, AnswerTo}
-use Rattle.lk_plain.specs.Program.{Table, Program, done, refuse, ask, look}
-use Rattle.lk_plain.specs.Answer.{Outcome, answered, and_then, IfAnswered, outcome_of, plain_answer}
-use Rattle.lk_plain.specs.Laws.{IsSteady}
-use Rattle.lk_plain.proofs.Outcomes.{and_then_same, found_same, if_map, of_answered}
-use Rattle.lk_plain.proofs.Budgets.{ans_steady}
+use Rattle.lk_questions.specs.Query.{Query, AnswerTo}
+use Rattle.lk_questions.specs.Program.{Table, Program, done, refuse, ask, look}
+use Rattle.lk_questions.specs.Answer.{Outcome, answered, and_then, IfAnswered, outcome_of, plain_answer}
+use Rattle.lk_questions.specs.Laws.{IsSteady}
+use Rattle.lk_questions.proofs.Outcomes.{and_then_same, found_same, if_map, of_answered}
+use Rattle.lk_questions.proofs.Budgets.{ans_steady}
 use Rattle.lk_inductive.specs.Block.{parameters_of}
 use Rattle.lk_inductive.specs.BlockSteps.{TypeParts, counts_steps, types_steps, all_ctor_sorts, shape_steps}
 use Rattle.lk_inductive.specs.Recursors.{BlockRecursor}

@@ -2,11 +2,11 @@
 use Rattle.std.proofs.Common.{ℕ, suc, ◌≡◌, ◌-◌, inl, inr, List, [], ◌++◌, refl, ◌∙◌, arith}
 use Rattle.lk_rulebook.specs.Place.{Place, Block, BlockRecursor}
 use Rattle.lk_rulebook.specs.Units.{Members, Library, place_of}
-use Rattle.lk_plain.specs.Query.{Query, AnswerTo}
-use Rattle.lk_plain.specs.Answer.{Outcome, plain_answer}
-use Rattle.lk_plain.specs.Laws.{IsSettled}
-use Rattle.lk_plain.specs.Program.{Table}
-use Rattle.lk_plain.proofs.Settled.{Settles, settled_then, settled_found, ans_settled}
+use Rattle.lk_questions.specs.Query.{Query, AnswerTo}
+use Rattle.lk_questions.specs.Answer.{Outcome, plain_answer}
+use Rattle.lk_questions.specs.Laws.{IsSettled}
+use Rattle.lk_questions.specs.Program.{Table}
+use Rattle.lk_questions.proofs.Settled.{Settles, settled_then, settled_found, ans_settled}
 use Rattle.lk_inductive.specs.Task.{Task, done_with, stopped, asking, looking, with_partial, run_task}
 use Rattle.lk_inductive.specs.NestedTask.{whole_task, plain_whole}
 use Rattle.lk_inductive.proofs.Plain.{NeedsNoFuel, whole_fuel, at_fuel, fueled, same_fuel}

@@ -2,12 +2,12 @@
 use Rattle.std.proofs.Common.{ℕ, ◌≡◌, ◌+◌, ◌-◌, ◌++◌, Some, refl, ap, ◌∙◌}
 use Rattle.lk_rulebook.specs.Place.{Place, Entry}
 use Rattle.lk_rulebook.specs.Units.{Members}
-use Rattle.lk_plain.specs.Query.{Query, AnswerTo}
-use Rattle.lk_plain.specs.Answer.{Outcome, answered, after, and_then, later, IfAnswered}
-use Rattle.lk_plain.specs.Laws.{IsBelow, Keeps}
-use Rattle.lk_plain.proofs.Outcomes.{if_and_then, if_found, if_map, found_there}
-use Rattle.lk_plain.proofs.Agreement.{later_below}
-use Rattle.lk_plain.proofs.Renamed.{Renaming, Alike, SameContents, alike_then, alike_found}
+use Rattle.lk_questions.specs.Query.{Query, AnswerTo}
+use Rattle.lk_questions.specs.Answer.{Outcome, answered, after, and_then, later, IfAnswered}
+use Rattle.lk_questions.specs.Laws.{IsBelow, Keeps}
+use Rattle.lk_questions.proofs.Outcomes.{if_and_then, if_found, if_map, found_there}
+use Rattle.lk_questions.proofs.Agreement.{later_below}
+use Rattle.lk_questions.proofs.Renamed.{Renaming, Alike, SameContents, alike_then, alike_found}
 use Rattle.lk_inductive.specs.Task.{Task, done_with, stopped, asking, looking, with_partial, run_task}
 
 -- where the other places give all that units below n give at these, a check that looked at units below n alone ends the same

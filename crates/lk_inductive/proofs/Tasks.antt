@@ -3,13 +3,13 @@ use Rattle.std.proofs.Common.{ℕ, ◌≡◌, ◌+◌, ◌-◌, ◌++◌, Option
 use Rattle.lk_rulebook.specs.Place.{Place, Entry}
 use Rattle.lk_rulebook.specs.Units.{Members}
 use Rattle.lk_tree.specs.declared.rule.Rule.{Rule}
-use Rattle.lk_plain.specs.Query.{Query, AnswerTo}
-use Rattle.lk_plain.specs.Program.{Program, done, refuse, ask, look}
-use Rattle.lk_plain.specs.Answer.{Outcome, answered, refused, spent, after, and_then, looked_up, later, IfAnswered}
-use Rattle.lk_plain.specs.Sound.{IsAskable, IsJustified, IsSound, IsSoundPlace}
-use Rattle.lk_plain.specs.Laws.{IsSteady}
-use Rattle.lk_plain.proofs.Outcomes.{if_and_then, if_found, if_map, found_there, and_then_same, found_same}
-use Rattle.lk_plain.proofs.Budgets.{steady_ask, steady_look}
+use Rattle.lk_questions.specs.Query.{Query, AnswerTo}
+use Rattle.lk_questions.specs.Program.{Program, done, refuse, ask, look}
+use Rattle.lk_questions.specs.Answer.{Outcome, answered, refused, spent, after, and_then, looked_up, later, IfAnswered}
+use Rattle.lk_questions.specs.Sound.{IsAskable, IsJustified, IsSound, IsSoundPlace}
+use Rattle.lk_questions.specs.Laws.{IsSteady}
+use Rattle.lk_questions.proofs.Outcomes.{if_and_then, if_found, if_map, found_there, and_then_same, found_same}
+use Rattle.lk_questions.proofs.Budgets.{steady_ask, steady_look}
 use Rattle.lk_inductive.specs.Task.{Task, done_with, stopped, asking, looking, with_partial, here, ◌>>=◌, run_task, IsSoundTask}
 
 Asker : Type 0

@@ -9,7 +9,7 @@ use Rattle.lk_tree.specs.Spine.{head, args, apply}
 use Rattle.lk_rulebook.specs.Place.{Block, BlockType, Ctor}
 use Rattle.lk_rulebook.specs.Shapes.{nat, nat_zero, nat_succ, named}
 use Rattle.lk_rulebook.specs.Units.{place_of}
-use Rattle.lk_plain.specs.Answer.{answered, answer_to_depth, plain_answer, outcome_of}
+use Rattle.lk_questions.specs.Answer.{answered, answer_to_depth, plain_answer, outcome_of}
 use Rattle.lk_questions.specs.Table.{steps}
 use native.Mathlib.Decide.{ℕ_discrete}
 use Rattle.lk_inductive.specs.Block.{Shape, recursive, type_entries}

@@ -10,7 +10,7 @@ use Rattle.lk_tree.specs.Spine.{head, args, apply}
 use Rattle.lk_rulebook.specs.Place.{Block}
 use Rattle.lk_rulebook.specs.Shapes.{nat, nat_zero, nat_succ, named}
 use Rattle.lk_rulebook.specs.Units.{LibraryUnit, of_decl, as_axiom, place_of}
-use Rattle.lk_plain.specs.Answer.{answered, refused, spent, answer_to_depth, plain_answer}
+use Rattle.lk_questions.specs.Answer.{answered, refused, spent, answer_to_depth, plain_answer}
 use Rattle.lk_questions.specs.Table.{steps}
 use native.Mathlib.Decide.{ℕ_discrete}
 use Rattle.lk_inductive.specs.Block.{recursive}

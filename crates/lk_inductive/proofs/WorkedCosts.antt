@@ -9,7 +9,7 @@ use Rattle.lk_tree.specs.Levels.{put_levels, put_in_level, level_for}
 use Rattle.lk_tree.specs.Spine.{head, args, apply}
 use Rattle.lk_rulebook.specs.Place.{Block, BlockType, Ctor, RecRule}
 use Rattle.lk_rulebook.specs.Units.{place_of, Members, LibraryUnit, of_block}
-use Rattle.lk_plain.specs.Answer.{outcome_of, plain_answer, Outcome, answered, refused, spent, answer_to_depth}
+use Rattle.lk_questions.specs.Answer.{outcome_of, plain_answer, Outcome, answered, refused, spent, answer_to_depth}
 use native.Mathlib.Decide.{ℕ_discrete}
 use Rattle.lk_questions.specs.Table.{steps}
 use Rattle.lk_inductive.specs.Block.{Shape}

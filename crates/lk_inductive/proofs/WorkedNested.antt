@@ -8,7 +8,7 @@ use Rattle.lk_tree.specs.Levels.{put_levels, put_in_level, level_for}
 use Rattle.lk_tree.specs.Spine.{head, args, apply}
 use Rattle.lk_rulebook.specs.Place.{Block, BlockType, RecRule}
 use Rattle.lk_rulebook.specs.Units.{LibraryUnit, of_block, place_of}
-use Rattle.lk_plain.specs.Answer.{answered, refused, answer_to_depth, plain_answer, outcome_of}
+use Rattle.lk_questions.specs.Answer.{answered, refused, answer_to_depth, plain_answer, outcome_of}
 use Rattle.lk_tree.specs.declared.rule.Rule.TheVariants.{NestedForm}
 use Rattle.lk_questions.specs.Table.{steps}
 use native.Mathlib.Decide.{ℕ_discrete}

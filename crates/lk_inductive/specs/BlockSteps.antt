@@ -8,8 +8,8 @@ use Rattle.lk_tree.specs.Spine.{head, args}
 use Rattle.lk_tree.specs.declared.rule.Rule.TheVariants.{BlockShape, ParameterDiffers, ConstructorResult, NotPositive, FieldUniverse}
 use Rattle.lk_rulebook.specs.Place.{Block, BlockType, Ctor}
 use Rattle.lk_tree.specs.Mentions.{mentions, same_name}
-use Rattle.lk_plain.specs.Query.{whnf, same}
-use Rattle.lk_plain.specs.Program.{Program, done, refuse, asked, ◌>>=◌}
+use Rattle.lk_questions.specs.Query.{whnf, same}
+use Rattle.lk_questions.specs.Program.{Program, done, refuse, asked, ◌>>=◌}
 use Rattle.lk_questions.specs.Steps.{given, as_pi, sort_of, is_same_tree}
 use Rattle.lk_questions.specs.Levels.{tested}
 use Rattle.lk_questions.specs.Declarations.{Yes, checked}

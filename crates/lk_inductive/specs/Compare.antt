@@ -5,8 +5,8 @@ use Rattle.lk_tree.specs.declared.rule.Rule.TheVariants.{RecursorDiffers}
 use Rattle.lk_rulebook.specs.Place.{RecRule}
 pub use Rattle.lk_rulebook.specs.Units.{rec_entries}
 use Rattle.lk_tree.specs.Mentions.{same_name}
-use Rattle.lk_plain.specs.Query.{infer, same}
-use Rattle.lk_plain.specs.Program.{Program, done, refuse, asked, ◌>>=◌}
+use Rattle.lk_questions.specs.Query.{infer, same}
+use Rattle.lk_questions.specs.Program.{Program, done, refuse, asked, ◌>>=◌}
 use Rattle.lk_questions.specs.Steps.{given, sort_of}
 use Rattle.lk_questions.specs.Declarations.{Yes, checked}
 use Rattle.lk_inductive.specs.Recursors.{BlockRecursor}

@@ -8,7 +8,7 @@ use Rattle.lk_tree.specs.Spine.{apply, head, args}
 use Rattle.lk_tree.specs.declared.rule.Rule.TheVariants.{UnknownConstant, LevelCount, BlockShape, NestedForm}
 use Rattle.lk_rulebook.specs.Place.{Kind, Block, BlockType, Ctor, a_type}
 use Rattle.lk_tree.specs.Mentions.{same_name, is_one_of}
-use Rattle.lk_plain.specs.Program.{Program, done, refuse, look, ◌>>=◌}
+use Rattle.lk_questions.specs.Program.{Program, done, refuse, look, ◌>>=◌}
 use Rattle.lk_questions.specs.Steps.{given, is_same_tree}
 use Rattle.lk_questions.specs.Levels.{tested}
 use Rattle.lk_questions.specs.Declarations.{Yes, checked}

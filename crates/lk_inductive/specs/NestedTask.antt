@@ -3,8 +3,8 @@
 use Rattle.std.specs.Prelude.{ℕ, suc, List, [], ◌++◌}
 use Rattle.lk_rulebook.specs.Place.{Block}
 use Rattle.lk_rulebook.specs.Units.{Members, Library, place_of}
-use Rattle.lk_plain.specs.Answer.{Outcome, plain_answer}
-use Rattle.lk_plain.specs.Program.{Table}
+use Rattle.lk_questions.specs.Answer.{Outcome, plain_answer}
+use Rattle.lk_questions.specs.Program.{Table}
 use Rattle.lk_inductive.specs.Block.{parameters_of, Shape}
 use Rattle.lk_inductive.specs.BlockSteps.{TypeParts, counts_steps, types_steps, all_ctor_sorts, shape_steps}
 use Rattle.lk_inductive.specs.Recursors.{BlockRecursor, recursors_by}

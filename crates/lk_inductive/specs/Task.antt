@@ -4,10 +4,10 @@ use Rattle.lk_tree.specs.Tree.{Name}
 use Rattle.lk_tree.specs.declared.rule.Rule.{Rule}
 use Rattle.lk_rulebook.specs.Place.{Place, Entry}
 use Rattle.lk_rulebook.specs.Units.{Members}
-use Rattle.lk_plain.specs.Query.{Query, AnswerTo}
-use Rattle.lk_plain.specs.Program.{Program, done, refuse, ask, look}
-use Rattle.lk_plain.specs.Answer.{Outcome, answered, refused, and_then, looked_up}
-use Rattle.lk_plain.specs.Sound.{IsAskable, IsJustified, IsSoundPlace}
+use Rattle.lk_questions.specs.Query.{Query, AnswerTo}
+use Rattle.lk_questions.specs.Program.{Program, done, refuse, ask, look}
+use Rattle.lk_questions.specs.Answer.{Outcome, answered, refused, and_then, looked_up}
+use Rattle.lk_questions.specs.Sound.{IsAskable, IsJustified, IsSoundPlace}
 
 -- with_partial ms t: from here on these names are partial too
 pub data Task (A : Type 0) : Type 0 where

@@ -6,9 +6,9 @@ use Rattle.lk_tree.specs.Level.{is_zero_level}
 use Rattle.lk_tree.specs.Spine.{head, args}
 use Rattle.lk_rulebook.specs.Place.{Place, Kind, Ctor, a_ctor}
 use Rattle.lk_rulebook.specs.Structures.{is_structure_like}
-use Rattle.lk_plain.specs.Query.{whnf, infer}
-use Rattle.lk_plain.specs.Program.{Program, done, ask, asked, ◌>>=◌}
-use Rattle.lk_plain.specs.Erased.{a_tree, asks, gives, with_tree, erased}
+use Rattle.lk_questions.specs.Query.{whnf, infer}
+use Rattle.lk_questions.specs.Program.{Program, done, ask, asked, ◌>>=◌}
+use Rattle.lk_questions.specs.Erased.{a_tree, asks, gives, with_tree, erased}
 use Rattle.lk_questions.specs.Steps.{sort_of}
 use Rattle.lk_questions.specs.Iota.{CtorApp, builds_structure, has_one_ctor, levels_at, expand_at}
 use Rattle.lk_questions.specs.Iota.{expanded}

@@ -9,9 +9,9 @@ use Rattle.lk_tree.specs.Spine.{apply, args}
 use Rattle.lk_rulebook.specs.Place.{Place, Entry as PlainEntry, Kind, Recursor, RecRule, an_axiom}
 use Rattle.lk_rulebook.specs.Place.{a_def, a_thm, an_opaque, a_quot, a_type, a_ctor, a_rec}
 use Rattle.lk_rulebook.specs.Structures.{before_major}
-use Rattle.lk_plain.specs.Query.{whnf, infer, same}
-use Rattle.lk_plain.specs.Program.{Program, done, ask, asked, ◌>>=◌}
-use Rattle.lk_plain.specs.Erased.{a_tree, asks, with_tree, erased}
+use Rattle.lk_questions.specs.Query.{whnf, infer, same}
+use Rattle.lk_questions.specs.Program.{Program, done, ask, asked, ◌>>=◌}
+use Rattle.lk_questions.specs.Erased.{a_tree, asks, with_tree, erased}
 use Rattle.lk_questions.specs.Iota.{CtorApp, only_ctor, to_ctor_when_k, to_ctor_when_structure}
 use Rattle.lk_questions.specs.Iota.{iota, core_constant}
 use Rattle.lk_questions.specs.Quotients.{by_quot}

@@ -3,9 +3,9 @@ use Rattle.std.proofs.Common.{◌≡◌, ℕ, List, length, Option, refl, ap, sy
 use Rattle.std.specs.Prelude.{Result, Ok, Err}
 use Rattle.lk_tree.specs.Tree.{Tree}
 use Rattle.lk_tree.specs.declared.rule.Rule.{Rule}
-use Rattle.lk_plain.specs.Program.{Program, ◌>>=◌}
-use Rattle.lk_plain.specs.Erased.{a_tree, erased}
-use Rattle.lk_plain.proofs.Settling.{goes_on}
+use Rattle.lk_questions.specs.Program.{Program, ◌>>=◌}
+use Rattle.lk_questions.specs.Erased.{a_tree, erased}
+use Rattle.lk_questions.proofs.Settling.{goes_on}
 use Rattle.lk_questions.specs.Iota.{CtorApp}
 use Rattle.lk_store.specs.declared.memory.NoMemory.{NoMemory}
 use Rattle.lk_store.specs.Contents.{Contents, tree_at}

@@ -2,7 +2,7 @@
 use Rattle.std.proofs.Common.{◌≡◌, List, [], ◌∷◌, length, map, None, refl, ap, sym}
 use Rattle.std.proofs.Common.{subst, ◌∙◌}
 use Rattle.lk_rulebook.specs.Place.{Place, RecRule}
-use Rattle.lk_plain.specs.Program.{done}
+use Rattle.lk_questions.specs.Program.{done}
 use Rattle.lk_questions.specs.Iota.{only_ctor}
 use Rattle.lk_store.specs.Contents.{Contents}
 use Rattle.lk_env.specs.declared.unit.RecursorRule.{RecursorRule}

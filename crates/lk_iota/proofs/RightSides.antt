@@ -12,9 +12,9 @@ use Rattle.lk_tree.specs.Spine.{apply}
 use Rattle.lk_tree.specs.declared.rule.Rule.TheVariants.{LevelCount}
 use Rattle.lk_rulebook.specs.Place.{Place, Entry as PlainEntry, Kind, Recursor as PlainRecursor}
 use Rattle.lk_rulebook.specs.Place.{a_rec}
-use Rattle.lk_plain.specs.Query.{core}
-use Rattle.lk_plain.specs.Program.{done, asked, ◌>>=◌}
-use Rattle.lk_plain.specs.Erased.{a_tree, asks, gives, with_tree, erased}
+use Rattle.lk_questions.specs.Query.{core}
+use Rattle.lk_questions.specs.Program.{done, asked, ◌>>=◌}
+use Rattle.lk_questions.specs.Erased.{a_tree, asks, gives, with_tree, erased}
 use Rattle.lk_questions.specs.Steps.{given}
 use Rattle.lk_questions.specs.Iota.{CtorApp, fitting_rule, by_rule}
 use Rattle.lk_store.specs.Contents.{Contents, name_at, list_at, tree_at, Extends}

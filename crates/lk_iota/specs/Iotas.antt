@@ -3,9 +3,9 @@ use Rattle.std.specs.Prelude.{ℕ, Bool, List, Option, Some, None, Result, if◌
 use Rattle.lk_tree.specs.Tree.{Level, Tree}
 use Rattle.lk_tree.specs.Spine.{head}
 use Rattle.lk_rulebook.specs.Place.{Place}
-use Rattle.lk_plain.specs.Query.{whnf, same}
-use Rattle.lk_plain.specs.Program.{Program, done, ask, ◌>>=◌}
-use Rattle.lk_plain.specs.Erased.{Value, a_tree, Steps, gives, erased}
+use Rattle.lk_questions.specs.Query.{whnf, same}
+use Rattle.lk_questions.specs.Program.{Program, done, ask, ◌>>=◌}
+use Rattle.lk_questions.specs.Erased.{Value, a_tree, Steps, gives, erased}
 use Rattle.lk_questions.specs.Iota.{CtorApp, only_ctor, to_ctor_when_k, levels_at, k_from}
 use Rattle.lk_questions.specs.Iota.{as_ctor_app, iota_of, iota_after_k, iota}
 use Rattle.lk_questions.specs.Strings.{literal_to_ctor}

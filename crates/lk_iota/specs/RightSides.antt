@@ -3,8 +3,8 @@ use Rattle.std.specs.Prelude.{List}
 use Rattle.lk_tree.specs.Tree.{Level, Tree}
 use Rattle.lk_tree.specs.Spine.{apply}
 use Rattle.lk_rulebook.specs.Place.{Entry}
-use Rattle.lk_plain.specs.Query.{core}
-use Rattle.lk_plain.specs.Program.{Program, asked, ◌>>=◌}
+use Rattle.lk_questions.specs.Query.{core}
+use Rattle.lk_questions.specs.Program.{Program, asked, ◌>>=◌}
 use Rattle.lk_questions.specs.Steps.{with_levels}
 
 -- v at levels, applied to what the rules share, to the fields, and to what came behind the major

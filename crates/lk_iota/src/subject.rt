@@ -2,7 +2,7 @@
 
 ghost use Rattle.std.specs.Prelude.{◌≡◌, ◌<◌, ℕ, Option, None, length};
 ghost use Rattle.lk_rulebook.specs.Place.{Place};
-ghost use Rattle.lk_plain.specs.Erased.{a_tree, erased};
+ghost use Rattle.lk_questions.specs.Erased.{a_tree, erased};
 ghost use Rattle.lk_store.specs.Contents.{Contents, tree_at};
 ghost use Rattle.lk_env.specs.StoredLibrary.{StoredLibrary};
 ghost use Rattle.lk_ask.specs.Nexts.{IsKnownNext};

@@ -3,7 +3,7 @@ use Rattle.std.proofs.Common.{◌≡◌, ℕ, List, Ok, Err, Result, refl, ap, �
 use Rattle.lk_tree.specs.Tree.{Name, Tree}
 use Rattle.lk_rulebook.specs.Place.{Hint}
 use Rattle.lk_rulebook.specs.Units.{Decl, as_def}
-use Rattle.lk_plain.specs.Program.{Program, done, ◌>>=◌}
+use Rattle.lk_questions.specs.Program.{Program, done, ◌>>=◌}
 use Rattle.lk_questions.specs.Declarations.{checked, body_steps, unit_steps}
 use Rattle.lk_questions.specs.NumberLaws.{lawful_op}
 use Rattle.lk_ask.specs.declared.stop.Stop.{Stop}

@@ -4,8 +4,8 @@ use Rattle.lk_tree.specs.Tree.{Name}
 use Rattle.lk_tree.specs.declared.rule.Rule.TheVariants.{NoBuiltin, NatLaw}
 use Rattle.lk_rulebook.specs.Place.{Place, Entry as PlainEntry}
 use Rattle.lk_rulebook.specs.Literals.{by_def}
-use Rattle.lk_plain.specs.Program.{Program, done}
-use Rattle.lk_plain.specs.Settled.{settle}
+use Rattle.lk_questions.specs.Program.{Program, done}
+use Rattle.lk_questions.specs.Settled.{settle}
 use Rattle.lk_questions.specs.Steps.{given}
 use Rattle.lk_env.specs.declared.entry.Entry.{Entry}
 use Rattle.lk_env.specs.StoredLibrary.{StoredLibrary}

@@ -3,9 +3,9 @@ use Rattle.std.proofs.Common.{◌≡◌, ℕ, Bool, true, false, List, [], ◌�
 use Rattle.lk_tree.specs.declared.rule.Rule.TheVariants.{NatLaw}
 use Rattle.lk_rulebook.specs.Place.{Place}
 use Rattle.lk_rulebook.specs.NumberLaws.{Law}
-use Rattle.lk_plain.specs.Query.{Query, same}
-use Rattle.lk_plain.specs.Program.{done, asked, ◌>>=◌}
-use Rattle.lk_plain.specs.Erased.{Out}
+use Rattle.lk_questions.specs.Query.{Query, same}
+use Rattle.lk_questions.specs.Program.{done, asked, ◌>>=◌}
+use Rattle.lk_questions.specs.Erased.{Out}
 use Rattle.lk_questions.specs.Steps.{given}
 use Rattle.lk_questions.specs.NumberLaws.{held_given, laws_hold}
 use Rattle.lk_declaration.specs.Courses.{run_then}

@@ -3,11 +3,11 @@ use Rattle.std.proofs.Common.{◌≡◌, ℕ, Option, Some, None, refl, ap, sym,
 use Rattle.std.specs.Prelude.{Result, Ok, Err}
 use Rattle.lk_tree.specs.declared.rule.Rule.{Rule}
 use Rattle.lk_rulebook.specs.Place.{Place, Entry}
-use Rattle.lk_plain.specs.Query.{Query}
-use Rattle.lk_plain.specs.Answer.{later}
-use Rattle.lk_plain.specs.Program.{Program, done, refuse, ask, look}
-use Rattle.lk_plain.specs.Erased.{Out, stopped, seen, out_of}
-use Rattle.lk_plain.specs.Settled.{comes, fails, settle_look, settle}
+use Rattle.lk_questions.specs.Query.{Query}
+use Rattle.lk_questions.specs.Answer.{later}
+use Rattle.lk_questions.specs.Program.{Program, done, refuse, ask, look}
+use Rattle.lk_questions.specs.Erased.{Out, stopped, seen, out_of}
+use Rattle.lk_questions.specs.Settled.{comes, fails, settle_look, settle}
 use Rattle.lk_ask.specs.declared.stop.Stop.{Stop}
 use Rattle.lk_ask.specs.declared.stop.Stop.TheVariants.{No, Spent, NoMemory}
 use Rattle.lk_ask.specs.Asking.{Standing}

@@ -3,7 +3,7 @@ use Rattle.std.specs.Prelude.{Some}
 use Rattle.lk_tree.specs.Tree.{Name}
 use Rattle.lk_tree.specs.declared.rule.Rule.TheVariants.{NoBuiltin, NatLaw}
 use Rattle.lk_rulebook.specs.Literals.{by_def}
-use Rattle.lk_plain.specs.Program.{Program, done, look}
+use Rattle.lk_questions.specs.Program.{Program, done, look}
 use Rattle.lk_questions.specs.Steps.{given}
 use Rattle.lk_questions.specs.Shapes.{nat_shape}
 use Rattle.lk_questions.specs.NumberLaws.{def_given, held_given}

@@ -1,7 +1,7 @@
 //! Who looks up what laws rest on.
 
 ghost use Rattle.std.specs.Prelude.{◌≡◌, None};
-ghost use Rattle.lk_plain.specs.Settled.{settle};
+ghost use Rattle.lk_questions.specs.Settled.{settle};
 ghost use Rattle.lk_store.specs.Contents.{Extends};
 ghost use Rattle.lk_quot.specs.Units.{Meets, IsMet};
 ghost use Rattle.lk_laws.specs.Needs.{needed_steps};

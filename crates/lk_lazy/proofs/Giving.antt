@@ -1,8 +1,8 @@
 -- What a line gives that always answers.
 use Rattle.std.proofs.Common.{◌≡◌, ℕ, Bool, Some, sym, ap, ◌∙◌}
 use Rattle.std.specs.Prelude.{Ok}
-use Rattle.lk_plain.specs.Program.{Program}
-use Rattle.lk_plain.specs.Erased.{truth, erased}
+use Rattle.lk_questions.specs.Program.{Program}
+use Rattle.lk_questions.specs.Erased.{truth, erased}
 use Rattle.lk_questions.specs.Pairs.{Line, ◌or_else◌}
 use Rattle.lk_store.specs.Contents.{Contents}
 use Rattle.lk_ask.specs.declared.next.Next.{Next}

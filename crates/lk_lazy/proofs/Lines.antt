@@ -5,8 +5,8 @@ use Rattle.std.specs.Prelude.{ℕ, Result, Ok, Err, IfOk}
 use Rattle.lk_tree.specs.Tree.{Tree}
 use Rattle.lk_tree.specs.Spine.{head}
 use Rattle.lk_rulebook.specs.Place.{Place}
-use Rattle.lk_plain.specs.Program.{Program, ◌>>=◌}
-use Rattle.lk_plain.specs.Erased.{truth, erased}
+use Rattle.lk_questions.specs.Program.{Program, ◌>>=◌}
+use Rattle.lk_questions.specs.Erased.{truth, erased}
 use Rattle.lk_questions.specs.Pairs.{Line, otherwise, ◌or_else◌}
 use Rattle.lk_questions.specs.Unfolding.{Unfolding as Unfolds, unfolding_of, by_ranks, by_unfolding}
 use Rattle.lk_store.specs.declared.memory.NoMemory.{NoMemory}
@@ -20,7 +20,7 @@ use Rattle.lk_lazy.specs.declared.heads.Unfolding.{Unfolding}
 use Rattle.lk_lazy.specs.declared.sheet.LazySheet.{LazySheet}
 use Rattle.lk_lazy.specs.Heads.{looked_up, unfolding_at, IsHeadUnfolding, IsLookedUp, LooksUp}
 use Rattle.lk_lazy.specs.Lazies.{GoesLine, GivesLine}
-use Rattle.lk_plain.proofs.Binding.{bind_bind}
+use Rattle.lk_questions.proofs.Binding.{bind_bind}
 
 -- the line looks two heads up
 line_looks : (a b : Tree) (r : Program Bool)

@@ -1,7 +1,7 @@
 -- Lines that always answer.
 use Rattle.std.proofs.Common.{◌≡◌, Bool, refl, ap}
 use Rattle.std.proofs.Math.Path.{fun_ext}
-use Rattle.lk_plain.specs.Program.{Program, done, refuse, ask, look}
+use Rattle.lk_questions.specs.Program.{Program, done, refuse, ask, look}
 use Rattle.lk_questions.specs.Pairs.{answers, ◌or_else◌}
 
 -- what comes behind a line that always answers is never asked

@@ -7,7 +7,7 @@ use Rattle.lk_tree.specs.Levels.{put_levels}
 use Rattle.lk_tree.specs.Spine.{apply, head, args}
 use Rattle.lk_tree.specs.declared.rule.Rule.TheVariants.{LevelCount}
 use Rattle.lk_rulebook.specs.Place.{Place}
-use Rattle.lk_plain.specs.Program.{Program, done, ◌>>=◌}
+use Rattle.lk_questions.specs.Program.{Program, done, ◌>>=◌}
 use Rattle.lk_questions.specs.Steps.{given, decided}
 use Rattle.lk_questions.specs.Levels.{complete_test, levels_equal}
 use Rattle.lk_questions.specs.Pairs.{same_all, answers, answers_yes, ◌or_else◌}

@@ -4,8 +4,8 @@ use Rattle.std.specs.Prelude.{IfOk, IfErr, Result}
 use Rattle.lk_tree.specs.Tree.{Tree, const}
 use Rattle.lk_tree.specs.Spine.{head}
 use Rattle.lk_rulebook.specs.Place.{Place}
-use Rattle.lk_plain.specs.Program.{Program, ◌>>=◌}
-use Rattle.lk_plain.specs.Erased.{truth, Steps, refuses, erased}
+use Rattle.lk_questions.specs.Program.{Program, ◌>>=◌}
+use Rattle.lk_questions.specs.Erased.{truth, Steps, refuses, erased}
 use Rattle.lk_questions.specs.Unfolding.{Unfolding as PlainUnfolding, Rank as PlainRank, lowest, height, highest, unfolding_by, unfolding_of}
 use Rattle.lk_store.specs.Contents.{Contents, name_at, list_at, tree_at}
 use Rattle.lk_env.specs.StoredLibrary.{StoredLibrary}

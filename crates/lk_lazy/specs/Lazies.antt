@@ -4,8 +4,8 @@ use Rattle.std.specs.Prelude.{Option, Some, None, IfOk, IfSome, Result}
 use Rattle.lk_tree.specs.Tree.{Tree}
 use Rattle.lk_tree.specs.Spine.{head, args}
 use Rattle.lk_rulebook.specs.Place.{Place}
-use Rattle.lk_plain.specs.Program.{Program, done}
-use Rattle.lk_plain.specs.Erased.{truth, Steps, gives, with_truth, erased}
+use Rattle.lk_questions.specs.Program.{Program, done}
+use Rattle.lk_questions.specs.Erased.{truth, Steps, gives, with_truth, erased}
 use Rattle.lk_questions.specs.Pairs.{same_all, Line, answers_yes, ◌or_else◌}
 use Rattle.lk_questions.specs.Unfolding.{Unfolding as PlainUnfolding, is_less, unfold_first, unfold_second, unfold_both, same_by_arguments}
 use Rattle.lk_store.specs.declared.memory.NoMemory.{NoMemory}

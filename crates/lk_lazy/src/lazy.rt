@@ -4,7 +4,7 @@ ghost use Rattle.std.specs.Prelude.{◌≡◌, ◌<◌, ℕ, Option, IfOk, IfSom
 ghost use Rattle.lk_tree.specs.Tree.{Tree};
 ghost use Rattle.lk_tree.specs.Spine.{head};
 ghost use Rattle.lk_rulebook.specs.Place.{Place};
-ghost use Rattle.lk_plain.specs.Erased.{truth, erased};
+ghost use Rattle.lk_questions.specs.Erased.{truth, erased};
 ghost use Rattle.lk_questions.specs.Pairs.{answers_yes, ◌or_else◌};
 ghost use Rattle.lk_questions.specs.Unfolding.{Unfolding as PlainUnfolding};
 ghost use Rattle.lk_questions.specs.Unfolding.{by_ranks as plain_ranks};

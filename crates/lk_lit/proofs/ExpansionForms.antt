@@ -1,7 +1,7 @@
 -- The expansion of a text, by what is tested of the entry of String.
 use Rattle.std.proofs.Common.{◌≡◌, ℕ, List, refl}
 use Rattle.lk_rulebook.specs.Place.{Entry, Kind, a_def, a_thm, an_axiom, an_opaque, a_quot, a_type, a_ctor, a_rec}
-use Rattle.lk_plain.specs.Program.{◌>>=◌}
+use Rattle.lk_questions.specs.Program.{◌>>=◌}
 use Rattle.lk_questions.specs.Shapes.{has_string_shape}
 use Rattle.lk_questions.specs.Strings.{expansion_by}
 use Rattle.lk_env.specs.Lent.{type_in}

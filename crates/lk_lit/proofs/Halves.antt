@@ -3,9 +3,9 @@ use Rattle.std.proofs.Common.{◌≡◌, ◌<◌, ℕ, Bool, Option, None, refl,
 use Rattle.std.specs.Prelude.{Result, Ok, Err, IfOk}
 use Rattle.lk_tree.specs.Tree.{Tree, lit}
 use Rattle.lk_rulebook.specs.Place.{Place}
-use Rattle.lk_plain.specs.Program.{Program, done, ◌>>=◌}
-use Rattle.lk_plain.proofs.Binding.{bind_bind}
-use Rattle.lk_plain.specs.Erased.{Steps, erased_then}
+use Rattle.lk_questions.specs.Program.{Program, done, ◌>>=◌}
+use Rattle.lk_questions.proofs.Binding.{bind_bind}
+use Rattle.lk_questions.specs.Erased.{Steps, erased_then}
 use Rattle.lk_questions.specs.Pairs.{Line as PlainLine, ◌or_else◌, ◌or_line◌}
 use Rattle.lk_questions.specs.LiteralLines.{step_of, same_numbers}
 use Rattle.lk_store.specs.declared.memory.NoMemory.{NoMemory}

@@ -6,8 +6,8 @@ use Rattle.lk_tree.specs.Spine.{head}
 use Rattle.lk_tree.specs.declared.rule.Rule.{Rule}
 use Rattle.lk_tree.specs.declared.rule.Rule.TheVariants.{UnknownConstant}
 use Rattle.lk_rulebook.specs.Place.{Place, Entry as PlainEntry}
-use Rattle.lk_plain.specs.Program.{Program, look}
-use Rattle.lk_plain.specs.Erased.{Steps, refuses, looked, erased_then}
+use Rattle.lk_questions.specs.Program.{Program, look}
+use Rattle.lk_questions.specs.Erased.{Steps, refuses, looked, erased_then}
 use Rattle.lk_questions.specs.Literals.{literal_step}
 use Rattle.lk_questions.specs.LiteralLines.{step_of}
 use Rattle.lk_store.specs.declared.memory.NoMemory.{NoMemory}

@@ -8,9 +8,9 @@ use Rattle.lk_tree.specs.Operations.{Op, op_value, arity}
 use Rattle.lk_tree.specs.declared.rule.Rule.{Rule}
 use Rattle.lk_rulebook.specs.Place.{Entry as PlainEntry}
 use Rattle.lk_rulebook.specs.Literals.{may_give}
-use Rattle.lk_plain.specs.Program.{Program, done, ◌>>=◌}
-use Rattle.lk_plain.specs.Erased.{erased_then}
-use Rattle.lk_plain.proofs.Settling.{goes_then, refused_then}
+use Rattle.lk_questions.specs.Program.{Program, done, ◌>>=◌}
+use Rattle.lk_questions.specs.Erased.{erased_then}
+use Rattle.lk_questions.proofs.Settling.{goes_then, refused_then}
 use Rattle.lk_questions.specs.Literals.{numerals, computed, ops, op_named, op_step, literal_step}
 use Rattle.lk_op.specs.Ops.{unary_at, binary_at}
 use Rattle.lk_op.specs.declared.op.UnaryOp.{UnaryOp}

@@ -5,9 +5,9 @@ use Rattle.lk_tree.specs.Tree.{Name}
 use Rattle.lk_tree.specs.declared.rule.Rule.{Rule}
 use Rattle.lk_tree.specs.declared.rule.Rule.TheVariants.{NoBuiltin}
 use Rattle.lk_rulebook.specs.Place.{Entry as PlainEntry}
-use Rattle.lk_plain.specs.Program.{Program, look, ◌>>=◌}
-use Rattle.lk_plain.specs.Settled.{fails, settle}
-use Rattle.lk_plain.proofs.Settling.{settle_on, settle_no}
+use Rattle.lk_questions.specs.Program.{Program, look, ◌>>=◌}
+use Rattle.lk_questions.specs.Settled.{fails, settle}
+use Rattle.lk_questions.proofs.Settling.{settle_on, settle_no}
 use Rattle.lk_store.specs.declared.memory.NoMemory.{NoMemory}
 use Rattle.lk_store.specs.Contents.{Contents, Extends}
 use Rattle.lk_store.proofs.Extending.{Extends-trans}

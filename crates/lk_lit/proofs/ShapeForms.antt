@@ -2,7 +2,7 @@
 use Rattle.std.proofs.Common.{◌≡◌, Bool, false, ◌&&◌, Option, length, refl, ap, ◌∙◌, true, if◌then◌else◌}
 use Rattle.lk_tree.specs.declared.rule.Rule.TheVariants.{BuiltinShape}
 use Rattle.lk_rulebook.specs.Place.{Entry, Kind, Block, BlockType, a_def, a_thm, an_axiom, an_opaque, a_quot, a_type, a_ctor, a_rec}
-use Rattle.lk_plain.specs.Program.{Program, done, refuse, ◌>>=◌}
+use Rattle.lk_questions.specs.Program.{Program, done, refuse, ◌>>=◌}
 use Rattle.lk_questions.specs.Steps.{given}
 use Rattle.lk_questions.specs.Shapes.{is_sort_one, nat_shape_by, has_string_shape}
 use Rattle.lk_env.specs.Lent.{type_in}

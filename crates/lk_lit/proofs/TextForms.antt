@@ -6,9 +6,9 @@ use Rattle.lk_tree.specs.Spine.{head, args}
 use Rattle.lk_tree.specs.Mentions.{same_name}
 use Rattle.lk_tree.specs.declared.rule.Rule.{Rule}
 use Rattle.lk_rulebook.specs.Names.{string_mk}
-use Rattle.lk_plain.specs.Program.{Program, ◌>>=◌}
-use Rattle.lk_plain.specs.Erased.{truth, erased}
-use Rattle.lk_plain.proofs.Settling.{goes_on, is_refused}
+use Rattle.lk_questions.specs.Program.{Program, ◌>>=◌}
+use Rattle.lk_questions.specs.Erased.{truth, erased}
+use Rattle.lk_questions.proofs.Settling.{goes_on, is_refused}
 use Rattle.lk_questions.specs.LiteralLines.{is_made}
 use Rattle.lk_store.specs.declared.memory.NoMemory.{NoMemory}
 use Rattle.lk_store.specs.declared.node.Node.{Node}

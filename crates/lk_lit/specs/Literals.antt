@@ -4,8 +4,8 @@ use Rattle.lk_tree.specs.Tree.{Tree, const, lit}
 use Rattle.lk_tree.specs.Mentions.{same_name}
 use Rattle.lk_rulebook.specs.Names.{nat_succ}
 use Rattle.lk_rulebook.specs.Place.{Place}
-use Rattle.lk_plain.specs.Program.{Program}
-use Rattle.lk_plain.specs.Erased.{truth, Steps, erased}
+use Rattle.lk_questions.specs.Program.{Program}
+use Rattle.lk_questions.specs.Erased.{truth, Steps, erased}
 use Rattle.lk_questions.specs.Pairs.{Line as PlainLine, goes_on, ◌or_else◌, ◌or_line◌}
 use Rattle.lk_questions.specs.LiteralLines.{NatCtor as PlainCtor, is_zero, is_succ, nat_ctor}
 use Rattle.lk_questions.specs.LiteralLines.{lit_first, lit_second}

@@ -2,7 +2,7 @@
 use Rattle.std.specs.Prelude.{◌≡◌, ℕ, Bool, false, ◌&&◌, nat_eq, List, [], ◌∷◌, length, Option, Some, None}
 use Rattle.lk_tree.specs.declared.rule.Rule.TheVariants.{BuiltinShape}
 use Rattle.lk_rulebook.specs.Place.{Entry, Block, BlockType}
-use Rattle.lk_plain.specs.Program.{Program, done, ◌>>=◌}
+use Rattle.lk_questions.specs.Program.{Program, done, ◌>>=◌}
 use Rattle.lk_questions.specs.Steps.{given}
 use Rattle.lk_questions.specs.Shapes.{are_nat_ctors, has_string_shape}
 use Rattle.lk_questions.specs.Strings.{is_mk_alone}

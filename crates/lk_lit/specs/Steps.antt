@@ -4,8 +4,8 @@ use Rattle.lk_tree.specs.Tree.{Tree, const}
 use Rattle.lk_tree.specs.Spine.{head, args}
 use Rattle.lk_tree.specs.Operations.{Op, arity}
 use Rattle.lk_rulebook.specs.Place.{Place}
-use Rattle.lk_plain.specs.Program.{Program, done, ◌>>=◌}
-use Rattle.lk_plain.specs.Erased.{Steps, with_tree, erased_then}
+use Rattle.lk_questions.specs.Program.{Program, done, ◌>>=◌}
+use Rattle.lk_questions.specs.Erased.{Steps, with_tree, erased_then}
 use Rattle.lk_questions.specs.Literals.{numeral_of, with_first, numerals, computed}
 use Rattle.lk_store.specs.declared.memory.NoMemory.{NoMemory}
 use Rattle.lk_store.specs.Contents.{Contents, tree_at, Extends}

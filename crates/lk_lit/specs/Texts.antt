@@ -1,7 +1,7 @@
 -- Two trees by texts, and whatever stands behind them.
 use Rattle.std.specs.Prelude.{ℕ, Bool, List}
 use Rattle.lk_tree.specs.Tree.{Tree}
-use Rattle.lk_plain.specs.Program.{Program, ◌>>=◌}
+use Rattle.lk_questions.specs.Program.{Program, ◌>>=◌}
 use Rattle.lk_questions.specs.LiteralLines.{same_first, same_second, text_second, by_string}
 use Rattle.lk_questions.specs.Pairs.{◌or_else◌, ◌or_line◌}
 use Rattle.lk_questions.specs.Strings.{expansion_of}

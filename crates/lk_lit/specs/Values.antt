@@ -3,7 +3,7 @@ use Rattle.std.specs.Prelude.{ℕ, ◌<◌, Option, option_map, IfOk, IfSome, Re
 use Rattle.lk_tree.specs.Tree.{Tree}
 use Rattle.lk_tree.specs.Operations.{Value}
 use Rattle.lk_tree.specs.declared.rule.Rule.{Rule}
-use Rattle.lk_plain.specs.Program.{Program, ◌>>=◌}
+use Rattle.lk_questions.specs.Program.{Program, ◌>>=◌}
 use Rattle.lk_questions.specs.Shapes.{nat_shape}
 use Rattle.lk_questions.specs.Literals.{result_of}
 use Rattle.lk_store.specs.Contents.{Contents, tree_at}

@@ -1,7 +1,7 @@
 //! Two terms by literals: an operation that is computed on either side, then a number beside `Nat.zero` or `Nat.succ`.
 
 ghost use Rattle.std.specs.Prelude.{◌≡◌, ◌<◌, ℕ, Ok, Option, length};
-ghost use Rattle.lk_plain.specs.Erased.{truth, erased};
+ghost use Rattle.lk_questions.specs.Erased.{truth, erased};
 ghost use Rattle.lk_questions.specs.Pairs.{◌or_else◌, ◌or_line◌};
 ghost use Rattle.lk_questions.specs.LiteralLines.{NatCtor as PlainCtor, nat_ctor as plain_ctor};
 ghost use Rattle.lk_questions.specs.LiteralLines.{by_literals, step_of, step_second, same_numbers};

@@ -3,7 +3,7 @@ use Rattle.std.proofs.Common.{ℕ, ◌≡◌, ◌⊎◌, inl, inr, ◌<◌, Bool
 use Rattle.std.specs.Prelude.{option_and_then}
 use Rattle.std.proofs.Math.Bool.{cond}
 use Rattle.std.proofs.lemmas.Bool.Decides.{nat_tests}
-use Rattle.lk_plain.specs.Laws.{IsBelow}
+use Rattle.lk_questions.specs.Laws.{IsBelow}
 use Rattle.lk_ask.specs.declared.kept.Kept.{Kept}
 use Rattle.lk_memo.specs.declared.key.Key.{Key}
 use Rattle.lk_memo.specs.declared.recent.Slot.{Slot}

@@ -4,7 +4,7 @@ use Rattle.lk_ask.specs.declared.kept.Kept.{Kept}
 use Rattle.lk_ask.specs.declared.query.Query.{Query}
 use Rattle.lk_ask.specs.declared.query.Query.TheVariants.{Core, Whnf, Infer, Same}
 use Rattle.lk_ask.specs.Questions.{IsKnownQuery, IsKnownAnswer}
-use Rattle.lk_plain.specs.Laws.{IsBelow}
+use Rattle.lk_questions.specs.Laws.{IsBelow}
 use Rattle.lk_memo.specs.declared.key.Key.{Key}
 use Rattle.lk_memo.specs.declared.lasting.Lasting.{Lasting}
 use Rattle.lk_memo.specs.Keys.{key_of}

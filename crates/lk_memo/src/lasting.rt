@@ -1,7 +1,7 @@
 //! Answers that outlast a unit, each in the slot of its question.
 
 ghost use Rattle.std.specs.Prelude.{◌≡◌, Some, None, true, false, IfOk};
-ghost use Rattle.lk_plain.specs.Laws.{IsBelow};
+ghost use Rattle.lk_questions.specs.Laws.{IsBelow};
 ghost use Rattle.lk_ask.specs.Questions.{IsKnownQuery, IsKnownAnswer};
 ghost use Rattle.lk_ask.specs.declared.kept.Kept.{Kept as Answered};
 ghost use Rattle.lk_memo.specs.declared.key.Key.{Key as Asked};

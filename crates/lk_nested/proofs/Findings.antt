@@ -2,10 +2,10 @@
 use Rattle.std.proofs.Common.{◌≡◌, ℕ, Bool, true, false, Option, None, Some, Ok, Err, Result, refl, sym, ap}
 use Rattle.lk_tree.specs.declared.rule.Rule.{Rule}
 use Rattle.lk_rulebook.specs.Place.{Place, Entry}
-use Rattle.lk_plain.specs.Query.{Query}
-use Rattle.lk_plain.specs.Program.{Program, done, refuse, ask, look}
-use Rattle.lk_plain.specs.Answer.{refusal}
-use Rattle.lk_plain.specs.Erased.{Out, stopped, seen, out_of}
+use Rattle.lk_questions.specs.Query.{Query}
+use Rattle.lk_questions.specs.Program.{Program, done, refuse, ask, look}
+use Rattle.lk_questions.specs.Answer.{refusal}
+use Rattle.lk_questions.specs.Erased.{Out, stopped, seen, out_of}
 use Rattle.lk_inductive.specs.Nested.{either_holds}
 use Rattle.lk_ask.specs.declared.stop.Stop.{Stop}
 use Rattle.lk_ask.specs.declared.stop.Stop.TheVariants.{No, Spent, NoMemory}

@@ -5,7 +5,7 @@ use Rattle.lk_tree.specs.Tree.{Name, Tree, var, sort, const, app, lam, pi, let_i
 use Rattle.lk_tree.specs.Spine.{head, args}
 use Rattle.lk_tree.specs.Mentions.{is_one_of, mentions}
 use Rattle.lk_rulebook.specs.Place.{Place}
-use Rattle.lk_plain.specs.Program.{look}
+use Rattle.lk_questions.specs.Program.{look}
 use Rattle.lk_inductive.specs.BlockSteps.{mention_none}
 use Rattle.lk_inductive.specs.Nested.{holds_kind}
 use Rattle.lk_tree.specs.declared.rule.Rule.TheVariants.{UnknownConstant}

@@ -7,7 +7,7 @@ use Rattle.lk_tree.specs.Mentions.{is_one_of}
 use Rattle.lk_tree.specs.declared.rule.Rule.{Rule}
 use Rattle.lk_tree.specs.declared.rule.Rule.TheVariants.{UnknownConstant}
 use Rattle.lk_rulebook.specs.Place.{Place, Entry, Kind, an_axiom, a_def, a_thm, an_opaque, a_quot, a_type, a_ctor, a_rec}
-use Rattle.lk_plain.specs.Program.{Program, done, look}
+use Rattle.lk_questions.specs.Program.{Program, done, look}
 use Rattle.lk_inductive.specs.BlockSteps.{mention_none, is_among}
 use Rattle.lk_inductive.specs.Nested.{holds_kind, holds_head}
 use Rattle.lk_ask.specs.declared.stop.Stop.{Stop}

@@ -3,7 +3,7 @@ use Rattle.std.specs.Prelude.{◌≡◌, ℕ, ◌<◌, Bool, true, false, List, 
 use Rattle.lk_tree.specs.Tree.{Name, Tree, const, app, lam, pi, let_in, proj}
 use Rattle.lk_tree.specs.Spine.{head, args}
 use Rattle.lk_rulebook.specs.Place.{Place}
-use Rattle.lk_plain.specs.Program.{Program}
+use Rattle.lk_questions.specs.Program.{Program}
 use Rattle.lk_inductive.specs.Nested.{holds_head, holds_nested}
 use Rattle.lk_store.specs.Contents.{Contents, tree_at}
 use Rattle.lk_store.specs.declared.node.Node.{Node}

@@ -6,7 +6,7 @@ use Rattle.lk_tree.specs.Mentions.{is_one_of}
 use Rattle.lk_tree.specs.declared.rule.Rule.{Rule}
 use Rattle.lk_tree.specs.declared.rule.Rule.TheVariants.{UnknownConstant}
 use Rattle.lk_rulebook.specs.Place.{Place, Entry, Kind, Block, BlockType, a_type}
-use Rattle.lk_plain.specs.Answer.{refusal}
+use Rattle.lk_questions.specs.Answer.{refusal}
 use Rattle.lk_inductive.specs.BlockSteps.{mention_none}
 
 -- it is none, and its parts are looked at; it is one, of the type J at ls, which has this block and this line; or J is refused

@@ -5,9 +5,9 @@ use Rattle.lk_tree.specs.Tree.{Name, Tree, proj}
 use Rattle.lk_tree.specs.Bind.{opened}
 use Rattle.lk_tree.specs.declared.rule.Rule.TheVariants.{BadProjection, PropProjection}
 use Rattle.lk_rulebook.specs.Place.{Place}
-use Rattle.lk_plain.specs.Query.{whnf, infer}
-use Rattle.lk_plain.specs.Program.{ask, ◌>>=◌}
-use Rattle.lk_plain.specs.Erased.{a_tree, Steps, asks, with_tree, erased}
+use Rattle.lk_questions.specs.Query.{whnf, infer}
+use Rattle.lk_questions.specs.Program.{ask, ◌>>=◌}
+use Rattle.lk_questions.specs.Erased.{a_tree, Steps, asks, with_tree, erased}
 use Rattle.lk_questions.specs.Steps.{given, as_pi}
 use Rattle.lk_questions.specs.Projections.{is_prop_if, field_type}
 use Rattle.lk_proj.specs.Infers.{fields_rest, next_field, must_be_prop, field_pi, field_rest}

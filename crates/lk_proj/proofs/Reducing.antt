@@ -2,9 +2,9 @@
 use Rattle.std.proofs.Common.{◌≡◌, ℕ, Option, None, refl, ap, sym, subst}
 use Rattle.lk_tree.specs.Tree.{Name, Tree, proj}
 use Rattle.lk_rulebook.specs.Place.{Place}
-use Rattle.lk_plain.specs.Query.{whnf}
-use Rattle.lk_plain.specs.Program.{◌>>=◌}
-use Rattle.lk_plain.specs.Erased.{a_tree, asks, with_tree, erased}
+use Rattle.lk_questions.specs.Query.{whnf}
+use Rattle.lk_questions.specs.Program.{◌>>=◌}
+use Rattle.lk_questions.specs.Erased.{a_tree, asks, with_tree, erased}
 use Rattle.lk_questions.specs.Core.{core_steps}
 use Rattle.lk_questions.specs.Strings.{text_to_ctor}
 use Rattle.lk_proj.specs.Nodes.{of_proj}

@@ -9,7 +9,7 @@ use Rattle.lk_rulebook.specs.Place.{BlockType as PlainType, BlockRecursor, Ctor,
 use Rattle.lk_rulebook.specs.Place.{a_thm}
 use Rattle.lk_rulebook.specs.Place.{an_opaque, a_quot, a_type, a_ctor, a_rec}
 use Rattle.lk_rulebook.specs.Units.{LibraryUnit, of_decl, of_block}
-use Rattle.lk_plain.specs.Program.{refuse}
+use Rattle.lk_questions.specs.Program.{refuse}
 use Rattle.lk_questions.specs.Projections.{of_struct, of_kind}
 use Rattle.lk_store.specs.Contents.{Contents, tree_at, Extends}
 use Rattle.lk_store.specs.Store.{contents_of}

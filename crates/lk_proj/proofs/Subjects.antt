@@ -10,9 +10,9 @@ use Rattle.lk_tree.specs.Level.{is_zero_level}
 use Rattle.lk_tree.specs.Spine.{args}
 use Rattle.lk_tree.specs.declared.rule.Rule.TheVariants.{BadProjection, LevelCount}
 use Rattle.lk_rulebook.specs.Place.{Place, BlockType, Ctor}
-use Rattle.lk_plain.specs.Query.{whnf, infer}
-use Rattle.lk_plain.specs.Program.{Program, done, ask, ◌>>=◌}
-use Rattle.lk_plain.specs.Erased.{a_tree, Steps, asks, with_tree, refuses, erased}
+use Rattle.lk_questions.specs.Query.{whnf, infer}
+use Rattle.lk_questions.specs.Program.{Program, done, ask, ◌>>=◌}
+use Rattle.lk_questions.specs.Erased.{a_tree, Steps, asks, with_tree, refuses, erased}
 use Rattle.lk_questions.specs.Steps.{given, sort_of}
 use Rattle.lk_questions.specs.Projections.{past_parameters, field_type, of_struct}
 use Rattle.lk_store.specs.Contents.{Contents, tree_at}

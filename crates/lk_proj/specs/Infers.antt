@@ -7,9 +7,9 @@ use Rattle.lk_tree.specs.Bind.{opened, has_var}
 use Rattle.lk_tree.specs.Spine.{head}
 use Rattle.lk_tree.specs.declared.rule.Rule.TheVariants.{BadProjection, PropProjection, LevelCount}
 use Rattle.lk_rulebook.specs.Place.{Place}
-use Rattle.lk_plain.specs.Query.{whnf}
-use Rattle.lk_plain.specs.Program.{Program, done, refuse, ask, ◌>>=◌}
-use Rattle.lk_plain.specs.Erased.{a_tree, Steps, with_tree, erased}
+use Rattle.lk_questions.specs.Query.{whnf}
+use Rattle.lk_questions.specs.Program.{Program, done, refuse, ask, ◌>>=◌}
+use Rattle.lk_questions.specs.Erased.{a_tree, Steps, with_tree, erased}
 use Rattle.lk_questions.specs.Steps.{given, as_sort, as_pi}
 use Rattle.lk_questions.specs.Iota.{levels_at}
 use Rattle.lk_questions.specs.Projections.{past_parameters, is_prop_if, field_type, of_type}

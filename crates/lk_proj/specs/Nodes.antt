@@ -2,7 +2,7 @@
 use Rattle.std.specs.Prelude.{◌≡◌, ◌<◌, ℕ, length}
 use Rattle.lk_tree.specs.Tree.{Name, Tree, proj}
 use Rattle.lk_tree.specs.declared.rule.Rule.TheVariants.{BadProjection}
-use Rattle.lk_plain.specs.Program.{Program, refuse}
+use Rattle.lk_questions.specs.Program.{Program, refuse}
 use Rattle.lk_store.specs.Contents.{Contents, name_at, tree_at}
 use Rattle.lk_proj.specs.declared.node.Projection.{Projection}
 

@@ -3,8 +3,8 @@ use Rattle.std.specs.Prelude.{ℕ, Option, None, Result}
 use Rattle.lk_tree.specs.Tree.{Name, Tree}
 use Rattle.lk_tree.specs.Spine.{head, args}
 use Rattle.lk_rulebook.specs.Place.{Place}
-use Rattle.lk_plain.specs.Program.{Program, ◌>>=◌}
-use Rattle.lk_plain.specs.Erased.{a_tree, Steps, gives, with_tree, erased}
+use Rattle.lk_questions.specs.Program.{Program, ◌>>=◌}
+use Rattle.lk_questions.specs.Erased.{a_tree, Steps, gives, with_tree, erased}
 use Rattle.lk_questions.specs.Iota.{ctor_app_of, core_field}
 use Rattle.lk_questions.specs.Strings.{text_to_ctor}
 use Rattle.lk_store.specs.declared.memory.NoMemory.{NoMemory}

@@ -3,7 +3,7 @@
 ghost use Rattle.std.specs.Prelude.{◌≡◌, ◌<◌, ℕ, length, IfSome, IfNone};
 ghost use Rattle.lk_tree.specs.Tree.{Name, Tree};
 ghost use Rattle.lk_tree.specs.declared.rule.Rule.TheVariants.{BadProjection};
-ghost use Rattle.lk_plain.specs.Program.{Program, refuse};
+ghost use Rattle.lk_questions.specs.Program.{Program, refuse};
 ghost use Rattle.lk_store.specs.Contents.{tree_at};
 ghost use Rattle.lk_proj.specs.Nodes.{of_proj, IsProjection};
 

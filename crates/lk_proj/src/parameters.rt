@@ -3,7 +3,7 @@
 ghost use Rattle.std.specs.Prelude.{◌≡◌, ◌<◌, ℕ, Ok, Option, IfSome, length, option_map};
 ghost use Rattle.lk_tree.specs.Tree.{Tree};
 ghost use Rattle.lk_rulebook.specs.Place.{Place};
-ghost use Rattle.lk_plain.specs.Erased.{a_tree, erased};
+ghost use Rattle.lk_questions.specs.Erased.{a_tree, erased};
 ghost use Rattle.lk_ask.specs.Nexts.{IsKnownNext};
 ghost use Rattle.lk_proj.specs.Sheets.{map_applied, IsKnownApplied, IsKnownInfer};
 ghost use Rattle.lk_proj.specs.Infers.{parameters_rest, constructor_rest, sort_rest};

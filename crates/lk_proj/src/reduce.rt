@@ -5,7 +5,7 @@ ghost use Rattle.std.specs.Prelude.{option_map, slice_get};
 ghost use Rattle.lk_tree.specs.Tree.{Name, Tree, proj};
 ghost use Rattle.lk_tree.specs.Spine.{args as args_of};
 ghost use Rattle.lk_rulebook.specs.Place.{Place};
-ghost use Rattle.lk_plain.specs.Erased.{a_tree, erased};
+ghost use Rattle.lk_questions.specs.Erased.{a_tree, erased};
 ghost use Rattle.lk_questions.specs.Iota.{CtorApp, core_field, picked};
 ghost use Rattle.lk_questions.specs.Core.{core_steps};
 ghost use Rattle.lk_store.specs.Contents.{name_at, tree_at};

@@ -4,8 +4,8 @@ use Rattle.lk_tree.specs.Tree.{Tree, tree_discrete, level_discrete, name_discret
 use Rattle.lk_tree.specs.Bind.{open_at, close_at, bound}
 use Rattle.lk_tree.specs.Spine.{head, args}
 use Rattle.lk_rulebook.specs.Place.{Place}
-use Rattle.lk_plain.specs.Query.{infer, same}
-use Rattle.lk_plain.specs.Answer.{answered, spent, answer_to_depth, plain_answer, outcome_of}
+use Rattle.lk_questions.specs.Query.{infer, same}
+use Rattle.lk_questions.specs.Answer.{answered, spent, answer_to_depth, plain_answer, outcome_of}
 use native.Mathlib.Decide.{ℕ_discrete}
 use Rattle.lk_rulebook.specs.Units.{Decl, as_thm}
 use Rattle.lk_questions.specs.Declarations.{checked, unit_steps}

@@ -1,8 +1,8 @@
 -- Equal trees.
 use Rattle.std.proofs.Common.{◌≡◌, true, ap, if◌then◌else◌}
 use Rattle.lk_tree.specs.Tree.{Tree}
-use Rattle.lk_plain.specs.Query.{same}
-use Rattle.lk_plain.specs.Program.{done}
+use Rattle.lk_questions.specs.Query.{same}
+use Rattle.lk_questions.specs.Program.{done}
 use Rattle.lk_questions.specs.Steps.{is_same_tree}
 use Rattle.lk_questions.specs.Same.{by_shape}
 use Rattle.lk_questions.specs.Table.{steps}

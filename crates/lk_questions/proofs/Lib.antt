@@ -1,3 +1,16 @@
+pub mod Agreement
+pub mod Budgets
+pub mod Outcomes
+pub mod Places
+pub mod Renamed
+pub mod Settled
+pub mod Soundness
+pub mod Parts
+pub mod Erasing
+pub mod Exact
+pub mod Continuing
+pub mod Settling
+pub mod Binding
 pub mod Costs
 pub mod Stuck
 pub mod WorkedLiterals

@@ -9,9 +9,9 @@ use Rattle.lk_tree.specs.declared.rule.Rule.TheVariants.{LevelWidth}
 use Rattle.lk_tree.specs.Spine.{head, args}
 use Rattle.lk_rulebook.specs.Place.{Entry, Block, BlockType, Ctor, RecRule, a_def, abbreviation}
 use Rattle.lk_rulebook.specs.Units.{place_of, LibraryUnit, of_decl, of_block, as_axiom}
-use Rattle.lk_plain.specs.Query.{core, infer}
-use Rattle.lk_plain.specs.Program.{done, refuse}
-use Rattle.lk_plain.specs.Answer.{answered, spent, answer_to_depth, plain_answer}
+use Rattle.lk_questions.specs.Query.{core, infer}
+use Rattle.lk_questions.specs.Program.{done, refuse}
+use Rattle.lk_questions.specs.Answer.{answered, spent, answer_to_depth, plain_answer}
 use Rattle.lk_questions.specs.Iota.{fitting_rule}
 use Rattle.lk_questions.specs.Levels.{complete_test, levels_equal}
 use Rattle.lk_questions.specs.Unfolding.{Unfolding, same_by_arguments, highest}

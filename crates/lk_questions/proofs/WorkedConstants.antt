@@ -12,8 +12,8 @@ use Rattle.lk_rulebook.specs.Place.{Place, regular}
 use Rattle.lk_rulebook.specs.Names.{word, named}
 use Rattle.lk_rulebook.specs.Quotients.{prop}
 use Rattle.lk_rulebook.specs.Units.{place_of, LibraryUnit, of_decl, Decl, as_axiom, as_def, as_thm}
-use Rattle.lk_plain.specs.Query.{core, whnf, infer, same}
-use Rattle.lk_plain.specs.Answer.{answered, refused, spent, answer_to_depth, outcome_of, plain_answer}
+use Rattle.lk_questions.specs.Query.{core, whnf, infer, same}
+use Rattle.lk_questions.specs.Answer.{answered, refused, spent, answer_to_depth, outcome_of, plain_answer}
 use Rattle.lk_questions.specs.Declarations.{checked, unit_steps}
 use Rattle.lk_questions.specs.Table.{steps}
 use native.Mathlib.Decide.{ℕ_discrete}

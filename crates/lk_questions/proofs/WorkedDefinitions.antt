@@ -11,8 +11,8 @@ use Rattle.lk_rulebook.specs.Place.{Place, opaque_hint, abbreviation, regular}
 use Rattle.lk_rulebook.specs.Names.{word, dotted, named}
 use Rattle.lk_rulebook.specs.Quotients.{prop}
 use Rattle.lk_rulebook.specs.Units.{place_of, Body, LibraryUnit, of_decl, as_def, as_opaque}
-use Rattle.lk_plain.specs.Query.{core, whnf, infer, same}
-use Rattle.lk_plain.specs.Answer.{answered, refused, spent, answer_to_depth, outcome_of, plain_answer}
+use Rattle.lk_questions.specs.Query.{core, whnf, infer, same}
+use Rattle.lk_questions.specs.Answer.{answered, refused, spent, answer_to_depth, outcome_of, plain_answer}
 use Rattle.lk_questions.specs.Declarations.{checked, unit_steps}
 use Rattle.lk_questions.specs.Table.{steps}
 use Rattle.lk_questions.proofs.WorkedConstants.{A, a, b, f, q, t, units}

@@ -14,8 +14,8 @@ use Rattle.lk_rulebook.specs.Place.{Place, Block, BlockType, Ctor, regular}
 use Rattle.lk_rulebook.specs.Names.{word, dotted, named, nat, nat_zero, nat_succ, string, string_mk, list_nil, list_cons, char, char_of_nat, eq, eq_refl, quot, quot_mk, quot_lift, quot_ind}
 use Rattle.lk_rulebook.specs.Quotients.{prop}
 use Rattle.lk_rulebook.specs.Units.{place_of, LibraryUnit, of_decl, of_block, Decl, as_axiom, as_def, as_quot}
-use Rattle.lk_plain.specs.Query.{core, whnf, infer, same}
-use Rattle.lk_plain.specs.Answer.{answered, refused, answer_to_depth, outcome_of, plain_answer}
+use Rattle.lk_questions.specs.Query.{core, whnf, infer, same}
+use Rattle.lk_questions.specs.Answer.{answered, refused, answer_to_depth, outcome_of, plain_answer}
 use Rattle.lk_questions.specs.Declarations.{checked, unit_steps}
 use Rattle.lk_questions.specs.Table.{steps}
 use native.Mathlib.Decide.{ℕ_discrete}

@@ -5,8 +5,8 @@ use Rattle.lk_tree.specs.Spine.{head, args}
 use Rattle.lk_tree.specs.declared.rule.Rule.TheVariants.{UnknownConstant}
 use Rattle.lk_rulebook.specs.Place.{Kind, Block, BlockType, Ctor, a_type}
 use Rattle.lk_rulebook.specs.Structures.{is_structure_like}
-use Rattle.lk_plain.specs.Query.{whnf, infer, same}
-use Rattle.lk_plain.specs.Program.{Program, done, look, asked, ◌>>=◌}
+use Rattle.lk_questions.specs.Query.{whnf, infer, same}
+use Rattle.lk_questions.specs.Program.{Program, done, look, asked, ◌>>=◌}
 use Rattle.lk_questions.specs.Iota.{CtorApp, ctor_app_of, has_one_ctor}
 use Rattle.lk_questions.specs.Pairs.{Line, answers, answers_yes, goes_on}
 

@@ -3,8 +3,8 @@ use Rattle.lk_tree.specs.Tree.{Tree, succ_level, imax_level, var, sort, const, a
 use Rattle.lk_tree.specs.Bind.{opened, close, bound}
 use Rattle.lk_tree.specs.declared.rule.Rule.TheVariants.{UnknownConstant, LooseVariable, NotAFunction, ArgumentType, LetType, WideLiteral}
 use Rattle.lk_rulebook.specs.Names.{named, nat, string}
-use Rattle.lk_plain.specs.Query.{infer, whnf, same}
-use Rattle.lk_plain.specs.Program.{Program, done, refuse, look, asked, ◌>>=◌}
+use Rattle.lk_questions.specs.Query.{infer, whnf, same}
+use Rattle.lk_questions.specs.Program.{Program, done, refuse, look, asked, ◌>>=◌}
 use Rattle.lk_questions.specs.Shapes.{nat_shape, string_shape}
 use Rattle.lk_questions.specs.Projections.{infer_proj}
 use Rattle.lk_questions.specs.Steps.{given, as_pi, sort_of, with_levels}

@@ -7,8 +7,8 @@ use Rattle.lk_tree.specs.declared.rule.Rule.TheVariants.{UnknownConstant}
 use Rattle.lk_rulebook.specs.Place.{Entry, Kind, Block, BlockType, Ctor, Recursor, RecRule, a_quot, a_ctor, a_rec}
 use Rattle.lk_tree.specs.Mentions.{same_name}
 use Rattle.lk_rulebook.specs.Structures.{is_structure_like, projections, before_major}
-use Rattle.lk_plain.specs.Query.{core, whnf, infer, same}
-use Rattle.lk_plain.specs.Program.{Program, done, look, asked, ◌>>=◌}
+use Rattle.lk_questions.specs.Query.{core, whnf, infer, same}
+use Rattle.lk_questions.specs.Program.{Program, done, look, asked, ◌>>=◌}
 use Rattle.lk_questions.specs.Steps.{sort_of, with_levels}
 use Rattle.lk_questions.specs.Strings.{literal_to_ctor, text_to_ctor}
 use Rattle.lk_questions.specs.Quotients.{core_quot}

@@ -5,8 +5,8 @@ use Rattle.lk_tree.specs.Level.{SameLevel}
 use Rattle.lk_tree.specs.LevelTest.{level_test}
 use Rattle.lk_tree.specs.declared.rule.Rule.TheVariants.{LevelWidth}
 use Rattle.lk_rulebook.specs.Place.{Place}
-use Rattle.lk_plain.specs.Program.{Program, done, refuse, ◌>>=◌}
-use Rattle.lk_plain.specs.Sound.{IsSound, IfYes}
+use Rattle.lk_questions.specs.Program.{Program, done, refuse, ◌>>=◌}
+use Rattle.lk_questions.specs.Sound.{IsSound, IfYes}
 
 -- whether two levels are equal
 abbrev pub LevelTest : Type 0

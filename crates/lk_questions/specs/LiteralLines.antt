@@ -5,8 +5,8 @@ use Rattle.lk_tree.specs.Spine.{head, args}
 use Rattle.lk_tree.specs.declared.rule.Rule.TheVariants.{UnknownConstant}
 use Rattle.lk_rulebook.specs.Names.{nat_zero, nat_succ, string_mk}
 use Rattle.lk_tree.specs.Mentions.{same_name}
-use Rattle.lk_plain.specs.Query.{same}
-use Rattle.lk_plain.specs.Program.{Program, done, look, asked, ◌>>=◌}
+use Rattle.lk_questions.specs.Query.{same}
+use Rattle.lk_questions.specs.Program.{Program, done, look, asked, ◌>>=◌}
 use Rattle.lk_questions.specs.Literals.{literal_step}
 use Rattle.lk_questions.specs.Strings.{expansion_of}
 use Rattle.lk_questions.specs.Pairs.{Line, answers, goes_on, ◌or_line◌}

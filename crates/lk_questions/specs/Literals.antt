@@ -9,8 +9,8 @@ use Rattle.lk_rulebook.specs.Place.{Entry, Kind}
 use Rattle.lk_rulebook.specs.Names.{named, nat_zero, bool_name, op_name}
 use Rattle.lk_tree.specs.Mentions.{same_name}
 use Rattle.lk_rulebook.specs.Literals.{may_give}
-use Rattle.lk_plain.specs.Query.{whnf}
-use Rattle.lk_plain.specs.Program.{Program, done, look, asked, ◌>>=◌}
+use Rattle.lk_questions.specs.Query.{whnf}
+use Rattle.lk_questions.specs.Program.{Program, done, look, asked, ◌>>=◌}
 use Rattle.lk_questions.specs.Shapes.{nat_shape}
 
 -- the number of a Lit, or of Nat.zero

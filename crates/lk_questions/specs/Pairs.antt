@@ -2,8 +2,8 @@
 use Rattle.std.specs.Prelude.{ℕ, Bool, true, false, ◌&&◌, List, [], ◌∷◌, Option, Some, None, if◌then◌else◌}
 use Rattle.lk_tree.specs.Tree.{Tree, local}
 use Rattle.lk_tree.specs.Bind.{opened}
-use Rattle.lk_plain.specs.Query.{core, same}
-use Rattle.lk_plain.specs.Program.{Program, done, asked, ◌>>=◌}
+use Rattle.lk_questions.specs.Query.{core, same}
+use Rattle.lk_questions.specs.Program.{Program, done, asked, ◌>>=◌}
 use Rattle.lk_questions.specs.Steps.{is_same_tree}
 
 -- both binders' domains, then the bodies opened with one Local

@@ -6,8 +6,8 @@ use Rattle.lk_tree.specs.Bind.{opened, has_var}
 use Rattle.lk_tree.specs.Spine.{head, args}
 use Rattle.lk_tree.specs.declared.rule.Rule.TheVariants.{UnknownConstant, BadProjection, PropProjection}
 use Rattle.lk_rulebook.specs.Place.{Kind, BlockType, Ctor, a_type}
-use Rattle.lk_plain.specs.Query.{whnf, infer}
-use Rattle.lk_plain.specs.Program.{Program, done, refuse, look, asked, ◌>>=◌}
+use Rattle.lk_questions.specs.Query.{whnf, infer}
+use Rattle.lk_questions.specs.Program.{Program, done, refuse, look, asked, ◌>>=◌}
 use Rattle.lk_questions.specs.Steps.{given, as_pi, sort_of, with_params}
 use Rattle.lk_questions.specs.Iota.{levels_at}
 

@@ -6,7 +6,7 @@ use Rattle.lk_rulebook.specs.Place.{Entry, Kind, Ctor, a_type}
 use Rattle.lk_rulebook.specs.Names.{eq, eq_refl, quot, quot_mk}
 use Rattle.lk_tree.specs.Mentions.{same_name}
 use Rattle.lk_rulebook.specs.Quotients.{eq_type, eq_refl_type, ctors_from, Quotient, the_type, the_mk, the_lift, the_ind, quot_name, quot_type}
-use Rattle.lk_plain.specs.Program.{Program, done, refuse, look, ◌>>=◌}
+use Rattle.lk_questions.specs.Program.{Program, done, refuse, look, ◌>>=◌}
 use Rattle.lk_questions.specs.Steps.{given, is_same_tree}
 use Rattle.lk_questions.specs.Quotients.{by_quot}
 

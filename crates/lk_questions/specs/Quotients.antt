@@ -6,8 +6,8 @@ use Rattle.lk_tree.specs.declared.rule.Rule.TheVariants.{UnknownConstant}
 use Rattle.lk_rulebook.specs.Place.{Kind, a_quot}
 use Rattle.lk_rulebook.specs.Names.{quot_mk, quot_lift, quot_ind}
 use Rattle.lk_tree.specs.Mentions.{same_name}
-use Rattle.lk_plain.specs.Query.{core, whnf}
-use Rattle.lk_plain.specs.Program.{Program, done, look, asked, ◌>>=◌}
+use Rattle.lk_questions.specs.Query.{core, whnf}
+use Rattle.lk_questions.specs.Program.{Program, done, look, asked, ◌>>=◌}
 
 abbrev pub by_quot : Kind → Bool
 by_quot a_quot = true

@@ -4,8 +4,8 @@ use Rattle.lk_tree.specs.Tree.{name_discrete, Tree, var, sort, const, app, lam, 
 use Rattle.lk_tree.specs.Bind.{bound}
 use Rattle.lk_tree.specs.Spine.{head, args}
 use Rattle.lk_tree.specs.Level.{is_zero_level}
-use Rattle.lk_plain.specs.Query.{whnf, infer, same}
-use Rattle.lk_plain.specs.Program.{Program, done, asked, ◌>>=◌}
+use Rattle.lk_questions.specs.Query.{whnf, infer, same}
+use Rattle.lk_questions.specs.Program.{Program, done, asked, ◌>>=◌}
 use Rattle.lk_questions.specs.Steps.{is_same_tree, decided, sort_of}
 use Rattle.lk_questions.specs.Levels.{complete_test, levels_equal}
 use Rattle.lk_questions.specs.Pairs.{same_bodies, by_core, same_all, Line, answers_yes, ◌or_else◌, goes_on}

@@ -6,7 +6,7 @@ use Rattle.lk_tree.specs.declared.rule.Rule.TheVariants.{NoBuiltin, BuiltinShape
 use Rattle.lk_rulebook.specs.Place.{Entry, Kind, Ctor, a_type}
 use Rattle.lk_rulebook.specs.Names.{named, nat, nat_zero, nat_succ, string}
 use Rattle.lk_tree.specs.Mentions.{same_name}
-use Rattle.lk_plain.specs.Program.{Program, done, refuse, look, ◌>>=◌}
+use Rattle.lk_questions.specs.Program.{Program, done, refuse, look, ◌>>=◌}
 use Rattle.lk_questions.specs.Steps.{given, is_same_tree}
 use Rattle.lk_questions.specs.Levels.{tested}
 

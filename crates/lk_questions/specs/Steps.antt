@@ -6,8 +6,8 @@ use Rattle.lk_tree.specs.declared.rule.Rule.TheVariants.{LevelCount, NotASort}
 use Rattle.lk_tree.specs.Levels.{put_levels}
 use Rattle.lk_rulebook.specs.Place.{Entry, Kind, a_def, a_thm, an_axiom, an_opaque, a_quot, a_type, a_ctor, a_rec}
 pub use Rattle.lk_rulebook.specs.SameTree.{decided, is_same_tree}
-use Rattle.lk_plain.specs.Query.{whnf, infer}
-use Rattle.lk_plain.specs.Program.{Program, done, refuse, asked, ◌>>=◌}
+use Rattle.lk_questions.specs.Query.{whnf, infer}
+use Rattle.lk_questions.specs.Program.{Program, done, refuse, asked, ◌>>=◌}
 
 -- p where the test holds, else refused by r
 abbrev pub given : {A : Type 0} → Bool → Rule → Program A → Program A

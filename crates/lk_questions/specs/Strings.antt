@@ -7,7 +7,7 @@ use Rattle.lk_rulebook.specs.Place.{Entry, Kind, Ctor, a_type}
 use Rattle.lk_rulebook.specs.Names.{named, nat_zero, nat_succ, string, string_mk}
 use Rattle.lk_tree.specs.Mentions.{same_name}
 use Rattle.lk_rulebook.specs.Literals.{expansion, expansion_names}
-use Rattle.lk_plain.specs.Program.{Program, done, look, ◌>>=◌}
+use Rattle.lk_questions.specs.Program.{Program, done, look, ◌>>=◌}
 use Rattle.lk_questions.specs.Shapes.{has_string_shape}
 
 -- each of the names is given

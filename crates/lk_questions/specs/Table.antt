@@ -1,6 +1,6 @@
 -- What each question does.
-use Rattle.lk_plain.specs.Query.{core, whnf, infer, same}
-use Rattle.lk_plain.specs.Program.{Table}
+use Rattle.lk_questions.specs.Query.{core, whnf, infer, same}
+use Rattle.lk_questions.specs.Program.{Table}
 use Rattle.lk_questions.specs.Core.{core_steps, whnf_steps}
 use Rattle.lk_questions.specs.Infer.{infer_steps}
 use Rattle.lk_questions.specs.Same.{same_steps}

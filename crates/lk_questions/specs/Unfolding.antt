@@ -4,8 +4,8 @@ use Rattle.lk_tree.specs.Tree.{Name, name_discrete, Level, Tree, const}
 use Rattle.lk_tree.specs.Spine.{apply, head, args}
 use Rattle.lk_tree.specs.declared.rule.Rule.TheVariants.{UnknownConstant}
 use Rattle.lk_rulebook.specs.Place.{Entry, Kind, Hint, opaque_hint, abbreviation, regular, a_def, a_thm}
-use Rattle.lk_plain.specs.Query.{same}
-use Rattle.lk_plain.specs.Program.{Program, done, look, asked, ◌>>=◌}
+use Rattle.lk_questions.specs.Query.{same}
+use Rattle.lk_questions.specs.Program.{Program, done, look, asked, ◌>>=◌}
 use Rattle.lk_questions.specs.Steps.{decided, with_levels}
 use Rattle.lk_questions.specs.Levels.{complete_test, levels_equal}
 use Rattle.lk_questions.specs.Pairs.{same_all, Line, answers, answers_yes, ◌or_else◌, goes_on}

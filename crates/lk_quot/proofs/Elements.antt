@@ -8,9 +8,9 @@ use Rattle.lk_tree.specs.Mentions.{same_name}
 use Rattle.lk_tree.specs.declared.rule.Rule.TheVariants.{UnknownConstant}
 use Rattle.lk_rulebook.specs.Place.{Place, Entry as PlainEntry}
 use Rattle.lk_rulebook.specs.Names.{quot_mk}
-use Rattle.lk_plain.specs.Query.{core}
-use Rattle.lk_plain.specs.Program.{Program, done, look}
-use Rattle.lk_plain.specs.Erased.{a_tree, asks, gives, with_tree, erased}
+use Rattle.lk_questions.specs.Query.{core}
+use Rattle.lk_questions.specs.Program.{Program, done, look}
+use Rattle.lk_questions.specs.Erased.{a_tree, asks, gives, with_tree, erased}
 use Rattle.lk_questions.specs.Quotients.{by_quot, at_mk}
 use Rattle.lk_store.specs.Contents.{Contents, tree_at, Extends}
 use Rattle.lk_subst.specs.Numbers.{trees-steady}

@@ -3,8 +3,8 @@ use Rattle.std.proofs.Common.{◌≡◌, ℕ, Bool, Option, sym, ap, ◌∙◌}
 use Rattle.lk_tree.specs.Tree.{Name}
 use Rattle.lk_tree.specs.declared.rule.Rule.TheVariants.{QuotShape}
 use Rattle.lk_rulebook.specs.Place.{Place, Entry as PlainEntry}
-use Rattle.lk_plain.specs.Program.{Program, done, look}
-use Rattle.lk_plain.specs.Settled.{settle}
+use Rattle.lk_questions.specs.Program.{Program, done, look}
+use Rattle.lk_questions.specs.Settled.{settle}
 use Rattle.lk_questions.specs.Steps.{given}
 use Rattle.lk_env.specs.declared.entry.Entry.{Entry}
 use Rattle.lk_env.specs.StoredLibrary.{StoredLibrary}

@@ -2,8 +2,8 @@
 use Rattle.std.specs.Prelude.{ℕ, Option, None, Result}
 use Rattle.lk_tree.specs.Tree.{Tree}
 use Rattle.lk_rulebook.specs.Place.{Place}
-use Rattle.lk_plain.specs.Program.{Program}
-use Rattle.lk_plain.specs.Erased.{Value, a_tree, Steps, gives, with_tree, erased}
+use Rattle.lk_questions.specs.Program.{Program}
+use Rattle.lk_questions.specs.Erased.{Value, a_tree, Steps, gives, with_tree, erased}
 use Rattle.lk_store.specs.declared.memory.NoMemory.{NoMemory}
 use Rattle.lk_store.specs.Contents.{Contents, tree_at}
 use Rattle.lk_ask.specs.declared.next.Next.{Next}

@@ -6,8 +6,8 @@ use Rattle.lk_tree.specs.Spine.{apply, head, args}
 use Rattle.lk_tree.specs.declared.rule.Rule.TheVariants.{UnknownConstant}
 use Rattle.lk_tree.specs.Mentions.{same_name}
 use Rattle.lk_rulebook.specs.Names.{quot_mk, quot_lift, quot_ind}
-use Rattle.lk_plain.specs.Query.{core}
-use Rattle.lk_plain.specs.Program.{Program, done, look, asked}
+use Rattle.lk_questions.specs.Query.{core}
+use Rattle.lk_questions.specs.Program.{Program, done, look, asked}
 use Rattle.lk_questions.specs.Quotients.{by_quot, at_mk, at_major}
 use Rattle.lk_quot.specs.declared.redex.Redex.{Redex}
 

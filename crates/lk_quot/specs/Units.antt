@@ -1,8 +1,8 @@
 -- What is said of a program that asks nothing, and comes to no value.
 use Rattle.std.specs.Prelude.{◌≡◌, ℕ, Option, Ok, Err, Result}
 use Rattle.lk_tree.specs.declared.rule.Rule.{Rule}
-use Rattle.lk_plain.specs.Program.{Program}
-use Rattle.lk_plain.specs.Settled.{Settled, comes, fails}
+use Rattle.lk_questions.specs.Program.{Program}
+use Rattle.lk_questions.specs.Settled.{Settled, comes, fails}
 use Rattle.lk_store.specs.declared.memory.NoMemory as memory
 use Rattle.lk_store.specs.Contents.{Contents}
 use Rattle.lk_ask.specs.declared.stop.Stop.{Stop}

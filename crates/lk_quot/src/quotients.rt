@@ -1,7 +1,7 @@
 //! Who says whether a quotient unit may stand.
 
 ghost use Rattle.std.specs.Prelude.{◌≡◌, ◌<◌, None, map, length, All};
-ghost use Rattle.lk_plain.specs.Settled.{settle};
+ghost use Rattle.lk_questions.specs.Settled.{settle};
 ghost use Rattle.lk_questions.specs.QuotientUnits.{quot_steps};
 ghost use Rattle.lk_store.specs.Contents.{name_at, tree_at, Extends};
 ghost use Rattle.lk_quot.specs.Units.{IsMet};

@@ -1,7 +1,7 @@
 -- Questions about a stated recursor, while the store grows, and in their order.
 use Rattle.std.proofs.Common.{◌≡◌, ◌<◌, ℕ, List, [], ◌∷◌, map, length, All, refl, ap, sym, ◌∙◌, arith}
 use Rattle.lk_rulebook.specs.Place.{RecRule}
-use Rattle.lk_plain.specs.Program.{done, ◌>>=◌}
+use Rattle.lk_questions.specs.Program.{done, ◌>>=◌}
 use Rattle.lk_questions.specs.Declarations.{checked}
 use Rattle.lk_store.specs.Contents.{Contents, name_at, tree_at, Extends}
 use Rattle.lk_env.specs.declared.unit.RecursorRule.{RecursorRule}

@@ -4,8 +4,8 @@ use Rattle.std.proofs.Math.Path.{fun_ext}
 use Rattle.lk_tree.specs.Tree.{Tree}
 use Rattle.lk_tree.specs.declared.rule.Rule.TheVariants.{RecursorDiffers}
 use Rattle.lk_rulebook.specs.Place.{RecRule}
-use Rattle.lk_plain.specs.Query.{infer, same}
-use Rattle.lk_plain.specs.Program.{Program, done, ask, asked, ◌>>=◌}
+use Rattle.lk_questions.specs.Query.{infer, same}
+use Rattle.lk_questions.specs.Program.{Program, done, ask, asked, ◌>>=◌}
 use Rattle.lk_questions.specs.Steps.{given}
 use Rattle.lk_questions.specs.Declarations.{Yes, checked}
 use Rattle.lk_inductive.specs.Recursors.{BlockRecursor}

@@ -2,8 +2,8 @@
 use Rattle.std.specs.Prelude.{◌≡◌, ℕ, ◌<◌, List, length, map, All}
 use Rattle.lk_tree.specs.Tree.{Tree, param}
 use Rattle.lk_tree.specs.declared.rule.Rule.TheVariants.{RecursorDiffers}
-use Rattle.lk_plain.specs.Query.{infer, same}
-use Rattle.lk_plain.specs.Program.{Program, done, asked, ◌>>=◌}
+use Rattle.lk_questions.specs.Query.{infer, same}
+use Rattle.lk_questions.specs.Program.{Program, done, asked, ◌>>=◌}
 use Rattle.lk_questions.specs.Steps.{given, sort_of}
 use Rattle.lk_questions.specs.Declarations.{Yes, checked}
 use Rattle.lk_store.specs.Contents.{Contents, name_at, level_at, tree_at}

@@ -3,8 +3,8 @@ use Rattle.std.proofs.Common.{◌≡◌, ℕ, Bool, Option, None, ap, subst, ◌
 use Rattle.std.specs.Prelude.{Result, Ok, IfOk}
 use Rattle.lk_tree.specs.Tree.{Tree}
 use Rattle.lk_rulebook.specs.Place.{Place}
-use Rattle.lk_plain.specs.Program.{Program}
-use Rattle.lk_plain.specs.Erased.{truth, Steps, erased}
+use Rattle.lk_questions.specs.Program.{Program}
+use Rattle.lk_questions.specs.Erased.{truth, Steps, erased}
 use Rattle.lk_questions.specs.Pairs.{Line, ◌or_else◌}
 use Rattle.lk_store.specs.declared.memory.NoMemory.{NoMemory}
 use Rattle.lk_store.specs.Contents.{Contents, tree_at}

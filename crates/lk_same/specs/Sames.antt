@@ -3,9 +3,9 @@ use Rattle.std.specs.Prelude.{◌≡◌, ℕ, Bool, false, ◌&&◌, List, Optio
 use Rattle.lk_tree.specs.Tree.{Tree, Level, local}
 use Rattle.lk_tree.specs.Bind.{opened}
 use Rattle.lk_rulebook.specs.Place.{Place}
-use Rattle.lk_plain.specs.Query.{core, whnf, infer, same}
-use Rattle.lk_plain.specs.Program.{Program, done, ask, asked, ◌>>=◌}
-use Rattle.lk_plain.specs.Erased.{Value, truth, Steps, gives, erased}
+use Rattle.lk_questions.specs.Query.{core, whnf, infer, same}
+use Rattle.lk_questions.specs.Program.{Program, done, ask, asked, ◌>>=◌}
+use Rattle.lk_questions.specs.Erased.{Value, truth, Steps, gives, erased}
 use Rattle.lk_tree.specs.Level.{is_zero_level}
 use Rattle.lk_questions.specs.Steps.{is_same_tree, as_sort}
 use Rattle.lk_questions.specs.Pairs.{Line, otherwise, yes_alone, answers_yes, ◌or_else◌, goes_on}

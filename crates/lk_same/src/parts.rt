@@ -3,8 +3,8 @@
 ghost use Rattle.std.specs.Prelude.{◌≡◌, ◌<◌, ℕ, Bool, true, Ok, IfSome, Option, length, map, All};
 ghost use Rattle.lk_tree.specs.Tree.{Tree, const, proj};
 ghost use Rattle.lk_rulebook.specs.Place.{Place};
-ghost use Rattle.lk_plain.specs.Program.{Program};
-ghost use Rattle.lk_plain.specs.Erased.{truth, erased};
+ghost use Rattle.lk_questions.specs.Program.{Program};
+ghost use Rattle.lk_questions.specs.Erased.{truth, erased};
 ghost use Rattle.lk_questions.specs.Levels.{tested as plain_answer};
 ghost use Rattle.lk_questions.specs.Pairs.{answers_yes};
 ghost use Rattle.lk_questions.specs.Same.{by_parts};

@@ -4,7 +4,7 @@ ghost use Rattle.std.specs.Prelude.{◌≡◌, ◌<◌, ℕ, max, Ok, IfOk, Opti
 ghost use Rattle.lk_tree.specs.Tree.{Tree, sort, lam, pi, lit, str};
 ghost use Rattle.lk_tree.specs.Bind.{bound};
 ghost use Rattle.lk_rulebook.specs.Place.{Place};
-ghost use Rattle.lk_plain.specs.Erased.{truth, erased};
+ghost use Rattle.lk_questions.specs.Erased.{truth, erased};
 ghost use Rattle.lk_questions.specs.Pairs.{same_bodies};
 ghost use Rattle.lk_questions.specs.Same.{by_reduction, by_shape};
 ghost use Rattle.lk_store.specs.Contents.{level_at, text_at, tree_at};

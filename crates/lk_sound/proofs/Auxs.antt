@@ -3,9 +3,9 @@ use Rattle.std.proofs.Common.{ℕ, ◌≡◌, ◌+◌, ◌⊎◌, inl, inr, fals
 use Rattle.lk_tree.specs.Tree.{Name, Level, Tree, sort}
 use Rattle.lk_rulebook.specs.Place.{Place, Entry, Block, BlockType, a_type}
 use Rattle.lk_tree.specs.Mentions.{same_name, is_one_of}
-use Rattle.lk_plain.specs.Program.{done}
-use Rattle.lk_plain.specs.Sound.{IsSound, IsStated, CtorsStated, TypesStated}
-use Rattle.lk_plain.proofs.Soundness.{sound_bind}
+use Rattle.lk_questions.specs.Program.{done}
+use Rattle.lk_questions.specs.Sound.{IsSound, IsStated, CtorsStated, TypesStated}
+use Rattle.lk_questions.proofs.Soundness.{sound_bind}
 use Rattle.lk_claims.proofs.Facts.{sound_if}
 use Rattle.lk_inductive.specs.Relation.{Telescope}
 use Rattle.lk_inductive.specs.BlockSteps.{as_level}

@@ -7,11 +7,11 @@ use Rattle.lk_tree.proofs.Lists.{AnyLocal}
 use Rattle.lk_tree.proofs.Locals.{below_bound}
 use Rattle.lk_rulebook.specs.Place.{Place, Block, BlockType}
 use Rattle.lk_rulebook.specs.Rules.{HasSort}
-use Rattle.lk_plain.specs.Program.{done}
+use Rattle.lk_questions.specs.Program.{done}
 use Rattle.lk_questions.specs.Steps.{given, sort_of}
 use Rattle.lk_questions.specs.Levels.{tested}
-use Rattle.lk_plain.specs.Sound.{IsSound, IsStated, TypesStated}
-use Rattle.lk_plain.proofs.Soundness.{sound_bind}
+use Rattle.lk_questions.specs.Sound.{IsSound, IsStated, TypesStated}
+use Rattle.lk_questions.proofs.Soundness.{sound_bind}
 use Rattle.lk_claims.proofs.Pieces.{sound_given, of_yes, sound_sort_of}
 use Rattle.lk_claims.proofs.Pieces.{sound_tested}
 use Rattle.lk_inductive.specs.Block.{parameters_of, Frame, frame_of}

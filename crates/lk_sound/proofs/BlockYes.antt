@@ -13,8 +13,8 @@ use Rattle.lk_tree.specs.Mentions.{same_name}
 use Rattle.lk_rulebook.specs.Rules.{HasSort}
 use Rattle.lk_rulebook.proofs.Scopes.{well_formed_of_reduct}
 use Rattle.lk_questions.specs.Steps.{sort_of}
-use Rattle.lk_plain.specs.Sound.{IsSound, IsStated, CtorsStated, TypesStated, RulesStated, IsListed}
-use Rattle.lk_plain.proofs.Soundness.{sound_bind, sound_map}
+use Rattle.lk_questions.specs.Sound.{IsSound, IsStated, CtorsStated, TypesStated, RulesStated, IsListed}
+use Rattle.lk_questions.proofs.Soundness.{sound_bind, sound_map}
 use Rattle.lk_claims.proofs.Pieces.{sound_given, of_yes, sound_sort_of}
 use Rattle.lk_inductive.specs.Block.{Frame, frame_of, FieldKind, plain, recursive, under, Field, CtorShape, TypeShape, Shape, type_entries, ctor_entries, all_ctor_entries}
 use Rattle.lk_inductive.specs.Relation.{IsPositive, mentions_none, arrow, member, AreFields, no_field, a_field, IsCtor, AreCtors, no_ctor, a_ctor_more, AreTypes, no_type, a_type_more, AreNumbered, IsBlock}

@@ -5,8 +5,8 @@ use Rattle.lk_tree.specs.Tree.{Name}
 use Rattle.lk_tree.specs.declared.rule.Rule.TheVariants.{BlockShape}
 use Rattle.lk_rulebook.specs.Place.{Place, Block, BlockType, Ctor}
 use Rattle.lk_tree.specs.Mentions.{same_name}
-use Rattle.lk_plain.specs.Program.{done}
-use Rattle.lk_plain.specs.Sound.{IsSound}
+use Rattle.lk_questions.specs.Program.{done}
+use Rattle.lk_questions.specs.Sound.{IsSound}
 use Rattle.lk_questions.specs.Declarations.{checked}
 use Rattle.lk_claims.proofs.Pieces.{sound_given}
 use Rattle.lk_inductive.specs.Block.{levels_of, parameters_of}

@@ -13,11 +13,11 @@ use Rattle.lk_rulebook.specs.Place.{Place, Block, BlockType, Ctor}
 use Rattle.lk_tree.specs.Mentions.{same_name}
 use Rattle.lk_rulebook.specs.Rules.{HasSort, is_prop, Reduces}
 use Rattle.lk_rulebook.proofs.Scopes.{well_formed_of_reduct}
-use Rattle.lk_plain.specs.Program.{done}
+use Rattle.lk_questions.specs.Program.{done}
 use Rattle.lk_questions.specs.Steps.{given, sort_of, is_same_tree}
 use Rattle.lk_questions.specs.Levels.{tested}
-use Rattle.lk_plain.specs.Sound.{IsSound, IsStated, CtorsStated, TypesStated}
-use Rattle.lk_plain.proofs.Soundness.{sound_bind, sound_map}
+use Rattle.lk_questions.specs.Sound.{IsSound, IsStated, CtorsStated, TypesStated}
+use Rattle.lk_questions.proofs.Soundness.{sound_bind, sound_map}
 use Rattle.lk_claims.proofs.Pieces.{sound_given, sound_sort_of, sound_pi, same_tree}
 use Rattle.lk_claims.proofs.Facts.{sound_if}
 use Rattle.lk_inductive.specs.Block.{Frame, frame_of, Field, CtorShape, TypeShape, domain}

@@ -8,9 +8,9 @@ use Rattle.lk_tree.specs.declared.rule.Rule.TheVariants.{UnknownConstant, BlockS
 use Rattle.lk_tree.proofs.Binding.{close_fine, close_bound}
 use Rattle.lk_rulebook.specs.Place.{Place, Kind, Block, BlockType, Ctor, a_type}
 use Rattle.lk_tree.specs.Mentions.{is_one_of}
-use Rattle.lk_plain.specs.Program.{Program, done, look, ◌>>=◌}
-use Rattle.lk_plain.specs.Sound.{IsSound, WellStated, IsStated, CtorsStated, TypesStated}
-use Rattle.lk_plain.proofs.Soundness.{sound_bind, sound_map}
+use Rattle.lk_questions.specs.Program.{Program, done, look, ◌>>=◌}
+use Rattle.lk_questions.specs.Sound.{IsSound, WellStated, IsStated, CtorsStated, TypesStated}
+use Rattle.lk_questions.proofs.Soundness.{sound_bind, sound_map}
 use Rattle.lk_claims.proofs.Pieces.{sound_given}
 use Rattle.lk_claims.proofs.Facts.{sound_if}
 use Rattle.lk_inductive.specs.Block.{domain}

@@ -6,9 +6,9 @@ use Rattle.lk_rulebook.specs.Units.{Body, as_axiom, as_def, as_thm, as_opaque, a
 use Rattle.lk_rulebook.specs.Scan.{IsScanned, scan_of}
 use Rattle.lk_rulebook.specs.Derived.{BodyWellFormed, DeclDerived}
 use Rattle.lk_rulebook.proofs.Scans.{scan_right, AllStated, scanned_stated}
-use Rattle.lk_plain.specs.Answer.{outcome_of, plain_answer}
-use Rattle.lk_plain.specs.Program.{Table}
-use Rattle.lk_plain.specs.Sound.{IsSoundPlace, IsSoundTable}
+use Rattle.lk_questions.specs.Answer.{outcome_of, plain_answer}
+use Rattle.lk_questions.specs.Program.{Table}
+use Rattle.lk_questions.specs.Sound.{IsSoundPlace, IsSoundTable}
 use Rattle.lk_rulebook.specs.Lawful.{IsLawfulPlace}
 use Rattle.lk_verdict.specs.Operations.{OperationsYes}
 use Rattle.lk_sound.proofs.Lawful.{lawful_at}

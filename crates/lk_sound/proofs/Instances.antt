@@ -12,10 +12,10 @@ use Rattle.lk_tree.proofs.Lists.{AnyLocal}
 use Rattle.lk_tree.proofs.Within.{bound_put_levels, fine_put_levels}
 use Rattle.lk_rulebook.specs.Place.{Place, Ctor}
 use Rattle.lk_rulebook.specs.Rules.{r_refl}
-use Rattle.lk_plain.specs.Program.{done}
+use Rattle.lk_questions.specs.Program.{done}
 use Rattle.lk_questions.specs.Steps.{given}
-use Rattle.lk_plain.specs.Sound.{IsSound, IsStated, CtorsStated}
-use Rattle.lk_plain.proofs.Soundness.{sound_bind, sound_map}
+use Rattle.lk_questions.specs.Sound.{IsSound, IsStated, CtorsStated}
+use Rattle.lk_questions.proofs.Soundness.{sound_bind, sound_map}
 use Rattle.lk_claims.proofs.Pieces.{sound_given}
 use Rattle.lk_inductive.specs.Relation.{Telescope, no_pi, a_pi, IsAmong}
 use Rattle.lk_inductive.specs.BlockSteps.{as_level}

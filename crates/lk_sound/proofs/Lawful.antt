@@ -13,7 +13,7 @@ use Rattle.lk_rulebook.specs.Rules.{MeetsLaws, meets, AllHold, no_more_laws}
 use Rattle.lk_rulebook.specs.Units.{Body, as_axiom, as_def, as_thm, as_opaque, as_quot, Decl, LibraryUnit, of_decl, of_block, Library, Members, members_of, kind_of, type_entries, ctor_entries, all_ctor_entries, rec_members, rec_entries, partial_types, partial_members, Found, given_by, first_of_two, at_unit, at_partial, flaw_of, flawless, first_giving, place_of}
 use Rattle.lk_rulebook.specs.Scan.{AreNew}
 use Rattle.lk_rulebook.specs.Derived.{BodyDerived, DeclDerived}
-use Rattle.lk_plain.proofs.Places.{prefix_gives, found_entry}
+use Rattle.lk_questions.proofs.Places.{prefix_gives, found_entry}
 use Rattle.lk_inductive.specs.Grows.{IsWithin}
 use Rattle.lk_inductive.specs.Nested.{Aux, Setting, bare_entries}
 use Rattle.lk_inductive.specs.Restore.{Original}

@@ -11,9 +11,9 @@ use Rattle.lk_tree.proofs.Spines.{fine_apply}
 use Rattle.lk_tree.proofs.Within.{apply_head_args}
 use Rattle.lk_rulebook.specs.Place.{Place, Entry, Kind, Block, BlockType, a_type}
 use Rattle.lk_tree.specs.Mentions.{is_one_of}
-use Rattle.lk_plain.specs.Program.{Program, done, look, ◌>>=◌}
-use Rattle.lk_plain.specs.Sound.{IsSound, WellStated, KindStated, CtorsStated, TypesStated, IsStated}
-use Rattle.lk_plain.proofs.Soundness.{sound_bind}
+use Rattle.lk_questions.specs.Program.{Program, done, look, ◌>>=◌}
+use Rattle.lk_questions.specs.Sound.{IsSound, WellStated, KindStated, CtorsStated, TypesStated, IsStated}
+use Rattle.lk_questions.proofs.Soundness.{sound_bind}
 use Rattle.lk_claims.proofs.Pieces.{sound_given, same_tree}
 use Rattle.lk_claims.proofs.Facts.{sound_if}
 use Rattle.lk_inductive.specs.Relation.{IsAmong}

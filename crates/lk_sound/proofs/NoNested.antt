@@ -7,7 +7,7 @@ use Rattle.lk_tree.specs.WellFormed.{IsWellFormed, IsWellFormedUnder}
 use Rattle.lk_tree.proofs.Binding.{Opening, opening, below, at, above, Closing, closing, closed, stays, open_fine}
 use Rattle.lk_rulebook.specs.Place.{Place, Block, BlockType, Ctor}
 use Rattle.lk_rulebook.specs.Units.{Members}
-use Rattle.lk_plain.specs.Sound.{IsStated, CtorsStated, TypesStated}
+use Rattle.lk_questions.specs.Sound.{IsStated, CtorsStated, TypesStated}
 use Rattle.lk_inductive.specs.Block.{Shape}
 use Rattle.lk_inductive.specs.Relation.{AreNumbered, IsBlock}
 use Rattle.lk_inductive.specs.Recursors.{number, BlockRecursor, minors, recursors_by}

@@ -12,8 +12,8 @@ use Rattle.lk_tree.proofs.Lists.{AnyLocal}
 use Rattle.lk_rulebook.specs.Place.{Place, Block, BlockType}
 use Rattle.lk_rulebook.specs.Rules.{r_refl, e_refl}
 use Rattle.lk_questions.specs.Levels.{tested}
-use Rattle.lk_plain.specs.Sound.{IsSound}
-use Rattle.lk_plain.proofs.Soundness.{sound_bind, sound_map}
+use Rattle.lk_questions.specs.Sound.{IsSound}
+use Rattle.lk_questions.proofs.Soundness.{sound_bind, sound_map}
 use Rattle.lk_claims.proofs.Pieces.{sound_given, of_yes}
 use Rattle.lk_claims.proofs.Pieces.{sound_tested}
 use Rattle.lk_inductive.specs.Block.{domain, Frame, frame_of, parameters_of}

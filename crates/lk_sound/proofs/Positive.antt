@@ -9,10 +9,10 @@ use Rattle.lk_tree.proofs.Within.{apply_head_args}
 use Rattle.lk_rulebook.specs.Place.{Place}
 use Rattle.lk_tree.specs.Mentions.{mentions, same_name}
 use Rattle.lk_rulebook.specs.Rules.{Reduces}
-use Rattle.lk_plain.specs.Program.{Program, done, refuse}
+use Rattle.lk_questions.specs.Program.{Program, done, refuse}
 use Rattle.lk_questions.specs.Steps.{is_same_tree}
-use Rattle.lk_plain.specs.Sound.{IsSound}
-use Rattle.lk_plain.proofs.Soundness.{sound_bind}
+use Rattle.lk_questions.specs.Sound.{IsSound}
+use Rattle.lk_questions.proofs.Soundness.{sound_bind}
 use Rattle.lk_claims.proofs.Pieces.{same_tree}
 use Rattle.lk_claims.proofs.Facts.{sound_if}
 use Rattle.lk_inductive.specs.Block.{Frame, FieldKind, plain, under}

@@ -11,7 +11,7 @@ use Rattle.lk_rulebook.specs.Structures.{IsRuleOf}
 use Rattle.lk_rulebook.specs.Rules.{HasValue, of_def, of_thm}
 use Rattle.lk_rulebook.specs.Stated.{GivesNoLocal}
 use Rattle.lk_rulebook.proofs.Scans.{AllStated, stated_split, unflawed_stated}
-use Rattle.lk_plain.specs.Sound.{WellStated, KindStated, CtorsStated, TypesStated, RulesStated}
+use Rattle.lk_questions.specs.Sound.{WellStated, KindStated, CtorsStated, TypesStated, RulesStated}
 use Rattle.lk_inductive.specs.Whole.{RecsStated, BlockStated}
 use Rattle.lk_inductive.proofs.Partials.{MembersStated, given_stated, stated_append}
 use Rattle.lk_sound.proofs.BlockYes.{type_entries_stated, all_ctor_entries_stated}

@@ -9,10 +9,10 @@ use Rattle.lk_tree.proofs.Locals.{local_of_open}
 use Rattle.lk_rulebook.specs.Place.{Place, BlockType}
 use Rattle.lk_rulebook.specs.Rules.{Reduces, e_refl}
 use Rattle.lk_rulebook.proofs.Scopes.{well_formed_of_reduct}
-use Rattle.lk_plain.specs.Query.{whnf}
-use Rattle.lk_plain.specs.Program.{done}
-use Rattle.lk_plain.specs.Sound.{IsSound, IsJustified}
-use Rattle.lk_plain.proofs.Soundness.{sound_bind, sound_map}
+use Rattle.lk_questions.specs.Query.{whnf}
+use Rattle.lk_questions.specs.Program.{done}
+use Rattle.lk_questions.specs.Sound.{IsSound, IsJustified}
+use Rattle.lk_questions.proofs.Soundness.{sound_bind, sound_map}
 use Rattle.lk_claims.proofs.Pieces.{sound_given, of_yes, sound_pi}
 use Rattle.lk_inductive.specs.Relation.{IsAmong, Telescope, no_pi, a_pi, Over, over_none, over_one, AreNumbered, AreParams, of_first}
 use Rattle.lk_inductive.specs.BlockSteps.{telescope, over, as_level, type_end}

@@ -6,9 +6,9 @@ use Rattle.lk_tree.specs.WellFormed.{AllWellFormed}
 use Rattle.lk_tree.proofs.Lists.{AnyLocal}
 use Rattle.lk_rulebook.specs.Place.{Place, Entry, Block, BlockType, a_type}
 use Rattle.lk_rulebook.specs.Units.{Members, LibraryUnit, given_by, first_of_two, first_giving, flawless, place_of, at_partial}
-use Rattle.lk_plain.specs.Answer.{IfAnswered, plain_answer}
-use Rattle.lk_plain.specs.Program.{Table}
-use Rattle.lk_plain.specs.Sound.{WellStated, TypesStated, IsSoundPlace, IsSoundTable}
+use Rattle.lk_questions.specs.Answer.{IfAnswered, plain_answer}
+use Rattle.lk_questions.specs.Program.{Table}
+use Rattle.lk_questions.specs.Sound.{WellStated, TypesStated, IsSoundPlace, IsSoundTable}
 use Rattle.lk_table_sound.proofs.Derivations.{ans_sound}
 use Rattle.lk_inductive.specs.Block.{frame_of, parameters_of, type_entries, all_ctor_entries}
 use Rattle.lk_inductive.specs.Relation.{IsAmong, AreNumbered, IsBlock, CountsAgree}

@@ -11,7 +11,7 @@ use Rattle.lk_tree.specs.declared.rule.Rule.TheVariants.{DuplicateName, NotPosit
 use Rattle.lk_rulebook.specs.Place.{abbreviation}
 use Rattle.lk_rulebook.specs.Names.{dotted, nat, nat_zero, nat_succ, named, op_name}
 use Rattle.lk_rulebook.specs.Units.{of_decl, of_block, as_def, Library}
-use Rattle.lk_plain.specs.Answer.{answer_to_depth}
+use Rattle.lk_questions.specs.Answer.{answer_to_depth}
 use Rattle.lk_questions.specs.Table.{steps}
 use Rattle.lk_inductive.proofs.Worked.{nat_block}
 use Rattle.lk_inductive.proofs.WorkedBlocks.{u, s_type, nat_rec_with, n_unit, t_name, t_block, of_functions}

@@ -22,9 +22,9 @@ use Rattle.lk_rulebook.specs.Literals.{expansion}
 use Rattle.lk_rulebook.specs.Literals as literals
 use Rattle.lk_rulebook.specs.Rules.{HasValue, IsGivenAt, at_levels}
 use Rattle.lk_tree.proofs.Binding.{fine_more}
-use Rattle.lk_plain.specs.Query.{Query, AnswerTo, core, whnf, infer, same}
-use Rattle.lk_plain.specs.Program.{Program, done, refuse, ask, look, Table}
-use Rattle.lk_plain.specs.Sound.{IsAskable, IfYes}
+use Rattle.lk_questions.specs.Query.{Query, AnswerTo, core, whnf, infer, same}
+use Rattle.lk_questions.specs.Program.{Program, done, refuse, ask, look, Table}
+use Rattle.lk_questions.specs.Sound.{IsAskable, IfYes}
 use Rattle.lk_questions.specs.Levels.{LevelTest}
 use Rattle.lk_questions.specs.Shapes.{nat_shape, string_shape}
 use Rattle.lk_questions.specs.Literals.{numeral_of, result_of}

@@ -9,8 +9,8 @@ use Rattle.lk_tree.proofs.Spines.{fine_apply, well_formed_of_apply, neutral_appl
 use Rattle.lk_tree.proofs.Within.{within_open, apply_head_args}
 use Rattle.lk_table_sound.proofs.Book.{Book, r_zeta, well_formed_of_reduct, IsSound, IsJustified, WellStated}
 use Rattle.lk_rulebook.specs.Place.{Entry}
-use Rattle.lk_plain.specs.Query.{core, whnf}
-use Rattle.lk_plain.specs.Program.{Program, done, asked, ◌>>=◌}
+use Rattle.lk_questions.specs.Query.{core, whnf}
+use Rattle.lk_questions.specs.Program.{Program, done, asked, ◌>>=◌}
 use Rattle.lk_questions.specs.Steps.{with_levels, value_of, is_same_tree}
 use Rattle.lk_questions.specs.Core.{lambdas, beta, core_applied, core_steps, unfolded, stepped, whnf_headed, whnf_steps}
 use Rattle.lk_questions.specs.Literals.{literal_step}

@@ -6,8 +6,8 @@ use Rattle.lk_tree.specs.WellFormed.{IsWellFormed}
 use Rattle.lk_tree.specs.declared.rule.Rule.TheVariants.{ValueType}
 use Rattle.lk_rulebook.specs.Units.{Body, as_axiom, as_def, as_thm, as_opaque, as_quot, Decl}
 use Rattle.lk_rulebook.specs.Derived.{BodyWellFormed, DeclWellFormed}
-use Rattle.lk_plain.specs.Program.{done, Table}
-use Rattle.lk_plain.specs.Answer.{IfAnswered, outcome_of, plain_answer}
+use Rattle.lk_questions.specs.Program.{done, Table}
+use Rattle.lk_questions.specs.Answer.{IfAnswered, outcome_of, plain_answer}
 use Rattle.lk_questions.specs.Steps.{sort_of}
 use Rattle.lk_questions.specs.Declarations.{checked, value_steps, body_steps, unit_steps}
 use Rattle.lk_questions.specs.QuotientUnits.{quot_steps}

@@ -12,12 +12,12 @@ use Rattle.lk_rulebook.specs.Rules as rules
 use Rattle.lk_rulebook.specs.Derived as given
 use Rattle.lk_rulebook.specs.Derived.{DeclWellFormed, BodyDerived, DeclDerived}
 use Rattle.lk_rulebook.specs.Units.{Body, as_axiom, as_def, as_thm, as_opaque, as_quot, Decl}
-use Rattle.lk_plain.specs.Query.{Query, AnswerTo, core, whnf, infer, same}
-use Rattle.lk_plain.specs.Program.{Program, done, refuse, ask, look, Table}
-use Rattle.lk_plain.specs.Answer.{IfAnswered, outcome_of, plain_answer}
-use Rattle.lk_plain.specs.Sound.{IsAskable, IsSoundPlace, IsSoundTable}
-use Rattle.lk_plain.specs.Sound as sound
-use Rattle.lk_plain.proofs.Soundness.{sound_run, sound_answer}
+use Rattle.lk_questions.specs.Query.{Query, AnswerTo, core, whnf, infer, same}
+use Rattle.lk_questions.specs.Program.{Program, done, refuse, ask, look, Table}
+use Rattle.lk_questions.specs.Answer.{IfAnswered, outcome_of, plain_answer}
+use Rattle.lk_questions.specs.Sound.{IsAskable, IsSoundPlace, IsSoundTable}
+use Rattle.lk_questions.specs.Sound as sound
+use Rattle.lk_questions.proofs.Soundness.{sound_run, sound_answer}
 use Rattle.lk_questions.specs.Table.{steps}
 use Rattle.lk_questions.specs.Declarations.{unit_steps}
 use Rattle.lk_questions.specs.QuotientUnits.{quot_steps}

@@ -7,8 +7,8 @@ use Rattle.lk_tree.proofs.Within.{apply_head_args}
 use Rattle.lk_table_sound.proofs.Book.{Book, HasType, Reduces, IsDefEq, e_unit, well_formed_of_type}
 use Rattle.lk_rulebook.specs.Place.{Entry, Kind, Block, BlockType, Ctor, a_type}
 use Rattle.lk_rulebook.specs.Structures.{is_structure_like}
-use Rattle.lk_plain.specs.Query.{same}
-use Rattle.lk_plain.specs.Program.{asked}
+use Rattle.lk_questions.specs.Query.{same}
+use Rattle.lk_questions.specs.Program.{asked}
 use Rattle.lk_questions.specs.Pairs.{goes_on}
 use Rattle.lk_questions.specs.Eta.{is_unit_like, is_unit_like_at, eta_unit, by_unit_eta}
 use Rattle.lk_claims.proofs.Pieces.{halves, equal_numbers, if_yes_map}

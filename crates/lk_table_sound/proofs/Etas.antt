@@ -8,11 +8,11 @@ use Rattle.lk_tree.proofs.Spines.{well_formed_of_apply}
 use Rattle.lk_tree.proofs.Lists.{fine_drop, length_taken}
 use Rattle.lk_table_sound.proofs.Book.{Book, StructureAt, HasType, IsDefEq, e_struct_left, e_struct_right, IsByFields, by_fields, ProjectionsEqual, no_more_fields, project, well_formed_of_type, IsSound, WellStated}
 use Rattle.lk_rulebook.specs.Structures.{is_structure_like}
-use Rattle.lk_plain.specs.Program.{done}
+use Rattle.lk_questions.specs.Program.{done}
 use Rattle.lk_questions.specs.Iota.{CtorApp, ctor_app_of, has_one_ctor}
 use Rattle.lk_questions.specs.Pairs.{goes_on}
 use Rattle.lk_questions.specs.Eta.{same_fields, eta_struct, by_structure_eta}
-use Rattle.lk_plain.specs.Sound.{IfYes}
+use Rattle.lk_questions.specs.Sound.{IfYes}
 use Rattle.lk_table_sound.proofs.Soundness.{sound_bind, sound_map}
 use Rattle.lk_claims.proofs.Pieces.{of_yes, if_yes_map}
 use Rattle.lk_table_sound.proofs.Goes.{sound_if}

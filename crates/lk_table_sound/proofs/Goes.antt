@@ -9,11 +9,11 @@ use Rattle.lk_tree.proofs.Spines.{well_formed_of_apply}
 use Rattle.lk_tree.proofs.Within.{within_refl, within_trans, within_open, within_apply, no_local, bound_put_levels, fine_put_levels}
 use Rattle.lk_table_sound.proofs.Book.{Book, Reduces, r_refl, r_trans, r_head, r_beta, r_delta, well_formed_of_reduct, IsSound, IsJustified, WellStated}
 use Rattle.lk_rulebook.specs.Place.{Entry}
-use Rattle.lk_plain.specs.Program.{Program}
+use Rattle.lk_questions.specs.Program.{Program}
 use Rattle.lk_questions.specs.Steps.{value_of}
 use Rattle.lk_questions.specs.Core.{beta}
-use Rattle.lk_plain.specs.Sound.{IsStated}
-use Rattle.lk_plain.specs.Query.{core}
+use Rattle.lk_questions.specs.Sound.{IsStated}
+use Rattle.lk_questions.specs.Query.{core}
 use Rattle.lk_claims.proofs.Pieces.{has_value, value_stated}
 use Rattle.lk_claims.proofs.Facts.{IsCore}
 

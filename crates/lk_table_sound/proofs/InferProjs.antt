@@ -14,12 +14,12 @@ use Rattle.lk_tree.proofs.Spines.{well_formed_of_apply}
 use Rattle.lk_tree.proofs.Within.{within_refl, within_trans, within_open, apply_head_args, no_local, bound_put_levels, fine_put_levels}
 use Rattle.lk_tree.proofs.Lists.{AllWithin, local_of_arg}
 use Rattle.lk_rulebook.specs.Place.{Entry, Kind, Block, BlockType, Ctor, a_type}
-use Rattle.lk_plain.specs.Query.{infer}
-use Rattle.lk_plain.specs.Program.{done}
+use Rattle.lk_questions.specs.Query.{infer}
+use Rattle.lk_questions.specs.Program.{done}
 use Rattle.lk_questions.specs.Steps.{sort_of, with_params}
 use Rattle.lk_questions.specs.Iota.{levels_at}
 use Rattle.lk_questions.specs.Projections.{past_parameters, is_prop_if, field_type, of_struct, of_kind, of_type, infer_proj}
-use Rattle.lk_plain.specs.Sound.{IsStated, KindStated, CtorsStated}
+use Rattle.lk_questions.specs.Sound.{IsStated, KindStated, CtorsStated}
 use Rattle.lk_table_sound.proofs.Soundness.{sound_bind, sound_map}
 use Rattle.lk_table_sound.proofs.Pieces.{sound_given, sound_sort_of, sound_pi, sound_with_params, TypesTo, well_formed_of_to}
 use Rattle.lk_table_sound.proofs.Goes.{GoesTo}

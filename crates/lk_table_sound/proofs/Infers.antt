@@ -8,11 +8,11 @@ use Rattle.lk_tree.specs.WellFormed.{IsWellFormed, IsWellFormedUnder, LocalsWith
 use Rattle.lk_tree.proofs.Binding.{open_fine}
 use Rattle.lk_tree.proofs.Within.{within_trans, within_open, no_local, bound_put_levels, fine_put_levels, closed_bound, closed_within, closed_reopens}
 use Rattle.lk_table_sound.proofs.Book.{Book, HasSort, Reduces, t_sort, t_local, t_const, t_app, t_lam, t_pi, t_let, t_lit, t_str, well_formed_of_type, well_formed_of_reduct, IsSound, IsJustified, WellStated, HasNat, HasString}
-use Rattle.lk_plain.specs.Query.{infer}
-use Rattle.lk_plain.specs.Program.{done}
+use Rattle.lk_questions.specs.Query.{infer}
+use Rattle.lk_questions.specs.Program.{done}
 use Rattle.lk_questions.specs.Steps.{sort_of}
 use Rattle.lk_questions.specs.Infer.{infer_steps}
-use Rattle.lk_plain.specs.Sound.{IsStated}
+use Rattle.lk_questions.specs.Sound.{IsStated}
 use Rattle.lk_table_sound.proofs.Soundness.{sound_bind}
 use Rattle.lk_questions.specs.Shapes.{nat_shape, string_shape}
 use Rattle.lk_rulebook.specs.Names.{named, nat, string}

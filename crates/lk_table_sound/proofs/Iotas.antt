@@ -2,7 +2,7 @@
 use Rattle.lk_rulebook.specs.Place.{Place, Entry, Kind, Recursor, RecRule, a_quot, a_ctor, a_rec}
 use Rattle.lk_tree.proofs.Lists.{AllWithin, AnyLocal, fine_take, fine_drop, fine_at, any_take, any_drop, any_at, local_of_apply, local_of_arg, within_applied, split_at, length_before, length_taken}
 use Rattle.lk_questions.specs.Iota.{has_one_ctor, builds_structure, expanded, expand_at, to_ctor_when_structure, as_ctor_app, CtorApp, ctor_app_by, ctor_app_of, only_ctor, levels_at, k_from, to_ctor_when_k, fitting_rule, by_rule, iota_at_ctor, iota_of, iota_after_k, iota, core_constant, picked, core_field, core_proj}
-use Rattle.lk_plain.specs.Sound.{IsStated, KindStated, RulesStated}
+use Rattle.lk_questions.specs.Sound.{IsStated, KindStated, RulesStated}
 use Rattle.lk_questions.specs.Steps.{sort_of, with_levels}
 use Rattle.lk_table_sound.proofs.Pieces.{sound_sort_of, TypesTo, well_formed_of_to, sound_with_levels}
 use Rattle.lk_tree.specs.Level.{is_zero_level}
@@ -18,8 +18,8 @@ use Rattle.lk_tree.specs.WellFormed.{IsWellFormed, AllWellFormed, LocalsWithin}
 use Rattle.lk_tree.proofs.Spines.{fine_apply, well_formed_of_apply}
 use Rattle.lk_tree.proofs.Within.{within_trans, apply_head_args, no_local, bound_put_levels, fine_put_levels}
 use Rattle.lk_tree.specs.Mentions.{same_name}
-use Rattle.lk_plain.specs.Query.{core}
-use Rattle.lk_plain.specs.Program.{done}
+use Rattle.lk_questions.specs.Query.{core}
+use Rattle.lk_questions.specs.Program.{done}
 use Rattle.lk_table_sound.proofs.Soundness.{sound_bind}
 use Rattle.lk_claims.proofs.Pieces.{of_yes, same_name_right, Some_inj}
 use Rattle.lk_table_sound.proofs.Quots.{sound_core_quot}

@@ -6,11 +6,11 @@ use Rattle.lk_tree.specs.Bind.{opened, bound}
 use Rattle.lk_tree.specs.Spine.{apply, IsNeutral}
 use Rattle.lk_tree.specs.WellFormed.{IsWellFormed, IsWellFormedUnder, AllWellFormed}
 use Rattle.lk_tree.proofs.Spines.{well_formed_of_apply}
-use Rattle.lk_plain.specs.Query.{same}
-use Rattle.lk_plain.specs.Program.{Program, done, asked}
+use Rattle.lk_questions.specs.Query.{same}
+use Rattle.lk_questions.specs.Program.{Program, done, asked}
 use Rattle.lk_questions.specs.Levels.{LevelTest, level_pairs_equal, levels_equal}
 use Rattle.lk_questions.specs.Pairs.{same_bodies, same_all, Line, otherwise, answers, answers_yes, yes_alone, ◌or_else◌, unless, ◌or_line◌}
-use Rattle.lk_plain.specs.Sound.{IfYes}
+use Rattle.lk_questions.specs.Sound.{IfYes}
 use Rattle.lk_table_sound.proofs.Soundness.{sound_bind, sound_map}
 use Rattle.lk_claims.proofs.Pieces.{of_yes, if_yes_map}
 use Rattle.lk_claims.proofs.Facts.{body_fine}

@@ -9,8 +9,8 @@ use Rattle.lk_table_sound.proofs.Book.{Book, r_refl, IsDefEq, e_reduce, e_zero_l
 use Rattle.lk_rulebook.specs.Names.{named, nat_zero, nat_succ}
 use Rattle.lk_tree.specs.Mentions.{same_name}
 use Rattle.lk_rulebook.proofs.Texts.{expansion_fine}
-use Rattle.lk_plain.specs.Query.{same}
-use Rattle.lk_plain.specs.Program.{asked}
+use Rattle.lk_questions.specs.Query.{same}
+use Rattle.lk_questions.specs.Program.{asked}
 use Rattle.lk_questions.specs.Strings.{expansion_of}
 use Rattle.lk_questions.specs.Pairs.{goes_on}
 use Rattle.lk_questions.specs.LiteralLines.{step_of, same_first, same_second, NatCtor, is_zero, is_succ, nat_ctor, lit_first, lit_second, same_numbers, step_first, step_second, by_literals, is_made, text_first, text_second, by_string}

@@ -12,7 +12,7 @@ use Rattle.lk_rulebook.specs.Names.{named, op_name}
 use Rattle.lk_tree.specs.Mentions.{same_name}
 use Rattle.lk_rulebook.specs.Literals.{may_give}
 use Rattle.lk_rulebook.proofs.Texts.{result_within}
-use Rattle.lk_plain.specs.Program.{done}
+use Rattle.lk_questions.specs.Program.{done}
 use Rattle.lk_questions.specs.Shapes.{nat_shape}
 use Rattle.lk_questions.specs.Literals.{numeral_of, with_first, numerals, result_of, computed, ops, op_named, op_step, literal_step}
 use Rattle.lk_table_sound.proofs.Soundness.{sound_bind, sound_map}

@@ -9,9 +9,9 @@ use Rattle.lk_tree.specs.declared.rule.Rule.{Rule}
 use Rattle.lk_tree.specs.Levels.{put_levels}
 use Rattle.lk_tree.specs.WellFormed.{IsWellFormed}
 use Rattle.lk_rulebook.specs.Place.{Entry}
-use Rattle.lk_plain.specs.Program.{Program, done, ◌>>=◌}
+use Rattle.lk_questions.specs.Program.{Program, done, ◌>>=◌}
 use Rattle.lk_questions.specs.Steps.{given, as_sort, as_pi, sort_of, with_params, with_levels}
-use Rattle.lk_plain.specs.Sound.{IfYes}
+use Rattle.lk_questions.specs.Sound.{IfYes}
 
 pub sound_given : {A : Type 0} (w : Book) (b : Bool) (r : Rule) (p : Program A) (P : A → Type 0) → (b ≡ true → IsSound w p P) → IsSound w (given b r p) P
 sound_given w true r p P h = h refl

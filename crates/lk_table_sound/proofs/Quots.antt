@@ -8,8 +8,8 @@ use Rattle.lk_table_sound.proofs.Book.{Book, IsQuot, r_quot_lift, r_quot_ind, we
 use Rattle.lk_rulebook.specs.Place.{Entry, a_quot}
 use Rattle.lk_rulebook.specs.Names.{quot_mk, quot_lift, quot_ind}
 use Rattle.lk_tree.specs.Mentions.{same_name}
-use Rattle.lk_plain.specs.Query.{core}
-use Rattle.lk_plain.specs.Program.{done, asked}
+use Rattle.lk_questions.specs.Query.{core}
+use Rattle.lk_questions.specs.Program.{done, asked}
 use Rattle.lk_questions.specs.Quotients.{by_quot, at_mk, at_major, core_lift, core_ind, core_quot}
 use Rattle.lk_claims.proofs.Pieces.{same_name_right}
 use Rattle.lk_table_sound.proofs.Goes.{sound_if, GoesTo, core_stays, core_on, goes_applied}

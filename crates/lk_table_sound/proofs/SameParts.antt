@@ -7,9 +7,9 @@ use Rattle.lk_tree.specs.Spine.{head, args, IsNeutral, IsHeadNormal}
 use Rattle.lk_tree.specs.WellFormed.{IsWellFormed}
 use Rattle.lk_tree.proofs.Spines.{neutral_head}
 use Rattle.lk_tree.proofs.Within.{apply_head_args}
-use Rattle.lk_plain.specs.Query.{same}
-use Rattle.lk_plain.specs.Program.{Program, asked}
-use Rattle.lk_plain.specs.Sound.{IfYes}
+use Rattle.lk_questions.specs.Query.{same}
+use Rattle.lk_questions.specs.Program.{Program, asked}
+use Rattle.lk_questions.specs.Sound.{IfYes}
 use Rattle.lk_table_sound.proofs.Soundness.{sound_map}
 use Rattle.lk_questions.specs.Steps.{is_same_tree}
 use Rattle.lk_questions.specs.Levels.{LevelTest, levels_equal}

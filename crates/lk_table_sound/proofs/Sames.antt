@@ -10,11 +10,11 @@ use Rattle.lk_tree.specs.WellFormed.{IsWellFormed, AllWellFormed}
 use Rattle.lk_tree.proofs.Spines.{well_formed_of_apply}
 use Rattle.lk_tree.proofs.Scans.{both_true}
 use Rattle.lk_tree.proofs.Within.{apply_head_args}
-use Rattle.lk_plain.specs.Query.{same}
-use Rattle.lk_plain.specs.Program.{done, asked}
+use Rattle.lk_questions.specs.Query.{same}
+use Rattle.lk_questions.specs.Program.{done, asked}
 use Rattle.lk_questions.specs.Levels.{complete_test, levels_equal}
 use Rattle.lk_questions.specs.Pairs.{same_all, answers_yes, ◌or_else◌, goes_on}
-use Rattle.lk_plain.specs.Sound.{IfYes}
+use Rattle.lk_questions.specs.Sound.{IfYes}
 use Rattle.lk_table_sound.proofs.Soundness.{sound_bind, sound_map}
 use Rattle.lk_claims.proofs.Pieces.{of_yes, same_tree, halves, equal_numbers, of_decided, if_yes_map}
 use Rattle.lk_table_sound.proofs.Goes.{sound_if, GoesTo, goes_applied, unfolds}

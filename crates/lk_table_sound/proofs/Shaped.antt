@@ -11,7 +11,7 @@ use Rattle.lk_rulebook.specs.Literals.{expansion, expansion_names}
 use Rattle.lk_rulebook.specs.Literals as literals
 use Rattle.lk_rulebook.specs.Shapes as shapes
 use Rattle.lk_rulebook.specs.Quotients.{Quotient, the_type, the_mk, the_lift, the_ind, quot_type, IsQuotient}
-use Rattle.lk_plain.specs.Program.{done}
+use Rattle.lk_questions.specs.Program.{done}
 use Rattle.lk_questions.specs.Steps.{given, is_same_tree}
 use Rattle.lk_questions.specs.Levels.{tested}
 use Rattle.lk_questions.specs.Shapes.{is_sort_one, are_nat_ctors, nat_shape_by, nat_shape, has_string_shape, string_shape}

@@ -1,12 +1,12 @@
 -- Where each question's program is sound, each answer means what it says; and programs that ask nothing.
 use Rattle.std.proofs.Common.{ℕ, zero, suc, ◌≡◌, ◌-◌, Bool, true, false, Some, None, refl, if◌then◌else◌}
 use Rattle.lk_tree.specs.declared.rule.Rule.{Rule}
-use Rattle.lk_plain.specs.Query.{Query, AnswerTo}
-use Rattle.lk_plain.specs.Program.{Program, done, refuse, ask, look, ◌>>=◌}
-use Rattle.lk_plain.specs.Answer.{Outcome, IfAnswered, outcome_of, answer_to_depth}
-use Rattle.lk_plain.specs.Sound.{IsAskable}
-use Rattle.lk_plain.specs.Sound as sound
-use Rattle.lk_plain.proofs.Outcomes.{if_after, if_and_then, if_found}
+use Rattle.lk_questions.specs.Query.{Query, AnswerTo}
+use Rattle.lk_questions.specs.Program.{Program, done, refuse, ask, look, ◌>>=◌}
+use Rattle.lk_questions.specs.Answer.{Outcome, IfAnswered, outcome_of, answer_to_depth}
+use Rattle.lk_questions.specs.Sound.{IsAskable}
+use Rattle.lk_questions.specs.Sound as sound
+use Rattle.lk_questions.proofs.Outcomes.{if_after, if_and_then, if_found}
 use Rattle.lk_questions.specs.Steps.{given}
 use Rattle.lk_claims.specs.Tests.{found}
 use Rattle.lk_table_sound.proofs.Book.{Book, IsJustified, IsSound}

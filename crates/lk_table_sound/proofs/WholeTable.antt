@@ -1,10 +1,10 @@
 -- Each question's program is sound, and so is each plain answer.
 use Rattle.std.proofs.Common.{ℕ}
 use Rattle.lk_table_sound.proofs.Book.{Book, IsJustified, WellStated, IsSoundTable}
-use Rattle.lk_plain.specs.Query.{Query, core, whnf, infer, same}
-use Rattle.lk_plain.specs.Answer.{IfAnswered, plain_answer}
-use Rattle.lk_plain.specs.Program.{Table}
-use Rattle.lk_plain.specs.Sound.{IsAskable}
+use Rattle.lk_questions.specs.Query.{Query, core, whnf, infer, same}
+use Rattle.lk_questions.specs.Answer.{IfAnswered, plain_answer}
+use Rattle.lk_questions.specs.Program.{Table}
+use Rattle.lk_questions.specs.Sound.{IsAskable}
 use Rattle.lk_questions.specs.Table.{steps}
 use Rattle.lk_table_sound.proofs.Soundness.{sound_answer}
 use Rattle.lk_table_sound.proofs.Infers.{sound_infer}

@@ -3,10 +3,10 @@
 #![tactic(auto)]
 
 ghost use Rattle.std.specs.Prelude.{ℕ};
-ghost use Rattle.lk_plain.specs.Answer.{outcome_of, plain_answer, IfAnswered};
-ghost use Rattle.lk_plain.specs.Program.{Table};
-ghost use Rattle.lk_plain.specs.Query.{Query};
-ghost use Rattle.lk_plain.specs.Sound.{IsAskable, IsJustified, IsSoundPlace, IsSoundTable};
+ghost use Rattle.lk_questions.specs.Answer.{outcome_of, plain_answer, IfAnswered};
+ghost use Rattle.lk_questions.specs.Program.{Table};
+ghost use Rattle.lk_questions.specs.Query.{Query};
+ghost use Rattle.lk_questions.specs.Sound.{IsAskable, IsJustified, IsSoundPlace, IsSoundTable};
 ghost use Rattle.lk_rulebook.specs.Derived.{DeclWellFormed, DeclDerived};
 ghost use Rattle.lk_rulebook.specs.Place.{Place};
 ghost use Rattle.lk_rulebook.specs.Units.{Decl};

@@ -2,7 +2,7 @@
 use Rattle.std.proofs.Common.{◌≡◌, ℕ, ◌<◌, ◌≤◌, ◌⊎◌, inl, inr, List, [], ◌∷◌, map, length, Ok, Err, Result, ap, sym, subst, ◌∙◌, arith}
 use Rattle.std.specs.Prelude.{IfOk}
 use Rattle.lk_tree.specs.Tree.{Tree}
-use Rattle.lk_plain.specs.Erased.{a_tree, erased, run_steps, out_of}
+use Rattle.lk_questions.specs.Erased.{a_tree, erased, run_steps, out_of}
 use Rattle.lk_questions.specs.Infer.{infer_steps}
 use Rattle.lk_questions.specs.Table.{steps}
 use Rattle.lk_store.specs.declared.memory.NoMemory.{NoMemory}

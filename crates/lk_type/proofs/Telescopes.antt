@@ -5,10 +5,10 @@ use Rattle.lk_tree.specs.Bind.{opened, bound}
 use Rattle.lk_tree.specs.Loose.{loose}
 use Rattle.lk_tree.specs.declared.rule.Rule.{Rule}
 use Rattle.lk_rulebook.specs.Place.{Place, Entry}
-use Rattle.lk_plain.specs.Query.{Query, AnswerTo, core, whnf, infer, same}
-use Rattle.lk_plain.specs.Program.{Program, done, refuse, ask, look, ◌>>=◌}
-use Rattle.lk_plain.specs.Erased.{Value, a_tree, truth, Steps, with_tree, with_answer, looked, erased, Out, finished, stopped, used_up, seen, go_on, run_steps, out_of}
-use Rattle.lk_plain.proofs.Erasing.{run_from, seen_goes, seen_none, out-suc, out-zero}
+use Rattle.lk_questions.specs.Query.{Query, AnswerTo, core, whnf, infer, same}
+use Rattle.lk_questions.specs.Program.{Program, done, refuse, ask, look, ◌>>=◌}
+use Rattle.lk_questions.specs.Erased.{Value, a_tree, truth, Steps, with_tree, with_answer, looked, erased, Out, finished, stopped, used_up, seen, go_on, run_steps, out_of}
+use Rattle.lk_questions.proofs.Erasing.{run_from, seen_goes, seen_none, out-suc, out-zero}
 use Rattle.lk_questions.specs.Infer.{infer_steps}
 use Rattle.lk_questions.specs.Steps.{as_sort}
 use Rattle.lk_questions.specs.Table.{steps}

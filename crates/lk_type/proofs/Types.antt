@@ -4,8 +4,8 @@ use Rattle.lk_tree.specs.Tree.{Name, Level, Tree, sort}
 use Rattle.lk_tree.specs.Levels.{put_levels}
 use Rattle.lk_tree.specs.declared.rule.Rule.TheVariants.{UnknownConstant, LevelCount}
 use Rattle.lk_rulebook.specs.Place.{Place}
-use Rattle.lk_plain.specs.Program.{Program, done, look}
-use Rattle.lk_plain.specs.Erased.{Value, a_tree, Steps, gives, refuses, erased}
+use Rattle.lk_questions.specs.Program.{Program, done, look}
+use Rattle.lk_questions.specs.Erased.{Value, a_tree, Steps, gives, refuses, erased}
 use Rattle.lk_questions.specs.Steps.{given, with_params, with_levels}
 use Rattle.lk_store.specs.Contents.{Contents, tree_at}
 use Rattle.lk_store.specs.Store.{contents_of}

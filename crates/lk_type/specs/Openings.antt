@@ -4,8 +4,8 @@ use Rattle.lk_tree.specs.Tree.{Tree, lam, pi}
 use Rattle.lk_tree.specs.Bind.{bound}
 use Rattle.lk_tree.specs.Loose.{loose}
 use Rattle.lk_tree.specs.Putting.{put}
-use Rattle.lk_plain.specs.Program.{Program}
-use Rattle.lk_plain.specs.Erased.{a_tree, erased, run_steps, out_of}
+use Rattle.lk_questions.specs.Program.{Program}
+use Rattle.lk_questions.specs.Erased.{a_tree, erased, run_steps, out_of}
 use Rattle.lk_questions.specs.Table.{steps}
 use Rattle.lk_store.specs.declared.memory.NoMemory.{NoMemory}
 use Rattle.lk_store.specs.Contents.{Contents, tree_at, Extends}

@@ -3,8 +3,8 @@ use Rattle.std.specs.Prelude.{◌≡◌, ℕ, zero, suc, List, [], ◌∷◌, le
 use Rattle.lk_tree.specs.Tree.{Tree, Level, zero_level, imax_level, sort, app, lam, pi, local}
 use Rattle.lk_tree.specs.Bind.{opened, close_at, bound}
 use Rattle.lk_tree.specs.declared.rule.Rule.TheVariants.{NotASort}
-use Rattle.lk_plain.specs.Query.{whnf, infer}
-use Rattle.lk_plain.specs.Program.{Program, done, refuse, ask, ◌>>=◌}
+use Rattle.lk_questions.specs.Query.{whnf, infer}
+use Rattle.lk_questions.specs.Program.{Program, done, refuse, ask, ◌>>=◌}
 use Rattle.lk_questions.specs.Steps.{as_sort}
 use Rattle.lk_chain.specs.Pis.{pis_over}
 use Rattle.lk_type.specs.declared.sheet.Telescope.{Telescope}

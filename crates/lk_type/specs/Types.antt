@@ -4,9 +4,9 @@ use Rattle.lk_tree.specs.Tree.{Tree, Level, imax_level, sort, lam, pi, local}
 use Rattle.lk_tree.specs.Bind.{opened, close, bound}
 use Rattle.lk_tree.specs.declared.rule.Rule.TheVariants.{NotAFunction, ArgumentType, LetType}
 use Rattle.lk_rulebook.specs.Place.{Place}
-use Rattle.lk_plain.specs.Query.{whnf, infer, same}
-use Rattle.lk_plain.specs.Program.{Program, done, ask, asked, ◌>>=◌}
-use Rattle.lk_plain.specs.Erased.{Value, a_tree, Steps, gives, erased}
+use Rattle.lk_questions.specs.Query.{whnf, infer, same}
+use Rattle.lk_questions.specs.Program.{Program, done, ask, asked, ◌>>=◌}
+use Rattle.lk_questions.specs.Erased.{Value, a_tree, Steps, gives, erased}
 use Rattle.lk_questions.specs.Steps.{given, as_sort, as_pi, sort_of}
 use Rattle.lk_questions.specs.Infer.{infer_steps}
 use Rattle.lk_questions.specs.Shapes.{nat_shape, string_shape}

@@ -3,7 +3,7 @@
 ghost use Rattle.std.specs.Prelude.{◌≡◌, ◌<◌, IfOk, length};
 ghost use Rattle.lk_tree.specs.Tree.{lam, pi, local};
 ghost use Rattle.lk_tree.specs.Bind.{opened, close as closed, bound};
-ghost use Rattle.lk_plain.specs.Program.{done};
+ghost use Rattle.lk_questions.specs.Program.{done};
 ghost use Rattle.lk_store.specs.Contents.{tree_at};
 ghost use Rattle.lk_ask.specs.Looks.{MakesTree};
 ghost use Rattle.lk_type.specs.Types.{level_in, lam_rest, lam_sorted, pi_rest, pi_sorted, Infers};

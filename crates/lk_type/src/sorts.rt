@@ -2,7 +2,7 @@
 
 ghost use Rattle.std.specs.Prelude.{◌<◌, IfOk, length};
 ghost use Rattle.lk_tree.specs.Tree.{sort as tree_sort, imax_level};
-ghost use Rattle.lk_plain.specs.Program.{done};
+ghost use Rattle.lk_questions.specs.Program.{done};
 ghost use Rattle.lk_questions.specs.Infer.{infer_steps};
 ghost use Rattle.lk_store.specs.Contents.{level_at, tree_at, IsLevel};
 ghost use Rattle.lk_ask.specs.Looks.{Made, MakesTree};

@@ -5,8 +5,8 @@ use Rattle.lk_tree.specs.declared.rule.Rule.TheVariants.{DuplicateName}
 use Rattle.lk_rulebook.specs.Place.{Place}
 use Rattle.lk_rulebook.specs.Units.{LibraryUnit, of_decl, of_block, Library, Members, members_of, given_by, first_of_two, at_partial, first_giving, place_by}
 use Rattle.lk_rulebook.specs.Scan.{AreNew, is_none, are_new, own_scan, scan_of}
-use Rattle.lk_plain.specs.Answer.{outcome_of, plain_answer}
-use Rattle.lk_plain.specs.Program.{Table}
+use Rattle.lk_questions.specs.Answer.{outcome_of, plain_answer}
+use Rattle.lk_questions.specs.Program.{Table}
 use Rattle.lk_questions.specs.Declarations.{unit_steps}
 use Rattle.lk_rulebook.specs.Derived.{DeclDerived}
 use Rattle.lk_inductive.specs.Whole.{BlockDerived}

@@ -6,7 +6,7 @@ use Rattle.lk_rulebook.specs.Place.{Place, Entry, Block, BlockType, BlockRecurso
 use Rattle.lk_rulebook.specs.Units.{LibraryUnit, of_block, Library, Members, members_of, trees_of, Found, flawless, given_by, first_of_two, at_unit, at_partial, first_giving, place_of}
 use Rattle.lk_rulebook.specs.Scan.{IsScanned}
 use Rattle.lk_rulebook.proofs.Scans.{no_flaw, scanned_stated}
-use Rattle.lk_plain.proofs.Places.{found_entry}
+use Rattle.lk_questions.proofs.Places.{found_entry}
 use Rattle.lk_inductive.specs.Grows.{IsWithin, RulesCome}
 use Rattle.lk_inductive.specs.Block.{Shape}
 use Rattle.lk_inductive.specs.Enlarged.{Aux, Setting, bare_entries}

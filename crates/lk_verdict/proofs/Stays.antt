@@ -8,7 +8,7 @@ use Rattle.lk_rulebook.specs.Units.{Body, as_axiom, as_def, as_thm, as_opaque, a
 use Rattle.lk_rulebook.specs.Scan.{AreNew, IsScanned}
 use Rattle.lk_rulebook.proofs.Scans.{no_flaw, scanned_stated}
 use Rattle.lk_rulebook.specs.Derived.{IsOf, BodyDerived, DeclDerived}
-use Rattle.lk_plain.proofs.Places.{prefix_gives, found_entry}
+use Rattle.lk_questions.proofs.Places.{prefix_gives, found_entry}
 use Rattle.lk_inductive.specs.Grows.{IsWithin, RulesCome, Completes}
 use Rattle.lk_inductive.specs.Block.{Shape}
 use Rattle.lk_inductive.specs.Compare.{rec_entries}

@@ -5,14 +5,14 @@ use Rattle.lk_tree.specs.declared.rule.Rule.{Rule}
 use Rattle.lk_rulebook.specs.Place.{Place}
 use Rattle.lk_rulebook.specs.Units.{LibraryUnit, of_decl, of_block, Library, Members, place_of}
 use Rattle.lk_rulebook.specs.Scan.{scan_of}
-use Rattle.lk_plain.specs.Answer.{Outcome, answered, refused, spent, IfAnswered, outcome_of, plain_answer}
-use Rattle.lk_plain.specs.Laws.{IsSteady}
-use Rattle.lk_plain.specs.Program.{Table}
-use Rattle.lk_plain.specs.Parts.{IsPartOf}
+use Rattle.lk_questions.specs.Answer.{Outcome, answered, refused, spent, IfAnswered, outcome_of, plain_answer}
+use Rattle.lk_questions.specs.Laws.{IsSteady}
+use Rattle.lk_questions.specs.Program.{Table}
+use Rattle.lk_questions.specs.Parts.{IsPartOf}
 use Rattle.lk_questions.specs.Declarations.{unit_steps}
-use Rattle.lk_plain.proofs.Budgets.{run_steady, ans_steady}
-use Rattle.lk_plain.proofs.Parts.{Gives, part_itself, ans_gives, run_gives}
-use Rattle.lk_plain.proofs.Settled.{Settles, run_settled, ans_settled}
+use Rattle.lk_questions.proofs.Budgets.{run_steady, ans_steady}
+use Rattle.lk_questions.proofs.Parts.{Gives, part_itself, ans_gives, run_gives}
+use Rattle.lk_questions.proofs.Settled.{Settles, run_settled, ans_settled}
 use Rattle.lk_inductive.specs.Block.{Shape}
 use Rattle.lk_inductive.specs.NestedTask.{plain_whole}
 use Rattle.lk_inductive.proofs.Plain.{plain_steady}

@@ -9,7 +9,7 @@ use Rattle.lk_tree.specs.Spine.{head, args}
 use Rattle.lk_tree.specs.declared.rule.Rule.TheVariants.{UnknownConstant, UndeclaredLevel, DuplicateLevel, DuplicateName, LooseVariable, ValueType, WideLiteral, QuotShape, NestedForm}
 use Rattle.lk_rulebook.specs.Place.{opaque_hint, abbreviation}
 use Rattle.lk_rulebook.specs.Units.{Body, as_axiom, as_def, as_thm, as_opaque, as_quot, LibraryUnit, of_decl, of_block, Library}
-use Rattle.lk_plain.specs.Answer.{answer_to_depth}
+use Rattle.lk_questions.specs.Answer.{answer_to_depth}
 use Rattle.lk_questions.specs.Table.{steps}
 use Rattle.lk_inductive.proofs.WorkedNested.{vec_unit, bad_types}
 use Rattle.lk_verdict.specs.Verdict.{says_yes, says_no, says_steps, plain_verdict}

@@ -6,7 +6,7 @@ use Rattle.lk_rulebook.specs.Place.{Hint}
 use Rattle.lk_rulebook.specs.Names.{op_name}
 use Rattle.lk_rulebook.specs.NumberLaws.{has_laws}
 use Rattle.lk_rulebook.specs.Units.{Decl, as_def, of_decl, Library, flaw_of, first_giving}
-use Rattle.lk_plain.specs.Program.{Table}
+use Rattle.lk_questions.specs.Program.{Table}
 use Rattle.lk_verdict.specs.Verdict.{says_yes, plain_verdict}
 
 -- unit m gives an operation with laws: it is a def of that name, the first unit that gives the name, and has no flaw

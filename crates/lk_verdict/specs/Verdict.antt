@@ -3,8 +3,8 @@ use Rattle.std.specs.Prelude.{ℕ, ◌≡◌, ◌<◌, ◌≤◌, [], Some, None
 use Rattle.lk_tree.specs.declared.rule.Rule.{Rule}
 use Rattle.lk_rulebook.specs.Units.{LibraryUnit, of_decl, of_block, Library, place_of}
 use Rattle.lk_rulebook.specs.Scan.{scan_of}
-use Rattle.lk_plain.specs.Answer.{Outcome, answered, refused, spent, outcome_of, plain_answer}
-use Rattle.lk_plain.specs.Program.{Table}
+use Rattle.lk_questions.specs.Answer.{Outcome, answered, refused, spent, outcome_of, plain_answer}
+use Rattle.lk_questions.specs.Program.{Table}
 use Rattle.lk_questions.specs.Declarations.{unit_steps}
 use Rattle.lk_inductive.specs.NestedTask.{plain_whole}
 

@@ -5,9 +5,9 @@ ghost use Rattle.std.specs.Prelude.{◌≡◌, ℕ, [], List, Some, take, slice_
 ghost use Rattle.lk_inductive.specs.Block.{Shape};
 ghost use Rattle.lk_inductive.specs.NestedRelation.{NestedDerived};
 ghost use Rattle.lk_inductive.specs.Whole.{BlockDerived};
-ghost use Rattle.lk_plain.specs.Answer.{answered};
-ghost use Rattle.lk_plain.specs.Parts.{IsPartOf};
-ghost use Rattle.lk_plain.specs.Program.{Table};
+ghost use Rattle.lk_questions.specs.Answer.{answered};
+ghost use Rattle.lk_questions.specs.Parts.{IsPartOf};
+ghost use Rattle.lk_questions.specs.Program.{Table};
 ghost use Rattle.lk_rulebook.specs.Derived.{DeclDerived};
 ghost use Rattle.lk_rulebook.specs.Place.{Block, BlockType, BlockRecursor};
 ghost use Rattle.lk_rulebook.specs.Scan.{IsScanned};

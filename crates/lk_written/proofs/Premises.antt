@@ -11,8 +11,8 @@ use Rattle.lk_tree.proofs.Zero.{zero_level_same}
 use Rattle.lk_rulebook.specs.Place.{Place}
 use Rattle.lk_rulebook.specs.Rules.{HasType, HasSort, has_sort, IsProposition, is_prop, Reduces, r_refl, IsDefEq, e_refl}
 use Rattle.lk_rulebook.proofs.Scopes.{well_formed_of_type}
-use Rattle.lk_plain.specs.Program.{Program, done, refuse, ask, look}
-use Rattle.lk_plain.specs.Sound.{IsSound}
+use Rattle.lk_questions.specs.Program.{Program, done, refuse, ask, look}
+use Rattle.lk_questions.specs.Sound.{IsSound}
 use Rattle.lk_questions.specs.Steps.{is_same_tree}
 use Rattle.lk_claims.proofs.Pieces.{same_tree, halves}
 use Rattle.lk_claims.specs.Claims.{Claim, types, reduces, equals, Derived, AllDerived}

@@ -13,7 +13,7 @@ use Rattle.lk_rulebook.specs.Literals.{CanBeStated}
 use Rattle.lk_rulebook.specs.NumberLaws.{Law, laws_of, stated_by}
 use Rattle.lk_tree.specs.Operations.{Op}
 use Rattle.lk_rulebook.specs.Units.{Body, as_axiom, as_def, as_thm, as_opaque, as_quot, Decl}
-use Rattle.lk_plain.specs.Sound.{IsSoundPlace}
+use Rattle.lk_questions.specs.Sound.{IsSoundPlace}
 use Rattle.lk_questions.specs.QuotientUnits.{quot_steps}
 use Rattle.lk_questions.specs.Shapes.{nat_shape}
 use Rattle.lk_questions.specs.NumberLaws.{lawful_op, def_given, held_given}

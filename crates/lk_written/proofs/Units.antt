@@ -7,7 +7,7 @@ use Rattle.lk_rulebook.specs.Scan.{IsScanned, is_none, scan_of}
 use Rattle.lk_rulebook.proofs.Scans.{scan_right}
 use Rattle.lk_rulebook.specs.Derived.{DeclDerived}
 use Rattle.lk_claims.proofs.Pieces.{halves}
-use Rattle.lk_plain.specs.Sound.{IsSoundPlace}
+use Rattle.lk_questions.specs.Sound.{IsSoundPlace}
 use Rattle.lk_claims.specs.Tests.{passes}
 use Rattle.lk_written.specs.Section.{Section, section_test, unit_section, section_holds}
 use Rattle.lk_written.proofs.Premises.{passed}

@@ -3,7 +3,7 @@
 #![tactic(auto)]
 
 ghost use Rattle.std.specs.Prelude.{◌≡◌, ℕ, true, List, [], Some, None, slice_get};
-ghost use Rattle.lk_plain.specs.Sound.{IsSoundPlace};
+ghost use Rattle.lk_questions.specs.Sound.{IsSoundPlace};
 ghost use Rattle.lk_rulebook.specs.Derived.{DeclDerived};
 ghost use Rattle.lk_rulebook.specs.Place.{Place};
 ghost use Rattle.lk_rulebook.specs.Scan.{IsScanned};

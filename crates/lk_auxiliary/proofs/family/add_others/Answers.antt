@@ -3,7 +3,7 @@ use Rattle.std.proofs.lemmas.Result.{err_from_is_err_and}
 use Rattle.lk_declaration.specs.Courses.{Refuses}
 use Rattle.lk_env.specs.Units.{type_at, IsTypeIn}
 use Rattle.lk_inductive.specs.Enlarged.{Aux}
-use Rattle.lk_plain.specs.Program.{Program}
+use Rattle.lk_questions.specs.Program.{Program}
 use Rattle.lk_store.specs.Contents.{name_at}
 use Rattle.lk_store.proofs.Extending.{Extends-trans}
 use Rattle.lk_lists.proofs.Lists.{rest_have, first_has}

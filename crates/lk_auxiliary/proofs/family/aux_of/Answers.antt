@@ -1,6 +1,6 @@
 use Rattle.std.proofs.Common.{sym, ap, ◌∙◌, arith}
 use Rattle.lk_env.specs.Units.{type_at}
-use Rattle.lk_plain.specs.Program.{done}
+use Rattle.lk_questions.specs.Program.{done}
 use Rattle.lk_store.specs.Contents.{name_at}
 use Rattle.lk_store.proofs.Extending.{Extends-trans}
 use Rattle.lk_subst.specs.Numbers.{trees-known}

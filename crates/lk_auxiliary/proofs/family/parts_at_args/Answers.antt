@@ -1,7 +1,7 @@
 use Rattle.std.proofs.Common.{sym, subst, ◌∙◌}
 use Rattle.lk_declaration.specs.Courses.{Settles}
 use Rattle.lk_env.specs.Units.{type_at}
-use Rattle.lk_plain.specs.Program.{Program}
+use Rattle.lk_questions.specs.Program.{Program}
 use Rattle.lk_store.specs.Contents.{tree_at}
 use Rattle.lk_auxiliary.specs.Parts.{PlainParts, parts_at}
 use Rattle.lk_auxiliary.specs.Places.{levels_of, arguments_of}

@@ -3,7 +3,7 @@ use Rattle.std.proofs.lemmas.List.{length-map}
 use Rattle.lk_env.specs.Units.{type_at}
 use Rattle.lk_inductive.specs.Enlarged.{Aux}
 use Rattle.lk_inductive.specs.Nested.{other_count}
-use Rattle.lk_plain.specs.Program.{done}
+use Rattle.lk_questions.specs.Program.{done}
 use Rattle.lk_tree.specs.Tree.{Tree}
 use Rattle.lk_store.specs.Contents.{name_at, list_at, tree_at}
 use Rattle.lk_auxiliary.specs.Auxiliaries.{aux_at, auxs_at}

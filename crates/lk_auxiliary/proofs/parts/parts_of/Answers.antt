@@ -1,7 +1,7 @@
 use Rattle.std.proofs.Common.{map, sym, subst, refl, ◌∙◌, List, arith}
 use Rattle.std.proofs.lemmas.Result.{err_from_is_err_and}
 use Rattle.lk_declaration.specs.Courses.{Refuses}
-use Rattle.lk_plain.specs.Program.{Program}
+use Rattle.lk_questions.specs.Program.{Program}
 use Rattle.lk_tree.specs.Tree.{Tree}
 use Rattle.lk_env.specs.Units.{type_at}
 use Rattle.lk_inductive.specs.Nested.{ctors_at}

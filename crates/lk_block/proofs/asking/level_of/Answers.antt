@@ -1,6 +1,6 @@
 use Rattle.std.proofs.lemmas.Result.{err_from_is_err_and}
-use Rattle.lk_plain.specs.Query.{whnf}
-use Rattle.lk_plain.specs.Program.{asked}
+use Rattle.lk_questions.specs.Query.{whnf}
+use Rattle.lk_questions.specs.Program.{asked}
 use Rattle.lk_inductive.specs.BlockSteps.{as_level}
 use Rattle.lk_store.specs.Contents.{level_at, tree_at}
 use Rattle.lk_declaration.proofs.Running.{settles_on, halts_first}

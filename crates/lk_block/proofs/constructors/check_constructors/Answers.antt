@@ -4,7 +4,7 @@ use Rattle.std.specs.declared.alloc.Global.{Global}
 use Rattle.std.proofs.lemmas.List.{append-nil}
 use Rattle.std.proofs.lemmas.List.Elements.{All-same, All-push}
 use Rattle.std.proofs.lemmas.Result.{err_from_is_err_and}
-use Rattle.lk_plain.specs.Program.{Program, done}
+use Rattle.lk_questions.specs.Program.{Program, done}
 use Rattle.lk_inductive.specs.Block.{TypeShape}
 use Rattle.lk_inductive.specs.BlockSteps.{shapes_steps}
 use Rattle.lk_store.specs.Contents.{name_at, tree_at}

@@ -2,7 +2,7 @@ use Rattle.std.proofs.Common.{ℕ, suc, ◌∷◌, ◌++◌, [], map, refl, sym,
 use Rattle.std.proofs.lemmas.List.{append-nil}
 use Rattle.std.proofs.lemmas.List.Elements.{All-nil, All-same, All-push}
 use Rattle.std.proofs.lemmas.Result.{err_from_is_err_and}
-use Rattle.lk_plain.specs.Program.{Program, done}
+use Rattle.lk_questions.specs.Program.{Program, done}
 use Rattle.lk_inductive.specs.Block.{CtorShape}
 use Rattle.lk_inductive.specs.BlockSteps.{ctors_steps}
 use Rattle.lk_store.specs.Contents.{name_at, tree_at}

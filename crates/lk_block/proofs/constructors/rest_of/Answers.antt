@@ -2,7 +2,7 @@ use Rattle.std.proofs.Common.{List, length, map, sym, subst}
 use Rattle.std.proofs.lemmas.List.{length-map}
 use Rattle.std.proofs.lemmas.Result.{err_from_is_err_and}
 use Rattle.lk_tree.specs.Tree.{Tree}
-use Rattle.lk_plain.specs.Program.{done, ◌>>=◌}
+use Rattle.lk_questions.specs.Program.{done, ◌>>=◌}
 use Rattle.lk_inductive.specs.Block.{Field, CtorShape}
 use Rattle.lk_inductive.specs.BlockSteps.{fields_steps}
 use Rattle.lk_store.specs.Contents.{name_at, tree_at}

@@ -4,8 +4,8 @@ use Rattle.std.specs.declared.alloc.Global.{Global}
 use Rattle.std.proofs.lemmas.Result.{err_from_is_err_and}
 use Rattle.lk_tree.specs.Tree.{Tree}
 use Rattle.lk_tree.specs.Spine.{head, args}
-use Rattle.lk_plain.specs.Query.{whnf}
-use Rattle.lk_plain.specs.Program.{asked}
+use Rattle.lk_questions.specs.Query.{whnf}
+use Rattle.lk_questions.specs.Program.{asked}
 use Rattle.lk_inductive.specs.BlockSteps.{as_member, own_indices}
 use Rattle.lk_store.specs.Contents.{name_at, tree_at}
 use Rattle.lk_declaration.specs.Courses.{ComesTo, Settles}

@@ -1,6 +1,6 @@
 use Rattle.std.proofs.Common.{List, map, refl, ap, subst}
 use Rattle.std.proofs.lemmas.Result.{err_from_is_err_and}
-use Rattle.lk_plain.specs.Program.{done}
+use Rattle.lk_questions.specs.Program.{done}
 use Rattle.lk_rulebook.specs.Place.{Ctor}
 use Rattle.lk_inductive.specs.Block.{CtorShape, TypeShape}
 use Rattle.lk_inductive.specs.BlockSteps.{ctors_steps}

@@ -1,6 +1,6 @@
 use Rattle.std.proofs.Common.{Bool, true, map, ap, sym, ◌∙◌}
 use Rattle.std.specs.Prelude.{if◌then◌else◌}
-use Rattle.lk_plain.specs.Program.{done, ◌>>=◌}
+use Rattle.lk_questions.specs.Program.{done, ◌>>=◌}
 use Rattle.lk_inductive.specs.BlockSteps.{one_type_steps, large_steps}
 use Rattle.lk_store.specs.Contents.{level_at}
 use Rattle.lk_block.specs.Shapes.{type_shape_at}

@@ -1,7 +1,7 @@
 use Rattle.std.proofs.Common.{suc, refl, ap, subst}
 use Rattle.std.proofs.lemmas.Result.{err_from_is_err_and}
 use Rattle.lk_tree.specs.Tree.{Tree}
-use Rattle.lk_plain.specs.Program.{done}
+use Rattle.lk_questions.specs.Program.{done}
 use Rattle.lk_inductive.specs.Block.{FieldKind, Field}
 use Rattle.lk_store.specs.Contents.{tree_at}
 use Rattle.lk_declaration.specs.Courses.{Goes, Halts}

@@ -1,8 +1,8 @@
 use Rattle.std.proofs.Common.{◌<◌, subst, sym, arith}
 use Rattle.std.proofs.lemmas.Result.{err_from_is_err_and}
 use Rattle.lk_tree.specs.Tree.{Tree}
-use Rattle.lk_plain.specs.Query.{whnf}
-use Rattle.lk_plain.specs.Program.{asked}
+use Rattle.lk_questions.specs.Query.{whnf}
+use Rattle.lk_questions.specs.Program.{asked}
 use Rattle.lk_store.specs.Contents.{tree_at}
 use Rattle.lk_inductive.specs.Block.{Frame}
 use Rattle.lk_declaration.specs.Courses.{ComesTo, Settles}

@@ -2,7 +2,7 @@ use Rattle.std.proofs.Common.{map}
 use Rattle.lk_tree.specs.LevelTest.{level_test}
 use Rattle.lk_tree.specs.declared.rule.Rule.TheVariants.{BlockShape}
 use Rattle.lk_tree.specs.Tree.{Level, Tree}
-use Rattle.lk_plain.specs.Program.{done, ◌>>=◌}
+use Rattle.lk_questions.specs.Program.{done, ◌>>=◌}
 use Rattle.lk_questions.specs.Steps.{given}
 use Rattle.lk_questions.specs.Levels.{tested}
 use Rattle.lk_inductive.specs.BlockSteps.{type_end}

@@ -2,7 +2,7 @@ use Rattle.std.proofs.Common.{◌<◌, length, map, sym, ◌∙◌, arith}
 use Rattle.std.proofs.lemmas.List.{length-map}
 use Rattle.std.proofs.lemmas.Result.{err_from_is_err_and}
 use Rattle.lk_tree.specs.Tree.{Level}
-use Rattle.lk_plain.specs.Program.{◌>>=◌}
+use Rattle.lk_questions.specs.Program.{◌>>=◌}
 use Rattle.lk_questions.specs.Steps.{sort_of}
 use Rattle.lk_inductive.specs.BlockSteps.{over}
 use Rattle.lk_store.specs.Contents.{level_at, tree_at}

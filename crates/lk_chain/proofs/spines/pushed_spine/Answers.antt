@@ -1,7 +1,7 @@
 use Rattle.std.proofs.Common.{rules, ◌≡◌, ap, ◌∙◌}
 use Rattle.lk_tree.specs.Loose.{loose}
-use Rattle.lk_plain.specs.Answer.{later}
-use Rattle.lk_plain.specs.Erased.{a_tree, erased, run_steps, out_of}
+use Rattle.lk_questions.specs.Answer.{later}
+use Rattle.lk_questions.specs.Erased.{a_tree, erased, run_steps, out_of}
 use Rattle.lk_questions.specs.Infer.{infer_steps}
 use Rattle.lk_questions.specs.Table.{steps}
 use Rattle.lk_store.specs.Contents.{tree_at}

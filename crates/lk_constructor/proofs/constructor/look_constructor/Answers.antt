@@ -1,7 +1,7 @@
 use Rattle.std.proofs.Common.{◌≡◌, Some, ap, sym, subst, ◌∙◌}
 use Rattle.lk_tree.specs.declared.rule.Rule.TheVariants.{UnknownConstant}
-use Rattle.lk_plain.specs.Program.{done}
-use Rattle.lk_plain.specs.Settled.{comes}
+use Rattle.lk_questions.specs.Program.{done}
+use Rattle.lk_questions.specs.Settled.{comes}
 use Rattle.lk_questions.specs.Iota.{ctor_app_by}
 use Rattle.lk_store.specs.Contents.{Contents, name_at, Extends}
 use Rattle.lk_store.proofs.Made.{Extends-self}

@@ -1,4 +1,4 @@
-use Rattle.lk_plain.specs.Program.{Program}
+use Rattle.lk_questions.specs.Program.{Program}
 use Rattle.lk_tree.specs.Tree.{Tree}
 use Rattle.lk_store.specs.Contents.{tree_at}
 use Rattle.lk_core.specs.Forms.{Begins}

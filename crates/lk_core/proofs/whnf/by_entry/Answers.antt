@@ -1,6 +1,6 @@
 use Rattle.std.proofs.Common.{◌≡◌, Some, refl, sym, ap, ◌∙◌}
 use Rattle.lk_tree.specs.Tree.{const}
-use Rattle.lk_plain.specs.Erased.{a_tree, erased}
+use Rattle.lk_questions.specs.Erased.{a_tree, erased}
 use Rattle.lk_questions.specs.Core.{unfolded}
 use Rattle.lk_questions.specs.Steps.{value_of}
 use Rattle.lk_store.specs.Store.{contents_of}

@@ -2,9 +2,9 @@ use Rattle.std.proofs.Common.{◌≡◌, Some, sym, ap, subst, ◌∙◌, rules}
 use Rattle.lk_tree.specs.Tree.{const}
 use Rattle.lk_tree.specs.Spine.{head}
 use Rattle.lk_tree.specs.declared.rule.Rule.TheVariants.{UnknownConstant}
-use Rattle.lk_plain.specs.Erased.{a_tree, erased, erased_then}
-use Rattle.lk_plain.specs.Program.{◌>>=◌}
-use Rattle.lk_plain.proofs.Continuing.{then_is}
+use Rattle.lk_questions.specs.Erased.{a_tree, erased, erased_then}
+use Rattle.lk_questions.specs.Program.{◌>>=◌}
+use Rattle.lk_questions.proofs.Continuing.{then_is}
 use Rattle.lk_questions.specs.Core.{unfolded, stepped}
 use Rattle.lk_questions.specs.Literals.{literal_step}
 use Rattle.lk_questions.specs.Steps.{value_of}

@@ -1,5 +1,5 @@
 use Rattle.std.proofs.Common.{ap, ◌∙◌}
-use Rattle.lk_plain.specs.Erased.{finished}
+use Rattle.lk_questions.specs.Erased.{finished}
 use Rattle.lk_store.specs.Contents.{tree_at}
 use Rattle.lk_ask.specs.Questions.{query_of, value_at}
 use Rattle.lk_declaration.proofs.OneKind.{no_term}

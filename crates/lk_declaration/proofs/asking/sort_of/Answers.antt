@@ -1,6 +1,6 @@
 use Rattle.std.proofs.lemmas.Result.{err_from_is_err_and}
-use Rattle.lk_plain.specs.Query.{infer}
-use Rattle.lk_plain.specs.Program.{asked}
+use Rattle.lk_questions.specs.Query.{infer}
+use Rattle.lk_questions.specs.Program.{asked}
 use Rattle.lk_store.specs.Contents.{level_at, tree_at}
 use Rattle.lk_declaration.specs.Asked.{sort_form}
 use Rattle.lk_declaration.proofs.Running.{gives_on, halts_first}

@@ -1,7 +1,7 @@
 use Rattle.std.proofs.Common.{refl, sym, subst}
 use Rattle.std.proofs.lemmas.Result.{err_from_is_err_and}
 use Rattle.lk_tree.specs.Tree.{Level}
-use Rattle.lk_plain.specs.Program.{done}
+use Rattle.lk_questions.specs.Program.{done}
 use Rattle.lk_questions.specs.Steps.{sort_of}
 use Rattle.lk_questions.specs.Declarations.{checked}
 use Rattle.lk_store.specs.Contents.{level_at, tree_at}

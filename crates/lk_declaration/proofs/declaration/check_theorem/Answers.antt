@@ -3,7 +3,7 @@ use Rattle.std.proofs.lemmas.Result.{err_from_is_err_and}
 use Rattle.lk_tree.specs.Tree.{Level}
 use Rattle.lk_tree.specs.Level.{is_zero_level}
 use Rattle.lk_tree.specs.declared.rule.Rule.TheVariants.{TheoremNotProp}
-use Rattle.lk_plain.specs.Program.{refuse}
+use Rattle.lk_questions.specs.Program.{refuse}
 use Rattle.lk_questions.specs.Steps.{sort_of}
 use Rattle.lk_questions.specs.Declarations.{checked, value_steps}
 use Rattle.lk_store.specs.Contents.{level_at, tree_at}

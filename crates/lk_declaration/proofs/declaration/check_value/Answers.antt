@@ -1,7 +1,7 @@
 use Rattle.std.proofs.Common.{subst}
 use Rattle.std.proofs.lemmas.Result.{err_from_is_err_and}
-use Rattle.lk_plain.specs.Query.{infer}
-use Rattle.lk_plain.specs.Program.{asked}
+use Rattle.lk_questions.specs.Query.{infer}
+use Rattle.lk_questions.specs.Program.{asked}
 use Rattle.lk_questions.specs.Declarations.{checked}
 use Rattle.lk_store.specs.Contents.{tree_at}
 use Rattle.lk_declaration.specs.Asked.{agreeing_steps}

@@ -1,5 +1,5 @@
 use Rattle.std.proofs.Common.{ap, ◌∙◌}
-use Rattle.lk_plain.specs.Erased.{run_steps, out_of}
+use Rattle.lk_questions.specs.Erased.{run_steps, out_of}
 use Rattle.lk_questions.specs.Table.{steps}
 use Rattle.lk_store.specs.Contents.{tree_at}
 use Rattle.lk_engine.proofs.steps.start.Goals as goal

@@ -5,7 +5,7 @@ use Rattle.lk_env.specs.Units.{type_at}
 use Rattle.lk_family.specs.Families.{family_at}
 use Rattle.lk_inductive.specs.Enlarged.{Aux}
 use Rattle.lk_mentions.specs.Names.{names_at}
-use Rattle.lk_plain.specs.Program.{Program}
+use Rattle.lk_questions.specs.Program.{Program}
 use Rattle.lk_rulebook.specs.Place.{Block, BlockType}
 use Rattle.lk_store.specs.Contents.{name_at, list_at, tree_at}
 use Rattle.lk_tree.specs.Tree.{Tree}

@@ -1,7 +1,7 @@
 use Rattle.std.proofs.Common.{ap, ◌∙◌}
 use Rattle.lk_lists.proofs.Lists.{rest_have}
 use Rattle.lk_store.specs.Contents.{level_at}
-use Rattle.lk_plain.specs.Program.{done}
+use Rattle.lk_questions.specs.Program.{done}
 use Rattle.lk_auxiliary.specs.Auxiliaries.{aux_at, auxs_at, IsAuxiliaryIn}
 use Rattle.lk_enlarge.proofs.SortTests.{sorts_next}
 use Rattle.lk_enlarge.proofs.sorts.check_sorts.Goals as goal

@@ -5,8 +5,8 @@ use Rattle.std.proofs.lemmas.List.Elements.{All-take}
 use Rattle.std.proofs.lemmas.List.{length-map, take-map}
 use Rattle.lk_tree.specs.Tree.{const}
 use Rattle.lk_tree.specs.Spine.{apply, args}
-use Rattle.lk_plain.specs.Query.{infer}
-use Rattle.lk_plain.specs.Erased.{asks, with_tree}
+use Rattle.lk_questions.specs.Query.{infer}
+use Rattle.lk_questions.specs.Erased.{asks, with_tree}
 use Rattle.lk_store.specs.Contents.{list_at, tree_at}
 use Rattle.lk_store.proofs.Extending.{Extends-trans}
 use Rattle.lk_subst.specs.Numbers.{trees-known}

@@ -1,7 +1,7 @@
 use Rattle.std.proofs.Common.{◌≡◌, Some, None, ap, sym, subst, ◌∙◌}
 use Rattle.lk_tree.specs.Tree.{Name}
 use Rattle.lk_tree.specs.Spine.{head}
-use Rattle.lk_plain.specs.Erased.{a_tree, erased}
+use Rattle.lk_questions.specs.Erased.{a_tree, erased}
 use Rattle.lk_questions.specs.Iota.{levels_at}
 use Rattle.lk_store.specs.Contents.{list_at, tree_at}
 use Rattle.lk_iota.specs.Iotas.{at_levels, Reduces}

@@ -1,5 +1,5 @@
 use Rattle.std.proofs.Common.{◌≡◌, [], None, refl, ap, sym, subst, ◌∙◌}
-use Rattle.lk_plain.specs.Settled.{comes, settle}
+use Rattle.lk_questions.specs.Settled.{comes, settle}
 use Rattle.lk_questions.specs.Iota.{only_ctor}
 use Rattle.lk_store.proofs.Made.{Extends-self}
 use Rattle.lk_constructor.specs.Applied.{IsAppliedIf}

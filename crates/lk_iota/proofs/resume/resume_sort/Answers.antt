@@ -1,5 +1,5 @@
 use Rattle.std.proofs.Common.{ap, sym, subst}
-use Rattle.lk_plain.specs.Erased.{a_tree, erased}
+use Rattle.lk_questions.specs.Erased.{a_tree, erased}
 use Rattle.lk_store.specs.Contents.{tree_at}
 use Rattle.lk_iota.specs.Redexes.{redex_at}
 use Rattle.lk_iota.specs.Expansions.{sort_rest}

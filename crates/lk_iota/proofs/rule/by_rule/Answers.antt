@@ -1,6 +1,6 @@
 use Rattle.std.proofs.Common.{rules, ◌≡◌, ◌+◌, None, suc, take, drop, ap, ◌∙◌, arith}
-use Rattle.lk_plain.specs.Query.{core}
-use Rattle.lk_plain.specs.Erased.{a_tree, asks, gives, with_tree}
+use Rattle.lk_questions.specs.Query.{core}
+use Rattle.lk_questions.specs.Erased.{a_tree, asks, gives, with_tree}
 use Rattle.lk_store.specs.Contents.{list_at, tree_at}
 use Rattle.lk_iota.proofs.RightSides.{rule_applied}
 use Rattle.lk_iota.proofs.rule.by_rule.Goals as goal

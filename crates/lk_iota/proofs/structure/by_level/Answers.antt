@@ -1,5 +1,5 @@
 use Rattle.std.proofs.Common.{Bool, None, Some, sym, subst, ◌∙◌, if◌then◌else◌}
-use Rattle.lk_plain.specs.Program.{done, ◌>>=◌}
+use Rattle.lk_questions.specs.Program.{done, ◌>>=◌}
 use Rattle.lk_store.specs.Contents.{tree_at}
 use Rattle.lk_iota.specs.Expansions.{at_ctor, expansion}
 use Rattle.lk_iota.specs.Iotas.{Reduces}

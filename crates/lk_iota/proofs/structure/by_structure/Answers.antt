@@ -1,9 +1,9 @@
 use Rattle.std.proofs.Common.{◌≡◌, None, ap, sym, ◌∙◌}
 use Rattle.lk_tree.specs.Tree.{Name}
 use Rattle.lk_tree.specs.Spine.{head}
-use Rattle.lk_plain.specs.Erased.{a_tree, erased}
+use Rattle.lk_questions.specs.Erased.{a_tree, erased}
 use Rattle.lk_questions.specs.Iota.{levels_at, expand_at}
-use Rattle.lk_plain.specs.Program.{◌>>=◌}
+use Rattle.lk_questions.specs.Program.{◌>>=◌}
 use Rattle.lk_store.specs.Contents.{list_at, tree_at}
 use Rattle.lk_iota.specs.Expansions.{at_ctor}
 use Rattle.lk_ask.proofs.Steps.{gives_now}

@@ -2,7 +2,7 @@ use Rattle.std.proofs.Common.{◌≡◌, [], Some, ◌++◌, map, ap, sym, subst
 use Rattle.lk_tree.specs.Tree.{Name}
 use Rattle.lk_tree.specs.Spine.{head, args}
 use Rattle.lk_rulebook.specs.Structures.{projections}
-use Rattle.lk_plain.specs.Erased.{a_tree, erased}
+use Rattle.lk_questions.specs.Erased.{a_tree, erased}
 use Rattle.lk_questions.specs.Iota.{levels_at}
 use Rattle.lk_store.specs.Contents.{tree_at}
 use Rattle.lk_ask.proofs.Steps.{after_making}

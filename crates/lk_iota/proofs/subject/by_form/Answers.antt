@@ -1,5 +1,5 @@
 use Rattle.std.proofs.Common.{refl, ap, sym, subst, ◌∙◌}
-use Rattle.lk_plain.specs.Erased.{a_tree}
+use Rattle.lk_questions.specs.Erased.{a_tree}
 use Rattle.lk_store.specs.Contents.{tree_at}
 use Rattle.lk_ask.specs.Looks.{Basis}
 use Rattle.lk_ask.proofs.Settles.{behind, refused_behind}

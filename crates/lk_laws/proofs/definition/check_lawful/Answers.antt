@@ -1,5 +1,5 @@
 use Rattle.std.proofs.Common.{length, option_map, sym, subst}
-use Rattle.lk_plain.specs.Program.{done, ◌>>=◌}
+use Rattle.lk_questions.specs.Program.{done, ◌>>=◌}
 use Rattle.lk_questions.specs.Declarations.{checked}
 use Rattle.lk_declaration.specs.Courses.{ComesTo}
 use Rattle.lk_laws.specs.Operations.{op_at}

@@ -1,5 +1,5 @@
 use Rattle.std.proofs.Common.{◌≡◌, true, false, sym, ap, ◌∙◌}
-use Rattle.lk_plain.specs.Erased.{truth, erased}
+use Rattle.lk_questions.specs.Erased.{truth, erased}
 use Rattle.lk_questions.specs.Unfolding.{is_less}
 use Rattle.lk_store.specs.Contents.{tree_at}
 use Rattle.lk_ask.proofs.Steps.{same_steps}

@@ -1,5 +1,5 @@
 use Rattle.std.proofs.Common.{sym, ap, subst}
-use Rattle.lk_plain.specs.Erased.{truth, erased}
+use Rattle.lk_questions.specs.Erased.{truth, erased}
 use Rattle.lk_questions.specs.Unfolding.{unfold_second}
 use Rattle.lk_store.specs.Contents.{tree_at}
 use Rattle.lk_ask.proofs.Steps.{same_steps, after_making}

@@ -1,5 +1,5 @@
 use Rattle.std.proofs.Common.{◌≡◌, length, map}
-use Rattle.lk_plain.specs.Settled.{settle}
+use Rattle.lk_questions.specs.Settled.{settle}
 use Rattle.lk_questions.specs.Strings.{look_all}
 use Rattle.lk_store.specs.Contents.{Extends}
 use Rattle.lk_lit.specs.Builtins.{builtin_name}

@@ -1,5 +1,5 @@
 use Rattle.std.proofs.Common.{length, sym, ap, ◌∙◌}
-use Rattle.lk_plain.specs.Erased.{Steps}
+use Rattle.lk_questions.specs.Erased.{Steps}
 use Rattle.lk_store.specs.Contents.{tree_at}
 use Rattle.lk_ask.specs.Lines.{Rest}
 use Rattle.lk_ask.specs.Nexts.{IsKnownNext}

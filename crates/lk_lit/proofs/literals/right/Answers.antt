@@ -1,7 +1,7 @@
 use Rattle.std.proofs.Common.{ap, ◌∙◌}
 use Rattle.lk_tree.specs.Spine.{head}
-use Rattle.lk_plain.specs.Erased.{truth, erased}
-use Rattle.lk_plain.proofs.Continuing.{then_is}
+use Rattle.lk_questions.specs.Erased.{truth, erased}
+use Rattle.lk_questions.proofs.Continuing.{then_is}
 use Rattle.lk_questions.specs.LiteralLines.{same_second, step_of, same_numbers}
 use Rattle.lk_questions.specs.Pairs.{◌or_else◌, ◌or_line◌}
 use Rattle.lk_store.specs.Contents.{tree_at}

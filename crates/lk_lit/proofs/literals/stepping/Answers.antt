@@ -1,5 +1,5 @@
 use Rattle.std.proofs.Common.{None, sym, ap, subst, ◌∙◌}
-use Rattle.lk_plain.specs.Erased.{asks, with_tree}
+use Rattle.lk_questions.specs.Erased.{asks, with_tree}
 use Rattle.lk_ask.specs.Questions.{query_of, IsKnownQuery}
 use Rattle.lk_lit.specs.Literals.{literals_rest}
 use Rattle.lk_lit.specs.Sheets.{map_literals, IsKnownLiterals}

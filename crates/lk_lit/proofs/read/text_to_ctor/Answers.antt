@@ -1,6 +1,6 @@
 use Rattle.std.proofs.Common.{ap, sym}
 use Rattle.lk_tree.specs.Tree.{str}
-use Rattle.lk_plain.specs.Program.{done}
+use Rattle.lk_questions.specs.Program.{done}
 use Rattle.lk_questions.specs.Strings.{tree_or, text_to_ctor}
 use Rattle.lk_store.specs.Contents.{text_at}
 use Rattle.lk_lit.proofs.Settling.{settles_not}

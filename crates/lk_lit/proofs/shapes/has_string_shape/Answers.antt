@@ -1,5 +1,5 @@
 use Rattle.std.proofs.Common.{Ok, false, ap, sym, refl, ◌∙◌}
-use Rattle.lk_plain.specs.Program.{done}
+use Rattle.lk_questions.specs.Program.{done}
 use Rattle.lk_questions.specs.Shapes.{is_sort_one}
 use Rattle.lk_store.specs.Store.{contents_of}
 use Rattle.lk_ask.proofs.Entries.{entry_type}

@@ -1,7 +1,7 @@
 use Rattle.std.proofs.Common.{Ok, true, ap, ◌∙◌}
 use Rattle.lk_tree.specs.Tree.{zero_level, succ_level}
 use Rattle.lk_tree.specs.LevelTest.{level_test}
-use Rattle.lk_plain.specs.Settled.{settle}
+use Rattle.lk_questions.specs.Settled.{settle}
 use Rattle.lk_questions.specs.Levels.{tested}
 use Rattle.lk_lit.proofs.Levels.{one_is_one}
 use Rattle.lk_lit.proofs.Settling.{settles_now}

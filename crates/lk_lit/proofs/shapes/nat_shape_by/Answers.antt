@@ -1,7 +1,7 @@
 use Rattle.std.proofs.Common.{◌≡◌, Err, ◌&&◌, ap, sym, refl, ◌∙◌}
 use Rattle.lk_tree.specs.declared.rule.Rule.TheVariants.{BuiltinShape}
-use Rattle.lk_plain.specs.Program.{done, refuse, ◌>>=◌}
-use Rattle.lk_plain.specs.Settled.{settle}
+use Rattle.lk_questions.specs.Program.{done, refuse, ◌>>=◌}
+use Rattle.lk_questions.specs.Settled.{settle}
 use Rattle.lk_questions.specs.Steps.{given}
 use Rattle.lk_questions.specs.Shapes.{is_sort_one}
 use Rattle.lk_store.specs.Store.{contents_of}

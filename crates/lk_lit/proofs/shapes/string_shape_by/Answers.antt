@@ -1,6 +1,6 @@
 use Rattle.std.proofs.Common.{refl}
 use Rattle.lk_tree.specs.declared.rule.Rule.TheVariants.{BuiltinShape}
-use Rattle.lk_plain.specs.Program.{done}
+use Rattle.lk_questions.specs.Program.{done}
 use Rattle.lk_questions.specs.Steps.{given}
 use Rattle.lk_lit.proofs.Settling.{settles_now, settles_on, settles_not}
 use Rattle.lk_lit.proofs.shapes.string_shape_by.Goals as goal

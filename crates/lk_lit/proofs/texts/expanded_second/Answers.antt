@@ -1,5 +1,5 @@
 use Rattle.std.proofs.Common.{sym}
-use Rattle.lk_plain.proofs.Binding.{bind_bind}
+use Rattle.lk_questions.proofs.Binding.{bind_bind}
 use Rattle.lk_questions.specs.LiteralLines.{same_second}
 use Rattle.lk_questions.specs.Pairs.{◌or_else◌}
 use Rattle.lk_questions.specs.Strings.{expansion_of}

@@ -1,5 +1,5 @@
 use Rattle.std.proofs.Common.{ap}
-use Rattle.lk_plain.specs.Erased.{a_tree, erased}
+use Rattle.lk_questions.specs.Erased.{a_tree, erased}
 use Rattle.lk_store.specs.Contents.{tree_at}
 use Rattle.lk_ask.proofs.Steps.{same_steps, after_making}
 use Rattle.lk_proj.specs.Sheets.{map_applied}

@@ -1,5 +1,5 @@
 use Rattle.std.proofs.Common.{ap, refl, ◌∙◌}
-use Rattle.lk_plain.specs.Erased.{a_tree, erased}
+use Rattle.lk_questions.specs.Erased.{a_tree, erased}
 use Rattle.lk_store.specs.Contents.{name_at, tree_at}
 use Rattle.lk_ask.proofs.Settles.{behind, refused_behind}
 use Rattle.lk_ask.proofs.Steps.{same_steps}

@@ -1,6 +1,6 @@
 use Rattle.std.proofs.Common.{ap}
 use Rattle.lk_tree.specs.Spine.{head, args}
-use Rattle.lk_plain.specs.Erased.{a_tree, erased}
+use Rattle.lk_questions.specs.Erased.{a_tree, erased}
 use Rattle.lk_questions.specs.Iota.{core_field}
 use Rattle.lk_store.specs.Contents.{name_at, tree_at}
 use Rattle.lk_ask.proofs.Settles.{behind}

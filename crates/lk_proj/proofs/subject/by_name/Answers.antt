@@ -1,7 +1,7 @@
 use Rattle.std.proofs.Common.{◌∷◌, [], ap, sym, ◌∙◌, rules}
 use Rattle.lk_rulebook.specs.Place.{Entry as PlainEntry}
 use Rattle.lk_tree.specs.declared.rule.Rule.TheVariants.{UnknownConstant}
-use Rattle.lk_plain.specs.Erased.{a_tree, erased}
+use Rattle.lk_questions.specs.Erased.{a_tree, erased}
 use Rattle.lk_questions.specs.Projections.{of_kind, of_struct}
 use Rattle.lk_store.specs.Contents.{name_at, list_at, tree_at}
 use Rattle.lk_ask.specs.Looks.{Basis}

@@ -1,5 +1,5 @@
 use Rattle.std.proofs.Common.{◌∙◌, true, false, sym, rules, ap}
-use Rattle.lk_plain.specs.Erased.{a_tree, gives, erased}
+use Rattle.lk_questions.specs.Erased.{a_tree, gives, erased}
 use Rattle.lk_store.specs.Store.{contents_of}
 use Rattle.lk_store.specs.Contents.{name_at, tree_at}
 use Rattle.lk_ask.proofs.Steps.{same_steps, after_look}

@@ -1,6 +1,6 @@
 use Rattle.std.proofs.Common.{◌+◌, None, drop, ap, ◌∙◌, rules}
-use Rattle.lk_plain.specs.Query.{core}
-use Rattle.lk_plain.specs.Erased.{a_tree, asks, gives, with_tree}
+use Rattle.lk_questions.specs.Query.{core}
+use Rattle.lk_questions.specs.Erased.{a_tree, asks, gives, with_tree}
 use Rattle.lk_store.specs.Contents.{tree_at}
 use Rattle.lk_quot.proofs.Elements.{applied}
 use Rattle.lk_quot.proofs.core_form.at_element.Goals as goal

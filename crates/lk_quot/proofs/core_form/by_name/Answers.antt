@@ -1,6 +1,6 @@
 use Rattle.std.proofs.Common.{rules, ◌≡◌, length, ap, sym}
 use Rattle.lk_tree.specs.Spine.{args}
-use Rattle.lk_plain.specs.Erased.{a_tree, erased}
+use Rattle.lk_questions.specs.Erased.{a_tree, erased}
 use Rattle.lk_store.specs.Contents.{name_at, tree_at}
 use Rattle.lk_ask.proofs.Steps.{same_steps}
 use Rattle.lk_quot.specs.Redexes.{plain_redex}

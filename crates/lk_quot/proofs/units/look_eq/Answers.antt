@@ -1,6 +1,6 @@
 use Rattle.std.proofs.Common.{◌≡◌, Some, true, false, sym, ap, ◌∙◌, rules}
 use Rattle.lk_rulebook.specs.Names.{eq}
-use Rattle.lk_plain.specs.Settled.{comes}
+use Rattle.lk_questions.specs.Settled.{comes}
 use Rattle.lk_questions.specs.QuotientUnits.{is_eq}
 use Rattle.lk_store.specs.Contents.{name_at}
 use Rattle.lk_ask.specs.Looks.{entry_at}

@@ -1,6 +1,6 @@
 use Rattle.std.proofs.Common.{Err, sym, refl, subst}
 use Rattle.lk_tree.specs.declared.rule.Rule.TheVariants.{RecursorDiffers}
-use Rattle.lk_plain.specs.Program.{refuse}
+use Rattle.lk_questions.specs.Program.{refuse}
 use Rattle.lk_questions.specs.Declarations.{Yes, checked}
 use Rattle.lk_ask.specs.declared.stop.Stop.TheVariants.{No}
 use Rattle.lk_env.specs.Units.{recursor_at}

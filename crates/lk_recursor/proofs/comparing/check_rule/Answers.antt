@@ -1,8 +1,8 @@
 use Rattle.std.proofs.Common.{refl, ap, ◌∙◌}
 use Rattle.std.proofs.lemmas.Result.{err_from_is_err_and}
 use Rattle.lk_tree.specs.Tree.{Tree}
-use Rattle.lk_plain.specs.Program.{asked}
-use Rattle.lk_plain.specs.Query.{infer}
+use Rattle.lk_questions.specs.Program.{asked}
+use Rattle.lk_questions.specs.Query.{infer}
 use Rattle.lk_questions.specs.Declarations.{checked}
 use Rattle.lk_store.specs.Contents.{tree_at}
 use Rattle.lk_declaration.proofs.Running.{halts_first, gives_on}

@@ -1,5 +1,5 @@
 use Rattle.std.proofs.Common.{◌∙◌, ap}
-use Rattle.lk_plain.specs.Erased.{truth, erased}
+use Rattle.lk_questions.specs.Erased.{truth, erased}
 use Rattle.lk_store.specs.Contents.{tree_at}
 use Rattle.lk_ask.proofs.Steps.{gives_now}
 use Rattle.lk_same.proofs.Shapes.{pi_and_other}

@@ -1,5 +1,5 @@
 use Rattle.std.proofs.Common.{◌≡◌, Some, rules, ap, sym, subst, ◌∙◌}
-use Rattle.lk_plain.specs.Erased.{a_tree, gives}
+use Rattle.lk_questions.specs.Erased.{a_tree, gives}
 use Rattle.lk_store.specs.Contents.{list_at, tree_at}
 use Rattle.lk_store.specs.Store.{contents_of}
 use Rattle.lk_env.specs.Entries.{plain_entry}

@@ -1,7 +1,7 @@
 use Rattle.std.proofs.Common.{refl}
 use Rattle.lk_rulebook.specs.Names.{named, string}
-use Rattle.lk_plain.specs.Program.{done}
-use Rattle.lk_plain.specs.Erased.{a_tree}
+use Rattle.lk_questions.specs.Program.{done}
+use Rattle.lk_questions.specs.Erased.{a_tree}
 use Rattle.lk_ask.proofs.Settles.{refused_behind}
 use Rattle.lk_type.proofs.literals.text_type.Goals as goal
 

@@ -1,5 +1,5 @@
 use Rattle.std.proofs.Common.{None, ap, subst, ◌∙◌}
-use Rattle.lk_plain.specs.Settled.{settle}
+use Rattle.lk_questions.specs.Settled.{settle}
 use Rattle.lk_env.specs.Scopes.{place_in}
 use Rattle.lk_quot.specs.Units.{IsMet}
 use Rattle.lk_laws.specs.Needs.{needed_steps}

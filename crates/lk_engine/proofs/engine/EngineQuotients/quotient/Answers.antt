@@ -1,5 +1,5 @@
 use Rattle.std.proofs.Common.{None, map, ap, subst, ◌∙◌}
-use Rattle.lk_plain.specs.Settled.{settle}
+use Rattle.lk_questions.specs.Settled.{settle}
 use Rattle.lk_questions.specs.QuotientUnits.{quot_steps}
 use Rattle.lk_store.specs.Contents.{name_at, tree_at}
 use Rattle.lk_store.specs.Layers.{layers_contents}

@@ -1,5 +1,0 @@
-use Rattle.lk_plain.proofs.Renamed.{ans_same}
-use Rattle.lk_plain.proofs.plain_answer_rests_on_contents.Goals as goal
-
-pub returns : goal.returns
-returns c = λ table w other q b h. ans_same table w other q b h
