@@ -57,6 +57,8 @@ impl BaseStore {
     ghost use Rattle.lk_store.specs.Contents.{name_at, name_of, IsNameIn, IsName};
     ghost use Rattle.lk_store.specs.Sizes.{sizes_of};
     ghost use Rattle.lk_store.specs.Store.{no_tables, contents_of};
+    ghost use Rattle.lk_store.specs.Values.{AreApart};
+    ghost use Rattle.lk_tree.specs.Tree.{zero_level, wide};
 
     /// An empty store. It takes no memory.
     pub fn new(alloc: Global) -> Self
@@ -83,6 +85,14 @@ impl BaseStore {
         ensures { self.new ≡ self.old }
     {
         self.tables.shrink();
+    }
+
+    /// Equal levels have one number, and so have equal trees.
+    pub fn stands_once(&self)
+        ensures levels { AreApart zero_level (contents_of self.now).levels }
+        ensures trees { AreApart wide (contents_of self.now).trees }
+    {
+        let _tables = &self.tables;
     }
 
     /// The number of the name that a node makes of its parts, where the store has it. It takes no

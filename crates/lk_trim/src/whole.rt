@@ -28,11 +28,11 @@ use std::mem::drop;
 
 /// A text of which only the first line is written.
 fn begin(alloc: Global, store: &BaseStore) -> Result<Writer, NoMemory>
-    requires { IsInterned (contents_of store.now) }
     ensures numbers { IfOk result (λ w. AreNumbersIn (contents_of store.now) w.numbers) }
     ensures file { IfOk result (λ w. file_at (contents_of store.now) w ≡ beginning) }
 {
     let _names = store.count_names();
+    store.stands_once();
     let mut out = Vec::new(alloc);
     out.extend_from_slice(b"2.0.0\n")?;
     let numbers = Numbers {
@@ -205,11 +205,9 @@ fn text_of(writer: Writer) -> Vec<u8>
 }
 
 /// The canonical text of the units of these numbers, each with the line of its own budget. The
-/// numbers are below that of the library's units, and rise. Numbers of the library's store are to
-/// stand for different levels and trees: then equal ones have one line.
+/// numbers are below that of the library's units.
 pub fn canonical(alloc: Global, library: &Library, units: &[u32]) -> Result<Vec<u8>, NoMemory>
     requires below { All (λ n. n < length library.now.units) units.now }
-    requires interned { IsInterned (contents_of library.now.tables) }
     ensures { IfOk result (λ v. v.items ≡ canonical_text
         (kept_of (library_of library.now) (budgets_of library.now) units.now)) }
 {
