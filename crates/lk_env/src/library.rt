@@ -31,6 +31,26 @@ pub struct Library {
     limits: Vec<Option<u64>>,
 }
 
+/// What a library is made of, its index left out.
+pub struct LibraryParts {
+    pub base: BaseStore,
+    pub units: Vec<Unit>,
+    pub budgets: Vec<Budget>,
+}
+
+impl Drop for LibraryParts {
+    fn drop(self) {
+        let LibraryParts {
+            base,
+            units,
+            budgets,
+        } = self;
+        drop(base);
+        drop(units);
+        drop(budgets);
+    }
+}
+
 impl Model for Library {
     ghost use Rattle.lk_env.specs.StoredLibrary.{StoredLibrary};
 
@@ -177,6 +197,32 @@ impl Library {
             budgets,
             limits,
         })
+    }
+
+    /// Takes the library apart, so that its store can grow. It takes no memory.
+    pub fn into_parts(self) -> LibraryParts
+        ensures base { result.base ≡ self.tables }
+        ensures units { result.units.items ≡ self.units }
+        ensures budgets { result.budgets.items ≡ self.budgets }
+        ensures units_in { AreUnitsIn (contents_of result.base) result.units.items }
+        ensures budgets_in { AreBudgetsIn (contents_of result.base) result.budgets.items }
+    {
+        let Library {
+            base,
+            units,
+            cells,
+            flaws,
+            budgets,
+            limits,
+        } = self;
+        drop(cells);
+        drop(flaws);
+        drop(limits);
+        LibraryParts {
+            base,
+            units,
+            budgets,
+        }
     }
 
     /// The units, in their order.
