@@ -6,3 +6,4 @@ pub mod Split
 pub mod Refusing
 pub mod Tabled
 pub mod Marked
+pub mod Printed

@@ -1,5 +1,5 @@
-pub mod Held
 pub mod Marks
+pub mod Named
 pub mod Names
 pub mod Policy
 pub mod Table

@@ -1,11 +1,11 @@
 //! The last line, which counts verdicts.
 
 ghost use Rattle.std.specs.Prelude.{◌≡◌, ◌++◌, map, OnOk, IfOk};
-ghost use Rattle.lk_text.specs.Held.{verdict};
+ghost use Rattle.lk_checks.specs.Held.{verdict};
 ghost use Rattle.lk_text.specs.Text.{is_of, count, counted_text, summary_text};
 
 use crate::names::add_number;
-use crate::verdicts::Verdict;
+use lk_checks::Verdict;
 use lk_store::memory::NoMemory;
 use std::alloc::Global;
 

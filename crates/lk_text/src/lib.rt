@@ -1,9 +1,11 @@
-//! What is written of a library: the lines of its units by their verdicts, with names as they are, and the line that counts them;
-//! and the line of a file's fault. Each call gives the exact bytes. Before that, verdicts are put under a policy on axioms.
+//! What is written of a library: the lines of its units by their verdicts, with names as they are,
+//! and the line that counts them; and the line of a file's fault. Each call gives the exact bytes.
+//! Before that, verdicts are put under a policy on axioms. Also which unit a printed name is of.
 #![tactic(auto)]
 
 mod counts;
 mod laws;
+mod named;
 mod names;
 mod policy;
 mod texts;
@@ -13,7 +15,7 @@ mod verdicts;
 
 pub use counts::{VerdictKind, count, summary};
 pub use laws::{allowed_axioms_are_listed, joined_texts_are_split_again, policies_only_refuse};
+pub use named::{unit_named, unknown_line};
 pub use policy::Policy;
 pub use texts::{fault_line, report};
 pub use under::apply;
-pub use verdicts::Verdict;

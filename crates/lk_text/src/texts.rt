@@ -1,16 +1,16 @@
 //! The text of a run.
 
 ghost use Rattle.std.specs.Prelude.{◌≡◌, map, IfOk};
-ghost use Rattle.lk_text.specs.Held.{verdict};
+ghost use Rattle.lk_checks.specs.Held.{verdict};
 ghost use Rattle.lk_text.specs.Text.{bad_line, report_text};
 ghost use Rattle.lk_axioms.specs.Lists.{axiom_lists};
 ghost use Rattle.lk_env.specs.Units.{library_of};
 
 use crate::counts::add_summary;
 use crate::units::add_lines;
-use crate::verdicts::Verdict;
 use itoa::Buffer;
 use lk_axioms::AxiomSets;
+use lk_checks::Verdict;
 use lk_env::library::Library;
 use lk_lines::Fault;
 use lk_store::memory::NoMemory;

@@ -1,24 +1,14 @@
-//! Verdicts, and the lines that tell them.
+//! The lines that tell verdicts.
 
 ghost use Rattle.std.specs.Prelude.{◌≡◌, ◌++◌, codes, OnOk};
-ghost use Rattle.lk_text.specs.Held.{verdict};
+ghost use Rattle.lk_checks.specs.Held.{verdict};
 ghost use Rattle.lk_text.specs.Text.{rule_word, title_text, head_text, why_text, axiom_text};
 ghost use Rattle.lk_text.specs.Text.{verdict_text};
 
 use crate::names::add_number;
+use lk_checks::Verdict;
 use lk_store::memory::NoMemory;
 use lk_tree::rule::Rule;
-
-/// What is said of a unit.
-#[derive(Clone, Copy)]
-pub enum Verdict {
-    Yes,
-    No(Rule),
-    /// The budget is used up.
-    Steps,
-    /// Memory is wanting.
-    Memory,
-}
 
 /// The word of a rule.
 fn word_of(rule: Rule) -> &'static [u8]
