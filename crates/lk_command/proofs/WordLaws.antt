@@ -1,11 +1,12 @@
 -- What words mean.
-use Rattle.std.proofs.Common.{◌≡◌, List, [], Option, Some, None, true, refl, sym, ap, ◌∙◌, subst, inl, inr}
-use Rattle.std.specs.Prelude.{◌⊎◌, IfNone}
+use Rattle.std.proofs.Common.{◌≡◌, List, [], Option, Some, None, true, refl, sym, ap, ◌∙◌, subst, inl, inr, option_map, codes}
+use Rattle.std.specs.Prelude.{◌⊎◌, IfNone, IfSome}
 use Rattle.clap.specs.declared.parser.matches.ArgMatches.{ArgMatches}
 use Rattle.clap.specs.declared.error.kind.ErrorKind.{ErrorKind}
-use Rattle.clap.specs.Words.{App, HasMatchesOf, IsAmong, Text, fault_of, is_simple, is_simple_and_free, subcommand_of, subcommand_rows_of}
+use Rattle.clap.specs.Words.{App, HasMatchesOf, IsAmong, Row, Text, first_of, fault_of, is_simple, is_simple_and_free, subcommand_of, subcommand_rows_of}
 use Rattle.clap.proofs.OnLiterals.{clap_on_literals}
 use Rattle.lk_command.specs.Command.{leancheck}
+use Rattle.lk_command.specs.Words.{HasName}
 
 simple : is_simple leancheck ≡ true
 unfolding clap_on_literals
@@ -35,3 +36,12 @@ faulty a words kind memory is other k none = among kind memory (fault_of a words
 pub at_none : {A : Type 0} (o : Option A) (P : Type 0) → P → IfNone o P
 at_none None P h = h
 at_none (Some x) P h = tt
+
+-- an option's value is the name that is given, and without one none is
+pub named : {A : Type 0} (f : A → Text) (rows : List Row) (o : Option A) → option_map f o ≡ first_of (codes "name") rows → IfSome o (λ a. HasName rows (f a))
+named f rows None is = tt
+named f rows (Some a) is = record { name_is = sym is }
+
+pub unnamed : {A : Type 0} (f : A → Text) (rows : List Row) (o : Option A) → option_map f o ≡ first_of (codes "name") rows → IfNone o ((n : Text) → HasName rows n → ⊥)
+unnamed f rows (Some a) is = tt
+unnamed f rows None is = λ n h. cc (is ∙ h.name_is)

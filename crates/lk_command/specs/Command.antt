@@ -31,8 +31,19 @@ make = with_sample (new_app (codes "make"))
 abbrev pub trial : App
 trial = with_options (with_sample (new_app (codes "trial")))
 
+abbrev pub trim : App
+trim = with_rule (new_app (codes "trim")) (required_option (codes "name"))
+
+-- the subcommands that check
+abbrev pub with_checks : App
+with_checks =
+    let checked = with_subcommand (new_app (codes "leancheck")) check.top in
+    let made = with_subcommand checked make.top in
+    with_subcommand made trial.top
+
 abbrev pub leancheck : App
-leancheck = with_subcommand (with_subcommand (with_subcommand (new_app (codes "leancheck")) check.top) make.top) trial.top
+leancheck = with_subcommand with_checks trim.top
 
 abbrev pub usage_line : List ℕ
-usage_line = codes "usage: leancheck check|make|trial [--workers W] [--steps N] [--memo M] [--allow LIST] [--units N] [--seed S]\n"
+usage_line =
+    codes "usage: leancheck check|make|trial|trim [--workers W] [--steps N] [--memo M] [--allow LIST] [--units N] [--seed S] [--name NAME]\n"

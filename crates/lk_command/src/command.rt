@@ -3,7 +3,7 @@
 ghost use Rattle.std.specs.Prelude.{◌≡◌, IfOk, false, codes};
 ghost use Rattle.clap.specs.Words.{app_of, new_app, with_rule, with_subcommand};
 ghost use Rattle.clap.specs.declared.builder.command.Command.TheViews.{out-Command};
-ghost use Rattle.lk_command.specs.Command.{check, leancheck, make, option, required_option, trial, with_options, with_sample};
+ghost use Rattle.lk_command.specs.Command.{check, leancheck, make, option, required_option, trial, trim, with_checks, with_options, with_sample};
 
 use clap::{Arg, Command};
 use std::alloc::{AllocError, Global};
@@ -101,10 +101,26 @@ fn with_make<'a>(alloc: Global) -> Result<Command<'a>, AllocError>
     with_check(alloc)?.subcommand(make)
 }
 
+/// The subcommand `trim`.
+fn trim_command<'a>(alloc: Global) -> Result<Command<'a>, AllocError>
+    ensures app { IfOk result (λ c. app_of c ≡ trim) }
+    ensures local { IfOk result (λ c. (out-Command c).has_globals ≡ false) }
+{
+    with_required(alloc, Command::new(alloc, "trim"), "name")
+}
+
+/// The same with `trial`.
+fn with_trial<'a>(alloc: Global) -> Result<Command<'a>, AllocError>
+    ensures app { IfOk result (λ c. app_of c ≡ with_checks) }
+{
+    let trial = trial_command(alloc)?;
+    with_make(alloc)?.subcommand(trial)
+}
+
 /// The whole command.
 pub fn command<'a>(alloc: Global) -> Result<Command<'a>, AllocError>
     ensures app { IfOk result (λ c. app_of c ≡ leancheck) }
 {
-    let trial = trial_command(alloc)?;
-    with_make(alloc)?.subcommand(trial)
+    let trim = trim_command(alloc)?;
+    with_trial(alloc)?.subcommand(trim)
 }

@@ -1,5 +1,5 @@
 //! What the program's words mean. `line_means` reads them by the command that `clap` is told, and gives what they ask for: a
-//! check, a file to be made, or a trial, each with its options.
+//! check, a file to be made, a trial, each with its options, or what one declaration needs.
 #![tactic(auto)]
 
 mod command;

@@ -15,10 +15,12 @@ const HELP: &str = "
   leancheck check [--workers W] [--steps N] [--memo M] [--allow LIST]
   leancheck make --units N --seed S
   leancheck trial --units N --seed S [--workers W] [--steps N] [--memo M] [--allow LIST]
+  leancheck trim --name NAME
 
   check   checks standard input, and writes a verdict for each declaration
   make    writes an export that it makes
   trial   checks that export in memory, and writes the last line alone
+  trim    reads standard input, and writes one declaration with all that it needs, as an export
 
   --workers W   threads that check: 1 to 64, 1 if not given
   --steps N     budget of each declaration: 1 to 2^64 - 1, 2^100 if not given; the export may lower it
@@ -26,14 +28,16 @@ const HELP: &str = "
   --allow LIST  axioms to allow: names joined by commas, '' for none; every axiom if not given
   --units N     declarations to make: 1 to 1048576
   --seed S      number that they are made by: 0 to 2147483647
+  --name NAME   name of a declaration, or of a member of a block, as check writes it
 
-  status 0  every declaration says yes, or there is none; or the export was made
+  status 0  every declaration says yes, or there is none; or the export was made or trimmed
          1  some declaration says no
          2  the words are not understood
          3  the input has a fault
          4  a read failed
          5  a write failed
          6  out of memory, and nothing was written
+         7  no declaration has the name
          9  some declaration says no for want of memory, and none for another reason
 
   example: leancheck check < examples/identity.export
@@ -106,7 +110,7 @@ fn tell_why<R: Eprint>(rt: &R, alloc: Global, words: &[String]) {
         Ok(matches) => match matches.subcommand() {
             Some((_, given)) => tell_values(rt, given),
             None => {
-                let _ = eprintln!(rt; "leancheck: no command is given: check, make or trial");
+                let _ = eprintln!(rt; "leancheck: no command is given: check, make, trial or trim");
             }
         },
         Err(error) => {

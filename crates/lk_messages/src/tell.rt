@@ -84,6 +84,14 @@ pub fn tell_write<R: Eprint>(rt: &R, code: Option<i32>) {
     }
 }
 
+/// Tells that no declaration has the name that was asked for, and where an export seems to be cut off.
+pub fn tell_no_name<R: Eprint>(rt: &R, passed: &Passed, units: u64) {
+    tell_checked(rt, passed, units);
+    let _ = eprintln!(rt;
+        "leancheck: no declaration has this name; names are as check writes them, such as Nat.rec"
+    );
+}
+
 /// Tells that memory was wanting before anything was written.
 pub fn tell_no_memory<R: Eprint>(rt: &R) {
     let _ = eprintln!(rt; "leancheck: out of memory; nothing was written");
