@@ -1,0 +1,5 @@
+pub mod Statable
+pub mod Within
+pub mod Items
+pub mod Stated
+pub mod Trimmed
