@@ -19,3 +19,4 @@ pub mod Enlarging
 pub mod LargerParts
 pub mod Settings
 pub mod StageMoves
+pub mod Needed

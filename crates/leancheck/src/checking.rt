@@ -24,6 +24,7 @@ ghost use Rattle.leancheck.specs.Held.{result_verdict, scan_verdict, IsPlain};
 use crate::blocks::check_block;
 use crate::quotients::check_quotient;
 use lk_ask::stop::Stop;
+use lk_checks::Verdict;
 use lk_declaration::{check_axiom, check_opaque, check_theorem};
 use lk_engine::{Engine, Knows};
 use lk_env::entry::Partial;
@@ -34,7 +35,6 @@ use lk_quot::Quotients;
 use lk_scan::names::are_new;
 use lk_scan::scan::{ScanError, scan};
 use lk_store::base_store::BaseStore;
-use lk_text::Verdict;
 use lk_tree::rule::Rule;
 use std::alloc::Global;
 

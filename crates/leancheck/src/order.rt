@@ -1,11 +1,11 @@
 //! Verdicts, in the order of the units.
 
 ghost use Rattle.std.specs.Prelude.{◌≡◌, ◌<◌, ℕ, IfOk, All, vec_len, slice_index_or};
-ghost use Rattle.lk_text.specs.declared.verdicts.Verdict.{Verdict as Held};
+ghost use Rattle.lk_checks.specs.declared.verdict.Verdict.{Verdict as Held};
 ghost use Rattle.leancheck.specs.Drawn.{given};
 
+use lk_checks::Verdict;
 use lk_store::memory::NoMemory;
-use lk_text::Verdict;
 use std::alloc::Global;
 
 /// The verdict of the unit of a number.

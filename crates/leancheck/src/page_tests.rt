@@ -14,21 +14,21 @@ const ROWS: [(&str, &[u8], &[u8], Status); 39] = [
     ),
     (
         "leancheck check",
-        b"1 #NS 0 sorryAx\n2 #NS 0 anything\n0 #ES 0\n1 #EV 0\n2 #EP #BD 0 0 1\n3 #EC 1\n#AX 1 2\n#THM 2 2 3\n",
-        b"yes axiom 0 sorryAx\n  axiom sorryAx\nyes thm 1 anything\n  axiom sorryAx\nunits 2 yes 2 no 0 memory 0\n",
-        Status::AllYes,
-    ),
-    (
-        "leancheck check",
         b"2.0.0\n1 #NS 0 not_a_proposition\n2 #NS 0 wrong_proof\n3 #NS 0 right_proof\n4 #NS 0 open_term\n5 #NS 0 p\n6 #NS 0 h\n0 #ES 0\n1 #EV 0\n2 #EV 1\n3 #EP #BD 6 1 2\n4 #EP #BD 5 0 3\n5 #EL #BD 6 1 1\n6 #EL #BD 5 0 5\n7 #EL #BD 5 0 1\n#THM 1 0 0\n#THM 2 4 7\n#THM 3 4 6\n#THM 3 4 6\n#THM 4 1 6\n",
         b"no thm 0 not_a_proposition\n  why TheoremNotProp\nno thm 1 wrong_proof\n  why ValueType\nyes thm 2 right_proof\nno thm 3 right_proof\n  why DuplicateName\nno thm 4 open_term\n  why LooseVariable\nunits 5 yes 1 no 4 memory 0\n",
         Status::SomeNo,
     ),
     (
-        "leancheck check",
-        b"3 #US 0\n3 #US 9 0\n",
-        b"bad line 2 ExtraField\n",
-        Status::BadFile,
+        "leancheck trim --name f",
+        b"2.0.0\n1 #NS 0 A\n2 #NS 0 B\n3 #NS 0 C\n4 #NS 0 b\n5 #NS 0 f\n6 #NS 0 g\n7 #NS 0 h\n10 #ES 0\n11 #EC 1\n12 #EC 2\n13 #EC 3\n14 #EC 4\n15 #EV 0\n20 #EP #BI 7 11 11\n21 #EL #BI 7 11 15\n#BUD 5 1000\n#AX 1 10\n#AX 2 10\n#DEF 3 10 20 R 1\n#AX 4 12\n#THM 5 13 21\n#THM 6 12 14\n#BUD 5 2000\n",
+        b"2.0.0\n1 #NS 0 A\n0 #ES 0\n#AX 1 0\n2 #NS 0 C\n1 #EC 1\n2 #EP #BD 0 1 1\n#DEF 2 0 2 R 1\n3 #NS 0 f\n3 #EC 2\n4 #EV 0\n5 #EL #BD 0 1 4\n#THM 3 3 5\n#BUD 3 1000\n",
+        Status::AllYes,
+    ),
+    (
+        "leancheck trim --name p",
+        b"1 #NS 0 p\n2 #NS 0 id\n0 #ES 0\n1 #EV 0\n2 #EV 1\n3 #EP #BD 0 1 2\n4 #EP #BD 1 0 3\n5 #EL #BD 0 1 1\n6 #EL #BD 1 0 5\n#THM 2 4 6\n",
+        b"unknown p\n",
+        Status::NoSuchName,
     ),
     (
         "leancheck check",

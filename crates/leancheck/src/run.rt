@@ -1,6 +1,6 @@
 //! A whole run.
 
-ghost use Rattle.std.specs.Prelude.{◌≡◌, ◌≢◌, ◌⊎◌, ℕ, List, All, length, map, IfSome, IfOk, Ok, Err};
+ghost use Rattle.std.specs.Prelude.{◌≡◌, ◌≢◌, ◌⊎◌, ℕ, List, IfSome, IfOk, Ok, Err};
 ghost use Rattle.std.specs.Io.KnownBytes.{Appends};
 ghost use Rattle.lk_port.specs.Bytes.{Rose, AppendsSome};
 ghost use Rattle.lk_lines.specs.declared.line.Fault.{Fault as LineFault};
@@ -11,20 +11,20 @@ ghost use Rattle.lk_command.specs.Command.{usage_line};
 ghost use Rattle.lk_command.specs.Words.{IsMeaningless, Means, MeansCheck, texts_of};
 ghost use Rattle.lk_command.specs.declared.words.Meaning.{Meaning as WordsMeaning};
 ghost use Rattle.lk_command.specs.declared.words.Options.{Options as CheckOptions};
-ghost use Rattle.leancheck.specs.Ends.{Begins, Does, FindsFault, Gives, IsAllGood, IsChecked};
-ghost use Rattle.leancheck.specs.Ends.{Reports, WritesPrefix};
+ghost use Rattle.leancheck.specs.Ends.{Begins, Does, FindsFault, Gives, IsAllGood, IsChecked, IsDone};
+ghost use Rattle.leancheck.specs.Ends.{ReadsSource, Reports, WritesPrefix};
 
 use crate::extent::{Extent, judged_text};
+use crate::fault::tell_fault;
 use crate::status::{Status, status_of};
+use crate::trimming::trim;
 use crate::workers::check_all;
 use lk_book::{ReadError, read_library};
 use lk_command::{LineError, Meaning, Options, Sample, line_means};
 use lk_env::library::Library;
 use lk_generator::generate;
-use lk_lines::Fault;
 use lk_port::{Gate, MemSource, Sink, Source, write_all};
 use lk_store::memory::NoMemory;
-use lk_text::fault_line;
 use std::alloc::Global;
 use std::sync::Wait;
 use std::thread::Threads;
@@ -63,30 +63,9 @@ fn tell_usage<K: Sink>(sink: &mut K) -> Status
 {
     match write_all(
         sink,
-        b"usage: leancheck check|make|trial [--workers W] [--steps N] [--memo M] [--allow LIST] [--units N] [--seed S]\n",
+        b"usage: leancheck check|make|trial|trim [--workers W] [--steps N] [--memo M] [--allow LIST] [--units N] [--seed S] [--name NAME]\n",
     ) {
         Ok(()) => Status::Usage,
-        Err(_) => Status::WriteFault,
-    }
-}
-
-/// Writes the line of a file's fault.
-fn tell_fault<K: Sink>(alloc: Global, fault: Fault, sink: &mut K) -> Status
-    ensures told { result ≡ Status.BadFile
-        → Appends (K.written sink.old) (K.written sink.new) (bad_line fault)
-        × (K.faults sink.new ≡ K.faults sink.old) }
-    ensures failed { result ≡ Status.WriteFault
-        → AppendsSome (K.written sink.old) (K.written sink.new) (bad_line fault)
-        × Rose (K.faults sink.old) (K.faults sink.new) }
-    ensures no_memory { result ≡ Status.NoMemory → sink.new ≡ sink.old }
-    ensures only { (result ≡ Status.BadFile) ⊎ (result ≡ Status.WriteFault)
-        ⊎ (result ≡ Status.NoMemory) }
-{
-    let Ok(line) = fault_line(alloc, fault) else {
-        return Status::NoMemory;
-    };
-    match write_all(sink, &line) {
-        Ok(()) => Status::BadFile,
         Err(_) => Status::WriteFault,
     }
 }
@@ -131,6 +110,7 @@ fn check<R: Threads + Sync, S: Source, K: Sink, G: Gate>(
     gate: &G,
 ) -> Status
     ensures no_usage { result ≢ Status.Usage }
+    ensures no_name { result ≢ Status.NoSuchName }
     ensures read { result ≡ Status.ReadFault → Rose (S.faults source.old) (S.faults source.new)
         × (K.written sink.new ≡ K.written sink.old) }
     ensures no_read { result ≢ Status.ReadFault → S.faults source.new ≡ S.faults source.old }
@@ -184,6 +164,7 @@ fn trial<R: Threads + Sync, K: Sink, G: Gate>(
     gate: &G,
 ) -> Status
     ensures no_usage { result ≢ Status.Usage }
+    ensures no_name { result ≢ Status.NoSuchName }
     ensures no_read { result ≢ Status.ReadFault }
     ensures bad { result ≡ Status.BadFile
         → ((f : LineFault) × (export_of (file_of sample.units sample.seed) ≡ Err f)
@@ -204,7 +185,8 @@ fn trial<R: Threads + Sync, K: Sink, G: Gate>(
 }
 
 /// Does what the words say. A check reads an export from the source and writes a verdict for each of its units to the sink; `make`
-/// writes an export, and a trial checks one that it makes, and writes the last line alone.
+/// writes an export, and a trial checks one that it makes, and writes the last line alone; `trim` reads an export, and writes the
+/// first unit with a member of a printed name and all that this unit needs, as an export.
 ///
 /// The words begin with the program's name. The gate is told of each unit before its first question.
 pub fn run<R: Threads + Wait + Sync, S: Source, K: Sink, G: Gate>(
@@ -220,18 +202,18 @@ pub fn run<R: Threads + Wait + Sync, S: Source, K: Sink, G: Gate>(
     ensures usage_only { IsMeaningless (texts_of words.now) → (result ≡ Status.Usage)
         ⊎ (result ≡ Status.WriteFault) ⊎ (result ≡ Status.NoMemory) }
 
-    // Nothing but a check reads the source.
-    ensures unread { ((o : CheckOptions) → MeansCheck (texts_of words.now) o → ⊥)
+    // Nothing but a check and `trim` read the source.
+    ensures unread { ((m : WordsMeaning) → Means (texts_of words.now) m → ReadsSource m → ⊥)
         → source.new ≡ source.old }
     ensures read { result ≡ Status.ReadFault
-        → ((o : CheckOptions) × MeansCheck (texts_of words.now) o)
+        → ((m : WordsMeaning) × Means (texts_of words.now) m × ReadsSource m)
         × Rose (S.faults source.old) (S.faults source.new)
         × (K.written sink.new ≡ K.written sink.old) }
     ensures no_read { result ≢ Status.ReadFault → S.faults source.new ≡ S.faults source.old }
     ensures bad { result ≡ Status.BadFile
         → ((m : WordsMeaning) × Means (texts_of words.now) m
         × FindsFault m (S.left source.old) (K.written sink.old) (K.written sink.new)) }
-    ensures verdicts { IsChecked result
+    ensures verdicts { IsDone result
         → ((m : WordsMeaning) × Means (texts_of words.now) m
         × Does m (S.left source.old) result (K.written sink.old) (K.written sink.new)) }
 
@@ -261,6 +243,7 @@ pub fn run<R: Threads + Wait + Sync, S: Source, K: Sink, G: Gate>(
         ),
         Ok(Meaning::Make(sample)) => make(alloc, sample, sink),
         Ok(Meaning::Trial(sample, options)) => trial(rt, alloc, sample, options, sink, gate),
+        Ok(Meaning::Trim(name)) => trim(alloc, name, source, sink, gate),
         Err(LineError::Usage) => tell_usage(sink),
         Err(LineError::NoMemory) => Status::NoMemory,
     }

@@ -2,7 +2,8 @@
 
 use crate::status::Status;
 use lk_messages::{
-    Reading, Showing, tell_checked, tell_fault, tell_no_memory, tell_read, tell_usage, tell_write,
+    Reading, Showing, tell_checked, tell_fault, tell_no_memory, tell_no_name, tell_read,
+    tell_usage, tell_write,
 };
 use std::alloc::Global;
 use std::io::{Eprint, Read, Write};
@@ -27,5 +28,6 @@ pub fn tell<R: Eprint + Clock, I: Read + Drop, O: Write + Drop>(
         Status::ReadFault => tell_read(rt, reading.code),
         Status::WriteFault => tell_write(rt, showing.code),
         Status::NoMemory => tell_no_memory(rt),
+        Status::NoSuchName => tell_no_name(rt, &reading.passed, units),
     }
 }
