@@ -28,7 +28,7 @@ use Rattle.lk_needs.proofs.Nodes.{node_taken}
 use Rattle.lk_needs.proofs.Units.{unit_named, names_naming, names_only, names_all}
 
 -- What is led to is of the library.
-naming_in : (l : StoredLibrary) (ts : List Thing) → AreNaming (contents_in l) ts → All (IsOfLibrary l) ts
+pub naming_in : (l : StoredLibrary) (ts : List Thing) → AreNaming (contents_in l) ts → All (IsOfLibrary l) ts
 naming_in l [] h = All-nil (IsOfLibrary l)
 naming_in l (t ∷ ts) h = All-cons (IsOfLibrary l) t ts (one t h.0) (naming_in l ts h.1)
   where

@@ -27,26 +27,26 @@ use Rattle.lk_needs.proofs.Stored.{given_stored}
 
 -- One of several things.
 module _ (c : Contents) where
-  naming_at : (ts : List Thing) (t : Thing) → AreNaming c ts → Contains ts t → IsNaming c t
+  pub naming_at : (ts : List Thing) (t : Thing) → AreNaming c ts → Contains ts t → IsNaming c t
   naming_at [] t h k = absurd (contains_none t k)
   naming_at (q ∷ ts) t h k = elim (contains_cases q ts t k) [ inl e ↦ subst (IsNaming c) e h.0 | inr i ↦ naming_at ts t h.1 i ]
 
-  any_of : (x : Name) (ts : List Thing) (t : Thing) → Contains ts t → Has c x t → AnyHas c x ts
+  pub any_of : (x : Name) (ts : List Thing) (t : Thing) → Contains ts t → Has c x t → AnyHas c x ts
   any_of x [] t k h = absurd (contains_none t k)
   any_of x (q ∷ ts) t k h = elim (contains_cases q ts t k) [ inl e ↦ inl (subst (Has c x) (sym e) h) | inr i ↦ inr (any_of x ts t i h) ]
 
   -- one that has the name
-  record IsHolder (x : Name) (ts : List Thing) : Type 0 where
-    thing : Thing
-    is_one : Contains ts thing
-    has : Has c x thing
+  pub record IsHolder (x : Name) (ts : List Thing) : Type 0 where
+    pub thing : Thing
+    pub is_one : Contains ts thing
+    pub has : Has c x thing
 
-  holder : (x : Name) (ts : List Thing) → AnyHas c x ts → IsHolder x ts
+  pub holder : (x : Name) (ts : List Thing) → AnyHas c x ts → IsHolder x ts
   holder x [] h = absurd h
   holder x (t ∷ ts) (inl h) = record { thing = t; is_one = contains_first t ts; has = h }
   holder x (t ∷ ts) (inr h) = let k = holder x ts h in record { thing = k.thing; is_one = contains_later t ts k.thing k.is_one; has = k.has }
 
-  below_at : (k : ℕ) (ts : List Thing) (t : Thing) → AreBelow c k ts → Contains ts t → rank c t < k
+  pub below_at : (k : ℕ) (ts : List Thing) (t : Thing) → AreBelow c k ts → Contains ts t → rank c t < k
   below_at k [] t h i = absurd (contains_none t i)
   below_at k (q ∷ ts) t h i = elim (contains_cases q ts t i) [ inl e ↦ subst (λ y. rank c y < k) e h.0 | inr j ↦ below_at k ts t h.1 j ]
 

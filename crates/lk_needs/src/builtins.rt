@@ -159,7 +159,7 @@ fn push_if_builtin(base: &BaseStore, things: &mut Vec<Thing>, name: u64) -> Resu
 }
 
 /// Lists the built-in names that the store has. What stood in the list is gone.
-pub(crate) fn list_builtins(base: &BaseStore, things: &mut Vec<Thing>) -> Result<(), NoMemory>
+pub fn list_builtins(base: &BaseStore, things: &mut Vec<Thing>) -> Result<(), NoMemory>
     ensures { OnOk result (AreBuiltins (contents_of base.now) things.new.items) }
 {
     things.clear();

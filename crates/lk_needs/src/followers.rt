@@ -14,7 +14,7 @@ use std::marker::Model;
 
 /// For each name of a store the names with one more component, which is of one kind.
 #[derive(Drop)]
-pub(crate) struct Followers {
+pub struct Followers {
     lists: Vec<Vec<u64>>,
 }
 
@@ -47,7 +47,7 @@ impl Followers {
     }
 
     /// The names with one more component than this one.
-    pub(crate) fn of(&self, name: u64) -> &[u64]
+    pub fn of(&self, name: u64) -> &[u64]
         requires { name < length self.now }
         ensures { result.now ≡ slice_index_or self.now name [] }
     {

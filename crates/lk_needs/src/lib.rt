@@ -3,13 +3,13 @@
 //! through once.
 #![tactic(auto)]
 
-mod builtins;
+pub mod builtins;
 pub mod closing;
 mod endings;
-mod followers;
-mod listing;
-mod needs;
-mod opening;
-mod thing;
+pub mod followers;
+pub mod listing;
+pub mod needs;
+pub mod opening;
+pub mod thing;
 
 pub use closing::closure;

@@ -19,7 +19,7 @@ use lk_store::base_store::BaseStore;
 use lk_store::memory::NoMemory;
 use lk_store::node::{NameNode, Node};
 
-pub(crate) fn push_names(things: &mut Vec<Thing>, names: &[u64]) -> Result<(), NoMemory>
+pub fn push_names(things: &mut Vec<Thing>, names: &[u64]) -> Result<(), NoMemory>
     ensures { OnOk result (things.new.items ≡ things.old.items ++ map thing.Name names.now) }
 {
     for name in names {
@@ -29,7 +29,7 @@ pub(crate) fn push_names(things: &mut Vec<Thing>, names: &[u64]) -> Result<(), N
 }
 
 /// The names and the parts of a node.
-pub(crate) fn push_node(things: &mut Vec<Thing>, node: Node) -> Result<(), NoMemory>
+pub fn push_node(things: &mut Vec<Thing>, node: Node) -> Result<(), NoMemory>
     ensures { OnOk result (things.new.items ≡ things.old.items ++ node_things node) }
 {
     match node {
@@ -195,7 +195,7 @@ fn push_block(
 }
 
 /// All that a unit names.
-pub(crate) fn push_unit(
+pub fn push_unit(
     things: &mut Vec<Thing>,
     base: &BaseStore,
     plain: &Followers,

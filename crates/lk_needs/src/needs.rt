@@ -11,7 +11,7 @@ use std::alloc::Global;
 /// A mark for each thing that is needed: for units, names, trees, and for names by their numbered
 /// recursors. What was not looked through yet waits.
 #[derive(Drop)]
-pub(crate) struct Needs {
+pub struct Needs {
     pub units: Vec<bool>,
     pub names: Vec<bool>,
     pub trees: Vec<bool>,
@@ -40,12 +40,7 @@ fn set_mark(marks: &mut Vec<bool>, i: usize) -> bool
 
 impl Needs {
     /// Nothing is needed yet, of so many units, names and trees.
-    pub(crate) fn new(
-        alloc: Global,
-        units: usize,
-        names: usize,
-        trees: usize,
-    ) -> Result<Needs, NoMemory>
+    pub fn new(alloc: Global, units: usize, names: usize, trees: usize) -> Result<Needs, NoMemory>
         ensures { IfOk result (λ needs. IsUnmarked needs
             (record { units = units; names = names; trees = trees; numbered = names })) }
     {
@@ -72,7 +67,7 @@ impl Needs {
     }
 
     /// A thing is needed.
-    fn enter(&mut self, thing: Thing) -> Result<(), NoMemory>
+    pub fn enter(&mut self, thing: Thing) -> Result<(), NoMemory>
         requires { IsThing (room_of self.old) thing }
         ensures { OnOk result (Enters self.old self.new (thing ∷ [])) }
     {
@@ -84,7 +79,7 @@ impl Needs {
     }
 
     /// These things are needed.
-    pub(crate) fn enter_all(&mut self, things: &[Thing]) -> Result<(), NoMemory>
+    pub fn enter_all(&mut self, things: &[Thing]) -> Result<(), NoMemory>
         requires { All (IsThing (room_of self.old)) things.now }
         ensures { OnOk result (Enters self.old self.new things.now) }
     {

@@ -20,12 +20,12 @@ use std::alloc::Global;
 
 /// For each name the names of recursors that stand behind it: `T.rec`, and `T.rec_1` and so on.
 #[derive(Drop)]
-pub(crate) struct Recursors {
+pub struct Recursors {
     pub plain: Followers,
     pub numbered: Followers,
 }
 
-pub(crate) fn recursors_of(alloc: Global, base: &BaseStore) -> Result<Recursors, NoMemory>
+pub fn recursors_of(alloc: Global, base: &BaseStore) -> Result<Recursors, NoMemory>
     ensures { IfOk result (AreRecursors (contents_of base.now)) }
 {
     Ok(Recursors {

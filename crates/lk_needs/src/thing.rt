@@ -2,7 +2,7 @@
 
 /// A unit, a name or a tree, or the recursors `T.rec_1`, `T.rec_2` and so on of the name `T`.
 #[derive(Clone, Copy)]
-pub(crate) enum Thing {
+pub enum Thing {
     Unit(u32),
     Name(u64),
     Tree(u64),

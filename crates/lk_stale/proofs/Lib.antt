@@ -1,0 +1,12 @@
+pub mod Lists
+pub mod Parts
+pub mod Units
+pub mod Marks
+pub mod FirstGivers
+pub mod Numbers
+pub mod Chained
+pub mod Reaching
+pub mod Spreading
+pub mod Turned
+pub mod Telling
+pub mod Joined
