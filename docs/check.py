@@ -4,10 +4,11 @@
 usage: docs/check.py [PROGRAM | --write]
 
 Without PROGRAM only what needs none is checked. That the gate has a test for each of these commands is checked by the
-table of crates/leancheck/src/page_tests.rt, which --write writes. A command is a code span or a line of an indented block that begins with
-`./leancheck`; its output is the block or the code span behind the word `prints`, and its status stands before that
-(`with status 1`). In a block of a shell session the lines behind `$ COMMAND` are its output. The status is 1 where
-anything differs.
+table of crates/leancheck/src/page_tests.rt, which --write writes. A command is a code span or a line of an indented block
+that begins with `./leancheck`, as `./leancheck check < FILE` or `./leancheck trim --name X < FILE`: words between single
+spaces, and where it reads one the file, and no pipe behind it. Its output is the block or the code span behind the word
+`prints`, and its status stands before that (`with status 1`). In a block of a shell session the lines behind `$ COMMAND`
+are its output. The status is 1 where anything differs.
 """
 import os
 import re
@@ -127,6 +128,9 @@ def rows_stated():
         text = read(page)
         for command, output, status in stated(text):
             words, _, file = command[2:].partition(' < ')
+            if file and not os.path.isfile(f'{TOP}/{file}'):
+                tell(page, f'{command} has a stated output, and reads no file that is here')
+                continue
             found.append((page, words, read(file) if file else '', '\n'.join(output) + '\n', status or 0))
         if page == 'docs/FORMAT.md':
             found += [(page, 'leancheck check', *row) for row in files_stated(text)]
@@ -150,7 +154,7 @@ def literal(text):
 
 def tests():
     """The table of tests by which the gate runs what the pages state."""
-    statuses = {0: 'AllYes', 1: 'SomeNo', 3: 'BadFile'}
+    statuses = {0: 'AllYes', 1: 'SomeNo', 3: 'BadFile', 7: 'NoSuchName'}
     rows = [f'    (\n        "{words}",\n        {literal(file)},\n        {literal(output)},\n        '
             f'Status::{statuses[status]},\n    ),\n' for _, words, file, output, status in rows_stated()]
     return f'''//! Rows: what the pages state of commands and files. `docs/check.py --write` writes this table.

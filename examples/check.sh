@@ -3,9 +3,10 @@
 #
 # usage: examples/check.sh PROGRAM [WORD..]
 #
-# Beside NAME.export lie NAME.expected and NAME.status; without the latter the status is 3. Where NAME.args lies there too, it
-# has the words behind `check`, one a line. Each example that differs is told, and last `N agree, M differ`; the status is 1
-# where one differs.
+# Beside NAME.export lie NAME.expected and NAME.status; without the latter the status is 3. The command is `check`. Where
+# NAME.args lies there too, it has the words behind `check`, one a line; where NAME.words does, it has all words, the command
+# among them, one a line, and these are run in place of `check` and NAME.args. Each example that differs is told, and last
+# `N agree, M differ`; the status is 1 where one differs.
 [ $# -gt 0 ] || { sed -n '2,4p' "$0" >&2; exit 2; }
 here=$(CDPATH= cd -- "$(dirname -- "$0")" && pwd) || exit 2
 got=$(mktemp) || exit 2
@@ -15,9 +16,10 @@ for file in "$here"/*.export "$here"/*/*.export; do
     base=${file%.export}
     want=3
     [ ! -f "$base.status" ] || want=$(cat "$base.status")
-    args=()
-    [ ! -f "$base.args" ] || mapfile -t args <"$base.args"
-    "$@" check "${args[@]}" <"$file" >"$got" 2>/dev/null
+    words=(check)
+    [ ! -f "$base.args" ] || mapfile -t -O 1 words <"$base.args"
+    [ ! -f "$base.words" ] || mapfile -t words <"$base.words"
+    "$@" "${words[@]}" <"$file" >"$got" 2>/dev/null
     status=$?
     if [ "$status" -eq "$want" ] && cmp -s "$base.expected" "$got"; then
         agree=$((agree + 1))

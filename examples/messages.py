@@ -19,6 +19,7 @@ HELP = '\n  leancheck reads an export of a Lean 4 library on standard input, ...
 IDENTITY = '1 #NS 0 p\n2 #NS 0 id\n0 #ES 0\n1 #EV 0\n2 #EV 1\n3 #EP #BD 0 1 2\n4 #EP #BD 1 0 3\n5 #EL #BD 0 1 1\n' \
            '6 #EL #BD 1 0 5\n#THM 2 4 6\n'
 SEEMS = 'leancheck: the input seems to be '
+NO_NAME = 'leancheck: no declaration has this name; names are as check writes them, such as Nat.rec\n'
 
 
 def wrong(words, reason):
@@ -40,8 +41,9 @@ CASES = [
     ('trial --units 3 --seed 1', '', 'pipe', 'pipe', 0, ''),
     ('check --allow=', IDENTITY, 'pipe', 'pipe', 0, ''),
     ('trial --units 3 --seed 1 --allow p', '', 'pipe', 'pipe', 0, ''),
+    ('trim --name id', IDENTITY, 'pipe', 'pipe', 0, ''),
     # words
-    wrong('', 'leancheck: no command is given: check, make or trial\n'),
+    wrong('', 'leancheck: no command is given: check, make, trial or trim\n'),
     wrong('chek', "leancheck: unrecognized subcommand 'chek'\n...") ,
     wrong('check more', "leancheck: unexpected argument 'more' found\n"),
     wrong('check --worker 2', "leancheck: unexpected argument '--worker' found\n"),
@@ -55,6 +57,10 @@ CASES = [
     wrong('check --allow p --allow p', "leancheck: the argument '--allow <allow>' cannot be used multiple times\n"),
     wrong('make --units 3 --seed 1 --allow p', "leancheck: unexpected argument '--allow' found\n"),
     wrong('make --units 3', 'leancheck: the following required arguments were not provided:\n  --seed <seed>\n'),
+    wrong('trim', 'leancheck: the following required arguments were not provided:\n  --name <name>\n'),
+    wrong('trim --name', "leancheck: a value is required for '--name <name>' but none was supplied\n"),
+    wrong('trim --name p --steps 1', "leancheck: unexpected argument '--steps' found\n"),
+    wrong('check --name p', "leancheck: unexpected argument '--name' found\n"),
     wrong('make --units 3 --seed 2147483648', 'leancheck: --seed 2147483648 is out of range: it takes 0 to 2147483647\n'),
     wrong('check \x1b[2J', "leancheck: unexpected argument '\\x1b[2J' found\n"),
     wrong('check \udcff', 'leancheck: the words are not all UTF-8\n'),
@@ -112,10 +118,17 @@ CASES = [
     ('check', IDENTITY[:-1], 'pipe', 'pipe', 0, 'leancheck: the last line has no line feed; the export may be cut off\n'),
     fault(IDENTITY[:-3], 10, 'the line ends before a field that is due', '#THM 2 4',
           'leancheck: the input ends in the middle of a line; it may be cut off\n'),
+    # a name that no declaration has
+    ('trim --name p', IDENTITY, 'pipe', 'pipe', 7, NO_NAME),
+    ('trim --name p', IDENTITY[:-1], 'pipe', 'pipe', 7,
+     'leancheck: the last line has no line feed; the export may be cut off\n' + NO_NAME),
     # reads and writes that fail
     ('check', '', 'folder', 'pipe', 4, 'leancheck: standard input cannot be read: Is a directory (os error 21)\n'),
+    ('trim --name p', '', 'folder', 'pipe', 4, 'leancheck: standard input cannot be read: Is a directory (os error 21)\n'),
     ('check', '', 'closed', 'pipe', 4, 'leancheck: standard input cannot be read: Bad file descriptor (os error 9)\n'),
     ('check', IDENTITY, 'pipe', 'full', 5,
+     'leancheck: standard output cannot be written, and is not whole: No space left on device (os error 28)\n'),
+    ('trim --name id', IDENTITY, 'pipe', 'full', 5,
      'leancheck: standard output cannot be written, and is not whole: No space left on device (os error 28)\n'),
     ('make --units 100000 --seed 1', '', 'pipe', 'head', 5, 'leancheck: standard output was closed before all was written\n'),
     # terminals
