@@ -105,7 +105,7 @@ fn empty_cells(alloc: Global, n: usize) -> Result<Vec<Option<Position>>, NoMemor
 }
 
 /// The index over the names of the units. There are fewer than 2^32 of them.
-pub(crate) fn index_of(
+pub fn index_of(
     alloc: Global,
     base: &BaseStore,
     units: &[Unit],

@@ -31,26 +31,6 @@ pub struct Library {
     limits: Vec<Option<u64>>,
 }
 
-/// What a library is made of, its index left out.
-pub struct LibraryParts {
-    pub base: BaseStore,
-    pub units: Vec<Unit>,
-    pub budgets: Vec<Budget>,
-}
-
-impl Drop for LibraryParts {
-    fn drop(self) {
-        let LibraryParts {
-            base,
-            units,
-            budgets,
-        } = self;
-        drop(base);
-        drop(units);
-        drop(budgets);
-    }
-}
-
 impl Model for Library {
     ghost use Rattle.lk_env.specs.StoredLibrary.{StoredLibrary};
 
@@ -71,7 +51,7 @@ impl Model for Library {
         × AreLimits (contents_of l.base) l.units.items l.budgets.items l.limits.items };
 }
 
-ghost use Rattle.std.specs.Prelude.{◌≡◌, ℕ, ◌<◌, length, map, option_map, IfOk};
+ghost use Rattle.std.specs.Prelude.{◌≡◌, ℕ, ◌<◌, length, map, option_map, IfOk, OnOk, OnErr};
 ghost use Rattle.lk_tree.specs.Tree.{Name as PlainName};
 ghost use Rattle.lk_rulebook.specs.Units.{at_partial, place_by};
 ghost use Rattle.lk_store.specs.Contents.{Contents, name_at, name_of, IsNameIn};
@@ -199,30 +179,22 @@ impl Library {
         })
     }
 
-    /// Takes the library apart, so that its store can grow. It takes no memory.
-    pub fn into_parts(self) -> LibraryParts
-        ensures base { result.base ≡ self.tables }
-        ensures units { result.units.items ≡ self.units }
-        ensures budgets { result.budgets.items ≡ self.budgets }
-        ensures units_in { AreUnitsIn (contents_of result.base) result.units.items }
-        ensures budgets_in { AreBudgetsIn (contents_of result.base) result.budgets.items }
+    /// Puts other units, over the same store, in the place of the library's own. What is stated of
+    /// budgets stays. Where memory is wanting the library stays as it was. Units are fewer than
+    /// 2^32; more are want of memory.
+    pub fn replace_units(&mut self, alloc: Global, units: Vec<Unit>) -> Result<(), NoMemory>
+        requires { AreUnitsIn (contents_of self.old.tables) units.items }
+        ensures ok { OnOk result (self.new ≡ record self.old { units = units.items }) }
+        ensures err { OnErr result (self.new ≡ self.old) }
     {
-        let Library {
-            base,
-            units,
-            cells,
-            flaws,
-            budgets,
-            limits,
-        } = self;
-        drop(cells);
-        drop(flaws);
-        drop(limits);
-        LibraryParts {
-            base,
-            units,
-            budgets,
-        }
+        let cells = index_of(alloc, &self.base, &units)?;
+        let flaws = flaws_of(alloc, &self.base, &units)?;
+        let limits = limits_of(alloc, &self.base, &units, &cells, &self.budgets)?;
+        self.units = units;
+        self.cells = cells;
+        self.flaws = flaws;
+        self.limits = limits;
+        Ok(())
     }
 
     /// The units, in their order.

@@ -24,7 +24,7 @@ pub enum Body {
 /// A declaration alone: its name, its type, the names of its level parameters and its body. Most
 /// units are declarations alone, so its numbers have 32 bits, as those of a store, and the list of
 /// its level parameters is shared with declarations that have the same one.
-#[derive(Drop)]
+#[derive(Clone, Drop)]
 pub struct Declaration {
     pub name: u32,
     pub ty: u32,
@@ -33,7 +33,7 @@ pub struct Declaration {
 }
 
 /// A constructor as its line states it.
-#[derive(Drop)]
+#[derive(Clone, Drop)]
 pub struct Constructor {
     pub name: u64,
     pub levels: Vec<u64>,
@@ -47,7 +47,7 @@ pub struct Constructor {
 }
 
 /// A type of a block as its line states it, with the constructors of its list.
-#[derive(Drop)]
+#[derive(Clone, Drop)]
 pub struct BlockType {
     pub name: u64,
     pub levels: Vec<u64>,
@@ -66,7 +66,7 @@ pub struct RecursorRule {
 }
 
 /// A recursor as its line states it.
-#[derive(Drop)]
+#[derive(Clone, Drop)]
 pub struct Recursor {
     pub name: u64,
     pub levels: Vec<u64>,
@@ -82,14 +82,14 @@ pub struct Recursor {
 
 /// The types of a block in the order of its list, and its recursors. These are in a box, so that a
 /// unit takes no more room for a block than for a declaration alone.
-#[derive(Drop)]
+#[derive(Clone, Drop)]
 pub struct Block {
     pub types: Vec<BlockType>,
     pub recursors: Box<Vec<Recursor>>,
 }
 
 /// A unit: a declaration alone, or a block of inductive types.
-#[derive(Drop)]
+#[derive(Clone, Drop)]
 pub enum Unit {
     Declaration(Declaration),
     Block(Block),
