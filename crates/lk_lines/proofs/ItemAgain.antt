@@ -8,6 +8,7 @@ use Rattle.std.specs.Str.Parse.{IsNumeral}
 use Rattle.lk_lines.specs.declared.words.Word.{Word}
 use Rattle.lk_lines.specs.declared.words.Word.TheVariants.{UnknownTag, MissingField}
 use Rattle.lk_lines.specs.declared.tags.Tag.{Tag}
+use Rattle.lk_lines.specs.declared.tags.Dialect.{Dialect}
 use Rattle.lk_lines.specs.declared.tags.Tag.TheVariants as tag
 use Rattle.lk_lines.specs.declared.tags.EntryTag.TheVariants as entry
 use Rattle.lk_lines.specs.declared.tags.DeclarationTag.TheVariants as declaration
@@ -50,6 +51,7 @@ tag_begins (tag.Declaration declaration.Inductive) = refl
 tag_begins (tag.Declaration declaration.Constructor) = refl
 tag_begins (tag.Declaration declaration.Recursor) = refl
 tag_begins tag.Budget = refl
+tag_begins tag.Go = refl
 
 -- a numeral does not
 no_mark : (c : ℕ) → digit_value c < 10 → c ≡ 35 → ⊥
@@ -64,16 +66,16 @@ tagged_again : (tags : List Tag) → ((t : Tag) → Contains tags t → IsLed ta
 unfolding tag_at
 tagged_again tags led t values text fields (among, more, q, s) = (more, q, rw (q, led t among) refl, again (dues_of t) text more values s)
 
-own_again : (own : Option ℕ) (t : Tag) (values : List Value) (text : List ℕ) (fields : List (List ℕ)) → SpellsOwn own t values text fields → item_at text fields ≡ Ok (record { own = own; tag = t; values = values })
+own_again : (d : Dialect) (own : Option ℕ) (t : Tag) (values : List Value) (text : List ℕ) (fields : List (List ℕ)) → SpellsOwn d own t values text fields → item_at d text fields ≡ Ok (record { own = own; tag = t; values = values })
 unfolding item_at plain_at numbered_at number_at
-own_again None t values text fields s = let (more, q, e, is) = tagged_again plain_tags plain_led t values text fields s in
-    let e2 : tag_at plain_tags (tag_word t ∷ more) ≡ Ok (t, more) = subst (λ (f : List (List ℕ)). tag_at plain_tags f ≡ Ok (t, more)) q e in
+own_again d None t values text fields s = let (more, q, e, is) = tagged_again (plain_tags d) (plain_led d) t values text fields s in
+    let e2 : tag_at (plain_tags d) (tag_word t ∷ more) ≡ Ok (t, more) = subst (λ (f : List (List ℕ)). tag_at (plain_tags d) f ≡ Ok (t, more)) q e in
     rw (q, tag_begins t, e2, is) refl
-own_again (Some n) t values text fields (rest, (field, p, h), s) = let (more, q, e, is) = tagged_again numbered_tags numbered_led t values text rest s in
+own_again d (Some n) t values text fields (rest, (field, p, h), s) = let (more, q, e, is) = tagged_again numbered_tags numbered_led t values text rest s in
     rw (p, numeral_begins field h.numeral, number_of-again (2 ^ 32) field n h, e, is) refl
 
-pub item_again : (item : Item) (text : List ℕ) (fields : List (List ℕ)) → SpellsItem item text fields → item_at text fields ≡ Ok item
-item_again item text fields s = own_again item.own item.tag item.values text fields s
+pub item_again : (d : Dialect) (item : Item) (text : List ℕ) (fields : List (List ℕ)) → SpellsItem d item text fields → item_at d text fields ≡ Ok item
+item_again d item text fields s = own_again d item.own item.tag item.values text fields s
 
 find_stop : (tags : List Tag) (word : List ℕ) → ((t : Tag) → Contains tags t → word ≢ tag_word t) → find_tag tags word ≡ Err UnknownTag
 find_stop tags word h = elim (find_cases tags word) [
@@ -81,11 +83,11 @@ find_stop tags word h = elim (find_cases tags word) [
   | inr e ↦ e
 ]
 
-plain_stop : (text : List ℕ) (fields : List (List ℕ)) (w : Word) → TagFault plain_tags text fields w → plain_at text fields ≡ Err w
+plain_stop : (d : Dialect) (text : List ℕ) (fields : List (List ℕ)) (w : Word) → TagFault (plain_tags d) text fields w → plain_at d text fields ≡ Err w
 unfolding plain_at tag_at
-plain_stop text [] w h = rw h refl
-plain_stop text (field ∷ fields) w (inl h) = rw (h.0, find_stop plain_tags field h.1) refl
-plain_stop text (field ∷ fields) w (inr (t, among, q, f)) = rw (q, plain_led t among, stops (dues_of t) text fields w f) refl
+plain_stop d text [] w h = rw h refl
+plain_stop d text (field ∷ fields) w (inl h) = rw (h.0, find_stop (plain_tags d) field h.1) refl
+plain_stop d text (field ∷ fields) w (inr (t, among, q, f)) = rw (q, plain_led d t among, stops (dues_of t) text fields w f) refl
 
 own_stop : (text : List ℕ) (fields more : List (List ℕ)) (own : ℕ) (w : Word) → FirstNumber (2 ^ 32) fields own more → TagFault numbered_tags text more w → numbered_at text fields ≡ Err w
 unfolding numbered_at tag_at number_at
@@ -97,9 +99,9 @@ numbered_stop : (text field : List ℕ) (fields : List (List ℕ)) (w : Word) �
 unfolding numbered_at number_at
 numbered_stop text field fields w h = rw (number_of-fault (2 ^ 32) field w h) refl
 
-pub item_stop : (text : List ℕ) (fields : List (List ℕ)) (w : Word) → ItemFault text fields w → item_at text fields ≡ Err w
+pub item_stop : (d : Dialect) (text : List ℕ) (fields : List (List ℕ)) (w : Word) → ItemFault d text fields w → item_at d text fields ≡ Err w
 unfolding item_at
-item_stop text [] w h = absurd h
-item_stop text (field ∷ fields) w (inl (b, h)) = rw (b, plain_stop text (field ∷ fields) w h) refl
-item_stop text (field ∷ fields) w (inr (b, inl h)) = rw (b, numbered_stop text field fields w h) refl
-item_stop text (field ∷ fields) w (inr (b, inr (own, more, n, h))) = rw (b, own_stop text (field ∷ fields) more own w n h) refl
+item_stop d text [] w h = absurd h
+item_stop d text (field ∷ fields) w (inl (b, h)) = rw (b, plain_stop d text (field ∷ fields) w h) refl
+item_stop d text (field ∷ fields) w (inr (b, inl h)) = rw (b, numbered_stop text field fields w h) refl
+item_stop d text (field ∷ fields) w (inr (b, inr (own, more, n, h))) = rw (b, own_stop text (field ∷ fields) more own w n h) refl

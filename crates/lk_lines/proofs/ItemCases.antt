@@ -1,10 +1,13 @@
 -- A line of fields: it spells an item that is read, or has a fault that is told.
 use Rattle.std.proofs.Common.{◌≡◌, ℕ, ◌^◌, true, false, List, [], ◌∷◌, Ok, Err, Some, None, refl, sym, ap, subst, inl, inr, arith}
 use Rattle.std.specs.Prelude.{◌⊎◌, Contains}
+use Rattle.std.specs.List.{AllByRecursion}
 use Rattle.std.proofs.lemmas.List.Elements.{All-from_recursion, All-contains, Contains-append_right}
 use Rattle.lk_lines.specs.declared.words.Word.{Word}
 use Rattle.lk_lines.specs.declared.words.Word.TheVariants.{UnknownTag, MissingField}
 use Rattle.lk_lines.specs.declared.tags.Tag.{Tag}
+use Rattle.lk_lines.specs.declared.tags.Dialect.{Dialect}
+use Rattle.lk_lines.specs.declared.tags.Dialect.TheVariants.{Export, Rounds}
 use Rattle.lk_lines.specs.Values.{Value}
 use Rattle.lk_lines.specs.Table.{dues_of}
 use Rattle.lk_lines.specs.Tags.{tag_word, find_tag, numbered_tags, plain_tags}
@@ -33,10 +36,13 @@ numbered_led t among = All-contains (IsLed numbered_tags) numbered_tags t
     (refl, (refl, (refl, (refl, (refl, (refl, (refl, (refl, (refl, (refl, (refl, (refl, (refl, (refl, (refl, (refl, (refl, tt))))))))))))))))))
     among
 
-pub plain_led : (t : Tag) → Contains plain_tags t → IsLed plain_tags t
-plain_led t among = All-contains (IsLed plain_tags) plain_tags t
-    (All-from_recursion (IsLed plain_tags) plain_tags (refl, (refl, (refl, (refl, (refl, (refl, (refl, (refl, (refl, tt))))))))))
-    among
+each_led : (d : Dialect) → AllByRecursion (IsLed (plain_tags d)) (plain_tags d)
+each_led Export = (refl, (refl, (refl, (refl, (refl, (refl, (refl, (refl, (refl, tt)))))))))
+each_led Rounds = (refl, (refl, (refl, (refl, (refl, (refl, (refl, (refl, (refl, tt)))))))))
+
+pub plain_led : (d : Dialect) (t : Tag) → Contains (plain_tags d) t → IsLed (plain_tags d) t
+plain_led d t among = let led : Tag → Type 0 = IsLed (plain_tags d) in
+    All-contains led (plain_tags d) t (All-from_recursion led (plain_tags d) (each_led d)) among
 
 abbrev Tagged : List Tag → List ℕ → List (List ℕ) → Type 0
 Tagged tags text fields =
@@ -55,20 +61,20 @@ tagged tags led text (field ∷ fields) = elim (find_cases tags field) [
   | inr e ↦ inr (inr (UnknownTag, rw e refl, inl (refl, λ t among q. let is : find_tag tags field ≡ Ok t = subst (λ (w : List ℕ). find_tag tags w ≡ Ok t) (sym q) (led t among) in absurd cc)))
 ]
 
-abbrev pub ItemOutcome : List ℕ → List (List ℕ) → Type 0
-ItemOutcome text fields = ((item : Item) × (item_at text fields ≡ Ok item) × SpellsItem item text fields) ⊎ ((w : Word) × (item_at text fields ≡ Err w) × ItemFault text fields w)
+abbrev pub ItemOutcome : Dialect → List ℕ → List (List ℕ) → Type 0
+ItemOutcome d text fields = ((item : Item) × (item_at d text fields ≡ Ok item) × SpellsItem d item text fields) ⊎ ((w : Word) × (item_at d text fields ≡ Err w) × ItemFault d text fields w)
 
-plain_outcome : (text field : List ℕ) (fields : List (List ℕ)) → is_tag field ≡ true → ItemOutcome text (field ∷ fields)
+plain_outcome : (d : Dialect) (text field : List ℕ) (fields : List (List ℕ)) → is_tag field ≡ true → ItemOutcome d text (field ∷ fields)
 unfolding item_at plain_at
-plain_outcome text field fields b = elim (tagged plain_tags plain_led text (field ∷ fields)) [
+plain_outcome d text field fields b = elim (tagged (plain_tags d) (plain_led d) text (field ∷ fields)) [
   | inl (t, values, more, e, is, s) ↦ inl (record { own = None; tag = t; values = values }, rw (b, e, is) refl, s)
   | inr (inl (w, t, more, e, is, f)) ↦ inr (w, rw (b, e, is) refl, inl (b, f))
   | inr (inr (w, e, f)) ↦ inr (w, rw (b, e) refl, inl (b, f))
 ]
 
-numbered_outcome : (text field : List ℕ) (fields : List (List ℕ)) → is_tag field ≡ false → ItemOutcome text (field ∷ fields)
+numbered_outcome : (d : Dialect) (text field : List ℕ) (fields : List (List ℕ)) → is_tag field ≡ false → ItemOutcome d text (field ∷ fields)
 unfolding item_at numbered_at number_at
-numbered_outcome text field fields b = elim (number_of-cases (2 ^ 32) field) [
+numbered_outcome d text field fields b = elim (number_of-cases (2 ^ 32) field) [
   | inl (n, p, h) ↦ elim (tagged numbered_tags numbered_led text fields) [
     | inl (t, values, more, e, is, s) ↦ inl (record { own = Some n; tag = t; values = values }, rw (b, p, e, is) refl, (fields, (field, refl, h), s))
     | inr (inl (w, t, more, e, is, f)) ↦ inr (w, rw (b, p, e, is) refl, inr (b, inr (n, fields, (field, refl, h), f)))
@@ -77,8 +83,8 @@ numbered_outcome text field fields b = elim (number_of-cases (2 ^ 32) field) [
   | inr (w, p, h) ↦ inr (w, rw (b, p) refl, inr (b, inl h))
 ]
 
-pub item_outcome : (text field : List ℕ) (fields : List (List ℕ)) → ItemOutcome text (field ∷ fields)
-item_outcome text field fields = elim (bool_cases (is_tag field)) [
-  | inl b ↦ plain_outcome text field fields b
-  | inr b ↦ numbered_outcome text field fields b
+pub item_outcome : (d : Dialect) (text field : List ℕ) (fields : List (List ℕ)) → ItemOutcome d text (field ∷ fields)
+item_outcome d text field fields = elim (bool_cases (is_tag field)) [
+  | inl b ↦ plain_outcome d text field fields b
+  | inr b ↦ numbered_outcome d text field fields b
 ]

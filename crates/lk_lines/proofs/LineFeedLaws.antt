@@ -4,6 +4,7 @@ use Rattle.std.specs.List.{position_or_len}
 use Rattle.std.proofs.lemmas.List.Elements.{All-tail, All-drop}
 use Rattle.lk_token.specs.Lines.{HasNoLineFeed}
 use Rattle.lk_token.specs.Fields.{skip_spaces, skip_field, text_behind}
+use Rattle.lk_lines.specs.declared.tags.Dialect.{Dialect}
 use Rattle.lk_lines.specs.declared.line.EntryLine.TheVariants as entries
 use Rattle.lk_lines.specs.declared.line.Statement.{Statement}
 use Rattle.lk_lines.specs.declared.line.Statement.TheVariants as statement
@@ -11,7 +12,7 @@ use Rattle.lk_lines.specs.declared.dues.Due.TheVariants as due
 use Rattle.lk_lines.specs.declared.dues.Numbering.TheVariants.{Names}
 use Rattle.lk_lines.specs.Values.{Number, Bytes}
 use Rattle.lk_lines.specs.Spelling.{SpellsDues}
-use Rattle.lk_lines.specs.Says.{Says, said_of, SpellsSaid}
+use Rattle.lk_lines.specs.Says.{Says, said_in, SpellsSaid}
 use Rattle.lk_lines.specs.Views.{says_of}
 use Rattle.lk_lines.specs.LineFeeds.{NamesHaveNoLineFeed}
 use Rattle.lk_lines.proofs.SaidLaws.{said_outcome}
@@ -42,16 +43,16 @@ pub text_lem : (behind text : List ℕ) (parent : ℕ) (fields : List (List ℕ)
 text_lem behind text parent fields (v, rest, more, is, known, (u, end, none, as_text, taken, done)) =
     let first = is in let second = as_text in let third = taken.0 in cc
 
-pub said_spelled : (first : Bool) (bytes : List ℕ) (says : Says) → said_of first bytes ≡ Ok says → SpellsSaid first bytes says
-said_spelled first bytes says e = elim (said_outcome first bytes) [
-  | inl (other, is, s) ↦ let same : other ≡ says = (let both = is in cc) in let P : Says → Type 0 = λ o. SpellsSaid first bytes o in subst P same s
+pub said_spelled : (d : Dialect) (first : Bool) (bytes : List ℕ) (says : Says) → said_in d first bytes ≡ Ok says → SpellsSaid d first bytes says
+said_spelled d first bytes says e = elim (said_outcome d first bytes) [
+  | inl (other, is, s) ↦ let same : other ≡ says = (let both = is in cc) in let P : Says → Type 0 = λ o. SpellsSaid d first bytes o in subst P same s
   | inr (w, is, h) ↦ absurd (let both = is in cc)
 ]
 
-pub names_lem : (first : Bool) (bytes : List ℕ) (s : Statement) → HasNoLineFeed bytes → said_of first bytes ≡ Ok (says_of s) → NamesHaveNoLineFeed s
-names_lem first bytes (statement.Entry own (entries.NameText parent text)) h e =
-    let s = said_spelled first bytes _ e in
+pub names_lem : (d : Dialect) (first : Bool) (bytes : List ℕ) (s : Statement) → HasNoLineFeed bytes → said_in d first bytes ≡ Ok (says_of s) → NamesHaveNoLineFeed s
+names_lem d first bytes (statement.Entry own (entries.NameText parent text)) h e =
+    let s = said_spelled d first bytes _ e in
     let same : text.now ≡ text_behind bytes = text_lem (text_behind bytes) text.now parent _ s.2.3 in
     let P : List ℕ → Type 0 = λ xs. HasNoLineFeed xs in
     subst P (sym same) (text_has_none bytes h)
-names_lem first bytes s h e = tt
+names_lem d first bytes s h e = tt

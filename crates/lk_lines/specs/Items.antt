@@ -4,6 +4,7 @@ use Rattle.std.specs.declared.option.Option.{Option}
 use Rattle.lk_lines.specs.declared.words.Word.{Word}
 use Rattle.lk_lines.specs.declared.words.Word.TheVariants.{UnknownTag, MissingField}
 use Rattle.lk_lines.specs.declared.tags.Tag.{Tag}
+use Rattle.lk_lines.specs.declared.tags.Dialect.{Dialect}
 use Rattle.lk_lines.specs.Values.{Value}
 use Rattle.lk_lines.specs.Table.{dues_of}
 use Rattle.lk_lines.specs.Tags.{tag_word, numbered_tags, plain_tags, find_tag}
@@ -35,8 +36,8 @@ plain_behind t text fields = read_dues (dues_of t) text fields
     >>= λ values. Ok (record { own = None; tag = t; values = values })
 
 -- a line that begins with its tag
-unfoldable pub plain_at : List ℕ → List (List ℕ) → Result Item Word
-plain_at text fields = tag_at plain_tags fields >>= λ t. plain_behind t.0 text t.1
+unfoldable pub plain_at : Dialect → List ℕ → List (List ℕ) → Result Item Word
+plain_at dialect text fields = tag_at (plain_tags dialect) fields >>= λ t. plain_behind t.0 text t.1
 
 -- the field begins with '#'
 abbrev pub is_tag : List ℕ → Bool
@@ -44,10 +45,11 @@ is_tag field = slice_index field 0 == 35
 
 -- what the fields of a line say: a first field with '#' in front is a tag, and any other is to be a
 -- number
-unfoldable pub item_at : List ℕ → List (List ℕ) → Result Item Word
-item_at text [] = Err MissingField
-item_at text (field ∷ fields) =
-    if is_tag field then plain_at text (field ∷ fields) else numbered_at text (field ∷ fields)
+unfoldable pub item_at : Dialect → List ℕ → List (List ℕ) → Result Item Word
+item_at dialect text [] = Err MissingField
+item_at dialect text (field ∷ fields) =
+    if is_tag field then plain_at dialect text (field ∷ fields)
+    else numbered_at text (field ∷ fields)
 
 -- The fields spell a tag of these and the values behind it.
 abbrev pub SpellsTagged : List Tag → Tag → List Value → List ℕ → List (List ℕ) → Type 0
@@ -55,14 +57,16 @@ SpellsTagged tags t values text fields = Contains tags t × (more : List (List �
     × (fields ≡ tag_word t ∷ more) × SpellsDues (dues_of t) text more values
 
 -- the same behind the number that the line defines, or without one
-abbrev pub SpellsOwn : Option ℕ → Tag → List Value → List ℕ → List (List ℕ) → Type 0
-SpellsOwn (Some own) t values text fields = (more : List (List ℕ))
+abbrev pub SpellsOwn : Dialect → Option ℕ → Tag → List Value → List ℕ → List (List ℕ) → Type 0
+SpellsOwn dialect (Some own) t values text fields = (more : List (List ℕ))
     × FirstNumber (2 ^ 32) fields own more × SpellsTagged numbered_tags t values text more
-SpellsOwn None t values text fields = SpellsTagged plain_tags t values text fields
+SpellsOwn dialect None t values text fields =
+    SpellsTagged (plain_tags dialect) t values text fields
 
 -- the fields of a line spell the item
-abbrev pub SpellsItem : Item → List ℕ → List (List ℕ) → Type 0
-SpellsItem item text fields = SpellsOwn item.own item.tag item.values text fields
+abbrev pub SpellsItem : Dialect → Item → List ℕ → List (List ℕ) → Type 0
+SpellsItem dialect item text fields =
+    SpellsOwn dialect item.own item.tag item.values text fields
 
 -- the first of the fields is missing or no tag of these, or behind it comes the first fault
 abbrev pub TagFault : List Tag → List ℕ → List (List ℕ) → Word → Type 0
@@ -72,10 +76,10 @@ TagFault tags text (field ∷ fields) w =
     ⊎ ((t : Tag) × Contains tags t × (field ≡ tag_word t) × FirstFault (dues_of t) text fields w)
 
 -- the first fault of the fields of a line; a line without fields is blank and has none
-abbrev pub ItemFault : List ℕ → List (List ℕ) → Word → Type 0
-ItemFault text [] w = ⊥
-ItemFault text (field ∷ fields) w =
-    ((is_tag field ≡ true) × TagFault plain_tags text (field ∷ fields) w)
+abbrev pub ItemFault : Dialect → List ℕ → List (List ℕ) → Word → Type 0
+ItemFault dialect text [] w = ⊥
+ItemFault dialect text (field ∷ fields) w =
+    ((is_tag field ≡ true) × TagFault (plain_tags dialect) text (field ∷ fields) w)
     ⊎ ((is_tag field ≡ false) × (NoFirstNumber MissingField (2 ^ 32) (field ∷ fields) w
     ⊎ ((own : ℕ) × (more : List (List ℕ)) × FirstNumber (2 ^ 32) (field ∷ fields) own more
     × TagFault numbered_tags text more w)))

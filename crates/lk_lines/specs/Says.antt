@@ -9,6 +9,8 @@ use Rattle.lk_num.specs.Numeral.{nat_of}
 use Rattle.lk_token.specs.Fields.{fields_of, text_behind}
 use Rattle.lk_lines.specs.declared.words.Word.{Word}
 use Rattle.lk_lines.specs.declared.words.Word.TheVariants.{BadVersion}
+use Rattle.lk_lines.specs.declared.tags.Dialect.{Dialect}
+use Rattle.lk_lines.specs.declared.tags.Dialect.TheVariants.{Export}
 use Rattle.lk_lines.specs.Reading.{◌>>=◌}
 use Rattle.lk_lines.specs.Items.{Item, item_at, SpellsItem, ItemFault}
 
@@ -44,22 +46,26 @@ is_two nats.Wide = false
 abbrev pub as_item : Result Item Word → Result Says Word
 as_item read = read >>= λ item. Ok (OfItem item)
 
-abbrev pub item_said : List ℕ → List (List ℕ) → Result Says Word
-item_said text fields = as_item (item_at text fields)
+abbrev pub item_said : Dialect → List ℕ → List (List ℕ) → Result Says Word
+item_said dialect text fields = as_item (item_at dialect text fields)
 
-abbrev pub first_said : Option Nat → List ℕ → List (List ℕ) → Result Says Word
-first_said (Some n) text fields = if is_two n then Ok Version else Err BadVersion
-first_said None text fields = item_said text fields
+abbrev pub first_said : Dialect → Option Nat → List ℕ → List (List ℕ) → Result Says Word
+first_said dialect (Some n) text fields = if is_two n then Ok Version else Err BadVersion
+first_said dialect None text fields = item_said dialect text fields
 
-unfoldable pub said_at : Bool → List ℕ → List (List ℕ) → Result Says Word
-said_at first text [] = Ok Blank
-said_at first text (field ∷ fields) =
-    if first then first_said (version_of (field ∷ fields)) text (field ∷ fields)
-    else item_said text (field ∷ fields)
+unfoldable pub said_at : Dialect → Bool → List ℕ → List (List ℕ) → Result Says Word
+said_at dialect first text [] = Ok Blank
+said_at dialect first text (field ∷ fields) =
+    if first then first_said dialect (version_of (field ∷ fields)) text (field ∷ fields)
+    else item_said dialect text (field ∷ fields)
 
 -- what the bytes of a line say, where only blank lines stand before it or others do
-unfoldable pub said_of : Bool → List ℕ → Result Says Word
-said_of first bytes = said_at first (text_behind bytes) (fields_of bytes)
+unfoldable pub said_in : Dialect → Bool → List ℕ → Result Says Word
+said_in dialect first bytes = said_at dialect first (text_behind bytes) (fields_of bytes)
+
+-- the same in an export
+abbrev pub said_of : Bool → List ℕ → Result Says Word
+said_of first bytes = said_in Export first bytes
 
 -- the only field is three numbers joined by dots, the first of them this one
 abbrev pub IsVersion : List (List ℕ) → ℕ → Type 0
@@ -69,22 +75,24 @@ IsVersion fields major =
 
 -- the fields of a line, and the text behind the third of them, spell what it says; the first line that is not blank may
 -- be a version 2
-abbrev pub SpellsFields : Bool → List ℕ → List (List ℕ) → Says → Type 0
-SpellsFields first text fields Blank = fields ≡ []
-SpellsFields first text fields Version = (first ≡ true) × IsVersion fields 2
-SpellsFields first text fields (OfItem item) = SpellsItem item text fields
+abbrev pub SpellsFields : Dialect → Bool → List ℕ → List (List ℕ) → Says → Type 0
+SpellsFields dialect first text fields Blank = fields ≡ []
+SpellsFields dialect first text fields Version = (first ≡ true) × IsVersion fields 2
+SpellsFields dialect first text fields (OfItem item) = SpellsItem dialect item text fields
 
 -- the first fault of the fields of a line: it is another version, or it is neither blank nor a version and its fields
 -- have this fault first
-abbrev pub FieldsFault : Bool → List ℕ → List (List ℕ) → Word → Type 0
-FieldsFault first text fields w =
+abbrev pub FieldsFault : Dialect → Bool → List ℕ → List (List ℕ) → Word → Type 0
+FieldsFault dialect first text fields w =
     ((w ≡ BadVersion) × (first ≡ true) × (major : ℕ) × IsVersion fields major × (major ≢ 2))
-    ⊎ ((first ≡ true → (major : ℕ) → ¬ (IsVersion fields major)) × ItemFault text fields w)
+    ⊎ ((first ≡ true → (major : ℕ) → ¬ (IsVersion fields major)) × ItemFault dialect text fields w)
 
 -- the bytes of a line spell what it says
-abbrev pub SpellsSaid : Bool → List ℕ → Says → Type 0
-SpellsSaid first bytes says = SpellsFields first (text_behind bytes) (fields_of bytes) says
+abbrev pub SpellsSaid : Dialect → Bool → List ℕ → Says → Type 0
+SpellsSaid dialect first bytes says =
+    SpellsFields dialect first (text_behind bytes) (fields_of bytes) says
 
 -- the first fault of the bytes of a line
-abbrev pub SaidFault : Bool → List ℕ → Word → Type 0
-SaidFault first bytes w = FieldsFault first (text_behind bytes) (fields_of bytes) w
+abbrev pub SaidFault : Dialect → Bool → List ℕ → Word → Type 0
+SaidFault dialect first bytes w =
+    FieldsFault dialect first (text_behind bytes) (fields_of bytes) w

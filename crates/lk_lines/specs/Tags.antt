@@ -1,4 +1,4 @@
--- The tags of the format: their words, and which of them have a number in front.
+-- The tags of the format: their words, which of them have a number in front, and which of them each dialect has.
 use Rattle.std.specs.Prelude.{ℕ, List, [], ◌∷◌, Result, Ok, Err, codes, if◌then◌else◌}
 use Rattle.std.specs.Str.{bytes_eq}
 use Rattle.lk_lines.specs.declared.words.Word.{Word}
@@ -8,7 +8,9 @@ use Rattle.lk_lines.specs.declared.tags.DeclarationTag.TheVariants as declaratio
 use Rattle.lk_lines.specs.declared.tags.PlainTag.{PlainTag}
 use Rattle.lk_lines.specs.declared.tags.PlainTag.TheVariants as plain
 use Rattle.lk_lines.specs.declared.tags.Tag.{Tag}
-use Rattle.lk_lines.specs.declared.tags.Tag.TheVariants.{Entry, Declaration, Budget}
+use Rattle.lk_lines.specs.declared.tags.Tag.TheVariants.{Entry, Declaration, Budget, Go}
+use Rattle.lk_lines.specs.declared.tags.Dialect.{Dialect}
+use Rattle.lk_lines.specs.declared.tags.Dialect.TheVariants.{Export, Rounds}
 
 -- the word of a tag
 abbrev pub tag_word : Tag → List ℕ
@@ -38,6 +40,7 @@ tag_word (Declaration declaration.Inductive) = codes "#IND"
 tag_word (Declaration declaration.Constructor) = codes "#CTOR"
 tag_word (Declaration declaration.Recursor) = codes "#REC"
 tag_word Budget = codes "#BUD"
+tag_word Go = codes "#GO"
 
 -- those of lines that define a number which are not often met
 abbrev pub rare_tags : List Tag
@@ -51,16 +54,22 @@ numbered_tags = Entry entry.Apply ∷ Entry entry.Constant ∷ Entry entry.Lambd
     ∷ Entry entry.Variable ∷ Entry entry.NameText
     ∷ Entry entry.Sort ∷ Entry entry.NameNumber ∷ rare_tags
 
+-- the tag that a dialect alone has
+abbrev pub own_tag : Dialect → Tag
+own_tag Export = Budget
+own_tag Rounds = Go
+
 -- the tags of lines that begin with their tag
-abbrev pub plain_tags : List Tag
-plain_tags = Declaration declaration.Theorem ∷ Declaration declaration.Definition
+abbrev pub plain_tags : Dialect → List Tag
+plain_tags dialect = Declaration declaration.Theorem ∷ Declaration declaration.Definition
     ∷ Declaration declaration.Axiom ∷ Declaration declaration.Opaque
     ∷ Declaration declaration.Quotient ∷ Declaration declaration.Inductive
-    ∷ Declaration declaration.Constructor ∷ Declaration declaration.Recursor ∷ Budget ∷ []
+    ∷ Declaration declaration.Constructor ∷ Declaration declaration.Recursor ∷ own_tag dialect ∷ []
 
 abbrev pub plain_tag : PlainTag → Tag
 plain_tag (plain.Declaration t) = Declaration t
 plain_tag plain.Budget = Budget
+plain_tag plain.Go = Go
 
 -- the tag among these with this word
 abbrev pub find_tag : List Tag → List ℕ → Result Tag Word

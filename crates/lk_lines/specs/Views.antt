@@ -132,3 +132,4 @@ says_of (statement.Declaration d) =
     })
 says_of (statement.Budget name steps) =
     OfItem (record { own = None; tag = tag.Budget; values = budget_values name steps })
+says_of statement.Go = OfItem (record { own = None; tag = tag.Go; values = [] })

@@ -1,8 +1,8 @@
-ghost use Rattle.std.specs.Prelude.{◌≡◌, Ok, Err};
+ghost use Rattle.std.specs.Prelude.{◌≡◌, ◌∷◌, [], Ok, Err};
 ghost use Rattle.lk_lines.specs.Told.{Gives};
 ghost use Rattle.lk_token.specs.Fields.{fields_of};
 ghost use Rattle.lk_lines.specs.Items.{tag_at};
-ghost use Rattle.lk_lines.specs.Tags.{find_tag, numbered_tags, rare_tags, plain_tags, plain_tag};
+ghost use Rattle.lk_lines.specs.Tags.{find_tag, numbered_tags, own_tag, rare_tags, plain_tags, plain_tag};
 
 use crate::Word;
 use crate::steps::{FieldError, is, is_three};
@@ -43,6 +43,15 @@ pub enum DeclarationTag {
     Recursor,
 }
 
+/// The kinds of input, which differ in one tag.
+#[derive(Clone, Copy)]
+pub enum Dialect {
+    /// A library. `#BUD` lines may state budgets of its units.
+    Export,
+    /// A library and changes of it, which `#GO` lines part.
+    Rounds,
+}
+
 /// The kinds of line, by the tag that names each.
 #[derive(Clone, Copy)]
 pub enum Tag {
@@ -50,6 +59,8 @@ pub enum Tag {
     Declaration(DeclarationTag),
     /// The tag of lines that state how many steps a unit may take. They begin with their tag.
     Budget,
+    /// The tag of lines that end a part of the input. They hold nothing else.
+    Go,
 }
 
 /// The tags that lines begin with.
@@ -57,6 +68,7 @@ pub enum Tag {
 pub enum PlainTag {
     Declaration(DeclarationTag),
     Budget,
+    Go,
 }
 
 // The tag of this word, of those with a number in front. The commonest ones come first.
@@ -110,8 +122,19 @@ fn find_rare_entry(word: &[u8]) -> Result<EntryTag, FieldError>
     }
 }
 
-fn find_plain(word: &[u8]) -> Result<PlainTag, FieldError>
-    ensures { Gives plain_tag result (find_tag plain_tags word.now) }
+// The tag of this word, where the dialect alone has it.
+fn find_own(dialect: Dialect, word: &[u8]) -> Result<PlainTag, FieldError>
+    ensures { Gives plain_tag result (find_tag (own_tag dialect ∷ []) word.now) }
+{
+    match dialect {
+        Dialect::Export if is(word, b"#BUD") => Ok(PlainTag::Budget),
+        Dialect::Rounds if is_three(word, b'#', b'G', b'O') => Ok(PlainTag::Go),
+        _ => Err(FieldError::Fault(Word::UnknownTag)),
+    }
+}
+
+fn find_plain(dialect: Dialect, word: &[u8]) -> Result<PlainTag, FieldError>
+    ensures { Gives plain_tag result (find_tag (plain_tags dialect) word.now) }
 {
     if is(word, b"#THM") {
         Ok(PlainTag::Declaration(DeclarationTag::Theorem))
@@ -129,10 +152,8 @@ fn find_plain(word: &[u8]) -> Result<PlainTag, FieldError>
         Ok(PlainTag::Declaration(DeclarationTag::Constructor))
     } else if is(word, b"#REC") {
         Ok(PlainTag::Declaration(DeclarationTag::Recursor))
-    } else if is(word, b"#BUD") {
-        Ok(PlainTag::Budget)
     } else {
-        Err(FieldError::Fault(Word::UnknownTag))
+        find_own(dialect, word)
     }
 }
 
@@ -153,12 +174,12 @@ pub(crate) fn entry_tag(line: &[u8]) -> Result<(EntryTag, &[u8]), FieldError>
 
 /// The tag that a line begins with, and what is left of the line.
 #[tactic(auto, unfolding(crate::specs::Items::tag_at))]
-pub(crate) fn plain_tag(line: &[u8]) -> Result<(PlainTag, &[u8]), FieldError>
+pub(crate) fn plain_tag(dialect: Dialect, line: &[u8]) -> Result<(PlainTag, &[u8]), FieldError>
     ensures { Gives (λ r. (plain_tag r.0, fields_of r.1.now)) result
-        (tag_at plain_tags (fields_of line.now)) }
+        (tag_at (plain_tags dialect) (fields_of line.now)) }
 {
     match next_field(line) {
         None => Err(FieldError::Fault(Word::MissingField)),
-        Some((field, rest)) => Ok((find_plain(field)?, rest)),
+        Some((field, rest)) => Ok((find_plain(dialect, field)?, rest)),
     }
 }
