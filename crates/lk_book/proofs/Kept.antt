@@ -1,5 +1,5 @@
 -- No name that a file states holds a line feed.
-use Rattle.std.proofs.Common.{◌≡◌, ◌≢◌, ℕ, ◌==◌, Bool, true, false, List, [], ◌∷◌, length, Ok, Err, Some, None, refl, ap, cond, arith}
+use Rattle.std.proofs.Common.{◌≡◌, ◌≢◌, ℕ, ◌==◌, Bool, true, false, List, [], ◌∷◌, ◌++◌, length, Ok, Err, Some, None, refl, cond, arith}
 use Rattle.std.specs.Prelude.{IfOk}
 use Rattle.std.specs.declared.option.Option.{Option}
 use Rattle.std.specs.Prelude.{Result}
@@ -11,18 +11,20 @@ use Rattle.lk_lines.specs.declared.words.Word.{Word}
 use Rattle.lk_lines.specs.declared.line.Fault.{Fault}
 use Rattle.lk_lines.specs.Limits.{limits}
 use Rattle.lk_lines.specs.Reading.{◌>>=◌}
-use Rattle.lk_lines.specs.Says.{Says, Blank, Version, OfItem, said_of}
-use Rattle.lk_env.specs.Budgets.{StatedBudget}
+use Rattle.lk_lines.specs.Says.{Says, Blank, Version, OfItem, said_in}
+use Rattle.lk_lines.specs.declared.tags.Dialect.{Dialect}
+use Rattle.lk_lines.specs.declared.tags.Dialect.TheVariants as dialects
+use Rattle.lk_rulebook.specs.Units.{Library}
 use Rattle.lk_tree.specs.Mentions.{same_name}
 use Rattle.lk_members.specs.Faults.{first_open}
-use Rattle.lk_members.specs.Plain.{PlainLine, library_stated}
-use Rattle.lk_units.proofs.Spellings.{AreSpelledLines, AreSpelledUnits}
+use Rattle.lk_members.specs.Plain.{PlainLine}
+use Rattle.lk_units.proofs.Spellings.{Each, AreSpelledLines, AreSpelledParts, AreSpelledUnits}
 use Rattle.lk_units.proofs.SpelledUnits.{spelled_units}
 use Rattle.lk_units.specs.State.{State, take_item}
-use Rattle.lk_units.proofs.Kept.{IsSpelledState, kept_item, kept_begin}
+use Rattle.lk_units.proofs.Kept.{IsSpelledState, kept_item, kept_begin, spelled_parts}
 use Rattle.lk_units.proofs.Items.{spelled_item}
-use Rattle.lk_book.specs.Course.{Course, begin_course, passed, taken, unless, at_line, step}
-use Rattle.lk_book.specs.File.{lines_of, Export, has_more, after, course_over, course_of, closed, export_stated, export_of}
+use Rattle.lk_book.specs.Course.{Course, begin_in, passed, taken, unless, at_line, step}
+use Rattle.lk_book.specs.File.{lines_of, Export, has_more, after, course_over, course_in, course_of, closed, units_stated, export_stated, export_of, parts_stated, rounds_stated, rounds_of}
 
 other_byte : (b : ℕ) → (b == 10) ≡ false → b ≢ 10
 other_byte b h = grind (arith, nat_tests, h)
@@ -60,44 +62,67 @@ kept_state : (c : Course) (r : Result State Word) → IfOk r IsSpelledState → 
 kept_state c (Ok s) h = h
 kept_state c (Err w) h = tt
 
-kept_taken : (c : Course) (first : Bool) (line : List ℕ) (says : Says) → HasNoLineFeed line → said_of first line ≡ Ok says → IsSpelledState c.state → IfOk (taken c says) KeptCourse
-kept_taken c first line Blank h e k = k
-kept_taken c first line Version h e k = k
-kept_taken c first line (OfItem item) h e k = kept_state c (take_item c.number c.state item) (kept_item c.number c.state item (spelled_item first line item h e) k)
+kept_taken : (c : Course) (dialect : Dialect) (first : Bool) (line : List ℕ) (says : Says) → HasNoLineFeed line → said_in dialect first line ≡ Ok says → IsSpelledState c.state → IfOk (taken c says) KeptCourse
+kept_taken c dialect first line Blank h e k = k
+kept_taken c dialect first line Version h e k = k
+kept_taken c dialect first line (OfItem item) h e k = kept_state c (take_item c.number c.state item) (kept_item c.number c.state item (spelled_item dialect first line item h e) k)
 
-kept_said : (c : Course) (first : Bool) (line : List ℕ) (said : Result Says Word) → HasNoLineFeed line → said_of first line ≡ said → IsSpelledState c.state → IfOk (said >>= taken c) KeptCourse
-kept_said c first line (Ok says) h e k = kept_taken c first line says h e k
-kept_said c first line (Err w) h e k = tt
+kept_said : (c : Course) (dialect : Dialect) (first : Bool) (line : List ℕ) (said : Result Says Word) → HasNoLineFeed line → said_in dialect first line ≡ said → IsSpelledState c.state → IfOk (said >>= taken c) KeptCourse
+kept_said c dialect first line (Ok says) h e k = kept_taken c dialect first line says h e k
+kept_said c dialect first line (Err w) h e k = tt
 
 kept_step : (c : Course) (feed : Bool) (line : List ℕ) → HasNoLineFeed line → IsSpelledState c.state → IfOk (step c feed line) KeptCourse
 unfolding step
 kept_step c feed line h k =
     let p = passed c (length line) feed in
-    kept_at _ _ (kept_unless (limits c.before (length line) feed) (said_of c.first line >>= taken p) (kept_said p c.first line (said_of c.first line) h refl k))
+    let said = said_in c.dialect c.first line in
+    kept_at _ _ (kept_unless (limits c.before (length line) feed) (said >>= taken p) (kept_said p c.dialect c.first line said h refl k))
 
-kept_after : (r : Result Course Fault) (f : Course → Result Course Fault) → IfOk r KeptCourse → ((d : Course) → IsSpelledState d.state → IfOk (f d) KeptCourse) → IfOk (after r f) KeptCourse
-kept_after (Ok d) f h g = g d h
-kept_after (Err e) f h g = tt
+-- what follows something that has P
+if_after : {A B : Type 0} (P : A → Type 0) (Q : B → Type 0) (r : Result A Fault) (f : A → Result B Fault) → IfOk r P → ((x : A) → P x → IfOk (f x) Q) → IfOk (after r f) Q
+if_after P Q (Ok x) f h g = g x h
+if_after P Q (Err e) f h g = tt
 
 kept_over : (c : Course) (lines : List (List ℕ)) → AreCut lines → IsSpelledState c.state → IfOk (course_over c lines) KeptCourse
 kept_over c [] h k = k
-kept_over c (line ∷ lines) h k = kept_after (step c (has_more lines) line) (λ d. course_over d lines) (kept_step c (has_more lines) line h.0 k) (λ d j. kept_over d lines h.1 j)
+kept_over c (line ∷ lines) h k = if_after KeptCourse KeptCourse (step c (has_more lines) line) (λ d. course_over d lines) (kept_step c (has_more lines) line h.0 k) (λ d j. kept_over d lines h.1 j)
 
-kept_course : (bytes : List ℕ) → IfOk (course_of bytes) KeptCourse
-unfolding course_of
-kept_course bytes = kept_over begin_course (lines_of bytes) (are_cut bytes) kept_begin
+kept_course : (dialect : Dialect) (bytes : List ℕ) → IfOk (course_in dialect bytes) KeptCourse
+unfolding course_in
+kept_course dialect bytes = kept_over (begin_in dialect) (lines_of bytes) (are_cut bytes) kept_begin
 
-closed_spelled : (o : Option ℕ) (lines : List PlainLine) (bs : List StatedBudget) (e : Export) → AreSpelledLines lines → after (closed o lines) (λ us. Ok (record { units = us; budgets = bs })) ≡ Ok e → AreSpelledUnits e.units
-closed_spelled None lines bs e k q =
-    let same : record { units = library_stated lines; budgets = bs } ≡ e = cc in
-    let is : library_stated lines ≡ e.units = ap (λ (x : Export). x.units) same in
-    rw (← is) (spelled_units lines k)
-closed_spelled (Some n) lines bs e k q = absurd (cc)
+kept_closed : (o : Option ℕ) (lines : List PlainLine) → AreSpelledLines lines → IfOk (closed o lines) AreSpelledUnits
+kept_closed None lines k = spelled_units lines k
+kept_closed (Some n) lines k = tt
 
-stated : (r : Result Course Fault) (e : Export) → IfOk r KeptCourse → after r (λ c. export_stated c.state) ≡ Ok e → AreSpelledUnits e.units
-stated (Ok c) e k q = closed_spelled (first_open same_name c.state.lines c.state.lines) c.state.lines c.state.budgets e k.lines q
-stated (Err f) e k q = absurd (cc)
+kept_units : (lines : List PlainLine) → AreSpelledLines lines → IfOk (units_stated lines) AreSpelledUnits
+kept_units lines k = kept_closed (first_open same_name lines lines) lines k
+
+abbrev IsSpelledExport : Export → Type 0
+IsSpelledExport e = AreSpelledUnits e.units
+
+kept_export : (s : State) → IsSpelledState s → IfOk (export_stated s) IsSpelledExport
+kept_export s k = if_after AreSpelledUnits IsSpelledExport (units_stated s.lines) (λ us. Ok (record { units = us; budgets = s.budgets })) (kept_units s.lines k.lines) (λ us j. j)
+
+abbrev AreSpelledRounds : List Library → Type 0
+AreSpelledRounds parts = Each AreSpelledUnits parts
+
+kept_parts : (parts : List (List PlainLine)) → AreSpelledParts parts → IfOk (parts_stated parts) AreSpelledRounds
+kept_parts [] h = tt
+kept_parts (lines ∷ parts) h =
+    if_after AreSpelledUnits AreSpelledRounds (units_stated lines) (λ us. after (parts_stated parts) (λ vs. Ok (us ∷ vs))) (kept_units lines h.0)
+    (λ us j. if_after AreSpelledRounds AreSpelledRounds (parts_stated parts) (λ vs. Ok (us ∷ vs)) (kept_parts parts h.1) (λ vs i. (j, i)))
+
+if_ok : {A : Type 0} (P : A → Type 0) (r : Result A Fault) (x : A) → IfOk r P → r ≡ Ok x → P x
+if_ok P r x h e = rw e at h
 
 -- what a file states
 pub export_kept : (bytes : List ℕ) (e : Export) → export_of bytes ≡ Ok e → AreSpelledUnits e.units
-export_kept bytes e q = stated (course_of bytes) e (kept_course bytes) q
+export_kept bytes e q =
+    if_ok IsSpelledExport (export_of bytes) e (if_after KeptCourse IsSpelledExport (course_of bytes) (λ c. export_stated c.state) (kept_course dialects.Export bytes) (λ c k. kept_export c.state k)) q
+
+-- what each part of a file states
+pub rounds_kept : (bytes : List ℕ) (parts : List Library) → rounds_of bytes ≡ Ok parts → Each AreSpelledUnits parts
+rounds_kept bytes parts q =
+    if_ok AreSpelledRounds (rounds_of bytes) parts
+    (if_after KeptCourse AreSpelledRounds (course_in dialects.Rounds bytes) (λ c. rounds_stated c.state) (kept_course dialects.Rounds bytes) (λ c k. kept_parts (c.state.parts ++ c.state.lines ∷ []) (spelled_parts c.state k))) q

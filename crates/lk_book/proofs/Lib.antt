@@ -6,3 +6,4 @@ pub mod Steps
 pub mod Kept
 pub mod Spelled
 pub mod Libraries
+pub mod Parted

@@ -17,9 +17,11 @@ use Rattle.lk_members.specs.Stored.{lines_of, unit_stated, AreLinesIn}
 use Rattle.lk_members.specs.Plain.{lines_at}
 use Rattle.lk_members.proofs.Standing.{open_stands, library_stands}
 use Rattle.lk_lines.specs.declared.words.Word.TheVariants.{BlockOpen}
+use Rattle.lk_lines.specs.declared.line.Fault.{Fault}
 use Rattle.lk_units.specs.State.{State}
 use Rattle.lk_units.specs.Held.{Holds}
 use Rattle.lk_units.specs.declared.assembler.Assembler.{Assembler}
+use Rattle.lk_book.specs.Course.{Course}
 use Rattle.lk_book.specs.File.{Export, export_at, after, course_of, closed, units_stated, export_stated, export_of}
 use Rattle.lk_book.specs.Reading.{TellsOpen, Reads, ReadsLibrary}
 use Rattle.lk_book.specs.declared.error.ReadError.{ReadError}
@@ -36,11 +38,9 @@ module _ (c : Contents) (ls : List StoredLine) (apart : AreApart [] c.names) (k 
   open_told n some = ap (λ o. closed o (lines_at c ls)) (open_stands c apart ls k ∙ some)
 
 -- what was read of the lines is what the bytes state
-pub library_read : (bytes : List ℕ) (c : Contents) (a : Assembler) (r : Result StoredLibrary ReadError) → Reads c (course_of bytes) (Ok a)
-    → ((s : State) → Holds a c s → ReadsLibrary (export_stated s) r) → ReadsLibrary (export_of bytes) r
-library_read bytes c a r reads h =
-    let is : export_of bytes ≡ export_stated reads.0.state = ap (λ x. after x (λ d. export_stated d.state)) reads.1 in
-    subst (λ x. ReadsLibrary x r) (sym is) (h reads.0.state reads.2)
+pub file_read : {X : Type 0} (stated : State → Result X Fault) (IsRead : Result X Fault → Type 0) (said : Result Course Fault) (c : Contents) (a : Assembler) → Reads c said (Ok a)
+    → ((s : State) → Holds a c s → IsRead (stated s)) → IsRead (after said (λ d. stated d.state))
+file_read stated IsRead said c a reads h = rw reads.1 (h reads.0.state reads.2)
 
 -- where no lines were read there is no library
 pub library_not_read : (bytes : List ℕ) (c : Contents) (e : ReadError) → Reads c (course_of bytes) (Err e) → ReadsLibrary (export_of bytes) (Err e)

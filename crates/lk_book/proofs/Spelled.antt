@@ -1,13 +1,15 @@
--- No name of a library that is read holds a line feed.
+-- No name of a library that is read holds a line feed, nor one of a part.
 use Rattle.std.proofs.Common.{◌≡◌, ℕ, true, ◌&&◌, List, [], ◌∷◌, ◌++◌, Ok, refl}
+use Rattle.std.specs.Prelude.{All}
+use Rattle.std.proofs.lemmas.List.Elements.{All-nil, All-cons}
 use Rattle.lk_tree.specs.Tree.{Name}
 use Rattle.lk_tree.proofs.Scans.{both_true, and_true}
 use Rattle.lk_rulebook.specs.Place.{Ctor, BlockType, Block, RecRule, BlockRecursor}
 use Rattle.lk_rulebook.specs.Units.{Body, as_axiom, as_def, as_thm, as_opaque, as_quot, LibraryUnit, of_decl, of_block, Library, Members, type_entries, ctor_entries, all_ctor_entries, rec_members, members_of, Trees, body_trees, type_trees, ctor_trees, all_ctor_trees, rule_trees, rec_trees, trees_of}
 use Rattle.lk_rulebook.specs.Spelled.{is_spelled, tree_spelled, names_spelled, all_spelled, library_spelled}
 use Rattle.lk_units.proofs.Spellings.{Each, IsSpelledBody, IsSpelledCtor, IsSpelledType, IsSpelledRule, IsSpelledRec, IsSpelledUnit, AreSpelledUnits}
-use Rattle.lk_book.specs.File.{Export, export_of}
-use Rattle.lk_book.proofs.Kept.{export_kept}
+use Rattle.lk_book.specs.File.{Export, export_of, rounds_of}
+use Rattle.lk_book.proofs.Kept.{export_kept, rounds_kept}
 
 body_spelled : (ps : List Name) (v : Body) → IsSpelledBody v → all_spelled (body_trees ps v) ≡ true
 body_spelled ps as_axiom b = refl
@@ -83,3 +85,10 @@ spelled (u ∷ us) b = and_true (names_spelled (members_of u) && all_spelled (tr
 
 pub read_spelled : (bytes : List ℕ) (e : Export) → export_of bytes ≡ Ok e → library_spelled e.units ≡ true
 read_spelled bytes e h = spelled e.units (export_kept bytes e h)
+
+each_spelled : (parts : List Library) → Each AreSpelledUnits parts → All (λ us. library_spelled us ≡ true) parts
+each_spelled [] h = All-nil (λ us. library_spelled us ≡ true)
+each_spelled (us ∷ parts) h = All-cons (λ us. library_spelled us ≡ true) us parts (spelled us h.0) (each_spelled parts h.1)
+
+pub rounds_spelled : (bytes : List ℕ) (parts : List Library) → rounds_of bytes ≡ Ok parts → All (λ us. library_spelled us ≡ true) parts
+rounds_spelled bytes parts h = each_spelled parts (rounds_kept bytes parts h)

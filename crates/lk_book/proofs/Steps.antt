@@ -15,7 +15,7 @@ use Rattle.lk_book.specs.declared.reader.Reader.{Reader}
 
 pub item_goes : (r : Reader) (a : Assembler) (store grown : Contents) (c : Course) (number : ℕ) (item : Item) → Stands r store c → Follows a grown (Ok tt) (take_item c.number c.state item)
     → Goes (record r { assembler = a; first = false }) grown (Ok tt) (at_line number (taken c (OfItem item)))
-item_goes r a store grown c number item h f = (record c { first = false; state = f.0 }, rw f.1 refl, record { first = refl; number = h.number; before = h.before; holds = f.2 })
+item_goes r a store grown c number item h f = (record c { first = false; state = f.0 }, rw f.1 refl, record { dialect = h.dialect; first = refl; number = h.number; before = h.before; holds = f.2 })
 
 pub item_stops : (r : Reader) (a : Assembler) (grown : Contents) (c : Course) (number : ℕ) (item : Item) (e : TakeError) → Follows a grown (Err e) (take_item c.number c.state item)
     → Goes r grown (Err (line_error number e)) (at_line number (taken c (OfItem item)))

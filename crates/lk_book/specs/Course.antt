@@ -5,19 +5,27 @@ use Rattle.lk_lines.specs.declared.words.Word.{Word}
 use Rattle.lk_lines.specs.declared.line.Fault.{Fault}
 use Rattle.lk_lines.specs.Limits.{limits}
 use Rattle.lk_lines.specs.Reading.{◌>>=◌}
-use Rattle.lk_lines.specs.Says.{Says, Blank, Version, OfItem, said_of}
+use Rattle.lk_lines.specs.declared.tags.Dialect.{Dialect}
+use Rattle.lk_lines.specs.declared.tags.Dialect.TheVariants.{Export}
+use Rattle.lk_lines.specs.Says.{Says, Blank, Version, OfItem, said_in}
 use Rattle.lk_units.specs.State.{State, begin, take_item}
 
--- first: whether the lines so far are blank; number: how many they are; before: how many bytes they have, line
--- feeds counted; state: what their items state
+-- dialect: which tags the lines may have; first: whether the lines so far are blank; number: how many they are;
+-- before: how many bytes they have, line feeds counted; state: what their items state
 pub record Course : Type 0 where
+  pub dialect : Dialect
   pub first : Bool
   pub number : ℕ
   pub before : ℕ
   pub state : State
 
+abbrev pub begin_in : Dialect → Course
+begin_in dialect =
+    record { dialect = dialect; first = true; number = 0; before = 0; state = begin }
+
+-- the same for an export
 abbrev pub begin_course : Course
-begin_course = record { first = true; number = 0; before = 0; state = begin }
+begin_course = begin_in Export
 
 abbrev pub feed_count : Bool → ℕ
 feed_count feed = if feed then 1 else 0
@@ -45,4 +53,5 @@ at_line number (Err w) = Err (record { line = number; word = w })
 -- What the next line makes of a course, or its first fault: the limits come first, then what the bytes say, then
 -- whether the item may stand there. The line feed that ends the line is none of its bytes.
 unfoldable pub step : Course → Bool → List ℕ → Result Course Fault
-step c feed line = at_line (c.number + 1) (unless (limits c.before (length line) feed) (said_of c.first line >>= taken (passed c (length line) feed)))
+step c feed line = at_line (c.number + 1) (unless (limits c.before (length line) feed) (said_in c.dialect c.first line
+    >>= taken (passed c (length line) feed)))

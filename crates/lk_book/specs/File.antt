@@ -1,5 +1,5 @@
--- What the bytes of a file state, or the file's fault.
-use Rattle.std.specs.Prelude.{ℕ, ◌==◌, Bool, true, false, List, [], ◌∷◌, Result, Ok, Err, Some, None}
+-- What the bytes of a file state, or the file's fault: an export, or a library and changes of it.
+use Rattle.std.specs.Prelude.{ℕ, ◌==◌, Bool, true, false, List, [], ◌∷◌, ◌++◌, Result, Ok, Err, Some, None}
 use Rattle.std.specs.declared.option.Option.{Option}
 use Rattle.std.specs.List.{slice_split}
 use Rattle.lk_rulebook.specs.Units.{Library}
@@ -12,7 +12,9 @@ use Rattle.lk_members.specs.Plain.{PlainLine, library_stated}
 use Rattle.lk_lines.specs.declared.words.Word.TheVariants.{BlockOpen}
 use Rattle.lk_lines.specs.declared.line.Fault.{Fault}
 use Rattle.lk_units.specs.State.{State}
-use Rattle.lk_book.specs.Course.{Course, begin_course, step}
+use Rattle.lk_lines.specs.declared.tags.Dialect.{Dialect}
+use Rattle.lk_lines.specs.declared.tags.Dialect.TheVariants as dialects
+use Rattle.lk_book.specs.Course.{Course, begin_in, step}
 
 -- what an export states: its units, and what its lines state of their budgets
 pub record Export : Type 0 where
@@ -47,8 +49,12 @@ abbrev pub course_over : Course → List (List ℕ) → Result Course Fault
 course_over c [] = Ok c
 course_over c (line ∷ more) = after (step c (has_more more) line) (λ d. course_over d more)
 
-unfoldable pub course_of : List ℕ → Result Course Fault
-course_of bytes = course_over begin_course (lines_of bytes)
+unfoldable pub course_in : Dialect → List ℕ → Result Course Fault
+course_in dialect bytes = course_over (begin_in dialect) (lines_of bytes)
+
+-- the same of an export
+abbrev pub course_of : List ℕ → Result Course Fault
+course_of bytes = course_in dialects.Export bytes
 
 -- the units that lines state, where none is open
 abbrev pub closed : Option ℕ → List PlainLine → Result Library Fault
@@ -67,3 +73,18 @@ export_stated s =
 -- that is open
 abbrev pub export_of : List ℕ → Result Export Fault
 export_of bytes = after (course_of bytes) (λ c. export_stated c.state)
+
+-- the units that the lines of each part state, where none is open
+abbrev pub parts_stated : List (List PlainLine) → Result (List Library) Fault
+parts_stated [] = Ok []
+parts_stated (lines ∷ parts) =
+    after (units_stated lines) (λ us. after (parts_stated parts) (λ vs. Ok (us ∷ vs)))
+
+-- the parts that are ended, and the last one, which the end of the file ends
+abbrev pub rounds_stated : State → Result (List Library) Fault
+rounds_stated s = parts_stated (s.parts ++ s.lines ∷ [])
+
+-- What the parts of a file state, or its first fault: that of a line, else that of the first line
+-- that is open in its part. The first part is a library, and each later one is a change of it.
+abbrev pub rounds_of : List ℕ → Result (List Library) Fault
+rounds_of bytes = after (course_in dialects.Rounds bytes) (λ c. rounds_stated c.state)

@@ -13,6 +13,7 @@ use Rattle.lk_book.specs.declared.reader.Reader.{Reader}
 
 -- the reader stands for the course
 pub record Stands (r : Reader) (store : Contents) (c : Course) : Type 0 where
+  pub dialect : r.dialect ≡ c.dialect
   pub first : r.first ≡ c.first
   pub number : r.number ≡ c.number
   pub before : r.before ≡ c.before

@@ -1,9 +1,11 @@
 -- Reading a source.
-use Rattle.std.specs.Prelude.{◌≡◌, ◌+◌, ℕ, List, ◌∷◌, [], length, Result, Ok, Err, Some, None}
+use Rattle.std.specs.Prelude.{◌≡◌, ◌+◌, ℕ, List, ◌∷◌, [], length, map, All, Result, Ok, Err, Some, None}
 use Rattle.std.specs.declared.option.Option.{Option}
 use Rattle.std.specs.Io.KnownBytes.{Consumes}
 use Rattle.lk_store.specs.Contents.{Contents}
+use Rattle.lk_store.specs.Store.{contents_of}
 use Rattle.lk_env.specs.StoredLibrary.{StoredLibrary}
+use Rattle.lk_env.specs.Units.{library_at, AreUnitsIn}
 use Rattle.lk_rulebook.specs.Units.{Library}
 use Rattle.lk_token.specs.Lines.{HasNoLineFeed}
 use Rattle.lk_lines.specs.declared.words.Word.{Word}
@@ -13,10 +15,12 @@ use Rattle.lk_lines.specs.declared.line.LineError.TheVariants as line_errors
 use Rattle.lk_lines.specs.Limits.{limits}
 use Rattle.lk_units.specs.Held.{Holds}
 use Rattle.lk_units.specs.declared.assembler.Assembler.{Assembler}
-use Rattle.lk_book.specs.Course.{Course, begin_course}
-use Rattle.lk_book.specs.File.{Export, export_at, has_more, course_of}
+use Rattle.lk_lines.specs.declared.tags.Dialect.{Dialect}
+use Rattle.lk_book.specs.Course.{Course, begin_in}
+use Rattle.lk_book.specs.File.{Export, export_at, has_more, course_in, rounds_of}
 use Rattle.lk_book.specs.Passing.{Fails, Passes}
 use Rattle.lk_book.specs.declared.reader.Reader.{Reader}
+use Rattle.lk_book.specs.declared.rounds.Rounds.{Rounds}
 use Rattle.lk_book.specs.declared.error.ReadError.{ReadError}
 use Rattle.lk_book.specs.declared.error.ReadError.TheVariants as errors
 
@@ -39,8 +43,31 @@ ReadsLibrary said (Err errors.NoMemory) = Unit {0}
 ReadsLibrary said (Err errors.ReadFault) = Unit {0}
 ReadsLibrary said (Err (errors.Fault f)) = said ≡ Err f
 
+-- the units of each part, by their store
+abbrev pub parts_at : Rounds → List Library
+parts_at r = map (λ us. library_at (contents_of r.base) us.items) r.parts.items
+
+-- the units of each part are in the store
+abbrev pub ArePartsIn : Rounds → Type 0
+ArePartsIn r = All (λ us. AreUnitsIn (contents_of r.base) us.items) r.parts.items
+
+-- the parts are those that some file states
+abbrev pub AreStated : Rounds → Type 0
+AreStated r = (bytes : List ℕ) × (rounds_of bytes ≡ Ok (parts_at r))
+
+-- the parts are what the file states, or the file's fault is told
+abbrev pub ReadsRounds : Result (List Library) Fault → Result Rounds ReadError → Type 0
+ReadsRounds said (Ok r) = said ≡ Ok (parts_at r)
+ReadsRounds said (Err errors.NoMemory) = Unit {0}
+ReadsRounds said (Err errors.ReadFault) = Unit {0}
+ReadsRounds said (Err (errors.Fault f)) = said ≡ Err f
+
+-- the assembler holds what the lines of some file state
+abbrev pub HoldsSome : Dialect → Contents → Assembler → Type 0
+HoldsSome dialect store a = (bytes : List ℕ) × Reads store (course_in dialect bytes) (Ok a)
+
 -- want of memory, or this fault
-abbrev pub TellsOpen : ReadError → Result Library Fault → Type 0
+abbrev pub TellsOpen : {A : Type 0} → ReadError → Result A Fault → Type 0
 TellsOpen errors.NoMemory said = Unit {0}
 TellsOpen errors.ReadFault said = ⊥
 TellsOpen (errors.Fault f) said = said ≡ Err f
@@ -70,15 +97,16 @@ pub record Skips (old now : Option (List ℕ)) (length_old length_now : ℕ) : T
 
 -- The bytes that were taken from the front led the reader to what it stands for, but for the last
 -- ones of them.
-pub record Remains (r : Reader) (store : Contents) (held : List ℕ)
+pub record Remains (dialect : Dialect) (r : Reader) (store : Contents) (held : List ℕ)
     (old now : Option (List ℕ)) : Type 0 where
   pub bytes : List ℕ
   pub consumed : Consumes old now bytes
-  pub passes : Passes r store begin_course bytes held
+  pub passes : Passes r store (begin_in dialect) bytes held
 
 -- the fault of a file that a source had at first; a failed read and want of memory tell nothing of
 -- it
-abbrev pub TellsFault : ReadError → Option (List ℕ) → Type 0
-TellsFault errors.NoMemory old = Unit {0}
-TellsFault errors.ReadFault old = Unit {0}
-TellsFault (errors.Fault f) old = (bytes : List ℕ) → old ≡ Some bytes → course_of bytes ≡ Err f
+abbrev pub TellsFault : Dialect → ReadError → Option (List ℕ) → Type 0
+TellsFault dialect errors.NoMemory old = Unit {0}
+TellsFault dialect errors.ReadFault old = Unit {0}
+TellsFault dialect (errors.Fault f) old =
+    (bytes : List ℕ) → old ≡ Some bytes → course_in dialect bytes ≡ Err f

@@ -14,9 +14,9 @@ ghost use Rattle.lk_members.specs.Stored.{lines_of, AreLinesIn};
 ghost use Rattle.lk_members.specs.Finishing.{IsFaultless};
 ghost use Rattle.lk_members.specs.Indices.{IsIndexed};
 ghost use Rattle.lk_members.specs.Plain.{lines_at};
-ghost use Rattle.lk_book.specs.File.{course_of, units_stated, export_stated, export_of};
+ghost use Rattle.lk_book.specs.File.{course_in, units_stated, export_stated, export_of};
 ghost use Rattle.lk_book.specs.Passing.{Stands, IsCounted};
-ghost use Rattle.lk_book.specs.Reading.{Remains, ConsumesSome, TellsFault, TellsOpen, Ends, Reads, ReadsLibrary};
+ghost use Rattle.lk_book.specs.Reading.{Remains, HoldsSome, ConsumesSome, TellsFault, TellsOpen, Ends, Reads, ReadsLibrary};
 
 use crate::lines::take_piece;
 use crate::long::long_line;
@@ -24,7 +24,7 @@ use crate::{MAX_LINE, PIECE, ReadError, Reader};
 use lk_env::budget::Budget;
 use lk_env::library::Library;
 use lk_env::unit::Unit;
-use lk_lines::{Fault, LineError, Word};
+use lk_lines::{Dialect, Fault, LineError, Word};
 use lk_members::Members;
 use lk_members::finish::FinishError;
 use lk_port::Source;
@@ -67,13 +67,13 @@ fn read_piece<T: Terms, S: Source>(
     ensures progress { IfOk result (λ more. more ≡ true
         → reader.old.before + length held.old.items < reader.new.before + length held.new.items) }
 
-    ensures remains { (old : Option (List ℕ))
-        → Remains reader.old (T.contents store.old) held.old.items old (S.left source.old)
-        → OnOk result (Remains reader.new (T.contents store.new) held.new.items old
+    ensures remains { (d : Dialect) (old : Option (List ℕ))
+        → Remains d reader.old (T.contents store.old) held.old.items old (S.left source.old)
+        → OnOk result (Remains d reader.new (T.contents store.new) held.new.items old
         (S.left source.new)) }
-    ensures tells { (old : Option (List ℕ))
-        → Remains reader.old (T.contents store.old) held.old.items old (S.left source.old)
-        → IfErr result (λ e. TellsFault e old) }
+    ensures tells { (d : Dialect) (old : Option (List ℕ))
+        → Remains d reader.old (T.contents store.old) held.old.items old (S.left source.old)
+        → IfErr result (λ e. TellsFault d e old) }
 
     ensures front { ConsumesSome (S.left source.old) (S.left source.new) }
     ensures end { IfOk result (λ more. more ≡ false → IsAtEnd (S.left source.new)) }
@@ -116,13 +116,13 @@ fn read_pieces<T: Terms, S: Source>(
     ensures counted { OnOk result (IsCounted reader.new) }
     ensures unfinished { OnOk result (HasNoLineFeed held.new.items) }
 
-    ensures remains { (old : Option (List ℕ))
-        → Remains reader.old (T.contents store.old) held.old.items old (S.left source.old)
-        → OnOk result (Remains reader.new (T.contents store.new) held.new.items old
+    ensures remains { (d : Dialect) (old : Option (List ℕ))
+        → Remains d reader.old (T.contents store.old) held.old.items old (S.left source.old)
+        → OnOk result (Remains d reader.new (T.contents store.new) held.new.items old
         (S.left source.new)) }
-    ensures tells { (old : Option (List ℕ))
-        → Remains reader.old (T.contents store.old) held.old.items old (S.left source.old)
-        → IfErr result (λ e. TellsFault e old) }
+    ensures tells { (d : Dialect) (old : Option (List ℕ))
+        → Remains d reader.old (T.contents store.old) held.old.items old (S.left source.old)
+        → IfErr result (λ e. TellsFault d e old) }
 
     ensures front { ConsumesSome (S.left source.old) (S.left source.new) }
     ensures end { OnOk result (IsAtEnd (S.left source.new)) }
@@ -163,8 +163,9 @@ fn take_last<T: Terms>(
 }
 
 /// Reads the lines of a file, from a source and into a store; or tells the fault of the first faulty line.
-fn read_all_lines<T: Terms, S: Source>(
+pub(crate) fn read_all_lines<T: Terms, S: Source>(
     alloc: Global,
+    dialect: Dialect,
     store: &mut T,
     source: &mut S,
 ) -> Result<Assembler, ReadError>
@@ -174,7 +175,10 @@ fn read_all_lines<T: Terms, S: Source>(
 
     // Where the source tells its bytes, the answer is what they state.
     ensures reads { (bytes : List ℕ) → S.left source.old ≡ Some bytes
-        → Reads (T.contents store.new) (course_of bytes) result }
+        → Reads (T.contents store.new) (course_in dialect bytes) result }
+
+    // Also where it does not, they are what some file states.
+    ensures some { IfOk result (HoldsSome dialect (T.contents store.new)) }
 
     ensures front { ConsumesSome (S.left source.old) (S.left source.new) }
     ensures end { OnOk result (IsAtEnd (S.left source.new)) }
@@ -189,6 +193,7 @@ fn read_all_lines<T: Terms, S: Source>(
     };
     let mut reader = Reader {
         assembler,
+        dialect,
         first: true,
         number: 0,
         before: 0,
@@ -200,7 +205,11 @@ fn read_all_lines<T: Terms, S: Source>(
 }
 
 /// The units of the lines that were read, or the first line of a block that is open.
-fn units_of(alloc: Global, store: &BaseStore, members: Members) -> Result<Vec<Unit>, ReadError>
+pub(crate) fn units_of(
+    alloc: Global,
+    store: &BaseStore,
+    members: Members,
+) -> Result<Vec<Unit>, ReadError>
     requires lines { AreLinesIn (contents_of store.now) members.lines.items }
     requires indexed { IsIndexed members }
     requires faultless { IsFaultless (lines_of members.lines.items) }
@@ -272,7 +281,7 @@ pub fn read_library<S: Source>(alloc: Global, source: &mut S) -> Result<Library,
         ≡ S.faults source.old }
 {
     let mut store = BaseStore::new(alloc);
-    match read_all_lines(alloc, &mut store, source) {
+    match read_all_lines(alloc, Dialect::Export, &mut store, source) {
         Ok(assembler) => library_of(alloc, store, assembler),
         Err(error) => Err(error),
     }

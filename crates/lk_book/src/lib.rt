@@ -1,4 +1,5 @@
-//! The library that a file states: its lines one by one, read from a source in pieces, with the file's first fault.
+//! What a file states, a library or a library and changes of it: its lines one by one, read from a source in pieces, with
+//! the file's first fault.
 #![tactic(auto)]
 
 mod error;
@@ -7,11 +8,13 @@ mod laws;
 mod lines;
 mod long;
 mod reader;
+mod rounds;
 
 pub use error::ReadError;
 pub use file::read_library;
-pub use laws::files_are_spelled;
+pub use laws::{files_are_spelled, rounds_are_spelled};
 pub use reader::Reader;
+pub use rounds::{Rounds, read_rounds};
 
 /// A file has at most this many bytes.
 const MAX_INPUT: u64 = 1 << 40;

@@ -8,7 +8,7 @@ ghost use Rattle.lk_units.specs.Held.{IsKnown};
 ghost use Rattle.lk_book.specs.Course.{Course, feed_count, taken, at_line, step};
 ghost use Rattle.lk_book.specs.Passing.{Stands, IsCounted, Goes, line_error};
 
-use lk_lines::{Fault, LineError, Statement, limit_fault, read_line};
+use lk_lines::{Dialect, Fault, LineError, Statement, limit_fault, read_line_in};
 use lk_store::terms::Terms;
 use lk_units::{Assembler, TakeError};
 use std::alloc::Global;
@@ -17,6 +17,8 @@ use std::alloc::Global;
 #[derive(Drop)]
 pub struct Reader {
     pub assembler: Assembler,
+    /// Which tags the lines may have.
+    pub dialect: Dialect,
     /// Whether they are all blank, so that the next one may be the version.
     pub first: bool,
     /// How many they are.
@@ -94,6 +96,13 @@ impl Reader {
                     Err(error) => Err(at_line(number, error)),
                 }
             }
+            Statement::Go => {
+                self.first = false;
+                match self.assembler.part(alloc) {
+                    Ok(()) => Ok(()),
+                    Err(error) => Err(at_line(number, error)),
+                }
+            }
         }
     }
 
@@ -123,7 +132,7 @@ impl Reader {
         if let Some(word) = limit_fault(self.before, length, feed) {
             return Err(LineError::Fault(Fault { line: number, word }));
         }
-        let line = read_line(alloc, number, self.first, line)?;
+        let line = read_line_in(alloc, self.dialect, number, self.first, line)?;
         self.number = number;
         self.before += length + feed_count(feed);
         self.take_said(alloc, store, number, line.statement)

@@ -1,6 +1,6 @@
 -- What an assembler stands for, by what it has.
 use Rattle.std.proofs.Common.{◌≡◌, ℕ, ◌<◌, ◌≤◌, ◌==◌, Bool, true, false, List, [], ◌∷◌, length, Some, None, refl, sym, ◌∙◌, ap, arith}
-use Rattle.std.specs.Prelude.{option_map, All, IfSome, is_some, if◌then◌else◌, Ok, Err}
+use Rattle.std.specs.Prelude.{map, option_map, All, IfSome, is_some, if◌then◌else◌, Ok, Err}
 use Rattle.std.specs.declared.option.Option.{Option}
 use Rattle.std.proofs.lemmas.List.Elements.{All-weaker, All-head, All-tail}
 use Rattle.lk_store.specs.Contents.{Contents, name_at, level_at, tree_at, Extends}
@@ -16,7 +16,9 @@ use Rattle.lk_env.specs.declared.unit.RecursorRule.{RecursorRule}
 use Rattle.lk_env.specs.Units.{IsRuleIn}
 use Rattle.lk_env.specs.declared.budget.Budget.{Budget}
 use Rattle.lk_env.specs.Budgets.{budget_at, budgets_at, AreBudgetsIn}
-use Rattle.lk_units.specs.Held.{Numbered, Below, rule_at_place, rule_held, IsKnown, Holds, Fails}
+use Rattle.lk_units.specs.Held.{Numbered, Below, rule_at_place, rule_held, IsPartIn, IsKnown, Holds, Fails}
+use Rattle.lk_members.specs.declared.members.Members.{Members}
+use Rattle.lk_members.specs.Plain.{lines_at}
 use Rattle.lk_members.proofs.Growing.{rule_same, rule_stays, lines_steady, lines_stay}
 
 -- a store that did not change extends itself
@@ -60,6 +62,17 @@ grown_below numbers len len2 le h = record { below = λ n. below_lem (entry numb
 rules_steady : (c d : Contents) → Extends c d → (rules : List RecursorRule) → All (IsRuleIn c) rules → (i : ℕ) → i < length rules → rule_held d rules i ≡ rule_held c rules i
 rules_steady c d x rules h i l = rule_same c d x (rule_at_place rules i) (h i _ l)
 
+-- the lines of parts stand for the same for good
+parts_steady : (c d : Contents) → Extends c d → (ms : List Members) → All (IsPartIn c) ms → map (λ (m : Members). lines_at d m.lines.items) ms ≡ map (λ (m : Members). lines_at c m.lines.items) ms
+parts_steady c d x [] h = refl
+parts_steady c d x (m ∷ ms) h =
+    let first = lines_steady c d x m.lines.items (All-head (IsPartIn c) m ms h).lines_in in
+    let others = parts_steady c d x ms (All-tail (IsPartIn c) m ms h) in
+    cc
+
+part_stays : (c d : Contents) → Extends c d → (m : Members) → IsPartIn c m → IsPartIn d m
+part_stays c d x m p = record { lines_in = lines_stay c d x m.lines.items p.lines_in; indexed = p.indexed; faultless = p.faultless }
+
 -- what lines state of budgets stays the same for good
 budget_steady : (c d : Contents) → Extends c d → (b : Budget) → b.name < length c.names → budget_at d b ≡ budget_at c b
 budget_steady c d x b l = rw (x.names.same b.name l) refl
@@ -81,6 +94,7 @@ grown_holds c d x a s k h = record {
   levels = grown_numbered a.by_level (length c.levels) (level_at c) (level_at d) s.levels x.levels.same k.levels_below h.levels;
   trees = grown_numbered a.by_tree (length c.trees) (tree_at c) (tree_at d) s.trees x.trees.same k.trees_below h.trees;
   rules = grown_numbered a.by_rule (length a.rules.items) (rule_held c a.rules.items) (rule_held d a.rules.items) s.rules (rules_steady c d x a.rules.items k.rules_in) k.rules_below h.rules;
+  parts = parts_steady c d x a.parts.items k.parts_in ∙ h.parts;
   lines = lines_steady c d x a.members.lines.items k.lines_in ∙ h.lines;
   budgets = budgets_steady c d x a.budgets.items k.budgets_in ∙ h.budgets;
   count = h.count;
@@ -93,6 +107,7 @@ grown_known c d x a k = record {
   trees_below = grown_below a.by_tree (length c.trees) (length d.trees) x.trees.longer k.trees_below;
   rules_below = k.rules_below;
   rules_in = All-weaker (IsRuleIn c) (IsRuleIn d) (rule_stays c d x) a.rules.items k.rules_in;
+  parts_in = All-weaker (IsPartIn c) (IsPartIn d) (part_stays c d x) a.parts.items k.parts_in;
   lines_in = lines_stay c d x a.members.lines.items k.lines_in;
   indexed = k.indexed;
   faultless = k.faultless;

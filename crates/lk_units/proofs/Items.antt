@@ -9,6 +9,7 @@ use Rattle.lk_rulebook.specs.Spelled.{no_lf}
 use Rattle.lk_token.specs.Lines.{HasNoLineFeed}
 use Rattle.lk_token.specs.Fields.{fields_of, text_behind}
 use Rattle.lk_lines.specs.declared.tags.EntryTag.TheVariants as entry
+use Rattle.lk_lines.specs.declared.tags.Dialect.{Dialect}
 use Rattle.lk_lines.specs.declared.tags.Tag.{Tag}
 use Rattle.lk_lines.specs.declared.tags.Tag.TheVariants.{Entry}
 use Rattle.lk_lines.specs.Values.{Value}
@@ -16,7 +17,7 @@ use Rattle.lk_lines.specs.Values as value
 use Rattle.lk_lines.specs.Spelling.{SpellsDues}
 use Rattle.lk_lines.specs.Table.{dues_of}
 use Rattle.lk_lines.specs.Items.{Item, SpellsOwn}
-use Rattle.lk_lines.specs.Says.{OfItem, said_of}
+use Rattle.lk_lines.specs.Says.{OfItem, said_in}
 use Rattle.lk_lines.proofs.LineFeedLaws.{text_has_none, said_spelled, text_lem}
 use Rattle.lk_units.proofs.Spellings.{AreSpelledValues, IsSpelledItem}
 
@@ -31,9 +32,9 @@ spelled_entry : (t : Tag) (behind : List ℕ) (fields : List (List ℕ)) (values
 spelled_entry (Entry entry.NameText) behind fields (value.Number p ∷ value.Bytes bytes ∷ []) h s = rw (text_lem behind bytes p fields s) (spelled_bytes behind h)
 spelled_entry t behind fields values h s = tt
 
-spelled_own : (own : Option ℕ) (t : Tag) (values : List Value) (behind : List ℕ) (fields : List (List ℕ)) → HasNoLineFeed behind → SpellsOwn own t values behind fields → AreSpelledValues t values
-spelled_own (Some own) t values behind fields h s = spelled_entry t behind _ values h s.2.3
-spelled_own None t values behind fields h s = spelled_entry t behind _ values h s.3
+spelled_own : (dialect : Dialect) (own : Option ℕ) (t : Tag) (values : List Value) (behind : List ℕ) (fields : List (List ℕ)) → HasNoLineFeed behind → SpellsOwn dialect own t values behind fields → AreSpelledValues t values
+spelled_own dialect (Some own) t values behind fields h s = spelled_entry t behind _ values h s.2.3
+spelled_own dialect None t values behind fields h s = spelled_entry t behind _ values h s.3
 
-pub spelled_item : (first : Bool) (bytes : List ℕ) (item : Item) → HasNoLineFeed bytes → said_of first bytes ≡ Ok (OfItem item) → IsSpelledItem item
-spelled_item first bytes item h e = spelled_own item.own item.tag item.values (text_behind bytes) (fields_of bytes) (text_has_none bytes h) (said_spelled first bytes (OfItem item) e)
+pub spelled_item : (dialect : Dialect) (first : Bool) (bytes : List ℕ) (item : Item) → HasNoLineFeed bytes → said_in dialect first bytes ≡ Ok (OfItem item) → IsSpelledItem item
+spelled_item dialect first bytes item h e = spelled_own dialect item.own item.tag item.values (text_behind bytes) (fields_of bytes) (text_has_none bytes h) (said_spelled dialect first bytes (OfItem item) e)

@@ -21,18 +21,19 @@ use Rattle.lk_lines.specs.declared.tags.EntryTag.TheVariants as entry
 use Rattle.lk_lines.specs.declared.tags.DeclarationTag.{DeclarationTag}
 use Rattle.lk_lines.specs.declared.tags.DeclarationTag.TheVariants as decl
 use Rattle.lk_lines.specs.declared.tags.Tag.{Tag}
-use Rattle.lk_lines.specs.declared.tags.Tag.TheVariants.{Entry, Declaration, Budget}
+use Rattle.lk_lines.specs.declared.tags.Tag.TheVariants.{Entry, Declaration, Budget, Go}
 use Rattle.lk_lines.specs.Reading.{◌>>=◌}
 use Rattle.lk_lines.specs.Items.{Item}
 use Rattle.lk_lines.specs.Values.{Value}
 use Rattle.lk_lines.specs.Values as value
-use Rattle.lk_units.proofs.Spellings.{Each, AreSpelledValues, IsSpelledItem, IsSpelledName, IsSpelledTree, IsSpelledBody, IsSpelledRule, IsSpelledMember, AreSpelledLines}
-use Rattle.lk_units.specs.State.{State, Counts, begin, known, known_of, all_known, fresh, put, with_name, with_level, with_tree, with_rule, longer_name, successor_level, pair_level, parameter_level, sort_tree, constant_tree, application_tree, binder_tree, let_tree, projection_tree, number_literal, rule_of, type_said, ctor_said, recursor_said, declaration_of, hint_said, value_body, valued_of, entry_added, declaration_said, counted, unless_fault, with_line, declared, with_budget, added, take_item}
+use Rattle.lk_units.proofs.Spellings.{Each, each_append, AreSpelledValues, IsSpelledItem, IsSpelledName, IsSpelledTree, IsSpelledBody, IsSpelledRule, IsSpelledMember, AreSpelledLines, AreSpelledParts}
+use Rattle.lk_units.specs.State.{State, Counts, begin, known, known_of, all_known, fresh, put, with_name, with_level, with_tree, with_rule, longer_name, successor_level, pair_level, parameter_level, sort_tree, constant_tree, application_tree, binder_tree, let_tree, projection_tree, number_literal, rule_of, type_said, ctor_said, recursor_said, declaration_of, hint_said, value_body, valued_of, entry_added, declaration_said, counted, unless_fault, with_line, declared, with_budget, next_part, added, take_item}
 
 pub record IsSpelledState (s : State) : Type 0 where
   pub names : (n : ℕ) → IfSome (s.names n) IsSpelledName
   pub trees : (n : ℕ) → IfSome (s.trees n) IsSpelledTree
   pub rules : (n : ℕ) → IfSome (s.rules n) IsSpelledRule
+  pub parts : AreSpelledParts s.parts
   pub lines : AreSpelledLines s.lines
 
 put_if : {X : Type 0} (P : X → Type 0) (b : Bool) (x : X) (o : Option X) → P x → IfSome o P → IfSome (if b then Some x else o) P
@@ -56,25 +57,24 @@ if_fresh P true r h = tt
 if_fresh P false r h = h
 
 kept_name : (s : State) (own : ℕ) (said : Result Name Word) → IsSpelledState s → IfOk said IsSpelledName → IfOk (with_name s own said) IsSpelledState
-kept_name s own said k h = if_then IsSpelledName IsSpelledState (fresh s.names own said) (λ x. Ok (record s { names = put s.names own x })) (if_fresh IsSpelledName (is_some (s.names own)) said h) (λ x p. record { names = λ q. put_if IsSpelledName (q == own) x (s.names q) p (k.names q); trees = k.trees; rules = k.rules; lines = k.lines })
+kept_name s own said k h = if_then IsSpelledName IsSpelledState (fresh s.names own said) (λ x. Ok (record s { names = put s.names own x })) (if_fresh IsSpelledName (is_some (s.names own)) said h) (λ x p. record { names = λ q. put_if IsSpelledName (q == own) x (s.names q) p (k.names q); trees = k.trees; rules = k.rules; parts = k.parts; lines = k.lines })
 
 -- no level counts: parameters are names of no constant
 kept_level : (s : State) (own : ℕ) (said : Result Level Word) → IsSpelledState s → IfOk (with_level s own said) IsSpelledState
 kept_level s own said k = go (fresh s.levels own said)
   where
     go : (r : Result Level Word) → IfOk (r >>= λ x. Ok (record s { levels = put s.levels own x })) IsSpelledState
-    go (Ok x) = record { names = k.names; trees = k.trees; rules = k.rules; lines = k.lines }
+    go (Ok x) = record { names = k.names; trees = k.trees; rules = k.rules; parts = k.parts; lines = k.lines }
     go (Err w) = tt
 
 kept_tree : (s : State) (own : ℕ) (said : Result Tree Word) → IsSpelledState s → IfOk said IsSpelledTree → IfOk (with_tree s own said) IsSpelledState
-kept_tree s own said k h = if_then IsSpelledTree IsSpelledState (fresh s.trees own said) (λ x. Ok (record s { trees = put s.trees own x })) (if_fresh IsSpelledTree (is_some (s.trees own)) said h) (λ x p. record { names = k.names; trees = λ q. put_if IsSpelledTree (q == own) x (s.trees q) p (k.trees q); rules = k.rules; lines = k.lines })
+kept_tree s own said k h = if_then IsSpelledTree IsSpelledState (fresh s.trees own said) (λ x. Ok (record s { trees = put s.trees own x })) (if_fresh IsSpelledTree (is_some (s.trees own)) said h) (λ x p. record { names = k.names; trees = λ q. put_if IsSpelledTree (q == own) x (s.trees q) p (k.trees q); rules = k.rules; parts = k.parts; lines = k.lines })
 
 kept_rule : (s : State) (own : ℕ) (said : Result RecRule Word) → IsSpelledState s → IfOk said IsSpelledRule → IfOk (with_rule s own said) IsSpelledState
-kept_rule s own said k h = if_then IsSpelledRule IsSpelledState (fresh s.rules own said) (λ x. Ok (record s { rules = put s.rules own x })) (if_fresh IsSpelledRule (is_some (s.rules own)) said h) (λ x p. record { names = k.names; trees = k.trees; rules = λ q. put_if IsSpelledRule (q == own) x (s.rules q) p (k.rules q); lines = k.lines })
+kept_rule s own said k h = if_then IsSpelledRule IsSpelledState (fresh s.rules own said) (λ x. Ok (record s { rules = put s.rules own x })) (if_fresh IsSpelledRule (is_some (s.rules own)) said h) (λ x p. record { names = k.names; trees = k.trees; rules = λ q. put_if IsSpelledRule (q == own) x (s.rules q) p (k.rules q); parts = k.parts; lines = k.lines })
 
-lines_push : (ls : List PlainLine) (l : PlainLine) → AreSpelledLines ls → IsSpelledMember l.said → AreSpelledLines (ls ++ l ∷ [])
-lines_push [] l h b = (b, tt)
-lines_push (k ∷ ls) l h b = (h.0, lines_push ls l h.1 b)
+each_push : {X : Type 0} (P : X → Type 0) (xs : List X) (x : X) → Each P xs → P x → Each P (xs ++ x ∷ [])
+each_push P xs x h p = each_append P xs (x ∷ []) h (p, tt)
 
 text_push : (n : Name) (bytes : List ℕ) → no_lf bytes ≡ true → IsSpelledName n → IsSpelledName (n ++ text bytes ∷ [])
 text_push [] bytes p h = and_true (no_lf bytes) true p refl
@@ -228,14 +228,14 @@ kept_counted : (s : State) → IsSpelledState s → IfOk (counted s) IsSpelledSt
 kept_counted s k = go (nat_lt s.count (2 ^ 32 - 1))
   where
     go : (b : Bool) → IfOk (if b then Ok (record s { count = s.count + 1 }) else Err TooManyItems) IsSpelledState
-    go true = record { names = k.names; trees = k.trees; rules = k.rules; lines = k.lines }
+    go true = record { names = k.names; trees = k.trees; rules = k.rules; parts = k.parts; lines = k.lines }
     go false = tt
 
 kept_line : (l : ℕ) (s : State) (x : PlainMember) → IsSpelledState s → IsSpelledMember x → IfOk (with_line l s x) IsSpelledState
 kept_line l s x k h = go (fault_of same_name s.lines x)
   where
     go : (o : Option MemberFault) → IfOk (unless_fault o (record s { lines = s.lines ++ record { number = l; said = x } ∷ [] })) IsSpelledState
-    go None = record { names = k.names; trees = k.trees; rules = k.rules; lines = lines_push s.lines (record { number = l; said = x }) k.lines h }
+    go None = record { names = k.names; trees = k.trees; rules = k.rules; parts = k.parts; lines = each_push (λ (m : PlainLine). IsSpelledMember m.said) s.lines (record { number = l; said = x }) k.lines h }
     go (Some f) = tt
 
 kept_declared : (l : ℕ) (s : State) (said : Result PlainMember Word) → IsSpelledState s → IfOk said IsSpelledMember → IfOk (declared l s said) IsSpelledState
@@ -244,15 +244,25 @@ kept_declared l s said k h =
     (λ x p. if_then IsSpelledState IsSpelledState (counted s) (λ t. with_line l t x) (kept_counted s k) (λ t kt. kept_line l t x kt p))
 
 kept_budget : (s : State) (n steps : ℕ) → IsSpelledState s → IfOk (with_budget s n steps) IsSpelledState
-kept_budget s n steps k = for_any IsSpelledState (known s.names n) (λ name. Ok (record s { budgets = s.budgets ++ record { name = name; steps = steps } ∷ [] })) (λ name. record { names = k.names; trees = k.trees; rules = k.rules; lines = k.lines })
+kept_budget s n steps k = for_any IsSpelledState (known s.names n) (λ name. Ok (record s { budgets = s.budgets ++ record { name = name; steps = steps } ∷ [] })) (λ name. record { names = k.names; trees = k.trees; rules = k.rules; parts = k.parts; lines = k.lines })
+
+-- the parts, and the lines behind them
+pub spelled_parts : (s : State) → IsSpelledState s → AreSpelledParts (s.parts ++ s.lines ∷ [])
+spelled_parts s k = each_push AreSpelledLines s.parts s.lines k.parts k.lines
+
+kept_part : (s : State) → IsSpelledState s → IsSpelledState (next_part s)
+kept_part s k = record { names = k.names; trees = k.trees; rules = k.rules; parts = spelled_parts s k; lines = tt }
 
 kept_added : (l : ℕ) (s : State) (own : Option ℕ) (t : Tag) (values : List Value) → AreSpelledValues t values → IsSpelledState s → IfOk (added l s own t values) IsSpelledState
 kept_added l s (Some own) (Entry t) values i k = if_then IsSpelledState IsSpelledState (entry_added s own t values) (λ u. counted u) (kept_entry s own t values i k) (λ u ku. kept_counted u ku)
 kept_added l s None (Declaration t) values i k = kept_declared l s (declaration_said s t values) k (kept_declaration s t values k)
 kept_added l s None Budget (value.Number n ∷ value.Number steps ∷ []) i k = kept_budget s n steps k
 kept_added l s None Budget values i k = tt
+kept_added l s None Go [] i k = kept_part s k
+kept_added l s None Go (v ∷ values) i k = tt
 kept_added l s (Some own) (Declaration t) values i k = tt
 kept_added l s (Some own) Budget values i k = tt
+kept_added l s (Some own) Go values i k = tt
 kept_added l s None (Entry t) values i k = tt
 
 pub kept_item : (l : ℕ) (s : State) (item : Item) → IsSpelledItem item → IsSpelledState s → IfOk (take_item l s item) IsSpelledState
@@ -260,4 +270,4 @@ unfolding take_item
 kept_item l s item i k = kept_added l s item.own item.tag item.values i k
 
 pub kept_begin : IsSpelledState begin
-kept_begin = record { names = λ q. put_if IsSpelledName (q == 0) [] None refl tt; trees = λ q. tt; rules = λ q. tt; lines = tt }
+kept_begin = record { names = λ q. put_if IsSpelledName (q == 0) [] None refl tt; trees = λ q. tt; rules = λ q. tt; parts = tt; lines = tt }

@@ -10,3 +10,4 @@ pub mod Items
 pub mod Placing
 pub mod SpelledUnits
 pub mod Turns
+pub mod Parting

@@ -41,6 +41,7 @@ module _ (a : Assembler) (c : Contents) (s : State) (x : StoredMember) (apart : 
       levels = h.levels;
       trees = h.trees;
       rules = h.rules;
+      parts = h.parts;
       lines = ap (lines_at c) e ∙ map-append (line_at c) a.members.lines.items (line l x ∷ []) ∙ ap (λ ls. ls ++ line_at c (line l x) ∷ []) h.lines;
       budgets = h.budgets;
       count = h.count;
@@ -68,6 +69,7 @@ placed_known a c x l m k known i e n = record {
   trees_below = k.trees_below;
   rules_below = k.rules_below;
   rules_in = k.rules_in;
+  parts_in = k.parts_in;
   lines_in = rw e (All-push (λ (y : StoredLine). IsStoredMemberIn c y.said) a.members.lines.items (line l x) k.lines_in known);
   indexed = i;
   faultless = rw (e, map-append line_of a.members.lines.items (line l x ∷ [])) (faultless_push [] (lines_of a.members.lines.items) (line_of (line l x)) k.faultless n);

@@ -69,21 +69,21 @@ pub name_follows : (a : Assembler) (new : Numbering) (c d : Contents) (s : State
 name_follows a new c d s own made said r k x h m p =
     let g = grown_holds c d x a s k h in
     put_follows new (name_at d) s.names own r (fresh s.names own said) (λ y. record s { names = put s.names own y }) (record a { by_name = new }) d
-    (is_put a.by_name new (name_at d) s.names own made said r g.names p m) (λ y n. record { names = n; levels = g.levels; trees = g.trees; rules = g.rules; lines = g.lines; budgets = g.budgets; count = g.count })
+    (is_put a.by_name new (name_at d) s.names own made said r g.names p m) (λ y n. record { names = n; levels = g.levels; trees = g.trees; rules = g.rules; parts = g.parts; lines = g.lines; budgets = g.budgets; count = g.count })
 
 pub level_follows : (a : Assembler) (new : Numbering) (c d : Contents) (s : State) (own : ℕ) (made : Result ℕ TakeError) (said : Result Level Word) (r : Result (Unit {0}) TakeError) → IsKnown a c → Extends c d → Holds a c s
     → Makes (level_at d) made said → Puts a.by_level new own made r → Follows (record a { by_level = new }) d r (with_level s own said)
 level_follows a new c d s own made said r k x h m p =
     let g = grown_holds c d x a s k h in
     put_follows new (level_at d) s.levels own r (fresh s.levels own said) (λ y. record s { levels = put s.levels own y }) (record a { by_level = new }) d
-    (is_put a.by_level new (level_at d) s.levels own made said r g.levels p m) (λ y n. record { names = g.names; levels = n; trees = g.trees; rules = g.rules; lines = g.lines; budgets = g.budgets; count = g.count })
+    (is_put a.by_level new (level_at d) s.levels own made said r g.levels p m) (λ y n. record { names = g.names; levels = n; trees = g.trees; rules = g.rules; parts = g.parts; lines = g.lines; budgets = g.budgets; count = g.count })
 
 pub tree_follows : (a : Assembler) (new : Numbering) (c d : Contents) (s : State) (own : ℕ) (made : Result ℕ TakeError) (said : Result Tree Word) (r : Result (Unit {0}) TakeError) → IsKnown a c → Extends c d → Holds a c s
     → Makes (tree_at d) made said → Puts a.by_tree new own made r → Follows (record a { by_tree = new }) d r (with_tree s own said)
 tree_follows a new c d s own made said r k x h m p =
     let g = grown_holds c d x a s k h in
     put_follows new (tree_at d) s.trees own r (fresh s.trees own said) (λ y. record s { trees = put s.trees own y }) (record a { by_tree = new }) d
-    (is_put a.by_tree new (tree_at d) s.trees own made said r g.trees p m) (λ y n. record { names = g.names; levels = g.levels; trees = n; rules = g.rules; lines = g.lines; budgets = g.budgets; count = g.count })
+    (is_put a.by_tree new (tree_at d) s.trees own made said r g.trees p m) (λ y n. record { names = g.names; levels = g.levels; trees = n; rules = g.rules; parts = g.parts; lines = g.lines; budgets = g.budgets; count = g.count })
 
 -- what the numbers have is still known
 known_lem : (r : Result (Unit {0}) TakeError) (P Q : Type 0) → (P → Q) → OnOk r P → OnOk r Q
@@ -94,21 +94,21 @@ pub name_known : (a : Assembler) (new : Numbering) (c d : Contents) (own : ℕ) 
     → Puts a.by_name new own made r → OnOk r (IsKnown (record a { by_name = new }) d)
 name_known a new c d own made r k x m p =
     let g = grown_known c d x a k in
-    known_lem r (Below new (length d.names)) (IsKnown (record a { by_name = new }) d) (λ b. record { names_below = b; levels_below = g.levels_below; trees_below = g.trees_below; rules_below = g.rules_below; rules_in = g.rules_in; lines_in = g.lines_in; indexed = g.indexed; faultless = g.faultless; budgets_in = g.budgets_in })
+    known_lem r (Below new (length d.names)) (IsKnown (record a { by_name = new }) d) (λ b. record { names_below = b; levels_below = g.levels_below; trees_below = g.trees_below; rules_below = g.rules_below; rules_in = g.rules_in; parts_in = g.parts_in; lines_in = g.lines_in; indexed = g.indexed; faultless = g.faultless; budgets_in = g.budgets_in })
     (still_below a.by_name new (length d.names) own made r g.names_below m p)
 
 pub level_known : (a : Assembler) (new : Numbering) (c d : Contents) (own : ℕ) (made : Result ℕ TakeError) (r : Result (Unit {0}) TakeError) → IsKnown a c → Extends c d → IfOk made (λ i. i < length d.levels)
     → Puts a.by_level new own made r → OnOk r (IsKnown (record a { by_level = new }) d)
 level_known a new c d own made r k x m p =
     let g = grown_known c d x a k in
-    known_lem r (Below new (length d.levels)) (IsKnown (record a { by_level = new }) d) (λ b. record { names_below = g.names_below; levels_below = b; trees_below = g.trees_below; rules_below = g.rules_below; rules_in = g.rules_in; lines_in = g.lines_in; indexed = g.indexed; faultless = g.faultless; budgets_in = g.budgets_in })
+    known_lem r (Below new (length d.levels)) (IsKnown (record a { by_level = new }) d) (λ b. record { names_below = g.names_below; levels_below = b; trees_below = g.trees_below; rules_below = g.rules_below; rules_in = g.rules_in; parts_in = g.parts_in; lines_in = g.lines_in; indexed = g.indexed; faultless = g.faultless; budgets_in = g.budgets_in })
     (still_below a.by_level new (length d.levels) own made r g.levels_below m p)
 
 pub tree_known : (a : Assembler) (new : Numbering) (c d : Contents) (own : ℕ) (made : Result ℕ TakeError) (r : Result (Unit {0}) TakeError) → IsKnown a c → Extends c d → IfOk made (λ i. i < length d.trees)
     → Puts a.by_tree new own made r → OnOk r (IsKnown (record a { by_tree = new }) d)
 tree_known a new c d own made r k x m p =
     let g = grown_known c d x a k in
-    known_lem r (Below new (length d.trees)) (IsKnown (record a { by_tree = new }) d) (λ b. record { names_below = g.names_below; levels_below = g.levels_below; trees_below = b; rules_below = g.rules_below; rules_in = g.rules_in; lines_in = g.lines_in; indexed = g.indexed; faultless = g.faultless; budgets_in = g.budgets_in })
+    known_lem r (Below new (length d.trees)) (IsKnown (record a { by_tree = new }) d) (λ b. record { names_below = g.names_below; levels_below = g.levels_below; trees_below = b; rules_below = g.rules_below; rules_in = g.rules_in; parts_in = g.parts_in; lines_in = g.lines_in; indexed = g.indexed; faultless = g.faultless; budgets_in = g.budgets_in })
     (still_below a.by_tree new (length d.trees) own made r g.trees_below m p)
 
 -- a rule
@@ -116,13 +116,13 @@ pub rule_follows : (a : Assembler) (new : Numbering) (c : Contents) (s : State) 
     → Makes (rule_held c a.rules.items) made said → Puts a.by_rule new own made r → Follows (record a { by_rule = new }) c r (with_rule s own said)
 rule_follows a new c s own made said r g m p =
     put_follows new (rule_held c a.rules.items) s.rules own r (fresh s.rules own said) (λ y. record s { rules = put s.rules own y }) (record a { by_rule = new }) c
-    (is_put a.by_rule new (rule_held c a.rules.items) s.rules own made said r g.rules p m) (λ y n. record { names = g.names; levels = g.levels; trees = g.trees; rules = n; lines = g.lines; budgets = g.budgets; count = g.count })
+    (is_put a.by_rule new (rule_held c a.rules.items) s.rules own made said r g.rules p m) (λ y n. record { names = g.names; levels = g.levels; trees = g.trees; rules = n; parts = g.parts; lines = g.lines; budgets = g.budgets; count = g.count })
 
 pub rule_known : (a : Assembler) (new : Numbering) (c : Contents) (own : ℕ) (made : Result ℕ TakeError) (r : Result (Unit {0}) TakeError) → IsKnown a c → IfOk made (λ i. i < length a.rules.items)
     → Puts a.by_rule new own made r → OnOk r (IsKnown (record a { by_rule = new }) c)
 rule_known a new c own made r g m p =
     known_lem r (Below new (length a.rules.items)) (IsKnown (record a { by_rule = new }) c)
-    (λ b. record { names_below = g.names_below; levels_below = g.levels_below; trees_below = g.trees_below; rules_below = b; rules_in = g.rules_in; lines_in = g.lines_in; indexed = g.indexed; faultless = g.faultless; budgets_in = g.budgets_in })
+    (λ b. record { names_below = g.names_below; levels_below = g.levels_below; trees_below = g.trees_below; rules_below = b; rules_in = g.rules_in; parts_in = g.parts_in; lines_in = g.lines_in; indexed = g.indexed; faultless = g.faultless; budgets_in = g.budgets_in })
     (still_below a.by_rule new (length a.rules.items) own made r g.rules_below m p)
 
 -- one more rule
@@ -135,6 +135,7 @@ rule_pushed a rules c s r k e h = record {
   levels = h.levels;
   trees = h.trees;
   rules = grown_numbered a.by_rule (length a.rules.items) (rule_held c a.rules.items) (rule_held c rules.items) s.rules (λ i l. ap (rule_at c) (rule_same_place a.rules.items rules.items r i l e)) k.rules_below h.rules;
+  parts = h.parts;
   lines = h.lines;
   budgets = h.budgets;
   count = h.count;
@@ -147,6 +148,7 @@ rule_pushed_known a rules c r k in_ e = record {
   trees_below = k.trees_below;
   rules_below = grown_below a.by_rule (length a.rules.items) (length rules.items) (let l : length rules.items ≡ length a.rules.items + 1 = rw (e, length-append a.rules.items (r ∷ [])) refl in omega arith) k.rules_below;
   rules_in = rw e (All-push (IsRuleIn c) a.rules.items r k.rules_in in_);
+  parts_in = k.parts_in;
   lines_in = k.lines_in;
   indexed = k.indexed;
   faultless = k.faultless;
@@ -164,6 +166,7 @@ budget_pushed a budgets c s n i steps e is h = (
     levels = h.levels;
     trees = h.trees;
     rules = h.rules;
+    parts = h.parts;
     lines = h.lines;
     budgets = ap (budgets_at c) is ∙ map-append (budget_at c) a.budgets.items (record { name = i; steps = steps } ∷ []) ∙ ap (λ bs. bs ++ record { name = name_at c i; steps = steps } ∷ []) h.budgets;
     count = h.count;
@@ -177,6 +180,7 @@ budget_pushed_known a budgets c n i steps e is k = record {
   trees_below = k.trees_below;
   rules_below = k.rules_below;
   rules_in = k.rules_in;
+  parts_in = k.parts_in;
   lines_in = k.lines_in;
   indexed = k.indexed;
   faultless = k.faultless;

@@ -1,5 +1,5 @@
 -- The units of lines whose names hold no line feed.
-use Rattle.std.proofs.Common.{Bool, true, false, List, [], ◌∷◌, ◌++◌, map, Option, Some, None}
+use Rattle.std.proofs.Common.{Bool, true, false, List, [], ◌∷◌, map, Option, Some, None}
 use Rattle.std.specs.Prelude.{IfSome, ◌&&◌, if◌then◌else◌}
 use Rattle.std.specs.List.{flat_map}
 use Rattle.std.proofs.lemmas.List.{map-append}
@@ -10,11 +10,7 @@ use Rattle.lk_rulebook.specs.Units.{Decl}
 use Rattle.lk_members.specs.Lines.{alone, a_type, a_ctor, a_recursor, or_next, same_list, block_of, type_here, type_of, ctor_here, ctor_of, recursor_here, recursors_of}
 use Rattle.lk_members.specs.Units.{Gathered, if_any, ctors_listed, with_ctors, block_with, is_last, ended, at_line, units_from}
 use Rattle.lk_members.specs.Plain.{Head, PlainMember, PlainLine, with_its_ctors, unit_of, library_stated}
-use Rattle.lk_units.proofs.Spellings.{Each, IsSpelledCtor, IsSpelledType, IsSpelledRec, IsSpelledUnit, AreSpelledUnits, IsSpelledHead, IsSpelledMember, AreSpelledLines}
-
-each_append : {X : Type 0} (P : X → Type 0) (xs ys : List X) → Each P xs → Each P ys → Each P (xs ++ ys)
-each_append P [] ys h g = g
-each_append P (x ∷ xs) ys h g = (h.0, each_append P xs ys h.1 g)
+use Rattle.lk_units.proofs.Spellings.{Each, each_append, IsSpelledCtor, IsSpelledType, IsSpelledRec, IsSpelledUnit, AreSpelledUnits, IsSpelledHead, IsSpelledMember, AreSpelledLines}
 
 if_next : {A : Type 0} (P : A → Type 0) (o p : Option A) → IfSome o P → IfSome p P → IfSome (or_next o p) P
 if_next P (Some a) p h g = h

@@ -1,5 +1,5 @@
 -- Items, lines and units whose names hold no line feed, as those of a file.
-use Rattle.std.specs.Prelude.{◌≡◌, true, List, [], ◌∷◌}
+use Rattle.std.specs.Prelude.{◌≡◌, true, List, [], ◌∷◌, ◌++◌}
 use Rattle.lk_tree.specs.Tree.{Name, Tree}
 use Rattle.lk_rulebook.specs.Place.{Ctor, BlockType, RecRule, BlockRecursor}
 use Rattle.lk_rulebook.specs.Units.{Body, as_axiom, as_def, as_thm, as_opaque, as_quot, Decl, LibraryUnit, of_decl, of_block, Library}
@@ -17,6 +17,10 @@ use Rattle.lk_lines.specs.Values as value
 abbrev pub Each : {X : Type 0} → (X → Type 0) → List X → Type 0
 Each P [] = Unit {0}
 Each P (x ∷ xs) = P x × Each P xs
+
+pub each_append : {X : Type 0} (P : X → Type 0) (xs ys : List X) → Each P xs → Each P ys → Each P (xs ++ ys)
+each_append P [] ys h g = g
+each_append P (x ∷ xs) ys h g = (h.0, each_append P xs ys h.1 g)
 
 -- the text of a name's component holds no line feed
 abbrev pub AreSpelledValues : Tag → List Value → Type 0
@@ -74,3 +78,6 @@ IsSpelledMember (a_recursor ts n r) = IsSpelledRec r
 
 abbrev pub AreSpelledLines : List PlainLine → Type 0
 AreSpelledLines ls = Each (λ (l : PlainLine). IsSpelledMember l.said) ls
+
+abbrev pub AreSpelledParts : List (List PlainLine) → Type 0
+AreSpelledParts parts = Each AreSpelledLines parts

@@ -1,5 +1,5 @@
 -- What an assembler holds, by what its numbers have in a store.
-use Rattle.std.specs.Prelude.{◌≡◌, ◌<◌, ◌==◌, ℕ, List, length, All, slice_index_or, IfSome, Result}
+use Rattle.std.specs.Prelude.{◌≡◌, ◌<◌, ◌==◌, ℕ, List, map, length, All, slice_index_or, IfSome, Result}
 use Rattle.std.specs.Prelude.{Ok, Err, Some, option_map, is_some, if◌then◌else◌}
 use Rattle.std.specs.declared.option.Option.{Option}
 use Rattle.lk_tree.specs.Tree.{Level, max_level, imax_level, Tree, lam, pi}
@@ -13,6 +13,7 @@ use Rattle.lk_members.specs.Stored.{lines_of, AreLinesIn}
 use Rattle.lk_members.specs.Finishing.{IsFaultless}
 use Rattle.lk_members.specs.Plain.{lines_at}
 use Rattle.lk_members.specs.Indices.{IsIndexed}
+use Rattle.lk_members.specs.declared.members.Members.{Members}
 use Rattle.lk_lines.specs.declared.words.Word.{Word}
 use Rattle.lk_lines.specs.declared.words.Word.TheVariants.{IndexTaken}
 use Rattle.lk_units.specs.Numbering.{entry}
@@ -47,6 +48,12 @@ rule_at_place rules i = slice_index_or rules i (record { constructor = 0; fields
 abbrev pub rule_held : Contents → List RecursorRule → ℕ → RecRule
 rule_held c rules i = rule_at c (rule_at_place rules i)
 
+-- the lines of a part are in the store, and none of them has a fault among those before it
+pub record IsPartIn (c : Contents) (m : Members) : Type 0 where
+  pub lines_in : AreLinesIn c m.lines.items
+  pub indexed : IsIndexed m
+  pub faultless : IsFaultless (lines_of m.lines.items)
+
 -- the numbers that an assembler has are numbers of the store
 pub record IsKnown (a : Assembler) (c : Contents) : Type 0 where
   pub names_below : Below a.by_name (length c.names)
@@ -54,6 +61,7 @@ pub record IsKnown (a : Assembler) (c : Contents) : Type 0 where
   pub trees_below : Below a.by_tree (length c.trees)
   pub rules_below : Below a.by_rule (length a.rules.items)
   pub rules_in : All (IsRuleIn c) a.rules.items
+  pub parts_in : All (IsPartIn c) a.parts.items
   pub lines_in : AreLinesIn c a.members.lines.items
   pub indexed : IsIndexed a.members
   pub faultless : IsFaultless (lines_of a.members.lines.items)
@@ -65,6 +73,7 @@ pub record Holds (a : Assembler) (c : Contents) (s : State) : Type 0 where
   pub levels : Numbered a.by_level (level_at c) s.levels
   pub trees : Numbered a.by_tree (tree_at c) s.trees
   pub rules : Numbered a.by_rule (rule_held c a.rules.items) s.rules
+  pub parts : map (λ (m : Members). lines_at c m.lines.items) a.parts.items ≡ s.parts
   pub lines : lines_at c a.members.lines.items ≡ s.lines
   pub budgets : budgets_at c a.budgets.items ≡ s.budgets
   pub count : a.count ≡ s.count

@@ -1,5 +1,5 @@
 -- What the numbers of a file stand for behind its lines so far, and what an item adds, or its
--- fault.
+-- fault. Of the lines that declare something, those of a part that is ended stand apart.
 use Rattle.std.specs.Prelude.{ℕ, ◌==◌, ◌+◌, ◌-◌, ◌^◌, Bool, List, [], ◌∷◌, ◌++◌, Result, Ok, Err}
 use Rattle.std.specs.Prelude.{Some, None, if◌then◌else◌, is_some, nat_lt}
 use Rattle.std.specs.declared.option.Option.{Option}
@@ -27,7 +27,7 @@ use Rattle.lk_lines.specs.declared.tags.EntryTag.TheVariants as entry
 use Rattle.lk_lines.specs.declared.tags.DeclarationTag.{DeclarationTag}
 use Rattle.lk_lines.specs.declared.tags.DeclarationTag.TheVariants as decl
 use Rattle.lk_lines.specs.declared.tags.Tag.{Tag}
-use Rattle.lk_lines.specs.declared.tags.Tag.TheVariants.{Entry, Declaration, Budget}
+use Rattle.lk_lines.specs.declared.tags.Tag.TheVariants.{Entry, Declaration, Budget, Go}
 use Rattle.lk_lines.specs.Reading.{◌>>=◌}
 use Rattle.lk_lines.specs.Items.{Item}
 use Rattle.lk_lines.specs.Values.{Value}
@@ -38,6 +38,7 @@ pub record State : Type 0 where
   pub levels : ℕ → Option Level
   pub trees : ℕ → Option Tree
   pub rules : ℕ → Option RecRule
+  pub parts : List (List PlainLine)
   pub lines : List PlainLine
   pub budgets : List StatedBudget
   pub count : ℕ
@@ -49,6 +50,7 @@ begin = record {
   levels = λ n. if n == 0 then Some zero_level else None;
   trees = λ n. None;
   rules = λ n. None;
+  parts = [];
   lines = [];
   budgets = [];
   count = 0;
@@ -326,11 +328,16 @@ with_budget s n steps =
     known s.names n >>= λ name.
     Ok (record s { budgets = s.budgets ++ record { name = name; steps = steps } ∷ [] })
 
+-- the part ends: its lines stand apart, and what its numbers stand for is known further on
+abbrev pub next_part : State → State
+next_part s = record s { parts = s.parts ++ s.lines ∷ []; lines = [] }
+
 -- what line l adds, by its own number, its tag and its values
 abbrev pub added : ℕ → State → Option ℕ → Tag → List Value → Result State Word
 added l s (Some own) (Entry t) values = entry_added s own t values >>= λ u. counted u
 added l s None (Declaration t) values = declared l s (declaration_said s t values)
 added l s None Budget (value.Number n ∷ value.Number steps ∷ []) = with_budget s n steps
+added l s None Go [] = Ok (next_part s)
 added l s own t values = Err UnknownTag
 
 unfoldable pub take_item : ℕ → State → Item → Result State Word

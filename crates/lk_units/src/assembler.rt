@@ -26,6 +26,9 @@ pub struct Assembler {
     /// From the file's numbers of rules to places among `rules`.
     pub by_rule: Numbering,
     pub rules: Vec<RecursorRule>,
+    /// What the lines of each part that is ended declare.
+    pub parts: Vec<Members>,
+    /// What the lines of the part declare that is not ended.
     pub members: Members,
     /// What lines state of the units' budgets, in their order.
     pub budgets: Vec<Budget>,
@@ -87,6 +90,7 @@ fn over(alloc: Global, by_name: Numbering, by_level: Numbering) -> Assembler
         by_tree: Numbering::new(alloc),
         by_rule: Numbering::new(alloc),
         rules: Vec::new(alloc),
+        parts: Vec::new(alloc),
         members: Members::new(alloc),
         budgets: Vec::new(alloc),
         count: 0,

@@ -1,5 +1,5 @@
 //! Items taken one after another.
-ghost use Rattle.std.specs.Prelude.{◌≡◌, ◌<◌, ℕ, length, IfOk, OnOk, Ok, Some, None, Result};
+ghost use Rattle.std.specs.Prelude.{◌≡◌, ◌<◌, ℕ, [], length, IfOk, OnOk, Ok, Some, None, Result};
 ghost use Rattle.lk_tree.specs.Tree.{text, number, var, str};
 ghost use Rattle.lk_rulebook.specs.Place.{RecRule};
 ghost use Rattle.lk_store.specs.Contents.{Contents, Extends};
@@ -17,11 +17,13 @@ use crate::{Assembler, Binder, LevelPair, TakeError, ValueUse};
 use lk_env::budget::Budget;
 use lk_env::unit::{Hint, RecursorRule};
 use lk_lines::{DeclarationLine, EntryLine, ReducibilityHint, Word};
+use lk_members::Members;
 use lk_members::fault::{MemberError, MemberFault};
 use lk_members::line::StoredMember;
 use lk_num::Nat;
 use lk_store::terms::Terms;
 use std::alloc::Global;
+use std::mem::replace;
 
 // Why a line is not taken among those before it.
 fn member_error(error: MemberError) -> TakeError
@@ -597,6 +599,26 @@ impl Assembler {
     {
         let name = self.by_name.known(name)?;
         match self.budgets.push(Budget { name, steps }) {
+            Ok(()) => Ok(()),
+            Err(_) => Err(TakeError::NoMemory),
+        }
+    }
+
+    /// Ends a part: what the lines behind it declare stands apart from what was declared so far.
+    /// What the file's numbers stand for is known further on.
+    #[inline(never)]
+    #[tactic(auto, unfolding(crate::specs::State::take_item))]
+    pub fn part(&mut self, alloc: Global) -> Result<(), TakeError>
+        ensures known { OnOk result ((c : Contents) → IsKnown self.old c → IsKnown self.new c) }
+        ensures follows { (c : Contents) (number : ℕ) (s : State) → Holds self.old c s
+            → Follows self.new c result (take_item number s (record {
+              own = None;
+              tag = tag.Go;
+              values = [];
+            })) }
+    {
+        let members = replace(&mut self.members, Members::new(alloc));
+        match self.parts.push(members) {
             Ok(()) => Ok(()),
             Err(_) => Err(TakeError::NoMemory),
         }

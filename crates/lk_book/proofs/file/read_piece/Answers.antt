@@ -4,21 +4,21 @@ use Rattle.lk_book.proofs.Remaining.{remains_more, tells_stop, tells_long, front
 use Rattle.lk_book.proofs.file.read_piece.Goals as goal
 
 pub returns-in_err-take_piece-clause-tells : goal.returns-in_err-take_piece-clause-tells
-returns-in_err-take_piece-clause-tells g c = λ old m.
+returns-in_err-take_piece-clause-tells g c = λ d old m.
     let p = err_from_is_err_and c.from_residual-in_err-take_piece.result c.from_residual-in_err-take_piece.ensures.1 in
-    rw (p.1, p.2) (tells_stop _ _ c.args.held.now.items (take c.in_ok-read.read c.read.new.into) old _ _ _ m c.in_ok-read.ensures.bytes.0 (c.in_err-take_piece.ensures.stops m.passes.course m.passes.stands))
+    rw (p.1, p.2) (tells_stop d _ _ c.args.held.now.items (take c.in_ok-read.read c.read.new.into) old _ _ _ m c.in_ok-read.ensures.bytes.0 (c.in_err-take_piece.ensures.stops m.passes.course m.passes.stands))
 
 pub returns-in_err-word-clause-front : goal.returns-in_err-word-clause-front
 returns-in_err-word-clause-front g c = front_more _ _ _ (take c.in_ok-read.read c.read.new.into) c.in_ok-read.ensures.bytes.0 c.in_err-word.ensures.front
 
 pub returns-then-len-gt-MAX_LINE-clause-tells : goal.returns-then-len-gt-MAX_LINE-clause-tells
-returns-then-len-gt-MAX_LINE-clause-tells g c = λ old m.
-    let n = remains_more _ c.take_piece.new.reader _ _ c.args.held.now.items c.take_piece.new.held.items (take c.in_ok-read.read c.read.new.into) old _ _ m c.in_ok-read.ensures.bytes.0 (c.in_ok-take_piece.ensures.passes m.passes.course m.passes.stands) in
-    tells_long _ _ c.take_piece.new.held.items old _ _ n (λ rest is. c.in_ok-word.ensures.word c.take_piece.new.held.items rest c.in_ok-take_piece.ensures.unfinished (search rules) is)
+returns-then-len-gt-MAX_LINE-clause-tells g c = λ d old m.
+    let n = remains_more d _ c.take_piece.new.reader _ _ c.args.held.now.items c.take_piece.new.held.items (take c.in_ok-read.read c.read.new.into) old _ _ m c.in_ok-read.ensures.bytes.0 (c.in_ok-take_piece.ensures.passes m.passes.course m.passes.stands) in
+    tells_long d _ _ c.take_piece.new.held.items old _ _ n (λ rest is. c.in_ok-word.ensures.word c.take_piece.new.held.items rest c.in_ok-take_piece.ensures.unfinished (search rules) is)
 
 pub returns-then-len-gt-MAX_LINE-clause-front : goal.returns-then-len-gt-MAX_LINE-clause-front
 returns-then-len-gt-MAX_LINE-clause-front g c = front_more _ _ _ (take c.in_ok-read.read c.read.new.into) c.in_ok-read.ensures.bytes.0 c.in_ok-word.ensures.front
 
 pub returns-clause-remains : goal.returns-clause-remains
-returns-clause-remains g c = λ old m.
-    remains_more _ c.take_piece.new.reader _ _ c.args.held.now.items c.take_piece.new.held.items (take c.in_ok-read.read c.read.new.into) old _ _ m c.in_ok-read.ensures.bytes.0 (c.in_ok-take_piece.ensures.passes m.passes.course m.passes.stands)
+returns-clause-remains g c = λ d old m.
+    remains_more d _ c.take_piece.new.reader _ _ c.args.held.now.items c.take_piece.new.held.items (take c.in_ok-read.read c.read.new.into) old _ _ m c.in_ok-read.ensures.bytes.0 (c.in_ok-take_piece.ensures.passes m.passes.course m.passes.stands)

@@ -21,5 +21,5 @@ pieces-preserved g c = record {
   short = c.in_ok-more.ensures.short;
   same_faults = c.in_ok-more.ensures.no_fault (λ e. absurd (cc)) ∙ c.pieces.invariant.same_faults;
   front = front_then _ _ _ c.pieces.invariant.front c.in_ok-more.ensures.front;
-  remains = λ old m. c.in_ok-more.ensures.remains old (c.pieces.invariant.remains old m);
+  remains = λ d old m. c.in_ok-more.ensures.remains d old (c.pieces.invariant.remains d old m);
 }

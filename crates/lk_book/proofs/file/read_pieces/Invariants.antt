@@ -1,6 +1,7 @@
 use Rattle.std.proofs.Common.{◌≡◌, ℕ, ◌+◌, ◌-◌, ◌^◌, ◌≤◌, List, length}
 use Rattle.std.specs.declared.option.Option.{Option}
 use Rattle.lk_store.specs.Contents.{Extends}
+use Rattle.lk_lines.specs.declared.tags.Dialect.{Dialect}
 use Rattle.lk_token.specs.Lines.{HasNoLineFeed}
 use Rattle.lk_units.specs.Held.{IsKnown}
 use Rattle.lk_book.specs.Passing.{IsCounted}
@@ -21,7 +22,7 @@ invariant-pieces g l =
       short : length l.held.items ≤ 2 ^ 24;
       same_faults : g.S.Source.faults l.source ≡ g.S.Source.faults l.fn.source;
       front : ConsumesSome (left l.fn.source) (left l.source);
-      remains : (old : Option (List ℕ)) → Remains l.fn.reader (contents l.fn.store) l.fn.held.items old (left l.fn.source) → Remains l.reader (contents l.store) l.held.items old (left l.source);
+      remains : (d : Dialect) (old : Option (List ℕ)) → Remains d l.fn.reader (contents l.fn.store) l.fn.held.items old (left l.fn.source) → Remains d l.reader (contents l.store) l.held.items old (left l.source);
     }
 
 abbrev pub decreases-pieces : goal.decreases-pieces

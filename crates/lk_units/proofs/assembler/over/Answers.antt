@@ -2,6 +2,7 @@ use Rattle.std.proofs.Common.{refl, length}
 use Rattle.std.proofs.lemmas.List.Elements.{All-nil}
 use Rattle.lk_store.specs.Contents.{tree_at}
 use Rattle.lk_env.specs.Units.{IsRuleIn}
+use Rattle.lk_units.specs.Held.{IsPartIn}
 use Rattle.lk_units.proofs.Holding.{none_below, none_numbered}
 use Rattle.lk_units.proofs.assembler.over.Goals as goal
 
@@ -12,10 +13,11 @@ returns-clause-known c store names levels = record {
   trees_below = none_below c.new.result (length store.trees) c.new.ensures;
   rules_below = none_below c.new-2.result (length c.new-3.result.items) c.new-2.ensures;
   rules_in = rw c.new-3.ensures.items (All-nil (IsRuleIn store));
-  lines_in = rw c.new-4.ensures.lines (All-nil _);
-  indexed = c.new-4.ensures.indexed;
-  faultless = rw c.new-4.ensures.lines tt;
-  budgets_in = rw c.new-5.ensures.items (All-nil _);
+  parts_in = rw c.new-4.ensures.items (All-nil (IsPartIn store));
+  lines_in = rw c.new-5.ensures.lines (All-nil _);
+  indexed = c.new-5.ensures.indexed;
+  faultless = rw c.new-5.ensures.lines tt;
+  budgets_in = rw c.new-6.ensures.items (All-nil _);
 }
 
 pub returns-clause-holds : goal.returns-clause-holds
@@ -24,7 +26,8 @@ returns-clause-holds c store names levels = record {
   levels = levels;
   trees = none_numbered c.new.result (tree_at store) c.new.ensures;
   rules = none_numbered c.new-2.result _ c.new-2.ensures;
-  lines = rw c.new-4.ensures.lines refl;
-  budgets = rw c.new-5.ensures.items refl;
+  parts = rw c.new-4.ensures.items refl;
+  lines = rw c.new-5.ensures.lines refl;
+  budgets = rw c.new-6.ensures.items refl;
   count = refl;
 }

@@ -6,5 +6,5 @@ pub returns-clause-follows : goal.returns-clause-follows
 returns-clause-follows c store s h = (
   record s { count = s.count + 1 },
   counted_is s c.args.self.now.count h.count (omega arith),
-  record { names = h.names; levels = h.levels; trees = h.trees; rules = h.rules; lines = h.lines; budgets = h.budgets; count = ap (λ n. n + 1) h.count },
+  record { names = h.names; levels = h.levels; trees = h.trees; rules = h.rules; parts = h.parts; lines = h.lines; budgets = h.budgets; count = ap (λ n. n + 1) h.count },
 )
