@@ -2,7 +2,7 @@
 ghost use Rattle.lk_token.specs.Lines.{HasNoLineFeed};
 
 use lk_book::Reader;
-use lk_lines::LineError;
+use lk_lines::{Dialect, LineError};
 use lk_store::base_store::BaseStore;
 use lk_store::terms::Terms;
 use lk_token::next_line;
@@ -20,6 +20,7 @@ fn fault_behind<T: Terms>(alloc: Global, store: &mut T, items: u64, line: &[u8])
     assembler.count = items;
     let mut reader = Reader {
         assembler,
+        dialect: Dialect::Export,
         first: true,
         number: 0,
         before: 0,

@@ -182,6 +182,7 @@ module _ (p : Part) (ps : List Part) (f : File) where
   unfolding add_name
   name_read rules c n read count behind = record {
     leads = behind.leads;
+    dialect = behind.dialect;
     begun = behind.begun;
     before = behind.before;
     anonymous = get_append f.written.names (reverse (p ∷ ps) ∷ []) 0 [] read.anonymous;
@@ -254,6 +255,7 @@ module _ (v : Level) (f : File) where
   unfolding add_level
   level_read rules c n read count behind = record {
     leads = behind.leads;
+    dialect = behind.dialect;
     begun = behind.begun;
     before = behind.before;
     anonymous = read.anonymous;
@@ -322,6 +324,7 @@ module _ (e : Tree) (f : File) where
   unfolding add_tree
   tree_read rules c n read count behind = record {
     leads = behind.leads;
+    dialect = behind.dialect;
     begun = behind.begun;
     before = behind.before;
     anonymous = read.anonymous;

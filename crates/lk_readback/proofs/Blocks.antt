@@ -25,7 +25,7 @@ use Rattle.lk_readback.proofs.Fronts.{grows_trans}
 use Rattle.lk_readback.proofs.OneLine.{next}
 use Rattle.lk_readback.proofs.Lines.{budget_is_line}
 use Rattle.lk_readback.proofs.Wanted.{a_name, Knows, knows, name_writes}
-use Rattle.lk_readback.proofs.Stating.{States, states_none, states_then, few_of, said_in}
+use Rattle.lk_readback.proofs.Stating.{States, states_none, states_then, few_of, stated_in}
 use Rattle.lk_readback.proofs.Stating.{fits_fewer}
 use Rattle.lk_readback.proofs.Stating.{grows_line, plain_read}
 use Rattle.lk_readback.proofs.Declaring.{decl_states, types_state, all_ctors_state}
@@ -62,7 +62,7 @@ unit_states (of_block b rs) f unit =
 -- A budget.
 budget_taken : (s : State) (w : Written) (l : ℕ) (b : StatedBudget)
     → Knows s w (a_name b.name ∷ [])
-    → take_item l s (budget_item b w) ≡ Ok (said_in s s.lines (s.budgets ++ b ∷ []) s.count)
+    → take_item l s (budget_item b w) ≡ Ok (stated_in s s.lines (s.budgets ++ b ∷ []) s.count)
 unfolding take_item
 budget_taken s w l b k = rw k.0 refl
 
@@ -90,7 +90,7 @@ one_budget b f budget =
           record {
             after =
                 next d (length (budget_line b g.written))
-                (said_in d.state d.state.lines (d.state.budgets ++ b ∷ []) d.state.count);
+                (stated_in d.state d.state.lines (d.state.budgets ++ b ∷ []) d.state.count);
             read =
                 plain_read g (rules ++ []) d (budget_line b) (budget_item b g.written) d.state.lines
                 (d.state.budgets ++ b ∷ []) d.state.count (n + length {A = PlainMember} []) one.read

@@ -8,10 +8,11 @@ use Rattle.std.proofs.lemmas.List.Elements.{All-nil, All-cons}
 use Rattle.lk_token.specs.Fields.{fields_of, text_behind}
 use Rattle.lk_token.specs.Lines.{HasNoLineFeed}
 use Rattle.lk_lines.specs.Limits.{limits}
-use Rattle.lk_lines.specs.Says.{said_at, said_of}
+use Rattle.lk_lines.specs.declared.tags.Dialect.TheVariants as dialects
+use Rattle.lk_lines.specs.Says.{said_at, said_in}
 use Rattle.lk_units.specs.State.{begin}
 use Rattle.lk_book.specs.Course.{Course, begin_course, passed, step}
-use Rattle.lk_book.specs.File.{lines_of, after, course_over, course_of}
+use Rattle.lk_book.specs.File.{lines_of, after, course_over, course_in, course_of}
 use Rattle.lk_book.specs.Passing.{Leads}
 use Rattle.lk_book.proofs.FirstLines.{lines_of-line, lines_of-last, has_more-lines_of}
 use Rattle.lk_trim.specs.Written.{beginning}
@@ -19,10 +20,10 @@ use Rattle.lk_readback.specs.Stated.{IsRead}
 
 -- the course behind the version
 abbrev pub begun : Course
-begun = record { first = false; number = 1; before = 6; state = begin }
+begun = record { dialect = dialects.Export; first = false; number = 1; before = 6; state = begin }
 
 version_step : step begin_course true (codes "2.0.0") ≡ Ok begun
-unfolding step said_of said_at fields_of text_behind
+unfolding step said_in said_at fields_of text_behind
 version_step = refl
 
 version_one : HasNoLineFeed (codes "2.0.0")
@@ -50,6 +51,7 @@ only_first x (suc n) = let apart : (suc n == 0) ≡ false = grind (arith, nat_te
 pub beginning_read : IsRead beginning [] begun
 beginning_read = record {
   leads = version_leads;
+  dialect = refl;
   begun = refl;
   before = refl;
   anonymous = refl;
@@ -65,13 +67,13 @@ beginning_read = record {
 -- behind the last line feed nothing follows
 last_step : (c : Course) → c.first ≡ false → c.before ≤ 2 ^ 40
     → step c false [] ≡ Ok (passed c 0 false)
-unfolding step said_of said_at fields_of text_behind
+unfolding step said_in said_at fields_of text_behind
 last_step c first small =
     let none : limits c.before 0 false ≡ None = grind (arith, nat_tests) in rw (first, none) refl
 
 pub read_to_end : (text : List ℕ) (c : Course) → Leads begin_course text c [] → c.first ≡ false
     → c.before ≤ 2 ^ 40 → course_of text ≡ Ok (passed c 0 false)
-unfolding course_of
+unfolding course_in
 read_to_end text c leads first small =
     ap (λ l. course_over begin_course (lines_of l)) (sym (append-nil text))
     ∙ leads []

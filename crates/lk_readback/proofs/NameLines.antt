@@ -6,6 +6,7 @@ use Rattle.lk_tree.specs.Tree.{Part, text, number, Level, zero_level, succ_level
 use Rattle.lk_tree.specs.Tree.{imax_level, param}
 use Rattle.lk_token.specs.Fields.{fields_of}
 use Rattle.lk_token.specs.Lines.{HasNoLineFeed}
+use Rattle.lk_lines.specs.declared.tags.Dialect.TheVariants as dialects
 use Rattle.lk_lines.specs.declared.tags.Tag.TheVariants.{Entry}
 use Rattle.lk_lines.specs.declared.tags.EntryTag.TheVariants as entry
 use Rattle.lk_lines.specs.Values.{Number, Bytes}
@@ -25,7 +26,7 @@ use Rattle.lk_readback.proofs.Sizes.{name_small, level_small}
 -- The bytes of a text may hold spaces, and then its fields are not those of the line.
 text_spells : (own n : ℕ) (bytes : List ℕ) (more : List (List ℕ)) → IsSmall own → IsSmall n
     → IsUtf8 bytes
-    → SpellsItem (defines own entry.NameText (Number n ∷ Bytes bytes ∷ [])) bytes
+    → SpellsItem dialects.Export (defines own entry.NameText (Number n ∷ Bytes bytes ∷ [])) bytes
     (decimal own ∷ codes "#NS" ∷ decimal n ∷ more)
 text_spells own n bytes more small parent utf8 = (
   codes "#NS" ∷ decimal n ∷ more,
@@ -57,12 +58,12 @@ text_line own n bytes small parent utf8 one =
     let behind = text_behind-three (decimal own) (codes "#NS") (decimal n) bytes a b c in
     let parts = three_fields (decimal own) (codes "#NS") (decimal n) bytes a b c in
     record {
-      said = said_again false line
+      said = said_again dialects.Export false line
           (OfItem (defines own entry.NameText (Number n ∷ Bytes bytes ∷ [])))
-          (subst (λ t. SpellsItem (defines own entry.NameText (Number n ∷ Bytes bytes ∷ [])) t
-          (fields_of line))
+          (subst (λ t. SpellsItem dialects.Export
+          (defines own entry.NameText (Number n ∷ Bytes bytes ∷ [])) t (fields_of line))
           (sym behind)
-          (subst (λ fs. SpellsItem
+          (subst (λ fs. SpellsItem dialects.Export
           (defines own entry.NameText (Number n ∷ Bytes bytes ∷ [])) bytes fs)
           (sym parts) (text_spells own n bytes (fields_of bytes) small parent utf8)));
       one = three_feed (decimal own) (codes "#NS") (decimal n) bytes a b c one;

@@ -7,10 +7,11 @@ use Rattle.std.proofs.lemmas.Bool.Decides.{nat_tests}
 use Rattle.std.proofs.lemmas.List.{length-append}
 use Rattle.std.proofs.lemmas.List.Elements.{All-head}
 use Rattle.lk_rulebook.specs.Place.{RecRule}
+use Rattle.lk_lines.specs.declared.tags.Dialect.TheVariants as dialects
 use Rattle.lk_lines.specs.Limits.{limits}
 use Rattle.lk_lines.specs.Reading.{◌>>=◌}
 use Rattle.lk_lines.specs.Items.{Item}
-use Rattle.lk_lines.specs.Says.{said_of}
+use Rattle.lk_lines.specs.Says.{said_in}
 use Rattle.lk_units.specs.State.{State, take_item}
 use Rattle.lk_book.specs.Course.{Course, begin_course, passed, taken, unless, at_line, step}
 use Rattle.lk_book.specs.File.{lines_of, after, course_over}
@@ -25,27 +26,29 @@ use Rattle.lk_readback.proofs.Lines.{IsLine}
 -- the course is where a reader is behind the text, of which some line was not blank
 pub record IsBehind (text : List ℕ) (c : Course) : Type 0 where
   pub leads : Leads begin_course text c []
+  pub dialect : c.dialect ≡ dialects.Export
   pub begun : c.first ≡ false
   pub before : c.before ≡ length text
 
 -- behind one more line of so many bytes, whose item comes to this state
 abbrev pub next : Course → ℕ → State → Course
 next c n s =
-    record { first = false; number = c.number + 1; before = c.before + n + 1; state = s }
+    record c { first = false; number = c.number + 1; before = c.before + n + 1; state = s }
 
 limits_none : (before n : ℕ) → before + n + 1 ≤ 2 ^ 40 → n ≤ 2 ^ 24 → limits before n true ≡ None
 limits_none before n input line = grind (arith, nat_tests)
 
-step_item : (c : Course) (bytes : List ℕ) (item : Item) (s : State) → c.first ≡ false
-    → c.before + length bytes + 1 ≤ 2 ^ 40 → length bytes ≤ 2 ^ 24 → IsLine bytes item
-    → take_item (c.number + 1) c.state item ≡ Ok s
+step_item : (c : Course) (bytes : List ℕ) (item : Item) (s : State) → c.dialect ≡ dialects.Export
+    → c.first ≡ false → c.before + length bytes + 1 ≤ 2 ^ 40 → length bytes ≤ 2 ^ 24
+    → IsLine bytes item → take_item (c.number + 1) c.state item ≡ Ok s
     → step c true bytes ≡ Ok (next c (length bytes) s)
 unfolding step
-step_item c bytes item s begun input short line takes =
+step_item c bytes item s export begun input short line takes =
     let d : Course = passed c (length bytes) true in
-    ap (λ o. at_line (c.number + 1) (unless o (said_of c.first bytes >>= taken d)))
+    ap (λ o. at_line (c.number + 1) (unless o (said_in c.dialect c.first bytes >>= taken d)))
     (limits_none c.before (length bytes) input short)
-    ∙ ap (λ b. at_line (c.number + 1) (said_of b bytes >>= taken d)) begun
+    ∙ ap (λ k. at_line (c.number + 1) (said_in k c.first bytes >>= taken d)) export
+    ∙ ap (λ b. at_line (c.number + 1) (said_in dialects.Export b bytes >>= taken d)) begun
     ∙ ap (λ r. at_line (c.number + 1) (r >>= taken d)) line.said
     ∙ ap (λ r. at_line (c.number + 1) (r >>= λ t. Ok (record d { first = false; state = t }))) takes
 
@@ -86,10 +89,11 @@ pub line_passed : (text bytes : List ℕ) (c : Course) (item : Item) (s : State)
 line_passed text bytes c item s behind line lines input takes =
     let long = line_input text bytes c behind.before in
     let goes =
-    step_item c bytes item s behind.begun (omega arith) (line_short text bytes item line lines)
-    line takes in
+    step_item c bytes item s behind.dialect behind.begun (omega arith)
+    (line_short text bytes item line lines) line takes in
     record {
       leads = leads_line text bytes c (next c (length bytes) s) behind.leads goes item line;
+      dialect = behind.dialect;
       begun = refl;
       before = long;
     }
@@ -97,7 +101,12 @@ line_passed text bytes c item s behind line lines input takes =
 pub read_behind : (f : File) (rules : List RecRule) (c : Course) → IsRead f rules c
     → IsBehind f.text c
 read_behind f rules c read =
-    record { leads = read.leads; begun = read.begun; before = read.before }
+    record {
+      leads = read.leads;
+      dialect = read.dialect;
+      begun = read.begun;
+      before = read.before;
+    }
 
 -- a reader that stands behind a file passes one line more
 pub line_read : (f g : File) (rules : List RecRule) (c : Course) (bytes : List ℕ) (item : Item)

@@ -99,6 +99,7 @@ rule_writes r f rule =
             after = next d (length (rule_line r g.written)) (with_one d.state own r);
             read = record {
               leads = behind.leads;
+              dialect = behind.dialect;
               begun = behind.begun;
               before = behind.before;
               anonymous = inner.anonymous;

@@ -11,10 +11,12 @@ use Rattle.lk_lines.specs.declared.words.Word.{Word}
 use Rattle.lk_lines.specs.declared.line.Fault.{Fault}
 use Rattle.lk_lines.specs.Limits.{limits}
 use Rattle.lk_lines.specs.Reading.{◌>>=◌}
-use Rattle.lk_lines.specs.Says.{Says, Blank, Version, OfItem, said_of}
+use Rattle.lk_lines.specs.declared.tags.Dialect.{Dialect}
+use Rattle.lk_lines.specs.declared.tags.Dialect.TheVariants as dialects
+use Rattle.lk_lines.specs.Says.{Says, Blank, Version, OfItem, said_in}
 use Rattle.lk_units.specs.State.{State, take_item}
-use Rattle.lk_book.specs.Course.{Course, begin_course, passed, taken, unless, at_line, step}
-use Rattle.lk_book.specs.File.{lines_of, has_more, after, course_over, course_of}
+use Rattle.lk_book.specs.Course.{Course, begin_in, passed, taken, unless, at_line, step}
+use Rattle.lk_book.specs.File.{lines_of, has_more, after, course_over, course_in, course_of}
 use Rattle.lk_readback.proofs.SmallItems.{small_item}
 use Rattle.lk_readback.proofs.SmallStates.{IsSmallState, kept_item, kept_begin}
 
@@ -59,19 +61,20 @@ kept_state : (c : Course) (r : Result State Word) → IfOk r IsSmallState
 kept_state c (Ok s) h = h
 kept_state c (Err w) h = tt
 
-kept_taken : (c : Course) (first : Bool) (line : List ℕ) (says : Says) → HasNoLineFeed line
-    → said_of first line ≡ Ok says → IsSmallState c.state → IfOk (taken c says) IsSmallCourse
-kept_taken c first line Blank h e k = k
-kept_taken c first line Version h e k = k
-kept_taken c first line (OfItem item) h e k =
+kept_taken : (c : Course) (d : Dialect) (first : Bool) (line : List ℕ) (says : Says)
+    → HasNoLineFeed line → said_in d first line ≡ Ok says → IsSmallState c.state
+    → IfOk (taken c says) IsSmallCourse
+kept_taken c d first line Blank h e k = k
+kept_taken c d first line Version h e k = k
+kept_taken c d first line (OfItem item) h e k =
     kept_state c (take_item c.number c.state item)
-    (kept_item c.number c.state item (small_item first line item h e) k)
+    (kept_item c.number c.state item (small_item d first line item h e) k)
 
-kept_said : (c : Course) (first : Bool) (line : List ℕ) (said : Result Says Word)
-    → HasNoLineFeed line → said_of first line ≡ said → IsSmallState c.state
+kept_said : (c : Course) (d : Dialect) (first : Bool) (line : List ℕ) (said : Result Says Word)
+    → HasNoLineFeed line → said_in d first line ≡ said → IsSmallState c.state
     → IfOk (said >>= taken c) IsSmallCourse
-kept_said c first line (Ok says) h e k = kept_taken c first line says h e k
-kept_said c first line (Err w) h e k = tt
+kept_said c d first line (Ok says) h e k = kept_taken c d first line says h e k
+kept_said c d first line (Err w) h e k = tt
 
 kept_step : (c : Course) (feed : Bool) (line : List ℕ) → HasNoLineFeed line → IsSmallState c.state
     → IfOk (step c feed line) IsSmallCourse
@@ -79,8 +82,8 @@ unfolding step
 kept_step c feed line h k =
     let p = passed c (length line) feed in
     kept_at _ _ (kept_unless (limits c.before (length line) feed)
-    (said_of c.first line >>= taken p)
-    (kept_said p c.first line (said_of c.first line) h refl k))
+    (said_in c.dialect c.first line >>= taken p)
+    (kept_said p c.dialect c.first line (said_in c.dialect c.first line) h refl k))
 
 kept_after : (r : Result Course Fault) (f : Course → Result Course Fault) → IfOk r IsSmallCourse
     → ((d : Course) → IsSmallState d.state → IfOk (f d) IsSmallCourse)
@@ -95,10 +98,10 @@ kept_over c (line ∷ lines) h k =
     kept_after (step c (has_more lines) line) (λ d. course_over d lines)
     (kept_step c (has_more lines) line h.0 k) (λ d j. kept_over d lines h.1 j)
 
-kept_course : (bytes : List ℕ) → IfOk (course_of bytes) IsSmallCourse
-unfolding course_of
-kept_course bytes = kept_over begin_course (lines_of bytes) (are_cut bytes) kept_begin
+kept_course : (d : Dialect) (bytes : List ℕ) → IfOk (course_in d bytes) IsSmallCourse
+unfolding course_in
+kept_course d bytes = kept_over (begin_in d) (lines_of bytes) (are_cut bytes) kept_begin
 
 -- what a file that is read without a fault comes to
 pub small_course : (bytes : List ℕ) (c : Course) → course_of bytes ≡ Ok c → IsSmallState c.state
-small_course bytes c read = rw read at (kept_course bytes)
+small_course bytes c read = rw read at (kept_course dialects.Export bytes)

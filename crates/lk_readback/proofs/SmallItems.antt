@@ -9,13 +9,14 @@ use Rattle.lk_num.specs.declared.numeral.Nat.{Nat}
 use Rattle.lk_num.specs.declared.numeral.Nat.TheVariants as nats
 use Rattle.lk_lines.specs.declared.dues.Due.{Due}
 use Rattle.lk_lines.specs.declared.dues.Due.TheVariants as due
+use Rattle.lk_lines.specs.declared.tags.Dialect.{Dialect}
 use Rattle.lk_lines.specs.declared.tags.Tag.{Tag}
 use Rattle.lk_lines.specs.Values.{Value}
 use Rattle.lk_lines.specs.Values as value
 use Rattle.lk_lines.specs.Table.{dues_of}
 use Rattle.lk_lines.specs.Spelling.{IsLiteral, Takes, SpellsDues}
 use Rattle.lk_lines.specs.Items.{Item, SpellsOwn}
-use Rattle.lk_lines.specs.Says.{OfItem, said_of}
+use Rattle.lk_lines.specs.Says.{OfItem, said_in}
 use Rattle.lk_lines.proofs.LineFeedLaws.{text_has_none, said_spelled}
 use Rattle.lk_units.specs.State.{number_literal, hint_said}
 use Rattle.lk_readback.specs.Statable.{IsSmall, IsTree, IsHint}
@@ -70,14 +71,15 @@ dues_small [] text fields values none h = tt
 dues_small (d ∷ dues) text fields values none (v, rest, more, is, takes, spells) =
     rw is (takes_small d text fields v rest none takes, dues_small dues text rest more none spells)
 
-own_small : (own : Option ℕ) (t : Tag) (values : List Value) (text : List ℕ)
-    (fields : List (List ℕ)) → HasNoLineFeed text → SpellsOwn own t values text fields
+own_small : (d : Dialect) (own : Option ℕ) (t : Tag) (values : List Value) (text : List ℕ)
+    (fields : List (List ℕ)) → HasNoLineFeed text → SpellsOwn d own t values text fields
     → AreDueValues (dues_of t) values
-own_small (Some own) t values text fields none s = dues_small (dues_of t) text _ values none s.2.3
-own_small None t values text fields none s = dues_small (dues_of t) text _ values none s.3
+own_small d (Some own) t values text fields none s =
+    dues_small (dues_of t) text _ values none s.2.3
+own_small d None t values text fields none s = dues_small (dues_of t) text _ values none s.3
 
-pub small_item : (first : Bool) (bytes : List ℕ) (item : Item) → HasNoLineFeed bytes
-    → said_of first bytes ≡ Ok (OfItem item) → IsSmallItem item
-small_item first bytes item none e =
-    own_small item.own item.tag item.values (text_behind bytes) (fields_of bytes)
-    (text_has_none bytes none) (said_spelled first bytes (OfItem item) e)
+pub small_item : (d : Dialect) (first : Bool) (bytes : List ℕ) (item : Item)
+    → HasNoLineFeed bytes → said_in d first bytes ≡ Ok (OfItem item) → IsSmallItem item
+small_item d first bytes item none e =
+    own_small d item.own item.tag item.values (text_behind bytes) (fields_of bytes)
+    (text_has_none bytes none) (said_spelled d first bytes (OfItem item) e)

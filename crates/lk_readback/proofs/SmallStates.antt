@@ -21,7 +21,7 @@ use Rattle.lk_lines.specs.declared.tags.EntryTag.TheVariants as entry
 use Rattle.lk_lines.specs.declared.tags.DeclarationTag.{DeclarationTag}
 use Rattle.lk_lines.specs.declared.tags.DeclarationTag.TheVariants as decl
 use Rattle.lk_lines.specs.declared.tags.Tag.{Tag}
-use Rattle.lk_lines.specs.declared.tags.Tag.TheVariants.{Entry, Declaration, Budget}
+use Rattle.lk_lines.specs.declared.tags.Tag.TheVariants.{Entry, Declaration, Budget, Go}
 use Rattle.lk_lines.specs.Reading.{◌>>=◌}
 use Rattle.lk_lines.specs.Table.{dues_of}
 use Rattle.lk_lines.specs.Items.{Item}
@@ -34,7 +34,7 @@ use Rattle.lk_units.specs.State.{application_tree, binder_tree, let_tree, projec
 use Rattle.lk_units.specs.State.{number_literal, rule_of}
 use Rattle.lk_units.specs.State.{declaration_of, hint_said, value_body, valued_of, entry_added}
 use Rattle.lk_units.specs.State.{declaration_said, counted, unless_fault, with_line, declared}
-use Rattle.lk_units.specs.State.{with_budget, added, take_item}
+use Rattle.lk_units.specs.State.{with_budget, next_part, added, take_item}
 use Rattle.lk_readback.specs.Statable.{IsName, IsLevel, IsTree, IsBody, IsRule}
 use Rattle.lk_readback.specs.Statable.{IsBudget}
 use Rattle.lk_readback.proofs.SmallMembers.{IsMember, AreMembers, HaveNoFault, none_at_first}
@@ -352,6 +352,17 @@ kept_budget s n steps small k =
           (record { name = h; steps = small });
     })
 
+kept_part : (s : State) → IsSmallState s → IsSmallState (next_part s)
+kept_part s k = record {
+  names = k.names;
+  levels = k.levels;
+  trees = k.trees;
+  rules = k.rules;
+  lines = All-nil (λ (y : PlainLine). IsMember y.said);
+  faultless = none_at_first;
+  budgets = k.budgets;
+}
+
 kept_added : (l : ℕ) (s : State) (own : Option ℕ) (t : Tag) (values : List Value)
     → AreDueValues (dues_of t) values → IsSmallState s → IfOk (added l s own t values) IsSmallState
 kept_added l s (Some own) (Entry t) values i k =
@@ -362,8 +373,11 @@ kept_added l s None (Declaration t) values i k =
 kept_added l s None Budget (value.Number n ∷ value.Number steps ∷ []) i k =
     kept_budget s n steps i.1.0 k
 kept_added l s None Budget values i k = tt
+kept_added l s None Go [] i k = kept_part s k
+kept_added l s None Go values i k = tt
 kept_added l s (Some own) (Declaration t) values i k = tt
 kept_added l s (Some own) Budget values i k = tt
+kept_added l s (Some own) Go values i k = tt
 kept_added l s None (Entry t) values i k = tt
 
 pub kept_item : (l : ℕ) (s : State) (item : Item) → IsSmallItem item → IsSmallState s

@@ -120,24 +120,25 @@ grows_line says f = record {
 }
 
 -- the state where these lines and budgets came on, and so many items were counted
-abbrev pub said_in : State → List PlainLine → List StatedBudget → ℕ → State
-said_in s ls bs count = record s { lines = ls; budgets = bs; count = count }
+abbrev pub stated_in : State → List PlainLine → List StatedBudget → ℕ → State
+stated_in s ls bs count = record s { lines = ls; budgets = bs; count = count }
 
 -- a line that defines no number is read
 pub plain_read : (g : File) (rules : List RecRule) (c : Course) (says : Written → List ℕ)
     (item : Item) (ls : List PlainLine) (bs : List StatedBudget) (count members : ℕ)
     → IsRead g rules c → IsLine (says g.written) item → Fits members (line says g)
-    → take_item (c.number + 1) c.state item ≡ Ok (said_in c.state ls bs count)
+    → take_item (c.number + 1) c.state item ≡ Ok (stated_in c.state ls bs count)
     → count ≡ defined_count g.written + length ls
     → IsRead (line says g) rules
-    (next c (length (says g.written)) (said_in c.state ls bs count))
+    (next c (length (says g.written)) (stated_in c.state ls bs count))
 unfolding line
 plain_read g rules c says item ls bs count members read one fits takes many =
     let behind =
-    line_read g (line says g) rules c (says g.written) item (said_in c.state ls bs count)
+    line_read g (line says g) rules c (says g.written) item (stated_in c.state ls bs count)
     members read one refl fits takes in
     record {
       leads = behind.leads;
+      dialect = behind.dialect;
       begun = behind.begun;
       before = behind.before;
       anonymous = read.anonymous;
@@ -160,7 +161,7 @@ counted_is s less =
 declared_is : (l : ℕ) (s : State) (m : PlainMember) → s.count + 1 < 2 ^ 32
     → fault_of same_name s.lines m ≡ None
     → declared l s (Ok m)
-    ≡ Ok (said_in s (s.lines ++ record { number = l; said = m } ∷ []) s.budgets (s.count + 1))
+    ≡ Ok (stated_in s (s.lines ++ record { number = l; said = m } ∷ []) s.budgets (s.count + 1))
 declared_is l s m less none =
     let t : State = record s { count = s.count + 1 } in
     let u : State = record t { lines = t.lines ++ record { number = l; said = m } ∷ [] } in
@@ -197,7 +198,7 @@ line_states {f} {g} {more} {xs} says item m writes is_line takes = record {
       record {
         after =
             next d (length (says g.written))
-            (said_in d.state (d.state.lines ++ l ∷ []) d.state.budgets (d.state.count + 1));
+            (stated_in d.state (d.state.lines ++ l ∷ []) d.state.budgets (d.state.count + 1));
         read =
             plain_read g (rules ++ more) d says (item g.written) (d.state.lines ++ l ∷ [])
             d.state.budgets (d.state.count + 1) (n + length (m ∷ [])) one.read

@@ -6,6 +6,7 @@ use Rattle.lk_token.specs.Fields.{text_behind}
 use Rattle.lk_token.specs.Lines.{HasNoLineFeed}
 use Rattle.lk_lines.specs.declared.tags.Tag.{Tag}
 use Rattle.lk_lines.specs.declared.tags.Tag.TheVariants as tag
+use Rattle.lk_lines.specs.declared.tags.Dialect.TheVariants as dialects
 use Rattle.lk_lines.specs.declared.tags.EntryTag.{EntryTag}
 use Rattle.lk_lines.specs.declared.tags.EntryTag.TheVariants as entry
 use Rattle.lk_lines.specs.declared.tags.DeclarationTag.{DeclarationTag}
@@ -36,11 +37,12 @@ pub record AreFew (w : Written) : Type 0 where
 
 -- what any text spells with these fields is said by the fields, joined
 line_of : (field : List ℕ) (fields : List (List ℕ)) (item : Item) → AreFields (field ∷ fields)
-    → ((text : List ℕ) → SpellsItem item text (field ∷ fields))
+    → ((text : List ℕ) → SpellsItem dialects.Export item text (field ∷ fields))
     → IsLine (field ++ spaced fields) item
 line_of field fields item fine spell = record {
-  said = said_again false (field ++ spaced fields) (OfItem item)
-      (subst (λ (fs : List (List ℕ)). SpellsItem item (text_behind (field ++ spaced fields)) fs)
+  said = said_again dialects.Export false (field ++ spaced fields) (OfItem item)
+      (subst (λ (fs : List (List ℕ)).
+      SpellsItem dialects.Export item (text_behind (field ++ spaced fields)) fs)
       (sym (joined_fields field fields fine)) (spell (text_behind (field ++ spaced fields))));
   one = joined_feed field fields fine;
 }
@@ -72,6 +74,7 @@ word_field (tag.Declaration declaration.Inductive) = record { some = omega arith
 word_field (tag.Declaration declaration.Constructor) = record { some = omega arith; plain = refl }
 word_field (tag.Declaration declaration.Recursor) = record { some = omega arith; plain = refl }
 word_field tag.Budget = record { some = omega arith; plain = refl }
+word_field tag.Go = record { some = omega arith; plain = refl }
 
 -- each tag of a line that defines a number
 pub numbered_among : (t : EntryTag) → Contains numbered_tags (tag.Entry t)
@@ -94,7 +97,7 @@ numbered_among entry.TextLiteral = (15, omega arith, refl)
 numbered_among entry.Rule = (16, omega arith, refl)
 
 -- each tag of a line that begins with it
-declared_among : (t : DeclarationTag) → Contains plain_tags (tag.Declaration t)
+declared_among : (t : DeclarationTag) → Contains (plain_tags dialects.Export) (tag.Declaration t)
 declared_among declaration.Theorem = (0, omega arith, refl)
 declared_among declaration.Definition = (1, omega arith, refl)
 declared_among declaration.Axiom = (2, omega arith, refl)
@@ -104,7 +107,7 @@ declared_among declaration.Inductive = (5, omega arith, refl)
 declared_among declaration.Constructor = (6, omega arith, refl)
 declared_among declaration.Recursor = (7, omega arith, refl)
 
-budget_among : Contains plain_tags tag.Budget
+budget_among : Contains (plain_tags dialects.Export) tag.Budget
 budget_among = (8, omega arith, refl)
 
 -- a line that defines a number
@@ -121,7 +124,8 @@ numbered_line own t fields values small are =
       (numbered_among t, fields, refl, (are text).spell),
     ))
 
-plain_line : (t : Tag) (fields : List (List ℕ)) (values : List Value) → Contains plain_tags t
+plain_line : (t : Tag) (fields : List (List ℕ)) (values : List Value)
+    → Contains (plain_tags dialects.Export) t
     → ((text : List ℕ) → AreSpelled (dues_of t) text fields values)
     → IsLine (tag_word t ++ spaced fields) (record { own = None; tag = t; values = values })
 plain_line t fields values among are =

@@ -9,6 +9,7 @@ use Rattle.lk_env.specs.Budgets.{StatedBudget}
 use Rattle.lk_members.specs.Lines.{alone, a_type, a_ctor, a_recursor}
 use Rattle.lk_members.specs.Faults.{fault_of}
 use Rattle.lk_members.specs.Plain.{Head, PlainMember, PlainLine}
+use Rattle.lk_lines.specs.declared.tags.Dialect.TheVariants as dialects
 use Rattle.lk_book.specs.Course.{Course, begin_course}
 use Rattle.lk_book.specs.Passing.{Leads}
 use Rattle.lk_trim.specs.Written.{File}
@@ -87,6 +88,7 @@ kept_budgets (k ∷ ks) = if_stated k.budget ++ kept_budgets ks
 -- line there, the rules for these.
 pub record IsRead (f : File) (rules : List RecRule) (c : Course) : Type 0 where
   pub leads : Leads begin_course f.text c []
+  pub dialect : c.dialect ≡ dialects.Export
   pub begun : c.first ≡ false
   pub before : c.before ≡ length f.text
   pub anonymous : slice_get f.written.names 0 ≡ Some []
