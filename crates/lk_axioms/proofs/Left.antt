@@ -1,5 +1,5 @@
 -- What is known stays known while sets come and findings are kept.
-use Rattle.std.proofs.Common.{ℕ, ◌≡◌, ◌≢◌, ◌<◌, inl, inr, length, get_or, set, sym, ap, subst, ◌∙◌, arith, get_or-set_same, get_or-set_other}
+use Rattle.std.proofs.Common.{ℕ, ◌≡◌, ◌≢◌, ◌<◌, inl, inr, List, length, get_or, set, sym, ap, subst, ◌∙◌, arith, get_or-set_same, get_or-set_other}
 use Rattle.std.proofs.lemmas.Bool.{cases_eq}
 use Rattle.std.proofs.Math.ListN.{length-set}
 use Rattle.lk_rulebook.specs.Units.{Library}
@@ -8,25 +8,24 @@ use Rattle.lk_store.specs.Contents.{Contents, tree_at, tree_of}
 use Rattle.lk_store.specs.declared.node.Node.{Node}
 use Rattle.lk_axioms.specs.declared.finding.Finding.{Finding}
 use Rattle.lk_axioms.specs.declared.gathering.Gathering.{Gathering}
-use Rattle.lk_axioms.specs.Lists.{set_at, Keeps}
+use Rattle.lk_axioms.specs.Lists.{HasEmptySet, Keeps}
 use Rattle.lk_axioms.specs.Gives.{TreeGives, IsFinding, nowhere, cell_at, IsKnown, IsSetOfUnit}
 use Rattle.lk_axioms.specs.Gathered.{IsRight, IsMade, IsLeft}
 use Rattle.lk_axioms.specs.Walks.{IsNodeOf}
 use Rattle.lk_axioms.proofs.Listed.{still}
 
 -- sets have come
+pub set_still : (us : Library) (m set : ℕ) (old new : List (List ℕ)) → Keeps old new → IsSetOfUnit us old m set → IsSetOfUnit us new m set
+set_still us m set old new k s = record { set_in = omega (arith, s.set_in, k.longer); is_list = subst (λ ks. IsAxiomList us m ks) (sym (k.same set s.set_in)) s.is_list }
+
 pub right_still : (c : Contents) (us : Library) (n : ℕ) (old new : Gathering) → IsRight c us n old → Keeps old.sets new.sets → new.cells.items ≡ old.cells.items → new.units.items ≡ old.units.items → IsRight c us n new
 right_still c us n old new r k cells units = record {
-  empty_in = omega (arith, r.empty_in, k.longer);
-  empty = k.same 0 r.empty_in ∙ r.empty;
+  has_empty = record { empty_in = omega (arith, r.has_empty.empty_in, k.longer); empty = k.same 0 r.has_empty.empty_in ∙ r.has_empty.empty };
   one_each = ap length cells ∙ r.one_each;
   cells = λ e l. subst (λ f. IsFinding (TreeGives us (tree_at c e)) n new.sets f) (sym (ap (λ xs. cell_at xs e) cells)) (still (TreeGives us (tree_at c e)) n old.sets new.sets (cell_at old.cells.items e) k (r.cells e l));
   count = ap length units ∙ r.count;
-  units = λ m l. subst (IsSetOfUnit us new.sets m) (sym (ap (λ xs. get_or xs m 0) units)) (set_still m (get_or old.units.items m 0) (r.units m l));
+  units = λ m l. subst (IsSetOfUnit us new.sets m) (sym (ap (λ xs. get_or xs m 0) units)) (set_still us m (get_or old.units.items m 0) old.sets new.sets k (r.units m l));
 }
-  where
-    set_still : (m k : ℕ) → IsSetOfUnit us old.sets m k → IsSetOfUnit us new.sets m k
-    set_still m j s = record { set_in = omega (arith, s.set_in, k.longer); is_list = subst (λ ks. IsAxiomList us m ks) (sym (k.same j s.set_in)) s.is_list }
 
 -- the finding of a tree is kept
 module _ (c : Contents) (us : Library) (n : ℕ) (old mid new : Gathering) (e : ℕ) (d : Node) (f : Finding)
@@ -54,8 +53,7 @@ module _ (c : Contents) (us : Library) (n : ℕ) (old mid new : Gathering) (e : 
 
   kept_right : IsRight c us n new
   kept_right = record {
-    empty_in = subst (λ x. 0 < length x) (sym sets) mid_right.empty_in;
-    empty = ap (λ x. set_at x 0) sets ∙ mid_right.empty;
+    has_empty = subst HasEmptySet (sym sets) mid_right.has_empty;
     one_each = ap length cells ∙ length-set mid.cells.items e f ∙ mid_right.one_each;
     cells = λ q l. subst (λ x. IsFinding (TreeGives us (tree_at c q)) n x (cell_at new.cells.items q)) (sym sets) (finds q l);
     count = ap length units ∙ mid_right.count;

@@ -15,7 +15,7 @@ use Rattle.lk_axioms.specs.Lists.{set_at}
 use Rattle.lk_axioms.specs.Gives.{TreesGive}
 use Rattle.lk_axioms.specs.Gathered.{AreGathered, IsUnitGathered, HasItself}
 use Rattle.lk_axioms.specs.Stated.{stated_numbers}
-use Rattle.lk_axioms.proofs.Listed.{listed_as, union_listed}
+use Rattle.lk_axioms.proofs.Listed.{listed_as, union_listed, Keeps-trans}
 use Rattle.lk_axioms.proofs.Left.{right_still}
 use Rattle.lk_axioms.proofs.Numbers.{IsMentionedIn, stated_are, mentioned_in, mentions_there}
 
@@ -49,16 +49,17 @@ module _ (c : Contents) (us : Library) (n : ℕ) (u : StoredUnit) (stands : slic
       let clash : true ≡ false = sym a.is_one ∙ ap is_axiom same ∙ none in
       absurd cc
 
-  pub without_itself : (g : Gathering) (set : ℕ) → is_axiom (unit_at c u) ≡ false → AreGathered c us n (stated_numbers u) g set → IsUnitGathered c us n g set
-  without_itself g set none a = record { right = a.right; unit_set = record { set_in = a.set_in; is_list = listed_as (TreesGive c us (stated_numbers u) n) (IsAxiomOf us n) (set_at g.sets set) gives_axiom from a.listed } }
+  pub without_itself : (first g : Gathering) (set : ℕ) → is_axiom (unit_at c u) ≡ false → AreGathered c us n (stated_numbers u) first g set → IsUnitGathered c us n first g set
+  without_itself first g set none a = record { right = a.right; keeps = a.keeps; unit_set = record { set_in = a.set_in; is_list = listed_as (TreesGive c us (stated_numbers u) n) (IsAxiomOf us n) (set_at g.sets set) gives_axiom from a.listed } }
     where
       from : (k : ℕ) → IsAxiomOf us n k → TreesGive c us (stated_numbers u) n k
       from k x = elim (axiom_given k x) [ inl h ↦ absurd (no_axiom none h.1) | inr t ↦ t ]
 
-  pub with_itself : (old new : Gathering) (set r : ℕ) → is_axiom (unit_at c u) ≡ true → AreGathered c us n (stated_numbers u) old set → HasItself old.sets new.sets n set r
-      → new.cells.items ≡ old.cells.items → new.units.items ≡ old.units.items → IsUnitGathered c us n new r
-  with_itself old new set r one a h cells units = record {
+  pub with_itself : (first old new : Gathering) (set r : ℕ) → is_axiom (unit_at c u) ≡ true → AreGathered c us n (stated_numbers u) first old set → HasItself old.sets new.sets n set r
+      → new.cells.items ≡ old.cells.items → new.units.items ≡ old.units.items → IsUnitGathered c us n first new r
+  with_itself first old new set r one a h cells units = record {
     right = right_still c us n old new a.right h.keeps cells units;
+    keeps = Keeps-trans first.sets old.sets new.sets a.keeps h.keeps;
     unit_set = record { set_in = h.set_in; is_list = union_listed (TreesGive c us (stated_numbers u) n) (λ k. n ≡ k) (IsAxiomOf us n) (set_at old.sets set) (n ∷ []) (set_at new.sets r) h.rising h.union a.listed own from gives_axiom itself_of };
   }
     where

@@ -6,6 +6,7 @@ ghost use Rattle.lk_store.specs.Contents.{Contents, name_at, tree_at, tree_of, I
 ghost use Rattle.lk_store.specs.Store.{contents_of};
 ghost use Rattle.lk_seek.specs.Trees.{parts_back};
 ghost use Rattle.lk_env.specs.Units.{library_of};
+ghost use Rattle.lk_axioms.specs.Lists.{HasEmptySet};
 ghost use Rattle.lk_axioms.specs.Gives.{NameGives, TreeGives, IsFinding, cell_at, AreKnown};
 ghost use Rattle.lk_axioms.specs.Gathered.{IsRight, IsRightFor, IsUnitNumber, IsMade};
 ghost use Rattle.lk_axioms.specs.Gathered.{AreJoined, IsLeft};
@@ -31,12 +32,19 @@ pub(crate) struct Gathering {
 }
 
 impl Gathering {
-    /// Nothing is known yet of so many trees, and none of so many units is done.
-    pub(crate) fn new(alloc: Global, trees: u64, units: usize) -> Result<Gathering, NoMemory>
-        ensures { IfOk result (λ g. (c : Contents) (us : List LibraryUnit)
+    /// Begins with these sets. Nothing is known yet of so many trees, and none of so many units is
+    /// done.
+    pub(crate) fn new(
+        alloc: Global,
+        sets: Sets,
+        trees: u64,
+        units: usize,
+    ) -> Result<Gathering, NoMemory>
+        requires { HasEmptySet sets }
+        ensures sets { IfOk result (λ g. g.sets ≡ sets) }
+        ensures right { IfOk result (λ g. (c : Contents) (us : List LibraryUnit)
             → length c.trees ≡ trees → IsRight c us 0 g) }
     {
-        let sets = Sets::new(alloc)?;
         let mut cells = Vec::new(alloc);
         cells.resize(trees as usize, NOWHERE)?;
         Ok(Gathering {

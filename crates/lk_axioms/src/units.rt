@@ -6,7 +6,8 @@ ghost use Rattle.lk_store.specs.Contents.{Contents};
 ghost use Rattle.lk_store.specs.Store.{contents_of};
 ghost use Rattle.lk_env.specs.Units.{unit_at, library_of, IsUnitIn};
 ghost use Rattle.lk_axioms.specs.Gathered.{IsRightFor, IsUnitNumber, AreGathered, IsUnitGathered};
-ghost use Rattle.lk_axioms.specs.Gathered.{HasItself};
+ghost use Rattle.lk_axioms.specs.Gathered.{HasItself, AreKept};
+ghost use Rattle.lk_axioms.specs.Lists.{Keeps, unless_stale};
 
 use crate::gathering::{Gathering, gather};
 use crate::sets::Sets;
@@ -38,7 +39,7 @@ fn gather_trees(
     requires trees_in { All (λ e. e < length (contents_of library.now.tables).trees) trees.now }
     ensures { IfOk result (AreGathered (contents_of library.now.tables)
         (library_of library.now) unit
-        trees.now gathering.new) }
+        trees.now gathering.old gathering.new) }
 {
     let mut used: u32 = 0;
     for tree in trees {
@@ -84,7 +85,7 @@ fn gather_unit(
     requires stated_in { IsUnitIn (contents_of library.now.tables) stated.now }
     ensures { IfOk result (IsUnitGathered (contents_of library.now.tables)
         (library_of library.now) unit
-        gathering.new) }
+        gathering.old gathering.new) }
 {
     list_trees(&mut walks.trees, stated)?;
     let used = gather_trees(
@@ -116,20 +117,35 @@ fn push_unit(
     requires stands { slice_get (library_of library.now) unit
         ≡ Some (unit_at (contents_of library.now.tables) stated.now) }
     requires stated_in { IsUnitIn (contents_of library.now.tables) stated.now }
-    ensures { OnOk result (IsRightFor library.now (unit + 1) gathering.new) }
+    ensures right { OnOk result (IsRightFor library.now (unit + 1) gathering.new) }
+    ensures keeps { OnOk result (Keeps gathering.old.sets gathering.new.sets) }
 {
     let set = gather_unit(alloc, library, gathering, walks, unit, stated)?;
     gathering.units.push(set)?;
     Ok(())
 }
 
-/// Gathers all units. They are fewer than 2^32; more are want of memory.
+/// The number of the set that a unit had, where it is not stale.
+fn kept_set(kept: &[u32], stale: &[bool], unit: usize) -> Option<u32>
+    ensures { result ≡ unless_stale (slice_get stale.now unit) (slice_get kept.now unit) }
+{
+    match stale.get(unit) {
+        Some(false) => kept.get(unit).copied(),
+        _ => None,
+    }
+}
+
+/// Gathers all units; one that is not stale has the set still that it had. They are fewer than
+/// 2^32; more are want of memory.
 pub(crate) fn gather_units(
     alloc: Global,
     library: &Library,
     gathering: &mut Gathering,
+    kept: &[u32],
+    stale: &[bool],
 ) -> Result<(), NoMemory>
-    requires { IsRightFor library.now 0 gathering.old }
+    requires right { IsRightFor library.now 0 gathering.old }
+    requires still { AreKept (library_of library.now) gathering.old.sets kept.now stale.now }
     ensures { OnOk result (IsRightFor library.now (length library.now.units) gathering.new) }
 {
     let units = library.units();
@@ -141,7 +157,14 @@ pub(crate) fn gather_units(
         stack: Vec::new(alloc),
     };
     for (i, unit) in units.iter().enumerate() {
-        push_unit(alloc, library, gathering, &mut walks, i as u32, unit)?;
+        match kept_set(kept, stale, i) {
+            Some(set) => {
+                gathering.units.push(set)?;
+            }
+            None => {
+                push_unit(alloc, library, gathering, &mut walks, i as u32, unit)?;
+            }
+        }
     }
     Ok(())
 }

@@ -10,7 +10,7 @@ use Rattle.lk_axioms.proofs.gathering.named.Goals as goal
 pub returns-in-None-clause-finding : goal.returns-in-None-clause-finding
 returns-in-None-clause-finding c =
     by_nobody (library_of c.args.library.now) (name_at (contents_of c.args.library.now.tables) c.args.name) c.args.unit c.args.gathering.now.sets 4294967295
-    c.requires.right.empty_in c.requires.right.empty c.in-None.ensures
+    c.requires.right.has_empty.empty_in c.requires.right.has_empty.empty c.in-None.ensures
 
 pub returns-in-Some-clause-finding : goal.returns-in-Some-clause-finding
 returns-in-Some-clause-finding c =
@@ -24,4 +24,4 @@ returns-in-Some-clause-finding c =
 pub returns-in-Some-2-clause-finding : goal.returns-in-Some-2-clause-finding
 returns-in-Some-2-clause-finding c =
     by_later (library_of c.args.library.now) (name_at (contents_of c.args.library.now.tables) c.args.name) c.in-Some.p.unit c.in-Some.p.member c.in-Some.ensures
-    c.args.unit c.args.gathering.now.sets c.saturating_add.result (omega (arith, c.saturating_add.ensures)) c.requires.right.empty_in c.requires.right.empty
+    c.args.unit c.args.gathering.now.sets c.saturating_add.result (omega (arith, c.saturating_add.ensures)) c.requires.right.has_empty.empty_in c.requires.right.has_empty.empty

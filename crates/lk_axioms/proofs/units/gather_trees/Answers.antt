@@ -17,5 +17,5 @@ loop-tree-preserved c =
     get_or_read c.gather.new.gathering.cells.items tree c.index-found.result.now (omega (arith, inside, left.right.one_each)) c.index-found.ensures nowhere in
     let united : IsUnited c.gather.new.gathering.sets c.union.new.self c.loop-tree.used (cell_at c.gather.new.gathering.cells.items tree).set c.in_ok-used.used =
     subst (λ (f : Finding). IsUnited c.gather.new.gathering.sets c.union.new.self c.loop-tree.used f.set c.in_ok-used.used) cell c.in_ok-used.ensures in
-    gathered_more (contents_of c.args.library.now.tables) (library_of c.args.library.now) c.args.unit c.args.trees.now c.loop-tree.tree-index c.loop-tree.gathering c.gather.new.gathering _ c.loop-tree.used c.in_ok-used.used
+    gathered_more (contents_of c.args.library.now.tables) (library_of c.args.library.now) c.args.unit c.args.trees.now c.loop-tree.tree-index c.args.gathering.now c.loop-tree.gathering c.gather.new.gathering _ c.loop-tree.used c.in_ok-used.used
     c.loop-tree-test.true c.loop-tree.invariant inside left united refl refl

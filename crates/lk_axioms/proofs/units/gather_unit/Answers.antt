@@ -19,16 +19,16 @@ returns-then-is_axiom c =
     let d = contents_of c.args.library.now.tables in
     let us = library_of c.args.library.now in
     let is : c.deref.result.now ≡ stated_numbers c.args.stated.now = c.deref.ensures.value ∙ c.in_ok-list_trees.ensures in
-    let a : AreGathered d us c.args.unit (stated_numbers c.args.stated.now) c.gather_trees.new.gathering c.in_ok-used.used =
-    subst (λ (es : List ℕ). AreGathered d us c.args.unit es c.gather_trees.new.gathering c.in_ok-used.used) is c.in_ok-used.ensures in
+    let a : AreGathered d us c.args.unit (stated_numbers c.args.stated.now) c.args.gathering.now c.gather_trees.new.gathering c.in_ok-used.used =
+    subst (λ (es : List ℕ). AreGathered d us c.args.unit es c.args.gathering.now c.gather_trees.new.gathering c.in_ok-used.used) is c.in_ok-used.ensures in
     if_ok (HasItself c.gather_trees.new.gathering.sets c.add_itself.new.sets c.args.unit c.in_ok-used.used) _ c.add_itself.result
-    (λ r h. with_itself d us c.args.unit c.args.stated.now c.requires.stands c.gather_trees.new.gathering _ c.in_ok-used.used r (sym (c.if-is_axiom.ensures d)) a h refl refl) c.add_itself.ensures
+    (λ r h. with_itself d us c.args.unit c.args.stated.now c.requires.stands c.args.gathering.now c.gather_trees.new.gathering _ c.in_ok-used.used r (sym (c.if-is_axiom.ensures d)) a h refl refl) c.add_itself.ensures
 
 pub returns-else-is_axiom : goal.returns-else-is_axiom
 returns-else-is_axiom c =
     let d = contents_of c.args.library.now.tables in
     let us = library_of c.args.library.now in
     let is : c.deref.result.now ≡ stated_numbers c.args.stated.now = c.deref.ensures.value ∙ c.in_ok-list_trees.ensures in
-    let a : AreGathered d us c.args.unit (stated_numbers c.args.stated.now) c.gather_trees.new.gathering c.in_ok-used.used =
-    subst (λ (es : List ℕ). AreGathered d us c.args.unit es c.gather_trees.new.gathering c.in_ok-used.used) is c.in_ok-used.ensures in
-    without_itself d us c.args.unit c.args.stated.now c.requires.stands c.gather_trees.new.gathering c.in_ok-used.used (sym (c.if-is_axiom.ensures d)) a
+    let a : AreGathered d us c.args.unit (stated_numbers c.args.stated.now) c.args.gathering.now c.gather_trees.new.gathering c.in_ok-used.used =
+    subst (λ (es : List ℕ). AreGathered d us c.args.unit es c.args.gathering.now c.gather_trees.new.gathering c.in_ok-used.used) is c.in_ok-used.ensures in
+    without_itself d us c.args.unit c.args.stated.now c.requires.stands c.args.gathering.now c.gather_trees.new.gathering c.in_ok-used.used (sym (c.if-is_axiom.ensures d)) a
