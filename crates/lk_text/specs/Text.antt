@@ -164,6 +164,10 @@ summary_text vs =
     (counted_text (codes " no ") (count No vs) ++
     (counted_text (codes " memory ") (count Memory vs) ++ 10 ∷ [])))
 
+-- the line that says how many units were checked
+abbrev pub checked_line : ℕ → List ℕ
+checked_line n = counted_text (codes "checked ") n ++ 10 ∷ []
+
 -- the whole text for these units and verdicts
 abbrev pub report_text : Library → List Verdict → List ℕ
 report_text us vs = lines_text us 0 us vs ++ summary_text vs

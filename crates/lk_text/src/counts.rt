@@ -2,7 +2,7 @@
 
 ghost use Rattle.std.specs.Prelude.{◌≡◌, ◌++◌, map, OnOk, IfOk};
 ghost use Rattle.lk_checks.specs.Held.{verdict};
-ghost use Rattle.lk_text.specs.Text.{is_of, count, counted_text, summary_text};
+ghost use Rattle.lk_text.specs.Text.{is_of, count, counted_text, summary_text, checked_line};
 
 use crate::names::add_number;
 use lk_checks::Verdict;
@@ -76,6 +76,15 @@ pub fn add_summary(out: &mut Vec<u8>, verdicts: &[Verdict]) -> Result<(), NoMemo
     add_counted(out, b" yes ", count(VerdictKind::Yes, verdicts))?;
     add_counted(out, b" no ", count(VerdictKind::No, verdicts))?;
     add_counted(out, b" memory ", count(VerdictKind::Memory, verdicts))?;
+    out.push(b'\n')?;
+    Ok(())
+}
+
+/// Appends the line that says how many units were checked.
+pub fn add_checked(out: &mut Vec<u8>, n: u64) -> Result<(), NoMemory>
+    ensures { OnOk result (out.new.items ≡ out.old.items ++ checked_line n) }
+{
+    add_counted(out, b"checked ", n)?;
     out.push(b'\n')?;
     Ok(())
 }

@@ -13,7 +13,7 @@ mod under;
 mod units;
 mod verdicts;
 
-pub use counts::{VerdictKind, count, summary};
+pub use counts::{VerdictKind, add_checked, count, summary};
 pub use laws::{allowed_axioms_are_listed, joined_texts_are_split_again, policies_only_refuse};
 pub use named::{unit_named, unknown_line};
 pub use policy::Policy;
