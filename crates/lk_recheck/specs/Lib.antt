@@ -1,0 +1,10 @@
+pub mod Stale
+pub mod Same
+pub mod Sources
+pub mod Counts
+pub mod Built
+pub mod Hits
+pub mod Spliced
+pub mod Places
+pub mod Rounds
+pub mod Plans

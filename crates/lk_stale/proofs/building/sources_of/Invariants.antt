@@ -1,5 +1,0 @@
-use Rattle.lk_stale.specs.Built.{stored_at, IsBuiltTo}
-use Rattle.lk_stale.proofs.building.sources_of.Given as goal
-
-abbrev pub invariant-loop-slot : goal.invariant-loop-slot
-invariant-loop-slot l = IsBuiltTo (stored_at l.base l.units) l.slot l.sources
