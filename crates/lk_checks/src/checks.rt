@@ -1,9 +1,10 @@
 //! Who checks units.
 
-ghost use Rattle.std.specs.Prelude.{◌≡◌, ◌<◌, ℕ, length, map, All, IfOk};
+ghost use Rattle.std.specs.Prelude.{◌≡◌, ◌<◌, ℕ, List, length, map, All, IfOk};
+ghost use Rattle.lk_env.specs.StoredLibrary.{StoredLibrary};
 ghost use Rattle.lk_env.specs.Units.{library_of};
 ghost use Rattle.lk_checks.specs.Held.{verdict};
-ghost use Rattle.lk_checks.specs.Checked.{AreChecked};
+ghost use Rattle.lk_checks.specs.Checked.{Answer, AreChecked};
 
 use crate::verdict::Verdict;
 use lk_env::library::Library;
@@ -14,6 +15,10 @@ use std::alloc::Global;
 pub trait Checks {
     /// The budget of each unit.
     ghost budget_of: { Self → ℕ };
+
+    /// The answers that may come when units of a library are handed on, by their numbers. It need not
+    /// say anything of them: to know that this was answered of these numbers is to have asked it.
+    ghost may_answer: { Self → StoredLibrary → List ℕ → Answer → Type 0 };
 
     /// How many steps the questions of one unit may take.
     fn budget(&self) -> u128
@@ -28,7 +33,8 @@ pub trait Checks {
         units: &[u32],
     ) -> Result<Vec<Verdict>, NoMemory>
         requires { All (λ n. n < length library.now.units) units.now }
-        ensures { IfOk result (λ vs.
+        ensures checked { IfOk result (λ vs.
             AreChecked (library_of library.now) (budget_of self.now) units.now
-            (map verdict vs.items)) };
+            (map verdict vs.items)) }
+        ensures answered { may_answer self.now library.now units.now result };
 }

@@ -1,20 +1,21 @@
 -- Verdicts that are kept, and verdicts that are put at their numbers.
-use Rattle.std.proofs.Common.{◌≡◌, ℕ, zero, suc, ◌+◌, ◌<◌, ◌^◌, ◌⊎◌, inl, inr, Bool, true, false, List, [], ◌∷◌, ◌++◌, length, Some, refl, ap, sym, subst, ◌∙◌, arith}
+use Rattle.std.proofs.Common.{◌≡◌, ℕ, zero, suc, ◌+◌, ◌<◌, ◌^◌, ◌⊎◌, inl, inr, Bool, true, false, List, [], ◌∷◌, ◌++◌, length, Some, Ok, Err, refl, ap, sym, subst, ◌∙◌, arith}
 use Rattle.std.specs.Prelude.{All, slice_get, slice_set, slice_index}
 use Rattle.std.specs.List.{Contains}
 use Rattle.std.specs.List.Sorted.{IsStrictlyIncreasing}
 use Rattle.std.proofs.lemmas.Bool.{cases_eq}
 use Rattle.std.proofs.lemmas.List.{length_push, length-set, get_or_append_left}
 use Rattle.std.proofs.lemmas.List.Elements.{All-weaker, Contains-get_or, Contains-append_left, Contains-push, Contains-push_cases, All-contains_itself}
+use Rattle.std.proofs.lemmas.List.Kept.{AllPairs-from_increasing}
 use Rattle.std.proofs.lemmas.Option.{slice_get_within, slice_get-get_or, get_or_from_slice_get}
 use Rattle.lk_rulebook.specs.Units.{Library}
 use Rattle.lk_rulebook.specs.Spelled.{library_spelled}
 use Rattle.lk_uses.specs.Closure.{IsUnchanged, own_unit}
 use Rattle.lk_verdict.specs.Told.{Verdict, told, accepted, rejected, out_of_steps, out_of_memory, IsPlainVerdict}
-use Rattle.lk_checks.specs.Checked.{AreChecked}
+use Rattle.lk_checks.specs.Checked.{Answer, AreChecked}
 use Rattle.lk_recheck.specs.Stale.{MarksStale}
-use Rattle.lk_recheck.specs.Rounds.{ArePlain, IsCounted}
-use Rattle.lk_recheck.specs.Plans.{kept_verdict, IsUnitMore, IsPlanTo, IsPlan, IsAnswer, ArePut}
+use Rattle.lk_recheck.specs.Rounds.{ArePlain, IsCounted, KeepVerdicts, GivesVerdicts, AreHandedOn}
+use Rattle.lk_recheck.specs.Plans.{kept_verdict, IsUnitMore, IsPlanTo, IsPlan, IsAnswer, ArePut, ArePutTo, IsPut, IsAnswered, KeepOthers}
 use Rattle.lk_recheck.proofs.Chained.{get_back, get_last}
 use Rattle.lk_recheck.proofs.Undecided.{same_verdict}
 
@@ -245,8 +246,13 @@ plain_next us vs budget before numbers verdicts s t a p = record { as_many = p.a
     each n v e = elim (p.kept n v e) [ inl m ↦ inr m | inr k ↦ still_plain n v k.0 (a.each n v k.1) ]
 
 -- Answers are put at their numbers.
-pub none_put : (numbers : List ℕ) (answers verdicts : List Verdict) → ArePut numbers answers verdicts verdicts
-none_put numbers answers verdicts = record { as_many = refl; each = λ n v e. inl e; others = λ n f. refl }
+pub none_put : (numbers : List ℕ) (answers verdicts : List Verdict) → ArePutTo numbers answers 0 verdicts verdicts
+none_put numbers answers verdicts = record { as_many = refl; each = λ n v e. inl e; put = λ j n v l. absurd (omega (arith, l)); others = λ n f. refl }
+
+set_there : {X : Type 0} (xs : List X) (i : ℕ) (x : X) → i < length xs → slice_get (slice_set xs i x) i ≡ Some x
+set_there [] i x l = absurd (omega (arith, l))
+set_there (z ∷ xs) zero x l = refl
+set_there (z ∷ xs) (suc i) x l = set_there xs i x (omega (arith, l))
 
 set_here : {X : Type 0} (xs : List X) (i : ℕ) (x y : X) → slice_get (slice_set xs i x) i ≡ Some y → x ≡ y
 set_here [] i x y e = absurd cc
@@ -260,11 +266,20 @@ set_elsewhere (z ∷ xs) zero (suc n) x f = refl
 set_elsewhere (z ∷ xs) (suc i) zero x f = refl
 set_elsewhere (z ∷ xs) (suc i) (suc n) x f = set_elsewhere xs i n x (λ e. f (ap suc e))
 
-pub one_put : (numbers : List ℕ) (answers first old : List Verdict) (i k : ℕ) (v : Verdict) → slice_get numbers i ≡ Some k → slice_get answers i ≡ Some v
-    → ArePut numbers answers first old → ArePut numbers answers first (slice_set old k v)
-one_put numbers answers first old i k v at_number at_answer a = record {
+-- numbers at two places of a rising list are two
+apart : (numbers : List ℕ) → IsStrictlyIncreasing numbers → (j i n k : ℕ) → j < i → slice_get numbers j ≡ Some n → slice_get numbers i ≡ Some k → n ≡ k → ⊥
+apart numbers rising j i n k lt at_n at_k same =
+    let less = AllPairs-from_increasing numbers rising j i 0 lt (slice_get_within numbers i k at_k) in
+    let first = get_or_from_slice_get numbers j n 0 at_n in
+    let second = get_or_from_slice_get numbers i k 0 at_k in
+    omega (arith, less, first, second, same)
+
+pub one_put : (numbers : List ℕ) (answers first old : List Verdict) (i k : ℕ) (v : Verdict) → IsStrictlyIncreasing numbers → k < length first → slice_get numbers i ≡ Some k → slice_get answers i ≡ Some v
+    → ArePutTo numbers answers i first old → ArePutTo numbers answers (i + 1) first (slice_set old k v)
+one_put numbers answers first old i k v rising within at_number at_answer a = record {
   as_many = length-set old k v ∙ a.as_many;
   each = λ n w e. each n w e (cases_eq n k);
+  put = λ j n w l at_n at_w. put j n w l at_n at_w (cases_eq j i);
   others = λ n f. set_elsewhere old k n v (λ s. f (subst (Contains numbers) (sym s) (contained k at_number))) ∙ a.others n f;
 }
   where
@@ -277,6 +292,16 @@ one_put numbers answers first old i k v at_number at_answer a = record {
         inr (record { place = i; number = at_number ∙ ap Some (sym s); answer = at_answer ∙ ap Some same })
     each n w e (inr f) = a.each n w (sym (set_elsewhere old k n v f) ∙ e)
 
+    put : (j n : ℕ) (w : Verdict) → j < i + 1 → slice_get numbers j ≡ Some n → slice_get answers j ≡ Some w → (j ≡ i) ⊎ (j ≡ i → ⊥) → slice_get (slice_set old k v) n ≡ Some w
+    put j n w l at_n at_w (inl s) =
+        let numbers_are : Some n ≡ Some k = sym at_n ∙ ap (slice_get numbers) s ∙ at_number in
+        let answers_are : Some v ≡ Some w = sym at_answer ∙ ap (slice_get answers) (sym s) ∙ at_w in
+        let number : n ≡ k = cc in
+        ap (slice_get (slice_set old k v)) number ∙ set_there old k v (omega (arith, within, a.as_many)) ∙ answers_are
+    put j n w l at_n at_w (inr f) =
+        let before : j < i = omega (arith, l, f) in
+        set_elsewhere old k n v (apart numbers rising j i n k before at_n at_number) ∙ a.put j n w before at_n at_w
+
 -- verdicts stay plain where plain ones are put among them
 pub plain_put : (vs : Library) (budget : ℕ) (numbers : List ℕ) (answers old new : List Verdict) → ArePlain vs budget old → AreChecked vs budget numbers answers
     → ArePut numbers answers old new → ArePlain vs budget new
@@ -284,3 +309,44 @@ plain_put vs budget numbers answers old new a checked p = record {
   as_many = p.as_many ∙ a.as_many;
   each = λ n v e. elim (p.each n v e) [ inl b ↦ a.each n v b | inr k ↦ checked.each k.place n v k.number k.answer ];
 }
+
+-- By a plan, of which the numbers were answered.
+module _ (us vs : Library) (before : List Verdict) (numbers : List ℕ) (planned new : List Verdict) (p : IsPlan us vs before numbers planned) where
+  planned_memory : (n : ℕ) → Contains numbers n → slice_get planned n ≡ Some out_of_memory
+  planned_memory n c = go (p.kept n at.0 at.1)
+    where
+      counted : IsCounted us vs before n
+      counted = p.counted.each n c
+
+      at : (v : Verdict) × (slice_get planned n ≡ Some v)
+      at = there planned n (omega (arith, counted.0, p.as_many))
+
+      go : (at.0 ≡ out_of_memory) ⊎ (IsUnchanged us vs n × (slice_get before n ≡ Some at.0)) → slice_get planned n ≡ Some out_of_memory
+      go (inl m) = at.1 ∙ ap Some m
+      go (inr k) = elim counted.1 [ inl f ↦ absurd (f k.0) | inr e ↦ at.1 ∙ sym k.1 ∙ e ]
+
+  -- what is planned and then put at its numbers leaves the other verdicts as they were
+  kept_others : KeepOthers numbers planned new → KeepVerdicts us vs before new
+  kept_others others n v unchanged at held = others n beside ∙ p.stays n v unchanged at
+    where
+      why : (IsUnchanged us vs n → ⊥) ⊎ (slice_get before n ≡ Some out_of_memory) → ⊥
+      why (inl f) = f unchanged
+      why (inr e) = let both : Some v ≡ Some out_of_memory = sym at ∙ e in held cc
+
+      beside : Contains numbers n → ⊥
+      beside c = why (p.counted.each n c).1
+
+  put_others : (a : Answer) → IsPut numbers a planned new → KeepOthers numbers planned new
+  put_others (Ok vs) put = put.others
+  put_others (Err e) put = λ n f. ap (λ xs. slice_get xs n) put
+
+  put_given : (a : Answer) → IsPut numbers a planned new → GivesVerdicts numbers a new
+  put_given (Ok vs) put = λ i n v at said. put.put i n v (slice_get_within numbers i n at) at said
+  put_given (Err e) put = λ n c. ap (λ xs. slice_get xs n) put ∙ planned_memory n c
+
+  module _ (MayAnswer : List ℕ → Answer → Type 0) (a : IsAnswered MayAnswer numbers planned new) where
+    pub verdicts_kept : KeepVerdicts us vs before new
+    verdicts_kept = kept_others (put_others a.answer a.put)
+
+    pub handed_on : AreHandedOn MayAnswer us vs before new
+    handed_on = record { numbers = numbers; counted = p.counted; answer = a.answer; may_come = a.may_come; given = put_given a.answer a.put }

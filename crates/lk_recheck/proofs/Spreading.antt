@@ -17,7 +17,7 @@ use Rattle.lk_recheck.specs.declared.sources.Link.{Link}
 use Rattle.lk_recheck.specs.declared.sources.Sources.{Sources}
 use Rattle.lk_recheck.specs.Sources.{slot, Behind, here, later, last_of, IsSource, AreLinked}
 use Rattle.lk_recheck.specs.Counts.{IsThingAt}
-use Rattle.lk_recheck.specs.Hits.{IsOpen, Hits, is_changed, leads_on, AreStartedTo, IsPassed, IsSpreading, IsSpread, Passes, IsPassing, Steps, IsKept}
+use Rattle.lk_recheck.specs.Hits.{IsOpen, Hits, is_changed, leads_on, AreStartedTo, IsPassed, IsSpreading, IsSpread, Passes, IsPassing, Steps, AreWithin}
 use Rattle.lk_recheck.proofs.Chained.{behind_cases}
 use Rattle.lk_recheck.proofs.Numbers.{one_thing}
 
@@ -85,8 +85,8 @@ module _ (r : Room) (t : Sources) (changed : List Bool) (s : Needs) (i : ℕ) (a
     waiting = a.waiting;
   }
 
-  pub starts_kept : IsKept r s
-  starts_kept = record { room = a.room; waiting_in = λ x w. start_in x (a.waiting x w) }
+  pub starts_within : AreWithin r s
+  starts_within = record { room = a.room; waiting_in = λ x w. start_in x (a.waiting x w) }
 
 -- All that leads to one number is marked, link by link.
 module _ (r : Room) (t : Sources) (b : ℕ) (old : Needs) (linked : AreLinked t) where
@@ -180,8 +180,8 @@ module _ (r : Room) (t : Sources) (n : ℕ) (old : Needs) (rest : Vec Thing Glob
   still_waits x k = subst (λ xs. Contains xs x) (sym popped) (Contains-append_left rest.items (y ∷ []) x k)
 
   module _ (new : Needs) (o : Steps r t n y (record old { waiting = rest }) new) where
-    pub step_kept : IsKept r old → IsKept r new
-    step_kept k = record { room = room; waiting_in = waiting_in }
+    pub step_within : AreWithin r old → AreWithin r new
+    step_within k = record { room = room; waiting_in = waiting_in }
       where
         room : room_of new ≡ r
         room = o.enters.room ∙ k.room
@@ -239,8 +239,8 @@ spread_ends r t n s w before after changed u = record { spreading = spreading; n
       waiting = λ y k. absurd (contains_none y (subst (λ xs. Contains xs y) after k));
     }
 
-pub end_kept : (r : Room) (s : Needs) (w : Vec Thing Global) → w.items ≡ [] → IsKept r s → IsKept r (record s { waiting = w })
-end_kept r s w after k = record { room = k.room; waiting_in = λ x c. absurd (contains_none x (subst (λ xs. Contains xs x) after c)) }
+pub end_within : (r : Room) (s : Needs) (w : Vec Thing Global) → w.items ≡ [] → AreWithin r s → AreWithin r (record s { waiting = w })
+end_within r s w after k = record { room = k.room; waiting_in = λ x c. absurd (contains_none x (subst (λ xs. Contains xs x) after c)) }
 
 -- One unit more is open.
 open_more : (n : ℕ) (y : Thing) → IsOpen n y → IsOpen (n + 1) y
@@ -300,8 +300,8 @@ module _ (r : Room) (t : Sources) (changed : List Bool) (n : ℕ) (s : Needs) (u
       unit_waits : Contains w.items (a_unit n)
       unit_waits = subst (λ xs. Contains xs (a_unit n)) (sym pushed) (Contains-push s.waiting.items (a_unit n))
 
-pub open_kept : (r : Room) (n : ℕ) (s : Needs) (w : Vec Thing Global) → n < r.units → w.items ≡ s.waiting.items ++ a_unit n ∷ [] → IsKept r s → IsKept r (record s { waiting = w })
-open_kept r n s w n_in pushed k = record {
+pub open_within : (r : Room) (n : ℕ) (s : Needs) (w : Vec Thing Global) → n < r.units → w.items ≡ s.waiting.items ++ a_unit n ∷ [] → AreWithin r s → AreWithin r (record s { waiting = w })
+open_within r n s w n_in pushed k = record {
   room = k.room;
   waiting_in = λ x c. elim (Contains-push_cases s.waiting.items (a_unit n) x (subst (λ xs. Contains xs x) pushed c)) [ inl b ↦ k.waiting_in x b | inr e ↦ subst (IsThing r) e n_in ];
 }

@@ -119,6 +119,6 @@ pub record IsMarking (r : Room) (t : Sources) (changed : List Bool) (ts : List T
   pub tells : TellHits r t changed ts i marks
 
 -- what waits is of this room
-pub record IsKept (r : Room) (s : Needs) : Type 0 where
+pub record AreWithin (r : Room) (s : Needs) : Type 0 where
   pub room : room_of s ≡ r
   pub waiting_in : (x : Thing) → Waits s x → IsThing r x

@@ -7,7 +7,7 @@ ghost use Rattle.lk_recheck.specs.declared.sources.Sources.{Sources as Chains};
 ghost use Rattle.lk_recheck.specs.Sources.{slots};
 ghost use Rattle.lk_recheck.specs.Counts.{room_by, IsTable};
 ghost use Rattle.lk_recheck.specs.Hits.{IsOpen, AreStartedTo, IsSpreading, IsSpread, Passes, Steps};
-ghost use Rattle.lk_recheck.specs.Hits.{IsKept, AnyMarked, IsMarking, TellHits};
+ghost use Rattle.lk_recheck.specs.Hits.{AreWithin, AnyMarked, IsMarking, TellHits};
 
 use crate::counts::Counts;
 use crate::slots::{slot_of, thing_at};
@@ -74,8 +74,8 @@ fn pass_if_open(
 /// Passes on what waits until nothing does.
 fn spread(sources: &Sources, counts: &Counts, hits: &mut Needs, units: u32) -> Result<(), NoMemory>
     requires table { IsTable counts.now sources.now }
-    requires kept { IsKept (room_by counts.now) hits.old }
-    ensures kept { OnOk result (IsKept (room_by counts.now) hits.new) }
+    requires within { AreWithin (room_by counts.now) hits.old }
+    ensures within { OnOk result (AreWithin (room_by counts.now) hits.new) }
     ensures spread { OnOk result ((changed : List Bool)
         → IsSpreading (room_by counts.now) sources.now changed units hits.old
         → IsSpread (room_by counts.now) sources.now changed units hits.new) }
@@ -88,9 +88,9 @@ fn spread(sources: &Sources, counts: &Counts, hits: &mut Needs, units: u32) -> R
 
 /// A unit that is marked is passed on from now on.
 fn open(hits: &mut Needs, unit: u32) -> Result<(), NoMemory>
-    requires kept { IsKept (room_of hits.old) hits.old }
+    requires within { AreWithin (room_of hits.old) hits.old }
     requires unit_in { unit < length hits.old.units.items }
-    ensures kept { OnOk result (IsKept (room_of hits.old) hits.new) }
+    ensures within { OnOk result (AreWithin (room_of hits.old) hits.new) }
     ensures opened { OnOk result ((r : Room) (t : Chains) (changed : List Bool)
         → IsSpread r t changed unit hits.old → IsSpreading r t changed (unit + 1) hits.new) }
 {
@@ -146,10 +146,10 @@ fn mark_unit(
     unit: u32,
 ) -> Result<(), NoMemory>
     requires table { IsTable counts.now sources.now }
-    requires kept { IsKept (room_by counts.now) hits.old }
+    requires within { AreWithin (room_by counts.now) hits.old }
     requires things_in { All (IsThing (room_by counts.now)) things.now }
     requires unit_in { unit < counts.now.units }
-    ensures kept { OnOk result (IsKept (room_by counts.now) hits.new) }
+    ensures within { OnOk result (AreWithin (room_by counts.now) hits.new) }
     ensures marked { OnOk result ((changed : List Bool)
         → IsMarking (room_by counts.now) sources.now changed things.now unit hits.old
         marks.old.items

@@ -1,5 +1,6 @@
-//! Which units have to be checked again when a library has changed: those whose closure holds a
-//! unit that changed. All are found by one search over each of both lists of units.
+//! A library that changes. `splice` makes the list of units that a part of changes leads to;
+//! `stale_units` finds the units whose closure holds a unit that changed, all by one search over
+//! each of both lists; and `Recheck` keeps the verdicts of the others from one list to the next.
 #![tactic(auto)]
 
 mod building;

@@ -2,15 +2,16 @@
 
 ghost use Rattle.std.specs.Prelude.{◌≡◌, ◌<◌, ◌^◌, ◌↔◌, IsTrue, true, false, [], length, map, All};
 ghost use Rattle.std.specs.Prelude.{IfOk, OnOk, OnErr};
+ghost use Rattle.std.specs.List.Sorted.{IsStrictlyIncreasing};
 ghost use Rattle.lk_rulebook.specs.Spelled.{library_spelled};
 ghost use Rattle.lk_store.specs.Store.{contents_of};
 ghost use Rattle.lk_env.specs.Units.{library_at, library_of, AreUnitsIn};
 ghost use Rattle.lk_verdict.specs.Told.{out_of_memory};
 ghost use Rattle.lk_checks.specs.Held.{verdict};
 ghost use Rattle.lk_recheck.specs.Spliced.{next_list};
-ghost use Rattle.lk_recheck.specs.Rounds.{IsCount, IsKept};
+ghost use Rattle.lk_recheck.specs.Rounds.{ArePlain, AreHandedOn, IsCount, IsKept, KeepVerdicts};
 ghost use Rattle.lk_recheck.specs.Stale.{MarksStale};
-ghost use Rattle.lk_recheck.specs.Plans.{kept_verdict, IsUnitMore, IsPlanTo, IsPlan, ArePut};
+ghost use Rattle.lk_recheck.specs.Plans.{kept_verdict, IsUnitMore, IsPlanTo, IsPlan, ArePut, IsAnswered};
 
 use crate::building::{StoreLinks, store_links};
 use crate::splicing::splice;
@@ -149,12 +150,14 @@ fn plan_of(alloc: Global, stale: &[bool], verdicts: &[Verdict]) -> Result<Plan, 
 
 /// Puts each verdict at its number.
 fn put_verdicts(verdicts: &mut Vec<Verdict>, numbers: &[u32], answers: &[Verdict])
-    requires { All (λ n. n < length verdicts.old.items) numbers.now }
+    requires within { All (λ n. n < length verdicts.old.items) numbers.now }
+    requires rising { IsStrictlyIncreasing numbers.now }
+    requires as_many { length answers.now ≡ length numbers.now }
     ensures { ArePut numbers.now (map verdict answers.now) (map verdict verdicts.old.items)
         (map verdict verdicts.new.items) }
 {
-    for (number, answer) in numbers.iter().zip(answers) {
-        verdicts[*number as usize] = *answer;
+    for i in 0..numbers.len() {
+        verdicts[numbers[i] as usize] = answers[i];
     }
 }
 
@@ -235,10 +238,14 @@ impl Recheck {
     fn check<C: Checks>(&mut self, alloc: Global, checks: &C, numbers: &[u32])
         requires budget { C.budget_of checks.now ≡ self.old.budget }
         requires numbers { All (λ n. n < length self.old.library.units) numbers.now }
+        requires rising { IsStrictlyIncreasing numbers.now }
         ensures budget { self.new.budget ≡ self.old.budget }
         ensures begun { self.new.begun ≡ self.old.begun }
         ensures library { self.new.library ≡ self.old.library }
         ensures stale { self.new.stale ≡ self.old.stale }
+        ensures plain { ArePlain (library_of self.new.library) self.new.budget self.new.verdicts }
+        ensures answered { IsAnswered (C.may_answer checks.now self.old.library) numbers.now
+            self.old.verdicts self.new.verdicts }
     {
         match checks.check_some(alloc, &self.library, numbers) {
             Ok(answers) => put_verdicts(&mut self.verdicts, numbers, &answers),
@@ -271,6 +278,13 @@ impl Recheck {
             (library_of self.new.library) self.new.stale) }
         ensures count { IfOk result (IsCount (library_of self.old.library)
             (library_of self.new.library) self.old.verdicts) }
+        ensures handed_on { OnOk result (AreHandedOn (C.may_answer checks.now self.new.library)
+            (library_of self.old.library) (library_of self.new.library) self.old.verdicts
+            self.new.verdicts) }
+        ensures kept { OnOk result (KeepVerdicts (library_of self.old.library)
+            (library_of self.new.library) self.old.verdicts self.new.verdicts) }
+        ensures plain { OnOk result (ArePlain (library_of self.new.library) self.new.budget
+            self.new.verdicts) }
         ensures err { OnErr result (self.new ≡ self.old) }
     {
         let units = self.next_units(alloc, part)?;

@@ -1,13 +1,13 @@
 use Rattle.std.proofs.Common.{rules, ◌≡◌, ◌++◌, [], ◌∷◌}
 use Rattle.lk_recheck.specs.Counts.{room_by}
-use Rattle.lk_recheck.proofs.Spreading.{step_kept, stepped, stepped_less, spread_ends}
+use Rattle.lk_recheck.proofs.Spreading.{step_within, stepped, stepped_less, spread_ends}
 use Rattle.lk_recheck.proofs.hitting.spread.Goals as goal
 
 pub waiting-preserved : goal.waiting-preserved
 waiting-preserved c =
     let popped : c.waiting.hits.waiting.items ≡ c.pop.new.self.items ++ c.in-Some.thing ∷ [] = search rules in
     record {
-      kept = step_kept (room_by c.args.counts.now) c.args.sources.now c.args.units c.waiting.hits c.pop.new.self c.in-Some.thing popped c.pass_if_open.new.hits c.in_ok-pass_if_open.ensures c.waiting.invariant.kept;
+      within = step_within (room_by c.args.counts.now) c.args.sources.now c.args.units c.waiting.hits c.pop.new.self c.in-Some.thing popped c.pass_if_open.new.hits c.in_ok-pass_if_open.ensures c.waiting.invariant.within;
       spreading = λ changed u.
           stepped (room_by c.args.counts.now) c.args.sources.now c.args.units c.waiting.hits c.pop.new.self c.in-Some.thing popped c.pass_if_open.new.hits c.in_ok-pass_if_open.ensures changed (c.waiting.invariant.spreading changed u);
     }

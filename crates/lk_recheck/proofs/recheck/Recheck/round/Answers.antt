@@ -8,10 +8,10 @@ use Rattle.lk_env.specs.Units.{library_at, library_of, unit_at}
 use Rattle.lk_checks.specs.Held.{verdict}
 use Rattle.lk_recheck.specs.Built.{AreLinksOf}
 use Rattle.lk_recheck.specs.Rounds.{Kept, ArePlain}
-use Rattle.lk_recheck.specs.Plans.{IsPlan}
+use Rattle.lk_recheck.specs.Plans.{IsPlan, IsAnswered}
 use Rattle.lk_recheck.specs.Stale.{MarksStale}
 use Rattle.lk_recheck.specs.Spliced.{next_list}
-use Rattle.lk_recheck.proofs.Plans.{numbers_in, plain_next}
+use Rattle.lk_recheck.proofs.Plans.{numbers_in, plain_next, handed_on, verdicts_kept}
 use Rattle.lk_recheck.proofs.Spelling.{next_spelled}
 use Rattle.lk_recheck.proofs.recheck.Recheck.round.Goals as goal
 
@@ -64,3 +64,43 @@ returns-clause-stale g c =
     subst (λ (x : StoredLibrary). MarksStale us (library_of x) stale) (sym c.in_ok-replace_units.ensures.ok) moved in
     subst (λ xs. MarksStale us (library_of c.check.new.self.library) xs) (sym c.check.ensures.stale)
     (subst (λ (x : StoredLibrary). MarksStale us (library_of x) stale) (sym c.check.ensures.library) exchanged)
+
+pub returns-clause-handed_on : goal.returns-clause-handed_on
+returns-clause-handed_on g c =
+    let us = library_of c.args.self.now.library in
+    let before = c.args.self.now.verdicts in
+    let units = c.in_ok-units.units.items in
+    let numbers = c.in_ok-stale.field-0.plan.numbers.items in
+    let planned = map verdict c.in_ok-stale.field-0.plan.verdicts.items in
+    let plan : IsPlan us (library_at (contents_of c.args.self.now.library.tables) units) before numbers planned =
+    subst (λ xs. IsPlan us (library_at (contents_of c.args.self.now.library.tables) xs) before numbers planned) c.deref.ensures.value c.in_ok-stale.ensures.plan in
+    let moved : IsPlan us (library_at (contents_of c.self.inside.library.tables) units) before numbers planned =
+    subst (λ (k : Kept). IsPlan us (library_at (contents_of k.library.tables) units) before numbers planned) (sym c.self.view_is) plan in
+    let exchanged : IsPlan us (library_of c.replace_units.new.self) before numbers planned =
+    subst (λ (x : StoredLibrary). IsPlan us (library_of x) before numbers planned) (sym c.in_ok-replace_units.ensures.ok) moved in
+    let whole : IsPlan us (library_of c.check.new.self.library) before numbers planned =
+    subst (λ (x : StoredLibrary). IsPlan us (library_of x) before numbers planned) (sym c.check.ensures.library) exchanged in
+    let answered : IsAnswered (g.C.Checks.may_answer c.args.checks.now c.check.new.self.library) numbers planned c.check.new.self.verdicts =
+    subst (λ (x : StoredLibrary). IsAnswered (g.C.Checks.may_answer c.args.checks.now x) numbers planned c.check.new.self.verdicts) (sym c.check.ensures.library)
+    (subst (λ ns. IsAnswered (g.C.Checks.may_answer c.args.checks.now c.replace_units.new.self) ns planned c.check.new.self.verdicts) c.deref-2.ensures.value c.check.ensures.answered) in
+    handed_on us (library_of c.check.new.self.library) before numbers planned c.check.new.self.verdicts whole (g.C.Checks.may_answer c.args.checks.now c.check.new.self.library) answered
+
+pub returns-clause-kept : goal.returns-clause-kept
+returns-clause-kept g c =
+    let us = library_of c.args.self.now.library in
+    let before = c.args.self.now.verdicts in
+    let units = c.in_ok-units.units.items in
+    let numbers = c.in_ok-stale.field-0.plan.numbers.items in
+    let planned = map verdict c.in_ok-stale.field-0.plan.verdicts.items in
+    let plan : IsPlan us (library_at (contents_of c.args.self.now.library.tables) units) before numbers planned =
+    subst (λ xs. IsPlan us (library_at (contents_of c.args.self.now.library.tables) xs) before numbers planned) c.deref.ensures.value c.in_ok-stale.ensures.plan in
+    let moved : IsPlan us (library_at (contents_of c.self.inside.library.tables) units) before numbers planned =
+    subst (λ (k : Kept). IsPlan us (library_at (contents_of k.library.tables) units) before numbers planned) (sym c.self.view_is) plan in
+    let exchanged : IsPlan us (library_of c.replace_units.new.self) before numbers planned =
+    subst (λ (x : StoredLibrary). IsPlan us (library_of x) before numbers planned) (sym c.in_ok-replace_units.ensures.ok) moved in
+    let whole : IsPlan us (library_of c.check.new.self.library) before numbers planned =
+    subst (λ (x : StoredLibrary). IsPlan us (library_of x) before numbers planned) (sym c.check.ensures.library) exchanged in
+    let answered : IsAnswered (g.C.Checks.may_answer c.args.checks.now c.check.new.self.library) numbers planned c.check.new.self.verdicts =
+    subst (λ (x : StoredLibrary). IsAnswered (g.C.Checks.may_answer c.args.checks.now x) numbers planned c.check.new.self.verdicts) (sym c.check.ensures.library)
+    (subst (λ ns. IsAnswered (g.C.Checks.may_answer c.args.checks.now c.replace_units.new.self) ns planned c.check.new.self.verdicts) c.deref-2.ensures.value c.check.ensures.answered) in
+    verdicts_kept us (library_of c.check.new.self.library) before numbers planned c.check.new.self.verdicts whole (g.C.Checks.may_answer c.args.checks.now c.check.new.self.library) answered
