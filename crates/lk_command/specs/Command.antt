@@ -34,7 +34,10 @@ trial = with_options (with_sample (new_app (codes "trial")))
 abbrev pub trim : App
 trim = with_rule (new_app (codes "trim")) (required_option (codes "name"))
 
--- the subcommands that check
+abbrev pub recheck : App
+recheck = with_rule (new_app (codes "recheck")) (option (codes "steps"))
+
+-- the subcommands that check one file, or make one
 abbrev pub with_checks : App
 with_checks =
     let checked = with_subcommand (new_app (codes "leancheck")) check.top in
@@ -42,8 +45,8 @@ with_checks =
     with_subcommand made trial.top
 
 abbrev pub leancheck : App
-leancheck = with_subcommand with_checks trim.top
+leancheck = with_subcommand (with_subcommand with_checks trim.top) recheck.top
 
 abbrev pub usage_line : List ℕ
 usage_line =
-    codes "usage: leancheck check|make|trial|trim [--workers W] [--steps N] [--memo M] [--allow LIST] [--units N] [--seed S] [--name NAME]\n"
+    codes "usage: leancheck check|make|trial|trim|recheck [--workers W] [--steps N] [--memo M] [--allow LIST] [--units N] [--seed S] [--name NAME]\n"

@@ -93,5 +93,22 @@ pub fn likely(line: &[u8], word: &[u8]) -> Option<&'static str> {
     if word == b"UnknownTag".as_slice() && memmem::find(line, b" #EM ").is_some() {
         return Some("lines of metadata (#EM) are no part of this format");
     }
+    if word == b"UnknownTag".as_slice() && line.starts_with(b"#GO") {
+        return Some("changes of a library, behind lines #GO, are read by recheck alone");
+    }
+    if word == b"UnknownTag".as_slice() && line.starts_with(b"#BUD") {
+        return Some("recheck reads no budgets (#BUD); give one for all units by --steps");
+    }
+    if word == b"BadNumber".as_slice() && is_version(line) {
+        return Some("a version stands in the first line alone; a second export cannot follow");
+    }
+    if word == b"IndexTaken".as_slice() {
+        return Some("numbers go on over the whole input, so a second export cannot follow");
+    }
     None
+}
+
+/// Whether a line seems to be that of a version.
+fn is_version(line: &[u8]) -> bool {
+    memchr(b'.', line).is_some() && memchr(b'#', line).is_none()
 }

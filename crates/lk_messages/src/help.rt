@@ -16,11 +16,13 @@ const HELP: &str = "
   leancheck make --units N --seed S
   leancheck trial --units N --seed S [--workers W] [--steps N] [--memo M] [--allow LIST]
   leancheck trim --name NAME
+  leancheck recheck [--steps N]
 
   check   checks standard input, and writes a verdict for each declaration
   make    writes an export that it makes
   trial   checks that export in memory, and writes the last line alone
   trim    reads standard input, and writes one declaration with all that it needs, as an export
+  recheck checks standard input up to the line #GO, then each change behind it, and what it touches
 
   --workers W   threads that check: 1 to 64, 1 if not given
   --steps N     budget of each declaration: 1 to 2^64 - 1, 2^100 if not given; the export may lower it
@@ -110,7 +112,9 @@ fn tell_why<R: Eprint>(rt: &R, alloc: Global, words: &[String]) {
         Ok(matches) => match matches.subcommand() {
             Some((_, given)) => tell_values(rt, given),
             None => {
-                let _ = eprintln!(rt; "leancheck: no command is given: check, make, trial or trim");
+                let _ = eprintln!(rt;
+                    "leancheck: no command is given: check, make, trial, trim or recheck"
+                );
             }
         },
         Err(error) => {
