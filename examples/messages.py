@@ -42,8 +42,9 @@ CASES = [
     ('check --allow=', IDENTITY, 'pipe', 'pipe', 0, ''),
     ('trial --units 3 --seed 1 --allow p', '', 'pipe', 'pipe', 0, ''),
     ('trim --name id', IDENTITY, 'pipe', 'pipe', 0, ''),
+    ('recheck', IDENTITY + '#GO\n', 'pipe', 'pipe', 0, ''),
     # words
-    wrong('', 'leancheck: no command is given: check, make, trial or trim\n'),
+    wrong('', 'leancheck: no command is given: check, make, trial, trim or recheck\n'),
     wrong('chek', "leancheck: unrecognized subcommand 'chek'\n...") ,
     wrong('check more', "leancheck: unexpected argument 'more' found\n"),
     wrong('check --worker 2', "leancheck: unexpected argument '--worker' found\n"),
@@ -60,6 +61,8 @@ CASES = [
     wrong('trim', 'leancheck: the following required arguments were not provided:\n  --name <name>\n'),
     wrong('trim --name', "leancheck: a value is required for '--name <name>' but none was supplied\n"),
     wrong('trim --name p --steps 1', "leancheck: unexpected argument '--steps' found\n"),
+    wrong('recheck --workers 2', "leancheck: unexpected argument '--workers' found\n"),
+    wrong('recheck --steps 0', 'leancheck: --steps 0 is out of range: it takes 1 to 18446744073709551615\n'),
     wrong('check --name p', "leancheck: unexpected argument '--name' found\n"),
     wrong('make --units 3 --seed 2147483648', 'leancheck: --seed 2147483648 is out of range: it takes 0 to 2147483647\n'),
     wrong('check \x1b[2J', "leancheck: unexpected argument '\\x1b[2J' found\n"),
@@ -98,6 +101,8 @@ CASES = [
           'leancheck: lines of lets have no binder info in this format\n'),
     fault('0 #EM 1 2\n', 1, 'no such tag, or a number stands before it that should not, or is missing', '0 #EM 1 2',
           'leancheck: lines of metadata (#EM) are no part of this format\n'),
+    fault('#GO\n', 1, 'no such tag, or a number stands before it that should not, or is missing', '#GO',
+          'leancheck: changes of a library, behind lines #GO, are read by recheck alone\n'),
     # what the input seems to be
     fault('{"meta":{}}\n', 1, NUMBER, '{"meta":{}}',
           SEEMS + 'NDJSON, format 3 of lean4export; this program reads the text format 2\n'),
@@ -112,6 +117,8 @@ CASES = [
     fault('import Mathlib\n', 1, NUMBER, 'import Mathlib',
           SEEMS + 'a source file of Lean; this program reads what lean4export writes of its library\n'),
     # cut or empty
+    ('recheck', '#GO\n#GO\n', 'pipe', 'pipe', 0,
+     'leancheck: the input has no declaration at all, so nothing was checked; did the exporter fail?\n'),
     ('check', '', 'pipe', 'pipe', 0, 'leancheck: the input is empty, so nothing was checked; did the exporter fail?\n'),
     ('check', '2.0.0\n1 #NS 0 p\n', 'pipe', 'pipe', 0,
      'leancheck: the input has no declaration at all, so nothing was checked; did the exporter fail?\n'),

@@ -88,5 +88,5 @@ pub all_good : (words : List (List ℕ)) (used o : Options) (left old new : Opti
     → IfSome left (λ bytes. Reports Report used bytes status old new) → IfSome left (IsAllGood o)
 all_good words used o None old new status ends means asked told = tt
 all_good words used o (Some bytes) old new status ends means asked told =
-    let report = subst (λ s. IsReport Report used bytes s told.text) ends told.report in
+    let report = subst (λ s. IsReport Report used bytes s told.text) ends told.right in
     same_policy used o bytes (same_allowed words used o means asked) (good_report Report used bytes told.text report)

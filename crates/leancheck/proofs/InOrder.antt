@@ -43,7 +43,7 @@ told_at [] n v e = absurd (cc)
 told_at (w ∷ vs) zero v e = (w, refl, cc)
 told_at (w ∷ vs) (suc n) v e = told_at vs n v e
 
-has_unit : (us : Library) (n : ℕ) → n < length us → (u : LibraryUnit) × (slice_get us n ≡ Some u)
+pub has_unit : (us : Library) (n : ℕ) → n < length us → (u : LibraryUnit) × (slice_get us n ≡ Some u)
 has_unit [] n lt = absurd (omega arith)
 has_unit (u ∷ us) zero lt = (u, refl)
 has_unit (u ∷ us) (suc n) lt = has_unit us n (omega (arith, lt))
@@ -51,6 +51,13 @@ has_unit (u ∷ us) (suc n) lt = has_unit us n (omega (arith, lt))
 verdict_is : (steps : ℕ) (all : Library) (n : ℕ) (u : LibraryUnit) (v : HeldVerdict) → slice_get all n ≡ Some u → IsPlain (row_verdict all steps n u) v → IsPlainVerdict all steps n (verdict v)
 verdict_is steps all n u v there (inl e) = inl (found_plain all steps n u (verdict v) there e)
 verdict_is steps all n u v there (inr e) = inr e
+
+-- a verdict that is held of a unit is the plain one, or memory
+pub plain_held : (l : StoredLibrary) (steps n : ℕ) (v : HeldVerdict) → n < length l.units → IsPlainUnder l steps n v → IsPlainVerdict (library_of l) steps n (verdict v)
+plain_held l steps n v below right =
+    let as_many = length-map l.units (unit_at (contents_of l.tables)) in
+    let unit = has_unit (library_of l) n (omega (arith, below, as_many)) in
+    verdict_is steps (library_of l) n unit.0 v unit.1 (right unit.0 unit.1)
 
 -- each answer at its number
 module _ (l : StoredLibrary) (steps : ℕ) (answers : List UnitVerdict) (vs : List HeldVerdict) (are : AreRight l steps answers) (len : length vs ≡ length l.units)
@@ -63,10 +70,8 @@ module _ (l : StoredLibrary) (steps : ℕ) (answers : List UnitVerdict) (vs : Li
       let below : n < length l.units = omega (arith, len, h.0) in
       let said : given n answers ≡ w = sym (is n w below) ∙ h.1 in
       let right : IsRight l steps n w = subst (IsRight l steps n) said (given_right l steps n answers are) in
-      let as_many = length-map l.units (unit_at (contents_of l.tables)) in
-      let unit = has_unit (library_of l) n (omega (arith, below, as_many)) in
-      let budget = unit_budget l steps n in
-      subst (IsPlainVerdict (library_of l) budget n) told.2 (verdict_is budget (library_of l) n unit.0 w unit.1 (right unit.0 unit.1))
+      subst (IsPlainVerdict (library_of l) (unit_budget l steps n) n) told.2
+      (plain_held l (unit_budget l steps n) n w below right)
 
   pub in_order : IsClearLibrary (library_of l) → AreVerdicts (library_of l) (unit_budget l steps) (map verdict vs)
   in_order clear = record {

@@ -20,3 +20,4 @@ pub mod LargerParts
 pub mod Settings
 pub mod StageMoves
 pub mod Needed
+pub mod Changes

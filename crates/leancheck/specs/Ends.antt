@@ -1,5 +1,6 @@
 -- How a run ends.
-use Rattle.std.specs.Prelude.{ℕ, ◌≡◌, ◌<◌, ◌⊎◌, List, length, if◌then◌else◌, nat_eq, Some, None}
+use Rattle.std.specs.Prelude.{ℕ, ◌≡◌, ◌<◌, ◌⊎◌, Bool, true, false, List, [], ◌∷◌, ◌++◌, length, if◌then◌else◌, nat_eq}
+use Rattle.std.specs.Prelude.{Some, None}
 use Rattle.std.specs.Prelude.{IfSome, Vec, Result, Ok, Err}
 use Rattle.std.specs.declared.alloc.Global.{Global}
 use Rattle.std.specs.declared.option.Option.{Option}
@@ -9,7 +10,10 @@ use Rattle.lk_port.specs.Bytes.{AppendsSome}
 use Rattle.lk_verdict.specs.GoodUnit.{IsGoodUnit}
 use Rattle.lk_verdict.specs.Told.{Verdict, AreVerdicts}
 use Rattle.lk_reach.specs.Computed.{axioms_of}
-use Rattle.lk_book.specs.File.{Export, export_of, budget_of}
+use Rattle.lk_rulebook.specs.Units.{Library}
+use Rattle.lk_recheck.specs.Spliced.{next_list}
+use Rattle.lk_recheck.specs.Rounds.{IsCount, KeepVerdicts}
+use Rattle.lk_book.specs.File.{Export, export_of, rounds_of, budget_of}
 use Rattle.leancheck.specs.declared.status.Status.{Status}
 use Rattle.leancheck.specs.declared.status.Status.TheVariants.{AllYes, SomeNo, Usage, BadFile}
 use Rattle.leancheck.specs.declared.status.Status.TheVariants.{ReadFault, WriteFault, NoMemory}
@@ -17,11 +21,11 @@ use Rattle.leancheck.specs.declared.status.Status.TheVariants.{NoSuchName, SomeM
 use Rattle.lk_command.specs.declared.words.Options.{Options}
 use Rattle.lk_command.specs.Words.{allowed_text}
 use Rattle.lk_command.specs.declared.words.Meaning.{Meaning}
-use Rattle.lk_command.specs.declared.words.Meaning.TheVariants.{Check, Make, Trial, Trim}
+use Rattle.lk_command.specs.declared.words.Meaning.TheVariants.{Check, Make, Trial, Trim, Recheck}
 use Rattle.leancheck.specs.declared.extent.Extent.{Extent}
 use Rattle.leancheck.specs.declared.extent.Extent.TheVariants.{Report, Summary}
 use Rattle.leancheck.specs.Extents.{text_of}
-use Rattle.lk_text.specs.Text.{bad_line, count}
+use Rattle.lk_text.specs.Text.{bad_line, checked_line, count, report_text}
 use Rattle.lk_text.specs.Named.{first_printed, unknown_line}
 use Rattle.lk_text.specs.Policy.{Policy, policy_of, texts_of, IsOnList, all_under}
 use Rattle.lk_text.specs.declared.counts.VerdictKind.TheVariants.{No, Memory}
@@ -69,6 +73,26 @@ IsLookedUp status = (status ≡ AllYes) ⊎ (status ≡ NoSuchName)
 abbrev pub IsDone : Status → Type 0
 IsDone status = IsChecked status ⊎ (status ≡ NoSuchName)
 
+-- a text that is right was written, with the status that belongs to it
+pub record Writes (IsRight : Status → List ℕ → Type 0) (status : Status)
+    (old new : Option (List ℕ)) : Type 0 where
+  pub text : List ℕ
+  pub right : IsRight status text
+  pub written : Appends old new text
+
+-- a prefix was written of the line of a fault, or of a text that is right
+abbrev pub WritesSome : (Fault → Type 0) → (Status → List ℕ → Type 0)
+    → Option (List ℕ) → Option (List ℕ) → Type 0
+WritesSome IsFault IsRight old new =
+    ((f : Fault) × IsFault f × AppendsSome old new (bad_line f))
+    ⊎ ((status : Status) × (text : List ℕ) × IsRight status text × AppendsSome old new text)
+
+-- the text that was made is right, and so is the status
+abbrev pub Makes : (Status → List ℕ → Type 0) → Result (Vec ℕ Global × Status) WantOfMemory
+    → Type 0
+Makes IsRight (Ok (text, status)) = IsRight status text.items
+Makes IsRight (Err e) = Unit {0}
+
 -- which axioms the options allow
 abbrev pub policy_in : Options → Policy
 policy_in o = policy_of (allowed_text o)
@@ -89,23 +113,17 @@ pub record IsReport (extent : Extent) (o : Options) (bytes : List ℕ) (status :
   pub text_is : text ≡ text_of extent export.units verdicts
 
 -- a report of the bytes with these options was written
-pub record Reports (extent : Extent) (o : Options) (bytes : List ℕ) (status : Status)
-    (old new : Option (List ℕ)) : Type 0 where
-  pub text : List ℕ
-  pub report : IsReport extent o bytes status text
-  pub written : Appends old new text
+abbrev pub Reports : Extent → Options → List ℕ → Status → Option (List ℕ) → Option (List ℕ) → Type 0
+Reports extent o bytes status old new = Writes (IsReport extent o bytes) status old new
 
 -- a prefix of the text that belongs to the bytes with these options was written
 abbrev pub WritesPrefix : Extent → Options → List ℕ → Option (List ℕ) → Option (List ℕ) → Type 0
 WritesPrefix extent o bytes old new =
-    ((f : Fault) × (export_of bytes ≡ Err f) × AppendsSome old new (bad_line f))
-    ⊎ ((status : Status) × (text : List ℕ) × IsReport extent o bytes status text
-    × AppendsSome old new text)
+    WritesSome (λ f. export_of bytes ≡ Err f) (IsReport extent o bytes) old new
 
 -- the text that was made, and the status, belong to the bytes with these options
 abbrev pub Gives : Extent → Options → List ℕ → Result (Vec ℕ Global × Status) WantOfMemory → Type 0
-Gives extent o bytes (Ok (text, status)) = IsReport extent o bytes status text.items
-Gives extent o bytes (Err e) = Unit {0}
+Gives extent o bytes made = Makes (IsReport extent o bytes) made
 
 -- The bytes spell an export of which each unit is good. Where a list of axioms is given, each axiom
 -- that a unit rests on prints as one of the names on it.
@@ -130,22 +148,69 @@ pub record IsTrimming (name bytes : List ℕ) (status : Status) (text : List ℕ
   pub told : TellsTrimmed export name (first_printed 0 export.units name) status text
 
 -- what is told of the bytes for this name was written
-pub record Trims (name bytes : List ℕ) (status : Status) (old new : Option (List ℕ)) : Type 0 where
-  pub text : List ℕ
-  pub trimming : IsTrimming name bytes status text
-  pub written : Appends old new text
+abbrev pub Trims : List ℕ → List ℕ → Status → Option (List ℕ) → Option (List ℕ) → Type 0
+Trims name bytes status old new = Writes (IsTrimming name bytes) status old new
 
 -- a prefix of the text that belongs to the bytes for this name was written
 abbrev pub TrimsPrefix : List ℕ → List ℕ → Option (List ℕ) → Option (List ℕ) → Type 0
 TrimsPrefix name bytes old new =
-    ((f : Fault) × (export_of bytes ≡ Err f) × AppendsSome old new (bad_line f))
-    ⊎ ((status : Status) × (text : List ℕ) × IsTrimming name bytes status text
-    × AppendsSome old new text)
+    WritesSome (λ f. export_of bytes ≡ Err f) (IsTrimming name bytes) old new
 
 -- the text that was made, and the status, belong to the bytes for this name
 abbrev pub GivesTrimmed : List ℕ → List ℕ → Result (Vec ℕ Global × Status) WantOfMemory → Type 0
-GivesTrimmed name bytes (Ok (text, status)) = IsTrimming name bytes status text.items
-GivesTrimmed name bytes (Err e) = Unit {0}
+GivesTrimmed name bytes made = Makes (IsTrimming name bytes) made
+
+-- Where a library that changes stands: whether there was a part, the list of units that it led to, and
+-- their verdicts.
+pub record Stand : Type 0 where
+  pub begun : Bool
+  pub list : Library
+  pub verdicts : List Verdict
+
+-- there was no part yet
+abbrev pub no_stand : Stand
+no_stand = record { begun = false; list = []; verdicts = [] }
+
+-- What is told of a part: the lines of the list that it leads to, with the verdicts that a check of
+-- this list gives under the budget, and how many units had to be checked for it. The others keep the
+-- verdicts that they had.
+pub record TellsPart (steps : ℕ) (old new : Stand) (part : Library) (text : List ℕ) : Type 0 where
+  pub begun : new.begun ≡ true
+  pub list : new.list ≡ next_list old.begun old.list part
+  pub verdicts : AreVerdicts new.list (λ n. steps) new.verdicts
+  pub kept : KeepVerdicts old.list new.list old.verdicts new.verdicts
+  pub count : ℕ
+  pub counted : IsCount old.list new.list old.verdicts count
+  pub text_is : text ≡ report_text new.list new.verdicts ++ checked_line count
+
+-- what is told of parts one after another, which lead to the last stand
+pub data TellsParts (steps : ℕ) (last : Stand) : Stand → List Library → List ℕ → Type 0 where
+  no_part : TellsParts steps last last [] []
+  one_part : (old new : Stand) (part : Library) (parts : List Library) (text more : List ℕ) →
+      TellsPart steps old new part text → TellsParts steps last new parts more →
+      TellsParts steps last old (part ∷ parts) (text ++ more)
+
+-- the bytes state a library and changes of it, and this is told of them
+pub record IsRechecking (steps : ℕ) (bytes : List ℕ) (status : Status) (text : List ℕ) : Type 0
+  where
+    pub parts : List Library
+    pub spelled : rounds_of bytes ≡ Ok parts
+    pub last : Stand
+    pub told : TellsParts steps last no_stand parts text
+    pub status_is : status ≡ status_of last.verdicts
+
+-- what is told of the bytes under this budget was written
+abbrev pub Rechecks : ℕ → List ℕ → Status → Option (List ℕ) → Option (List ℕ) → Type 0
+Rechecks steps bytes status old new = Writes (IsRechecking steps bytes) status old new
+
+-- a prefix of the text that belongs to the bytes under this budget was written
+abbrev pub RechecksPrefix : ℕ → List ℕ → Option (List ℕ) → Option (List ℕ) → Type 0
+RechecksPrefix steps bytes old new =
+    WritesSome (λ f. rounds_of bytes ≡ Err f) (IsRechecking steps bytes) old new
+
+-- the text that was made, and the status, belong to the bytes under this budget
+abbrev pub GivesRechecked : ℕ → List ℕ → Result (Vec ℕ Global × Status) WantOfMemory → Type 0
+GivesRechecked steps bytes made = Makes (IsRechecking steps bytes) made
 
 -- what words mean that have the source read
 abbrev pub ReadsSource : Meaning → Type 0
@@ -153,10 +218,12 @@ ReadsSource (Check o) = Unit {0}
 ReadsSource (Make s) = ⊥
 ReadsSource (Trial s o) = ⊥
 ReadsSource (Trim name) = Unit {0}
+ReadsSource (Recheck steps) = Unit {0}
 
 -- What words ask for was done, and this is its status, over the bytes of a source, where it tells
 -- them: a check writes its report, `make` its file, a trial the last line of what a check of that
--- file would write, and `trim` one declaration with all that it needs, or that there is none.
+-- file would write, `trim` one declaration with all that it needs, or that there is none, and
+-- `recheck` what is told of each part of the file.
 abbrev pub Does : Meaning → Option (List ℕ) → Status → Option (List ℕ) → Option (List ℕ) → Type 0
 Does (Check o) left status old new =
     IsChecked status × IfSome left (λ bytes. Reports Report o bytes status old new)
@@ -165,6 +232,8 @@ Does (Trial s o) left status old new =
     Reports Summary o (file_of s.units s.seed) status old new
 Does (Trim name) left status old new =
     IsLookedUp status × IfSome left (λ bytes. Trims name.now bytes status old new)
+Does (Recheck steps) left status old new =
+    IsChecked status × IfSome left (λ bytes. Rechecks steps bytes status old new)
 
 -- the file that was to be read has a fault, and its line was written
 abbrev pub FindsFault : Meaning → Option (List ℕ) → Option (List ℕ) → Option (List ℕ) → Type 0
@@ -175,6 +244,8 @@ FindsFault (Trial s o) left old new =
     (f : Fault) × (export_of (file_of s.units s.seed) ≡ Err f) × Appends old new (bad_line f)
 FindsFault (Trim name) left old new =
     (f : Fault) × IfSome left (λ bytes. export_of bytes ≡ Err f) × Appends old new (bad_line f)
+FindsFault (Recheck steps) left old new =
+    (f : Fault) × IfSome left (λ bytes. rounds_of bytes ≡ Err f) × Appends old new (bad_line f)
 
 -- a prefix was written of what the words ask for
 abbrev pub Begins : Meaning → Option (List ℕ) → Option (List ℕ) → Option (List ℕ) → Type 0
@@ -182,3 +253,4 @@ Begins (Check o) left old new = IfSome left (λ bytes. WritesPrefix Report o byt
 Begins (Make s) left old new = AppendsSome old new (file_of s.units s.seed)
 Begins (Trial s o) left old new = WritesPrefix Summary o (file_of s.units s.seed) old new
 Begins (Trim name) left old new = IfSome left (λ bytes. TrimsPrefix name.now bytes old new)
+Begins (Recheck steps) left old new = IfSome left (λ bytes. RechecksPrefix steps bytes old new)

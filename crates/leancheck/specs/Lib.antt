@@ -6,3 +6,4 @@ pub mod Standing
 pub mod Larger
 pub mod Drawn
 pub mod Workers
+pub mod Telling

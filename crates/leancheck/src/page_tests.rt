@@ -5,7 +5,7 @@ use crate::tests::is_row;
 use std::test::Fail;
 
 // Words, input, output, status.
-const ROWS: [(&str, &[u8], &[u8], Status); 39] = [
+const ROWS: [(&str, &[u8], &[u8], Status); 40] = [
     (
         "leancheck check",
         b"2.0.0\n1 #NS 0 p\n2 #NS 0 id\n0 #ES 0\n1 #EV 0\n2 #EV 1\n3 #EP #BD 0 1 2\n4 #EP #BD 1 0 3\n5 #EL #BD 0 1 1\n6 #EL #BD 1 0 5\n#THM 2 4 6\n",
@@ -29,6 +29,12 @@ const ROWS: [(&str, &[u8], &[u8], Status); 39] = [
         b"1 #NS 0 p\n2 #NS 0 id\n0 #ES 0\n1 #EV 0\n2 #EV 1\n3 #EP #BD 0 1 2\n4 #EP #BD 1 0 3\n5 #EL #BD 0 1 1\n6 #EL #BD 1 0 5\n#THM 2 4 6\n",
         b"unknown p\n",
         Status::NoSuchName,
+    ),
+    (
+        "leancheck recheck",
+        b"1 #NS 0 P\n2 #NS 0 p\n3 #NS 0 T\n4 #NS 0 t\n0 #ES 0\n1 #EC 1\n2 #EC 2\n3 #EP #BD 0 1 1\n4 #EV 0\n5 #EL #BD 0 1 4\n#AX 1 0\n#AX 2 1\n#THM 3 1 2\n#THM 4 3 5\n#GO\n6 #EL #BD 0 1 2\n#THM 4 3 6\n#GO\n1 #US 0\n7 #ES 1\n#AX 1 7\n#GO\n",
+        b"yes axiom 0 P\n  axiom P\nyes axiom 1 p\n  axiom P\n  axiom p\nyes thm 2 T\n  axiom P\n  axiom p\nyes thm 3 t\n  axiom P\nunits 4 yes 4 no 0 memory 0\nchecked 4\nyes axiom 0 P\n  axiom P\nyes axiom 1 p\n  axiom P\n  axiom p\nyes thm 2 T\n  axiom P\n  axiom p\nyes thm 3 t\n  axiom P\n  axiom p\nunits 4 yes 4 no 0 memory 0\nchecked 1\nyes axiom 0 P\n  axiom P\nyes axiom 1 p\n  axiom P\n  axiom p\nno thm 2 T\n  why TheoremNotProp\n  axiom P\n  axiom p\nno thm 3 t\n  why TheoremNotProp\n  axiom P\n  axiom p\nunits 4 yes 2 no 2 memory 0\nchecked 4\nyes axiom 0 P\n  axiom P\nyes axiom 1 p\n  axiom P\n  axiom p\nno thm 2 T\n  why TheoremNotProp\n  axiom P\n  axiom p\nno thm 3 t\n  why TheoremNotProp\n  axiom P\n  axiom p\nunits 4 yes 2 no 2 memory 0\nchecked 0\n",
+        Status::SomeNo,
     ),
     (
         "leancheck check",
