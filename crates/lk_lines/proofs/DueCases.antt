@@ -28,30 +28,30 @@ tag_lem false field tag d = inr (refl, λ e. absurd (let bad = d.1 e in cc))
 pub tag_cases : (field tag : List ℕ) → ((bytes_eq field tag ≡ true) × (field ≡ tag)) ⊎ ((bytes_eq field tag ≡ false) × (field ≡ tag → ⊥))
 tag_cases field tag = tag_lem (bytes_eq field tag) field tag (bytes_eq-Decides field tag)
 
-abbrev pub DueOutcome : Due → List ℕ → List (List ℕ) → Type 0
-DueOutcome d text fields = ((v : Value) × (rest : List (List ℕ)) × (due_at d text fields ≡ Ok (v, rest)) × Takes d text fields v rest)
-    ⊎ ((w : Word) × (due_at d text fields ≡ Err w) × Fails d text fields w)
+abbrev pub DueOutcome : ℕ → Due → List ℕ → List (List ℕ) → Type 0
+DueOutcome limit d text fields = ((v : Value) × (rest : List (List ℕ)) × (due_at limit d text fields ≡ Ok (v, rest)) × Takes limit d text fields v rest)
+    ⊎ ((w : Word) × (due_at limit d text fields ≡ Err w) × Fails limit d text fields w)
 
-number_cases : (text : List ℕ) (fields : List (List ℕ)) → DueOutcome due.Number text fields
+number_cases : (limit : ℕ) (text : List ℕ) (fields : List (List ℕ)) → DueOutcome limit due.Number text fields
 unfolding number_at
-number_cases text [] = inr (MissingField, refl, refl)
-number_cases text (field ∷ fields) = elim (number_of-cases (2 ^ 32) field) [
+number_cases limit text [] = inr (MissingField, refl, refl)
+number_cases limit text (field ∷ fields) = elim (number_of-cases limit field) [
   | inl (n, e, h) ↦ inl (value.Number n, fields, rw e refl, (n, refl, (field, refl, h)))
   | inr (w, e, h) ↦ inr (w, rw e refl, h)
 ]
 
-long_cases : (text : List ℕ) (fields : List (List ℕ)) → DueOutcome due.Long text fields
+long_cases : (limit : ℕ) (text : List ℕ) (fields : List (List ℕ)) → DueOutcome limit due.Long text fields
 unfolding number_at
-long_cases text [] = inr (MissingField, refl, refl)
-long_cases text (field ∷ fields) = elim (number_of-cases (2 ^ 64) field) [
+long_cases limit text [] = inr (MissingField, refl, refl)
+long_cases limit text (field ∷ fields) = elim (number_of-cases (2 ^ 64) field) [
   | inl (n, e, h) ↦ inl (value.Number n, fields, rw e refl, (n, refl, (field, refl, h)))
   | inr (w, e, h) ↦ inr (w, rw e refl, h)
 ]
 
-literal_cases : (text : List ℕ) (fields : List (List ℕ)) → DueOutcome due.Literal text fields
+literal_cases : (limit : ℕ) (text : List ℕ) (fields : List (List ℕ)) → DueOutcome limit due.Literal text fields
 unfolding literal_at
-literal_cases text [] = inr (MissingField, refl, refl)
-literal_cases text (field ∷ fields) = elim (nat_of-cases field) [
+literal_cases limit text [] = inr (MissingField, refl, refl)
+literal_cases limit text (field ∷ fields) = elim (nat_of-cases field) [
   | inl (n, e, h) ↦ inl (value.Literal n, fields, rw e refl, (field, n, refl, refl, h))
   | inr (e, h) ↦ inr (BadNumber, rw e refl, (refl, h))
 ]
@@ -62,10 +62,10 @@ no_info field a b c d Implicit = b
 no_info field a b c d StrictImplicit = c
 no_info field a b c d InstImplicit = d
 
-info_cases : (text : List ℕ) (fields : List (List ℕ)) → DueOutcome due.Info text fields
+info_cases : (limit : ℕ) (text : List ℕ) (fields : List (List ℕ)) → DueOutcome limit due.Info text fields
 unfolding info_at
-info_cases text [] = inr (MissingField, refl, refl)
-info_cases text (field ∷ fields) = elim (tag_cases field (codes "#BD")) [
+info_cases limit text [] = inr (MissingField, refl, refl)
+info_cases limit text (field ∷ fields) = elim (tag_cases field (codes "#BD")) [
   | inl (e, q) ↦ inl (value.OfInfo Default, fields, rw e refl, (Default, refl, ap (λ x. x ∷ fields) q))
   | inr (e1, n1) ↦ elim (tag_cases field (codes "#BI")) [
     | inl (e, q) ↦ inl (value.OfInfo Implicit, fields, rw (e1, e) refl, (Implicit, refl, ap (λ x. x ∷ fields) q))
@@ -83,10 +83,10 @@ no_flag : (field : List ℕ) → (field ≡ codes "0" → ⊥) → (field ≡ co
 no_flag field a b false = a
 no_flag field a b true = b
 
-flag_cases : (text : List ℕ) (fields : List (List ℕ)) → DueOutcome due.Flag text fields
+flag_cases : (limit : ℕ) (text : List ℕ) (fields : List (List ℕ)) → DueOutcome limit due.Flag text fields
 unfolding flag_at
-flag_cases text [] = inr (MissingField, refl, refl)
-flag_cases text (field ∷ fields) = elim (tag_cases field (codes "0")) [
+flag_cases limit text [] = inr (MissingField, refl, refl)
+flag_cases limit text (field ∷ fields) = elim (tag_cases field (codes "0")) [
   | inl (e, q) ↦ inl (value.Flag false, fields, rw e refl, (false, refl, ap (λ x. x ∷ fields) q))
   | inr (e1, n1) ↦ elim (tag_cases field (codes "1")) [
     | inl (e, q) ↦ inl (value.Flag true, fields, rw (e1, e) refl, (true, refl, ap (λ x. x ∷ fields) q))
@@ -94,77 +94,77 @@ flag_cases text (field ∷ fields) = elim (tag_cases field (codes "0")) [
   ]
 ]
 
-height_cases : (text field : List ℕ) (fields : List (List ℕ)) → bytes_eq field (codes "O") ≡ false → bytes_eq field (codes "A") ≡ false → bytes_eq field (codes "R") ≡ true → field ≡ codes "R" → DueOutcome due.Hint text (field ∷ fields)
+height_cases : (limit : ℕ) (text field : List ℕ) (fields : List (List ℕ)) → bytes_eq field (codes "O") ≡ false → bytes_eq field (codes "A") ≡ false → bytes_eq field (codes "R") ≡ true → field ≡ codes "R" → DueOutcome limit due.Hint text (field ∷ fields)
 unfolding hint_at number_at
-height_cases text field [] e1 e2 e3 q = inr (MissingField, rw (e1, e2, e3) refl, inr (q, refl))
-height_cases text field (more ∷ fields) e1 e2 e3 q = elim (number_of-cases (2 ^ 32) more) [
+height_cases limit text field [] e1 e2 e3 q = inr (MissingField, rw (e1, e2, e3) refl, inr (q, refl))
+height_cases limit text field (more ∷ fields) e1 e2 e3 q = elim (number_of-cases limit more) [
   | inl (n, e, h) ↦ inl (value.OfHint (hints.Regular n), fields, rw (e1, e2, e3, e) refl, inr (inr (n, refl, more ∷ fields, ap (λ x. x ∷ more ∷ fields) q, (more, refl, h))))
   | inr (w, e, h) ↦ inr (w, rw (e1, e2, e3, e) refl, inr (q, h))
 ]
 
-hint_cases : (text : List ℕ) (fields : List (List ℕ)) → DueOutcome due.Hint text fields
+hint_cases : (limit : ℕ) (text : List ℕ) (fields : List (List ℕ)) → DueOutcome limit due.Hint text fields
 unfolding hint_at
-hint_cases text [] = inr (MissingField, refl, refl)
-hint_cases text (field ∷ fields) = elim (tag_cases field (codes "O")) [
+hint_cases limit text [] = inr (MissingField, refl, refl)
+hint_cases limit text (field ∷ fields) = elim (tag_cases field (codes "O")) [
   | inl (e, q) ↦ inl (value.OfHint hints.Opaque, fields, rw e refl, inl (refl, ap (λ x. x ∷ fields) q))
   | inr (e1, n1) ↦ elim (tag_cases field (codes "A")) [
     | inl (e, q) ↦ inl (value.OfHint hints.Abbreviation, fields, rw (e1, e) refl, inr (inl (refl, ap (λ x. x ∷ fields) q)))
     | inr (e2, n2) ↦ elim (tag_cases field (codes "R")) [
-      | inl (e, q) ↦ height_cases text field fields e1 e2 e q
+      | inl (e, q) ↦ height_cases limit text field fields e1 e2 e q
       | inr (e3, n3) ↦ inr (BadWord, rw (e1, e2, e3) refl, inl (refl, n1, n2, n3))
     ]
   ]
 ]
 
 -- numbers to the end
-abbrev RestFault : List (List ℕ) → Word → Type 0
-RestFault fields w = (front : List (List ℕ)) × (ns : List ℕ) × (field : List ℕ) × (more : List (List ℕ)) × (fields ≡ front ++ field ∷ more) × AreNumbers front ns × NumberFault (2 ^ 32) field w
+abbrev RestFault : ℕ → List (List ℕ) → Word → Type 0
+RestFault limit fields w = (front : List (List ℕ)) × (ns : List ℕ) × (field : List ℕ) × (more : List (List ℕ)) × (fields ≡ front ++ field ∷ more) × AreNumbers limit front ns × NumberFault limit field w
 
-rest_cases : (fields : List (List ℕ)) → ((ns : List ℕ) × (rest_at fields ≡ Ok ns) × AreNumbers fields ns) ⊎ ((w : Word) × (rest_at fields ≡ Err w) × RestFault fields w)
-rest_cases [] = inl ([], refl, tt)
-rest_cases (field ∷ fields) = elim (number_of-cases (2 ^ 32) field) [
-  | inl (n, e, h) ↦ elim (rest_cases fields) [
+rest_cases : (limit : ℕ) (fields : List (List ℕ)) → ((ns : List ℕ) × (rest_at limit fields ≡ Ok ns) × AreNumbers limit fields ns) ⊎ ((w : Word) × (rest_at limit fields ≡ Err w) × RestFault limit fields w)
+rest_cases limit [] = inl ([], refl, tt)
+rest_cases limit (field ∷ fields) = elim (number_of-cases limit field) [
+  | inl (n, e, h) ↦ elim (rest_cases limit fields) [
     | inl (ns, is, all) ↦ inl (n ∷ ns, rw (e, is) refl, (h, all))
     | inr (w, is, (front, ns, f, more, q, all, bad)) ↦ inr (w, rw (e, is) refl, (field ∷ front, n ∷ ns, f, more, ap (λ x. field ∷ x) q, (h, all), bad))
   ]
   | inr (w, e, h) ↦ inr (w, rw e refl, ([], [], field, fields, refl, tt, h))
 ]
 
-pub numbers_length : (fields : List (List ℕ)) (ns : List ℕ) → AreNumbers fields ns → length ns ≡ length fields
-numbers_length [] [] h = refl
-numbers_length [] (n ∷ ns) h = absurd h
-numbers_length (field ∷ fields) [] h = absurd h
-numbers_length (field ∷ fields) (n ∷ ns) h = let e = numbers_length fields ns h.1 in omega arith
+pub numbers_length : (limit : ℕ) (fields : List (List ℕ)) (ns : List ℕ) → AreNumbers limit fields ns → length ns ≡ length fields
+numbers_length limit [] [] h = refl
+numbers_length limit [] (n ∷ ns) h = absurd h
+numbers_length limit (field ∷ fields) [] h = absurd h
+numbers_length limit (field ∷ fields) (n ∷ ns) h = let e = numbers_length limit fields ns h.1 in omega arith
 
-abbrev ShortFault : ℕ → List (List ℕ) → Word → Type 0
-ShortFault count fields w = (front : List (List ℕ)) × (ns : List ℕ) × (rest : List (List ℕ)) × (fields ≡ front ++ rest) × AreNumbers front ns × (length ns < count) × NoFirstNumber BadCount (2 ^ 32) rest w
+abbrev ShortFault : ℕ → ℕ → List (List ℕ) → Word → Type 0
+ShortFault limit count fields w = (front : List (List ℕ)) × (ns : List ℕ) × (rest : List (List ℕ)) × (fields ≡ front ++ rest) × AreNumbers limit front ns × (length ns < count) × NoFirstNumber BadCount limit rest w
 
-numbers_cases : (count : ℕ) (fields : List (List ℕ))
-    → ((ns : List ℕ) × (rest : List (List ℕ)) × (front : List (List ℕ)) × (numbers_at count fields ≡ Ok (ns, rest)) × (length ns ≡ count) × (fields ≡ front ++ rest) × AreNumbers front ns)
-    ⊎ ((w : Word) × (numbers_at count fields ≡ Err w) × ShortFault count fields w)
-numbers_cases zero fields = inl ([], fields, [], numbers_at-zero fields, refl, refl, tt)
-numbers_cases (suc n) [] = inr (BadCount, numbers_at-none n, ([], [], [], refl, tt, omega arith, refl))
-numbers_cases (suc n) (field ∷ fields) = elim (number_of-cases (2 ^ 32) field) [
-  | inl (x, e, h) ↦ elim (numbers_cases n fields) [
-    | inl (ns, rest, front, is, len, q, all) ↦ inl (x ∷ ns, rest, field ∷ front, numbers_at-suc n field fields ∙ rw (e, is) refl, omega arith, ap (λ y. field ∷ y) q, (h, all))
-    | inr (w, is, (front, ns, rest, q, all, small, bad)) ↦ inr (w, numbers_at-suc n field fields ∙ rw (e, is) refl, (field ∷ front, x ∷ ns, rest, ap (λ y. field ∷ y) q, (h, all), omega arith, bad))
+numbers_cases : (limit : ℕ) (count : ℕ) (fields : List (List ℕ))
+    → ((ns : List ℕ) × (rest : List (List ℕ)) × (front : List (List ℕ)) × (numbers_at limit count fields ≡ Ok (ns, rest)) × (length ns ≡ count) × (fields ≡ front ++ rest) × AreNumbers limit front ns)
+    ⊎ ((w : Word) × (numbers_at limit count fields ≡ Err w) × ShortFault limit count fields w)
+numbers_cases limit zero fields = inl ([], fields, [], numbers_at-zero limit fields, refl, refl, tt)
+numbers_cases limit (suc n) [] = inr (BadCount, numbers_at-none limit n, ([], [], [], refl, tt, omega arith, refl))
+numbers_cases limit (suc n) (field ∷ fields) = elim (number_of-cases limit field) [
+  | inl (x, e, h) ↦ elim (numbers_cases limit n fields) [
+    | inl (ns, rest, front, is, len, q, all) ↦ inl (x ∷ ns, rest, field ∷ front, numbers_at-suc limit n field fields ∙ rw (e, is) refl, omega arith, ap (λ y. field ∷ y) q, (h, all))
+    | inr (w, is, (front, ns, rest, q, all, small, bad)) ↦ inr (w, numbers_at-suc limit n field fields ∙ rw (e, is) refl, (field ∷ front, x ∷ ns, rest, ap (λ y. field ∷ y) q, (h, all), omega arith, bad))
   ]
-  | inr (w, e, h) ↦ inr (w, numbers_at-suc n field fields ∙ rw e refl, ([], [], field ∷ fields, refl, tt, omega arith, h))
+  | inr (w, e, h) ↦ inr (w, numbers_at-suc limit n field fields ∙ rw e refl, ([], [], field ∷ fields, refl, tt, omega arith, h))
 ]
 
-counted_cases : (k : Numbering) (text : List ℕ) (fields : List (List ℕ)) → DueOutcome (due.Counted k) text fields
+counted_cases : (limit : ℕ) (k : Numbering) (text : List ℕ) (fields : List (List ℕ)) → DueOutcome limit (due.Counted k) text fields
 unfolding counted_at number_at
-counted_cases k text [] = inr (MissingField, refl, inl refl)
-counted_cases k text (field ∷ fields) = elim (number_of-cases (2 ^ 32) field) [
-  | inl (count, e, h) ↦ elim (numbers_cases count fields) [
-    | inl (ns, rest, front, is, len, q, all) ↦ inl (value.Numbers ns, rest, rw (e, is) refl, (ns, refl, fields, front, (field, refl, subst (λ n. Numbers (2 ^ 32) field n) (sym len) h), q, all))
+counted_cases limit k text [] = inr (MissingField, refl, inl refl)
+counted_cases limit k text (field ∷ fields) = elim (number_of-cases limit field) [
+  | inl (count, e, h) ↦ elim (numbers_cases limit count fields) [
+    | inl (ns, rest, front, is, len, q, all) ↦ inl (value.Numbers ns, rest, rw (e, is) refl, (ns, refl, fields, front, (field, refl, subst (λ n. Numbers limit field n) (sym len) h), q, all))
     | inr (w, is, (front, ns, rest, q, all, small, bad)) ↦ inr (w, rw (e, is) refl, inr (count, fields, front, ns, rest, (field, refl, h), q, all, small, bad))
   ]
   | inr (w, e, h) ↦ inr (w, rw e refl, inl h)
 ]
 
-to_end_cases : (k : Numbering) (text : List ℕ) (fields : List (List ℕ)) → DueOutcome (due.Rest k) text fields
-to_end_cases k text fields = elim (rest_cases fields) [
+to_end_cases : (limit : ℕ) (k : Numbering) (text : List ℕ) (fields : List (List ℕ)) → DueOutcome limit (due.Rest k) text fields
+to_end_cases limit k text fields = elim (rest_cases limit fields) [
   | inl (ns, is, all) ↦ inl (value.Numbers ns, [], rw is refl, (ns, refl, all, refl))
   | inr (w, is, h) ↦ inr (w, rw is refl, h)
 ]
@@ -176,14 +176,14 @@ utf8_cases bytes = elim (bool_cases (is_utf8 bytes)) [
   | inr e ↦ inr (e, λ h. absurd_lem (is_utf8 bytes) (is_utf8-from_IsUtf8 bytes h) e)
 ]
 
-text_cases : (text : List ℕ) (fields : List (List ℕ)) → DueOutcome due.Text text fields
-text_cases text fields = elim (utf8_cases text) [
+text_cases : (limit : ℕ) (text : List ℕ) (fields : List (List ℕ)) → DueOutcome limit due.Text text fields
+text_cases limit text fields = elim (utf8_cases text) [
   | inl (e, h) ↦ inl (value.Bytes text, [], rw e refl, (refl, h, refl))
   | inr (e, h) ↦ inr (BadUtf8, rw e refl, (refl, h))
 ]
 
-hex_cases : (text : List ℕ) (fields : List (List ℕ)) → DueOutcome due.Hex text fields
-hex_cases text fields = elim (pairs_cases fields) [
+hex_cases : (limit : ℕ) (text : List ℕ) (fields : List (List ℕ)) → DueOutcome limit due.Hex text fields
+hex_cases limit text fields = elim (pairs_cases fields) [
   | inl (bytes, e, all) ↦ elim (utf8_cases bytes) [
     | inl (f, h) ↦ inl (value.Bytes bytes, [], rw (e, f) refl, (bytes, refl, all, h, refl))
     | inr (f, h) ↦ inr (BadUtf8, rw (e, f) refl, inr (refl, bytes, all, h))
@@ -191,28 +191,28 @@ hex_cases text fields = elim (pairs_cases fields) [
   | inr (e, (front, bytes, field, more, q, all, bad)) ↦ inr (BadHex, rw e refl, inl (refl, front, bytes, field, more, q, all, bad))
 ]
 
-due_cases : (d : Due) (text : List ℕ) (fields : List (List ℕ)) → DueOutcome d text fields
-due_cases (due.Known k) text fields = number_cases text fields
-due_cases due.Number text fields = number_cases text fields
-due_cases due.Long text fields = long_cases text fields
-due_cases due.Literal text fields = literal_cases text fields
-due_cases due.Info text fields = info_cases text fields
-due_cases due.Hint text fields = hint_cases text fields
-due_cases due.Flag text fields = flag_cases text fields
-due_cases (due.Counted k) text fields = counted_cases k text fields
-due_cases (due.Rest k) text fields = to_end_cases k text fields
-due_cases due.Text text fields = text_cases text fields
-due_cases due.Hex text fields = hex_cases text fields
+due_cases : (limit : ℕ) (d : Due) (text : List ℕ) (fields : List (List ℕ)) → DueOutcome limit d text fields
+due_cases limit (due.Known k) text fields = number_cases limit text fields
+due_cases limit due.Number text fields = number_cases limit text fields
+due_cases limit due.Long text fields = long_cases limit text fields
+due_cases limit due.Literal text fields = literal_cases limit text fields
+due_cases limit due.Info text fields = info_cases limit text fields
+due_cases limit due.Hint text fields = hint_cases limit text fields
+due_cases limit due.Flag text fields = flag_cases limit text fields
+due_cases limit (due.Counted k) text fields = counted_cases limit k text fields
+due_cases limit (due.Rest k) text fields = to_end_cases limit k text fields
+due_cases limit due.Text text fields = text_cases limit text fields
+due_cases limit due.Hex text fields = hex_cases limit text fields
 
-abbrev pub Outcome : List Due → List ℕ → List (List ℕ) → Type 0
-Outcome dues text fields = ((values : List Value) × (read_dues dues text fields ≡ Ok values) × SpellsDues dues text fields values)
-    ⊎ ((w : Word) × (read_dues dues text fields ≡ Err w) × FirstFault dues text fields w)
+abbrev pub Outcome : ℕ → List Due → List ℕ → List (List ℕ) → Type 0
+Outcome limit dues text fields = ((values : List Value) × (read_dues limit dues text fields ≡ Ok values) × SpellsDues limit dues text fields values)
+    ⊎ ((w : Word) × (read_dues limit dues text fields ≡ Err w) × FirstFault limit dues text fields w)
 
-pub outcome : (dues : List Due) (text : List ℕ) (fields : List (List ℕ)) → Outcome dues text fields
-outcome [] text [] = inl ([], refl, (refl, refl))
-outcome [] text (field ∷ fields) = inr (ExtraField, refl, (field, fields, refl, refl))
-outcome (d ∷ dues) text fields = elim (due_cases d text fields) [
-  | inl (v, rest, e, h) ↦ elim (outcome dues text rest) [
+pub outcome : (limit : ℕ) (dues : List Due) (text : List ℕ) (fields : List (List ℕ)) → Outcome limit dues text fields
+outcome limit [] text [] = inl ([], refl, (refl, refl))
+outcome limit [] text (field ∷ fields) = inr (ExtraField, refl, (field, fields, refl, refl))
+outcome limit (d ∷ dues) text fields = elim (due_cases limit d text fields) [
+  | inl (v, rest, e, h) ↦ elim (outcome limit dues text rest) [
     | inl (values, is, s) ↦ inl (v ∷ values, rw (e, is) refl, (v, rest, values, refl, h, s))
     | inr (w, is, f) ↦ inr (w, rw (e, is) refl, inr (v, rest, h, f))
   ]

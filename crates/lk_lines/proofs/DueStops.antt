@@ -31,74 +31,74 @@ first_stop missing limit (field ∷ fields) w h = rw (number_of-fault limit fiel
 value_stop : (limit : ℕ) (fields : List (List ℕ)) (w : Word) → NoFirstNumber MissingField limit fields w → number_value limit fields ≡ Err w
 value_stop limit fields w h = rw (first_stop MissingField limit fields w h) refl
 
-literal_stop : (text : List ℕ) (fields : List (List ℕ)) (w : Word) → Fails due.Literal text fields w → due_at due.Literal text fields ≡ Err w
+literal_stop : (limit : ℕ) (text : List ℕ) (fields : List (List ℕ)) (w : Word) → Fails limit due.Literal text fields w → due_at limit due.Literal text fields ≡ Err w
 unfolding literal_at
-literal_stop text [] w h = rw h refl
-literal_stop text (field ∷ fields) w h = rw (h.0, nat_of-none field h.1) refl
+literal_stop limit text [] w h = rw h refl
+literal_stop limit text (field ∷ fields) w h = rw (h.0, nat_of-none field h.1) refl
 
-info_stop : (text : List ℕ) (fields : List (List ℕ)) (w : Word) → Fails due.Info text fields w → due_at due.Info text fields ≡ Err w
+info_stop : (limit : ℕ) (text : List ℕ) (fields : List (List ℕ)) (w : Word) → Fails limit due.Info text fields w → due_at limit due.Info text fields ≡ Err w
 unfolding info_at
-info_stop text [] w h = rw h refl
-info_stop text (field ∷ fields) w h = rw (h.0, word_false field (codes "#BD") (h.1 Default), word_false field (codes "#BI") (h.1 Implicit), word_false field (codes "#BS") (h.1 StrictImplicit), word_false field (codes "#BC") (h.1 InstImplicit)) refl
+info_stop limit text [] w h = rw h refl
+info_stop limit text (field ∷ fields) w h = rw (h.0, word_false field (codes "#BD") (h.1 Default), word_false field (codes "#BI") (h.1 Implicit), word_false field (codes "#BS") (h.1 StrictImplicit), word_false field (codes "#BC") (h.1 InstImplicit)) refl
 
-flag_stop : (text : List ℕ) (fields : List (List ℕ)) (w : Word) → Fails due.Flag text fields w → due_at due.Flag text fields ≡ Err w
+flag_stop : (limit : ℕ) (text : List ℕ) (fields : List (List ℕ)) (w : Word) → Fails limit due.Flag text fields w → due_at limit due.Flag text fields ≡ Err w
 unfolding flag_at
-flag_stop text [] w h = rw h refl
-flag_stop text (field ∷ fields) w h = rw (h.0, word_false field (codes "0") (h.1 false), word_false field (codes "1") (h.1 true)) refl
+flag_stop limit text [] w h = rw h refl
+flag_stop limit text (field ∷ fields) w h = rw (h.0, word_false field (codes "0") (h.1 false), word_false field (codes "1") (h.1 true)) refl
 
-hint_stop : (text : List ℕ) (fields : List (List ℕ)) (w : Word) → Fails due.Hint text fields w → due_at due.Hint text fields ≡ Err w
+hint_stop : (limit : ℕ) (text : List ℕ) (fields : List (List ℕ)) (w : Word) → Fails limit due.Hint text fields w → due_at limit due.Hint text fields ≡ Err w
 unfolding hint_at
-hint_stop text [] w h = rw h refl
-hint_stop text (field ∷ fields) w (inl h) = rw (h.0, word_false field (codes "O") h.1, word_false field (codes "A") h.2, word_false field (codes "R") h.3) refl
-hint_stop text (field ∷ fields) w (inr h) = rw (h.0, first_stop MissingField (2 ^ 32) fields w h.1) refl
+hint_stop limit text [] w h = rw h refl
+hint_stop limit text (field ∷ fields) w (inl h) = rw (h.0, word_false field (codes "O") h.1, word_false field (codes "A") h.2, word_false field (codes "R") h.3) refl
+hint_stop limit text (field ∷ fields) w (inr h) = rw (h.0, first_stop MissingField limit fields w h.1) refl
 
-rest_stop : (front : List (List ℕ)) (ns : List ℕ) (field : List ℕ) (more : List (List ℕ)) (w : Word) → AreNumbers front ns → NumberFault (2 ^ 32) field w → rest_at (front ++ field ∷ more) ≡ Err w
-rest_stop [] ns field more w all bad = rw (number_of-fault (2 ^ 32) field w bad) refl
-rest_stop (f ∷ front) [] field more w all bad = absurd all
-rest_stop (f ∷ front) (n ∷ ns) field more w all bad = rw (number_of-again (2 ^ 32) f n all.0, rest_stop front ns field more w all.1 bad) refl
+rest_stop : (limit : ℕ) (front : List (List ℕ)) (ns : List ℕ) (field : List ℕ) (more : List (List ℕ)) (w : Word) → AreNumbers limit front ns → NumberFault limit field w → rest_at limit (front ++ field ∷ more) ≡ Err w
+rest_stop limit [] ns field more w all bad = rw (number_of-fault limit field w bad) refl
+rest_stop limit (f ∷ front) [] field more w all bad = absurd all
+rest_stop limit (f ∷ front) (n ∷ ns) field more w all bad = rw (number_of-again limit f n all.0, rest_stop limit front ns field more w all.1 bad) refl
 
-to_end_stop : (k : Numbering) (text : List ℕ) (fields : List (List ℕ)) (w : Word) → Fails (due.Rest k) text fields w → due_at (due.Rest k) text fields ≡ Err w
-to_end_stop k text fields w (front, ns, field, more, q, all, bad) = rw (q, rest_stop front ns field more w all bad) refl
+to_end_stop : (limit : ℕ) (k : Numbering) (text : List ℕ) (fields : List (List ℕ)) (w : Word) → Fails limit (due.Rest k) text fields w → due_at limit (due.Rest k) text fields ≡ Err w
+to_end_stop limit k text fields w (front, ns, field, more, q, all, bad) = rw (q, rest_stop limit front ns field more w all bad) refl
 
 no_text : (bytes : List ℕ) → (IsUtf8 bytes → ⊥) → is_utf8 bytes ≡ false
 no_text bytes h = false_of (is_utf8 bytes) (λ e. h (IsUtf8-from_is_utf8 bytes e))
 
-text_stop : (text : List ℕ) (fields : List (List ℕ)) (w : Word) → Fails due.Text text fields w → due_at due.Text text fields ≡ Err w
-text_stop text fields w h = rw (h.0, no_text text h.1) refl
+text_stop : (limit : ℕ) (text : List ℕ) (fields : List (List ℕ)) (w : Word) → Fails limit due.Text text fields w → due_at limit due.Text text fields ≡ Err w
+text_stop limit text fields w h = rw (h.0, no_text text h.1) refl
 
-hex_stop : (text : List ℕ) (fields : List (List ℕ)) (w : Word) → Fails due.Hex text fields w → due_at due.Hex text fields ≡ Err w
-hex_stop text fields w (inl (is, front, bytes, field, more, q, all, bad)) = rw (q, is, pairs_stop front bytes field more all bad) refl
-hex_stop text fields w (inr (is, bytes, all, isnt)) = rw (is, pairs_again fields bytes all, no_text bytes isnt) refl
+hex_stop : (limit : ℕ) (text : List ℕ) (fields : List (List ℕ)) (w : Word) → Fails limit due.Hex text fields w → due_at limit due.Hex text fields ≡ Err w
+hex_stop limit text fields w (inl (is, front, bytes, field, more, q, all, bad)) = rw (q, is, pairs_stop front bytes field more all bad) refl
+hex_stop limit text fields w (inr (is, bytes, all, isnt)) = rw (is, pairs_again fields bytes all, no_text bytes isnt) refl
 
-numbers_stop : (count : ℕ) (front : List (List ℕ)) (ns : List ℕ) (rest : List (List ℕ)) (w : Word) → AreNumbers front ns → length ns < count → NoFirstNumber BadCount (2 ^ 32) rest w → numbers_at count (front ++ rest) ≡ Err w
-numbers_stop zero front ns rest w all small bad = absurd (omega arith)
-numbers_stop (suc n) [] [] [] w all small bad = rw bad (numbers_at-none n)
-numbers_stop (suc n) [] [] (field ∷ more) w all small bad = numbers_at-suc n field more ∙ rw (number_of-fault (2 ^ 32) field w bad) refl
-numbers_stop (suc n) [] (x ∷ ns) rest w all small bad = absurd all
-numbers_stop (suc n) (field ∷ front) [] rest w all small bad = absurd all
-numbers_stop (suc n) (field ∷ front) (x ∷ ns) rest w all small bad =
-    numbers_at-suc n field (front ++ rest) ∙ rw (number_of-again (2 ^ 32) field x all.0, numbers_stop n front ns rest w all.1 (omega arith) bad) refl
+numbers_stop : (limit : ℕ) (count : ℕ) (front : List (List ℕ)) (ns : List ℕ) (rest : List (List ℕ)) (w : Word) → AreNumbers limit front ns → length ns < count → NoFirstNumber BadCount limit rest w → numbers_at limit count (front ++ rest) ≡ Err w
+numbers_stop limit zero front ns rest w all small bad = absurd (omega arith)
+numbers_stop limit (suc n) [] [] [] w all small bad = rw bad (numbers_at-none limit n)
+numbers_stop limit (suc n) [] [] (field ∷ more) w all small bad = numbers_at-suc limit n field more ∙ rw (number_of-fault limit field w bad) refl
+numbers_stop limit (suc n) [] (x ∷ ns) rest w all small bad = absurd all
+numbers_stop limit (suc n) (field ∷ front) [] rest w all small bad = absurd all
+numbers_stop limit (suc n) (field ∷ front) (x ∷ ns) rest w all small bad =
+    numbers_at-suc limit n field (front ++ rest) ∙ rw (number_of-again limit field x all.0, numbers_stop limit n front ns rest w all.1 (omega arith) bad) refl
 
-counted_stop : (k : Numbering) (text : List ℕ) (fields : List (List ℕ)) (w : Word) → Fails (due.Counted k) text fields w → due_at (due.Counted k) text fields ≡ Err w
+counted_stop : (limit : ℕ) (k : Numbering) (text : List ℕ) (fields : List (List ℕ)) (w : Word) → Fails limit (due.Counted k) text fields w → due_at limit (due.Counted k) text fields ≡ Err w
 unfolding counted_at number_at
-counted_stop k text [] w (inl h) = rw h refl
-counted_stop k text (field ∷ fields) w (inl h) = rw (number_of-fault (2 ^ 32) field w h) refl
-counted_stop k text fields w (inr (count, more, front, ns, rest, (field, q, h), p, all, small, bad)) = rw (q, number_of-again (2 ^ 32) field count h, p, numbers_stop count front ns rest w all small bad) refl
+counted_stop limit k text [] w (inl h) = rw h refl
+counted_stop limit k text (field ∷ fields) w (inl h) = rw (number_of-fault limit field w h) refl
+counted_stop limit k text fields w (inr (count, more, front, ns, rest, (field, q, h), p, all, small, bad)) = rw (q, number_of-again limit field count h, p, numbers_stop limit count front ns rest w all small bad) refl
 
-due_stop : (d : Due) (text : List ℕ) (fields : List (List ℕ)) (w : Word) → Fails d text fields w → due_at d text fields ≡ Err w
-due_stop (due.Known k) text fields w h = value_stop (2 ^ 32) fields w h
-due_stop due.Number text fields w h = value_stop (2 ^ 32) fields w h
-due_stop due.Long text fields w h = value_stop (2 ^ 64) fields w h
-due_stop due.Literal text fields w h = literal_stop text fields w h
-due_stop due.Info text fields w h = info_stop text fields w h
-due_stop due.Hint text fields w h = hint_stop text fields w h
-due_stop due.Flag text fields w h = flag_stop text fields w h
-due_stop (due.Counted k) text fields w h = counted_stop k text fields w h
-due_stop (due.Rest k) text fields w h = to_end_stop k text fields w h
-due_stop due.Text text fields w h = text_stop text fields w h
-due_stop due.Hex text fields w h = hex_stop text fields w h
+due_stop : (limit : ℕ) (d : Due) (text : List ℕ) (fields : List (List ℕ)) (w : Word) → Fails limit d text fields w → due_at limit d text fields ≡ Err w
+due_stop limit (due.Known k) text fields w h = value_stop limit fields w h
+due_stop limit due.Number text fields w h = value_stop limit fields w h
+due_stop limit due.Long text fields w h = value_stop (2 ^ 64) fields w h
+due_stop limit due.Literal text fields w h = literal_stop limit text fields w h
+due_stop limit due.Info text fields w h = info_stop limit text fields w h
+due_stop limit due.Hint text fields w h = hint_stop limit text fields w h
+due_stop limit due.Flag text fields w h = flag_stop limit text fields w h
+due_stop limit (due.Counted k) text fields w h = counted_stop limit k text fields w h
+due_stop limit (due.Rest k) text fields w h = to_end_stop limit k text fields w h
+due_stop limit due.Text text fields w h = text_stop limit text fields w h
+due_stop limit due.Hex text fields w h = hex_stop limit text fields w h
 
-pub stops : (dues : List Due) (text : List ℕ) (fields : List (List ℕ)) (w : Word) → FirstFault dues text fields w → read_dues dues text fields ≡ Err w
-stops [] text fields w (field, more, q, is) = rw (q, is) refl
-stops (d ∷ dues) text fields w (inl h) = rw (due_stop d text fields w h) refl
-stops (d ∷ dues) text fields w (inr (v, rest, h, f)) = rw (due_again d text fields v rest h, stops dues text rest w f) refl
+pub stops : (limit : ℕ) (dues : List Due) (text : List ℕ) (fields : List (List ℕ)) (w : Word) → FirstFault limit dues text fields w → read_dues limit dues text fields ≡ Err w
+stops limit [] text fields w (field, more, q, is) = rw (q, is) refl
+stops limit (d ∷ dues) text fields w (inl h) = rw (due_stop limit d text fields w h) refl
+stops limit (d ∷ dues) text fields w (inr (v, rest, h, f)) = rw (due_again limit d text fields v rest h, stops limit dues text rest w f) refl

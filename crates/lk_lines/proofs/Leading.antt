@@ -76,13 +76,13 @@ digits_field (d ∷ ds) rest all lt ends =
     field_first (d ∷ ds ++ rest) (d ∷ ds ++ rest) (length (d ∷ ds)) kept (sym (digits_end (d ∷ ds) rest all ends)) lt
     ∙ rw (take_lem (d ∷ ds) rest, drop-append_seam (d ∷ ds) rest) refl
 
-pub plain_lem : (line front rest : List ℕ) (n : ℕ) (missing : Word) → fields_of front ≡ fields_of line → LeadingDigits front rest n → length rest < length front → EndsField rest → n < 2 ^ 32
-    → number_at missing (2 ^ 32) (fields_of line) ≡ Ok (n, fields_of rest)
+pub plain_lem : (line front rest : List ℕ) (n : ℕ) (missing : Word) (limit : ℕ) → fields_of front ≡ fields_of line → LeadingDigits front rest n → length rest < length front → EndsField rest → n < 2 ^ 32 → 2 ^ 32 ≤ limit
+    → number_at missing limit (fields_of line) ≡ Ok (n, fields_of rest)
 unfolding number_at
-plain_lem line front rest n missing same h shorter ends lt =
+plain_lem line front rest n missing limit same h shorter ends lt room =
     let whole : length front ≡ length h.digits + length rest = ap length h.parts ∙ length-append h.digits rest in
     let some : 0 < length h.digits = omega arith in
     let fields : fields_of line ≡ h.digits ∷ fields_of rest = sym same ∙ ap fields_of h.parts ∙ digits_field h.digits rest h.all some ends in
     let is : digits_value 10 h.digits ≡ n = h.«value» in
-    let number : number_of (2 ^ 32) h.digits ≡ Ok n = number_of-is (2 ^ 32) h.digits n (some, h.all) (omega arith) (sym is) in
+    let number : number_of limit h.digits ≡ Ok n = number_of-is limit h.digits n (some, h.all) (omega arith) (sym is) in
     rw (fields, number) refl

@@ -12,7 +12,8 @@ use Rattle.lk_lines.specs.declared.dues.Due.TheVariants as due
 use Rattle.lk_lines.specs.declared.dues.Numbering.TheVariants.{Names}
 use Rattle.lk_lines.specs.Values.{Number, Bytes}
 use Rattle.lk_lines.specs.Spelling.{SpellsDues}
-use Rattle.lk_lines.specs.Says.{Says, said_in, SpellsSaid}
+use Rattle.lk_lines.specs.Says.{Says, said_below, SpellsSaid}
+use Rattle.lk_lines.specs.FileNumbers.{NumberView}
 use Rattle.lk_lines.specs.Views.{says_of}
 use Rattle.lk_lines.specs.LineFeeds.{NamesHaveNoLineFeed}
 use Rattle.lk_lines.proofs.SaidLaws.{said_outcome}
@@ -39,20 +40,20 @@ text_has_none bytes h =
     All-drop (λ b. b ≢ 10) 1 (skip_field (skip_spaces two)) (behind_one two (behind_one one (behind_one bytes h)))
 
 -- the text of a name is the text behind the third field
-pub text_lem : (behind text : List ℕ) (parent : ℕ) (fields : List (List ℕ)) → SpellsDues (due.Known Names ∷ due.Text ∷ []) behind fields (Number parent ∷ Bytes text ∷ []) → text ≡ behind
-text_lem behind text parent fields (v, rest, more, is, known, (u, end, none, as_text, taken, done)) =
+pub text_lem : (limit : ℕ) (behind text : List ℕ) (parent : ℕ) (fields : List (List ℕ)) → SpellsDues limit (due.Known Names ∷ due.Text ∷ []) behind fields (Number parent ∷ Bytes text ∷ []) → text ≡ behind
+text_lem limit behind text parent fields (v, rest, more, is, known, (u, end, none, as_text, taken, done)) =
     let first = is in let second = as_text in let third = taken.0 in cc
 
-pub said_spelled : (d : Dialect) (first : Bool) (bytes : List ℕ) (says : Says) → said_in d first bytes ≡ Ok says → SpellsSaid d first bytes says
-said_spelled d first bytes says e = elim (said_outcome d first bytes) [
-  | inl (other, is, s) ↦ let same : other ≡ says = (let both = is in cc) in let P : Says → Type 0 = λ o. SpellsSaid d first bytes o in subst P same s
+pub said_spelled : (limit : ℕ) (d : Dialect) (first : Bool) (bytes : List ℕ) (says : Says) → said_below limit d first bytes ≡ Ok says → SpellsSaid limit d first bytes says
+said_spelled limit d first bytes says e = elim (said_outcome limit d first bytes) [
+  | inl (other, is, s) ↦ let same : other ≡ says = (let both = is in cc) in let P : Says → Type 0 = λ o. SpellsSaid limit d first bytes o in subst P same s
   | inr (w, is, h) ↦ absurd (let both = is in cc)
 ]
 
-pub names_lem : (d : Dialect) (first : Bool) (bytes : List ℕ) (s : Statement) → HasNoLineFeed bytes → said_in d first bytes ≡ Ok (says_of s) → NamesHaveNoLineFeed s
-names_lem d first bytes (statement.Entry own (entries.NameText parent text)) h e =
-    let s = said_spelled d first bytes _ e in
-    let same : text.now ≡ text_behind bytes = text_lem (text_behind bytes) text.now parent _ s.2.3 in
+pub names_lem : {N : Type 0} → (view : NumberView N) (d : Dialect) (first : Bool) (bytes : List ℕ) (s : Statement N) → HasNoLineFeed bytes → said_below view.limit d first bytes ≡ Ok (says_of view s) → NamesHaveNoLineFeed s
+names_lem view d first bytes (statement.Entry own (entries.NameText parent text)) h e =
+    let s = said_spelled view.limit d first bytes _ e in
+    let same : text.now ≡ text_behind bytes = text_lem view.limit (text_behind bytes) text.now (view.value parent) _ s.2.3 in
     let P : List ℕ → Type 0 = λ xs. HasNoLineFeed xs in
     subst P (sym same) (text_has_none bytes h)
-names_lem d first bytes s h e = tt
+names_lem view d first bytes s h e = tt

@@ -1,9 +1,11 @@
 pub mod Digits
+pub mod FileNumbers
 pub mod Items
 pub mod LineFeeds
 pub mod Limits
 pub mod Lines
 pub mod Reading
+pub mod Rules
 pub mod Says
 pub mod Spelling
 pub mod Table

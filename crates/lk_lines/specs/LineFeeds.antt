@@ -6,10 +6,10 @@ use Rattle.lk_lines.specs.declared.line.Statement.{Statement}
 use Rattle.lk_lines.specs.declared.line.Statement.TheVariants as statement
 
 -- if this is a component of a name, its text holds no line feed
-abbrev pub EntryHasNoLineFeed : EntryLine → Type 0
+abbrev pub EntryHasNoLineFeed : {N : Type 0} → EntryLine N → Type 0
 EntryHasNoLineFeed (entries.NameText parent text) = HasNoLineFeed text.now
 EntryHasNoLineFeed e = Unit {0}
 
-abbrev pub NamesHaveNoLineFeed : Statement → Type 0
+abbrev pub NamesHaveNoLineFeed : {N : Type 0} → Statement N → Type 0
 NamesHaveNoLineFeed (statement.Entry own e) = EntryHasNoLineFeed e
 NamesHaveNoLineFeed s = Unit {0}

@@ -1,16 +1,19 @@
 -- The tags of the format: their words, which of them have a number in front, and which of them each dialect has.
-use Rattle.std.specs.Prelude.{ℕ, List, [], ◌∷◌, Result, Ok, Err, codes, if◌then◌else◌}
-use Rattle.std.specs.Str.{bytes_eq}
+use Rattle.std.specs.Prelude.{ℕ, List, [], ◌∷◌, Result, codes}
 use Rattle.lk_lines.specs.declared.words.Word.{Word}
 use Rattle.lk_lines.specs.declared.words.Word.TheVariants.{UnknownTag}
 use Rattle.lk_lines.specs.declared.tags.EntryTag.TheVariants as entry
 use Rattle.lk_lines.specs.declared.tags.DeclarationTag.TheVariants as declaration
+use Rattle.lk_lines.specs.declared.rules.Family.TheVariants as family
+use Rattle.lk_lines.specs.declared.tags.NumberedTag.{NumberedTag}
+use Rattle.lk_lines.specs.declared.tags.NumberedTag.TheVariants as numbered
 use Rattle.lk_lines.specs.declared.tags.PlainTag.{PlainTag}
 use Rattle.lk_lines.specs.declared.tags.PlainTag.TheVariants as plain
 use Rattle.lk_lines.specs.declared.tags.Tag.{Tag}
-use Rattle.lk_lines.specs.declared.tags.Tag.TheVariants.{Entry, Declaration, Budget, Go}
+use Rattle.lk_lines.specs.declared.tags.Tag.TheVariants.{Entry, Declaration, Budget, Go, Trace, Section, Parts, Local, Derivation}
 use Rattle.lk_lines.specs.declared.tags.Dialect.{Dialect}
-use Rattle.lk_lines.specs.declared.tags.Dialect.TheVariants.{Export, Rounds}
+use Rattle.lk_lines.specs.declared.tags.Dialect.TheVariants as dialects
+use Rattle.lk_lines.specs.Words.{find_word}
 
 -- the word of a tag
 abbrev pub tag_word : Tag → List ℕ
@@ -41,37 +44,59 @@ tag_word (Declaration declaration.Constructor) = codes "#CTOR"
 tag_word (Declaration declaration.Recursor) = codes "#REC"
 tag_word Budget = codes "#BUD"
 tag_word Go = codes "#GO"
+tag_word Trace = codes "#TR"
+tag_word Section = codes "#AT"
+tag_word Parts = codes "#OK"
+tag_word Local = codes "#EF"
+tag_word (Derivation family.Typing) = codes "#TY"
+tag_word (Derivation family.Reduction) = codes "#RD"
+tag_word (Derivation family.Conversion) = codes "#CV"
+
+-- the tags of lines with a number in front that a dialect has beside the common ones
+abbrev pub own_numbered_tags : Dialect → List Tag
+own_numbered_tags dialects.Export = []
+own_numbered_tags dialects.Rounds = []
+own_numbered_tags dialects.Trace = Local ∷ Derivation family.Typing ∷ Derivation family.Reduction
+    ∷ Derivation family.Conversion ∷ []
 
 -- those of lines that define a number which are not often met
-abbrev pub rare_tags : List Tag
-rare_tags = Entry entry.Successor ∷ Entry entry.Max ∷ Entry entry.Imax ∷ Entry entry.Parameter
-    ∷ Entry entry.Let ∷ Entry entry.Project
-    ∷ Entry entry.NatLiteral ∷ Entry entry.TextLiteral ∷ Entry entry.Rule ∷ []
+abbrev pub rare_tags : Dialect → List Tag
+rare_tags dialect = Entry entry.Successor ∷ Entry entry.Max ∷ Entry entry.Imax
+    ∷ Entry entry.Parameter ∷ Entry entry.Let ∷ Entry entry.Project ∷ Entry entry.NatLiteral
+    ∷ Entry entry.TextLiteral ∷ Entry entry.Rule ∷ own_numbered_tags dialect
 
 -- the tags of lines that define a number, which stands in front of the tag
-abbrev pub numbered_tags : List Tag
-numbered_tags = Entry entry.Apply ∷ Entry entry.Constant ∷ Entry entry.Lambda ∷ Entry entry.Pi
-    ∷ Entry entry.Variable ∷ Entry entry.NameText
-    ∷ Entry entry.Sort ∷ Entry entry.NameNumber ∷ rare_tags
+abbrev pub numbered_tags : Dialect → List Tag
+numbered_tags dialect = Entry entry.Apply ∷ Entry entry.Constant ∷ Entry entry.Lambda
+    ∷ Entry entry.Pi ∷ Entry entry.Variable ∷ Entry entry.NameText
+    ∷ Entry entry.Sort ∷ Entry entry.NameNumber ∷ rare_tags dialect
 
--- the tag that a dialect alone has
-abbrev pub own_tag : Dialect → Tag
-own_tag Export = Budget
-own_tag Rounds = Go
+-- the tags of lines that begin with their tag which a dialect has beside the common ones
+abbrev pub own_tags : Dialect → List Tag
+own_tags dialects.Export = Budget ∷ []
+own_tags dialects.Rounds = Go ∷ []
+own_tags dialects.Trace = Budget ∷ Trace ∷ Section ∷ Parts ∷ []
 
 -- the tags of lines that begin with their tag
 abbrev pub plain_tags : Dialect → List Tag
 plain_tags dialect = Declaration declaration.Theorem ∷ Declaration declaration.Definition
     ∷ Declaration declaration.Axiom ∷ Declaration declaration.Opaque
     ∷ Declaration declaration.Quotient ∷ Declaration declaration.Inductive
-    ∷ Declaration declaration.Constructor ∷ Declaration declaration.Recursor ∷ own_tag dialect ∷ []
+    ∷ Declaration declaration.Constructor ∷ Declaration declaration.Recursor ∷ own_tags dialect
+
+abbrev pub numbered_tag : NumberedTag → Tag
+numbered_tag (numbered.Entry t) = Entry t
+numbered_tag numbered.Local = Local
+numbered_tag (numbered.Derivation f) = Derivation f
 
 abbrev pub plain_tag : PlainTag → Tag
 plain_tag (plain.Declaration t) = Declaration t
 plain_tag plain.Budget = Budget
 plain_tag plain.Go = Go
+plain_tag plain.Trace = Trace
+plain_tag plain.Section = Section
+plain_tag plain.Parts = Parts
 
 -- the tag among these with this word
 abbrev pub find_tag : List Tag → List ℕ → Result Tag Word
-find_tag [] word = Err UnknownTag
-find_tag (t ∷ tags) word = if bytes_eq word (tag_word t) then Ok t else find_tag tags word
+find_tag tags word = find_word UnknownTag tag_word tags word

@@ -1,5 +1,6 @@
--- The words for faults of the bytes, as they are written.
-use Rattle.std.specs.Prelude.{ℕ, List, codes}
+-- The words for faults of the bytes, as they are written, and how a word is found.
+use Rattle.std.specs.Prelude.{ℕ, List, [], ◌∷◌, Result, Ok, Err, codes, if◌then◌else◌}
+use Rattle.std.specs.Str.{bytes_eq}
 use Rattle.lk_lines.specs.declared.words.Word.{Word}
 use Rattle.lk_lines.specs.declared.words.Word.TheVariants as word
 
@@ -21,3 +22,10 @@ word_text word.BadWord = codes "BadWord"
 word_text word.BadCount = codes "BadCount"
 word_text word.BlockOpen = codes "BlockOpen"
 word_text word.RepeatedMember = codes "RepeatedMember"
+word_text word.TraceOrder = codes "TraceOrder"
+
+-- what has this word, the first of a list; or this fault, where none has it
+abbrev pub find_word : {A : Type 0} → Word → (A → List ℕ) → List A → List ℕ → Result A Word
+find_word none word_of [] word = Err none
+find_word none word_of (x ∷ xs) word =
+    if bytes_eq word (word_of x) then Ok x else find_word none word_of xs word

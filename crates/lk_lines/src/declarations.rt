@@ -5,12 +5,12 @@ ghost use Rattle.lk_token.specs.Fields.{fields_of};
 ghost use Rattle.lk_lines.specs.Views.{GivesDeclaration, declaration_tag};
 
 use crate::steps::{FieldError, counted, flag, hint, number, numbers_left};
-use crate::{ConstructorLine, DeclarationLine, DeclarationTag, RecursorLine, TypeLine};
+use crate::{ConstructorLine, DeclarationLine, DeclarationTag, FileNumber, RecursorLine, TypeLine};
 use std::alloc::Global;
 
-fn axiom(alloc: Global, line: &[u8]) -> Result<DeclarationLine, FieldError>
+fn axiom<N: FileNumber>(alloc: Global, line: &[u8]) -> Result<DeclarationLine<N>, FieldError>
     ensures values { (text : List ℕ) →
-        GivesDeclaration DeclarationTag.Axiom text (fields_of line.now) result }
+        GivesDeclaration N.view DeclarationTag.Axiom text (fields_of line.now) result }
     ensures tag { IfOk result (λ e. declaration_tag e ≡ DeclarationTag.Axiom) }
 {
     let (name, rest) = number(line)?;
@@ -23,9 +23,9 @@ fn axiom(alloc: Global, line: &[u8]) -> Result<DeclarationLine, FieldError>
     })
 }
 
-fn definition(alloc: Global, line: &[u8]) -> Result<DeclarationLine, FieldError>
+fn definition<N: FileNumber>(alloc: Global, line: &[u8]) -> Result<DeclarationLine<N>, FieldError>
     ensures values { (text : List ℕ) →
-        GivesDeclaration DeclarationTag.Definition text (fields_of line.now) result }
+        GivesDeclaration N.view DeclarationTag.Definition text (fields_of line.now) result }
     ensures tag { IfOk result (λ e. declaration_tag e ≡ DeclarationTag.Definition) }
 {
     let (name, rest) = number(line)?;
@@ -42,9 +42,9 @@ fn definition(alloc: Global, line: &[u8]) -> Result<DeclarationLine, FieldError>
     })
 }
 
-fn theorem(alloc: Global, line: &[u8]) -> Result<DeclarationLine, FieldError>
+fn theorem<N: FileNumber>(alloc: Global, line: &[u8]) -> Result<DeclarationLine<N>, FieldError>
     ensures values { (text : List ℕ) →
-        GivesDeclaration DeclarationTag.Theorem text (fields_of line.now) result }
+        GivesDeclaration N.view DeclarationTag.Theorem text (fields_of line.now) result }
     ensures tag { IfOk result (λ e. declaration_tag e ≡ DeclarationTag.Theorem) }
 {
     let (name, rest) = number(line)?;
@@ -59,9 +59,9 @@ fn theorem(alloc: Global, line: &[u8]) -> Result<DeclarationLine, FieldError>
     })
 }
 
-fn opaque(alloc: Global, line: &[u8]) -> Result<DeclarationLine, FieldError>
+fn opaque<N: FileNumber>(alloc: Global, line: &[u8]) -> Result<DeclarationLine<N>, FieldError>
     ensures values { (text : List ℕ) →
-        GivesDeclaration DeclarationTag.Opaque text (fields_of line.now) result }
+        GivesDeclaration N.view DeclarationTag.Opaque text (fields_of line.now) result }
     ensures tag { IfOk result (λ e. declaration_tag e ≡ DeclarationTag.Opaque) }
 {
     let (name, rest) = number(line)?;
@@ -76,9 +76,9 @@ fn opaque(alloc: Global, line: &[u8]) -> Result<DeclarationLine, FieldError>
     })
 }
 
-fn quotient(alloc: Global, line: &[u8]) -> Result<DeclarationLine, FieldError>
+fn quotient<N: FileNumber>(alloc: Global, line: &[u8]) -> Result<DeclarationLine<N>, FieldError>
     ensures values { (text : List ℕ) →
-        GivesDeclaration DeclarationTag.Quotient text (fields_of line.now) result }
+        GivesDeclaration N.view DeclarationTag.Quotient text (fields_of line.now) result }
     ensures tag { IfOk result (λ e. declaration_tag e ≡ DeclarationTag.Quotient) }
 {
     let (name, rest) = number(line)?;
@@ -91,9 +91,9 @@ fn quotient(alloc: Global, line: &[u8]) -> Result<DeclarationLine, FieldError>
     })
 }
 
-fn inductive(alloc: Global, line: &[u8]) -> Result<DeclarationLine, FieldError>
+fn inductive<N: FileNumber>(alloc: Global, line: &[u8]) -> Result<DeclarationLine<N>, FieldError>
     ensures values { (text : List ℕ) →
-        GivesDeclaration DeclarationTag.Inductive text (fields_of line.now) result }
+        GivesDeclaration N.view DeclarationTag.Inductive text (fields_of line.now) result }
     ensures tag { IfOk result (λ e. declaration_tag e ≡ DeclarationTag.Inductive) }
 {
     let (name, rest) = number(line)?;
@@ -122,9 +122,9 @@ fn inductive(alloc: Global, line: &[u8]) -> Result<DeclarationLine, FieldError>
     Ok(DeclarationLine::Inductive(stated))
 }
 
-fn constructor(alloc: Global, line: &[u8]) -> Result<DeclarationLine, FieldError>
+fn constructor<N: FileNumber>(alloc: Global, line: &[u8]) -> Result<DeclarationLine<N>, FieldError>
     ensures values { (text : List ℕ) →
-        GivesDeclaration DeclarationTag.Constructor text (fields_of line.now) result }
+        GivesDeclaration N.view DeclarationTag.Constructor text (fields_of line.now) result }
     ensures tag { IfOk result (λ e. declaration_tag e ≡ DeclarationTag.Constructor) }
 {
     let (name, rest) = number(line)?;
@@ -149,9 +149,9 @@ fn constructor(alloc: Global, line: &[u8]) -> Result<DeclarationLine, FieldError
     Ok(DeclarationLine::Constructor(stated))
 }
 
-fn recursor(alloc: Global, line: &[u8]) -> Result<DeclarationLine, FieldError>
+fn recursor<N: FileNumber>(alloc: Global, line: &[u8]) -> Result<DeclarationLine<N>, FieldError>
     ensures values { (text : List ℕ) →
-        GivesDeclaration DeclarationTag.Recursor text (fields_of line.now) result }
+        GivesDeclaration N.view DeclarationTag.Recursor text (fields_of line.now) result }
     ensures tag { IfOk result (λ e. declaration_tag e ≡ DeclarationTag.Recursor) }
 {
     let (name, rest) = number(line)?;
@@ -183,12 +183,12 @@ fn recursor(alloc: Global, line: &[u8]) -> Result<DeclarationLine, FieldError>
 }
 
 /// What stands behind a tag.
-pub(crate) fn read_declaration(
+pub(crate) fn read_declaration<N: FileNumber>(
     alloc: Global,
     tag: DeclarationTag,
     line: &[u8],
-) -> Result<DeclarationLine, FieldError>
-    ensures values { (text : List ℕ) → GivesDeclaration tag text (fields_of line.now) result }
+) -> Result<DeclarationLine<N>, FieldError>
+    ensures values { (text : List ℕ) → GivesDeclaration N.view tag text (fields_of line.now) result }
     ensures tag { IfOk result (λ d. declaration_tag d ≡ tag) }
 {
     match tag {

@@ -6,16 +6,19 @@ pub enum Numbering {
     Expressions,
     /// The rules of recursors.
     Rules,
+    /// The lines of derivations.
+    Lines,
 }
 
-/// What a field is to be, or what all fields from it on are to be.
+/// What a field is to be, or what all fields from it on are to be. Numbers have 32 bits, and 64 in
+/// lines behind `#TR`.
 #[derive(Clone, Copy)]
 pub enum Due {
-    /// The number of something defined before, at most 2^32 - 1.
+    /// The number of something defined before.
     Known(Numbering),
-    /// A number of at most 2^32 - 1 that counts something.
+    /// A number that counts something.
     Number,
-    /// A number of at most 2^64 - 1.
+    /// A number of 64 bits in each line.
     Long,
     /// A number of any size.
     Literal,

@@ -6,12 +6,12 @@ ghost use Rattle.lk_token.specs.Fields.{fields_of, text_behind};
 ghost use Rattle.lk_lines.specs.Views.{GivesEntry, entry_tag};
 
 use crate::steps::{FieldError, end, hex, info, literal, long, number, numbers_left, text};
-use crate::{EntryLine, EntryTag};
+use crate::{EntryLine, EntryTag, FileNumber};
 use lk_token::text_behind;
 use std::alloc::Global;
 
-fn name_text<'b>(raw: &'b [u8], line: &[u8]) -> Result<EntryLine<'b>, FieldError>
-    ensures values { GivesEntry EntryTag.NameText (text_behind raw.now)
+fn name_text<'b, N: FileNumber>(raw: &'b [u8], line: &[u8]) -> Result<EntryLine<'b, N>, FieldError>
+    ensures values { GivesEntry N.view EntryTag.NameText (text_behind raw.now)
         (fields_of line.now) result }
     ensures tag { IfOk result (λ e. entry_tag e ≡ EntryTag.NameText) }
 {
@@ -21,9 +21,9 @@ fn name_text<'b>(raw: &'b [u8], line: &[u8]) -> Result<EntryLine<'b>, FieldError
 }
 
 #[inline(never)]
-fn name_number(line: &[u8]) -> Result<EntryLine<'static>, FieldError>
+fn name_number<N: FileNumber>(line: &[u8]) -> Result<EntryLine<'static, N>, FieldError>
     ensures values { (text : List ℕ) →
-        GivesEntry EntryTag.NameNumber text (fields_of line.now) result }
+        GivesEntry N.view EntryTag.NameNumber text (fields_of line.now) result }
     ensures tag { IfOk result (λ e. entry_tag e ≡ EntryTag.NameNumber) }
 {
     let (parent, rest) = number(line)?;
@@ -33,9 +33,9 @@ fn name_number(line: &[u8]) -> Result<EntryLine<'static>, FieldError>
 }
 
 #[inline(never)]
-fn successor(line: &[u8]) -> Result<EntryLine<'static>, FieldError>
+fn successor<N: FileNumber>(line: &[u8]) -> Result<EntryLine<'static, N>, FieldError>
     ensures values { (text : List ℕ) →
-        GivesEntry EntryTag.Successor text (fields_of line.now) result }
+        GivesEntry N.view EntryTag.Successor text (fields_of line.now) result }
     ensures tag { IfOk result (λ e. entry_tag e ≡ EntryTag.Successor) }
 {
     let (level, rest) = number(line)?;
@@ -44,8 +44,8 @@ fn successor(line: &[u8]) -> Result<EntryLine<'static>, FieldError>
 }
 
 #[inline(never)]
-fn max(line: &[u8]) -> Result<EntryLine<'static>, FieldError>
-    ensures values { (text : List ℕ) → GivesEntry EntryTag.Max text (fields_of line.now) result }
+fn max<N: FileNumber>(line: &[u8]) -> Result<EntryLine<'static, N>, FieldError>
+    ensures values { (text : List ℕ) → GivesEntry N.view EntryTag.Max text (fields_of line.now) result }
     ensures tag { IfOk result (λ e. entry_tag e ≡ EntryTag.Max) }
 {
     let (left, rest) = number(line)?;
@@ -55,8 +55,8 @@ fn max(line: &[u8]) -> Result<EntryLine<'static>, FieldError>
 }
 
 #[inline(never)]
-fn imax(line: &[u8]) -> Result<EntryLine<'static>, FieldError>
-    ensures values { (text : List ℕ) → GivesEntry EntryTag.Imax text (fields_of line.now) result }
+fn imax<N: FileNumber>(line: &[u8]) -> Result<EntryLine<'static, N>, FieldError>
+    ensures values { (text : List ℕ) → GivesEntry N.view EntryTag.Imax text (fields_of line.now) result }
     ensures tag { IfOk result (λ e. entry_tag e ≡ EntryTag.Imax) }
 {
     let (left, rest) = number(line)?;
@@ -66,9 +66,9 @@ fn imax(line: &[u8]) -> Result<EntryLine<'static>, FieldError>
 }
 
 #[inline(never)]
-fn parameter(line: &[u8]) -> Result<EntryLine<'static>, FieldError>
+fn parameter<N: FileNumber>(line: &[u8]) -> Result<EntryLine<'static, N>, FieldError>
     ensures values { (text : List ℕ) →
-        GivesEntry EntryTag.Parameter text (fields_of line.now) result }
+        GivesEntry N.view EntryTag.Parameter text (fields_of line.now) result }
     ensures tag { IfOk result (λ e. entry_tag e ≡ EntryTag.Parameter) }
 {
     let (name, rest) = number(line)?;
@@ -76,9 +76,9 @@ fn parameter(line: &[u8]) -> Result<EntryLine<'static>, FieldError>
     Ok(EntryLine::Parameter { name })
 }
 
-fn variable(line: &[u8]) -> Result<EntryLine<'static>, FieldError>
+fn variable<N: FileNumber>(line: &[u8]) -> Result<EntryLine<'static, N>, FieldError>
     ensures values { (text : List ℕ) →
-        GivesEntry EntryTag.Variable text (fields_of line.now) result }
+        GivesEntry N.view EntryTag.Variable text (fields_of line.now) result }
     ensures tag { IfOk result (λ e. entry_tag e ≡ EntryTag.Variable) }
 {
     let (index, rest) = number(line)?;
@@ -86,8 +86,8 @@ fn variable(line: &[u8]) -> Result<EntryLine<'static>, FieldError>
     Ok(EntryLine::Variable { index })
 }
 
-fn sort(line: &[u8]) -> Result<EntryLine<'static>, FieldError>
-    ensures values { (text : List ℕ) → GivesEntry EntryTag.Sort text (fields_of line.now) result }
+fn sort<N: FileNumber>(line: &[u8]) -> Result<EntryLine<'static, N>, FieldError>
+    ensures values { (text : List ℕ) → GivesEntry N.view EntryTag.Sort text (fields_of line.now) result }
     ensures tag { IfOk result (λ e. entry_tag e ≡ EntryTag.Sort) }
 {
     let (level, rest) = number(line)?;
@@ -96,9 +96,9 @@ fn sort(line: &[u8]) -> Result<EntryLine<'static>, FieldError>
 }
 
 #[inline(never)]
-fn constant(alloc: Global, line: &[u8]) -> Result<EntryLine<'static>, FieldError>
+fn constant<N: FileNumber>(alloc: Global, line: &[u8]) -> Result<EntryLine<'static, N>, FieldError>
     ensures values { (text : List ℕ) →
-        GivesEntry EntryTag.Constant text (fields_of line.now) result }
+        GivesEntry N.view EntryTag.Constant text (fields_of line.now) result }
     ensures tag { IfOk result (λ e. entry_tag e ≡ EntryTag.Constant) }
 {
     let (name, rest) = number(line)?;
@@ -106,8 +106,8 @@ fn constant(alloc: Global, line: &[u8]) -> Result<EntryLine<'static>, FieldError
     Ok(EntryLine::Constant { name, levels })
 }
 
-fn apply(line: &[u8]) -> Result<EntryLine<'static>, FieldError>
-    ensures values { (text : List ℕ) → GivesEntry EntryTag.Apply text (fields_of line.now) result }
+fn apply<N: FileNumber>(line: &[u8]) -> Result<EntryLine<'static, N>, FieldError>
+    ensures values { (text : List ℕ) → GivesEntry N.view EntryTag.Apply text (fields_of line.now) result }
     ensures tag { IfOk result (λ e. entry_tag e ≡ EntryTag.Apply) }
 {
     let (function, rest) = number(line)?;
@@ -116,8 +116,8 @@ fn apply(line: &[u8]) -> Result<EntryLine<'static>, FieldError>
     Ok(EntryLine::Apply { function, argument })
 }
 
-fn lambda(line: &[u8]) -> Result<EntryLine<'static>, FieldError>
-    ensures values { (text : List ℕ) → GivesEntry EntryTag.Lambda text (fields_of line.now) result }
+fn lambda<N: FileNumber>(line: &[u8]) -> Result<EntryLine<'static, N>, FieldError>
+    ensures values { (text : List ℕ) → GivesEntry N.view EntryTag.Lambda text (fields_of line.now) result }
     ensures tag { IfOk result (λ e. entry_tag e ≡ EntryTag.Lambda) }
 {
     let (info, rest) = info(line)?;
@@ -133,8 +133,8 @@ fn lambda(line: &[u8]) -> Result<EntryLine<'static>, FieldError>
     })
 }
 
-fn pi(line: &[u8]) -> Result<EntryLine<'static>, FieldError>
-    ensures values { (text : List ℕ) → GivesEntry EntryTag.Pi text (fields_of line.now) result }
+fn pi<N: FileNumber>(line: &[u8]) -> Result<EntryLine<'static, N>, FieldError>
+    ensures values { (text : List ℕ) → GivesEntry N.view EntryTag.Pi text (fields_of line.now) result }
     ensures tag { IfOk result (λ e. entry_tag e ≡ EntryTag.Pi) }
 {
     let (info, rest) = info(line)?;
@@ -151,8 +151,8 @@ fn pi(line: &[u8]) -> Result<EntryLine<'static>, FieldError>
 }
 
 #[inline(never)]
-fn let_in(line: &[u8]) -> Result<EntryLine<'static>, FieldError>
-    ensures values { (text : List ℕ) → GivesEntry EntryTag.Let text (fields_of line.now) result }
+fn let_in<N: FileNumber>(line: &[u8]) -> Result<EntryLine<'static, N>, FieldError>
+    ensures values { (text : List ℕ) → GivesEntry N.view EntryTag.Let text (fields_of line.now) result }
     ensures tag { IfOk result (λ e. entry_tag e ≡ EntryTag.Let) }
 {
     let (name, rest) = number(line)?;
@@ -169,9 +169,9 @@ fn let_in(line: &[u8]) -> Result<EntryLine<'static>, FieldError>
 }
 
 #[inline(never)]
-fn project(line: &[u8]) -> Result<EntryLine<'static>, FieldError>
+fn project<N: FileNumber>(line: &[u8]) -> Result<EntryLine<'static, N>, FieldError>
     ensures values { (text : List ℕ) →
-        GivesEntry EntryTag.Project text (fields_of line.now) result }
+        GivesEntry N.view EntryTag.Project text (fields_of line.now) result }
     ensures tag { IfOk result (λ e. entry_tag e ≡ EntryTag.Project) }
 {
     let (structure, rest) = number(line)?;
@@ -186,9 +186,12 @@ fn project(line: &[u8]) -> Result<EntryLine<'static>, FieldError>
 }
 
 #[inline(never)]
-fn nat_literal(alloc: Global, line: &[u8]) -> Result<EntryLine<'static>, FieldError>
+fn nat_literal<N: FileNumber>(
+    alloc: Global,
+    line: &[u8],
+) -> Result<EntryLine<'static, N>, FieldError>
     ensures values { (text : List ℕ) →
-        GivesEntry EntryTag.NatLiteral text (fields_of line.now) result }
+        GivesEntry N.view EntryTag.NatLiteral text (fields_of line.now) result }
     ensures tag { IfOk result (λ e. entry_tag e ≡ EntryTag.NatLiteral) }
 {
     let (number, rest) = literal(line)?;
@@ -198,9 +201,12 @@ fn nat_literal(alloc: Global, line: &[u8]) -> Result<EntryLine<'static>, FieldEr
 }
 
 #[inline(never)]
-fn text_literal(alloc: Global, line: &[u8]) -> Result<EntryLine<'static>, FieldError>
+fn text_literal<N: FileNumber>(
+    alloc: Global,
+    line: &[u8],
+) -> Result<EntryLine<'static, N>, FieldError>
     ensures values { (text : List ℕ) →
-        GivesEntry EntryTag.TextLiteral text (fields_of line.now) result }
+        GivesEntry N.view EntryTag.TextLiteral text (fields_of line.now) result }
     ensures tag { IfOk result (λ e. entry_tag e ≡ EntryTag.TextLiteral) }
 {
     let text = hex(alloc, line)?;
@@ -208,8 +214,8 @@ fn text_literal(alloc: Global, line: &[u8]) -> Result<EntryLine<'static>, FieldE
 }
 
 #[inline(never)]
-fn rule(line: &[u8]) -> Result<EntryLine<'static>, FieldError>
-    ensures values { (text : List ℕ) → GivesEntry EntryTag.Rule text (fields_of line.now) result }
+fn rule<N: FileNumber>(line: &[u8]) -> Result<EntryLine<'static, N>, FieldError>
+    ensures values { (text : List ℕ) → GivesEntry N.view EntryTag.Rule text (fields_of line.now) result }
     ensures tag { IfOk result (λ e. entry_tag e ≡ EntryTag.Rule) }
 {
     let (constructor, rest) = number(line)?;
@@ -224,13 +230,13 @@ fn rule(line: &[u8]) -> Result<EntryLine<'static>, FieldError>
 }
 
 /// What stands behind a tag.
-pub(crate) fn read_entry<'b>(
+pub(crate) fn read_entry<'b, N: FileNumber>(
     alloc: Global,
     tag: EntryTag,
     raw: &'b [u8],
     line: &[u8],
-) -> Result<EntryLine<'b>, FieldError>
-    ensures values { GivesEntry tag (text_behind raw.now) (fields_of line.now) result }
+) -> Result<EntryLine<'b, N>, FieldError>
+    ensures values { GivesEntry N.view tag (text_behind raw.now) (fields_of line.now) result }
     ensures tag { IfOk result (λ e. entry_tag e ≡ tag) }
 {
     match tag {

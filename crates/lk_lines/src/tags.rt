@@ -1,11 +1,11 @@
-ghost use Rattle.std.specs.Prelude.{◌≡◌, ◌∷◌, [], Ok, Err};
+ghost use Rattle.std.specs.Prelude.{◌≡◌, Ok, Err};
 ghost use Rattle.lk_lines.specs.Told.{Gives};
 ghost use Rattle.lk_token.specs.Fields.{fields_of};
 ghost use Rattle.lk_lines.specs.Items.{tag_at};
-ghost use Rattle.lk_lines.specs.Tags.{find_tag, numbered_tags, own_tag, rare_tags, plain_tags, plain_tag};
+ghost use Rattle.lk_lines.specs.Tags.{find_tag, numbered_tags, own_numbered_tags, own_tags, rare_tags, plain_tags, plain_tag, numbered_tag};
 
-use crate::Word;
 use crate::steps::{FieldError, is, is_three};
+use crate::{Family, Word};
 use lk_token::{next_field, short_field};
 
 /// The tags of lines that define a number, which stands in front of the tag.
@@ -43,13 +43,16 @@ pub enum DeclarationTag {
     Recursor,
 }
 
-/// The kinds of input, which differ in one tag.
+/// The kinds of input, which differ in some tags.
 #[derive(Clone, Copy)]
 pub enum Dialect {
     /// A library. `#BUD` lines may state budgets of its units.
     Export,
     /// A library and changes of it, which `#GO` lines part.
     Rounds,
+    /// A library with budgets, and behind a line `#TR` derivations of the parts of its units. The
+    /// lines before and behind `#TR` have the same tags; the numbers of those behind it are wide.
+    Trace,
 }
 
 /// The kinds of line, by the tag that names each.
@@ -61,6 +64,24 @@ pub enum Tag {
     Budget,
     /// The tag of lines that end a part of the input. They hold nothing else.
     Go,
+    /// The tag of the line behind which derivations stand. It holds nothing else.
+    Trace,
+    /// The tag of lines that begin a derivation. They begin with their tag.
+    Section,
+    /// The tag of lines that end a derivation. They begin with their tag.
+    Parts,
+    /// The tag of lines that define a Local among the expressions.
+    Local,
+    /// The tags of lines of derivations.
+    Derivation(Family),
+}
+
+/// The tags behind a number.
+#[derive(Clone, Copy)]
+pub enum NumberedTag {
+    Entry(EntryTag),
+    Local,
+    Derivation(Family),
 }
 
 /// The tags that lines begin with.
@@ -69,66 +90,92 @@ pub enum PlainTag {
     Declaration(DeclarationTag),
     Budget,
     Go,
+    Trace,
+    Section,
+    Parts,
 }
 
 // The tag of this word, of those with a number in front. The commonest ones come first.
-fn find_entry(word: &[u8]) -> Result<EntryTag, FieldError>
-    ensures { Gives (λ t. Tag.Entry t) result (find_tag numbered_tags word.now) }
+fn find_entry(dialect: Dialect, word: &[u8]) -> Result<NumberedTag, FieldError>
+    ensures { Gives numbered_tag result (find_tag (numbered_tags dialect) word.now) }
 {
     if is_three(word, b'#', b'E', b'A') {
-        Ok(EntryTag::Apply)
+        Ok(NumberedTag::Entry(EntryTag::Apply))
     } else if is_three(word, b'#', b'E', b'C') {
-        Ok(EntryTag::Constant)
+        Ok(NumberedTag::Entry(EntryTag::Constant))
     } else if is_three(word, b'#', b'E', b'L') {
-        Ok(EntryTag::Lambda)
+        Ok(NumberedTag::Entry(EntryTag::Lambda))
     } else if is_three(word, b'#', b'E', b'P') {
-        Ok(EntryTag::Pi)
+        Ok(NumberedTag::Entry(EntryTag::Pi))
     } else if is_three(word, b'#', b'E', b'V') {
-        Ok(EntryTag::Variable)
+        Ok(NumberedTag::Entry(EntryTag::Variable))
     } else if is_three(word, b'#', b'N', b'S') {
-        Ok(EntryTag::NameText)
+        Ok(NumberedTag::Entry(EntryTag::NameText))
     } else if is_three(word, b'#', b'E', b'S') {
-        Ok(EntryTag::Sort)
+        Ok(NumberedTag::Entry(EntryTag::Sort))
     } else if is_three(word, b'#', b'N', b'I') {
-        Ok(EntryTag::NameNumber)
+        Ok(NumberedTag::Entry(EntryTag::NameNumber))
     } else {
-        find_rare_entry(word)
+        find_rare_entry(dialect, word)
     }
 }
 
-fn find_rare_entry(word: &[u8]) -> Result<EntryTag, FieldError>
-    ensures { Gives (λ t. Tag.Entry t) result (find_tag rare_tags word.now) }
+fn find_rare_entry(dialect: Dialect, word: &[u8]) -> Result<NumberedTag, FieldError>
+    ensures { Gives numbered_tag result (find_tag (rare_tags dialect) word.now) }
 {
     if is_three(word, b'#', b'U', b'S') {
-        Ok(EntryTag::Successor)
+        Ok(NumberedTag::Entry(EntryTag::Successor))
     } else if is_three(word, b'#', b'U', b'M') {
-        Ok(EntryTag::Max)
+        Ok(NumberedTag::Entry(EntryTag::Max))
     } else if is(word, b"#UIM") {
-        Ok(EntryTag::Imax)
+        Ok(NumberedTag::Entry(EntryTag::Imax))
     } else if is_three(word, b'#', b'U', b'P') {
-        Ok(EntryTag::Parameter)
+        Ok(NumberedTag::Entry(EntryTag::Parameter))
     } else if is_three(word, b'#', b'E', b'Z') {
-        Ok(EntryTag::Let)
+        Ok(NumberedTag::Entry(EntryTag::Let))
     } else if is_three(word, b'#', b'E', b'J') {
-        Ok(EntryTag::Project)
+        Ok(NumberedTag::Entry(EntryTag::Project))
     } else if is(word, b"#ELN") {
-        Ok(EntryTag::NatLiteral)
+        Ok(NumberedTag::Entry(EntryTag::NatLiteral))
     } else if is(word, b"#ELS") {
-        Ok(EntryTag::TextLiteral)
+        Ok(NumberedTag::Entry(EntryTag::TextLiteral))
     } else if is_three(word, b'#', b'R', b'R') {
-        Ok(EntryTag::Rule)
+        Ok(NumberedTag::Entry(EntryTag::Rule))
     } else {
-        Err(FieldError::Fault(Word::UnknownTag))
+        find_own_numbered(dialect, word)
     }
 }
 
-// The tag of this word, where the dialect alone has it.
+// The tag of this word with a number in front, where the dialect has it beside the common ones.
+fn find_own_numbered(dialect: Dialect, word: &[u8]) -> Result<NumberedTag, FieldError>
+    ensures { Gives numbered_tag result (find_tag (own_numbered_tags dialect) word.now) }
+{
+    match dialect {
+        Dialect::Trace if is_three(word, b'#', b'E', b'F') => Ok(NumberedTag::Local),
+        Dialect::Trace if is_three(word, b'#', b'T', b'Y') => {
+            Ok(NumberedTag::Derivation(Family::Typing))
+        }
+        Dialect::Trace if is_three(word, b'#', b'R', b'D') => {
+            Ok(NumberedTag::Derivation(Family::Reduction))
+        }
+        Dialect::Trace if is_three(word, b'#', b'C', b'V') => {
+            Ok(NumberedTag::Derivation(Family::Conversion))
+        }
+        _ => Err(FieldError::Fault(Word::UnknownTag)),
+    }
+}
+
+// The tag of this word that lines begin with, where the dialect has it beside the common ones.
 fn find_own(dialect: Dialect, word: &[u8]) -> Result<PlainTag, FieldError>
-    ensures { Gives plain_tag result (find_tag (own_tag dialect ∷ []) word.now) }
+    ensures { Gives plain_tag result (find_tag (own_tags dialect) word.now) }
 {
     match dialect {
         Dialect::Export if is(word, b"#BUD") => Ok(PlainTag::Budget),
         Dialect::Rounds if is_three(word, b'#', b'G', b'O') => Ok(PlainTag::Go),
+        Dialect::Trace if is(word, b"#BUD") => Ok(PlainTag::Budget),
+        Dialect::Trace if is_three(word, b'#', b'T', b'R') => Ok(PlainTag::Trace),
+        Dialect::Trace if is_three(word, b'#', b'A', b'T') => Ok(PlainTag::Section),
+        Dialect::Trace if is_three(word, b'#', b'O', b'K') => Ok(PlainTag::Parts),
         _ => Err(FieldError::Fault(Word::UnknownTag)),
     }
 }
@@ -159,16 +206,16 @@ fn find_plain(dialect: Dialect, word: &[u8]) -> Result<PlainTag, FieldError>
 
 /// The tag behind a line's number, and what is left of the line.
 #[tactic(auto, unfolding(crate::specs::Items::tag_at))]
-pub(crate) fn entry_tag(line: &[u8]) -> Result<(EntryTag, &[u8]), FieldError>
-    ensures { Gives (λ r. (Tag.Entry r.0, fields_of r.1.now)) result
-        (tag_at numbered_tags (fields_of line.now)) }
+pub(crate) fn tag_behind(dialect: Dialect, line: &[u8]) -> Result<(NumberedTag, &[u8]), FieldError>
+    ensures { Gives (λ r. (numbered_tag r.0, fields_of r.1.now)) result
+        (tag_at (numbered_tags dialect) (fields_of line.now)) }
 {
     if let Some((field, rest)) = short_field(line) {
-        return Ok((find_entry(field)?, rest));
+        return Ok((find_entry(dialect, field)?, rest));
     }
     match next_field(line) {
         None => Err(FieldError::Fault(Word::MissingField)),
-        Some((field, rest)) => Ok((find_entry(field)?, rest)),
+        Some((field, rest)) => Ok((find_entry(dialect, field)?, rest)),
     }
 }
 
