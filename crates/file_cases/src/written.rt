@@ -167,6 +167,7 @@ fn write_statement(rt: &impl Print, statement: &Statement<'_>) -> io::Result<()>
         Statement::Declaration(declaration) => write_declaration(rt, declaration),
         Statement::Budget { name, steps } => print!(rt; "#BUD {name} {steps}"),
         Statement::Go => print!(rt; "#GO"),
+        _ => print!(rt; "another statement"),
     }
 }
 

@@ -1,10 +1,14 @@
 -- What a line makes of a course.
-use Rattle.std.proofs.Common.{ℕ, Ok, Err, refl}
+use Rattle.std.proofs.Common.{◌≡◌, ℕ, List, [], Ok, Err, Some, None, refl}
 use Rattle.std.specs.Prelude.{false}
 use Rattle.lk_store.specs.Contents.{Contents}
+use Rattle.lk_lines.specs.declared.words.Word.TheVariants.{UnknownTag}
+use Rattle.lk_lines.specs.declared.rules.Family.{Family}
+use Rattle.lk_lines.specs.declared.tags.Tag.TheVariants as tag
+use Rattle.lk_lines.specs.Values.{Value}
 use Rattle.lk_lines.specs.Items.{Item}
 use Rattle.lk_lines.specs.Says.{OfItem}
-use Rattle.lk_units.specs.State.{take_item}
+use Rattle.lk_units.specs.State.{State, take_item}
 use Rattle.lk_units.specs.Held.{Follows}
 use Rattle.lk_units.specs.declared.assembler.Assembler.{Assembler}
 use Rattle.lk_units.specs.declared.assembler.TakeError.{TakeError}
@@ -21,3 +25,25 @@ pub item_stops : (r : Reader) (a : Assembler) (grown : Contents) (c : Course) (n
     → Goes r grown (Err (line_error number e)) (at_line number (taken c (OfItem item)))
 item_stops r a grown c number item take_errors.NoMemory f = tt
 item_stops r a grown c number item (take_errors.Fault w) f = rw f refl
+
+-- no library has the tags of derivations
+module _ (l : ℕ) (s : State) where
+  pub trace_unknown : take_item l s (record { own = None; tag = tag.Trace; values = [] }) ≡ Err UnknownTag
+  unfolding take_item
+  trace_unknown = refl
+
+  pub local_unknown : (own : ℕ) (values : List Value) → take_item l s (record { own = Some own; tag = tag.Local; values = values }) ≡ Err UnknownTag
+  unfolding take_item
+  local_unknown own values = refl
+
+  pub section_unknown : (values : List Value) → take_item l s (record { own = None; tag = tag.Section; values = values }) ≡ Err UnknownTag
+  unfolding take_item
+  section_unknown values = refl
+
+  pub derivation_unknown : (own : ℕ) (f : Family) (values : List Value) → take_item l s (record { own = Some own; tag = tag.Derivation f; values = values }) ≡ Err UnknownTag
+  unfolding take_item
+  derivation_unknown own f values = refl
+
+  pub parts_unknown : (values : List Value) → take_item l s (record { own = None; tag = tag.Parts; values = values }) ≡ Err UnknownTag
+  unfolding take_item
+  parts_unknown values = refl

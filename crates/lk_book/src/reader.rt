@@ -3,12 +3,13 @@ ghost use Rattle.std.specs.Prelude.{◌≡◌, ◌+◌, ◌≤◌, ◌<◌, ◌^
 ghost use Rattle.lk_store.specs.Contents.{Extends};
 ghost use Rattle.lk_token.specs.Lines.{HasNoLineFeed};
 ghost use Rattle.lk_lines.specs.Limits.{limits};
+ghost use Rattle.lk_lines.specs.FileNumbers.{narrow};
 ghost use Rattle.lk_lines.specs.Views.{says_of};
 ghost use Rattle.lk_units.specs.Held.{IsKnown};
 ghost use Rattle.lk_book.specs.Course.{Course, feed_count, taken, at_line, step};
 ghost use Rattle.lk_book.specs.Passing.{Stands, IsCounted, Goes, line_error};
 
-use lk_lines::{Dialect, Fault, LineError, Statement, limit_fault, read_line_in};
+use lk_lines::{Dialect, Fault, LineError, Statement, Word, limit_fault, read_line_in};
 use lk_store::terms::Terms;
 use lk_units::{Assembler, TakeError};
 use std::alloc::Global;
@@ -37,6 +38,14 @@ fn at_line(number: u64, error: TakeError) -> LineError
     }
 }
 
+/// The error of a tag that no library has.
+#[inline(never)]
+fn unknown_tag(number: u64) -> LineError
+    ensures { result ≡ line_error number (TakeError.Fault Word.UnknownTag) }
+{
+    at_line(number, TakeError::Fault(Word::UnknownTag))
+}
+
 /// How many bytes end a line.
 fn feed_count(feed: bool) -> u64
     ensures value { result ≡ feed_count feed }
@@ -48,7 +57,7 @@ fn feed_count(feed: bool) -> u64
 impl Reader {
     /// Takes what the line says that was counted last, of this number.
     #[inline(always)]
-    #[tactic(auto, using(crate::proofs::Steps::item_goes, crate::proofs::Steps::item_stops, lk_units::proofs::Holding::unchanged))]
+    #[tactic(auto, using(crate::proofs::Steps::item_goes, crate::proofs::Steps::item_stops, crate::proofs::Steps::trace_unknown, crate::proofs::Steps::local_unknown, crate::proofs::Steps::section_unknown, crate::proofs::Steps::derivation_unknown, crate::proofs::Steps::parts_unknown, lk_units::proofs::Holding::unchanged))]
     fn take_said<T: Terms>(
         &mut self,
         alloc: Global,
@@ -64,7 +73,7 @@ impl Reader {
         ensures counts { (self.new.number ≡ self.old.number) × (self.new.before ≡ self.old.before) }
         ensures follows { (c : Course) → Stands self.old (T.contents store.old) c
             → Goes self.new (T.contents store.new) result
-            (at_line number (taken c (says_of statement.entry))) }
+            (at_line number (taken c (says_of narrow statement.entry))) }
     {
         match statement {
             Statement::Blank => Ok(()),
@@ -103,6 +112,12 @@ impl Reader {
                     Err(error) => Err(at_line(number, error)),
                 }
             }
+            // No library has the tags of derivations.
+            Statement::Trace => Err(unknown_tag(number)),
+            Statement::Local { .. } => Err(unknown_tag(number)),
+            Statement::Section { .. } => Err(unknown_tag(number)),
+            Statement::Derivation { .. } => Err(unknown_tag(number)),
+            Statement::Parts { .. } => Err(unknown_tag(number)),
         }
     }
 

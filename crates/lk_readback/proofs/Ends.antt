@@ -9,7 +9,7 @@ use Rattle.lk_token.specs.Fields.{fields_of, text_behind}
 use Rattle.lk_token.specs.Lines.{HasNoLineFeed}
 use Rattle.lk_lines.specs.Limits.{limits}
 use Rattle.lk_lines.specs.declared.tags.Dialect.TheVariants as dialects
-use Rattle.lk_lines.specs.Says.{said_at, said_in}
+use Rattle.lk_lines.specs.Says.{said_at, said_below}
 use Rattle.lk_units.specs.State.{begin}
 use Rattle.lk_book.specs.Course.{Course, begin_course, passed, step}
 use Rattle.lk_book.specs.File.{lines_of, after, course_over, course_in, course_of}
@@ -23,7 +23,7 @@ abbrev pub begun : Course
 begun = record { dialect = dialects.Export; first = false; number = 1; before = 6; state = begin }
 
 version_step : step begin_course true (codes "2.0.0") ≡ Ok begun
-unfolding step said_in said_at fields_of text_behind
+unfolding step said_below said_at fields_of text_behind
 version_step = refl
 
 version_one : HasNoLineFeed (codes "2.0.0")
@@ -67,7 +67,7 @@ beginning_read = record {
 -- behind the last line feed nothing follows
 last_step : (c : Course) → c.first ≡ false → c.before ≤ 2 ^ 40
     → step c false [] ≡ Ok (passed c 0 false)
-unfolding step said_in said_at fields_of text_behind
+unfolding step said_below said_at fields_of text_behind
 last_step c first small =
     let none : limits c.before 0 false ≡ None = grind (arith, nat_tests) in rw (first, none) refl
 

@@ -1,5 +1,5 @@
 -- The lines of names and levels.
-use Rattle.std.proofs.Common.{◌≢◌, ℕ, false, List, [], ◌∷◌, ◌++◌, refl, sym, subst}
+use Rattle.std.proofs.Common.{◌≢◌, ◌^◌, ℕ, false, List, [], ◌∷◌, ◌++◌, refl, sym, subst}
 use Rattle.std.specs.Prelude.{decimal, codes, reverse, IsUtf8}
 use mathlib.Core.List.{append-nil}
 use Rattle.lk_tree.specs.Tree.{Part, text, number, Level, zero_level, succ_level, max_level}
@@ -26,7 +26,7 @@ use Rattle.lk_readback.proofs.Sizes.{name_small, level_small}
 -- The bytes of a text may hold spaces, and then its fields are not those of the line.
 text_spells : (own n : ℕ) (bytes : List ℕ) (more : List (List ℕ)) → IsSmall own → IsSmall n
     → IsUtf8 bytes
-    → SpellsItem dialects.Export (defines own entry.NameText (Number n ∷ Bytes bytes ∷ [])) bytes
+    → SpellsItem (2 ^ 32) dialects.Export (defines own entry.NameText (Number n ∷ Bytes bytes ∷ [])) bytes
     (decimal own ∷ codes "#NS" ∷ decimal n ∷ more)
 text_spells own n bytes more small parent utf8 = (
   codes "#NS" ∷ decimal n ∷ more,
@@ -58,12 +58,12 @@ text_line own n bytes small parent utf8 one =
     let behind = text_behind-three (decimal own) (codes "#NS") (decimal n) bytes a b c in
     let parts = three_fields (decimal own) (codes "#NS") (decimal n) bytes a b c in
     record {
-      said = said_again dialects.Export false line
+      said = said_again (2 ^ 32) dialects.Export false line
           (OfItem (defines own entry.NameText (Number n ∷ Bytes bytes ∷ [])))
-          (subst (λ t. SpellsItem dialects.Export
+          (subst (λ t. SpellsItem (2 ^ 32) dialects.Export
           (defines own entry.NameText (Number n ∷ Bytes bytes ∷ [])) t (fields_of line))
           (sym behind)
-          (subst (λ fs. SpellsItem dialects.Export
+          (subst (λ fs. SpellsItem (2 ^ 32) dialects.Export
           (defines own entry.NameText (Number n ∷ Bytes bytes ∷ [])) bytes fs)
           (sym parts) (text_spells own n bytes (fields_of bytes) small parent utf8)));
       one = three_feed (decimal own) (codes "#NS") (decimal n) bytes a b c one;

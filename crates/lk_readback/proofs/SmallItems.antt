@@ -11,11 +11,12 @@ use Rattle.lk_lines.specs.declared.dues.Due.{Due}
 use Rattle.lk_lines.specs.declared.dues.Due.TheVariants as due
 use Rattle.lk_lines.specs.declared.tags.Dialect.{Dialect}
 use Rattle.lk_lines.specs.declared.tags.Tag.{Tag}
+use Rattle.lk_lines.specs.declared.tags.Tag.TheVariants as tag
 use Rattle.lk_lines.specs.Values.{Value}
 use Rattle.lk_lines.specs.Values as value
 use Rattle.lk_lines.specs.Table.{dues_of}
 use Rattle.lk_lines.specs.Spelling.{IsLiteral, Takes, SpellsDues}
-use Rattle.lk_lines.specs.Items.{Item, SpellsOwn}
+use Rattle.lk_lines.specs.Items.{Item, SpellsOwn, SpellsValues}
 use Rattle.lk_lines.specs.Says.{OfItem, said_in}
 use Rattle.lk_lines.proofs.LineFeedLaws.{text_has_none, said_spelled}
 use Rattle.lk_units.specs.State.{number_literal, hint_said}
@@ -45,7 +46,7 @@ literal_small field (nats.Fits n) h = h.small
 literal_small field nats.Wide h = tt
 
 takes_small : (d : Due) (text : List ℕ) (fields : List (List ℕ)) (v : Value) (rest : List (List ℕ))
-    → HasNoLineFeed text → Takes d text fields v rest → IsDueValue d v
+    → HasNoLineFeed text → Takes (2 ^ 32) d text fields v rest → IsDueValue d v
 takes_small (due.Known k) text fields v rest none (n, is, (field, front, number)) =
     rw is number.small
 takes_small due.Number text fields v rest none (n, is, (field, front, number)) = rw is number.small
@@ -66,20 +67,33 @@ takes_small due.Text text fields v rest none (is, utf8, end) = rw is (utf8, none
 takes_small due.Hex text fields v rest none (bytes, is, pairs, utf8, end) = rw is utf8
 
 dues_small : (dues : List Due) (text : List ℕ) (fields : List (List ℕ)) (values : List Value)
-    → HasNoLineFeed text → SpellsDues dues text fields values → AreDueValues dues values
+    → HasNoLineFeed text → SpellsDues (2 ^ 32) dues text fields values → AreDueValues dues values
 dues_small [] text fields values none h = tt
 dues_small (d ∷ dues) text fields values none (v, rest, more, is, takes, spells) =
     rw is (takes_small d text fields v rest none takes, dues_small dues text rest more none spells)
 
+values_small : (t : Tag) (values : List Value) (text : List ℕ) (fields : List (List ℕ))
+    → HasNoLineFeed text → SpellsValues (2 ^ 32) t values text fields
+    → AreDueValues (dues_of t) values
+values_small (tag.Entry t) values text fields none s = dues_small (dues_of (tag.Entry t)) text fields values none s
+values_small (tag.Declaration t) values text fields none s = dues_small (dues_of (tag.Declaration t)) text fields values none s
+values_small tag.Budget values text fields none s = dues_small (dues_of tag.Budget) text fields values none s
+values_small tag.Go values text fields none s = dues_small (dues_of tag.Go) text fields values none s
+values_small tag.Trace values text fields none s = dues_small (dues_of tag.Trace) text fields values none s
+values_small tag.Section values text fields none s = dues_small (dues_of tag.Section) text fields values none s
+values_small tag.Parts values text fields none s = dues_small (dues_of tag.Parts) text fields values none s
+values_small tag.Local values text fields none s = dues_small (dues_of tag.Local) text fields values none s
+values_small (tag.Derivation f) values text fields none s = tt
+
 own_small : (d : Dialect) (own : Option ℕ) (t : Tag) (values : List Value) (text : List ℕ)
-    (fields : List (List ℕ)) → HasNoLineFeed text → SpellsOwn d own t values text fields
+    (fields : List (List ℕ)) → HasNoLineFeed text → SpellsOwn (2 ^ 32) d own t values text fields
     → AreDueValues (dues_of t) values
 own_small d (Some own) t values text fields none s =
-    dues_small (dues_of t) text _ values none s.2.3
-own_small d None t values text fields none s = dues_small (dues_of t) text _ values none s.3
+    values_small t values text _ none s.2.3
+own_small d None t values text fields none s = values_small t values text _ none s.3
 
 pub small_item : (d : Dialect) (first : Bool) (bytes : List ℕ) (item : Item)
     → HasNoLineFeed bytes → said_in d first bytes ≡ Ok (OfItem item) → IsSmallItem item
 small_item d first bytes item none e =
     own_small d item.own item.tag item.values (text_behind bytes) (fields_of bytes)
-    (text_has_none bytes none) (said_spelled d first bytes (OfItem item) e)
+    (text_has_none bytes none) (said_spelled (2 ^ 32) d first bytes (OfItem item) e)

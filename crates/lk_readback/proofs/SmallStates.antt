@@ -21,7 +21,7 @@ use Rattle.lk_lines.specs.declared.tags.EntryTag.TheVariants as entry
 use Rattle.lk_lines.specs.declared.tags.DeclarationTag.{DeclarationTag}
 use Rattle.lk_lines.specs.declared.tags.DeclarationTag.TheVariants as decl
 use Rattle.lk_lines.specs.declared.tags.Tag.{Tag}
-use Rattle.lk_lines.specs.declared.tags.Tag.TheVariants.{Entry, Declaration, Budget, Go}
+use Rattle.lk_lines.specs.declared.tags.Tag.TheVariants.{Entry, Declaration, Budget, Go, Trace, Section, Parts, Local, Derivation}
 use Rattle.lk_lines.specs.Reading.{◌>>=◌}
 use Rattle.lk_lines.specs.Table.{dues_of}
 use Rattle.lk_lines.specs.Items.{Item}
@@ -379,6 +379,16 @@ kept_added l s (Some own) (Declaration t) values i k = tt
 kept_added l s (Some own) Budget values i k = tt
 kept_added l s (Some own) Go values i k = tt
 kept_added l s None (Entry t) values i k = tt
+kept_added l s (Some own) Trace values i k = tt
+kept_added l s (Some own) Section values i k = tt
+kept_added l s (Some own) Parts values i k = tt
+kept_added l s (Some own) Local values i k = tt
+kept_added l s (Some own) (Derivation f) values i k = tt
+kept_added l s None Trace values i k = tt
+kept_added l s None Section values i k = tt
+kept_added l s None Parts values i k = tt
+kept_added l s None Local values i k = tt
+kept_added l s None (Derivation f) values i k = tt
 
 pub kept_item : (l : ℕ) (s : State) (item : Item) → IsSmallItem item → IsSmallState s
     → IfOk (take_item l s item) IsSmallState

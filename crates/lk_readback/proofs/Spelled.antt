@@ -70,7 +70,7 @@ pub spaced_numerals : (ns : List ℕ) → spaced (numerals ns) ≡ fields ns
 spaced_numerals [] = refl
 spaced_numerals (n ∷ ns) = ap (λ bytes. 32 ∷ (decimal n ++ bytes)) (spaced_numerals ns)
 
-pub numerals_numbers : (ns : List ℕ) → AreSmall ns → AreNumbers (numerals ns) ns
+pub numerals_numbers : (ns : List ℕ) → AreSmall ns → AreNumbers (2 ^ 32) (numerals ns) ns
 numerals_numbers [] h = tt
 numerals_numbers (n ∷ ns) h = (small_numbers n h.0, numerals_numbers ns h.1)
 
@@ -85,7 +85,7 @@ fields_append (x ∷ xs) ys p q = (p.0, fields_append xs ys p.1 q)
 -- The fields may stand in a line, and spell the values where these are due.
 pub record AreSpelled (dues : List Due) (text : List ℕ) (line : List (List ℕ))
     (values : List Value) : Type 0 where
-  pub spell : SpellsDues dues text line values
+  pub spell : SpellsDues (2 ^ 32) dues text line values
   pub fine : AreFields line
 
 pub nothing_due : (text : List ℕ) → AreSpelled [] text [] []

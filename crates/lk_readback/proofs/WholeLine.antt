@@ -11,10 +11,11 @@ use Rattle.lk_lines.specs.declared.tags.EntryTag.{EntryTag}
 use Rattle.lk_lines.specs.declared.tags.EntryTag.TheVariants as entry
 use Rattle.lk_lines.specs.declared.tags.DeclarationTag.{DeclarationTag}
 use Rattle.lk_lines.specs.declared.tags.DeclarationTag.TheVariants as declaration
+use Rattle.lk_lines.specs.declared.rules.Family.TheVariants as family
 use Rattle.lk_lines.specs.Values.{Value}
 use Rattle.lk_lines.specs.Table.{dues_of}
 use Rattle.lk_lines.specs.Tags.{tag_word, numbered_tags, plain_tags}
-use Rattle.lk_lines.specs.Items.{Item, SpellsItem}
+use Rattle.lk_lines.specs.Items.{Item, SpellsItem, SpellsValues}
 use Rattle.lk_lines.specs.Says.{OfItem, said_of}
 use Rattle.lk_lines.proofs.SaidLaws.{said_again}
 use Rattle.lk_trim.specs.Written.{Written}
@@ -37,12 +38,12 @@ pub record AreFew (w : Written) : Type 0 where
 
 -- what any text spells with these fields is said by the fields, joined
 line_of : (field : List ℕ) (fields : List (List ℕ)) (item : Item) → AreFields (field ∷ fields)
-    → ((text : List ℕ) → SpellsItem dialects.Export item text (field ∷ fields))
+    → ((text : List ℕ) → SpellsItem (2 ^ 32) dialects.Export item text (field ∷ fields))
     → IsLine (field ++ spaced fields) item
 line_of field fields item fine spell = record {
-  said = said_again dialects.Export false (field ++ spaced fields) (OfItem item)
+  said = said_again (2 ^ 32) dialects.Export false (field ++ spaced fields) (OfItem item)
       (subst (λ (fs : List (List ℕ)).
-      SpellsItem dialects.Export item (text_behind (field ++ spaced fields)) fs)
+      SpellsItem (2 ^ 32) dialects.Export item (text_behind (field ++ spaced fields)) fs)
       (sym (joined_fields field fields fine)) (spell (text_behind (field ++ spaced fields))));
   one = joined_feed field fields fine;
 }
@@ -75,9 +76,16 @@ word_field (tag.Declaration declaration.Constructor) = record { some = omega ari
 word_field (tag.Declaration declaration.Recursor) = record { some = omega arith; plain = refl }
 word_field tag.Budget = record { some = omega arith; plain = refl }
 word_field tag.Go = record { some = omega arith; plain = refl }
+word_field tag.Trace = record { some = omega arith; plain = refl }
+word_field tag.Section = record { some = omega arith; plain = refl }
+word_field tag.Parts = record { some = omega arith; plain = refl }
+word_field tag.Local = record { some = omega arith; plain = refl }
+word_field (tag.Derivation family.Typing) = record { some = omega arith; plain = refl }
+word_field (tag.Derivation family.Reduction) = record { some = omega arith; plain = refl }
+word_field (tag.Derivation family.Conversion) = record { some = omega arith; plain = refl }
 
 -- each tag of a line that defines a number
-pub numbered_among : (t : EntryTag) → Contains numbered_tags (tag.Entry t)
+pub numbered_among : (t : EntryTag) → Contains (numbered_tags dialects.Export) (tag.Entry t)
 numbered_among entry.Apply = (0, omega arith, refl)
 numbered_among entry.Constant = (1, omega arith, refl)
 numbered_among entry.Lambda = (2, omega arith, refl)
@@ -125,26 +133,28 @@ numbered_line own t fields values small are =
     ))
 
 plain_line : (t : Tag) (fields : List (List ℕ)) (values : List Value)
-    → Contains (plain_tags dialects.Export) t
-    → ((text : List ℕ) → AreSpelled (dues_of t) text fields values)
+    → Contains (plain_tags dialects.Export) t → AreFields fields
+    → ((text : List ℕ) → SpellsValues (2 ^ 32) t values text fields)
     → IsLine (tag_word t ++ spaced fields) (record { own = None; tag = t; values = values })
-plain_line t fields values among are =
+plain_line t fields values among fine spell =
     line_of (tag_word t) fields (record { own = None; tag = t; values = values })
-    (word_field t, (are []).fine) (λ text. (among, fields, refl, (are text).spell))
+    (word_field t, fine) (λ text. (among, fields, refl, spell text))
 
 -- a line that declares something
 pub declared_line : (t : DeclarationTag) (fields : List (List ℕ)) (values : List Value)
     → ((text : List ℕ) → AreSpelled (dues_of (tag.Declaration t)) text fields values)
     → IsLine (tag_word (tag.Declaration t) ++ spaced fields) (declares t values)
 declared_line t fields values are =
-    plain_line (tag.Declaration t) fields values (declared_among t) are
+    plain_line (tag.Declaration t) fields values (declared_among t) (are []).fine
+    (λ text. (are text).spell)
 
 -- the line of a budget
 pub stated_line : (fields : List (List ℕ)) (values : List Value)
     → ((text : List ℕ) → AreSpelled (dues_of tag.Budget) text fields values)
     → IsLine (tag_word tag.Budget ++ spaced fields)
     (record { own = None; tag = tag.Budget; values = values })
-stated_line fields values are = plain_line tag.Budget fields values budget_among are
+stated_line fields values are =
+    plain_line tag.Budget fields values budget_among (are []).fine (λ text. (are text).spell)
 
 pub line_again : (a b : List ℕ) (item : Item) → a ≡ b → IsLine b item → IsLine a item
 line_again a b item e h = subst (λ (bytes : List ℕ). IsLine bytes item) (sym e) h

@@ -74,7 +74,7 @@ tree_item own w wide = defines own entry.NatLiteral (Literal nats.Wide ∷ [])
 tree_item own w (str bytes) = defines own entry.TextLiteral (Bytes bytes ∷ [])
 tree_item own w (local k T) = defines own entry.Variable []
 
-abbrev pub hint_value : Hint → ReducibilityHint
+abbrev pub hint_value : Hint → ReducibilityHint ℕ
 hint_value opaque_hint = hints.Opaque
 hint_value abbreviation = hints.Abbreviation
 hint_value (regular n) = hints.Regular n

@@ -1,5 +1,5 @@
 -- An item that is cut off a file: a line has no line feed, so its texts have none.
-use Rattle.std.proofs.Common.{◌≡◌, ◌≢◌, ℕ, nat_eq, Bool, true, List, [], ◌∷◌, Ok, Some, None, arith, refl}
+use Rattle.std.proofs.Common.{◌≡◌, ◌≢◌, ◌^◌, ℕ, nat_eq, Bool, true, List, [], ◌∷◌, Ok, Some, None, arith, refl}
 use Rattle.std.specs.Prelude.{not}
 use Rattle.std.specs.declared.option.Option.{Option}
 use Rattle.std.proofs.lemmas.Bool.Decides.{nat_tests}
@@ -14,9 +14,7 @@ use Rattle.lk_lines.specs.declared.tags.Tag.{Tag}
 use Rattle.lk_lines.specs.declared.tags.Tag.TheVariants.{Entry}
 use Rattle.lk_lines.specs.Values.{Value}
 use Rattle.lk_lines.specs.Values as value
-use Rattle.lk_lines.specs.Spelling.{SpellsDues}
-use Rattle.lk_lines.specs.Table.{dues_of}
-use Rattle.lk_lines.specs.Items.{Item, SpellsOwn}
+use Rattle.lk_lines.specs.Items.{Item, SpellsOwn, SpellsValues}
 use Rattle.lk_lines.specs.Says.{OfItem, said_in}
 use Rattle.lk_lines.proofs.LineFeedLaws.{text_has_none, said_spelled, text_lem}
 use Rattle.lk_units.proofs.Spellings.{AreSpelledValues, IsSpelledItem}
@@ -28,13 +26,13 @@ spelled_bytes : (bytes : List ℕ) → HasNoLineFeed bytes → no_lf bytes ≡ t
 spelled_bytes [] h = refl
 spelled_bytes (b ∷ bytes) h = and_true (not (nat_eq b 10)) (no_lf bytes) (no_feed b (h 0 0 (omega arith))) (spelled_bytes bytes (All-tail (λ x. x ≢ 10) b bytes h))
 
-spelled_entry : (t : Tag) (behind : List ℕ) (fields : List (List ℕ)) (values : List Value) → HasNoLineFeed behind → SpellsDues (dues_of t) behind fields values → AreSpelledValues t values
-spelled_entry (Entry entry.NameText) behind fields (value.Number p ∷ value.Bytes bytes ∷ []) h s = rw (text_lem behind bytes p fields s) (spelled_bytes behind h)
-spelled_entry t behind fields values h s = tt
+spelled_entry : (limit : ℕ) (t : Tag) (behind : List ℕ) (fields : List (List ℕ)) (values : List Value) → HasNoLineFeed behind → SpellsValues limit t values behind fields → AreSpelledValues t values
+spelled_entry limit (Entry entry.NameText) behind fields (value.Number p ∷ value.Bytes bytes ∷ []) h s = rw (text_lem limit behind bytes p fields s) (spelled_bytes behind h)
+spelled_entry limit t behind fields values h s = tt
 
-spelled_own : (dialect : Dialect) (own : Option ℕ) (t : Tag) (values : List Value) (behind : List ℕ) (fields : List (List ℕ)) → HasNoLineFeed behind → SpellsOwn dialect own t values behind fields → AreSpelledValues t values
-spelled_own dialect (Some own) t values behind fields h s = spelled_entry t behind _ values h s.2.3
-spelled_own dialect None t values behind fields h s = spelled_entry t behind _ values h s.3
+spelled_own : (limit : ℕ) (dialect : Dialect) (own : Option ℕ) (t : Tag) (values : List Value) (behind : List ℕ) (fields : List (List ℕ)) → HasNoLineFeed behind → SpellsOwn limit dialect own t values behind fields → AreSpelledValues t values
+spelled_own limit dialect (Some own) t values behind fields h s = spelled_entry limit t behind _ values h s.2.3
+spelled_own limit dialect None t values behind fields h s = spelled_entry limit t behind _ values h s.3
 
 pub spelled_item : (dialect : Dialect) (first : Bool) (bytes : List ℕ) (item : Item) → HasNoLineFeed bytes → said_in dialect first bytes ≡ Ok (OfItem item) → IsSpelledItem item
-spelled_item dialect first bytes item h e = spelled_own dialect item.own item.tag item.values (text_behind bytes) (fields_of bytes) (text_has_none bytes h) (said_spelled dialect first bytes (OfItem item) e)
+spelled_item dialect first bytes item h e = spelled_own (2 ^ 32) dialect item.own item.tag item.values (text_behind bytes) (fields_of bytes) (text_has_none bytes h) (said_spelled (2 ^ 32) dialect first bytes (OfItem item) e)

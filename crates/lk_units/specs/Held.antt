@@ -119,7 +119,7 @@ abbrev pub Follows : Assembler → Contents → Result (Unit {0}) TakeError → 
 Follows a c (Ok u) said = (s : State) × (said ≡ Ok s) × Holds a c s
 Follows a c (Err e) said = Fails e said
 
-abbrev pub counts_of : RecursorLine → Counts
+abbrev pub counts_of : RecursorLine ℕ → Counts
 counts_of line =
     record {
       parameters = line.parameter_count;

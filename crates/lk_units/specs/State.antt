@@ -143,7 +143,7 @@ declaration_of s n a said ps =
     Ok (alone (record { name = name; levels = levels; type = type; body = body })))))
 
 -- how readily a definition is unfolded, as its line says it
-abbrev pub hint_said : ReducibilityHint → Hint
+abbrev pub hint_said : ReducibilityHint ℕ → Hint
 hint_said hints.Opaque = opaque_hint
 hint_said hints.Abbreviation = abbreviation
 hint_said (hints.Regular n) = regular n
@@ -332,7 +332,8 @@ with_budget s n steps =
 abbrev pub next_part : State → State
 next_part s = record s { parts = s.parts ++ s.lines ∷ []; lines = [] }
 
--- what line l adds, by its own number, its tag and its values
+-- What line l adds, by its own number, its tag and its values. No library has the tags of
+-- derivations.
 abbrev pub added : ℕ → State → Option ℕ → Tag → List Value → Result State Word
 added l s (Some own) (Entry t) values = entry_added s own t values >>= λ u. counted u
 added l s None (Declaration t) values = declared l s (declaration_said s t values)

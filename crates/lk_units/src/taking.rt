@@ -8,7 +8,8 @@ ghost use Rattle.lk_members.specs.Stored.{IsStoredMemberIn};
 ghost use Rattle.lk_members.specs.Plain.{said_at};
 ghost use Rattle.lk_lines.specs.declared.words.Word.{Word as LineWord};
 ghost use Rattle.lk_lines.specs.declared.tags.Tag.TheVariants as tag;
-ghost use Rattle.lk_lines.specs.Views.{entry_tag, entry_values, declaration_tag, declaration_values, budget_values};
+ghost use Rattle.lk_lines.specs.FileNumbers.{narrow};
+ghost use Rattle.lk_lines.specs.Views.{entry_tag, entry_values, declaration_tag, declaration_values, budget_values, hint_value};
 ghost use Rattle.lk_units.specs.State.{State, longer_name, successor_level, pair_level, parameter_level, sort_tree, constant_tree, application_tree, binder_tree, let_tree, projection_tree, number_literal, rule_of, with_name, with_level, with_tree, with_rule, hint_said, valued_of, axiom_of, entry_added, declaration_said, with_line, take_item};
 ghost use Rattle.lk_units.specs.Held.{Below, IsKnown, Holds, Makes, Follows, rule_held, told, binder_of, pair_of, body_of};
 
@@ -40,7 +41,7 @@ fn member_error(error: MemberError) -> TakeError
 
 // How readily a definition is unfolded, as it is held.
 fn held_hint(hint: ReducibilityHint) -> Hint
-    ensures { hint_of result ≡ hint_said hint }
+    ensures { hint_of result ≡ hint_said (hint_value narrow hint) }
 {
     match hint {
         ReducibilityHint::Opaque => Hint::Opaque,
@@ -388,7 +389,7 @@ impl Assembler {
         ensures known { OnOk result (IsKnown self.new (T.contents store.new)) }
         ensures follows { (s : State) → Holds self.old (T.contents store.old) s
             → Follows self.new (T.contents store.new) result
-            (entry_added s own (entry_tag line.entry) (entry_values line.entry)) }
+            (entry_added s own (entry_tag line.entry) (entry_values narrow line.entry)) }
     {
         match line {
             EntryLine::NameText { parent, text } => self.text_line(alloc, store, own, parent, text),
@@ -451,7 +452,7 @@ impl Assembler {
         ensures known { (c : Contents) → IsKnown self.now c → IfOk result (IsStoredMemberIn c) }
         ensures made { (c : Contents) (s : State) → Holds self.now c s
             → Makes (said_at c) result (declaration_said s (declaration_tag declaration.now)
-            (declaration_values declaration.now)) }
+            (declaration_values narrow declaration.now)) }
     {
         match declaration {
             DeclarationLine::Definition {
@@ -541,7 +542,7 @@ impl Assembler {
               own = Some own;
               tag = tag.Entry
                   (entry_tag line.entry);
-              values = entry_values line.entry;
+              values = entry_values narrow line.entry;
             })) }
     {
         match self.add_entry(alloc, store, own, line) {
@@ -570,7 +571,7 @@ impl Assembler {
               own = None;
               tag = tag.Declaration
                   (declaration_tag declaration);
-              values = declaration_values declaration;
+              values = declaration_values narrow declaration;
             })) }
     {
         let said = match self.said(alloc, &declaration) {
