@@ -33,6 +33,7 @@ def fault(text, line, meaning, shown, more='', name=None):
 
 
 NUMBER = 'a field that has to be a number is none'
+SECOND = 'leancheck: numbers go on over the whole input, so a second export cannot follow\n'
 # Words, input, what standard input and standard output are, the status, and what is told.
 CASES = [
     # nothing where all is well
@@ -79,7 +80,9 @@ CASES = [
     fault('0 #EV 0\n1 #EA 0\n', 2, 'the line ends before a field that is due', '1 #EA 0'),
     fault('0 #ES 0 0\n', 1, 'a field stands behind the last one that is due', '0 #ES 0 0'),
     fault('0 #EA 0 0\n', 1, 'a number of a name, level, expression or rule that no earlier line gives', '0 #EA 0 0'),
-    fault('0 #ES 0\n\n0 #ES 0\n', 3, 'the number of the line was given to an earlier one', '0 #ES 0'),
+    fault('0 #ES 0\n\n0 #ES 0\n', 3, 'the number of the line was given to an earlier one', '0 #ES 0', SECOND),
+    fault('2.0.0\n0 #ES 0\n2.0.0\n', 3, NUMBER, '2.0.0',
+          'leancheck: a version stands in the first line alone; a second export cannot follow\n'),
     fault('0 #ELS 6\n', 1, 'a field of a text is not two hexadecimal digits', '0 #ELS 6'),
     fault('0 #ELS C3\n', 1, 'a name or a text is not UTF-8', '0 #ELS C3'),
     fault('0 #EV 4294967296\n', 1, 'a number is above 2^32 - 1, or above 2^64 - 1 in a name or a budget', '0 #EV 4294967296'),
@@ -95,7 +98,8 @@ CASES = [
           '#IND 1 0 0 0 0 0 1 1 1 2'),
     fault('1 #NS 0 ' + 17 * '1000000' + 2 ** 24 * 'x' + '\n', 1, 'the line has more than 2^24 bytes',
           ('1 #NS 0 ' + 17 * '1000000')[:80]),
-    fault('0 #ES 0\n' + 200000 * '\n' + '0 #ES 0\n', 200002, 'the number of the line was given to an earlier one', '0 #ES 0'),
+    fault('0 #ES 0\n' + 200000 * '\n' + '0 #ES 0\n', 200002, 'the number of the line was given to an earlier one', '0 #ES 0',
+          SECOND),
     fault('0 #EV \x1b[2K\x07\n', 1, NUMBER, '0 #EV \\x1b[2K\\x07'),
     fault('1 #NS 0 x\n0 #ES 0\n1 #EZ #BD 1 0 0 0\n', 3, NUMBER, '1 #EZ #BD 1 0 0 0',
           'leancheck: lines of lets have no binder info in this format\n'),

@@ -86,7 +86,8 @@ pub fn meaning(word: &[u8]) -> &'static str {
 }
 
 /// What may be at work where a line has this fault, beside what its word says.
-pub fn likely(line: &[u8], word: &[u8]) -> Option<&'static str> {
+pub fn likely(line: &[u8], fault: &Written<'_>) -> Option<&'static str> {
+    let word = fault.word;
     if word == b"BadNumber".as_slice() && memmem::find(line, b"#EZ #B").is_some() {
         return Some("lines of lets have no binder info in this format");
     }
@@ -99,7 +100,7 @@ pub fn likely(line: &[u8], word: &[u8]) -> Option<&'static str> {
     if word == b"UnknownTag".as_slice() && line.starts_with(b"#BUD") {
         return Some("recheck reads no budgets (#BUD); give one for all units by --steps");
     }
-    if word == b"BadNumber".as_slice() && is_version(line) {
+    if word == b"BadNumber".as_slice() && fault.number > 1 && is_version(line) {
         return Some("a version stands in the first line alone; a second export cannot follow");
     }
     if word == b"IndexTaken".as_slice() {

@@ -25,7 +25,7 @@ const HELP: &str = "
   recheck checks standard input up to the line #GO, then each change behind it, and what it touches
 
   --workers W   threads that check: 1 to 64, 1 if not given
-  --steps N     budget of each declaration: 1 to 2^64 - 1, 2^100 if not given; the export may lower it
+  --steps N     budget of each declaration: 1 to 2^64 - 1, 2^100 if not given; the export may lower it (not for recheck)
   --memo M      answers that each thread keeps: 1 to 1048576, 65536 if not given
   --allow LIST  axioms to allow: names joined by commas, '' for none; every axiom if not given
   --units N     declarations to make: 1 to 1048576

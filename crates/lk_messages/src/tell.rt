@@ -36,7 +36,7 @@ pub fn tell_fault<R: Eprint>(rt: &R, passed: &Passed, output: &Front) {
         if let Some(line) = passed.line(number) {
             let shown = Escaped(line.as_slice());
             let _ = eprintln!(rt; "leancheck: the line is: {shown}");
-            if let Some(likely) = likely(line.as_slice(), fault.word) {
+            if let Some(likely) = likely(line.as_slice(), &fault) {
                 let _ = eprintln!(rt; "leancheck: {likely}");
             }
         }
