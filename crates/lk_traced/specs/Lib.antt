@@ -1,0 +1,5 @@
+pub mod Course
+pub mod Derived
+pub mod Held
+pub mod Placed
+pub mod Trace
