@@ -1,9 +1,6 @@
 -- What the lines of a file with derivations come to, one after another.
 use Rattle.std.specs.Prelude.{ℕ, ◌+◌, Bool, false, List, length, Result, Ok, Err, Option, Some, None}
-use Rattle.std.specs.Prelude.{if◌then◌else◌}
-use Rattle.lk_lines.specs.declared.words.Word.{Word}
 use Rattle.lk_lines.specs.declared.line.Fault.{Fault}
-use Rattle.lk_lines.specs.declared.tags.Tag.{Tag}
 use Rattle.lk_lines.specs.declared.tags.Tag.TheVariants as tag
 use Rattle.lk_lines.specs.declared.tags.Dialect.TheVariants as dialects
 use Rattle.lk_lines.specs.Limits.{limits}
@@ -11,8 +8,8 @@ use Rattle.lk_lines.specs.Reading.{◌>>=◌}
 use Rattle.lk_lines.specs.Items.{Item}
 use Rattle.lk_lines.specs.Says.{Says, Blank, Version, OfItem, said_in, said_behind_trace}
 use Rattle.lk_book.specs.Course.{Course, begin_in, passed, at_line}
-use Rattle.lk_book.specs.File.{after, Export, export_stated}
-use Rattle.lk_traced.specs.Placed.{Behind, Both, begin_behind, before_taken, behind_taken}
+use Rattle.lk_book.specs.File.{after, export_stated}
+use Rattle.lk_traced.specs.Placed.{Behind, begin_behind, before_taken, behind_taken}
 
 -- course: the lines so far as those of a library, and what the numbers of expressions behind `#TR`
 -- stand for; behind: what stands behind `#TR`, where the course is there

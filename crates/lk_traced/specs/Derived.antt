@@ -87,7 +87,8 @@ module _ (s : State) (places : ℕ → Option ℕ) where
   beside_said r a b x ps =
       known s.trees x >>= λ tree. (all_known places ps >>= λ js. local_line r a b tree js)
 
-  -- What the values of a line state. No line gives values of another shape; UnknownTag stands for it.
+  -- What the values of a line state. No line gives values of another shape; UnknownTag stands for
+  -- it.
   abbrev pub line_said : List Value → Result Line Word
   line_said (OfRule r ∷ Number a ∷ Number b ∷ Numbers ps ∷ []) =
       known s.trees a >>= λ left. (known s.trees b >>= λ right. (all_known places ps

@@ -1,5 +1,5 @@
 -- What a file with derivations that was read stands for.
-use Rattle.std.specs.Prelude.{◌≡◌, ℕ, List, map, zip, length, All, Result, Ok, Err}
+use Rattle.std.specs.Prelude.{◌≡◌, ℕ, map, zip, length, All, Result, Ok, Err}
 use Rattle.lk_store.specs.Contents.{Contents}
 use Rattle.lk_store.specs.Store.{contents_of}
 use Rattle.lk_trace.specs.declared.sections.Line.{Line}

@@ -3,7 +3,7 @@ use Rattle.std.specs.Prelude.{ℕ, ◌==◌, ◌+◌, Bool, false, true, List, [
 use Rattle.std.specs.Prelude.{Result, Ok, Err, Option, Some, None, slice_get, nat_lt, if◌then◌else◌}
 use Rattle.lk_tree.specs.Tree.{Tree, local}
 use Rattle.lk_tree.specs.Mentions.{same_name}
-use Rattle.lk_rulebook.specs.Units.{Library, LibraryUnit, of_decl, of_block}
+use Rattle.lk_rulebook.specs.Units.{LibraryUnit, of_decl, of_block}
 use Rattle.lk_members.specs.Faults.{fault_of}
 use Rattle.lk_members.specs.Plain.{PlainMember}
 use Rattle.lk_written.specs.Line.{Line}
@@ -14,9 +14,8 @@ use Rattle.lk_lines.specs.declared.tags.EntryTag.TheVariants as entry
 use Rattle.lk_lines.specs.declared.tags.Tag.{Tag}
 use Rattle.lk_lines.specs.declared.tags.Tag.TheVariants.{Entry, Declaration, Budget, Trace, Section, Parts, Local, Derivation}
 use Rattle.lk_lines.specs.Reading.{◌>>=◌}
-use Rattle.lk_lines.specs.Items.{Item}
 use Rattle.lk_lines.specs.Values.{Value, Number, Numbers}
-use Rattle.lk_units.specs.State.{State, known, all_known, fresh, put, with_tree, with_budget, counted}
+use Rattle.lk_units.specs.State.{State, known, all_known, put, with_tree, with_budget, counted}
 use Rattle.lk_units.specs.State.{entry_added, declaration_said, unless_fault, take_item}
 use Rattle.lk_book.specs.File.{Export}
 use Rattle.lk_traced.specs.Derived.{line_said}

@@ -1,12 +1,13 @@
 -- What the bytes of a file with derivations state, or the file's fault.
-use Rattle.std.specs.Prelude.{ℕ, Bool, List, [], ◌∷◌, Result, Ok, Err, Option, Some, None}
+use Rattle.std.specs.Prelude.{ℕ, List, [], ◌∷◌, Result, Ok, Err, Option, Some, None}
 use Rattle.lk_lines.specs.declared.words.Word.TheVariants.{TraceOrder}
 use Rattle.lk_lines.specs.declared.line.Fault.{Fault}
 use Rattle.lk_book.specs.File.{after, has_more, lines_of, Export, export_stated}
 use Rattle.lk_traced.specs.Placed.{Behind, OpenSection, FileSection}
 use Rattle.lk_traced.specs.Course.{TraceCourse, begin_trace, trace_step}
 
--- a library with the budgets that lines state, and in the order of the file what is written for units
+-- a library with the budgets that lines state, and what is written for units, in the order of the
+-- file
 pub record Trace : Type 0 where
   pub export : Export
   pub sections : List FileSection
@@ -31,8 +32,8 @@ trace_stated t None =
     after (export_stated t.course.state) (λ e. Ok (record { export = e; sections = [] }))
 trace_stated t (Some b) = trace_behind b b.begun
 
--- What the lines of the file state, or its first fault: that of a line; else that of the first line
--- that is open, which comes with `#TR`, or with the end of a file without it; else that of a section
--- that is open at the end.
+-- What the lines of the file state, or its first fault: that of a line, or of the first line of a
+-- block that is open at `#TR` or at the end of a file without it, or of a section that is open at
+-- the end.
 abbrev pub trace_of : List ℕ → Result Trace Fault
 trace_of bytes = after (trace_course bytes) (λ t. trace_stated t t.behind)

@@ -3,8 +3,8 @@
 use lk_env::library::Library;
 use lk_trace::Section;
 
-/// A section as it stands in the file: the numbers of the file's lines that hold its lines, and the number of the line
-/// that ends it.
+/// A section as it stands in the file: the numbers of the file's lines that hold its lines, and the
+/// number of the line that ends it.
 #[derive(Drop)]
 pub struct FileSection {
     pub section: Section,
@@ -12,8 +12,8 @@ pub struct FileSection {
     pub end: u64,
 }
 
-/// The library that stands before `#TR`, and the sections behind it, in their order. Their trees are numbers of the
-/// library's store.
+/// The library that stands before `#TR`, and the sections behind it, in their order. Their trees are
+/// numbers of the library's store.
 #[derive(Drop)]
 pub struct Traced {
     pub library: Library,
