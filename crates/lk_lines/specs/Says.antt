@@ -59,8 +59,8 @@ said_at limit dialect first text (field ∷ fields) =
     if first then first_said limit dialect (version_of (field ∷ fields)) text (field ∷ fields)
     else item_said limit dialect text (field ∷ fields)
 
--- what the bytes of a line say, where only blank lines stand before it or others do, and its numbers
--- are below a limit
+-- what the bytes of a line say, where only blank lines stand before it or others do, and its
+-- numbers are below a limit
 unfoldable pub said_below : ℕ → Dialect → Bool → List ℕ → Result Says Word
 said_below limit dialect first bytes =
     said_at limit dialect first (text_behind bytes) (fields_of bytes)
@@ -88,14 +88,16 @@ IsVersion fields major =
 abbrev pub SpellsFields : ℕ → Dialect → Bool → List ℕ → List (List ℕ) → Says → Type 0
 SpellsFields limit dialect first text fields Blank = fields ≡ []
 SpellsFields limit dialect first text fields Version = (first ≡ true) × IsVersion fields 2
-SpellsFields limit dialect first text fields (OfItem item) = SpellsItem limit dialect item text fields
+SpellsFields limit dialect first text fields (OfItem item) =
+    SpellsItem limit dialect item text fields
 
 -- the first fault of the fields of a line: it is another version, or it is neither blank nor a version and its fields
 -- have this fault first
 abbrev pub FieldsFault : ℕ → Dialect → Bool → List ℕ → List (List ℕ) → Word → Type 0
 FieldsFault limit dialect first text fields w =
     ((w ≡ BadVersion) × (first ≡ true) × (major : ℕ) × IsVersion fields major × (major ≢ 2))
-    ⊎ ((first ≡ true → (major : ℕ) → ¬ (IsVersion fields major)) × ItemFault limit dialect text fields w)
+    ⊎ ((first ≡ true → (major : ℕ) → ¬ (IsVersion fields major))
+    × ItemFault limit dialect text fields w)
 
 -- the bytes of a line spell what it says
 abbrev pub SpellsSaid : ℕ → Dialect → Bool → List ℕ → Says → Type 0

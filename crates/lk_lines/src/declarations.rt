@@ -188,7 +188,8 @@ pub(crate) fn read_declaration<N: FileNumber>(
     tag: DeclarationTag,
     line: &[u8],
 ) -> Result<DeclarationLine<N>, FieldError>
-    ensures values { (text : List ℕ) → GivesDeclaration N.view tag text (fields_of line.now) result }
+    ensures values { (text : List ℕ) →
+        GivesDeclaration N.view tag text (fields_of line.now) result }
     ensures tag { IfOk result (λ d. declaration_tag d ≡ tag) }
 {
     match tag {

@@ -45,7 +45,8 @@ fn successor<N: FileNumber>(line: &[u8]) -> Result<EntryLine<'static, N>, FieldE
 
 #[inline(never)]
 fn max<N: FileNumber>(line: &[u8]) -> Result<EntryLine<'static, N>, FieldError>
-    ensures values { (text : List ℕ) → GivesEntry N.view EntryTag.Max text (fields_of line.now) result }
+    ensures values { (text : List ℕ) →
+        GivesEntry N.view EntryTag.Max text (fields_of line.now) result }
     ensures tag { IfOk result (λ e. entry_tag e ≡ EntryTag.Max) }
 {
     let (left, rest) = number(line)?;
@@ -56,7 +57,8 @@ fn max<N: FileNumber>(line: &[u8]) -> Result<EntryLine<'static, N>, FieldError>
 
 #[inline(never)]
 fn imax<N: FileNumber>(line: &[u8]) -> Result<EntryLine<'static, N>, FieldError>
-    ensures values { (text : List ℕ) → GivesEntry N.view EntryTag.Imax text (fields_of line.now) result }
+    ensures values { (text : List ℕ) →
+        GivesEntry N.view EntryTag.Imax text (fields_of line.now) result }
     ensures tag { IfOk result (λ e. entry_tag e ≡ EntryTag.Imax) }
 {
     let (left, rest) = number(line)?;
@@ -87,7 +89,8 @@ fn variable<N: FileNumber>(line: &[u8]) -> Result<EntryLine<'static, N>, FieldEr
 }
 
 fn sort<N: FileNumber>(line: &[u8]) -> Result<EntryLine<'static, N>, FieldError>
-    ensures values { (text : List ℕ) → GivesEntry N.view EntryTag.Sort text (fields_of line.now) result }
+    ensures values { (text : List ℕ) →
+        GivesEntry N.view EntryTag.Sort text (fields_of line.now) result }
     ensures tag { IfOk result (λ e. entry_tag e ≡ EntryTag.Sort) }
 {
     let (level, rest) = number(line)?;
@@ -107,7 +110,8 @@ fn constant<N: FileNumber>(alloc: Global, line: &[u8]) -> Result<EntryLine<'stat
 }
 
 fn apply<N: FileNumber>(line: &[u8]) -> Result<EntryLine<'static, N>, FieldError>
-    ensures values { (text : List ℕ) → GivesEntry N.view EntryTag.Apply text (fields_of line.now) result }
+    ensures values { (text : List ℕ) →
+        GivesEntry N.view EntryTag.Apply text (fields_of line.now) result }
     ensures tag { IfOk result (λ e. entry_tag e ≡ EntryTag.Apply) }
 {
     let (function, rest) = number(line)?;
@@ -117,7 +121,8 @@ fn apply<N: FileNumber>(line: &[u8]) -> Result<EntryLine<'static, N>, FieldError
 }
 
 fn lambda<N: FileNumber>(line: &[u8]) -> Result<EntryLine<'static, N>, FieldError>
-    ensures values { (text : List ℕ) → GivesEntry N.view EntryTag.Lambda text (fields_of line.now) result }
+    ensures values { (text : List ℕ) →
+        GivesEntry N.view EntryTag.Lambda text (fields_of line.now) result }
     ensures tag { IfOk result (λ e. entry_tag e ≡ EntryTag.Lambda) }
 {
     let (info, rest) = info(line)?;
@@ -134,7 +139,8 @@ fn lambda<N: FileNumber>(line: &[u8]) -> Result<EntryLine<'static, N>, FieldErro
 }
 
 fn pi<N: FileNumber>(line: &[u8]) -> Result<EntryLine<'static, N>, FieldError>
-    ensures values { (text : List ℕ) → GivesEntry N.view EntryTag.Pi text (fields_of line.now) result }
+    ensures values { (text : List ℕ) →
+        GivesEntry N.view EntryTag.Pi text (fields_of line.now) result }
     ensures tag { IfOk result (λ e. entry_tag e ≡ EntryTag.Pi) }
 {
     let (info, rest) = info(line)?;
@@ -152,7 +158,8 @@ fn pi<N: FileNumber>(line: &[u8]) -> Result<EntryLine<'static, N>, FieldError>
 
 #[inline(never)]
 fn let_in<N: FileNumber>(line: &[u8]) -> Result<EntryLine<'static, N>, FieldError>
-    ensures values { (text : List ℕ) → GivesEntry N.view EntryTag.Let text (fields_of line.now) result }
+    ensures values { (text : List ℕ) →
+        GivesEntry N.view EntryTag.Let text (fields_of line.now) result }
     ensures tag { IfOk result (λ e. entry_tag e ≡ EntryTag.Let) }
 {
     let (name, rest) = number(line)?;
@@ -215,7 +222,8 @@ fn text_literal<N: FileNumber>(
 
 #[inline(never)]
 fn rule<N: FileNumber>(line: &[u8]) -> Result<EntryLine<'static, N>, FieldError>
-    ensures values { (text : List ℕ) → GivesEntry N.view EntryTag.Rule text (fields_of line.now) result }
+    ensures values { (text : List ℕ) →
+        GivesEntry N.view EntryTag.Rule text (fields_of line.now) result }
     ensures tag { IfOk result (λ e. entry_tag e ≡ EntryTag.Rule) }
 {
     let (constructor, rest) = number(line)?;

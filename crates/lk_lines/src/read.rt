@@ -2,9 +2,8 @@ ghost use Rattle.std.specs.Prelude.{◌≡◌, ◌∷◌, ℕ, List, IfOk, Some,
 ghost use Rattle.lk_token.specs.Fields.{fields_of, text_behind};
 ghost use Rattle.lk_token.specs.Lines.{HasNoLineFeed};
 ghost use Rattle.lk_lines.specs.Told.{Gives};
-ghost use Rattle.lk_lines.specs.FileNumbers.{narrow};
 ghost use Rattle.lk_lines.specs.LineFeeds.{NamesHaveNoLineFeed};
-ghost use Rattle.lk_lines.specs.Lines.{Tells};
+ghost use Rattle.lk_lines.specs.Lines.{Tells, TellsBy};
 ghost use Rattle.lk_lines.specs.declared.tags.Tag.{Tag};
 ghost use Rattle.lk_lines.specs.Items.{is_tag, numbered_at, plain_at, item_behind};
 ghost use Rattle.lk_lines.specs.Says.{as_item, item_said, said_at, said_below, said_in, said_of};
@@ -240,7 +239,7 @@ pub fn read_line_below<N: FileNumber>(
     bytes: &[u8],
 ) -> Result<FileLine<'_, N>, LineError>
     requires { HasNoLineFeed bytes.now }
-    ensures tells { Tells N.view number result (said_below N.view.limit dialect first bytes.now) }
+    ensures tells { TellsBy N.view number result (said_below N.view.limit dialect first bytes.now) }
     ensures names { IfOk result (λ line. NamesHaveNoLineFeed line.statement) }
 {
     match read_statement(alloc, dialect, first, bytes) {
@@ -259,7 +258,7 @@ pub fn read_line_in(
     bytes: &[u8],
 ) -> Result<FileLine<'_>, LineError>
     requires { HasNoLineFeed bytes.now }
-    ensures tells { Tells narrow number result (said_in dialect first bytes.now) }
+    ensures tells { Tells number result (said_in dialect first bytes.now) }
     ensures names { IfOk result (λ line. NamesHaveNoLineFeed line.statement) }
 {
     read_line_below(alloc, dialect, number, first, bytes)
@@ -273,7 +272,7 @@ pub fn read_line(
     bytes: &[u8],
 ) -> Result<FileLine<'_>, LineError>
     requires { HasNoLineFeed bytes.now }
-    ensures tells { Tells narrow number result (said_of first bytes.now) }
+    ensures tells { Tells number result (said_of first bytes.now) }
     ensures names { IfOk result (λ line. NamesHaveNoLineFeed line.statement) }
 {
     read_line_in(alloc, Dialect::Export, number, first, bytes)
