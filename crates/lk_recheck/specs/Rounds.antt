@@ -56,8 +56,8 @@ GivesVerdicts numbers (Ok vs) new = (i n : ℕ) (v : Verdict) → slice_get numb
 GivesVerdicts numbers (Err e) new =
     (n : ℕ) → Contains numbers n → slice_get new n ≡ Some out_of_memory
 
--- just the units that have to be checked were handed on, in their order, and have the verdicts that
--- were answered
+-- the units that have to be checked were handed on, they alone and in their order, in one call, and
+-- have the verdicts that it answered
 pub record AreHandedOn (MayAnswer : List ℕ → Answer → Type 0) (us vs : Library)
     (old new : List Verdict) : Type 0 where
   pub numbers : List ℕ
