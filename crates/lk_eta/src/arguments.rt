@@ -8,7 +8,7 @@ use lk_store::node::Node;
 use lk_store::terms::Terms;
 
 /// Whether a term has just so many arguments. It takes no memory, and ends where there are too many.
-pub(crate) fn has_arguments<T: Terms>(terms: &T, e: u64, count: u128) -> bool
+pub fn has_arguments<T: Terms>(terms: &T, e: u64, count: u128) -> bool
     requires { e < length (T.contents terms.now).trees }
     ensures { result ≡ nat_eq (length (args (tree_at (T.contents terms.now) e))) count }
 {

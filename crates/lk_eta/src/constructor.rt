@@ -19,7 +19,7 @@ use lk_store::memory::NoMemory;
 use lk_store::node::Node;
 
 /// The constructor of an entry, where it is one; its type need not be a structure.
-fn constructor_by<L: Looks>(looks: &L, entry: Entry) -> Option<Structure>
+pub fn constructor_by<L: Looks>(looks: &L, entry: Entry) -> Option<Structure>
     ensures { (g : PlainEntry) → entry_at (L.sight (L.rest looks.now)).basis entry ≡ Some g
         → IsStructureIf (L.contents looks.now) result (constructor_in g.kind) }
 {
@@ -52,7 +52,7 @@ pub(crate) fn constructor_again<L: Looks>(looks: &L, e: u64) -> Option<Structure
 
 /// Whether a term is a structure's constructor with all its arguments, where its head is the constant of this entry. The
 /// arguments are counted first, since whether it is a structure takes a walk over the constructor's type.
-pub(crate) fn is_full<L: Looks>(looks: &L, entry: Entry, e: u64) -> Result<bool, NoMemory>
+pub fn is_full<L: Looks>(looks: &L, entry: Entry, e: u64) -> Result<bool, NoMemory>
     requires { e < length (L.contents looks.now).trees }
     ensures { (g : PlainEntry) → entry_at (L.sight (L.rest looks.now)).basis entry ≡ Some g
         → IfOk result (λ r. r ≡ is_full g.kind (args (tree_at (L.contents looks.now) e))) }

@@ -14,7 +14,7 @@ use lk_store::terms::Terms;
 use std::alloc::Global;
 
 /// The arguments behind the parameters.
-fn behind_parameters(values: &[u64], parameters: u64) -> &[u64]
+pub fn behind_parameters(values: &[u64], parameters: u64) -> &[u64]
     ensures { result.now ≡ drop parameters values.now }
 {
     if parameters > values.len() as u64 {

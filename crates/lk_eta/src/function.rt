@@ -30,7 +30,7 @@ fn is_lambda<T: Terms>(terms: &T, e: u64) -> bool
 }
 
 /// A term as a lambda over this domain.
-fn long<T: Terms>(terms: &mut T, domain: u64, e: u64) -> Result<u64, NoMemory>
+pub fn long<T: Terms>(terms: &mut T, domain: u64, e: u64) -> Result<u64, NoMemory>
     requires domain_in { domain < length (T.contents terms.old).trees }
     requires e_in { e < length (T.contents terms.old).trees }
     ensures { MakesTree T.contents T.rest terms.old terms.new result

@@ -2,14 +2,14 @@
 //! asks, and may give no answer; where none of them gives one, what comes behind them is asked of the two terms.
 #![tactic(auto)]
 
-mod arguments;
-mod constructor;
+pub mod arguments;
+pub mod constructor;
 mod eta;
-mod fields;
-mod function;
+pub mod fields;
+pub mod function;
 pub mod sheet;
 mod structure;
-mod unit;
+pub mod unit;
 mod ways;
 
 pub use eta::{EtaLine, begin, resume_term, resume_truth};

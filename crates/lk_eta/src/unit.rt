@@ -41,7 +41,7 @@ pub(crate) fn begin(a: u64, b: u64) -> EtaLine
 }
 
 /// Whether a term is a unit-like type at its parameters, where its head is the constant of this entry.
-fn is_unit_like<L: Looks>(looks: &L, entry: Entry, e: u64) -> Result<bool, NoMemory>
+pub fn is_unit_like<L: Looks>(looks: &L, entry: Entry, e: u64) -> Result<bool, NoMemory>
     requires { e < length (L.contents looks.now).trees }
     ensures { (g : PlainEntry) → entry_at (L.sight (L.rest looks.now)).basis entry ≡ Some g
         → IfOk result (λ r. r

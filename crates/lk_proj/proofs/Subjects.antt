@@ -3,7 +3,7 @@ use Rattle.std.proofs.Common.{◌≡◌, ◌+◌, ℕ, Bool, true, false, ◌&&�
 use Rattle.std.proofs.Common.{map}
 use Rattle.std.proofs.Common.{reverse, nat_eq, Option, Some, None, refl, ap, sym, subst, ◌∙◌}
 use Rattle.std.specs.Prelude.{nat_lt, option_map}
-use Rattle.std.proofs.lemmas.List.{map-append, reverse-append, reverse-reverse, length-map}
+use Rattle.std.proofs.lemmas.List.{map-append, reverse-append, reverse-reverse}
 use Rattle.lk_tree.specs.Tree.{Name, Level, Tree, proj}
 use Rattle.lk_tree.specs.Levels.{put_levels}
 use Rattle.lk_tree.specs.Level.{is_zero_level}
@@ -17,7 +17,6 @@ use Rattle.lk_questions.specs.Steps.{given, sort_of}
 use Rattle.lk_questions.specs.Projections.{past_parameters, field_type, of_struct}
 use Rattle.lk_store.specs.Contents.{Contents, tree_at}
 use Rattle.lk_ask.specs.Constants.{IsAtLevels}
-use Rattle.lk_spine.specs.Reading.{AreTrees}
 use Rattle.lk_proj.specs.Infers.{sort_rest}
 
 -- the arguments on the stack
@@ -101,12 +100,3 @@ module _ (w : Place) (last : Option ℕ) (S : Name) (i : ℕ) (s T : Tree) (ls :
       ∙ ap (λ y. waiting_type w last (proj S i s) T bs y r) parameters
       ∙ by_count bs r arguments at
       ∙ ap (λ b. erased w a_tree last (fitted b)) (sym fit)
-
--- whether a structure fits is told by numbers
-pub fits_is : (c : Contents) (es : List ℕ) (ts : List Tree) (n i p p2 q q2 f f2 : ℕ) (b r : Bool)
-    → AreTrees c es ts → n ≡ length es → p ≡ p2 → q ≡ q2 → f ≡ f2
-    → b ≡ (nat_eq n (p + q) && nat_lt i f) → b ≡ r
-    → (nat_eq (length ts) (p2 + q2) && nat_lt i f2) ≡ r
-fits_is c es ts n i p p2 q q2 f f2 b r are long ps qs fs is told =
-    let count : n ≡ length ts = long ∙ sym (length-map es (tree_at c)) ∙ ap length are.are in
-    rw (← count, ← ps, ← qs, ← fs) (sym is ∙ told)

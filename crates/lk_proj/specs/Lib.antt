@@ -1,6 +1,5 @@
 pub mod Sheets
 pub mod Nodes
-pub mod Structures
 pub mod Sorts
 pub mod Infers
 pub mod Reductions

@@ -11,7 +11,6 @@ ghost use Rattle.lk_proj.specs.Infers.{field_pi as plain_pi, field_rest, field_s
 
 use crate::infer::InferNext;
 use crate::node::{Projection, projection_of};
-use crate::occurs::occurs;
 use crate::sheet::{FieldPi, InferSheet};
 use crate::sort::is_prop;
 use lk_ask::looks::Looks;
@@ -19,6 +18,7 @@ use lk_ask::next::Next;
 use lk_ask::query::{Answer, Query};
 use lk_store::memory::NoMemory;
 use lk_store::node::Node;
+use lk_structure::occurs::occurs;
 use lk_subst::opening::open_with;
 use lk_tree::rule::Rule;
 

@@ -4,10 +4,8 @@
 mod fields;
 pub mod infer;
 mod node;
-mod occurs;
 mod parameters;
 pub mod reduce;
 pub mod sheet;
 mod sort;
-mod structure;
 mod subject;

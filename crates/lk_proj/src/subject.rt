@@ -1,17 +1,16 @@
 //! The type of the subject, which is to be a structure.
 
-ghost use Rattle.std.specs.Prelude.{◌≡◌, ◌<◌, ◌+◌, ◌&&◌, nat_eq, nat_lt, [], ◌∷◌, Some, length};
+ghost use Rattle.std.specs.Prelude.{◌≡◌, ◌<◌, [], ◌∷◌, Some, length};
 ghost use Rattle.lk_questions.specs.Projections.{of_type, of_struct};
 ghost use Rattle.lk_rulebook.specs.Place.{BlockType as PlainType, Ctor};
 ghost use Rattle.lk_store.specs.Contents.{name_at, list_at, tree_at};
 ghost use Rattle.lk_proj.specs.Nodes.{IsProjection};
-ghost use Rattle.lk_proj.specs.Structures.{IsStructure};
+ghost use Rattle.lk_structure.specs.Structures.{IsStructure};
 ghost use Rattle.lk_proj.specs.Infers.{subject_rest, Infers};
 
 use crate::infer::InferNext;
 use crate::node::{Projection, projection_of};
 use crate::sheet::{Applied, InferSheet};
-use crate::structure::{Structure, structure_of};
 use lk_ask::looks::Looks;
 use lk_ask::next::Next;
 use lk_ask::query::Query;
@@ -19,17 +18,8 @@ use lk_ask::stack::Stack;
 use lk_constructor::levels_of_type;
 use lk_spine::args;
 use lk_store::memory::NoMemory;
+use lk_structure::structure::{Structure, fits, structure_of};
 use lk_tree::rule::Rule;
-
-/// Whether a structure has such a field, and so many arguments are its parameters and its indices.
-/// Counts have 64 bits, so that their sum may be above 2^64.
-fn fits(structure: Structure, field: u64, arguments: usize) -> bool
-    ensures { result ≡ (nat_eq arguments (structure.parameters + structure.indices)
-        && nat_lt field structure.fields) }
-{
-    let all = u128::from(structure.parameters) + u128::from(structure.indices);
-    arguments as u128 == all && field < structure.fields
-}
 
 /// Goes on with the subject's type, which is this structure at these levels, applied.
 fn by_structure<L: Looks>(

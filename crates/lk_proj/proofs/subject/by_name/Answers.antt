@@ -8,8 +8,8 @@ use Rattle.lk_ask.specs.Looks.{Basis}
 use Rattle.lk_ask.proofs.Looking.{found_goes}
 use Rattle.lk_ask.proofs.Steps.{same_steps, after_look}
 use Rattle.lk_constructor.proofs.Giving.{entry_there}
-use Rattle.lk_proj.proofs.Structured.{some_structure, none_structure, stated_known}
-use Rattle.lk_proj.proofs.Structured.{lent_is, stated_is, kind_some, kind_none}
+use Rattle.lk_structure.proofs.Structured.{some_structure, none_structure, stated_known}
+use Rattle.lk_structure.proofs.Structured.{lent_is, stated_is, kind_some, kind_none}
 use Rattle.lk_proj.proofs.subject.by_name.Goals as goal
 
 pub by_structure-requires-clause-structure_in : goal.by_structure-requires-clause-structure_in

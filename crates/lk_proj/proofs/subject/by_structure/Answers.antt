@@ -3,7 +3,8 @@ use Rattle.std.specs.Prelude.{option_map}
 use Rattle.lk_tree.specs.Spine.{args}
 use Rattle.lk_store.specs.Contents.{name_at, list_at, tree_at}
 use Rattle.lk_subst.specs.Numbers.{trees-steady}
-use Rattle.lk_proj.proofs.Subjects.{waiting_type, ctor_type_is, type_asked, fits_is, stacked}
+use Rattle.lk_structure.proofs.Fitting.{fits_is}
+use Rattle.lk_proj.proofs.Subjects.{waiting_type, ctor_type_is, type_asked, stacked}
 use Rattle.lk_proj.proofs.subject.by_structure.Goals as goal
 
 pub returns : goal.returns

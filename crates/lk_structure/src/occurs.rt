@@ -26,7 +26,7 @@ fn occurs_by_opening<L: Looks>(looks: &mut L, body: u64) -> Result<bool, NoMemor
 
 /// Whether the outermost variable of a body occurs. In a body under one binder of a closed term no
 /// other variable is loose, and the bound of loose variables decides it.
-pub(crate) fn occurs<L: Looks>(looks: &mut L, body: u64) -> Result<bool, NoMemory>
+pub fn occurs<L: Looks>(looks: &mut L, body: u64) -> Result<bool, NoMemory>
     requires { body < length (L.contents looks.old).trees }
     ensures made { Made L.contents L.rest looks.old looks.new }
     ensures ok { IfOk result (λ r. r ≡ has_var 0 (tree_at (L.contents looks.old) body)) }

@@ -1,7 +1,7 @@
 use Rattle.std.proofs.Common.{ap, ◌∙◌, nat_eq, arith}
 use Rattle.lk_store.specs.Contents.{tree_at}
-use Rattle.lk_proj.proofs.Occurrences.{bounded_is}
-use Rattle.lk_proj.proofs.occurs.occurs.Goals as goal
+use Rattle.lk_structure.proofs.Occurrences.{bounded_is}
+use Rattle.lk_structure.proofs.occurs.occurs.Goals as goal
 
 pub returns-clause-ok : goal.returns-clause-ok
 returns-clause-ok g c =

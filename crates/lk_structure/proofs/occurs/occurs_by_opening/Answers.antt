@@ -1,5 +1,5 @@
-use Rattle.lk_proj.proofs.Occurrences.{openings_tell}
-use Rattle.lk_proj.proofs.occurs.occurs_by_opening.Goals as goal
+use Rattle.lk_structure.proofs.Occurrences.{openings_tell}
+use Rattle.lk_structure.proofs.occurs.occurs_by_opening.Goals as goal
 
 pub returns-clause-ok : goal.returns-clause-ok
 returns-clause-ok g c =

@@ -1,8 +1,8 @@
 use Rattle.std.proofs.Common.{refl}
 use Rattle.lk_store.specs.Store.{contents_of}
 use Rattle.lk_env.specs.Units.{block_at}
-use Rattle.lk_proj.proofs.Structured.{no_type}
-use Rattle.lk_proj.proofs.structure.structure_of.Goals as goal
+use Rattle.lk_structure.proofs.Structured.{no_type}
+use Rattle.lk_structure.proofs.structure.structure_of.Goals as goal
 
 pub returns-in-Some-clause-known : goal.returns-in-Some-clause-known
 returns-in-Some-clause-known g c =

@@ -1,6 +1,6 @@
 //! Types with exactly one constructor.
 
-ghost use Rattle.std.specs.Prelude.{◌≡◌, ◌<◌, Some, length, IfSome, option_map};
+ghost use Rattle.std.specs.Prelude.{◌≡◌, ◌<◌, ◌+◌, ◌&&◌, nat_eq, nat_lt, Some, length, IfSome, option_map};
 ghost use Rattle.lk_rulebook.specs.Place.{Entry as PlainEntry, Block as PlainBlock};
 ghost use Rattle.lk_store.specs.Contents.{Contents};
 ghost use Rattle.lk_store.specs.Store.{contents_of};
@@ -8,7 +8,7 @@ ghost use Rattle.lk_env.specs.Units.{type_at, IsTypeIn};
 ghost use Rattle.lk_env.specs.Entries.{library_entry};
 ghost use Rattle.lk_env.specs.Lent.{type_in};
 ghost use Rattle.lk_env.specs.StoredLibrary.{StoredLibrary};
-ghost use Rattle.lk_proj.specs.Structures.{structure_in, IsOnlyIn, IsStructureIf};
+ghost use Rattle.lk_structure.specs.Structures.{structure_in, IsOnlyIn, IsStructureIf};
 
 use lk_env::entry::{Entry, Kind};
 use lk_env::lends::Lends;
@@ -64,7 +64,7 @@ fn structure_by(ty: &BlockType, number: usize, unit: u32) -> Option<Structure>
 }
 
 /// The type with exactly one constructor that an entry is, where it is one. It takes no memory.
-pub(crate) fn structure_of<L: Lends>(library: &L, entry: Entry) -> Option<Structure>
+pub fn structure_of<L: Lends>(library: &L, entry: Entry) -> Option<Structure>
     ensures known { IfSome result
         (λ s. s.constructor.stated < length (contents_of (L.lent library.now).tables).trees) }
     ensures is { (g : PlainEntry) → library_entry (L.lent library.now) entry ≡ Some g
@@ -78,4 +78,14 @@ pub(crate) fn structure_of<L: Lends>(library: &L, entry: Entry) -> Option<Struct
         Kind::Declared(_) | Kind::Constructor { .. } | Kind::Recursor(_) | Kind::BareRecursor(_) =>
             None,
     }
+}
+
+/// Whether a structure has such a field, and so many arguments are its parameters and its indices.
+/// Counts have 64 bits, so that their sum may be above 2^64.
+pub fn fits(structure: Structure, field: u64, arguments: usize) -> bool
+    ensures { result ≡ (nat_eq arguments (structure.parameters + structure.indices)
+        && nat_lt field structure.fields) }
+{
+    let all = u128::from(structure.parameters) + u128::from(structure.indices);
+    arguments as u128 == all && field < structure.fields
 }

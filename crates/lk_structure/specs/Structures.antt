@@ -6,7 +6,7 @@ use Rattle.lk_store.specs.Store.{contents_of}
 use Rattle.lk_env.specs.declared.unit.Constructor.{Constructor}
 use Rattle.lk_env.specs.StoredLibrary.{StoredLibrary}
 use Rattle.lk_env.specs.Entries.{library_entry}
-use Rattle.lk_proj.specs.declared.structure.Structure.{Structure}
+use Rattle.lk_structure.specs.declared.structure.Structure.{Structure}
 
 abbrev pub with_one : PlainType → List Ctor → Option (PlainType × Ctor)
 with_one t (k ∷ []) = Some (t, k)

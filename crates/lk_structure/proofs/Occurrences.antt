@@ -10,7 +10,7 @@ use Rattle.lk_tree.specs.Bind.{open_at, open_var, opened, has_var}
 use Rattle.lk_tree.specs.Loose.{loose}
 use Rattle.lk_store.specs.Contents.{Contents, tree_at, Extends, IsTree}
 use Rattle.lk_ask.proofs.Sheets.{grown}
-use Rattle.lk_proj.proofs.Looseness.{neither, none_occurs, outermost_occurs}
+use Rattle.lk_structure.proofs.Looseness.{neither, none_occurs, outermost_occurs}
 
 first_no : (p q : Bool) → (p || q) ≡ false → p ≡ false
 first_no false q h = refl

@@ -22,8 +22,8 @@ use Rattle.lk_env.specs.Units.{type_at, constructor_at, library_at}
 use Rattle.lk_env.specs.Entries.{entry_of, plain_entry}
 use Rattle.lk_env.specs.Lent.{type_in}
 use Rattle.lk_env.specs.StoredLibrary.{StoredLibrary}
-use Rattle.lk_proj.specs.declared.structure.Structure.{Structure}
-use Rattle.lk_proj.specs.Structures.{with_one, structure_in, IsStructure, IsStructureIf}
+use Rattle.lk_structure.specs.declared.structure.Structure.{Structure}
+use Rattle.lk_structure.specs.Structures.{with_one, structure_in, IsStructure, IsStructureIf}
 
 -- the entry of a type's only constructor
 abbrev ctor_entry : PlainBlock → PlainType → Ctor → Tree → PlainEntry

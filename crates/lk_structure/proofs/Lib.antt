@@ -1,0 +1,4 @@
+pub mod Looseness
+pub mod Occurrences
+pub mod Structured
+pub mod Fitting
