@@ -13,7 +13,7 @@ use Rattle.lk_verdict.proofs.Clears.{clear_at}
 use Rattle.lk_sound.proofs.Statedness.{all_well_stated}
 use Rattle.lk_sound.proofs.Lawful.{lawful_at}
 use Rattle.lk_written.specs.Section.{Section, section_holds}
-use Rattle.lk_written.proofs.Units.{unit_derived}
+use Rattle.lk_written_sound.proofs.Units.{unit_derived}
 use Rattle.lk_answered.specs.Operations.{OperationsWritten}
 use Rattle.lk_sound.proofs.GoodUnits.{good_of_yes}
 use Rattle.lk_table_sound.proofs.Derivations.{sound_steps}

@@ -20,8 +20,8 @@ use Rattle.lk_sound.proofs.Statedness.{all_well_stated}
 use Rattle.lk_claims.proofs.Pieces.{Some_inj}
 use Rattle.lk_written.specs.Section.{Section, section_holds}
 use Rattle.lk_written.specs.Written.{CanWrite, CanSort, CanBe, CanMeet, CanBeLawful, CanBody, CanDeclare, KeepsNumerals}
-use Rattle.lk_written.proofs.Closeds.{types_follow, reductions_follow, equalities_follow}
-use Rattle.lk_written.proofs.Wholes.{declaration_written}
+use Rattle.lk_written_sound.proofs.Closeds.{types_follow, reductions_follow, equalities_follow}
+use Rattle.lk_written_sound.proofs.Wholes.{declaration_written}
 use Rattle.lk_table_sound.proofs.Book.{Book, HasSort}
 use Rattle.lk_table_sound.proofs.WholeTable.{sound_steps}
 use Rattle.lk_table_sound.proofs.Declarations.{IsOf, BodyHolds, DeclHolds, yes_holds}

@@ -28,8 +28,8 @@ pub fn new_names_keep_numerals()
     ensures { (us : Library) (n : ℕ) → NamesAreNew us n → KeepsNumerals (place_of us n []) }
 {}
 
-/// A unit with a section that holds is good, where the units before it that give an operation on
-/// numbers with laws have sections that hold too, or are answered yes.
+/// A unit with a section that holds is good, where all the units before it that give an operation on
+/// numbers with laws have sections that hold too, or all of them are answered yes.
 pub fn written_unit_is_good()
     ensures written { (us : Library) (n : ℕ) (s : Section) → IsClearLibrary us
         → OperationsWritten us n → section_holds us n s ≡ true → IsGoodUnit us n }

@@ -9,7 +9,7 @@ use Rattle.lk_rulebook.specs.Lawful.{IsLawfulPlace}
 use Rattle.lk_rulebook.specs.Rules.{t_sort, t_local, t_const, t_app, t_lam, t_pi, t_let, t_lit, t_str, t_proj, has_sort, IsProposition, is_prop, r_refl, r_trans, r_head, r_beta, r_zeta, r_delta, r_proj, r_major, r_iota, r_k, r_struct, r_quot_lift, r_quot_ind, r_op, e_refl, e_reduce, e_sort, e_const, e_app, e_lam, e_pi, e_proj, e_eta_left, e_eta_right, e_struct_left, e_struct_right, e_unit, e_proof, e_zero_left, e_zero_right, e_succ_left, e_succ_right, e_str_left, e_str_right, ReduceToNumerals, no_more_numerals, numeral, not_prop, by_fields, ProjectionsEqual, no_more_fields, project, IsTypeAfterParameters, no_more, next, field_at, IsFieldType, here, past}
 use Rattle.lk_rulebook.proofs.Sorts.{former_stays}
 use Rattle.lk_rulebook.proofs.Scopes.{well_formed_of_type, well_formed_of_reduct, well_formed_of_equal}
-use Rattle.lk_claims.specs.Claims.{Claim, types, reduces, equals, Derived, IsShaped}
+use Rattle.lk_rulebook.specs.Claims.{Claim, types, reduces, equals, Derived, IsShaped}
 use Rattle.lk_claims.specs.Follows.{EachField, PropWhere, not_due, due, EachParameter, no_parameter, parameter, FieldAt, this_field, field_before, EachNumeral, no_numeral, a_numeral, FollowsTypes, FollowsReductions, FollowsEqualities}
 use Rattle.lk_claims.proofs.Facts.{level_right, levels_right}
 use Rattle.lk_claims.proofs.Numerals.{numeral_right}

@@ -17,7 +17,7 @@ use Rattle.lk_questions.specs.Sound.{IsSound, IfYes}
 use Rattle.lk_questions.specs.Steps.{decided, is_same_tree}
 use Rattle.lk_questions.specs.Iota.{has_one_ctor, levels_at}
 use Rattle.lk_questions.specs.Quotients.{by_quot}
-use Rattle.lk_claims.specs.Tests.{◌>>=◌, test, passes, found, is_true, same_levels}
+use Rattle.lk_questions.specs.Tests.{◌>>=◌, test, passes, found, is_true, same_levels}
 use Rattle.lk_claims.proofs.Pieces.{Some_inj, halves, same_name_right}
 
 pub sound_if : {A : Type 0} (w : Place) (b : Bool) (p q : Program A) (P : A → Type 0) → (b ≡ true → IsSound w p P) → (b ≡ false → IsSound w q P) → IsSound w (if b then p else q) P

@@ -25,9 +25,9 @@ use Rattle.lk_rulebook.specs.Rules.{HasValue, IsGivenAt, at_levels}
 use Rattle.lk_questions.specs.Shapes.{nat_shape, string_shape}
 use Rattle.lk_questions.specs.Literals.{numeral_of, result_of}
 use Rattle.lk_questions.specs.Strings.{expansion_of, text_to_ctor}
-use Rattle.lk_claims.specs.Claims.{Claim, types, reduces, equals}
-use Rattle.lk_claims.specs.Tests.{reads}
-use Rattle.lk_claims.specs.Tests.{passes, found, is_true, same_levels}
+use Rattle.lk_rulebook.specs.Claims.{Claim, types, reduces, equals}
+use Rattle.lk_questions.specs.Tests.{reads}
+use Rattle.lk_questions.specs.Tests.{passes, found, is_true, same_levels}
 
 -- sort A = l
 abbrev pub Sorts : (Claim → Type 0) → Tree → Level → Type 0

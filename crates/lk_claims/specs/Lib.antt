@@ -1,3 +1,1 @@
-pub mod Claims
-pub mod Tests
 pub mod Follows

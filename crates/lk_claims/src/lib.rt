@@ -6,7 +6,7 @@
 ghost use Rattle.lk_rulebook.specs.Lawful.{IsLawfulPlace};
 ghost use Rattle.lk_rulebook.specs.Place.{Place};
 ghost use Rattle.lk_questions.specs.Levels.{IsLevelTest, complete_test};
-ghost use Rattle.lk_claims.specs.Claims.{Derived};
+ghost use Rattle.lk_rulebook.specs.Claims.{Derived};
 ghost use Rattle.lk_claims.specs.Follows.{FollowsTypes, FollowsReductions, FollowsEqualities};
 
 /// Derivations follow the rules: those of typing and of conversion at every place, those of

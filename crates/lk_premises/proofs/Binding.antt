@@ -1,6 +1,6 @@
 -- Steps that may give nothing, one behind the other.
 use Rattle.std.proofs.Common.{◌≡◌, Option, Some, None, refl}
-use Rattle.lk_claims.specs.Tests.{◌>>=◌}
+use Rattle.lk_questions.specs.Tests.{◌>>=◌}
 
 -- steps in two parts
 pub bind_bind : {A B C : Type 0} (o : Option A) (f : A → Option B) (g : B → Option C) (h : A → Option C) → ((v : A) → h v ≡ (f v >>= g)) → (o >>= h) ≡ ((o >>= f) >>= g)

@@ -1,3 +1,6 @@
 pub mod Binding
 pub mod Staying
 pub mod Stacks
+pub mod Given
+pub mod Settled
+pub mod AtHead

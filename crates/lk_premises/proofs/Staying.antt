@@ -2,7 +2,7 @@
 use Rattle.std.proofs.Common.{◌≡◌, List, [], ◌∷◌, refl, ap, ◌∙◌, arith}
 use Rattle.std.specs.Prelude.{slice_index_or}
 use Rattle.std.proofs.lemmas.List.Elements.{All-head, All-tail}
-use Rattle.lk_claims.specs.Claims.{types, reduces, equals}
+use Rattle.lk_rulebook.specs.Claims.{types, reduces, equals}
 use Rattle.lk_store.specs.Contents.{Contents, tree_at, Extends}
 use Rattle.lk_premises.specs.declared.claims.Claim.{Claim}
 use Rattle.lk_premises.specs.declared.claims.Relation.{Relation}

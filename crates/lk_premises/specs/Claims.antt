@@ -1,6 +1,6 @@
 -- The claims that those by numbers stand for.
 use Rattle.std.specs.Prelude.{◌<◌, List, length, map, All}
-use Rattle.lk_claims.specs.Claims.{Claim as PlainClaim, types, reduces, equals}
+use Rattle.lk_rulebook.specs.Claims.{Claim as PlainClaim, types, reduces, equals}
 use Rattle.lk_store.specs.Contents.{Contents, tree_at}
 use Rattle.lk_premises.specs.declared.claims.Claim.{Claim}
 use Rattle.lk_premises.specs.declared.claims.Relation.{Relation}

@@ -3,3 +3,7 @@ pub mod Reading
 pub mod Sorts
 pub mod Spines
 pub mod Testing
+pub mod Found
+pub mod Given
+pub mod Words
+pub mod Heads

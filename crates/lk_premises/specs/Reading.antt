@@ -1,10 +1,11 @@
 -- What is read of premises.
 use Rattle.std.specs.Prelude.{List, Option, Some}
 use Rattle.lk_tree.specs.Tree.{Tree}
-use Rattle.lk_claims.specs.Claims.{Claim as PlainClaim}
-use Rattle.lk_claims.specs.Tests.{◌>>=◌, test}
+use Rattle.lk_rulebook.specs.Claims.{Claim as PlainClaim}
+use Rattle.lk_questions.specs.Tests.{◌>>=◌, test}
 use Rattle.lk_questions.specs.Steps.{is_same_tree}
 use Rattle.lk_written.specs.Premises.{Left, Stated as PlainStated, typing, reduction, equality}
+use Rattle.lk_written.specs.Premises.{equal, ends}
 use Rattle.lk_store.specs.Contents.{Contents, tree_at}
 use Rattle.lk_premises.specs.Claims.{claim_at}
 use Rattle.lk_premises.specs.declared.claims.Relation.{Relation}
@@ -38,3 +39,9 @@ read_by r ps js e = do
   s ← stated_by r ps js
   u ← test (is_same_tree s.left e)
   Some (s.right, s.after)
+
+-- a == b, and no premise is left
+unfoldable pub ends_equal : List PlainClaim → Left → Tree → Tree → Option (Unit {0})
+ends_equal ps js a b = do
+  r ← equal ps js a b
+  ends r

@@ -1,7 +1,7 @@
 -- What a call does that tests a line.
 use Rattle.std.specs.Prelude.{◌≡◌, ◌<◌, Bool, Option, IfOk, IfSome, Result, length, option_map}
 use Rattle.lk_tree.specs.Tree.{Tree}
-use Rattle.lk_claims.specs.Tests.{passes}
+use Rattle.lk_questions.specs.Tests.{passes}
 use Rattle.lk_written.specs.Premises.{Left}
 use Rattle.lk_store.specs.declared.memory.NoMemory.{NoMemory}
 use Rattle.lk_store.specs.Contents.{Contents, Extends}

@@ -1,7 +1,7 @@
 //! Premises read one after another.
 
 ghost use Rattle.std.specs.Prelude.{◌≡◌, ◌<◌, Some, length, option_map, IfSome};
-ghost use Rattle.lk_claims.specs.Tests.{passes};
+ghost use Rattle.lk_questions.specs.Tests.{passes};
 ghost use Rattle.lk_questions.specs.Steps.{is_same_tree};
 ghost use Rattle.lk_written.specs.Premises as premises;
 ghost use Rattle.lk_store.specs.Contents.{Contents, tree_at};

@@ -25,3 +25,4 @@ pub mod Strings
 pub mod Table
 pub mod Declarations
 pub mod NumberLaws
+pub mod Tests

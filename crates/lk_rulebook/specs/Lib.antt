@@ -17,3 +17,4 @@ pub mod Derived
 pub mod Lawful
 pub mod SameTree
 pub mod WellStated
+pub mod Claims

@@ -29,10 +29,10 @@ use Rattle.lk_questions.specs.Levels.{LevelTest}
 use Rattle.lk_questions.specs.Shapes.{nat_shape, string_shape}
 use Rattle.lk_questions.specs.Literals.{numeral_of, result_of}
 use Rattle.lk_questions.specs.Strings.{expansion_of, text_to_ctor}
-use Rattle.lk_claims.specs.Claims.{Claim, types, reduces, equals}
-use Rattle.lk_claims.specs.Claims.{IsShaped}
-use Rattle.lk_claims.specs.Tests.{passes, found, is_true, same_levels}
-use Rattle.lk_claims.specs.Tests.{reads}
+use Rattle.lk_rulebook.specs.Claims.{Claim, types, reduces, equals}
+use Rattle.lk_rulebook.specs.Claims.{IsShaped}
+use Rattle.lk_questions.specs.Tests.{passes, found, is_true, same_levels}
+use Rattle.lk_questions.specs.Tests.{reads}
 use Rattle.lk_claims.specs.Follows.{Sorts, EachField, PropWhere, not_due, due, EachParameter, no_parameter, parameter, FieldAt, this_field, field_before, EachNumeral, no_numeral, a_numeral, FollowsTypes, FollowsReductions, FollowsEqualities}
 
 pub record Book : Type 1 where

@@ -12,7 +12,7 @@ use Rattle.lk_questions.specs.Steps.{sort_of}
 use Rattle.lk_questions.specs.Declarations.{checked, value_steps, body_steps, unit_steps}
 use Rattle.lk_questions.specs.QuotientUnits.{quot_steps}
 use Rattle.lk_claims.proofs.Pieces.{of_yes}
-use Rattle.lk_claims.specs.Tests.{found}
+use Rattle.lk_questions.specs.Tests.{found}
 use Rattle.lk_table_sound.proofs.Book.{Book, HasType, HasSort, IsDefEq, well_formed_of_type, IsSound, WellStated, IsSoundTable}
 use Rattle.lk_table_sound.proofs.Soundness.{sound_bind, sound_map, sound_run}
 use Rattle.lk_table_sound.proofs.Pieces.{sound_given, sound_sort_of}

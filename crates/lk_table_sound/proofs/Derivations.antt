@@ -23,7 +23,7 @@ use Rattle.lk_questions.specs.Declarations.{unit_steps}
 use Rattle.lk_questions.specs.QuotientUnits.{quot_steps}
 use Rattle.lk_questions.specs.Shapes.{nat_shape}
 use Rattle.lk_questions.specs.NumberLaws.{lawful_op, def_given}
-use Rattle.lk_claims.specs.Claims.{Derived}
+use Rattle.lk_rulebook.specs.Claims.{Derived}
 use Rattle.lk_claims.proofs.Pieces.{Some_inj, equal_numbers, no_item, if_yes_map}
 use Rattle.lk_claims.proofs.Facts.{found_holds}
 use Rattle.lk_claims.proofs.Shaped as shaped

@@ -14,7 +14,7 @@ use Rattle.lk_questions.specs.Shapes.{nat_shape}
 use Rattle.lk_questions.specs.NumberLaws.{def_given, held_given, laws_hold, law_steps}
 use Rattle.lk_claims.proofs.Pieces.{of_yes}
 use Rattle.lk_claims.proofs.NumberLaws.{AllFine, laws_fine}
-use Rattle.lk_claims.specs.Tests.{found}
+use Rattle.lk_questions.specs.Tests.{found}
 use Rattle.lk_claims.proofs.Facts.{some_on}
 use Rattle.lk_table_sound.proofs.Book.{Book, IsDefEq, HasNat, IsSound}
 use Rattle.lk_table_sound.proofs.Soundness.{sound_bind, sound_map}

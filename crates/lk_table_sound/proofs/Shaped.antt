@@ -24,8 +24,8 @@ use Rattle.lk_claims.proofs.Readings as readings
 use Rattle.lk_claims.proofs.Numerals as operations
 use Rattle.lk_claims.proofs.QuotChecks as quot_checks
 use Rattle.lk_claims.proofs.Pieces.{Some_inj}
-use Rattle.lk_claims.specs.Tests.{◌>>=◌ as ◌then◌, test, passes, found}
-use Rattle.lk_claims.specs.Tests.{reads_as, reads}
+use Rattle.lk_questions.specs.Tests.{◌>>=◌ as ◌then◌, test, passes, found}
+use Rattle.lk_questions.specs.Tests.{reads_as, reads}
 use Rattle.lk_claims.proofs.Facts.{same_self, pass_test}
 use Rattle.lk_table_sound.proofs.Book.{Book, HasNat, HasString, Expands, ReadsText, Reads, IsResult, IsSound}
 use Rattle.lk_table_sound.proofs.Soundness.{sound_map, IsQuiet, sound_quiet, quiet_bind, quiet_given, quiet_if}

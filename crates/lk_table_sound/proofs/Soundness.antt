@@ -8,7 +8,7 @@ use Rattle.lk_questions.specs.Sound.{IsAskable}
 use Rattle.lk_questions.specs.Sound as sound
 use Rattle.lk_questions.proofs.Outcomes.{if_after, if_and_then, if_found}
 use Rattle.lk_questions.specs.Steps.{given}
-use Rattle.lk_claims.specs.Tests.{found}
+use Rattle.lk_questions.specs.Tests.{found}
 use Rattle.lk_table_sound.proofs.Book.{Book, IsJustified, IsSound}
 
 pub sound_run : {A : Type 0} (w : Book) (f : (q : Query) → ℕ → Outcome (AnswerTo q)) (P : A → Type 0) →

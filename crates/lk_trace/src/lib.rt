@@ -4,6 +4,8 @@
 
 mod rules;
 mod sections;
+mod traced;
 
 pub use rules::{ConversionRule, ReductionRule, Rule, TypingRule};
 pub use sections::{Line, Section};
+pub use traced::{FileSection, Traced};

@@ -8,8 +8,8 @@ use Rattle.lk_lines.specs.declared.line.Fault.{Fault}
 use Rattle.lk_book.specs.File.{export_at}
 use Rattle.lk_book.specs.declared.error.ReadError.{ReadError}
 use Rattle.lk_book.specs.declared.error.ReadError.TheVariants as errors
-use Rattle.lk_traced.specs.declared.traced.FileSection.{FileSection}
-use Rattle.lk_traced.specs.declared.traced.Traced.{Traced}
+use Rattle.lk_trace.specs.declared.traced.FileSection.{FileSection}
+use Rattle.lk_trace.specs.declared.traced.Traced.{Traced}
 use Rattle.lk_traced.specs.Placed.{FileLine, FileSection as PlainSection}
 use Rattle.lk_traced.specs.Trace.{Trace}
 

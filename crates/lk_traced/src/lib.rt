@@ -1,7 +1,3 @@
 //! A file with derivations: a library, and behind `#TR` what is written for its units.
 //! `specs/Trace.antt` says what the bytes of such a file state.
 #![tactic(auto)]
-
-mod traced;
-
-pub use traced::{FileSection, Traced};

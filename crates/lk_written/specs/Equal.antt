@@ -14,12 +14,12 @@ use Rattle.lk_questions.specs.Iota.{has_one_ctor}
 use Rattle.lk_questions.specs.Eta.{is_unit_like}
 use Rattle.lk_questions.specs.Same.{eta_long}
 use Rattle.lk_questions.specs.Strings.{expansion_of}
-use Rattle.lk_claims.specs.Claims.{Claim}
+use Rattle.lk_rulebook.specs.Claims.{Claim}
 use Rattle.lk_written.specs.Line.{EqualityRule, reduce_rule, sorts_rule, consts_rule, apps_rule}
 use Rattle.lk_written.specs.Line.{projs_rule, lams_rule, pis_rule, eta_rule, struct_left_rule}
 use Rattle.lk_written.specs.Line.{struct_right_rule, unit_rule, proof_rule, zero_rule, succ_rule}
 use Rattle.lk_written.specs.Line.{str_left_rule, str_right_rule}
-use Rattle.lk_claims.specs.Tests.{◌>>=◌, test, found, is_true, same_levels}
+use Rattle.lk_questions.specs.Tests.{◌>>=◌, test, found, is_true, same_levels}
 use Rattle.lk_written.specs.Premises.{as_const, fresh_local, Left, ends, typed, reduced, equal}
 use Rattle.lk_written.specs.Premises.{to_pi, is_prop_by}
 use Rattle.lk_written.specs.Typing.{comes_to, the_type}
@@ -130,7 +130,8 @@ fields_equal ps js J a j (x ∷ xs) = do
   r ← equal ps js (proj J j a) x
   fields_equal ps r J a (suc j) xs
 
--- a => A, b => B, A == B, then a's fields == b's; b is a constructor with all its arguments
+-- a => A, b => B, A == B, then a's fields == b's; a is head normal, b a constructor with all its
+-- arguments, of a type that is structure-like
 abbrev pub eq_struct : Place → List Claim → Left → Tree → Tree → Option (Unit {0})
 eq_struct w ps js a b = do
   h ← as_const (head b)
@@ -144,7 +145,7 @@ eq_struct w ps js a b = do
   s ← fields_equal ps r k.1.name a 0 (drop k.2.parameters (args b))
   ends s
 
--- a => A, A >> T, b => B, A == B
+-- a => A, A >> T, b => B, A == B; both are head normal, T is unit-like
 abbrev pub eq_unit : Place → List Claim → Left → Tree → Tree → Option (Unit {0})
 eq_unit w ps js a b = do
   u ← test (is_head_normal a && is_head_normal b)
@@ -158,7 +159,7 @@ eq_unit w ps js a b = do
   r ← equal ps B.1 A.0 B.0
   ends r
 
--- a => A, sort A = l, b => B, A == B
+-- a => A, sort A = l, b => B, A == B; both are head normal, and l is 0
 abbrev pub eq_proof : List Claim → Left → Tree → Tree → Option (Unit {0})
 eq_proof ps js a b = do
   u ← test (is_head_normal a && is_head_normal b)

@@ -7,8 +7,8 @@ use Rattle.lk_tree.specs.Tree.{wide, str, local}
 use Rattle.lk_tree.specs.Bind.{bound}
 use Rattle.lk_tree.specs.Level.{is_zero_level}
 use Rattle.lk_questions.specs.Steps.{is_same_tree}
-use Rattle.lk_claims.specs.Claims.{Claim, types, reduces, equals}
-use Rattle.lk_claims.specs.Tests.{◌>>=◌, test}
+use Rattle.lk_rulebook.specs.Claims.{Claim, types, reduces, equals}
+use Rattle.lk_questions.specs.Tests.{◌>>=◌, test}
 
 -- closed and well scoped under d binders
 abbrev pub is_fine : ℕ → Tree → Bool

@@ -21,15 +21,15 @@ use Rattle.lk_questions.specs.Strings.{text_to_ctor}
 use Rattle.lk_questions.specs.Literals.{ops, op_named, numeral_of, result_of}
 use Rattle.lk_questions.specs.Iota.{has_one_ctor}
 use Rattle.lk_questions.specs.Quotients.{by_quot}
-use Rattle.lk_claims.specs.Claims.{Claim}
+use Rattle.lk_rulebook.specs.Claims.{Claim}
 use Rattle.lk_written.specs.Line.{ReductionRule, chain_rule, head_rule, beta_rule, zeta_rule}
 use Rattle.lk_written.specs.Line.{delta_rule, field_rule, major_rule, k_rule, expand_rule}
 use Rattle.lk_written.specs.Line.{lift_rule, ind_rule, operation_rule, iota_rule}
-use Rattle.lk_claims.specs.Tests.{◌>>=◌, test, found}
+use Rattle.lk_questions.specs.Tests.{◌>>=◌, test, found}
 use Rattle.lk_written.specs.Premises.{as_const, Left, ends, typed, reduction, reduced, equal}
 use Rattle.lk_written.specs.Premises.{sorted, arguments_over}
 use Rattle.lk_written.specs.Typing.{comes_to}
-use Rattle.lk_claims.specs.Tests.{reads}
+use Rattle.lk_questions.specs.Tests.{reads}
 
 -- a >> c, c >> b
 abbrev pub red_chain : List Claim → Left → Tree → Tree → Option (Unit {0})
@@ -39,7 +39,7 @@ red_chain ps js a b = do
   u ← test (is_same_tree c.left a && is_same_tree d.left c.right)
   comes_to b d.right d.after
 
--- f >> g; a is f x1 .. xn
+-- f >> g; a is f x1 .. xn, n at least 1, f as the premise states it
 abbrev pub red_head : List Claim → Left → Tree → Tree → Option (Unit {0})
 red_head ps js a b = do
   f ← reduction ps js

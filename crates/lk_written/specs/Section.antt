@@ -13,9 +13,9 @@ use Rattle.lk_rulebook.specs.NumberLaws.{Law, laws_of, stated_by}
 use Rattle.lk_questions.specs.QuotientUnits.{quot_steps}
 use Rattle.lk_questions.specs.Shapes.{nat_shape}
 use Rattle.lk_questions.specs.NumberLaws.{lawful_op, def_given, held_given}
-use Rattle.lk_claims.specs.Claims.{Claim}
+use Rattle.lk_rulebook.specs.Claims.{Claim}
 use Rattle.lk_written.specs.Line.{Line, ty, rd, cv, claim_of}
-use Rattle.lk_claims.specs.Tests.{◌>>=◌, test, passes, found}
+use Rattle.lk_questions.specs.Tests.{◌>>=◌, test, passes, found}
 use Rattle.lk_written.specs.Premises.{is_fine, Left, ends, typed, equal, sorted}
 use Rattle.lk_written.specs.Typing.{type_test}
 use Rattle.lk_written.specs.Reducing.{red_test}
@@ -99,21 +99,21 @@ unit_section us n (of_block b rs) s = false
 abbrev pub section_holds : Library → ℕ → Section → Bool
 section_holds us n s = elim (slice_get us n) [ Some u ↦ unit_section us n u s | None ↦ false ]
 
--- the number of the first line that does not hold, where the first of them has number i
+-- the place of the first line that does not hold, where the first of them has place i
 abbrev pub line_at_fault : Place → List Claim → ℕ → List Line → Option ℕ
 line_at_fault w ps i [] = None
 line_at_fault w ps i (l ∷ ls) =
     if line_holds w ps l then line_at_fault w (ps ++ (claim_of l ∷ [])) (suc i) ls else Some i
 
--- else the number of the last line, which comes after them, where the names, the scan or the parts
--- are at fault
+-- else the place behind them, which is that of the line that ends the section, where the names, the
+-- scan or the parts are at fault
 abbrev pub unit_at_fault : Library → ℕ → LibraryUnit → Section → Option ℕ
 unit_at_fault us n u s = elim (line_at_fault (place_of us n []) [] 0 s.lines) [
   | Some i ↦ Some i
   | None ↦ if unit_section us n u s then None else Some (length s.lines)
 ]
 
--- the number of the first line of the section that is at fault
+-- the place of the first line of the section that is at fault, from 0 on
 abbrev pub section_at_fault : Library → ℕ → Section → Option ℕ
 section_at_fault us n s = elim (slice_get us n) [
   | Some u ↦ unit_at_fault us n u s

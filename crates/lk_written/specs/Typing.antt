@@ -12,10 +12,10 @@ use Rattle.lk_rulebook.specs.Names.{named, nat, string}
 use Rattle.lk_tree.specs.Mentions.{same_name}
 use Rattle.lk_questions.specs.Steps.{is_same_tree}
 use Rattle.lk_questions.specs.Shapes.{nat_shape, string_shape}
-use Rattle.lk_claims.specs.Claims.{Claim}
+use Rattle.lk_rulebook.specs.Claims.{Claim}
 use Rattle.lk_written.specs.Line.{TypingRule, sort_rule, local_rule, const_rule, app_rule, let_rule}
 use Rattle.lk_written.specs.Line.{lit_rule, str_rule, proj_rule, lam_rule, pi_rule}
-use Rattle.lk_claims.specs.Tests.{◌>>=◌, test, found}
+use Rattle.lk_questions.specs.Tests.{◌>>=◌, test, found}
 use Rattle.lk_written.specs.Premises.{as_const, fresh_local, Left, ends, typing, typed, reduced}
 use Rattle.lk_written.specs.Premises.{equal, to_pi, sorted, is_prop_by, arguments_over}
 
@@ -49,7 +49,7 @@ applied_type ps js F (x ∷ xs) = do
   r ← equal ps X.1 X.0 p.0.0
   applied_type ps r (opened p.0.1 x) xs
 
--- f => F; e is f x1 .. xn
+-- f => F; e is f x1 .. xn, n at least 1, f as the first premise states it
 abbrev pub type_app : List Claim → Left → Tree → Tree → Option (Unit {0})
 type_app ps js e T = do
   f ← typing ps js

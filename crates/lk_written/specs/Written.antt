@@ -15,8 +15,8 @@ use Rattle.lk_rulebook.specs.Units.{Body, as_axiom, as_def, as_thm, as_opaque, a
 use Rattle.lk_questions.specs.Shapes.{nat_shape}
 use Rattle.lk_questions.specs.QuotientUnits.{quot_steps}
 use Rattle.lk_questions.specs.NumberLaws.{lawful_op, def_given, held_given}
-use Rattle.lk_claims.specs.Tests.{found}
-use Rattle.lk_claims.specs.Claims.{Claim, types, reduces, equals, IsShaped}
+use Rattle.lk_questions.specs.Tests.{found}
+use Rattle.lk_rulebook.specs.Claims.{Claim, types, reduces, equals, IsShaped}
 use Rattle.lk_written.specs.Line.{Line}
 use Rattle.lk_written.specs.Section.{claims_by}
 

@@ -1,5 +1,0 @@
-use Rattle.lk_written.proofs.Wholes.{declaration_written}
-use Rattle.lk_written.proofs.declaration_is_written.Goals as goal
-
-pub returns : goal.returns
-returns c = λ us n d at sc h. declaration_written us n d at sc h

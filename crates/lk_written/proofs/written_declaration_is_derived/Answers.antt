@@ -1,5 +1,0 @@
-use Rattle.lk_written.proofs.Units.{unit_derived}
-use Rattle.lk_written.proofs.written_declaration_is_derived.Goals as goal
-
-pub returns : goal.returns
-returns c = λ us n s ok h. unit_derived us n s ok h
