@@ -9,3 +9,4 @@ pub mod Scan
 pub mod Member
 pub mod Lent
 pub mod Scopes
+pub mod Only

@@ -10,6 +10,7 @@ pub mod lends;
 pub mod lent;
 pub mod library;
 mod member;
+pub mod only;
 mod parameters;
 pub mod position;
 pub mod scan;

@@ -42,7 +42,11 @@ impl Model for Library {
     ghost use Rattle.lk_env.specs.Scan.{AreFlaws};
     ghost use Rattle.lk_env.specs.Budgets.{AreBudgetsIn, AreLimits};
 
-    ghost view = { λ l. record { tables = l.base; units = l.units.items; budgets = l.budgets.items } };
+    ghost view = { λ l. record {
+      tables = l.base;
+      units = l.units.items;
+      budgets = l.budgets.items;
+    } };
 
     ghost invariant = { λ l. AreUnitsIn (contents_of l.base) l.units.items
         × IsIndex (contents_of l.base) l.units.items l.cells.items

@@ -16,11 +16,6 @@ only_at w [] = None
 only_at w (rule ∷ []) = ctor_at w rule.ctor [] []
 only_at w (r ∷ s ∷ rs) = None
 
--- it is the only one, and there is none where they are not just one
-abbrev pub IsOnly : List RecursorRule → Option RecursorRule → Type 0
-IsOnly rules None = length rules ≡ 1 → ⊥
-IsOnly rules (Some rule) = rules ≡ rule ∷ []
-
 -- k is the constructor of the only rule of this recursor, and the numbers stand for it
 pub record IsOnlyOf {S R B : Type 0} (contents : S → Contents) (rest : S → R) (sight : R → Sight B)
     (s : S) (u : AppliedConstructor) (p : PlainRedex) (k : CtorApp) : Type 0 where

@@ -3,15 +3,17 @@
 ghost use Rattle.std.specs.Prelude.{◌≡◌, [], Some, IfOk, IfSome};
 ghost use Rattle.lk_rulebook.specs.Place.{Entry as PlainEntry, Recursor as PlainRecursor, a_rec};
 ghost use Rattle.lk_questions.specs.Iota.{only_ctor};
+ghost use Rattle.lk_env.specs.Only.{IsOnly};
 ghost use Rattle.lk_ask.specs.Looks.{entry_at};
 ghost use Rattle.lk_constructor.specs.Applied.{IsKnownConstructor, IsAppliedIf};
 ghost use Rattle.lk_constructor.specs.Looking.{LooksUp};
-ghost use Rattle.lk_iota.specs.OnlyRule.{only_at, IsOnly};
+ghost use Rattle.lk_iota.specs.OnlyRule.{only_at};
 
 use crate::rule::rules_of;
 use lk_ask::looks::Looks;
 use lk_constructor::{AppliedConstructor, constructor_at, look_constructor};
 use lk_env::entry::Entry;
+use lk_env::only::only;
 use lk_env::unit::RecursorRule;
 use lk_tree::rule::Rule;
 
@@ -19,9 +21,9 @@ use lk_tree::rule::Rule;
 fn only_rule(rules: &[RecursorRule]) -> Option<RecursorRule>
     ensures { IsOnly rules.now result }
 {
-    match rules {
-        [rule] => Some(*rule),
-        _ => None,
+    match only(rules) {
+        Some(rule) => Some(*rule),
+        None => None,
     }
 }
 

@@ -27,10 +27,6 @@ abbrev pub AreTwo : List Constructor → Option (Constructor × Constructor) →
 AreTwo ks None = length ks ≡ 2 → ⊥
 AreTwo ks (Some p) = ks ≡ p.0 ∷ p.1 ∷ []
 
-abbrev pub IsOnly : List Constructor → Option Constructor → Type 0
-IsOnly ks None = length ks ≡ 1 → ⊥
-IsOnly ks (Some k) = ks ≡ k ∷ []
-
 -- its only constructor is String.mk
 abbrev pub has_mk : Option (Block × BlockType) → Bool
 has_mk (Some p) = is_mk_alone p.1.ctors

@@ -14,7 +14,7 @@ ghost use Rattle.lk_ask.specs.Looks.{entry_at, IsOver};
 ghost use Rattle.lk_ask.specs.Settles.{Settles};
 ghost use Rattle.lk_lit.specs.Builtins.{builtin_name};
 ghost use Rattle.lk_lit.specs.Expansions.{expanded, expanded_text};
-ghost use Rattle.lk_lit.specs.Shapes.{IsOnly, has_mk};
+ghost use Rattle.lk_lit.specs.Shapes.{has_mk};
 
 use crate::builtin::{Builtin, is_builtin};
 use crate::characters::{characters_of, make_expansion};
@@ -22,19 +22,10 @@ use crate::given::look_builtin;
 use crate::shapes::{has_string_shape, inductive};
 use lk_ask::looks::Looks;
 use lk_env::entry::Entry;
+use lk_env::only::only;
 use lk_env::unit::Constructor;
 use lk_store::memory::NoMemory;
 use lk_tree::rule::Rule;
-
-/// The constructor, where it is the only one.
-fn only(constructors: &[Constructor]) -> Option<&Constructor>
-    ensures { IsOnly constructors.now (option_map (λ k. k.now) result) }
-{
-    match constructors {
-        [constructor] => Some(constructor),
-        _ => None,
-    }
-}
 
 /// Whether the only one of these constructors is `String.mk`.
 fn is_mk_alone<L: Looks>(looks: &L, constructors: &[Constructor]) -> bool

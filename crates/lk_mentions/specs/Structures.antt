@@ -32,11 +32,6 @@ abbrev pub unit_in : PlainKind → Option ℕ
 unit_in (a_type b t) = unit_by b t t.ctors
 unit_in _ = None
 
--- it is the only one, and there is none where they are not just one
-abbrev pub IsOnlyIn : List Constructor → Option Constructor → Type 0
-IsOnlyIn ks None = length ks ≡ 1 → ⊥
-IsOnlyIn ks (Some k) = ks ≡ k ∷ []
-
 -- the numbers stand for it
 pub record IsStructure (c : Contents) (s : Structure) (p : PlainType × Ctor) : Type 0 where
   pub inductive_in : s.inductive < length c.names

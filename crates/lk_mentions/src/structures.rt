@@ -8,13 +8,14 @@ ghost use Rattle.lk_store.specs.Store.{contents_of};
 ghost use Rattle.lk_env.specs.Units.{block_at, type_at, constructor_at, IsTypeIn, IsConstructorIn};
 ghost use Rattle.lk_env.specs.Entries.{library_entry};
 ghost use Rattle.lk_mentions.specs.Structures.{structure_in, unit_with, unit_in};
-ghost use Rattle.lk_mentions.specs.Structures.{IsOnlyIn, IsStructureIf};
+ghost use Rattle.lk_mentions.specs.Structures.{IsStructureIf};
 
 use crate::fields::has_plain_fields;
 use crate::names::names_of;
 use lk_env::entry::Entry;
 use lk_env::lends::Lends;
 use lk_env::lent::{member_of, type_of};
+use lk_env::only::only;
 use lk_env::unit::{Block, BlockType, Constructor};
 use lk_store::memory::NoMemory;
 use lk_store::node::Node;
@@ -118,16 +119,6 @@ fn unit_by<L: Lends, T: Terms>(
         Ok(Some(ty.parameters))
     } else {
         Ok(None)
-    }
-}
-
-/// The only constructor, where there is exactly one.
-fn only(constructors: &[Constructor]) -> Option<&Constructor>
-    ensures { IsOnlyIn constructors.now (option_map (λ k. k.now) result) }
-{
-    match constructors {
-        [constructor] => Some(constructor),
-        _ => None,
     }
 }
 

@@ -16,17 +16,11 @@ use Rattle.lk_env.specs.declared.unit.BlockType.{BlockType}
 use Rattle.lk_env.specs.Units.{type_at, constructor_at}
 use Rattle.lk_env.specs.Lent.{type_in}
 use Rattle.lk_quot.specs.declared.equality.EqShape.{EqShape}
-use Rattle.lk_quot.specs.Equality.{only_of, constructor_count, is_eq_shape, IsEqShapeIn}
+use Rattle.lk_quot.specs.Equality.{constructor_count, is_eq_shape, IsEqShapeIn}
 
--- the only one is all there is
-pub only_is : {X : Type 0} (xs : List X) (x : X) → Some x ≡ only_of xs → xs ≡ x ∷ []
-only_is [] x h = absurd (cc)
-only_is (y ∷ []) x h = cc
-only_is (y ∷ z ∷ xs) x h = absurd (cc)
-
-pub only_in : (n : ℕ) (xs : List ℕ) (x : ℕ) → All (λ k. k < n) xs → Some x ≡ only_of xs → x < n
-only_in n xs x known h =
-    All-head (λ k. k < n) x [] (subst (All (λ k. k < n)) (only_is xs x h) known)
+-- the only one of numbers that are below a bound
+pub only_in : (n : ℕ) (xs : List ℕ) (x : ℕ) → All (λ k. k < n) xs → xs ≡ x ∷ [] → x < n
+only_in n xs x known h = All-head (λ k. k < n) x [] (subst (All (λ k. k < n)) h known)
 
 -- as many constructors as are stored
 pub counted : (c : Contents) (ts : List BlockType)

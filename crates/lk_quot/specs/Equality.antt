@@ -8,12 +8,6 @@ use Rattle.lk_env.specs.declared.unit.BlockType.{BlockType}
 use Rattle.lk_quot.specs.declared.equality.ReflShape.{ReflShape}
 use Rattle.lk_quot.specs.declared.equality.EqShape.{EqShape}
 
--- the only one, where there is just one
-abbrev pub only_of : {X : Type 0} → List X → Option X
-only_of [] = None
-only_of (x ∷ []) = Some x
-only_of (x ∷ y ∷ xs) = None
-
 abbrev pub constructor_count : BlockType → ℕ
 constructor_count t = length t.constructors.items
 

@@ -14,7 +14,7 @@ ghost use Rattle.lk_store.specs.Store.{contents_of};
 ghost use Rattle.lk_env.specs.Units.{type_at, IsTypeIn};
 ghost use Rattle.lk_env.specs.Entries.{IsEntryIn, library_entry};
 ghost use Rattle.lk_ask.specs.Looks.{entry_at, Made, MakesTree};
-ghost use Rattle.lk_quot.specs.Equality.{only_of, constructor_count, is_refl_shape, is_eq_shape};
+ghost use Rattle.lk_quot.specs.Equality.{constructor_count, is_refl_shape, is_eq_shape};
 ghost use Rattle.lk_quot.specs.Equality.{IsReflShapeIn, IsEqShapeIn};
 
 use crate::due::eq_at;
@@ -24,6 +24,7 @@ use lk_ask::looks::Looks;
 use lk_env::entry::Entry;
 use lk_env::lends::Lends;
 use lk_env::lent::{levels_of, type_of};
+use lk_env::only::only;
 use lk_env::unit::BlockType;
 use lk_store::memory::NoMemory;
 use lk_store::node::{LevelNode, Node};
@@ -43,16 +44,6 @@ struct EqShape {
     level: u64,
     ty: u64,
     constructor: ReflShape,
-}
-
-/// The only one, where there is just one.
-fn only<X>(items: &[X]) -> Option<&X>
-    ensures { option_map (λ x. x.now) result ≡ only_of items.now }
-{
-    match items {
-        [item] => Some(item),
-        _ => None,
-    }
 }
 
 /// Whether the types of a block have just one constructor, all together.

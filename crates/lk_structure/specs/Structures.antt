@@ -18,11 +18,6 @@ abbrev pub structure_in : Kind → Option (PlainType × Ctor)
 structure_in (a_type b t) = with_one t t.ctors
 structure_in _ = None
 
--- it is the only one, and there is none where they are not just one
-abbrev pub IsOnlyIn : List Constructor → Option Constructor → Type 0
-IsOnlyIn ks None = length ks ≡ 1 → ⊥
-IsOnlyIn ks (Some k) = ks ≡ k ∷ []
-
 -- the numbers stand for it
 pub record IsStructure (l : StoredLibrary) (s : Structure)
     (p : PlainType × Ctor) : Type 0 where

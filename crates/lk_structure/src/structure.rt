@@ -8,12 +8,13 @@ ghost use Rattle.lk_env.specs.Units.{type_at, IsTypeIn};
 ghost use Rattle.lk_env.specs.Entries.{library_entry};
 ghost use Rattle.lk_env.specs.Lent.{type_in};
 ghost use Rattle.lk_env.specs.StoredLibrary.{StoredLibrary};
-ghost use Rattle.lk_structure.specs.Structures.{structure_in, IsOnlyIn, IsStructureIf};
+ghost use Rattle.lk_structure.specs.Structures.{structure_in, IsStructureIf};
 
 use lk_env::entry::{Entry, Kind};
 use lk_env::lends::Lends;
 use lk_env::lent::type_of;
-use lk_env::unit::{BlockType, Constructor};
+use lk_env::only::only;
+use lk_env::unit::BlockType;
 
 /// What is asked of a type with exactly one constructor, beside that constructor.
 #[derive(Clone, Copy)]
@@ -23,16 +24,6 @@ pub struct Structure {
     pub indices: u64,
     /// How many fields the constructor has.
     pub fields: u64,
-}
-
-/// The only constructor, where there is exactly one.
-fn only(constructors: &[Constructor]) -> Option<&Constructor>
-    ensures { IsOnlyIn constructors.now (option_map (λ k. k.now) result) }
-{
-    match constructors {
-        [constructor] => Some(constructor),
-        _ => None,
-    }
 }
 
 /// The type of this number of a block, where it has exactly one constructor.

@@ -8,7 +8,7 @@ use Rattle.lk_env.proofs.Found.{of_some}
 use Rattle.lk_ask.proofs.Entries.{entry_type}
 use Rattle.std.specs.List.{sum_by}
 use Rattle.lk_quot.specs.Equality.{constructor_count, is_eq_shape, is_refl_shape}
-use Rattle.lk_quot.proofs.EqShapes.{only_is, only_in, counted, no_type, no_refl, other_count}
+use Rattle.lk_quot.proofs.EqShapes.{only_in, counted, no_type, no_refl, other_count}
 use Rattle.lk_quot.proofs.EqShapes.{one_count}
 use Rattle.lk_quot.proofs.equality.eq_shape.Goals as goal
 
@@ -61,7 +61,7 @@ returns-clause-is g c e h =
     ∙ c.if-not-have_one_constructor.false in
     let levels : e.levels ≡ name_at base u ∷ [] =
     c.levels_of.ensures.value e h
-    ∙ ap (map (name_at base)) (only_is c.levels_of.result.now u c.in_ok-level.ensures) in
+    ∙ ap (map (name_at base)) c.in_ok-level.ensures in
     one_count e (block_at base b) (type_at base c.in_ok-block.ty.now) e.kind
     (c.in_ok-block.ensures.value e h) (name_at base u ∷ []) (tree_at base c.args.entry.stated)
     (is_refl_shape base (Some c.in_ok-constructor.constructor)) levels
