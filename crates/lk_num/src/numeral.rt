@@ -88,34 +88,3 @@ pub fn read_nat(bytes: &[u8]) -> Option<Nat>
 {
     digits(bytes)
 }
-
-#[cfg(test)]
-mod tests {
-    use super::*;
-
-    #[test]
-    fn reads_numbers(rt: HostRuntime) {
-        let greatest = Nat::Fits(340_282_366_920_938_463_463_374_607_431_768_211_455);
-        for (text, want) in [
-            ("0", Some(Nat::Fits(0))),
-            ("007", Some(Nat::Fits(7))),
-            (
-                "18446744073709551615",
-                Some(Nat::Fits(18_446_744_073_709_551_615)),
-            ),
-            (
-                "18446744073709551616",
-                Some(Nat::Fits(18_446_744_073_709_551_616)),
-            ),
-            ("340282366920938463463374607431768211455", Some(greatest)),
-            ("340282366920938463463374607431768211456", Some(Nat::Wide)),
-            ("", None),
-            ("x", None),
-            ("1 ", None),
-            ("-1", None),
-            ("99999999999999999999999999999999999999999x", None),
-        ] {
-            assert_eq!(rt; read_nat(text.as_bytes()), want, "at {text:?}");
-        }
-    }
-}

@@ -70,21 +70,3 @@ pub fn hex_pairs(alloc: Global, line: &[u8]) -> Result<Vec<u8>, HexError>
     }
     Ok(found)
 }
-
-#[cfg(test)]
-mod tests {
-    use super::*;
-    use std::test::Fail;
-
-    #[test]
-    fn pairs_of_digits(rt: HostRuntime) -> Result<(), Fail> {
-        let bytes = hex_pairs(rt.alloc(), b" 68  C3 a9 ")?;
-        assert_eq!(rt; bytes.as_slice(), [0x68, 0xc3, 0xa9].as_slice());
-        assert!(rt; hex_pairs(rt.alloc(), b"")?.is_empty());
-        for line in ["6", "C3 A", "123", "0g", "68 x", "+1"] {
-            let found = hex_pairs(rt.alloc(), line.as_bytes());
-            assert!(rt; found.is_err(), "at {line:?}");
-        }
-        Ok(())
-    }
-}
