@@ -4,3 +4,5 @@ pub mod Stacks
 pub mod Given
 pub mod Settled
 pub mod AtHead
+pub mod Comparing
+pub mod Passing

@@ -7,3 +7,4 @@ pub mod Found
 pub mod Given
 pub mod Words
 pub mod Heads
+pub mod Applied

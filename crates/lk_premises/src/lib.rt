@@ -3,6 +3,7 @@
 //! means, and constants of names that rules speak of.
 #![tactic(auto)]
 
+mod applied;
 mod claims;
 mod ends;
 mod heads;
@@ -13,6 +14,7 @@ mod sorts;
 mod spines;
 mod words;
 
+pub use applied::{are_applied, comes_to_applied, is_applied};
 pub use claims::{Claim, Relation};
 pub use ends::{are_equal, comes_to};
 pub use heads::{Headed, head_meaning};

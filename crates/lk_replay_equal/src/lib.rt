@@ -4,7 +4,6 @@
 
 mod atoms;
 mod binders;
-mod constructors;
 mod eta;
 mod levels;
 mod neutral;

@@ -13,10 +13,9 @@ ghost use Rattle.lk_premises.specs.Testing.{Tests};
 ghost use Rattle.lk_replay_equal.specs.Structures.{ReadsOn, types_read, fields_after};
 ghost use Rattle.lk_replay_equal.specs.Structures.{full_and, are_full, constructor_and};
 
-use crate::constructors::head_constructor;
 use crate::neutral::is_head_normal;
 use lk_ask::looks::Looks;
-use lk_constructor::AppliedConstructor;
+use lk_constructor::{AppliedConstructor, head_constructor};
 use lk_eta::constructor::is_full;
 use lk_eta::fields::behind_parameters;
 use lk_premises::{Claim, ended, equal, typed};

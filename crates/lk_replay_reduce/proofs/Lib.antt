@@ -1,14 +1,4 @@
 pub mod Lambdas
 pub mod Opened
-pub mod AtConstructor
-pub mod Comparing
-pub mod Passing
-pub mod FieldForms
-pub mod Applying
-pub mod RuledForms
-pub mod MajorForms
-pub mod RuleForms
-pub mod CandidateForms
-pub mod ExpansionForms
 pub mod QuotientForms
 pub mod NumberForms

@@ -25,8 +25,8 @@ use Rattle.lk_lit.specs.Operations.{named_op}
 use Rattle.lk_lit.proofs.Naming.{one_name, two_names}
 use Rattle.lk_premises.proofs.Binding.{bind_same}
 use Rattle.lk_replay_reduce.specs.Numbers.{number_read, number_is, truth_read, value_read, unary_read, binary_read, operation_read, shaped_read, entry_read}
-use Rattle.lk_replay_reduce.proofs.Comparing.{same_tree, one_tree}
-use Rattle.lk_replay_reduce.proofs.Passing.{behind}
+use Rattle.lk_premises.proofs.Comparing.{same_tree, one_tree}
+use Rattle.lk_premises.proofs.Passing.{behind}
 
 -- what the name means is looked up first
 swapped : {A B C D : Type 0} (o : Option A) (p : Option B) (q : Option C) (k : B → C → Option D) →

@@ -1,14 +1,6 @@
 pub mod Lambdas
-pub mod Spines
 pub mod Openings
 pub mod Unfolding
-pub mod Fields
-pub mod Fronts
-pub mod Recursors
-pub mod Majors
-pub mod Rules
-pub mod Candidates
-pub mod Expansions
 pub mod Applications
 pub mod Quotients
 pub mod Operations

@@ -6,7 +6,7 @@ use Rattle.lk_rulebook.specs.Place.{Entry}
 use Rattle.lk_questions.specs.Steps.{value_of}
 use Rattle.lk_questions.specs.Tests.{◌>>=◌, test}
 use Rattle.lk_written.specs.Premises.{Left}
-use Rattle.lk_replay_reduce.specs.Spines.{applied_to}
+use Rattle.lk_premises.specs.Applied.{applied_to}
 
 -- b is the value v of these level parameters at these levels, as many, with the arguments of a
 abbrev pub unfolds_to : Left → List Name → List Level → Tree → Tree → Tree → Option (Unit {0})

@@ -6,10 +6,9 @@ ghost use Rattle.lk_written.specs.Reducing.{red_chain, red_head};
 ghost use Rattle.lk_store.specs.Contents.{tree_at};
 ghost use Rattle.lk_premises.specs.Claims.{claims_at, AreClaimsIn};
 ghost use Rattle.lk_premises.specs.Reading.{stated_at};
-ghost use Rattle.lk_replay_reduce.specs.Spines.{head_after};
+ghost use Rattle.lk_premises.specs.Applied.{head_after};
 
-use crate::spines::are_applied;
-use lk_premises::{Claim, Relation, Stated, comes_to, ended, next_stated, same_tree};
+use lk_premises::{Claim, Relation, Stated, are_applied, comes_to, ended, next_stated, same_tree};
 use lk_store::terms::Terms;
 
 /// A line of one reduction after another.
@@ -34,7 +33,7 @@ pub fn test_chain<T: Terms>(terms: &T, claims: &[Claim], left: &[u32], a: u64, b
 }
 
 /// Whether two trees are those of this premise, applied to the same arguments, and no premise is left.
-#[tactic(auto, using(crate::proofs::Comparing::heads_are))]
+#[tactic(auto, using(lk_premises::proofs::Comparing::heads_are))]
 fn is_after<T: Terms>(terms: &T, step: Stated<'_>, a: u64, b: u64) -> bool
     requires left_in { step.left < length (T.contents terms.now).trees }
     requires right_in { step.right < length (T.contents terms.now).trees }

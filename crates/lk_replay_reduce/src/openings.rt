@@ -5,13 +5,12 @@ ghost use Rattle.lk_tree.specs.Bind.{opened};
 ghost use Rattle.lk_written.specs.Reducing.{red_beta, red_zeta};
 ghost use Rattle.lk_store.specs.Contents.{tree_at};
 ghost use Rattle.lk_premises.specs.Testing.{Tests};
-ghost use Rattle.lk_replay_reduce.specs.Spines.{applied_to};
+ghost use Rattle.lk_premises.specs.Applied.{applied_to};
 ghost use Rattle.lk_replay_reduce.specs.Openings.{is_lam, beta_of};
 
 use crate::beta::beta;
-use crate::spines::comes_to_applied;
 use lk_ask::looks::Looks;
-use lk_premises::comes_to;
+use lk_premises::{comes_to, comes_to_applied};
 use lk_spine::{args, head};
 use lk_store::memory::NoMemory;
 use lk_store::node::Node;

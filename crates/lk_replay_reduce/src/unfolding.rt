@@ -12,11 +12,10 @@ ghost use Rattle.lk_ask.specs.Looks.{entry_at, IsOver};
 ghost use Rattle.lk_premises.specs.Testing.{Tests};
 ghost use Rattle.lk_replay_reduce.specs.Unfolding.{unfolds_to, unfolds};
 
-use crate::spines::comes_to_applied;
 use lk_ask::looks::Looks;
 use lk_env::entry::{Entry, Kind};
 use lk_env::unit::Body;
-use lk_premises::head_meaning;
+use lk_premises::{comes_to_applied, head_meaning};
 use lk_store::memory::NoMemory;
 
 /// The value that a constant is unfolded by.

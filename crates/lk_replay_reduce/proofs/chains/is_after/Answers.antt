@@ -3,8 +3,8 @@ use Rattle.lk_questions.specs.Tests.{passes}
 use Rattle.lk_written.specs.Premises.{ends}
 use Rattle.lk_store.specs.Contents.{tree_at}
 use Rattle.lk_premises.specs.Reading.{stated_at}
-use Rattle.lk_replay_reduce.specs.Spines.{are_headed}
-use Rattle.lk_replay_reduce.proofs.Comparing.{heads_are}
+use Rattle.lk_premises.specs.Applied.{are_headed}
+use Rattle.lk_premises.proofs.Comparing.{heads_are}
 use Rattle.lk_replay_reduce.proofs.chains.is_after.Goals as goal
 
 pub returns-then-ended : goal.returns-then-ended

@@ -7,7 +7,7 @@ use Rattle.lk_premises.specs.Claims.{claims_at}
 use Rattle.lk_premises.proofs.Staying.{claims_same}
 use Rattle.lk_replay_reduce.specs.Numbers.{operation_read, shaped_read}
 use Rattle.lk_replay_reduce.specs.Operations.{operation_at}
-use Rattle.lk_replay_reduce.proofs.Passing.{behind}
+use Rattle.lk_premises.proofs.Passing.{behind}
 use Rattle.lk_replay_reduce.proofs.numbers.with_operation.Goals as goal
 
 pub returns : goal.returns
