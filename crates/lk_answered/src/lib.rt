@@ -4,12 +4,11 @@
 #![tactic(auto)]
 
 ghost use Rattle.std.specs.Prelude.{◌≡◌, ℕ, true, [], Some, slice_get};
-ghost use Rattle.lk_answered.specs.Operations.{OperationsWritten};
+ghost use Rattle.lk_answered.specs.Operations.{OperationsShown};
 ghost use Rattle.lk_answered.specs.NewNames.{NamesAreNew};
 ghost use Rattle.lk_rulebook.specs.Units.{Decl, of_decl, Library, place_of};
 ghost use Rattle.lk_questions.specs.Table.{steps};
 ghost use Rattle.lk_verdict.specs.GoodUnit.{IsGoodUnit, IsClearLibrary};
-ghost use Rattle.lk_verdict.specs.Operations.{OperationsYes};
 ghost use Rattle.lk_verdict.specs.Verdict.{says_yes, plain_verdict};
 ghost use Rattle.lk_written.specs.Section.{Section, section_holds};
 ghost use Rattle.lk_written.specs.Written.{KeepsNumerals};
@@ -28,11 +27,9 @@ pub fn new_names_keep_numerals()
     ensures { (us : Library) (n : ℕ) → NamesAreNew us n → KeepsNumerals (place_of us n []) }
 {}
 
-/// A unit with a section that holds is good, where all the units before it that give an operation on
-/// numbers with laws have sections that hold too, or all of them are answered yes.
+/// A unit with a section that holds is good, where each unit before it that gives an operation on
+/// numbers with laws has a section that holds too, or is answered yes.
 pub fn written_unit_is_good()
-    ensures written { (us : Library) (n : ℕ) (s : Section) → IsClearLibrary us
-        → OperationsWritten us n → section_holds us n s ≡ true → IsGoodUnit us n }
-    ensures answered { (us : Library) (n : ℕ) (s : Section) → IsClearLibrary us
-        → OperationsYes steps us n → section_holds us n s ≡ true → IsGoodUnit us n }
+    ensures { (us : Library) (n : ℕ) (s : Section) → IsClearLibrary us → OperationsShown us n
+        → section_holds us n s ≡ true → IsGoodUnit us n }
 {}

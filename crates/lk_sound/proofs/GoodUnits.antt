@@ -49,7 +49,7 @@ derived table sound us n budget (of_block b rs) ok cl at sc e =
     yes_answer (plain_whole table us n b rs budget) (λ v c t. NestedDerived (place_of us n) b rs v.0) (yes_whole table sound us n b rs budget ok cl sc.names st (block_clear b rs (clear_at us n (of_block b rs) cl at).trees)) e in
     either_block us n b rs a.value.0 st a.has a.has.larger.auxs refl
 
-good_at : (table : Table) → IsSoundTable table → (us : Library) (n budget : ℕ) → IsLawfulPlace (place_of us n []) → IsClearLibrary us → plain_verdict table us n budget ≡ says_yes → IsGoodUnit us n
+pub good_at : (table : Table) → IsSoundTable table → (us : Library) (n budget : ℕ) → IsLawfulPlace (place_of us n []) → IsClearLibrary us → plain_verdict table us n budget ≡ says_yes → IsGoodUnit us n
 good_at table sound us n budget lawful cl h =
     let a : (u : LibraryUnit) × (slice_get us n ≡ Some u) × (verdict_of table us n u budget ≡ says_yes) = yes_of table us n budget (slice_get us n) h in
     let s : (scan_of us n a.0 ≡ None) × (questions_of table us n a.0 budget ≡ says_yes) = scanned_yes (scan_of us n a.0) (questions_of table us n a.0 budget) a.2 in
