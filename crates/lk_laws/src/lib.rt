@@ -3,13 +3,13 @@
 #![tactic(auto)]
 
 mod asking;
-mod constant;
+pub mod constant;
 pub mod definition;
 mod given;
 pub mod needs;
-mod operation;
-mod sides;
-mod table;
+pub mod operation;
+pub mod sides;
+pub mod table;
 
 pub use definition::check_definition;
-pub use needs::{Laws, Needed, is_given};
+pub use needs::{Laws, Needed, is_given, look_needed};

@@ -38,8 +38,8 @@ pub trait Laws: Asks {
             result };
 }
 
-/// What laws rest on, looked up: it is so, or this rule refuses it.
-fn met<L: Looks>(looks: &mut L, needed: Needed) -> Result<Result<(), Rule>, NoMemory>
+/// What laws rest on, looked up: it is so, or this rule refuses it. Nothing is asked.
+pub fn look_needed<L: Looks>(looks: &mut L, needed: Needed) -> Result<Result<(), Rule>, NoMemory>
     ensures { Meets L.contents L.rest L.sight looks.old looks.new result (needed_steps needed) }
 {
     match needed {
@@ -56,7 +56,7 @@ pub fn is_given<L: Looks>(looks: &mut L, needed: Needed) -> Result<(), Stop>
     ensures outcome { IsMet (settle (L.sight (L.rest looks.old)).basis.place None
         (needed_steps needed)) result }
 {
-    match met(looks, needed)? {
+    match look_needed(looks, needed)? {
         Ok(_) => Ok(()),
         Err(rule) => Err(Stop::No(rule)),
     }

@@ -38,7 +38,7 @@ pub(crate) fn word_of(op: LawfulOp) -> &'static [u8]
 }
 
 /// The operation by which the laws of another one are stated, which a definition has to give.
-pub(crate) fn stated_by(op: LawfulOp) -> Option<LawfulOp>
+pub fn stated_by(op: LawfulOp) -> Option<LawfulOp>
     ensures { option_map op_at result ≡ stated_by (op_at op) }
 {
     match op {
@@ -101,7 +101,7 @@ fn is_named<T: Terms>(terms: &T, name: u64, op: LawfulOp) -> bool
 }
 
 /// The operation with laws that has this name.
-pub(crate) fn operation_named<T: Terms>(terms: &T, name: u64) -> Option<LawfulOp>
+pub fn operation_named<T: Terms>(terms: &T, name: u64) -> Option<LawfulOp>
     requires { name < length (T.contents terms.now).names }
     ensures { option_map op_at result ≡ lawful_op (name_at (T.contents terms.now) name) }
 {

@@ -14,7 +14,7 @@ use std::alloc::Global;
 
 /// A number in a law: one of the two of which nothing is known, 0, 1, or the successor of one of the two.
 #[derive(Clone, Copy)]
-pub(crate) enum Number {
+pub enum Number {
     X,
     Y,
     Zero,
@@ -25,7 +25,7 @@ pub(crate) enum Number {
 
 /// A side of a law.
 #[derive(Clone, Copy)]
-pub(crate) enum Side {
+pub enum Side {
     Plain(Number),
     /// A truth value.
     Truth(Constant),
@@ -171,7 +171,7 @@ fn before<T: Terms>(alloc: Global, terms: &mut T, number: Number) -> Result<u64,
 }
 
 /// The term that a side is of this value.
-pub(crate) fn make_side<T: Terms>(
+pub fn make_side<T: Terms>(
     alloc: Global,
     terms: &mut T,
     side: Side,

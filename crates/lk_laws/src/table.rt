@@ -12,7 +12,7 @@ use crate::sides::{Number, Side};
 
 /// Two sides that have to be equal, and the built-in name in them, beside those of `Nat` itself, that has to be given.
 #[derive(Clone, Copy)]
-pub(crate) struct Law {
+pub struct Law {
     pub holds: Option<Constant>,
     pub left: Side,
     pub right: Side,
@@ -127,7 +127,7 @@ const BLE: &[Law] = &[
 ];
 
 /// The laws of an operation.
-pub(crate) fn laws_of(op: LawfulOp) -> &'static [Law]
+pub fn laws_of(op: LawfulOp) -> &'static [Law]
     ensures { (v : Tree) → map (law_at v) result.now ≡ laws_of (op_at op) v }
 {
     match op {
