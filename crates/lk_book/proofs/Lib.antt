@@ -7,3 +7,5 @@ pub mod Kept
 pub mod Spelled
 pub mod Libraries
 pub mod Parted
+pub mod Overs
+pub mod LibraryLines

@@ -1,4 +1,6 @@
 pub mod Course
+pub mod Courses
 pub mod File
+pub mod Limited
 pub mod Passing
 pub mod Reading

@@ -16,10 +16,8 @@ use Rattle.lk_lines.specs.Limits.{limits}
 use Rattle.lk_units.specs.Held.{Holds}
 use Rattle.lk_units.specs.declared.assembler.Assembler.{Assembler}
 use Rattle.lk_lines.specs.declared.tags.Dialect.{Dialect}
-use Rattle.lk_book.specs.Course.{Course, begin_in}
+use Rattle.lk_book.specs.Course.{Course}
 use Rattle.lk_book.specs.File.{Export, export_at, has_more, course_in, rounds_of}
-use Rattle.lk_book.specs.Passing.{Fails, Passes}
-use Rattle.lk_book.specs.declared.reader.Reader.{Reader}
 use Rattle.lk_book.specs.declared.rounds.Rounds.{Rounds}
 use Rattle.lk_book.specs.declared.error.ReadError.{ReadError}
 use Rattle.lk_book.specs.declared.error.ReadError.TheVariants as errors
@@ -72,12 +70,6 @@ TellsOpen errors.NoMemory said = Unit {0}
 TellsOpen errors.ReadFault said = ⊥
 TellsOpen (errors.Fault f) said = said ≡ Err f
 
--- behind its last line the assembler holds what the line makes of the course, or the line's fault
--- is told
-abbrev pub Ends : Contents → Result Assembler LineError → Result Course Fault → Type 0
-Ends store (Ok a) said = (c : Course) × (said ≡ Ok c) × Holds a store c.state
-Ends store (Err e) said = Fails e said
-
 -- some bytes were taken from the front
 abbrev pub ConsumesSome : Option (List ℕ) → Option (List ℕ) → Type 0
 ConsumesSome old new = (bytes : List ℕ) × Consumes old new bytes
@@ -94,19 +86,3 @@ pub record Skips (old now : Option (List ℕ)) (length_old length_now : ℕ) : T
   pub consumed : Consumes old now bytes
   pub unfinished : HasNoLineFeed bytes
   pub counted : length_now ≡ length_old + length bytes
-
--- The bytes that were taken from the front led the reader to what it stands for, but for the last
--- ones of them.
-pub record Remains (dialect : Dialect) (r : Reader) (store : Contents) (held : List ℕ)
-    (old now : Option (List ℕ)) : Type 0 where
-  pub bytes : List ℕ
-  pub consumed : Consumes old now bytes
-  pub passes : Passes r store (begin_in dialect) bytes held
-
--- the fault of a file that a source had at first; a failed read and want of memory tell nothing of
--- it
-abbrev pub TellsFault : Dialect → ReadError → Option (List ℕ) → Type 0
-TellsFault dialect errors.NoMemory old = Unit {0}
-TellsFault dialect errors.ReadFault old = Unit {0}
-TellsFault dialect (errors.Fault f) old =
-    (bytes : List ℕ) → old ≡ Some bytes → course_in dialect bytes ≡ Err f

@@ -8,23 +8,22 @@ ghost use Rattle.lk_port.specs.Bytes.{Rose};
 ghost use Rattle.lk_token.specs.Lines.{HasNoLineFeed};
 ghost use Rattle.lk_units.specs.State.{State};
 ghost use Rattle.lk_units.specs.Held.{IsKnown, Holds};
-ghost use Rattle.lk_book.specs.Course.{Course, step};
 ghost use Rattle.lk_env.specs.Units.{library_at, AreUnitsIn};
 ghost use Rattle.lk_members.specs.Stored.{lines_of, AreLinesIn};
 ghost use Rattle.lk_members.specs.Finishing.{IsFaultless};
 ghost use Rattle.lk_members.specs.Indices.{IsIndexed};
 ghost use Rattle.lk_members.specs.Plain.{lines_at};
-ghost use Rattle.lk_book.specs.File.{course_in, units_stated, export_stated, export_of};
-ghost use Rattle.lk_book.specs.Passing.{Stands, IsCounted};
-ghost use Rattle.lk_book.specs.Reading.{Remains, HoldsSome, ConsumesSome, TellsFault, TellsOpen, Ends, Reads, ReadsLibrary};
+ghost use Rattle.lk_book.specs.File.{lines_of as file_lines, course_in, units_stated, export_stated, export_of};
+ghost use Rattle.lk_book.specs.Courses.{over, IsCounted, Remains, TellsFault, ReadsLines, ReadsSome};
+ghost use Rattle.lk_book.specs.Reading.{HoldsSome, ConsumesSome, TellsOpen, Reads, ReadsLibrary};
 
 use crate::lines::take_piece;
 use crate::long::long_line;
-use crate::{MAX_LINE, PIECE, ReadError, Reader};
+use crate::{LineReader, MAX_LINE, PIECE, ReadError, Reader};
 use lk_env::budget::Budget;
 use lk_env::library::Library;
 use lk_env::unit::Unit;
-use lk_lines::{Dialect, Fault, LineError, Word};
+use lk_lines::{Dialect, Fault, Word};
 use lk_members::Members;
 use lk_members::finish::FinishError;
 use lk_port::Source;
@@ -45,35 +44,38 @@ fn room_for_piece(alloc: Global) -> Result<Vec<u8>, AllocError>
 /// Reads a piece of the source and takes the lines that end in it. The first bytes of a line that goes on are held.
 /// It answers whether the source goes on.
 #[tactic(auto, using(lk_units::proofs::Holding::unchanged))]
-fn read_piece<T: Terms, S: Source>(
+fn read_piece<T: Terms, S: Source, R: LineReader<T>>(
     alloc: Global,
     store: &mut T,
     source: &mut S,
-    reader: &mut Reader,
+    reader: &mut R,
     held: &mut Vec<u8>,
     piece: &mut [u8],
 ) -> Result<bool, ReadError>
     requires piece { length piece.old ≡ 2 ^ 16 }
-    requires known { IsKnown reader.old.assembler (T.contents store.old) }
-    requires counted { IsCounted reader.old }
+    requires known { R.is_known reader.old (T.contents store.old) }
+    requires counted { IsCounted (R.number reader.old) (R.before reader.old) }
     requires unfinished { HasNoLineFeed held.old.items }
     requires short { length held.old.items ≤ 2 ^ 24 }
     ensures keeps { Extends (T.contents store.old) (T.contents store.new) }
     ensures rest { T.rest store.new ≡ T.rest store.old }
-    ensures known { OnOk result (IsKnown reader.new.assembler (T.contents store.new)) }
-    ensures counted { OnOk result (IsCounted reader.new) }
+    ensures known { OnOk result (R.is_known reader.new (T.contents store.new)) }
+    ensures counted { OnOk result (IsCounted (R.number reader.new) (R.before reader.new)) }
     ensures unfinished { OnOk result (HasNoLineFeed held.new.items) }
     ensures short { OnOk result (length held.new.items ≤ 2 ^ 24) }
     ensures progress { IfOk result (λ more. more ≡ true
-        → reader.old.before + length held.old.items < reader.new.before + length held.new.items) }
+        → R.before reader.old + length held.old.items
+        < R.before reader.new + length held.new.items) }
 
-    ensures remains { (d : Dialect) (old : Option (List ℕ))
-        → Remains d reader.old (T.contents store.old) held.old.items old (S.left source.old)
-        → OnOk result (Remains d reader.new (T.contents store.new) held.new.items old
-        (S.left source.new)) }
-    ensures tells { (d : Dialect) (old : Option (List ℕ))
-        → Remains d reader.old (T.contents store.old) held.old.items old (S.left source.old)
-        → IfErr result (λ e. TellsFault d e old) }
+    ensures remains { (c : R.Course) (old : Option (List ℕ))
+        → Remains R.step (R.stands reader.old (T.contents store.old)) c held.old.items old
+        (S.left source.old)
+        → OnOk result (Remains R.step (R.stands reader.new (T.contents store.new)) c
+        held.new.items old (S.left source.new)) }
+    ensures tells { (c : R.Course) (old : Option (List ℕ))
+        → Remains R.step (R.stands reader.old (T.contents store.old)) c held.old.items old
+        (S.left source.old)
+        → IfErr result (λ e. TellsFault R.step c e old) }
 
     ensures front { ConsumesSome (S.left source.old) (S.left source.new) }
     ensures end { IfOk result (λ more. more ≡ false → IsAtEnd (S.left source.new)) }
@@ -88,9 +90,9 @@ fn read_piece<T: Terms, S: Source>(
     }
     take_piece(alloc, store, reader, held, &piece[..read])?;
     if held.len() > MAX_LINE {
-        let word = long_line(source, piece, reader.before, held.len() as u64)?;
+        let word = long_line(source, piece, reader.bytes_taken(), held.len() as u64)?;
         return Err(ReadError::Fault(Fault {
-            line: reader.number + 1,
+            line: reader.lines_taken() + 1,
             word,
         }));
     }
@@ -99,30 +101,32 @@ fn read_piece<T: Terms, S: Source>(
 
 /// Reads the source to its end and takes all lines but the last, whose bytes are held.
 #[tactic(auto, using(lk_units::proofs::Holding::unchanged))]
-fn read_pieces<T: Terms, S: Source>(
+fn read_pieces<T: Terms, S: Source, R: LineReader<T>>(
     alloc: Global,
     store: &mut T,
     source: &mut S,
-    reader: &mut Reader,
+    reader: &mut R,
     held: &mut Vec<u8>,
 ) -> Result<(), ReadError>
-    requires known { IsKnown reader.old.assembler (T.contents store.old) }
-    requires counted { IsCounted reader.old }
+    requires known { R.is_known reader.old (T.contents store.old) }
+    requires counted { IsCounted (R.number reader.old) (R.before reader.old) }
     requires unfinished { HasNoLineFeed held.old.items }
     requires short { length held.old.items ≤ 2 ^ 24 }
     ensures keeps { Extends (T.contents store.old) (T.contents store.new) }
     ensures rest { T.rest store.new ≡ T.rest store.old }
-    ensures known { OnOk result (IsKnown reader.new.assembler (T.contents store.new)) }
-    ensures counted { OnOk result (IsCounted reader.new) }
+    ensures known { OnOk result (R.is_known reader.new (T.contents store.new)) }
+    ensures counted { OnOk result (IsCounted (R.number reader.new) (R.before reader.new)) }
     ensures unfinished { OnOk result (HasNoLineFeed held.new.items) }
 
-    ensures remains { (d : Dialect) (old : Option (List ℕ))
-        → Remains d reader.old (T.contents store.old) held.old.items old (S.left source.old)
-        → OnOk result (Remains d reader.new (T.contents store.new) held.new.items old
-        (S.left source.new)) }
-    ensures tells { (d : Dialect) (old : Option (List ℕ))
-        → Remains d reader.old (T.contents store.old) held.old.items old (S.left source.old)
-        → IfErr result (λ e. TellsFault d e old) }
+    ensures remains { (c : R.Course) (old : Option (List ℕ))
+        → Remains R.step (R.stands reader.old (T.contents store.old)) c held.old.items old
+        (S.left source.old)
+        → OnOk result (Remains R.step (R.stands reader.new (T.contents store.new)) c
+        held.new.items old (S.left source.new)) }
+    ensures tells { (c : R.Course) (old : Option (List ℕ))
+        → Remains R.step (R.stands reader.old (T.contents store.old)) c held.old.items old
+        (S.left source.old)
+        → IfErr result (λ e. TellsFault R.step c e old) }
 
     ensures front { ConsumesSome (S.left source.old) (S.left source.new) }
     ensures end { OnOk result (IsAtEnd (S.left source.new)) }
@@ -142,24 +146,47 @@ fn read_pieces<T: Terms, S: Source>(
     }
 }
 
-/// Takes the last line, which no line feed ends.
-fn take_last<T: Terms>(
+/// Reads the lines of a source to its end, and has them taken one after another; or tells the fault of the first faulty
+/// line.
+pub fn read_lines<T: Terms, S: Source, R: LineReader<T>>(
     alloc: Global,
     store: &mut T,
-    mut reader: Reader,
-    line: &[u8],
-) -> Result<Assembler, LineError>
-    requires known { IsKnown reader.assembler (T.contents store.old) }
-    requires counted { IsCounted reader }
-    requires whole { HasNoLineFeed line.now }
+    source: &mut S,
+    reader: &mut R,
+) -> Result<(), ReadError>
+    requires known { R.is_known reader.old (T.contents store.old) }
+    requires counted { IsCounted (R.number reader.old) (R.before reader.old) }
     ensures keeps { Extends (T.contents store.old) (T.contents store.new) }
     ensures rest { T.rest store.new ≡ T.rest store.old }
-    ensures known { IfOk result (λ a. IsKnown a (T.contents store.new)) }
-    ensures ends { (c : Course) → Stands reader (T.contents store.old) c
-        → Ends (T.contents store.new) result (step c false line.now) }
+    ensures known { OnOk result (R.is_known reader.new (T.contents store.new)) }
+
+    // Where the source tells its bytes, the answer is what their lines come to.
+    ensures reads { (c : R.Course) (bytes : List ℕ) → R.stands reader.old (T.contents store.old) c
+        → S.left source.old ≡ Some bytes → ReadsLines (R.stands reader.new (T.contents store.new))
+        (over R.step c (file_lines bytes)) result }
+
+    // Also where it does not, it is what the lines of some file come to.
+    ensures some { (c : R.Course) → R.stands reader.old (T.contents store.old) c
+        → OnOk result (ReadsSome R.step (R.stands reader.new (T.contents store.new)) c) }
+
+    ensures front { ConsumesSome (S.left source.old) (S.left source.new) }
+    ensures end { OnOk result (IsAtEnd (S.left source.new)) }
+    ensures fault { result ≡ Err ReadError.ReadFault
+        → Rose (S.faults source.old) (S.faults source.new) }
+    ensures no_fault { result ≢ Err ReadError.ReadFault → S.faults source.new
+        ≡ S.faults source.old }
 {
-    reader.take_line(alloc, store, false, line)?;
-    Ok(reader.assembler)
+    let mut held = Vec::new(alloc);
+    read_pieces(alloc, store, source, reader, &mut held)?;
+    reader.take(alloc, store, false, &held)?;
+    Ok(())
+}
+
+/// What a reader gathered.
+fn assembler_of(reader: Reader) -> Assembler
+    ensures { result ≡ reader.assembler }
+{
+    reader.assembler
 }
 
 /// Reads the lines of a file, from a source and into a store; or tells the fault of the first faulty line.
@@ -169,6 +196,7 @@ pub(crate) fn read_all_lines<T: Terms, S: Source>(
     store: &mut T,
     source: &mut S,
 ) -> Result<Assembler, ReadError>
+    requires library { dialect ≢ Dialect.Trace }
     ensures keeps { Extends (T.contents store.old) (T.contents store.new) }
     ensures rest { T.rest store.new ≡ T.rest store.old }
     ensures known { IfOk result (λ a. IsKnown a (T.contents store.new)) }
@@ -198,10 +226,8 @@ pub(crate) fn read_all_lines<T: Terms, S: Source>(
         number: 0,
         before: 0,
     };
-    let mut held = Vec::new(alloc);
-    read_pieces(alloc, store, source, &mut reader, &mut held)?;
-    let assembler = take_last(alloc, store, reader, &held)?;
-    Ok(assembler)
+    read_lines(alloc, store, source, &mut reader)?;
+    Ok(assembler_of(reader))
 }
 
 /// The units of the lines that were read, or the first line of a block that is open.
@@ -241,7 +267,7 @@ fn lines_and_budgets(assembler: Assembler) -> (Members, Vec<Budget>)
 }
 
 /// The library of the lines that were read.
-fn library_of(
+pub fn library_of(
     alloc: Global,
     mut store: BaseStore,
     assembler: Assembler,
@@ -249,6 +275,7 @@ fn library_of(
     requires { IsKnown assembler (contents_of store) }
     ensures library { (s : State) → Holds assembler (contents_of store) s
         → ReadsLibrary (export_stated s) result }
+    ensures tables { IfOk result (λ l. l.tables ≡ store) }
     ensures read { result ≢ Err ReadError.ReadFault }
 {
     store.freeze();

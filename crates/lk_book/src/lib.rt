@@ -5,15 +5,17 @@
 mod error;
 mod file;
 mod laws;
+mod line_reader;
 mod lines;
 mod long;
 mod reader;
 mod rounds;
 
 pub use error::ReadError;
-pub use file::read_library;
+pub use file::{library_of, read_library, read_lines};
 pub use laws::{files_are_spelled, rounds_are_spelled};
-pub use reader::Reader;
+pub use line_reader::LineReader;
+pub use reader::{Reader, at_line};
 pub use rounds::{Rounds, read_rounds};
 
 /// A file has at most this many bytes.

@@ -2,11 +2,9 @@
 ghost use Rattle.std.specs.Prelude.{◌≡◌, ◌+◌, ◌∷◌, ◌++◌, ℕ, List, length, MatchOption, IfOk, IfErr, OnOk};
 ghost use Rattle.lk_store.specs.Contents.{Extends};
 ghost use Rattle.lk_token.specs.Lines.{HasNoLineFeed};
-ghost use Rattle.lk_units.specs.Held.{IsKnown};
-ghost use Rattle.lk_book.specs.Course.{Course};
-ghost use Rattle.lk_book.specs.Passing.{Stands, IsCounted, Passes, Stops};
+ghost use Rattle.lk_book.specs.Courses.{IsCounted, Passes, Stops};
 
-use crate::Reader;
+use crate::LineReader;
 use bstr::ByteSlice;
 use lk_lines::LineError;
 use lk_store::terms::Terms;
@@ -24,29 +22,30 @@ pub fn cut(bytes: &[u8]) -> Option<(&[u8], &[u8])>
 
 /// Takes each line of bytes that a line feed ends, and gives what is left behind the last of them.
 #[tactic(auto, using(lk_units::proofs::Holding::unchanged))]
-fn take_lines<'p, T: Terms>(
+fn take_lines<'p, T: Terms, R: LineReader<T>>(
     alloc: Global,
     store: &mut T,
-    reader: &mut Reader,
+    reader: &mut R,
     bytes: &'p [u8],
 ) -> Result<&'p [u8], LineError>
-    requires known { IsKnown reader.old.assembler (T.contents store.old) }
-    requires counted { IsCounted reader.old }
+    requires known { R.is_known reader.old (T.contents store.old) }
+    requires counted { IsCounted (R.number reader.old) (R.before reader.old) }
     ensures keeps { Extends (T.contents store.old) (T.contents store.new) }
     ensures rest { T.rest store.new ≡ T.rest store.old }
-    ensures known { OnOk result (IsKnown reader.new.assembler (T.contents store.new)) }
-    ensures counted { OnOk result (IsCounted reader.new) }
+    ensures known { OnOk result (R.is_known reader.new (T.contents store.new)) }
+    ensures counted { OnOk result (IsCounted (R.number reader.new) (R.before reader.new)) }
     ensures unfinished { IfOk result (λ rest. HasNoLineFeed rest.now) }
-    ensures length { IfOk result (λ rest. reader.new.before + length rest.now
-        ≡ reader.old.before + length bytes.now) }
-    ensures passes { (c : Course) → Stands reader.old (T.contents store.old) c
-        → IfOk result (λ rest. Passes reader.new (T.contents store.new) c bytes.now rest.now) }
-    ensures stops { (c : Course) → Stands reader.old (T.contents store.old) c
-        → IfErr result (λ e. Stops e c bytes.now) }
+    ensures length { IfOk result (λ rest. R.before reader.new + length rest.now
+        ≡ R.before reader.old + length bytes.now) }
+    ensures passes { (c : R.Course) → R.stands reader.old (T.contents store.old) c
+        → IfOk result (λ rest. Passes R.step (R.stands reader.new (T.contents store.new)) c
+        bytes.now rest.now) }
+    ensures stops { (c : R.Course) → R.stands reader.old (T.contents store.old) c
+        → IfErr result (λ e. Stops R.step e c bytes.now) }
 {
     let mut rest = bytes;
     while let Some((line, more)) = cut(rest) {
-        reader.take_line(alloc, store, true, line)?;
+        reader.take(alloc, store, true, line)?;
         rest = more;
     }
     Ok(rest)
@@ -66,33 +65,33 @@ fn hold(held: &mut Vec<u8>, bytes: &[u8]) -> Result<(), LineError>
 /// Takes the line whose first bytes are held, which is ended by these bytes, and each line behind it that a line feed
 /// ends; what is left is held.
 #[tactic(auto, using(lk_units::proofs::Holding::unchanged))]
-fn take_held<T: Terms>(
+fn take_held<T: Terms, R: LineReader<T>>(
     alloc: Global,
     store: &mut T,
-    reader: &mut Reader,
+    reader: &mut R,
     held: &mut Vec<u8>,
     line: &[u8],
     more: &[u8],
 ) -> Result<(), LineError>
-    requires known { IsKnown reader.old.assembler (T.contents store.old) }
-    requires counted { IsCounted reader.old }
+    requires known { R.is_known reader.old (T.contents store.old) }
+    requires counted { IsCounted (R.number reader.old) (R.before reader.old) }
     requires held { HasNoLineFeed held.old.items }
     requires line { HasNoLineFeed line.now }
     ensures keeps { Extends (T.contents store.old) (T.contents store.new) }
     ensures rest { T.rest store.new ≡ T.rest store.old }
-    ensures known { OnOk result (IsKnown reader.new.assembler (T.contents store.new)) }
-    ensures counted { OnOk result (IsCounted reader.new) }
+    ensures known { OnOk result (R.is_known reader.new (T.contents store.new)) }
+    ensures counted { OnOk result (IsCounted (R.number reader.new) (R.before reader.new)) }
     ensures unfinished { OnOk result (HasNoLineFeed held.new.items) }
-    ensures length { OnOk result (reader.new.before + length held.new.items
-        ≡ reader.old.before + length held.old.items + length line.now + 1 + length more.now) }
-    ensures passes { (c : Course) → Stands reader.old (T.contents store.old) c
-        → OnOk result (Passes reader.new (T.contents store.new) c
+    ensures length { OnOk result (R.before reader.new + length held.new.items
+        ≡ R.before reader.old + length held.old.items + length line.now + 1 + length more.now) }
+    ensures passes { (c : R.Course) → R.stands reader.old (T.contents store.old) c
+        → OnOk result (Passes R.step (R.stands reader.new (T.contents store.new)) c
         (held.old.items ++ line.now ++ 10 ∷ more.now) held.new.items) }
-    ensures stops { (c : Course) → Stands reader.old (T.contents store.old) c
-        → IfErr result (λ e. Stops e c (held.old.items ++ line.now ++ 10 ∷ more.now)) }
+    ensures stops { (c : R.Course) → R.stands reader.old (T.contents store.old) c
+        → IfErr result (λ e. Stops R.step e c (held.old.items ++ line.now ++ 10 ∷ more.now)) }
 {
     hold(held, line)?;
-    reader.take_line(alloc, store, true, held)?;
+    reader.take(alloc, store, true, held)?;
     held.clear();
     let rest = take_lines(alloc, store, reader, more)?;
     hold(held, rest)?;
@@ -101,28 +100,28 @@ fn take_held<T: Terms>(
 
 /// Takes each line that ends in a piece of the input, of which the last bytes before it are held; what is left is held.
 #[tactic(auto, using(lk_units::proofs::Holding::unchanged))]
-pub fn take_piece<T: Terms>(
+pub fn take_piece<T: Terms, R: LineReader<T>>(
     alloc: Global,
     store: &mut T,
-    reader: &mut Reader,
+    reader: &mut R,
     held: &mut Vec<u8>,
     piece: &[u8],
 ) -> Result<(), LineError>
-    requires known { IsKnown reader.old.assembler (T.contents store.old) }
-    requires counted { IsCounted reader.old }
+    requires known { R.is_known reader.old (T.contents store.old) }
+    requires counted { IsCounted (R.number reader.old) (R.before reader.old) }
     requires held { HasNoLineFeed held.old.items }
     ensures keeps { Extends (T.contents store.old) (T.contents store.new) }
     ensures rest { T.rest store.new ≡ T.rest store.old }
-    ensures known { OnOk result (IsKnown reader.new.assembler (T.contents store.new)) }
-    ensures counted { OnOk result (IsCounted reader.new) }
+    ensures known { OnOk result (R.is_known reader.new (T.contents store.new)) }
+    ensures counted { OnOk result (IsCounted (R.number reader.new) (R.before reader.new)) }
     ensures unfinished { OnOk result (HasNoLineFeed held.new.items) }
-    ensures length { OnOk result (reader.new.before + length held.new.items
-        ≡ reader.old.before + length held.old.items + length piece.now) }
-    ensures passes { (c : Course) → Stands reader.old (T.contents store.old) c
-        → OnOk result (Passes reader.new (T.contents store.new) c
+    ensures length { OnOk result (R.before reader.new + length held.new.items
+        ≡ R.before reader.old + length held.old.items + length piece.now) }
+    ensures passes { (c : R.Course) → R.stands reader.old (T.contents store.old) c
+        → OnOk result (Passes R.step (R.stands reader.new (T.contents store.new)) c
         (held.old.items ++ piece.now) held.new.items) }
-    ensures stops { (c : Course) → Stands reader.old (T.contents store.old) c
-        → IfErr result (λ e. Stops e c (held.old.items ++ piece.now)) }
+    ensures stops { (c : R.Course) → R.stands reader.old (T.contents store.old) c
+        → IfErr result (λ e. Stops R.step e c (held.old.items ++ piece.now)) }
 {
     match cut(piece) {
         None => hold(held, piece),

@@ -17,3 +17,4 @@ pub mod Listing
 pub mod Made
 pub mod Owned
 pub mod Recursors
+pub mod Alone

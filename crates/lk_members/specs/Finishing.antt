@@ -164,6 +164,17 @@ unit_here (stored.Type head types) o = block_unit o
 unit_here (stored.Constructor k) o = block_unit o
 unit_here (stored.Recursor types r) o = block_unit o
 
+-- whether the unit that stands at a line is a declaration alone, where one does; a block may end
+-- there
+abbrev pub kind_at_end : Bool → List Bool
+kind_at_end ends = if ends then false ∷ [] else []
+
+abbrev pub kind_here : StoredMember → Bool → List Bool
+kind_here (stored.Alone d) ends = true ∷ []
+kind_here (stored.Type head types) ends = kind_at_end ends
+kind_here (stored.Constructor k) ends = kind_at_end ends
+kind_here (stored.Recursor types r) ends = kind_at_end ends
+
 -- there are units only where no line is open, and the first that is open is told; memory may be
 -- missing in either case
 abbrev pub Finishes : {A : Type 0} → Result A FinishError → Option ℕ → Type 0

@@ -1,6 +1,6 @@
 -- The units of lines without faults, none of which is open, in the order of their places: a
 -- declaration alone stands at its line, and a block at its last line of a type or a constructor.
-use Rattle.std.specs.Prelude.{Bool, false, not, List, [], ◌∷◌, ◌++◌, Option, Some, None}
+use Rattle.std.specs.Prelude.{Bool, true, false, not, List, [], ◌∷◌, ◌++◌, Option, Some, None}
 use Rattle.std.specs.Prelude.{if◌then◌else◌}
 use Rattle.std.specs.List.{list_any, flat_map}
 use Rattle.lk_members.specs.Lines.{StatedMember, alone, a_type, a_ctor, MemberLine, same_list}
@@ -63,3 +63,8 @@ module _ {X D T C R : Type 0} (same : X → X → Bool) where
 
   abbrev pub units_of : List (MemberLine X D T C R) → List (Gathered D T C R)
   units_of lines = units_from lines lines
+
+-- it is a declaration alone
+abbrev pub is_alone : {D T C R : Type 0} → Gathered D T C R → Bool
+is_alone (one d) = true
+is_alone (block ts rs) = false

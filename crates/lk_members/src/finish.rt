@@ -131,7 +131,7 @@ impl Members {
 
     /// For each line, from the last to the first, the block that ends there. The blocks that were met are known by the
     /// first names of their lists, since a name stands in the list of one block alone.
-    fn blocks_ended(&self, alloc: Global) -> Result<Ends, NoMemory>
+    pub(crate) fn blocks_ended(&self, alloc: Global) -> Result<Ends, NoMemory>
         requires indexed { IsIndexed self.now }
         requires faultless { IsFaultless (lines_of self.now.lines.items) }
         ensures { IfOk result (λ ends. AreEnded self.now.lines.items (lines_of self.now.lines.items)

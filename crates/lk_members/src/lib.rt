@@ -6,6 +6,7 @@ mod blocks;
 mod ends;
 pub mod fault;
 pub mod finish;
+mod kinds;
 pub mod line;
 mod lists;
 pub mod members;

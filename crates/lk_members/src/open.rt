@@ -132,7 +132,7 @@ impl Members {
     }
 
     /// The number of the first line that is open.
-    pub(crate) fn first_open(&self, alloc: Global) -> Result<Option<u64>, NoMemory>
+    pub fn first_open(&self, alloc: Global) -> Result<Option<u64>, NoMemory>
         requires indexed { IsIndexed self.now }
         requires faultless { IsFaultless (lines_of self.now.lines.items) }
         ensures { IfOk result (λ r. r ≡ first_open nat_eq (lines_of self.now.lines.items)

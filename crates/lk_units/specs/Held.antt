@@ -14,6 +14,7 @@ use Rattle.lk_members.specs.Finishing.{IsFaultless}
 use Rattle.lk_members.specs.Plain.{lines_at}
 use Rattle.lk_members.specs.Indices.{IsIndexed}
 use Rattle.lk_members.specs.declared.members.Members.{Members}
+use Rattle.lk_lines.specs.FileNumbers.{NumberView}
 use Rattle.lk_lines.specs.declared.words.Word.{Word}
 use Rattle.lk_lines.specs.declared.words.Word.TheVariants.{IndexTaken}
 use Rattle.lk_units.specs.Numbering.{entry}
@@ -119,13 +120,13 @@ abbrev pub Follows : Assembler → Contents → Result (Unit {0}) TakeError → 
 Follows a c (Ok u) said = (s : State) × (said ≡ Ok s) × Holds a c s
 Follows a c (Err e) said = Fails e said
 
-abbrev pub counts_of : RecursorLine ℕ → Counts
-counts_of line =
+abbrev pub counts_of : {N : Type 0} → NumberView N → RecursorLine N → Counts
+counts_of view line =
     record {
-      parameters = line.parameter_count;
-      indices = line.index_count;
-      motives = line.motive_count;
-      minors = line.minor_count;
+      parameters = view.value line.parameter_count;
+      indices = view.value line.index_count;
+      motives = view.value line.motive_count;
+      minors = view.value line.minor_count;
       k = line.k;
     }
 

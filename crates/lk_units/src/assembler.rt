@@ -116,7 +116,7 @@ impl Assembler {
     }
 
     /// Counts an item that was taken.
-    pub(crate) fn counts(&mut self) -> Result<(), TakeError>
+    pub fn counts(&mut self) -> Result<(), TakeError>
         ensures known { (c : Contents) → IsKnown self.old c → IsKnown self.new c }
         ensures follows { (c : Contents) (s : State) → Holds self.old c s
             → Follows self.new c result (counted s) }

@@ -12,7 +12,7 @@ ghost use Rattle.lk_units.specs.Held.{IsKnown, Holds, Makes, binder_of, pair_of,
 
 use crate::{Assembler, Binder, LevelPair, TakeError, ValueUse};
 use lk_env::unit::{Body, Declaration, RecursorRule};
-use lk_lines::Word;
+use lk_lines::{FileNumber, Word};
 use lk_members::line::StoredMember;
 use lk_num::Nat;
 use lk_store::memory::NoMemory;
@@ -91,13 +91,13 @@ fn make<T: Terms>(store: &mut T, node: Node) -> Result<u64, TakeError>
 }
 
 /// A variable.
-pub(crate) fn variable<T: Terms>(store: &mut T, index: u32) -> Result<u64, TakeError>
+pub(crate) fn variable<T: Terms>(store: &mut T, index: u64) -> Result<u64, TakeError>
     ensures keeps { Extends (T.contents store.old) (T.contents store.new) }
     ensures rest { T.rest store.new ≡ T.rest store.old }
     ensures known { IfOk result (λ e. e < length (T.contents store.new).trees) }
     ensures made { Makes (tree_at (T.contents store.new)) result (Ok (var index)) }
 {
-    make(store, Node::Var(u64::from(index)))
+    make(store, Node::Var(index))
 }
 
 /// A number literal. All above 2^128 - 1 are one term.
@@ -194,7 +194,7 @@ fn shared(
 impl Assembler {
     /// The sort of a level.
     #[tactic(auto, using(crate::proofs::Lines::looked_up, crate::proofs::Holding::unchanged))]
-    pub(crate) fn sort<T: Terms>(&self, store: &mut T, level: u32) -> Result<u64, TakeError>
+    pub(crate) fn sort<T: Terms>(&self, store: &mut T, level: u64) -> Result<u64, TakeError>
         requires { IsKnown self.now (T.contents store.old) }
         ensures keeps { Extends (T.contents store.old) (T.contents store.new) }
         ensures rest { T.rest store.new ≡ T.rest store.old }
@@ -208,19 +208,20 @@ impl Assembler {
 
     /// A constant at the levels under several numbers.
     #[tactic(auto, using(crate::proofs::Lines::looked_up, crate::proofs::Holding::unchanged))]
-    pub(crate) fn constant<T: Terms>(
+    pub(crate) fn constant<T: Terms, N: FileNumber>(
         &self,
         alloc: Global,
         store: &mut T,
-        name: u32,
-        levels: &[u32],
+        name: u64,
+        levels: &[N],
     ) -> Result<u64, TakeError>
         requires { IsKnown self.now (T.contents store.old) }
         ensures keeps { Extends (T.contents store.old) (T.contents store.new) }
         ensures rest { T.rest store.new ≡ T.rest store.old }
         ensures known { IfOk result (λ e. e < length (T.contents store.new).trees) }
         ensures made { (s : State) → Holds self.now (T.contents store.old) s
-            → Makes (tree_at (T.contents store.new)) result (constant_tree s name levels.now) }
+            → Makes (tree_at (T.contents store.new)) result
+            (constant_tree s name (N.view.values levels.now)) }
     {
         let name = self.by_name.known(name)?;
         match self.by_level.find_all(alloc, levels) {
@@ -234,8 +235,8 @@ impl Assembler {
     pub(crate) fn application<T: Terms>(
         &self,
         store: &mut T,
-        function: u32,
-        argument: u32,
+        function: u64,
+        argument: u64,
     ) -> Result<u64, TakeError>
         requires { IsKnown self.now (T.contents store.old) }
         ensures keeps { Extends (T.contents store.old) (T.contents store.new) }
@@ -255,9 +256,9 @@ impl Assembler {
         &self,
         store: &mut T,
         binder: Binder,
-        name: u32,
-        domain: u32,
-        body: u32,
+        name: u64,
+        domain: u64,
+        body: u64,
     ) -> Result<u64, TakeError>
         requires { IsKnown self.now (T.contents store.old) }
         ensures keeps { Extends (T.contents store.old) (T.contents store.new) }
@@ -278,10 +279,10 @@ impl Assembler {
     pub(crate) fn let_in<T: Terms>(
         &self,
         store: &mut T,
-        name: u32,
-        domain: u32,
-        value: u32,
-        body: u32,
+        name: u64,
+        domain: u64,
+        value: u64,
+        body: u64,
     ) -> Result<u64, TakeError>
         requires { IsKnown self.now (T.contents store.old) }
         ensures keeps { Extends (T.contents store.old) (T.contents store.new) }
@@ -302,9 +303,9 @@ impl Assembler {
     pub(crate) fn projection<T: Terms>(
         &self,
         store: &mut T,
-        structure: u32,
-        field: u32,
-        subject: u32,
+        structure: u64,
+        field: u64,
+        subject: u64,
     ) -> Result<u64, TakeError>
         requires { IsKnown self.now (T.contents store.old) }
         ensures keeps { Extends (T.contents store.old) (T.contents store.new) }
@@ -316,12 +317,12 @@ impl Assembler {
     {
         let structure = self.by_name.known(structure)?;
         let subject = self.by_tree.known(subject)?;
-        make(store, Node::Proj(structure, u64::from(field), subject))
+        make(store, Node::Proj(structure, field, subject))
     }
 
     /// The successor of a level.
     #[tactic(auto, using(crate::proofs::Lines::looked_up, crate::proofs::Holding::unchanged))]
-    pub(crate) fn successor<T: Terms>(&self, store: &mut T, level: u32) -> Result<u64, TakeError>
+    pub(crate) fn successor<T: Terms>(&self, store: &mut T, level: u64) -> Result<u64, TakeError>
         requires { IsKnown self.now (T.contents store.old) }
         ensures keeps { Extends (T.contents store.old) (T.contents store.new) }
         ensures rest { T.rest store.new ≡ T.rest store.old }
@@ -339,8 +340,8 @@ impl Assembler {
         &self,
         store: &mut T,
         pair: LevelPair,
-        left: u32,
-        right: u32,
+        left: u64,
+        right: u64,
     ) -> Result<u64, TakeError>
         requires { IsKnown self.now (T.contents store.old) }
         ensures keeps { Extends (T.contents store.old) (T.contents store.new) }
@@ -357,7 +358,7 @@ impl Assembler {
 
     /// A level parameter.
     #[tactic(auto, using(crate::proofs::Lines::looked_up, crate::proofs::Holding::unchanged))]
-    pub(crate) fn parameter<T: Terms>(&self, store: &mut T, name: u32) -> Result<u64, TakeError>
+    pub(crate) fn parameter<T: Terms>(&self, store: &mut T, name: u64) -> Result<u64, TakeError>
         requires { IsKnown self.now (T.contents store.old) }
         ensures keeps { Extends (T.contents store.old) (T.contents store.new) }
         ensures rest { T.rest store.new ≡ T.rest store.old }
@@ -375,7 +376,7 @@ impl Assembler {
         &self,
         alloc: Global,
         store: &mut T,
-        parent: u32,
+        parent: u64,
         bytes: &[u8],
     ) -> Result<u64, TakeError>
         requires { IsKnown self.now (T.contents store.old) }
@@ -398,7 +399,7 @@ impl Assembler {
     pub(crate) fn number_name<T: Terms>(
         &self,
         store: &mut T,
-        parent: u32,
+        parent: u64,
         component: u64,
     ) -> Result<u64, TakeError>
         requires { IsKnown self.now (T.contents store.old) }
@@ -420,9 +421,9 @@ impl Assembler {
     #[tactic(auto, using(crate::proofs::Lines::looked_up))]
     pub(crate) fn rule(
         &self,
-        constructor: u32,
-        fields: u32,
-        value: u32,
+        constructor: u64,
+        fields: u64,
+        value: u64,
     ) -> Result<RecursorRule, TakeError>
         ensures known { (c : Contents) → IsKnown self.now c → IfOk result (IsRuleIn c) }
         ensures made { (c : Contents) (s : State) → Holds self.now c s
@@ -432,19 +433,23 @@ impl Assembler {
         let value = self.by_tree.known(value)?;
         Ok(RecursorRule {
             constructor,
-            fields: u64::from(fields),
+            fields,
             value,
         })
     }
 
     /// The level parameters of a declaration. The list is that of the declaration before, where it
     /// has the same one.
-    fn parameters(&self, alloc: Global, parameters: &[u32]) -> Result<Arc<Vec<u64>>, TakeError>
+    fn parameters<N: FileNumber>(
+        &self,
+        alloc: Global,
+        parameters: &[N],
+    ) -> Result<Arc<Vec<u64>>, TakeError>
         ensures known { (c : Contents) → IsKnown self.now c
             → IfOk result (λ p. All (λ n. n < length c.names) (shared_names p)) }
         ensures made { (c : Contents) (s : State) → Holds self.now c s
             → Makes (λ p. map (name_at c) (shared_names p)) result
-            (all_known s.names parameters.now) }
+            (all_known s.names (N.view.values parameters.now)) }
     {
         let levels = self.names_of(alloc, parameters)?;
         let kept = shared(alloc, self.members.last_parameters(), levels)?;
@@ -453,19 +458,20 @@ impl Assembler {
 
     /// A declaration with this body. A fault of the body comes behind those of its name and type.
     #[tactic(auto, using(crate::proofs::Holding::found, crate::proofs::Holding::missing, crate::proofs::Holding::is_below))]
-    fn declaration(
+    fn declaration<N: FileNumber>(
         &self,
         alloc: Global,
-        name: u32,
-        ty: u32,
+        name: u64,
+        ty: u64,
         body: Result<Body, TakeError>,
-        parameters: &[u32],
+        parameters: &[N],
     ) -> Result<StoredMember, TakeError>
         ensures known { (c : Contents) → IsKnown self.now c → IfOk body (λ b. IsBodyIn c b)
             → IfOk result (IsStoredMemberIn c) }
         ensures made { (c : Contents) (s : State) (said : Result PlainBody LineWord)
             → Holds self.now c s → Makes (body_at c) body said
-            → Makes (said_at c) result (declaration_of s name ty said parameters.now) }
+            → Makes (said_at c) result
+            (declaration_of s name ty said (N.view.values parameters.now)) }
     {
         let Some(name) = self.by_name.find_place(name) else {
             return Err(TakeError::Fault(Word::IndexUnknown));
@@ -490,7 +496,7 @@ impl Assembler {
 
     /// The body that a value makes.
     #[tactic(auto, using(crate::proofs::Holding::found, crate::proofs::Holding::missing, crate::proofs::Holding::is_below))]
-    fn body(&self, value_use: ValueUse, value: u32) -> Result<Body, TakeError>
+    fn body(&self, value_use: ValueUse, value: u64) -> Result<Body, TakeError>
         ensures known { (c : Contents) → IsKnown self.now c → IfOk result (λ b. IsBodyIn c b) }
         ensures made { (c : Contents) (s : State) → Holds self.now c s
             → Makes (body_at c) result (value_body s (body_of value_use) value) }
@@ -502,50 +508,50 @@ impl Assembler {
     }
 
     /// A declaration with a value.
-    pub(crate) fn valued(
+    pub fn valued<N: FileNumber>(
         &self,
         alloc: Global,
         value_use: ValueUse,
-        name: u32,
-        ty: u32,
-        value: u32,
-        parameters: &[u32],
+        name: u64,
+        ty: u64,
+        value: u64,
+        parameters: &[N],
     ) -> Result<StoredMember, TakeError>
         ensures known { (c : Contents) → IsKnown self.now c → IfOk result (IsStoredMemberIn c) }
         ensures made { (c : Contents) (s : State) → Holds self.now c s
-            → Makes (said_at c) result (valued_of s
-            (body_of value_use) name ty value parameters.now) }
+            → Makes (said_at c) result (valued_of s (body_of value_use) name ty value
+            (N.view.values parameters.now)) }
     {
         let body = self.body(value_use, value);
         self.declaration(alloc, name, ty, body, parameters)
     }
 
     /// An axiom.
-    pub(crate) fn axiom(
+    pub fn axiom<N: FileNumber>(
         &self,
         alloc: Global,
-        name: u32,
-        ty: u32,
-        parameters: &[u32],
+        name: u64,
+        ty: u64,
+        parameters: &[N],
     ) -> Result<StoredMember, TakeError>
         ensures known { (c : Contents) → IsKnown self.now c → IfOk result (IsStoredMemberIn c) }
         ensures made { (c : Contents) (s : State) → Holds self.now c s
-            → Makes (said_at c) result (axiom_of s name ty parameters.now) }
+            → Makes (said_at c) result (axiom_of s name ty (N.view.values parameters.now)) }
     {
         self.declaration(alloc, name, ty, Ok(Body::Axiom), parameters)
     }
 
     /// A constant of quotient types.
-    pub(crate) fn quotient(
+    pub fn quotient<N: FileNumber>(
         &self,
         alloc: Global,
-        name: u32,
-        ty: u32,
-        parameters: &[u32],
+        name: u64,
+        ty: u64,
+        parameters: &[N],
     ) -> Result<StoredMember, TakeError>
         ensures known { (c : Contents) → IsKnown self.now c → IfOk result (IsStoredMemberIn c) }
         ensures made { (c : Contents) (s : State) → Holds self.now c s
-            → Makes (said_at c) result (quotient_of s name ty parameters.now) }
+            → Makes (said_at c) result (quotient_of s name ty (N.view.values parameters.now)) }
     {
         self.declaration(alloc, name, ty, Ok(Body::Quotient), parameters)
     }

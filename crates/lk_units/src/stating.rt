@@ -9,7 +9,7 @@ ghost use Rattle.lk_units.specs.Held.{Below, IsKnown, Holds, Makes, counts_of, r
 
 use crate::{Assembler, TakeError};
 use lk_env::unit::{Constructor, Recursor, RecursorRule};
-use lk_lines::{ConstructorLine, RecursorLine, TypeLine};
+use lk_lines::{ConstructorLine, FileNumber, RecursorLine, TypeLine};
 use lk_members::line::{StoredMember, TypeHead};
 use lk_store::memory::NoMemory;
 use std::alloc::Global;
@@ -42,22 +42,32 @@ fn rules_at(
 
 impl Assembler {
     /// The names that these numbers stand for.
-    pub(crate) fn names_of(&self, alloc: Global, names: &[u32]) -> Result<Vec<u64>, TakeError>
+    pub(crate) fn names_of<N: FileNumber>(
+        &self,
+        alloc: Global,
+        names: &[N],
+    ) -> Result<Vec<u64>, TakeError>
         ensures known { (c : Contents) → IsKnown self.now c
             → IfOk result (λ v. All (λ n. n < length c.names) v.items) }
         ensures made { (c : Contents) (s : State) → Holds self.now c s
-            → Makes (λ v. map (name_at c) v.items) result (all_known s.names names.now) }
+            → Makes (λ v. map (name_at c) v.items) result
+            (all_known s.names (N.view.values names.now)) }
     {
         self.by_name.find_all(alloc, names)
     }
 
     /// The rules that these numbers stand for.
-    fn rules_of(&self, alloc: Global, rules: &[u32]) -> Result<Vec<RecursorRule>, TakeError>
+    fn rules_of<N: FileNumber>(
+        &self,
+        alloc: Global,
+        rules: &[N],
+    ) -> Result<Vec<RecursorRule>, TakeError>
         requires { Below self.now.by_rule (length self.now.rules.items) }
         ensures known { (c : Contents) → IsKnown self.now c
             → IfOk result (λ v. All (IsRuleIn c) v.items) }
         ensures made { (c : Contents) (s : State) → Holds self.now c s
-            → Makes (λ v. map (rule_at c) v.items) result (all_known s.rules rules.now) }
+            → Makes (λ v. map (rule_at c) v.items) result
+            (all_known s.rules (N.view.values rules.now)) }
     {
         let places = match self.by_rule.find_all(alloc, rules) {
             Ok(places) => places,
@@ -71,16 +81,18 @@ impl Assembler {
 
     /// What the line of a type states, with the types of its block and its own constructors.
     #[tactic(auto, using(crate::proofs::Lines::looked_up))]
-    pub(crate) fn inductive(
+    pub fn inductive<N: FileNumber>(
         &self,
         alloc: Global,
-        line: &TypeLine,
+        line: &TypeLine<N>,
     ) -> Result<StoredMember, TakeError>
         ensures known { (c : Contents) → IsKnown self.now c → IfOk result (IsStoredMemberIn c) }
         ensures made { (c : Contents) (s : State) → Holds self.now c s
-            → Makes (said_at c) result (type_said s line.now.name line.now.declared_type
-            line.now.parameter_count line.now.index_count line.now.types.items
-            line.now.constructors.items line.now.parameters.items) }
+            → Makes (said_at c) result (type_said s (N.view.value line.now.name)
+            (N.view.value line.now.declared_type) (N.view.value line.now.parameter_count)
+            (N.view.value line.now.index_count) (N.view.values line.now.types.items)
+            (N.view.values line.now.constructors.items)
+            (N.view.values line.now.parameters.items)) }
     {
         let name = self.by_name.known(line.name)?;
         let ty = self.by_tree.known(line.declared_type)?;
@@ -91,8 +103,8 @@ impl Assembler {
             name,
             levels,
             ty,
-            parameters: u64::from(line.parameter_count),
-            indices: u64::from(line.index_count),
+            parameters: line.parameter_count.widened(),
+            indices: line.index_count.widened(),
             constructors,
         };
         let head = boxed(alloc, head)?;
@@ -101,16 +113,17 @@ impl Assembler {
 
     /// What the line of a constructor states.
     #[tactic(auto, using(crate::proofs::Lines::looked_up))]
-    pub(crate) fn constructor(
+    pub fn constructor<N: FileNumber>(
         &self,
         alloc: Global,
-        line: &ConstructorLine,
+        line: &ConstructorLine<N>,
     ) -> Result<StoredMember, TakeError>
         ensures known { (c : Contents) → IsKnown self.now c → IfOk result (IsStoredMemberIn c) }
         ensures made { (c : Contents) (s : State) → Holds self.now c s
-            → Makes (said_at c) result (ctor_said s line.now.name line.now.declared_type
-            line.now.parent line.now.place line.now.parameter_count line.now.field_count
-            line.now.parameters.items) }
+            → Makes (said_at c) result (ctor_said s (N.view.value line.now.name)
+            (N.view.value line.now.declared_type) (N.view.value line.now.parent)
+            (N.view.value line.now.place) (N.view.value line.now.parameter_count)
+            (N.view.value line.now.field_count) (N.view.values line.now.parameters.items)) }
     {
         let name = self.by_name.known(line.name)?;
         let ty = self.by_tree.known(line.declared_type)?;
@@ -121,9 +134,9 @@ impl Assembler {
             levels,
             ty,
             parent,
-            place: u64::from(line.place),
-            parameters: u64::from(line.parameter_count),
-            fields: u64::from(line.field_count),
+            place: line.place.widened(),
+            parameters: line.parameter_count.widened(),
+            fields: line.field_count.widened(),
         };
         let constructor = boxed(alloc, constructor)?;
         Ok(StoredMember::Constructor(constructor))
@@ -131,17 +144,18 @@ impl Assembler {
 
     /// What the line of a recursor states, with the types of its block.
     #[tactic(auto, using(crate::proofs::Lines::looked_up))]
-    pub(crate) fn recursor(
+    pub fn recursor<N: FileNumber>(
         &self,
         alloc: Global,
-        line: &RecursorLine,
+        line: &RecursorLine<N>,
     ) -> Result<StoredMember, TakeError>
         requires { Below self.now.by_rule (length self.now.rules.items) }
         ensures known { (c : Contents) → IsKnown self.now c → IfOk result (IsStoredMemberIn c) }
         ensures made { (c : Contents) (s : State) → Holds self.now c s
-            → Makes (said_at c) result (recursor_said s line.now.name line.now.declared_type
-            line.now.types.items (counts_of line.now) line.now.rules.items
-            line.now.parameters.items) }
+            → Makes (said_at c) result (recursor_said s (N.view.value line.now.name)
+            (N.view.value line.now.declared_type) (N.view.values line.now.types.items)
+            (counts_of N.view line.now) (N.view.values line.now.rules.items)
+            (N.view.values line.now.parameters.items)) }
     {
         let name = self.by_name.known(line.name)?;
         let ty = self.by_tree.known(line.declared_type)?;
@@ -152,10 +166,10 @@ impl Assembler {
             name,
             levels,
             ty,
-            parameters: u64::from(line.parameter_count),
-            indices: u64::from(line.index_count),
-            motives: u64::from(line.motive_count),
-            minors: u64::from(line.minor_count),
+            parameters: line.parameter_count.widened(),
+            indices: line.index_count.widened(),
+            motives: line.motive_count.widened(),
+            minors: line.minor_count.widened(),
             k: line.k,
             rules,
         };

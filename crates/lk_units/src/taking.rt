@@ -17,7 +17,7 @@ use crate::making::{nat_literal, text_literal, variable};
 use crate::{Assembler, Binder, LevelPair, TakeError, ValueUse};
 use lk_env::budget::Budget;
 use lk_env::unit::{Hint, RecursorRule};
-use lk_lines::{DeclarationLine, EntryLine, ReducibilityHint, Word};
+use lk_lines::{DeclarationLine, EntryLine, FileNumber, ReducibilityHint, Word};
 use lk_members::Members;
 use lk_members::fault::{MemberError, MemberFault};
 use lk_members::line::StoredMember;
@@ -57,8 +57,8 @@ impl Assembler {
         &mut self,
         alloc: Global,
         store: &mut T,
-        own: u32,
-        parent: u32,
+        own: u64,
+        parent: u64,
         bytes: &[u8],
     ) -> Result<(), TakeError>
         requires { IsKnown self.old (T.contents store.old) }
@@ -78,8 +78,8 @@ impl Assembler {
     fn number_line<T: Terms>(
         &mut self,
         store: &mut T,
-        own: u32,
-        parent: u32,
+        own: u64,
+        parent: u64,
         component: u64,
     ) -> Result<(), TakeError>
         requires { IsKnown self.old (T.contents store.old) }
@@ -99,8 +99,8 @@ impl Assembler {
     fn successor_line<T: Terms>(
         &mut self,
         store: &mut T,
-        own: u32,
-        level: u32,
+        own: u64,
+        level: u64,
     ) -> Result<(), TakeError>
         requires { IsKnown self.old (T.contents store.old) }
         ensures keeps { Extends (T.contents store.old) (T.contents store.new) }
@@ -119,10 +119,10 @@ impl Assembler {
     fn pair_line<T: Terms>(
         &mut self,
         store: &mut T,
-        own: u32,
+        own: u64,
         pair: LevelPair,
-        left: u32,
-        right: u32,
+        left: u64,
+        right: u64,
     ) -> Result<(), TakeError>
         requires { IsKnown self.old (T.contents store.old) }
         ensures keeps { Extends (T.contents store.old) (T.contents store.new) }
@@ -141,8 +141,8 @@ impl Assembler {
     fn parameter_line<T: Terms>(
         &mut self,
         store: &mut T,
-        own: u32,
-        name: u32,
+        own: u64,
+        name: u64,
     ) -> Result<(), TakeError>
         requires { IsKnown self.old (T.contents store.old) }
         ensures keeps { Extends (T.contents store.old) (T.contents store.new) }
@@ -161,8 +161,8 @@ impl Assembler {
     fn variable_line<T: Terms>(
         &mut self,
         store: &mut T,
-        own: u32,
-        index: u32,
+        own: u64,
+        index: u64,
     ) -> Result<(), TakeError>
         requires { IsKnown self.old (T.contents store.old) }
         ensures keeps { Extends (T.contents store.old) (T.contents store.new) }
@@ -177,7 +177,7 @@ impl Assembler {
 
     // A line of a sort.
     #[tactic(auto, using(crate::proofs::Putting::tree_known, crate::proofs::Putting::tree_follows))]
-    fn sort_line<T: Terms>(&mut self, store: &mut T, own: u32, level: u32) -> Result<(), TakeError>
+    fn sort_line<T: Terms>(&mut self, store: &mut T, own: u64, level: u64) -> Result<(), TakeError>
         requires { IsKnown self.old (T.contents store.old) }
         ensures keeps { Extends (T.contents store.old) (T.contents store.new) }
         ensures rest { T.rest store.new ≡ T.rest store.old }
@@ -191,13 +191,13 @@ impl Assembler {
 
     // A line of a constant.
     #[tactic(auto, using(crate::proofs::Putting::tree_known, crate::proofs::Putting::tree_follows))]
-    fn constant_line<T: Terms>(
+    fn constant_line<T: Terms, N: FileNumber>(
         &mut self,
         alloc: Global,
         store: &mut T,
-        own: u32,
-        name: u32,
-        levels: &[u32],
+        own: u64,
+        name: u64,
+        levels: &[N],
     ) -> Result<(), TakeError>
         requires { IsKnown self.old (T.contents store.old) }
         ensures keeps { Extends (T.contents store.old) (T.contents store.new) }
@@ -205,7 +205,7 @@ impl Assembler {
         ensures known { OnOk result (IsKnown self.new (T.contents store.new)) }
         ensures follows { (s : State) → Holds self.old (T.contents store.old) s
             → Follows self.new (T.contents store.new) result
-            (with_tree s own (constant_tree s name levels.now)) }
+            (with_tree s own (constant_tree s name (N.view.values levels.now))) }
     {
         let made = self.constant(alloc, store, name, levels);
         self.by_tree.put_new(own, made)
@@ -216,9 +216,9 @@ impl Assembler {
     fn application_line<T: Terms>(
         &mut self,
         store: &mut T,
-        own: u32,
-        function: u32,
-        argument: u32,
+        own: u64,
+        function: u64,
+        argument: u64,
     ) -> Result<(), TakeError>
         requires { IsKnown self.old (T.contents store.old) }
         ensures keeps { Extends (T.contents store.old) (T.contents store.new) }
@@ -237,11 +237,11 @@ impl Assembler {
     fn binder_line<T: Terms>(
         &mut self,
         store: &mut T,
-        own: u32,
+        own: u64,
         binder: Binder,
-        name: u32,
-        domain: u32,
-        body: u32,
+        name: u64,
+        domain: u64,
+        body: u64,
     ) -> Result<(), TakeError>
         requires { IsKnown self.old (T.contents store.old) }
         ensures keeps { Extends (T.contents store.old) (T.contents store.new) }
@@ -260,11 +260,11 @@ impl Assembler {
     fn let_line<T: Terms>(
         &mut self,
         store: &mut T,
-        own: u32,
-        name: u32,
-        domain: u32,
-        value: u32,
-        body: u32,
+        own: u64,
+        name: u64,
+        domain: u64,
+        value: u64,
+        body: u64,
     ) -> Result<(), TakeError>
         requires { IsKnown self.old (T.contents store.old) }
         ensures keeps { Extends (T.contents store.old) (T.contents store.new) }
@@ -283,10 +283,10 @@ impl Assembler {
     fn projection_line<T: Terms>(
         &mut self,
         store: &mut T,
-        own: u32,
-        structure: u32,
-        field: u32,
-        subject: u32,
+        own: u64,
+        structure: u64,
+        field: u64,
+        subject: u64,
     ) -> Result<(), TakeError>
         requires { IsKnown self.old (T.contents store.old) }
         ensures keeps { Extends (T.contents store.old) (T.contents store.new) }
@@ -302,7 +302,7 @@ impl Assembler {
 
     // A line of a number literal.
     #[tactic(auto, using(crate::proofs::Putting::tree_known, crate::proofs::Putting::tree_follows))]
-    fn nat_line<T: Terms>(&mut self, store: &mut T, own: u32, number: Nat) -> Result<(), TakeError>
+    fn nat_line<T: Terms>(&mut self, store: &mut T, own: u64, number: Nat) -> Result<(), TakeError>
         requires { IsKnown self.old (T.contents store.old) }
         ensures keeps { Extends (T.contents store.old) (T.contents store.new) }
         ensures rest { T.rest store.new ≡ T.rest store.old }
@@ -320,7 +320,7 @@ impl Assembler {
     fn string_line<T: Terms>(
         &mut self,
         store: &mut T,
-        own: u32,
+        own: u64,
         bytes: Vec<u8>,
     ) -> Result<(), TakeError>
         requires { IsKnown self.old (T.contents store.old) }
@@ -360,10 +360,10 @@ impl Assembler {
     // A line of a rule.
     fn rule_line(
         &mut self,
-        own: u32,
-        constructor: u32,
-        fields: u32,
-        value: u32,
+        own: u64,
+        constructor: u64,
+        fields: u64,
+        value: u64,
     ) -> Result<(), TakeError>
         ensures known { OnOk result ((c : Contents) → IsKnown self.old c → IsKnown self.new c) }
         ensures follows { (c : Contents) (s : State) → IsKnown self.old c → Holds self.old c s
@@ -374,14 +374,14 @@ impl Assembler {
         self.by_rule.put_new(own, place)
     }
 
-    // What a line that defines a number adds.
+    /// What a line that defines the number `own` adds. It is not counted.
     #[tactic(auto, using(crate::proofs::Holding::unchanged), unfolding(crate::specs::State::entry_added))]
-    fn add_entry<T: Terms>(
+    pub fn add_entry<T: Terms, N: FileNumber>(
         &mut self,
         alloc: Global,
         store: &mut T,
-        own: u32,
-        line: EntryLine<'_>,
+        own: N,
+        line: EntryLine<'_, N>,
     ) -> Result<(), TakeError>
         requires { IsKnown self.old (T.contents store.old) }
         ensures keeps { Extends (T.contents store.old) (T.contents store.new) }
@@ -389,59 +389,99 @@ impl Assembler {
         ensures known { OnOk result (IsKnown self.new (T.contents store.new)) }
         ensures follows { (s : State) → Holds self.old (T.contents store.old) s
             → Follows self.new (T.contents store.new) result
-            (entry_added s own (entry_tag line.entry) (entry_values narrow line.entry)) }
+            (entry_added s (N.view.value own) (entry_tag line.entry)
+            (entry_values N.view line.entry)) }
     {
+        let own = own.widened();
         match line {
-            EntryLine::NameText { parent, text } => self.text_line(alloc, store, own, parent, text),
+            EntryLine::NameText { parent, text } => self.text_line(
+                alloc,
+                store,
+                own,
+                parent.widened(),
+                text,
+            ),
             EntryLine::NameNumber { parent, component } => {
-                self.number_line(store, own, parent, component)
+                self.number_line(store, own, parent.widened(), component)
             }
-            EntryLine::Successor { level } => self.successor_line(store, own, level),
+            EntryLine::Successor { level } => self.successor_line(store, own, level.widened()),
             EntryLine::Max { left, right } => {
-                self.pair_line(store, own, LevelPair::Max, left, right)
+                self.pair_line(store, own, LevelPair::Max, left.widened(), right.widened())
             }
             EntryLine::Imax { left, right } => {
-                self.pair_line(store, own, LevelPair::Imax, left, right)
+                self.pair_line(store, own, LevelPair::Imax, left.widened(), right.widened())
             }
-            EntryLine::Parameter { name } => self.parameter_line(store, own, name),
-            EntryLine::Variable { index } => self.variable_line(store, own, index),
-            EntryLine::Sort { level } => self.sort_line(store, own, level),
+            EntryLine::Parameter { name } => self.parameter_line(store, own, name.widened()),
+            EntryLine::Variable { index } => self.variable_line(store, own, index.widened()),
+            EntryLine::Sort { level } => self.sort_line(store, own, level.widened()),
             EntryLine::Constant { name, levels } => {
-                self.constant_line(alloc, store, own, name, &levels)
+                self.constant_line(alloc, store, own, name.widened(), &levels)
             }
             EntryLine::Apply { function, argument } => {
-                self.application_line(store, own, function, argument)
+                self.application_line(store, own, function.widened(), argument.widened())
             }
             EntryLine::Lambda {
                 name,
                 binder_type,
                 body,
                 ..
-            } => self.binder_line(store, own, Binder::Lambda, name, binder_type, body),
+            } => self.binder_line(
+                store,
+                own,
+                Binder::Lambda,
+                name.widened(),
+                binder_type.widened(),
+                body.widened(),
+            ),
             EntryLine::Pi {
                 name,
                 binder_type,
                 body,
                 ..
-            } => self.binder_line(store, own, Binder::Pi, name, binder_type, body),
+            } => self.binder_line(
+                store,
+                own,
+                Binder::Pi,
+                name.widened(),
+                binder_type.widened(),
+                body.widened(),
+            ),
             EntryLine::Let {
                 name,
                 binder_type,
                 value,
                 body,
-            } => self.let_line(store, own, name, binder_type, value, body),
+            } => self.let_line(
+                store,
+                own,
+                name.widened(),
+                binder_type.widened(),
+                value.widened(),
+                body.widened(),
+            ),
             EntryLine::Project {
                 structure,
                 field,
                 subject,
-            } => self.projection_line(store, own, structure, field, subject),
+            } => self.projection_line(
+                store,
+                own,
+                structure.widened(),
+                field.widened(),
+                subject.widened(),
+            ),
             EntryLine::NatLiteral(number) => self.nat_line(store, own, *number),
             EntryLine::TextLiteral { text } => self.string_line(store, own, text),
             EntryLine::Rule {
                 constructor,
                 field_count,
                 value,
-            } => self.rule_line(own, constructor, field_count, value),
+            } => self.rule_line(
+                own,
+                constructor.widened(),
+                field_count.widened(),
+                value.widened(),
+            ),
         }
     }
 
@@ -463,7 +503,14 @@ impl Assembler {
                 parameters,
             } => {
                 let value_use = ValueUse::Definition(held_hint(*hint));
-                self.valued(alloc, value_use, *name, *declared_type, *value, parameters)
+                self.valued(
+                    alloc,
+                    value_use,
+                    u64::from(*name),
+                    u64::from(*declared_type),
+                    u64::from(*value),
+                    parameters,
+                )
             }
             DeclarationLine::Theorem {
                 name,
@@ -472,7 +519,14 @@ impl Assembler {
                 parameters,
             } => {
                 let value_use = ValueUse::Theorem;
-                self.valued(alloc, value_use, *name, *declared_type, *value, parameters)
+                self.valued(
+                    alloc,
+                    value_use,
+                    u64::from(*name),
+                    u64::from(*declared_type),
+                    u64::from(*value),
+                    parameters,
+                )
             }
             DeclarationLine::Opaque {
                 name,
@@ -481,26 +535,43 @@ impl Assembler {
                 parameters,
             } => {
                 let value_use = ValueUse::Opaque;
-                self.valued(alloc, value_use, *name, *declared_type, *value, parameters)
+                self.valued(
+                    alloc,
+                    value_use,
+                    u64::from(*name),
+                    u64::from(*declared_type),
+                    u64::from(*value),
+                    parameters,
+                )
             }
             DeclarationLine::Axiom {
                 name,
                 declared_type,
                 parameters,
-            } => self.axiom(alloc, *name, *declared_type, parameters),
+            } => self.axiom(
+                alloc,
+                u64::from(*name),
+                u64::from(*declared_type),
+                parameters,
+            ),
             DeclarationLine::Quotient {
                 name,
                 declared_type,
                 parameters,
-            } => self.quotient(alloc, *name, *declared_type, parameters),
+            } => self.quotient(
+                alloc,
+                u64::from(*name),
+                u64::from(*declared_type),
+                parameters,
+            ),
             DeclarationLine::Inductive(line) => self.inductive(alloc, line),
             DeclarationLine::Constructor(line) => self.constructor(alloc, line),
             DeclarationLine::Recursor(line) => self.recursor(alloc, line),
         }
     }
 
-    // Puts a line that declares something behind those before it.
-    fn place<T: Terms>(
+    /// Puts a line that declares something behind those before it. It is not counted.
+    pub fn place<T: Terms>(
         &mut self,
         alloc: Global,
         store: &T,
@@ -589,13 +660,13 @@ impl Assembler {
     /// not counted among the items.
     #[inline(never)]
     #[tactic(auto, using(crate::proofs::Holding::failing, crate::proofs::Lines::fails_then, crate::proofs::Putting::budget_pushed_known), unfolding(crate::specs::State::take_item))]
-    pub fn take_budget(&mut self, name: u32, steps: u64) -> Result<(), TakeError>
+    pub fn take_budget<N: FileNumber>(&mut self, name: N, steps: u64) -> Result<(), TakeError>
         ensures known { OnOk result ((c : Contents) → IsKnown self.old c → IsKnown self.new c) }
         ensures follows { (c : Contents) (number : ℕ) (s : State) → Holds self.old c s
             → Follows self.new c result (take_item number s (record {
               own = None;
               tag = tag.Budget;
-              values = budget_values name steps;
+              values = budget_values (N.view.value name) steps;
             })) }
     {
         let name = self.by_name.known(name)?;

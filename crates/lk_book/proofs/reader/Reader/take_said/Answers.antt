@@ -15,13 +15,13 @@ returns-in-Ok-take_declaration-clause-follows g c = λ d h. rw c.in-Declaration.
 pub returns-in-Ok-take_budget-clause-follows : goal.returns-in-Ok-take_budget-clause-follows
 returns-in-Ok-take_budget-clause-follows g c = λ d h. rw c.in-Budget.is (item_goes c.args.self.now c.take_budget.new.self _ _ d c.args.number _ h (c.in-Ok-take_budget.ensures.follows _ d.number d.state h.holds))
 
-pub returns-in-Budget-clause-follows : goal.returns-in-Budget-clause-follows
-returns-in-Budget-clause-follows g c = λ d h.
+pub returns-in-Err-take_budget-clause-follows : goal.returns-in-Err-take_budget-clause-follows
+returns-in-Err-take_budget-clause-follows g c = λ d h.
     rw (c.in-Budget.is, c.at_line-in-Err-take_budget.ensures) (item_stops c.args.self.now c.take_budget.new.self (g.T.Terms.contents c.args.store.now) d c.args.number _ c.in-Err-take_budget.error (c.in-Err-take_budget.ensures.follows _ d.number d.state h.holds))
 
 pub returns-in-Ok-part-clause-follows : goal.returns-in-Ok-part-clause-follows
 returns-in-Ok-part-clause-follows g c = λ d h. rw c.in-Go.is (item_goes c.args.self.now c.part.new.self _ _ d c.args.number _ h (c.in-Ok-part.ensures.follows _ d.number d.state h.holds))
 
-pub returns-in-Go-clause-follows : goal.returns-in-Go-clause-follows
-returns-in-Go-clause-follows g c = λ d h.
+pub returns-in-Err-part-clause-follows : goal.returns-in-Err-part-clause-follows
+returns-in-Err-part-clause-follows g c = λ d h.
     rw (c.in-Go.is, c.at_line-in-Err-part.ensures) (item_stops c.args.self.now c.part.new.self (g.T.Terms.contents c.args.store.now) d c.args.number _ c.in-Err-part.error (c.in-Err-part.ensures.follows _ d.number d.state h.holds))
