@@ -5,3 +5,4 @@ pub mod Reducing
 pub mod Equal
 pub mod Section
 pub mod Written
+pub mod Outcomes

@@ -44,8 +44,9 @@ pub record CanWrite (w : Place) (c : Claim) : Type 0 where
   pub shaped : IsShaped c
   pub written : (ps : List Claim) → IsWritten w ps c
 
--- where Nat has its shape, Nat.zero has no value: so a numeral reduces to itself alone, and a
--- reduction that an operation on numbers names is not one of an argument that is a numeral already
+-- a place at which Nat.zero has no value, where Nat has its shape: there a numeral reduces to itself
+-- alone, so that a reduction that an operation on numbers names is not one of an argument that is a
+-- numeral already
 abbrev pub KeepsNumerals : Place → Type 0
 KeepsNumerals w =
     HasNat w → (g : Entry) (v : Tree) → w.means nat_zero ≡ Some g → HasValue g v → ⊥

@@ -20,5 +20,6 @@ pub mod StructureRules
 pub mod ProjRule
 pub mod OperationRule
 pub mod Faults
+pub mod Outcomes
 pub mod Numerals
 pub mod Lines

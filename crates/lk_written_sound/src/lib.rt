@@ -12,6 +12,7 @@ ghost use Rattle.lk_claims.specs.Follows.{FollowsTypes, FollowsReductions, Follo
 ghost use Rattle.lk_rulebook.specs.Claims.{Claim, Derived, AllDerived};
 ghost use Rattle.lk_written.specs.Line.{Line, claim_of};
 ghost use Rattle.lk_written.specs.Section.{Section, line_holds, claims_by, section_holds, section_at_fault};
+ghost use Rattle.lk_written.specs.Outcomes.{FileSection, holds, section_of, section_for, outcome_of};
 ghost use Rattle.lk_written.specs.Written.{CanWrite, CanDeclare, KeepsNumerals};
 
 /// At a sound place, so where operations on numbers have their laws, what a line that holds states
@@ -30,6 +31,16 @@ pub fn section_is_at_fault_or_holds()
         → section_at_fault us n s ≡ None }
     ensures holds { (us : Library) (n : ℕ) (s : Section) → section_at_fault us n s ≡ None
         → section_holds us n s ≡ true }
+{}
+
+/// What comes of a unit of a file is that its section holds exactly where it has one, and that holds.
+pub fn ok_is_said_of_sections_that_hold()
+    ensures said { (us : Library) (ss : List FileSection) (n : ℕ) → outcome_of us ss n ≡ holds
+        → (s : FileSection) × (section_for n ss ≡ Some s)
+        × (section_holds us n (section_of s) ≡ true) }
+    ensures held { (us : Library) (ss : List FileSection) (n : ℕ) (s : FileSection)
+        → section_for n ss ≡ Some s → section_holds us n (section_of s) ≡ true
+        → outcome_of us ss n ≡ holds }
 {}
 
 /// At a sound place a unit with a section that holds is a declaration whose names are new and whose
