@@ -13,7 +13,7 @@ use Rattle.lk_lines.specs.Says.{said_at, said_below}
 use Rattle.lk_units.specs.State.{entry_added, declaration_said, take_item}
 use Rattle.lk_book.specs.File.{after}
 use Rattle.lk_traced.specs.Course.{begin_trace, trace_step}
-use Rattle.lk_traced.specs.Placed.{FileSection}
+use Rattle.lk_written.specs.Outcomes.{FileSection}
 use Rattle.lk_traced.specs.Trace.{trace_over, trace_stated}
 
 -- the sections that lines state

@@ -80,19 +80,26 @@ local_line r a b x js = Err UnknownTag
 -- Two trees and premises, each of which is to stand for something: the premises for places in the
 -- section.
 module _ (s : State) (places : ℕ → Option ℕ) where
-  -- the same with what stands beside the two trees: for R-Iota a number, else the number of a Local
+  -- a line of a rule that has nothing beside its two trees
+  abbrev pub plain_said : RuleTag → Tree → Tree → List ℕ → Result Line Word
+  plain_said r a b ps = all_known places ps >>= λ js. plain_line r a b js
+
+  -- the same where it has the number of a Local there
+  abbrev pub local_said : RuleTag → Tree → Tree → ℕ → List ℕ → Result Line Word
+  local_said r a b x ps =
+      known s.trees x >>= λ tree. (all_known places ps >>= λ js. local_line r a b tree js)
+
+  -- what stands beside the two trees is for R-Iota a number, else the number of a Local
   abbrev pub beside_said : RuleTag → Tree → Tree → ℕ → List ℕ → Result Line Word
   beside_said (Reduction reduction.Iota) a b i ps =
       all_known places ps >>= λ js. Ok (rd (written.iota_rule i) a b js)
-  beside_said r a b x ps =
-      known s.trees x >>= λ tree. (all_known places ps >>= λ js. local_line r a b tree js)
+  beside_said r a b x ps = local_said r a b x ps
 
   -- What the values of a line state. No line gives values of another shape; UnknownTag stands for
   -- it.
   abbrev pub line_said : List Value → Result Line Word
   line_said (OfRule r ∷ Number a ∷ Number b ∷ Numbers ps ∷ []) =
-      known s.trees a >>= λ left. (known s.trees b >>= λ right. (all_known places ps
-      >>= λ js. plain_line r left right js))
+      known s.trees a >>= λ left. (known s.trees b >>= λ right. plain_said r left right ps)
   line_said (OfRule r ∷ Number a ∷ Number b ∷ Number x ∷ Numbers ps ∷ []) =
       known s.trees a >>= λ left. (known s.trees b >>= λ right. beside_said r left right x ps)
   line_said values = Err UnknownTag

@@ -7,6 +7,7 @@ use Rattle.lk_rulebook.specs.Units.{LibraryUnit, of_decl, of_block}
 use Rattle.lk_members.specs.Faults.{fault_of}
 use Rattle.lk_members.specs.Plain.{PlainMember}
 use Rattle.lk_written.specs.Line.{Line}
+use Rattle.lk_written.specs.Outcomes.{FileLine, FileSection}
 use Rattle.lk_lines.specs.declared.words.Word.{Word}
 use Rattle.lk_lines.specs.declared.words.Word.TheVariants.{IndexTaken, TraceOrder, UnknownTag}
 use Rattle.lk_lines.specs.declared.tags.EntryTag.{EntryTag}
@@ -19,19 +20,6 @@ use Rattle.lk_units.specs.State.{State, known, all_known, put, with_tree, with_b
 use Rattle.lk_units.specs.State.{entry_added, declaration_said, unless_fault, take_item}
 use Rattle.lk_book.specs.File.{Export}
 use Rattle.lk_traced.specs.Derived.{line_said}
-
--- a line of a derivation, with its number in the file
-pub record FileLine : Type 0 where
-  pub number : ℕ
-  pub line : Line
-
--- What stands between `#AT` and `#OK`: the unit, the lines, and the line that ends them with the
--- premises that it names, each a place of a line.
-pub record FileSection : Type 0 where
-  pub unit : ℕ
-  pub lines : List FileLine
-  pub end : ℕ
-  pub parts : List ℕ
 
 -- a section that is not ended: the number of its `#AT`, and what its numbers stand for
 pub record OpenSection : Type 0 where
@@ -64,10 +52,14 @@ misplaced said = said >>= λ x. Err TraceOrder
 abbrev pub local_tree : State → ℕ → ℕ → Result Tree Word
 local_tree s k t = known s.trees t >>= λ type. Ok (local k type)
 
+-- an expression that is a Local, and is counted
+abbrev pub local_counted : State → ℕ → ℕ → ℕ → Result State Word
+local_counted s own k t = with_tree s own (local_tree s k t) >>= λ u. counted u
+
 -- a line before `#TR`: those of derivations are misplaced, and no number stands for one of them
 abbrev pub before_taken : ℕ → State → Option ℕ → Tag → List Value → Result State Word
 before_taken l s (Some own) Local (Number k ∷ Number t ∷ []) =
-    misplaced (with_tree s own (local_tree s k t) >>= λ u. counted u)
+    misplaced (local_counted s own k t)
 before_taken l s (Some own) (Derivation f) values = misplaced (line_said s (λ j. None) values)
 before_taken l s None Section (Number u ∷ []) = Err TraceOrder
 before_taken l s None Parts (Numbers ps ∷ []) = misplaced (all_known {X = ℕ} (λ j. None) ps)
@@ -125,6 +117,15 @@ abbrev pub derivation_said : State → Behind → ℕ → List Value → Result 
 derivation_said s b j values =
     if b.taken j then Err IndexTaken else line_said s (places_of b.begun) values
 
+-- the section with a line of a derivation
+abbrev pub derivation_taken : ℕ → State → Behind → ℕ → List Value → Result Behind Word
+derivation_taken l s b j values =
+    derivation_said s b j values >>= λ line. with_derivation l b j line
+
+-- the section is ended by line l, which names these numbers
+abbrev pub parts_taken : ℕ → Behind → List ℕ → Result Behind Word
+parts_taken l b ps = all_known (places_of b.begun) ps >>= λ js. end_section l b js
+
 -- what numbers stand for, and the sections
 pub record Both : Type 0 where
   pub state : State
@@ -147,7 +148,7 @@ behind_taken l s b (Some own) (Entry t) values =
 behind_taken l s b (Some own) Local (Number k ∷ Number t ∷ []) =
     with_state b (with_tree s own (local_tree s k t))
 behind_taken l s b (Some own) (Derivation f) values =
-    with_behind s (derivation_said s b own values >>= λ line. with_derivation l b own line)
+    with_behind s (derivation_taken l s b own values)
 behind_taken l s b None (Declaration t) values =
     with_state b (declared_behind s (declaration_said s t values))
 behind_taken l s b None Budget (Number n ∷ Number steps ∷ []) =
@@ -155,5 +156,5 @@ behind_taken l s b None Budget (Number n ∷ Number steps ∷ []) =
 behind_taken l s b None Trace [] = Err TraceOrder
 behind_taken l s b None Section (Number u ∷ []) = with_behind s (begin_section l b u)
 behind_taken l s b None Parts (Numbers ps ∷ []) =
-    with_behind s (all_known (places_of b.begun) ps >>= λ js. end_section l b js)
+    with_behind s (parts_taken l b ps)
 behind_taken l s b own t values = Err UnknownTag

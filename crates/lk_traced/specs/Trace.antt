@@ -3,7 +3,8 @@ use Rattle.std.specs.Prelude.{ℕ, List, [], ◌∷◌, Result, Ok, Err, Option,
 use Rattle.lk_lines.specs.declared.words.Word.TheVariants.{TraceOrder}
 use Rattle.lk_lines.specs.declared.line.Fault.{Fault}
 use Rattle.lk_book.specs.File.{after, has_more, lines_of, Export, export_stated}
-use Rattle.lk_traced.specs.Placed.{Behind, OpenSection, FileSection}
+use Rattle.lk_written.specs.Outcomes.{FileSection}
+use Rattle.lk_traced.specs.Placed.{Behind, OpenSection}
 use Rattle.lk_traced.specs.Course.{TraceCourse, begin_trace, trace_step}
 
 -- a library with the budgets that lines state, and what is written for units, in the order of the
