@@ -1,0 +1,9 @@
+pub mod LineForms
+pub mod Sections
+pub mod Numbered
+pub mod Places
+pub mod Declared
+pub mod Ends
+pub mod LawForms
+pub mod Found
+pub mod QuotientTests
