@@ -18,6 +18,7 @@ HERE = os.path.dirname(os.path.abspath(__file__))
 HELP = '\n  leancheck reads an export of a Lean 4 library on standard input, ...'
 IDENTITY = '1 #NS 0 p\n2 #NS 0 id\n0 #ES 0\n1 #EV 0\n2 #EV 1\n3 #EP #BD 0 1 2\n4 #EP #BD 1 0 3\n5 #EL #BD 0 1 1\n' \
            '6 #EL #BD 1 0 5\n#THM 2 4 6\n'
+DERIVED = '1 #NS 0 a\n0 #ES 0\n#AX 1 0\n#TR\n1 #US 0\n1 #ES 1\n#AT 0\n0 #TY T-Sort 0 1\n#OK 0\n'
 SEEMS = 'leancheck: the input seems to be '
 NO_NAME = 'leancheck: no declaration has this name; names are as check writes them, such as Nat.rec\n'
 
@@ -26,10 +27,10 @@ def wrong(words, reason):
     return (words, '', 'pipe', 'pipe', 2, reason + HELP)
 
 
-def fault(text, line, meaning, shown, more='', name=None):
+def fault(text, line, meaning, shown, more='', name=None, command='check'):
     """A case of a file with a fault: its line, what the word means, the line as it is shown, and what else is told."""
     told = f'leancheck: line {line} of the input: {meaning}\nleancheck: the line is: {shown}\n{more}'
-    return ('check', text, 'pipe', 'pipe', 3, told)
+    return (command, text, 'pipe', 'pipe', 3, told)
 
 
 NUMBER = 'a field that has to be a number is none'
@@ -43,9 +44,10 @@ CASES = [
     ('check --allow=', IDENTITY, 'pipe', 'pipe', 0, ''),
     ('trial --units 3 --seed 1 --allow p', '', 'pipe', 'pipe', 0, ''),
     ('trim --name id', IDENTITY, 'pipe', 'pipe', 0, ''),
+    ('replay', DERIVED, 'pipe', 'pipe', 0, ''),
     ('recheck', IDENTITY + '#GO\n', 'pipe', 'pipe', 0, ''),
     # words
-    wrong('', 'leancheck: no command is given: check, make, trial, trim or recheck\n'),
+    wrong('', 'leancheck: no command is given: check, make, trial, trim, replay or recheck\n'),
     wrong('chek', "leancheck: unrecognized subcommand 'chek'\n...") ,
     wrong('check more', "leancheck: unexpected argument 'more' found\n"),
     wrong('check --worker 2', "leancheck: unexpected argument '--worker' found\n"),
@@ -62,6 +64,7 @@ CASES = [
     wrong('trim', 'leancheck: the following required arguments were not provided:\n  --name <name>\n'),
     wrong('trim --name', "leancheck: a value is required for '--name <name>' but none was supplied\n"),
     wrong('trim --name p --steps 1', "leancheck: unexpected argument '--steps' found\n"),
+    wrong('replay --steps 4', "leancheck: unexpected argument '--steps' found\n"),
     wrong('recheck --workers 2', "leancheck: unexpected argument '--workers' found\n"),
     wrong('recheck --steps 0', 'leancheck: --steps 0 is out of range: it takes 1 to 18446744073709551615\n'),
     wrong('check --name p', "leancheck: unexpected argument '--name' found\n"),
@@ -79,16 +82,16 @@ CASES = [
     fault('0 #EQ 1\n', 1, 'no such tag, or a number stands before it that should not, or is missing', '0 #EQ 1'),
     fault('0 #EV 0\n1 #EA 0\n', 2, 'the line ends before a field that is due', '1 #EA 0'),
     fault('0 #ES 0 0\n', 1, 'a field stands behind the last one that is due', '0 #ES 0 0'),
-    fault('0 #EA 0 0\n', 1, 'a number of a name, level, expression or rule that no earlier line gives', '0 #EA 0 0'),
+    fault('0 #EA 0 0\n', 1, 'a number of a name, level, expression, rule or premise that no earlier line gives', '0 #EA 0 0'),
     fault('0 #ES 0\n\n0 #ES 0\n', 3, 'the number of the line was given to an earlier one', '0 #ES 0', SECOND),
     fault('2.0.0\n0 #ES 0\n2.0.0\n', 3, NUMBER, '2.0.0',
           'leancheck: a version stands in the first line alone; a second export cannot follow\n'),
     fault('0 #ELS 6\n', 1, 'a field of a text is not two hexadecimal digits', '0 #ELS 6'),
     fault('0 #ELS C3\n', 1, 'a name or a text is not UTF-8', '0 #ELS C3'),
-    fault('0 #EV 4294967296\n', 1, 'a number is above 2^32 - 1, or above 2^64 - 1 in a name or a budget', '0 #EV 4294967296'),
+    fault('0 #EV 4294967296\n', 1, 'a number is above 2^32 - 1, or above 2^64 - 1 in a name, a budget or behind #TR', '0 #EV 4294967296'),
     fault('1 #NS 0 a\n#BUD 1 18446744073709551616\n', 2,
-          'a number is above 2^32 - 1, or above 2^64 - 1 in a name or a budget', '#BUD 1 18446744073709551616'),
-    fault('0 #ES 0\n1 #EL #BX 0 0 0\n', 2, 'a binder info, a hint or a k is none of its words', '1 #EL #BX 0 0 0'),
+          'a number is above 2^32 - 1, or above 2^64 - 1 in a name, a budget or behind #TR', '#BUD 1 18446744073709551616'),
+    fault('0 #ES 0\n1 #EL #BX 0 0 0\n', 2, 'a binder info, a hint, a k or the rule of a derivation is none of its words', '1 #EL #BX 0 0 0'),
     fault('1 #NS 0 T\n0 #ES 0\n#IND 1 0 0 0 0 0 2 1\n', 3,
           'a list has fewer fields than its count says, or does not fit the block', '#IND 1 0 0 0 0 0 2 1'),
     fault('1 #NS 0 T\n0 #ES 0\n' + 2 * '#IND 1 0 0 0 0 0 1 1 0\n', 4,
@@ -107,6 +110,10 @@ CASES = [
           'leancheck: lines of metadata (#EM) are no part of this format\n'),
     fault('#GO\n', 1, 'no such tag, or a number stands before it that should not, or is missing', '#GO',
           'leancheck: changes of a library, behind lines #GO, are read by recheck alone\n'),
+    fault(DERIVED, 4, 'no such tag, or a number stands before it that should not, or is missing', '#TR',
+          'leancheck: derivations, behind a line #TR, are read by replay alone\n'),
+    fault(DERIVED[:-6], 7, 'a line of derivations before #TR or outside of a section, a section out of order or not ended, '
+          'or a line that may not follow #TR', '#AT 0', command='replay'),
     # what the input seems to be
     fault('{"meta":{}}\n', 1, NUMBER, '{"meta":{}}',
           SEEMS + 'NDJSON, format 3 of lean4export; this program reads the text format 2\n'),

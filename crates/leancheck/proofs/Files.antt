@@ -6,6 +6,9 @@ use Rattle.lk_env.specs.StoredLibrary.{StoredLibrary}
 use Rattle.lk_book.specs.File.{export_at, export_of, rounds_of}
 use Rattle.lk_book.specs.Reading.{ReadsLibrary, ReadsRounds, parts_at}
 use Rattle.lk_book.specs.declared.rounds.Rounds.{Rounds}
+use Rattle.lk_trace.specs.declared.traced.Traced.{Traced}
+use Rattle.lk_traced.specs.Held.{ReadsTrace, trace_at}
+use Rattle.lk_traced.specs.Trace.{trace_of}
 
 pub of_bytes : (P : List ℕ → Type 0) (left : Option (List ℕ)) (l : StoredLibrary) → ((bytes : List ℕ) → left ≡ Some bytes → ReadsLibrary (export_of bytes) (Ok l))
     → ((bytes : List ℕ) → export_of bytes ≡ Ok (export_at l) → P bytes) → IfSome left P
@@ -17,3 +20,9 @@ pub of_rounds : (P : List ℕ → Type 0) (left : Option (List ℕ)) (r : Rounds
     → ((bytes : List ℕ) → rounds_of bytes ≡ Ok (parts_at r) → P bytes) → IfSome left P
 of_rounds P None r reads told = tt
 of_rounds P (Some bytes) r reads told = told bytes (reads bytes refl)
+
+-- the same of a file with derivations
+pub of_trace : (P : List ℕ → Type 0) (left : Option (List ℕ)) (t : Traced) → ((bytes : List ℕ) → left ≡ Some bytes → ReadsTrace (trace_of bytes) (Ok t))
+    → ((bytes : List ℕ) → trace_of bytes ≡ Ok (trace_at t) → P bytes) → IfSome left P
+of_trace P None t reads told = tt
+of_trace P (Some bytes) t reads told = told bytes (reads bytes refl)

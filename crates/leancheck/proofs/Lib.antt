@@ -21,3 +21,5 @@ pub mod Settings
 pub mod StageMoves
 pub mod Needed
 pub mod Changes
+pub mod TraceNames
+pub mod Sections

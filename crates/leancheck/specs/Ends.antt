@@ -1,16 +1,19 @@
 -- How a run ends.
-use Rattle.std.specs.Prelude.{ℕ, ◌≡◌, ◌<◌, ◌⊎◌, Bool, true, false, List, [], ◌∷◌, ◌++◌, length, if◌then◌else◌, nat_eq}
+use Rattle.std.specs.Prelude.{ℕ, ◌≡◌, ◌<◌, ◌⊎◌, Bool, true, false, List, [], ◌∷◌, ◌++◌, length, map, if◌then◌else◌, nat_eq}
 use Rattle.std.specs.Prelude.{Some, None}
 use Rattle.std.specs.Prelude.{IfSome, Vec, Result, Ok, Err}
 use Rattle.std.specs.declared.alloc.Global.{Global}
 use Rattle.std.specs.declared.option.Option.{Option}
-use Rattle.std.specs.List.{Contains}
+use Rattle.std.specs.List.{Contains, range_with_len}
 use Rattle.std.specs.Io.KnownBytes.{Appends}
 use Rattle.lk_port.specs.Bytes.{AppendsSome}
 use Rattle.lk_verdict.specs.GoodUnit.{IsGoodUnit}
 use Rattle.lk_verdict.specs.Told.{Verdict, AreVerdicts}
 use Rattle.lk_reach.specs.Computed.{axioms_of}
 use Rattle.lk_rulebook.specs.Units.{Library}
+use Rattle.lk_written.specs.Outcomes.{FileSection, Outcome, holds, outcome_of}
+use Rattle.lk_answered.specs.Operations.{OperationsShown}
+use Rattle.lk_traced.specs.Trace.{Trace, trace_of}
 use Rattle.lk_recheck.specs.Spliced.{next_list}
 use Rattle.lk_recheck.specs.Rounds.{IsCount, KeepVerdicts}
 use Rattle.lk_book.specs.File.{Export, export_of, rounds_of, budget_of}
@@ -21,12 +24,14 @@ use Rattle.leancheck.specs.declared.status.Status.TheVariants.{NoSuchName, SomeM
 use Rattle.lk_command.specs.declared.words.Options.{Options}
 use Rattle.lk_command.specs.Words.{allowed_text}
 use Rattle.lk_command.specs.declared.words.Meaning.{Meaning}
-use Rattle.lk_command.specs.declared.words.Meaning.TheVariants.{Check, Make, Trial, Trim, Recheck}
+use Rattle.lk_command.specs.declared.words.Meaning.TheVariants.{Check, Make, Trial, Trim, Replay, Recheck}
 use Rattle.leancheck.specs.declared.extent.Extent.{Extent}
 use Rattle.leancheck.specs.declared.extent.Extent.TheVariants.{Report, Summary}
 use Rattle.leancheck.specs.Extents.{text_of}
 use Rattle.lk_text.specs.Text.{bad_line, checked_line, count, report_text}
 use Rattle.lk_text.specs.Named.{first_printed, unknown_line}
+use Rattle.lk_text.specs.Replayed.{count_outcomes, replay_text}
+use Rattle.lk_text.specs.declared.outcomes.OutcomeKind.TheVariants as kinds
 use Rattle.lk_text.specs.Policy.{Policy, policy_of, texts_of, IsOnList, all_under}
 use Rattle.lk_text.specs.declared.counts.VerdictKind.TheVariants.{No, Memory}
 use Rattle.lk_readback.specs.Trimmed.{IsTrimmed}
@@ -212,18 +217,56 @@ RechecksPrefix steps bytes old new =
 abbrev pub GivesRechecked : ℕ → List ℕ → Result (Vec ℕ Global × Status) WantOfMemory → Type 0
 GivesRechecked steps bytes made = Makes (IsRechecking steps bytes) made
 
+-- what comes of the section of each unit, in their order
+abbrev pub outcomes_of : Library → List FileSection → List Outcome
+outcomes_of us sections = map (outcome_of us sections) (range_with_len 0 (length us))
+
+-- no section is at fault, and none is missing
+abbrev pub replay_status : List Outcome → Status
+replay_status os =
+    if nat_eq (count_outcomes kinds.Bad os) 0
+    then (if nat_eq (count_outcomes kinds.None os) 0 then AllYes else SomeNo)
+    else SomeNo
+
+-- The bytes state a library and sections of its units. What is told is what comes of the section of
+-- each unit, and the status belongs to that. A unit whose section holds is good, where each unit
+-- before it that gives an operation on numbers with laws has a section that holds too, or is
+-- answered yes.
+pub record IsReplay (bytes : List ℕ) (status : Status) (text : List ℕ) : Type 0 where
+  pub trace : Trace
+  pub outcomes : List Outcome
+  pub spelled : trace_of bytes ≡ Ok trace
+  pub are : outcomes ≡ outcomes_of trace.export.units trace.sections
+  pub status_is : status ≡ replay_status outcomes
+  pub text_is : text ≡ replay_text trace.export.units outcomes
+  pub good : (n : ℕ) → outcome_of trace.export.units trace.sections n ≡ holds
+      → OperationsShown trace.export.units n → IsGoodUnit trace.export.units n
+
+-- what comes of the sections of the bytes was written
+abbrev pub Replays : List ℕ → Status → Option (List ℕ) → Option (List ℕ) → Type 0
+Replays bytes status old new = Writes (IsReplay bytes) status old new
+
+-- a prefix of the text that belongs to the bytes was written
+abbrev pub ReplaysPrefix : List ℕ → Option (List ℕ) → Option (List ℕ) → Type 0
+ReplaysPrefix bytes old new = WritesSome (λ f. trace_of bytes ≡ Err f) (IsReplay bytes) old new
+
+-- the text that was made, and the status, belong to the bytes
+abbrev pub GivesReplayed : List ℕ → Result (Vec ℕ Global × Status) WantOfMemory → Type 0
+GivesReplayed bytes made = Makes (IsReplay bytes) made
+
 -- what words mean that have the source read
 abbrev pub ReadsSource : Meaning → Type 0
 ReadsSource (Check o) = Unit {0}
 ReadsSource (Make s) = ⊥
 ReadsSource (Trial s o) = ⊥
 ReadsSource (Trim name) = Unit {0}
+ReadsSource Replay = Unit {0}
 ReadsSource (Recheck steps) = Unit {0}
 
 -- What words ask for was done, and this is its status, over the bytes of a source, where it tells
 -- them: a check writes its report, `make` its file, a trial the last line of what a check of that
--- file would write, `trim` one declaration with all that it needs, or that there is none, and
--- `recheck` what is told of each part of the file.
+-- file would write, `trim` one declaration with all that it needs, or that there is none, `replay`
+-- what comes of the sections of the file, and `recheck` what is told of each part of the file.
 abbrev pub Does : Meaning → Option (List ℕ) → Status → Option (List ℕ) → Option (List ℕ) → Type 0
 Does (Check o) left status old new =
     IsChecked status × IfSome left (λ bytes. Reports Report o bytes status old new)
@@ -232,6 +275,8 @@ Does (Trial s o) left status old new =
     Reports Summary o (file_of s.units s.seed) status old new
 Does (Trim name) left status old new =
     IsLookedUp status × IfSome left (λ bytes. Trims name.now bytes status old new)
+Does Replay left status old new =
+    IsChecked status × IfSome left (λ bytes. Replays bytes status old new)
 Does (Recheck steps) left status old new =
     IsChecked status × IfSome left (λ bytes. Rechecks steps bytes status old new)
 
@@ -244,6 +289,8 @@ FindsFault (Trial s o) left old new =
     (f : Fault) × (export_of (file_of s.units s.seed) ≡ Err f) × Appends old new (bad_line f)
 FindsFault (Trim name) left old new =
     (f : Fault) × IfSome left (λ bytes. export_of bytes ≡ Err f) × Appends old new (bad_line f)
+FindsFault Replay left old new =
+    (f : Fault) × IfSome left (λ bytes. trace_of bytes ≡ Err f) × Appends old new (bad_line f)
 FindsFault (Recheck steps) left old new =
     (f : Fault) × IfSome left (λ bytes. rounds_of bytes ≡ Err f) × Appends old new (bad_line f)
 
@@ -253,4 +300,5 @@ Begins (Check o) left old new = IfSome left (λ bytes. WritesPrefix Report o byt
 Begins (Make s) left old new = AppendsSome old new (file_of s.units s.seed)
 Begins (Trial s o) left old new = WritesPrefix Summary o (file_of s.units s.seed) old new
 Begins (Trim name) left old new = IfSome left (λ bytes. TrimsPrefix name.now bytes old new)
+Begins Replay left old new = IfSome left (λ bytes. ReplaysPrefix bytes old new)
 Begins (Recheck steps) left old new = IfSome left (λ bytes. RechecksPrefix steps bytes old new)

@@ -5,7 +5,7 @@ use crate::tests::is_row;
 use std::test::Fail;
 
 // Words, input, output, status.
-const ROWS: [(&str, &[u8], &[u8], Status); 40] = [
+const ROWS: [(&str, &[u8], &[u8], Status); 41] = [
     (
         "leancheck check",
         b"2.0.0\n1 #NS 0 p\n2 #NS 0 id\n0 #ES 0\n1 #EV 0\n2 #EV 1\n3 #EP #BD 0 1 2\n4 #EP #BD 1 0 3\n5 #EL #BD 0 1 1\n6 #EL #BD 1 0 5\n#THM 2 4 6\n",
@@ -245,6 +245,12 @@ const ROWS: [(&str, &[u8], &[u8], Status); 40] = [
         b"1 #NS 0 p\n2 #NS 0 id\n0 #ES 0\n1 #EV 0\n2 #EV 1\n3 #EP #BD 0 1 2\n4 #EP #BD 1 0 3\n5 #EL #BD 1 0 1\n#THM 2 4 5\n",
         b"no thm 0 id\n  why ValueType\nunits 1 yes 0 no 1 memory 0\n",
         Status::SomeNo,
+    ),
+    (
+        "leancheck replay",
+        b"2.0.0\n1 #NS 0 P\n0 #ES 0\n#AX 1 0\n2 #NS 0 t\n1 #EV 0\n2 #EV 1\n3 #EP #BD 0 1 2\n4 #EL #BD 0 0 3\n5 #EC 1\n6 #EA 4 5\n7 #EL #BD 0 5 1\n#THM 2 6 7\n#TR\n#AT 0\n1 #US 0\n8 #ES 1\n0 #TY T-Sort 0 8\n#OK 0\n#AT 1\n1 #TY T-Sort 0 8\n9 #EF 0 0\n2 #TY T-Local 9 0\n10 #EP #BD 0 9 9\n2 #UIM 0 0\n11 #ES 2\n12 #EF 1 9\n3 #TY T-Pi 10 11 12 2 2\n13 #EP #BD 0 0 11\n4 #TY T-Lam 4 13 9 1 3\n5 #TY T-Const 5 0\n6 #TY T-App 6 11 4 5\n14 #EF 0 5\n7 #TY T-Local 14 5\n15 #EP #BD 0 5 5\n8 #TY T-Lam 7 15 14 5 7\n9 #RD R-Beta 6 15\n10 #CV E-Reduce 15 6 9\n#OK 6 8 10\n",
+        b"ok 0 P\nok 1 t\nunits 2 ok 2 bad 0 none 0 block 0\n",
+        Status::AllYes,
     ),
 ];
 

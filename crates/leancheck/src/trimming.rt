@@ -50,7 +50,8 @@ fn trimmed(alloc: Global, library: &Library, name: &str) -> Result<(Vec<u8>, Sta
 
 /// Writes what is to be told of a library for a printed name.
 fn tell_trimmed<K: Sink>(alloc: Global, library: &Library, name: &str, sink: &mut K) -> Status
-    ensures told { IsLookedUp result → ((bytes : List ℕ) → export_of bytes ≡ Ok (export_at library.now)
+    ensures told { IsLookedUp result → ((bytes : List ℕ)
+        → export_of bytes ≡ Ok (export_at library.now)
         → Trims name.now bytes result (K.written sink.old) (K.written sink.new))
         × (K.faults sink.new ≡ K.faults sink.old) }
     ensures failed { result ≡ Status.WriteFault

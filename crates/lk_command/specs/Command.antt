@@ -34,6 +34,9 @@ trial = with_options (with_sample (new_app (codes "trial")))
 abbrev pub trim : App
 trim = with_rule (new_app (codes "trim")) (required_option (codes "name"))
 
+abbrev pub replay : App
+replay = new_app (codes "replay")
+
 abbrev pub recheck : App
 recheck = with_rule (new_app (codes "recheck")) (option (codes "steps"))
 
@@ -45,8 +48,11 @@ with_checks =
     with_subcommand made trial.top
 
 abbrev pub leancheck : App
-leancheck = with_subcommand (with_subcommand with_checks trim.top) recheck.top
+leancheck =
+    let trimmed = with_subcommand with_checks trim.top in
+    let replayed = with_subcommand trimmed replay.top in
+    with_subcommand replayed recheck.top
 
 abbrev pub usage_line : List ℕ
 usage_line =
-    codes "usage: leancheck check|make|trial|trim|recheck [--workers W] [--steps N] [--memo M] [--allow LIST] [--units N] [--seed S] [--name NAME]\n"
+    codes "usage: leancheck check|make|trial|trim|replay|recheck [--workers W] [--steps N] [--memo M] [--allow LIST] [--units N] [--seed S] [--name NAME]\n"

@@ -3,7 +3,7 @@
 ghost use Rattle.std.specs.Prelude.{◌≡◌, IfOk, false, codes};
 ghost use Rattle.clap.specs.Words.{app_of, new_app, with_rule, with_subcommand};
 ghost use Rattle.clap.specs.declared.builder.command.Command.TheViews.{out-Command};
-ghost use Rattle.lk_command.specs.Command.{check, leancheck, make, option, recheck, required_option, trial, trim, with_checks, with_options, with_sample};
+ghost use Rattle.lk_command.specs.Command.{check, leancheck, make, option, recheck, replay, required_option, trial, trim, with_checks, with_options, with_sample};
 
 use clap::{Arg, Command};
 use std::alloc::{AllocError, Global};
@@ -109,6 +109,14 @@ fn trim_command<'a>(alloc: Global) -> Result<Command<'a>, AllocError>
     with_required(alloc, Command::new(alloc, "trim"), "name")
 }
 
+/// The subcommand `replay`.
+fn replay_command<'a>(alloc: Global) -> Result<Command<'a>, AllocError>
+    ensures app { IfOk result (λ c. app_of c ≡ replay) }
+    ensures local { IfOk result (λ c. (out-Command c).has_globals ≡ false) }
+{
+    Ok(Command::new(alloc, "replay"))
+}
+
 /// The subcommand `recheck`.
 fn recheck_command<'a>(alloc: Global) -> Result<Command<'a>, AllocError>
     ensures app { IfOk result (λ c. app_of c ≡ recheck) }
@@ -133,10 +141,19 @@ fn with_trim<'a>(alloc: Global) -> Result<Command<'a>, AllocError>
     with_trial(alloc)?.subcommand(trim)
 }
 
+/// The same with `replay`.
+fn with_replay<'a>(alloc: Global) -> Result<Command<'a>, AllocError>
+    ensures app { IfOk result (λ c. app_of c
+        ≡ with_subcommand (with_subcommand with_checks trim.top) replay.top) }
+{
+    let replay = replay_command(alloc)?;
+    with_trim(alloc)?.subcommand(replay)
+}
+
 /// The whole command.
 pub fn command<'a>(alloc: Global) -> Result<Command<'a>, AllocError>
     ensures app { IfOk result (λ c. app_of c ≡ leancheck) }
 {
     let recheck = recheck_command(alloc)?;
-    with_trim(alloc)?.subcommand(recheck)
+    with_replay(alloc)?.subcommand(recheck)
 }

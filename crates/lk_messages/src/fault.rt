@@ -5,7 +5,7 @@ use lk_num::{Nat, read_nat};
 use memchr::{memchr, memmem};
 
 /// The words of faults, and what each means.
-const MEANINGS: [(&[u8], &str); 17] = [
+const MEANINGS: [(&[u8], &str); 18] = [
     (b"BadVersion", "the first number of the version is not 2"),
     (b"BadNumber", "a field that has to be a number is none"),
     (
@@ -23,7 +23,7 @@ const MEANINGS: [(&[u8], &str); 17] = [
     ),
     (
         b"IndexUnknown",
-        "a number of a name, level, expression or rule that no earlier line gives",
+        "a number of a name, level, expression, rule or premise that no earlier line gives",
     ),
     (b"BadHex", "a field of a text is not two hexadecimal digits"),
     (b"LineTooLong", "the line has more than 2^24 bytes"),
@@ -35,11 +35,11 @@ const MEANINGS: [(&[u8], &str); 17] = [
     (b"BadUtf8", "a name or a text is not UTF-8"),
     (
         b"NumberTooLarge",
-        "a number is above 2^32 - 1, or above 2^64 - 1 in a name or a budget",
+        "a number is above 2^32 - 1, or above 2^64 - 1 in a name, a budget or behind #TR",
     ),
     (
         b"BadWord",
-        "a binder info, a hint or a k is none of its words",
+        "a binder info, a hint, a k or the rule of a derivation is none of its words",
     ),
     (
         b"BadCount",
@@ -52,6 +52,10 @@ const MEANINGS: [(&[u8], &str); 17] = [
     (
         b"BlockOpen",
         "the block lacks a line: a type or constructor that is listed, or what lists this one",
+    ),
+    (
+        b"TraceOrder",
+        "a line of derivations before #TR or outside of a section, a section out of order or not ended, or a line that may not follow #TR",
     ),
 ];
 
@@ -96,6 +100,9 @@ pub fn likely(line: &[u8], fault: &Written<'_>) -> Option<&'static str> {
     }
     if word == b"UnknownTag".as_slice() && line.starts_with(b"#GO") {
         return Some("changes of a library, behind lines #GO, are read by recheck alone");
+    }
+    if word == b"UnknownTag".as_slice() && line.starts_with(b"#TR") {
+        return Some("derivations, behind a line #TR, are read by replay alone");
     }
     if word == b"UnknownTag".as_slice() && line.starts_with(b"#BUD") {
         return Some("recheck reads no budgets (#BUD); give one for all units by --steps");

@@ -16,12 +16,14 @@ const HELP: &str = "
   leancheck make --units N --seed S
   leancheck trial --units N --seed S [--workers W] [--steps N] [--memo M] [--allow LIST]
   leancheck trim --name NAME
+  leancheck replay
   leancheck recheck [--steps N]
 
   check   checks standard input, and writes a verdict for each declaration
   make    writes an export that it makes
   trial   checks that export in memory, and writes the last line alone
   trim    reads standard input, and writes one declaration with all that it needs, as an export
+  replay  reads standard input, and tests the derivation that stands for each declaration behind the line #TR
   recheck checks standard input up to the line #GO, then each change behind it, and what it touches
 
   --workers W   threads that check: 1 to 64, 1 if not given
@@ -32,8 +34,9 @@ const HELP: &str = "
   --seed S      number that they are made by: 0 to 2147483647
   --name NAME   name of a declaration, or of a member of a block, as check writes it
 
-  status 0  every declaration says yes, or there is none; or the export was made or trimmed
-         1  some declaration says no
+  status 0  every declaration says yes, or there is none; or each derivation holds and none is missing (replay);
+            or the export was made or trimmed
+         1  some declaration says no; or some derivation does not hold, or is missing (replay)
          2  the words are not understood
          3  the input has a fault
          4  a read failed
@@ -113,7 +116,7 @@ fn tell_why<R: Eprint>(rt: &R, alloc: Global, words: &[String]) {
             Some((_, given)) => tell_values(rt, given),
             None => {
                 let _ = eprintln!(rt;
-                    "leancheck: no command is given: check, make, trial, trim or recheck"
+                    "leancheck: no command is given: check, make, trial, trim, replay or recheck"
                 );
             }
         },

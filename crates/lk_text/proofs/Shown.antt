@@ -9,7 +9,10 @@ use Rattle.lk_env.specs.Units.{library_at}
 use Rattle.lk_checks.specs.declared.verdict.Verdict.{Verdict as HeldVerdict}
 use Rattle.lk_checks.specs.Held.{verdict}
 use Rattle.lk_text.specs.Text.{axiom_at, axioms_text, lines_text}
-use Rattle.lk_text.specs.Names.{unit_lines}
+use Rattle.lk_text.specs.Names.{unit_lines, unit_text}
+use Rattle.lk_text.specs.Replayed.{outcome_line, outcome_lines}
+use Rattle.lk_trace.specs.declared.outcome.Outcome.{Outcome}
+use Rattle.lk_trace.specs.Outcomes.{outcome_at}
 
 -- the lines of one more unit
 pub text_more : (us : Library) (c : Contents) (out new whole : List ℕ) (n : ℕ) (ks : List ℕ) (left more : List StoredUnit) (u : StoredUnit) (said others : List HeldVerdict) (v : HeldVerdict) → left ≡ u ∷ more → said ≡ v ∷ others → ks ≡ axioms_of us n
@@ -24,3 +27,11 @@ text_more us c out new whole n ks left more u said others v e f axs pushed h =
 pub axioms_more : (us : Library) (out new whole : List ℕ) (k : ℕ) (left more : List ℕ) → left ≡ k ∷ more → new ≡ out ++ axiom_at (slice_get us k) → out ++ axioms_text us left ≡ whole → new ++ axioms_text us more ≡ whole
 axioms_more us out new whole k left more e pushed h =
     ap (λ x. x ++ axioms_text us more) pushed ∙ append_assoc out (axiom_at (slice_get us k)) (axioms_text us more) ∙ ap (λ l. out ++ axioms_text us l) (sym e) ∙ h
+
+-- the line of one more unit, by what comes of its section
+pub outcomes_more : (c : Contents) (out new whole : List ℕ) (n : ℕ) (left more : List StoredUnit) (u : StoredUnit) (rest others : List Outcome) (o : Outcome) → left ≡ u ∷ more → rest ≡ o ∷ others
+    → new ≡ out ++ outcome_line n (unit_text c u) (outcome_at o) → out ++ outcome_lines n (library_at c left) (map outcome_at rest) ≡ whole → new ++ outcome_lines (n + 1) (library_at c more) (map outcome_at others) ≡ whole
+outcomes_more c out new whole n left more u rest others o e f pushed h =
+    let behind = outcome_lines (n + 1) (library_at c more) (map outcome_at others) in
+    ap (λ x. x ++ behind) pushed ∙ append_assoc out (outcome_line n (unit_text c u) (outcome_at o)) behind
+    ∙ ap (λ l. out ++ outcome_lines n (library_at c l) (map outcome_at (o ∷ others))) (sym e) ∙ ap (λ l. out ++ outcome_lines n (library_at c left) (map outcome_at l)) (sym f) ∙ h

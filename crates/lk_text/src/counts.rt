@@ -60,7 +60,7 @@ pub fn count(kind: VerdictKind, verdicts: &[Verdict]) -> u64
 
 /// Appends a number behind a word.
 #[tactic(auto, unfolding(crate::specs::Text::counted_text))]
-fn add_counted(out: &mut Vec<u8>, word: &[u8], n: u64) -> Result<(), NoMemory>
+pub(crate) fn add_counted(out: &mut Vec<u8>, word: &[u8], n: u64) -> Result<(), NoMemory>
     ensures { OnOk result (out.new.items ≡ out.old.items ++ counted_text word.now n) }
 {
     out.extend_from_slice(word)?;

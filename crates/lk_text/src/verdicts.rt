@@ -46,10 +46,15 @@ fn word_of(rule: Rule) -> &'static [u8]
     }
 }
 
-/// Appends the end of a unit's line, from the word of its kind; `name` is its name as it is
+/// Appends a unit's number and name behind a word, up to the end of the line; `name` is its name as it is
 /// written.
 #[tactic(auto, unfolding(crate::specs::Text::title_text))]
-fn add_title(out: &mut Vec<u8>, kind: &[u8], unit: u64, name: &[u8]) -> Result<(), NoMemory>
+pub(crate) fn add_title(
+    out: &mut Vec<u8>,
+    kind: &[u8],
+    unit: u64,
+    name: &[u8],
+) -> Result<(), NoMemory>
     ensures { OnOk result (out.new.items ≡ out.old.items ++ title_text kind.now unit name.now) }
 {
     out.extend_from_slice(kind)?;
