@@ -56,7 +56,8 @@ fn is_first_again(stack: &[Frame]) -> bool
 /// the stack is high enough: it waits for ever, so it is on the circle.
 pub(crate) fn look(stack: &[Frame], asked: Query<u64>, due: usize) -> Result<usize, Stop>
     ensures looked { OnOk result (due ≤ length stack.now → is_circle stack.now asked ≡ false) }
-    ensures again { IfErr result (λ stop. (stop ≡ Stop.Spent) × (is_circle stack.now asked ≡ true)) }
+    ensures again { IfErr result (λ stop. (stop ≡ Stop.Spent)
+        × (is_circle stack.now asked ≡ true)) }
 {
     let waiting = stack.len();
     if waiting < due {

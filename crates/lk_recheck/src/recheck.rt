@@ -207,7 +207,8 @@ impl Recheck {
     /// The units behind a part.
     fn next_units(&self, alloc: Global, part: Vec<Unit>) -> Result<Vec<Unit>, NoMemory>
         requires { AreUnitsIn (contents_of self.now.library.tables) part.items }
-        ensures known { IfOk result (λ us. AreUnitsIn (contents_of self.now.library.tables) us.items) }
+        ensures known { IfOk result (λ us.
+            AreUnitsIn (contents_of self.now.library.tables) us.items) }
         ensures list { IfOk result (λ us. library_at (contents_of self.now.library.tables) us.items
             ≡ next_list self.now.begun (library_of self.now.library)
             (library_at (contents_of self.now.library.tables) part.items)) }
