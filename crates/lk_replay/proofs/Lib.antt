@@ -7,3 +7,4 @@ pub mod Ends
 pub mod LawForms
 pub mod Found
 pub mod QuotientTests
+pub mod Good

@@ -1,6 +1,8 @@
 //! The section of a unit of a file with derivations.
 
-ghost use Rattle.std.specs.Prelude.{◌≡◌, ◌<◌, length, map, option_map, All, IfOk, IfSome};
+ghost use Rattle.std.specs.Prelude.{◌≡◌, ◌<◌, [], length, map, option_map, All, IfOk, IfSome};
+ghost use Rattle.lk_rulebook.specs.Units.{place_of};
+ghost use Rattle.lk_questions.specs.Sound.{IsSoundPlace};
 ghost use Rattle.lk_written.specs.Section.{unit_at_fault};
 ghost use Rattle.lk_written.specs.Outcomes.{section_for, by_fault, section_of};
 ghost use Rattle.lk_store.specs.Contents.{Contents};
@@ -10,6 +12,7 @@ ghost use Rattle.lk_trace.specs.Meaning.{section_of as plain_section, IsSectionI
 ghost use Rattle.lk_trace.specs.Files.{section_at, IsFileSectionIn, AreSectionsIn, AreRising, outcome_in};
 ghost use Rattle.lk_trace.specs.Outcomes.{outcome_at};
 ghost use Rattle.lk_replay.specs.Outcomes.{outcome_by};
+ghost use Rattle.lk_replay.specs.Derived.{IsDerivedUnit};
 
 use crate::section::fault_of;
 use lk_ask::instances::Instances;
@@ -123,10 +126,8 @@ fn replay_if_written(
     }
 }
 
-/// What comes of the section of a unit: it holds, or the first line of the file that is at fault; or the unit has none, or is
-/// a block. A section is tested as the definitions of written derivations say (`lk_written`), at the place of the unit, where
-/// the units before it are seen, and costs no more than its own lines: what it makes goes with it.
-pub fn replay_unit(alloc: Global, traced: &Traced, number: u32) -> Result<Outcome, NoMemory>
+/// What comes of the section of a unit, at the place of the unit, where the units before it are seen.
+fn replay_at(alloc: Global, traced: &Traced, number: u32) -> Result<Outcome, NoMemory>
     requires sections_in { AreSectionsIn traced.now }
     requires rising { AreRising traced.now.sections.items }
     requires number_in { number < length (library_of traced.now.library) }
@@ -143,4 +144,20 @@ pub fn replay_unit(alloc: Global, traced: &Traced, number: u32) -> Result<Outcom
         },
         None => unreachable!(),
     }
+}
+
+/// What comes of the section of a unit: it holds, or the first line of the file that is at fault; or the unit has none, or is
+/// a block. A section is tested as the definitions of written derivations say (`lk_written`), over a store that goes with it:
+/// nothing is kept from one section for the next.
+pub fn replay_unit(alloc: Global, traced: &Traced, number: u32) -> Result<Outcome, NoMemory>
+    requires sections_in { AreSectionsIn traced.now }
+    requires rising { AreRising traced.now.sections.items }
+    requires number_in { number < length (library_of traced.now.library) }
+    ensures is { IfOk result (λ o. outcome_at o ≡ outcome_in traced.now number) }
+
+    // A unit whose section holds is derived, where the operations on numbers before it have their laws.
+    ensures derived { let us = library_of traced.now.library in IfOk result (λ o.
+        o ≡ Outcome.Ok → IsSoundPlace (place_of us number []) → IsDerivedUnit us number) }
+{
+    replay_at(alloc, traced, number)
 }

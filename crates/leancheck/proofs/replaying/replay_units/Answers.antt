@@ -14,7 +14,7 @@ replay_unit-requires-clause-number_in g c =
 pub loop-n-preserved : goal.loop-n-preserved
 loop-n-preserved g c =
     let t = c.args.traced.now in
-    one_more (library_of t.library) (sections_of t) c.loop-n.n c.loop-n.outcomes.items c.push.new.self.items c.in_ok-outcome.outcome c.loop-n.invariant c.in_ok-outcome.ensures (search rules)
+    one_more (library_of t.library) (sections_of t) c.loop-n.n c.loop-n.outcomes.items c.push.new.self.items c.in_ok-outcome.outcome c.loop-n.invariant c.in_ok-outcome.ensures.is (search rules)
 
 pub returns : goal.returns
 returns g c =
