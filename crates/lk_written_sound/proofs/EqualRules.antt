@@ -60,7 +60,7 @@ normal_passes wide h = refl
 normal_passes (str s) h = refl
 normal_passes (local k T) h = refl
 
-value_there : (g : Entry) (v : Tree) → HasValue g v → value_of g.kind ≡ Some v
+pub value_there : (g : Entry) (v : Tree) → HasValue g v → value_of g.kind ≡ Some v
 value_there g v (of_def k) = rw k refl
 value_there g v (of_thm k) = rw k refl
 

@@ -29,7 +29,7 @@ use Rattle.lk_claims.proofs.Facts.{same_self, some_on}
 use Rattle.lk_written_sound.proofs.Writings.{are_equal, next, last_reduct, go_on, go_test, comes_itself, some_test, with_reduct, with_equal, typed_next, go_typed, go_reduced, go_equal}
 use Rattle.lk_written_sound.proofs.EqualRules.{same_self_name}
 
-head_applied : (h : Tree) (xs : List Tree) → head (apply h xs) ≡ head h
+pub head_applied : (h : Tree) (xs : List Tree) → head (apply h xs) ≡ head h
 unfolding head
 head_applied h [] = refl
 head_applied h (x ∷ xs) = head_applied (app h x) xs
@@ -38,7 +38,7 @@ pushed : (ys : List Tree) (x : Tree) (xs : List Tree) → (ys ++ (x ∷ [])) ++ 
 pushed [] x xs = refl
 pushed (y ∷ ys) x xs = ap (λ zs. y ∷ zs) (pushed ys x xs)
 
-args_applied : (h : Tree) (xs : List Tree) → args (apply h xs) ≡ args h ++ xs
+pub args_applied : (h : Tree) (xs : List Tree) → args (apply h xs) ≡ args h ++ xs
 unfolding args
 args_applied h [] = no_more (args h)
   where
@@ -66,7 +66,7 @@ pub major_there : (w : Place) (R : Name) (ls : List Level) (front : List Tree) (
     major_of w (head (apply (const R ls) front)) (length (args (apply (const R ls) front))) ≡ Some (R, ls, g, r)
 major_there w R ls front g r m k c = major_at w R ls g r m k (head (apply (const R ls) front)) (length (args (apply (const R ls) front))) (const_head R ls front) (ap (length {A = Tree}) (const_args R ls front) ∙ c)
 
-passed_some : (o : Option (Unit {0})) → passes o ≡ true → o ≡ Some tt
+pub passed_some : (o : Option (Unit {0})) → passes o ≡ true → o ≡ Some tt
 passed_some (Some tt) h = refl
 passed_some None h = absurd cc
 
@@ -91,7 +91,7 @@ rule_place [] r h = absurd h
 rule_place (s ∷ rs) r (inl e) = (0, ap (λ x. Some x) e)
 rule_place (s ∷ rs) r (inr h) = let x : (n : ℕ) × (slice_get rs n ≡ Some r) = rule_place rs r h in (suc x.0, x.1)
 
-iota_passes : (w : Place) (R : RecApp w) (c : CtorApp w) (h : HasRule R c) (n : ℕ) → slice_get R.recursor.rules n ≡ Some h.rule →
+pub iota_passes : (w : Place) (R : RecApp w) (c : CtorApp w) (h : HasRule R c) (n : ℕ) → slice_get R.recursor.rules n ≡ Some h.rule →
     (F E : Tree) → head F ≡ const R.name R.levels → args F ≡ R.front → head E ≡ const c.name c.levels → args E ≡ c.args → passes (red_iota w n [] (app F E) (rule_result R c h)) ≡ true
 iota_passes w R c h n at F E hF aF hE aE =
     let value : Tree = put_levels R.entry.levels R.levels h.rule.value in
@@ -129,7 +129,7 @@ quot_there w c i = some_on (w.means c) i.entry _ tt i.given (rw i.kind refl)
 mk_there : (h : Tree) (ys : List Tree) (ks : List Level) (A r a : Tree) → h ≡ const quot_mk ks → ys ≡ A ∷ r ∷ a ∷ [] → mk_of h ys ≡ Some a
 mk_there h ys ks A r a e i = rw (e, i) (some_test (same_name quot_mk quot_mk) _ a (same_self_name quot_mk) refl)
 
-quot_passes : (w : Place) (qs : List Claim) (j : ℕ) (q : Name) (f m : Tree) (ks : List Level) (A r a : Tree) → IsQuot w q → IsQuot w quot_mk → Stands qs j (reduces m (apply (const quot_mk ks) (A ∷ r ∷ a ∷ []))) →
+pub quot_passes : (w : Place) (qs : List Claim) (j : ℕ) (q : Name) (f m : Tree) (ks : List Level) (A r a : Tree) → IsQuot w q → IsQuot w quot_mk → Stands qs j (reduces m (apply (const quot_mk ks) (A ∷ r ∷ a ∷ []))) →
     passes (red_quot w qs (with_reduct m (apply (const quot_mk ks) (A ∷ r ∷ a ∷ [])) j []) q q f m (app f a)) ≡ true
 quot_passes w qs j q f m ks A r a i im e =
     go_test (same_name q q) _ (same_self_name q)
@@ -163,7 +163,7 @@ can_ind w ls ks A r B h m A' r' a i im ff hm =
           last_reduct w qs ind_rule s (app h a) (with_reduct m (apply (const quot_mk ks) (A' ∷ r' ∷ a ∷ [])) j []) d (quot_passes w qs j quot_ind h m ks A' r' a i im e));
     }
 
-field_passes : (w : Place) (qs : List Claim) (j : ℕ) (c : CtorApp w) (i : ℕ) (s m x M : Tree) → Stands qs j (reduces s m) →
+pub field_passes : (w : Place) (qs : List Claim) (j : ℕ) (c : CtorApp w) (i : ℕ) (s m x M : Tree) → Stands qs j (reduces s m) →
     found w (text_to_ctor m) ≡ Some M → head M ≡ const c.name c.levels → args M ≡ c.args → slice_get c.args (c.ctor.parameters + i) ≡ Some x → passes (red_field w qs (with_reduct s m j []) (proj c.ind.name i s) x) ≡ true
 field_passes w qs j c i s m x M e t hM aM at =
     go_reduced qs j [] s m _ e (λ y. refl)
@@ -194,7 +194,7 @@ taken : (ys xs : List Tree) → take (length ys) (ys ++ xs) ≡ ys
 taken [] xs = refl
 taken (y ∷ ys) xs = ap (λ zs. y ∷ zs) (taken ys xs)
 
-k_passes : (w : Place) (qs : List Claim) (i j m n : ℕ) (R : RecApp w) (k : KMajor R) (e T₀ D F T d : Tree) → head F ≡ const R.name R.levels → args F ≡ R.front → head T ≡ const k.ctor.ind.name k.ctor.levels → args T ≡ k.ctor.args ++ k.rest →
+pub k_passes : (w : Place) (qs : List Claim) (i j m n : ℕ) (R : RecApp w) (k : KMajor R) (e T₀ D F T d : Tree) → head F ≡ const R.name R.levels → args F ≡ R.front → head T ≡ const k.ctor.ind.name k.ctor.levels → args T ≡ k.ctor.args ++ k.rest →
     d ≡ ctor_app k.ctor → slice_get qs i ≡ Some (types e T₀) → Stands qs j (reduces T₀ T) → slice_get qs m ≡ Some (types d D) → Stands qs n (equals T D) → passes (red_k w qs (i ∷ with_reduct T₀ T j (m ∷ with_equal T D n [])) (app F e) (app F d)) ≡ true
 k_passes w qs i j m n R k e T₀ D F T d hF aF hT aT ed e₁ e₂ e₃ e₄ =
     let last : Left = with_equal T D n [] in

@@ -57,7 +57,7 @@ can_succ_right w n x f h = record {
 }
 
 -- a lambda stands second
-second_lam : (ps : List Claim) (js : Left) (o A b : Tree) → IsNeutral o →
+pub second_lam : (ps : List Claim) (js : Left) (o A b : Tree) → IsNeutral o →
     passes (test (is_neutral o) >>= λ u. typed ps js o >>= λ T. to_pi ps T.1 T.0 >>= λ p. equal ps p.1 (eta_long p.0.0 o) (lam A b) >>= λ r. ends r) ≡ true → passes (eq_eta ps js o (lam A b)) ≡ true
 second_lam ps js (lam C d) A b n h = absurd n
 second_lam ps js o A b n h = h

@@ -75,7 +75,7 @@ op_there shift_left = refl
 op_there shift_right = refl
 op_there pow = refl
 
-operation_passes : (w : Place) (qs : List Claim) (js : Left) (op : Op) (es : List Tree) (ns : List ℕ) (r a : Tree) (i : IsOperation w op) → head a ≡ const (op_name op) [] → args a ≡ es → found w nat_shape ≡ Some tt → numbers qs js es ≡ Some (ns, []) →
+pub operation_passes : (w : Place) (qs : List Claim) (js : Left) (op : Op) (es : List Tree) (ns : List ℕ) (r a : Tree) (i : IsOperation w op) → head a ≡ const (op_name op) [] → args a ≡ es → found w nat_shape ≡ Some tt → numbers qs js es ≡ Some (ns, []) →
     found w (result_of (op_value op ns)) ≡ Some (Some r) → passes (red_operation w qs js a r) ≡ true
 operation_passes w qs js op es ns r a i ha aa s n t =
     go_on (as_const (head a)) (op_name op, []) _ (rw ha refl)

@@ -142,7 +142,7 @@ field_read w qs {q = q} (field_before {r = r} {A = A} {B = B} {F = F} h p k) js 
     some_on (to_pi qs (with_reduct r (pi A B) h.place more) r) ((A, B), more) _ (F, js) (to_pi_there qs h.place more r A B h.stands (pi_settled qs more r A B (prop_next w qs p rest m)))
     (some_on (prop_if (q && has_var 0 B) qs more A) rest _ (F, js) (prop_read w qs p rest m) (field_read w qs k js n))
 
-is_less : (m n : ℕ) → m < n → nat_lt m n ≡ true
+pub is_less : (m n : ℕ) → m < n → nat_lt m n ≡ true
 is_less m n e = grind (arith, nat_tests)
 
 proj_passes : (w : Place) (qs : List Claim) (i j u v : ℕ) (p : Projectable w) (f : ℕ) (s T₀ T U R F : Tree) (l : Level) → f < p.ctor.fields → head T ≡ const p.name p.levels → args T ≡ p.args →

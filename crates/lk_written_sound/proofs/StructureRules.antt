@@ -30,7 +30,7 @@ use Rattle.lk_written_sound.proofs.MajorRules.{const_head, const_args, major_the
 empty_there : (block : Block) (ind : BlockType) (ctor : Ctor) (cs : List Ctor) (xs : List Tree) → cs ≡ ctor ∷ [] → is_structure_like block ind ctor ≡ true → ctor.fields ≡ 0 → length xs ≡ ind.parameters → is_unit_like block ind cs xs ≡ true
 empty_there block ind ctor cs xs e l z n = rw e (and_true (is_structure_like block ind ctor && nat_eq ctor.fields 0) (nat_eq (length xs) ind.parameters) (and_true (is_structure_like block ind ctor) (nat_eq ctor.fields 0) l (are_equal ctor.fields 0 z)) (are_equal (length xs) ind.parameters n))
 
-unit_passes : (w : Place) (qs : List Claim) (i j k m : ℕ) (u : UnitLike w) (ls : List Level) (bs : List Tree) (a b A B T : Tree) → IsHeadNormal a → IsHeadNormal b → length bs ≡ u.ind.parameters →
+pub unit_passes : (w : Place) (qs : List Claim) (i j k m : ℕ) (u : UnitLike w) (ls : List Level) (bs : List Tree) (a b A B T : Tree) → IsHeadNormal a → IsHeadNormal b → length bs ≡ u.ind.parameters →
     head T ≡ const u.name ls → args T ≡ bs → slice_get qs i ≡ Some (types a A) → Stands qs j (reduces A T) → slice_get qs k ≡ Some (types b B) → Stands qs m (equals A B) → passes (eq_unit w qs (i ∷ with_reduct A T j (k ∷ with_equal A B m [])) a b) ≡ true
 unit_passes w qs i j k m u ls bs a b A B T na nb n hT aT e₁ e₂ e₃ e₄ =
     let last : Left = with_equal A B m [] in
@@ -84,7 +84,7 @@ dropped (suc n) (p ∷ ps) xs e = dropped n ps xs (omega arith)
 count_both : (ps xs : List Tree) (m n : ℕ) → length ps ≡ m → length xs ≡ n → length (ps ++ xs) ≡ m + n
 count_both ps xs m n e i = omega (arith, length-append ps xs)
 
-struct_passes : (w : Place) (qs : List Claim) (i j k : ℕ) (js : Left) (s : Structure w) (ks : List Level) (ps xs : List Tree) (a b A B : Tree) →
+pub struct_passes : (w : Place) (qs : List Claim) (i j k : ℕ) (js : Left) (s : Structure w) (ks : List Level) (ps xs : List Tree) (a b A B : Tree) →
     IsHeadNormal a → length ps ≡ s.ctor.parameters → length xs ≡ s.ctor.fields → head b ≡ const s.ctor_name ks → args b ≡ ps ++ xs →
     slice_get qs i ≡ Some (types a A) → slice_get qs j ≡ Some (types b B) → Stands qs k (equals A B) → fields_equal qs js s.ind.name a 0 xs ≡ Some [] → passes (eq_struct w qs (i ∷ j ∷ with_equal A B k js) a b) ≡ true
 struct_passes w qs i j k js s ks ps xs a b A B na np nx hb ab e₁ e₂ e₃ t =
@@ -142,7 +142,7 @@ can_struct_right w S xs a A B na nx ha hb hq all =
 rule_there : (rs : List RecRule) (r : RecRule) → rs ≡ r ∷ [] → the_rule rs ≡ Some r
 rule_there rs r e = rw e refl
 
-expand_passes : (w : Place) (qs : List Claim) (i j : ℕ) (js : Left) (R : Name) (s : Structure w) (ks ls : List Level) (bs : List Tree) (m T₀ F T n : Tree) (l : Level) (entry : Entry) (recursor : Recursor) (rule : RecRule) →
+pub expand_passes : (w : Place) (qs : List Claim) (i j : ℕ) (js : Left) (R : Name) (s : Structure w) (ks ls : List Level) (bs : List Tree) (m T₀ F T n : Tree) (l : Level) (entry : Entry) (recursor : Recursor) (rule : RecRule) →
     recursor.rules ≡ rule ∷ [] → rule.ctor ≡ s.ctor_name → length bs ≡ s.ctor.parameters → major_of w (head F) (length (args F)) ≡ Some (R, ks, entry, recursor) → head T ≡ const s.ind.name ls → args T ≡ bs →
     n ≡ apply (const s.ctor_name ls) (bs ++ projections s.ind.name m 0 s.ctor.fields) → slice_get qs i ≡ Some (types m T₀) → Stands qs j (reduces T₀ T) → NoReduct qs js T₀ → sorted qs js T ≡ Some (l, []) → is_zero_level l ≡ false →
     passes (red_expand w qs (i ∷ with_reduct T₀ T j js) (app F m) (app F n)) ≡ true
