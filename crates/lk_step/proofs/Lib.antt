@@ -1,0 +1,11 @@
+pub mod Runs
+pub mod Shapes
+pub mod Told
+pub mod Naming
+pub mod Spines
+pub mod TypingSteps
+pub mod ReductionSteps
+pub mod SpineSteps
+pub mod StructureSteps
+pub mod EqualitySteps
+pub mod MajorSteps

@@ -1,0 +1,15 @@
+use Rattle.std.proofs.Common.{Ok, subst}
+use Rattle.lk_tree.specs.Tree.{Tree}
+use Rattle.lk_rulebook.specs.Place.{Place}
+use Rattle.lk_questions.specs.Query.{core}
+use Rattle.lk_store.specs.Contents.{Contents, tree_at}
+use Rattle.lk_step.specs.Told.{IsTold}
+use Rattle.lk_step.proofs.Told.{told_core}
+use Rattle.lk_step.proofs.derives.core_of.Goals as goal
+
+pub returns-clause-told : goal.returns-clause-told
+returns-clause-told g c =
+    let w : Place = (g.D.Looks.sight (g.D.Terms.rest c.args.derives.now)).basis.place in
+    let d : Contents = g.D.Terms.contents c.answer.new.self in
+    let e : Tree = tree_at (g.D.Terms.contents c.args.derives.now) c.args.e in
+    told_core w d e c.in-Term.v (subst (λ a. IsTold w d (core e) (Ok a)) c.in-Term.is c.in_ok-v.ensures.told)

@@ -1,0 +1,10 @@
+pub mod Steps
+pub mod Rows
+pub mod Runs
+pub mod Told
+pub mod Meaning
+pub mod Shaped
+pub mod Typing
+pub mod Reducing
+pub mod Equal
+pub mod MajorSteps
