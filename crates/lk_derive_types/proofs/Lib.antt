@@ -1,0 +1,15 @@
+pub mod AskedSoFar
+pub mod Leaving
+pub mod RunParts
+pub mod NoQuestions
+pub mod Constant
+pub mod QuietShapes
+pub mod PartSteps
+pub mod LambdaRows
+pub mod PiRows
+pub mod LetRows
+pub mod ClosedRows
+pub mod BinderSteps
+pub mod SpineRuns
+pub mod SpineSteps
+pub mod Claimed

@@ -1,0 +1,5 @@
+pub mod Asked
+pub mod TypeRows
+pub mod Parts
+pub mod Binders
+pub mod Spines

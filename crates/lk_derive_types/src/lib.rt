@@ -1,0 +1,16 @@
+//! Rows of Infer: what the type of a term rests on, the questions that are asked for it and one step of typing.
+#![tactic(auto)]
+
+mod applications;
+mod asked;
+mod atoms;
+mod binders;
+mod constants;
+mod lambdas;
+mod lets;
+mod literals;
+mod parts;
+mod pis;
+mod row;
+
+pub use row::unprojected_row;

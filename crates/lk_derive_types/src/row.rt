@@ -1,0 +1,45 @@
+//! The row of the type of a term.
+
+ghost use Rattle.std.specs.Prelude.{◌<◌, length};
+ghost use Rattle.lk_rulebook.specs.WellStated.{WellStated};
+ghost use Rattle.lk_questions.specs.Query.{infer};
+ghost use Rattle.lk_store.specs.Contents.{tree_at};
+ghost use Rattle.lk_step.specs.Rows.{IsClaim};
+ghost use Rattle.lk_derive_types.specs.TypeRows.{IsUnprojected, GivesRow};
+
+use crate::applications::application_row;
+use crate::atoms::{local_row, sort_row};
+use crate::constants::constant_row;
+use crate::lambdas::lambda_row;
+use crate::lets::let_row;
+use crate::literals::{number_row, text_row};
+use crate::pis::pi_row;
+use lk_step::{Derives, Row};
+use lk_store::memory::NoMemory;
+use lk_store::node::Node;
+
+/// The row of the type of a term that is no projection.
+pub fn unprojected_row<D: Derives>(derives: &mut D, e: u64, enough: u128) -> Result<Row, NoMemory>
+    requires stated { WellStated (D.sight (D.rest derives.old)).basis.place }
+    requires e_in { e < length (D.contents derives.old).trees }
+    requires unprojected { IsUnprojected (tree_at (D.contents derives.old) e) }
+    requires claimed { IsClaim (D.sight (D.rest derives.old)).basis.place
+        (infer (tree_at (D.contents derives.old) e)) enough }
+    ensures { GivesRow D.contents D.rest D.sight derives.old derives.new
+        (tree_at (D.contents derives.old) e) result }
+{
+    match derives.view(e) {
+        Node::Sort(level) => sort_row(derives, e, level),
+        Node::Local(number, ty) => local_row(derives, e, number, ty),
+        Node::Const(name, levels) => constant_row(derives, e, name, levels),
+        Node::App(_, _) => application_row(derives, e, enough),
+        Node::Lam(domain, body) => lambda_row(derives, e, domain, body, enough),
+        Node::Pi(domain, body) => pi_row(derives, e, domain, body, enough),
+        Node::Let(stated, value, body) => let_row(derives, e, stated, value, body, enough),
+        Node::Lit(number) => number_row(derives, e, number),
+        Node::Str(text) => text_row(derives, e, text),
+        Node::Var(_) => unreachable!(),
+        Node::Proj(_, _, _) => unreachable!(),
+        Node::Wide => unreachable!(),
+    }
+}
