@@ -1,0 +1,9 @@
+mod Parts
+mod Steady
+mod PartsIn
+mod CoreRuns
+mod Begun
+mod CoreRows
+mod Inert
+mod FormRuns
+mod FormRows

@@ -1,0 +1,12 @@
+//! What the answers of `Core` and `Whnf` rest on: for each form the questions that its row of the table asks, and the steps
+//! over what their answers claim.
+#![tactic(auto)]
+
+mod bindings;
+mod forms;
+mod heads;
+mod rows;
+mod under_way;
+mod values;
+
+pub use rows::{core_row, form_row};

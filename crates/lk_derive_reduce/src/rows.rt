@@ -1,0 +1,235 @@
+//! The rows of `Core` and `Whnf`. Where a row is still to be written, want of memory is told.
+
+ghost use Rattle.std.specs.Prelude.{◌≡◌, ◌<◌, List, Some, false, IfOk, OnOk, length};
+ghost use Rattle.lk_tree.specs.Tree.{const};
+ghost use Rattle.lk_tree.specs.Spine.{head as head_of};
+ghost use Rattle.lk_rulebook.specs.Place.{Entry as PlainEntry};
+ghost use Rattle.lk_rulebook.specs.WellStated.{WellStated};
+ghost use Rattle.lk_questions.specs.Query.{core, whnf};
+ghost use Rattle.lk_store.specs.Contents.{Contents, name_at, list_at, tree_at};
+ghost use Rattle.lk_env.specs.declared.unit.Unit.{Unit as StoredUnit};
+ghost use Rattle.lk_env.specs.Entries.{plain_entry};
+ghost use Rattle.lk_step.specs.Meaning.{IsRowIn, IsRowOf};
+ghost use Rattle.lk_step.specs.Rows.{IsClaim};
+ghost use Rattle.lk_step.specs.Told.{Leaves};
+ghost use Rattle.lk_derive_reduce.specs.Parts.{IsWhole, IsEmpty};
+ghost use Rattle.lk_derive_reduce.specs.Forms.{IsApp, IsCoreForm, IsHeadForm, IsInert};
+
+use crate::bindings::{beta_row, let_row};
+use crate::forms::{Constant, fill_form};
+use crate::heads::head_row;
+use lk_env::entry::{Entry, Kind};
+use lk_env::unit::Body;
+use lk_spine::head;
+use lk_step::{Derives, Row};
+use lk_store::memory::NoMemory;
+use lk_store::node::Node;
+use lk_store::terms::Terms;
+use std::alloc::Global;
+
+/// What `Core` does first at a term.
+#[derive(Clone, Copy)]
+pub enum CoreForm {
+    Applied,
+    /// A let of this value and this body.
+    Bound(u64, u64),
+    Projected,
+    /// It is its own `Core`.
+    Itself,
+}
+
+/// What `Core` of an application does first, by its head.
+#[derive(Clone, Copy)]
+pub enum HeadForm {
+    Lambda,
+    /// A let or a projection.
+    Stuck,
+    Named(Constant),
+    /// The application is its own `Core`.
+    Rigid,
+}
+
+fn core_form<T: Terms>(terms: &T, e: u64) -> CoreForm
+    requires { e < length (T.contents terms.now).trees }
+    ensures { let c = T.contents terms.now in IsCoreForm c (tree_at c e) result }
+{
+    match terms.view(e) {
+        Node::App(_, _) => CoreForm::Applied,
+        Node::Let(_, value, body) => CoreForm::Bound(value, body),
+        Node::Proj(_, _, _) => CoreForm::Projected,
+        _ => CoreForm::Itself,
+    }
+}
+
+fn head_form<T: Terms>(terms: &T, e: u64) -> HeadForm
+    requires { e < length (T.contents terms.now).trees }
+    ensures { let c = T.contents terms.now in IsHeadForm c (tree_at c e) result }
+{
+    match terms.view(e) {
+        Node::Lam(_, _) => HeadForm::Lambda,
+        Node::Let(_, _, _) | Node::Proj(_, _, _) => HeadForm::Stuck,
+        Node::Const(name, levels) => HeadForm::Named(Constant { name, levels }),
+        _ => HeadForm::Rigid,
+    }
+}
+
+/// Whether `Core` may reduce what a constant of this entry is at the head of.
+fn is_active(entry: Entry) -> bool
+    ensures { (c : Contents) (us : List StoredUnit) (g : PlainEntry)
+        → plain_entry c us entry ≡ Some g → result ≡ false → IsInert g.kind }
+{
+    match entry.kind {
+        Kind::Declared(body) => match body {
+            Body::Quotient => true,
+            Body::Definition { .. } | Body::Theorem { .. } | Body::Axiom | Body::Opaque { .. } => {
+                false
+            }
+        },
+        Kind::Recursor(_) | Kind::BareRecursor(_) => true,
+        Kind::Type(_) | Kind::Constructor { .. } => false,
+    }
+}
+
+/// The row of an application of a constant.
+fn constant_row<D: Derives>(
+    derives: &D,
+    row: &Row,
+    e: u64,
+    constant: Constant,
+    enough: u128,
+) -> Result<(), NoMemory>
+    requires e_in { e < length (D.contents derives.now).trees }
+    requires applied { IsApp (tree_at (D.contents derives.now) e) }
+    requires name_in { constant.name < length (D.contents derives.now).names }
+    requires head_is { let c = D.contents derives.now in const (name_at c constant.name)
+        (list_at c constant.levels) ≡ head_of (tree_at c e) }
+    requires claimed { IsClaim (D.sight (D.rest derives.now)).basis.place
+        (core (tree_at (D.contents derives.now) e)) enough }
+    requires empty { IsEmpty row.now }
+    ensures { OnOk result (IsWhole (D.sight (D.rest derives.now)).basis.place
+        (D.contents derives.now) (core (tree_at (D.contents derives.now) e)) row.now) }
+{
+    let entry = match derives.means(constant.name) {
+        Ok(entry) => entry,
+        Err(_) => unreachable!(),
+    };
+    if is_active(entry) {
+        return Err(NoMemory);
+    }
+    Ok(())
+}
+
+/// The row of an application.
+fn applied_row<D: Derives>(
+    derives: &mut D,
+    row: &mut Row,
+    e: u64,
+    enough: u128,
+) -> Result<(), NoMemory>
+    requires stated { WellStated (D.sight (D.rest derives.old)).basis.place }
+    requires e_in { e < length (D.contents derives.old).trees }
+    requires applied { IsApp (tree_at (D.contents derives.old) e) }
+    requires claimed { IsClaim (D.sight (D.rest derives.old)).basis.place
+        (core (tree_at (D.contents derives.old) e)) enough }
+    requires empty { IsEmpty row.old }
+    ensures leaves { Leaves D.contents D.rest D.sight derives.old derives.new }
+    ensures whole { OnOk result (IsWhole (D.sight (D.rest derives.old)).basis.place
+        (D.contents derives.new) (core (tree_at (D.contents derives.old) e)) row.new) }
+{
+    let front = head(derives, e);
+    match head_form(derives, front) {
+        HeadForm::Lambda => beta_row(derives, row, e, enough),
+        HeadForm::Stuck => head_row(derives, row, e, enough),
+        HeadForm::Named(constant) => constant_row(derives, row, e, constant, enough),
+        HeadForm::Rigid => Ok(()),
+    }
+}
+
+/// Fills an empty row with that of the weak head form without unfolding.
+fn fill_core<D: Derives>(
+    derives: &mut D,
+    row: &mut Row,
+    e: u64,
+    enough: u128,
+) -> Result<(), NoMemory>
+    requires stated { WellStated (D.sight (D.rest derives.old)).basis.place }
+    requires e_in { e < length (D.contents derives.old).trees }
+    requires claimed { IsClaim (D.sight (D.rest derives.old)).basis.place
+        (core (tree_at (D.contents derives.old) e)) enough }
+    requires empty { IsEmpty row.old }
+    ensures leaves { Leaves D.contents D.rest D.sight derives.old derives.new }
+    ensures whole { OnOk result (IsWhole (D.sight (D.rest derives.old)).basis.place
+        (D.contents derives.new) (core (tree_at (D.contents derives.old) e)) row.new) }
+{
+    match core_form(derives, e) {
+        CoreForm::Applied => applied_row(derives, row, e, enough),
+        CoreForm::Bound(value, body) => let_row(derives, row, e, value, body, enough),
+        CoreForm::Projected => Err(NoMemory),
+        CoreForm::Itself => Ok(()),
+    }
+}
+
+/// A row with nothing in it.
+fn empty_row(alloc: Global) -> Row
+    ensures { IsEmpty result }
+{
+    Row {
+        asks: Vec::new(alloc),
+        steps: Vec::new(alloc),
+    }
+}
+
+/// What a weak head form without unfolding rests on.
+pub fn core_row<D: Derives>(derives: &mut D, e: u64, enough: u128) -> Result<Row, NoMemory>
+    requires stated { WellStated (D.sight (D.rest derives.old)).basis.place }
+    requires e_in { e < length (D.contents derives.old).trees }
+    requires claimed { IsClaim (D.sight (D.rest derives.old)).basis.place
+        (core (tree_at (D.contents derives.old) e)) enough }
+    ensures leaves { Leaves D.contents D.rest D.sight derives.old derives.new }
+    ensures known { IfOk result (IsRowIn (D.contents derives.new)) }
+    ensures row { IfOk result (IsRowOf (D.sight (D.rest derives.old)).basis.place
+        (D.contents derives.new) (core (tree_at (D.contents derives.old) e))) }
+{
+    let mut row = empty_row(derives.alloc());
+    fill_core(derives, &mut row, e, enough)?;
+    Ok(row)
+}
+
+/// Fills an empty row with that of the weak head form.
+fn fill_whnf<D: Derives>(
+    derives: &mut D,
+    row: &mut Row,
+    e: u64,
+    enough: u128,
+) -> Result<(), NoMemory>
+    requires stated { WellStated (D.sight (D.rest derives.old)).basis.place }
+    requires e_in { e < length (D.contents derives.old).trees }
+    requires claimed { IsClaim (D.sight (D.rest derives.old)).basis.place
+        (whnf (tree_at (D.contents derives.old) e)) enough }
+    requires empty { IsEmpty row.old }
+    ensures leaves { Leaves D.contents D.rest D.sight derives.old derives.new }
+    ensures whole { OnOk result (IsWhole (D.sight (D.rest derives.old)).basis.place
+        (D.contents derives.new) (whnf (tree_at (D.contents derives.old) e)) row.new) }
+{
+    let whole = fill_form(derives, row, e, enough)?;
+    if whole {
+        return Ok(());
+    }
+    Err(NoMemory)
+}
+
+/// What a weak head form rests on.
+pub fn form_row<D: Derives>(derives: &mut D, e: u64, enough: u128) -> Result<Row, NoMemory>
+    requires stated { WellStated (D.sight (D.rest derives.old)).basis.place }
+    requires e_in { e < length (D.contents derives.old).trees }
+    requires claimed { IsClaim (D.sight (D.rest derives.old)).basis.place
+        (whnf (tree_at (D.contents derives.old) e)) enough }
+    ensures leaves { Leaves D.contents D.rest D.sight derives.old derives.new }
+    ensures known { IfOk result (IsRowIn (D.contents derives.new)) }
+    ensures row { IfOk result (IsRowOf (D.sight (D.rest derives.old)).basis.place
+        (D.contents derives.new) (whnf (tree_at (D.contents derives.old) e))) }
+{
+    let mut row = empty_row(derives.alloc());
+    fill_whnf(derives, &mut row, e, enough)?;
+    Ok(row)
+}
