@@ -1,0 +1,17 @@
+pub mod Following
+pub mod Moving
+pub mod Bases
+pub mod Sorting
+pub mod ProofLine
+pub mod ShapeRows
+pub mod CoreRows
+pub mod WholeRow
+pub mod Chain
+pub mod SubjectLine
+pub mod EtaLine
+pub mod ConstantLine
+pub mod PartKinds
+pub mod Pairing
+pub mod Comparing
+pub mod Asking
+pub mod SpineLine

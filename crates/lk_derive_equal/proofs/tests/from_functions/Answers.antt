@@ -1,0 +1,57 @@
+use Rattle.std.proofs.Common.{ℕ, subst}
+use Rattle.std.specs.Prelude.{IfOk}
+use Rattle.lk_rulebook.specs.Place.{Place}
+use Rattle.lk_rulebook.specs.Claims.{equals}
+use Rattle.lk_store.specs.Contents.{Contents, tree_at}
+use Rattle.lk_questions.specs.Same.{by_function_eta}
+use Rattle.lk_derive_equal.specs.Chains.{after_eta}
+use Rattle.std.specs.Prelude.{None}
+use Rattle.std.proofs.lemmas.Result.{IfOk-weaker}
+use Rattle.lk_questions.specs.Pairs.{◌or_else◌}
+use Rattle.lk_derive_equal.specs.Runs.{IsYes}
+use Rattle.lk_derive_equal.specs.Tells.{Tells, Rests}
+use Rattle.lk_derive_equal.proofs.Moving.{moved2, back2}
+use Rattle.lk_derive_equal.proofs.Chain.{line_run, line_on, line_none, line_some}
+use Rattle.lk_derive_equal.proofs.tests.from_functions.Goals as goal
+
+pub by_functions-requires-clause-run : goal.by_functions-requires-clause-run
+by_functions-requires-clause-run g c =
+    let w : Place = (g.D.Looks.sight (g.D.Terms.rest c.args.derives.now)).basis.place in
+    let d : Contents = g.D.Terms.contents c.args.derives.now in
+    let a : ℕ = c.args.a in
+    let b : ℕ = c.args.b in
+    line_run w (by_function_eta (tree_at d a) (tree_at d b)) (after_eta (tree_at d a) (tree_at d b)) c.args.enough c.requires.says
+
+pub returns-in-Some-clause-rests : goal.returns-in-Some-clause-rests
+returns-in-Some-clause-rests g c =
+    let w : Place = (g.D.Looks.sight (g.D.Terms.rest c.args.derives.now)).basis.place in
+    let d : Contents = g.D.Terms.contents c.args.derives.now in
+    let a : ℕ = c.args.a in
+    let b : ℕ = c.args.b in
+    let n : Contents = g.D.Terms.contents c.by_functions.new.derives in
+    line_some w n (by_function_eta (tree_at d a) (tree_at d b)) (after_eta (tree_at d a) (tree_at d b)) (equals (tree_at d a) (tree_at d b)) c.in-Some.row
+    (subst (λ o. Tells w n (by_function_eta (tree_at d a) (tree_at d b)) (equals (tree_at d a) (tree_at d b)) o) c.in-Some.is c.in_ok-found.ensures.tells)
+
+pub by_structures-requires-clause-says : goal.by_structures-requires-clause-says
+by_structures-requires-clause-says g c =
+    let w : Place = (g.D.Looks.sight (g.D.Terms.rest c.args.derives.now)).basis.place in
+    let d : Contents = g.D.Terms.contents c.args.derives.now in
+    let a : ℕ = c.args.a in
+    let b : ℕ = c.args.b in
+    let n : Contents = g.D.Terms.contents c.by_functions.new.derives in
+    let none : Tells w n (by_function_eta (tree_at d a) (tree_at d b)) (equals (tree_at d a) (tree_at d b)) None = subst (λ o. Tells w n (by_function_eta (tree_at d a) (tree_at d b)) (equals (tree_at d a) (tree_at d b)) o) c.in-None.is c.in_ok-found.ensures.tells in
+    moved2 c.in_ok-found.ensures.leaves (λ w e f. IsYes w (after_eta e f) c.args.enough) a b c.requires.a_in c.requires.b_in
+    (line_on w (by_function_eta (tree_at d a) (tree_at d b)) (after_eta (tree_at d a) (tree_at d b)) c.args.enough none c.requires.says)
+
+pub returns-in-None-clause-rests : goal.returns-in-None-clause-rests
+returns-in-None-clause-rests g c =
+    let w : Place = (g.D.Looks.sight (g.D.Terms.rest c.args.derives.now)).basis.place in
+    let d : Contents = g.D.Terms.contents c.args.derives.now in
+    let a : ℕ = c.args.a in
+    let b : ℕ = c.args.b in
+    let n : Contents = g.D.Terms.contents c.by_functions.new.derives in
+    let o : Contents = g.D.Terms.contents c.by_structures.new.derives in
+    let none : Tells w n (by_function_eta (tree_at d a) (tree_at d b)) (equals (tree_at d a) (tree_at d b)) None = subst (λ o. Tells w n (by_function_eta (tree_at d a) (tree_at d b)) (equals (tree_at d a) (tree_at d b)) o) c.in-None.is c.in_ok-found.ensures.tells in
+    IfOk-weaker c.by_structures.result (Rests w o (after_eta (tree_at d a) (tree_at d b)) (equals (tree_at d a) (tree_at d b))) (Rests w o (by_function_eta (tree_at d a) (tree_at d b) or_else after_eta (tree_at d a) (tree_at d b)) (equals (tree_at d a) (tree_at d b)))
+    (λ r rests. line_none w o (by_function_eta (tree_at d a) (tree_at d b)) (after_eta (tree_at d a) (tree_at d b)) (equals (tree_at d a) (tree_at d b)) r none rests)
+    (back2 c.in_ok-found.ensures.leaves (λ w e f. IfOk c.by_structures.result (Rests w o (after_eta e f) (equals e f))) a b c.requires.a_in c.requires.b_in c.by_structures.ensures.rests)

@@ -1,0 +1,10 @@
+pub mod Makes
+pub mod Runs
+pub mod Tells
+pub mod Proofs
+pub mod Binders
+pub mod Chains
+pub mod Subjects
+pub mod Etas
+pub mod Constants
+pub mod Pairs

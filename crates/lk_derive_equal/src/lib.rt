@@ -1,0 +1,18 @@
+//! What it rests on that two terms are the same: the row of `Same`, for each two of which it is answered yes.
+#![tactic(auto)]
+
+mod binders;
+mod constants;
+mod cores;
+mod functions;
+mod making;
+mod parts;
+mod proofs;
+mod row;
+mod shapes;
+mod sorts;
+mod spines;
+mod subjects;
+mod tests;
+
+pub use row::equality_row;

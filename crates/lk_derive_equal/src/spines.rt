@@ -1,0 +1,202 @@
+//! Two applications, by their heads and their arguments.
+
+ghost use Rattle.std.specs.Prelude.{◌≡◌, ◌<◌, ℕ, Bool, [], ◌∷◌, ◌++◌, length, All, IfOk, IfSome, OnOk};
+ghost use Rattle.lk_rulebook.specs.Claims.{equals};
+ghost use Rattle.lk_questions.specs.Same.{by_parts};
+ghost use Rattle.lk_store.specs.Contents.{tree_at};
+ghost use Rattle.lk_ask.specs.declared.query.Query.TheVariants as query;
+ghost use Rattle.lk_ask.specs.Lines.{lefts, rights};
+ghost use Rattle.lk_ask.specs.Sheets.{IsKnownPair};
+ghost use Rattle.lk_written.specs.Line.{apps_rule};
+ghost use Rattle.lk_step.specs.Equal.{argument_claims};
+ghost use Rattle.lk_step.specs.Steps.{equality as equality_step};
+ghost use Rattle.lk_step.specs.Meaning.{IsRowIn};
+ghost use Rattle.lk_step.specs.Runs.{Runs};
+ghost use Rattle.lk_step.specs.Told.{Leaves};
+ghost use Rattle.lk_derive_equal.specs.Makes.{equality_claim, IsMade};
+ghost use Rattle.lk_derive_equal.specs.Pairs.{same_pairs, pairs_at, ArePairs, ArePairsIf};
+ghost use Rattle.lk_derive_equal.specs.Pairs.{heads_pair, same_asks, AreAsked, IsApplication};
+ghost use Rattle.lk_derive_equal.specs.Runs.{IsRun, AreReduced};
+ghost use Rattle.lk_derive_equal.specs.Tells.{Tells};
+
+use crate::making::{converted, equality};
+use lk_ask::looks::Looks;
+use lk_ask::query::Query;
+use lk_ask::sheet::Pair;
+use lk_lazy::spines::{Paired, pair_up};
+use lk_premises::Claim;
+use lk_step::derives::are_same;
+use lk_step::{Derives, Row};
+use lk_store::memory::NoMemory;
+use lk_store::terms::Terms;
+use lk_trace::ConversionRule;
+use std::alloc::Global;
+
+/// What is asked of pairs, and what is claimed then.
+#[derive(Drop)]
+struct Asked {
+    asks: Vec<Query<u64>>,
+    premises: Vec<Claim>,
+}
+
+/// The pairs of arguments of two terms, with the pair of their heads on top.
+fn with_heads(found: Paired) -> Result<Vec<Pair<u64>>, NoMemory>
+    ensures { IfOk result (λ v. v.items
+        ≡ found.pairs.items ++ heads_pair found.left found.right ∷ []) }
+{
+    let heads = Pair {
+        left: found.left,
+        right: found.right,
+    };
+    let mut pairs = found.pairs;
+    pairs.push(heads)?;
+    Ok(pairs)
+}
+
+/// A stack of the pairs of arguments of two terms that have as many, with the pair of their heads on top.
+fn pairs_of<T: Terms>(
+    alloc: Global,
+    terms: &T,
+    a: u64,
+    b: u64,
+) -> Result<Option<Vec<Pair<u64>>>, NoMemory>
+    requires a_in { a < length (T.contents terms.now).trees }
+    requires b_in { b < length (T.contents terms.now).trees }
+    ensures { IfOk result (ArePairsIf (T.contents terms.now) a b) }
+{
+    let paired = pair_up(alloc, terms, a, b)?;
+    match paired {
+        Some(found) => {
+            let pairs = with_heads(found)?;
+            Ok(Some(pairs))
+        }
+        None => Ok(None),
+    }
+}
+
+/// Whether the two of each pair are the same, from the top down, up to the first that are not.
+fn are_all_same<D: Derives>(
+    derives: &mut D,
+    pairs: &[Pair<u64>],
+    enough: u128,
+) -> Result<bool, NoMemory>
+    requires pairs_in { All (IsKnownPair (length (D.contents derives.old).trees)) pairs.now }
+    requires run { IsRun (D.sight (D.rest derives.old)).basis.place
+        (same_pairs (pairs_at (D.contents derives.old) pairs.now)) enough }
+    ensures leaves { Leaves D.contents D.rest D.sight derives.old derives.new }
+    ensures told { IfOk result (λ y. (v : Bool) (n : ℕ)
+        → Runs (D.sight (D.rest derives.old)).basis.place
+        (same_pairs (pairs_at (D.contents derives.old) pairs.now)) v n → v ≡ y) }
+{
+    let mut rest = pairs;
+    'pairs: while let Some((pair, more)) = rest.split_last() {
+        if !are_same(derives, pair.left, pair.right, enough)? {
+            return Ok(false);
+        }
+        rest = more;
+    }
+    Ok(true)
+}
+
+/// Adds what is asked of a pair, and what is claimed then.
+fn push_pair(asked: &mut Asked, pair: Pair<u64>) -> Result<(), NoMemory>
+    ensures asks { OnOk result (asked.new.asks.items
+        ≡ asked.old.asks.items ++ query.Same pair.left pair.right ∷ []) }
+    ensures premises { OnOk result (asked.new.premises.items
+        ≡ asked.old.premises.items ++ equality_claim pair.left pair.right ∷ []) }
+{
+    asked.asks.push(Query::Same(pair.left, pair.right))?;
+    asked.premises.push(equality(pair.left, pair.right))?;
+    Ok(())
+}
+
+/// What is asked of pairs, from the top down, and what is claimed then.
+fn asked_of<L: Looks>(looks: &L, pairs: &[Pair<u64>]) -> Result<Asked, NoMemory>
+    requires pairs_in { All (IsKnownPair (length (L.contents looks.now).trees)) pairs.now }
+    ensures { IfOk result (λ r. AreAsked (L.contents looks.now) pairs.now r.asks.items
+        r.premises.items) }
+{
+    let alloc = looks.alloc();
+    let mut asked = Asked {
+        asks: Vec::new(alloc),
+        premises: Vec::new(alloc),
+    };
+    let mut rest = pairs;
+    'pairs: while let Some((pair, more)) = rest.split_last() {
+        push_pair(&mut asked, *pair)?;
+        rest = more;
+    }
+    Ok(asked)
+}
+
+/// The row of two applications whose pairs are the same.
+fn pairs_row<L: Looks>(looks: &L, a: u64, b: u64, pairs: &[Pair<u64>]) -> Result<Row, NoMemory>
+    requires a_in { a < length (L.contents looks.now).trees }
+    requires b_in { b < length (L.contents looks.now).trees }
+    requires pairs_in { All (IsKnownPair (length (L.contents looks.now).trees)) pairs.now }
+    ensures known { IfOk result (IsRowIn (L.contents looks.now)) }
+    ensures row { let c = L.contents looks.now in let t = tree_at c in
+        let ps = pairs_at c pairs.now in
+        IfOk result (IsMade c (same_asks (lefts ps) (rights ps))
+        (equality_step apps_rule (t a) (t b) (argument_claims (lefts ps) (rights ps)) ∷ [])) }
+{
+    let asked = asked_of(looks, pairs)?;
+    let Asked { asks, premises } = asked;
+    converted(looks, ConversionRule::Apply, a, b, asks, premises)
+}
+
+/// Two applications in pairs. There is no row where two of a pair differ.
+fn by_pairs<D: Derives>(
+    derives: &mut D,
+    a: u64,
+    b: u64,
+    pairs: &[Pair<u64>],
+    enough: u128,
+) -> Result<Option<Row>, NoMemory>
+    requires a_in { a < length (D.contents derives.old).trees }
+    requires b_in { b < length (D.contents derives.old).trees }
+    requires applied { IsApplication (tree_at (D.contents derives.old) a) }
+    requires pairs_are { ArePairs (D.contents derives.old) a b pairs.now }
+    requires pair { AreReduced (D.sight (D.rest derives.old)).basis.place
+        (tree_at (D.contents derives.old) a) (tree_at (D.contents derives.old) b) }
+    requires run { IsRun (D.sight (D.rest derives.old)).basis.place (by_parts
+        (tree_at (D.contents derives.old) a) (tree_at (D.contents derives.old) b)) enough }
+    ensures leaves { Leaves D.contents D.rest D.sight derives.old derives.new }
+    ensures known { IfOk result (λ r. IfSome r (IsRowIn (D.contents derives.new))) }
+    ensures tells { let t = tree_at (D.contents derives.old) in
+        IfOk result (Tells (D.sight (D.rest derives.old)).basis.place (D.contents derives.new)
+        (by_parts (t a) (t b)) (equals (t a) (t b))) }
+{
+    if !are_all_same(derives, pairs, enough)? {
+        return Ok(None);
+    }
+    let row = pairs_row(derives, a, b, pairs)?;
+    Ok(Some(row))
+}
+
+/// Two applications, by their heads and their arguments, where they have as many.
+pub(crate) fn by_spines<D: Derives>(
+    derives: &mut D,
+    a: u64,
+    b: u64,
+    enough: u128,
+) -> Result<Option<Row>, NoMemory>
+    requires a_in { a < length (D.contents derives.old).trees }
+    requires b_in { b < length (D.contents derives.old).trees }
+    requires applied { IsApplication (tree_at (D.contents derives.old) a) }
+    requires pair { AreReduced (D.sight (D.rest derives.old)).basis.place
+        (tree_at (D.contents derives.old) a) (tree_at (D.contents derives.old) b) }
+    requires run { IsRun (D.sight (D.rest derives.old)).basis.place (by_parts
+        (tree_at (D.contents derives.old) a) (tree_at (D.contents derives.old) b)) enough }
+    ensures leaves { Leaves D.contents D.rest D.sight derives.old derives.new }
+    ensures known { IfOk result (λ r. IfSome r (IsRowIn (D.contents derives.new))) }
+    ensures tells { let t = tree_at (D.contents derives.old) in
+        IfOk result (Tells (D.sight (D.rest derives.old)).basis.place (D.contents derives.new)
+        (by_parts (t a) (t b)) (equals (t a) (t b))) }
+{
+    let found = pairs_of(derives.alloc(), derives, a, b)?;
+    match found {
+        Some(pairs) => by_pairs(derives, a, b, &pairs, enough),
+        None => Ok(None),
+    }
+}
