@@ -99,7 +99,7 @@ nothing_at : (r x : Option Tree) (n : ℕ) → x ≡ r → n ≡ 0 → is_no (gi
 nothing_at r None n e z t = record { none = sym e; free = z }
 nothing_at r (Some v) n e z t = absurd cc
 
-found_next : (w : Place) (r : _) (last : Option ℕ) (c : Name) (o : Option Entry) (g : Entry) (next : Option ℕ → Entry → Steps) → o ≡ Some g → looked r last o (w.origin c) (w.flaw c) next ≡ next (later last (Some (w.origin c))) g
+pub found_next : (w : Place) (r : _) (last : Option ℕ) (c : Name) (o : Option Entry) (g : Entry) (next : Option ℕ → Entry → Steps) → o ≡ Some g → looked r last o (w.origin c) (w.flaw c) next ≡ next (later last (Some (w.origin c))) g
 found_next w r last c o g next e = ap (λ z. looked r last z (w.origin c) (w.flaw c) next) e
 
 -- a run of a program whose steps say no at once

@@ -7,3 +7,5 @@ mod CoreRows
 mod Inert
 mod FormRuns
 mod FormRows
+mod Quiet
+mod ProjectionRuns

@@ -32,6 +32,7 @@ use Rattle.lk_derive_reduce.specs.declared.rows.CoreForm.TheVariants.{Applied, B
 use Rattle.lk_derive_reduce.specs.declared.rows.HeadForm.{HeadForm}
 use Rattle.lk_derive_reduce.specs.declared.rows.HeadForm.TheVariants.{Lambda, Stuck, Named, Rigid}
 use Rattle.lk_derive_reduce.specs.Parts.{IsNext, IsPartIn}
+use Rattle.lk_derive_reduce.specs.Projections.{IsProjOf}
 
 abbrev pub IsApp : Tree → Type 0
 IsApp (app f a) = Unit {0}
@@ -172,7 +173,7 @@ abbrev pub IsCoreForm : Contents → Tree → CoreForm → Type 0
 IsCoreForm d t Applied = IsApp t
 IsCoreForm d t (Bound v b) =
     (v < length d.trees) × (b < length d.trees) × IsLetOf t (tree_at d v) (tree_at d b)
-IsCoreForm d t Projected = Unit {0}
+IsCoreForm d t (Projected s) = (s < length d.trees) × IsProjOf t (tree_at d s)
 IsCoreForm d t Itself = core_steps t ≡ done t
 
 -- what Core of an application does first, by its head

@@ -5,6 +5,7 @@
 mod bindings;
 mod forms;
 mod heads;
+mod projections;
 mod rows;
 mod under_way;
 mod values;

@@ -18,6 +18,7 @@ ghost use Rattle.lk_derive_reduce.specs.Forms.{IsApp, IsCoreForm, IsHeadForm, Is
 use crate::bindings::{beta_row, let_row};
 use crate::forms::{Constant, fill_form};
 use crate::heads::head_row;
+use crate::projections::projection_row;
 use lk_env::entry::{Entry, Kind};
 use lk_env::unit::Body;
 use lk_spine::head;
@@ -33,7 +34,8 @@ pub enum CoreForm {
     Applied,
     /// A let of this value and this body.
     Bound(u64, u64),
-    Projected,
+    /// A projection of this subject.
+    Projected(u64),
     /// It is its own `Core`.
     Itself,
 }
@@ -56,7 +58,7 @@ fn core_form<T: Terms>(terms: &T, e: u64) -> CoreForm
     match terms.view(e) {
         Node::App(_, _) => CoreForm::Applied,
         Node::Let(_, value, body) => CoreForm::Bound(value, body),
-        Node::Proj(_, _, _) => CoreForm::Projected,
+        Node::Proj(_, _, subject) => CoreForm::Projected(subject),
         _ => CoreForm::Itself,
     }
 }
@@ -164,7 +166,7 @@ fn fill_core<D: Derives>(
     match core_form(derives, e) {
         CoreForm::Applied => applied_row(derives, row, e, enough),
         CoreForm::Bound(value, body) => let_row(derives, row, e, value, body, enough),
-        CoreForm::Projected => Err(NoMemory),
+        CoreForm::Projected(subject) => projection_row(derives, row, e, subject, enough),
         CoreForm::Itself => Ok(()),
     }
 }

@@ -1,0 +1,24 @@
+use Rattle.std.proofs.Common.{refl}
+use Rattle.lk_rulebook.specs.Place.{Place}
+use Rattle.lk_rulebook.specs.Claims.{reduces}
+use Rattle.std.specs.Prelude.{[], ◌∷◌}
+use Rattle.lk_store.specs.Contents.{Contents, tree_at}
+use Rattle.lk_derive_reduce.proofs.ProjectionRuns.{field_within, field_whole}
+use Rattle.lk_derive_reduce.proofs.projections.take_field.Goals as goal
+
+pub then_core-requires-clause-answered : goal.then_core-requires-clause-answered
+then_core-requires-clause-answered g c =
+    let old : Contents = g.D.Terms.contents c.args.derives.now in
+    let t = tree_at old in
+    let w : Place = (g.D.Looks.sight (g.D.Terms.rest c.args.derives.now)).basis.place in
+    field_within w old c.args.row.now c.args.enough (t c.args.e) (t c.args.subject) (t c.args.form) (t c.args.field) c.requires.at
+
+pub returns-clause-whole : goal.returns-clause-whole
+returns-clause-whole g c =
+    let old : Contents = g.D.Terms.contents c.args.derives.now in
+    let d : Contents = g.D.Terms.contents c.then_core.new.derives in
+    let t = tree_at old in
+    let w : Place = (g.D.Looks.sight (g.D.Terms.rest c.args.derives.now)).basis.place in
+    field_whole w c.args.enough old d c.args.row.now c.add_step.new.row c.then_core.new.row (t c.args.e) (t c.args.subject) (t c.args.form) (t c.args.field) c.requires.stated c.requires.at
+    (λ holds. c.in_ok-add_step.ensures w (t c.args.e) (t c.args.field) (reduces (t c.args.subject) (t c.args.form) ∷ []) refl refl (c.in_ok-premises.ensures.are old) holds)
+    c.in_ok-then_core.ensures.follows
