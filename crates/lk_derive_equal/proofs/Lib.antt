@@ -15,3 +15,4 @@ pub mod Pairing
 pub mod Comparing
 pub mod Asking
 pub mod SpineLine
+pub mod QuietLines

@@ -8,3 +8,4 @@ pub mod Subjects
 pub mod Etas
 pub mod Constants
 pub mod Pairs
+pub mod Quiet

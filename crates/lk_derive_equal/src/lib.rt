@@ -8,6 +8,7 @@ mod functions;
 mod making;
 mod parts;
 mod proofs;
+mod quiet;
 mod row;
 mod shapes;
 mod sorts;

@@ -13,6 +13,7 @@ ghost use Rattle.lk_derive_equal.specs.Tells.{Rests};
 use crate::functions::by_functions;
 use crate::parts::by_kinds;
 use crate::proofs::by_proof;
+use crate::quiet::are_quiet;
 use lk_step::{Derives, Row};
 use lk_store::memory::NoMemory;
 
@@ -86,8 +87,8 @@ pub(crate) fn from_parts<D: Derives>(
     }
 }
 
-/// The row of two terms by the first test behind that for proofs that says yes. For now it gives up: literals and unfolding
-/// stand before `from_parts`.
+/// The row of two terms by the first test behind that for proofs that says yes. For now it gives up where a literal or unfolding
+/// may say something.
 fn by_others<D: Derives>(derives: &mut D, a: u64, b: u64, enough: u128) -> Result<Row, NoMemory>
     requires a_in { a < length (D.contents derives.old).trees }
     requires b_in { b < length (D.contents derives.old).trees }
@@ -101,8 +102,10 @@ fn by_others<D: Derives>(derives: &mut D, a: u64, b: u64, enough: u128) -> Resul
         IfOk result (Rests (D.sight (D.rest derives.old)).basis.place (D.contents derives.new)
         (after_proof (t a) (t b)) (equals (t a) (t b))) }
 {
-    let _unread = (derives.len(), a, b, enough);
-    Err(NoMemory)
+    if !are_quiet(derives, a, b)? {
+        return Err(NoMemory);
+    }
+    from_parts(derives, a, b, enough)
 }
 
 /// The row of two terms by the first test that says yes.
