@@ -13,3 +13,7 @@ pub mod BinderSteps
 pub mod SpineRuns
 pub mod SpineSteps
 pub mod Claimed
+pub mod ParameterRuns
+pub mod ParameterSteps
+pub mod FieldRuns
+pub mod FieldSteps

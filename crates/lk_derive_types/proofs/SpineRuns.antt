@@ -135,10 +135,10 @@ three_more : {Y : Type 0} (ys : List Y) (a b c : Y) (zs : List Y) → ys ++ (a �
 three_more [] a b c zs = refl
 three_more (y ∷ ys) a b c zs = ap (λ l. y ∷ l) (three_more ys a b c zs)
 
-pi_left : (A B C D : Tree) → pi A B ≡ pi C D → A ≡ C
+pub pi_left : (A B C D : Tree) → pi A B ≡ pi C D → A ≡ C
 pi_left A B C D e = cc
 
-pi_right : (A B C D : Tree) → pi A B ≡ pi C D → B ≡ D
+pub pi_right : (A B C D : Tree) → pi A B ≡ pi C D → B ≡ D
 pi_right A B C D e = cc
 
 pub spine_next : (w : Place) → WellStated w → (tree F x : Tree) (xs : List Tree) (T A B X : Tree) (n : ℕ) (qs : List Query) (ks : List Claim) → IsWellFormed F → IsWellFormed x → Runs w (applied F (x ∷ xs)) T n →

@@ -36,10 +36,10 @@ use Rattle.lk_derive_types.proofs.AskedSoFar.{there, asked_later, nothing_asked,
 use Rattle.lk_derive_types.proofs.BinderSteps.{type_at}
 use Rattle.lk_derive_types.proofs.SpineRuns.{argument_within, SpineRun, spine_run, Finishes, SpineNext, spine_next, spine_start}
 
-numbers_known : (c d : Contents) (es : List ℕ) → Extends c d → All (λ e. e < length c.trees) es → All (λ e. e < length d.trees) es
+pub numbers_known : (c d : Contents) (es : List ℕ) → Extends c d → All (λ e. e < length c.trees) es → All (λ e. e < length d.trees) es
 numbers_known c d es x h = λ i e l. let a = x.trees.longer in let b = h i e l in omega arith
 
-numbers_same : (c d : Contents) (es : List ℕ) → Extends c d → All (λ e. e < length c.trees) es → map (tree_at d) es ≡ map (tree_at c) es
+pub numbers_same : (c d : Contents) (es : List ℕ) → Extends c d → All (λ e. e < length c.trees) es → map (tree_at d) es ≡ map (tree_at c) es
 numbers_same c d [] x h = refl
 numbers_same c d (e ∷ es) x h =
     ap (λ z. z ∷ map (tree_at d) es) (x.trees.same e (All-head (λ e. e < length c.trees) e es h)) ∙ ap (λ zs. tree_at c e ∷ zs) (numbers_same c d es x (All-tail (λ e. e < length c.trees) e es h))

@@ -3,3 +3,4 @@ pub mod TypeRows
 pub mod Parts
 pub mod Binders
 pub mod Spines
+pub mod Projections

@@ -6,11 +6,13 @@ mod asked;
 mod atoms;
 mod binders;
 mod constants;
+mod fields;
 mod lambdas;
 mod lets;
 mod literals;
 mod parts;
 mod pis;
+mod projections;
 mod row;
 
 pub use row::unprojected_row;
