@@ -1,4 +1,4 @@
-//! What it rests on that two terms are the same: the row of `Same`, for each two of which it is answered yes.
+//! What it rests on that two terms are the same: the row of `Same`, where it is answered yes by a test whose row is written.
 #![tactic(auto)]
 
 mod binders;

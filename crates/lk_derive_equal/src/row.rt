@@ -26,7 +26,9 @@ fn empty_row(alloc: Global) -> Row
     }
 }
 
-/// What it rests on that two terms are the same, where `Same` says yes of them, for no more than `enough`.
+/// What it rests on that two terms are the same, where `Same` says yes of them, for no more than `enough`. Where a literal, an
+/// unfolding, eta of a structure or of a type with one value, or a text has to say so, it tells want of memory, also where
+/// there is memory: these rows are not written.
 pub fn equality_row<D: Derives>(
     derives: &mut D,
     a: u64,

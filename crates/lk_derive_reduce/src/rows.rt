@@ -181,7 +181,8 @@ fn empty_row(alloc: Global) -> Row
     }
 }
 
-/// What a weak head form without unfolding rests on.
+/// What a weak head form without unfolding rests on. Of an application of a recursor or of a constant of quotients it tells
+/// want of memory, also where there is memory: these rows are not written.
 pub fn core_row<D: Derives>(derives: &mut D, e: u64, enough: u128) -> Result<Row, NoMemory>
     requires stated { WellStated (D.sight (D.rest derives.old)).basis.place }
     requires e_in { e < length (D.contents derives.old).trees }
@@ -220,7 +221,8 @@ fn fill_whnf<D: Derives>(
     Err(NoMemory)
 }
 
-/// What a weak head form rests on.
+/// What a weak head form rests on. Where an operation on numbers is begun on the way it tells want of memory, also where there
+/// is memory: these rows are not written.
 pub fn form_row<D: Derives>(derives: &mut D, e: u64, enough: u128) -> Result<Row, NoMemory>
     requires stated { WellStated (D.sight (D.rest derives.old)).basis.place }
     requires e_in { e < length (D.contents derives.old).trees }
