@@ -10,6 +10,7 @@ use crate::{EntryLine, EntryTag, FileNumber};
 use lk_token::text_behind;
 use std::alloc::Global;
 
+#[inline(always)]
 fn name_text<'b, N: FileNumber>(raw: &'b [u8], line: &[u8]) -> Result<EntryLine<'b, N>, FieldError>
     ensures values { GivesEntry N.view EntryTag.NameText (text_behind raw.now)
         (fields_of line.now) result }
@@ -78,6 +79,7 @@ fn parameter<N: FileNumber>(line: &[u8]) -> Result<EntryLine<'static, N>, FieldE
     Ok(EntryLine::Parameter { name })
 }
 
+#[inline(always)]
 fn variable<N: FileNumber>(line: &[u8]) -> Result<EntryLine<'static, N>, FieldError>
     ensures values { (text : List ℕ) →
         GivesEntry N.view EntryTag.Variable text (fields_of line.now) result }
@@ -88,6 +90,7 @@ fn variable<N: FileNumber>(line: &[u8]) -> Result<EntryLine<'static, N>, FieldEr
     Ok(EntryLine::Variable { index })
 }
 
+#[inline(always)]
 fn sort<N: FileNumber>(line: &[u8]) -> Result<EntryLine<'static, N>, FieldError>
     ensures values { (text : List ℕ) →
         GivesEntry N.view EntryTag.Sort text (fields_of line.now) result }
@@ -109,6 +112,7 @@ fn constant<N: FileNumber>(alloc: Global, line: &[u8]) -> Result<EntryLine<'stat
     Ok(EntryLine::Constant { name, levels })
 }
 
+#[inline(always)]
 fn apply<N: FileNumber>(line: &[u8]) -> Result<EntryLine<'static, N>, FieldError>
     ensures values { (text : List ℕ) →
         GivesEntry N.view EntryTag.Apply text (fields_of line.now) result }
@@ -120,6 +124,7 @@ fn apply<N: FileNumber>(line: &[u8]) -> Result<EntryLine<'static, N>, FieldError
     Ok(EntryLine::Apply { function, argument })
 }
 
+#[inline(always)]
 fn lambda<N: FileNumber>(line: &[u8]) -> Result<EntryLine<'static, N>, FieldError>
     ensures values { (text : List ℕ) →
         GivesEntry N.view EntryTag.Lambda text (fields_of line.now) result }
@@ -138,6 +143,7 @@ fn lambda<N: FileNumber>(line: &[u8]) -> Result<EntryLine<'static, N>, FieldErro
     })
 }
 
+#[inline(always)]
 fn pi<N: FileNumber>(line: &[u8]) -> Result<EntryLine<'static, N>, FieldError>
     ensures values { (text : List ℕ) →
         GivesEntry N.view EntryTag.Pi text (fields_of line.now) result }
@@ -238,6 +244,7 @@ fn rule<N: FileNumber>(line: &[u8]) -> Result<EntryLine<'static, N>, FieldError>
 }
 
 /// What stands behind a tag.
+#[inline(always)]
 pub(crate) fn read_entry<'b, N: FileNumber>(
     alloc: Global,
     tag: EntryTag,

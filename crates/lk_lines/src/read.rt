@@ -23,6 +23,7 @@ use lk_token::first_byte;
 use std::alloc::Global;
 
 // What a line defines behind its number and the tag of an entry.
+#[inline(always)]
 fn entry<'b, N: FileNumber>(
     alloc: Global,
     own: N,
@@ -38,6 +39,7 @@ fn entry<'b, N: FileNumber>(
 }
 
 // What a line defines behind its number and `#EF`.
+#[inline(always)]
 fn local<N: FileNumber>(own: N, line: &[u8]) -> Result<Statement<'static, N>, FieldError>
     ensures { (text : List ℕ) → Gives (says_of N.view) result (as_item (item_behind N.view.limit
         (Some (N.view.value own)) Tag.Local text (fields_of line.now))) }
@@ -53,6 +55,7 @@ fn local<N: FileNumber>(own: N, line: &[u8]) -> Result<Statement<'static, N>, Fi
 }
 
 // What a line states behind its number and the tag of a derivation.
+#[inline(always)]
 fn derivation<N: FileNumber>(
     alloc: Global,
     own: N,
@@ -68,6 +71,7 @@ fn derivation<N: FileNumber>(
 }
 
 // A line that begins with a number.
+#[inline(always)]
 #[tactic(auto, unfolding(crate::specs::Items::numbered_at))]
 fn numbered<N: FileNumber>(
     alloc: Global,
@@ -191,6 +195,7 @@ fn item<N: FileNumber>(
 }
 
 // What a line says.
+#[inline(always)]
 #[tactic(auto, unfolding(crate::specs::Says::said_at))]
 fn read_statement<N: FileNumber>(
     alloc: Global,
@@ -230,6 +235,7 @@ fn read_statement<N: FileNumber>(
 ///
 /// The text of a name is a slice of the line, and the fields are found as they are read: memory is
 /// taken for lists of numbers, for text literals and for what is boxed alone.
+#[inline(always)]
 #[tactic(auto, unfolding(crate::specs::Says::said_below))]
 pub fn read_line_below<N: FileNumber>(
     alloc: Global,
@@ -250,6 +256,7 @@ pub fn read_line_below<N: FileNumber>(
 }
 
 /// The same of a line whose numbers have 32 bits, as all have but those behind `#TR`.
+#[inline(always)]
 pub fn read_line_in(
     alloc: Global,
     dialect: Dialect,

@@ -96,6 +96,7 @@ pub enum PlainTag {
 }
 
 // The tag of this word, of those with a number in front. The commonest ones come first.
+#[inline(always)]
 fn find_entry(dialect: Dialect, word: &[u8]) -> Result<NumberedTag, FieldError>
     ensures { Gives numbered_tag result (find_tag (numbered_tags dialect) word.now) }
 {
@@ -120,6 +121,7 @@ fn find_entry(dialect: Dialect, word: &[u8]) -> Result<NumberedTag, FieldError>
     }
 }
 
+#[inline(never)]
 fn find_rare_entry(dialect: Dialect, word: &[u8]) -> Result<NumberedTag, FieldError>
     ensures { Gives numbered_tag result (find_tag (rare_tags dialect) word.now) }
 {
@@ -166,6 +168,7 @@ fn find_own_numbered(dialect: Dialect, word: &[u8]) -> Result<NumberedTag, Field
 }
 
 // The tag of this word that lines begin with, where the dialect has it beside the common ones.
+#[inline(never)]
 fn find_own(dialect: Dialect, word: &[u8]) -> Result<PlainTag, FieldError>
     ensures { Gives plain_tag result (find_tag (own_tags dialect) word.now) }
 {
@@ -180,6 +183,7 @@ fn find_own(dialect: Dialect, word: &[u8]) -> Result<PlainTag, FieldError>
     }
 }
 
+#[inline(always)]
 fn find_plain(dialect: Dialect, word: &[u8]) -> Result<PlainTag, FieldError>
     ensures { Gives plain_tag result (find_tag (plain_tags dialect) word.now) }
 {
@@ -205,6 +209,7 @@ fn find_plain(dialect: Dialect, word: &[u8]) -> Result<PlainTag, FieldError>
 }
 
 /// The tag behind a line's number, and what is left of the line.
+#[inline(always)]
 #[tactic(auto, unfolding(crate::specs::Items::tag_at))]
 pub(crate) fn tag_behind(dialect: Dialect, line: &[u8]) -> Result<(NumberedTag, &[u8]), FieldError>
     ensures { Gives (λ r. (numbered_tag r.0, fields_of r.1.now)) result
@@ -220,6 +225,7 @@ pub(crate) fn tag_behind(dialect: Dialect, line: &[u8]) -> Result<(NumberedTag, 
 }
 
 /// The tag that a line begins with, and what is left of the line.
+#[inline(always)]
 #[tactic(auto, unfolding(crate::specs::Items::tag_at))]
 pub(crate) fn plain_tag(dialect: Dialect, line: &[u8]) -> Result<(PlainTag, &[u8]), FieldError>
     ensures { Gives (λ r. (plain_tag r.0, fields_of r.1.now)) result

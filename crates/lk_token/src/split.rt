@@ -99,6 +99,7 @@ fn skip_field(bytes: &[u8]) -> &[u8]
 /// The raw text that ends a line of three fields, as the text of a name: all bytes behind the one
 /// space that follows the third field. It is empty where the line ends there, and may hold and end
 /// with spaces.
+#[inline(always)]
 #[tactic(auto, unfolding(crate::specs::Fields::text_behind))]
 pub fn text_behind(line: &[u8]) -> &[u8]
     ensures { result.now ≡ text_behind line.now }

@@ -20,6 +20,7 @@ use lk_units::TakeError;
 use std::alloc::Global;
 
 /// Takes what a line says that a library may have.
+#[inline(never)]
 fn take_library<T: Terms>(
     alloc: Global,
     store: &mut T,

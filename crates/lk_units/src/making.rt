@@ -125,6 +125,7 @@ pub(crate) fn text_literal<T: Terms>(store: &mut T, bytes: Vec<u8>) -> Result<u6
 }
 
 /// The name with one more component, a text.
+#[inline(always)]
 fn with_text<T: Terms>(
     alloc: Global,
     store: &mut T,
@@ -371,6 +372,7 @@ impl Assembler {
     }
 
     /// A name with one more component, a text.
+    #[inline(always)]
     #[tactic(auto, using(crate::proofs::Lines::looked_up, crate::proofs::Holding::unchanged))]
     pub(crate) fn text_name<T: Terms>(
         &self,
@@ -508,6 +510,7 @@ impl Assembler {
     }
 
     /// A declaration with a value.
+    #[inline(always)]
     pub fn valued<N: FileNumber>(
         &self,
         alloc: Global,

@@ -52,6 +52,7 @@ fn held_hint(hint: ReducibilityHint) -> Hint
 
 impl Assembler {
     // A line of a name whose last component is a text.
+    #[inline(always)]
     #[tactic(auto, using(crate::proofs::Putting::name_known, crate::proofs::Putting::name_follows))]
     fn text_line<T: Terms>(
         &mut self,
@@ -157,6 +158,7 @@ impl Assembler {
     }
 
     // A line of a variable.
+    #[inline(always)]
     #[tactic(auto, using(crate::proofs::Putting::tree_known, crate::proofs::Putting::tree_follows))]
     fn variable_line<T: Terms>(
         &mut self,
@@ -176,6 +178,7 @@ impl Assembler {
     }
 
     // A line of a sort.
+    #[inline(always)]
     #[tactic(auto, using(crate::proofs::Putting::tree_known, crate::proofs::Putting::tree_follows))]
     fn sort_line<T: Terms>(&mut self, store: &mut T, own: u64, level: u64) -> Result<(), TakeError>
         requires { IsKnown self.old (T.contents store.old) }
@@ -190,6 +193,7 @@ impl Assembler {
     }
 
     // A line of a constant.
+    #[inline(always)]
     #[tactic(auto, using(crate::proofs::Putting::tree_known, crate::proofs::Putting::tree_follows))]
     fn constant_line<T: Terms, N: FileNumber>(
         &mut self,
@@ -212,6 +216,7 @@ impl Assembler {
     }
 
     // A line of an application.
+    #[inline(always)]
     #[tactic(auto, using(crate::proofs::Putting::tree_known, crate::proofs::Putting::tree_follows))]
     fn application_line<T: Terms>(
         &mut self,
@@ -375,6 +380,7 @@ impl Assembler {
     }
 
     /// What a line that defines the number `own` adds. It is not counted.
+    #[inline(always)]
     #[tactic(auto, using(crate::proofs::Holding::unchanged), unfolding(crate::specs::State::entry_added))]
     pub fn add_entry<T: Terms, N: FileNumber>(
         &mut self,
@@ -486,6 +492,7 @@ impl Assembler {
     }
 
     // What a line that declares something adds.
+    #[inline(always)]
     #[tactic(auto, unfolding(crate::specs::State::declaration_said))]
     fn said(&self, alloc: Global, declaration: &DeclarationLine) -> Result<StoredMember, TakeError>
         requires { Below self.now.by_rule (length self.now.rules.items) }
@@ -571,6 +578,7 @@ impl Assembler {
     }
 
     /// Puts a line that declares something behind those before it. It is not counted.
+    #[inline(always)]
     pub fn place<T: Terms>(
         &mut self,
         alloc: Global,
@@ -595,6 +603,7 @@ impl Assembler {
 
     /// Takes a line that defines the number `own`. A number that is taken comes before one that stands for nothing, and that
     /// before too many items.
+    #[inline(always)]
     #[tactic(auto, using(crate::proofs::Lines::fails_then, crate::proofs::Lines::counted_follows), unfolding(crate::specs::State::take_item))]
     pub fn take_entry<T: Terms>(
         &mut self,
@@ -624,6 +633,7 @@ impl Assembler {
 
     /// Takes line `number`, which declares something. A number that stands for nothing comes before too many items, that
     /// before lists of a block that are bad, and that before a member that has a line already.
+    #[inline(always)]
     #[tactic(auto, using(crate::proofs::Lines::fails_then, crate::proofs::Lines::declared_follows), unfolding(crate::specs::State::take_item))]
     pub fn take_declaration<T: Terms>(
         &mut self,
