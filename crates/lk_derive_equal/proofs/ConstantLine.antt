@@ -17,8 +17,8 @@ use Rattle.lk_step.specs.Steps.{equality}
 use Rattle.lk_step.specs.Rows.{no_claim}
 use Rattle.lk_step.specs.Runs.{Runs}
 use Rattle.lk_step.proofs.EqualitySteps.{equality_steps}
-use Rattle.lk_derive_equal.specs.Tells.{IsBasis}
-use Rattle.lk_derive_equal.proofs.Bases.{one_step}
+use Rattle.lk_step.specs.Tells.{IsBasis}
+use Rattle.lk_step.proofs.Bases.{one_step}
 use Rattle.lk_derive_equal.proofs.SubjectLine.{as_decided}
 
 pairs_yes : (w : Place) (ls ms : List Level) (n : ℕ) → Runs w (level_pairs_equal complete_test ls ms) true n → same_levels ls ms ≡ true

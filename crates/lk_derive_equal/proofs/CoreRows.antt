@@ -18,10 +18,10 @@ use Rattle.lk_step.specs.Runs.{Runs}
 use Rattle.lk_step.specs.Told.{IsAnsweredWithin, IsCore}
 use Rattle.lk_step.proofs.EqualitySteps.{equality_steps}
 use Rattle.lk_step.proofs.Shapes.{shaped_answer}
-use Rattle.lk_derive_equal.specs.Runs.{IsYes, ArePair, AreReduced}
-use Rattle.lk_derive_equal.specs.Tells.{IsBasis, Rests}
-use Rattle.lk_derive_equal.proofs.Following.{Followed, follow, asks_within, run_on, yes_run}
-use Rattle.lk_derive_equal.proofs.Bases.{one_step, basis_more}
+use Rattle.lk_step.specs.Tests.{IsYes, ArePair, AreReduced}
+use Rattle.lk_step.specs.Tells.{IsBasis, Rests}
+use Rattle.lk_step.proofs.Following.{Followed, follow, asks_within, run_on, yes_run}
+use Rattle.lk_step.proofs.Bases.{one_step, basis_more}
 
 -- once both are there
 abbrev by_both : Tree → Tree → Tree → Tree → Program Bool

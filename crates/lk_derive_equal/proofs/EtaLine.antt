@@ -21,10 +21,10 @@ use Rattle.lk_step.specs.Told.{IsAnsweredWithin, IsForm, IsType, IsSame}
 use Rattle.lk_step.proofs.EqualitySteps.{equality_steps}
 use Rattle.lk_step.proofs.Shapes.{shaped_answer}
 use Rattle.lk_derive_equal.specs.Etas.{IsLambda}
-use Rattle.lk_derive_equal.specs.Runs.{IsRun, AreReduced}
-use Rattle.lk_derive_equal.specs.Tells.{IsBasis}
-use Rattle.lk_derive_equal.proofs.Following.{Followed, follow, asks_within, run_on, run_followed}
-use Rattle.lk_derive_equal.proofs.Bases.{one_step}
+use Rattle.lk_step.specs.Tests.{IsRun, AreReduced}
+use Rattle.lk_step.specs.Tells.{IsBasis}
+use Rattle.lk_step.proofs.Following.{Followed, follow, asks_within, run_on, run_followed}
+use Rattle.lk_step.proofs.Bases.{one_step}
 
 neutral_of : (o : Tree) → IsHeadNormal o → is_lam o ≡ false → IsNeutral o
 neutral_of (lam A b) h l = absurd cc

@@ -17,11 +17,11 @@ use Rattle.lk_step.specs.Runs.{Runs}
 use Rattle.lk_step.specs.Told.{IsAnsweredWithin, IsForm, IsType, IsSame}
 use Rattle.lk_step.proofs.EqualitySteps.{equality_steps}
 use Rattle.lk_step.proofs.Shapes.{shaped_answer}
-use Rattle.lk_derive_equal.specs.Runs.{IsRun, AreReduced}
-use Rattle.lk_derive_equal.specs.Tells.{IsBasis}
-use Rattle.lk_derive_equal.proofs.Following.{Followed, follow, asks_within, run_on, run_first, run_followed}
+use Rattle.lk_step.specs.Tests.{IsRun, AreReduced}
+use Rattle.lk_step.specs.Tells.{IsBasis}
+use Rattle.lk_step.proofs.Following.{Followed, follow, asks_within, run_on, run_first, run_followed}
 use Rattle.lk_derive_equal.proofs.Sorting.{sort_on}
-use Rattle.lk_derive_equal.proofs.Bases.{one_step}
+use Rattle.lk_step.proofs.Bases.{one_step}
 
 -- once the sort of a's type is there
 abbrev by_level : Tree → Tree → Level → Line

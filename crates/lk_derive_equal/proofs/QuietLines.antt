@@ -24,11 +24,11 @@ use Rattle.lk_step.specs.Runs.{Runs, RunsOn}
 use Rattle.lk_step.specs.Told.{Leaves}
 use Rattle.lk_step.specs.declared.step.Row.{Row}
 use Rattle.lk_step.proofs.Runs.{runs_on}
-use Rattle.lk_derive_equal.specs.Chains.{after_proof, after_unfolding}
+use Rattle.lk_step.specs.Chains.{after_proof, after_unfolding}
 use Rattle.lk_derive_equal.specs.Quiet.{IsMeant, is_nothing, ComputesNothing, IsQuiet}
-use Rattle.lk_derive_equal.specs.Runs.{IsYes}
-use Rattle.lk_derive_equal.specs.Tells.{Rests}
-use Rattle.lk_derive_equal.proofs.Chain.{line_on, line_none}
+use Rattle.lk_step.specs.Tests.{IsYes}
+use Rattle.lk_step.specs.Tells.{Rests}
+use Rattle.lk_step.proofs.Chain.{line_on, line_none}
 
 -- whether there is a value
 abbrev has : Option Tree → Bool

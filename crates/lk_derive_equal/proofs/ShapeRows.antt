@@ -20,10 +20,10 @@ use Rattle.lk_step.specs.Equal.{body_claims}
 use Rattle.lk_step.specs.Rows.{IsAnswered, no_claim, a_claim}
 use Rattle.lk_step.specs.Runs.{Runs}
 use Rattle.lk_step.proofs.EqualitySteps.{equality_steps}
-use Rattle.lk_derive_equal.specs.Runs.{IsYes}
-use Rattle.lk_derive_equal.specs.Tells.{IsBasis}
+use Rattle.lk_step.specs.Tests.{IsYes}
+use Rattle.lk_step.specs.Tells.{IsBasis}
 use Rattle.lk_derive_equal.specs.Binders.{local_of}
-use Rattle.lk_derive_equal.proofs.Bases.{one_step}
+use Rattle.lk_step.proofs.Bases.{one_step}
 
 tested_yes : (w : Place) (o : Option Bool) (n : ℕ) → Runs w (tested o) true n → is_true o ≡ true
 tested_yes w (Some v) n h = h.0

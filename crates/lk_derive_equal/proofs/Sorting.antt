@@ -10,10 +10,10 @@ use Rattle.lk_store.specs.declared.node.Node.{Node}
 use Rattle.lk_store.specs.declared.node.Node.TheVariants.{Sort}
 use Rattle.lk_step.specs.Runs.{Runs}
 use Rattle.lk_step.specs.Told.{IsAnsweredWithin, IsForm, IsType}
-use Rattle.lk_derive_equal.specs.Runs.{IsRun}
-use Rattle.lk_derive_equal.specs.Tells.{IsSorted}
+use Rattle.lk_step.specs.Tests.{IsRun}
+use Rattle.lk_derive_equal.specs.Sorts.{IsSorted}
 use Rattle.lk_derive_equal.specs.declared.sorts.Sorted.{Sorted}
-use Rattle.lk_derive_equal.proofs.Following.{Followed, follow, asks_within, run_on, as_sort_is}
+use Rattle.lk_step.proofs.Following.{Followed, follow, asks_within, run_on, as_sort_is}
 
 pub sort_asks : (w : Place) (e T : Tree) (most : ℕ) → IsRun w (sort_of e) most → IsType w e T → IsAnsweredWithin w (whnf T) most
 sort_asks w e T most r t = asks_within w (whnf T) (λ S. as_sort S) most (run_on w (infer e) (λ T. ask (whnf T) (λ S. as_sort S)) most T t.cost r t.answered)

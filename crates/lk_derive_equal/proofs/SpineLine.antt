@@ -28,11 +28,11 @@ use Rattle.lk_step.specs.Rows.{IsAnswered, AreClaims, no_claim, a_claim}
 use Rattle.lk_step.specs.Runs.{Runs, RunsOn}
 use Rattle.lk_step.proofs.Runs.{runs_on}
 use Rattle.lk_step.proofs.EqualitySteps.{equality_steps}
-use Rattle.lk_derive_equal.specs.Pairs.{same_pairs, pairs_at, ArePairs, same_asks, IsApplication}
-use Rattle.lk_derive_equal.specs.Runs.{IsRun, AreReduced}
-use Rattle.lk_derive_equal.specs.Tells.{IsBasis}
-use Rattle.lk_derive_equal.proofs.Following.{run_first}
-use Rattle.lk_derive_equal.proofs.Bases.{one_step}
+use Rattle.lk_step.specs.Pairs.{same_pairs, pairs_at, ArePairs, same_asks, IsApplication}
+use Rattle.lk_step.specs.Tests.{IsRun, AreReduced}
+use Rattle.lk_step.specs.Tells.{IsBasis}
+use Rattle.lk_step.proofs.Following.{run_first}
+use Rattle.lk_step.proofs.Bases.{one_step}
 
 -- what was found the same is claimed
 record AllClaimed (w : Place) (xs ys : List Tree) (n : ℕ) : Type 0 where

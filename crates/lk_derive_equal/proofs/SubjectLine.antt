@@ -17,10 +17,10 @@ use Rattle.lk_step.specs.Rows.{no_claim, a_claim}
 use Rattle.lk_step.specs.Runs.{Runs}
 use Rattle.lk_step.specs.Told.{IsAnsweredWithin, IsSame}
 use Rattle.lk_step.proofs.EqualitySteps.{equality_steps}
-use Rattle.lk_derive_equal.specs.Runs.{IsRun, AreReduced}
-use Rattle.lk_derive_equal.specs.Tells.{IsBasis}
-use Rattle.lk_derive_equal.proofs.Following.{Followed, follow, asks_within}
-use Rattle.lk_derive_equal.proofs.Bases.{one_step}
+use Rattle.lk_step.specs.Tests.{IsRun, AreReduced}
+use Rattle.lk_step.specs.Tells.{IsBasis}
+use Rattle.lk_step.proofs.Following.{Followed, follow, asks_within}
+use Rattle.lk_step.proofs.Bases.{one_step}
 use Rattle.lk_derive_equal.proofs.CoreRows.{both_first, both_second}
 
 pub as_decided : (S T : Name) → same_name S T ≡ decided (name_discrete S T)

@@ -15,9 +15,9 @@ use Rattle.lk_step.specs.Runs.{Runs, IsOpened}
 use Rattle.lk_step.specs.Meaning.{IsRowOf, step_at}
 use Rattle.lk_step.specs.declared.step.Row.{Row}
 use Rattle.lk_step.proofs.Runs.{opened_so}
-use Rattle.lk_derive_equal.specs.Makes.{IsMade}
-use Rattle.lk_derive_equal.specs.Runs.{IsYes, ArePair}
-use Rattle.lk_derive_equal.specs.Tells.{IsBasisOf, Rests}
+use Rattle.lk_step.specs.Makes.{IsMade}
+use Rattle.lk_step.specs.Tests.{IsYes, ArePair}
+use Rattle.lk_step.specs.Tells.{IsBasisOf, Rests}
 
 module _ (w : Place) (a b : Tree) (most : ℕ) (k : IsClaim w (same a b) most) where
   row_opened : IsOpened w (same a b) k.answer k.cost

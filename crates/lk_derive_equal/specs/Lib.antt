@@ -1,11 +1,7 @@
-pub mod Makes
-pub mod Runs
-pub mod Tells
+pub mod Sorts
 pub mod Proofs
 pub mod Binders
-pub mod Chains
 pub mod Subjects
 pub mod Etas
 pub mod Constants
-pub mod Pairs
 pub mod Quiet

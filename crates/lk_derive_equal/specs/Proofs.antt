@@ -6,7 +6,7 @@ use Rattle.lk_rulebook.specs.Place.{Place}
 use Rattle.lk_store.specs.Contents.{Contents, level_at, tree_at}
 use Rattle.lk_step.specs.Told.{IsType}
 use Rattle.lk_derive_equal.specs.declared.sorts.Sorted.{Sorted}
-use Rattle.lk_derive_equal.specs.Tells.{IsSorted}
+use Rattle.lk_derive_equal.specs.Sorts.{IsSorted}
 
 -- the type of e is a proposition
 pub record IsProofOf (w : Place) (e : Tree) (c : Contents) (ty : ℕ) (s : Sorted) : Type 0 where

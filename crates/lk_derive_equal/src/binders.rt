@@ -9,12 +9,12 @@ ghost use Rattle.lk_trace.specs.Meaning.{conversion_rule_of, IsConversionRuleIn}
 ghost use Rattle.lk_step.specs.Steps.{equality as equality_step};
 ghost use Rattle.lk_step.specs.Meaning.{IsRowIn};
 ghost use Rattle.lk_derive_equal.specs.Binders.{IsBinderIn, AreBodiesIn, AreOpened};
-ghost use Rattle.lk_derive_equal.specs.Makes.{IsMade};
+ghost use Rattle.lk_step.specs.Makes.{IsMade};
 
-use crate::making::{converted, equality};
 use lk_ask::looks::Looks;
 use lk_ask::query::Query;
 use lk_step::Row;
+use lk_step::making::{converted, equality};
 use lk_store::memory::NoMemory;
 use lk_store::node::Node;
 use lk_store::terms::Terms;

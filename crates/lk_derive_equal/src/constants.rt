@@ -9,14 +9,14 @@ ghost use Rattle.lk_written.specs.Line.{consts_rule};
 ghost use Rattle.lk_step.specs.Steps.{equality as equality_step};
 ghost use Rattle.lk_step.specs.Meaning.{IsRowIn};
 ghost use Rattle.lk_derive_equal.specs.Constants.{IsConstant};
-ghost use Rattle.lk_derive_equal.specs.Makes.{IsMade};
-ghost use Rattle.lk_derive_equal.specs.Tells.{Tells};
+ghost use Rattle.lk_step.specs.Makes.{IsMade};
+ghost use Rattle.lk_step.specs.Tells.{Tells};
 
-use crate::making::converted;
 use lk_ask::looks::Looks;
 use lk_lazy::levels::levels_equal;
 use lk_premises::same_name;
 use lk_step::Row;
+use lk_step::making::converted;
 use lk_store::memory::NoMemory;
 use lk_trace::ConversionRule;
 

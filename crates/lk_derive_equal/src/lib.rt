@@ -5,7 +5,6 @@ mod binders;
 mod constants;
 mod cores;
 mod functions;
-mod making;
 mod parts;
 mod proofs;
 mod quiet;

@@ -7,9 +7,9 @@ ghost use Rattle.lk_store.specs.Contents.{tree_at};
 ghost use Rattle.lk_step.specs.Meaning.{IsRowIn};
 ghost use Rattle.lk_step.specs.Told.{Leaves};
 ghost use Rattle.lk_derive_equal.specs.Constants.{IsConstant};
-ghost use Rattle.lk_derive_equal.specs.Runs.{IsRun, AreReduced};
+ghost use Rattle.lk_step.specs.Tests.{IsRun, AreReduced};
 ghost use Rattle.lk_derive_equal.specs.Subjects.{IsProjection};
-ghost use Rattle.lk_derive_equal.specs.Tells.{Tells};
+ghost use Rattle.lk_step.specs.Tells.{Tells};
 
 use crate::constants::{Constant, by_constants};
 use crate::spines::by_spines;

@@ -7,7 +7,7 @@ ghost use Rattle.lk_store.specs.Contents.{Contents, tree_at};
 ghost use Rattle.lk_step.specs.Rows.{IsClaim};
 ghost use Rattle.lk_step.specs.Meaning.{IsRowIn, IsRowOf};
 ghost use Rattle.lk_step.specs.Told.{Leaves};
-ghost use Rattle.lk_derive_equal.specs.Makes.{IsMade};
+ghost use Rattle.lk_step.specs.Makes.{IsMade};
 
 use crate::shapes::by_shapes;
 use lk_premises::same_tree;

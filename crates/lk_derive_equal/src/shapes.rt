@@ -11,14 +11,14 @@ ghost use Rattle.lk_step.specs.Steps.{equality as equality_step};
 ghost use Rattle.lk_step.specs.Meaning.{IsRowIn};
 ghost use Rattle.lk_step.specs.Told.{Leaves};
 ghost use Rattle.lk_derive_equal.specs.Binders.{IsBinderIn};
-ghost use Rattle.lk_derive_equal.specs.Makes.{IsMade};
-ghost use Rattle.lk_derive_equal.specs.Runs.{IsYes, ArePair};
-ghost use Rattle.lk_derive_equal.specs.Tells.{Rests};
+ghost use Rattle.lk_step.specs.Makes.{IsMade};
+ghost use Rattle.lk_step.specs.Tests.{IsYes, ArePair};
+ghost use Rattle.lk_step.specs.Tells.{Rests};
 
 use crate::binders::{Binder, bodies_row, open_both};
 use crate::cores::by_cores;
-use crate::making::converted;
 use lk_ask::looks::Looks;
+use lk_step::making::converted;
 use lk_step::{Derives, Row};
 use lk_store::memory::NoMemory;
 use lk_store::node::Node;

@@ -4,8 +4,8 @@ ghost use Rattle.std.specs.Prelude.{◌<◌, length, IfOk};
 ghost use Rattle.lk_questions.specs.Steps.{sort_of as plain_sort};
 ghost use Rattle.lk_store.specs.Contents.{tree_at};
 ghost use Rattle.lk_step.specs.Told.{Leaves};
-ghost use Rattle.lk_derive_equal.specs.Runs.{IsRun};
-ghost use Rattle.lk_derive_equal.specs.Tells.{IsSorted};
+ghost use Rattle.lk_step.specs.Tests.{IsRun};
+ghost use Rattle.lk_derive_equal.specs.Sorts.{IsSorted};
 
 use lk_step::Derives;
 use lk_step::derives::{form_of, type_of};

@@ -6,9 +6,9 @@ ghost use Rattle.lk_questions.specs.Same.{same_reduced};
 ghost use Rattle.lk_store.specs.Contents.{tree_at};
 ghost use Rattle.lk_step.specs.Meaning.{IsRowIn};
 ghost use Rattle.lk_step.specs.Told.{Leaves};
-ghost use Rattle.lk_derive_equal.specs.Chains.{after_eta, after_parts, after_unfolding, after_proof};
-ghost use Rattle.lk_derive_equal.specs.Runs.{IsYes, AreReduced};
-ghost use Rattle.lk_derive_equal.specs.Tells.{Rests};
+ghost use Rattle.lk_step.specs.Chains.{after_eta, after_parts, after_unfolding, after_proof};
+ghost use Rattle.lk_step.specs.Tests.{IsYes, AreReduced};
+ghost use Rattle.lk_step.specs.Tells.{Rests};
 
 use crate::functions::by_functions;
 use crate::parts::by_kinds;

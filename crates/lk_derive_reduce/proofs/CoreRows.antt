@@ -25,10 +25,10 @@ use Rattle.lk_step.specs.Shaped.{IsShapedAnswer}
 use Rattle.lk_step.specs.Told.{IsAnsweredWithin, Leaves}
 use Rattle.lk_step.proofs.Runs.{opened_so, one_answer}
 use Rattle.lk_step.proofs.Shapes.{shaped_answer}
-use Rattle.lk_derive_reduce.specs.Parts.{IsPartIn, States, IsWhole, IsEmpty, AsksCore, FollowsCore, StepGoes}
+use Rattle.lk_step.specs.Parts.{IsPartIn, States, IsWhole, IsEmpty, AsksCore, FollowsCore, StepGoes}
 use Rattle.lk_derive_reduce.specs.Forms.{IsApp, Opens, HeadRun, HeadGoes}
-use Rattle.lk_derive_reduce.proofs.Parts.{first}
-use Rattle.lk_derive_reduce.proofs.PartsIn.{part_none, part_these, part_whole}
+use Rattle.lk_step.proofs.Parts.{first}
+use Rattle.lk_step.proofs.PartsIn.{part_none, part_these, part_whole}
 use Rattle.lk_derive_reduce.proofs.CoreRuns.{head_holds}
 
 -- what is left as it is, over more than one call

@@ -21,9 +21,9 @@ use Rattle.lk_step.specs.Told.{IsAnsweredWithin}
 use Rattle.lk_step.specs.Reducing.{beta_reduct}
 use Rattle.lk_step.proofs.Runs.{opened_so}
 use Rattle.lk_step.proofs.ReductionSteps.{reduction_steps}
-use Rattle.lk_derive_reduce.specs.Parts.{IsNext}
+use Rattle.lk_step.specs.Parts.{IsNext}
 use Rattle.lk_derive_reduce.specs.Forms.{IsApp, IsLam, IsStuck, IsLetOf, Opens, HeadRun}
-use Rattle.lk_derive_reduce.proofs.PartsIn.{apart}
+use Rattle.lk_step.proofs.PartsIn.{apart}
 
 pub runs_asked : (w : Place) (q : Query) (v : AnswerTo q) (n : ℕ) → Runs w (asked q) v n → IsAnswered w q v n
 runs_asked w q v n h =

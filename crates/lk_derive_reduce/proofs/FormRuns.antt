@@ -25,9 +25,10 @@ use Rattle.lk_step.specs.Shaped.{IsShapedAnswer}
 use Rattle.lk_step.specs.Told.{IsAnsweredWithin}
 use Rattle.lk_step.proofs.Runs.{opened_so, one_answer, runs_on}
 use Rattle.lk_step.proofs.Shapes.{shaped_answer}
-use Rattle.lk_derive_reduce.specs.Parts.{IsEmpty, AsksCore, IsWhole}
+use Rattle.lk_step.specs.Parts.{IsEmpty, AsksCore, IsWhole}
 use Rattle.lk_derive_reduce.specs.Forms.{AtCore, UnfoldsBy, IsMeant, is_nothing, ComputesNothing}
-use Rattle.lk_derive_reduce.proofs.PartsIn.{part_none, part_stays, part_whole}
+use Rattle.lk_step.proofs.Quiet.{found_next}
+use Rattle.lk_step.proofs.PartsIn.{part_none, part_stays, part_whole}
 
 -- Core is asked for first
 record FirstRun (w : Place) (most : ℕ) (e : Tree) (v : Tree) (n : ℕ) : Type 0 where
@@ -98,9 +99,6 @@ pub record Nothing (r : Option Tree) (n : ℕ) : Type 0 where
 nothing_at : (r x : Option Tree) (n : ℕ) → x ≡ r → n ≡ 0 → is_no (gives None (truth (has x))) ≡ true → Nothing r n
 nothing_at r None n e z t = record { none = sym e; free = z }
 nothing_at r (Some v) n e z t = absurd cc
-
-pub found_next : (w : Place) (r : _) (last : Option ℕ) (c : Name) (o : Option Entry) (g : Entry) (next : Option ℕ → Entry → Steps) → o ≡ Some g → looked r last o (w.origin c) (w.flaw c) next ≡ next (later last (Some (w.origin c))) g
-found_next w r last c o g next e = ap (λ z. looked r last z (w.origin c) (w.flaw c) next) e
 
 -- a run of a program whose steps say no at once
 pub quiet_none : (w : Place) (last : Option ℕ) (t : Tree) (p : Program (Option Tree)) (r : Option Tree) (n : ℕ) → Runs w p r n → is_no (erased_then w (flag t) last p) ≡ true → Nothing r n

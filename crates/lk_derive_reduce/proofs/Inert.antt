@@ -13,7 +13,7 @@ use Rattle.lk_step.specs.declared.step.Row.{Row}
 use Rattle.lk_step.specs.Rows.{IsClaim}
 use Rattle.lk_step.specs.Runs.{Runs, IsOpened}
 use Rattle.lk_step.proofs.Runs.{opened_so}
-use Rattle.lk_derive_reduce.specs.Parts.{IsWhole, IsEmpty}
+use Rattle.lk_step.specs.Parts.{IsWhole, IsEmpty}
 use Rattle.lk_derive_reduce.specs.Forms.{IsApp, IsInert}
 use Rattle.lk_derive_reduce.proofs.CoreRuns.{app_steps}
 use Rattle.lk_derive_reduce.proofs.CoreRows.{stays_whole, itself_whole}

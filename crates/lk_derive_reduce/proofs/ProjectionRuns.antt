@@ -39,12 +39,12 @@ use Rattle.lk_step.specs.Told.{IsAnsweredWithin}
 use Rattle.lk_step.proofs.ReductionSteps.{reduction_steps}
 use Rattle.lk_step.proofs.Runs.{opened_so, one_answer}
 use Rattle.lk_step.proofs.Shapes.{shaped_answer}
-use Rattle.lk_derive_reduce.specs.Parts.{IsPartIn, States, IsWhole, IsEmpty, AsksForm, FollowsCore}
+use Rattle.lk_step.specs.Parts.{IsPartIn, States, IsWhole, IsEmpty, AsksForm, FollowsCore}
 use Rattle.lk_derive_reduce.specs.Projections.{IsProjOf, tree_asked, field_at, number_asked, Picks, AtSubject}
-use Rattle.lk_derive_reduce.proofs.Parts.{first}
-use Rattle.lk_derive_reduce.proofs.PartsIn.{part_none, part_stays, part_these, part_whole}
+use Rattle.lk_step.proofs.Parts.{first}
+use Rattle.lk_step.proofs.PartsIn.{part_none, part_stays, part_these, part_whole}
 use Rattle.lk_derive_reduce.proofs.CoreRuns.{runs_asked}
-use Rattle.lk_derive_reduce.proofs.Quiet.{Quietly, quietly, quiet_text, quiet_ctor_app}
+use Rattle.lk_step.proofs.Quiet.{Quietly, quietly, quiet_text, quiet_ctor_app}
 use Rattle.lk_claims.proofs.Facts.{same_self}
 
 -- m is the constructor b applied

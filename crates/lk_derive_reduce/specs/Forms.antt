@@ -31,7 +31,7 @@ use Rattle.lk_derive_reduce.specs.declared.rows.CoreForm.{CoreForm}
 use Rattle.lk_derive_reduce.specs.declared.rows.CoreForm.TheVariants.{Applied, Bound, Projected, Itself}
 use Rattle.lk_derive_reduce.specs.declared.rows.HeadForm.{HeadForm}
 use Rattle.lk_derive_reduce.specs.declared.rows.HeadForm.TheVariants.{Lambda, Stuck, Named, Rigid}
-use Rattle.lk_derive_reduce.specs.Parts.{IsNext, IsPartIn}
+use Rattle.lk_step.specs.Parts.{IsNext, IsPartIn}
 use Rattle.lk_derive_reduce.specs.Projections.{IsProjOf}
 
 abbrev pub IsApp : Tree → Type 0

@@ -16,7 +16,7 @@ use Rattle.lk_proj.specs.Reductions.{subject_rest}
 use Rattle.lk_step.specs.declared.step.Row.{Row}
 use Rattle.lk_step.specs.Steps.{reduction, StepHolds}
 use Rattle.lk_step.specs.Rows.{IsAnswered}
-use Rattle.lk_derive_reduce.specs.Parts.{IsPartIn}
+use Rattle.lk_step.specs.Parts.{IsPartIn}
 
 -- e is a projection of s
 pub record IsProjOf (e s : Tree) : Type 0 where

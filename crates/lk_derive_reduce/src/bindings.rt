@@ -8,13 +8,13 @@ ghost use Rattle.lk_store.specs.Contents.{tree_at, IsTree};
 ghost use Rattle.lk_step.specs.Reducing.{beta_reduct};
 ghost use Rattle.lk_step.specs.Rows.{IsClaim};
 ghost use Rattle.lk_step.specs.Told.{Leaves};
-ghost use Rattle.lk_derive_reduce.specs.Parts.{IsWhole, IsEmpty};
+ghost use Rattle.lk_step.specs.Parts.{IsWhole, IsEmpty};
 ghost use Rattle.lk_derive_reduce.specs.Forms.{IsApp, IsLam, IsLetOf, asked_core};
 
-use crate::under_way::step_then_core;
 use lk_ask::next::Next;
 use lk_ask::query::Query;
 use lk_core::core_form::{CoreStep, begin};
+use lk_step::under_way::step_then_core;
 use lk_step::{Derives, Row};
 use lk_store::memory::NoMemory;
 use lk_subst::opening::open_with;

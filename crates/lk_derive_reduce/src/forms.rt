@@ -8,15 +8,15 @@ ghost use Rattle.lk_questions.specs.Query.{whnf};
 ghost use Rattle.lk_store.specs.Contents.{name_at, list_at, tree_at, Extends};
 ghost use Rattle.lk_step.specs.Rows.{IsClaim};
 ghost use Rattle.lk_step.specs.Told.{Leaves};
-ghost use Rattle.lk_derive_reduce.specs.Parts.{IsWhole, IsEmpty};
+ghost use Rattle.lk_step.specs.Parts.{IsWhole, IsEmpty};
 ghost use Rattle.lk_derive_reduce.specs.Forms.{AtCore, IsMeant, is_nothing, ComputesNothing};
 ghost use Rattle.lk_derive_reduce.specs.Forms.{IsConstantAt};
 
-use crate::under_way::ask_core;
 use crate::values::by_entry;
 use lk_env::entry::Entry;
 use lk_lit::step::{LitPart, begin};
 use lk_spine::head;
+use lk_step::under_way::ask_core;
 use lk_step::{Derives, Row};
 use lk_store::memory::NoMemory;
 use lk_store::node::Node;

@@ -7,13 +7,13 @@ ghost use Rattle.lk_questions.specs.Query.{core};
 ghost use Rattle.lk_store.specs.Contents.{tree_at};
 ghost use Rattle.lk_step.specs.Rows.{IsClaim};
 ghost use Rattle.lk_step.specs.Told.{IsAnsweredWithin, Leaves};
-ghost use Rattle.lk_derive_reduce.specs.Parts.{IsWhole, IsEmpty};
+ghost use Rattle.lk_step.specs.Parts.{IsWhole, IsEmpty};
 ghost use Rattle.lk_derive_reduce.specs.Forms.{IsApp, IsStuck, HeadGoes};
 
-use crate::under_way::{add_step, ask_core, one_reduction, then_core};
 use lk_ask::unfolding::with_head;
 use lk_premises::same_tree;
 use lk_spine::head;
+use lk_step::under_way::{add_step, ask_core, one_reduction, then_core};
 use lk_step::{Derives, Row};
 use lk_store::memory::NoMemory;
 use lk_trace::ReductionRule;

@@ -7,7 +7,6 @@ mod forms;
 mod heads;
 mod projections;
 mod rows;
-mod under_way;
 mod values;
 
 pub use rows::{core_row, form_row};

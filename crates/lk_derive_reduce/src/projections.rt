@@ -6,14 +6,14 @@ ghost use Rattle.lk_questions.specs.Query.{core};
 ghost use Rattle.lk_store.specs.Contents.{tree_at};
 ghost use Rattle.lk_step.specs.Rows.{IsClaim};
 ghost use Rattle.lk_step.specs.Told.{Leaves};
-ghost use Rattle.lk_derive_reduce.specs.Parts.{IsWhole, IsEmpty};
+ghost use Rattle.lk_step.specs.Parts.{IsWhole, IsEmpty};
 ghost use Rattle.lk_derive_reduce.specs.Projections.{IsProjOf, AtSubject, field_at, number_asked};
 
-use crate::under_way::{add_step, ask_form, one_reduction, then_core};
 use lk_ask::next::Next;
 use lk_ask::query::Query;
 use lk_proj::reduce::{CoreNext, resume_term};
 use lk_proj::sheet::CoreSheet;
+use lk_step::under_way::{add_step, ask_form, one_reduction, then_core};
 use lk_step::{Derives, Row};
 use lk_store::memory::NoMemory;
 use lk_trace::ReductionRule;

@@ -12,7 +12,7 @@ ghost use Rattle.lk_env.specs.Entries.{plain_entry};
 ghost use Rattle.lk_step.specs.Meaning.{IsRowIn, IsRowOf};
 ghost use Rattle.lk_step.specs.Rows.{IsClaim};
 ghost use Rattle.lk_step.specs.Told.{Leaves};
-ghost use Rattle.lk_derive_reduce.specs.Parts.{IsWhole, IsEmpty};
+ghost use Rattle.lk_step.specs.Parts.{IsWhole, IsEmpty};
 ghost use Rattle.lk_derive_reduce.specs.Forms.{IsApp, IsCoreForm, IsHeadForm, IsInert};
 
 use crate::bindings::{beta_row, let_row};

@@ -11,13 +11,13 @@ ghost use Rattle.lk_env.specs.declared.unit.Unit.{Unit as StoredUnit};
 ghost use Rattle.lk_env.specs.Entries.{plain_entry, IsEntryIn};
 ghost use Rattle.lk_ask.specs.Looks.{entry_at, IsOver};
 ghost use Rattle.lk_step.specs.Told.{Leaves};
-ghost use Rattle.lk_derive_reduce.specs.Parts.{IsWhole};
+ghost use Rattle.lk_step.specs.Parts.{IsWhole};
 ghost use Rattle.lk_derive_reduce.specs.Forms.{DeltaRun, UnfoldsBy};
 
-use crate::under_way::{add_step, chain, no_premise, then_form};
 use lk_ask::unfolding::unfold;
 use lk_env::entry::{Entry, Kind};
 use lk_env::unit::Body;
+use lk_step::under_way::{add_step, chain, no_premise, then_form};
 use lk_step::{Derives, Row};
 use lk_store::memory::NoMemory;
 use lk_trace::ReductionRule;

@@ -9,3 +9,14 @@ pub mod SpineSteps
 pub mod StructureSteps
 pub mod EqualitySteps
 pub mod MajorSteps
+pub mod Steady
+pub mod Parts
+pub mod PartsIn
+pub mod Quiet
+pub mod Following
+pub mod Moving
+pub mod Bases
+pub mod Chain
+pub mod Pairing
+pub mod Comparing
+pub mod Asking

@@ -1,7 +1,6 @@
 -- That trees are closed and well scoped, and that a Sort or a Pi reduces to itself alone, follows the rules at any place: so it is of each answer.
-use Rattle.std.proofs.Common.{ℕ, suc, ◌≡◌, Bool, List, [], ◌∷◌, Option, refl, subst, ◌∙◌, arith}
-use Rattle.lk_tree.specs.Tree.{Name, Tree, const, app, lam, pi, let_in, sort, var, local}
-use Rattle.lk_tree.specs.Bind.{opened}
+use Rattle.std.proofs.Common.{ℕ, ◌≡◌, Bool, List, [], ◌∷◌, Option, refl, subst, ◌∙◌, arith}
+use Rattle.lk_tree.specs.Tree.{Name, Tree, app, local}
 use Rattle.lk_tree.specs.Spine.{apply}
 use Rattle.lk_tree.specs.WellFormed.{IsWellFormed, AllWellFormed}
 use Rattle.lk_tree.proofs.Binding.{open_fine, fine_from_open}
@@ -10,11 +9,11 @@ use Rattle.lk_rulebook.specs.Place.{Place}
 use Rattle.lk_rulebook.specs.WellStated.{WellStated}
 use Rattle.lk_rulebook.specs.Formers.{IsFormer}
 use Rattle.lk_rulebook.specs.Names.{named, op_name}
-use Rattle.lk_rulebook.specs.Claims.{Claim, types, reduces, equals, IsShaped}
+use Rattle.lk_rulebook.specs.Claims.{Claim, reduces, IsShaped}
 use Rattle.lk_rulebook.proofs.Texts.{read_fine, result_fine}
 use Rattle.lk_rulebook.proofs.Scopes.{expanded_fine}
 use Rattle.lk_questions.specs.Query.{Query, AnswerTo, core, whnf, infer, same}
-use Rattle.lk_questions.specs.Answer.{Outcome, answered, plain_answer, IfAnswered}
+use Rattle.lk_questions.specs.Answer.{answered, plain_answer}
 use Rattle.lk_questions.specs.Sound.{IsAskable}
 use Rattle.lk_questions.specs.Table.{steps}
 use Rattle.lk_questions.proofs.Outcomes.{of_answered}

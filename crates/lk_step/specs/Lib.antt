@@ -8,3 +8,9 @@ pub mod Typing
 pub mod Reducing
 pub mod Equal
 pub mod MajorSteps
+pub mod Parts
+pub mod Tests
+pub mod Tells
+pub mod Makes
+pub mod Pairs
+pub mod Chains

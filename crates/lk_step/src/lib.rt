@@ -5,7 +5,10 @@
 mod answers;
 pub mod derives;
 mod laws;
+pub mod making;
+pub mod pairs;
 mod step;
+pub mod under_way;
 
 pub use answers::{answers_are_shaped, answers_come_of_rows};
 pub use derives::Derives;

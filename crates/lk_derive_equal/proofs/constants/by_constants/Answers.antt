@@ -2,7 +2,7 @@ use Rattle.std.proofs.Common.{ℕ, sym, ◌∙◌}
 use Rattle.lk_rulebook.specs.Place.{Place}
 use Rattle.lk_rulebook.specs.Claims.{equals}
 use Rattle.lk_store.specs.Contents.{Contents, name_at, list_at, tree_at}
-use Rattle.lk_derive_equal.proofs.Bases.{basis_made}
+use Rattle.lk_step.proofs.Bases.{basis_made}
 use Rattle.lk_derive_equal.proofs.ConstantLine.{constants_other, constants_no, constants_basis}
 use Rattle.lk_derive_equal.proofs.constants.by_constants.Goals as goal
 

@@ -6,11 +6,11 @@ use Rattle.lk_store.specs.Contents.{Contents, tree_at}
 use Rattle.lk_questions.specs.Query.{core}
 use Rattle.lk_questions.specs.Same.{by_reduction, same_reduced}
 use Rattle.lk_step.specs.Told.{IsAnsweredWithin, IsCore}
-use Rattle.lk_derive_equal.specs.Runs.{IsYes, ArePair}
-use Rattle.lk_derive_equal.specs.Tells.{Rests}
+use Rattle.lk_step.specs.Tests.{IsYes, ArePair}
+use Rattle.lk_step.specs.Tells.{Rests}
 use Rattle.std.proofs.lemmas.Result.{IfOk-weaker}
-use Rattle.lk_derive_equal.proofs.Moving.{moved1, moved2, back2, leaves_on, tree_stays, tree_in}
-use Rattle.lk_derive_equal.proofs.Bases.{basis_made}
+use Rattle.lk_step.proofs.Moving.{moved1, moved2, back2, leaves_on, tree_stays, tree_in}
+use Rattle.lk_step.proofs.Bases.{basis_made}
 use Rattle.lk_derive_equal.proofs.CoreRows.{cores_first, cores_second, tests_yes, tests_pair, tests_rest, moved_basis}
 use Rattle.lk_derive_equal.proofs.cores.by_cores.Goals as goal
 

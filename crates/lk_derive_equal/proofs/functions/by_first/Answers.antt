@@ -7,9 +7,9 @@ use Rattle.lk_store.specs.Contents.{Contents, tree_at}
 use Rattle.lk_questions.specs.Query.{whnf}
 use Rattle.lk_questions.specs.Same.{by_function_eta, is_lam}
 use Rattle.lk_step.specs.Told.{IsAnsweredWithin, IsForm, IsType}
-use Rattle.lk_derive_equal.specs.Runs.{IsRun}
-use Rattle.lk_derive_equal.specs.Tells.{Tells}
-use Rattle.lk_derive_equal.proofs.Moving.{moved1, moved2, back2, leaves_on, tree_stays, tree_in}
+use Rattle.lk_step.specs.Tests.{IsRun}
+use Rattle.lk_step.specs.Tells.{Tells}
+use Rattle.lk_step.proofs.Moving.{moved1, moved2, back2, leaves_on, tree_stays, tree_in}
 use Rattle.lk_derive_equal.proofs.EtaLine.{type_asked1, form_asked1, no_pi1}
 use Rattle.lk_derive_equal.proofs.functions.by_first.Goals as goal
 

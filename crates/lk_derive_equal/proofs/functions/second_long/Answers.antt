@@ -6,8 +6,8 @@ use Rattle.lk_store.specs.Contents.{Contents, tree_at}
 use Rattle.lk_questions.specs.Query.{same}
 use Rattle.lk_questions.specs.Same.{eta_long}
 use Rattle.lk_step.specs.Told.{IsAnsweredWithin, IsSame, Leaves}
-use Rattle.lk_derive_equal.proofs.Moving.{moved1, back1, leaves_on, leaves_made, tree_stays}
-use Rattle.lk_derive_equal.proofs.Bases.{basis_made}
+use Rattle.lk_step.proofs.Moving.{moved1, back1, leaves_on, leaves_made, tree_stays}
+use Rattle.lk_step.proofs.Bases.{basis_made}
 use Rattle.lk_derive_equal.proofs.EtaLine.{lambda_of, long_asked2, ends2, basis2}
 use Rattle.lk_derive_equal.proofs.functions.second_long.Goals as goal
 

@@ -6,9 +6,10 @@ use Rattle.lk_rulebook.specs.Claims.{equals}
 use Rattle.lk_questions.specs.Steps.{sort_of}
 use Rattle.lk_questions.specs.Same.{by_proof_irrelevance}
 use Rattle.lk_store.specs.Contents.{Contents, level_at, tree_at}
-use Rattle.lk_derive_equal.specs.Runs.{IsRun}
-use Rattle.lk_derive_equal.specs.Tells.{IsSorted, Tells}
-use Rattle.lk_derive_equal.proofs.Moving.{moved2, back2, leaves_on}
+use Rattle.lk_step.specs.Tests.{IsRun}
+use Rattle.lk_derive_equal.specs.Sorts.{IsSorted}
+use Rattle.lk_step.specs.Tells.{Tells}
+use Rattle.lk_step.proofs.Moving.{moved2, back2, leaves_on}
 use Rattle.lk_derive_equal.proofs.ProofLine.{proof_sort, proof_other}
 use Rattle.lk_derive_equal.proofs.proofs.by_proof.Goals as goal
 

@@ -5,8 +5,8 @@ use Rattle.lk_rulebook.specs.Claims.{equals}
 use Rattle.lk_questions.specs.Query.{same}
 use Rattle.lk_store.specs.Contents.{Contents, level_at, tree_at}
 use Rattle.lk_step.specs.Told.{IsAnsweredWithin, IsSame}
-use Rattle.lk_derive_equal.proofs.Moving.{moved1, back1, leaves_on, tree_stays}
-use Rattle.lk_derive_equal.proofs.Bases.{basis_made}
+use Rattle.lk_step.proofs.Moving.{moved1, back1, leaves_on, tree_stays}
+use Rattle.lk_step.proofs.Bases.{basis_made}
 use Rattle.lk_derive_equal.proofs.ProofLine.{proof_right, proof_same, proof_ends, proof_basis}
 use Rattle.lk_derive_equal.proofs.proofs.by_types.Goals as goal
 

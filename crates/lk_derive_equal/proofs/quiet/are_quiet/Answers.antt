@@ -3,7 +3,7 @@ use Rattle.std.specs.Prelude.{IfOk}
 use Rattle.std.proofs.lemmas.Result.{IfOk-weaker}
 use Rattle.lk_store.specs.Contents.{Contents, tree_at}
 use Rattle.lk_derive_equal.specs.Quiet.{IsQuiet}
-use Rattle.lk_derive_equal.proofs.Moving.{back1}
+use Rattle.lk_step.proofs.Moving.{back1}
 use Rattle.lk_derive_equal.proofs.quiet.are_quiet.Goals as goal
 
 pub returns-clause-quiet : goal.returns-clause-quiet

@@ -6,7 +6,7 @@ use Rattle.std.proofs.lemmas.Result.{IfOk-weaker}
 use Rattle.lk_questions.specs.Query.{same}
 use Rattle.lk_questions.specs.Same.{by_shape}
 use Rattle.lk_step.specs.Meaning.{IsRowOf}
-use Rattle.lk_derive_equal.specs.Tells.{Rests}
+use Rattle.lk_step.specs.Tells.{Rests}
 use Rattle.lk_derive_equal.proofs.WholeRow.{one_row, shape_yes, shape_pair, shape_row}
 use Rattle.lk_derive_equal.proofs.row.equality_row.Goals as goal
 

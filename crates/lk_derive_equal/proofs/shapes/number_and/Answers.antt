@@ -3,8 +3,8 @@ use Rattle.std.specs.Prelude.{IfOk}
 use Rattle.lk_rulebook.specs.Place.{Place}
 use Rattle.lk_rulebook.specs.Claims.{equals}
 use Rattle.lk_store.specs.Contents.{Contents, tree_at}
-use Rattle.lk_derive_equal.specs.Runs.{IsYes}
-use Rattle.lk_derive_equal.specs.Tells.{Rests}
+use Rattle.lk_step.specs.Tests.{IsYes}
+use Rattle.lk_step.specs.Tells.{Rests}
 use Rattle.lk_same.proofs.Shapes.{number_and_other}
 use Rattle.lk_derive_equal.proofs.ShapeRows.{lits_same}
 use Rattle.lk_derive_equal.proofs.shapes.number_and.Goals as goal

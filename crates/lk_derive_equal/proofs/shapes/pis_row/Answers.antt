@@ -5,8 +5,8 @@ use Rattle.lk_rulebook.specs.Claims.{equals}
 use Rattle.lk_store.specs.Contents.{Contents, tree_at}
 use Rattle.std.proofs.lemmas.Result.{IfOk-weaker}
 use Rattle.lk_questions.specs.Same.{by_shape}
-use Rattle.lk_derive_equal.specs.Tells.{Rests}
-use Rattle.lk_derive_equal.proofs.Bases.{basis_made}
+use Rattle.lk_step.specs.Tells.{Rests}
+use Rattle.lk_step.proofs.Bases.{basis_made}
 use Rattle.lk_derive_equal.specs.Binders.{local_of}
 use Rattle.lk_tree.specs.Bind.{opened}
 use Rattle.lk_derive_equal.proofs.ShapeRows.{pis_basis}

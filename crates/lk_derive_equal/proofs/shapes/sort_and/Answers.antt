@@ -5,9 +5,9 @@ use Rattle.lk_rulebook.specs.Claims.{equals}
 use Rattle.lk_store.specs.Contents.{Contents, level_at, tree_at}
 use Rattle.std.proofs.lemmas.Result.{IfOk-weaker}
 use Rattle.lk_questions.specs.Same.{by_shape}
-use Rattle.lk_derive_equal.specs.Runs.{IsYes}
-use Rattle.lk_derive_equal.specs.Tells.{Rests}
-use Rattle.lk_derive_equal.proofs.Bases.{basis_made}
+use Rattle.lk_step.specs.Tests.{IsYes}
+use Rattle.lk_step.specs.Tells.{Rests}
+use Rattle.lk_step.proofs.Bases.{basis_made}
 use Rattle.lk_same.proofs.Shapes.{sort_and_other}
 use Rattle.lk_derive_equal.proofs.ShapeRows.{sorts_basis}
 use Rattle.lk_derive_equal.proofs.shapes.sort_and.Goals as goal

@@ -4,8 +4,8 @@ use Rattle.lk_rulebook.specs.Place.{Place}
 use Rattle.lk_rulebook.specs.Claims.{equals}
 use Rattle.lk_store.specs.Contents.{Contents, tree_at}
 use Rattle.lk_store.specs.Contents.{text_at}
-use Rattle.lk_derive_equal.specs.Runs.{IsYes}
-use Rattle.lk_derive_equal.specs.Tells.{Rests}
+use Rattle.lk_step.specs.Tests.{IsYes}
+use Rattle.lk_step.specs.Tells.{Rests}
 use Rattle.lk_same.proofs.Shapes.{text_and_other}
 use Rattle.lk_derive_equal.proofs.ShapeRows.{texts_same}
 use Rattle.lk_derive_equal.proofs.shapes.text_and.Goals as goal

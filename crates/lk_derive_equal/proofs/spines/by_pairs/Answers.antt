@@ -7,10 +7,10 @@ use Rattle.lk_tree.specs.Spine.{head, args}
 use Rattle.lk_step.specs.Equal.{argument_claims}
 use Rattle.lk_step.specs.Runs.{Runs}
 use Rattle.lk_ask.specs.Lines.{lefts, rights}
-use Rattle.lk_derive_equal.specs.Pairs.{pairs_at, same_asks}
-use Rattle.lk_derive_equal.specs.Runs.{IsRun}
-use Rattle.lk_derive_equal.proofs.Moving.{tree_stays}
-use Rattle.lk_derive_equal.proofs.Bases.{basis_made}
+use Rattle.lk_step.specs.Pairs.{pairs_at, same_asks}
+use Rattle.lk_step.specs.Tests.{IsRun}
+use Rattle.lk_step.proofs.Moving.{tree_stays}
+use Rattle.lk_step.proofs.Bases.{basis_made}
 use Rattle.lk_derive_equal.proofs.SpineLine.{spines_run, spines_no, spines_basis, pairs_program, pairs_stay, spine_asks, spine_premises}
 use Rattle.lk_derive_equal.proofs.spines.by_pairs.Goals as goal
 

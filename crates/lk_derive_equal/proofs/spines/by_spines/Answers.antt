@@ -1,6 +1,6 @@
 use Rattle.std.proofs.Common.{subst}
 use Rattle.lk_store.specs.Contents.{tree_at}
-use Rattle.lk_derive_equal.specs.Pairs.{ArePairsIf}
+use Rattle.lk_step.specs.Pairs.{ArePairsIf}
 use Rattle.lk_derive_equal.proofs.SpineLine.{spines_uneven}
 use Rattle.lk_derive_equal.proofs.spines.by_spines.Goals as goal
 

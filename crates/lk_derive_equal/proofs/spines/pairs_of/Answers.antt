@@ -1,7 +1,7 @@
 use Rattle.std.proofs.Common.{refl, sym, subst}
-use Rattle.lk_derive_equal.specs.Pairs.{heads_pair, ArePairs}
+use Rattle.lk_step.specs.Pairs.{heads_pair, ArePairs}
 use Rattle.lk_lazy.specs.Spines.{IsPairedIf}
-use Rattle.lk_derive_equal.proofs.Pairing.{paired_whole}
+use Rattle.lk_derive_equal.proofs.Paired.{paired_whole}
 use Rattle.lk_derive_equal.proofs.spines.pairs_of.Goals as goal
 
 pub returns-in_ok-pairs-in-Some : goal.returns-in_ok-pairs-in-Some

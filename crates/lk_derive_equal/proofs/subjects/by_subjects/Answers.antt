@@ -4,8 +4,8 @@ use Rattle.lk_rulebook.specs.Claims.{equals}
 use Rattle.lk_store.specs.Contents.{Contents, name_at, tree_at}
 use Rattle.lk_tree.specs.Mentions.{same_name}
 use Rattle.lk_step.specs.Told.{IsSame}
-use Rattle.lk_derive_equal.proofs.Moving.{tree_stays}
-use Rattle.lk_derive_equal.proofs.Bases.{basis_made}
+use Rattle.lk_step.proofs.Moving.{tree_stays}
+use Rattle.lk_step.proofs.Bases.{basis_made}
 use Rattle.lk_derive_equal.proofs.SubjectLine.{subjects_other, subjects_asks, subjects_end, subjects_basis}
 use Rattle.lk_derive_equal.proofs.subjects.by_subjects.Goals as goal
 

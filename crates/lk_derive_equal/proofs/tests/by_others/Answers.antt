@@ -4,10 +4,10 @@ use Rattle.std.proofs.lemmas.Result.{IfOk-weaker}
 use Rattle.lk_rulebook.specs.Place.{Place}
 use Rattle.lk_rulebook.specs.Claims.{equals}
 use Rattle.lk_store.specs.Contents.{Contents, tree_at}
-use Rattle.lk_derive_equal.specs.Chains.{after_proof, after_unfolding}
-use Rattle.lk_derive_equal.specs.Runs.{IsYes}
-use Rattle.lk_derive_equal.specs.Tells.{Rests}
-use Rattle.lk_derive_equal.proofs.Moving.{moved2, back2}
+use Rattle.lk_step.specs.Chains.{after_proof, after_unfolding}
+use Rattle.lk_step.specs.Tests.{IsYes}
+use Rattle.lk_step.specs.Tells.{Rests}
+use Rattle.lk_step.proofs.Moving.{moved2, back2}
 use Rattle.lk_derive_equal.proofs.QuietLines.{quiet_on, quiet_rests}
 use Rattle.lk_derive_equal.proofs.tests.by_others.Goals as goal
 

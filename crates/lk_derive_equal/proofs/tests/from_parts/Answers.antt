@@ -4,14 +4,14 @@ use Rattle.lk_rulebook.specs.Place.{Place}
 use Rattle.lk_rulebook.specs.Claims.{equals}
 use Rattle.lk_store.specs.Contents.{Contents, tree_at}
 use Rattle.lk_questions.specs.Same.{by_parts}
-use Rattle.lk_derive_equal.specs.Chains.{after_parts}
+use Rattle.lk_step.specs.Chains.{after_parts}
 use Rattle.std.specs.Prelude.{None}
 use Rattle.std.proofs.lemmas.Result.{IfOk-weaker}
 use Rattle.lk_questions.specs.Pairs.{◌or_else◌}
-use Rattle.lk_derive_equal.specs.Runs.{IsYes}
-use Rattle.lk_derive_equal.specs.Tells.{Tells, Rests}
-use Rattle.lk_derive_equal.proofs.Moving.{moved2, back2}
-use Rattle.lk_derive_equal.proofs.Chain.{line_run, line_on, line_none, line_some}
+use Rattle.lk_step.specs.Tests.{IsYes}
+use Rattle.lk_step.specs.Tells.{Tells, Rests}
+use Rattle.lk_step.proofs.Moving.{moved2, back2}
+use Rattle.lk_step.proofs.Chain.{line_run, line_on, line_none, line_some}
 use Rattle.lk_derive_equal.proofs.tests.from_parts.Goals as goal
 
 pub by_kinds-requires-clause-run : goal.by_kinds-requires-clause-run

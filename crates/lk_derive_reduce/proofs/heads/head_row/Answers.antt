@@ -4,7 +4,7 @@ use Rattle.lk_tree.specs.Spine.{head, args, apply}
 use Rattle.lk_rulebook.specs.Place.{Place}
 use Rattle.lk_questions.specs.Steps.{is_same_tree}
 use Rattle.lk_store.specs.Contents.{Contents, tree_at}
-use Rattle.lk_derive_reduce.specs.Parts.{AsksCore}
+use Rattle.lk_step.specs.Parts.{AsksCore}
 use Rattle.lk_derive_reduce.specs.Forms.{HeadRun}
 use Rattle.lk_derive_reduce.proofs.CoreRuns.{head_run}
 use Rattle.lk_derive_reduce.proofs.CoreRows.{answered_at, head_within, head_asks, head_stays_whole, head_moves_whole, asks_of, heads_at}

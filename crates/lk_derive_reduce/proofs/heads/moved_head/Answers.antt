@@ -5,7 +5,7 @@ use Rattle.lk_rulebook.specs.Place.{Place}
 use Rattle.lk_rulebook.specs.Claims.{reduces}
 use Rattle.lk_store.specs.Contents.{Contents, tree_at}
 use Rattle.lk_premises.specs.Claims.{claims_at}
-use Rattle.lk_derive_reduce.proofs.PartsIn.{part_stays}
+use Rattle.lk_step.proofs.PartsIn.{part_stays}
 use Rattle.lk_derive_reduce.proofs.CoreRows.{answered_at, follows_at, head_goes}
 use Rattle.lk_derive_reduce.proofs.heads.moved_head.Goals as goal
 
