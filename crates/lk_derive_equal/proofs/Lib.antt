@@ -8,5 +8,4 @@ pub mod EtaLine
 pub mod ConstantLine
 pub mod PartKinds
 pub mod SpineLine
-pub mod QuietLines
 pub mod Paired

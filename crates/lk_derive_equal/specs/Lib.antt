@@ -4,4 +4,4 @@ pub mod Binders
 pub mod Subjects
 pub mod Etas
 pub mod Constants
-pub mod Quiet
+pub mod Orders

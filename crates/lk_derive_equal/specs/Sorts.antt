@@ -1,5 +1,5 @@
 -- The sort of a type, by numbers.
-use Rattle.std.specs.Prelude.{ℕ, ◌≡◌, ◌<◌, length}
+use Rattle.std.specs.Prelude.{◌≡◌, ◌<◌, length}
 use Rattle.lk_tree.specs.Tree.{Tree, sort}
 use Rattle.lk_rulebook.specs.Place.{Place}
 use Rattle.lk_store.specs.Contents.{Contents, level_at, tree_at}

@@ -14,7 +14,7 @@ ghost use Rattle.lk_step.specs.Makes.{IsMade};
 ghost use Rattle.lk_step.specs.Tests.{IsYes, ArePair};
 ghost use Rattle.lk_step.specs.Tells.{Rests};
 
-use crate::tests::by_tests;
+use crate::tests::{AllTests, by_tests};
 use lk_ask::looks::Looks;
 use lk_ask::query::Query;
 use lk_premises::same_tree;
@@ -60,7 +60,7 @@ fn reduced_row<L: Looks>(looks: &L, a: u64, b: u64, left: u64, right: u64) -> Re
 }
 
 /// The row of two terms by their `Core`.
-pub(crate) fn by_cores<D: Derives>(
+pub(crate) fn by_cores<D: Derives, N: AllTests<D>>(
     derives: &mut D,
     a: u64,
     b: u64,
@@ -81,7 +81,7 @@ pub(crate) fn by_cores<D: Derives>(
     let left = core_of(derives, a, enough)?;
     let right = core_of(derives, b, enough)?;
     if both_stay(derives, a, b, left, right) {
-        return by_tests(derives, a, b, enough);
+        return by_tests::<D, N>(derives, a, b, enough);
     }
     reduced_row(derives, a, b, left, right)
 }

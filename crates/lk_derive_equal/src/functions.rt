@@ -14,6 +14,7 @@ ghost use Rattle.lk_step.specs.Makes.{IsMade};
 ghost use Rattle.lk_step.specs.Tests.{IsRun, AreReduced};
 ghost use Rattle.lk_step.specs.Tells.{Tells};
 
+use crate::tests::Test;
 use lk_ask::looks::Looks;
 use lk_ask::query::Query;
 use lk_eta::function::long;
@@ -247,35 +248,26 @@ fn by_second<D: Derives>(
     }
 }
 
-/// Two terms by function eta, where exactly one of them is a lambda.
-pub(crate) fn by_functions<D: Derives>(
-    derives: &mut D,
-    a: u64,
-    b: u64,
-    enough: u128,
-) -> Result<Option<Row>, NoMemory>
-    requires a_in { a < length (D.contents derives.old).trees }
-    requires b_in { b < length (D.contents derives.old).trees }
-    requires pair { AreReduced (D.sight (D.rest derives.old)).basis.place
-        (tree_at (D.contents derives.old) a) (tree_at (D.contents derives.old) b) }
-    requires run { IsRun (D.sight (D.rest derives.old)).basis.place (by_function_eta
-        (tree_at (D.contents derives.old) a) (tree_at (D.contents derives.old) b)) enough }
-    ensures leaves { Leaves D.contents D.rest D.sight derives.old derives.new }
-    ensures known { IfOk result (λ r. IfSome r (IsRowIn (D.contents derives.new))) }
-    ensures tells { let t = tree_at (D.contents derives.old) in
-        IfOk result (Tells (D.sight (D.rest derives.old)).basis.place (D.contents derives.new)
-        (by_function_eta (t a) (t b)) (equals (t a) (t b))) }
-{
-    let left = is_lambda(derives, a);
-    let right = is_lambda(derives, b);
-    if left {
-        if right {
-            return Ok(None);
+/// The test by eta of functions. No value of it is needed.
+pub struct FunctionEta;
+
+impl<D: Derives> Test<D> for FunctionEta {
+    ghost use Rattle.lk_questions.specs.Same.{by_function_eta};
+
+    ghost line = { by_function_eta };
+
+    fn tell(derives: &mut D, a: u64, b: u64, enough: u128) -> Result<Option<Row>, NoMemory> {
+        let left = is_lambda(derives, a);
+        let right = is_lambda(derives, b);
+        if left {
+            if right {
+                return Ok(None);
+            }
+            return by_second(derives, a, b, enough);
         }
-        return by_second(derives, a, b, enough);
+        if right {
+            return by_first(derives, a, b, enough);
+        }
+        Ok(None)
     }
-    if right {
-        return by_first(derives, a, b, enough);
-    }
-    Ok(None)
 }

@@ -7,12 +7,14 @@ mod cores;
 mod functions;
 mod parts;
 mod proofs;
-mod quiet;
 mod row;
 mod shapes;
 mod sorts;
 mod spines;
 mod subjects;
-mod tests;
+pub mod tests;
 
+pub use functions::FunctionEta;
+pub use parts::Parts;
+pub use proofs::Proofs;
 pub use row::equality_row;

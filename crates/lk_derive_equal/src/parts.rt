@@ -14,6 +14,7 @@ ghost use Rattle.lk_step.specs.Tells.{Tells};
 use crate::constants::{Constant, by_constants};
 use crate::spines::by_spines;
 use crate::subjects::{Projection, by_subjects};
+use crate::tests::Test;
 use lk_ask::looks::Looks;
 use lk_step::{Derives, Row};
 use lk_store::memory::NoMemory;
@@ -74,36 +75,27 @@ fn projection_and<D: Derives>(
     }
 }
 
-/// Two terms part by part. There is no row where the test leaves them to those behind it.
-pub(crate) fn by_kinds<D: Derives>(
-    derives: &mut D,
-    a: u64,
-    b: u64,
-    enough: u128,
-) -> Result<Option<Row>, NoMemory>
-    requires a_in { a < length (D.contents derives.old).trees }
-    requires b_in { b < length (D.contents derives.old).trees }
-    requires pair { AreReduced (D.sight (D.rest derives.old)).basis.place
-        (tree_at (D.contents derives.old) a) (tree_at (D.contents derives.old) b) }
-    requires run { IsRun (D.sight (D.rest derives.old)).basis.place (by_parts
-        (tree_at (D.contents derives.old) a) (tree_at (D.contents derives.old) b)) enough }
-    ensures leaves { Leaves D.contents D.rest D.sight derives.old derives.new }
-    ensures known { IfOk result (λ r. IfSome r (IsRowIn (D.contents derives.new))) }
-    ensures tells { let t = tree_at (D.contents derives.old) in
-        IfOk result (Tells (D.sight (D.rest derives.old)).basis.place (D.contents derives.new)
-        (by_parts (t a) (t b)) (equals (t a) (t b))) }
-{
-    match derives.view(a) {
-        Node::Const(name, levels) => constant_and(derives, Constant { name, levels }, a, b),
-        Node::Proj(name, field, subject) => {
-            let left = Projection {
-                name,
-                field,
-                subject,
-            };
-            projection_and(derives, left, a, b, enough)
+/// The test of constants, projections and applications by their parts. No value of it is needed.
+pub struct Parts;
+
+impl<D: Derives> Test<D> for Parts {
+    ghost use Rattle.lk_questions.specs.Same.{by_parts};
+
+    ghost line = { by_parts };
+
+    fn tell(derives: &mut D, a: u64, b: u64, enough: u128) -> Result<Option<Row>, NoMemory> {
+        match derives.view(a) {
+            Node::Const(name, levels) => constant_and(derives, Constant { name, levels }, a, b),
+            Node::Proj(name, field, subject) => {
+                let left = Projection {
+                    name,
+                    field,
+                    subject,
+                };
+                projection_and(derives, left, a, b, enough)
+            }
+            Node::App(_, _) => by_spines(derives, a, b, enough),
+            _ => Ok(None),
         }
-        Node::App(_, _) => by_spines(derives, a, b, enough),
-        _ => Ok(None),
     }
 }

@@ -16,6 +16,7 @@ ghost use Rattle.lk_derive_equal.specs.Sorts.{IsSortedIn};
 ghost use Rattle.lk_step.specs.Tells.{Tells};
 
 use crate::sorts::{Sorted, sort_of};
+use crate::tests::Test;
 use lk_ask::looks::Looks;
 use lk_ask::query::Query;
 use lk_step::derives::{are_same, type_of};
@@ -96,29 +97,20 @@ fn by_types<D: Derives>(
     Ok(Some(row))
 }
 
-/// Two terms by proof irrelevance. There is no row where the test leaves them to those behind it.
-pub(crate) fn by_proof<D: Derives>(
-    derives: &mut D,
-    a: u64,
-    b: u64,
-    enough: u128,
-) -> Result<Option<Row>, NoMemory>
-    requires a_in { a < length (D.contents derives.old).trees }
-    requires b_in { b < length (D.contents derives.old).trees }
-    requires pair { AreReduced (D.sight (D.rest derives.old)).basis.place
-        (tree_at (D.contents derives.old) a) (tree_at (D.contents derives.old) b) }
-    requires run { IsRun (D.sight (D.rest derives.old)).basis.place (by_proof_irrelevance
-        (tree_at (D.contents derives.old) a) (tree_at (D.contents derives.old) b)) enough }
-    ensures leaves { Leaves D.contents D.rest D.sight derives.old derives.new }
-    ensures known { IfOk result (λ r. IfSome r (IsRowIn (D.contents derives.new))) }
-    ensures tells { let t = tree_at (D.contents derives.old) in
-        IfOk result (Tells (D.sight (D.rest derives.old)).basis.place (D.contents derives.new)
-        (by_proof_irrelevance (t a) (t b)) (equals (t a) (t b))) }
-{
-    let left = type_of(derives, a, enough)?;
-    let sort = sort_of(derives, left, enough)?;
-    if !derives.level_is_zero(sort.level) {
-        return Ok(None);
+/// The test by proof irrelevance. No value of it is needed.
+pub struct Proofs;
+
+impl<D: Derives> Test<D> for Proofs {
+    ghost use Rattle.lk_questions.specs.Same.{by_proof_irrelevance};
+
+    ghost line = { by_proof_irrelevance };
+
+    fn tell(derives: &mut D, a: u64, b: u64, enough: u128) -> Result<Option<Row>, NoMemory> {
+        let left = type_of(derives, a, enough)?;
+        let sort = sort_of(derives, left, enough)?;
+        if !derives.level_is_zero(sort.level) {
+            return Ok(None);
+        }
+        by_types(derives, a, b, left, sort, enough)
     }
-    by_types(derives, a, b, left, sort, enough)
 }

@@ -10,6 +10,7 @@ ghost use Rattle.lk_step.specs.Told.{Leaves};
 ghost use Rattle.lk_step.specs.Makes.{IsMade};
 
 use crate::shapes::by_shapes;
+use crate::tests::AllTests;
 use lk_premises::same_tree;
 use lk_step::{Derives, Row};
 use lk_store::memory::NoMemory;
@@ -26,10 +27,9 @@ fn empty_row(alloc: Global) -> Row
     }
 }
 
-/// What it rests on that two terms are the same, where `Same` says yes of them, for no more than `enough`. Where a literal, an
-/// unfolding, eta of a structure or of a type with one value, or a text has to say so, it tells want of memory, also where
-/// there is memory: these rows are not written.
-pub fn equality_row<D: Derives>(
+/// What it rests on that two terms are the same, where `Same` says yes of them, for no more than `enough`. Whoever has all tests
+/// of `Same` tells of those that `Core` leaves as they are.
+pub fn equality_row<D: Derives, N: AllTests<D>>(
     derives: &mut D,
     a: u64,
     b: u64,
@@ -49,5 +49,5 @@ pub fn equality_row<D: Derives>(
     if same_tree(derives, a, b) {
         return Ok(empty_row(derives.alloc()));
     }
-    by_shapes(derives, a, b, enough)
+    by_shapes::<D, N>(derives, a, b, enough)
 }

@@ -17,6 +17,7 @@ ghost use Rattle.lk_step.specs.Tells.{Rests};
 
 use crate::binders::{Binder, bodies_row, open_both};
 use crate::cores::by_cores;
+use crate::tests::AllTests;
 use lk_ask::looks::Looks;
 use lk_step::making::converted;
 use lk_step::{Derives, Row};
@@ -38,7 +39,7 @@ fn sorts_row<L: Looks>(looks: &L, a: u64, b: u64) -> Result<Row, NoMemory>
 }
 
 /// A sort and another term.
-fn sort_and<D: Derives>(
+fn sort_and<D: Derives, N: AllTests<D>>(
     derives: &mut D,
     level: u64,
     a: u64,
@@ -61,7 +62,7 @@ fn sort_and<D: Derives>(
 {
     match derives.view(b) {
         Node::Sort(_) => sorts_row(derives, a, b),
-        _ => by_cores(derives, a, b, enough),
+        _ => by_cores::<D, N>(derives, a, b, enough),
     }
 }
 
@@ -128,7 +129,7 @@ fn pis_row<D: Derives>(
 }
 
 /// A lambda and another term.
-fn lambda_and<D: Derives>(
+fn lambda_and<D: Derives, N: AllTests<D>>(
     derives: &mut D,
     first: Binder,
     a: u64,
@@ -155,12 +156,12 @@ fn lambda_and<D: Derives>(
             let second = Binder { domain, body };
             lambdas_row(derives, a, b, first, second)
         }
-        _ => by_cores(derives, a, b, enough),
+        _ => by_cores::<D, N>(derives, a, b, enough),
     }
 }
 
 /// A function type and another term.
-fn pi_and<D: Derives>(
+fn pi_and<D: Derives, N: AllTests<D>>(
     derives: &mut D,
     first: Binder,
     a: u64,
@@ -187,12 +188,12 @@ fn pi_and<D: Derives>(
             let second = Binder { domain, body };
             pis_row(derives, a, b, first, second)
         }
-        _ => by_cores(derives, a, b, enough),
+        _ => by_cores::<D, N>(derives, a, b, enough),
     }
 }
 
 /// A number and another term, which is no number: no other number is the same.
-fn number_and<D: Derives>(
+fn number_and<D: Derives, N: AllTests<D>>(
     derives: &mut D,
     number: u128,
     a: u64,
@@ -214,12 +215,12 @@ fn number_and<D: Derives>(
 {
     match derives.view(b) {
         Node::Lit(_) => unreachable!(),
-        _ => by_cores(derives, a, b, enough),
+        _ => by_cores::<D, N>(derives, a, b, enough),
     }
 }
 
 /// A text and another term, which is no text: no other text is the same.
-fn text_and<D: Derives>(
+fn text_and<D: Derives, N: AllTests<D>>(
     derives: &mut D,
     text: u64,
     a: u64,
@@ -241,12 +242,12 @@ fn text_and<D: Derives>(
 {
     match derives.view(b) {
         Node::Str(_) => unreachable!(),
-        _ => by_cores(derives, a, b, enough),
+        _ => by_cores::<D, N>(derives, a, b, enough),
     }
 }
 
 /// Two different terms by their shape.
-pub(crate) fn by_shapes<D: Derives>(
+pub(crate) fn by_shapes<D: Derives, N: AllTests<D>>(
     derives: &mut D,
     a: u64,
     b: u64,
@@ -265,11 +266,17 @@ pub(crate) fn by_shapes<D: Derives>(
         (by_shape (t a) (t b)) (equals (t a) (t b))) }
 {
     match derives.view(a) {
-        Node::Sort(level) => sort_and(derives, level, a, b, enough),
-        Node::Lam(domain, body) => lambda_and(derives, Binder { domain, body }, a, b, enough),
-        Node::Pi(domain, body) => pi_and(derives, Binder { domain, body }, a, b, enough),
-        Node::Lit(number) => number_and(derives, number, a, b, enough),
-        Node::Str(text) => text_and(derives, text, a, b, enough),
-        _ => by_cores(derives, a, b, enough),
+        Node::Sort(level) => sort_and::<D, N>(derives, level, a, b, enough),
+        Node::Lam(domain, body) => lambda_and::<D, N>(
+            derives,
+            Binder { domain, body },
+            a,
+            b,
+            enough,
+        ),
+        Node::Pi(domain, body) => pi_and::<D, N>(derives, Binder { domain, body }, a, b, enough),
+        Node::Lit(number) => number_and::<D, N>(derives, number, a, b, enough),
+        Node::Str(text) => text_and::<D, N>(derives, text, a, b, enough),
+        _ => by_cores::<D, N>(derives, a, b, enough),
     }
 }

@@ -1,57 +1,25 @@
-use Rattle.std.proofs.Common.{ℕ, subst}
+use Rattle.std.proofs.Common.{Bool, sym, subst}
 use Rattle.std.specs.Prelude.{IfOk}
+use Rattle.lk_tree.specs.Tree.{Tree}
 use Rattle.lk_rulebook.specs.Place.{Place}
 use Rattle.lk_rulebook.specs.Claims.{equals}
+use Rattle.lk_questions.specs.Program.{Program}
 use Rattle.lk_store.specs.Contents.{Contents, tree_at}
-use Rattle.lk_questions.specs.Same.{by_proof_irrelevance}
-use Rattle.lk_step.specs.Chains.{after_proof}
-use Rattle.std.specs.Prelude.{None}
-use Rattle.std.proofs.lemmas.Result.{IfOk-weaker}
-use Rattle.lk_questions.specs.Pairs.{◌or_else◌}
 use Rattle.lk_step.specs.Tests.{IsYes}
-use Rattle.lk_step.specs.Tells.{Tells, Rests}
-use Rattle.lk_step.proofs.Moving.{moved2, back2}
-use Rattle.lk_step.proofs.Chain.{line_run, line_on, line_none, line_some}
+use Rattle.lk_step.specs.Tells.{Rests}
 use Rattle.lk_derive_equal.proofs.tests.by_tests.Goals as goal
 
-pub by_proof-requires-clause-run : goal.by_proof-requires-clause-run
-by_proof-requires-clause-run g c =
+pub row-requires-clause-says : goal.row-requires-clause-says
+row-requires-clause-says g c =
     let w : Place = (g.D.Looks.sight (g.D.Terms.rest c.args.derives.now)).basis.place in
     let d : Contents = g.D.Terms.contents c.args.derives.now in
-    let a : ℕ = c.args.a in
-    let b : ℕ = c.args.b in
-    line_run w (by_proof_irrelevance (tree_at d a) (tree_at d b)) (after_proof (tree_at d a) (tree_at d b)) c.args.enough c.requires.says
+    subst (λ (p : Program Bool). IsYes w p c.args.enough) (sym (g.met.N.AllTests.whole (tree_at d c.args.a) (tree_at d c.args.b))) c.requires.says
 
-pub returns-in-Some-clause-rests : goal.returns-in-Some-clause-rests
-returns-in-Some-clause-rests g c =
+pub returns-clause-rests : goal.returns-clause-rests
+returns-clause-rests g c =
     let w : Place = (g.D.Looks.sight (g.D.Terms.rest c.args.derives.now)).basis.place in
     let d : Contents = g.D.Terms.contents c.args.derives.now in
-    let a : ℕ = c.args.a in
-    let b : ℕ = c.args.b in
-    let n : Contents = g.D.Terms.contents c.by_proof.new.derives in
-    line_some w n (by_proof_irrelevance (tree_at d a) (tree_at d b)) (after_proof (tree_at d a) (tree_at d b)) (equals (tree_at d a) (tree_at d b)) c.in-Some.row
-    (subst (λ o. Tells w n (by_proof_irrelevance (tree_at d a) (tree_at d b)) (equals (tree_at d a) (tree_at d b)) o) c.in-Some.is c.in_ok-found.ensures.tells)
-
-pub by_others-requires-clause-says : goal.by_others-requires-clause-says
-by_others-requires-clause-says g c =
-    let w : Place = (g.D.Looks.sight (g.D.Terms.rest c.args.derives.now)).basis.place in
-    let d : Contents = g.D.Terms.contents c.args.derives.now in
-    let a : ℕ = c.args.a in
-    let b : ℕ = c.args.b in
-    let n : Contents = g.D.Terms.contents c.by_proof.new.derives in
-    let none : Tells w n (by_proof_irrelevance (tree_at d a) (tree_at d b)) (equals (tree_at d a) (tree_at d b)) None = subst (λ o. Tells w n (by_proof_irrelevance (tree_at d a) (tree_at d b)) (equals (tree_at d a) (tree_at d b)) o) c.in-None.is c.in_ok-found.ensures.tells in
-    moved2 c.in_ok-found.ensures.leaves (λ w e f. IsYes w (after_proof e f) c.args.enough) a b c.requires.a_in c.requires.b_in
-    (line_on w (by_proof_irrelevance (tree_at d a) (tree_at d b)) (after_proof (tree_at d a) (tree_at d b)) c.args.enough none c.requires.says)
-
-pub returns-in-None-clause-rests : goal.returns-in-None-clause-rests
-returns-in-None-clause-rests g c =
-    let w : Place = (g.D.Looks.sight (g.D.Terms.rest c.args.derives.now)).basis.place in
-    let d : Contents = g.D.Terms.contents c.args.derives.now in
-    let a : ℕ = c.args.a in
-    let b : ℕ = c.args.b in
-    let n : Contents = g.D.Terms.contents c.by_proof.new.derives in
-    let o : Contents = g.D.Terms.contents c.by_others.new.derives in
-    let none : Tells w n (by_proof_irrelevance (tree_at d a) (tree_at d b)) (equals (tree_at d a) (tree_at d b)) None = subst (λ o. Tells w n (by_proof_irrelevance (tree_at d a) (tree_at d b)) (equals (tree_at d a) (tree_at d b)) o) c.in-None.is c.in_ok-found.ensures.tells in
-    IfOk-weaker c.by_others.result (Rests w o (after_proof (tree_at d a) (tree_at d b)) (equals (tree_at d a) (tree_at d b))) (Rests w o (by_proof_irrelevance (tree_at d a) (tree_at d b) or_else after_proof (tree_at d a) (tree_at d b)) (equals (tree_at d a) (tree_at d b)))
-    (λ r rests. line_none w o (by_proof_irrelevance (tree_at d a) (tree_at d b)) (after_proof (tree_at d a) (tree_at d b)) (equals (tree_at d a) (tree_at d b)) r none rests)
-    (back2 c.in_ok-found.ensures.leaves (λ w e f. IfOk c.by_others.result (Rests w o (after_proof e f) (equals e f))) a b c.requires.a_in c.requires.b_in c.by_others.ensures.rests)
+    let a : Tree = tree_at d c.args.a in
+    let b : Tree = tree_at d c.args.b in
+    let n : Contents = g.D.Terms.contents c.row.new.derives in
+    subst (λ (p : Program Bool). IfOk c.row.result (Rests w n p (equals a b))) (g.met.N.AllTests.whole a b) c.row.ensures.rests
