@@ -1,6 +1,5 @@
 -- The pairs of a structure's fields: what is asked of them, and what is claimed.
-use Rattle.std.proofs.Common.{ℕ, suc, ◌≡◌, ◌<◌, ◌≤◌, true, List, [], ◌∷◌, ◌++◌, length, map, drop, refl, sym, ◌∙◌, ap, subst, arith}
-use Rattle.std.specs.Prelude.{All}
+use Rattle.std.proofs.Common.{ℕ, suc, ◌≡◌, ◌<◌, ◌≤◌, true, List, [], ◌∷◌, length, drop, refl, ◌∙◌, ap, subst, arith}
 use Rattle.lk_tree.specs.Tree.{Name, Tree, proj}
 use Rattle.lk_tree.specs.Spine.{args}
 use Rattle.lk_rulebook.specs.Place.{Place}
@@ -12,7 +11,6 @@ use Rattle.lk_store.specs.Contents.{Contents, name_at, tree_at, Extends}
 use Rattle.lk_ask.specs.declared.sheet.Pair.{Pair}
 use Rattle.lk_ask.specs.Lines.{lefts, rights}
 use Rattle.lk_ask.specs.Looks.{Sight}
-use Rattle.lk_ask.specs.Sheets.{IsKnownPair}
 use Rattle.lk_ask.proofs.Sheets.{pairs_steady, pairs_known}
 use Rattle.lk_constructor.specs.declared.constructor.AppliedConstructor.{AppliedConstructor}
 use Rattle.lk_eta.specs.Fields.{ArePairs}
@@ -22,7 +20,7 @@ use Rattle.lk_step.specs.Pairs.{same_pairs, pairs_at, same_asks}
 use Rattle.lk_step.specs.Told.{Leaves, IsType, IsSame}
 use Rattle.lk_step.proofs.Moving.{moved1, moved2, tree_in}
 use Rattle.lk_derive_eta.specs.Structures.{IsFull, IsFullApp, AreTyped, AreFields}
-use Rattle.lk_derive_eta.proofs.StructureLine.{fields_of, field_asks}
+use Rattle.lk_derive_eta.proofs.StructureLine.{field_asks}
 
 asks_each : (J : Name) (a : Tree) (j : ℕ) (xs : List Tree) → same_asks (projections J a j (length xs)) xs ≡ field_asks J a j xs
 asks_each J a j [] = refl

@@ -1,6 +1,6 @@
 -- Tests that do not say no: whoever comes behind them is told yes.
 use Rattle.std.proofs.Common.{ℕ, ◌≡◌, ◌+◌, ◌<◌, Bool, true, false, Option, Some, None, refl, sym, ◌∙◌, subst, arith}
-use Rattle.lk_rulebook.specs.Place.{Place, Entry}
+use Rattle.lk_rulebook.specs.Place.{Place}
 use Rattle.lk_questions.specs.Program.{Program, done, refuse, ask, look}
 use Rattle.lk_questions.specs.Pairs.{Line, otherwise, ◌or_else◌}
 use Rattle.lk_step.specs.Runs.{Runs, RunsOn, AreOne}

@@ -20,7 +20,7 @@ use Rattle.lk_constructor.specs.Looking.{app_at}
 use Rattle.lk_eta.specs.declared.sheet.Way.{Way}
 use Rattle.lk_eta.specs.declared.sheet.Way.TheVariants.{Given, Turned}
 use Rattle.lk_eta.specs.Structures.{is_full}
-use Rattle.lk_step.specs.Steps.{Step, claim_of, premises_of, StepHolds}
+use Rattle.lk_step.specs.Steps.{claim_of, premises_of, StepHolds}
 use Rattle.lk_step.specs.Equal.{field_claims, struct_claims}
 use Rattle.lk_step.specs.Rows.{IsAnswered, AreClaims, no_claim, a_claim}
 use Rattle.lk_step.specs.Runs.{Runs, RunsOn}

@@ -1,5 +1,5 @@
 -- Two trees by texts.
-use Rattle.std.proofs.Common.{ℕ, ◌≡◌, ◌+◌, ◌≤◌, Bool, true, false, List, [], ◌∷◌, Option, Some, None, refl, sym, ◌∙◌, ap, subst, if◌then◌else◌, arith}
+use Rattle.std.proofs.Common.{ℕ, ◌≡◌, ◌+◌, ◌≤◌, Bool, true, false, List, [], ◌∷◌, Option, Some, None, refl, sym, ap, subst, if◌then◌else◌, arith}
 use Rattle.std.specs.Prelude.{option_map}
 use Rattle.std.specs.Str.{chars}
 use Rattle.lk_tree.specs.Tree.{Tree, str}
@@ -13,8 +13,8 @@ use Rattle.lk_claims.proofs.Readings.{IfExpands, sound_expansion_of}
 use Rattle.lk_questions.specs.Query.{same}
 use Rattle.lk_questions.specs.Program.{Program, done, ◌>>=◌}
 use Rattle.lk_questions.specs.Erased.{Steps, truth, erased}
-use Rattle.lk_questions.specs.LiteralLines.{is_made, same_first, same_second, text_first, text_second}
-use Rattle.lk_questions.specs.Pairs.{otherwise, unless, goes_on, ◌or_else◌, ◌or_line◌}
+use Rattle.lk_questions.specs.LiteralLines.{is_made, same_first, same_second, text_second}
+use Rattle.lk_questions.specs.Pairs.{goes_on, ◌or_else◌, ◌or_line◌}
 use Rattle.lk_questions.specs.Strings.{expansion_of, tree_or}
 use Rattle.lk_questions.specs.Tests.{found}
 use Rattle.lk_table_sound.proofs.Soundness.{IsQuiet}

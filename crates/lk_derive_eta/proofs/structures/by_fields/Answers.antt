@@ -1,4 +1,3 @@
-use Rattle.std.proofs.Common.{sym, subst}
 use Rattle.std.specs.Prelude.{IfOk}
 use Rattle.lk_rulebook.specs.Place.{Place}
 use Rattle.lk_questions.specs.Eta.{by_structure_eta}

@@ -1,15 +1,15 @@
-use Rattle.std.proofs.Common.{◌≡◌, Bool, true, false, sym, ◌∙◌, subst}
+use Rattle.std.proofs.Common.{Bool, true, false, sym, subst}
 use Rattle.std.specs.Prelude.{IfOk}
 use Rattle.lk_tree.specs.Tree.{Tree}
 use Rattle.lk_rulebook.specs.Place.{Place}
 use Rattle.lk_questions.specs.Query.{infer, same}
 use Rattle.lk_questions.specs.Eta.{by_structure_eta}
 use Rattle.lk_store.specs.Contents.{Contents, tree_at}
-use Rattle.lk_step.specs.Told.{Leaves, IsAnsweredWithin, IsType, IsSame}
+use Rattle.lk_step.specs.Told.{IsAnsweredWithin, IsType, IsSame}
 use Rattle.lk_step.specs.Tests.{IsRun, AreReduced}
 use Rattle.lk_step.specs.Tells.{Tells}
 use Rattle.lk_step.proofs.Moving.{moved1, moved2, back1, back2, leaves_on, tree_stays, tree_in}
-use Rattle.lk_derive_eta.specs.Structures.{claim_by, AreTyped}
+use Rattle.lk_derive_eta.specs.Structures.{claim_by}
 use Rattle.lk_derive_eta.proofs.StructureLine.{struct_type, struct_right, struct_same, types_differ}
 use Rattle.lk_derive_eta.proofs.FieldPairs.{full_on, typed_on}
 use Rattle.lk_derive_eta.proofs.structures.by_types.Goals as goal

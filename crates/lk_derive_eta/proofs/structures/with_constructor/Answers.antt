@@ -1,7 +1,7 @@
-use Rattle.std.proofs.Common.{◌≡◌, Bool, true, false, sym, ◌∙◌, subst}
+use Rattle.std.proofs.Common.{◌≡◌, sym, ◌∙◌, subst}
 use Rattle.lk_tree.specs.Tree.{Tree}
 use Rattle.lk_tree.specs.Spine.{head, args}
-use Rattle.lk_rulebook.specs.Place.{Place, a_ctor}
+use Rattle.lk_rulebook.specs.Place.{a_ctor}
 use Rattle.lk_store.specs.Contents.{Contents, tree_at}
 use Rattle.lk_constructor.specs.Looking.{app_at}
 use Rattle.lk_constructor.proofs.Applied.{some_applied}

@@ -7,7 +7,7 @@ use Rattle.lk_store.specs.Contents.{Contents, tree_at}
 use Rattle.lk_questions.specs.Eta.{by_structure_eta}
 use Rattle.lk_questions.specs.Pairs.{◌or_else◌}
 use Rattle.lk_derive_eta.specs.Tails.{after_turned}
-use Rattle.lk_step.specs.Tests.{IsYes, AreReduced}
+use Rattle.lk_step.specs.Tests.{IsYes}
 use Rattle.lk_step.specs.Tells.{Tells, Rests}
 use Rattle.lk_step.proofs.Moving.{moved2, back2}
 use Rattle.lk_step.proofs.Chain.{line_on, line_none, line_some, line_run}
