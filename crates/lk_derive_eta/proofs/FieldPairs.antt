@@ -19,6 +19,7 @@ use Rattle.lk_step.specs.Equal.{argument_claims, field_claims}
 use Rattle.lk_step.specs.Pairs.{same_pairs, pairs_at, same_asks}
 use Rattle.lk_step.specs.Told.{Leaves, IsType, IsSame}
 use Rattle.lk_step.proofs.Moving.{moved1, moved2, tree_in}
+use Rattle.lk_derive_eta.specs.declared.structures.Typed.{Typed}
 use Rattle.lk_derive_eta.specs.Structures.{IsFull, IsFullApp, AreTyped, AreFields}
 use Rattle.lk_derive_eta.proofs.StructureLine.{field_asks}
 
@@ -56,14 +57,14 @@ fields_there w d m a b u h ps k = record {
 
 -- what is known of the two stays known
 module _ {S R B : Type 0} {contents : S → Contents} {rest : S → R} {sight : R → Sight B} {x y : S} (l : Leaves contents rest sight x y) where
-  pub typed_on : (a b ty other : ℕ) → a < length (contents x).trees → b < length (contents x).trees → AreTyped (sight (rest x)).basis.place (tree_at (contents x) a) (tree_at (contents x) b) (contents x) ty other
-      → AreTyped (sight (rest y)).basis.place (tree_at (contents y) a) (tree_at (contents y) b) (contents y) ty other
-  typed_on a b ty other a_in b_in h = record {
-    ty_in = tree_in l ty h.ty_in;
-    other_in = tree_in l other h.other_in;
-    typed = moved2 l (λ w e f. IsType w e f) a ty a_in h.ty_in h.typed;
-    other_typed = moved2 l (λ w e f. IsType w e f) b other b_in h.other_in h.other_typed;
-    same = moved2 l (λ w e f. IsSame w e f true) ty other h.ty_in h.other_in h.same;
+  pub typed_on : (a b : ℕ) (t : Typed) → a < length (contents x).trees → b < length (contents x).trees → AreTyped (sight (rest x)).basis.place (tree_at (contents x) a) (tree_at (contents x) b) (contents x) t
+      → AreTyped (sight (rest y)).basis.place (tree_at (contents y) a) (tree_at (contents y) b) (contents y) t
+  typed_on a b t a_in b_in h = record {
+    left_in = tree_in l t.left h.left_in;
+    right_in = tree_in l t.right h.right_in;
+    left = moved2 l (λ w e f. IsType w e f) a t.left a_in h.left_in h.left;
+    right = moved2 l (λ w e f. IsType w e f) b t.right b_in h.right_in h.right;
+    same = moved2 l (λ w e f. IsSame w e f true) t.left t.right h.left_in h.right_in h.same;
   }
 
   pub full_on : (b : ℕ) (u : AppliedConstructor) → b < length (contents x).trees → IsFullApp (sight (rest x)).basis.place (contents x) (tree_at (contents x) b) u → IsFullApp (sight (rest y)).basis.place (contents y) (tree_at (contents y) b) u

@@ -21,6 +21,7 @@ use Rattle.lk_premises.specs.Claims.{claims_at, IsClaimIn}
 use Rattle.lk_premises.specs.declared.claims.Claim.{Claim as StoredClaim}
 use Rattle.lk_step.specs.Steps.{Step, equality}
 use Rattle.lk_step.specs.Told.{IsType, IsSame}
+use Rattle.lk_derive_eta.specs.declared.structures.Typed.{Typed}
 
 -- what is claimed of a and the constructor b, and the step that claims it
 abbrev pub claim_by : Way → Tree → Tree → Claim
@@ -45,12 +46,12 @@ pub record IsFullApp (w : Place) (c : Contents) (b : Tree) (u : AppliedConstruct
   pub parameters_are : u.parameters ≡ ctor.ctor.parameters
 
 -- a and b have types that are the same
-pub record AreTyped (w : Place) (a b : Tree) (c : Contents) (ty other : ℕ) : Type 0 where
-  pub ty_in : ty < length c.trees
-  pub other_in : other < length c.trees
-  pub typed : IsType w a (tree_at c ty)
-  pub other_typed : IsType w b (tree_at c other)
-  pub same : IsSame w (tree_at c ty) (tree_at c other) true
+pub record AreTyped (w : Place) (a b : Tree) (c : Contents) (t : Typed) : Type 0 where
+  pub left_in : t.left < length c.trees
+  pub right_in : t.right < length c.trees
+  pub left : IsType w a (tree_at c t.left)
+  pub right : IsType w b (tree_at c t.right)
+  pub same : IsSame w (tree_at c t.left) (tree_at c t.right) true
 
 -- these are the projections of a beside the fields of b
 pub record AreFields (w : Place) (a b : Tree) (c : Contents) (ps : List (Pair ℕ)) : Type 0 where

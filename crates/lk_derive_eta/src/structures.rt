@@ -36,15 +36,30 @@ use lk_store::memory::NoMemory;
 use lk_trace::ConversionRule;
 use std::alloc::Global;
 
+/// The types of two terms.
+#[derive(Clone, Copy)]
+pub(crate) struct Typed {
+    pub left: u64,
+    pub right: u64,
+}
+
 /// What is asked of the types of two terms, and what is claimed then.
-fn types_asked(alloc: Global, a: u64, b: u64, ty: u64, other: u64) -> Result<Asked, NoMemory>
+fn types_asked(alloc: Global, a: u64, b: u64, typed: Typed) -> Result<Asked, NoMemory>
     ensures asks { IfOk result (λ r. r.asks.items
-        ≡ query.Infer a ∷ query.Infer b ∷ query.Same ty other ∷ []) }
-    ensures premises { IfOk result (λ r. r.premises.items
-        ≡ typing_claim a ty ∷ typing_claim b other ∷ equality_claim ty other ∷ []) }
+        ≡ query.Infer a ∷ query.Infer b ∷ query.Same typed.left typed.right ∷ []) }
+    ensures premises { IfOk result (λ r. r.premises.items ≡ typing_claim a typed.left
+        ∷ typing_claim b typed.right ∷ equality_claim typed.left typed.right ∷ []) }
 {
-    let asks = vec![in alloc; Query::Infer(a), Query::Infer(b), Query::Same(ty, other)]?;
-    let premises = vec![in alloc; typing(a, ty), typing(b, other), equality(ty, other)]?;
+    let asks = vec![in alloc;
+        Query::Infer(a),
+        Query::Infer(b),
+        Query::Same(typed.left, typed.right),
+    ]?;
+    let premises = vec![in alloc;
+        typing(a, typed.left),
+        typing(b, typed.right),
+        equality(typed.left, typed.right),
+    ]?;
     Ok(Asked { asks, premises })
 }
 
@@ -53,22 +68,22 @@ fn all_asked<L: Looks>(
     looks: &L,
     a: u64,
     b: u64,
-    ty: u64,
-    other: u64,
+    typed: Typed,
     pairs: &[Pair<u64>],
 ) -> Result<Asked, NoMemory>
     requires a_in { a < length (L.contents looks.now).trees }
     requires b_in { b < length (L.contents looks.now).trees }
-    requires ty_in { ty < length (L.contents looks.now).trees }
-    requires other_in { other < length (L.contents looks.now).trees }
+    requires left_in { typed.left < length (L.contents looks.now).trees }
+    requires right_in { typed.right < length (L.contents looks.now).trees }
     requires pairs_in { All (IsKnownPair (length (L.contents looks.now).trees)) pairs.now }
     ensures { let c = L.contents looks.now in let t = tree_at c in
         let ps = pairs_at c pairs.now in IfOk result (λ r. AreClaimed c r.asks.items
-        r.premises.items (infer (t a) ∷ infer (t b) ∷ same (t ty) (t other)
-        ∷ same_asks (lefts ps) (rights ps)) (types (t a) (t ty) ∷ types (t b) (t other)
-        ∷ equals (t ty) (t other) ∷ argument_claims (lefts ps) (rights ps))) }
+        r.premises.items (infer (t a) ∷ infer (t b) ∷ same (t typed.left) (t typed.right)
+        ∷ same_asks (lefts ps) (rights ps))
+        (types (t a) (t typed.left) ∷ types (t b) (t typed.right)
+        ∷ equals (t typed.left) (t typed.right) ∷ argument_claims (lefts ps) (rights ps))) }
 {
-    let mut asked = types_asked(looks.alloc(), a, b, ty, other)?;
+    let mut asked = types_asked(looks.alloc(), a, b, typed)?;
     let mut fields = asked_of(looks, pairs)?;
     asked.asks.append(&mut fields.asks)?;
     asked.premises.append(&mut fields.premises)?;
@@ -81,23 +96,22 @@ fn structure_row<L: Looks>(
     way: Way,
     a: u64,
     b: u64,
-    ty: u64,
-    other: u64,
+    typed: Typed,
     pairs: &[Pair<u64>],
 ) -> Result<Row, NoMemory>
     requires a_in { a < length (L.contents looks.now).trees }
     requires b_in { b < length (L.contents looks.now).trees }
-    requires ty_in { ty < length (L.contents looks.now).trees }
-    requires other_in { other < length (L.contents looks.now).trees }
+    requires left_in { typed.left < length (L.contents looks.now).trees }
+    requires right_in { typed.right < length (L.contents looks.now).trees }
     requires pairs_in { All (IsKnownPair (length (L.contents looks.now).trees)) pairs.now }
     ensures known { IfOk result (IsRowIn (L.contents looks.now)) }
     ensures row { let c = L.contents looks.now in let t = tree_at c in
         let ps = pairs_at c pairs.now in IfOk result (IsMade c (infer (t a) ∷ infer (t b)
-        ∷ same (t ty) (t other) ∷ same_asks (lefts ps) (rights ps))
-        (step_by way (t a) (t b) (types (t a) (t ty) ∷ types (t b) (t other)
-        ∷ equals (t ty) (t other) ∷ argument_claims (lefts ps) (rights ps)) ∷ [])) }
+        ∷ same (t typed.left) (t typed.right) ∷ same_asks (lefts ps) (rights ps))
+        (step_by way (t a) (t b) (types (t a) (t typed.left) ∷ types (t b) (t typed.right)
+        ∷ equals (t typed.left) (t typed.right) ∷ argument_claims (lefts ps) (rights ps)) ∷ [])) }
 {
-    let asked = all_asked(looks, a, b, ty, other, pairs)?;
+    let asked = all_asked(looks, a, b, typed, pairs)?;
     let Asked { asks, premises } = asked;
     match way {
         Way::Given => converted(looks, ConversionRule::StructureLeft, a, b, asks, premises),
@@ -111,8 +125,7 @@ fn compare_fields<D: Derives>(
     way: Way,
     a: u64,
     b: u64,
-    ty: u64,
-    other: u64,
+    typed: Typed,
     pairs: &[Pair<u64>],
     enough: u128,
 ) -> Result<Option<Row>, NoMemory>
@@ -123,7 +136,7 @@ fn compare_fields<D: Derives>(
         (D.contents derives.old) pairs.now }
     requires typed { AreTyped (D.sight (D.rest derives.old)).basis.place
         (tree_at (D.contents derives.old) a) (tree_at (D.contents derives.old) b)
-        (D.contents derives.old) ty other }
+        (D.contents derives.old) typed }
     requires pair { AreReduced (D.sight (D.rest derives.old)).basis.place
         (tree_at (D.contents derives.old) a) (tree_at (D.contents derives.old) b) }
     requires run { IsRun (D.sight (D.rest derives.old)).basis.place (by_structure_eta
@@ -137,7 +150,7 @@ fn compare_fields<D: Derives>(
     if !are_all_same(derives, pairs, enough)? {
         return Ok(None);
     }
-    let row = structure_row(derives, way, a, b, ty, other, pairs)?;
+    let row = structure_row(derives, way, a, b, typed, pairs)?;
     Ok(Some(row))
 }
 
@@ -148,8 +161,7 @@ fn by_fields<D: Derives>(
     a: u64,
     b: u64,
     found: AppliedConstructor,
-    ty: u64,
-    other: u64,
+    typed: Typed,
     enough: u128,
 ) -> Result<Option<Row>, NoMemory>
     requires a_in { a < length (D.contents derives.old).trees }
@@ -158,7 +170,7 @@ fn by_fields<D: Derives>(
         (tree_at (D.contents derives.old) b) found }
     requires typed { AreTyped (D.sight (D.rest derives.old)).basis.place
         (tree_at (D.contents derives.old) a) (tree_at (D.contents derives.old) b)
-        (D.contents derives.old) ty other }
+        (D.contents derives.old) typed }
     requires pair { AreReduced (D.sight (D.rest derives.old)).basis.place
         (tree_at (D.contents derives.old) a) (tree_at (D.contents derives.old) b) }
     requires run { IsRun (D.sight (D.rest derives.old)).basis.place (by_structure_eta
@@ -171,7 +183,7 @@ fn by_fields<D: Derives>(
 {
     let alloc = derives.alloc();
     let pairs = pairs_of(alloc, derives, found.inductive, found.parameters, a, b)?;
-    compare_fields(derives, way, a, b, ty, other, &pairs, enough)
+    compare_fields(derives, way, a, b, typed, &pairs, enough)
 }
 
 /// A term and a structure's constructor with all its arguments.
@@ -197,12 +209,12 @@ fn by_types<D: Derives>(
         IfOk result (Tells (D.sight (D.rest derives.old)).basis.place (D.contents derives.new)
         (by_structure_eta (t a) (t b)) (claim_by way (t a) (t b))) }
 {
-    let ty = type_of(derives, a, enough)?;
-    let other = type_of(derives, b, enough)?;
-    if !are_same(derives, ty, other, enough)? {
+    let left = type_of(derives, a, enough)?;
+    let right = type_of(derives, b, enough)?;
+    if !are_same(derives, left, right, enough)? {
         return Ok(None);
     }
-    by_fields(derives, way, a, b, found, ty, other, enough)
+    by_fields(derives, way, a, b, found, Typed { left, right }, enough)
 }
 
 /// A term and a constructor that is applied.
@@ -237,8 +249,8 @@ fn with_constructor<D: Derives>(
     by_types(derives, way, a, b, found, enough)
 }
 
-/// Two terms by structure eta, where the second one may be a structure's constructor, applied. There is no row where the test leaves
-/// them to those behind it.
+/// Two terms by structure eta, where the second one may be a structure's constructor, applied. There is no row where
+/// the test leaves them to those behind it.
 pub(crate) fn by_structure<D: Derives>(
     derives: &mut D,
     way: Way,

@@ -12,7 +12,8 @@ ghost use Rattle.lk_step.specs.Told.{Leaves};
 ghost use Rattle.lk_step.specs.Makes.{IsMade};
 ghost use Rattle.lk_step.specs.Tests.{IsYes, AreReduced};
 ghost use Rattle.lk_step.specs.Tells.{Rests};
-ghost use Rattle.lk_derive_eta.specs.Texts.{texts_alone, texts_pair, numbers_in, numbers_asked, text_rule};
+ghost use Rattle.lk_derive_eta.specs.Texts.{texts_alone, texts_pair, text_rule};
+ghost use Rattle.lk_derive_eta.specs.Texts.{numbers_in, numbers_asked};
 
 use lk_ask::looks::Looks;
 use lk_ask::next::{Line, Next};

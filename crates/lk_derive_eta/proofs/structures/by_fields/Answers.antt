@@ -22,7 +22,7 @@ compare_fields-requires-clause-fields g c =
 pub compare_fields-requires-clause-typed : goal.compare_fields-requires-clause-typed
 compare_fields-requires-clause-typed g c =
     let l : Leaves g.D.Terms.contents g.D.Terms.rest g.D.Looks.sight c.args.derives.now c.pairs_of.new.terms = leaves_made g.D.Terms.contents g.D.Terms.rest g.D.Looks.sight c.args.derives.now c.pairs_of.new.terms c.pairs_of.ensures.keeps c.pairs_of.ensures.rest in
-    typed_on l c.args.a c.args.b c.args.ty c.args.other c.requires.a_in c.requires.b_in c.requires.typed
+    typed_on l c.args.a c.args.b c.args.typed c.requires.a_in c.requires.b_in c.requires.typed
 
 pub compare_fields-requires-clause-pair : goal.compare_fields-requires-clause-pair
 compare_fields-requires-clause-pair g c =

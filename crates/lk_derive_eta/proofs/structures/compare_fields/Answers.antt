@@ -26,8 +26,9 @@ are_all_same-requires-clause-run g c =
     let b : Tree = tree_at d c.args.b in
     let h = c.requires.fields in
     let u = c.requires.typed in
+    let t = c.args.typed in
     subst (λ q. IsRun w q c.args.enough) (sym (pair_program d h.ctor.ind.name a (fields_of h.ctor b) c.args.pairs.now h.pairs))
-    (fields_run w a b h.ctor h.full (tree_at d c.args.ty) u.typed (tree_at d c.args.other) u.other_typed u.same c.args.enough c.requires.run)
+    (fields_run w a b h.ctor h.full (tree_at d t.left) u.left (tree_at d t.right) u.right u.same c.args.enough c.requires.run)
 
 pub returns-then-not-branch-clause-tells : goal.returns-then-not-branch-clause-tells
 returns-then-not-branch-clause-tells g c =
@@ -37,14 +38,15 @@ returns-then-not-branch-clause-tells g c =
     let b : Tree = tree_at d c.args.b in
     let h = c.requires.fields in
     let u = c.requires.typed in
-    λ says cost r. fields_differ w a b h.ctor h.full (tree_at d c.args.ty) u.typed (tree_at d c.args.other) u.other_typed u.same
+    let t = c.args.typed in
+    λ says cost r. fields_differ w a b h.ctor h.full (tree_at d t.left) u.left (tree_at d t.right) u.right u.same
     (λ y m q. c.in_ok-are_all_same.ensures.told y m (subst (λ p. Runs w p y m) (sym (pair_program d h.ctor.ind.name a (fields_of h.ctor b) c.args.pairs.now h.pairs)) q) ∙ c.if-not-branch.true) says cost r
 
-pub structure_row-requires-clause-ty_in : goal.structure_row-requires-clause-ty_in
-structure_row-requires-clause-ty_in g c = tree_in c.in_ok-are_all_same.ensures.leaves c.args.ty c.requires.typed.ty_in
+pub structure_row-requires-clause-left_in : goal.structure_row-requires-clause-left_in
+structure_row-requires-clause-left_in g c = tree_in c.in_ok-are_all_same.ensures.leaves c.args.typed.left c.requires.typed.left_in
 
-pub structure_row-requires-clause-other_in : goal.structure_row-requires-clause-other_in
-structure_row-requires-clause-other_in g c = tree_in c.in_ok-are_all_same.ensures.leaves c.args.other c.requires.typed.other_in
+pub structure_row-requires-clause-right_in : goal.structure_row-requires-clause-right_in
+structure_row-requires-clause-right_in g c = tree_in c.in_ok-are_all_same.ensures.leaves c.args.typed.right c.requires.typed.right_in
 
 pub structure_row-requires-clause-pairs_in : goal.structure_row-requires-clause-pairs_in
 structure_row-requires-clause-pairs_in g c = pairs_known c.in_ok-are_all_same.ensures.leaves.keeps c.args.pairs.now c.requires.fields.pairs.pairs_in
@@ -58,16 +60,17 @@ returns-clause-tells g c =
     let b : Tree = tree_at d c.args.b in
     let h = c.requires.fields in
     let u = c.requires.typed in
+    let t = c.args.typed in
     let l = c.in_ok-are_all_same.ensures.leaves in
     let ps = c.args.pairs.now in
     let later = pairs_stay d h.ctor.ind.name a (fields_of h.ctor b) ps h.pairs n l.keeps in
     let a_same : tree_at n c.args.a ≡ a = tree_stays l c.args.a c.requires.a_in in
     let b_same : tree_at n c.args.b ≡ b = tree_stays l c.args.b c.requires.b_in in
-    let ty_same : tree_at n c.args.ty ≡ tree_at d c.args.ty = tree_stays l c.args.ty u.ty_in in
-    let other_same : tree_at n c.args.other ≡ tree_at d c.args.other = tree_stays l c.args.other u.other_in in
+    let left_same : tree_at n t.left ≡ tree_at d t.left = tree_stays l t.left u.left_in in
+    let right_same : tree_at n t.right ≡ tree_at d t.right = tree_stays l t.right u.right_in in
     let asks_same : same_asks (lefts (pairs_at n ps)) (rights (pairs_at n ps)) ≡ field_asks h.ctor.ind.name a 0 (fields_of h.ctor b) = pair_asks n h.ctor.ind.name a (fields_of h.ctor b) ps later in
     let claims_same : argument_claims (lefts (pairs_at n ps)) (rights (pairs_at n ps)) ≡ field_claims h.ctor.ind.name a 0 (fields_of h.ctor b) = pair_claims n h.ctor.ind.name a (fields_of h.ctor b) ps later in
     λ says cost r. basis_made w n (claim_by c.args.way a b) cost _ _ c.in_ok-row.row c.in_ok-row.ensures.row
-    (rw (asks_same, claims_same, a_same, b_same, ty_same, other_same)
-    (struct_basis w a b h.ctor h.full (tree_at d c.args.ty) u.typed (tree_at d c.args.other) u.other_typed u.same c.args.way c.requires.pair
+    (rw (asks_same, claims_same, a_same, b_same, left_same, right_same)
+    (struct_basis w a b h.ctor h.full (tree_at d t.left) u.left (tree_at d t.right) u.right u.same c.args.way c.requires.pair
     (λ y m q. c.in_ok-are_all_same.ensures.told y m (subst (λ p. Runs w p y m) (sym (pair_program d h.ctor.ind.name a (fields_of h.ctor b) ps h.pairs)) q) ∙ c.if-not-branch.false) says cost r))
