@@ -17,3 +17,5 @@ pub mod ParameterRuns
 pub mod ParameterSteps
 pub mod FieldRuns
 pub mod FieldSteps
+pub mod FieldNext
+pub mod FieldsOn

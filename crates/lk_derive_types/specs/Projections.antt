@@ -114,3 +114,10 @@ pub record IsFieldAt (w : Place) (c : Contents) (p : Projected) (most number at 
   pub within : left ≤ most
   pub finish : FieldsFinish w name p.field subject p.prop number ahead function type left queries
       claims
+
+-- so far, since it was so
+pub record IsWalking {S R B : Type 0} (contents : S → Contents) (rest : S → R)
+    (sight : R → Sight B) (old new : S) (p : Projected) (most number at : ℕ) (a : Asked)
+    : Type 0 where
+  pub leaves : Leaves contents rest sight old new
+  pub field : IsFieldAt (sight (rest old)).basis.place (contents new) p most number at a

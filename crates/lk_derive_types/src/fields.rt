@@ -1,9 +1,10 @@
 //! Fields of a projection's structure: whether the domain of one is to be a proposition, and what is noted of that.
 
-ghost use Rattle.std.specs.Prelude.{◌≡◌, ◌<◌, ◌&&◌, true, length, IfOk, OnOk};
-ghost use Rattle.lk_tree.specs.Bind.{has_var};
-ghost use Rattle.lk_store.specs.Contents.{tree_at};
-ghost use Rattle.lk_ask.specs.Looks.{Made};
+ghost use Rattle.std.specs.Prelude.{◌≡◌, ◌<◌, ◌+◌, ◌&&◌, true, length, IfOk, OnOk};
+ghost use Rattle.lk_tree.specs.Tree.{proj};
+ghost use Rattle.lk_tree.specs.Bind.{has_var, opened};
+ghost use Rattle.lk_store.specs.Contents.{name_at, tree_at};
+ghost use Rattle.lk_ask.specs.Looks.{Made, MakesTree};
 ghost use Rattle.lk_step.specs.Told.{Leaves};
 ghost use Rattle.lk_derive_types.specs.Parts.{IsSortedWithin};
 ghost use Rattle.lk_derive_types.specs.Projections.{NotesSort, NotesProp, IsFieldAt};
@@ -16,7 +17,9 @@ use crate::parts::{pi_of, sort_of};
 use lk_ask::looks::Looks;
 use lk_step::Derives;
 use lk_store::memory::NoMemory;
+use lk_store::node::Node;
 use lk_structure::occurs::occurs;
+use lk_subst::opening::open_with;
 
 /// A projection, by the numbers of its parts, and whether its subject's type is a proposition.
 #[derive(Clone, Copy)]
@@ -81,6 +84,72 @@ pub(crate) fn note_prop<D: Derives>(
         return note_sort(derives, asked, domain, enough);
     }
     Ok(())
+}
+
+/// The body of a field's Pi, with that field's projection put in.
+fn with_field<L: Looks>(
+    looks: &mut L,
+    p: Projected,
+    number: u64,
+    body: u64,
+) -> Result<u64, NoMemory>
+    requires structure_in { p.structure < length (L.contents looks.old).names }
+    requires subject_in { p.subject < length (L.contents looks.old).trees }
+    requires body_in { body < length (L.contents looks.old).trees }
+    ensures { let c = L.contents looks.old in
+        MakesTree L.contents L.rest looks.old looks.new result (λ t. opened (t body)
+        (proj (name_at c p.structure) number (t p.subject))) }
+{
+    let value = looks.make(Node::Proj(p.structure, number, p.subject))?;
+    open_with(looks.alloc(), looks, body, value)
+}
+
+/// What is left of a constructor's type behind a field that stands before the one that is asked for.
+fn past_field<D: Derives>(
+    derives: &mut D,
+    asked: &mut Asked,
+    p: Projected,
+    number: u64,
+    at: u64,
+    enough: u128,
+) -> Result<u64, NoMemory>
+    requires stated { WellStated (D.sight (D.rest derives.old)).basis.place }
+    requires field { IsFieldAt (D.sight (D.rest derives.old)).basis.place (D.contents derives.old)
+        p enough number at asked.old }
+    requires before { number < p.field }
+    ensures leaves { Leaves D.contents D.rest D.sight derives.old derives.new }
+    ensures field { IfOk result (λ t. IsFieldAt (D.sight (D.rest derives.old)).basis.place
+        (D.contents derives.new) p enough (number + 1) t asked.new) }
+{
+    let function = pi_of(derives, at, enough)?;
+    asked.note_form(at, function.pi)?;
+    let due = is_due(derives, p.prop, function.body)?;
+    note_prop(derives, asked, due, function.domain, enough)?;
+    with_field(derives, p, number, function.body)
+}
+
+/// What is left of a constructor's type behind all fields before the one that is asked for.
+pub(crate) fn past_fields<D: Derives>(
+    derives: &mut D,
+    asked: &mut Asked,
+    p: Projected,
+    stated: u64,
+    enough: u128,
+) -> Result<u64, NoMemory>
+    requires stated { WellStated (D.sight (D.rest derives.old)).basis.place }
+    requires field { IsFieldAt (D.sight (D.rest derives.old)).basis.place (D.contents derives.old)
+        p enough 0 stated asked.old }
+    ensures leaves { Leaves D.contents D.rest D.sight derives.old derives.new }
+    ensures field { IfOk result (λ t. IsFieldAt (D.sight (D.rest derives.old)).basis.place
+        (D.contents derives.new) p enough p.field t asked.new) }
+{
+    let mut at = stated;
+    let mut number = 0;
+    'fields: while number < p.field {
+        at = past_field(derives, asked, p, number, at, enough)?;
+        number += 1;
+    }
+    Ok(at)
 }
 
 /// The type of a projection, which is the domain of the Pi that its field stands at.
