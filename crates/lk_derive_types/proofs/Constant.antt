@@ -32,7 +32,7 @@ use Rattle.lk_derive_types.proofs.RunParts.{given_run, quiet_run}
 use Rattle.lk_derive_types.proofs.NoQuestions.{atom_row}
 use Rattle.lk_derive_types.proofs.QuietShapes.{quiet_nat, quiet_string}
 
-numbers_equal : (m n : ℕ) → nat_eq m n ≡ true → m ≡ n
+pub numbers_equal : (m n : ℕ) → nat_eq m n ≡ true → m ≡ n
 numbers_equal m n e = grind (arith, nat_tests)
 
 const_run : (w : Place) (g : Entry) (ls : List Level) (T : Tree) (n : ℕ) → Runs w (with_levels g ls g.type) T n → (nat_eq (length ls) (length g.levels) ≡ true) × (put_levels g.levels ls g.type ≡ T)

@@ -82,7 +82,7 @@ append_none : {Y : Type 0} (ys : List Y) → ys ≡ ys ++ []
 append_none [] = refl
 append_none (y ∷ ys) = ap (λ l. y ∷ l) (append_none ys)
 
-level_is : (l m : Level) → sort l ≡ sort m → l ≡ m
+pub level_is : (l m : Level) → sort l ≡ sort m → l ≡ m
 level_is l m e = cc
 
 pub prop_noted : (w : Place) → WellStated w → (c : Contents) (d : Bool) (A : Tree) (K : Program Tree) (v : Tree) (n : ℕ) (a b : Asked) (domain : ℕ) (qs : List Query) (ks : List Claim) → IsWellFormed A → Runs w (prop_then d A K) v n →

@@ -19,3 +19,6 @@ pub mod FieldRuns
 pub mod FieldSteps
 pub mod FieldNext
 pub mod FieldsOn
+pub mod SubjectRuns
+pub mod StructureTypes
+pub mod SubjectSteps

@@ -4,3 +4,4 @@ pub mod Parts
 pub mod Binders
 pub mod Spines
 pub mod Projections
+pub mod Subjects

@@ -66,7 +66,8 @@ pub record IsPassing {S R B : Type 0} (contents : S → Contents) (rest : S → 
     (sight : R → Sight B) (old new : S) (e most : ℕ) (prop : Bool) (at : ℕ) (ahead : List ℕ)
     (a : Asked) : Type 0 where
   pub leaves : Leaves contents rest sight old new
-  pub parameters : IsParameterAt (sight (rest old)).basis.place (contents new) e most prop at ahead a
+  pub parameters : IsParameterAt (sight (rest old)).basis.place (contents new) e most prop at ahead
+      a
 
 -- what is noted of the sort of A, which is under this number, behind what was noted before
 pub record NotesSort (w : Place) (c : Contents) (A : Tree) (old new : Asked) (domain : ℕ)

@@ -1,6 +1,6 @@
 -- Rows of Infer: one step of typing, which rests on what the questions that are asked claim.
 use Rattle.std.specs.Prelude.{◌≡◌, ◌<◌, ℕ, List, IfOk, Result}
-use Rattle.lk_tree.specs.Tree.{Tree, proj}
+use Rattle.lk_tree.specs.Tree.{Tree}
 use Rattle.lk_rulebook.specs.Place.{Place}
 use Rattle.lk_rulebook.specs.Claims.{Claim}
 use Rattle.lk_questions.specs.Query.{Query, infer}
@@ -46,11 +46,6 @@ pub record IsTypedBy (w : Place) (c : Contents) (rule : TypingRule) (left right 
 pub record IsTypeRow (w : Place) (c : Contents) (tree : Tree) (r : Row) : Type 0 where
   pub known : IsRowIn c r
   pub row : IsRowOf w c (infer tree) r
-
--- it is no projection
-abbrev pub IsUnprojected : Tree → Type 0
-IsUnprojected (proj S i s) = ⊥
-IsUnprojected _ = Unit {0}
 
 -- Infer(e) is answered
 abbrev pub HasType : Place → Tree → Type 0

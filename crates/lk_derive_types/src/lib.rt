@@ -6,6 +6,7 @@ mod asked;
 mod atoms;
 mod binders;
 mod constants;
+mod field_types;
 mod fields;
 mod lambdas;
 mod lets;
@@ -14,5 +15,7 @@ mod parts;
 mod pis;
 mod projections;
 mod row;
+mod structures;
+mod subjects;
 
-pub use row::unprojected_row;
+pub use row::type_row;
