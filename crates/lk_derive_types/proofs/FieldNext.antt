@@ -1,9 +1,8 @@
 -- The first field is behind: what is left of a run of a projection, and what its row then wants.
-use Rattle.std.proofs.Common.{ℕ, suc, ◌≡◌, ◌≤◌, ◌+◌, Bool, ◌&&◌, List, [], ◌∷◌, ◌++◌, refl, subst, sym, ap, arith}
+use Rattle.std.proofs.Common.{ℕ, suc, ◌≡◌, ◌≤◌, ◌+◌, Bool, ◌&&◌, List, [], ◌∷◌, ◌++◌, refl, subst, ap, arith}
 use Rattle.lk_tree.specs.Tree.{Name, Tree, pi, proj}
 use Rattle.lk_tree.specs.Bind.{opened, has_var}
 use Rattle.lk_tree.specs.WellFormed.{IsWellFormed}
-use Rattle.lk_tree.specs.declared.rule.Rule.TheVariants.{BadProjection}
 use Rattle.lk_tree.proofs.Binding.{open_fine}
 use Rattle.lk_rulebook.specs.Place.{Place}
 use Rattle.lk_rulebook.specs.Claims.{Claim, reduces}
@@ -14,8 +13,7 @@ use Rattle.lk_written.specs.Line.{proj_rule}
 use Rattle.lk_store.specs.Contents.{Contents}
 use Rattle.lk_step.specs.Rows.{AreClaims, a_claim}
 use Rattle.lk_step.specs.Runs.{Runs}
-use Rattle.lk_step.specs.Shaped.{AllShaped}
-use Rattle.lk_step.specs.Typing.{FieldPremises, field_before}
+use Rattle.lk_step.specs.Typing.{field_before}
 use Rattle.lk_derive_types.specs.declared.asked.Asked.{Asked}
 use Rattle.lk_derive_types.specs.Asked.{AreAsked}
 use Rattle.lk_derive_types.specs.Projections.{FieldsFinish}

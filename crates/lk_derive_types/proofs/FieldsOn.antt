@@ -1,5 +1,5 @@
 -- From one field to the next, while the store grows.
-use Rattle.std.proofs.Common.{ℕ, zero, suc, ◌≡◌, ◌<◌, ◌≤◌, ◌+◌, Bool, true, ◌&&◌, List, [], ◌∷◌, ◌++◌, length, refl, subst, sym, ap, ◌∙◌, arith}
+use Rattle.std.proofs.Common.{ℕ, zero, suc, ◌≡◌, ◌<◌, ◌≤◌, ◌+◌, Bool, true, ◌&&◌, List, [], ◌∷◌, ◌++◌, refl, subst, sym, ap, ◌∙◌, arith}
 use Rattle.lk_tree.specs.Tree.{Name, Tree, pi, proj}
 use Rattle.lk_tree.specs.Bind.{opened, has_var}
 use Rattle.lk_tree.specs.declared.rule.Rule.TheVariants.{BadProjection}

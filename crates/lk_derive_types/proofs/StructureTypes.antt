@@ -1,11 +1,11 @@
 -- A structure, as the rules of projections take it.
-use Rattle.std.proofs.Common.{ℕ, suc, ◌≡◌, ◌≤◌, ◌<◌, ◌+◌, true, false, nat_eq, List, [], ◌∷◌, ◌++◌, length, Option, Some, None, refl, subst, sym, ap, ◌∙◌, arith}
+use Rattle.std.proofs.Common.{ℕ, suc, ◌≡◌, ◌<◌, ◌+◌, false, nat_eq, List, [], ◌∷◌, length, Option, Some, None, refl, subst, sym, ap, ◌∙◌, arith}
 use Rattle.std.proofs.lemmas.Bool.Decides.{nat_tests}
 use Rattle.lk_tree.specs.Tree.{Name, Level, Tree, const, sort, proj}
 use Rattle.lk_tree.specs.Level.{is_zero_level}
 use Rattle.lk_tree.specs.Levels.{put_levels}
 use Rattle.lk_tree.specs.Spine.{apply, head, args}
-use Rattle.lk_tree.specs.WellFormed.{IsWellFormed, AllWellFormed, IsStated}
+use Rattle.lk_tree.specs.WellFormed.{IsWellFormed, AllWellFormed}
 use Rattle.lk_tree.proofs.Spines.{well_formed_of_apply}
 use Rattle.lk_tree.proofs.Within.{apply_head_args, fine_put_levels}
 use Rattle.lk_rulebook.specs.Place.{Place, Entry, a_type, BlockType, Ctor}
@@ -24,7 +24,7 @@ use Rattle.lk_ask.specs.Constants.{IsAtLevels}
 use Rattle.lk_structure.specs.declared.structure.Structure.{Structure}
 use Rattle.lk_structure.specs.Structures.{with_one, structure_in, IsStructure, IsStructureIf}
 use Rattle.lk_structure.proofs.Structured.{some_structure, none_structure, lent_is, stated_is}
-use Rattle.lk_step.specs.Rows.{IsAnswered, a_claim}
+use Rattle.lk_step.specs.Rows.{a_claim}
 use Rattle.lk_step.specs.Shaped.{IsShapedAnswer}
 use Rattle.lk_step.specs.Steps.{typing, StepHolds}
 use Rattle.lk_step.proofs.Shapes.{shaped_answer}

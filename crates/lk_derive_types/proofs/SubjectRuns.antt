@@ -1,5 +1,5 @@
 -- Runs of a projection, up to its structure's parameters.
-use Rattle.std.proofs.Common.{ℕ, suc, ◌≡◌, ◌≤◌, ◌<◌, ◌+◌, Bool, true, ◌&&◌, nat_eq, nat_lt, List, [], ◌∷◌, length, Option, Some, None, refl, subst, sym, ap, ◌∙◌, arith}
+use Rattle.std.proofs.Common.{ℕ, suc, ◌≡◌, ◌≤◌, ◌<◌, ◌+◌, Bool, true, ◌&&◌, nat_eq, nat_lt, List, [], ◌∷◌, length, Option, Some, None, refl, subst, sym, arith}
 use Rattle.std.proofs.lemmas.Bool.{and_parts}
 use Rattle.std.proofs.lemmas.Bool.Decides.{nat_tests}
 use Rattle.lk_tree.specs.Tree.{Name, Level, Tree, sort, proj}
@@ -10,7 +10,7 @@ use Rattle.lk_tree.specs.declared.rule.Rule.TheVariants.{BadProjection, LevelCou
 use Rattle.lk_rulebook.specs.Place.{Place, Entry, Kind, Block, BlockType, Ctor, a_type}
 use Rattle.lk_questions.specs.Query.{infer, whnf}
 use Rattle.lk_questions.specs.Program.{Program, done, ask, ◌>>=◌}
-use Rattle.lk_questions.specs.Steps.{given, sort_of, with_params}
+use Rattle.lk_questions.specs.Steps.{sort_of, with_params}
 use Rattle.lk_questions.specs.Iota.{levels_at}
 use Rattle.lk_questions.specs.Projections.{past_parameters, field_type, of_struct, of_kind, of_type}
 use Rattle.lk_step.specs.Rows.{IsAnswered}

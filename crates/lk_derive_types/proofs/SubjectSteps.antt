@@ -1,6 +1,6 @@
 -- The beginning of a projection's row, while the store grows.
-use Rattle.std.proofs.Common.{ℕ, suc, ◌≡◌, ◌<◌, ◌≤◌, ◌+◌, Bool, List, [], ◌∷◌, ◌++◌, length, map, take, drop, refl, subst, sym, ap, ◌∙◌, arith}
-use Rattle.std.proofs.lemmas.List.{length-map, length-take-le, take-append-drop, take-map}
+use Rattle.std.proofs.Common.{ℕ, ◌≡◌, ◌<◌, ◌≤◌, Bool, List, [], ◌∷◌, ◌++◌, length, map, take, drop, refl, subst, sym, ap, ◌∙◌, arith}
+use Rattle.std.proofs.lemmas.List.{length-take-le, take-append-drop, take-map}
 use Rattle.std.proofs.lemmas.List.Elements.{All-take}
 use Rattle.lk_tree.specs.Tree.{Name, Level, Tree, sort, proj}
 use Rattle.lk_tree.specs.Level.{is_zero_level}
@@ -11,7 +11,7 @@ use Rattle.lk_rulebook.specs.WellStated.{WellStated}
 use Rattle.lk_rulebook.specs.Claims.{types, reduces}
 use Rattle.lk_questions.specs.Query.{infer, whnf}
 use Rattle.lk_questions.specs.Projections.{field_type}
-use Rattle.lk_store.specs.Contents.{Contents, name_at, tree_at, Extends, IsName, IsTree}
+use Rattle.lk_store.specs.Contents.{Contents, name_at, tree_at, Extends, IsTree}
 use Rattle.lk_store.proofs.Extending.{Extends-trans}
 use Rattle.lk_spine.specs.Reading.{AreTrees}
 use Rattle.lk_step.specs.Runs.{Runs, AreOne}
@@ -23,12 +23,11 @@ use Rattle.lk_step.proofs.Shapes.{shaped_answer}
 use Rattle.lk_derive_types.specs.declared.asked.Asked.{Asked}
 use Rattle.lk_derive_types.specs.declared.structures.Stated.{Stated}
 use Rattle.lk_derive_types.specs.declared.subjects.Begun.{Begun}
-use Rattle.lk_derive_types.specs.declared.fields.Projected.{Projected}
 use Rattle.lk_derive_types.specs.Asked.{IsNothingAsked, NotesType, NotesForm, AreAsked}
 use Rattle.lk_derive_types.specs.Parts.{IsSortedWithin, IsSortRead}
 use Rattle.lk_derive_types.specs.Projections.{projected, ParametersFinish, FieldsFinish, IsParameterAt, IsFieldAt}
 use Rattle.lk_derive_types.specs.Subjects.{IsStructureType, constructor_type, IsConstructorAt, IsConstructorOf, IsFormedWithin, NotesFormed, NotesLevel, IsProjectionOf, IsBegun}
-use Rattle.lk_derive_types.proofs.AskedSoFar.{there, asked_later, nothing_asked, type_asked, form_asked}
+use Rattle.lk_derive_types.proofs.AskedSoFar.{there, nothing_asked, type_asked, form_asked}
 use Rattle.lk_derive_types.proofs.SubjectRuns.{ProjectionRun, SomeRun, some_run, subject_told, sort_told, subject_formed, structure_sorted}
 use Rattle.lk_derive_types.proofs.StructureTypes.{arguments_fine, constructor_fine, projection_finish}
 
@@ -231,13 +230,6 @@ formed_noted w u c d e a first b number ty form p x ht hf t f n m = record {
   noted_type = n;
   noted_form = m;
 }
-
--- there are so many arguments
-pub arguments_long : (w : Place) (c : Contents) (e most : ℕ) (b : Begun) (a : Asked) (xs : List ℕ) → IsBegun w c e most b a → AreTrees c xs (args (tree_at c b.form)) → b.parameters ≤ length xs
-arguments_long w c e most b a xs h t =
-    let y : b.parameters ≤ length (args h.form) = h.enough_arguments in
-    let z : length (map (tree_at c) xs) ≡ length (args h.form) = ap length (t.are ∙ ap args h.form_is.is) in
-    omega (arith, y, z, length-map xs (tree_at c))
 
 -- the same, while the store grew
 pub fields_there : (w : Place) (c d : Contents) (e most : ℕ) (prop : Bool) (at : ℕ) (a : Asked) (structure field subject : ℕ) → Extends c d → e < length c.trees → structure < length c.names → subject < length c.trees →

@@ -1,7 +1,7 @@
 -- The beginning of a projection's row: the type of its subject, which is a structure, the sort of
 -- that, and the structure's constructor.
-use Rattle.std.specs.Prelude.{ℕ, ◌≡◌, ◌≤◌, ◌<◌, ◌+◌, Bool, List, [], ◌∷◌, length, Some}
-use Rattle.lk_tree.specs.Tree.{Name, Level, Tree, sort, proj}
+use Rattle.std.specs.Prelude.{ℕ, ◌≡◌, ◌≤◌, ◌+◌, Bool, List, [], ◌∷◌, length, Some}
+use Rattle.lk_tree.specs.Tree.{Name, Level, Tree, proj}
 use Rattle.lk_tree.specs.Level.{is_zero_level}
 use Rattle.lk_tree.specs.Levels.{put_levels}
 use Rattle.lk_tree.specs.Spine.{head, args}

@@ -1,10 +1,10 @@
-use Rattle.std.proofs.Common.{◌≡◌, [], sym, subst, ◌∙◌}
+use Rattle.std.proofs.Common.{[], sym, subst, ◌∙◌}
 use Rattle.lk_rulebook.specs.Place.{Place}
 use Rattle.lk_rulebook.specs.WellStated.{WellStated}
 use Rattle.lk_store.specs.Contents.{Contents, tree_at, Extends}
 use Rattle.lk_store.proofs.Extending.{Extends-trans}
 use Rattle.lk_trace.specs.declared.rules.TypingRule.TheVariants.{Project}
-use Rattle.lk_derive_types.specs.Projections.{IsParameterAt, IsFieldAt}
+use Rattle.lk_derive_types.specs.Projections.{IsParameterAt}
 use Rattle.lk_derive_types.specs.Subjects.{IsBegun}
 use Rattle.lk_derive_types.specs.TypeRows.{IsTypedBy}
 use Rattle.lk_derive_types.proofs.Leaving.{leaves_then}

@@ -1,7 +1,6 @@
-use Rattle.std.proofs.Common.{◌≡◌, ◌≤◌, ◌+◌, refl, sym, subst, arith}
+use Rattle.std.proofs.Common.{◌+◌, refl, sym, subst, arith}
 use Rattle.lk_rulebook.specs.Place.{Place}
 use Rattle.lk_rulebook.specs.WellStated.{WellStated}
-use Rattle.lk_store.specs.Contents.{Contents}
 use Rattle.lk_store.proofs.Made.{Extends-self}
 use Rattle.lk_derive_types.specs.Projections.{IsFieldAt}
 use Rattle.lk_derive_types.proofs.Leaving.{leaves_made, leaves_then}

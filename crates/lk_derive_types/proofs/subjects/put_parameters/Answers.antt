@@ -1,8 +1,8 @@
-use Rattle.std.proofs.Common.{◌≡◌, ◌≤◌, length, take, ap, sym, subst, ◌∙◌}
+use Rattle.std.proofs.Common.{◌≡◌, take, ap, sym, subst, ◌∙◌}
 use Rattle.lk_rulebook.specs.Place.{Place}
 use Rattle.lk_store.specs.Contents.{Contents}
 use Rattle.lk_derive_types.specs.Projections.{IsParameterAt}
-use Rattle.lk_derive_types.proofs.SubjectSteps.{parameters_begin, arguments_long}
+use Rattle.lk_derive_types.proofs.SubjectSteps.{parameters_begin}
 use Rattle.lk_derive_types.proofs.subjects.put_parameters.Goals as goal
 
 pub past_parameters-requires-clause-parameters : goal.past_parameters-requires-clause-parameters
