@@ -6,10 +6,10 @@ use Rattle.lk_tree.specs.declared.rule.Rule.TheVariants.{UnknownConstant}
 use Rattle.lk_rulebook.specs.Place.{Place, Entry, Kind, a_def, a_thm, an_axiom, an_opaque, a_quot, a_type, a_ctor, a_rec}
 use Rattle.lk_questions.specs.Answer.{later}
 use Rattle.lk_questions.specs.Program.{Program, done, ◌>>=◌}
-use Rattle.lk_questions.specs.Erased.{Steps, truth, looked, erased}
-use Rattle.lk_questions.specs.Pairs.{Line, otherwise, ◌or_else◌, answers, answers_yes}
+use Rattle.lk_questions.specs.Erased.{truth, looked, erased}
+use Rattle.lk_questions.specs.Pairs.{Line, ◌or_else◌, answers, answers_yes}
 use Rattle.lk_questions.specs.Steps.{value_of}
-use Rattle.lk_questions.specs.Unfolding.{Unfolding, is_less, rank_of_hint, unfolding_by, unfolding_of, unfold_first, unfold_second, unfold_both, same_by_arguments, by_ranks, by_unfolding}
+use Rattle.lk_questions.specs.Unfolding.{Unfolding, is_less, unfolding_by, unfolding_of, unfold_first, unfold_second, unfold_both, same_by_arguments, by_ranks, by_unfolding}
 use Rattle.lk_claims.proofs.Pieces.{Some_inj}
 use Rattle.lk_lazy.specs.Heads.{unfolding_at}
 use Rattle.lk_lazy.specs.Lazies.{same_or_both, ranked}

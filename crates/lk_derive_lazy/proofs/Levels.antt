@@ -1,12 +1,9 @@
 -- One constant at two lists of levels, and when nothing is asked of two lists of arguments.
-use Rattle.std.proofs.Common.{ℕ, ◌≡◌, Bool, true, false, ◌&&◌, nat_eq, List, [], ◌∷◌, length, Option, Some, None, refl, sym, subst, ap, ◌∙◌, if◌then◌else◌}
-use Rattle.lk_tree.specs.Tree.{Name, name_discrete, Level, Tree, const}
+use Rattle.std.proofs.Common.{ℕ, ◌≡◌, Bool, true, false, ◌&&◌, nat_eq, List, [], ◌∷◌, length, Option, Some, None, refl, sym, ap, ◌∙◌, if◌then◌else◌}
+use Rattle.lk_tree.specs.Tree.{name_discrete, Level, Tree, const}
 use Rattle.lk_tree.specs.LevelTest.{level_test}
-use Rattle.lk_tree.specs.Mentions.{same_name}
 use Rattle.lk_tree.specs.Spine.{head, args}
 use Rattle.lk_rulebook.specs.Place.{Place}
-use Rattle.lk_claims.proofs.Pieces.{same_name_right}
-use Rattle.lk_level_order.proofs.Names.{differs}
 use Rattle.lk_questions.specs.Program.{Program, done, ◌>>=◌}
 use Rattle.lk_questions.specs.Steps.{decided}
 use Rattle.lk_questions.specs.Levels.{complete_test, tested, level_pairs_equal, levels_equal}
@@ -16,7 +13,7 @@ use Rattle.lk_questions.specs.Unfolding.{Unfolding, unfold_both}
 use Rattle.lk_lazy.specs.Lazies.{same_or_both}
 use Rattle.lk_step.specs.Runs.{Runs, RunsOn}
 use Rattle.lk_step.proofs.Runs.{runs_on}
-use Rattle.lk_derive_lazy.specs.Alike.{AreOneConstant, AreUnequal, AreOther, AreUnlike}
+use Rattle.lk_derive_lazy.specs.Alike.{AreUnequal, AreOther, AreUnlike}
 
 -- levels that are compared are compared at once
 pairs_done : (w : Place) (ls ms : List Level) (v : Bool) (n : ℕ) → Runs w (level_pairs_equal complete_test ls ms) v n → level_pairs_equal complete_test ls ms ≡ done v
@@ -104,43 +101,3 @@ other_unlike a b f g ef eg other p q left right w y n h =
     unlike_by a b p q (λ i j.
     let u : AreUnequal p.levels q.levels = other p.name p.levels q.levels (sym ef ∙ left) (sym eg ∙ right ∙ ap (λ x. const x q.levels) (sym i)) in
     absurd (u.no (tested_some u.answer (u.tested_is ∙ j)))) w y n h
-
--- of constants by numbers
-true_some : (o : Option Bool) → is_true o ≡ true → o ≡ Some true
-true_some (Some true) e = refl
-true_some (Some false) e = absurd cc
-true_some None e = absurd cc
-
-some_true : (o : Option Bool) → is_true o ≡ false → o ≡ Some true → ⊥
-some_true (Some true) e i = absurd cc
-some_true (Some false) e i = absurd cc
-some_true None e i = absurd cc
-
-const_name : (x y : Name) (ls ms : List Level) → const x ls ≡ const y ms → x ≡ y
-const_name x y ls ms e = cc
-
-const_levels : (x y : Name) (ls ms : List Level) → const x ls ≡ const y ms → ls ≡ ms
-const_levels x y ls ms e = cc
-
-pub one_constant : (f g : Tree) (x y : Name) (ls ms : List Level) (o : Option Bool) → const x ls ≡ f → const y ms ≡ g → same_name x y ≡ true → tested o ≡ levels_equal complete_test ls ms → is_true o ≡ true → AreOneConstant f g
-one_constant f g x y ls ms o ef eg e is t =
-    let one : x ≡ y = same_name_right x y e in
-    record { name = x; left = ls; right = ms; left_is = sym ef; right_is = sym eg ∙ ap (λ z. const z ms) (sym one); equal = sym is ∙ ap tested (true_some o t) }
-
-pub other_names : (f g : Tree) (x y : Name) (ls ms : List Level) → const x ls ≡ f → const y ms ≡ g → same_name x y ≡ false → AreOther f g
-other_names f g x y ls ms ef eg e = λ z ks ns i j.
-    let one : x ≡ z = const_name x z ls ks (ef ∙ i) in
-    let two : y ≡ z = const_name y z ms ns (eg ∙ j) in
-    absurd (differs x y e (one ∙ sym two))
-
-pub other_levels : (f g : Tree) (x y : Name) (ls ms : List Level) (o : Option Bool) → const x ls ≡ f → const y ms ≡ g → tested o ≡ levels_equal complete_test ls ms → is_true o ≡ false → AreOther f g
-other_levels f g x y ls ms o ef eg is t = λ z ks ns i j.
-    let one : ls ≡ ks = const_levels x z ls ks (ef ∙ i) in
-    let two : ms ≡ ns = const_levels y z ms ns (eg ∙ j) in
-    record { answer = o; tested_is = is ∙ ap (λ l. levels_equal complete_test l ms) one ∙ ap (λ m. levels_equal complete_test ks m) two; no = some_true o t }
-
-pub other_left : (f g h : Tree) → h ≡ f → ((x : Name) (ls : List Level) → h ≡ const x ls → ⊥) → AreOther f g
-other_left f g h e never = λ z ks ns i j. absurd (never z ks (e ∙ i))
-
-pub other_right : (f g h : Tree) → h ≡ g → ((x : Name) (ls : List Level) → h ≡ const x ls → ⊥) → AreOther f g
-other_right f g h e never = λ z ks ns i j. absurd (never z ns (e ∙ j))

@@ -1,27 +1,21 @@
 -- Two terms whose heads are one constant, and what is asked of their arguments.
-use Rattle.std.proofs.Common.{ℕ, ◌≡◌, ◌+◌, ◌<◌, ◌≤◌, Bool, true, false, ◌&&◌, nat_eq, nat_lt, eqb-true, List, [], ◌∷◌, length, Option, Some, None, refl, sym, subst, ap, ◌∙◌, if◌then◌else◌, arith}
+use Rattle.std.proofs.Common.{ℕ, ◌≡◌, ◌+◌, ◌<◌, ◌≤◌, Bool, true, false, nat_eq, List, [], ◌∷◌, length, Option, Some, None, refl, sym, subst, ap, ◌∙◌, if◌then◌else◌, arith}
 use Rattle.std.proofs.lemmas.Bool.Decides.{nat_tests}
-use Rattle.lk_tree.specs.Tree.{Name, Level, Tree, const}
-use Rattle.lk_tree.specs.LevelTest.{level_test}
+use Rattle.lk_tree.specs.Tree.{Name, Level, Tree}
 use Rattle.lk_tree.specs.Spine.{head, args}
-use Rattle.lk_tree.specs.WellFormed.{IsWellFormed, AllWellFormed}
+use Rattle.lk_tree.specs.WellFormed.{IsWellFormed}
 use Rattle.lk_rulebook.specs.Place.{Place, Entry, Kind, a_def, a_thm, an_axiom, an_opaque, a_quot, a_type, a_ctor, a_rec}
 use Rattle.lk_rulebook.specs.WellStated.{WellStated}
-use Rattle.lk_questions.specs.Query.{same}
-use Rattle.lk_questions.specs.Program.{Program, done, ◌>>=◌}
+use Rattle.lk_questions.specs.Program.{Program, done}
 use Rattle.lk_questions.specs.Erased.{truth, erased}
-use Rattle.lk_questions.specs.Levels.{complete_test, tested, level_pairs_equal, levels_equal}
+use Rattle.lk_questions.specs.Levels.{complete_test, levels_equal}
 use Rattle.lk_questions.specs.Pairs.{same_all, otherwise, yes_alone, answers_yes, ◌or_else◌}
-use Rattle.lk_questions.specs.Tests.{is_true, same_levels}
 use Rattle.lk_questions.specs.Unfolding.{Unfolding, Rank, lowest, height, highest, is_less, rank_of_hint, unfolding_by, unfold_both, by_ranks, by_unfolding}
 use Rattle.lk_lazy.specs.Heads.{unfolding_at}
-use Rattle.lk_lazy.specs.Lazies.{unfold_again, arguments_or_both, same_or_both, ranked}
-use Rattle.lk_lazy.proofs.Ranks.{both_heads, one_ranked, heads_agree, heads_differ, levels_differ, uneven_is, again_is}
-use Rattle.lk_step.specs.Equal.{argument_claims}
-use Rattle.lk_step.specs.Rows.{IsAnswered, AreClaims, no_claim, a_claim}
+use Rattle.lk_lazy.specs.Lazies.{arguments_or_both, same_or_both, ranked}
+use Rattle.lk_lazy.proofs.Ranks.{both_heads, one_ranked, heads_agree, again_is}
 use Rattle.lk_step.specs.Runs.{Runs, RunsOn}
 use Rattle.lk_step.proofs.Runs.{runs_on}
-use Rattle.lk_step.specs.Pairs.{same_asks}
 use Rattle.lk_step.specs.Parts.{IsPartIn}
 use Rattle.lk_step.specs.Tests.{IsRun, ArePair}
 use Rattle.lk_step.specs.declared.step.Row.{Row}
@@ -29,7 +23,7 @@ use Rattle.lk_step.proofs.Parts.{first}
 use Rattle.lk_step.proofs.PartsIn.{part_these}
 use Rattle.lk_store.specs.Contents.{Contents}
 use Rattle.lk_rulebook.specs.Claims.{equals}
-use Rattle.lk_derive_lazy.specs.Alike.{AreOneConstant, AreUnequal, AreOther, AreUnlike}
+use Rattle.lk_derive_lazy.specs.Alike.{AreOneConstant}
 use Rattle.lk_derive_lazy.specs.Turns.{SaysYes, Bears, TurnsAgain, pair_asked}
 use Rattle.lk_derive_lazy.proofs.Heads.{by_meaning, by_heads, at_heads, unfolds_is, program_runs}
 use Rattle.lk_derive_lazy.proofs.Turning.{both_turning, turns_by}
@@ -56,12 +50,24 @@ module _ (w : Place) (a b : Tree) where
   kind_both x ls ms g (a_def h v) n r = record {
     p = record { name = x; levels = ls; entry = g; value = v; rank = rank_of_hint h };
     q = record { name = x; levels = ms; entry = g; value = v; rank = rank_of_hint h };
-    left = refl; right = refl; name = refl; left_levels = refl; right_levels = refl; low = rank_self (rank_of_hint h); high = rank_self (rank_of_hint h);
+    left = refl;
+    right = refl;
+    name = refl;
+    left_levels = refl;
+    right_levels = refl;
+    low = rank_self (rank_of_hint h);
+    high = rank_self (rank_of_hint h);
   }
   kind_both x ls ms g (a_thm v) n r = record {
     p = record { name = x; levels = ls; entry = g; value = v; rank = lowest };
     q = record { name = x; levels = ms; entry = g; value = v; rank = lowest };
-    left = refl; right = refl; name = refl; left_levels = refl; right_levels = refl; low = refl; high = refl;
+    left = refl;
+    right = refl;
+    name = refl;
+    left_levels = refl;
+    right_levels = refl;
+    low = refl;
+    high = refl;
   }
   kind_both x ls ms g an_axiom n r = absurd (let e : None ≡ Some true = r.0 in cc)
   kind_both x ls ms g (an_opaque v) n r = absurd (let e : None ≡ Some true = r.0 in cc)

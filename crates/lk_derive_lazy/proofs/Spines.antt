@@ -1,15 +1,15 @@
 -- Two applications of one constant, whose arguments are the same.
-use Rattle.std.proofs.Common.{ℕ, ◌≡◌, ◌+◌, ◌<◌, ◌≤◌, Bool, true, false, nat_eq, eqb-true, List, [], ◌∷◌, ◌++◌, length, map, refl, sym, subst, ap, ◌∙◌, if◌then◌else◌, arith}
+use Rattle.std.proofs.Common.{ℕ, ◌≡◌, ◌+◌, ◌<◌, ◌≤◌, Bool, true, false, nat_eq, eqb-true, List, [], ◌∷◌, length, map, refl, sym, subst, ap, ◌∙◌, if◌then◌else◌, arith}
 use Rattle.std.specs.Prelude.{All}
 use Rattle.std.proofs.lemmas.List.{length-map}
 use Rattle.std.proofs.lemmas.List.Elements.{All-nil}
-use Rattle.lk_tree.specs.Tree.{Name, Level, Tree, const}
+use Rattle.lk_tree.specs.Tree.{Tree, const}
 use Rattle.lk_tree.specs.Spine.{apply, head, args, IsNeutral}
 use Rattle.lk_tree.specs.WellFormed.{IsWellFormed, AllWellFormed}
 use Rattle.lk_tree.proofs.Spines.{well_formed_of_apply}
 use Rattle.lk_tree.proofs.Within.{apply_head_args}
 use Rattle.lk_rulebook.specs.Place.{Place}
-use Rattle.lk_rulebook.specs.Claims.{Claim, equals}
+use Rattle.lk_rulebook.specs.Claims.{equals}
 use Rattle.lk_questions.specs.Query.{same}
 use Rattle.lk_questions.specs.Program.{done}
 use Rattle.lk_questions.specs.Pairs.{same_all}
@@ -17,8 +17,7 @@ use Rattle.lk_written.specs.Line.{consts_rule, apps_rule}
 use Rattle.lk_store.specs.Contents.{Contents, tree_at, Extends}
 use Rattle.lk_ask.specs.declared.sheet.Pair.{Pair}
 use Rattle.lk_ask.specs.Lines.{lefts, rights}
-use Rattle.lk_ask.specs.Questions.{query_of, IsKnownQuery}
-use Rattle.lk_ask.specs.Sheets.{map_pair, IsKnownPair}
+use Rattle.lk_ask.specs.Questions.{query_of}
 use Rattle.lk_ask.proofs.Sheets.{grown, pairs_steady, pairs_known}
 use Rattle.lk_lazy.specs.declared.spines.Paired.{Paired}
 use Rattle.lk_lazy.specs.Spines.{IsPaired}
@@ -36,7 +35,7 @@ use Rattle.lk_step.specs.Tests.{ArePair}
 use Rattle.lk_step.proofs.EqualitySteps.{equality_steps}
 use Rattle.lk_step.proofs.Comparing.{nothing_left}
 use Rattle.lk_step.proofs.Parts.{all_of}
-use Rattle.lk_step.proofs.PartsIn.{part_states_there, part_these}
+use Rattle.lk_step.proofs.PartsIn.{part_states_there}
 use Rattle.lk_derive_lazy.specs.Alike.{AreOneConstant, AreAlike, AreApplied}
 use Rattle.lk_derive_lazy.proofs.Levels.{levels_same}
 
@@ -88,10 +87,6 @@ arguments_part w c a b r ps n fa fb left right premises asked none h =
       known = record { asks_in = asked.asks_in; steps_in = subst (λ ss. All (IsStepIn c) ss) (sym none) (All-nil (IsStepIn c)) };
       part = subst (λ ss. IsPart w (map (query_of (tree_at c)) r.asks.items) (map (step_at c) ss) (claims_at c premises) n) (sym none) two;
     }
-
-pub applied_of : (c : Contents) (a b : ℕ) (p : Paired) (asks : _) (premises : List StoredClaim) → IsPaired c a b p → AreAsked c p.pairs.items asks premises → AreApplied c a b premises
-applied_of c a b p asks premises h asked =
-    asked.claims_are ∙ ap (λ xs. argument_claims xs (rights (pairs_at c p.pairs.items))) (sym h.left_args) ∙ ap (λ ys. argument_claims (args (tree_at c a)) ys) (sym h.right_args)
 
 module _ (c : Contents) (a b : ℕ) (p : Paired) (h : AreAlike c a b p) (ps : List StoredClaim) (applied : AreApplied c a b ps) where
   count : length (args (tree_at c a)) ≡ length (args (tree_at c b))

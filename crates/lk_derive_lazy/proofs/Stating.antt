@@ -1,5 +1,5 @@
 -- Questions and steps that are added to a row under way.
-use Rattle.std.proofs.Common.{ℕ, ◌≡◌, ◌+◌, ◌<◌, ◌≤◌, inl, Bool, true, Option, Some, List, [], ◌∷◌, ◌++◌, length, refl, subst, sym, ap, ◌∙◌, arith}
+use Rattle.std.proofs.Common.{ℕ, ◌≡◌, ◌+◌, ◌<◌, inl, true, Some, List, [], ◌∷◌, ◌++◌, length, refl, subst, sym, ap, ◌∙◌, arith}
 use Rattle.lk_tree.specs.Tree.{Tree}
 use Rattle.lk_rulebook.specs.Place.{Place}
 use Rattle.lk_rulebook.specs.Claims.{Claim, reduces, equals}
@@ -42,9 +42,6 @@ equality_added w c old new step rule a b cs is known l r ps ea eb ecs holds asks
 pub itself_stated : (w : Place) (c : Contents) (r : Row) (a b : Tree) → is_same_tree a b ≡ true → States w c r r [] (reduces a b)
 itself_stated w c r a b e = part_states_there w c r [] (reduces a b) (λ xs h. inl e)
 
-pub one_stated : (w : Place) (c : Contents) (r : Row) (a b : Tree) → is_same_tree a b ≡ true → States w c r r [] (equals a b)
-one_stated w c r a b e = part_states_there w c r [] (equals a b) (λ xs h. inl e)
-
 -- two terms that reduce to these, which are the same
 pub reduced_part : (w : Place) (c : Contents) (none asked left right whole : Row) (a b x y : Tree) (n : ℕ) → IsEmpty none → Asks w c c none asked (equals x y) n → States w c asked left [] (reduces a x) → States w c left right [] (reduces b y) →
     States w c right whole (reduces a x ∷ reduces b y ∷ equals x y ∷ []) (equals a b) → IsPartIn w c whole (equals a b ∷ []) n
@@ -52,10 +49,13 @@ reduced_part w c none asked left right whole a b x y n empty f g h k =
     let p1 : IsPartIn w c asked (equals x y ∷ []) (0 + n) = f [] 0 (part_none w c none empty) in
     let p2 : IsPartIn w c left (reduces a x ∷ equals x y ∷ []) (0 + n) = g (equals x y ∷ []) (0 + n) tt p1 in
     let p3 : IsPartIn w c right (reduces b y ∷ reduces a x ∷ equals x y ∷ []) (0 + n) = h (reduces a x ∷ equals x y ∷ []) (0 + n) tt p2 in
-    let there : AreThere (reduces b y ∷ reduces a x ∷ equals x y ∷ []) (reduces a x ∷ reduces b y ∷ equals x y ∷ []) =
-    (behind (reduces b y) (reduces a x ∷ equals x y ∷ []) (reduces a x) (first (reduces a x) (equals x y ∷ [])),
-    (first (reduces b y) (reduces a x ∷ equals x y ∷ []),
-    (behind (reduces b y) (reduces a x ∷ equals x y ∷ []) (equals x y) (behind (reduces a x) (equals x y ∷ []) (equals x y) (first (equals x y) [])), tt))) in
+    let there : AreThere (reduces b y ∷ reduces a x ∷ equals x y ∷ []) (reduces a x ∷ reduces b y ∷ equals x y ∷ []) = (
+      behind (reduces b y) (reduces a x ∷ equals x y ∷ []) (reduces a x) (first (reduces a x) (equals x y ∷ [])),
+      (
+        first (reduces b y) (reduces a x ∷ equals x y ∷ []),
+        (behind (reduces b y) (reduces a x ∷ equals x y ∷ []) (equals x y) (behind (reduces a x) (equals x y ∷ []) (equals x y) (first (equals x y) [])), tt),
+      ),
+    ) in
     let p4 : IsPartIn w c whole (equals a b ∷ reduces b y ∷ reduces a x ∷ equals x y ∷ []) (0 + n) = k (reduces b y ∷ reduces a x ∷ equals x y ∷ []) (0 + n) there p3 in
     part_these w c whole (equals a b ∷ reduces b y ∷ reduces a x ∷ equals x y ∷ []) (equals a b ∷ []) (0 + n) n (first (equals a b) (reduces b y ∷ reduces a x ∷ equals x y ∷ []), tt) (omega arith) p4
 

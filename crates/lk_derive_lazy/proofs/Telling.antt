@@ -1,40 +1,37 @@
 -- What the test by unfolding tells of two terms.
-use Rattle.std.proofs.Common.{ℕ, ◌≡◌, ◌⊎◌, inl, inr, ◌+◌, ◌<◌, ◌≤◌, Bool, true, false, List, [], ◌∷◌, map, Option, Some, None, refl, sym, subst, ap, ◌∙◌, arith}
+use Rattle.std.proofs.Common.{ℕ, ◌≡◌, ◌⊎◌, inl, inr, Bool, true, false, [], ◌∷◌, Option, Some, None, refl, sym, subst, ap, ◌∙◌, arith}
 use Rattle.std.specs.Prelude.{IfSome, option_map}
 use Rattle.lk_tree.specs.Tree.{Tree}
 use Rattle.lk_tree.specs.Spine.{head}
-use Rattle.lk_rulebook.specs.Place.{Place, Entry}
+use Rattle.lk_rulebook.specs.Place.{Place}
 use Rattle.lk_rulebook.specs.Claims.{Claim, equals}
-use Rattle.lk_questions.specs.Query.{AnswerTo}
 use Rattle.lk_questions.specs.Program.{Program, done, refuse, ask, look}
 use Rattle.lk_questions.specs.Erased.{Steps, gives, truth, erased}
-use Rattle.lk_questions.specs.Pairs.{Line, otherwise, ◌or_else◌}
+use Rattle.lk_questions.specs.Pairs.{Line, ◌or_else◌}
 use Rattle.lk_questions.specs.Steps.{is_same_tree}
 use Rattle.lk_questions.specs.Unfolding.{by_ranks, by_unfolding}
-use Rattle.lk_store.specs.Contents.{Contents, tree_at, Extends}
+use Rattle.lk_store.specs.Contents.{Contents, Extends}
 use Rattle.lk_claims.proofs.Pieces.{Some_inj}
-use Rattle.lk_ask.specs.declared.sheet.Pair.{Pair}
 use Rattle.lk_ask.specs.declared.query.Query.TheVariants.{Core, Whnf, Infer, Same}
 use Rattle.lk_ask.specs.declared.next.Next.{Next}
 use Rattle.lk_ask.specs.declared.next.Next.TheVariants.{Ask, Done, No}
 use Rattle.lk_ask.specs.Looks.{Sight}
 use Rattle.lk_ask.specs.Nexts.{IsKnownNext}
-use Rattle.lk_ask.specs.Questions.{query_of}
 use Rattle.lk_ask.specs.Sheets.{map_pair, IsKnownPair}
 use Rattle.lk_lazy.specs.declared.sheet.LazySheet.{LazySheet}
 use Rattle.lk_lazy.specs.Heads.{unfolding_at}
 use Rattle.lk_lazy.specs.Lazies.{lazy_next, GoesLine}
 use Rattle.lk_lazy.specs.Sheets.{IsKnownLazy}
 use Rattle.lk_step.specs.declared.step.Row.{Row}
-use Rattle.lk_step.specs.Runs.{Runs, RunsOn, AreOne}
-use Rattle.lk_step.specs.Meaning.{step_at, IsRowIn}
+use Rattle.lk_step.specs.Runs.{Runs, AreOne}
+use Rattle.lk_step.specs.Meaning.{IsRowIn}
 use Rattle.lk_step.specs.Told.{Leaves}
 use Rattle.lk_step.specs.Tells.{IsBasisOf, Tells}
-use Rattle.lk_step.specs.Tests.{IsYes, ArePair, AreReduced}
+use Rattle.lk_step.specs.Tests.{IsRun, ArePair, AreReduced}
 use Rattle.lk_step.specs.Parts.{IsPartIn, IsEmpty}
-use Rattle.lk_step.proofs.Runs.{one_answer, runs_on}
+use Rattle.lk_step.proofs.Runs.{one_answer}
 use Rattle.lk_step.proofs.PartsIn.{apart, part_none, part_these}
-use Rattle.lk_derive_lazy.specs.Turns.{SaysYes, Bears, IsFirst, pair_asked, pair_in}
+use Rattle.lk_derive_lazy.specs.Turns.{NeverNo, SaysYes, Bears, pair_asked, pair_in}
 use Rattle.lk_derive_lazy.proofs.Heads.{by_heads, at_heads, StepsOn, steps_on, Answers, Neither, reads}
 
 -- a run comes to one value
@@ -95,21 +92,17 @@ module _ (w : Place) (a b : Tree) where
             let all : (r : Program Bool) → erased w truth last r ≡ erased w truth s.last x.program = λ r. goes r ∙ s.are r ∙ ap (erased w truth s.last) (x.is r) in
             absurd (two_truths last (all (done true) ∙ sym (all (done false))))
 
-  -- where one of them unfolds, and the tests from here on say yes, this one does
-  pub says_yes : (rest : Program Bool) (most : ℕ) (t : ℕ → Tree) (before last : Option ℕ) (next : Next ℕ (LazySheet ℕ)) → GoesLine w t before last (by_unfolding a b) (Some next) → IsYes w (by_unfolding a b or_else rest) most → SaysYes w (by_unfolding a b) most
-  says_yes rest most t before last next goes said = go (reads w a b (unfolding_at w (head a)) (unfolding_at w (head b)) on.value on.first (at_heads w a b on.value on.first on.runs))
+  -- where one of them unfolds, it says yes, as it does not say no
+  pub says_yes : (most : ℕ) (t : ℕ → Tree) (before last : Option ℕ) (next : Next ℕ (LazySheet ℕ)) → GoesLine w t before last (by_unfolding a b) (Some next) → IsRun w (by_unfolding a b) most → NeverNo w (by_unfolding a b) → SaysYes w (by_unfolding a b) most
+  says_yes most t before last next goes run never = go (reads w a b (unfolding_at w (head a)) (unfolding_at w (head b)) run.value run.cost (at_heads w a b run.value run.cost run.runs))
     where
-      on : RunsOn w (by_unfolding a b) (λ o. otherwise o rest) true said.cost
-      on = runs_on w (by_unfolding a b) (λ o. otherwise o rest) true said.cost said.runs
+      by_answer : (y : Bool) → run.value ≡ Some y → SaysYes w (by_unfolding a b) most
+      by_answer true e = record { cost = run.cost; runs = subst (λ o. Runs w (by_unfolding a b) o run.cost) e run.runs; within = run.within }
+      by_answer false e = absurd (never run.cost (subst (λ o. Runs w (by_unfolding a b) o run.cost) e run.runs))
 
-      go : Neither (unfolding_at w (head a)) (unfolding_at w (head b)) on.value ⊎ Answers w a b (unfolding_at w (head a)) (unfolding_at w (head b)) on.value on.first → SaysYes w (by_unfolding a b) most
-      go (inl x) = absurd (next_answers on.value on.first on.runs t before last next goes x)
-      go (inr x) =
-          let then_yes : Runs w (otherwise (Some x.answer) rest) true on.second = subst (λ o. Runs w (otherwise o rest) true on.second) x.says on.then_runs in
-          let value : on.value ≡ Some true = x.says ∙ ap Some then_yes.0 in
-          let paid : said.cost ≡ on.first + on.second = on.paid in
-          let within : said.cost < most = said.within in
-          record { cost = on.first; runs = subst (λ o. Runs w (by_unfolding a b) o on.first) value on.runs; within = omega (arith, paid, within) }
+      go : Neither (unfolding_at w (head a)) (unfolding_at w (head b)) run.value ⊎ Answers w a b (unfolding_at w (head a)) (unfolding_at w (head b)) run.value run.cost → SaysYes w (by_unfolding a b) most
+      go (inl x) = absurd (next_answers run.value run.cost run.runs t before last next goes x)
+      go (inr x) = by_answer x.answer x.says
 
 pub basis_of : (w : Place) (c : Contents) (claim : Claim) (r : Row) (n : ℕ) → IsPartIn w c r (claim ∷ []) n → IsBasisOf w c claim n r
 basis_of w c claim r n p = record { claims = p.part.claims; spent = p.part.cost; asked = p.part.asked; within = p.part.within; steps_hold = p.part.steps_hold; stated = p.part.there.0 }
@@ -127,9 +120,6 @@ bears_known w c line claim r most said bears = (bears said.cost said.runs).known
 pub one_tells : (w : Place) (c : Contents) (line : Line) (a b : Tree) (r : Row) → is_same_tree a b ≡ true → IsEmpty r → Tells w c line (equals a b) (Some r)
 one_tells w c line a b r same empty = λ says cost h.
     basis_of w c (equals a b) r cost (part_these w c r [] (equals a b ∷ []) 0 cost (inl same, tt) (omega arith) (part_none w c r empty))
-
-pub empty_known : (w : Place) (c : Contents) (r : Row) → IsEmpty r → IsRowIn c r
-empty_known w c r empty = (part_none w c r empty).known
 
 -- two that are not one tree
 pub pair_of : (w : Place) (a b : Tree) → AreReduced w a b → is_same_tree a b ≡ false → ArePair w a b

@@ -31,7 +31,7 @@ use Rattle.lk_step.specs.Runs.{Runs}
 use Rattle.lk_step.proofs.ReductionSteps.{reduction_steps}
 use Rattle.lk_derive_lazy.specs.Turns.{IsTurned, SaysYes, AreSame, Turns, pair_asked, IsFirst}
 use Rattle.lk_derive_lazy.specs.Alike.{AreUnlike}
-use Rattle.lk_derive_lazy.proofs.Heads.{IsUnfolds, unfolds_is, by_heads, at_heads, StepsOn, steps_on, AnswerRuns, answer_runs, both_answer, program_runs}
+use Rattle.lk_derive_lazy.proofs.Heads.{IsUnfolds, unfolds_is, at_heads, StepsOn, steps_on, AnswerRuns, answer_runs, both_answer, program_runs}
 
 -- what a unfolds to by p
 abbrev pub unfolded_by : Unfolding → Tree → Tree

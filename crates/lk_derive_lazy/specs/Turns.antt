@@ -1,11 +1,11 @@
 -- What two terms turn into, where one of them unfolds or both do.
-use Rattle.std.specs.Prelude.{ℕ, ◌≡◌, ◌<◌, ◌≤◌, Bool, true, false, [], ◌∷◌, Option, Some, None}
+use Rattle.std.specs.Prelude.{ℕ, ◌≡◌, ◌<◌, ◌≤◌, true, false, [], ◌∷◌, Option, Some, None}
 use Rattle.lk_tree.specs.Tree.{Tree}
 use Rattle.lk_tree.specs.WellFormed.{IsWellFormed}
 use Rattle.lk_rulebook.specs.Place.{Place}
 use Rattle.lk_rulebook.specs.Claims.{Claim}
 use Rattle.lk_questions.specs.Query.{same}
-use Rattle.lk_questions.specs.Program.{Program, done}
+use Rattle.lk_questions.specs.Program.{done}
 use Rattle.lk_questions.specs.Erased.{Steps, asks, truth, erased}
 use Rattle.lk_questions.specs.Pairs.{Line, ◌or_else◌}
 use Rattle.lk_questions.specs.Unfolding.{by_unfolding}
@@ -22,12 +22,15 @@ use Rattle.lk_step.specs.Steps.{reduction, StepHolds}
 use Rattle.lk_step.specs.Rows.{IsAnswered}
 use Rattle.lk_step.specs.Runs.{Runs}
 use Rattle.lk_step.specs.Parts.{IsPartIn}
-use Rattle.lk_step.specs.Chains.{after_unfolding}
 
 -- x is a, or what a unfolds to
 pub record IsTurned (w : Place) (a x : Tree) : Type 0 where
   pub fine : IsWellFormed x
   pub holds : (a ≡ x → ⊥) → StepHolds w (reduction delta_rule a x [])
+
+-- the line does not say no, however it is run
+abbrev pub NeverNo : Place → Line → Type 0
+NeverNo w line = (n : ℕ) → Runs w line (Some false) n → ⊥
 
 -- the line says yes, for less than this
 pub record SaysYes (w : Place) (line : Line) (most : ℕ) : Type 0 where
@@ -76,7 +79,3 @@ TurnsAgain w a b =
     (pair : Option (Pair Tree)) (last : Option ℕ)
     → pair ≡ pair_asked (erased w truth last (unfold_again w a b))
     → Turns w (by_unfolding a b) a b pair
-
--- the test by unfolding, and those behind it
-abbrev pub from_unfolding : Tree → Tree → Program Bool
-from_unfolding a b = by_unfolding a b or_else after_unfolding a b

@@ -8,8 +8,8 @@ ghost use Rattle.lk_ask.specs.Sheets.{map_pair, IsKnownPair};
 ghost use Rattle.lk_step.specs.Meaning.{IsRowIn};
 ghost use Rattle.lk_step.specs.Told.{Leaves};
 ghost use Rattle.lk_step.specs.Tells.{Tells};
-ghost use Rattle.lk_step.specs.Tests.{IsYes, ArePair, AreReduced};
-ghost use Rattle.lk_derive_lazy.specs.Turns.{SaysYes, Bears, IsFirst, from_unfolding};
+ghost use Rattle.lk_step.specs.Tests.{IsRun, ArePair, AreReduced};
+ghost use Rattle.lk_derive_lazy.specs.Turns.{SaysYes, NeverNo, Bears, IsFirst};
 
 use crate::alike::alike;
 use crate::arguments::by_arguments;
@@ -52,7 +52,7 @@ fn unfolded_row<D: Derives>(
     }
 }
 
-/// The row of two terms by unfolding. There is none where neither unfolds.
+/// The row of two terms by unfolding, which does not say no of them. There is none where neither unfolds.
 pub fn by_unfolding<D: Derives>(
     derives: &mut D,
     a: u64,
@@ -63,8 +63,10 @@ pub fn by_unfolding<D: Derives>(
     requires b_in { b < length (D.contents derives.old).trees }
     requires pair { AreReduced (D.sight (D.rest derives.old)).basis.place
         (tree_at (D.contents derives.old) a) (tree_at (D.contents derives.old) b) }
-    requires says { IsYes (D.sight (D.rest derives.old)).basis.place (from_unfolding
+    requires run { IsRun (D.sight (D.rest derives.old)).basis.place (by_unfolding
         (tree_at (D.contents derives.old) a) (tree_at (D.contents derives.old) b)) enough }
+    requires never_no { NeverNo (D.sight (D.rest derives.old)).basis.place (by_unfolding
+        (tree_at (D.contents derives.old) a) (tree_at (D.contents derives.old) b)) }
     ensures leaves { Leaves D.contents D.rest D.sight derives.old derives.new }
     ensures known { IfOk result (λ r. IfSome r (IsRowIn (D.contents derives.new))) }
     ensures tells { let t = tree_at (D.contents derives.old) in

@@ -1,7 +1,7 @@
-use Rattle.std.proofs.Common.{ℕ, ◌≡◌, Bool, true, false, sym, ◌∙◌, subst}
+use Rattle.std.proofs.Common.{ℕ, ◌≡◌, Bool, sym, ◌∙◌, subst}
 use Rattle.std.proofs.lemmas.Result.{IfOk-weaker}
 use Rattle.lk_tree.specs.Tree.{Tree}
-use Rattle.lk_tree.specs.Spine.{head, args}
+use Rattle.lk_tree.specs.Spine.{args}
 use Rattle.lk_rulebook.specs.Place.{Place}
 use Rattle.lk_rulebook.specs.Claims.{equals}
 use Rattle.lk_questions.specs.Pairs.{same_all}
@@ -11,7 +11,6 @@ use Rattle.lk_step.specs.Pairs.{same_pairs, pairs_at}
 use Rattle.lk_step.specs.Runs.{Runs}
 use Rattle.lk_step.specs.Tests.{IsRun}
 use Rattle.lk_step.proofs.Moving.{moved2, tree_stays}
-use Rattle.lk_derive_lazy.specs.Alike.{AreOneConstant}
 use Rattle.lk_derive_lazy.specs.Turns.{Bears, TurnsAgain}
 use Rattle.lk_derive_lazy.proofs.Likeness.{arguments_run, arguments_bear, turns_again}
 use Rattle.lk_derive_lazy.proofs.Spines.{heads_of, pairs_program, alike_stays}

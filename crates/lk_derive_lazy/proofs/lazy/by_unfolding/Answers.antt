@@ -1,4 +1,4 @@
-use Rattle.std.proofs.Common.{ℕ, Some, None, sym, subst, ap, ◌∙◌}
+use Rattle.std.proofs.Common.{Some, None, false, sym, subst, ap, ◌∙◌}
 use Rattle.std.specs.Prelude.{option_map}
 use Rattle.lk_tree.specs.Tree.{Tree}
 use Rattle.lk_rulebook.specs.Place.{Place}
@@ -8,12 +8,9 @@ use Rattle.lk_questions.specs.Erased.{truth, erased}
 use Rattle.lk_questions.specs.Pairs.{◌or_else◌}
 use Rattle.lk_questions.specs.Unfolding.{by_unfolding}
 use Rattle.lk_store.specs.Contents.{Contents, tree_at}
-use Rattle.std.specs.Prelude.{false}
 use Rattle.lk_ask.specs.Sheets.{map_pair}
 use Rattle.lk_lazy.specs.Lazies.{GoesLine}
-use Rattle.lk_step.specs.Chains.{after_unfolding}
 use Rattle.lk_step.specs.Told.{Leaves}
-use Rattle.lk_step.specs.Tells.{Tells}
 use Rattle.lk_step.specs.Tests.{ArePair}
 use Rattle.lk_step.proofs.Moving.{moved2, back2}
 use Rattle.lk_derive_lazy.specs.Turns.{SaysYes, Bears, IsFirst}
@@ -65,7 +62,7 @@ unfolded_row-requires-clause-yes g c =
     let l : Leaves g.D.Terms.contents g.D.Terms.rest g.D.Looks.sight c.args.derives.now c.begin.new.looks = leaves_basis g.D.Terms.contents g.D.Terms.rest g.D.Looks.sight c.args.derives.now c.begin.new.looks c.in_ok-begun.ensures.keeps c.in_ok-begun.ensures.stays in
     let goes : GoesLine w (tree_at n) before.last after.last (by_unfolding a b) (Some c.in-Some.next) = subst (λ o. GoesLine w (tree_at n) before.last after.last (by_unfolding a b) o) c.in-Some.is c.in_ok-begun.ensures.goes in
     moved2 l (λ w e f. SaysYes w (by_unfolding e f) c.args.enough) c.args.a c.args.b c.requires.a_in c.requires.b_in
-    (says_yes w a b (after_unfolding a b) c.args.enough (tree_at n) before.last after.last c.in-Some.next goes c.requires.says)
+    (says_yes w a b c.args.enough (tree_at n) before.last after.last c.in-Some.next goes c.requires.run c.requires.never_no)
 
 pub returns-in_ok-row-in-Some-clause-known : goal.returns-in_ok-row-in-Some-clause-known
 returns-in_ok-row-in-Some-clause-known g c =
@@ -79,7 +76,7 @@ returns-in_ok-row-in-Some-clause-known g c =
     let b : Tree = tree_at d c.args.b in
     let l : Leaves g.D.Terms.contents g.D.Terms.rest g.D.Looks.sight c.args.derives.now c.begin.new.looks = leaves_basis g.D.Terms.contents g.D.Terms.rest g.D.Looks.sight c.args.derives.now c.begin.new.looks c.in_ok-begun.ensures.keeps c.in_ok-begun.ensures.stays in
     let goes : GoesLine w (tree_at n) before.last after.last (by_unfolding a b) (Some c.in-Some.next) = subst (λ o. GoesLine w (tree_at n) before.last after.last (by_unfolding a b) o) c.in-Some.is c.in_ok-begun.ensures.goes in
-    let said : SaysYes w (by_unfolding a b) c.args.enough = says_yes w a b (after_unfolding a b) c.args.enough (tree_at n) before.last after.last c.in-Some.next goes c.requires.says in
+    let said : SaysYes w (by_unfolding a b) c.args.enough = says_yes w a b c.args.enough (tree_at n) before.last after.last c.in-Some.next goes c.requires.run c.requires.never_no in
     bears_known w m (by_unfolding a b) (equals a b) c.in_ok-row-in-Some.row c.args.enough said
     (back2 l (λ w e f. Bears w m (by_unfolding e f) (equals e f) c.in_ok-row-in-Some.row) c.args.a c.args.b c.requires.a_in c.requires.b_in c.in_ok-row-in-Some.ensures.bears)
 
@@ -95,7 +92,7 @@ returns-in_ok-row-in-Some-clause-tells g c =
     let b : Tree = tree_at d c.args.b in
     let l : Leaves g.D.Terms.contents g.D.Terms.rest g.D.Looks.sight c.args.derives.now c.begin.new.looks = leaves_basis g.D.Terms.contents g.D.Terms.rest g.D.Looks.sight c.args.derives.now c.begin.new.looks c.in_ok-begun.ensures.keeps c.in_ok-begun.ensures.stays in
     let goes : GoesLine w (tree_at n) before.last after.last (by_unfolding a b) (Some c.in-Some.next) = subst (λ o. GoesLine w (tree_at n) before.last after.last (by_unfolding a b) o) c.in-Some.is c.in_ok-begun.ensures.goes in
-    let said : SaysYes w (by_unfolding a b) c.args.enough = says_yes w a b (after_unfolding a b) c.args.enough (tree_at n) before.last after.last c.in-Some.next goes c.requires.says in
+    let said : SaysYes w (by_unfolding a b) c.args.enough = says_yes w a b c.args.enough (tree_at n) before.last after.last c.in-Some.next goes c.requires.run c.requires.never_no in
     bears_tells w m (by_unfolding a b) (equals a b) c.in_ok-row-in-Some.row c.args.enough said
     (back2 l (λ w e f. Bears w m (by_unfolding e f) (equals e f) c.in_ok-row-in-Some.row) c.args.a c.args.b c.requires.a_in c.requires.b_in c.in_ok-row-in-Some.ensures.bears)
 
