@@ -31,7 +31,7 @@ pub fn section_of_parts<R: Rows>(
     ensures { let c = R.contents rows.now in IfOk result (IsSectionOf (R.place rows.now) c unit
         (claims_at c parts.now)) }
 {
-    let numbers = numbers_of(alloc, rows, &notes, parts)?;
+    let numbers = numbers_of(alloc, rows.store(), &notes, parts)?;
     let Notes { lines, stated } = notes;
     drop(stated);
     Ok(Section {

@@ -33,10 +33,10 @@ pub fn write_step<R: Rows>(
         notes.old notes.new (claim_of (step_at c step.now))) }
 {
     let claim = claim_with(step.rule, step.left, step.right);
-    if is_there(rows, notes, claim) {
+    if is_there(rows.store(), notes, claim) {
         return Ok(());
     }
-    let premises = numbers_of(alloc, rows, notes, &step.premises)?;
+    let premises = numbers_of(alloc, rows.store(), notes, &step.premises)?;
     notes.add(Line {
         rule: step.rule,
         left: step.left,

@@ -7,6 +7,6 @@ pub tasks-preserved : goal.tasks-preserved
 tasks-preserved g c =
     let rows = c.args.rows.now in
     let done = c.in_ok-do_task.ensures in
-    goes_on g.R.Terms.contents g.R.Rows.place g.R.Rows.most rows c.args.derivation.now (query_of (tree_at (g.R.Terms.contents rows)) c.args.query)
+    goes_on g.R.Rows.contents g.R.Rows.place g.R.Rows.most rows c.args.derivation.now (query_of (tree_at (g.R.Rows.contents rows)) c.args.query)
     c.tasks.rows c.tasks.derivation c.tasks.stack.items c.tasks.invariant c.pop.new.self.items c.in-Some.next c.in-Some.ensures.items
     c.do_task.new.rows c.do_task.new.derivation c.do_task.new.stack.items done.stays done.goes_on

@@ -7,8 +7,8 @@ use Rattle.lk_derive.proofs.course.derive.Given as goal
 
 abbrev pub invariant-tasks : goal.invariant-tasks
 invariant-tasks g l =
-    IsUnderWay g.R.Terms.contents g.R.Rows.place g.R.Rows.most l.fn.rows l.rows l.fn.derivation l.derivation
-    (query_of (tree_at (g.R.Terms.contents l.fn.rows)) l.fn.query) l.stack.items
+    IsUnderWay g.R.Rows.contents g.R.Rows.place g.R.Rows.most l.fn.rows l.rows l.fn.derivation l.derivation
+    (query_of (tree_at (g.R.Rows.contents l.fn.rows)) l.fn.query) l.stack.items
 
 abbrev pub decreases-tasks : goal.decreases-tasks
-decreases-tasks g l = weight (g.R.Rows.place l.fn.rows) (g.R.Rows.most l.fn.rows) (tasks_at (g.R.Terms.contents l.rows) l.stack.items)
+decreases-tasks g l = weight (g.R.Rows.place l.fn.rows) (g.R.Rows.most l.fn.rows) (tasks_at (g.R.Rows.contents l.rows) l.stack.items)

@@ -11,14 +11,14 @@ use Rattle.lk_derive.proofs.course.write.Goals as goal
 pub write_row-requires-clause-steps : goal.write_row-requires-clause-steps
 write_row-requires-clause-steps g c =
     let rows = c.args.rows.now in
-    let t = g.R.Terms.contents rows in
+    let t = g.R.Rows.contents rows in
     due_steps (g.R.Rows.place rows) (g.R.Rows.most rows) (stated_at t c.args.derivation.now.notes) (query_of (tree_at t) c.args.query) (map (step_at t) c.args.steps.now) c.requires.row
 
 pub returns-clause-derives : goal.returns-clause-derives
 returns-clause-derives g c =
     let rows = c.args.rows.now in
     let w = g.R.Rows.place rows in
-    let t = g.R.Terms.contents rows in
+    let t = g.R.Rows.contents rows in
     let old = c.args.derivation.now in
     let now = c.write_row.new.notes in
     let written = c.in_ok-write_row.ensures in
