@@ -12,3 +12,12 @@ mod Marked
 mod Done
 mod Stepped
 mod UnderWay
+pub mod QuietUnits
+pub mod UnitRuns
+pub mod UnitParts
+pub mod UnitVerdicts
+pub mod PartsAdded
+pub mod PartsDue
+pub mod SidesAdded
+pub mod UnitDue
+pub mod UnitDone

@@ -5,3 +5,6 @@ pub mod Derived
 pub mod Tasks
 pub mod Stages
 pub mod Sections
+pub mod Units
+pub mod Parts
+pub mod Sides
