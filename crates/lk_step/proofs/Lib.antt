@@ -20,3 +20,4 @@ pub mod Chain
 pub mod Pairing
 pub mod Comparing
 pub mod Asking
+pub mod Nexts

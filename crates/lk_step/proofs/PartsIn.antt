@@ -1,5 +1,5 @@
 -- Rows under way by numbers.
-use Rattle.std.proofs.Common.{ℕ, ◌≡◌, ◌≢◌, ◌<◌, ◌≤◌, ◌+◌, inl, Bool, true, false, if◌then◌else◌, List, [], ◌∷◌, ◌++◌, length, map, refl, sym, subst, ap, ◌∙◌, arith}
+use Rattle.std.proofs.Common.{ℕ, suc, ◌≡◌, ◌≢◌, ◌<◌, ◌≤◌, ◌+◌, inl, Bool, true, false, if◌then◌else◌, List, [], ◌∷◌, ◌++◌, length, map, refl, sym, subst, ap, ◌∙◌, arith}
 use Rattle.std.specs.Prelude.{All}
 use Rattle.std.proofs.lemmas.List.Elements.{All-weaker, All-nil, All-push, All-same}
 use Rattle.lk_tree.specs.Tree.{Tree}
@@ -25,7 +25,7 @@ use Rattle.lk_step.specs.declared.step.Step.{Step}
 use Rattle.lk_step.specs.declared.step.Row.{Row}
 use Rattle.lk_step.specs.Steps as steps
 use Rattle.lk_step.specs.Steps.{claim_of, premises_of, is_of_one, StepHolds}
-use Rattle.lk_step.specs.Rows.{IsAnswered, IsClaimed, claim_by, IsThere}
+use Rattle.lk_step.specs.Rows.{IsAnswered, IsClaimed, claim_by, IsThere, IsClaim}
 use Rattle.lk_step.specs.Meaning.{step_by, step_at, IsStepIn, IsRowIn}
 use Rattle.lk_step.specs.Runs.{AreOne}
 use Rattle.lk_step.specs.Shaped.{IsShapedAnswer}
@@ -249,3 +249,9 @@ part_adds w c old new step rule a b cs is l r ps ea eb ecs holds asks ss =
     (ap (λ z. step_by c z step) is
     ∙ ap (λ z. steps.reduction (reduction_rule_of rule) z (tree_at c step.right) (claims_at c step.premises.items)) ea
     ∙ ap (λ z. steps.reduction (reduction_rule_of rule) a z (claims_at c step.premises.items)) eb ∙ ap (steps.reduction (reduction_rule_of rule) a b) ecs) holds asks ss
+
+-- a tree that is its own Core: nothing has to be said
+pub itself_whole : (w : Place) (most : ℕ) (c : Contents) (r : Row) (e : Tree) → IsEmpty r → (k : IsClaim w (core e) most) → k.answer ≡ e → (n : ℕ) → k.cost ≡ suc n → IsWhole w c (core e) r
+itself_whole w most c r e empty k same n paid =
+    part_whole w c r (core e) e k.cost 0 [] (subst (λ u. IsAnswered w (core e) u k.cost) same k.answered) tt (omega arith)
+    (part_these w c r [] (reduces e e ∷ []) 0 0 (inl (same_self e), tt) (omega arith) (part_none w c r empty))

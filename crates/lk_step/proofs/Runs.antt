@@ -2,7 +2,7 @@
 use Rattle.std.proofs.Common.{ℕ, zero, suc, ◌≡◌, ◌+◌, ◌-◌, Option, Some, None, refl, sym, subst, ◌∙◌, arith}
 use Rattle.lk_rulebook.specs.Place.{Place, Entry}
 use Rattle.lk_questions.specs.Query.{Query, AnswerTo}
-use Rattle.lk_questions.specs.Program.{Program, done, refuse, ask, look, ◌>>=◌}
+use Rattle.lk_questions.specs.Program.{Program, done, refuse, ask, look, asked, ◌>>=◌}
 use Rattle.lk_questions.specs.Answer.{Outcome, answered, refused, spent, after, and_then, looked_up, outcome_of, plain_answer}
 use Rattle.lk_questions.specs.Laws.{IsSteady}
 use Rattle.lk_questions.specs.Table.{steps}
@@ -89,3 +89,12 @@ runs_on w (ask q f) k v n h =
 runs_on w (look r c f) k v n h =
     let s : RunsOn w (f h.0) k v n = runs_on w (f h.0) k v n h.2 in
     record { value = s.value; first = s.first; second = s.second; runs = (h.0, h.1, s.runs); then_runs = s.then_runs; paid = s.paid }
+
+-- the run of one question
+pub runs_asked : (w : Place) (q : Query) (v : AnswerTo q) (n : ℕ) → Runs w (asked q) v n → IsAnswered w q v n
+runs_asked w q v n h =
+    let value : h.0 ≡ v = h.4.0 in
+    let rest : h.2 ≡ 0 = h.4.1 in
+    let paid : n ≡ h.1 + h.2 = h.5 in
+    let same : h.1 ≡ n = omega arith in
+    subst (λ m. IsAnswered w q v m) same (subst (λ u. IsAnswered w q u h.1) value h.3)

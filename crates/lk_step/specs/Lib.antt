@@ -14,3 +14,5 @@ pub mod Tells
 pub mod Makes
 pub mod Pairs
 pub mod Chains
+pub mod Heads
+pub mod Nexts
