@@ -1,0 +1,4 @@
+mod Redexes
+mod QuotientRuns
+mod Arguments
+mod QuotientRows

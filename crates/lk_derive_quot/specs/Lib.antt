@@ -1,0 +1,2 @@
+pub mod Eliminators
+pub mod Quotients
