@@ -1,10 +1,10 @@
 -- Arguments behind a tree that takes a step.
-use Rattle.std.proofs.Common.{ℕ, suc, ◌≡◌, inl, Bool, true, false, List, [], ◌∷◌, length, refl, sym, subst, ap, ◌∙◌, arith}
+use Rattle.std.proofs.Common.{ℕ, ◌≡◌, inl, true, false, List, [], ◌∷◌, length, refl, sym, subst, ap, ◌∙◌, arith}
 use Rattle.lk_tree.specs.Tree.{Tree}
 use Rattle.lk_tree.specs.Spine.{apply}
 use Rattle.lk_tree.specs.WellFormed.{IsWellFormed}
 use Rattle.lk_rulebook.specs.Place.{Place}
-use Rattle.lk_rulebook.specs.Claims.{Claim, reduces}
+use Rattle.lk_rulebook.specs.Claims.{reduces}
 use Rattle.lk_questions.specs.Steps.{is_same_tree}
 use Rattle.lk_claims.proofs.Facts.{same_self}
 use Rattle.lk_claims.proofs.Pieces.{same_tree}
@@ -13,7 +13,7 @@ use Rattle.lk_store.specs.Contents.{Contents}
 use Rattle.lk_step.specs.declared.step.Row.{Row}
 use Rattle.lk_step.specs.Steps.{reduction, StepHolds}
 use Rattle.lk_step.specs.Rows.{IsThere}
-use Rattle.lk_step.specs.Parts.{AreThere, States}
+use Rattle.lk_step.specs.Parts.{States}
 use Rattle.lk_step.proofs.PartsIn.{part_states_there, apart}
 use Rattle.lk_step.proofs.ReductionSteps.{reduction_steps}
 use Rattle.lk_derive_quot.specs.Quotients.{AreBefore, StatesBehind}

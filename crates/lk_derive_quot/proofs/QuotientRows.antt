@@ -1,5 +1,5 @@
 -- Rows of Core at a constant of quotients, by numbers.
-use Rattle.std.proofs.Common.{ℕ, suc, ◌≡◌, ◌<◌, ◌≤◌, ◌+◌, List, [], ◌∷◌, ◌++◌, length, take, drop, Option, Some, None, refl, sym, subst, ap, ◌∙◌, arith, inl}
+use Rattle.std.proofs.Common.{ℕ, suc, ◌≡◌, ◌<◌, ◌≤◌, ◌+◌, [], ◌∷◌, length, take, drop, Option, Some, None, sym, subst, ap, ◌∙◌, arith, inl}
 use Rattle.std.proofs.Common.{take-append-drop}
 use Rattle.std.specs.Prelude.{Result, OnOk}
 use Rattle.lk_tree.specs.Tree.{Name, Tree, const, app}
@@ -31,7 +31,7 @@ use Rattle.lk_step.proofs.Parts.{first}
 use Rattle.lk_step.proofs.PartsIn.{part_none, part_stays, part_these, part_whole, itself_whole}
 use Rattle.lk_derive_quot.specs.declared.eliminators.Eliminator.{Eliminator}
 use Rattle.lk_derive_quot.specs.Eliminators.{eliminator_if, reach, eliminator_rule}
-use Rattle.lk_derive_quot.specs.Quotients.{major_at, reduct_at, IsRedexAt, AtMajor, OnElement, Takes, AtForm, AreBefore, StatesBehind, AtStep, IsApplied, AreEnds}
+use Rattle.lk_derive_quot.specs.Quotients.{major_at, reduct_at, AtMajor, OnElement, AtForm, AreBefore, StatesBehind, AtStep, IsApplied, AreEnds}
 use Rattle.lk_derive_quot.proofs.Redexes.{Reaches, reaches, IsFineRedex, redex_fine}
 use Rattle.lk_derive_quot.proofs.QuotientRuns.{major_is, no_major, no_major_stays, at_major, takes_next}
 

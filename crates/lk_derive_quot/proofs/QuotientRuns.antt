@@ -1,20 +1,16 @@
 -- Runs of Core at a constant of quotients.
-use Rattle.std.proofs.Common.{ℕ, suc, ◌≡◌, ◌<◌, ◌≤◌, ◌+◌, Bool, true, false, List, [], ◌∷◌, ◌++◌, length, take, drop, Option, Some, None, refl, sym, subst, ap, ◌∙◌, arith, if◌then◌else◌}
-use Rattle.std.proofs.Common.{take-append-drop}
+use Rattle.std.proofs.Common.{ℕ, suc, ◌≡◌, ◌+◌, Bool, true, false, List, [], ◌∷◌, Option, Some, None, refl, sym, subst, ap, ◌∙◌, arith, if◌then◌else◌}
 use Rattle.lk_tree.specs.Tree.{Name, Level, Tree, const, app}
 use Rattle.lk_tree.specs.Mentions.{same_name}
 use Rattle.lk_tree.specs.Spine.{apply, head, args}
-use Rattle.lk_tree.specs.WellFormed.{IsWellFormed, AllWellFormed}
 use Rattle.lk_tree.specs.declared.rule.Rule.TheVariants.{UnknownConstant}
-use Rattle.lk_tree.proofs.Spines.{well_formed_of_apply}
 use Rattle.lk_tree.proofs.Within.{apply_head_args}
 use Rattle.lk_rulebook.specs.Place.{Place, Entry, Kind, a_quot}
 use Rattle.lk_rulebook.specs.Names.{quot_mk, quot_lift, quot_ind}
-use Rattle.lk_rulebook.specs.Quotients.{IsQuot}
 use Rattle.lk_questions.specs.Answer.{later}
 use Rattle.lk_questions.specs.Query.{core, whnf}
 use Rattle.lk_questions.specs.Program.{Program, done, look, asked}
-use Rattle.lk_questions.specs.Erased.{Steps, a_tree, erased}
+use Rattle.lk_questions.specs.Erased.{a_tree, erased}
 use Rattle.lk_questions.specs.Core.{core_applied, core_steps}
 use Rattle.lk_questions.specs.Iota.{core_constant}
 use Rattle.lk_questions.specs.Quotients.{by_quot, at_mk, core_quot}
@@ -24,10 +20,9 @@ use Rattle.lk_step.specs.Heads.{IsQuotientHead}
 use Rattle.lk_step.specs.Nexts.{core_asked, form_asked}
 use Rattle.lk_step.specs.Rows.{IsAnswered, IsClaim}
 use Rattle.lk_step.specs.Runs.{Runs, IsOpened}
-use Rattle.lk_step.specs.Told.{IsAnsweredWithin}
 use Rattle.lk_step.proofs.Runs.{opened_so, runs_asked}
 use Rattle.lk_step.proofs.Quiet.{found_next}
-use Rattle.lk_derive_quot.specs.Quotients.{major_at, reduct_at, IsRedexAt, AtMajor, OnElement, Takes}
+use Rattle.lk_derive_quot.specs.Quotients.{major_at, reduct_at, IsRedexAt, AtMajor, Takes}
 use Rattle.lk_derive_quot.proofs.Redexes.{quot_program}
 
 -- a constant of quotients without arguments is its own Core

@@ -1,15 +1,15 @@
 -- Quot.lift and Quot.ind at their major premises: their steps hold.
-use Rattle.std.proofs.Common.{ℕ, ◌≡◌, ◌≤◌, Bool, true, false, List, [], ◌∷◌, length, take, drop, Option, Some, None, refl, sym, subst, ap, ◌∙◌, arith, if◌then◌else◌}
+use Rattle.std.proofs.Common.{◌≡◌, ◌≤◌, Bool, true, false, List, [], ◌∷◌, length, take, drop, Some, None, refl, sym, subst, arith, if◌then◌else◌}
 use Rattle.std.specs.Prelude.{slice_get}
 use Rattle.lk_tree.specs.Tree.{Name, Level, Tree, const, app}
 use Rattle.lk_tree.specs.Mentions.{same_name}
-use Rattle.lk_tree.specs.Spine.{apply, head, args}
+use Rattle.lk_tree.specs.Spine.{apply}
 use Rattle.lk_tree.specs.WellFormed.{IsWellFormed, AllWellFormed}
 use Rattle.lk_rulebook.specs.Place.{Place}
 use Rattle.lk_rulebook.specs.Names.{quot_mk, quot_lift, quot_ind}
 use Rattle.lk_rulebook.specs.Quotients.{IsQuot}
 use Rattle.lk_rulebook.specs.Claims.{reduces}
-use Rattle.lk_questions.specs.Program.{Program, done}
+use Rattle.lk_questions.specs.Program.{done}
 use Rattle.lk_questions.specs.Quotients.{core_lift, core_ind, core_quot}
 use Rattle.lk_claims.proofs.Pieces.{same_name_right}
 use Rattle.lk_quot.specs.Redexes.{PlainRedex, lift_redex, ind_redex, redex_of, core_redex}

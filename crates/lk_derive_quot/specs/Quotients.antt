@@ -7,7 +7,7 @@ use Rattle.lk_tree.specs.WellFormed.{IsWellFormed}
 use Rattle.lk_rulebook.specs.Place.{Place}
 use Rattle.lk_rulebook.specs.Names.{quot_mk}
 use Rattle.lk_rulebook.specs.Quotients.{IsQuot}
-use Rattle.lk_rulebook.specs.Claims.{Claim, reduces}
+use Rattle.lk_rulebook.specs.Claims.{reduces}
 use Rattle.lk_questions.specs.Query.{core, whnf}
 use Rattle.lk_questions.specs.Erased.{a_tree, erased}
 use Rattle.lk_questions.specs.Quotients.{core_quot}
@@ -35,12 +35,6 @@ reduct_at w last e W = core_asked (erased w a_tree last (form_rest e (redex_in e
 pub record IsNamed (c : Name) (e : Tree) : Type 0 where
   pub levels : List Level
   pub head_is : head e ≡ const c levels
-
--- the head of e is a constant
-pub record HasConstant (e : Tree) : Type 0 where
-  pub name : Name
-  pub levels : List Level
-  pub head_is : head e ≡ const name levels
 
 -- e is Quot.lift or Quot.ind at the major premise m, by a quotient unit
 pub record IsRedexAt (w : Place) (c : Name) (e m : Tree) : Type 0 where

@@ -1,23 +1,17 @@
 //! What `Core` of a constant of quotients asks for: the weak head form of the major premise, and `Core` of what comes of that.
 
 ghost use Rattle.std.specs.Prelude.{◌≡◌, ◌<◌, IfOk, IfSome, length, option_map};
-ghost use Rattle.lk_tree.specs.Tree.{Name, Level, const};
-ghost use Rattle.lk_tree.specs.Spine.{head as head_of};
-ghost use Rattle.std.specs.Prelude.{List};
 ghost use Rattle.lk_store.specs.Contents.{name_at, tree_at};
 ghost use Rattle.lk_step.specs.Nexts.{core_number, form_number};
 ghost use Rattle.lk_step.specs.Told.{Leaves};
-ghost use Rattle.lk_derive_quot.specs.Quotients.{IsNamed, HasConstant, major_at, reduct_at};
+ghost use Rattle.lk_derive_quot.specs.Quotients.{IsNamed, major_at, reduct_at};
 
 use lk_ask::next::Next;
 use lk_ask::query::Query;
 use lk_quot::core_form::{QuotNext, begin, resume_term};
 use lk_quot::sheet::QuotSheet;
-use lk_spine::head;
 use lk_step::Derives;
 use lk_store::memory::NoMemory;
-use lk_store::node::Node;
-use lk_store::terms::Terms;
 
 /// What is asked for next, where that is `Whnf`.
 fn form_of_next(next: QuotNext) -> Option<u64>
@@ -48,21 +42,6 @@ fn core_of_next(next: QuotNext) -> Option<u64>
         },
         Next::Done(_) => None,
         Next::No(_) => None,
-    }
-}
-
-/// The name of the constant at the head of a term.
-pub(crate) fn head_name<T: Terms>(terms: &T, e: u64) -> u64
-    requires e_in { e < length (T.contents terms.now).trees }
-    requires constant { HasConstant (tree_at (T.contents terms.now) e) }
-    ensures known { result < length (T.contents terms.now).names }
-    ensures is { let c = T.contents terms.now in (name : Name) (levels : List Level)
-        → head_of (tree_at c e) ≡ const name levels → name_at c result ≡ name }
-{
-    let front = head(terms, e);
-    match terms.view(front) {
-        Node::Const(name, _) => name,
-        _ => unreachable!(),
     }
 }
 

@@ -15,12 +15,12 @@ ghost use Rattle.lk_derive_quot.specs.Quotients.{AtMajor, AtForm, AtStep};
 use crate::behind::state_behind;
 use crate::eliminators::{eliminator_of, rule_of};
 use crate::ends::{Ends, ends_of};
-use crate::majors::{head_name, major_of, reduct_of};
-use lk_step::under_way::{add_step, ask_form, one_reduction, then_core};
+use crate::majors::{major_of, reduct_of};
+use lk_step::heads::head_name;
+use lk_step::under_way::{add_step, ask_form, empty_row, one_reduction, then_core};
 use lk_step::{Derives, Row};
 use lk_store::memory::NoMemory;
 use lk_trace::ReductionRule;
-use std::alloc::Global;
 
 /// Goes on with the step of an eliminator, the arguments behind it, and `Core` of what comes of that.
 fn step_row<D: Derives>(
@@ -155,16 +155,6 @@ fn fill_row<D: Derives>(
     match major_of(derives, name, e)? {
         Some(major) => major_row(derives, row, name, e, major, enough),
         None => Ok(()),
-    }
-}
-
-/// A row with nothing in it.
-fn empty_row(alloc: Global) -> Row
-    ensures { IsEmpty result }
-{
-    Row {
-        asks: Vec::new(alloc),
-        steps: Vec::new(alloc),
     }
 }
 

@@ -4,6 +4,12 @@ use Rattle.lk_tree.specs.Tree.{Name, Level, Tree, const}
 use Rattle.lk_tree.specs.Spine.{head}
 use Rattle.lk_rulebook.specs.Place.{Place, Entry, Recursor, a_quot, a_rec}
 
+-- the head of e is a constant
+pub record HasConstant (e : Tree) : Type 0 where
+  pub name : Name
+  pub levels : List Level
+  pub head_is : head e ≡ const name levels
+
 -- the head of e is a constant that a quotient unit gives
 pub record IsQuotientHead (w : Place) (e : Tree) : Type 0 where
   pub name : Name

@@ -4,6 +4,7 @@
 
 mod answers;
 pub mod derives;
+pub mod heads;
 mod laws;
 pub mod making;
 pub mod pairs;

@@ -10,7 +10,7 @@ ghost use Rattle.lk_trace.specs.Meaning.{reduction_rule_of};
 ghost use Rattle.lk_premises.specs.Claims.{claims_at, AreClaimsIn};
 ghost use Rattle.lk_step.specs.Steps.{reduction as plain_step, StepHolds};
 ghost use Rattle.lk_step.specs.Told.{IsAnsweredWithin, Leaves};
-ghost use Rattle.lk_step.specs.Parts.{are_linked, States, Chains, AsksCore, AsksForm};
+ghost use Rattle.lk_step.specs.Parts.{IsEmpty, are_linked, States, Chains, AsksCore, AsksForm};
 ghost use Rattle.lk_step.specs.Parts.{FollowsCore, FollowsForm, StepGoes};
 
 use crate::derives::{core_of, form_of};
@@ -21,6 +21,16 @@ use lk_store::memory::NoMemory;
 use lk_store::terms::Terms;
 use lk_trace::{ReductionRule, Rule};
 use std::alloc::Global;
+
+/// A row with nothing in it.
+pub fn empty_row(alloc: Global) -> Row
+    ensures { IsEmpty result }
+{
+    Row {
+        asks: Vec::new(alloc),
+        steps: Vec::new(alloc),
+    }
+}
 
 /// Adds a question.
 fn push_question(row: &mut Row, query: Query<u64>) -> Result<(), NoMemory>

@@ -1,4 +1,4 @@
-use Rattle.std.proofs.Common.{◌≡◌, Some, refl, sym, subst, ap, ◌∙◌, arith}
+use Rattle.std.proofs.Common.{◌≡◌, sym, subst, ap, ◌∙◌}
 use Rattle.lk_tree.specs.Tree.{Tree, Name}
 use Rattle.lk_rulebook.specs.Place.{Place}
 use Rattle.lk_rulebook.specs.WellStated.{WellStated}
@@ -8,7 +8,7 @@ use Rattle.lk_trace.specs.Meaning.{reduction_rule_of}
 use Rattle.lk_derive_quot.specs.declared.eliminators.Eliminator.{Eliminator}
 use Rattle.lk_derive_quot.specs.Eliminators.{reach, eliminator_rule}
 use Rattle.lk_derive_quot.specs.Quotients.{AreEnds, AtStep}
-use Rattle.lk_derive_quot.proofs.QuotientRows.{element_applied, element_enough, at_step, step_moved}
+use Rattle.lk_derive_quot.proofs.QuotientRows.{at_step, step_moved}
 use Rattle.lk_derive_quot.proofs.rows.element_row.Goals as goal
 
 pub step_row-requires-clause-stated : goal.step_row-requires-clause-stated

@@ -1,10 +1,9 @@
 use Rattle.std.proofs.Common.{◌≡◌, Option, Some, None, refl, sym, subst, ap, ◌∙◌}
 use Rattle.std.specs.Prelude.{ℕ, option_map}
-use Rattle.lk_tree.specs.Tree.{Tree, Name, const}
+use Rattle.lk_tree.specs.Tree.{Tree, const}
 use Rattle.lk_rulebook.specs.Place.{Place}
 use Rattle.lk_rulebook.specs.WellStated.{WellStated}
 use Rattle.lk_store.specs.Contents.{Contents, name_at, tree_at}
-use Rattle.lk_step.specs.Heads.{IsQuotientHead}
 use Rattle.lk_derive_quot.specs.Quotients.{major_at, AtMajor}
 use Rattle.lk_derive_quot.proofs.QuotientRows.{stays_whole, major_there, major_moved}
 use Rattle.lk_derive_quot.proofs.rows.fill_row.Goals as goal
