@@ -5,17 +5,18 @@ use Rattle.std.proofs.lemmas.List.Elements.{All-weaker, All-nil, All-push, All-s
 use Rattle.lk_tree.specs.Tree.{Tree}
 use Rattle.lk_tree.specs.WellFormed.{IsWellFormed}
 use Rattle.lk_rulebook.specs.Place.{Place}
-use Rattle.lk_rulebook.specs.Claims.{Claim, reduces}
+use Rattle.lk_rulebook.specs.Claims.{Claim, types, reduces, equals}
 use Rattle.lk_questions.specs.Query as plain
-use Rattle.lk_questions.specs.Query.{AnswerTo, core, whnf}
+use Rattle.lk_questions.specs.Query.{AnswerTo, core, whnf, infer, same}
 use Rattle.lk_questions.specs.Sound.{IsAskable}
 use Rattle.lk_questions.specs.Steps.{is_same_tree}
 use Rattle.lk_claims.proofs.Facts.{same_self}
 use Rattle.lk_claims.proofs.Pieces.{same_tree}
 use Rattle.lk_written.specs.Line.{ReductionRule, chain_rule}
 use Rattle.lk_store.specs.Contents.{Contents, tree_at, Extends}
+use Rattle.lk_store.proofs.Made.{Extends-self}
 use Rattle.lk_ask.specs.declared.query.Query.{Query}
-use Rattle.lk_ask.specs.declared.query.Query.TheVariants.{Core, Whnf}
+use Rattle.lk_ask.specs.declared.query.Query.TheVariants.{Core, Whnf, Infer, Same}
 use Rattle.lk_ask.specs.Questions.{query_of, IsKnownQuery}
 use Rattle.lk_trace.specs.declared.rules.ReductionRule as trace
 use Rattle.lk_trace.specs.declared.rules.Rule.TheVariants.{Reduction}
@@ -29,11 +30,11 @@ use Rattle.lk_step.specs.Rows.{IsAnswered, IsClaimed, claim_by, IsThere, IsClaim
 use Rattle.lk_step.specs.Meaning.{step_by, step_at, IsStepIn, IsRowIn}
 use Rattle.lk_step.specs.Runs.{AreOne}
 use Rattle.lk_step.specs.Shaped.{IsShapedAnswer}
-use Rattle.lk_step.specs.Told.{IsCore, IsForm}
+use Rattle.lk_step.specs.Told.{IsCore, IsForm, IsType}
 use Rattle.lk_step.proofs.Runs.{one_answer}
 use Rattle.lk_step.proofs.Shapes.{shaped_answer}
 use Rattle.lk_step.proofs.ReductionSteps.{reduction_steps}
-use Rattle.lk_step.specs.Parts.{AreThere, IsPart, IsPartIn, Asks, States, IsWhole, IsEmpty, AsksCore, AsksForm, are_linked, Chains, FollowsCore, FollowsForm, StepGoes}
+use Rattle.lk_step.specs.Parts.{AreThere, IsPart, IsPartIn, Asks, States, IsWhole, IsEmpty, AsksCore, AsksForm, AsksType, AsksSame, are_linked, Chains, FollowsCore, FollowsForm, StepGoes}
 use Rattle.lk_step.proofs.Parts.{none, asks_more, states_more, states_these, row_of_part, all_of, first, behind}
 use Rattle.lk_step.proofs.Steady.{map_same, step_same, step_known, query_same, query_known}
 
@@ -163,6 +164,20 @@ pub asks_form_more : (w : Place) (c d : Contents) → Extends c d → (old new :
     AsksForm w c d old new (tree_at c n) (tree_at d v)
 asks_form_more w c d x old new n v lt told asks ss =
     record { cost = told.cost; answered = told.answered; asks = λ f. part_asks w c d x old new (Whnf n) (whnf (tree_at c n)) (tree_at d v) told.cost lt refl f told.answered tt asks ss }
+
+-- asking for a type
+pub asks_type_more : (w : Place) (c d : Contents) → Extends c d → (old new : Row) (n v : ℕ) → n < length c.trees → IsType w (tree_at c n) (tree_at d v) → new.asks.items ≡ old.asks.items ++ Infer n ∷ [] → new.steps ≡ old.steps →
+    AsksType w c d old new (tree_at c n) (tree_at d v)
+asks_type_more w c d x old new n v lt told asks ss =
+    record { cost = told.cost; answered = told.answered; asks = λ f. part_asks w c d x old new (Infer n) (infer (tree_at c n)) (tree_at d v) told.cost lt refl f told.answered tt asks ss }
+
+-- asking whether two trees are the same, which they are
+pub asks_same_one : (c : Contents) (r : Row) (a b : Tree) → is_same_tree a b ≡ true → AsksSame c r r a b
+asks_same_one c r a b t = record { asks = λ w cost fa fb h. part_asks_none w c c (Extends-self c) r (equals a b) cost t }
+
+pub asks_same_more : (c : Contents) (old new : Row) (a b : ℕ) → a < length c.trees → b < length c.trees → new.asks.items ≡ old.asks.items ++ Same a b ∷ [] → new.steps ≡ old.steps → AsksSame c old new (tree_at c a) (tree_at c b)
+asks_same_more c old new a b la lb asks ss =
+    record { asks = λ w cost fa fb h. part_asks w c c (Extends-self c) old new (Same a b) (same (tree_at c a) (tree_at c b)) true cost (la, lb) refl (fa, fb) h refl asks ss }
 
 -- one reduction after another
 linked_there : (xs : List Claim) (x y z : Tree) → are_linked x y z ≡ true → AreThere xs (reduces x y ∷ reduces y z ∷ []) → IsThere xs (reduces x z)

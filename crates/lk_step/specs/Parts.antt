@@ -4,9 +4,9 @@ use Rattle.lk_tree.specs.Tree.{Tree}
 use Rattle.lk_tree.specs.WellFormed.{IsWellFormed}
 use Rattle.lk_rulebook.specs.Place.{Place}
 use Rattle.lk_rulebook.specs.WellStated.{WellStated}
-use Rattle.lk_rulebook.specs.Claims.{Claim, reduces}
+use Rattle.lk_rulebook.specs.Claims.{Claim, types, reduces, equals}
 use Rattle.lk_questions.specs.Query as plain
-use Rattle.lk_questions.specs.Query.{core, whnf}
+use Rattle.lk_questions.specs.Query.{core, whnf, infer, same}
 use Rattle.lk_questions.specs.Steps.{is_same_tree}
 use Rattle.lk_written.specs.Line.{ReductionRule}
 use Rattle.lk_store.specs.Contents.{Contents, tree_at}
@@ -72,6 +72,17 @@ pub record AsksForm (w : Place) (c d : Contents) (old new : Row) (e v : Tree) : 
   pub cost : ℕ
   pub answered : IsAnswered w (whnf e) v cost
   pub asks : IsWellFormed e → Asks w c d old new (reduces e v) cost
+
+-- the type of e is T, and the row states it
+pub record AsksType (w : Place) (c d : Contents) (old new : Row) (e T : Tree) : Type 0 where
+  pub cost : ℕ
+  pub answered : IsAnswered w (infer e) T cost
+  pub asks : IsWellFormed e → Asks w c d old new (types e T) cost
+
+-- where a and b are the same, the row states it
+pub record AsksSame (c : Contents) (old new : Row) (a b : Tree) : Type 0 where
+  pub asks : (w : Place) (cost : ℕ) → IsWellFormed a → IsWellFormed b →
+      IsAnswered w (same a b) true cost → Asks w c c old new (equals a b) cost
 
 -- no step is needed for x >> z from x >> y and y >> z
 abbrev pub are_linked : Tree → Tree → Tree → Bool

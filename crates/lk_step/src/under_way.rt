@@ -4,16 +4,17 @@ ghost use Rattle.std.specs.Prelude.{◌≡◌, ◌<◌, ◌++◌, ◌∷◌, [],
 ghost use Rattle.lk_tree.specs.Tree.{Tree};
 ghost use Rattle.lk_rulebook.specs.Place.{Place};
 ghost use Rattle.lk_rulebook.specs.Claims.{Claim as PlainClaim, reduces};
-ghost use Rattle.lk_questions.specs.Query.{core, whnf};
+ghost use Rattle.lk_questions.specs.Query.{core, whnf, infer};
 ghost use Rattle.lk_store.specs.Contents.{Contents, tree_at};
 ghost use Rattle.lk_trace.specs.Meaning.{reduction_rule_of};
 ghost use Rattle.lk_premises.specs.Claims.{claims_at, AreClaimsIn};
 ghost use Rattle.lk_step.specs.Steps.{reduction as plain_step, StepHolds};
 ghost use Rattle.lk_step.specs.Told.{IsAnsweredWithin, Leaves};
 ghost use Rattle.lk_step.specs.Parts.{IsEmpty, are_linked, States, Chains, AsksCore, AsksForm};
+ghost use Rattle.lk_step.specs.Parts.{AsksType, AsksSame};
 ghost use Rattle.lk_step.specs.Parts.{FollowsCore, FollowsForm, StepGoes};
 
-use crate::derives::{core_of, form_of};
+use crate::derives::{core_of, form_of, type_of};
 use crate::{Derives, Row, Step};
 use lk_ask::query::Query;
 use lk_premises::{Claim, Relation, same_tree};
@@ -204,6 +205,41 @@ pub fn ask_form<D: Derives>(
     }
     push_question(row, Query::Whnf(e))?;
     Ok(v)
+}
+
+/// Asks for the type, and says that the tree is of it.
+pub fn ask_type<D: Derives>(
+    derives: &mut D,
+    row: &mut Row,
+    e: u64,
+    enough: u128,
+) -> Result<u64, NoMemory>
+    requires e_in { e < length (D.contents derives.old).trees }
+    requires answered { IsAnsweredWithin (D.sight (D.rest derives.old)).basis.place
+        (infer (tree_at (D.contents derives.old) e)) enough }
+    ensures leaves { Leaves D.contents D.rest D.sight derives.old derives.new }
+    ensures known { IfOk result (λ v. v < length (D.contents derives.new).trees) }
+    ensures asks { let t = tree_at (D.contents derives.old) in IfOk result (λ v. AsksType
+        (D.sight (D.rest derives.old)).basis.place (D.contents derives.old)
+        (D.contents derives.new) row.old row.new (t e) (tree_at (D.contents derives.new) v)) }
+{
+    let v = type_of(derives, e, enough)?;
+    push_question(row, Query::Infer(e))?;
+    Ok(v)
+}
+
+/// Asks whether two trees are the same, of which it is known, and says that they are.
+pub fn ask_same<T: Terms>(terms: &T, row: &mut Row, a: u64, b: u64) -> Result<(), NoMemory>
+    requires a_in { a < length (T.contents terms.now).trees }
+    requires b_in { b < length (T.contents terms.now).trees }
+    ensures { let c = T.contents terms.now in
+        OnOk result (AsksSame c row.old row.new (tree_at c a) (tree_at c b)) }
+{
+    if same_tree(terms, a, b) {
+        return Ok(());
+    }
+    push_question(row, Query::Same(a, b))?;
+    Ok(())
 }
 
 /// Says that a tree reduces to the weak head form without unfolding of another, to which it is stated to reduce.
