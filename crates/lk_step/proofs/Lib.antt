@@ -21,3 +21,6 @@ pub mod Pairing
 pub mod Comparing
 pub mod Asking
 pub mod Nexts
+pub mod Computing
+pub mod Driven
+pub mod Stating

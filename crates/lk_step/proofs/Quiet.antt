@@ -21,7 +21,7 @@ quiet_tested : (o : Option Bool) → IsQuiet (tested o)
 quiet_tested (Some b) = tt
 quiet_tested None = tt
 
-quiet_sort_one : (e : Tree) → IsQuiet (is_sort_one e)
+pub quiet_sort_one : (e : Tree) → IsQuiet (is_sort_one e)
 quiet_sort_one (sort l) = quiet_tested (level_test l (succ_level zero_level))
 quiet_sort_one _ = tt
 

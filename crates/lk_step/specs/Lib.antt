@@ -16,3 +16,5 @@ pub mod Pairs
 pub mod Chains
 pub mod Heads
 pub mod Nexts
+pub mod Computed
+pub mod Driving

@@ -7,6 +7,7 @@ pub mod derives;
 pub mod heads;
 mod laws;
 pub mod making;
+pub mod operations;
 pub mod pairs;
 mod step;
 pub mod under_way;
