@@ -1,7 +1,8 @@
 //! Operations on numbers: what the literal step of a term computes, and that a row states it.
 
-ghost use Rattle.std.specs.Prelude.{◌≡◌, ◌<◌, ℕ, suc, [], ◌∷◌, Option, Some, IfOk, IfSome, OnOk, length, option_map};
-ghost use Rattle.lk_tree.specs.Tree.{Tree, const, app};
+ghost use Rattle.std.specs.Prelude.{◌≡◌, ◌<◌, ℕ, suc, [], ◌∷◌, Option, IfOk, IfSome, OnOk};
+ghost use Rattle.std.specs.Prelude.{length, option_map};
+ghost use Rattle.lk_tree.specs.Tree.{Tree, const};
 ghost use Rattle.lk_tree.specs.Spine.{head as head_of, args as args_of};
 ghost use Rattle.lk_tree.specs.WellFormed.{IsWellFormed};
 ghost use Rattle.lk_rulebook.specs.Claims.{reduces};
@@ -14,7 +15,6 @@ ghost use Rattle.lk_premises.specs.Claims.{claims_at, AreClaimsIn};
 ghost use Rattle.lk_step.specs.Runs.{Runs};
 ghost use Rattle.lk_step.specs.Told.{Leaves};
 ghost use Rattle.lk_step.specs.Tests.{IsRun};
-ghost use Rattle.lk_step.specs.Parts.{Asks};
 ghost use Rattle.lk_step.specs.Computed.{ComesTo, StatesValue, AddsStep};
 ghost use Rattle.lk_step.specs.Computed.{HasOperands, AreOperands};
 ghost use Rattle.lk_step.specs.Driving.{IsDriven, IsGoing, IsOver, HasValue, IsConstantIf};
