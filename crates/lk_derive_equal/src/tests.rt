@@ -9,7 +9,7 @@ ghost use Rattle.lk_questions.specs.Same.{same_reduced};
 ghost use Rattle.lk_store.specs.Contents.{tree_at};
 ghost use Rattle.lk_step.specs.Meaning.{IsRowIn};
 ghost use Rattle.lk_step.specs.Told.{Leaves};
-ghost use Rattle.lk_step.specs.Tests.{IsYes, IsRun, AreReduced};
+ghost use Rattle.lk_step.specs.Tests.{IsYes, IsRun, NeverNo, AreReduced};
 ghost use Rattle.lk_step.specs.Tells.{Tells, Rests};
 
 use lk_step::{Derives, Row};
@@ -20,7 +20,7 @@ pub trait Test<D: Derives> {
     /// What it does with two terms.
     ghost line: { Tree → Tree → Line };
 
-    /// The row of two terms where it says yes; none where it says nothing of them.
+    /// The row of two terms where it says yes; none where it says nothing of them. It does not say no.
     fn tell(derives: &mut D, a: u64, b: u64, enough: u128) -> Result<Option<Row>, NoMemory>
         requires a_in { a < length (D.contents derives.old).trees }
         requires b_in { b < length (D.contents derives.old).trees }
@@ -28,6 +28,8 @@ pub trait Test<D: Derives> {
             (tree_at (D.contents derives.old) a) (tree_at (D.contents derives.old) b) }
         requires run { IsRun (D.sight (D.rest derives.old)).basis.place (line
             (tree_at (D.contents derives.old) a) (tree_at (D.contents derives.old) b)) enough }
+        requires never_no { NeverNo (D.sight (D.rest derives.old)).basis.place (line
+            (tree_at (D.contents derives.old) a) (tree_at (D.contents derives.old) b)) }
         ensures leaves { Leaves D.contents D.rest D.sight derives.old derives.new }
         ensures known { IfOk result (λ r. IfSome r (IsRowIn (D.contents derives.new))) }
         ensures tells { let t = tree_at (D.contents derives.old) in

@@ -1,31 +1,19 @@
 -- Tests that do not say no: whoever comes behind them is told yes.
-use Rattle.std.proofs.Common.{ℕ, ◌≡◌, ◌+◌, ◌<◌, Bool, true, false, Option, Some, None, refl, sym, ◌∙◌, subst, arith}
+use Rattle.std.proofs.Common.{ℕ, ◌≡◌, ◌+◌, ◌<◌, Bool, true, false, Option, Some, None, refl, sym, subst, arith}
 use Rattle.lk_rulebook.specs.Place.{Place}
-use Rattle.lk_questions.specs.Program.{Program, done, refuse, ask, look}
+use Rattle.lk_questions.specs.Program.{Program}
 use Rattle.lk_questions.specs.Pairs.{Line, otherwise, ◌or_else◌}
-use Rattle.lk_step.specs.Runs.{Runs, RunsOn, AreOne}
+use Rattle.lk_step.specs.Runs.{Runs, RunsOn}
 use Rattle.lk_step.specs.Tests.{IsRun, IsYes}
-use Rattle.lk_step.proofs.Runs.{one_answer, runs_on}
+use Rattle.lk_step.proofs.Runs.{runs_on, runs_one}
 use Rattle.lk_derive_eta.specs.Open.{IsNotNo}
-
--- a program gives one value
-pub runs_same : {A : Type 0} (w : Place) (p : Program A) (v u : A) (n m : ℕ) → Runs w p v n → Runs w p u m → v ≡ u
-runs_same w (done x) v u n m h k = sym h.0 ∙ k.0
-runs_same w (refuse r) v u n m h k = absurd h
-runs_same w (ask q f) v u n m h k =
-    let one : AreOne h.0 k.0 h.1 k.1 = one_answer w q h.0 k.0 h.1 k.1 h.3 k.3 in
-    runs_same w (f k.0) v u h.2 k.2 (subst (λ x. Runs w (f x) v h.2) one.answer h.4) k.4
-runs_same w (look r c f) v u n m h k =
-    let same : Some h.0 ≡ Some k.0 = sym h.1 ∙ k.1 in
-    let one : h.0 ≡ k.0 = cc in
-    runs_same w (f k.0) v u n m (subst (λ x. Runs w (f x) v n) one h.2) k.2
 
 abbrev pub open_run : {w : Place} {line : Line} {most : ℕ} → IsNotNo w line most → IsRun w line most
 open_run o = record { value = o.value; cost = o.cost; runs = o.runs; within = o.within }
 
 -- so it is however it was run
 pub never_no : {w : Place} {line : Line} {most : ℕ} → IsNotNo w line most → (n : ℕ) → Runs w line (Some false) n → ⊥
-never_no {w} {line} {most} o n h = o.not_no (runs_same w line o.value (Some false) o.cost n o.runs h)
+never_no {w} {line} {most} o n h = o.not_no (runs_one w line o.value (Some false) o.cost n o.runs h)
 
 -- what it says is yes
 pub says_yes : {w : Place} {line : Line} {most : ℕ} → IsNotNo w line most → (v : Option Bool) (n : ℕ) → Runs w line v n → (y : Bool) → Some y ≡ v → y ≡ true

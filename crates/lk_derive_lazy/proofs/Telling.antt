@@ -23,27 +23,16 @@ use Rattle.lk_lazy.specs.Heads.{unfolding_at}
 use Rattle.lk_lazy.specs.Lazies.{lazy_next, GoesLine}
 use Rattle.lk_lazy.specs.Sheets.{IsKnownLazy}
 use Rattle.lk_step.specs.declared.step.Row.{Row}
-use Rattle.lk_step.specs.Runs.{Runs, AreOne}
+use Rattle.lk_step.specs.Runs.{Runs}
 use Rattle.lk_step.specs.Meaning.{IsRowIn}
 use Rattle.lk_step.specs.Told.{Leaves}
 use Rattle.lk_step.specs.Tells.{IsBasisOf, Tells}
-use Rattle.lk_step.specs.Tests.{IsRun, ArePair, AreReduced}
+use Rattle.lk_step.specs.Tests.{IsRun, NeverNo, ArePair, AreReduced}
 use Rattle.lk_step.specs.Parts.{IsPartIn, IsEmpty}
-use Rattle.lk_step.proofs.Runs.{one_answer}
+use Rattle.lk_step.proofs.Runs.{runs_one}
 use Rattle.lk_step.proofs.PartsIn.{apart, part_none, part_these}
-use Rattle.lk_derive_lazy.specs.Turns.{NeverNo, SaysYes, Bears, pair_asked, pair_in}
+use Rattle.lk_derive_lazy.specs.Turns.{SaysYes, Bears, pair_asked, pair_in}
 use Rattle.lk_derive_lazy.proofs.Heads.{by_heads, at_heads, StepsOn, steps_on, Answers, Neither, reads}
-
--- a run comes to one value
-runs_one : {A : Type 0} (w : Place) (p : Program A) (v u : A) (m n : ℕ) → Runs w p v m → Runs w p u n → v ≡ u
-runs_one w (done x) v u m n h k = sym h.0 ∙ k.0
-runs_one w (refuse r) v u m n h k = absurd h
-runs_one w (ask q f) v u m n h k =
-    let one : AreOne h.0 k.0 h.1 k.1 = one_answer w q h.0 k.0 h.1 k.1 h.3 k.3 in
-    runs_one w (f k.0) v u h.2 k.2 (subst (λ x. Runs w (f x) v h.2) one.answer h.4) k.4
-runs_one w (look r c f) v u m n h k =
-    let one : h.0 ≡ k.0 = Some_inj (sym h.1 ∙ k.1) in
-    runs_one w (f k.0) v u m n (subst (λ x. Runs w (f x) v m) one h.2) k.2
 
 -- what is asked next, by numbers
 pub pair_known : (n : ℕ) (next : Next ℕ (LazySheet ℕ)) → IsKnownNext IsKnownLazy n next → IfSome (pair_in next) (IsKnownPair n)

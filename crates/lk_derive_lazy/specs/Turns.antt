@@ -28,10 +28,6 @@ pub record IsTurned (w : Place) (a x : Tree) : Type 0 where
   pub fine : IsWellFormed x
   pub holds : (a ≡ x → ⊥) → StepHolds w (reduction delta_rule a x [])
 
--- the line does not say no, however it is run
-abbrev pub NeverNo : Place → Line → Type 0
-NeverNo w line = (n : ℕ) → Runs w line (Some false) n → ⊥
-
 -- the line says yes, for less than this
 pub record SaysYes (w : Place) (line : Line) (most : ℕ) : Type 0 where
   pub cost : ℕ

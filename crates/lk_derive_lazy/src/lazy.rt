@@ -8,8 +8,8 @@ ghost use Rattle.lk_ask.specs.Sheets.{map_pair, IsKnownPair};
 ghost use Rattle.lk_step.specs.Meaning.{IsRowIn};
 ghost use Rattle.lk_step.specs.Told.{Leaves};
 ghost use Rattle.lk_step.specs.Tells.{Tells};
-ghost use Rattle.lk_step.specs.Tests.{IsRun, ArePair, AreReduced};
-ghost use Rattle.lk_derive_lazy.specs.Turns.{SaysYes, NeverNo, Bears, IsFirst};
+ghost use Rattle.lk_step.specs.Tests.{IsRun, NeverNo, ArePair, AreReduced};
+ghost use Rattle.lk_derive_lazy.specs.Turns.{SaysYes, Bears, IsFirst};
 
 use crate::alike::alike;
 use crate::arguments::by_arguments;

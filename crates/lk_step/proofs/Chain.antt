@@ -1,5 +1,5 @@
 -- A test of Same, and what comes behind it.
-use Rattle.std.proofs.Common.{ℕ, ◌≡◌, ◌+◌, ◌<◌, ◌≤◌, Bool, true, Option, Some, None, subst, arith}
+use Rattle.std.proofs.Common.{ℕ, ◌≡◌, ◌+◌, ◌<◌, ◌≤◌, Bool, true, false, Option, Some, None, subst, arith}
 use Rattle.lk_rulebook.specs.Place.{Place}
 use Rattle.lk_rulebook.specs.Claims.{Claim}
 use Rattle.lk_questions.specs.Program.{Program}
@@ -7,8 +7,8 @@ use Rattle.lk_questions.specs.Pairs.{Line, otherwise, ◌or_else◌}
 use Rattle.lk_store.specs.Contents.{Contents}
 use Rattle.lk_step.specs.declared.step.Row.{Row}
 use Rattle.lk_step.specs.Runs.{Runs, RunsOn}
-use Rattle.lk_step.proofs.Runs.{runs_on}
-use Rattle.lk_step.specs.Tests.{IsRun, IsYes}
+use Rattle.lk_step.proofs.Runs.{runs_on, runs_one}
+use Rattle.lk_step.specs.Tests.{IsRun, IsYes, NeverNo}
 use Rattle.lk_step.specs.Tells.{Tells, Rests}
 use Rattle.lk_step.proofs.Following.{run_first, yes_run}
 use Rattle.lk_step.proofs.Bases.{basis_more}
@@ -45,3 +45,11 @@ line_some w c line next claim r tells n h =
     let on : RunsOn w line (λ o. otherwise o next) true n = runs_on w line (λ o. otherwise o next) true n h in
     let paid : n ≡ on.first + on.second = on.paid in
     basis_more w c claim on.first n r (omega (arith, paid)) (tells on.value on.first on.runs)
+
+-- the whole says yes, so the line does not say no
+pub line_never : (w : Place) (line : Line) (next : Program Bool) (most : ℕ) → IsYes w (line or_else next) most → NeverNo w line
+line_never w line next most y n h =
+    let on : RunsOn w line (λ o. otherwise o next) true y.cost = runs_on w line (λ o. otherwise o next) true y.cost y.runs in
+    let value : on.value ≡ Some false = runs_one w line on.value (Some false) on.first n on.runs h in
+    let r : Runs w (otherwise (Some false) next) true on.second = subst (λ o. Runs w (otherwise o next) true on.second) value on.then_runs in
+    absurd (let e : false ≡ true = r.0 in cc)

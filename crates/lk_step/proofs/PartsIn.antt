@@ -267,6 +267,6 @@ part_adds w c old new step rule a b cs is l r ps ea eb ecs holds asks ss =
 
 -- a tree that is its own Core: nothing has to be said
 pub itself_whole : (w : Place) (most : ℕ) (c : Contents) (r : Row) (e : Tree) → IsEmpty r → (k : IsClaim w (core e) most) → k.answer ≡ e → (n : ℕ) → k.cost ≡ suc n → IsWhole w c (core e) r
-itself_whole w most c r e empty k same n paid =
-    part_whole w c r (core e) e k.cost 0 [] (subst (λ u. IsAnswered w (core e) u k.cost) same k.answered) tt (omega arith)
+itself_whole w most c r e empty k is n paid =
+    part_whole w c r (core e) e k.cost 0 [] (subst (λ u. IsAnswered w (core e) u k.cost) is k.answered) tt (omega arith)
     (part_these w c r [] (reduces e e ∷ []) 0 0 (inl (same_self e), tt) (omega arith) (part_none w c r empty))

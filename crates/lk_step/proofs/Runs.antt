@@ -98,3 +98,15 @@ runs_asked w q v n h =
     let paid : n ≡ h.1 + h.2 = h.5 in
     let same : h.1 ≡ n = omega arith in
     subst (λ m. IsAnswered w q v m) same (subst (λ u. IsAnswered w q u h.1) value h.3)
+
+-- a run comes to one value
+pub runs_one : {A : Type 0} (w : Place) (p : Program A) (v u : A) (m n : ℕ) → Runs w p v m → Runs w p u n → v ≡ u
+runs_one w (done x) v u m n h k = sym h.0 ∙ k.0
+runs_one w (refuse r) v u m n h k = absurd h
+runs_one w (ask q f) v u m n h k =
+    let one : AreOne h.0 k.0 h.1 k.1 = one_answer w q h.0 k.0 h.1 k.1 h.3 k.3 in
+    runs_one w (f k.0) v u h.2 k.2 (subst (λ x. Runs w (f x) v h.2) one.answer h.4) k.4
+runs_one w (look r c f) v u m n h k =
+    let same : Some h.0 ≡ Some k.0 = sym h.1 ∙ k.1 in
+    let one : h.0 ≡ k.0 = cc in
+    runs_one w (f k.0) v u m n (subst (λ x. Runs w (f x) v m) one h.2) k.2

@@ -1,10 +1,11 @@
 -- A program of the question table that was run, for less than so much.
-use Rattle.std.specs.Prelude.{ℕ, ◌≡◌, ◌<◌, Bool, true}
+use Rattle.std.specs.Prelude.{ℕ, ◌≡◌, ◌<◌, Bool, true, false, Option, Some}
 use Rattle.lk_tree.specs.Tree.{Tree}
 use Rattle.lk_tree.specs.Spine.{IsHeadNormal}
 use Rattle.lk_tree.specs.WellFormed.{IsWellFormed}
 use Rattle.lk_rulebook.specs.Place.{Place}
 use Rattle.lk_rulebook.specs.WellStated.{WellStated}
+use Rattle.lk_questions.specs.Pairs.{Line}
 use Rattle.lk_questions.specs.Program.{Program}
 use Rattle.lk_step.specs.Runs.{Runs}
 
@@ -35,3 +36,7 @@ pub record IsYes (w : Place) (p : Program Bool) (most : ℕ) : Type 0 where
   pub cost : ℕ
   pub runs : Runs w p true cost
   pub within : cost < most
+
+-- however the line was run, it did not say no
+abbrev pub NeverNo : Place → Line → Type 0
+NeverNo w line = (cost : ℕ) → Runs w line (Some false) cost → ⊥

@@ -11,7 +11,7 @@ use Rattle.lk_store.specs.Contents.{Contents, tree_at}
 use Rattle.lk_step.specs.Tests.{IsYes}
 use Rattle.lk_step.specs.Tells.{Tells, Rests}
 use Rattle.lk_step.proofs.Moving.{moved2, back2}
-use Rattle.lk_step.proofs.Chain.{line_run, line_on, line_none, line_some}
+use Rattle.lk_step.proofs.Chain.{line_run, line_never, line_on, line_none, line_some}
 use Rattle.lk_derive_equal.specs.Orders.{first_of}
 use Rattle.lk_derive_equal.proofs.tests.BeforeTests.row.Goals as goal
 
@@ -22,6 +22,14 @@ tell-requires-clause-run g c =
     let a : Tree = tree_at d c.args.a in
     let b : Tree = tree_at d c.args.b in
     line_run w (g.T.Test.line a b) (g.N.Tests.program a b) c.args.enough c.requires.says
+
+pub tell-requires-clause-never_no : goal.tell-requires-clause-never_no
+tell-requires-clause-never_no g c =
+    let w : Place = (g.D.Looks.sight (g.D.Terms.rest c.args.derives.now)).basis.place in
+    let d : Contents = g.D.Terms.contents c.args.derives.now in
+    let a : Tree = tree_at d c.args.a in
+    let b : Tree = tree_at d c.args.b in
+    line_never w (g.T.Test.line a b) (g.N.Tests.program a b) c.args.enough c.requires.says
 
 pub returns-in-Some-clause-rests : goal.returns-in-Some-clause-rests
 returns-in-Some-clause-rests g c =
