@@ -11,4 +11,5 @@ pub mod Standing
 pub mod Shared
 pub mod Outcomes
 pub mod Copied
+pub mod Enough
 pub mod Waiting

@@ -1,4 +1,5 @@
 pub mod Deep
+pub mod Enough
 pub mod Entries
 pub mod Instants
 pub mod Lookouts

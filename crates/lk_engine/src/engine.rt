@@ -45,10 +45,10 @@ use std::mem::drop;
 /// is started, once it passes a limit; what the memo keeps, which is lent, goes with the unit, but
 /// for what outlasts one. Whether answers are shared with other workers is told by its parameter.
 pub struct Engine<'a, K: Knows> {
-    lookout: Lookout<'a, Overlay<'a>>,
+    pub(crate) lookout: Lookout<'a, Overlay<'a>>,
     /// How much of what units made stays.
     limit: Limit,
-    knowledge: &'a mut K,
+    pub(crate) knowledge: &'a mut K,
 }
 
 impl<'a, K: Knows> Model for Engine<'a, K> {
