@@ -5,7 +5,7 @@ use Rattle.std.proofs.lemmas.List.Elements.{All-weaker, All-nil, All-push, All-s
 use Rattle.lk_tree.specs.Tree.{Tree}
 use Rattle.lk_tree.specs.WellFormed.{IsWellFormed}
 use Rattle.lk_rulebook.specs.Place.{Place}
-use Rattle.lk_rulebook.specs.Claims.{Claim, types, reduces, equals}
+use Rattle.lk_rulebook.specs.Claims.{Claim, reduces, equals}
 use Rattle.lk_questions.specs.Query as plain
 use Rattle.lk_questions.specs.Query.{AnswerTo, core, whnf, infer, same}
 use Rattle.lk_questions.specs.Sound.{IsAskable}

@@ -1,5 +1,5 @@
 -- A program of the question table that was run, for less than so much.
-use Rattle.std.specs.Prelude.{ℕ, ◌≡◌, ◌<◌, Bool, true, false, Option, Some}
+use Rattle.std.specs.Prelude.{ℕ, ◌≡◌, ◌<◌, Bool, true, false, Some}
 use Rattle.lk_tree.specs.Tree.{Tree}
 use Rattle.lk_tree.specs.Spine.{IsHeadNormal}
 use Rattle.lk_tree.specs.WellFormed.{IsWellFormed}
