@@ -1,4 +1,5 @@
--- The literal step of a term that computes: what is read of its arguments, and what a row states by it.
+-- The literal step of a term that computes: what is read of its arguments, and what a row states by
+-- it.
 use Rattle.std.specs.Prelude.{ℕ, ◌≡◌, ◌<◌, ◌≤◌, ◌+◌, nat_eq, true, List, [], ◌∷◌, length}
 use Rattle.std.specs.Prelude.{Option, Some, None}
 use Rattle.lk_tree.specs.Tree.{Tree}
@@ -21,7 +22,8 @@ use Rattle.lk_step.specs.Rows.{IsAnswered}
 use Rattle.lk_step.specs.Runs.{Runs}
 use Rattle.lk_step.specs.Parts.{Asks}
 
--- the weak head forms of these trees are numerals of these numbers, which is claimed, for so much together
+-- the weak head forms of these trees are numerals of these numbers, which is claimed, for so much
+-- together
 pub data AreRead (w : Place) : List Tree → List ℕ → List Claim → ℕ → Type 0 where
   none_read : AreRead w [] [] [] 0
   one_read : {e v : Tree} {n c m : ℕ} {es : List Tree} {ns : List ℕ} {cs : List Claim} →

@@ -26,7 +26,8 @@ shown t u r = gives u (shows r)
 abbrev pub refusing : Then
 refusing t u r = refuses LooseVariable
 
--- the steps give this value, and ask on the way for no more than so many weak head forms, which cost so much together
+-- the steps give this value, and ask on the way for no more than so many weak head forms, which
+-- cost so much together
 abbrev pub FormRun : Place → Steps → Value → ℕ → ℕ → Type 0
 FormRun w (gives t v) u n k = (v ≡ u) × (n ≡ 0)
 FormRun w (refuses r) u n k = ⊥

@@ -53,8 +53,8 @@ proof_claims a b A B S l =
 abbrev pub struct_claims : Tree → Tree → Tree → Tree → List Claim → List Claim
 struct_claims a b A B fields = types a A ∷ types b B ∷ equals A B ∷ fields
 
--- A premise of one tree has no number. So where a is b, and the first reduction has none, the second
--- may have none either: it would be read as the first.
+-- A premise of one tree has no number. So where a is b, and the first reduction has none, the
+-- second may have none either: it would be read as the first.
 pub record EqualitySteps (w : Place) : Type 0 where
   pub reduce : (a b a' b' : Tree) → IsWellFormed a → IsWellFormed b →
       (a ≡ b → a ≡ a' → b ≡ b') →

@@ -1,4 +1,5 @@
--- Heads by which Core of an application looks at a major premise: constants of quotients, and recursors.
+-- Heads by which Core of an application looks at a major premise: constants of quotients, and
+-- recursors.
 use Rattle.std.specs.Prelude.{◌≡◌, List, Some}
 use Rattle.lk_tree.specs.Tree.{Name, Level, Tree, const}
 use Rattle.lk_tree.specs.Spine.{head}

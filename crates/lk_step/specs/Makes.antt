@@ -19,6 +19,7 @@ abbrev pub equality_claim : ℕ → ℕ → Claim
 equality_claim a b = record { relation = Equality; left = a; right = b }
 
 -- its questions and its steps are these, by what its numbers stand for
-pub record IsMade (c : Contents) (asks : List plain.Query) (steps : List Step) (r : Row) : Type 0 where
+pub record IsMade (c : Contents) (asks : List plain.Query) (steps : List Step) (r : Row)
+    : Type 0 where
   pub asks_are : map (query_of (tree_at c)) r.asks.items ≡ asks
   pub steps_are : map (step_at c) r.steps.items ≡ steps

@@ -1,5 +1,7 @@
--- Two applications in pairs: a stack of the pairs of their arguments, with that of their heads on top.
-use Rattle.std.specs.Prelude.{ℕ, ◌≡◌, Bool, true, false, nat_eq, List, [], ◌∷◌, ◌++◌, length, map, All}
+-- Two applications in pairs: a stack of the pairs of their arguments, with that of their heads on
+-- top.
+use Rattle.std.specs.Prelude.{ℕ, ◌≡◌, Bool, true, false, nat_eq, List, [], ◌∷◌, ◌++◌, length, map}
+use Rattle.std.specs.Prelude.{All}
 use Rattle.std.specs.Prelude.{Option, Some, None, Vec}
 use Rattle.std.specs.declared.alloc.Global.{Global}
 use Rattle.lk_tree.specs.Tree.{Tree, app}
@@ -48,7 +50,8 @@ pub record Comes (w : Place) (p : Program Bool) (v : Bool) : Type 0 where
   pub runs : Runs w p v cost
 
 -- those before the rest were found the same
-pub record IsComparing {S R B : Type 0} (contents : S → Contents) (others : S → R) (sight : R → Sight B)
+pub record IsComparing {S R B : Type 0} (contents : S → Contents) (others : S → R)
+    (sight : R → Sight B)
     (old now : S) (all rest : List (Pair ℕ)) (most : ℕ) : Type 0 where
   pub leaves : Leaves contents others sight old now
   pub rest_in : All (IsKnownPair (length (contents old).trees)) rest

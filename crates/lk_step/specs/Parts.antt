@@ -21,8 +21,8 @@ abbrev pub AreThere : List Claim → List Claim → Type 0
 AreThere cs [] = Unit {0}
 AreThere cs (x ∷ xs) = IsThere cs x × AreThere cs xs
 
--- the questions, which cost no more than this together, are asked, and by the steps over what they claim
--- this is stated
+-- the questions, which cost no more than this together, are asked, and by the steps over what they
+-- claim this is stated
 pub record IsPart (w : Place) (asks : List plain.Query) (steps : List Step) (stated : List Claim)
     (spent : ℕ) : Type 0 where
   pub claims : List Claim
@@ -36,8 +36,8 @@ pub record IsPart (w : Place) (asks : List plain.Query) (steps : List Step) (sta
 pub record IsPartIn (w : Place) (c : Contents) (r : Row) (stated : List Claim) (spent : ℕ)
     : Type 0 where
   pub known : IsRowIn c r
-  pub part : IsPart w (map (query_of (tree_at c)) r.asks.items) (map (step_at c) r.steps.items) stated
-      spent
+  pub part : IsPart w (map (query_of (tree_at c)) r.asks.items)
+      (map (step_at c) r.steps.items) stated spent
 
 -- the row states one thing more, for which it asked at this cost
 abbrev pub Asks : Place → Contents → Contents → Row → Row → Claim → ℕ → Type 0

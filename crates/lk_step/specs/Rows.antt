@@ -1,6 +1,7 @@
--- What an answer of the question table rests on: questions that its row asks, and steps over what their
--- answers claim.
-use Rattle.std.specs.Prelude.{ℕ, ◌≡◌, ◌<◌, ◌≤◌, ◌+◌, ◌⊎◌, true, List, [], ◌∷◌, Option, All, Contains}
+-- What an answer of the question table rests on: questions that its row asks, and steps over what
+-- their answers claim.
+use Rattle.std.specs.Prelude.{ℕ, ◌≡◌, ◌<◌, ◌≤◌, ◌+◌, ◌⊎◌, true, List, [], ◌∷◌, Option, All}
+use Rattle.std.specs.Prelude.{Contains}
 use Rattle.lk_rulebook.specs.Place.{Place}
 use Rattle.lk_rulebook.specs.Claims.{Claim, types, reduces, equals}
 use Rattle.lk_questions.specs.Query.{Query, AnswerTo, core, whnf, infer, same}
@@ -37,7 +38,8 @@ pub record IsClaim (w : Place) (q : Query) (most : ℕ) : Type 0 where
   pub claimed : IsClaimed q answer
   pub within : cost ≤ most
 
--- the questions may be asked and are answered, this is what they claim, one after another, and what they cost together
+-- the questions may be asked and are answered, this is what they claim, one after another, and what
+-- they cost together
 pub data AreClaims (w : Place) : List Query → List Claim → ℕ → Type 0 where
   no_claim : AreClaims w [] [] 0
   a_claim : {qs : List Query} {cs : List Claim} {n : ℕ} (q : Query) (v : AnswerTo q) (c : ℕ) →
@@ -59,8 +61,8 @@ abbrev pub claims_after : List Claim → List Step → List Claim
 claims_after cs [] = cs
 claims_after cs (s ∷ ss) = claims_after (claim_of s ∷ cs) ss
 
--- What the answer v of q, of cost c, rests on: it asks these questions, which cost less together, and by
--- these steps over what they claim it is stated.
+-- What the answer v of q, of cost c, rests on: it asks these questions, which cost less together,
+-- and by these steps over what they claim it is stated.
 pub record IsRow (w : Place) (q : Query) (v : AnswerTo q) (c : ℕ) (asks : List Query)
     (steps : List Step) : Type 0 where
   pub claims : List Claim

@@ -1,5 +1,5 @@
--- A run of a program of the question table that gives a value: what it asks is answered, and what it
--- looks up is there.
+-- A run of a program of the question table that gives a value: what it asks is answered, and what
+-- it looks up is there.
 use Rattle.std.specs.Prelude.{ℕ, suc, ◌≡◌, ◌+◌, Some}
 use Rattle.lk_rulebook.specs.Place.{Place, Entry}
 use Rattle.lk_questions.specs.Query.{Query, AnswerTo}

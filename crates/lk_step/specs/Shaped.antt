@@ -10,8 +10,8 @@ abbrev pub AllShaped : List Claim → Type 0
 AllShaped [] = Unit {0}
 AllShaped (c ∷ cs) = IsShaped c × AllShaped cs
 
--- what the trees of an answer are: those of its claim are closed and well scoped, its Locals are among
--- the question's, and a weak head form without unfolding takes no step of beta or zeta
+-- what the trees of an answer are: those of its claim are closed and well scoped, its Locals are
+-- among the question's, and a weak head form without unfolding takes no step of beta or zeta
 abbrev pub IsShapedAnswer : (q : Query) → AnswerTo q → Type 0
 IsShapedAnswer (core e) v = IsShaped (reduces e v) × LocalsWithin e v × IsHeadNormal v
 IsShapedAnswer (whnf e) v = IsShaped (reduces e v) × LocalsWithin e v

@@ -1,5 +1,5 @@
--- Steps of a written derivation: lines before they have numbers. What a step rests on are claims, and it
--- becomes a line once each of them is stated.
+-- Steps of a written derivation: lines before they have numbers. What a step rests on are claims,
+-- and it becomes a line once each of them is stated.
 use Rattle.std.specs.Prelude.{ℕ, ◌≡◌, Bool, true, false, List, [], ◌∷◌, if◌then◌else◌}
 use Rattle.lk_tree.specs.Tree.{Tree}
 use Rattle.lk_rulebook.specs.Place.{Place}
