@@ -67,5 +67,5 @@ field_next w c S i s q j n F A B T m b qs ks fF fs r p f =
           subst (λ z. IsTypedRow w proj_rule (proj S i s) T z (((ks ++ (reduces F P ∷ [])) ++ p.claims) ++ js)) (between_more qs (whnf F) p.queries us)
           (subst (λ z. IsTypedRow w proj_rule (proj S i s) T (qs ++ (whnf F ∷ (p.queries ++ us))) z) (between_more ks (reduces F P) p.claims js)
           (f (whnf F ∷ (p.queries ++ us)) (reduces F P ∷ (p.claims ++ js)) (r.first + x.0) (field_before (p.next.premises js) a) (r.shaped, p.next.shaped js shaped)
-          (a_claim (whnf F) P r.first fF r.answered tt x.1) (omega (arith, e, y))));
+          (a_claim {n = x.0} (whnf F) P r.first fF r.answered tt x.1) (omega (arith, e, y))));
     }

@@ -114,7 +114,7 @@ last_typed w u ok c d g p most at a b b₁ f place x y h i m e =
     let us : List Query = whnf F ∷ (s.queries ++ []) in
     let js : List Claim = reduces F P ∷ (s.claims ++ []) in
     let row : IsTypedRow w proj_rule (proj h.name p.field h.subject) h.type (h.queries ++ us) (h.claims ++ js) =
-    finish us js (r.first + c₁.0) (subst (λ v. FieldPremises h.name h.subject p.prop p.field zero F js v) is (this_field premises)) (r.shaped, s.next.shaped [] tt) (a_claim (whnf F) P r.first h.fine r.answered tt c₁.1) (omega (arith, q, less)) in
+    finish us js (r.first + c₁.0) (subst (λ v. FieldPremises h.name h.subject p.prop p.field zero F js v) is (this_field premises)) (r.shaped, s.next.shaped [] tt) (a_claim {n = c₁.0} (whnf F) P r.first h.fine r.answered tt c₁.1) (omega (arith, q, less)) in
     let row₁ : IsTypedRow w proj_rule (proj h.name p.field h.subject) h.type (qs ++ s.queries) (ks ++ s.claims) =
     subst (λ v. IsTypedRow w proj_rule (proj h.name p.field h.subject) h.type (qs ++ s.queries) (ks ++ v)) (append-nil s.claims)
     (subst (λ v. IsTypedRow w proj_rule (proj h.name p.field h.subject) h.type (qs ++ v) (ks ++ (s.claims ++ []))) (append-nil s.queries)
