@@ -132,7 +132,8 @@ IsApplied _ = ⊥
 abbrev pub IsLast : Tree → Tree → Type 0
 IsLast e a = (f b : Tree) → e ≡ app f b → a ≡ b
 
--- The eliminator of e, which reaches so far, with its arguments up to there, the fourth of them, and how many are behind.
+-- the eliminator of e, which reaches so far, with its arguments up to there, the fourth of them, and
+-- how many are behind
 pub record IsFront (c : Contents) (n : ℕ) (e : Tree) (p : Front) : Type 0 where
   pub front_in : p.front < length c.trees
   pub function_in : p.function < length c.trees

@@ -12,8 +12,8 @@ use lk_store::terms::Terms;
 use lk_trace::ReductionRule;
 use std::alloc::Global;
 
-/// Says that one tree reduces to another, which are these two with so many arguments behind them, where it is stated that
-/// the one of these reduces to the other.
+/// Says that one tree reduces to another, which are these two with so many arguments behind them, where it is stated
+/// that the one of these reduces to the other.
 pub(crate) fn state_behind<T: Terms>(
     alloc: Global,
     terms: &T,

@@ -21,7 +21,8 @@ pub struct Front {
     pub behind: usize,
 }
 
-/// An eliminator with its arguments up to the major premise, its function on an element, and how many arguments are behind.
+/// An eliminator with its arguments up to the major premise, its function on an element, and how many arguments are
+/// behind.
 #[derive(Clone, Copy)]
 pub struct Ends {
     pub front: u64,

@@ -1,4 +1,5 @@
-//! What `Core` of a constant of quotients asks for: the weak head form of the major premise, and `Core` of what comes of that.
+//! What `Core` of a constant of quotients asks for: the weak head form of the major premise, and `Core` of what comes
+//! of that.
 
 ghost use Rattle.std.specs.Prelude.{◌≡◌, ◌<◌, IfOk, IfSome, length, option_map};
 ghost use Rattle.lk_store.specs.Contents.{name_at, tree_at};
@@ -64,7 +65,8 @@ pub(crate) fn major_of<D: Derives>(
     Ok(form_of_next(next))
 }
 
-/// What a constant of quotients comes to, whose major premise has the weak head form of this number, if that is an element.
+/// What a constant of quotients comes to, whose major premise has the weak head form of this number, if that is an
+/// element.
 pub(crate) fn reduct_of<D: Derives>(
     derives: &mut D,
     e: u64,

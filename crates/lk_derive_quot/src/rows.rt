@@ -158,8 +158,8 @@ fn fill_row<D: Derives>(
     }
 }
 
-/// What `Core` of a term rests on whose head is a constant that a quotient unit gives, such as `Quot.lift` or `Quot.ind`. Where
-/// nothing is eliminated it says nothing: the term is its own `Core`.
+/// What `Core` of a term rests on whose head is a constant that a quotient unit gives, such as `Quot.lift` or
+/// `Quot.ind`. Where nothing is eliminated it says nothing: the term is its own `Core`.
 pub fn quotient_row<D: Derives>(derives: &mut D, e: u64, enough: u128) -> Result<Row, NoMemory>
     requires stated { WellStated (D.sight (D.rest derives.old)).basis.place }
     requires e_in { e < length (D.contents derives.old).trees }

@@ -142,8 +142,3 @@ head_within w most e h eh r =
     let paid : r.first + r.second < r.cost = r.paid in
     let within : r.cost ≤ most = r.within in
     subst (λ z. IsAnsweredWithin w (core z) most) (sym eh) (r.form, r.first, r.headed, omega arith)
-
-pub itself_whole : (w : Place) (most : ℕ) (c : Contents) (r : Row) (e : Tree) → IsEmpty r → (k : IsClaim w (core e) most) → k.answer ≡ e → (n : ℕ) → k.cost ≡ suc n → IsWhole w c (core e) r
-itself_whole w most c r e empty k same n paid =
-    part_whole w c r (core e) e k.cost 0 [] (subst (λ u. IsAnswered w (core e) u k.cost) same k.answered) tt (omega arith)
-    (part_these w c r [] (reduces e e ∷ []) 0 0 (inl (same_self e), tt) (omega arith) (part_none w c r empty))

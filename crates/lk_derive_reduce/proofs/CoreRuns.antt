@@ -19,19 +19,11 @@ use Rattle.lk_step.specs.Rows.{IsAnswered, IsClaim}
 use Rattle.lk_step.specs.Runs.{Runs, IsOpened}
 use Rattle.lk_step.specs.Told.{IsAnsweredWithin}
 use Rattle.lk_step.specs.Reducing.{beta_reduct}
-use Rattle.lk_step.proofs.Runs.{opened_so}
+use Rattle.lk_step.proofs.Runs.{opened_so, runs_asked}
 use Rattle.lk_step.proofs.ReductionSteps.{reduction_steps}
 use Rattle.lk_step.specs.Parts.{IsNext}
 use Rattle.lk_derive_reduce.specs.Forms.{IsApp, IsLam, IsStuck, IsLetOf, Opens, HeadRun}
 use Rattle.lk_step.proofs.PartsIn.{apart}
-
-pub runs_asked : (w : Place) (q : Query) (v : AnswerTo q) (n : ℕ) → Runs w (asked q) v n → IsAnswered w q v n
-runs_asked w q v n h =
-    let value : h.0 ≡ v = h.4.0 in
-    let rest : h.2 ≡ 0 = h.4.1 in
-    let paid : n ≡ h.1 + h.2 = h.5 in
-    let same : h.1 ≡ n = omega arith in
-    subst (λ m. IsAnswered w q v m) same (subst (λ u. IsAnswered w q u h.1) value h.3)
 
 -- where Core of e is Core of r, the one more, r may be asked for
 next_opens : (w : Place) (most : ℕ) (e r u : Tree) (c : ℕ) → IsAnswered w (core e) u c → c ≤ most → (n : ℕ) → c ≡ suc n → IsAnswered w (core r) u n → IsNext w e r × IsAnsweredWithin w (core r) most

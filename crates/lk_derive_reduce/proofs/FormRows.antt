@@ -25,14 +25,13 @@ use Rattle.lk_step.specs.Rows.{IsAnswered}
 use Rattle.lk_step.specs.Runs.{Runs, AreOne}
 use Rattle.lk_step.specs.Shaped.{IsShapedAnswer}
 use Rattle.lk_step.specs.Told.{IsAnsweredWithin}
-use Rattle.lk_step.proofs.Runs.{one_answer}
+use Rattle.lk_step.proofs.Runs.{one_answer, runs_asked}
 use Rattle.lk_step.proofs.Shapes.{shaped_answer}
 use Rattle.lk_step.proofs.ReductionSteps.{reduction_steps}
 use Rattle.lk_step.specs.Parts.{IsPartIn, States, Chains, FollowsForm, IsWhole}
 use Rattle.lk_derive_reduce.specs.Forms.{DeltaRun, Unfolds}
 use Rattle.lk_step.proofs.Parts.{first, behind}
 use Rattle.lk_step.proofs.PartsIn.{part_stays, part_whole}
-use Rattle.lk_derive_reduce.proofs.CoreRuns.{runs_asked}
 
 pub delta_within : (w : Place) (d : Contents) (r : Row) (most : ℕ) (e c n : Tree) → DeltaRun w d r most e c n → IsAnsweredWithin w (whnf n) most
 delta_within w d r most e c n h =

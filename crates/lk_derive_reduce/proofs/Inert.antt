@@ -16,7 +16,8 @@ use Rattle.lk_step.proofs.Runs.{opened_so}
 use Rattle.lk_step.specs.Parts.{IsWhole, IsEmpty}
 use Rattle.lk_derive_reduce.specs.Forms.{IsApp, IsInert}
 use Rattle.lk_derive_reduce.proofs.CoreRuns.{app_steps}
-use Rattle.lk_derive_reduce.proofs.CoreRows.{stays_whole, itself_whole}
+use Rattle.lk_step.proofs.PartsIn.{itself_whole}
+use Rattle.lk_derive_reduce.proofs.CoreRows.{stays_whole}
 
 pub rigid_whole : (w : Place) (most : ℕ) (c : Contents) (r : Row) (e h : Tree) → IsApp e → h ≡ head e → ((z : Tree) (xs : List Tree) → core_applied z h xs ≡ done z) → IsEmpty r → IsClaim w (core e) most → IsWhole w c (core e) r
 rigid_whole w most c r e h a eh rigid empty k = stays_whole w most c r e (app_steps e a ∙ subst (λ z. core_applied e z (args e) ≡ done e) eh (rigid e (args e))) empty k

@@ -1,11 +1,8 @@
-mod Parts
-mod Steady
-mod PartsIn
 mod CoreRuns
 mod Begun
 mod CoreRows
 mod Inert
+mod MajorHeads
 mod FormRuns
 mod FormRows
-mod Quiet
 mod ProjectionRuns

@@ -1,6 +1,6 @@
 -- Core of a projection.
 use Rattle.std.proofs.Common.{ℕ, suc, ◌≡◌, ◌<◌, ◌≤◌, ◌+◌, inl, Bool, true, false, List, [], ◌∷◌, Option, Some, None, refl, sym, subst, ap, ◌∙◌, arith, if◌then◌else◌}
-use Rattle.std.specs.Prelude.{slice_get, option_map, Result, OnOk}
+use Rattle.std.specs.Prelude.{slice_get, Result, OnOk}
 use Rattle.lk_tree.specs.Tree.{Name, Level, Tree, const, proj}
 use Rattle.lk_tree.specs.Spine.{apply, head, args}
 use Rattle.lk_tree.specs.Mentions.{same_name}
@@ -18,32 +18,28 @@ use Rattle.lk_claims.proofs.Pieces.{same_name_right}
 use Rattle.lk_claims.proofs.Readings.{sound_text_to_ctor}
 use Rattle.lk_questions.specs.Query.{core, whnf}
 use Rattle.lk_questions.specs.Program.{Program, done}
-use Rattle.lk_questions.specs.Erased.{Steps, a_tree, erased}
+use Rattle.lk_questions.specs.Erased.{a_tree, erased}
 use Rattle.lk_questions.specs.Iota.{CtorApp, ctor_app_by, ctor_app_of, core_field, picked}
 use Rattle.lk_questions.specs.Sound.{IsSound}
 use Rattle.lk_questions.specs.Strings.{text_to_ctor}
 use Rattle.lk_questions.specs.Tests.{found}
 use Rattle.lk_written.specs.Line.{field_rule}
 use Rattle.lk_store.specs.Contents.{Contents, Extends}
-use Rattle.lk_ask.specs.declared.query.Query.TheVariants.{Core, Whnf, Infer, Same}
-use Rattle.lk_ask.specs.declared.next.Next.{Next}
-use Rattle.lk_ask.specs.declared.next.Next.TheVariants.{Ask, Done, No}
-use Rattle.lk_proj.specs.declared.sheet.CoreSheet.{CoreSheet}
-use Rattle.lk_proj.specs.Reductions.{subject_rest, head_rest, core_next}
+use Rattle.lk_proj.specs.Reductions.{subject_rest, head_rest}
 use Rattle.lk_step.specs.declared.step.Row.{Row}
 use Rattle.lk_step.specs.Steps.{reduction, StepHolds}
 use Rattle.lk_step.specs.Rows.{IsAnswered, IsClaim}
 use Rattle.lk_step.specs.Runs.{Runs, IsOpened, AreOne}
+use Rattle.lk_step.specs.Nexts.{core_asked}
 use Rattle.lk_step.specs.Shaped.{IsShapedAnswer}
 use Rattle.lk_step.specs.Told.{IsAnsweredWithin}
 use Rattle.lk_step.proofs.ReductionSteps.{reduction_steps}
-use Rattle.lk_step.proofs.Runs.{opened_so, one_answer}
+use Rattle.lk_step.proofs.Runs.{opened_so, one_answer, runs_asked}
 use Rattle.lk_step.proofs.Shapes.{shaped_answer}
 use Rattle.lk_step.specs.Parts.{IsPartIn, States, IsWhole, IsEmpty, AsksForm, FollowsCore}
-use Rattle.lk_derive_reduce.specs.Projections.{IsProjOf, tree_asked, field_at, number_asked, Picks, AtSubject}
+use Rattle.lk_derive_reduce.specs.Projections.{IsProjOf, field_at, Picks, AtSubject}
 use Rattle.lk_step.proofs.Parts.{first}
 use Rattle.lk_step.proofs.PartsIn.{part_none, part_stays, part_these, part_whole}
-use Rattle.lk_derive_reduce.proofs.CoreRuns.{runs_asked}
 use Rattle.lk_step.proofs.Quiet.{Quietly, quietly, quiet_text, quiet_ctor_app}
 use Rattle.lk_claims.proofs.Facts.{same_self}
 
@@ -70,7 +66,7 @@ sound_built w m _ xs t = tt
 
 -- what the program does next is what Core of e goes on with
 record Goes (w : Place) (e s W v : Tree) (n : ℕ) (last : Option ℕ) (p : Program Tree) : Type 0 where
-  picks : Picks w e s W v n (tree_asked (erased w a_tree last p))
+  picks : Picks w e s W v n (core_asked (erased w a_tree last p))
 
 step_there : (w : Place) (S : Name) (i : ℕ) (s W m x : Tree) (b : CtorApp) (j : IsBuilt w m b) → b.ind.name ≡ S → found w (text_to_ctor W) ≡ Some m → slice_get b.args (b.ctor.parameters + i) ≡ Some x → IsWellFormed s → IsWellFormed x →
     StepHolds w (reduction field_rule (proj S i s) x (reduces s W ∷ []))
@@ -106,7 +102,7 @@ goes_subject w S i s W v n last fs fW r =
     let k : Quietly w (IfBuilt w m) (ctor_app_of (head m) (args m)) (core_field e S i) v n q.next =
     quietly w (IfBuilt w m) (ctor_app_of (head m) (args m)) (core_field e S i) v n q.next (quiet_ctor_app (head m) (args m)) (sound_built w m (head m) (args m) (sym (apply_head_args m))) q.after in
     let g : Goes w e s W v n k.next (core_field e S i k.value) = goes_field w S i s W m v n k.next q.found_is fs fm k.value k.holds k.after in
-    subst (λ z. Picks w e s W v n (tree_asked z)) (sym (q.same ∙ k.same)) g.picks
+    subst (λ z. Picks w e s W v n (core_asked z)) (sym (q.same ∙ k.same)) g.picks
 
 -- the subject is asked for first
 record SubjectRun (w : Place) (e s v : Tree) (n : ℕ) : Type 0 where
@@ -156,15 +152,6 @@ at_subject w most c m d old new e s W last ok empty i k a x =
       part = part_stays w m d x new (reduces s W ∷ []) (0 + a.cost) (a.asks fp [] 0 (part_none w c old empty));
       picks = subst (λ z. Picks w z s W k.answer r.second (field_at w last z W)) (sym i.is) picks;
     }
-
--- what a step asks for its Core
-pub asked_is : (w : Place) (t : ℕ → Tree) (last : Option ℕ) (next : Next ℕ (CoreSheet ℕ)) (does : Steps) → core_next w t last next ≡ does → option_map t (number_asked next) ≡ tree_asked does
-asked_is w t last (Ask (Core r) s) does h = ap tree_asked h
-asked_is w t last (Ask (Whnf r) s) does h = ap tree_asked h
-asked_is w t last (Ask (Infer r) s) does h = ap tree_asked h
-asked_is w t last (Ask (Same r u) s) does h = ap tree_asked h
-asked_is w t last (Done v) does h = ap tree_asked h
-asked_is w t last (No r) does h = ap tree_asked h
 
 pub projection_stays : (w : Place) (d : Contents) (r : Row) (most : ℕ) (e s W : Tree) → AtSubject w d r most e s W None → IsWhole w d (core e) r
 projection_stays w d r most e s W a =

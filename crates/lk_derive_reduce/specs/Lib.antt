@@ -1,2 +1,3 @@
 pub mod Forms
 pub mod Projections
+pub mod MajorHeads

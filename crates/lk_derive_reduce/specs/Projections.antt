@@ -5,17 +5,14 @@ use Rattle.lk_tree.specs.WellFormed.{IsWellFormed}
 use Rattle.lk_rulebook.specs.Place.{Place}
 use Rattle.lk_rulebook.specs.Claims.{reduces}
 use Rattle.lk_questions.specs.Query.{core}
-use Rattle.lk_questions.specs.Erased.{Steps, asks, a_tree, erased}
+use Rattle.lk_questions.specs.Erased.{a_tree, erased}
 use Rattle.lk_written.specs.Line.{field_rule}
 use Rattle.lk_store.specs.Contents.{Contents}
-use Rattle.lk_ask.specs.declared.query.Query.TheVariants.{Core}
-use Rattle.lk_ask.specs.declared.next.Next.{Next}
-use Rattle.lk_ask.specs.declared.next.Next.TheVariants.{Ask}
-use Rattle.lk_proj.specs.declared.sheet.CoreSheet.{CoreSheet}
 use Rattle.lk_proj.specs.Reductions.{subject_rest}
 use Rattle.lk_step.specs.declared.step.Row.{Row}
 use Rattle.lk_step.specs.Steps.{reduction, StepHolds}
 use Rattle.lk_step.specs.Rows.{IsAnswered}
+use Rattle.lk_step.specs.Nexts.{core_asked}
 use Rattle.lk_step.specs.Parts.{IsPartIn}
 
 -- e is a projection of s
@@ -24,19 +21,9 @@ pub record IsProjOf (e s : Tree) : Type 0 where
   pub field : ℕ
   pub is : e ≡ proj structure field s
 
--- the tree whose Core is asked for next
-abbrev pub tree_asked : Steps → Option Tree
-tree_asked (asks t (core x) k) = Some x
-tree_asked _ = None
-
 -- the field of e whose Core is asked for next, where W is the weak head form of its subject
 abbrev pub field_at : Place → Option ℕ → Tree → Tree → Option Tree
-field_at w last e W = tree_asked (erased w a_tree last (subject_rest e W))
-
--- the number of what is asked for its Core next
-abbrev pub number_asked : Next ℕ (CoreSheet ℕ) → Option ℕ
-number_asked (Ask (Core r) s) = Some r
-number_asked _ = None
+field_at w last e W = core_asked (erased w a_tree last (subject_rest e W))
 
 -- Core of e, a projection of s, is v: that of its field, to which it reduces by the weak head form W
 -- of s, or e itself

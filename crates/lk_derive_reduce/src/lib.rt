@@ -5,8 +5,10 @@
 mod bindings;
 mod forms;
 mod heads;
+mod major_heads;
 mod projections;
 mod rows;
 mod values;
 
+pub use major_heads::{MajorHead, major_head};
 pub use rows::{core_row, form_row};

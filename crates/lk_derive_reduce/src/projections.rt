@@ -7,7 +7,8 @@ ghost use Rattle.lk_store.specs.Contents.{tree_at};
 ghost use Rattle.lk_step.specs.Rows.{IsClaim};
 ghost use Rattle.lk_step.specs.Told.{Leaves};
 ghost use Rattle.lk_step.specs.Parts.{IsWhole, IsEmpty};
-ghost use Rattle.lk_derive_reduce.specs.Projections.{IsProjOf, AtSubject, field_at, number_asked};
+ghost use Rattle.lk_step.specs.Nexts.{core_number};
+ghost use Rattle.lk_derive_reduce.specs.Projections.{IsProjOf, AtSubject, field_at};
 
 use lk_ask::next::Next;
 use lk_ask::query::Query;
@@ -20,7 +21,7 @@ use lk_trace::ReductionRule;
 
 /// What is asked for next, where that is `Core`.
 fn core_of_next(next: CoreNext) -> Option<u64>
-    ensures { result ≡ number_asked next }
+    ensures { result ≡ core_number next }
 {
     match next {
         Next::Ask(query, _) => match query {

@@ -1,6 +1,6 @@
-//! The rows of `Core` and `Whnf`. Where a row is still to be written, want of memory is told.
+//! The rows of `Core` and `Whnf`. Where a row of `Whnf` is still to be written, want of memory is told.
 
-ghost use Rattle.std.specs.Prelude.{◌≡◌, ◌<◌, List, Some, false, IfOk, OnOk, length};
+ghost use Rattle.std.specs.Prelude.{◌≡◌, ◌<◌, List, Some, None, true, false, IfOk, IfSome, OnOk, length};
 ghost use Rattle.lk_tree.specs.Tree.{const};
 ghost use Rattle.lk_tree.specs.Spine.{head as head_of};
 ghost use Rattle.lk_rulebook.specs.Place.{Entry as PlainEntry};
@@ -13,7 +13,9 @@ ghost use Rattle.lk_step.specs.Meaning.{IsRowIn, IsRowOf};
 ghost use Rattle.lk_step.specs.Rows.{IsClaim};
 ghost use Rattle.lk_step.specs.Told.{Leaves};
 ghost use Rattle.lk_step.specs.Parts.{IsWhole, IsEmpty};
+ghost use Rattle.lk_step.specs.Heads.{IsMajorHead};
 ghost use Rattle.lk_derive_reduce.specs.Forms.{IsApp, IsCoreForm, IsHeadForm, IsInert};
+ghost use Rattle.lk_derive_reduce.specs.MajorHeads.{IsMajorKind, IsFilled};
 
 use crate::bindings::{beta_row, let_row};
 use crate::forms::{Constant, fill_form};
@@ -22,11 +24,11 @@ use crate::projections::projection_row;
 use lk_env::entry::{Entry, Kind};
 use lk_env::unit::Body;
 use lk_spine::head;
+use lk_step::under_way::empty_row;
 use lk_step::{Derives, Row};
 use lk_store::memory::NoMemory;
 use lk_store::node::Node;
 use lk_store::terms::Terms;
-use std::alloc::Global;
 
 /// What `Core` does first at a term.
 #[derive(Clone, Copy)]
@@ -77,8 +79,10 @@ fn head_form<T: Terms>(terms: &T, e: u64) -> HeadForm
 
 /// Whether `Core` may reduce what a constant of this entry is at the head of.
 fn is_active(entry: Entry) -> bool
-    ensures { (c : Contents) (us : List StoredUnit) (g : PlainEntry)
+    ensures inert { (c : Contents) (us : List StoredUnit) (g : PlainEntry)
         → plain_entry c us entry ≡ Some g → result ≡ false → IsInert g.kind }
+    ensures active { (c : Contents) (us : List StoredUnit) (g : PlainEntry)
+        → plain_entry c us entry ≡ Some g → result ≡ true → IsMajorKind g.kind }
 {
     match entry.kind {
         Kind::Declared(body) => match body {
@@ -92,14 +96,14 @@ fn is_active(entry: Entry) -> bool
     }
 }
 
-/// The row of an application of a constant.
-fn constant_row<D: Derives>(
+/// Whether an empty row is that of an application of a constant. Else `Core` looks at a major premise.
+fn is_constant_row<D: Derives>(
     derives: &D,
     row: &Row,
     e: u64,
     constant: Constant,
     enough: u128,
-) -> Result<(), NoMemory>
+) -> bool
     requires e_in { e < length (D.contents derives.now).trees }
     requires applied { IsApp (tree_at (D.contents derives.now) e) }
     requires name_in { constant.name < length (D.contents derives.now).names }
@@ -108,26 +112,27 @@ fn constant_row<D: Derives>(
     requires claimed { IsClaim (D.sight (D.rest derives.now)).basis.place
         (core (tree_at (D.contents derives.now) e)) enough }
     requires empty { IsEmpty row.now }
-    ensures { OnOk result (IsWhole (D.sight (D.rest derives.now)).basis.place
-        (D.contents derives.now) (core (tree_at (D.contents derives.now) e)) row.now) }
+    ensures { IsFilled (D.sight (D.rest derives.now)).basis.place (D.contents derives.now)
+        (tree_at (D.contents derives.now) e) row.now result }
 {
     let entry = match derives.means(constant.name) {
         Ok(entry) => entry,
         Err(_) => unreachable!(),
     };
     if is_active(entry) {
-        return Err(NoMemory);
+        return false;
     }
-    Ok(())
+    true
 }
 
-/// The row of an application.
+/// Fills an empty row with that of an application. Where its head is a constant by which `Core` looks at a major
+/// premise it says no.
 fn applied_row<D: Derives>(
     derives: &mut D,
     row: &mut Row,
     e: u64,
     enough: u128,
-) -> Result<(), NoMemory>
+) -> Result<bool, NoMemory>
     requires stated { WellStated (D.sight (D.rest derives.old)).basis.place }
     requires e_in { e < length (D.contents derives.old).trees }
     requires applied { IsApp (tree_at (D.contents derives.old) e) }
@@ -135,67 +140,75 @@ fn applied_row<D: Derives>(
         (core (tree_at (D.contents derives.old) e)) enough }
     requires empty { IsEmpty row.old }
     ensures leaves { Leaves D.contents D.rest D.sight derives.old derives.new }
-    ensures whole { OnOk result (IsWhole (D.sight (D.rest derives.old)).basis.place
-        (D.contents derives.new) (core (tree_at (D.contents derives.old) e)) row.new) }
+    ensures filled { IfOk result (IsFilled (D.sight (D.rest derives.old)).basis.place
+        (D.contents derives.new) (tree_at (D.contents derives.old) e) row.new) }
 {
     let front = head(derives, e);
     match head_form(derives, front) {
-        HeadForm::Lambda => beta_row(derives, row, e, enough),
-        HeadForm::Stuck => head_row(derives, row, e, enough),
-        HeadForm::Named(constant) => constant_row(derives, row, e, constant, enough),
-        HeadForm::Rigid => Ok(()),
+        HeadForm::Lambda => {
+            beta_row(derives, row, e, enough)?;
+            Ok(true)
+        }
+        HeadForm::Stuck => {
+            head_row(derives, row, e, enough)?;
+            Ok(true)
+        }
+        HeadForm::Named(constant) => Ok(is_constant_row(derives, row, e, constant, enough)),
+        HeadForm::Rigid => Ok(true),
     }
 }
 
-/// Fills an empty row with that of the weak head form without unfolding.
+/// Fills an empty row with that of the weak head form without unfolding. Where the head is a constant by which `Core`
+/// looks at a major premise it says no.
 fn fill_core<D: Derives>(
     derives: &mut D,
     row: &mut Row,
     e: u64,
     enough: u128,
-) -> Result<(), NoMemory>
+) -> Result<bool, NoMemory>
     requires stated { WellStated (D.sight (D.rest derives.old)).basis.place }
     requires e_in { e < length (D.contents derives.old).trees }
     requires claimed { IsClaim (D.sight (D.rest derives.old)).basis.place
         (core (tree_at (D.contents derives.old) e)) enough }
     requires empty { IsEmpty row.old }
     ensures leaves { Leaves D.contents D.rest D.sight derives.old derives.new }
-    ensures whole { OnOk result (IsWhole (D.sight (D.rest derives.old)).basis.place
-        (D.contents derives.new) (core (tree_at (D.contents derives.old) e)) row.new) }
+    ensures filled { IfOk result (IsFilled (D.sight (D.rest derives.old)).basis.place
+        (D.contents derives.new) (tree_at (D.contents derives.old) e) row.new) }
 {
     match core_form(derives, e) {
         CoreForm::Applied => applied_row(derives, row, e, enough),
-        CoreForm::Bound(value, body) => let_row(derives, row, e, value, body, enough),
-        CoreForm::Projected(subject) => projection_row(derives, row, e, subject, enough),
-        CoreForm::Itself => Ok(()),
+        CoreForm::Bound(value, body) => {
+            let_row(derives, row, e, value, body, enough)?;
+            Ok(true)
+        }
+        CoreForm::Projected(subject) => {
+            projection_row(derives, row, e, subject, enough)?;
+            Ok(true)
+        }
+        CoreForm::Itself => Ok(true),
     }
 }
 
-/// A row with nothing in it.
-fn empty_row(alloc: Global) -> Row
-    ensures { IsEmpty result }
-{
-    Row {
-        asks: Vec::new(alloc),
-        steps: Vec::new(alloc),
-    }
-}
-
-/// What a weak head form without unfolding rests on. Of an application of a recursor or of a constant of quotients it tells
-/// want of memory, also where there is memory: these rows are not written.
-pub fn core_row<D: Derives>(derives: &mut D, e: u64, enough: u128) -> Result<Row, NoMemory>
+/// What a weak head form without unfolding rests on. There is none here where the head of the term is a recursor or a
+/// constant that a quotient unit gives (`major_head` says which): these rows stand in crates of their own.
+pub fn core_row<D: Derives>(derives: &mut D, e: u64, enough: u128) -> Result<Option<Row>, NoMemory>
     requires stated { WellStated (D.sight (D.rest derives.old)).basis.place }
     requires e_in { e < length (D.contents derives.old).trees }
     requires claimed { IsClaim (D.sight (D.rest derives.old)).basis.place
         (core (tree_at (D.contents derives.old) e)) enough }
     ensures leaves { Leaves D.contents D.rest D.sight derives.old derives.new }
-    ensures known { IfOk result (IsRowIn (D.contents derives.new)) }
-    ensures row { IfOk result (IsRowOf (D.sight (D.rest derives.old)).basis.place
-        (D.contents derives.new) (core (tree_at (D.contents derives.old) e))) }
+    ensures known { IfOk result (λ o. IfSome o (IsRowIn (D.contents derives.new))) }
+    ensures row { IfOk result (λ o. IfSome o (IsRowOf (D.sight (D.rest derives.old)).basis.place
+        (D.contents derives.new) (core (tree_at (D.contents derives.old) e)))) }
+    ensures none { IfOk result (λ o. o ≡ None → IsMajorHead
+        (D.sight (D.rest derives.old)).basis.place (tree_at (D.contents derives.old) e)) }
 {
     let mut row = empty_row(derives.alloc());
-    fill_core(derives, &mut row, e, enough)?;
-    Ok(row)
+    let whole = fill_core(derives, &mut row, e, enough)?;
+    if whole {
+        return Ok(Some(row));
+    }
+    Ok(None)
 }
 
 /// Fills an empty row with that of the weak head form.

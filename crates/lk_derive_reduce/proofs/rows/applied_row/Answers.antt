@@ -16,14 +16,14 @@ head_row-requires-clause-stuck g c =
     let old : Contents = g.D.Terms.contents c.args.derives.now in
     subst IsStuck c.head-front.ensures.is (subst (IsHeadForm old (tree_at old c.head-front.result)) c.in-Stuck.is c.head_form.ensures)
 
-pub constant_row-requires-clause-head_is : goal.constant_row-requires-clause-head_is
-constant_row-requires-clause-head_is g c =
+pub is_constant_row-requires-clause-head_is : goal.is_constant_row-requires-clause-head_is
+is_constant_row-requires-clause-head_is g c =
     let old : Contents = g.D.Terms.contents c.args.derives.now in
     let k : IsHeadForm old (tree_at old c.head-front.result) (Named c.in-Named.constant) = subst (IsHeadForm old (tree_at old c.head-front.result)) c.in-Named.is c.head_form.ensures in
     k.2 ∙ c.head-front.ensures.is
 
-pub returns-in-Rigid-clause-whole : goal.returns-in-Rigid-clause-whole
-returns-in-Rigid-clause-whole g c =
+pub returns-in-Rigid-clause-filled : goal.returns-in-Rigid-clause-filled
+returns-in-Rigid-clause-filled g c =
     let old : Contents = g.D.Terms.contents c.args.derives.now in
     let w : Place = (g.D.Looks.sight (g.D.Terms.rest c.args.derives.now)).basis.place in
     rigid_whole w c.args.enough old c.args.row.now (tree_at old c.args.e) (tree_at old c.head-front.result) c.requires.applied c.head-front.ensures.is
