@@ -8,7 +8,7 @@ use Rattle.lk_tree.proofs.Binding.{open_fine}
 use Rattle.lk_tree.proofs.Spines.{fine_apply, well_formed_of_apply}
 use Rattle.lk_tree.proofs.Within.{apply_head_args}
 use Rattle.lk_rulebook.specs.Place.{Place}
-use Rattle.lk_questions.specs.Query.{Query, AnswerTo, core}
+use Rattle.lk_questions.specs.Query.{core}
 use Rattle.lk_questions.specs.Program.{Program, done, asked, ◌>>=◌}
 use Rattle.lk_questions.specs.Steps.{is_same_tree}
 use Rattle.lk_questions.specs.Core.{lambdas, beta, core_applied, core_steps}
