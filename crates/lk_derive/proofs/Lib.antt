@@ -21,3 +21,5 @@ pub mod PartsDue
 pub mod SidesAdded
 pub mod UnitDue
 pub mod UnitDone
+pub mod PairsMade
+pub mod LawsMade

@@ -20,7 +20,7 @@ use Rattle.lk_derive.specs.Parts.{parts_at, AreParts, AddsParts, IsDue}
 use Rattle.lk_derive.specs.Sides.{pair_parts, AreEqual}
 use Rattle.lk_derive.proofs.Lists.{map-same}
 
-empty : {X : Type 0} (xs : List X) → length xs ≡ 0 → xs ≡ []
+pub empty : {X : Type 0} (xs : List X) → length xs ≡ 0 → xs ≡ []
 empty [] e = refl
 empty (x ∷ xs) e = absurd (omega (arith, e))
 

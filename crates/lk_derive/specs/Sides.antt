@@ -1,12 +1,13 @@
 -- The sides of the laws of a definition, in pairs, and the value of a declaration.
-use Rattle.std.specs.Prelude.{◌≡◌, ℕ, List, [], ◌∷◌, length, All, Option, Some, None}
+use Rattle.std.specs.Prelude.{◌≡◌, ℕ, List, [], ◌∷◌, ◌++◌, length, All, Option, Some, None}
 use Rattle.lk_tree.specs.Tree.{Tree}
 use Rattle.lk_rulebook.specs.Place.{Place}
 use Rattle.lk_rulebook.specs.Units.{Body, as_axiom, as_def, as_thm, as_opaque, as_quot, Decl}
+use Rattle.lk_rulebook.specs.NumberLaws.{Law}
 use Rattle.lk_rulebook.specs.Claims.{Claim, types, reduces, equals}
 use Rattle.lk_questions.specs.Query.{same}
 use Rattle.lk_questions.specs.NumberLaws.{lawful_op}
-use Rattle.lk_store.specs.Contents.{Contents}
+use Rattle.lk_store.specs.Contents.{Contents, tree_at}
 use Rattle.lk_env.specs.declared.unit.Declaration.{Declaration}
 use Rattle.lk_env.specs.Units.{declaration_at, declared_levels, IsStatedIn, IsBodyIn}
 use Rattle.lk_ask.specs.declared.sheet.Pair.{Pair}
@@ -55,6 +56,14 @@ body_value (as_thm value) = Some value
 body_value (as_opaque value) = Some value
 body_value as_quot = None
 
+-- the value of a definition
+abbrev pub definition_value : Body → Option Tree
+definition_value as_axiom = None
+definition_value (as_def h value) = Some value
+definition_value (as_thm value) = None
+definition_value (as_opaque value) = None
+definition_value as_quot = None
+
 -- where there is a value, that it is of the type can be derived
 abbrev pub IsAnyDue : {S : Type 0} → (S → Contents) → (S → Place) → (S → ℕ) → S → Parts →
     Option ℕ → ℕ → Type 0
@@ -80,3 +89,14 @@ pub record IsUnitDue {S : Type 0} (contents : S → Contents) (place : S → Pla
   pub parts_are : AreParts (place rows) (contents rows) parts
   pub yes : IsYes (place rows) (most rows) (declaration_at (contents rows) d)
   pub sides_are : AreSidesOf (contents rows) (declaration_at (contents rows) d) sides
+
+-- the two are the sides of this law
+pub record IsPairOf (c : Contents) (law : Law) (p : Pair ℕ) : Type 0 where
+  pub pair_in : IsKnownPair (length c.trees) p
+  pub left_is : tree_at c p.left ≡ law.left
+  pub right_is : tree_at c p.right ≡ law.right
+
+-- pairs are added, which say this
+pub record AddsPairs (c d : Contents) (old new : List (Pair ℕ)) (cs : List Claim) : Type 0 where
+  pub pairs_in : All (IsKnownPair (length d.trees)) new
+  pub are : pair_parts (pairs_at d new) ≡ pair_parts (pairs_at c old) ++ cs
