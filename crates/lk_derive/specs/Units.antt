@@ -43,8 +43,8 @@ pub record HasType (w : Place) (most : ℕ) (value type : Tree) : Type 0 where
 abbrev pub AreMet : Place → ℕ → List Law → Type 0
 AreMet w most [] = Unit {0}
 AreMet w most (law ∷ laws) =
-    ((found w (held_given law.holds) ≡ Some tt) × IsAnsweredAs w (same law.left law.right) true most)
-    × AreMet w most laws
+    ((found w (held_given law.holds) ≡ Some tt)
+    × IsAnsweredAs w (same law.left law.right) true most) × AreMet w most laws
 
 -- the laws of the operation that a def with these level parameters and this value is named as
 abbrev pub IsLawful : Place → ℕ → Option Op → List Name → Tree → Type 0

@@ -62,8 +62,8 @@ fn add<R: Rows>(
 ) -> Result<(), NoMemory>
     requires due { IsDue R.contents R.place R.most rows.old parts.old query }
     requires claim_in { IsClaimIn (R.contents rows.old) claim }
-    requires claim_is { IsClaimOf (R.place rows.old) (query_of (tree_at (R.contents rows.old)) query)
-        (claim_at (R.contents rows.old) claim) }
+    requires claim_is { let c = R.contents rows.old in
+        IsClaimOf (R.place rows.old) (query_of (tree_at c) query) (claim_at c claim) }
     ensures stays { Stays R.contents R.place R.most rows.old rows.new }
     ensures adds { OnOk result (AddsParts (R.place rows.old) (R.contents rows.old)
         (R.contents rows.new) parts.old parts.new (claim_at (R.contents rows.old) claim ∷ [])) }

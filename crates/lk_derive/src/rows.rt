@@ -42,8 +42,8 @@ pub trait Rows {
         ensures told { IsTold (place self.old) (contents self.new)
             (query_of (tree_at (contents self.old)) query) result };
 
-    /// What the answer of a question rests on that costs no more than that and claims something: which is not a Same that is
-    /// answered no.
+    /// What the answer of a question rests on that costs no more than that and claims something: which is not a Same
+    /// that is answered no.
     fn row(&mut self, query: Query<u64>) -> Result<Row, NoMemory>
         requires known { IsKnownQuery (length (contents self.old).trees) query }
         requires answered { IsClaim (place self.old)

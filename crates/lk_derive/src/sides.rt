@@ -128,8 +128,8 @@ fn add_declared<T: Terms>(
     }
 }
 
-/// The sides of the laws that are asked of a declaration, in pairs: none but for a definition that is named as an operation
-/// on numbers that has laws.
+/// The sides of the laws that are asked of a declaration, in pairs: none but for a definition that is named as an
+/// operation on numbers that has laws.
 pub fn sides_of_laws<T: Terms>(
     alloc: Global,
     terms: &mut T,

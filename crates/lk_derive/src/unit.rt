@@ -113,8 +113,8 @@ fn end_with<R: Rows>(alloc: Global, rows: &R, parts: Parts, unit: u32) -> Result
     section_of_parts(alloc, rows, notes, unit, &claims)
 }
 
-/// The section of a declaration that is answered yes, of a unit of this number. The pairs are the sides of the laws that are
-/// asked of it, which is none but for a definition that is named as an operation on numbers.
+/// The section of a declaration that is answered yes, of a unit of this number. The pairs are the sides of the laws
+/// that are asked of it: none but for a definition that is named as an operation on numbers (`sides_of_laws`).
 pub fn section_of_unit<R: Rows>(
     alloc: Global,
     rows: &mut R,
