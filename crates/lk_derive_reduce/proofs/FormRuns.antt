@@ -1,23 +1,20 @@
 -- What a run of Whnf says.
-use Rattle.std.proofs.Common.{ℕ, suc, ◌≡◌, ◌<◌, ◌≤◌, ◌+◌, Bool, true, false, List, [], ◌∷◌, Option, Some, None, refl, sym, subst, ap, ◌∙◌, arith}
+use Rattle.std.proofs.Common.{ℕ, suc, ◌≡◌, ◌<◌, ◌≤◌, ◌+◌, List, [], ◌∷◌, Option, Some, None, refl, sym, subst, ap, ◌∙◌, arith}
 use Rattle.lk_tree.specs.Tree.{Name, Level, Tree, const}
 use Rattle.lk_tree.specs.Spine.{head}
+use Rattle.lk_tree.specs.WellFormed.{IsWellFormed}
 use Rattle.lk_rulebook.specs.Place.{Place, Entry}
 use Rattle.lk_rulebook.specs.WellStated.{WellStated}
 use Rattle.lk_rulebook.specs.Claims.{reduces}
-use Rattle.lk_questions.specs.Answer.{later}
 use Rattle.lk_questions.specs.Query.{core, whnf}
-use Rattle.lk_questions.specs.Program.{Program, done, refuse, ask, look}
-use Rattle.lk_questions.specs.Erased.{Steps, gives, truth, looked, erased_then}
+use Rattle.lk_questions.specs.Program.{Program, done}
 use Rattle.lk_questions.specs.Steps.{value_of}
 use Rattle.lk_questions.specs.Core.{unfolded, stepped, whnf_headed}
 use Rattle.lk_questions.specs.Literals.{literal_step}
+use Rattle.lk_questions.specs.LiteralLines.{step_of}
 use Rattle.lk_store.specs.Contents.{Contents, Extends}
 use Rattle.lk_env.specs.declared.entry.Entry.{Entry as StoredEntry}
 use Rattle.lk_ask.specs.Looks.{Basis, entry_at}
-use Rattle.lk_lit.specs.declared.step.LitPart.{LitPart}
-use Rattle.lk_lit.specs.declared.step.LitPart.TheVariants.{Goes, Comes}
-use Rattle.lk_lit.specs.Steps.{Then, lit_steps}
 use Rattle.lk_step.specs.declared.step.Row.{Row}
 use Rattle.lk_step.specs.Rows.{IsAnswered, IsClaim}
 use Rattle.lk_step.specs.Runs.{Runs, RunsOn, IsOpened, AreOne}
@@ -25,9 +22,11 @@ use Rattle.lk_step.specs.Shaped.{IsShapedAnswer}
 use Rattle.lk_step.specs.Told.{IsAnsweredWithin}
 use Rattle.lk_step.proofs.Runs.{opened_so, one_answer, runs_on}
 use Rattle.lk_step.proofs.Shapes.{shaped_answer}
-use Rattle.lk_step.specs.Parts.{IsEmpty, AsksCore, IsWhole}
-use Rattle.lk_derive_reduce.specs.Forms.{AtCore, UnfoldsBy, IsMeant, is_nothing, ComputesNothing}
-use Rattle.lk_step.proofs.Quiet.{found_next}
+use Rattle.lk_step.specs.Tests.{IsRun}
+use Rattle.lk_step.specs.Computed.{AddsNothing, AddsValue}
+use Rattle.lk_step.specs.Parts.{IsEmpty, AsksCore, IsPartIn, Chains, IsWhole}
+use Rattle.lk_derive_reduce.specs.Forms.{AtCore, UnfoldsBy, ComputesNothing}
+use Rattle.lk_step.proofs.Parts.{first, behind}
 use Rattle.lk_step.proofs.PartsIn.{part_none, part_stays, part_whole}
 
 -- Core is asked for first
@@ -76,54 +75,6 @@ at_core w most c d old new e v ok empty k a =
       runs = subst (λ z. Runs w (whnf_headed z (head z)) k.answer r.second) same r.runs;
     }
 
--- whether there is a value
-abbrev has : Option Tree → Bool
-has (Some v) = true
-has None = false
-
-abbrev flag : Then
-flag t u v = gives u (truth (has v))
-
-abbrev is_gives : Steps → Bool
-is_gives (gives t v) = true
-is_gives _ = false
-
-abbrev is_no : Steps → Bool
-is_no (gives t (truth false)) = true
-is_no _ = false
-
-pub record Nothing (r : Option Tree) (n : ℕ) : Type 0 where
-  pub none : r ≡ None
-  pub free : n ≡ 0
-
-nothing_at : (r x : Option Tree) (n : ℕ) → x ≡ r → n ≡ 0 → is_no (gives None (truth (has x))) ≡ true → Nothing r n
-nothing_at r None n e z t = record { none = sym e; free = z }
-nothing_at r (Some v) n e z t = absurd cc
-
--- a run of a program whose steps say no at once
-pub quiet_none : (w : Place) (last : Option ℕ) (t : Tree) (p : Program (Option Tree)) (r : Option Tree) (n : ℕ) → Runs w p r n → is_no (erased_then w (flag t) last p) ≡ true → Nothing r n
-quiet_none w last t (done x) r n h e = nothing_at r x n h.0 h.1 (no_last last x e)
-  where
-    no_last : (u : Option ℕ) (y : Option Tree) → is_no (gives u (truth (has y))) ≡ true → is_no (gives None (truth (has y))) ≡ true
-    no_last u None e = refl
-    no_last u (Some v) e = absurd cc
-quiet_none w last t (refuse x) r n h e = absurd h
-quiet_none w last t (ask q k) r n h e = absurd cc
-quiet_none w last t (look x c k) r n h e =
-    quiet_none w (later last (Some (w.origin c))) t (k h.0) r n h.2
-    (sym (ap is_no (found_next w x last c (w.means c) h.0 (λ u g. erased_then w (flag t) u (k g)) h.1)) ∙ e)
-
-pub nothing_computed : (w w' : Place) (t : ℕ → Tree) (u last : Option ℕ) (part : LitPart) (x c : Tree) (f : Name) (ls : List Level) (g : Entry) → is_nothing part ≡ true →
-    ((k : Then) → lit_steps k w t u part ≡ erased_then w (k x) last (literal_step c f ls g)) → ComputesNothing w c f ls g
-nothing_computed w w' t u last (Comes term None) x c f ls g i h =
-    let no : is_no (erased_then w (flag x) last (literal_step c f ls g)) ≡ true = sym (ap is_no (h flag)) in
-    record {
-      nothing = λ r n run. (quiet_none w last x (literal_step c f ls g) r n run no).none;
-      free = λ r n run. (quiet_none w last x (literal_step c f ls g) r n run no).free;
-    }
-nothing_computed w w' t u last (Comes term (Some v)) x c f ls g i h = absurd cc
-nothing_computed w w' t u last (Goes next) x c f ls g i h = absurd cc
-
 -- the head is a constant
 record ConstantRun (w : Place) (c : Tree) (f : Name) (ls : List Level) (v : Tree) (n : ℕ) : Type 0 where
   plain : Entry
@@ -150,20 +101,14 @@ is_given w d r most e c f ls a h none =
     let some : w.means f ≡ Some k.plain = k.given in
     absurd cc
 
-pub meant_at : {B : Type 0} (b : Basis B) (entry : StoredEntry) (d : Contents) (r : Row) (most : ℕ) (e c : Tree) (f : Name) (ls : List Level) → AtCore b.place d r most e c → const f ls ≡ head c → b.place.means f ≡ entry_at b entry → IsMeant b entry
-meant_at b entry d r most e c f ls a h m =
+pub unfolds_by : {B : Type 0} (b : Basis B) (entry : StoredEntry) (d : Contents) (r : Row) (most : ℕ) (e c : Tree) (f : Name) (ls : List Level) → AtCore b.place d r most e c → const f ls ≡ head c → b.place.means f ≡ entry_at b entry → ComputesNothing b.place c →
+    UnfoldsBy b d r most e c entry ls
+unfolds_by b entry d r most e c f ls a h m nothing =
     let k : ConstantRun b.place c f ls a.value a.second = run_at b.place d r most e c f ls a h in
-    record { plain = k.plain; is = sym m ∙ k.given }
-
-pub unfolds_by : {B : Type 0} (b b' : Basis B) (entry : StoredEntry) (c0 d : Contents) (r : Row) (most : ℕ) (e e' c c' : Tree) (f : Name) (ls ls' : List Level) → b' ≡ b → e' ≡ e → c' ≡ c → ls' ≡ ls → Extends c0 d → (a : AtCore b.place c0 r most e c) → (h : const f ls ≡ head c) →
-    (m : b.place.means f ≡ entry_at b entry) → ((m : IsMeant b entry) → ComputesNothing b.place c f ls m.plain) → UnfoldsBy b' d r most e' c' entry ls'
-unfolds_by b b' entry c0 d r most e e' c c' f ls ls' eb ee ec el x a h m nothing =
-    let k : ConstantRun b.place c f ls a.value a.second = run_at b.place c0 r most e c f ls a h in
-    let none : ComputesNothing b.place c f ls k.plain = nothing (record { plain = k.plain; is = sym m ∙ k.given }) in
-    let free : k.first ≡ 0 = none.free k.result k.first k.computed in
+    let none : k.result ≡ None = nothing.nothing k.result k.first (subst (λ z. Runs b.place (step_of c z) k.result k.first) h (k.plain, k.given, k.computed)) in
     let spent : a.second ≡ k.first + k.second = k.paid in
     let paid : a.first + a.second < a.cost = a.paid in
-    let run : UnfoldsBy b d r most e c entry ls = record {
+    record {
       plain = k.plain;
       is = sym m ∙ k.given;
       unfolds = record {
@@ -175,18 +120,79 @@ unfolds_by b b' entry c0 d r most e e' c c' f ls ls' eb ee ec el x a h m nothing
         core_fine = a.core_fine;
         first = a.first;
         second = k.second;
-        paid = omega arith;
-        part = part_stays b.place c0 d x r (reduces e c ∷ []) a.first a.part;
+        paid = omega (arith, spent, paid);
+        part = a.part;
         name = f;
         head_is = sym h;
         given = k.given;
-        runs = subst (λ o. Runs b.place (stepped o (unfolded k.plain (const f ls) c (value_of k.plain.kind))) a.value k.second) (none.nothing k.result k.first k.computed) k.after;
+        runs = subst (λ o. Runs b.place (stepped o (unfolded k.plain (const f ls) c (value_of k.plain.kind))) a.value k.second) none k.after;
       };
+    }
+
+-- the literal step comes first
+record StepRun (w : Place) (c h v : Tree) (n : ℕ) : Type 0 where
+  result : Option Tree
+  first : ℕ
+  runs : Runs w (step_of c h) result first
+  paid : first ≤ n
+  value : (u : Tree) → result ≡ Some u → v ≡ u
+
+step_run : (w : Place) (c h v : Tree) (n : ℕ) → Runs w (whnf_headed c h) v n → StepRun w c h v n
+step_run w c (const f ls) v n r =
+    let k : ConstantRun w c f ls v n = constant_run w c f ls v n r in
+    let paid : n ≡ k.first + k.second = k.paid in
+    record {
+      result = k.result;
+      first = k.first;
+      runs = (k.plain, k.given, k.computed);
+      paid = omega (arith, paid);
+      value = λ u e. let after : Runs w (done u) v k.second = subst (λ o. Runs w (stepped o (unfolded k.plain (const f ls) c (value_of k.plain.kind))) v k.second) e k.after in sym after.0;
+    }
+step_run w c _ v n r = record { result = None; first = 0; runs = (refl, refl); paid = omega arith; value = λ u e. absurd cc }
+
+pub step_within : (w : Place) (d : Contents) (r : Row) (most : ℕ) (e c : Tree) → AtCore w d r most e c → IsRun w (step_of c (head c)) most
+step_within w d r most e c a =
+    let s : StepRun w c (head c) a.value a.second = step_run w c (head c) a.value a.second a.runs in
+    let less : s.first ≤ a.second = s.paid in
+    let paid : a.first + a.second < a.cost = a.paid in
+    let within : a.cost ≤ most = a.within in
+    record { value = s.result; cost = s.first; runs = s.runs; within = omega (arith, less, paid, within) }
+
+pub operation_whole : (w : Place) (most : ℕ) (c d : Contents) (old mid new : Row) (e k v : Tree) → WellStated w → AtCore w c old most e k → AddsValue w c d old mid k v → Chains d mid new e k v → IsWhole w d (whnf e) new
+operation_whole w most c d old mid new e k v ok a adds chained =
+    let s : StepRun w k (head k) a.value a.second = step_run w k (head k) a.value a.second a.runs in
+    let is : a.value ≡ v = s.value v (adds.gives s.result s.first s.runs) in
+    let less : s.first ≤ a.second = s.paid in
+    let paid : a.first + a.second < a.cost = a.paid in
+    let shape : IsShapedAnswer (whnf e) a.value = shaped_answer w ok (whnf e) a.value a.cost a.fine a.answered in
+    let fine : IsWellFormed v = subst IsWellFormed is shape.0.1 in
+    let p : IsPartIn w d mid (reduces k v ∷ reduces e k ∷ []) (a.first + s.first) = adds.asks s.result s.first s.runs (reduces e k ∷ []) a.first a.part in
+    let q : IsPartIn w d new (reduces e v ∷ reduces k v ∷ reduces e k ∷ []) (a.first + s.first) =
+    chained.states w a.fine fine (reduces k v ∷ reduces e k ∷ []) (a.first + s.first) (behind (reduces k v) (reduces e k ∷ []) (reduces e k) (first (reduces e k) []), (first (reduces k v) (reduces e k ∷ []), tt)) p in
+    part_whole w d new (whnf e) v a.cost (a.first + s.first) (reduces k v ∷ reduces e k ∷ []) (subst (λ z. IsAnswered w (whnf e) z a.cost) is a.answered) tt (omega (arith, less, paid)) q
+
+pub nothing_at : (w w' : Place) (c c' : Tree) (old new : Row) → w' ≡ w → c' ≡ c → AddsNothing w old new c → ComputesNothing w' c'
+nothing_at w w' c c' old new ew ec h = subst (λ z. ComputesNothing z c') (sym ew) (subst (λ z. ComputesNothing w z) (sym ec) (record { nothing = h.nothing }))
+
+pub at_grown : (w w' : Place) (c d : Contents) (r r' : Row) (most : ℕ) (e e' k k' : Tree) → w' ≡ w → e' ≡ e → k' ≡ k → r' ≡ r → Extends c d → AtCore w c r most e k → AtCore w' d r' most e' k'
+at_grown w w' c d r r' most e e' k k' ew ee ek er x a =
+    let grown : AtCore w d r most e k = record {
+      value = a.value;
+      cost = a.cost;
+      answered = a.answered;
+      within = a.within;
+      fine = a.fine;
+      core_fine = a.core_fine;
+      first = a.first;
+      second = a.second;
+      paid = a.paid;
+      part = part_stays w c d x r (reduces e k ∷ []) a.first a.part;
+      runs = a.runs;
     } in
-    subst (λ z. UnfoldsBy z d r most e' c' entry ls') (sym eb)
-    (subst (λ z. UnfoldsBy b d r most z c' entry ls') (sym ee)
-    (subst (λ z. UnfoldsBy b d r most e z entry ls') (sym ec)
-    (subst (λ z. UnfoldsBy b d r most e c entry z) (sym el) run)))
+    subst (λ z. AtCore z d r' most e' k') (sym ew)
+    (subst (λ z. AtCore w d z most e' k') (sym er)
+    (subst (λ z. AtCore w d r most z k') (sym ee)
+    (subst (λ z. AtCore w d r most e z) (sym ek) grown)))
 
 -- the same at another store
 pub core_at : (w w' : Place) (d : Contents) (r : Row) (most : ℕ) (e e' c : Tree) → w' ≡ w → e' ≡ e → AtCore w d r most e c → AtCore w' d r most e' c

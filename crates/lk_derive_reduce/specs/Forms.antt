@@ -8,7 +8,7 @@ use Rattle.lk_rulebook.specs.Claims.{Claim, reduces}
 use Rattle.lk_questions.specs.Query.{core, whnf}
 use Rattle.lk_questions.specs.Core.{core_applied, core_steps, unfolded, whnf_headed}
 use Rattle.lk_questions.specs.Iota.{core_constant}
-use Rattle.lk_questions.specs.Literals.{literal_step}
+use Rattle.lk_questions.specs.LiteralLines.{step_of}
 use Rattle.lk_questions.specs.Steps.{is_same_tree, value_of}
 use Rattle.lk_written.specs.Line.{ReductionRule, delta_rule}
 use Rattle.lk_questions.specs.Program.{done}
@@ -17,8 +17,6 @@ use Rattle.lk_env.specs.declared.entry.Entry.{Entry as StoredEntry}
 use Rattle.lk_ask.specs.Looks.{Basis, entry_at}
 use Rattle.lk_ask.specs.declared.query.Query.TheVariants.{Core}
 use Rattle.lk_ask.specs.declared.next.Next.TheVariants.{Ask}
-use Rattle.lk_lit.specs.declared.step.LitPart.{LitPart}
-use Rattle.lk_lit.specs.declared.step.LitPart.TheVariants.{Comes}
 use Rattle.lk_core.specs.declared.core_form.CoreStep.{CoreStep}
 use Rattle.lk_core.specs.declared.core_form.CoreStep.TheVariants.{Goes}
 use Rattle.lk_step.specs.declared.step.Row.{Row}
@@ -145,21 +143,9 @@ pub record AtCore (w : Place) (d : Contents) (r : Row) (most : ℕ) (e c : Tree)
   pub part : IsPartIn w d r (reduces e c ∷ []) first
   pub runs : Runs w (whnf_headed c (head c)) value second
 
--- an entry of the library stands for one
-pub record IsMeant {B : Type 0} (b : Basis B) (entry : StoredEntry) : Type 0 where
-  pub plain : Entry
-  pub is : entry_at b entry ≡ Some plain
-
--- the literal step comes to nothing at once
-abbrev pub is_nothing : LitPart → Bool
-is_nothing (Comes t None) = true
-is_nothing _ = false
-
--- a run of the literal step of c, whose head is this constant of this entry, computes nothing
-pub record ComputesNothing (w : Place) (c : Tree) (f : Name) (ls : List Level) (g : Entry)
-    : Type 0 where
-  pub nothing : (r : Option Tree) (n : ℕ) → Runs w (literal_step c f ls g) r n → r ≡ None
-  pub free : (r : Option Tree) (n : ℕ) → Runs w (literal_step c f ls g) r n → n ≡ 0
+-- no run of the literal step of c gives a value
+pub record ComputesNothing (w : Place) (c : Tree) : Type 0 where
+  pub nothing : (r : Option Tree) (n : ℕ) → Runs w (step_of c (head c)) r n → r ≡ None
 
 -- the tree is this constant, or no constant is there to look up
 abbrev pub IsConstantAt : Contents → Tree → Option Constant → Type 0

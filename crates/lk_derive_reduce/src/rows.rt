@@ -211,31 +211,7 @@ pub fn core_row<D: Derives>(derives: &mut D, e: u64, enough: u128) -> Result<Opt
     Ok(None)
 }
 
-/// Fills an empty row with that of the weak head form.
-fn fill_whnf<D: Derives>(
-    derives: &mut D,
-    row: &mut Row,
-    e: u64,
-    enough: u128,
-) -> Result<(), NoMemory>
-    requires stated { WellStated (D.sight (D.rest derives.old)).basis.place }
-    requires e_in { e < length (D.contents derives.old).trees }
-    requires claimed { IsClaim (D.sight (D.rest derives.old)).basis.place
-        (whnf (tree_at (D.contents derives.old) e)) enough }
-    requires empty { IsEmpty row.old }
-    ensures leaves { Leaves D.contents D.rest D.sight derives.old derives.new }
-    ensures whole { OnOk result (IsWhole (D.sight (D.rest derives.old)).basis.place
-        (D.contents derives.new) (whnf (tree_at (D.contents derives.old) e)) row.new) }
-{
-    let whole = fill_form(derives, row, e, enough)?;
-    if whole {
-        return Ok(());
-    }
-    Err(NoMemory)
-}
-
-/// What a weak head form rests on. Where an operation on numbers is begun on the way it tells want of memory, also where there
-/// is memory: these rows are not written.
+/// What a weak head form rests on.
 pub fn form_row<D: Derives>(derives: &mut D, e: u64, enough: u128) -> Result<Row, NoMemory>
     requires stated { WellStated (D.sight (D.rest derives.old)).basis.place }
     requires e_in { e < length (D.contents derives.old).trees }
@@ -247,6 +223,6 @@ pub fn form_row<D: Derives>(derives: &mut D, e: u64, enough: u128) -> Result<Row
         (D.contents derives.new) (whnf (tree_at (D.contents derives.old) e))) }
 {
     let mut row = empty_row(derives.alloc());
-    fill_whnf(derives, &mut row, e, enough)?;
+    fill_form(derives, &mut row, e, enough)?;
     Ok(row)
 }
