@@ -1,0 +1,4 @@
+pub mod Undenied
+mod Added
+mod Literal
+mod Counting

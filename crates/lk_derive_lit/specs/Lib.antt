@@ -1,0 +1,3 @@
+pub mod Undenied
+pub mod Added
+pub mod Constructors
