@@ -1,8 +1,6 @@
 -- It is stated that two trees are the same, by what they reduce to.
-use Rattle.std.proofs.Common.{ℕ, ◌≡◌, ◌+◌, ◌<◌, ◌≤◌, inl, true, List, [], ◌∷◌, ◌++◌, length, refl, sym, ◌∙◌, subst, ap, arith}
-use Rattle.std.specs.Prelude.{All}
-use Rattle.std.proofs.lemmas.List.Elements.{All-nil, All-cons, All-same}
-use Rattle.lk_tree.specs.Tree.{Tree}
+use Rattle.std.proofs.Common.{ℕ, ◌≡◌, ◌+◌, ◌<◌, ◌≤◌, true, List, [], ◌∷◌, length, refl, sym, ◌∙◌, subst, ap, arith}
+use Rattle.std.proofs.lemmas.List.Elements.{All-nil, All-cons}
 use Rattle.lk_tree.specs.WellFormed.{IsWellFormed}
 use Rattle.lk_rulebook.specs.Place.{Place}
 use Rattle.lk_rulebook.specs.Claims.{Claim, reduces, equals}
@@ -14,7 +12,6 @@ use Rattle.lk_trace.specs.declared.rules.Rule.TheVariants.{Conversion}
 use Rattle.lk_trace.specs.declared.rules.ConversionRule.TheVariants.{Reduce}
 use Rattle.lk_trace.specs.Meaning.{IsRuleIn}
 use Rattle.lk_premises.specs.Claims.{claims_at, IsClaimIn, AreClaimsIn}
-use Rattle.lk_premises.specs.declared.claims.Claim.{Claim as StoredClaim}
 use Rattle.lk_step.specs.declared.step.Row.{Row}
 use Rattle.lk_step.specs.declared.step.Step.{Step}
 use Rattle.lk_step.specs.Steps.{equality}

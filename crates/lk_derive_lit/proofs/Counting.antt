@@ -1,13 +1,13 @@
 -- Two terms of which one is a number.
-use Rattle.std.proofs.Common.{ℕ, zero, suc, ◌≡◌, ◌+◌, ◌^◌, ◌<◌, ◌≤◌, ◌⊎◌, inl, inr, Bool, true, false, List, [], ◌∷◌, Option, Some, None, refl, sym, ◌∙◌, subst, ap, arith, if◌then◌else◌}
-use Rattle.lk_tree.specs.Tree.{Name, Tree, const, app, lit}
+use Rattle.std.proofs.Common.{ℕ, zero, suc, ◌≡◌, ◌+◌, ◌^◌, ◌<◌, ◌≤◌, ◌⊎◌, inl, inr, Bool, true, false, [], ◌∷◌, Option, Some, None, refl, sym, ◌∙◌, subst, ap, arith, if◌then◌else◌}
+use Rattle.lk_tree.specs.Tree.{Tree, const, app, lit}
 use Rattle.lk_tree.specs.Mentions.{same_name}
 use Rattle.lk_tree.specs.WellFormed.{IsWellFormed}
 use Rattle.lk_rulebook.specs.Place.{Place}
 use Rattle.lk_rulebook.specs.Names.{named, nat_zero, nat_succ}
 use Rattle.lk_rulebook.specs.Claims.{Claim, equals}
 use Rattle.lk_questions.specs.Query.{same}
-use Rattle.lk_questions.specs.Program.{done, asked, ◌>>=◌}
+use Rattle.lk_questions.specs.Program.{done, asked}
 use Rattle.lk_questions.specs.Pairs.{Line, answers, goes_on}
 use Rattle.lk_questions.specs.Steps.{is_same_tree}
 use Rattle.lk_questions.specs.LiteralLines.{NatCtor, is_zero, is_succ, nat_ctor, lit_first, lit_second, same_numbers}
@@ -22,7 +22,7 @@ use Rattle.lk_step.specs.Steps.{equality, StepHolds}
 use Rattle.lk_step.specs.Makes.{IsMade}
 use Rattle.lk_step.specs.Rows.{no_claim, a_claim}
 use Rattle.lk_step.specs.Runs.{Runs}
-use Rattle.lk_step.specs.Tells.{IsBasis, Tells}
+use Rattle.lk_step.specs.Tells.{Tells}
 use Rattle.lk_step.proofs.Bases.{one_step, basis_made}
 use Rattle.lk_step.proofs.EqualitySteps.{equality_steps}
 use Rattle.lk_step.proofs.PartsIn.{apart}

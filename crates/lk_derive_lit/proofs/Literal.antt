@@ -1,12 +1,12 @@
 -- Two terms of which one is an operation that is computed.
-use Rattle.std.proofs.Common.{ℕ, ◌≡◌, ◌+◌, ◌<◌, ◌≤◌, inl, Bool, true, false, List, [], ◌∷◌, length, Option, Some, None, refl, sym, ◌∙◌, subst, ap, arith}
+use Rattle.std.proofs.Common.{ℕ, ◌≡◌, ◌+◌, ◌<◌, ◌≤◌, inl, Bool, true, false, List, [], ◌∷◌, length, Option, Some, None, refl, sym, subst, arith}
 use Rattle.lk_tree.specs.Tree.{Tree}
 use Rattle.lk_tree.specs.Spine.{head}
 use Rattle.lk_tree.specs.WellFormed.{IsWellFormed}
 use Rattle.lk_rulebook.specs.Place.{Place}
 use Rattle.lk_rulebook.specs.Claims.{Claim, reduces, equals}
 use Rattle.lk_questions.specs.Query.{same}
-use Rattle.lk_questions.specs.Program.{done, asked, ◌>>=◌}
+use Rattle.lk_questions.specs.Program.{done, asked}
 use Rattle.lk_questions.specs.Pairs.{Line, answers}
 use Rattle.lk_questions.specs.LiteralLines.{step_of, same_first, same_second, step_first, step_second}
 use Rattle.lk_claims.proofs.Facts.{same_self}
@@ -15,12 +15,11 @@ use Rattle.lk_step.specs.declared.step.Row.{Row}
 use Rattle.lk_step.specs.Rows.{IsAnswered}
 use Rattle.lk_step.specs.Runs.{Runs, RunsOn}
 use Rattle.lk_step.specs.Tests.{IsRun, AreReduced}
-use Rattle.lk_step.specs.Tells.{IsBasisOf, Tells}
+use Rattle.lk_step.specs.Tells.{Tells}
 use Rattle.lk_step.specs.Parts.{IsPartIn, IsEmpty}
 use Rattle.lk_step.specs.Meaning.{IsRowIn}
-use Rattle.lk_step.specs.Computed.{AddsNothing, AddsValue}
+use Rattle.lk_step.specs.Computed.{AddsValue}
 use Rattle.lk_step.proofs.Computing.{computation, value_fine}
-use Rattle.lk_step.proofs.Driven.{one_run}
 use Rattle.lk_step.proofs.Parts.{first, all_of}
 use Rattle.lk_step.proofs.PartsIn.{part_none, part_these}
 use Rattle.lk_step.proofs.Runs.{runs_on}

@@ -1,5 +1,5 @@
 -- Constructors of Nat, by numbers.
-use Rattle.std.specs.Prelude.{ℕ, ◌≡◌, ◌<◌, length, Option, Some, None}
+use Rattle.std.specs.Prelude.{◌≡◌, ◌<◌, length, Option, Some, None}
 use Rattle.lk_tree.specs.Tree.{Tree, app}
 use Rattle.lk_rulebook.specs.Names.{named, nat_zero, nat_succ}
 use Rattle.lk_questions.specs.LiteralLines.{nat_ctor}

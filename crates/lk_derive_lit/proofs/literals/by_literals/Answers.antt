@@ -1,13 +1,13 @@
-use Rattle.std.proofs.Common.{◌≡◌, ℕ, Bool, Option, Some, None, subst}
+use Rattle.std.proofs.Common.{None, subst}
 use Rattle.lk_tree.specs.Tree.{Tree}
 use Rattle.lk_rulebook.specs.Place.{Place}
 use Rattle.lk_rulebook.specs.Claims.{equals}
-use Rattle.lk_questions.specs.LiteralLines.{step_first, step_second, same_numbers}
+use Rattle.lk_questions.specs.LiteralLines.{step_first}
 use Rattle.lk_store.specs.Contents.{Contents, tree_at}
 use Rattle.lk_step.specs.Tells.{Tells}
 use Rattle.lk_step.proofs.Moving.{moved2}
-use Rattle.lk_derive_lit.specs.Undenied.{IsUndenied, NeverDenies, after_first}
-use Rattle.lk_derive_lit.proofs.Undenied.{undenied_first, undenied_second, tells_first, tells_behind, never_denies}
+use Rattle.lk_derive_lit.specs.Undenied.{IsUndenied, after_first}
+use Rattle.lk_derive_lit.proofs.Undenied.{undenied_first, undenied_second, tells_first, tells_behind}
 use Rattle.lk_derive_lit.proofs.literals.by_literals.Goals as goal
 
 pub by_first-requires-clause-run : goal.by_first-requires-clause-run

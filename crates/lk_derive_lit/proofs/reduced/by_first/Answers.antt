@@ -1,7 +1,6 @@
-use Rattle.std.proofs.Common.{◌≡◌, ◌<◌, ℕ, Some, None, length, sym, subst}
+use Rattle.std.proofs.Common.{◌<◌, length, subst}
 use Rattle.std.specs.Prelude.{option_map, IfSome}
 use Rattle.lk_tree.specs.Tree.{Tree}
-use Rattle.lk_tree.specs.Spine.{head}
 use Rattle.lk_rulebook.specs.Place.{Place}
 use Rattle.lk_rulebook.specs.Claims.{equals}
 use Rattle.lk_questions.specs.LiteralLines.{step_first}
