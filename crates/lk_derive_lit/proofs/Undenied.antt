@@ -1,31 +1,25 @@
 -- Tests that are not denied, one behind the other.
-use Rattle.std.proofs.Common.{ℕ, ◌≡◌, ◌+◌, ◌<◌, ◌≤◌, Bool, true, false, Option, Some, None, sym, ◌∙◌, subst, arith}
+use Rattle.std.proofs.Common.{ℕ, ◌≡◌, ◌+◌, ◌<◌, ◌≤◌, Bool, false, Option, Some, None, sym, ◌∙◌, subst, arith}
 use Rattle.std.specs.Prelude.{IfOk, Result, Ok, Err}
 use Rattle.lk_tree.specs.Tree.{Tree}
 use Rattle.lk_rulebook.specs.Place.{Place}
 use Rattle.lk_rulebook.specs.Claims.{Claim, equals}
-use Rattle.lk_questions.specs.Program.{Program, done}
-use Rattle.lk_questions.specs.Pairs.{Line, otherwise, unless, ◌or_else◌, ◌or_line◌}
+use Rattle.lk_questions.specs.Program.{done}
+use Rattle.lk_questions.specs.Pairs.{Line, unless, ◌or_line◌}
 use Rattle.lk_store.specs.declared.memory.NoMemory.{NoMemory}
 use Rattle.lk_store.specs.Contents.{Contents}
 use Rattle.lk_step.specs.declared.step.Row.{Row}
 use Rattle.lk_step.specs.Runs.{Runs, RunsOn, AreOne}
-use Rattle.lk_step.specs.Tests.{IsRun, IsYes}
+use Rattle.lk_step.specs.Tests.{IsRun, NeverNo}
 use Rattle.lk_step.specs.Tells.{TellsOf, Tells}
 use Rattle.lk_step.proofs.Bases.{basis_more}
 use Rattle.lk_step.proofs.Driven.{one_run}
 use Rattle.lk_step.proofs.Runs.{runs_on}
 use Rattle.lk_derive_lit.specs.Undenied.{IsUndenied, NeverDenies}
 
-pub undenied_yes : (w : Place) (line : Line) (next : Program Bool) (most : ℕ) → IsYes w (line or_else next) most → IsUndenied w line most
-undenied_yes w line next most y =
-    let on : RunsOn w line (λ o. otherwise o next) true y.cost = runs_on w line (λ o. otherwise o next) true y.cost y.runs in
-    let paid : y.cost ≡ on.first + on.second = on.paid in
-    let within : y.cost < most = y.within in
-    record { value = on.value; cost = on.first; runs = on.runs; within = omega (arith, paid, within); undenied = λ e. no (subst (λ o. Runs w (otherwise o next) true on.second) e on.then_runs) }
-  where
-    no : {n : ℕ} → Runs w (done false) true n → ⊥
-    no r = let e : false ≡ true = r.0 in cc
+pub undenied_of : (w : Place) (line : Line) (most : ℕ) → IsRun w line most → NeverNo w line → IsUndenied w line most
+undenied_of w line most r never =
+    record { value = r.value; cost = r.cost; runs = r.runs; within = r.within; undenied = λ e. never r.cost (subst (λ v. Runs w line v r.cost) e r.runs) }
 
 pub undenied_run : (w : Place) (line : Line) (most : ℕ) → IsUndenied w line most → (v : Option Bool) (n : ℕ) → Runs w line v n → v ≡ Some false → ⊥
 undenied_run w line most u v n h e =

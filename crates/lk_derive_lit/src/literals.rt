@@ -6,7 +6,7 @@ ghost use Rattle.lk_questions.specs.LiteralLines.{by_literals};
 ghost use Rattle.lk_store.specs.Contents.{tree_at};
 ghost use Rattle.lk_step.specs.Meaning.{IsRowIn};
 ghost use Rattle.lk_step.specs.Told.{Leaves};
-ghost use Rattle.lk_step.specs.Tests.{AreReduced};
+ghost use Rattle.lk_step.specs.Tests.{IsRun, NeverNo, AreReduced};
 ghost use Rattle.lk_step.specs.Tells.{Tells};
 ghost use Rattle.lk_derive_lit.specs.Undenied.{IsUndenied, after_first, NothingFirst};
 
@@ -43,7 +43,8 @@ fn from_second<D: Derives>(
     }
 }
 
-/// Two terms by literals.
+/// The row of two terms where literals say that they are the same: an operation that is computed on either side, or a number
+/// beside zero or a successor. There is none where they say nothing; they do not say no.
 pub fn by_literals<D: Derives>(
     derives: &mut D,
     a: u64,
@@ -54,8 +55,10 @@ pub fn by_literals<D: Derives>(
     requires b_in { b < length (D.contents derives.old).trees }
     requires pair { AreReduced (D.sight (D.rest derives.old)).basis.place
         (tree_at (D.contents derives.old) a) (tree_at (D.contents derives.old) b) }
-    requires run { IsUndenied (D.sight (D.rest derives.old)).basis.place (by_literals
+    requires run { IsRun (D.sight (D.rest derives.old)).basis.place (by_literals
         (tree_at (D.contents derives.old) a) (tree_at (D.contents derives.old) b)) enough }
+    requires never_no { NeverNo (D.sight (D.rest derives.old)).basis.place (by_literals
+        (tree_at (D.contents derives.old) a) (tree_at (D.contents derives.old) b)) }
     ensures leaves { Leaves D.contents D.rest D.sight derives.old derives.new }
     ensures known { IfOk result (λ r. IfSome r (IsRowIn (D.contents derives.new))) }
     ensures tells { let t = tree_at (D.contents derives.old) in

@@ -2,19 +2,20 @@ use Rattle.std.proofs.Common.{None, subst}
 use Rattle.lk_tree.specs.Tree.{Tree}
 use Rattle.lk_rulebook.specs.Place.{Place}
 use Rattle.lk_rulebook.specs.Claims.{equals}
-use Rattle.lk_questions.specs.LiteralLines.{step_first}
+use Rattle.lk_questions.specs.LiteralLines.{step_first, by_literals}
 use Rattle.lk_store.specs.Contents.{Contents, tree_at}
 use Rattle.lk_step.specs.Tells.{Tells}
 use Rattle.lk_step.proofs.Moving.{moved2}
 use Rattle.lk_derive_lit.specs.Undenied.{IsUndenied, after_first}
-use Rattle.lk_derive_lit.proofs.Undenied.{undenied_first, undenied_second, tells_first, tells_behind}
+use Rattle.lk_derive_lit.proofs.Undenied.{undenied_of, undenied_first, undenied_second, tells_first, tells_behind}
 use Rattle.lk_derive_lit.proofs.literals.by_literals.Goals as goal
 
 pub by_first-requires-clause-run : goal.by_first-requires-clause-run
 by_first-requires-clause-run g c =
     let t = tree_at (g.D.Terms.contents c.args.derives.now) in
     let w : Place = (g.D.Looks.sight (g.D.Terms.rest c.args.derives.now)).basis.place in
-    undenied_first w (step_first (t c.args.a) (t c.args.b)) (after_first (t c.args.a) (t c.args.b)) c.args.enough c.requires.run
+    undenied_first w (step_first (t c.args.a) (t c.args.b)) (after_first (t c.args.a) (t c.args.b)) c.args.enough
+    (undenied_of w (by_literals (t c.args.a) (t c.args.b)) c.args.enough c.requires.run c.requires.never_no)
 
 pub from_second-requires-clause-run : goal.from_second-requires-clause-run
 from_second-requires-clause-run g c =
@@ -24,7 +25,7 @@ from_second-requires-clause-run g c =
     let x : Tree = tree_at old c.args.a in
     let y : Tree = tree_at old c.args.b in
     let none : Tells w d (step_first x y) (equals x y) None = subst (λ o. Tells w d (step_first x y) (equals x y) o) c.in-None.is c.in_ok-found.ensures.tells in
-    let rest : IsUndenied w (after_first x y) c.args.enough = undenied_second w (step_first x y) (after_first x y) c.args.enough none c.requires.run in
+    let rest : IsUndenied w (after_first x y) c.args.enough = undenied_second w (step_first x y) (after_first x y) c.args.enough none (undenied_of w (by_literals x y) c.args.enough c.requires.run c.requires.never_no) in
     moved2 c.by_first.ensures.leaves (λ z u v. IsUndenied z (after_first u v) c.args.enough) c.args.a c.args.b c.requires.a_in c.requires.b_in rest
 
 pub returns-in-Some-clause-tells : goal.returns-in-Some-clause-tells
