@@ -1,5 +1,5 @@
-//! What it rests on that two terms are the same by literals: an operation on numbers that is computed, or a number beside zero or a
-//! successor.
+//! What it rests on that two terms are the same by literals: an operation on numbers that is computed, or a number
+//! beside zero or a successor.
 #![tactic(auto)]
 
 mod literals;

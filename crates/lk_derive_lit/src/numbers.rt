@@ -84,8 +84,8 @@ fn zero_row<L: Looks>(looks: &L, a: u64, b: u64) -> Result<Row, NoMemory>
     converted(looks, ConversionRule::Zero, a, b, asks, premises)
 }
 
-/// The row of a number and a successor, in either order, by these two, of which the one is the number before, and the other
-/// what the successor is of.
+/// The row of a number and a successor, in either order, by these two, of which the one is the number before, and the
+/// other what the successor is of.
 fn successor_row<L: Looks>(
     looks: &L,
     a: u64,

@@ -60,8 +60,7 @@ fn constant_of<T: Terms>(terms: &T, e: u64) -> Option<Constant>
     }
 }
 
-/// The row of a term whose `Core`, of this number, has a constant of this name and these levels at its head, and is no operation
-/// that is computed.
+/// The row of a term whose `Core`, of this number, has this constant at its head, and is no operation that is computed.
 pub(crate) fn constant_row<D: Derives>(
     derives: &mut D,
     row: &mut Row,
@@ -120,7 +119,7 @@ fn uncomputed_row<D: Derives>(
     }
 }
 
-/// Goes on from `Core` of a term, of this number: an operation on numbers is computed, or a constant at the head is unfolded.
+/// Goes on from `Core` of a term, of this number: an operation on numbers is computed, or a constant is unfolded.
 fn from_core<D: Derives>(
     derives: &mut D,
     row: &mut Row,
