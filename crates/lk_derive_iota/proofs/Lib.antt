@@ -1,0 +1,13 @@
+mod Growing
+mod Running
+mod Reading
+mod MajorRuns
+mod FoundRules
+mod RuleRuns
+mod Fitting
+mod AskingRuns
+mod RedexRuns
+mod KRuns
+mod KSteps
+mod PremiseRuns
+mod PremiseHeads

@@ -1,0 +1,5 @@
+pub mod Heads
+pub mod Only
+pub mod Redexes
+pub mod Stages
+pub mod Taken

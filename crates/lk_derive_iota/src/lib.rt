@@ -1,0 +1,16 @@
+//! What `Core` of a recursor that is applied rests on: the questions that its row of the table asks, and the steps over what
+//! their answers claim.
+#![tactic(auto)]
+
+mod asking;
+mod candidates;
+mod ctors;
+mod majors;
+mod premises;
+mod recursors;
+mod redexes;
+mod rules;
+mod steps;
+mod taking;
+
+pub use recursors::recursor_row;
