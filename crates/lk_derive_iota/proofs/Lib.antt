@@ -11,3 +11,6 @@ mod KRuns
 mod KSteps
 mod PremiseRuns
 mod PremiseHeads
+mod SRuns
+mod SSteps
+mod Expansions

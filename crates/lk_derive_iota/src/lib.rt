@@ -5,12 +5,14 @@
 mod asking;
 mod candidates;
 mod ctors;
+mod expanding;
 mod majors;
 mod premises;
 mod recursors;
 mod redexes;
 mod rules;
 mod steps;
+mod structures;
 mod taking;
 
 pub use recursors::recursor_row;

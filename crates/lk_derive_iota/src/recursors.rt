@@ -1,6 +1,6 @@
 //! The row of `Core` of a recursor that is applied.
 
-ghost use Rattle.std.specs.Prelude.{◌≡◌, ◌<◌, true, None, length, IfOk, IfSome};
+ghost use Rattle.std.specs.Prelude.{◌≡◌, ◌<◌, None, length, IfOk, OnOk};
 ghost use Rattle.lk_tree.specs.Spine.{head as head_of, args as args_of};
 ghost use Rattle.lk_rulebook.specs.WellStated.{WellStated};
 ghost use Rattle.lk_questions.specs.Query.{core};
@@ -15,68 +15,74 @@ ghost use Rattle.lk_derive_iota.specs.Redexes.{IsRedexOf, IsSplit};
 ghost use Rattle.lk_derive_iota.specs.Stages.{at_subject, IsUnderWay};
 
 use crate::ctors::at_constructor;
+use crate::expanding::go_expanded;
 use crate::premises::premise_of;
 use crate::redexes::{Redex, redex_of};
-use crate::rules::only_constructor;
+use crate::structures::expansion_of;
 use lk_constructor::head_constructor;
 use lk_step::{Derives, Row};
 use lk_store::memory::NoMemory;
 use std::alloc::Global;
 
-/// Whether the row is whole, where what stands for the major premise is no constructor: where it cannot be expanded either.
-fn is_settled<D: Derives>(derives: &D, row: &Row, redex: &Redex, m: u64, enough: u128) -> bool
-    requires m_in { m < length (D.contents derives.now).trees }
-    requires at { let s = D.sight (D.rest derives.now) in let c = D.contents derives.now in
-        IsUnderWay s.basis.place s.basis.library c row.now enough redex.now (tree_at c m)
+/// Goes on where what stands for the major premise is no constructor: it is expanded, or all of it is its own `Core`.
+fn at_structure<D: Derives>(
+    derives: &mut D,
+    row: &mut Row,
+    redex: &Redex,
+    m: u64,
+    enough: u128,
+) -> Result<(), NoMemory>
+    requires stated { WellStated (D.sight (D.rest derives.old)).basis.place }
+    requires m_in { m < length (D.contents derives.old).trees }
+    requires headless { let t = tree_at (D.contents derives.old) m in
+        app_at (D.sight (D.rest derives.old)).basis.place (head_of t) (args_of t) ≡ None }
+    requires at { let s = D.sight (D.rest derives.old) in let c = D.contents derives.old in
+        IsUnderWay s.basis.place s.basis.library c row.old enough redex.now (tree_at c m)
         (at_subject (tree_at c m)) 0 }
-    requires headless { let t = tree_at (D.contents derives.now) m in
-        app_at (D.sight (D.rest derives.now)).basis.place (head_of t) (args_of t) ≡ None }
-    ensures { result ≡ true → IsWhole (D.sight (D.rest derives.now)).basis.place
-        (D.contents derives.now)
-        (core (tree_at (D.contents derives.now) redex.now.application)) row.now }
+    ensures leaves { Leaves D.contents D.rest D.sight derives.old derives.new }
+    ensures whole { OnOk result (IsWhole (D.sight (D.rest derives.old)).basis.place
+        (D.contents derives.new)
+        (core (tree_at (D.contents derives.old) redex.now.application)) row.new) }
 {
-    match only_constructor(derives, redex.entry) {
-        Some(_) => false,
-        None => true,
+    let expansion = expansion_of(derives, row, redex, m, enough)?;
+    match expansion {
+        Some(x) => go_expanded(derives, row, redex, m, x, enough),
+        None => Ok(()),
     }
 }
 
-/// Goes on with what stands for the major premise, and tells whether the row is whole then: it is not where that is no
-/// constructor, but may be expanded.
+/// Goes on with what stands for the major premise.
 fn at_premise<D: Derives>(
     derives: &mut D,
     row: &mut Row,
     redex: &Redex,
     m: u64,
     enough: u128,
-) -> Result<bool, NoMemory>
+) -> Result<(), NoMemory>
     requires stated { WellStated (D.sight (D.rest derives.old)).basis.place }
     requires m_in { m < length (D.contents derives.old).trees }
     requires at { let s = D.sight (D.rest derives.old) in let c = D.contents derives.old in
         IsUnderWay s.basis.place s.basis.library c row.old enough redex.now (tree_at c m)
         (at_subject (tree_at c m)) 0 }
     ensures leaves { Leaves D.contents D.rest D.sight derives.old derives.new }
-    ensures whole { IfOk result (λ y. y ≡ true → IsWhole (D.sight (D.rest derives.old)).basis.place
+    ensures whole { OnOk result (IsWhole (D.sight (D.rest derives.old)).basis.place
         (D.contents derives.new)
         (core (tree_at (D.contents derives.old) redex.now.application)) row.new) }
 {
     match head_constructor(derives, m) {
-        Some(_) => {
-            at_constructor(derives, row, redex, m, enough)?;
-            Ok(true)
-        }
-        None => Ok(is_settled(derives, row, redex, m, enough)),
+        Some(_) => at_constructor(derives, row, redex, m, enough),
+        None => at_structure(derives, row, redex, m, enough),
     }
 }
 
-/// Fills an empty row, and tells whether it is whole.
+/// Fills an empty row.
 fn fill_redex<D: Derives>(
     derives: &mut D,
     row: &mut Row,
     redex: &Redex,
     e: u64,
     enough: u128,
-) -> Result<bool, NoMemory>
+) -> Result<(), NoMemory>
     requires stated { WellStated (D.sight (D.rest derives.old)).basis.place }
     requires e_in { e < length (D.contents derives.old).trees }
     requires claimed { IsClaim (D.sight (D.rest derives.old)).basis.place
@@ -85,12 +91,12 @@ fn fill_redex<D: Derives>(
     requires redex { let s = D.sight (D.rest derives.old) in IsRedexOf s.basis.place
         (D.contents derives.old) s.basis.library redex.now (tree_at (D.contents derives.old) e) }
     ensures leaves { Leaves D.contents D.rest D.sight derives.old derives.new }
-    ensures whole { IfOk result (λ y. y ≡ true → IsWhole (D.sight (D.rest derives.old)).basis.place
+    ensures whole { OnOk result (IsWhole (D.sight (D.rest derives.old)).basis.place
         (D.contents derives.new) (core (tree_at (D.contents derives.old) e)) row.new) }
 {
     let m = premise_of(derives, row, redex, enough)?;
-    let whole = at_premise(derives, row, redex, m, enough)?;
-    Ok(whole)
+    at_premise(derives, row, redex, m, enough)?;
+    Ok(())
 }
 
 /// The same, where there is a major premise; else the term is its own `Core`.
@@ -100,7 +106,7 @@ fn fill_split<D: Derives>(
     split: &Option<Redex>,
     e: u64,
     enough: u128,
-) -> Result<bool, NoMemory>
+) -> Result<(), NoMemory>
     requires stated { WellStated (D.sight (D.rest derives.old)).basis.place }
     requires e_in { e < length (D.contents derives.old).trees }
     requires claimed { IsClaim (D.sight (D.rest derives.old)).basis.place
@@ -109,12 +115,12 @@ fn fill_split<D: Derives>(
     requires split { let s = D.sight (D.rest derives.old) in IsSplit s.basis.place
         (D.contents derives.old) s.basis.library (tree_at (D.contents derives.old) e) split.now }
     ensures leaves { Leaves D.contents D.rest D.sight derives.old derives.new }
-    ensures whole { IfOk result (λ y. y ≡ true → IsWhole (D.sight (D.rest derives.old)).basis.place
+    ensures whole { OnOk result (IsWhole (D.sight (D.rest derives.old)).basis.place
         (D.contents derives.new) (core (tree_at (D.contents derives.old) e)) row.new) }
 {
     match split {
         Some(redex) => fill_redex(derives, row, redex, e, enough),
-        None => Ok(true),
+        None => Ok(()),
     }
 }
 
@@ -124,7 +130,7 @@ fn fill_row<D: Derives>(
     row: &mut Row,
     e: u64,
     enough: u128,
-) -> Result<bool, NoMemory>
+) -> Result<(), NoMemory>
     requires stated { WellStated (D.sight (D.rest derives.old)).basis.place }
     requires e_in { e < length (D.contents derives.old).trees }
     requires claimed { IsClaim (D.sight (D.rest derives.old)).basis.place
@@ -133,19 +139,12 @@ fn fill_row<D: Derives>(
         (tree_at (D.contents derives.old) e) }
     requires empty { IsEmpty row.old }
     ensures leaves { Leaves D.contents D.rest D.sight derives.old derives.new }
-    ensures whole { IfOk result (λ y. y ≡ true → IsWhole (D.sight (D.rest derives.old)).basis.place
+    ensures whole { OnOk result (IsWhole (D.sight (D.rest derives.old)).basis.place
         (D.contents derives.new) (core (tree_at (D.contents derives.old) e)) row.new) }
 {
     let split = redex_of(derives, e)?;
-    let whole = fill_split(derives, row, &split, e, enough)?;
-    Ok(whole)
-}
-
-/// The row, where it is whole.
-fn if_whole(row: Row, whole: bool) -> Option<Row>
-    ensures { IfSome result (λ r. (r ≡ row) × (whole ≡ true)) }
-{
-    if whole { Some(row) } else { None }
+    fill_split(derives, row, &split, e, enough)?;
+    Ok(())
 }
 
 /// A row with nothing in it.
@@ -158,13 +157,8 @@ fn empty_row(alloc: Global) -> Row
     }
 }
 
-/// What `Core` of a recursor that is applied rests on. There is none where what stands for the major premise is no
-/// constructor, and the recursor has one rule alone: whether the type of that is a structure's is not asked.
-pub fn recursor_row<D: Derives>(
-    derives: &mut D,
-    e: u64,
-    enough: u128,
-) -> Result<Option<Row>, NoMemory>
+/// What `Core` of a recursor that is applied rests on.
+pub fn recursor_row<D: Derives>(derives: &mut D, e: u64, enough: u128) -> Result<Row, NoMemory>
     requires stated { WellStated (D.sight (D.rest derives.old)).basis.place }
     requires e_in { e < length (D.contents derives.old).trees }
     requires claimed { IsClaim (D.sight (D.rest derives.old)).basis.place
@@ -172,11 +166,11 @@ pub fn recursor_row<D: Derives>(
     requires head { IsRecursorHead (D.sight (D.rest derives.old)).basis.place
         (tree_at (D.contents derives.old) e) }
     ensures leaves { Leaves D.contents D.rest D.sight derives.old derives.new }
-    ensures known { IfOk result (λ r. IfSome r (IsRowIn (D.contents derives.new))) }
-    ensures row { IfOk result (λ r. IfSome r (IsRowOf (D.sight (D.rest derives.old)).basis.place
-        (D.contents derives.new) (core (tree_at (D.contents derives.old) e)))) }
+    ensures known { IfOk result (IsRowIn (D.contents derives.new)) }
+    ensures row { IfOk result (IsRowOf (D.sight (D.rest derives.old)).basis.place
+        (D.contents derives.new) (core (tree_at (D.contents derives.old) e))) }
 {
     let mut row = empty_row(derives.alloc());
-    let whole = fill_row(derives, &mut row, e, enough)?;
-    Ok(if_whole(row, whole))
+    fill_row(derives, &mut row, e, enough)?;
+    Ok(row)
 }

@@ -14,8 +14,8 @@ at_constructor-requires-clause-at g c =
     let s = some_applied d basis.library (args m) c.in-Some.field-0 (app_at basis.place (head m) (args m)) c.in-Some.ensures.is in
     premise_ctor m c.requires.at s.0 s.1
 
-pub is_settled-requires-clause-headless : goal.is_settled-requires-clause-headless
-is_settled-requires-clause-headless g c =
+pub at_structure-requires-clause-headless : goal.at_structure-requires-clause-headless
+at_structure-requires-clause-headless g c =
     let d : Contents = g.D.Terms.contents c.args.derives.now in
     let basis = (g.D.Looks.sight (g.D.Terms.rest c.args.derives.now)).basis in
     let m : Tree = tree_at d c.args.m in

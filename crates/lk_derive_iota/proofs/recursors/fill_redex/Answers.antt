@@ -16,7 +16,7 @@ at_premise-requires-clause-at g c =
     subject_on leaves.place leaves.library refl c.in_ok-m.ensures.at
 
 pub returns-clause-whole : goal.returns-clause-whole
-returns-clause-whole g c = λ y.
+returns-clause-whole g c =
     let leaves = c.premise_of.ensures.leaves in
     let redex = c.requires.redex.redex in
-    whole_at (sym leaves.place) (sym (leaves.keeps.trees.same c.args.redex.now.application redex.application_is.known ∙ redex.application_is.is)) (c.in_ok-whole.ensures.whole y)
+    whole_at (sym leaves.place) (sym (leaves.keeps.trees.same c.args.redex.now.application redex.application_is.known ∙ redex.application_is.is)) c.in_ok-at_premise.ensures.whole

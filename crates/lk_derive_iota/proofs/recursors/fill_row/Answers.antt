@@ -20,6 +20,6 @@ fill_split-requires-clause-split g c =
     split_on (g.D.Terms.contents c.redex_of.new.derives) leaves.place leaves.library (leaves.keeps.trees.same c.args.e c.requires.e_in) c.in_ok-split.split c.in_ok-split.ensures.is
 
 pub returns-clause-whole : goal.returns-clause-whole
-returns-clause-whole g c = λ y.
+returns-clause-whole g c =
     let leaves = c.redex_of.ensures.leaves in
-    whole_at (sym leaves.place) (sym (leaves.keeps.trees.same c.args.e c.requires.e_in)) (c.in_ok-whole.ensures.whole y)
+    whole_at (sym leaves.place) (sym (leaves.keeps.trees.same c.args.e c.requires.e_in)) c.in_ok-fill_split.ensures.whole
