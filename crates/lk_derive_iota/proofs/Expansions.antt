@@ -8,7 +8,7 @@ use Rattle.lk_store.specs.Contents.{Contents}
 use Rattle.lk_env.specs.StoredLibrary.{StoredLibrary}
 use Rattle.lk_step.specs.declared.step.Row.{Row}
 use Rattle.lk_derive_iota.specs.declared.redexes.Redex.{Redex}
-use Rattle.lk_derive_iota.specs.Stages.{Stage, at_ctor, IsUnderWay}
+use Rattle.lk_derive_iota.specs.Stages.{at_ctor, IsUnderWay}
 use Rattle.lk_derive_iota.specs.Taken.{IsExpanded}
 use Rattle.lk_derive_iota.specs.Expanding.{IsExpansionAsked}
 

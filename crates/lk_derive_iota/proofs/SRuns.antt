@@ -1,14 +1,14 @@
 -- The expansion of a major premise, case by case.
-use Rattle.std.proofs.Common.{ℕ, suc, ◌≡◌, ◌<◌, ◌≤◌, ◌+◌, Bool, true, false, ◌&&◌, nat_eq, List, [], ◌∷◌, ◌++◌, length, map, Option, Some, None, refl, sym, subst, ap, ◌∙◌, arith, if◌then◌else◌}
+use Rattle.std.proofs.Common.{ℕ, ◌≡◌, ◌<◌, ◌+◌, Bool, true, false, ◌&&◌, nat_eq, List, [], ◌∷◌, ◌++◌, length, map, Option, Some, None, refl, sym, subst, ap, ◌∙◌, arith, if◌then◌else◌}
 use Rattle.std.specs.Prelude.{Result, IfOk}
 use Rattle.std.proofs.lemmas.Bool.Decides.{nat_tests}
-use Rattle.lk_tree.specs.Tree.{Name, Level, Tree, sort, const, app}
+use Rattle.lk_tree.specs.Tree.{Level, Tree, sort, const, app}
 use Rattle.lk_tree.specs.Level.{is_zero_level}
 use Rattle.lk_tree.specs.Spine.{apply, head, args}
 use Rattle.lk_tree.proofs.Within.{apply_head_args}
-use Rattle.lk_rulebook.specs.Place.{Place, Entry, Kind, Block, BlockType, Ctor, a_ctor}
+use Rattle.lk_rulebook.specs.Place.{Place, Entry, BlockType, Ctor, a_ctor}
 use Rattle.lk_rulebook.specs.WellStated.{WellStated}
-use Rattle.lk_rulebook.specs.Structures.{RecApp, on_major, StructureAt, is_structure_like, projections}
+use Rattle.lk_rulebook.specs.Structures.{RecApp, is_structure_like, projections}
 use Rattle.lk_claims.proofs.Facts.{the_ctor, listed_of, same_name_levels}
 use Rattle.lk_claims.proofs.Pieces.{halves}
 use Rattle.lk_questions.specs.Query.{whnf, infer}
@@ -31,7 +31,7 @@ use Rattle.lk_derive_iota.specs.Stages.{Stage, at_subject, at_ctor, by_structure
 use Rattle.lk_derive_iota.specs.Taken.{HasForm, IsTypedWithin, IsExpanded}
 use Rattle.lk_derive_iota.specs.Expanding.{sort_level, expansion_at, IsAtParent, IsOfParent, IsExpandedIf}
 use Rattle.lk_derive_iota.proofs.Growing.{move, move_on, under_way_grows}
-use Rattle.lk_derive_iota.proofs.Running.{subject_none, only_found, FormRun, FormRunAt, form_run, form_within, form_run_at}
+use Rattle.lk_derive_iota.proofs.Running.{subject_none, only_found, FormRun, form_run, form_within, form_run_at}
 use Rattle.lk_derive_iota.proofs.Fitting.{some_applied}
 
 -- whether the constructor builds a structure

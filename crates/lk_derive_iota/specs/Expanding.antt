@@ -9,7 +9,7 @@ use Rattle.lk_rulebook.specs.Structures.{HasOnlyRule, on_major}
 use Rattle.lk_rulebook.specs.Claims.{reduces}
 use Rattle.lk_tree.specs.Level.{is_zero_level}
 use Rattle.lk_questions.specs.Iota.{CtorApp, builds_structure}
-use Rattle.lk_store.specs.Contents.{Contents, name_at, tree_at}
+use Rattle.lk_store.specs.Contents.{Contents, name_at}
 use Rattle.lk_env.specs.StoredLibrary.{StoredLibrary}
 use Rattle.lk_constructor.specs.declared.constructor.AppliedConstructor.{AppliedConstructor}
 use Rattle.lk_constructor.specs.Applied.{IsApplied}

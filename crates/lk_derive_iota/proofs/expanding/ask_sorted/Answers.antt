@@ -1,4 +1,4 @@
-use Rattle.std.proofs.Common.{◌≡◌, refl, sym, subst, ◌∙◌}
+use Rattle.std.proofs.Common.{sym, subst}
 use Rattle.lk_tree.specs.Tree.{Tree}
 use Rattle.lk_rulebook.specs.Place.{Place}
 use Rattle.lk_store.specs.Contents.{Contents, tree_at}

@@ -1,4 +1,4 @@
-use Rattle.std.proofs.Common.{◌≡◌, None, refl, sym, subst, ◌∙◌}
+use Rattle.std.proofs.Common.{◌≡◌, None, refl, sym, subst}
 use Rattle.std.specs.Prelude.{OnOk}
 use Rattle.lk_questions.specs.Query.{core}
 use Rattle.lk_store.specs.Contents.{Contents, tree_at}

@@ -1,7 +1,6 @@
 use Rattle.std.proofs.Common.{◌≡◌, true, nat_eq, length, sym, subst, ◌∙◌}
 use Rattle.lk_tree.specs.Spine.{args}
 use Rattle.lk_store.specs.Contents.{Contents, level_at, list_at, tree_at}
-use Rattle.lk_derive_iota.proofs.Growing.{under_way_on}
 use Rattle.lk_derive_iota.proofs.SRuns.{s_zero, s_expanded, expansion_is, expanded_on}
 use Rattle.lk_derive_iota.proofs.structures.by_level.Goals as goal
 

@@ -1,6 +1,5 @@
-use Rattle.std.proofs.Common.{◌≡◌, Some, None, refl, ap, sym, subst, ◌∙◌, nat_eq, length, true}
+use Rattle.std.proofs.Common.{◌≡◌, Some, None, ap, sym, subst, ◌∙◌, nat_eq, length, true}
 use Rattle.std.specs.Prelude.{option_map}
-use Rattle.lk_tree.specs.Tree.{Tree, sort}
 use Rattle.lk_tree.specs.Spine.{args}
 use Rattle.lk_store.specs.Contents.{Contents, level_at, list_at, tree_at}
 use Rattle.lk_derive_iota.specs.Expanding.{sort_level}

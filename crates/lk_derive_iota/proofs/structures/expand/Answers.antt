@@ -1,9 +1,8 @@
-use Rattle.std.proofs.Common.{ℕ, ◌≡◌, ◌<◌, length, map, ap, sym, subst, ◌∙◌}
-use Rattle.std.specs.Prelude.{All}
-use Rattle.lk_tree.specs.Tree.{Tree, const}
+use Rattle.std.proofs.Common.{ap, ◌∙◌}
+use Rattle.lk_tree.specs.Tree.{const}
 use Rattle.lk_store.specs.Contents.{Contents, name_at, list_at, tree_at}
 use Rattle.lk_store.proofs.Extending.{Extends-trans}
-use Rattle.lk_subst.specs.Numbers.{trees-known, trees-steady}
+use Rattle.lk_subst.specs.Numbers.{trees-steady}
 use Rattle.lk_derive_iota.proofs.SRuns.{expansion_made}
 use Rattle.lk_derive_iota.proofs.structures.expand.Goals as goal
 
