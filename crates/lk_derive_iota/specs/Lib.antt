@@ -1,4 +1,3 @@
-pub mod Heads
 pub mod Only
 pub mod Redexes
 pub mod Stages

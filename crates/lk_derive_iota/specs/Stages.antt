@@ -87,8 +87,8 @@ FactsOf {w = w} R (at_rule i n v) =
     StepHolds w (reduction (iota_rule i) (on_major R n) v []) × IsWellFormed v
 
 -- The row states that R on its major premise reduces to R on m, and Core of all goes on at this
--- stage. What the row asked, what was answered beside it, at this cost, and what comes behind cost less
--- together than all.
+-- stage. What the row asked, what was answered beside it, at this cost, and what comes behind cost
+-- less together than all.
 pub record IsUnderWay (w : Place) (l : StoredLibrary) (c : Contents) (r : Row) (most : ℕ)
     (u : Redex) (m : Tree) (s : Stage) (beside : ℕ) : Type 0 where
   pub R : RecApp w

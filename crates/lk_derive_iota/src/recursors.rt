@@ -10,7 +10,7 @@ ghost use Rattle.lk_step.specs.Meaning.{IsRowIn, IsRowOf};
 ghost use Rattle.lk_step.specs.Rows.{IsClaim};
 ghost use Rattle.lk_step.specs.Told.{Leaves};
 ghost use Rattle.lk_step.specs.Parts.{IsWhole, IsEmpty};
-ghost use Rattle.lk_derive_iota.specs.Heads.{IsRecursorHead};
+ghost use Rattle.lk_step.specs.Heads.{IsRecursorHead};
 ghost use Rattle.lk_derive_iota.specs.Redexes.{IsRedexOf, IsSplit};
 ghost use Rattle.lk_derive_iota.specs.Stages.{at_subject, IsUnderWay};
 

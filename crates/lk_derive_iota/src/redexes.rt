@@ -10,7 +10,7 @@ ghost use Rattle.lk_env.specs.declared.unit.RecursorRule.{RecursorRule};
 ghost use Rattle.lk_env.specs.Lent.{given_recursor};
 ghost use Rattle.lk_ask.specs.Looks.{entry_at};
 ghost use Rattle.lk_step.specs.Told.{Leaves};
-ghost use Rattle.lk_derive_iota.specs.Heads.{IsRecursorHead};
+ghost use Rattle.lk_step.specs.Heads.{IsRecursorHead};
 ghost use Rattle.lk_derive_iota.specs.Redexes.{IsShape, IsShapeIf, IsRedexOf, IsHeadedBy};
 ghost use Rattle.lk_derive_iota.specs.Redexes.{IsSplit};
 
