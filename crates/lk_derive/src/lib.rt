@@ -20,7 +20,6 @@ pub use course::derive;
 pub use derivation::Derivation;
 pub use laws::{section_with_parts_holds, yes_has_parts};
 pub use notes::Notes;
-pub use parts::Parts;
 pub use rows::Rows;
 pub use section::section_of_parts;
 pub use sides::sides_of_laws;

@@ -14,7 +14,7 @@ use lk_step::Row;
 use lk_store::memory::NoMemory;
 use lk_store::terms::Terms;
 
-/// Whoever answers questions over a store, and is told what each answer rests on.
+/// Whoever answers questions over a store, and tells what each answer rests on.
 pub trait Rows {
     /// The store.
     type Store: Terms;

@@ -1,4 +1,4 @@
-//! What it rests on that two terms are the same: the row of `Same`, where it is answered yes by a test whose row is written.
+//! What it rests on that two terms are the same: the row of a `Same` that is answered yes, for whoever has all of its tests.
 #![tactic(auto)]
 
 mod binders;
@@ -15,6 +15,6 @@ mod subjects;
 pub mod tests;
 
 pub use functions::FunctionEta;
-pub use parts::Parts;
-pub use proofs::Proofs;
+pub use parts::Congruence;
+pub use proofs::ProofIrrelevance;
 pub use row::equality_row;

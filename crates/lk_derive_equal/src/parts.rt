@@ -76,9 +76,9 @@ fn projection_and<D: Derives>(
 }
 
 /// The test of constants, projections and applications by their parts. No value of it is needed.
-pub struct Parts;
+pub struct Congruence;
 
-impl<D: Derives> Test<D> for Parts {
+impl<D: Derives> Test<D> for Congruence {
     ghost use Rattle.lk_questions.specs.Same.{by_parts};
 
     ghost line = { by_parts };

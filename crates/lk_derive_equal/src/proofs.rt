@@ -98,9 +98,9 @@ fn by_types<D: Derives>(
 }
 
 /// The test by proof irrelevance. No value of it is needed.
-pub struct Proofs;
+pub struct ProofIrrelevance;
 
-impl<D: Derives> Test<D> for Proofs {
+impl<D: Derives> Test<D> for ProofIrrelevance {
     ghost use Rattle.lk_questions.specs.Same.{by_proof_irrelevance};
 
     ghost line = { by_proof_irrelevance };

@@ -43,8 +43,9 @@ pub record AsksTyped (w : Place) (c d : Contents) (old new : Row) (e S T : Tree)
   pub second : ℕ
   pub typed : IsAnswered w (infer e) S first
   pub formed : IsAnswered w (whnf S) T second
-  pub asks : IsWellFormed e → IsWellFormed S → (stated : List Claim) (spent : ℕ) → IsPartIn w c old stated spent →
-      IsPartIn w d new (reduces S T ∷ types e S ∷ stated) (spent + (first + second))
+  pub asks : IsWellFormed e → IsWellFormed S → (stated : List Claim) (spent : ℕ)
+      → IsPartIn w c old stated spent
+      → IsPartIn w d new (reduces S T ∷ types e S ∷ stated) (spent + (first + second))
 
 -- K takes the major premise for d
 pub record IsTaken (w : Place) (l : StoredLibrary) (c : Contents) (r : Row) (most : ℕ) (u : Redex)

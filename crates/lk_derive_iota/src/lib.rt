@@ -1,5 +1,5 @@
-//! What `Core` of a recursor that is applied rests on: the questions that its row of the table asks, and the steps over what
-//! their answers claim.
+//! What `Core` of a recursor that is applied rests on: questions that are asked for it, and steps over what their answers
+//! claim.
 #![tactic(auto)]
 
 mod asking;

@@ -1,5 +1,4 @@
-//! What the answers of `Core` and `Whnf` rest on: for each form the questions that its row of the table asks, and the steps
-//! over what their answers claim.
+//! What the answers of `Core` and `Whnf` rest on: questions that are asked for them, and steps over what their answers claim.
 #![tactic(auto)]
 
 mod bindings;

@@ -1,4 +1,4 @@
-//! The rows of `Core` and `Whnf`. Where a row of `Whnf` is still to be written, want of memory is told.
+//! The rows of `Core` and `Whnf`.
 
 ghost use Rattle.std.specs.Prelude.{◌≡◌, ◌<◌, List, Some, None, true, false, IfOk, IfSome, OnOk, length};
 ghost use Rattle.lk_tree.specs.Tree.{const};
@@ -189,8 +189,8 @@ fn fill_core<D: Derives>(
     }
 }
 
-/// What a weak head form without unfolding rests on. There is none here where the head of the term is a recursor or a
-/// constant that a quotient unit gives (`major_head` says which): these rows stand in crates of their own.
+/// What a weak head form without unfolding rests on. There is none here only of an application whose head is a recursor or
+/// a constant that a quotient unit gives (`major_head` says which): these rows stand in crates of their own.
 pub fn core_row<D: Derives>(derives: &mut D, e: u64, enough: u128) -> Result<Option<Row>, NoMemory>
     requires stated { WellStated (D.sight (D.rest derives.old)).basis.place }
     requires e_in { e < length (D.contents derives.old).trees }

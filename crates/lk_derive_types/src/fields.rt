@@ -1,4 +1,5 @@
-//! Fields of a projection's structure: whether the domain of one is to be a proposition, and what is noted of that.
+//! Fields of a projection's structure, up to the one that is asked for: whether the domain of one is to be a proposition,
+//! and what is noted of that.
 
 ghost use Rattle.std.specs.Prelude.{◌≡◌, ◌<◌, ◌+◌, ◌&&◌, true, length, IfOk, OnOk};
 ghost use Rattle.lk_tree.specs.Tree.{proj};

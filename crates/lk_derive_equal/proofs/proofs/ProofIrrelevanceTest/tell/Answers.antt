@@ -11,7 +11,7 @@ use Rattle.lk_derive_equal.specs.Sorts.{IsSorted}
 use Rattle.lk_step.specs.Tells.{Tells}
 use Rattle.lk_step.proofs.Moving.{moved2, back2, leaves_on}
 use Rattle.lk_derive_equal.proofs.ProofLine.{proof_sort, proof_other}
-use Rattle.lk_derive_equal.proofs.proofs.ProofsTest.tell.Goals as goal
+use Rattle.lk_derive_equal.proofs.proofs.ProofIrrelevanceTest.tell.Goals as goal
 
 pub sort_of-requires-clause-run : goal.sort_of-requires-clause-run
 sort_of-requires-clause-run g c =

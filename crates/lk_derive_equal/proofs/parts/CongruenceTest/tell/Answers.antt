@@ -2,7 +2,7 @@ use Rattle.std.proofs.Common.{ℕ}
 use Rattle.lk_rulebook.specs.Place.{Place}
 use Rattle.lk_store.specs.Contents.{Contents, tree_at}
 use Rattle.lk_derive_equal.proofs.PartKinds.{part_other}
-use Rattle.lk_derive_equal.proofs.parts.PartsTest.tell.Goals as goal
+use Rattle.lk_derive_equal.proofs.parts.CongruenceTest.tell.Goals as goal
 
 pub returns-in_default-clause-tells : goal.returns-in_default-clause-tells
 returns-in_default-clause-tells g c =
