@@ -20,9 +20,9 @@ use crate::premises::premise_of;
 use crate::redexes::{Redex, redex_of};
 use crate::structures::expansion_of;
 use lk_constructor::head_constructor;
+use lk_step::under_way::empty_row;
 use lk_step::{Derives, Row};
 use lk_store::memory::NoMemory;
-use std::alloc::Global;
 
 /// Goes on where what stands for the major premise is no constructor: it is expanded, or all of it is its own `Core`.
 fn at_structure<D: Derives>(
@@ -145,16 +145,6 @@ fn fill_row<D: Derives>(
     let split = redex_of(derives, e)?;
     fill_split(derives, row, &split, e, enough)?;
     Ok(())
-}
-
-/// A row with nothing in it.
-fn empty_row(alloc: Global) -> Row
-    ensures { IsEmpty result }
-{
-    Row {
-        asks: Vec::new(alloc),
-        steps: Vec::new(alloc),
-    }
 }
 
 /// What `Core` of a recursor that is applied rests on.
