@@ -5,13 +5,12 @@ use Rattle.lk_tree.specs.Tree.{Tree}
 use Rattle.lk_tree.specs.Spine.{head}
 use Rattle.lk_rulebook.specs.Place.{Place}
 use Rattle.lk_rulebook.specs.Claims.{Claim, equals}
-use Rattle.lk_questions.specs.Program.{Program, done, refuse, ask, look}
+use Rattle.lk_questions.specs.Program.{Program, done}
 use Rattle.lk_questions.specs.Erased.{Steps, gives, truth, erased}
 use Rattle.lk_questions.specs.Pairs.{Line, ◌or_else◌}
 use Rattle.lk_questions.specs.Steps.{is_same_tree}
 use Rattle.lk_questions.specs.Unfolding.{by_ranks, by_unfolding}
 use Rattle.lk_store.specs.Contents.{Contents, Extends}
-use Rattle.lk_claims.proofs.Pieces.{Some_inj}
 use Rattle.lk_ask.specs.declared.query.Query.TheVariants.{Core, Whnf, Infer, Same}
 use Rattle.lk_ask.specs.declared.next.Next.{Next}
 use Rattle.lk_ask.specs.declared.next.Next.TheVariants.{Ask, Done, No}

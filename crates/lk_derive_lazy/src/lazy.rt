@@ -14,11 +14,11 @@ ghost use Rattle.lk_derive_lazy.specs.Turns.{SaysYes, Bears, IsFirst};
 use crate::alike::alike;
 use crate::arguments::by_arguments;
 use crate::reduced::{next_pair, turned_row};
-use crate::steps::no_row;
 use lk_ask::looks::Looks;
 use lk_ask::sheet::Pair;
 use lk_lazy::begin;
 use lk_premises::same_tree;
+use lk_step::under_way::empty_row;
 use lk_step::{Derives, Row};
 use lk_store::memory::NoMemory;
 
@@ -74,7 +74,7 @@ pub fn by_unfolding<D: Derives>(
         (by_unfolding (t a) (t b)) (equals (t a) (t b))) }
 {
     if same_tree(derives, a, b) {
-        return Ok(Some(no_row(derives.alloc())));
+        return Ok(Some(empty_row(derives.alloc())));
     }
     let begun = begin(derives, a, b)?;
     match begun {

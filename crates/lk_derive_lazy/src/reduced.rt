@@ -13,7 +13,7 @@ ghost use Rattle.lk_step.specs.Parts.{States, IsPartIn};
 ghost use Rattle.lk_step.specs.Tests.{ArePair};
 ghost use Rattle.lk_derive_lazy.specs.Turns.{IsTurned, Turns, Bears, pair_in};
 
-use crate::steps::{add_equality, add_unfolding, ask_same, no_row};
+use crate::steps::{add_equality, add_unfolding, ask_same};
 use lk_ask::looks::Looks;
 use lk_ask::next::Next;
 use lk_ask::query::Query;
@@ -21,6 +21,7 @@ use lk_ask::sheet::Pair;
 use lk_lazy::LazyNext;
 use lk_step::Row;
 use lk_step::making::{equality, reduction};
+use lk_step::under_way::empty_row;
 use lk_store::memory::NoMemory;
 use lk_trace::ConversionRule;
 
@@ -74,7 +75,7 @@ fn reduced_row<L: Looks>(looks: &L, a: u64, b: u64, x: u64, y: u64) -> Result<Ro
         → IsAnswered w (same (t x) (t y)) true n → IsPartIn w c r (equals (t a) (t b) ∷ []) n) }
 {
     let alloc = looks.alloc();
-    let mut row = no_row(alloc);
+    let mut row = empty_row(alloc);
     ask_same(looks, &mut row, x, y)?;
     add_unfolding(alloc, looks, &mut row, a, x)?;
     add_unfolding(alloc, looks, &mut row, b, y)?;

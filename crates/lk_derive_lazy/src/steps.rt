@@ -11,7 +11,7 @@ ghost use Rattle.lk_trace.specs.Meaning.{conversion_rule_of, IsConversionRuleIn}
 ghost use Rattle.lk_premises.specs.Claims.{claims_at, AreClaimsIn};
 ghost use Rattle.lk_step.specs.Steps.{equality as plain_step, StepHolds};
 ghost use Rattle.lk_step.specs.Rows.{IsAnswered};
-ghost use Rattle.lk_step.specs.Parts.{Asks, States, IsEmpty};
+ghost use Rattle.lk_step.specs.Parts.{Asks, States};
 ghost use Rattle.lk_derive_lazy.specs.Turns.{IsTurned};
 
 use lk_ask::query::Query;
@@ -22,16 +22,6 @@ use lk_store::memory::NoMemory;
 use lk_store::terms::Terms;
 use lk_trace::{ConversionRule, ReductionRule, Rule};
 use std::alloc::Global;
-
-/// A row that asks nothing and states nothing.
-pub(crate) fn no_row(alloc: Global) -> Row
-    ensures { IsEmpty result }
-{
-    Row {
-        asks: Vec::new(alloc),
-        steps: Vec::new(alloc),
-    }
-}
 
 /// Adds a question.
 fn push_question(row: &mut Row, query: Query<u64>) -> Result<(), NoMemory>

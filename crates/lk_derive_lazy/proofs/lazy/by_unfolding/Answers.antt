@@ -23,7 +23,7 @@ returns-then-same_tree-clause-tells g c =
     let d : Contents = g.D.Terms.contents c.args.derives.now in
     let a : Tree = tree_at d c.args.a in
     let b : Tree = tree_at d c.args.b in
-    one_tells w d (by_unfolding a b) a b c.no_row.result (sym c.same_tree.ensures ∙ c.if-same_tree.true) c.no_row.ensures
+    one_tells w d (by_unfolding a b) a b c.empty_row.result (sym c.same_tree.ensures ∙ c.if-same_tree.true) c.empty_row.ensures
 
 pub unfolded_row-requires-clause-first : goal.unfolded_row-requires-clause-first
 unfolded_row-requires-clause-first g c =
