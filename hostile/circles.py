@@ -103,7 +103,7 @@ class Circle(Lines):
 
 
 def seconds(program, data):
-    """The processor time that a check of the file takes, which is cut off at ten times the limit and a second."""
+    """The processor time that a check of the file takes, which is cut off at two seconds."""
     def bounded():
         resource.setrlimit(resource.RLIMIT_CPU, (2, 2))
 

@@ -30,9 +30,9 @@ step_row-requires-clause-at g c =
     let short : Tree = u c.in_ok-ends.ends.short in
     let grown : Extends old d = Extends-trans old m d c.eliminator_of.ensures.keeps c.ends_of.ensures.keeps in
     let e1 : tree_at m c.args.e ≡ t c.args.e = c.eliminator_of.ensures.keeps.trees.same c.args.e c.requires.e_in in
-    let W1 : tree_at m c.args.form ≡ t c.args.form = c.eliminator_of.ensures.keeps.trees.same c.args.form c.requires.form_in in
+    let form_stays : tree_at m c.args.form ≡ t c.args.form = c.eliminator_of.ensures.keeps.trees.same c.args.form c.requires.form_in in
     let ends : AreEnds (reach x) (t c.args.e) (t c.args.form) front short c.in_ok-ends.ends.behind =
-    subst (λ z. AreEnds (reach x) (t c.args.e) z front short c.in_ok-ends.ends.behind) W1
+    subst (λ z. AreEnds (reach x) (t c.args.e) z front short c.in_ok-ends.ends.behind) form_stays
     (subst (λ z. AreEnds (reach x) z (tree_at m c.args.form) front short c.in_ok-ends.ends.behind) e1 c.in_ok-ends.ensures.are.are) in
     let a : AtStep w d c.args.row.now c.args.enough (eliminator_rule x) (t c.args.e) (t c.args.major) (t c.args.form) (t c.args.next) front short c.in_ok-ends.ends.behind =
     at_step w old c.args.row.now c.args.enough f (t c.args.e) (t c.args.major) (t c.args.form) (t c.args.next) front short c.in_ok-ends.ends.behind c.requires.at x c.in_ok-eliminator.ensures.is d grown ends in
