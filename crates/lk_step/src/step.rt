@@ -14,8 +14,8 @@ pub struct Step {
     pub premises: Vec<Claim>,
 }
 
-/// What an answer rests on: questions that its row of the table asks, in their order, and steps over what their answers
-/// claim, each over those and the steps before it.
+/// What an answer rests on: questions whose answers together cost less than it, and steps over what these answers claim,
+/// each over those and the steps before it.
 #[derive(Drop)]
 pub struct Row {
     pub asks: Vec<Query<u64>>,

@@ -51,6 +51,8 @@ impl<'a> Overlay<'a> {
     ghost use Rattle.lk_store.specs.Sizes.{sizes_of};
     ghost use Rattle.lk_store.specs.Store.{no_tables, contents_of};
     ghost use Rattle.lk_store.specs.Layers.{layers_contents};
+    ghost use Rattle.lk_store.specs.Values.{AreApart};
+    ghost use Rattle.lk_tree.specs.Tree.{zero_level, wide};
 
     /// A store that has what the library has. It takes no memory.
     #[tactic(auto, using(crate::proofs::Overlaid::contents_over_nothing))]
@@ -70,6 +72,14 @@ impl<'a> Overlay<'a> {
         ensures { result ≡ sizes_of self.now.base }
     {
         self.base.sizes()
+    }
+
+    /// Equal levels have one number, and so have equal trees, in the library and here.
+    pub fn stands_once(&self)
+        ensures levels { AreApart zero_level (layers_contents self.now).levels }
+        ensures trees { AreApart wide (layers_contents self.now).trees }
+    {
+        let _own = &self.own;
     }
 
     /// How much was made here of each kind since `new` or the last `clear`.

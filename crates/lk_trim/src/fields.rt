@@ -8,7 +8,7 @@ use itoa::Buffer;
 use lk_store::memory::NoMemory;
 
 /// Appends a number.
-pub(crate) fn add_number(out: &mut Vec<u8>, n: u64) -> Result<(), NoMemory>
+pub fn add_number(out: &mut Vec<u8>, n: u64) -> Result<(), NoMemory>
     ensures { OnOk result (out.new.items ≡ out.old.items ++ decimal n) }
 {
     let mut buffer = Buffer::new();
@@ -17,7 +17,7 @@ pub(crate) fn add_number(out: &mut Vec<u8>, n: u64) -> Result<(), NoMemory>
 }
 
 /// Appends a number behind a space.
-pub(crate) fn add_field(out: &mut Vec<u8>, n: u64) -> Result<(), NoMemory>
+pub fn add_field(out: &mut Vec<u8>, n: u64) -> Result<(), NoMemory>
     ensures { OnOk result (out.new.items ≡ out.old.items ++ fields (n ∷ [])) }
 {
     out.push(b' ')?;
@@ -25,7 +25,7 @@ pub(crate) fn add_field(out: &mut Vec<u8>, n: u64) -> Result<(), NoMemory>
 }
 
 /// Appends numbers, each behind a space.
-pub(crate) fn add_fields(out: &mut Vec<u8>, ns: &[u64]) -> Result<(), NoMemory>
+pub fn add_fields(out: &mut Vec<u8>, ns: &[u64]) -> Result<(), NoMemory>
     ensures { OnOk result (out.new.items ≡ out.old.items ++ fields ns.now) }
 {
     let mut rest = ns;
@@ -37,7 +37,7 @@ pub(crate) fn add_fields(out: &mut Vec<u8>, ns: &[u64]) -> Result<(), NoMemory>
 }
 
 /// Appends a tag, and numbers behind it.
-pub(crate) fn add_row(out: &mut Vec<u8>, tag: &[u8], ns: &[u64]) -> Result<(), NoMemory>
+pub fn add_row(out: &mut Vec<u8>, tag: &[u8], ns: &[u64]) -> Result<(), NoMemory>
     ensures { OnOk result (out.new.items ≡ out.old.items ++ (tag.now ++ fields ns.now)) }
 {
     out.extend_from_slice(tag)?;

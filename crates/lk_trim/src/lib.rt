@@ -15,4 +15,8 @@ mod units;
 mod visit;
 mod whole;
 
-pub use whole::canonical;
+pub use fields::{add_field, add_fields, add_number, add_row};
+pub use numbering::Numbering;
+pub use numbers::{Numbers, Writer};
+pub use trees::{tree_number, write_tree};
+pub use whole::{begin, canonical, text_of, write_all};

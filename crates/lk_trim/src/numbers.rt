@@ -6,15 +6,15 @@ use crate::numbering::Numbering;
 /// have one.
 #[derive(Drop)]
 pub struct Numbers {
-    pub(crate) names: Numbering,
-    pub(crate) levels: Numbering,
-    pub(crate) trees: Numbering,
-    pub(crate) rules: u64,
+    pub names: Numbering,
+    pub levels: Numbering,
+    pub trees: Numbering,
+    pub rules: u64,
 }
 
 /// The text, and what has a line in it.
 #[derive(Drop)]
 pub struct Writer {
-    pub(crate) out: Vec<u8>,
-    pub(crate) numbers: Numbers,
+    pub out: Vec<u8>,
+    pub numbers: Numbers,
 }

@@ -19,7 +19,7 @@ use lk_store::terms::Terms;
 use std::alloc::Global;
 
 /// The number of a tree.
-pub(crate) fn tree_number<T: Terms>(store: &T, numbers: &Numbers, tree: u64) -> u64
+pub fn tree_number<T: Terms>(store: &T, numbers: &Numbers, tree: u64) -> u64
     requires numbers { AreNumbersIn (T.contents store.now) numbers.now }
     requires tree_in { tree < length (T.contents store.now).trees }
     ensures { let c = T.contents store.now in
@@ -189,7 +189,7 @@ fn enter<T: Terms>(
 }
 
 /// Writes the lines of a tree and of its parts that have none yet.
-pub(crate) fn write_tree<T: Terms>(
+pub fn write_tree<T: Terms>(
     alloc: Global,
     store: &T,
     writer: &mut Writer,

@@ -27,7 +27,7 @@ use std::alloc::Global;
 use std::mem::drop;
 
 /// A text of which only the first line is written.
-fn begin(alloc: Global, store: &BaseStore) -> Result<Writer, NoMemory>
+pub fn begin(alloc: Global, store: &BaseStore) -> Result<Writer, NoMemory>
     ensures numbers { IfOk result (λ w. AreNumbersIn (contents_of store.now) w.numbers) }
     ensures file { IfOk result (λ w. file_at (contents_of store.now) w ≡ beginning) }
 {
@@ -176,7 +176,7 @@ fn write_kept(alloc: Global, library: &Library, writer: &mut Writer, n: u32) -> 
 }
 
 /// Writes the lines of the units of these numbers.
-fn write_all(
+pub fn write_all(
     alloc: Global,
     library: &Library,
     writer: &mut Writer,
@@ -196,7 +196,7 @@ fn write_all(
 }
 
 /// What a writer has written.
-fn text_of(writer: Writer) -> Vec<u8>
+pub fn text_of(writer: Writer) -> Vec<u8>
     ensures { result.items ≡ writer.out.items }
 {
     let Writer { out, numbers } = writer;
