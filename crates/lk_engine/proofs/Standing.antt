@@ -1,10 +1,11 @@
 -- An engine goes on with what lasts, as another unit is begun or what is partial changes.
-use Rattle.std.proofs.Common.{◌≡◌, ℕ, Bool, true, [], length, Option, Some, None, Result, Ok, Err, refl, ap, sym, subst, ◌∙◌}
-use Rattle.std.specs.Prelude.{OnOk, IfErr, IfSome, option_map}
+use Rattle.std.proofs.Common.{◌≡◌, ℕ, Bool, true, false, [], length, Option, Some, None, Result, Ok, Err, refl, ap, sym, subst, ◌∙◌, arith, inl}
+use Rattle.std.specs.Prelude.{OnOk, IfErr, IfSome, IsTrue, option_map}
 use Rattle.lk_rulebook.specs.Units.{Members}
 use Rattle.lk_rulebook.specs.Units.{place_of as unit_place}
 use Rattle.lk_store.specs.declared.memory.NoMemory.{NoMemory as Wanting}
 use Rattle.lk_store.specs.Contents.{Contents, Extends}
+use Rattle.lk_store.specs.Sizes.{sizes_of}
 use Rattle.lk_store.specs.Store.{over, contents_of}
 use Rattle.lk_store.proofs.Made.{Extends-self}
 use Rattle.lk_store.specs.Layers.{layers_contents, Layers}
@@ -27,7 +28,7 @@ use Rattle.lk_memo.specs.Entries.{Holds}
 use Rattle.lk_desk.specs.Job.{job_of}
 use Rattle.lk_desk.specs.Truth.{above}
 use Rattle.lk_engine.specs.Entries.{IsLasting, AreLasting, AreTrue}
-use Rattle.lk_engine.specs.Lookouts.{place_of, Restarts, BeginsUnit, GivesMembers, Shares, Stands}
+use Rattle.lk_engine.specs.Lookouts.{place_of, row_count, IsBounded, Restarts, BeginsUnit, GivesMembers, Shares, Stands}
 use Rattle.lk_engine.specs.Shares.{shared_from}
 use Rattle.lk_engine.proofs.Frames.{true_steady}
 use Rattle.lk_engine.proofs.Kept.{nothing_kept, table_goes_on}
@@ -195,3 +196,20 @@ pub beside_stands : (old new : Outlook Layers) (memo later : PrivateMemo)
 beside_stands old new memo later share partial aux (Ok u) h e = gives_stands h
 beside_stands old new memo later share partial aux (Err x) h e =
     goes_on old new memo later share (ap (λ (o : Outlook Layers). o.scope.library) e) (ap (λ (o : Outlook Layers). o.terms) e)
+
+-- what stays of what units made is not too many rows
+pub restart_bounded : {old new : Outlook Layers} {unit budget : ℕ} (stays : Bool)
+    → Restarts old new unit budget stays → old.terms.base ≡ old.scope.library.tables
+    → (IsTrue stays → IsBounded (row_count (sizes_of old.terms.own))
+    (row_count (sizes_of old.terms.base)))
+    → IsBounded (row_count (sizes_of new.terms.own))
+    (row_count (sizes_of old.scope.library.tables))
+restart_bounded true h base few = rw (h.same refl, ← base) (few refl)
+restart_bounded false h base few = rw (h.none refl) (inl (omega arith))
+
+-- a store over a library's has what the library has, once a unit is begun
+pub restart_over : {old new : Outlook Layers} {unit budget : ℕ} {stays : Bool}
+    → Restarts old new unit budget stays → old.terms.base ≡ old.scope.library.tables
+    → Extends (contents_of old.scope.library.tables) (layers_contents new.terms)
+restart_over {old} {new} h base =
+    subst (λ t. Extends (contents_of t) (layers_contents new.terms)) base h.contents

@@ -6,9 +6,8 @@ use Rattle.lk_rulebook.specs.Units.{place_of as unit_place}
 use Rattle.lk_questions.specs.Erased.{Out, IsAnsweredAt, run_steps, out_of}
 use Rattle.lk_questions.specs.Table.{steps}
 use Rattle.lk_store.specs.declared.sizes.Sizes.{Sizes}
-use Rattle.lk_store.specs.Sizes.{sizes_of}
 use Rattle.lk_store.specs.Contents.{Contents, tree_at, Extends}
-use Rattle.lk_store.specs.Store.{over, contents_of}
+use Rattle.lk_store.specs.Store.{no_tables, contents_of}
 use Rattle.lk_store.specs.Layers.{layers_contents, Layers}
 use Rattle.lk_env.specs.declared.entry.Partial.{Partial}
 use Rattle.lk_env.specs.declared.entry.Partial.TheVariants.{Nothing}
@@ -149,17 +148,16 @@ row_count s = s.numbers + s.names + s.texts + s.levels + s.lists + s.terms
 abbrev pub IsBounded : ℕ → ℕ → Type 0
 IsBounded made library = (made < 16384) ⊎ (made < 4 * library)
 
--- what units made over the library's store stays, where it is not too many rows, or all of it was
--- forgotten
+-- what units made over the library's store stays, or all of it was forgotten
 pub record Tidies (old new : Layers) (stays : Bool) : Type 0 where
   pub base : new.base ≡ old.base
   pub same : stays ≡ true → new ≡ old
-  pub bounded : IsBounded (row_count (sizes_of new.own)) (row_count (sizes_of old.base))
+  pub none : stays ≡ false → new.own ≡ no_tables
   pub emptied : stays ≡ false → layers_contents new ≡ contents_of old.base
 
 -- a lookout over the library's store looks from this unit, of which nothing is partial, with no
 -- auxiliary types; numbers stand for what the library has, and where what was made stays, for what
--- they stood for; what stays is not too many rows, and this budget is left
+-- they stood for; where it goes nothing stands beside the library; and this budget is left
 pub record Restarts (old new : Outlook Layers) (unit budget : ℕ)
     (stays : Bool) : Type 0 where
   pub library : new.scope.library ≡ old.scope.library
@@ -168,7 +166,7 @@ pub record Restarts (old new : Outlook Layers) (unit budget : ℕ)
   pub base : new.terms.base ≡ old.terms.base
   pub contents : Extends (contents_of old.terms.base) (layers_contents new.terms)
   pub same : stays ≡ true → new.terms ≡ old.terms
-  pub bounded : IsBounded (row_count (sizes_of new.terms.own)) (row_count (sizes_of old.terms.base))
+  pub none : stays ≡ false → new.terms.own ≡ no_tables
   pub left : new.meter.left ≡ budget
   pub turns : new.meter.turns ≡ 0
 

@@ -1,7 +1,8 @@
 //! The engine: a store over that of a library in which questions are answered, as a unit of the
 //! library may ask them.
 
-ghost use Rattle.std.specs.Prelude.{◌≡◌, ◌<◌, [], map, All, OnOk, IfErr, IfSome};
+ghost use Rattle.std.specs.Prelude.{◌≡◌, ◌<◌, [], map, All, OnOk, IfErr, IfSome, IsTrue};
+ghost use Rattle.lk_tree.specs.Tree.{zero_level, wide};
 ghost use Rattle.lk_store.specs.Contents.{Extends};
 ghost use Rattle.lk_store.specs.Store.{contents_of};
 ghost use Rattle.lk_env.specs.Scopes.{alone_members};
@@ -10,6 +11,7 @@ ghost use Rattle.lk_ask.specs.Instances.{AreInstances};
 ghost use Rattle.lk_desk.specs.Job.{job_of};
 ghost use Rattle.lk_store.specs.Sizes.{sizes_of};
 ghost use Rattle.lk_store.specs.Layers.{layers_contents};
+ghost use Rattle.lk_store.specs.Values.{AreApart};
 ghost use Rattle.lk_engine.specs.Lookouts.{row_count, IsBounded, Tidies, Restarts, GivesMembers};
 
 use crate::families::family_of;
@@ -75,40 +77,41 @@ impl<K: Knows> Drop for Engine<'_, K> {
     }
 }
 
-/// Forgets what units made, unless it may stay. Whether it does.
-fn tidy(terms: &mut Overlay<'_>, instances: &mut Instances, limit: &mut Limit) -> bool
-    ensures tidies { Tidies terms.old terms.new result }
+/// Whether what units made may stay beside what the library has.
+fn may_stay(lookout: &Lookout<'_, Overlay<'_>>, limit: &mut Limit) -> bool
+    ensures { IsTrue result → IsBounded (row_count (sizes_of lookout.now.terms.own))
+        (row_count (sizes_of lookout.now.terms.base)) }
+{
+    let terms = &lookout.terms;
+    limit.lets_stay(rows_of(terms.own_sizes()), rows_of(terms.base_sizes()))
+}
+
+/// Forgets what units made, unless it stays.
+fn tidy(terms: &mut Overlay<'_>, instances: &mut Instances, stays: bool)
+    ensures tidies { Tidies terms.old terms.new stays }
     ensures instances { let before = layers_contents terms.old in
         let after = layers_contents terms.new in
         AreInstances before instances.old.table → AreInstances after instances.new.table }
 {
-    let (made, library) = (rows_of(terms.own_sizes()), rows_of(terms.base_sizes()));
-    if limit.lets_stay(made, library) {
-        return true;
+    if stays {
+        return;
     }
     terms.clear();
     instances.clear();
-    false
 }
 
-/// Looks from this unit, of which nothing is partial, with no auxiliary types, a store that has
-/// what the library has, and this budget. Whether what earlier units made stays.
-fn restart<'a>(
-    lookout: &mut Lookout<'a, Overlay<'a>>,
-    limit: &mut Limit,
-    unit: u32,
-    budget: u128,
-) -> bool
+/// Looks from this unit, of which nothing is partial, with no auxiliary types, and this budget.
+/// What earlier units made stays, or the store has what the library has.
+fn restart<'a>(lookout: &mut Lookout<'a, Overlay<'a>>, unit: u32, budget: u128, stays: bool)
     requires { lookout.old.terms.base ≡ lookout.old.scope.library.tables }
-    ensures { Restarts lookout.old lookout.new unit budget result }
+    ensures { Restarts lookout.old lookout.new unit budget stays }
 {
     let partial = Partial::Nothing;
     let library = lookout.scope.library();
-    let stays = tidy(&mut lookout.terms, &mut lookout.instances, limit);
+    tidy(&mut lookout.terms, &mut lookout.instances, stays);
     lookout.site = Site { unit, partial };
     lookout.scope = Scope::new(lookout.alloc, library, &lookout.terms);
     lookout.meter = Meter::new(budget);
-    stays
 }
 
 /// From here on so much of the unit at work is partial, and no auxiliary type.
@@ -136,6 +139,14 @@ fn give_beside_in<'a>(
     lookout.scope = Scope::beside(lookout.alloc, library, &lookout.terms, types)?;
     lookout.site.partial = partial;
     Ok(())
+}
+
+/// Equal levels have one number, and so have equal trees.
+fn once_in(lookout: &Lookout<'_, Overlay<'_>>)
+    ensures levels { AreApart zero_level (layers_contents lookout.now.terms).levels }
+    ensures trees { AreApart wide (layers_contents lookout.now.terms).trees }
+{
+    lookout.terms.stands_once();
 }
 
 /// How many turns were taken.
@@ -194,9 +205,44 @@ impl<'a, K: Knows> Engine<'a, K> {
         ensures left { self.new.meter.left ≡ budget }
         ensures turns { self.new.meter.turns ≡ 0 }
     {
-        let stays = restart(&mut self.lookout, &mut self.limit, unit, budget);
+        let stays = may_stay(&self.lookout, &mut self.limit);
+        self.begin(unit, budget, stays);
+    }
+
+    /// Begins a unit as `start` does, but all that earlier units made stays, however much it is. It
+    /// is for whoever keeps numbers from one unit to the next.
+    pub fn go_on(&mut self, unit: u32, budget: u128)
+        ensures library { self.new.scope.library ≡ self.old.scope.library }
+        ensures auxiliary { self.new.scope.auxiliary ≡ [] }
+        ensures unit { self.new.site.unit ≡ unit }
+        ensures partial { self.new.site.partial ≡ Partial.Nothing }
+        ensures terms { self.new.terms ≡ self.old.terms }
+        ensures contents { Extends (contents_of self.old.scope.library.tables)
+            (layers_contents self.new.terms) }
+        ensures left { self.new.meter.left ≡ budget }
+        ensures turns { self.new.meter.turns ≡ 0 }
+    {
+        self.begin(unit, budget, true);
+    }
+
+    /// Begins a unit. What earlier units made stays, or all of it goes, and of the answers all but
+    /// those over the terms that stand then.
+    fn begin(&mut self, unit: u32, budget: u128, stays: bool)
+        ensures restarts { Restarts self.old self.new unit budget stays }
+        ensures contents { Extends (contents_of self.old.scope.library.tables)
+            (layers_contents self.new.terms) }
+    {
+        restart(&mut self.lookout, unit, budget, stays);
         let terms = self.lookout.len();
         self.knowledge.start_unit(unit, terms, stays);
+    }
+
+    /// Equal levels have one number, and so have equal trees, those of the library among them.
+    pub fn stands_once(&self)
+        ensures levels { AreApart zero_level (layers_contents self.now.terms).levels }
+        ensures trees { AreApart wide (layers_contents self.now.terms).trees }
+    {
+        once_in(&self.lookout);
     }
 
     /// From here on what units made goes when the next one is begun, unless it is few rows. For where

@@ -1,11 +1,14 @@
 use Rattle.std.proofs.Common.{subst}
-use Rattle.lk_engine.specs.Lookouts.{BeginsUnit}
-use Rattle.lk_engine.proofs.Standing.{restart_stands}
+use Rattle.lk_store.specs.Sizes.{sizes_of}
+use Rattle.lk_store.specs.Layers.{Layers}
+use Rattle.lk_ask.specs.Outlook.{Outlook}
+use Rattle.lk_engine.specs.Lookouts.{row_count, IsBounded}
+use Rattle.lk_engine.proofs.Standing.{restart_bounded}
 use Rattle.lk_engine.proofs.engine.Engine.start.Goals as goal
 
-pub invariant_of-self : goal.invariant_of-self
-invariant_of-self g c = rw c.start_unit.ensures.share (restart_stands c.restart-stays.ensures
-    c.self.invariant
-    (subst (λ n. BeginsUnit (g.K.Knows.memo c.self.inside.knowledge.now)
-    (g.K.Knows.memo c.start_unit.new.self) c.args.unit n
-    c.restart-stays.result) c.len-terms.ensures c.start_unit.ensures.begins))
+pub returns-clause-bounded : goal.returns-clause-bounded
+returns-clause-bounded g c =
+    subst (λ (s : Outlook Layers). IsBounded (row_count (sizes_of c.begin.new.self.terms.own))
+    (row_count (sizes_of s.scope.library.tables))) c.self.view_is
+    (restart_bounded c.may_stay-stays.result c.begin.ensures.restarts
+    c.self.invariant.base c.may_stay-stays.ensures)
