@@ -31,6 +31,7 @@ fn open<R: Rows>(
     requires { IsStage (R.place rows.old) (R.most rows.old) (R.contents rows.old) derivation.now
         (stack.old.items ++ task.Open query ∷ []) }
     ensures stays { Stays R.contents R.place R.most rows.old rows.new }
+    ensures rest { R.rest rows.new ≡ R.rest rows.old }
     ensures goes_on { OnOk result (GoesOn (R.place rows.old) (R.most rows.old)
         (R.contents rows.old) (R.contents rows.new) derivation.now derivation.now
         (stack.old.items ++ task.Open query ∷ []) stack.new.items) }
@@ -77,6 +78,7 @@ fn do_task<R: Rows>(
     requires { IsStage (R.place rows.old) (R.most rows.old) (R.contents rows.old) derivation.old
         (stack.old.items ++ task ∷ []) }
     ensures stays { Stays R.contents R.place R.most rows.old rows.new }
+    ensures rest { R.rest rows.new ≡ R.rest rows.old }
     ensures goes_on { OnOk result (GoesOn (R.place rows.old) (R.most rows.old)
         (R.contents rows.old) (R.contents rows.new) derivation.old derivation.new
         (stack.old.items ++ task ∷ []) stack.new.items) }
@@ -100,6 +102,7 @@ pub fn derive<R: Rows>(
         (R.most rows.old) }
     requires derivation { IsDerivation (R.place rows.old) (R.contents rows.old) derivation.old }
     ensures stays { Stays R.contents R.place R.most rows.old rows.new }
+    ensures rest { R.rest rows.new ≡ R.rest rows.old }
     ensures derives { OnOk result (Derives (R.place rows.old) (R.contents rows.old)
         (R.contents rows.new) derivation.old derivation.new
         (query_of (tree_at (R.contents rows.old)) query)) }

@@ -65,6 +65,7 @@ fn add<R: Rows>(
     requires claim_is { let c = R.contents rows.old in
         IsClaimOf (R.place rows.old) (query_of (tree_at c) query) (claim_at c claim) }
     ensures stays { Stays R.contents R.place R.most rows.old rows.new }
+    ensures rest { R.rest rows.new ≡ R.rest rows.old }
     ensures adds { OnOk result (AddsParts (R.place rows.old) (R.contents rows.old)
         (R.contents rows.new) parts.old parts.new (claim_at (R.contents rows.old) claim ∷ [])) }
 {
@@ -78,6 +79,7 @@ fn type_of<R: Rows>(rows: &mut R, e: u64) -> Result<u64, NoMemory>
     requires answered { IsAnsweredWithin (R.place rows.old)
         (infer (tree_at (R.contents rows.old) e)) (R.most rows.old) }
     ensures stays { Stays R.contents R.place R.most rows.old rows.new }
+    ensures rest { R.rest rows.new ≡ R.rest rows.old }
     ensures known { IfOk result (λ v. v < length (R.contents rows.new).trees) }
     ensures told { IfOk result (λ v. IsType (R.place rows.old)
         (tree_at (R.contents rows.old) e) (tree_at (R.contents rows.new) v)) }
@@ -94,6 +96,7 @@ fn form_of<R: Rows>(rows: &mut R, e: u64) -> Result<u64, NoMemory>
     requires answered { IsAnsweredWithin (R.place rows.old)
         (whnf (tree_at (R.contents rows.old) e)) (R.most rows.old) }
     ensures stays { Stays R.contents R.place R.most rows.old rows.new }
+    ensures rest { R.rest rows.new ≡ R.rest rows.old }
     ensures known { IfOk result (λ v. v < length (R.contents rows.new).trees) }
     ensures told { IfOk result (λ v. IsForm (R.place rows.old)
         (tree_at (R.contents rows.old) e) (tree_at (R.contents rows.new) v)) }
@@ -113,6 +116,7 @@ fn add_type<R: Rows>(
 ) -> Result<u64, NoMemory>
     requires { IsDue R.contents R.place R.most rows.old parts.old (query.Infer e) }
     ensures stays { Stays R.contents R.place R.most rows.old rows.new }
+    ensures rest { R.rest rows.new ≡ R.rest rows.old }
     ensures known { IfOk result (λ v. v < length (R.contents rows.new).trees) }
     ensures adds { let E = tree_at (R.contents rows.old) e in (V : Tree) (n : ℕ)
         → IsAnswered (R.place rows.old) (infer E) V n
@@ -133,6 +137,7 @@ fn add_form<R: Rows>(
 ) -> Result<u64, NoMemory>
     requires { IsDue R.contents R.place R.most rows.old parts.old (query.Whnf e) }
     ensures stays { Stays R.contents R.place R.most rows.old rows.new }
+    ensures rest { R.rest rows.new ≡ R.rest rows.old }
     ensures known { IfOk result (λ v. v < length (R.contents rows.new).trees) }
     ensures adds { let E = tree_at (R.contents rows.old) e in (V : Tree) (n : ℕ)
         → IsAnswered (R.place rows.old) (whnf E) V n
@@ -154,6 +159,7 @@ pub(crate) fn add_equal<R: Rows>(
 ) -> Result<(), NoMemory>
     requires { IsDue R.contents R.place R.most rows.old parts.old (query.Same a b) }
     ensures stays { Stays R.contents R.place R.most rows.old rows.new }
+    ensures rest { R.rest rows.new ≡ R.rest rows.old }
     ensures adds { let t = tree_at (R.contents rows.old) in OnOk result (AddsParts
         (R.place rows.old) (R.contents rows.old) (R.contents rows.new) parts.old parts.new
         (equals (t a) (t b) ∷ [])) }
@@ -170,6 +176,7 @@ pub(crate) fn add_sort<R: Rows>(
 ) -> Result<(), NoMemory>
     requires { IsSortDue R.contents R.place R.most rows.old parts.old ty }
     ensures stays { Stays R.contents R.place R.most rows.old rows.new }
+    ensures rest { R.rest rows.new ≡ R.rest rows.old }
     ensures adds { let A = tree_at (R.contents rows.old) ty in (l : Level)
         (h : HasSort (R.place rows.old) (R.most rows.old) A l)
         → OnOk result (AddsParts (R.place rows.old) (R.contents rows.old) (R.contents rows.new)
@@ -190,6 +197,7 @@ pub(crate) fn add_value<R: Rows>(
 ) -> Result<(), NoMemory>
     requires { IsValueDue R.contents R.place R.most rows.old parts.old value ty }
     ensures stays { Stays R.contents R.place R.most rows.old rows.new }
+    ensures rest { R.rest rows.new ≡ R.rest rows.old }
     ensures adds { let v = tree_at (R.contents rows.old) value in
         let A = tree_at (R.contents rows.old) ty in
         (h : HasType (R.place rows.old) (R.most rows.old) v A)

@@ -28,6 +28,11 @@ pub trait Rows {
     /// The greatest cost of a question that it is asked about. No call changes it.
     ghost most: { Self → ℕ };
 
+    /// What it has beside these, which no call changes.
+    type Rest;
+
+    ghost rest: { Self → Self.Rest };
+
     /// The store, lent.
     fn store(&self) -> &Self::Store
         ensures { Self.Store.contents result.now ≡ contents self.now };
@@ -38,6 +43,7 @@ pub trait Rows {
         requires answered { IsAnsweredWithin (place self.old)
             (query_of (tree_at (contents self.old)) query) (most self.old) }
         ensures stays { Stays contents place most self.old self.new }
+        ensures rest { rest self.new ≡ rest self.old }
         ensures known { IfOk result (IsKnownAnswer (length (contents self.new).trees)) }
         ensures told { IsTold (place self.old) (contents self.new)
             (query_of (tree_at (contents self.old)) query) result };
@@ -49,6 +55,7 @@ pub trait Rows {
         requires answered { IsClaim (place self.old)
             (query_of (tree_at (contents self.old)) query) (most self.old) }
         ensures stays { Stays contents place most self.old self.new }
+        ensures rest { rest self.new ≡ rest self.old }
         ensures known { IfOk result (IsRowIn (contents self.new)) }
         ensures row { IfOk result (IsRowOf (place self.old) (contents self.new)
             (query_of (tree_at (contents self.old)) query)) };

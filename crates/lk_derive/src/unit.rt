@@ -48,6 +48,7 @@ fn add_any_value<R: Rows>(
 ) -> Result<(), NoMemory>
     requires { IsAnyDue R.contents R.place R.most rows.old parts.old value ty }
     ensures stays { Stays R.contents R.place R.most rows.old rows.new }
+    ensures rest { R.rest rows.new ≡ R.rest rows.old }
     ensures adds { let t = tree_at (R.contents rows.old) in (cs : List PlainClaim)
         → AreValueParts (R.place rows.old) (R.most rows.old) (option_map t value) (t ty) cs
         → OnOk result (AddsParts (R.place rows.old) (R.contents rows.old) (R.contents rows.new)
@@ -68,6 +69,7 @@ fn add_sides<R: Rows>(
 ) -> Result<(), NoMemory>
     requires { AreSidesDue R.contents R.place R.most rows.old parts.old sides.now }
     ensures stays { Stays R.contents R.place R.most rows.old rows.new }
+    ensures rest { R.rest rows.new ≡ R.rest rows.old }
     ensures adds { OnOk result (AddsParts (R.place rows.old) (R.contents rows.old)
         (R.contents rows.new) parts.old parts.new
         (pair_parts (pairs_at (R.contents rows.old) sides.now))) }
@@ -90,6 +92,7 @@ fn add_parts<R: Rows>(
 ) -> Result<(), NoMemory>
     requires { IsUnitDue R.contents R.place R.most rows.old parts.old declaration.now sides.now }
     ensures stays { Stays R.contents R.place R.most rows.old rows.new }
+    ensures rest { R.rest rows.new ≡ R.rest rows.old }
     ensures adds { let d = declaration_at (R.contents rows.old) declaration.now in
         (h : HasParts (R.place rows.old) (R.most rows.old) d)
         → OnOk result (AddsParts (R.place rows.old) (R.contents rows.old) (R.contents rows.new)
@@ -128,6 +131,7 @@ pub fn section_of_unit<R: Rows>(
     requires sides { AreSidesOf (R.contents rows.old)
         (declaration_at (R.contents rows.old) declaration.now) sides.now }
     ensures stays { Stays R.contents R.place R.most rows.old rows.new }
+    ensures rest { R.rest rows.new ≡ R.rest rows.old }
     ensures section { IfOk result (IsUnitSection (R.place rows.old) (R.contents rows.new) unit
         (declaration_at (R.contents rows.old) declaration.now)) }
 {
