@@ -1,0 +1,4 @@
+pub mod Rules
+pub mod Lines
+pub mod Sections
+pub mod Stored
