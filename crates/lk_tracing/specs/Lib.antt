@@ -1,0 +1,3 @@
+pub mod Deriving
+pub mod Traces
+pub mod Written

@@ -1,0 +1,15 @@
+//! Derivations of the declarations of a library, one after another: whoever answers questions of one
+//! unit after another over one store tells of each declaration that says yes its section, which is
+//! written behind those before it, and holds.
+#![tactic(auto)]
+
+mod deriver;
+mod equality;
+mod laws;
+mod tracer;
+mod unit_section;
+
+pub use deriver::Deriver;
+pub use laws::written_sections_hold;
+pub use tracer::Tracer;
+pub use unit_section::{Checked, trace_unit};
