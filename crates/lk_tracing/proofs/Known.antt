@@ -1,5 +1,5 @@
 -- A unit of a store is one of a store with more.
-use Rattle.std.proofs.Common.{◌≡◌, ℕ, List, arith}
+use Rattle.std.proofs.Common.{ℕ, List, arith}
 use Rattle.lk_store.specs.Contents.{Contents, Extends}
 use Rattle.lk_ask.proofs.Sheets.{grown}
 use Rattle.lk_env.specs.declared.unit.Body.{Body}

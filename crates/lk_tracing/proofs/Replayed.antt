@@ -1,5 +1,5 @@
 -- Sections that hold, in a file.
-use Rattle.std.proofs.Common.{◌≡◌, ℕ, zero, suc, ◌<◌, ◌+◌, Bool, true, false, List, [], ◌∷◌, ◌++◌, All, map, refl, sym, ap, subst, ◌∙◌, arith}
+use Rattle.std.proofs.Common.{◌≡◌, ℕ, zero, suc, ◌<◌, ◌+◌, Bool, true, false, List, [], ◌∷◌, All, map, refl, sym, ap, subst, ◌∙◌, arith}
 use Rattle.std.specs.Prelude.{◌||◌, ◌&&◌, nat_eq, Option, Some, None, slice_get, if◌then◌else◌}
 use Rattle.std.specs.List.{list_any}
 use Rattle.std.proofs.lemmas.Bool.Decides.{nat_tests}
@@ -7,7 +7,7 @@ use Rattle.std.proofs.lemmas.List.Elements.{All-head, All-tail}
 use Rattle.std.proofs.lemmas.List.Folds.{list_any-append}
 use Rattle.lk_rulebook.specs.Units.{LibraryUnit, of_decl, of_block, Library}
 use Rattle.lk_written.specs.Section.{section_holds, section_at_fault}
-use Rattle.lk_written.specs.Outcomes.{FileSection, section_of, section_for, by_fault, by_section, by_unit, outcome_of, holds, unwritten, Outcome}
+use Rattle.lk_written.specs.Outcomes.{FileSection, section_of, section_for, by_fault, by_section, by_unit, holds, unwritten, Outcome}
 use Rattle.lk_written_sound.proofs.Faults.{no_fault}
 use Rattle.lk_sections.specs.Sections.{UnitSection}
 use Rattle.lk_tracing.specs.Traces.{is_declaration, is_accepted, has_section, traced_below, AreSections, without_numbers, AllHold}

@@ -1,6 +1,6 @@
 -- The sections of units, one after another.
-use Rattle.std.proofs.Common.{◌≡◌, ℕ, ◌<◌, ◌+◌, Bool, true, false, List, [], ◌∷◌, ◌++◌, All, map, length, refl, sym, ap, subst, ◌∙◌, arith}
-use Rattle.std.specs.Prelude.{not, ◌&&◌, ◌||◌, Option, Some, None, Result, Ok, Err, slice_get, slice_index_or, cond, OnOk, if◌then◌else◌}
+use Rattle.std.proofs.Common.{◌≡◌, ℕ, ◌+◌, Bool, true, false, List, [], ◌∷◌, ◌++◌, refl, sym, ap, ◌∙◌, arith}
+use Rattle.std.specs.Prelude.{not, ◌&&◌, ◌||◌, Some, slice_get, if◌then◌else◌}
 use Rattle.std.specs.List.{filter, list_any, range_with_len}
 use Rattle.std.proofs.lemmas.List.{append-nil, map_push, map-id}
 use Rattle.std.proofs.lemmas.List.Elements.{All-nil, All-push}
@@ -8,15 +8,13 @@ use Rattle.std.proofs.lemmas.List.Folds.{list_any-append}
 use Rattle.std.proofs.lemmas.List.FromFn.{map-range_with_len_more}
 use Rattle.lk_rulebook.specs.Place.{Block, BlockRecursor}
 use Rattle.lk_rulebook.specs.Units.{Decl, of_decl, of_block, Library}
-use Rattle.lk_questions.specs.Table.{steps as table}
-use Rattle.lk_verdict.specs.Verdict.{PlainVerdict, says_yes, says_no, says_steps, plain_verdict}
 use Rattle.lk_written.specs.Section.{section_holds}
-use Rattle.lk_store.specs.Contents.{Contents, Extends}
+use Rattle.lk_store.specs.Contents.{Contents}
 use Rattle.lk_trim.specs.Whole.{Kept}
 use Rattle.lk_sections.specs.declared.trace.TraceWriter.{TraceWriter}
 use Rattle.lk_sections.specs.Sections.{UnitSection}
 use Rattle.lk_sections.specs.Stored.{HasWritten}
-use Rattle.lk_tracing.specs.Traces.{is_declaration, is_accepted, has_section, lacks_section, traced_below, lacks_below, AreSections}
+use Rattle.lk_tracing.specs.Traces.{is_declaration, is_accepted, has_section, lacks_section, traced_below, lacks_below}
 use Rattle.lk_tracing.specs.Written.{HasOneMore, AreTraced}
 
 -- numbers from 0 on, and one more

@@ -1,11 +1,9 @@
 -- A declaration over a store that grows, and its section.
-use Rattle.std.proofs.Common.{◌≡◌, ℕ, true, List, [], ◌∷◌, ◌++◌, Option, Some, Result, Ok, Err, refl, sym, ap, subst, ◌∙◌}
-use Rattle.std.specs.Prelude.{slice_get, OnOk}
+use Rattle.std.proofs.Common.{◌≡◌, ℕ, true, List, [], ◌∷◌, ◌++◌, Result, sym, subst}
+use Rattle.std.specs.Prelude.{OnOk}
 use Rattle.std.proofs.lemmas.Result.{on_ok_weaker}
 use Rattle.lk_rulebook.specs.Place.{Place}
 use Rattle.lk_rulebook.specs.Units.{Decl, of_decl, Library, place_of}
-use Rattle.lk_questions.specs.Table.{steps as table}
-use Rattle.lk_verdict.specs.Verdict.{says_yes, plain_verdict}
 use Rattle.lk_written.specs.Section.{section_holds}
 use Rattle.lk_store.specs.declared.memory.NoMemory.{NoMemory}
 use Rattle.lk_store.specs.Contents.{Contents, Extends}

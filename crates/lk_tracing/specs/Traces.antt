@@ -1,7 +1,6 @@
 -- Which units have a section: the declarations that say yes, and no other unit.
 use Rattle.std.specs.Prelude.{◌≡◌, ◌<◌, ℕ, Bool, true, false, not, ◌&&◌, List, All, map, Option}
-use Rattle.std.specs.Prelude.{Some, None}
-use Rattle.std.specs.Prelude.{Ok, length, slice_get, if◌then◌else◌}
+use Rattle.std.specs.Prelude.{Some, None, slice_get}
 use Rattle.std.specs.List.{filter, list_any, range_with_len}
 use Rattle.lk_rulebook.specs.Units.{LibraryUnit, of_decl, of_block, Library}
 use Rattle.lk_questions.specs.Table.{steps as table}

@@ -1,4 +1,5 @@
-//! Whoever answers questions, as one who tells what the answers rest on: the row of a question by its form.
+//! Whoever answers questions, as one who tells what the answers rest on: the row of each question,
+//! by its form.
 
 ghost use Rattle.std.specs.Prelude.{◌≡◌, ◌<◌, length, IfOk};
 ghost use Rattle.lk_rulebook.specs.WellStated.{WellStated};
@@ -78,7 +79,8 @@ fn row_of<D: Derives>(derives: &mut D, query: Query<u64>, enough: u128) -> Resul
     }
 }
 
-/// Whoever answers questions, at a place where what names mean is stated, and how much one of them may cost.
+/// Whoever answers questions, at a place where what names mean is stated, and how much one of them
+/// may cost.
 #[derive(Drop)]
 pub struct Deriver<D: Derives> {
     pub derives: D,

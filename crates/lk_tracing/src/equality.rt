@@ -8,7 +8,8 @@ use lk_derive_lit::by_literals;
 use lk_step::{Derives, Row};
 use lk_store::memory::NoMemory;
 
-/// By literals: an operation on numbers that is computed, or a number beside zero or a successor. No value of it is made.
+/// By literals: an operation on numbers that is computed, or a number beside zero or a successor. No
+/// value of it is made.
 pub struct Literals;
 
 impl<D: Derives> Test<D> for Literals {
@@ -34,7 +35,8 @@ impl<D: Derives> Test<D> for Unfolding {
     }
 }
 
-/// By eta of structures, types with one value, and texts: what comes behind function eta. No value of it is made.
+/// By eta of structures, types with one value, and texts: what comes behind function eta. No value of
+/// it is made.
 pub struct Structures;
 
 impl<D: Derives> Tests<D> for Structures {

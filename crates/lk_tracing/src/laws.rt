@@ -5,7 +5,8 @@ ghost use Rattle.lk_rulebook.specs.Units.{Library};
 ghost use Rattle.lk_sections.specs.Sections.{UnitSection};
 ghost use Rattle.lk_tracing.specs.Traces.{AreSections, AllHold};
 
-/// Of each unit that has a section it comes that it holds, whatever numbers its lines have in a file.
+/// What comes of each unit that has a section is that it holds, whatever the numbers of its lines in
+/// a file.
 pub fn written_sections_hold()
     ensures { (us : Library) (budget : ℕ → ℕ) (n : ℕ) (ss : List UnitSection)
         → AreSections us budget n ss → AllHold us budget n ss }

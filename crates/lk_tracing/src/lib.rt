@@ -1,6 +1,6 @@
-//! Derivations of the declarations of a library, one after another: whoever answers questions of one
-//! unit after another over one store tells of each declaration that says yes its section, which is
-//! written behind those before it, and holds.
+//! Derivations of the declarations of a library, one after another. Whoever answers questions of one
+//! unit after another over one store gives of each declaration that says yes its section, which
+//! holds, and is written behind those before it.
 #![tactic(auto)]
 
 mod deriver;

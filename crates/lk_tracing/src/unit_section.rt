@@ -29,7 +29,7 @@ use lk_store::memory::NoMemory;
 use lk_trace::Section;
 use std::alloc::Global;
 
-/// A unit that was checked: its number, its budget, and whether it says yes.
+/// A unit that was checked: its number, its budget, and whether its plain verdict under that is yes.
 #[derive(Clone, Copy)]
 pub struct Checked {
     pub unit: u32,

@@ -2,8 +2,7 @@ use Rattle.std.proofs.Common.{refl, ap, sym, subst}
 use Rattle.std.specs.Prelude.{IfOk}
 use Rattle.lk_rulebook.specs.WellStated.{WellStated}
 use Rattle.lk_env.specs.Units.{declaration_at}
-use Rattle.lk_derive.specs.Units.{IsYes, IsUnitSection}
-use Rattle.lk_derive.specs.Sides.{IsDeclarationIn}
+use Rattle.lk_derive.specs.Units.{IsUnitSection}
 use Rattle.lk_tracing.proofs.UnitSections.{declaration_stays, yes_there}
 use Rattle.lk_tracing.proofs.unit_section.derived_section.Goals as goal
 

@@ -1,4 +1,4 @@
-use Rattle.std.proofs.Common.{◌≡◌, map, Some, ap, ◌∙◌}
+use Rattle.std.proofs.Common.{map, Some, ap, ◌∙◌}
 use Rattle.lk_store.specs.Store.{contents_of}
 use Rattle.lk_env.specs.Units.{unit_at, block_at, recursor_at, library_of}
 use Rattle.lk_tracing.proofs.Stands.{unit_stands}

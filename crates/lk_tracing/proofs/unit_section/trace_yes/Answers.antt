@@ -5,7 +5,6 @@ use Rattle.lk_store.specs.Contents.{Extends}
 use Rattle.lk_store.specs.Store.{contents_of}
 use Rattle.lk_env.specs.Units.{declaration_at, library_of}
 use Rattle.lk_derive.specs.Units.{IsUnitSection}
-use Rattle.lk_sections.specs.Sections.{UnitSection}
 use Rattle.lk_sections.specs.Stored.{unit_section_at, HasWritten}
 use Rattle.lk_tracing.proofs.UnitSections.{declaration_on, declaration_stays, yes_there, one_more_holds}
 use Rattle.lk_tracing.proofs.unit_section.trace_yes.Goals as goal
