@@ -9,7 +9,7 @@ use Rattle.lk_lines.specs.declared.line.Statement.TheVariants as statement
 use Rattle.lk_lines.specs.declared.tags.Tag.{Tag}
 use Rattle.lk_lines.specs.declared.tags.Tag.TheVariants as tag
 use Rattle.lk_lines.specs.declared.tags.Dialect.{Dialect}
-use Rattle.lk_lines.specs.declared.tags.Dialect.TheVariants.{Export, Rounds, Trace}
+use Rattle.lk_lines.specs.declared.tags.Dialect.TheVariants.{Export, Rounds, Text, Trace}
 use Rattle.lk_lines.specs.Tags.{numbered_tags, plain_tags}
 use Rattle.lk_lines.specs.Says.{said_in}
 use Rattle.lk_lines.specs.Views.{says_of}
@@ -28,12 +28,15 @@ IsLibraryTag t = Unit {0}
 each_plain : (d : Dialect) → d ≢ Trace → AllByRecursion IsLibraryTag (plain_tags d)
 each_plain Export h = (tt, (tt, (tt, (tt, (tt, (tt, (tt, (tt, (tt, tt)))))))))
 each_plain Rounds h = (tt, (tt, (tt, (tt, (tt, (tt, (tt, (tt, (tt, tt)))))))))
+each_plain Text h = (tt, (tt, (tt, (tt, (tt, (tt, (tt, (tt, tt))))))))
 each_plain Trace h = absurd (h refl)
 
 each_numbered : (d : Dialect) → d ≢ Trace → AllByRecursion IsLibraryTag (numbered_tags d)
 each_numbered Export h =
     (tt, (tt, (tt, (tt, (tt, (tt, (tt, (tt, (tt, (tt, (tt, (tt, (tt, (tt, (tt, (tt, (tt, tt)))))))))))))))))
 each_numbered Rounds h =
+    (tt, (tt, (tt, (tt, (tt, (tt, (tt, (tt, (tt, (tt, (tt, (tt, (tt, (tt, (tt, (tt, (tt, tt)))))))))))))))))
+each_numbered Text h =
     (tt, (tt, (tt, (tt, (tt, (tt, (tt, (tt, (tt, (tt, (tt, (tt, (tt, (tt, (tt, (tt, (tt, tt)))))))))))))))))
 each_numbered Trace h = absurd (h refl)
 

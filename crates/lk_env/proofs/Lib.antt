@@ -15,3 +15,4 @@ pub mod Parents
 pub mod Stays
 pub mod Scoped
 pub mod Meanings
+pub mod Grown

@@ -13,7 +13,7 @@ use Rattle.lk_env.specs.declared.position.Position.{Position}
 use Rattle.lk_env.specs.declared.unit.Unit.{Unit as StoredUnit}
 use Rattle.lk_env.specs.Units.{library_at, IsUnitIn, AreUnitsIn}
 use Rattle.lk_env.specs.Places.{first_place, at_member, position_in}
-use Rattle.lk_env.specs.Index.{member_names, pair_of, cell_at, AreNoted, IsIndex}
+use Rattle.lk_env.specs.Index.{member_names, pair_of, cell_at, AreNoted, IsIndex, IsIndexUpTo}
 use Rattle.lk_env.proofs.Members.{members_known, place_of_number}
 
 first_none : (o : Option (ℕ × ℕ)) → first_place o None ≡ o
@@ -89,11 +89,6 @@ one_noted unit j names old cells l all s =
           ∙ sym (ap (λ ns. first_place (cell_at cells n) (at_member unit (position_from (λ m. nat_eq m n) j ns))) (drop-cons names j 0 l))
           ∙ s.right n h;
     }
-
--- The index over the first i units.
-pub record IsIndexUpTo (c : Contents) (us : List StoredUnit) (i : ℕ) (cells : List (Option Position)) : Type 0 where
-  pub one_each : length cells ≡ length c.names
-  pub right : (n : ℕ) → n < length c.names → first_place (cell_at cells n) (position_in i (library_at c (drop i us)) (name_at c n)) ≡ position_in 0 (library_at c us) (name_at c n)
 
 pub no_unit : (c : Contents) (us : List StoredUnit) (cells : List (Option Position)) → length cells ≡ length c.names → ((n : ℕ) → n < length c.names → cell_at cells n ≡ None) → IsIndexUpTo c us 0 cells
 no_unit c us cells one_each empty = record { one_each = one_each; right = λ n h. rw (empty n h) refl }

@@ -11,7 +11,7 @@ use Rattle.lk_env.specs.declared.unit.Body.{Body}
 use Rattle.lk_env.specs.declared.unit.Body.TheVariants.{Axiom, Definition, Theorem, Opaque, Quotient}
 use Rattle.lk_env.specs.declared.unit.Unit.{Unit as StoredUnit}
 use Rattle.lk_env.specs.declared.unit.Unit.TheVariants as unit
-use Rattle.lk_env.specs.Units.{declared_levels, hint_of, body_at, constructor_at, type_at, rule_at, recursor_at, unit_at, IsBodyIn, IsStatedIn, IsConstructorIn, IsTypeIn, IsRuleIn, IsRecursorIn, IsUnitIn}
+use Rattle.lk_env.specs.Units.{declared_levels, hint_of, body_at, constructor_at, type_at, rule_at, recursor_at, unit_at, library_at, IsBodyIn, IsStatedIn, IsConstructorIn, IsTypeIn, IsRuleIn, IsRecursorIn, IsUnitIn, AreUnitsIn}
 
 -- a list of things each of which stays
 pub all_stay : {X Y : Type 0} (P : X → Type 0) (f g : X → Y) → ((x : X) → P x → f x ≡ g x) → (xs : List X) → All P xs → map f xs ≡ map g xs
@@ -99,3 +99,20 @@ module _ (c d : Contents) (x : Extends c d) where
   unit_stays (unit.Declaration a) h =
       rw (x.names.same a.name h.0.name_in, names_stay c d x (declared_levels a) h.0.levels_in, x.trees.same a.ty h.0.ty_in, body_stays a.body h.1) refl
   unit_stays (unit.Block b) h = rw (types_stay c d x b.types.items h.0, recursors_stay c d x b.recursors.value.items h.1) refl
+
+  body_in_stays : (b : Body) → IsBodyIn c b → IsBodyIn d b
+  body_in_stays Axiom h = tt
+  body_in_stays (Definition hint v) h = let longer = x.trees.longer in omega (arith, h)
+  body_in_stays (Theorem v) h = let longer = x.trees.longer in omega (arith, h)
+  body_in_stays (Opaque v) h = let longer = x.trees.longer in omega (arith, h)
+  body_in_stays Quotient h = tt
+
+  unit_in_stays : (u : StoredUnit) → IsUnitIn c u → IsUnitIn d u
+  unit_in_stays (unit.Declaration a) h = (stated_stays c d x a.name (declared_levels a) a.ty h.0, body_in_stays a.body h.1)
+  unit_in_stays (unit.Block b) h = (types_in_stay c d x b.types.items h.0, recursors_in_stay c d x b.recursors.value.items h.1)
+
+  pub units_in_stay : (us : List StoredUnit) → AreUnitsIn c us → AreUnitsIn d us
+  units_in_stay us h = All-weaker (IsUnitIn c) (IsUnitIn d) unit_in_stays us h
+
+  pub library_stays : (us : List StoredUnit) → AreUnitsIn c us → library_at d us ≡ library_at c us
+  library_stays = all_stay (IsUnitIn c) (unit_at d) (unit_at c) unit_stays

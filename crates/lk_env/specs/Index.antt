@@ -1,6 +1,7 @@
 -- An index over names: for each number of a name a cell, which has the name's place.
-use Rattle.std.specs.Prelude.{◌≡◌, ℕ, ◌<◌, nat_eq, List, [], ◌∷◌, ◌++◌, length, map, Option, None, option_map, slice_index_or}
+use Rattle.std.specs.Prelude.{◌≡◌, ℕ, ◌<◌, ◌≤◌, nat_eq, List, [], ◌∷◌, ◌++◌, length, map, drop, Vec, Option, None, option_map, slice_index_or}
 use Rattle.std.specs.List.{flat_map, position_from}
+use Rattle.std.specs.declared.alloc.Global.{Global}
 use Rattle.lk_store.specs.Contents.{Contents, name_at}
 use Rattle.lk_env.specs.declared.position.Position.{Position}
 use Rattle.lk_env.specs.declared.unit.Constructor.{Constructor}
@@ -33,3 +34,18 @@ AreNoted unit names old new = (n : ℕ) → n < length old → cell_at new n ≡
 pub record IsIndex (c : Contents) (us : List StoredUnit) (cells : List (Option Position)) : Type 0 where
   pub one_each : length cells ≡ length c.names
   pub right : (n : ℕ) → n < length c.names → cell_at cells n ≡ position_in 0 (library_at c us) (name_at c n)
+
+-- Cells of the first names of a store, which tell where each name is given: a name behind the last
+-- cell is given nowhere.
+pub record AreCells (c : Contents) (us : List StoredUnit) (cells : List (Option Position)) : Type 0 where
+  pub within : length cells ≤ length c.names
+  pub right : (n : ℕ) → n < length c.names → cell_at cells n ≡ position_in 0 (library_at c us) (name_at c n)
+
+-- the index over the first i units
+pub record IsIndexUpTo (c : Contents) (us : List StoredUnit) (i : ℕ) (cells : List (Option Position)) : Type 0 where
+  pub one_each : length cells ≡ length c.names
+  pub right : (n : ℕ) → n < length c.names → first_place (cell_at cells n) (position_in i (library_at c (drop i us)) (name_at c n)) ≡ position_in 0 (library_at c us) (name_at c n)
+
+-- the lists of numbers are those of the names of these units
+abbrev pub AreNames : List (Vec ℕ Global) → List StoredUnit → Type 0
+AreNames names us = map (λ (v : Vec ℕ Global). v.items) names ≡ map member_names us

@@ -4,6 +4,7 @@
 pub mod budget;
 pub mod closed;
 pub mod entry;
+mod growing;
 pub mod index;
 pub mod laws;
 pub mod lends;

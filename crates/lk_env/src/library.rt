@@ -19,16 +19,17 @@ use std::mem::drop;
 
 /// A library, with an index over the names of its units.
 pub struct Library {
-    base: BaseStore,
-    units: Vec<Unit>,
-    /// For each name of the store the position at which it is given.
-    cells: Vec<Option<Position>>,
+    pub(crate) base: BaseStore,
+    pub(crate) units: Vec<Unit>,
+    /// For each name of the store the position at which it is given. Names that came into the store
+    /// behind the units may have none yet.
+    pub(crate) cells: Vec<Option<Position>>,
     /// For each unit why look-ups of its members are refused, if they are.
-    flaws: Vec<Option<Rule>>,
+    pub(crate) flaws: Vec<Option<Rule>>,
     /// What lines state of the units' budgets.
-    budgets: Vec<Budget>,
+    pub(crate) budgets: Vec<Budget>,
     /// For each unit the least number that is stated of it; empty where nothing is stated.
-    limits: Vec<Option<u64>>,
+    pub(crate) limits: Vec<Option<u64>>,
 }
 
 impl Model for Library {
@@ -38,7 +39,7 @@ impl Model for Library {
 
     ghost use Rattle.lk_store.specs.Store.{contents_of};
     ghost use Rattle.lk_env.specs.Units.{AreUnitsIn};
-    ghost use Rattle.lk_env.specs.Index.{IsIndex};
+    ghost use Rattle.lk_env.specs.Index.{AreCells};
     ghost use Rattle.lk_env.specs.Scan.{AreFlaws};
     ghost use Rattle.lk_env.specs.Budgets.{AreBudgetsIn, AreLimits};
 
@@ -49,7 +50,7 @@ impl Model for Library {
     } };
 
     ghost invariant = { λ l. AreUnitsIn (contents_of l.base) l.units.items
-        × IsIndex (contents_of l.base) l.units.items l.cells.items
+        × AreCells (contents_of l.base) l.units.items l.cells.items
         × AreFlaws (contents_of l.base) l.units.items l.flaws.items
         × AreBudgetsIn (contents_of l.base) l.budgets.items
         × AreLimits (contents_of l.base) l.units.items l.budgets.items l.limits.items };
@@ -241,7 +242,10 @@ impl Library {
         ensures { option_map pair_of result
             ≡ position_in 0 (library_of self.now) (name_at (contents_of self.now.tables) name) }
     {
-        self.cells[name as usize]
+        match self.cells.get(name as usize) {
+            Some(position) => *position,
+            None => None,
+        }
     }
 
     /// The first of so many units that gives the name, and which of its members. It takes no

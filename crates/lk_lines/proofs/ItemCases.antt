@@ -8,7 +8,7 @@ use Rattle.lk_lines.specs.declared.words.Word.TheVariants.{UnknownTag, MissingFi
 use Rattle.lk_lines.specs.declared.tags.Tag.{Tag}
 use Rattle.lk_lines.specs.declared.tags.Tag.TheVariants as tag
 use Rattle.lk_lines.specs.declared.tags.Dialect.{Dialect}
-use Rattle.lk_lines.specs.declared.tags.Dialect.TheVariants.{Export, Rounds, Trace}
+use Rattle.lk_lines.specs.declared.tags.Dialect.TheVariants.{Export, Rounds, Text, Trace}
 use Rattle.lk_lines.specs.declared.rules.Family.{Family}
 use Rattle.lk_lines.specs.declared.rules.Family.TheVariants as family
 use Rattle.lk_lines.specs.declared.rules.RuleTag.{RuleTag}
@@ -48,6 +48,7 @@ AreLed tags = (t : Tag) → Contains tags t → find_tag tags (tag_word t) ≡ O
 each_numbered : (d : Dialect) → AllByRecursion (IsLed UnknownTag tag_word (numbered_tags d)) (numbered_tags d)
 each_numbered Export = (refl, (refl, (refl, (refl, (refl, (refl, (refl, (refl, (refl, (refl, (refl, (refl, (refl, (refl, (refl, (refl, (refl, tt)))))))))))))))))
 each_numbered Rounds = (refl, (refl, (refl, (refl, (refl, (refl, (refl, (refl, (refl, (refl, (refl, (refl, (refl, (refl, (refl, (refl, (refl, tt)))))))))))))))))
+each_numbered Text = (refl, (refl, (refl, (refl, (refl, (refl, (refl, (refl, (refl, (refl, (refl, (refl, (refl, (refl, (refl, (refl, (refl, tt)))))))))))))))))
 each_numbered Trace = (refl, (refl, (refl, (refl, (refl, (refl, (refl, (refl, (refl, (refl, (refl, (refl, (refl, (refl, (refl, (refl, (refl, (refl, (refl, (refl, (refl, tt)))))))))))))))))))))
 
 pub numbered_led : (d : Dialect) → AreLed (numbered_tags d)
@@ -56,6 +57,7 @@ numbered_led d = all_led UnknownTag tag_word (numbered_tags d) (each_numbered d)
 each_plain : (d : Dialect) → AllByRecursion (IsLed UnknownTag tag_word (plain_tags d)) (plain_tags d)
 each_plain Export = (refl, (refl, (refl, (refl, (refl, (refl, (refl, (refl, (refl, tt)))))))))
 each_plain Rounds = (refl, (refl, (refl, (refl, (refl, (refl, (refl, (refl, (refl, tt)))))))))
+each_plain Text = (refl, (refl, (refl, (refl, (refl, (refl, (refl, (refl, tt))))))))
 each_plain Trace = (refl, (refl, (refl, (refl, (refl, (refl, (refl, (refl, (refl, (refl, (refl, (refl, tt))))))))))))
 
 pub plain_led : (d : Dialect) → AreLed (plain_tags d)

@@ -56,6 +56,7 @@ tag_word (Derivation family.Conversion) = codes "#CV"
 abbrev pub own_numbered_tags : Dialect → List Tag
 own_numbered_tags dialects.Export = []
 own_numbered_tags dialects.Rounds = []
+own_numbered_tags dialects.Text = []
 own_numbered_tags dialects.Trace = Local ∷ Derivation family.Typing ∷ Derivation family.Reduction
     ∷ Derivation family.Conversion ∷ []
 
@@ -75,6 +76,7 @@ numbered_tags dialect = Entry entry.Apply ∷ Entry entry.Constant ∷ Entry ent
 abbrev pub own_tags : Dialect → List Tag
 own_tags dialects.Export = Budget ∷ []
 own_tags dialects.Rounds = Go ∷ []
+own_tags dialects.Text = []
 own_tags dialects.Trace = Budget ∷ Trace ∷ Section ∷ Parts ∷ []
 
 -- the tags of lines that begin with their tag

@@ -50,6 +50,8 @@ pub enum Dialect {
     Export,
     /// A library and changes of it, which `#GO` lines part.
     Rounds,
+    /// A library that is put behind others. No line states budgets of its units.
+    Text,
     /// A library with budgets, and behind a line `#TR` derivations of the parts of its units. The
     /// lines before and behind `#TR` have the same tags; the numbers of those behind it are wide.
     Trace,

@@ -1,5 +1,5 @@
 use Rattle.lk_store.specs.Store.{contents_of}
-use Rattle.lk_env.proofs.Noted.{IsIndexUpTo}
+use Rattle.lk_env.specs.Index.{IsIndexUpTo}
 use Rattle.lk_env.proofs.index.index_of.Given as goal
 
 abbrev pub invariant-loop-i : goal.invariant-loop-i
