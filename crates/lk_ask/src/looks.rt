@@ -6,7 +6,7 @@ ghost use Rattle.lk_store.specs.Contents.{name_at, list_at, tree_at, Extends};
 ghost use Rattle.lk_store.specs.Store.{contents_of};
 ghost use Rattle.lk_env.specs.Entries.{IsAnswer, IsEntryIn};
 ghost use Rattle.lk_ask.specs.Constants.{IsFound, IsRefusedBy, IsAtLevels};
-ghost use Rattle.lk_ask.specs.Looks.{Sight, entry_at, IsOver};
+ghost use Rattle.lk_ask.specs.Looks.{Sight, IsOver, IsMeant, IsLookedUp, IsTaken};
 
 use lk_env::entry::Entry;
 use lk_env::lends::Lends;
@@ -37,14 +37,7 @@ pub trait Looks: Terms {
     /// What a name means that was looked up before: nothing is noted. It takes no memory.
     fn means(&self, name: u64) -> Result<Entry, Rule>
         requires { name < length (Self.contents self.now).names }
-        ensures over { IsOver Self.contents Self.rest sight self.now }
-        ensures known { IfOk result
-            (IsEntryIn (contents_of (sight (Self.rest self.now)).basis.library.tables)) }
-        ensures answer { IsAnswer (contents_of (sight (Self.rest self.now)).basis.library.tables)
-            (sight (Self.rest self.now)).basis.library.units (sight
-            (Self.rest self.now)).basis.place (name_at (Self.contents self.now) name) result }
-        ensures refused { IfErr result (λ r. (sight (Self.rest self.now)).basis.place.means
-            (name_at (Self.contents self.now) name) ≡ None) };
+        ensures { IsMeant Self.contents Self.rest sight self.now name result };
 
     /// Looks a constant up: what its name means. That its unit was looked at is noted. It takes no memory.
     ///
@@ -52,28 +45,12 @@ pub trait Looks: Terms {
     /// NoBuiltin or QuotShape for what the kernel itself needs.
     fn look(&mut self, name: u64, missing: Rule) -> Result<Entry, Rule>
         requires { name < length (Self.contents self.old).names }
-        ensures contents { Self.contents self.new ≡ Self.contents self.old }
-        ensures stays { (sight (Self.rest self.new)).basis ≡ (sight (Self.rest self.old)).basis }
-        ensures over { IsOver Self.contents Self.rest sight self.old }
-        ensures known { IfOk result
-            (IsEntryIn (contents_of (sight (Self.rest self.old)).basis.library.tables)) }
-        ensures found { IfOk result (λ e. IsFound (sight (Self.rest self.old)).basis.library
-            (sight (Self.rest self.old)).basis.place (name_at (Self.contents self.old) name)
-            (sight (Self.rest self.old)).last e (sight (Self.rest self.new)).last) }
-        ensures refused { IfErr result (IsRefusedBy missing (sight (Self.rest self.old)).basis.place
-            (name_at (Self.contents self.old) name)) };
+        ensures { IsLookedUp Self.contents Self.rest sight self.old self.new name missing result };
 
     /// A tree of a constant's unit at the levels that the constant has. There is none where they are not as many as the
     /// unit has level parameters.
     fn at_levels(&mut self, entry: Entry, levels: u64, e: u64) -> Result<Option<u64>, NoMemory>
         requires levels_in { levels < length (Self.contents self.old).lists }
         requires e_in { e < length (Self.contents self.old).trees }
-        ensures keeps { Extends (Self.contents self.old) (Self.contents self.new) }
-        ensures rest { Self.rest self.new ≡ Self.rest self.old }
-        ensures known { IfOk result (λ r. IfSome r
-            (λ t. t < length (Self.contents self.new).trees)) }
-        ensures ok { IfOk result (λ r. (g : PlainEntry)
-            → entry_at (sight (Self.rest self.old)).basis entry ≡ Some g
-            → IsAtLevels (Self.contents self.new) g.levels (list_at (Self.contents self.old) levels)
-            (tree_at (Self.contents self.old) e) r) };
+        ensures { IsTaken Self.contents Self.rest sight self.old self.new entry levels e result };
 }

@@ -1,4 +1,4 @@
-use Rattle.std.proofs.Common.{◌≡◌, Some, subst}
+use Rattle.std.proofs.Common.{rules, ◌≡◌, Some, subst}
 use Rattle.std.specs.Prelude.{IfOk}
 use Rattle.lk_rulebook.specs.Place.{Entry as PlainEntry}
 use Rattle.lk_store.specs.Contents.{list_at, tree_at}
@@ -7,9 +7,14 @@ use Rattle.lk_env.specs.Entries.{plain_entry}
 use Rattle.lk_ask.specs.Constants.{IsAtLevels}
 use Rattle.lk_ask.proofs.lookout.LookoutLooks.at_levels.Goals as goal
 
-pub returns-clause-ok : goal.returns-clause-ok
-returns-clause-ok g c =
-    let after = g.T.Terms.contents c.at_levels.new.terms in
-    subst (λ s. IfOk c.at_levels.result (λ r. (x : PlainEntry) → plain_entry (contents_of s.scope.tables) s.scope.units c.args.entry ≡ Some x
-    → IsAtLevels after x.levels (list_at (g.T.Terms.contents s.terms) c.args.levels) (tree_at (g.T.Terms.contents s.terms) c.args.e) r))
-    c.self.view_is c.at_levels.ensures.ok
+pub returns : goal.returns
+returns g c = record {
+  keeps = search rules;
+  rest = search rules;
+  known = search rules;
+  ok =
+      let after = g.T.Terms.contents c.at_levels.new.terms in
+      subst (λ s. IfOk c.at_levels.result (λ r. (x : PlainEntry) → plain_entry (contents_of s.scope.tables) s.scope.units c.args.entry ≡ Some x
+      → IsAtLevels after x.levels (list_at (g.T.Terms.contents s.terms) c.args.levels) (tree_at (g.T.Terms.contents s.terms) c.args.e) r))
+      c.self.view_is c.at_levels.ensures.ok;
+}
