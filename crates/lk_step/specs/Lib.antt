@@ -18,3 +18,4 @@ pub mod Heads
 pub mod Nexts
 pub mod Computed
 pub mod Driving
+pub mod Calls

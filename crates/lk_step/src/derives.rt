@@ -3,8 +3,7 @@
 ghost use Rattle.std.specs.Prelude.{◌≡◌, ◌<◌, ℕ, length, IfOk};
 ghost use Rattle.lk_questions.specs.Query.{core, whnf, infer, same};
 ghost use Rattle.lk_store.specs.Contents.{tree_at};
-ghost use Rattle.lk_ask.specs.Questions.{query_of, IsKnownQuery, IsKnownAnswer};
-ghost use Rattle.lk_step.specs.Told.{IsAnsweredWithin, IsTold, Leaves};
+ghost use Rattle.lk_step.specs.Told.{IsAnsweredWithin, Leaves, MayAsk, Answers};
 ghost use Rattle.lk_step.specs.Told.{IsCore, IsForm, IsType, IsSame};
 
 use lk_ask::looks::Looks;
@@ -15,13 +14,8 @@ use lk_store::memory::NoMemory;
 pub trait Derives: Looks {
     /// The plain answer of a question that is answered, at no more than `enough`.
     fn answer(&mut self, query: Query<u64>, enough: u128) -> Result<Answer<u64>, NoMemory>
-        requires known { IsKnownQuery (length (Self.contents self.old).trees) query }
-        requires answered { IsAnsweredWithin (Self.sight (Self.rest self.old)).basis.place
-            (query_of (tree_at (Self.contents self.old)) query) enough }
-        ensures leaves { Leaves Self.contents Self.rest Self.sight self.old self.new }
-        ensures known { IfOk result (IsKnownAnswer (length (Self.contents self.new).trees)) }
-        ensures told { IsTold (Self.sight (Self.rest self.old)).basis.place (Self.contents self.new)
-            (query_of (tree_at (Self.contents self.old)) query) result };
+        requires { MayAsk Self.contents Self.rest Self.sight self.old query enough }
+        ensures { Answers Self.contents Self.rest Self.sight self.old self.new query result };
 }
 
 /// The weak head form of a term without unfolding.

@@ -3,6 +3,7 @@
 #![tactic(auto)]
 
 mod answers;
+pub mod calls;
 pub mod derives;
 pub mod heads;
 mod laws;
@@ -13,6 +14,7 @@ mod step;
 pub mod under_way;
 
 pub use answers::{answers_are_shaped, answers_come_of_rows};
+pub use calls::EngineCalls;
 pub use derives::Derives;
 pub use laws::{conversion_steps_hold, major_steps_hold, reduction_steps_hold, typing_steps_hold};
 pub use step::{Row, Step};
