@@ -1,5 +1,5 @@
-//! The engine as one that derivations are asked of: it looks names up between questions, and a
-//! question that is known to be answered has a budget of its own.
+//! The engine as one that derivations are asked of: it looks names up between questions, a question
+//! that is known to be answered has a budget of its own, and it turns from unit to unit.
 
 ghost use Rattle.std.specs.Prelude.{◌≡◌, Ok, length, IfOk, IfErr};
 ghost use Rattle.lk_store.specs.Contents.{tree_at};
@@ -15,13 +15,17 @@ use lk_ask::lookout::Lookout;
 use lk_ask::looks::Looks;
 use lk_ask::query::{Answer, Query};
 use lk_ask::stop::Stop;
-use lk_env::entry::{Entry, Site};
-use lk_env::scope::Scope;
+use lk_env::entry::Entry;
+use lk_env::lends::Lends;
+use lk_env::unit::Unit;
 use lk_meter::Meter;
-use lk_step::Derives;
+use lk_step::EngineCalls;
 use lk_store::memory::NoMemory;
+use lk_store::node::{LevelNode, ListNode, NameNode, Node};
 use lk_store::overlay::Overlay;
-use lk_store::tables::Tables;
+use lk_store::room::Room;
+use lk_store::terms::Terms;
+use lk_store::text::Text;
 use lk_tree::rule::Rule;
 use std::alloc::Global;
 
@@ -65,36 +69,55 @@ fn answer_within<'a, K: Knows>(
     told(outcome)
 }
 
-impl<'a, K: Knows> Looks for Engine<'a, K> {
-    ghost use Rattle.lk_env.specs.StoredScope.{lent_by};
-    ghost use Rattle.lk_env.specs.Scopes.{place_in};
+impl<K: Knows> EngineCalls for Engine<'_, K> {
+    ghost outlook = { λ s. s };
 
-    /// The scope, from where it is seen, and the library's tables.
-    type Beside = (Scope<'a>, Site, Tables);
-
-    type Scope = Scope<'a>;
-
-    ghost sight = { λ r. record {
-      basis = record {
-        library = lent_by r.0;
-        place = place_in r.0 r.1;
-        left = r.2.left;
-        beside =
-            (r.0, r.1, r.3);
-      };
-      last = r.2.last;
-    } };
+    fn terms(&self) -> &Overlay<'_> {
+        &self.lookout.terms
+    }
 
     fn alloc(&self) -> Global {
         self.lookout.alloc
     }
 
-    fn scope(&self) -> &Scope<'a> {
-        self.lookout.scope()
+    fn unit(&self, number: u32) -> Option<&Unit> {
+        self.lookout.scope.unit(number)
+    }
+
+    fn stands_over(&self) {
+        let _scope = self.lookout.scope();
     }
 
     fn means(&self, name: u64) -> Result<Entry, Rule> {
         self.lookout.means(name)
+    }
+
+    fn make(&mut self, node: Node) -> Result<u64, NoMemory> {
+        self.lookout.make(node)
+    }
+
+    fn make_level(&mut self, node: LevelNode) -> Result<u64, NoMemory> {
+        self.lookout.make_level(node)
+    }
+
+    fn make_levels(&mut self, node: ListNode) -> Result<u64, NoMemory> {
+        self.lookout.make_levels(node)
+    }
+
+    fn make_name(&mut self, node: NameNode) -> Result<u64, NoMemory> {
+        self.lookout.make_name(node)
+    }
+
+    fn make_text(&mut self, text: Text) -> Result<u64, NoMemory> {
+        self.lookout.make_text(text)
+    }
+
+    fn lend_room(&mut self, alloc: Global) -> Room {
+        self.lookout.lend_room(alloc)
+    }
+
+    fn keep_room(&mut self, room: Room) {
+        self.lookout.keep_room(room)
     }
 
     fn look(&mut self, name: u64, missing: Rule) -> Result<Entry, Rule> {
@@ -104,10 +127,12 @@ impl<'a, K: Knows> Looks for Engine<'a, K> {
     fn at_levels(&mut self, entry: Entry, levels: u64, e: u64) -> Result<Option<u64>, NoMemory> {
         self.lookout.at_levels(entry, levels, e)
     }
-}
 
-impl<'a, K: Knows> Derives for Engine<'a, K> {
     fn answer(&mut self, query: Query<u64>, enough: u128) -> Result<Answer<u64>, NoMemory> {
         answer_within(&mut self.lookout, self.knowledge, query, enough)
+    }
+
+    fn turn_to(&mut self, unit: u32) {
+        self.go_on(unit, 0);
     }
 }

@@ -1,0 +1,5 @@
+use Rattle.lk_engine.proofs.Lookouts.{made_stands}
+use Rattle.lk_engine.proofs.derivations.EngineEngineCalls.make.Goals as goal
+
+pub invariant_of-self : goal.invariant_of-self
+invariant_of-self g c = made_stands c.make.ensures.rest c.make.ensures.keeps c.self.invariant

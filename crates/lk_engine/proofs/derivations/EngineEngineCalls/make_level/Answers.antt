@@ -1,0 +1,6 @@
+use Rattle.lk_engine.proofs.Lookouts.{made_stands}
+use Rattle.lk_engine.proofs.derivations.EngineEngineCalls.make_level.Goals as goal
+
+pub invariant_of-self : goal.invariant_of-self
+invariant_of-self g c = made_stands c.make_level.ensures.rest c.make_level.ensures.keeps
+    c.self.invariant
