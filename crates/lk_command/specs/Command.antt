@@ -18,6 +18,10 @@ with_options a =
     let memo = with_rule steps (option (codes "memo")) in
     with_rule memo (option (codes "allow"))
 
+-- the subcommand of this name, whose one option says how many steps a unit may take
+abbrev pub with_steps : Text → App
+with_steps name = with_rule (new_app name) (option (codes "steps"))
+
 -- which file is to be made
 abbrev pub with_sample : App → App
 with_sample a = with_rule (with_rule a (required_option (codes "units"))) (required_option (codes "seed"))
@@ -34,11 +38,14 @@ trial = with_options (with_sample (new_app (codes "trial")))
 abbrev pub trim : App
 trim = with_rule (new_app (codes "trim")) (required_option (codes "name"))
 
+abbrev pub trace : App
+trace = with_steps (codes "trace")
+
 abbrev pub replay : App
 replay = new_app (codes "replay")
 
 abbrev pub recheck : App
-recheck = with_rule (new_app (codes "recheck")) (option (codes "steps"))
+recheck = with_steps (codes "recheck")
 
 -- the subcommands that check one file, or make one
 abbrev pub with_checks : App
@@ -47,12 +54,17 @@ with_checks =
     let made = with_subcommand checked make.top in
     with_subcommand made trial.top
 
+-- these, and the subcommands that write what a declaration needs, or a library with derivations
+abbrev pub with_writers : App
+with_writers =
+    let trimmed = with_subcommand with_checks trim.top in
+    with_subcommand trimmed trace.top
+
 abbrev pub leancheck : App
 leancheck =
-    let trimmed = with_subcommand with_checks trim.top in
-    let replayed = with_subcommand trimmed replay.top in
+    let replayed = with_subcommand with_writers replay.top in
     with_subcommand replayed recheck.top
 
 abbrev pub usage_line : List ℕ
 usage_line =
-    codes "usage: leancheck check|make|trial|trim|replay|recheck [--workers W] [--steps N] [--memo M] [--allow LIST] [--units N] [--seed S] [--name NAME]\n"
+    codes "usage: leancheck check|make|trial|trim|trace|replay|recheck [--workers W] [--steps N] [--memo M] [--allow LIST] [--units N] [--seed S] [--name NAME]\n"

@@ -3,7 +3,7 @@
 ghost use Rattle.std.specs.Prelude.{◌≡◌, IfOk, false, codes};
 ghost use Rattle.clap.specs.Words.{app_of, new_app, with_rule, with_subcommand};
 ghost use Rattle.clap.specs.declared.builder.command.Command.TheViews.{out-Command};
-ghost use Rattle.lk_command.specs.Command.{check, leancheck, make, option, recheck, replay, required_option, trial, trim, with_checks, with_options, with_sample};
+ghost use Rattle.lk_command.specs.Command.{check, leancheck, make, option, recheck, replay, required_option, trace, trial, trim, with_checks, with_options, with_sample, with_steps, with_writers};
 
 use clap::{Arg, Command};
 use std::alloc::{AllocError, Global};
@@ -109,6 +109,22 @@ fn trim_command<'a>(alloc: Global) -> Result<Command<'a>, AllocError>
     with_required(alloc, Command::new(alloc, "trim"), "name")
 }
 
+/// The subcommand of this name, whose one option says how many steps a unit may take.
+fn steps_command<'a>(alloc: Global, name: &'a str) -> Result<Command<'a>, AllocError>
+    ensures app { IfOk result (λ c. app_of c ≡ with_steps name.entry.now) }
+    ensures local { IfOk result (λ c. (out-Command c).has_globals ≡ false) }
+{
+    with_option(alloc, Command::new(alloc, name), "steps")
+}
+
+/// The subcommand `trace`.
+fn trace_command<'a>(alloc: Global) -> Result<Command<'a>, AllocError>
+    ensures app { IfOk result (λ c. app_of c ≡ trace) }
+    ensures local { IfOk result (λ c. (out-Command c).has_globals ≡ false) }
+{
+    steps_command(alloc, "trace")
+}
+
 /// The subcommand `replay`.
 fn replay_command<'a>(alloc: Global) -> Result<Command<'a>, AllocError>
     ensures app { IfOk result (λ c. app_of c ≡ replay) }
@@ -122,7 +138,7 @@ fn recheck_command<'a>(alloc: Global) -> Result<Command<'a>, AllocError>
     ensures app { IfOk result (λ c. app_of c ≡ recheck) }
     ensures local { IfOk result (λ c. (out-Command c).has_globals ≡ false) }
 {
-    with_option(alloc, Command::new(alloc, "recheck"), "steps")
+    steps_command(alloc, "recheck")
 }
 
 /// The same with `trial`.
@@ -141,13 +157,20 @@ fn with_trim<'a>(alloc: Global) -> Result<Command<'a>, AllocError>
     with_trial(alloc)?.subcommand(trim)
 }
 
+/// The same with `trace`.
+fn with_trace<'a>(alloc: Global) -> Result<Command<'a>, AllocError>
+    ensures app { IfOk result (λ c. app_of c ≡ with_writers) }
+{
+    let trace = trace_command(alloc)?;
+    with_trim(alloc)?.subcommand(trace)
+}
+
 /// The same with `replay`.
 fn with_replay<'a>(alloc: Global) -> Result<Command<'a>, AllocError>
-    ensures app { IfOk result (λ c. app_of c
-        ≡ with_subcommand (with_subcommand with_checks trim.top) replay.top) }
+    ensures app { IfOk result (λ c. app_of c ≡ with_subcommand with_writers replay.top) }
 {
     let replay = replay_command(alloc)?;
-    with_trim(alloc)?.subcommand(replay)
+    with_trace(alloc)?.subcommand(replay)
 }
 
 /// The whole command.

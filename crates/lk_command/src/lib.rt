@@ -1,5 +1,6 @@
 //! What the program's words mean. `line_means` reads them by the command that `clap` is told, and gives what they ask for: a
-//! check, a file to be made, a trial, each with its options, or what one declaration needs.
+//! check, a file to be made, a trial, each with its options, what one declaration needs, derivations, which are written or
+//! tested, or a check of a library and of changes of it.
 #![tactic(auto)]
 
 mod command;

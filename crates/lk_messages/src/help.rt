@@ -16,6 +16,7 @@ const HELP: &str = "
   leancheck make --units N --seed S
   leancheck trial --units N --seed S [--workers W] [--steps N] [--memo M] [--allow LIST]
   leancheck trim --name NAME
+  leancheck trace [--steps N]
   leancheck replay
   leancheck recheck [--steps N]
 
@@ -23,6 +24,7 @@ const HELP: &str = "
   make    writes an export that it makes
   trial   checks that export in memory, and writes the last line alone
   trim    reads standard input, and writes one declaration with all that it needs, as an export
+  trace   checks standard input, and writes it with a derivation of each declaration but blocks that says yes
   replay  reads standard input, and tests the derivation that stands for each declaration behind the line #TR
   recheck checks standard input up to the line #GO, then each change behind it, and what it touches
 
@@ -34,9 +36,9 @@ const HELP: &str = "
   --seed S      number that they are made by: 0 to 2147483647
   --name NAME   name of a declaration, or of a member of a block, as check writes it
 
-  status 0  every declaration says yes, or there is none; or each derivation holds and none is missing (replay);
-            or the export was made or trimmed
-         1  some declaration says no; or some derivation does not hold, or is missing (replay)
+  status 0  every declaration says yes, or there is none; or each but inductive blocks has a derivation (trace),
+            which holds (replay); or the export was made or trimmed
+         1  some declaration says no; or some but inductive blocks has no derivation (trace), or none that holds (replay)
          2  the words are not understood
          3  the input has a fault
          4  a read failed
@@ -116,7 +118,7 @@ fn tell_why<R: Eprint>(rt: &R, alloc: Global, words: &[String]) {
             Some((_, given)) => tell_values(rt, given),
             None => {
                 let _ = eprintln!(rt;
-                    "leancheck: no command is given: check, make, trial, trim, replay or recheck"
+                    "leancheck: no command is given: check, make, trial, trim, trace, replay or recheck"
                 );
             }
         },

@@ -40,7 +40,7 @@ fn has_level<T: Terms>(store: &T, numbers: &Numbers, level: u64) -> bool
 }
 
 /// The number of a level.
-pub fn level_number<T: Terms>(store: &T, numbers: &Numbers, level: u64) -> u64
+pub(crate) fn level_number<T: Terms>(store: &T, numbers: &Numbers, level: u64) -> u64
     requires numbers { AreNumbersIn (T.contents store.now) numbers.now }
     requires level_in { level < length (T.contents store.now).levels }
     ensures { let c = T.contents store.now in
@@ -189,7 +189,7 @@ fn enter<T: Terms>(
 }
 
 /// Writes the lines of a level and of its parts that have none yet.
-pub fn write_level<T: Terms>(
+pub(crate) fn write_level<T: Terms>(
     alloc: Global,
     store: &T,
     writer: &mut Writer,
@@ -212,7 +212,7 @@ pub fn write_level<T: Terms>(
 }
 
 /// Writes the lines of a list of levels.
-pub fn write_levels<T: Terms>(
+pub(crate) fn write_levels<T: Terms>(
     alloc: Global,
     store: &T,
     writer: &mut Writer,
