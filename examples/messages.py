@@ -44,10 +44,11 @@ CASES = [
     ('check --allow=', IDENTITY, 'pipe', 'pipe', 0, ''),
     ('trial --units 3 --seed 1 --allow p', '', 'pipe', 'pipe', 0, ''),
     ('trim --name id', IDENTITY, 'pipe', 'pipe', 0, ''),
+    ('trace', IDENTITY, 'pipe', 'pipe', 0, ''),
     ('replay', DERIVED, 'pipe', 'pipe', 0, ''),
     ('recheck', IDENTITY + '#GO\n', 'pipe', 'pipe', 0, ''),
     # words
-    wrong('', 'leancheck: no command is given: check, make, trial, trim, replay or recheck\n'),
+    wrong('', 'leancheck: no command is given: check, make, trial, trim, trace, replay or recheck\n'),
     wrong('chek', "leancheck: unrecognized subcommand 'chek'\n...") ,
     wrong('check more', "leancheck: unexpected argument 'more' found\n"),
     wrong('check --worker 2', "leancheck: unexpected argument '--worker' found\n"),
@@ -64,6 +65,8 @@ CASES = [
     wrong('trim', 'leancheck: the following required arguments were not provided:\n  --name <name>\n'),
     wrong('trim --name', "leancheck: a value is required for '--name <name>' but none was supplied\n"),
     wrong('trim --name p --steps 1', "leancheck: unexpected argument '--steps' found\n"),
+    wrong('trace --workers 2', "leancheck: unexpected argument '--workers' found\n"),
+    wrong('trace --steps 0', 'leancheck: --steps 0 is out of range: it takes 1 to 18446744073709551615\n'),
     wrong('replay --steps 4', "leancheck: unexpected argument '--steps' found\n"),
     wrong('recheck --workers 2', "leancheck: unexpected argument '--workers' found\n"),
     wrong('recheck --steps 0', 'leancheck: --steps 0 is out of range: it takes 1 to 18446744073709551615\n'),
@@ -112,6 +115,8 @@ CASES = [
           'leancheck: changes of a library, behind lines #GO, are read by recheck alone\n'),
     fault(DERIVED, 4, 'no such tag, or a number stands before it that should not, or is missing', '#TR',
           'leancheck: derivations, behind a line #TR, are read by replay alone\n'),
+    fault(DERIVED, 4, 'no such tag, or a number stands before it that should not, or is missing', '#TR',
+          'leancheck: derivations, behind a line #TR, are read by replay alone\n', command='trace'),
     fault(DERIVED[:-6], 7, 'a line of derivations before #TR or outside of a section, a section out of order or not ended, '
           'or a line that may not follow #TR', '#AT 0', command='replay'),
     # what the input seems to be

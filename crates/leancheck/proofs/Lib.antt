@@ -23,3 +23,9 @@ pub mod Needed
 pub mod Changes
 pub mod TraceNames
 pub mod Sections
+pub mod SectionsBelow
+pub mod Replayed
+pub mod UnitSections
+pub mod Tracings
+pub mod Alone
+pub mod Inside

@@ -1,5 +1,6 @@
 -- How a run ends.
-use Rattle.std.specs.Prelude.{ℕ, ◌≡◌, ◌<◌, ◌⊎◌, Bool, true, false, List, [], ◌∷◌, ◌++◌, length, map, if◌then◌else◌, nat_eq}
+use Rattle.std.specs.Prelude.{ℕ, ◌≡◌, ◌<◌, ◌⊎◌, Bool, true, false, List, [], ◌∷◌, ◌++◌, length, map}
+use Rattle.std.specs.Prelude.{if◌then◌else◌, nat_eq}
 use Rattle.std.specs.Prelude.{Some, None}
 use Rattle.std.specs.Prelude.{IfSome, Vec, Result, Ok, Err}
 use Rattle.std.specs.declared.alloc.Global.{Global}
@@ -24,10 +25,12 @@ use Rattle.leancheck.specs.declared.status.Status.TheVariants.{NoSuchName, SomeM
 use Rattle.lk_command.specs.declared.words.Options.{Options}
 use Rattle.lk_command.specs.Words.{allowed_text}
 use Rattle.lk_command.specs.declared.words.Meaning.{Meaning}
-use Rattle.lk_command.specs.declared.words.Meaning.TheVariants.{Check, Make, Trial, Trim, Replay, Recheck}
+use Rattle.lk_command.specs.declared.words.Meaning.TheVariants.{Check, Make, Trial, Trim}
+use Rattle.lk_command.specs.declared.words.Meaning.TheVariants.{Trace as AskTrace, Replay, Recheck}
 use Rattle.leancheck.specs.declared.extent.Extent.{Extent}
 use Rattle.leancheck.specs.declared.extent.Extent.TheVariants.{Report, Summary}
 use Rattle.leancheck.specs.Extents.{text_of}
+use Rattle.leancheck.specs.Traces.{IsTracing}
 use Rattle.lk_text.specs.Text.{bad_line, checked_line, count, report_text}
 use Rattle.lk_text.specs.Named.{first_printed, unknown_line}
 use Rattle.lk_text.specs.Replayed.{count_outcomes, replay_text}
@@ -104,8 +107,8 @@ policy_in o = policy_of (allowed_text o)
 
 -- The bytes spell an export. Each of its units has a verdict, the plain one under the unit's budget
 -- or memory; a unit whose verdict is yes is good, where each unit before it that gives an operation
--- on numbers with laws says yes too. What is told are these verdicts under the policy on axioms, and
--- the status belongs to them.
+-- on numbers with laws says yes too. What is told are these verdicts under the policy on axioms,
+-- and the status belongs to them.
 pub record IsReport (extent : Extent) (o : Options) (bytes : List ℕ) (status : Status)
     (text : List ℕ) : Type 0 where
   pub export : Export
@@ -140,8 +143,8 @@ pub record IsAllGood (o : Options) (bytes : List ℕ) : Type 0 where
       → n < length export.units → Contains (axioms_of export.units n) k
       → IsOnList (texts_of list) export.units k
 
--- What `trim` tells for a printed name, by the first unit with a member of that name: the text of this
--- unit with all that it needs, or that there is none.
+-- What `trim` tells for a printed name, by the first unit with a member of that name: the text of
+-- this unit with all that it needs, or that there is none.
 abbrev pub TellsTrimmed : Export → List ℕ → Option ℕ → Status → List ℕ → Type 0
 TellsTrimmed e name (Some n) status text = (status ≡ AllYes) × IsTrimmed e n text
 TellsTrimmed e name None status text = (status ≡ NoSuchName) × (text ≡ unknown_line name)
@@ -165,8 +168,8 @@ TrimsPrefix name bytes old new =
 abbrev pub GivesTrimmed : List ℕ → List ℕ → Result (Vec ℕ Global × Status) WantOfMemory → Type 0
 GivesTrimmed name bytes made = Makes (IsTrimming name bytes) made
 
--- Where a library that changes stands: whether there was a part, the list of units that it led to, and
--- their verdicts.
+-- Where a library that changes stands: whether there was a part, the list of units that it led to,
+-- and their verdicts.
 pub record Stand : Type 0 where
   pub begun : Bool
   pub list : Library
@@ -177,8 +180,8 @@ abbrev pub no_stand : Stand
 no_stand = record { begun = false; list = []; verdicts = [] }
 
 -- What is told of a part: the lines of the list that it leads to, with the verdicts that a check of
--- this list gives under the budget, and how many units had to be checked for it. The others keep the
--- verdicts that they had.
+-- this list gives under the budget, and how many units had to be checked for it. The others keep
+-- the verdicts that they had.
 pub record TellsPart (steps : ℕ) (old new : Stand) (part : Library) (text : List ℕ) : Type 0 where
   pub begun : new.begun ≡ true
   pub list : new.list ≡ next_list old.begun old.list part
@@ -216,6 +219,19 @@ RechecksPrefix steps bytes old new =
 -- the text that was made, and the status, belong to the bytes under this budget
 abbrev pub GivesRechecked : ℕ → List ℕ → Result (Vec ℕ Global × Status) WantOfMemory → Type 0
 GivesRechecked steps bytes made = Makes (IsRechecking steps bytes) made
+
+-- what is told of the bytes with a section for each declaration that says yes was written
+abbrev pub Traces : ℕ → List ℕ → Status → Option (List ℕ) → Option (List ℕ) → Type 0
+Traces steps bytes status old new = Writes (IsTracing steps bytes) status old new
+
+-- a prefix of the text that belongs to the bytes was written
+abbrev pub TracesPrefix : ℕ → List ℕ → Option (List ℕ) → Option (List ℕ) → Type 0
+TracesPrefix steps bytes old new =
+    WritesSome (λ f. export_of bytes ≡ Err f) (IsTracing steps bytes) old new
+
+-- the text that was made, and the status, belong to the bytes
+abbrev pub GivesTraced : ℕ → List ℕ → Result (Vec ℕ Global × Status) WantOfMemory → Type 0
+GivesTraced steps bytes made = Makes (IsTracing steps bytes) made
 
 -- what comes of the section of each unit, in their order
 abbrev pub outcomes_of : Library → List FileSection → List Outcome
@@ -260,13 +276,15 @@ ReadsSource (Check o) = Unit {0}
 ReadsSource (Make s) = ⊥
 ReadsSource (Trial s o) = ⊥
 ReadsSource (Trim name) = Unit {0}
+ReadsSource (AskTrace steps) = Unit {0}
 ReadsSource Replay = Unit {0}
 ReadsSource (Recheck steps) = Unit {0}
 
 -- What words ask for was done, and this is its status, over the bytes of a source, where it tells
 -- them: a check writes its report, `make` its file, a trial the last line of what a check of that
--- file would write, `trim` one declaration with all that it needs, or that there is none, `replay`
--- what comes of the sections of the file, and `recheck` what is told of each part of the file.
+-- file would write, `trim` one declaration with all that it needs, or that there is none, `trace`
+-- the units with a section for each declaration that says yes, `replay` what comes of the sections
+-- of the file, and `recheck` what is told of each part of the file.
 abbrev pub Does : Meaning → Option (List ℕ) → Status → Option (List ℕ) → Option (List ℕ) → Type 0
 Does (Check o) left status old new =
     IsChecked status × IfSome left (λ bytes. Reports Report o bytes status old new)
@@ -275,6 +293,8 @@ Does (Trial s o) left status old new =
     Reports Summary o (file_of s.units s.seed) status old new
 Does (Trim name) left status old new =
     IsLookedUp status × IfSome left (λ bytes. Trims name.now bytes status old new)
+Does (AskTrace steps) left status old new =
+    IsChecked status × IfSome left (λ bytes. Traces steps bytes status old new)
 Does Replay left status old new =
     IsChecked status × IfSome left (λ bytes. Replays bytes status old new)
 Does (Recheck steps) left status old new =
@@ -289,6 +309,8 @@ FindsFault (Trial s o) left old new =
     (f : Fault) × (export_of (file_of s.units s.seed) ≡ Err f) × Appends old new (bad_line f)
 FindsFault (Trim name) left old new =
     (f : Fault) × IfSome left (λ bytes. export_of bytes ≡ Err f) × Appends old new (bad_line f)
+FindsFault (AskTrace steps) left old new =
+    (f : Fault) × IfSome left (λ bytes. export_of bytes ≡ Err f) × Appends old new (bad_line f)
 FindsFault Replay left old new =
     (f : Fault) × IfSome left (λ bytes. trace_of bytes ≡ Err f) × Appends old new (bad_line f)
 FindsFault (Recheck steps) left old new =
@@ -300,5 +322,6 @@ Begins (Check o) left old new = IfSome left (λ bytes. WritesPrefix Report o byt
 Begins (Make s) left old new = AppendsSome old new (file_of s.units s.seed)
 Begins (Trial s o) left old new = WritesPrefix Summary o (file_of s.units s.seed) old new
 Begins (Trim name) left old new = IfSome left (λ bytes. TrimsPrefix name.now bytes old new)
+Begins (AskTrace steps) left old new = IfSome left (λ bytes. TracesPrefix steps bytes old new)
 Begins Replay left old new = IfSome left (λ bytes. ReplaysPrefix bytes old new)
 Begins (Recheck steps) left old new = IfSome left (λ bytes. RechecksPrefix steps bytes old new)

@@ -7,3 +7,7 @@ pub mod Larger
 pub mod Drawn
 pub mod Workers
 pub mod Telling
+pub mod Traces
+pub mod Derived
+pub mod Deriving
+pub mod Turning

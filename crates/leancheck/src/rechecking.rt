@@ -26,8 +26,8 @@ use lk_store::memory::NoMemory;
 use std::alloc::Global;
 use std::mem::drop;
 
-/// How many answers are kept.
-const MEMO: u32 = 1 << 16;
+/// How many answers are kept on the caller's thread.
+pub(crate) const MEMO: u32 = 1 << 16;
 
 /// Who is told of each unit that is checked on the caller's thread, as a gate is: a gate may be shared
 /// by threads, and this may not.

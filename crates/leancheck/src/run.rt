@@ -19,6 +19,7 @@ use crate::fault::tell_fault;
 use crate::rechecking::recheck;
 use crate::replaying::replay;
 use crate::status::{Status, status_of};
+use crate::tracing::trace;
 use crate::trimming::trim;
 use crate::workers::check_all;
 use lk_book::{ReadError, read_library};
@@ -65,7 +66,7 @@ fn tell_usage<K: Sink>(sink: &mut K) -> Status
 {
     match write_all(
         sink,
-        b"usage: leancheck check|make|trial|trim|replay|recheck [--workers W] [--steps N] [--memo M] [--allow LIST] [--units N] [--seed S] [--name NAME]\n",
+        b"usage: leancheck check|make|trial|trim|trace|replay|recheck [--workers W] [--steps N] [--memo M] [--allow LIST] [--units N] [--seed S] [--name NAME]\n",
     ) {
         Ok(()) => Status::Usage,
         Err(_) => Status::WriteFault,
@@ -189,7 +190,8 @@ fn trial<R: Threads + Sync, K: Sink, G: Gate>(
 
 /// Does what the words say. A check reads an export from the source and writes a verdict for each of its units to the sink; `make`
 /// writes an export, and a trial checks one that it makes, and writes the last line alone; `trim` reads an export, and writes the
-/// first unit with a member of a printed name and all that this unit needs, as an export; `replay` reads a library and what is
+/// first unit with a member of a printed name and all that this unit needs, as an export; `trace` reads an export, and writes it
+/// with a section for each declaration that says yes, which is a derivation of it; `replay` reads a library and what is
 /// written of its units, and writes for each unit whether its section holds; `recheck` reads a library and changes of it, and
 /// writes of each list of units that they lead to what a check writes, and how many units were checked for it.
 ///
@@ -208,7 +210,7 @@ pub fn run<R: Threads + Wait + Sync, S: Source, K: Sink, G: Gate>(
     ensures usage_only { IsMeaningless (texts_of words.now) → (result ≡ Status.Usage)
         ⊎ (result ≡ Status.WriteFault) ⊎ (result ≡ Status.NoMemory) }
 
-    // Nothing but a check, `trim`, `replay` and `recheck` read the source.
+    // Nothing but a check, `trim`, `trace`, `replay` and `recheck` read the source.
     ensures unread { ((m : WordsMeaning) → Means (texts_of words.now) m → ReadsSource m → ⊥)
         → source.new ≡ source.old }
     ensures read { result ≡ Status.ReadFault
@@ -250,6 +252,7 @@ pub fn run<R: Threads + Wait + Sync, S: Source, K: Sink, G: Gate>(
         Ok(Meaning::Make(sample)) => make(alloc, sample, sink),
         Ok(Meaning::Trial(sample, options)) => trial(rt, alloc, sample, options, sink, gate),
         Ok(Meaning::Trim(name)) => trim(alloc, name, source, sink, gate),
+        Ok(Meaning::Trace(steps)) => trace(alloc, steps, source, sink, gate),
         Ok(Meaning::Replay) => replay(alloc, source, sink, gate),
         Ok(Meaning::Recheck(steps)) => recheck(alloc, steps, source, sink, gate),
         Err(LineError::Usage) => tell_usage(sink),

@@ -108,7 +108,7 @@ fn draw(
 
 /// The budget of a unit in a run that gives each unit so many steps: its own, where it has one that
 /// is less.
-fn budget_of(library: &Library, number: u32, steps: u128) -> u128
+pub(crate) fn budget_of(library: &Library, number: u32, steps: u128) -> u128
     ensures { result ≡ unit_budget library.now steps number }
 {
     match library.budget(number) {
