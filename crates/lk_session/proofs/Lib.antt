@@ -1,0 +1,13 @@
+pub mod Prefixes
+pub mod Views
+pub mod Calls
+pub mod Passes
+pub mod Whole
+pub mod Allowed
+pub mod Opening
+pub mod Cutting
+pub mod Adding
+pub mod Reading
+pub mod Verdicts
+pub mod Submitting
+pub mod SampleLemmas
