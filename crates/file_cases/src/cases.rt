@@ -3,6 +3,7 @@ use crate::items::write_items;
 use crate::limits::write_limits;
 use crate::reading::{AT_ONCE, answer_of, read_in_pieces, read_with_faults};
 use crate::table::{Case, add_line, case_of};
+use crate::texts::write_texts;
 use crate::written::write_line;
 use std::alloc::Global;
 use std::io;
@@ -55,6 +56,7 @@ impl Cases {
                 Ok(())
             }
             Case::Spaces(count) => write_long_file(rt, alloc, count, &self.text),
+            Case::Texts => write_texts(rt, alloc, &self.text),
             _ => Ok(()),
         }
     }

@@ -7,6 +7,8 @@
 //!
 //! - of a file, also of one with many spaces in front, how many units it states, or its first
 //!   fault: from a checker of exports that was written apart, in another language;
+//! - of an input of texts, how many bytes each of them has, or the input's first fault: from the same
+//!   checker;
 //! - of a line, its fields: from the format's table of lines, by which each is written with one
 //!   space between fields, numbers without leading zeros, a literal above 2^128 - 1 as `wide`, and
 //!   the text of a name or of a literal in quotes;
@@ -24,6 +26,7 @@ mod items;
 mod limits;
 mod reading;
 mod table;
+mod texts;
 mod written;
 
 use crate::cases::Cases;

@@ -10,6 +10,8 @@ pub enum Case {
     File,
     /// `spaces N`: they are a file whose first line has N more spaces in front.
     Spaces(usize),
+    /// `texts`: they are an input of texts, which is read.
+    Texts,
     /// `lines`: each is a line of a file, and what it tells is written as the format writes it.
     Lines,
     /// `limits`: each is a place and a length in bytes, which may be beyond a limit.
@@ -21,6 +23,7 @@ pub enum Case {
 /// The case that a line of the table begins, by what stands behind its `%%`.
 pub fn case_of(head: &str) -> Case {
     match head {
+        " texts" => Case::Texts,
         " lines" => Case::Lines,
         " limits" => Case::Limits,
         " items" => Case::Items,

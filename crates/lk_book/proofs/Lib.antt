@@ -9,3 +9,8 @@ pub mod Libraries
 pub mod Parted
 pub mod Overs
 pub mod LibraryLines
+pub mod FaultLines
+pub mod Cuts
+pub mod Alone
+pub mod Parting
+pub mod TextsRead

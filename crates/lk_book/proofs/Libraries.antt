@@ -18,12 +18,15 @@ use Rattle.lk_members.specs.Plain.{lines_at}
 use Rattle.lk_members.proofs.Standing.{open_stands, library_stands}
 use Rattle.lk_lines.specs.declared.words.Word.TheVariants.{BlockOpen}
 use Rattle.lk_lines.specs.declared.line.Fault.{Fault}
+use Rattle.lk_lines.specs.declared.line.LineError.{LineError}
+use Rattle.lk_lines.specs.declared.line.LineError.TheVariants as line_errors
 use Rattle.lk_units.specs.State.{State}
 use Rattle.lk_units.specs.Held.{Holds}
 use Rattle.lk_units.specs.declared.assembler.Assembler.{Assembler}
 use Rattle.lk_book.specs.Course.{Course}
 use Rattle.lk_book.specs.File.{Export, export_at, after, course_of, closed, units_stated, export_stated, export_of}
-use Rattle.lk_book.specs.Reading.{TellsOpen, Reads, ReadsLibrary}
+use Rattle.lk_book.specs.Courses.{Fails}
+use Rattle.lk_book.specs.Reading.{read_error, TellsOpen, Reads, ReadsLibrary}
 use Rattle.lk_book.specs.declared.error.ReadError.{ReadError}
 use Rattle.lk_book.specs.declared.error.ReadError.TheVariants as errors
 
@@ -36,6 +39,11 @@ module _ (c : Contents) (ls : List StoredLine) (apart : AreApart [] c.names) (k 
   -- the line that is open
   pub open_told : (n : ℕ) → first_open nat_eq (lines_of ls) (lines_of ls) ≡ Some n → units_stated (lines_at c ls) ≡ Err (record { line = n; word = BlockOpen })
   open_told n some = ap (λ o. closed o (lines_at c ls)) (open_stands c apart ls k ∙ some)
+
+-- the error of a line, told of a file
+pub open_tells : {A : Type 0} (e : LineError) (said : Result A Fault) → Fails e said → TellsOpen (read_error e) said
+open_tells line_errors.NoMemory said h = tt
+open_tells (line_errors.Fault f) said h = h
 
 -- what was read of the lines is what the bytes state
 pub file_read : {X : Type 0} (stated : State → Result X Fault) (IsRead : Result X Fault → Type 0) (said : Result Course Fault) (c : Contents) (a : Assembler) → Reads c said (Ok a)

@@ -20,11 +20,11 @@ after_same : (said : Result Course Fault) (f g : Course → Result Course Fault)
 after_same (Ok d) f g e = e d
 after_same (Err x) f g e = refl
 
-over_is : (c : Course) (lines : List (List ℕ)) → over step c lines ≡ course_over c lines
+pub over_is : (c : Course) (lines : List (List ℕ)) → over step c lines ≡ course_over c lines
 over_is c [] = refl
 over_is c (line ∷ more) = after_same (step c (has_more more) line) (λ d. over step d more) (λ d. course_over d more) (λ d. over_is d more)
 
-course_is : (dialect : Dialect) (bytes : List ℕ) → over step (begin_in dialect) (lines_of bytes) ≡ course_in dialect bytes
+pub course_is : (dialect : Dialect) (bytes : List ℕ) → over step (begin_in dialect) (lines_of bytes) ≡ course_in dialect bytes
 unfolding course_in
 course_is dialect bytes = over_is (begin_in dialect) (lines_of bytes)
 

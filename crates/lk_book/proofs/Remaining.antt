@@ -1,6 +1,6 @@
 -- What is left of a source leads where the whole file does.
-use Rattle.std.proofs.Common.{◌≡◌, ℕ, ◌+◌, List, [], ◌∷◌, ◌++◌, length, Ok, Err, Some, refl, sym, ◌∙◌, ap, append_assoc, subst}
-use Rattle.std.specs.Prelude.{Result, Bool, true, false}
+use Rattle.std.proofs.Common.{◌≡◌, ℕ, ◌+◌, List, [], ◌∷◌, ◌++◌, length, Ok, Err, Some, refl, ◌∙◌, ap, append_assoc, subst}
+use Rattle.std.specs.Prelude.{Result, Bool, false}
 use Rattle.std.specs.declared.option.Option.{Option}
 use Rattle.std.specs.Io.KnownBytes.{Consumes, IsAtEnd}
 use Rattle.lk_port.proofs.BytesLemmas.{Consumes-none, Consumes-append}
@@ -85,15 +85,23 @@ module _ {C : Type 0} (step : Step C) where
   after_last (Ok c) = refl
   after_last (Err f) = refl
 
-  -- what is left behind the bytes that were read is the last line of them
+  -- what is left behind bytes is the last line of them
+  pub whole_line : (Stands : C → Type 0) (c : C) (bytes held : List ℕ) (p : Passes step Stands c bytes held) → HasNoLineFeed held → over step c (lines_of bytes) ≡ step p.course false held
+  whole_line Stands c bytes held p none =
+      let leads : over step c (lines_of (bytes ++ [])) ≡ over step p.course (lines_of (held ++ [])) = p.leads [] in
+      let P : List ℕ → Type 0 = λ xs. over step c (lines_of xs) ≡ over step p.course (lines_of (held ++ [])) in
+      let Q : List ℕ → Type 0 = λ xs. over step c (lines_of bytes) ≡ over step p.course (lines_of xs) in
+      let whole : over step c (lines_of bytes) ≡ over step p.course (lines_of held) = subst Q (append-nil held) (subst P (append-nil bytes) leads) in
+      whole ∙ ap (λ lines. over step p.course lines) (lines_of-last held none) ∙ after_last (step p.course false held)
+
+  -- the same of the bytes that were read of a source
   pub last_line : (Stands : C → Type 0) (c : C) (held : List ℕ) (old now : Option (List ℕ)) (m : Remains step Stands c held old now) → HasNoLineFeed held
       → over step c (lines_of m.bytes) ≡ step m.passes.course false held
-  last_line Stands c held old now m none =
-      let leads : over step c (lines_of (m.bytes ++ [])) ≡ over step m.passes.course (lines_of (held ++ [])) = m.passes.leads [] in
-      let P : List ℕ → Type 0 = λ xs. over step c (lines_of xs) ≡ over step m.passes.course (lines_of (held ++ [])) in
-      let Q : List ℕ → Type 0 = λ xs. over step c (lines_of m.bytes) ≡ over step m.passes.course (lines_of xs) in
-      let whole : over step c (lines_of m.bytes) ≡ over step m.passes.course (lines_of held) = subst Q (append-nil held) (subst P (append-nil m.bytes) leads) in
-      whole ∙ ap (λ lines. over step m.passes.course lines) (lines_of-last held none) ∙ after_last (step m.passes.course false held)
+  last_line Stands c held old now m none = whole_line Stands c m.bytes held m.passes none
+
+  -- bytes whose lines are stopped, whatever follows
+  pub whole_stops : (c : C) (bytes : List ℕ) (e : LineError) → Stops step e c bytes → Fails e (over step c (lines_of bytes))
+  whole_stops c bytes e s = subst (λ xs. Fails e (over step c (lines_of xs))) (append-nil bytes) (s [])
 
   pub last_over : (Stands : C → Type 0) (c : C) (held : List ℕ) (old now : Option (List ℕ)) (bytes : List ℕ) (m : Remains step Stands c held old now) → IsAtEnd now → HasNoLineFeed held → old ≡ Some bytes
       → over step c (lines_of bytes) ≡ step m.passes.course false held

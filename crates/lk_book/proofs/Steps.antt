@@ -1,5 +1,5 @@
 -- What a line makes of a course.
-use Rattle.std.proofs.Common.{◌≡◌, ℕ, Ok, Err, refl}
+use Rattle.std.proofs.Common.{ℕ, Ok, Err, refl}
 use Rattle.std.specs.Prelude.{false}
 use Rattle.lk_store.specs.Contents.{Contents}
 use Rattle.lk_lines.specs.Items.{Item}

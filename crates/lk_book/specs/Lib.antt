@@ -4,3 +4,5 @@ pub mod File
 pub mod Limited
 pub mod Passing
 pub mod Reading
+pub mod ReadingTexts
+pub mod Texts

@@ -1,5 +1,5 @@
 -- A line that is too long, or goes beyond the input's limit, is at fault by that alone.
-use Rattle.std.specs.Prelude.{◌≡◌, ℕ, ◌+◌, Bool, List, length, Err, Option, Some}
+use Rattle.std.specs.Prelude.{◌≡◌, ℕ, ◌+◌, Bool, List, length, Err, Some}
 use Rattle.std.proofs.Common.{ap}
 use Rattle.lk_store.specs.Contents.{Contents}
 use Rattle.lk_lines.specs.declared.words.Word.{Word}

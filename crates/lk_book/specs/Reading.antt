@@ -1,5 +1,5 @@
 -- Reading a source.
-use Rattle.std.specs.Prelude.{◌≡◌, ◌+◌, ℕ, List, ◌∷◌, [], length, map, All, Result, Ok, Err, Some, None}
+use Rattle.std.specs.Prelude.{◌≡◌, ◌+◌, ℕ, List, ◌∷◌, [], length, map, All, Result, Ok, Err, None}
 use Rattle.std.specs.declared.option.Option.{Option}
 use Rattle.std.specs.Io.KnownBytes.{Consumes}
 use Rattle.lk_store.specs.Contents.{Contents}
@@ -17,6 +17,7 @@ use Rattle.lk_units.specs.Held.{Holds}
 use Rattle.lk_units.specs.declared.assembler.Assembler.{Assembler}
 use Rattle.lk_lines.specs.declared.tags.Dialect.{Dialect}
 use Rattle.lk_book.specs.Course.{Course}
+use Rattle.lk_book.specs.Courses.{Fails}
 use Rattle.lk_book.specs.File.{Export, export_at, has_more, course_in, rounds_of}
 use Rattle.lk_book.specs.declared.rounds.Rounds.{Rounds}
 use Rattle.lk_book.specs.declared.error.ReadError.{ReadError}
@@ -33,6 +34,11 @@ Reads store said (Ok a) = (c : Course) × (said ≡ Ok c) × Holds a store c.sta
 Reads store said (Err errors.NoMemory) = Unit {0}
 Reads store said (Err errors.ReadFault) = Unit {0}
 Reads store said (Err (errors.Fault f)) = said ≡ Err f
+
+-- the same of lines in memory
+abbrev pub HoldsLines : Contents → Result Course Fault → Result Assembler LineError → Type 0
+HoldsLines store said (Ok a) = (c : Course) × (said ≡ Ok c) × Holds a store c.state
+HoldsLines store said (Err e) = Fails e said
 
 -- the library is what the file states, or the file's fault is told
 abbrev pub ReadsLibrary : Result Export Fault → Result StoredLibrary ReadError → Type 0

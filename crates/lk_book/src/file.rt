@@ -19,13 +19,13 @@ ghost use Rattle.lk_book.specs.Reading.{HoldsSome, ConsumesSome, TellsOpen, Read
 
 use crate::lines::take_piece;
 use crate::long::long_line;
+use crate::text::closed_units;
 use crate::{LineReader, MAX_LINE, PIECE, ReadError, Reader};
 use lk_env::budget::Budget;
 use lk_env::library::Library;
 use lk_env::unit::Unit;
-use lk_lines::{Dialect, Fault, Word};
+use lk_lines::{Dialect, Fault};
 use lk_members::Members;
-use lk_members::finish::FinishError;
 use lk_port::Source;
 use lk_store::base_store::BaseStore;
 use lk_store::terms::Terms;
@@ -183,7 +183,7 @@ pub fn read_lines<T: Terms, S: Source, R: LineReader<T>>(
 }
 
 /// What a reader gathered.
-fn assembler_of(reader: Reader) -> Assembler
+pub(crate) fn assembler_of(reader: Reader) -> Assembler
     ensures { result ≡ reader.assembler }
 {
     reader.assembler
@@ -246,20 +246,14 @@ pub(crate) fn units_of(
     ensures fault { IfErr result (λ e. TellsOpen e
         (units_stated (lines_at (contents_of store.now) members.lines.items))) }
 {
-    // The names of the store are apart, so that their numbers tell.
-    let _names = store.count_names();
-    match members.finish(alloc) {
+    match closed_units(alloc, store, members) {
         Ok(units) => Ok(units),
-        Err(FinishError::NoMemory) => Err(ReadError::NoMemory),
-        Err(FinishError::Open(line)) => Err(ReadError::Fault(Fault {
-            line,
-            word: Word::BlockOpen,
-        })),
+        Err(error) => Err(ReadError::from(error)),
     }
 }
 
 /// What was gathered of units and of their budgets. The numberings are needed no more.
-fn lines_and_budgets(assembler: Assembler) -> (Members, Vec<Budget>)
+pub(crate) fn lines_and_budgets(assembler: Assembler) -> (Members, Vec<Budget>)
     ensures members { result.0 ≡ assembler.members }
     ensures budgets { result.1 ≡ assembler.budgets }
 {

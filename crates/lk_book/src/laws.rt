@@ -3,6 +3,7 @@ ghost use Rattle.std.specs.Prelude.{◌≡◌, ℕ, List, All, Ok, true};
 ghost use Rattle.lk_rulebook.specs.Units.{Library};
 ghost use Rattle.lk_rulebook.specs.Spelled.{library_spelled};
 ghost use Rattle.lk_book.specs.File.{Export, export_of, rounds_of};
+ghost use Rattle.lk_book.specs.Texts.{texts_of, IsFaultless};
 
 /// No text of a name that a file states holds a line feed. So no name is one that only auxiliary
 /// types have.
@@ -15,4 +16,10 @@ pub fn files_are_spelled()
 pub fn rounds_are_spelled()
     ensures { (bytes : List ℕ) (parts : List Library) → rounds_of bytes ≡ Ok parts
         → All (λ us. library_spelled us ≡ true) parts }
+{}
+
+/// No text of an input has a fault by itself.
+pub fn texts_are_faultless()
+    ensures { (bytes : List ℕ) (texts : List (List ℕ)) → texts_of bytes ≡ Ok texts
+        → All IsFaultless texts }
 {}

@@ -2,7 +2,8 @@
 ghost use Rattle.std.specs.Prelude.{◌≡◌, ◌+◌, ◌∷◌, ◌++◌, ℕ, List, length, MatchOption, IfOk, IfErr, OnOk};
 ghost use Rattle.lk_store.specs.Contents.{Extends};
 ghost use Rattle.lk_token.specs.Lines.{HasNoLineFeed};
-ghost use Rattle.lk_book.specs.Courses.{IsCounted, Passes, Stops};
+ghost use Rattle.lk_book.specs.File.{lines_of};
+ghost use Rattle.lk_book.specs.Courses.{over, IsCounted, Goes, Passes, Stops};
 
 use crate::LineReader;
 use bstr::ByteSlice;
@@ -49,6 +50,26 @@ fn take_lines<'p, T: Terms, R: LineReader<T>>(
         rest = more;
     }
     Ok(rest)
+}
+
+/// Takes all lines of bytes, of which each but the last has a line feed.
+pub(crate) fn read_bytes<T: Terms, R: LineReader<T>>(
+    alloc: Global,
+    store: &mut T,
+    reader: &mut R,
+    bytes: &[u8],
+) -> Result<(), LineError>
+    requires known { R.is_known reader.old (T.contents store.old) }
+    requires counted { IsCounted (R.number reader.old) (R.before reader.old) }
+    ensures keeps { Extends (T.contents store.old) (T.contents store.new) }
+    ensures rest { T.rest store.new ≡ T.rest store.old }
+    ensures known { OnOk result (R.is_known reader.new (T.contents store.new)) }
+    ensures reads { (c : R.Course) → R.stands reader.old (T.contents store.old) c
+        → Goes (R.stands reader.new (T.contents store.new)) result
+        (over R.step c (lines_of bytes.now)) }
+{
+    let rest = take_lines(alloc, store, reader, bytes)?;
+    reader.take(alloc, store, false, rest)
 }
 
 /// Keeps bytes of a line that is not ended.

@@ -1,15 +1,9 @@
 use Rattle.lk_store.specs.Store.{contents_of}
-use Rattle.lk_book.proofs.Libraries.{units_made, open_told}
+use Rattle.lk_members.specs.Plain.{lines_at}
+use Rattle.lk_book.specs.File.{units_stated}
+use Rattle.lk_book.proofs.Libraries.{open_tells}
 use Rattle.lk_book.proofs.file.units_of.Goals as goal
 
-pub returns-in-Ok-clause-known : goal.returns-in-Ok-clause-known
-returns-in-Ok-clause-known c = c.in-Ok.ensures.known (contents_of c.args.store.now) c.requires.lines
-
-pub returns-in-Ok-clause-units : goal.returns-in-Ok-clause-units
-returns-in-Ok-clause-units c =
-    units_made (contents_of c.args.store.now) c.args.members.lines.items c.count_names-names.ensures.apart c.requires.lines c.in-Ok.units.items c.in-Ok.ensures.open
-    (c.in-Ok.ensures.units (contents_of c.args.store.now))
-
-pub returns-in-Err-Open-clause-fault : goal.returns-in-Err-Open-clause-fault
-returns-in-Err-Open-clause-fault c =
-    open_told (contents_of c.args.store.now) c.args.members.lines.items c.count_names-names.ensures.apart c.requires.lines c.in-Err-Open.line (rw c.in-Err-Open.field-0-is at c.in-Err-Open.ensures.open)
+pub returns-in-Err-clause-fault : goal.returns-in-Err-clause-fault
+returns-in-Err-clause-fault c =
+    rw c.from.ensures (open_tells c.in-Err.error (units_stated (lines_at (contents_of c.args.store.now) c.args.members.lines.items)) c.in-Err.ensures.fault)
