@@ -21,9 +21,9 @@ use Rattle.lk_book.specs.declared.rounds.Rounds.{Rounds}
 use Rattle.lk_book.proofs.Spelled.{rounds_spelled}
 use Rattle.lk_verdict.specs.Told.{Verdict, IsPlainVerdict, AreVerdicts}
 use Rattle.lk_verdict.proofs.Spelled.{spelled_clear}
-use Rattle.lk_checks.specs.declared.verdict.Verdict.{Verdict as HeldVerdict}
-use Rattle.lk_checks.specs.Checked.{AreChecked}
-use Rattle.lk_checks.specs.Held.{verdict}
+use Rattle.lk_verdict.specs.declared.verdict.Verdict.{Verdict as HeldVerdict}
+use Rattle.lk_verdict.specs.Checked.{AreChecked}
+use Rattle.lk_verdict.specs.Held.{verdict}
 use Rattle.lk_text.specs.Text.{checked_line, report_text}
 use Rattle.lk_recheck.specs.Spliced.{next_list}
 use Rattle.lk_recheck.specs.Rounds.{IsCount, IsKept, Kept, KeepVerdicts}

@@ -11,9 +11,9 @@ use Rattle.lk_store.specs.Store.{contents_of}
 use Rattle.lk_env.specs.declared.unit.Unit.{Unit as StoredUnit}
 use Rattle.lk_env.specs.Units.{unit_at, library_at, library_of, IsUnitIn}
 use Rattle.lk_env.specs.StoredLibrary.{StoredLibrary}
-use Rattle.lk_checks.specs.declared.verdict.Verdict.{Verdict as HeldVerdict}
-use Rattle.lk_checks.specs.declared.verdict.Verdict.TheVariants.{Memory}
-use Rattle.lk_checks.specs.Held.{verdict}
+use Rattle.lk_verdict.specs.declared.verdict.Verdict.{Verdict as HeldVerdict}
+use Rattle.lk_verdict.specs.declared.verdict.Verdict.TheVariants.{Memory}
+use Rattle.lk_verdict.specs.Held.{verdict}
 use Rattle.leancheck.specs.declared.order.UnitVerdict.{UnitVerdict}
 use Rattle.leancheck.specs.Rows.{row_verdict}
 use Rattle.leancheck.specs.Held.{IsPlain}

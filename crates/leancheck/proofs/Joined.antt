@@ -8,8 +8,8 @@ use Rattle.lk_verdict.proofs.Spelled.{spelled_clear}
 use Rattle.lk_book.specs.File.{export_at, export_of}
 use Rattle.lk_book.proofs.Spelled.{read_spelled}
 use Rattle.lk_command.specs.declared.words.Options.{Options}
-use Rattle.lk_checks.specs.declared.verdict.Verdict.{Verdict as HeldVerdict}
-use Rattle.lk_checks.specs.Held.{verdict}
+use Rattle.lk_verdict.specs.declared.verdict.Verdict.{Verdict as HeldVerdict}
+use Rattle.lk_verdict.specs.Held.{verdict}
 use Rattle.lk_text.specs.Policy.{all_under}
 use Rattle.leancheck.specs.declared.status.Status.{Status}
 use Rattle.leancheck.specs.declared.extent.Extent.{Extent}

@@ -15,7 +15,7 @@ use Rattle.lk_env.specs.Places.{partial_beside}
 use Rattle.lk_block.specs.Stages.{Places}
 use Rattle.std.proofs.Math.Path.{fun_ext}
 use Rattle.leancheck.specs.Rows.{asked_of, scanned_of, row_verdict}
-use Rattle.lk_checks.specs.declared.verdict.Verdict.{Verdict as HeldVerdict}
+use Rattle.lk_verdict.specs.declared.verdict.Verdict.{Verdict as HeldVerdict}
 use Rattle.leancheck.specs.Held.{IsPlain}
 
 -- its names, and then the rest

@@ -8,7 +8,7 @@ use Rattle.lk_desk.specs.declared.table.Seat.{Seat}
 use Rattle.lk_desk.specs.declared.view.View.{View}
 use Rattle.lk_desk.specs.Job.{Job, units_of}
 use Rattle.lk_desk.specs.Seats.{view, job, Sits, Stays, Drew}
-use Rattle.lk_checks.specs.declared.verdict.Verdict.TheVariants.{Memory}
+use Rattle.lk_verdict.specs.declared.verdict.Verdict.TheVariants.{Memory}
 use Rattle.leancheck.specs.declared.order.UnitVerdict.{UnitVerdict}
 use Rattle.leancheck.specs.Drawn.{IsRightOne, numbers}
 use Rattle.leancheck.specs.Workers.{IsPassed, GoesOnDrawing}

@@ -4,8 +4,8 @@ use Rattle.lk_rulebook.specs.Units.{LibraryUnit}
 use Rattle.lk_env.specs.Units.{library_of}
 use Rattle.lk_env.specs.StoredLibrary.{StoredLibrary}
 use Rattle.lk_book.specs.File.{budget_of, export_at}
-use Rattle.lk_checks.specs.declared.verdict.Verdict.{Verdict}
-use Rattle.lk_checks.specs.declared.verdict.Verdict.TheVariants.{Memory}
+use Rattle.lk_verdict.specs.declared.verdict.Verdict.{Verdict}
+use Rattle.lk_verdict.specs.declared.verdict.Verdict.TheVariants.{Memory}
 use Rattle.leancheck.specs.declared.order.UnitVerdict.{UnitVerdict}
 use Rattle.leancheck.specs.Held.{IsPlain}
 use Rattle.leancheck.specs.Rows.{row_verdict}

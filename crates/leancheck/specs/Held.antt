@@ -5,9 +5,9 @@ use Rattle.lk_ask.specs.declared.stop.Stop.TheVariants as stop
 use Rattle.lk_scan.specs.declared.scan.ScanError.{ScanError}
 use Rattle.lk_scan.specs.declared.scan.ScanError.TheVariants as error
 use Rattle.lk_verdict.specs.Told.{Verdict, out_of_memory}
-use Rattle.lk_checks.specs.declared.verdict.Verdict.{Verdict as HeldVerdict}
-use Rattle.lk_checks.specs.declared.verdict.Verdict.TheVariants.{Yes, No, Steps, Memory}
-use Rattle.lk_checks.specs.Held.{verdict}
+use Rattle.lk_verdict.specs.declared.verdict.Verdict.{Verdict as HeldVerdict}
+use Rattle.lk_verdict.specs.declared.verdict.Verdict.TheVariants.{Yes, No, Steps, Memory}
+use Rattle.lk_verdict.specs.Held.{verdict}
 
 -- the plain verdict, or memory in its place
 abbrev pub IsPlain : Verdict → HeldVerdict → Type 0

@@ -5,7 +5,7 @@ use Rattle.lk_desk.specs.declared.table.Desk.{Desk}
 use Rattle.lk_desk.specs.declared.table.Seat.{Seat}
 use Rattle.lk_desk.specs.Rule.{once_below}
 use Rattle.lk_desk.specs.Seats.{view, job, IsNew, Sits}
-use Rattle.lk_checks.specs.declared.verdict.Verdict.{Verdict}
+use Rattle.lk_verdict.specs.declared.verdict.Verdict.{Verdict}
 use Rattle.leancheck.specs.declared.order.UnitVerdict.{UnitVerdict}
 use Rattle.leancheck.specs.declared.worker.Done.{Done}
 use Rattle.leancheck.specs.declared.worker.WorkerSeat.{WorkerSeat}

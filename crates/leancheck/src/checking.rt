@@ -24,7 +24,7 @@ ghost use Rattle.leancheck.specs.Held.{result_verdict, scan_verdict, IsPlain};
 use crate::blocks::check_block;
 use crate::quotients::check_quotient;
 use lk_ask::stop::Stop;
-use lk_checks::Verdict;
+use lk_verdict::Verdict;
 use lk_declaration::{check_axiom, check_opaque, check_theorem};
 use lk_engine::{Engine, Knows};
 use lk_env::entry::Partial;

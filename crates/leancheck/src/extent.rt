@@ -3,12 +3,12 @@
 ghost use Rattle.std.specs.Prelude.{◌≡◌, map, option_map, IfOk, OnOk};
 ghost use Rattle.lk_axioms.specs.Lists.{axiom_lists};
 ghost use Rattle.lk_env.specs.Units.{library_of};
-ghost use Rattle.lk_checks.specs.Held.{verdict};
+ghost use Rattle.lk_verdict.specs.Held.{verdict};
 ghost use Rattle.lk_text.specs.Policy.{policy_of, all_under};
 ghost use Rattle.leancheck.specs.Extents.{text_of};
 
 use lk_axioms::{AxiomSets, uses};
-use lk_checks::Verdict;
+use lk_verdict::Verdict;
 use lk_env::library::Library;
 use lk_store::memory::NoMemory;
 use lk_text::{Policy, apply, report, summary};

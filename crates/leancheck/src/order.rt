@@ -1,10 +1,10 @@
 //! Verdicts, in the order of the units.
 
 ghost use Rattle.std.specs.Prelude.{◌≡◌, ◌<◌, ℕ, IfOk, All, vec_len, slice_index_or};
-ghost use Rattle.lk_checks.specs.declared.verdict.Verdict.{Verdict as Held};
+ghost use Rattle.lk_verdict.specs.declared.verdict.Verdict.{Verdict as Held};
 ghost use Rattle.leancheck.specs.Drawn.{given};
 
-use lk_checks::Verdict;
+use lk_verdict::Verdict;
 use lk_store::memory::NoMemory;
 use std::alloc::Global;
 

@@ -15,7 +15,7 @@ ghost use Rattle.leancheck.specs.Telling.{IsTelling, TellsMore};
 use crate::status::{Status, status_of};
 use lk_axioms::{AxiomSets, uses_again};
 use lk_book::Rounds;
-use lk_checks::Checks;
+use lk_verdict::Checks;
 use lk_env::unit::Unit;
 use lk_port::Gate;
 use lk_recheck::Recheck;

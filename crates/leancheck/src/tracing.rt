@@ -30,7 +30,7 @@ use crate::status::Status;
 use crate::tracer::Tracer;
 use crate::worker::budget_of;
 use lk_book::{ReadError, read_library};
-use lk_checks::Verdict;
+use lk_verdict::Verdict;
 use lk_engine::{Alone, Engine, Knowledge, Knows};
 use lk_env::library::Library;
 use lk_handle::EngineHandle;

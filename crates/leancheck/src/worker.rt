@@ -8,7 +8,7 @@ ghost use Rattle.leancheck.specs.Workers.{IsPassed, GoesOnDrawing, Draws, IsDone
 
 use crate::checking::check_unit;
 use crate::order::UnitVerdict;
-use lk_checks::Verdict;
+use lk_verdict::Verdict;
 use lk_desk::{Desk, Seat};
 use lk_engine::{Alone, Engine, Knowledge, Knows, Share, Sharing};
 use lk_env::library::Library;

@@ -7,13 +7,13 @@ ghost use Rattle.lk_env.specs.Units.{library_of};
 ghost use Rattle.lk_desk.specs.Job.{Job, job_of, units_of};
 ghost use Rattle.lk_desk.specs.Rule.{HasEach};
 ghost use Rattle.lk_desk.specs.Seats.{view, job, IsNew, Sits};
-ghost use Rattle.lk_checks.specs.Held.{verdict};
+ghost use Rattle.lk_verdict.specs.Held.{verdict};
 ghost use Rattle.leancheck.specs.Drawn.{AreRight, numbers, unit_budget};
 ghost use Rattle.leancheck.specs.Workers.{IsDone, IsIdle, IsWorkerSeat, IsWhole};
 
 use crate::order::{UnitVerdict, blank, fill};
 use crate::worker::{Done, Settings, WorkerSeat, work};
-use lk_checks::Verdict;
+use lk_verdict::Verdict;
 use lk_command::Options;
 use lk_desk::{Desk, Seat};
 use lk_engine::{AnswerDesk, Share};

@@ -4,8 +4,7 @@
 
 use std::marker::Model;
 
-/// All but the terms: the scope, from where it is seen, what is left of the budget, and the
-/// library's tables.
+/// All but the terms: the scope, from where it is seen, the meter, and the library's tables.
 pub struct BesideTerms;
 
 impl Model for BesideTerms {

@@ -12,7 +12,7 @@ use Rattle.lk_rulebook.specs.Units.{Library}
 use Rattle.lk_rulebook.specs.Spelled.{library_spelled}
 use Rattle.lk_uses.specs.Closure.{IsUnchanged, own_unit}
 use Rattle.lk_verdict.specs.Told.{Verdict, told, accepted, rejected, out_of_steps, out_of_memory, IsPlainVerdict}
-use Rattle.lk_checks.specs.Checked.{Answer, AreChecked}
+use Rattle.lk_verdict.specs.Checked.{Answer, AreChecked}
 use Rattle.lk_recheck.specs.Stale.{MarksStale}
 use Rattle.lk_recheck.specs.Rounds.{ArePlain, IsCounted, KeepVerdicts, GivesVerdicts, AreHandedOn}
 use Rattle.lk_recheck.specs.Plans.{kept_verdict, IsUnitMore, IsPlanTo, IsPlan, IsAnswer, ArePut, ArePutTo, IsPut, IsAnswered, KeepOthers}

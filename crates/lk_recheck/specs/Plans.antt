@@ -7,8 +7,8 @@ use Rattle.lk_rulebook.specs.Units.{Library}
 use Rattle.lk_reach.specs.Axioms.{IsListOf}
 use Rattle.lk_uses.specs.Closure.{IsUnchanged}
 use Rattle.lk_verdict.specs.Told.{Verdict, out_of_memory}
-use Rattle.lk_checks.specs.Held.{verdict}
-use Rattle.lk_checks.specs.Checked.{Answer}
+use Rattle.lk_verdict.specs.Held.{verdict}
+use Rattle.lk_verdict.specs.Checked.{Answer}
 use Rattle.lk_recheck.specs.Rounds.{IsCounted}
 
 -- the verdict that unit n keeps, by its mark, and memory where it keeps none

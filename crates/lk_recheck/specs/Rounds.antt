@@ -8,8 +8,8 @@ use Rattle.lk_uses.specs.Closure.{IsUnchanged}
 use Rattle.lk_env.specs.Units.{library_of}
 use Rattle.lk_env.specs.StoredLibrary.{StoredLibrary}
 use Rattle.lk_verdict.specs.Told.{Verdict, out_of_memory, IsPlainVerdict}
-use Rattle.lk_checks.specs.Held.{verdict}
-use Rattle.lk_checks.specs.Checked.{Answer}
+use Rattle.lk_verdict.specs.Held.{verdict}
+use Rattle.lk_verdict.specs.Checked.{Answer}
 
 -- What is kept: the library of the last round, the verdicts of its units under the budget, of which
 -- of them something in their closure changed in that round, and whether there was a round.

@@ -7,7 +7,7 @@ ghost use Rattle.lk_rulebook.specs.Spelled.{library_spelled};
 ghost use Rattle.lk_store.specs.Store.{contents_of};
 ghost use Rattle.lk_env.specs.Units.{library_at, library_of, AreUnitsIn};
 ghost use Rattle.lk_verdict.specs.Told.{out_of_memory};
-ghost use Rattle.lk_checks.specs.Held.{verdict};
+ghost use Rattle.lk_verdict.specs.Held.{verdict};
 ghost use Rattle.lk_recheck.specs.Spliced.{next_list};
 ghost use Rattle.lk_recheck.specs.Rounds.{ArePlain, AreHandedOn, IsCount, IsKept, KeepVerdicts};
 ghost use Rattle.lk_recheck.specs.Stale.{MarksStale};
@@ -16,11 +16,11 @@ ghost use Rattle.lk_recheck.specs.Plans.{kept_verdict, IsUnitMore, IsPlanTo, IsP
 use crate::building::{StoreLinks, store_links};
 use crate::splicing::splice;
 use crate::stale::stale_units;
-use lk_checks::{Checks, Verdict};
 use lk_env::library::Library;
 use lk_env::unit::Unit;
 use lk_store::base_store::BaseStore;
 use lk_store::memory::NoMemory;
+use lk_verdict::{Checks, Verdict};
 use std::alloc::Global;
 use std::marker::Model;
 use std::mem::drop;
@@ -42,7 +42,7 @@ impl Model for Recheck {
     ghost use Rattle.lk_recheck.specs.Built.{AreLinksOf};
     ghost use Rattle.lk_recheck.specs.Rounds.{Kept, IsKept};
     ghost use Rattle.std.specs.Prelude.{map};
-    ghost use Rattle.lk_checks.specs.Held.{verdict};
+    ghost use Rattle.lk_verdict.specs.Held.{verdict};
 
     ghost Value = { Kept };
 

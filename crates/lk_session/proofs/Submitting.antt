@@ -1,6 +1,6 @@
 -- What is so after a call that was added and answered.
 use Rattle.std.proofs.Common.{◌≡◌, ℕ, ◌+◌, ◌≤◌, List, length, map, min, sym, ap, ◌∙◌, subst, arith}
-use Rattle.lk_checks.specs.Held.{verdict}
+use Rattle.lk_verdict.specs.Held.{verdict}
 use Rattle.lk_session.specs.declared.view.View.{View}
 use Rattle.lk_session.specs.declared.view.Submission.{Submission}
 use Rattle.lk_session.specs.declared.found.Offer.{Offer}

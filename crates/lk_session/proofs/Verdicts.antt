@@ -3,10 +3,10 @@ use Rattle.std.proofs.Common.{◌≡◌, ℕ, zero, suc, ◌+◌, List, [], ◌�
 use Rattle.std.proofs.lemmas.List.{length-map, length-replicate}
 use Rattle.lk_rulebook.specs.Units.{Library}
 use Rattle.lk_verdict.specs.Told.{Verdict, IsPlainVerdict, out_of_memory}
-use Rattle.lk_checks.specs.declared.verdict.Verdict.{Verdict as HeldVerdict}
-use Rattle.lk_checks.specs.declared.verdict.Verdict.TheVariants.{Memory}
-use Rattle.lk_checks.specs.Held.{verdict}
-use Rattle.lk_checks.specs.Checked.{AreChecked}
+use Rattle.lk_verdict.specs.declared.verdict.Verdict.{Verdict as HeldVerdict}
+use Rattle.lk_verdict.specs.declared.verdict.Verdict.TheVariants.{Memory}
+use Rattle.lk_verdict.specs.Held.{verdict}
+use Rattle.lk_verdict.specs.Checked.{AreChecked}
 use Rattle.lk_session.specs.Answers.{AreFrom}
 
 -- the one verdict of one number

@@ -3,7 +3,7 @@ use Rattle.std.specs.Prelude.{◌≡◌, ◌≤◌, ℕ, ◌+◌, ◌<◌, List,
 use mathlib.Core.List.{IsPrefix}
 use Rattle.lk_rulebook.specs.Units.{Library}
 use Rattle.lk_verdict.specs.Told.{Verdict, IsPlainVerdict}
-use Rattle.lk_checks.specs.Held.{verdict}
+use Rattle.lk_verdict.specs.Held.{verdict}
 use Rattle.lk_session.specs.declared.view.View.{View}
 use Rattle.lk_session.specs.declared.view.Submission.{Submission}
 use Rattle.lk_session.specs.declared.reply.Reply.{Reply}

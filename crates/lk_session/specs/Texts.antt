@@ -1,13 +1,10 @@
 -- What texts state, and the texts of a list of submissions.
-use Rattle.std.specs.Prelude.{◌≡◌, ℕ, ◌+◌, List, [], ◌∷◌, length, map, All, Vec, Result, Ok, Err, Some, None}
-use Rattle.std.specs.declared.option.Option.{Option}
+use Rattle.std.specs.Prelude.{◌≡◌, ℕ, ◌+◌, List, [], ◌∷◌, length, map, All, Vec, Result, Ok, Err}
 use Rattle.std.specs.List.{flat_map}
 use Rattle.std.specs.Arc.{arc_value}
 use Rattle.std.specs.declared.sync.Arc.{Arc}
 use Rattle.std.specs.declared.alloc.Global.{Global}
 use Rattle.lk_rulebook.specs.Units.{Library}
-use Rattle.lk_env.specs.StoredLibrary.{StoredLibrary}
-use Rattle.lk_env.specs.Units.{library_of}
 use Rattle.lk_lines.specs.declared.line.Fault.{Fault}
 use Rattle.lk_session.specs.declared.error.TextError.{TextError}
 use Rattle.lk_session.specs.declared.error.TextError.TheVariants as text_errors

@@ -3,14 +3,14 @@
 ghost use Rattle.std.specs.Prelude.{◌≡◌, ◌+◌, ◌<◌, ◌≤◌, length, map, replicate, IfOk};
 ghost use Rattle.lk_env.specs.Units.{library_of};
 ghost use Rattle.lk_verdict.specs.Told.{IsPlainVerdict};
-ghost use Rattle.lk_checks.specs.Held.{verdict};
-ghost use Rattle.lk_checks.specs.declared.verdict.Verdict.TheVariants.{Memory};
+ghost use Rattle.lk_verdict.specs.Held.{verdict};
+ghost use Rattle.lk_verdict.specs.declared.verdict.Verdict.TheVariants.{Memory};
 ghost use Rattle.lk_session.specs.Answers.{AreFrom};
 
-use lk_checks::{Checks, Verdict};
 use lk_env::library::Library;
 use lk_port::Gate;
 use lk_store::memory::NoMemory;
+use lk_verdict::{Checks, Verdict};
 use std::alloc::Global;
 
 /// Want of memory, so often.

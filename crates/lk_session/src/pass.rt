@@ -2,7 +2,7 @@
 
 ghost use Rattle.std.specs.Prelude.{◌≡◌, ◌+◌, ◌≤◌, length, take, map, OnOk};
 ghost use Rattle.lk_env.specs.Units.{library_of};
-ghost use Rattle.lk_checks.specs.Held.{verdict};
+ghost use Rattle.lk_verdict.specs.Held.{verdict};
 ghost use Rattle.lk_session.specs.Texts.{units_of};
 ghost use Rattle.lk_session.specs.Reading.{AreBehind};
 ghost use Rattle.lk_session.specs.Answers.{AreFrom};
@@ -12,10 +12,10 @@ use crate::checking::check_each;
 use crate::list_reader::ListReader;
 use crate::room::Room;
 use crate::texts::{Reads, Text};
-use lk_checks::{Checks, Verdict};
 use lk_env::library::Library;
 use lk_port::Gate;
 use lk_store::memory::NoMemory;
+use lk_verdict::{Checks, Verdict};
 use std::alloc::Global;
 use std::marker::{Model, PhantomData};
 

@@ -1,7 +1,7 @@
 //! What callers are told.
 
 use crate::mark::Mark;
-use lk_checks::Verdict;
+use lk_verdict::Verdict;
 
 /// What is told of a text that was added: the number of its first unit in the list, and a verdict
 /// for each of its units.

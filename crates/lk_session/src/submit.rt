@@ -13,8 +13,8 @@ use crate::reply::Reply;
 use crate::room::Room;
 use crate::session::Session;
 use crate::texts::{Reads, share_text};
-use lk_checks::Checks;
 use lk_port::Gate;
+use lk_verdict::Checks;
 use std::sync::Wait;
 
 impl<B: Room, T: Reads> Session<B, T> {

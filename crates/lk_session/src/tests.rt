@@ -2,8 +2,8 @@
 
 ghost use Rattle.std.specs.Prelude.{◌≡◌, ◌<◌, ◌++◌, ◌∷◌, [], All, length, map, replicate, IfOk, OnOk, OnErr};
 ghost use Rattle.lk_env.specs.Units.{library_of};
-ghost use Rattle.lk_checks.specs.Held.{verdict};
-ghost use Rattle.lk_checks.specs.Checked.{AreChecked};
+ghost use Rattle.lk_verdict.specs.Held.{verdict};
+ghost use Rattle.lk_verdict.specs.Checked.{AreChecked};
 ghost use Rattle.lk_session.specs.Sample.{empty_block, first_error, is_faulty, sample_stated, IsEmptyBlock};
 
 use crate::checking::unanswered;
@@ -13,12 +13,12 @@ use crate::reply::Reply;
 use crate::room::Room;
 use crate::session::{Opened, Session};
 use crate::texts::Reads;
-use lk_checks::{Checks, Verdict};
 use lk_env::library::Library;
 use lk_env::unit::{Block, Unit};
 use lk_lines::{Fault, Word};
 use lk_port::{Gate, OpenGate, PairGate};
 use lk_store::memory::NoMemory;
+use lk_verdict::{Checks, Verdict};
 use std::alloc::Global;
 use std::marker::Brand;
 use std::process::Abort;
@@ -102,7 +102,7 @@ struct NoRoom;
 
 impl Checks for NoRoom {
     ghost use Rattle.lk_env.specs.StoredLibrary.{StoredLibrary};
-    ghost use Rattle.lk_checks.specs.Checked.{Answer};
+    ghost use Rattle.lk_verdict.specs.Checked.{Answer};
 
     ghost budget_of = { λ c. 0 };
 

@@ -17,8 +17,7 @@ use Rattle.lk_ask.specs.Outlook.{Outlook}
 abbrev pub contents_from : Outlook Layers → Contents
 contents_from s = layers_contents s.terms
 
--- all but the terms: the scope, from where it is seen, what is left of the budget, and the
--- library's tables
+-- all but the terms: the scope, from where it is seen, the meter, and the library's tables
 abbrev pub rest_from : Outlook Layers → StoredScope × Site × Meter × Tables
 rest_from s = (s.scope, s.site, s.meter, s.terms.base)
 

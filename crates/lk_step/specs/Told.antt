@@ -40,7 +40,7 @@ pub record IsSame (w : Place) (a b : Tree) (y : Bool) : Type 0 where
   pub cost : ℕ
   pub answered : IsAnswered w (same a b) y cost
 
--- numbers stand for what they stood for, and of all else no more than the budget is another one
+-- numbers stand for what they stood for, and of all else no more than the meter is another one
 pub record Leaves {S R B : Type 0} (contents : S → Contents) (rest : S → R) (sight : R → Sight B)
     (old new : S) : Type 0 where
   pub keeps : Extends (contents old) (contents new)

@@ -2,8 +2,9 @@
 //!
 //! What is proved where a value is handed to a generic function grows with its type, once for each
 //! method of the traits that the function asks for, those above them among them. An engine has a
-//! large type, and above `Derives` stand some thirty methods. So an engine is handed over by this
-//! trait, which has few methods and none above it, and the others stand behind a small handle.
+//! large type, and `Derives` with the traits above it has some thirty methods. So an engine is handed
+//! over by this trait, which has half as many and no trait above it, and the others stand behind a
+//! small handle.
 
 ghost use Rattle.std.specs.Prelude.{◌≡◌, ◌<◌, length, option_map, slice_get, IfSome};
 ghost use Rattle.lk_store.specs.Contents.{level_of, list_of, name_of, tree_of};

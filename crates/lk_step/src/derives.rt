@@ -19,7 +19,6 @@ pub trait Derives: Looks {
 }
 
 /// The weak head form of a term without unfolding.
-
 pub fn core_of<D: Derives>(derives: &mut D, e: u64, enough: u128) -> Result<u64, NoMemory>
     requires e_in { e < length (D.contents derives.old).trees }
     requires answered { IsAnsweredWithin (D.sight (D.rest derives.old)).basis.place
@@ -36,7 +35,6 @@ pub fn core_of<D: Derives>(derives: &mut D, e: u64, enough: u128) -> Result<u64,
 }
 
 /// The weak head form of a term.
-
 pub fn form_of<D: Derives>(derives: &mut D, e: u64, enough: u128) -> Result<u64, NoMemory>
     requires e_in { e < length (D.contents derives.old).trees }
     requires answered { IsAnsweredWithin (D.sight (D.rest derives.old)).basis.place
@@ -53,7 +51,6 @@ pub fn form_of<D: Derives>(derives: &mut D, e: u64, enough: u128) -> Result<u64,
 }
 
 /// The type of a term.
-
 pub fn type_of<D: Derives>(derives: &mut D, e: u64, enough: u128) -> Result<u64, NoMemory>
     requires e_in { e < length (D.contents derives.old).trees }
     requires answered { IsAnsweredWithin (D.sight (D.rest derives.old)).basis.place
@@ -70,7 +67,6 @@ pub fn type_of<D: Derives>(derives: &mut D, e: u64, enough: u128) -> Result<u64,
 }
 
 /// Whether two terms are the same.
-
 pub fn are_same<D: Derives>(derives: &mut D, a: u64, b: u64, enough: u128) -> Result<bool, NoMemory>
     requires a_in { a < length (D.contents derives.old).trees }
     requires b_in { b < length (D.contents derives.old).trees }

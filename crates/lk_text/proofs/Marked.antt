@@ -18,9 +18,9 @@ use Rattle.lk_verdict.specs.Told.{accepted, rejected}
 use Rattle.lk_store.specs.Contents.{Contents}
 use Rattle.lk_env.specs.declared.unit.Unit.{Unit as StoredUnit}
 use Rattle.lk_env.specs.Units.{unit_at, library_at}
-use Rattle.lk_checks.specs.declared.verdict.Verdict.TheVariants.{Yes}
-use Rattle.lk_checks.specs.declared.verdict.Verdict.{Verdict as HeldVerdict}
-use Rattle.lk_checks.specs.Held.{verdict}
+use Rattle.lk_verdict.specs.declared.verdict.Verdict.TheVariants.{Yes}
+use Rattle.lk_verdict.specs.declared.verdict.Verdict.{Verdict as HeldVerdict}
+use Rattle.lk_verdict.specs.Held.{verdict}
 use Rattle.lk_text.specs.Marks.{mark_of, marks_of}
 use Rattle.lk_text.specs.Policy.{Policy, allows, allows_at, allows_name, allows_all, under, all_under}
 use Rattle.lk_text.specs.Text.{name_word}

@@ -6,8 +6,8 @@ use Rattle.lk_reach.specs.Computed.{axioms_of}
 use Rattle.lk_store.specs.Contents.{Contents}
 use Rattle.lk_env.specs.declared.unit.Unit.{Unit as StoredUnit}
 use Rattle.lk_env.specs.Units.{library_at}
-use Rattle.lk_checks.specs.declared.verdict.Verdict.{Verdict as HeldVerdict}
-use Rattle.lk_checks.specs.Held.{verdict}
+use Rattle.lk_verdict.specs.declared.verdict.Verdict.{Verdict as HeldVerdict}
+use Rattle.lk_verdict.specs.Held.{verdict}
 use Rattle.lk_text.specs.Text.{axiom_at, axioms_text, lines_text}
 use Rattle.lk_text.specs.Names.{unit_lines, unit_text}
 use Rattle.lk_text.specs.Replayed.{outcome_line, outcome_lines}

@@ -1,12 +1,12 @@
 //! The last line, which counts verdicts.
 
 ghost use Rattle.std.specs.Prelude.{◌≡◌, ◌++◌, map, OnOk, IfOk};
-ghost use Rattle.lk_checks.specs.Held.{verdict};
+ghost use Rattle.lk_verdict.specs.Held.{verdict};
 ghost use Rattle.lk_text.specs.Text.{is_of, count, counted_text, summary_text, checked_line};
 
 use crate::names::add_number;
-use lk_checks::Verdict;
 use lk_store::memory::NoMemory;
+use lk_verdict::Verdict;
 use std::alloc::Global;
 
 /// What a verdict is counted as.

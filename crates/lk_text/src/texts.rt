@@ -1,7 +1,7 @@
 //! The text of a run.
 
 ghost use Rattle.std.specs.Prelude.{◌≡◌, map, IfOk};
-ghost use Rattle.lk_checks.specs.Held.{verdict};
+ghost use Rattle.lk_verdict.specs.Held.{verdict};
 ghost use Rattle.lk_text.specs.Text.{bad_line, report_text};
 ghost use Rattle.lk_axioms.specs.Lists.{axiom_lists};
 ghost use Rattle.lk_env.specs.Units.{library_of};
@@ -10,10 +10,10 @@ use crate::counts::add_summary;
 use crate::units::add_lines;
 use itoa::Buffer;
 use lk_axioms::AxiomSets;
-use lk_checks::Verdict;
 use lk_env::library::Library;
 use lk_lines::Fault;
 use lk_store::memory::NoMemory;
+use lk_verdict::Verdict;
 use std::alloc::Global;
 
 /// The room for the line of a unit whose name is not long.

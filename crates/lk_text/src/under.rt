@@ -8,18 +8,18 @@ ghost use Rattle.lk_store.specs.Contents.{Contents};
 ghost use Rattle.lk_store.specs.Store.{contents_of};
 ghost use Rattle.lk_env.specs.Units.{unit_at, library_of, IsUnitIn};
 ghost use Rattle.lk_axioms.specs.Lists.{axiom_lists};
-ghost use Rattle.lk_checks.specs.Held.{verdict};
+ghost use Rattle.lk_verdict.specs.Held.{verdict};
 ghost use Rattle.lk_text.specs.Marks.{mark_of, marks_of};
 ghost use Rattle.lk_text.specs.Policy.{Policy as Allowed, allows_all, under, all_under};
 
 use crate::policy::Policy;
 use crate::units::{Writing, write_name};
 use lk_axioms::AxiomSets;
-use lk_checks::Verdict;
 use lk_env::library::Library;
 use lk_env::unit::{Body, Unit};
 use lk_store::memory::NoMemory;
 use lk_tree::rule::Rule;
+use lk_verdict::Verdict;
 use std::alloc::Global;
 
 /// Whether a unit is an axiom. Constants of quotient types are none.

@@ -1,7 +1,7 @@
 //! The lines of units, each by its kind, its number, and the name of its first member.
 
 ghost use Rattle.std.specs.Prelude.{◌≡◌, ◌++◌, map, slice_get, OnOk};
-ghost use Rattle.lk_checks.specs.Held.{verdict};
+ghost use Rattle.lk_verdict.specs.Held.{verdict};
 ghost use Rattle.lk_text.specs.Text.{axiom_at, axioms_text, body_word, kind_word, lines_text};
 ghost use Rattle.lk_text.specs.Names.{first_number, first_of_block, unit_lines, unit_text};
 ghost use Rattle.lk_axioms.specs.Lists.{axiom_lists};
@@ -12,10 +12,10 @@ ghost use Rattle.lk_env.specs.Units.{body_at, unit_at, library_of, IsUnitIn};
 use crate::names::{Component, add_name};
 use crate::verdicts::{add_axiom, add_verdict};
 use lk_axioms::AxiomSets;
-use lk_checks::Verdict;
 use lk_env::library::Library;
 use lk_env::unit::{BlockType, Body, Recursor, Unit};
 use lk_store::memory::NoMemory;
+use lk_verdict::Verdict;
 use std::alloc::Global;
 
 /// The word of a declaration, by its body.

@@ -1,14 +1,14 @@
 //! The lines that tell verdicts.
 
 ghost use Rattle.std.specs.Prelude.{◌≡◌, ◌++◌, codes, OnOk};
-ghost use Rattle.lk_checks.specs.Held.{verdict};
+ghost use Rattle.lk_verdict.specs.Held.{verdict};
 ghost use Rattle.lk_text.specs.Text.{rule_word, title_text, head_text, why_text, axiom_text};
 ghost use Rattle.lk_text.specs.Text.{verdict_text};
 
 use crate::names::add_number;
-use lk_checks::Verdict;
 use lk_store::memory::NoMemory;
 use lk_tree::rule::Rule;
+use lk_verdict::Verdict;
 
 /// The word of a rule.
 fn word_of(rule: Rule) -> &'static [u8]

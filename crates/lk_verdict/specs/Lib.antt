@@ -4,3 +4,5 @@ pub mod Later
 pub mod Verdict
 pub mod Operations
 pub mod Told
+pub mod Held
+pub mod Checked

@@ -1,5 +1,9 @@
-//! The plain verdict of a unit, what it is for a unit to be good, and laws of both.
+//! The plain verdict of a unit, what it is for a unit to be good, and laws of both. Also what is said of a unit, and who says it:
+//! whoever keeps verdicts asks for those that are new through `Checks`, and needs no engine.
 #![tactic(auto)]
+
+mod checks;
+mod verdict;
 
 ghost use Rattle.std.specs.Prelude.{◌≡◌, ℕ, [], List, Some, take, slice_get, ◌≤◌, ◌<◌, ◌⊎◌, true};
 ghost use Rattle.lk_inductive.specs.Block.{Shape};
@@ -18,6 +22,9 @@ ghost use Rattle.lk_verdict.specs.Attacks.{shadowed, doubled, undeclared, of_loc
 ghost use Rattle.lk_verdict.specs.GoodUnit.{IsGoodUnit, IsClearLibrary};
 ghost use Rattle.lk_verdict.specs.Later.{later_place};
 ghost use Rattle.lk_verdict.specs.Verdict.{says_yes, says_steps, plain_verdict, IsYesFrom};
+
+pub use checks::Checks;
+pub use verdict::Verdict;
 
 /// A yes comes exactly where the budget is at least its cost, and below it the verdict is steps. No verdict but steps changes
 /// with a greater budget.

@@ -1,6 +1,6 @@
 use Rattle.std.proofs.Common.{map}
 use Rattle.lk_env.specs.Units.{library_of}
-use Rattle.lk_checks.specs.Held.{verdict}
+use Rattle.lk_verdict.specs.Held.{verdict}
 use Rattle.leancheck.proofs.Unjudged.{unjudged}
 use Rattle.leancheck.proofs.extent.judged_text.Goals as goal
 

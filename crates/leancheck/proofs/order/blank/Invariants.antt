@@ -1,5 +1,5 @@
 use Rattle.std.proofs.Common.{◌≡◌, All, vec_len}
-use Rattle.lk_checks.specs.declared.verdict.Verdict.TheVariants.{Memory}
+use Rattle.lk_verdict.specs.declared.verdict.Verdict.TheVariants.{Memory}
 use Rattle.leancheck.proofs.order.blank.Given as goal
 
 abbrev pub invariant-loop : goal.invariant-loop

@@ -1,5 +1,5 @@
 use Rattle.std.proofs.Common.{ℕ, ◌≡◌, ◌<◌, vec_len, slice_index_or, take}
-use Rattle.lk_checks.specs.declared.verdict.Verdict.{Verdict}
+use Rattle.lk_verdict.specs.declared.verdict.Verdict.{Verdict}
 use Rattle.leancheck.specs.Drawn.{given}
 use Rattle.leancheck.proofs.order.fill.Given as goal
 

@@ -1,5 +1,5 @@
 use Rattle.std.proofs.Common.{ℕ, ◌+◌, ◌++◌, ◌∷◌, [], List, ap, sym, ◌∙◌, subst}
-use Rattle.lk_checks.specs.declared.verdict.Verdict.TheVariants.{Memory}
+use Rattle.lk_verdict.specs.declared.verdict.Verdict.TheVariants.{Memory}
 use Rattle.leancheck.specs.declared.order.UnitVerdict.{UnitVerdict}
 use Rattle.leancheck.specs.Workers.{GoesOnDrawing}
 use Rattle.leancheck.proofs.Working.{draws_one}

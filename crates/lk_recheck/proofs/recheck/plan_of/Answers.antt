@@ -1,6 +1,6 @@
 use Rattle.std.proofs.Common.{◌≡◌, false, map, length, get_or, subst, arith}
 use Rattle.std.proofs.lemmas.Option.{slice_get-get_or}
-use Rattle.lk_checks.specs.Held.{verdict}
+use Rattle.lk_verdict.specs.Held.{verdict}
 use Rattle.lk_recheck.specs.Plans.{IsPlanTo}
 use Rattle.lk_recheck.proofs.Plans.{none_planned, one_planned}
 use Rattle.lk_recheck.proofs.recheck.plan_of.Goals as goal

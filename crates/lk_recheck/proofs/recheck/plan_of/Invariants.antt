@@ -1,5 +1,5 @@
 use Rattle.std.specs.Prelude.{map}
-use Rattle.lk_checks.specs.Held.{verdict}
+use Rattle.lk_verdict.specs.Held.{verdict}
 use Rattle.lk_recheck.specs.Plans.{IsPlanTo}
 use Rattle.lk_recheck.proofs.recheck.plan_of.Given as goal
 

@@ -2,8 +2,8 @@ use Rattle.std.proofs.Common.{◌≡◌, ◌+◌, ◌<◌, ◌∙◌, Some, map,
 use Rattle.std.specs.Prelude.{slice_get, option_map}
 use Rattle.std.proofs.lemmas.List.{length-map, map-set}
 use Rattle.std.proofs.lemmas.Option.{slice_get-map, slice_get-get_or}
-use Rattle.lk_checks.specs.Held.{verdict}
-use Rattle.lk_checks.specs.declared.verdict.Verdict.TheVariants.{Yes}
+use Rattle.lk_verdict.specs.Held.{verdict}
+use Rattle.lk_verdict.specs.declared.verdict.Verdict.TheVariants.{Yes}
 use Rattle.lk_recheck.specs.Plans.{ArePutTo}
 use Rattle.lk_recheck.proofs.Plans.{one_put}
 use Rattle.lk_recheck.proofs.recheck.put_verdicts.Goals as goal

@@ -1,6 +1,6 @@
 use Rattle.std.proofs.Common.{◌≡◌, length, map}
 use Rattle.lk_env.specs.Units.{library_of}
-use Rattle.lk_checks.specs.Held.{verdict}
+use Rattle.lk_verdict.specs.Held.{verdict}
 use Rattle.lk_session.specs.Answers.{AreFrom}
 use Rattle.lk_session.proofs.checking.check_each.Given as goal
 

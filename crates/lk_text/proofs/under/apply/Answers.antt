@@ -1,6 +1,6 @@
 use Rattle.std.proofs.Common.{◌≡◌, ◌<◌, length, map, ap, sym, ◌∙◌, arith}
 use Rattle.lk_env.specs.Units.{library_of}
-use Rattle.lk_checks.specs.Held.{verdict}
+use Rattle.lk_verdict.specs.Held.{verdict}
 use Rattle.lk_text.specs.Policy.{every_axiom, all_under}
 use Rattle.lk_text.proofs.Marked.{one_more}
 use Rattle.lk_text.proofs.Refusing.{every_stays}

@@ -2,7 +2,7 @@ use Rattle.std.proofs.Common.{map, ap}
 use Rattle.std.proofs.lemmas.Result.{on_ok_weaker}
 use Rattle.lk_env.specs.Units.{library_of}
 use Rattle.lk_env.specs.StoredLibrary.{StoredLibrary}
-use Rattle.lk_checks.specs.Held.{verdict}
+use Rattle.lk_verdict.specs.Held.{verdict}
 use Rattle.leancheck.proofs.Changes.{lines_added}
 use Rattle.leancheck.proofs.rounds.Telling.add_report.Goals as goal
 

@@ -1,7 +1,7 @@
 use Rattle.std.proofs.Common.{◌≡◌, ◌∙◌, Ok, Err, map, refl, ap, sym, subst}
 use Rattle.lk_env.specs.Units.{library_of}
-use Rattle.lk_checks.specs.Held.{verdict}
-use Rattle.lk_checks.specs.Checked.{AreChecked}
+use Rattle.lk_verdict.specs.Held.{verdict}
+use Rattle.lk_verdict.specs.Checked.{AreChecked}
 use Rattle.lk_recheck.specs.Rounds.{ArePlain, Kept}
 use Rattle.lk_recheck.specs.Plans.{IsAnswered}
 use Rattle.lk_recheck.proofs.Plans.{plain_put}

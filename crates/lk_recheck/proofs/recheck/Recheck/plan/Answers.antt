@@ -1,7 +1,7 @@
 use Rattle.std.proofs.Common.{◌∙◌, map, ap, subst}
 use Rattle.lk_store.specs.Store.{contents_of}
 use Rattle.lk_env.specs.Units.{library_at, library_of}
-use Rattle.lk_checks.specs.Held.{verdict}
+use Rattle.lk_verdict.specs.Held.{verdict}
 use Rattle.lk_recheck.specs.Plans.{IsPlan}
 use Rattle.lk_recheck.specs.Rounds.{Kept}
 use Rattle.lk_recheck.proofs.Plans.{plan_made}

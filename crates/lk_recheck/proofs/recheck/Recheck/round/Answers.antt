@@ -5,7 +5,7 @@ use Rattle.lk_rulebook.specs.Spelled.{library_spelled}
 use Rattle.lk_store.specs.Store.{contents_of}
 use Rattle.lk_env.specs.StoredLibrary.{StoredLibrary}
 use Rattle.lk_env.specs.Units.{library_at, library_of, unit_at}
-use Rattle.lk_checks.specs.Held.{verdict}
+use Rattle.lk_verdict.specs.Held.{verdict}
 use Rattle.lk_recheck.specs.Built.{AreLinksOf}
 use Rattle.lk_recheck.specs.Rounds.{Kept, ArePlain}
 use Rattle.lk_recheck.specs.Plans.{IsPlan, IsAnswered}

@@ -1,7 +1,7 @@
 use Rattle.std.proofs.Common.{◌≡◌, map, sym, subst}
 use Rattle.lk_rulebook.specs.Units.{Library}
 use Rattle.lk_env.specs.Units.{library_of}
-use Rattle.lk_checks.specs.Held.{verdict}
+use Rattle.lk_verdict.specs.Held.{verdict}
 use Rattle.lk_session.specs.Texts.{units_of}
 use Rattle.lk_session.specs.Answers.{AreFrom}
 use Rattle.lk_session.proofs.Reading.{read_whole}

@@ -1,8 +1,8 @@
 use Rattle.std.proofs.Common.{List, length, map, sym, ap, ◌∙◌, subst, refl}
 use Rattle.std.proofs.lemmas.List.{length-replicate}
-use Rattle.lk_checks.specs.declared.verdict.Verdict.{Verdict as HeldVerdict}
-use Rattle.lk_checks.specs.declared.verdict.Verdict.TheVariants.{Memory}
-use Rattle.lk_checks.specs.Held.{verdict}
+use Rattle.lk_verdict.specs.declared.verdict.Verdict.{Verdict as HeldVerdict}
+use Rattle.lk_verdict.specs.declared.verdict.Verdict.TheVariants.{Memory}
+use Rattle.lk_verdict.specs.Held.{verdict}
 use Rattle.lk_session.specs.Texts.{units_of}
 use Rattle.lk_session.specs.Answers.{AreFrom}
 use Rattle.lk_session.proofs.Verdicts.{unanswered_from}

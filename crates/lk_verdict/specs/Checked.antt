@@ -4,7 +4,7 @@ use Rattle.std.specs.declared.alloc.Global.{Global}
 use Rattle.lk_rulebook.specs.Units.{Library}
 use Rattle.lk_store.specs.declared.memory.NoMemory.{NoMemory}
 use Rattle.lk_verdict.specs.Told.{Verdict, IsPlainVerdict}
-use Rattle.lk_checks.specs.declared.verdict.Verdict.{Verdict as HeldVerdict}
+use Rattle.lk_verdict.specs.declared.verdict.Verdict.{Verdict as HeldVerdict}
 
 -- each verdict is the plain one of the unit whose number stands at its place, or memory
 pub record AreChecked (us : Library) (budget : ℕ) (numbers : List ℕ) (vs : List Verdict)

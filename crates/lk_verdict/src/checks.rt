@@ -3,8 +3,8 @@
 ghost use Rattle.std.specs.Prelude.{◌≡◌, ◌<◌, ℕ, List, length, map, All, IfOk};
 ghost use Rattle.lk_env.specs.StoredLibrary.{StoredLibrary};
 ghost use Rattle.lk_env.specs.Units.{library_of};
-ghost use Rattle.lk_checks.specs.Held.{verdict};
-ghost use Rattle.lk_checks.specs.Checked.{Answer, AreChecked};
+ghost use Rattle.lk_verdict.specs.Held.{verdict};
+ghost use Rattle.lk_verdict.specs.Checked.{Answer, AreChecked};
 
 use crate::verdict::Verdict;
 use lk_env::library::Library;
