@@ -24,6 +24,7 @@ use Rattle.lk_units.specs.State.{State, take_item}
 use Rattle.lk_units.proofs.Kept.{IsSpelledState, kept_item, kept_begin, spelled_parts}
 use Rattle.lk_units.proofs.Items.{spelled_item}
 use Rattle.lk_book.specs.Course.{Course, begin_in, passed, taken, unless, at_line, step}
+use Rattle.lk_book.specs.Texts.{begin_behind, text_course, text_of}
 use Rattle.lk_book.specs.File.{lines_of, Export, has_more, after, course_over, course_in, course_of, closed, units_stated, export_stated, export_of, parts_stated, rounds_stated, rounds_of}
 
 other_byte : (b : ℕ) → (b == 10) ≡ false → b ≢ 10
@@ -126,3 +127,12 @@ pub rounds_kept : (bytes : List ℕ) (parts : List Library) → rounds_of bytes 
 rounds_kept bytes parts q =
     if_ok AreSpelledRounds (rounds_of bytes) parts
     (if_after KeptCourse AreSpelledRounds (course_in dialects.Rounds bytes) (λ c. rounds_stated c.state) (kept_course dialects.Rounds bytes) (λ c k. kept_parts (c.state.parts ++ c.state.lines ∷ []) (spelled_parts c.state k))) q
+
+kept_text_course : (bytes : List ℕ) → IfOk (text_course 0 bytes) KeptCourse
+unfolding text_course
+kept_text_course bytes = kept_over (begin_behind 0) (lines_of bytes) (are_cut bytes) kept_begin
+
+-- what a text states
+pub text_kept : (bytes : List ℕ) (us : Library) → text_of bytes ≡ Ok us → AreSpelledUnits us
+text_kept bytes us q =
+    if_ok AreSpelledUnits (text_of bytes) us (if_after KeptCourse AreSpelledUnits (text_course 0 bytes) (λ c. units_stated c.state.lines) (kept_text_course bytes) (λ c k. kept_units c.state.lines k.lines)) q

@@ -9,7 +9,8 @@ use Rattle.lk_rulebook.specs.Units.{Body, as_axiom, as_def, as_thm, as_opaque, a
 use Rattle.lk_rulebook.specs.Spelled.{is_spelled, tree_spelled, names_spelled, all_spelled, library_spelled}
 use Rattle.lk_units.proofs.Spellings.{Each, IsSpelledBody, IsSpelledCtor, IsSpelledType, IsSpelledRule, IsSpelledRec, IsSpelledUnit, AreSpelledUnits}
 use Rattle.lk_book.specs.File.{Export, export_of, rounds_of}
-use Rattle.lk_book.proofs.Kept.{export_kept, rounds_kept}
+use Rattle.lk_book.specs.Texts.{text_of}
+use Rattle.lk_book.proofs.Kept.{export_kept, rounds_kept, text_kept}
 
 body_spelled : (ps : List Name) (v : Body) → IsSpelledBody v → all_spelled (body_trees ps v) ≡ true
 body_spelled ps as_axiom b = refl
@@ -92,3 +93,6 @@ each_spelled (us ∷ parts) h = All-cons (λ us. library_spelled us ≡ true) us
 
 pub rounds_spelled : (bytes : List ℕ) (parts : List Library) → rounds_of bytes ≡ Ok parts → All (λ us. library_spelled us ≡ true) parts
 rounds_spelled bytes parts h = each_spelled parts (rounds_kept bytes parts h)
+
+pub text_spelled : (bytes : List ℕ) (us : Library) → text_of bytes ≡ Ok us → library_spelled us ≡ true
+text_spelled bytes us h = spelled us (text_kept bytes us h)

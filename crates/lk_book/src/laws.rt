@@ -3,7 +3,7 @@ ghost use Rattle.std.specs.Prelude.{◌≡◌, ℕ, List, All, Ok, true};
 ghost use Rattle.lk_rulebook.specs.Units.{Library};
 ghost use Rattle.lk_rulebook.specs.Spelled.{library_spelled};
 ghost use Rattle.lk_book.specs.File.{Export, export_of, rounds_of};
-ghost use Rattle.lk_book.specs.Texts.{texts_of, IsFaultless};
+ghost use Rattle.lk_book.specs.Texts.{text_of, texts_of, IsFaultless};
 
 /// No text of a name that a file states holds a line feed. So no name is one that only auxiliary
 /// types have.
@@ -16,6 +16,12 @@ pub fn files_are_spelled()
 pub fn rounds_are_spelled()
     ensures { (bytes : List ℕ) (parts : List Library) → rounds_of bytes ≡ Ok parts
         → All (λ us. library_spelled us ≡ true) parts }
+{}
+
+/// The same of a text that a caller gives.
+pub fn texts_are_spelled()
+    ensures { (text : List ℕ) (us : Library) → text_of text ≡ Ok us
+        → library_spelled us ≡ true }
 {}
 
 /// No text of an input has a fault by itself.

@@ -16,7 +16,7 @@ mod texts;
 
 pub use error::ReadError;
 pub use file::{library_of, read_library, read_lines};
-pub use laws::{files_are_spelled, rounds_are_spelled, texts_are_faultless};
+pub use laws::{files_are_spelled, rounds_are_spelled, texts_are_faultless, texts_are_spelled};
 pub use line_reader::LineReader;
 pub use reader::{Reader, at_line};
 pub use rounds::{Rounds, read_rounds};
