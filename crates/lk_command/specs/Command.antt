@@ -10,12 +10,14 @@ option id = record (new_rule id) { long = Some id }
 abbrev pub required_option : Text → Rule
 required_option id = record (option id) { required = true }
 
+-- how many check at one time, and how many steps a unit may take
+abbrev pub with_callers : App → App
+with_callers a = with_rule (with_rule a (option (codes "workers"))) (option (codes "steps"))
+
 -- how a check is to go
 abbrev pub with_options : App → App
 with_options a =
-    let workers = with_rule a (option (codes "workers")) in
-    let steps = with_rule workers (option (codes "steps")) in
-    let memo = with_rule steps (option (codes "memo")) in
+    let memo = with_rule (with_callers a) (option (codes "memo")) in
     with_rule memo (option (codes "allow"))
 
 -- the subcommand of this name, whose one option says how many steps a unit may take
@@ -47,6 +49,9 @@ replay = new_app (codes "replay")
 abbrev pub recheck : App
 recheck = with_steps (codes "recheck")
 
+abbrev pub session : App
+session = with_callers (new_app (codes "session"))
+
 -- the subcommands that check one file, or make one
 abbrev pub with_checks : App
 with_checks =
@@ -63,8 +68,9 @@ with_writers =
 abbrev pub leancheck : App
 leancheck =
     let replayed = with_subcommand with_writers replay.top in
-    with_subcommand replayed recheck.top
+    let rechecked = with_subcommand replayed recheck.top in
+    with_subcommand rechecked session.top
 
 abbrev pub usage_line : List ℕ
 usage_line =
-    codes "usage: leancheck check|make|trial|trim|trace|replay|recheck [--workers W] [--steps N] [--memo M] [--allow LIST] [--units N] [--seed S] [--name NAME]\n"
+    codes "usage: leancheck check|make|trial|trim|trace|replay|recheck|session [--workers W] [--steps N] [--memo M] [--allow LIST] [--units N] [--seed S] [--name NAME]\n"

@@ -3,7 +3,7 @@
 ghost use Rattle.std.specs.Prelude.{◌≡◌, IfOk, false, codes};
 ghost use Rattle.clap.specs.Words.{app_of, new_app, with_rule, with_subcommand};
 ghost use Rattle.clap.specs.declared.builder.command.Command.TheViews.{out-Command};
-ghost use Rattle.lk_command.specs.Command.{check, leancheck, make, option, recheck, replay, required_option, trace, trial, trim, with_checks, with_options, with_sample, with_steps, with_writers};
+ghost use Rattle.lk_command.specs.Command.{check, leancheck, make, option, recheck, replay, required_option, session, trace, trial, trim, with_callers, with_checks, with_options, with_sample, with_steps, with_writers};
 
 use clap::{Arg, Command};
 use std::alloc::{AllocError, Global};
@@ -36,14 +36,23 @@ fn with_required<'a>(
     command.arg(Arg::new(alloc, name).long(name).required(true))
 }
 
+/// Adds the options that say how many check at one time, and how many steps a unit may take.
+fn with_callers<'a>(alloc: Global, command: Command<'a>) -> Result<Command<'a>, AllocError>
+    requires { (out-Command command).has_globals ≡ false }
+    ensures app { IfOk result (λ c. app_of c ≡ with_callers (app_of command.entry)) }
+    ensures local { IfOk result (λ c. (out-Command c).has_globals ≡ false) }
+{
+    let command = with_option(alloc, command, "workers")?;
+    with_option(alloc, command, "steps")
+}
+
 /// Adds the options that say how a check is to go.
 fn with_options<'a>(alloc: Global, command: Command<'a>) -> Result<Command<'a>, AllocError>
     requires { (out-Command command).has_globals ≡ false }
     ensures app { IfOk result (λ c. app_of c ≡ with_options (app_of command.entry)) }
     ensures local { IfOk result (λ c. (out-Command c).has_globals ≡ false) }
 {
-    let command = with_option(alloc, command, "workers")?;
-    let command = with_option(alloc, command, "steps")?;
+    let command = with_callers(alloc, command)?;
     let command = with_option(alloc, command, "memo")?;
     with_option(alloc, command, "allow")
 }
@@ -141,6 +150,14 @@ fn recheck_command<'a>(alloc: Global) -> Result<Command<'a>, AllocError>
     steps_command(alloc, "recheck")
 }
 
+/// The subcommand `session`.
+fn session_command<'a>(alloc: Global) -> Result<Command<'a>, AllocError>
+    ensures app { IfOk result (λ c. app_of c ≡ session) }
+    ensures local { IfOk result (λ c. (out-Command c).has_globals ≡ false) }
+{
+    with_callers(alloc, Command::new(alloc, "session"))
+}
+
 /// The same with `trial`.
 fn with_trial<'a>(alloc: Global) -> Result<Command<'a>, AllocError>
     ensures app { IfOk result (λ c. app_of c ≡ with_checks) }
@@ -173,10 +190,19 @@ fn with_replay<'a>(alloc: Global) -> Result<Command<'a>, AllocError>
     with_trace(alloc)?.subcommand(replay)
 }
 
+/// The same with `recheck`.
+fn with_recheck<'a>(alloc: Global) -> Result<Command<'a>, AllocError>
+    ensures app { IfOk result (λ c. app_of c
+        ≡ with_subcommand (with_subcommand with_writers replay.top) recheck.top) }
+{
+    let recheck = recheck_command(alloc)?;
+    with_replay(alloc)?.subcommand(recheck)
+}
+
 /// The whole command.
 pub fn command<'a>(alloc: Global) -> Result<Command<'a>, AllocError>
     ensures app { IfOk result (λ c. app_of c ≡ leancheck) }
 {
-    let recheck = recheck_command(alloc)?;
-    with_replay(alloc)?.subcommand(recheck)
+    let session = session_command(alloc)?;
+    with_recheck(alloc)?.subcommand(session)
 }

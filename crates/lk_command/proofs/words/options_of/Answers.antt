@@ -6,19 +6,16 @@ use Rattle.lk_command.specs.Words.{HasOptions}
 use Rattle.lk_command.specs.declared.words.Options.{Options}
 use Rattle.lk_command.proofs.words.options_of.Goals as goal
 
-pub returns-in_err-workers-clause-none : goal.returns-in_err-workers-clause-none
-returns-in_err-workers-clause-none c = at_none _ ((x : Options) → HasOptions (rows_of (found_of c.args.matches.now)) x → ⊥) (λ x h. c.in_err-workers.ensures.none x.workers (rw (first_value-rows (found_of c.args.matches.now) (codes "workers")) h.workers))
-
-pub returns-in_err-steps-clause-none : goal.returns-in_err-steps-clause-none
-returns-in_err-steps-clause-none c = at_none _ ((x : Options) → HasOptions (rows_of (found_of c.args.matches.now)) x → ⊥) (λ x h. c.in_err-steps.ensures.none x.steps h.steps)
+pub returns-in_err-callers-clause-none : goal.returns-in_err-callers-clause-none
+returns-in_err-callers-clause-none c = at_none _ ((x : Options) → HasOptions (rows_of (found_of c.args.matches.now)) x → ⊥) (λ x h. c.in_err-callers.ensures.none (record { workers = x.workers; steps = x.steps }) (record { workers = h.workers; steps = h.steps }))
 
 pub returns-in_err-memo-clause-none : goal.returns-in_err-memo-clause-none
 returns-in_err-memo-clause-none c = at_none _ ((x : Options) → HasOptions (rows_of (found_of c.args.matches.now)) x → ⊥) (λ x h. c.in_err-memo.ensures.none x.memo (rw (first_value-rows (found_of c.args.matches.now) (codes "memo")) h.memo))
 
 pub returns-clause-some : goal.returns-clause-some
 returns-clause-some c = record {
-  workers = rw (← first_value-rows (found_of c.args.matches.now) (codes "workers")) c.in_ok-workers.ensures.some;
-  steps = c.in_ok-steps.ensures.some;
+  workers = c.in_ok-callers.ensures.some.workers;
+  steps = c.in_ok-callers.ensures.some.steps;
   memo = rw (← first_value-rows (found_of c.args.matches.now) (codes "memo")) c.in_ok-memo.ensures.some;
   allow = rw (← first_value-rows (found_of c.args.matches.now) (codes "allow")) c.get_str.ensures;
 }
