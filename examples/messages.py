@@ -34,7 +34,9 @@ def fault(text, line, meaning, shown, more='', name=None, command='check'):
 
 
 NUMBER = 'a field that has to be a number is none'
-SECOND = 'leancheck: numbers go on over the whole input, so a second export cannot follow\n'
+SECOND = 'leancheck: numbers do not begin anew, so a second export cannot follow, but in session behind a line #GO\n'
+BUDGETS = 'leancheck: recheck and session read no budgets (#BUD); give one for all units by --steps\n'
+VERSION = 'leancheck: a version stands in the first line alone; a second export cannot follow, but in session behind a line #GO\n'
 # Words, input, what standard input and standard output are, the status, and what is told.
 CASES = [
     # nothing where all is well
@@ -47,8 +49,9 @@ CASES = [
     ('trace', IDENTITY, 'pipe', 'pipe', 0, ''),
     ('replay', DERIVED, 'pipe', 'pipe', 0, ''),
     ('recheck', IDENTITY + '#GO\n', 'pipe', 'pipe', 0, ''),
+    ('session --workers 2 --steps 100', IDENTITY + '#GO\n', 'pipe', 'pipe', 0, ''),
     # words
-    wrong('', 'leancheck: no command is given: check, make, trial, trim, trace, replay or recheck\n'),
+    wrong('', 'leancheck: no command is given: check, make, trial, trim, trace, replay, recheck or session\n'),
     wrong('chek', "leancheck: unrecognized subcommand 'chek'\n...") ,
     wrong('check more', "leancheck: unexpected argument 'more' found\n"),
     wrong('check --worker 2', "leancheck: unexpected argument '--worker' found\n"),
@@ -70,6 +73,9 @@ CASES = [
     wrong('replay --steps 4', "leancheck: unexpected argument '--steps' found\n"),
     wrong('recheck --workers 2', "leancheck: unexpected argument '--workers' found\n"),
     wrong('recheck --steps 0', 'leancheck: --steps 0 is out of range: it takes 1 to 18446744073709551615\n'),
+    wrong('session --memo 2', "leancheck: unexpected argument '--memo' found\n"),
+    wrong('session --workers 65 --steps 0', 'leancheck: --workers 65 is out of range: it takes 1 to 64\n'
+                                            'leancheck: --steps 0 is out of range: it takes 1 to 18446744073709551615\n'),
     wrong('check --name p', "leancheck: unexpected argument '--name' found\n"),
     wrong('make --units 3 --seed 2147483648', 'leancheck: --seed 2147483648 is out of range: it takes 0 to 2147483647\n'),
     wrong('check \x1b[2J', "leancheck: unexpected argument '\\x1b[2J' found\n"),
@@ -87,8 +93,7 @@ CASES = [
     fault('0 #ES 0 0\n', 1, 'a field stands behind the last one that is due', '0 #ES 0 0'),
     fault('0 #EA 0 0\n', 1, 'a number of a name, level, expression, rule or premise that no earlier line gives', '0 #EA 0 0'),
     fault('0 #ES 0\n\n0 #ES 0\n', 3, 'the number of the line was given to an earlier one', '0 #ES 0', SECOND),
-    fault('2.0.0\n0 #ES 0\n2.0.0\n', 3, NUMBER, '2.0.0',
-          'leancheck: a version stands in the first line alone; a second export cannot follow\n'),
+    fault('2.0.0\n0 #ES 0\n2.0.0\n', 3, NUMBER, '2.0.0', VERSION),
     fault('0 #ELS 6\n', 1, 'a field of a text is not two hexadecimal digits', '0 #ELS 6'),
     fault('0 #ELS C3\n', 1, 'a name or a text is not UTF-8', '0 #ELS C3'),
     fault('0 #EV 4294967296\n', 1, 'a number is above 2^32 - 1, or above 2^64 - 1 in a name, a budget or behind #TR', '0 #EV 4294967296'),
@@ -112,13 +117,20 @@ CASES = [
     fault('0 #EM 1 2\n', 1, 'no such tag, or a number stands before it that should not, or is missing', '0 #EM 1 2',
           'leancheck: lines of metadata (#EM) are no part of this format\n'),
     fault('#GO\n', 1, 'no such tag, or a number stands before it that should not, or is missing', '#GO',
-          'leancheck: changes of a library, behind lines #GO, are read by recheck alone\n'),
+          'leancheck: lines #GO are for recheck, before changes of a library, and for session, between exports\n'),
     fault(DERIVED, 4, 'no such tag, or a number stands before it that should not, or is missing', '#TR',
           'leancheck: derivations, behind a line #TR, are read by replay alone\n'),
     fault(DERIVED, 4, 'no such tag, or a number stands before it that should not, or is missing', '#TR',
           'leancheck: derivations, behind a line #TR, are read by replay alone\n', command='trace'),
     fault(DERIVED[:-6], 7, 'a line of derivations before #TR or outside of a section, a section out of order or not ended, '
           'or a line that may not follow #TR', '#AT 0', command='replay'),
+    fault('#BUD 0 1\n', 1, 'no such tag, or a number stands before it that should not, or is missing', '#BUD 0 1', BUDGETS,
+          command='recheck'),
+    fault('#BUD 0 1\n', 1, 'no such tag, or a number stands before it that should not, or is missing', '#BUD 0 1', BUDGETS,
+          command='session'),
+    fault(IDENTITY + '#GO\n' + 2 * IDENTITY, 22, 'the number of the line was given to an earlier one', '1 #NS 0 p', SECOND,
+          command='session'),
+    fault('2.0.0\n#GO\n2.0.0\n2.0.0\n', 4, NUMBER, '2.0.0', VERSION, command='session'),
     # what the input seems to be
     fault('{"meta":{}}\n', 1, NUMBER, '{"meta":{}}',
           SEEMS + 'NDJSON, format 3 of lean4export; this program reads the text format 2\n'),
@@ -133,6 +145,8 @@ CASES = [
     fault('import Mathlib\n', 1, NUMBER, 'import Mathlib',
           SEEMS + 'a source file of Lean; this program reads what lean4export writes of its library\n'),
     # cut or empty
+    ('session', '#GO\n#GO\n', 'pipe', 'pipe', 0,
+     'leancheck: the input has no declaration at all, so nothing was checked; did the exporter fail?\n'),
     ('recheck', '#GO\n#GO\n', 'pipe', 'pipe', 0,
      'leancheck: the input has no declaration at all, so nothing was checked; did the exporter fail?\n'),
     ('check', '', 'pipe', 'pipe', 0, 'leancheck: the input is empty, so nothing was checked; did the exporter fail?\n'),
@@ -145,6 +159,9 @@ CASES = [
     ('trim --name p', IDENTITY, 'pipe', 'pipe', 7, NO_NAME),
     ('trim --name p', IDENTITY[:-1], 'pipe', 'pipe', 7,
      'leancheck: the last line has no line feed; the export may be cut off\n' + NO_NAME),
+    # more declarations than a session takes
+    ('session', 2 * ('1 #NS 0 p\n0 #ES 0\n' + 32768 * '#AX 1 0\n' + '#GO\n') + IDENTITY, 'pipe', 'pipe', 8,
+     'leancheck: the exports have more than 65536 declarations in all, and a session takes no more\n'),
     # reads and writes that fail
     ('check', '', 'folder', 'pipe', 4, 'leancheck: standard input cannot be read: Is a directory (os error 21)\n'),
     ('trim --name p', '', 'folder', 'pipe', 4, 'leancheck: standard input cannot be read: Is a directory (os error 21)\n'),

@@ -99,19 +99,27 @@ pub fn likely(line: &[u8], fault: &Written<'_>) -> Option<&'static str> {
         return Some("lines of metadata (#EM) are no part of this format");
     }
     if word == b"UnknownTag".as_slice() && line.starts_with(b"#GO") {
-        return Some("changes of a library, behind lines #GO, are read by recheck alone");
+        return Some(
+            "lines #GO are for recheck, before changes of a library, and for session, between exports",
+        );
     }
     if word == b"UnknownTag".as_slice() && line.starts_with(b"#TR") {
         return Some("derivations, behind a line #TR, are read by replay alone");
     }
     if word == b"UnknownTag".as_slice() && line.starts_with(b"#BUD") {
-        return Some("recheck reads no budgets (#BUD); give one for all units by --steps");
+        return Some(
+            "recheck and session read no budgets (#BUD); give one for all units by --steps",
+        );
     }
     if word == b"BadNumber".as_slice() && fault.number > 1 && is_version(line) {
-        return Some("a version stands in the first line alone; a second export cannot follow");
+        return Some(
+            "a version stands in the first line alone; a second export cannot follow, but in session behind a line #GO",
+        );
     }
     if word == b"IndexTaken".as_slice() {
-        return Some("numbers go on over the whole input, so a second export cannot follow");
+        return Some(
+            "numbers do not begin anew, so a second export cannot follow, but in session behind a line #GO",
+        );
     }
     None
 }

@@ -19,17 +19,19 @@ const HELP: &str = "
   leancheck trace [--steps N]
   leancheck replay
   leancheck recheck [--steps N]
+  leancheck session [--workers W] [--steps N]
 
   check   checks standard input, and writes a verdict for each declaration
   make    writes an export that it makes
   trial   checks that export in memory, and writes the last line alone
   trim    reads standard input, and writes one declaration with all that it needs, as an export
-  trace   checks standard input, and writes it with a derivation of each declaration but blocks that says yes
+  trace   checks standard input, and writes it with a derivation of each declaration that says yes, inductive blocks apart
   replay  reads standard input, and tests the derivation that stands for each declaration behind the line #TR
   recheck checks standard input up to the line #GO, then each change behind it, and what it touches
+  session checks the exports that lines #GO part, as W callers add them to one list, and writes the verdicts in its order
 
-  --workers W   threads that check: 1 to 64, 1 if not given
-  --steps N     budget of each declaration: 1 to 2^64 - 1, 2^100 if not given; the export may lower it (not for recheck)
+  --workers W   threads that check, or callers (session): 1 to 64, 1 if not given
+  --steps N     budget of each declaration: 1 to 2^64 - 1, 2^100 if not given; the export may lower it (not for recheck, session)
   --memo M      answers that each thread keeps: 1 to 1048576, 65536 if not given
   --allow LIST  axioms to allow: names joined by commas, '' for none; every axiom if not given
   --units N     declarations to make: 1 to 1048576
@@ -45,6 +47,7 @@ const HELP: &str = "
          5  a write failed
          6  out of memory, and nothing was written
          7  no declaration has the name
+         8  the exports have more than 65536 declarations in all (session)
          9  some declaration says no for want of memory, and none for another reason
 
   example: leancheck check < examples/identity.export
@@ -118,7 +121,7 @@ fn tell_why<R: Eprint>(rt: &R, alloc: Global, words: &[String]) {
             Some((_, given)) => tell_values(rt, given),
             None => {
                 let _ = eprintln!(rt;
-                    "leancheck: no command is given: check, make, trial, trim, trace, replay or recheck"
+                    "leancheck: no command is given: check, make, trial, trim, trace, replay, recheck or session"
                 );
             }
         },

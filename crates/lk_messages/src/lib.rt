@@ -18,4 +18,6 @@ pub use help::tell_usage;
 pub use input::Reading;
 pub use output::Showing;
 pub use progress::Progress;
-pub use tell::{tell_checked, tell_fault, tell_no_memory, tell_no_name, tell_read, tell_write};
+pub use tell::{
+    tell_checked, tell_fault, tell_full, tell_no_memory, tell_no_name, tell_read, tell_write,
+};

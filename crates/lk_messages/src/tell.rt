@@ -92,6 +92,13 @@ pub fn tell_no_name<R: Eprint>(rt: &R, passed: &Passed, units: u64) {
     );
 }
 
+/// Tells that the exports of a session have more declarations than it takes.
+pub fn tell_full<R: Eprint>(rt: &R) {
+    let _ = eprintln!(rt;
+        "leancheck: the exports have more than 65536 declarations in all, and a session takes no more"
+    );
+}
+
 /// Tells that memory was wanting before anything was written.
 pub fn tell_no_memory<R: Eprint>(rt: &R) {
     let _ = eprintln!(rt; "leancheck: out of memory; nothing was written");
