@@ -1,4 +1,5 @@
 pub mod Shown
+pub mod Session
 pub mod Naming
 pub mod Components
 pub mod Listed

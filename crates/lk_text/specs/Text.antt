@@ -1,6 +1,7 @@
 -- What is written.
 use Rattle.std.specs.Prelude.{ℕ, ◌+◌, Bool, true, false, List, [], ◌∷◌, ◌++◌, length, slice_get}
-use Rattle.std.specs.Prelude.{Option, Some, None, decimal, codes, if◌then◌else◌}
+use Rattle.std.specs.Prelude.{Option, Some, None, decimal, codes, drop, if◌then◌else◌}
+use Rattle.std.specs.List.{flat_map}
 use Rattle.lk_tree.specs.Tree.{Name, Part, text, number}
 use Rattle.lk_lines.specs.declared.line.Fault.{Fault}
 use Rattle.lk_lines.specs.Words.{word_text}
@@ -18,6 +19,7 @@ use Rattle.lk_tree.specs.declared.rule.Rule.TheVariants.{FieldUniverse, NestedFo
 use Rattle.lk_tree.specs.declared.rule.Rule.TheVariants.{NatLaw, AxiomNotAllowed}
 use Rattle.lk_text.specs.declared.counts.VerdictKind.{VerdictKind}
 use Rattle.lk_text.specs.declared.counts.VerdictKind.TheVariants.{Yes, No, Memory}
+use Rattle.lk_text.specs.declared.submissions.Submission.{Submission}
 use Rattle.lk_rulebook.specs.Units.{Body, as_axiom, as_def, as_thm, as_opaque, as_quot, LibraryUnit}
 use Rattle.lk_rulebook.specs.Units.{of_decl, of_block, Library, Members, members_of}
 use Rattle.lk_reach.specs.Computed.{axioms_of}
@@ -171,3 +173,31 @@ checked_line n = counted_text (codes "checked ") n ++ 10 ∷ []
 -- the whole text for these units and verdicts
 abbrev pub report_text : Library → List Verdict → List ℕ
 report_text us vs = lines_text us 0 us vs ++ summary_text vs
+
+-- a submission to a session, as it is written: its tag, and its units
+pub record Submitted : Type 0 where
+  pub tag : ℕ
+  pub units : Library
+
+-- the same by the number of its units
+abbrev pub told_of : Submitted → Submission
+told_of s = record { tag = s.tag; units = length s.units }
+
+-- the line that begins a submission
+abbrev pub submission_line : ℕ → List ℕ
+submission_line tag = counted_text (codes "submission ") tag ++ 10 ∷ []
+
+-- the lines of submissions, whose units stand one after another from number n on
+abbrev pub submissions_text : Library → ℕ → List Submitted → List Verdict → List ℕ
+submissions_text us n [] vs = []
+submissions_text us n (s ∷ more) vs =
+    submission_line s.tag ++ (lines_text us n s.units vs
+    ++ submissions_text us (n + length s.units) more (drop (length s.units) vs))
+
+-- the units of submissions, one after another
+abbrev pub submitted_units : List Submitted → Library
+submitted_units ss = flat_map (λ (s : Submitted). s.units) ss
+
+-- the whole text of a session
+abbrev pub session_text : List Submitted → List Verdict → List ℕ
+session_text ss vs = submissions_text (submitted_units ss) 0 ss vs ++ summary_text vs

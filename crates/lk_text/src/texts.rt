@@ -17,7 +17,7 @@ use lk_verdict::Verdict;
 use std::alloc::Global;
 
 /// The room for the line of a unit whose name is not long.
-const LINE: usize = 32;
+pub(crate) const LINE: usize = 32;
 
 /// The lines of the units, each with the axioms that it rests on, and the last line. There is room
 /// for most of it from the start: a text that grows step by step leaves its former room behind it.

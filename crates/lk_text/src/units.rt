@@ -1,13 +1,14 @@
 //! The lines of units, each by its kind, its number, and the name of its first member.
 
-ghost use Rattle.std.specs.Prelude.{◌≡◌, ◌++◌, map, slice_get, OnOk};
+ghost use Rattle.std.specs.Prelude.{◌≡◌, ◌≤◌, ◌+◌, ◌++◌, length, map, slice_get, OnOk};
 ghost use Rattle.lk_verdict.specs.Held.{verdict};
 ghost use Rattle.lk_text.specs.Text.{axiom_at, axioms_text, body_word, kind_word, lines_text};
 ghost use Rattle.lk_text.specs.Names.{first_number, first_of_block, unit_lines, unit_text};
 ghost use Rattle.lk_axioms.specs.Lists.{axiom_lists};
 ghost use Rattle.lk_store.specs.Store.{contents_of};
 ghost use Rattle.lk_store.specs.Contents.{Contents};
-ghost use Rattle.lk_env.specs.Units.{body_at, unit_at, library_of, IsUnitIn};
+ghost use Rattle.lk_env.specs.Units.{body_at, unit_at, library_at, library_of, IsUnitIn};
+ghost use Rattle.lk_env.specs.Units.{AreUnitsIn};
 
 use crate::names::{Component, add_name};
 use crate::verdicts::{add_axiom, add_verdict};
@@ -155,6 +156,46 @@ fn add_unit(
     add_axioms(writing, out, library, axioms)
 }
 
+/// Appends the lines of some units of the library; the first of them is the unit of this number.
+pub(crate) fn add_lines_from(
+    writing: &mut Writing,
+    out: &mut Vec<u8>,
+    library: &Library,
+    axioms: &AxiomSets,
+    first: u64,
+    units: &[Unit],
+    verdicts: &[Verdict],
+) -> Result<(), NoMemory>
+    requires axioms { axioms.now ≡ axiom_lists (library_of library.now) }
+    requires known { AreUnitsIn (contents_of library.now.tables) units.now }
+    requires few { first + length units.now ≤ length library.now.units }
+    ensures { OnOk result (out.new.items ≡ out.old.items
+        ++ lines_text (library_of library.now) first
+        (library_at (contents_of library.now.tables) units.now) (map verdict verdicts.now)) }
+{
+    let mut left = units;
+    let mut said = verdicts;
+    let mut number = first;
+    while let Some((unit, more)) = left.split_first() {
+        let Some((v, others)) = said.split_first() else {
+            return Ok(());
+        };
+        add_unit(
+            writing,
+            out,
+            library,
+            axioms.of(number as usize),
+            number,
+            unit,
+            *v,
+        )?;
+        left = more;
+        said = others;
+        number += 1;
+    }
+    Ok(())
+}
+
 /// Appends the lines of the units.
 pub fn add_lines(
     alloc: Global,
@@ -169,25 +210,13 @@ pub fn add_lines(
         (map verdict verdicts.now)) }
 {
     let mut writing = Writing::new(alloc);
-    let mut left = library.units();
-    let mut said = verdicts;
-    let mut number = 0;
-    while let Some((unit, more)) = left.split_first() {
-        let Some((v, others)) = said.split_first() else {
-            return Ok(());
-        };
-        add_unit(
-            &mut writing,
-            out,
-            library,
-            axioms.of(number as usize),
-            number,
-            unit,
-            *v,
-        )?;
-        left = more;
-        said = others;
-        number += 1;
-    }
-    Ok(())
+    add_lines_from(
+        &mut writing,
+        out,
+        library,
+        axioms,
+        0,
+        library.units(),
+        verdicts,
+    )
 }
