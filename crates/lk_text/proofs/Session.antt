@@ -1,7 +1,7 @@
 -- The lines of submissions, one submission after another.
-use Rattle.std.proofs.Common.{◌≡◌, ℕ, ◌+◌, List, [], ◌∷◌, ◌++◌, map, length, refl, ap, sym, ◌∙◌, append_assoc}
+use Rattle.std.proofs.Common.{◌≡◌, ℕ, ◌+◌, List, [], ◌∷◌, ◌++◌, map, length, refl, ap, sym, ◌∙◌, arith}
 use Rattle.std.specs.Prelude.{take, drop}
-use Rattle.std.proofs.lemmas.List.{length-map, take-map, drop-map, take_at, drop_at}
+use Rattle.std.proofs.lemmas.List.{length-map, take-map, drop-map, take_at, drop_at, append-nil}
 use Rattle.lk_rulebook.specs.Units.{Library}
 use Rattle.lk_store.specs.Contents.{Contents}
 use Rattle.lk_env.specs.declared.unit.Unit.{Unit as StoredUnit}
@@ -19,21 +19,6 @@ module _ (us : Library) (c : Contents) where
       submission_line s.tag ++ (lines_text us n (library_at c (take s.units left)) (map verdict said)
       ++ counted_lines (n + length (take s.units left)) more (drop s.units left) (drop s.units said))
 
-  -- the lines of one more submission
-  pub submission_more : (out headed new whole : List ℕ) (n : ℕ) (rest others : List Submission) (s : Submission) (left own later : List StoredUnit) (said behind : List HeldVerdict)
-      → rest ≡ s ∷ others → own ≡ take s.units left → later ≡ drop s.units left → behind ≡ drop s.units said → headed ≡ out ++ submission_line s.tag → new ≡ headed ++ lines_text us n (library_at c own) (map verdict said)
-      → out ++ counted_lines n rest left said ≡ whole → new ++ counted_lines (n + length own) others later behind ≡ whole
-  submission_more out headed new whole n rest others s left own later said behind cut front back passed head pushed h =
-      let line = submission_line s.tag in
-      let lines : List StoredUnit → List ℕ = λ units. lines_text us n (library_at c units) (map verdict said) in
-      let units = take s.units left in
-      let after = counted_lines (n + length units) others (drop s.units left) (drop s.units said) in
-      ap (λ x. new ++ counted_lines (n + length own) others x behind) back ∙ ap (λ x. new ++ counted_lines (n + length own) others (drop s.units left) x) passed
-      ∙ ap (λ x. new ++ counted_lines (n + length x) others (drop s.units left) (drop s.units said)) front
-      ∙ ap (λ x. x ++ after) (pushed ∙ ap (λ x. headed ++ lines x) front ∙ ap (λ x. x ++ lines units) head)
-      ∙ append_assoc (out ++ line) (lines units) after ∙ append_assoc out line (lines units ++ after)
-      ∙ ap (λ x. out ++ counted_lines n x left said) (sym cut) ∙ h
-
   -- where the submissions have the units that are left, these are their lines
   pub are_submitted : (n : ℕ) (ss : List Submitted) (left : List StoredUnit) (said : List HeldVerdict) → submitted_units ss ≡ library_at c left → counted_lines n (map told_of ss) left said ≡ submissions_text us n ss (map verdict said)
   are_submitted n [] left said e = refl
@@ -48,3 +33,10 @@ module _ (us : Library) (c : Contents) where
       ∙ ap (λ m. line ++ (lines_text us n s.units (map verdict said) ++ after m)) many
       ∙ ap (λ x. line ++ (lines_text us n s.units (map verdict said) ++ x))
       (are_submitted (n + k) more (drop k left) (drop k said) later ∙ ap (submissions_text us (n + k) more) (sym (drop-map verdict k said)))
+
+  -- once no submission is left all lines are there
+  pub all_written : (out new : List ℕ) (n : ℕ) (rest all : List Submission) (left units : List StoredUnit) (said verdicts : List HeldVerdict) (ss : List Submitted) → length rest ≡ 0 → submitted_units ss ≡ library_at c units → all ≡ map told_of ss
+      → new ++ counted_lines n rest left said ≡ out ++ counted_lines 0 all units verdicts → new ≡ out ++ submissions_text us 0 ss (map verdict verdicts)
+  all_written out new n [] all left units said verdicts ss end same told h =
+      sym (append-nil new) ∙ h ∙ ap (λ x. out ++ counted_lines 0 x units verdicts) told ∙ ap (λ x. out ++ x) (are_submitted 0 ss units verdicts same)
+  all_written out new n (s ∷ rest) all left units said verdicts ss end same told h = absurd (omega arith)

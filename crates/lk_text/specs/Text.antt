@@ -179,7 +179,7 @@ pub record Submitted : Type 0 where
   pub tag : ℕ
   pub units : Library
 
--- the same by the number of its units
+-- what a call is told of it: its tag, and how many units it has
 abbrev pub told_of : Submitted → Submission
 told_of s = record { tag = s.tag; units = length s.units }
 

@@ -1,8 +1,8 @@
 //! What is written of a library: the lines of its units by their verdicts, with names as they are,
 //! and the line that counts them; the same by what comes of the sections of a file with derivations;
 //! the text of a session, submission by submission; and the line of a file's fault. Each call gives
-//! the exact bytes. Before that, verdicts are put under a policy on axioms. Also which unit a printed
-//! name is of.
+//! the exact bytes. Before that, verdicts are put under a policy on axioms. Also which unit a
+//! printed name is of.
 #![tactic(auto)]
 
 mod counts;

@@ -75,8 +75,9 @@ fn add_submissions(
     Ok(())
 }
 
-/// The text of a session, whose submissions have the units of the library one after another: the line
-/// of each submission, with those of its units and of the axioms that these rest on, and the last line.
+/// The text of a session, whose submissions have the units of the library one after another: the
+/// line of each submission, with those of its units and of the axioms that these rest on, and the
+/// last line.
 pub fn session_report(
     alloc: Global,
     library: &Library,

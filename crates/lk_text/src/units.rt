@@ -1,6 +1,6 @@
 //! The lines of units, each by its kind, its number, and the name of its first member.
 
-ghost use Rattle.std.specs.Prelude.{◌≡◌, ◌≤◌, ◌+◌, ◌++◌, length, map, slice_get, OnOk};
+ghost use Rattle.std.specs.Prelude.{◌≡◌, ◌<◌, ◌≤◌, ◌+◌, ◌^◌, ◌++◌, length, map, slice_get, OnOk};
 ghost use Rattle.lk_verdict.specs.Held.{verdict};
 ghost use Rattle.lk_text.specs.Text.{axiom_at, axioms_text, body_word, kind_word, lines_text};
 ghost use Rattle.lk_text.specs.Names.{first_number, first_of_block, unit_lines, unit_text};
@@ -169,6 +169,7 @@ pub(crate) fn add_lines_from(
     requires axioms { axioms.now ≡ axiom_lists (library_of library.now) }
     requires known { AreUnitsIn (contents_of library.now.tables) units.now }
     requires few { first + length units.now ≤ length library.now.units }
+    requires fits { first + length units.now < 2 ^ 64 }
     ensures { OnOk result (out.new.items ≡ out.old.items
         ++ lines_text (library_of library.now) first
         (library_at (contents_of library.now.tables) units.now) (map verdict verdicts.now)) }

@@ -21,4 +21,5 @@ loop-unit-preserved c =
           c.loop-unit.invariant.text;
       known = All-rest (IsUnitIn at) c.in-Some.unit.now c.in-Some.more.now c.loop-unit.left.now c.in-Some.ensures.cases.0 c.loop-unit.invariant.known;
       few = search rules;
+      fits = search rules;
     }
