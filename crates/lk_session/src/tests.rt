@@ -175,7 +175,7 @@ fn both<B: Room + Send + Sync, T: Reads + Send + Sync, R: Threads + Wait + Abort
 {
     let (session, mut pass) = opened.named::<B, T>();
     let other = session.split(&mut pass).ok_or("a second pass")?;
-    let gate = PairGate::new(10_000_000);
+    let gate = PairGate::new(1_000_000_000);
     let ((mut one, first), (two, second)) = join(
         rt,
         || submit_as(rt, &session, pass, &NoRoom, &gate, 7, b"a"),
