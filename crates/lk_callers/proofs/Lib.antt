@@ -1,0 +1,11 @@
+pub mod Owning
+pub mod Ordering
+pub mod Calls
+pub mod Gathered
+pub mod Counts
+pub mod Filled
+pub mod Wholes
+pub mod Sessions
+pub mod New
+pub mod Totals
+pub mod Replies
