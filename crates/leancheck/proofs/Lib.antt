@@ -17,6 +17,7 @@ pub mod Besides
 pub mod Itself
 pub mod Enlarging
 pub mod LargerParts
+pub mod Sessions
 pub mod Settings
 pub mod StageMoves
 pub mod Needed

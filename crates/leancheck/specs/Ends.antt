@@ -1,6 +1,6 @@
 -- How a run ends.
-use Rattle.std.specs.Prelude.{ℕ, ◌≡◌, ◌<◌, ◌⊎◌, Bool, true, false, List, [], ◌∷◌, ◌++◌, length, map}
-use Rattle.std.specs.Prelude.{if◌then◌else◌, nat_eq}
+use Rattle.std.specs.Prelude.{ℕ, ◌≡◌, ◌<◌, ◌≤◌, ◌⊎◌, Bool, true, false, List, [], ◌∷◌, ◌++◌, length, map}
+use Rattle.std.specs.Prelude.{if◌then◌else◌, nat_eq, codes}
 use Rattle.std.specs.Prelude.{Some, None}
 use Rattle.std.specs.Prelude.{IfSome, Vec, Result, Ok, Err}
 use Rattle.std.specs.declared.alloc.Global.{Global}
@@ -18,20 +18,27 @@ use Rattle.lk_traced.specs.Trace.{Trace, trace_of}
 use Rattle.lk_recheck.specs.Spliced.{next_list}
 use Rattle.lk_recheck.specs.Rounds.{IsCount, KeepVerdicts}
 use Rattle.lk_book.specs.File.{Export, export_of, rounds_of, budget_of}
+use Rattle.lk_book.specs.Texts.{text_of as text_stated, texts_of as texts_stated}
+use Rattle.lk_callers.specs.Orders.{IsOrder}
+use Rattle.lk_callers.specs.Owned.{all_units}
+use Rattle.lk_callers.specs.Reports.{submitted_in}
 use Rattle.leancheck.specs.declared.status.Status.{Status}
 use Rattle.leancheck.specs.declared.status.Status.TheVariants.{AllYes, SomeNo, Usage, BadFile}
 use Rattle.leancheck.specs.declared.status.Status.TheVariants.{ReadFault, WriteFault, NoMemory}
-use Rattle.leancheck.specs.declared.status.Status.TheVariants.{NoSuchName, SomeMemory}
+use Rattle.leancheck.specs.declared.status.Status.TheVariants.{NoSuchName, SessionFull, SomeMemory}
 use Rattle.lk_command.specs.declared.words.Options.{Options}
 use Rattle.lk_command.specs.Words.{allowed_text}
 use Rattle.lk_command.specs.declared.words.Meaning.{Meaning}
 use Rattle.lk_command.specs.declared.words.Meaning.TheVariants.{Check, Make, Trial, Trim}
 use Rattle.lk_command.specs.declared.words.Meaning.TheVariants.{Trace as AskTrace, Replay, Recheck}
+use Rattle.lk_command.specs.declared.words.Meaning.TheVariants.{Session}
+use Rattle.lk_command.specs.declared.words.Callers.{Callers}
 use Rattle.leancheck.specs.declared.extent.Extent.{Extent}
 use Rattle.leancheck.specs.declared.extent.Extent.TheVariants.{Report, Summary}
 use Rattle.leancheck.specs.Extents.{text_of}
 use Rattle.leancheck.specs.Traces.{IsTracing}
 use Rattle.lk_text.specs.Text.{bad_line, checked_line, count, report_text}
+use Rattle.lk_text.specs.Text.{session_text, submitted_units}
 use Rattle.lk_text.specs.Named.{first_printed, unknown_line}
 use Rattle.lk_text.specs.Replayed.{count_outcomes, replay_text}
 use Rattle.lk_text.specs.declared.outcomes.OutcomeKind.TheVariants as kinds
@@ -59,6 +66,7 @@ code_of ReadFault = 4
 code_of WriteFault = 5
 code_of NoMemory = 6
 code_of NoSuchName = 7
+code_of SessionFull = 8
 code_of SomeMemory = 9
 
 -- the status of units that were checked
@@ -72,14 +80,19 @@ IsChecked ReadFault = ⊥
 IsChecked WriteFault = ⊥
 IsChecked NoMemory = ⊥
 IsChecked NoSuchName = ⊥
+IsChecked SessionFull = ⊥
 
 -- the status of an export that was trimmed, or has no such name
 abbrev pub IsLookedUp : Status → Type 0
 IsLookedUp status = (status ≡ AllYes) ⊎ (status ≡ NoSuchName)
 
+-- the status of texts that were checked, or have too many units for one list
+abbrev pub IsEndOfSession : Status → Type 0
+IsEndOfSession status = IsChecked status ⊎ (status ≡ SessionFull)
+
 -- the status of a run that did what the words ask for
 abbrev pub IsDone : Status → Type 0
-IsDone status = IsChecked status ⊎ (status ≡ NoSuchName)
+IsDone status = IsChecked status ⊎ (status ≡ NoSuchName) ⊎ (status ≡ SessionFull)
 
 -- a text that is right was written, with the status that belongs to it
 pub record Writes (IsRight : Status → List ℕ → Type 0) (status : Status)
@@ -220,7 +233,50 @@ RechecksPrefix steps bytes old new =
 abbrev pub GivesRechecked : ℕ → List ℕ → Result (Vec ℕ Global × Status) WantOfMemory → Type 0
 GivesRechecked steps bytes made = Makes (IsRechecking steps bytes) made
 
--- what is told of the bytes with a section for each declaration that says yes was written
+-- the line that is written where texts have too many units for one list
+abbrev pub full_line : List ℕ
+full_line = codes "full" ++ 10 ∷ []
+
+-- what is told then
+abbrev pub TellsFull : List (List ℕ) → Status → List ℕ → Type 0
+TellsFull texts status text =
+    (65536 < length (all_units text_stated texts)) × (status ≡ SessionFull) × (text ≡ full_line)
+
+-- What is told of texts that so many callers add to one list at one time. The list has the texts in
+-- some order in which each caller's texts rise; told are they in this order, with the verdicts that
+-- a check of the list gives under the budget.
+pub record TellsTexts (callers steps : ℕ) (texts : List (List ℕ)) (status : Status) (text : List ℕ)
+    : Type 0 where
+  pub few : length (all_units text_stated texts) ≤ 65536
+  pub order : List ℕ
+  pub in_order : IsOrder (length texts) callers order
+  pub verdicts : List Verdict
+  pub are : AreVerdicts (submitted_units (submitted_in text_stated texts order)) (λ n. steps)
+      verdicts
+  pub status_is : status ≡ status_of verdicts
+  pub text_is : text ≡ session_text (submitted_in text_stated texts order) verdicts
+
+-- the bytes state texts, and this is told of them
+pub record IsSession (c : Callers) (bytes : List ℕ) (status : Status) (text : List ℕ) : Type 0 where
+  pub texts : List (List ℕ)
+  pub spelled : texts_stated bytes ≡ Ok texts
+  pub told : TellsFull texts status text ⊎ TellsTexts c.workers c.steps texts status text
+
+-- what is told of the texts of the bytes was written
+abbrev pub TellsSession : Callers → List ℕ → Status → Option (List ℕ) → Option (List ℕ) → Type 0
+TellsSession c bytes status old new = Writes (IsSession c bytes) status old new
+
+-- a prefix of the text that belongs to the bytes was written
+abbrev pub SessionPrefix : Callers → List ℕ → Option (List ℕ) → Option (List ℕ) → Type 0
+SessionPrefix c bytes old new =
+    WritesSome (λ f. texts_stated bytes ≡ Err f) (IsSession c bytes) old new
+
+-- the text that was made, and the status, belong to the bytes
+abbrev pub GivesSession : Callers → List ℕ → Result (Vec ℕ Global × Status) WantOfMemory → Type 0
+GivesSession c bytes made = Makes (IsSession c bytes) made
+
+-- what `trace` tells of the bytes was written: their units, with a section for each declaration that
+-- says yes
 abbrev pub Traces : ℕ → List ℕ → Status → Option (List ℕ) → Option (List ℕ) → Type 0
 Traces steps bytes status old new = Writes (IsTracing steps bytes) status old new
 
@@ -279,12 +335,14 @@ ReadsSource (Trim name) = Unit {0}
 ReadsSource (AskTrace steps) = Unit {0}
 ReadsSource Replay = Unit {0}
 ReadsSource (Recheck steps) = Unit {0}
+ReadsSource (Session c) = Unit {0}
 
 -- What words ask for was done, and this is its status, over the bytes of a source, where it tells
 -- them: a check writes its report, `make` its file, a trial the last line of what a check of that
 -- file would write, `trim` one declaration with all that it needs, or that there is none, `trace`
 -- the units with a section for each declaration that says yes, `replay` what comes of the sections
--- of the file, and `recheck` what is told of each part of the file.
+-- of the file, `recheck` what is told of each part of the file, and `session` what is told of its
+-- texts.
 abbrev pub Does : Meaning → Option (List ℕ) → Status → Option (List ℕ) → Option (List ℕ) → Type 0
 Does (Check o) left status old new =
     IsChecked status × IfSome left (λ bytes. Reports Report o bytes status old new)
@@ -299,6 +357,8 @@ Does Replay left status old new =
     IsChecked status × IfSome left (λ bytes. Replays bytes status old new)
 Does (Recheck steps) left status old new =
     IsChecked status × IfSome left (λ bytes. Rechecks steps bytes status old new)
+Does (Session c) left status old new =
+    IsEndOfSession status × IfSome left (λ bytes. TellsSession c bytes status old new)
 
 -- the file that was to be read has a fault, and its line was written
 abbrev pub FindsFault : Meaning → Option (List ℕ) → Option (List ℕ) → Option (List ℕ) → Type 0
@@ -315,6 +375,8 @@ FindsFault Replay left old new =
     (f : Fault) × IfSome left (λ bytes. trace_of bytes ≡ Err f) × Appends old new (bad_line f)
 FindsFault (Recheck steps) left old new =
     (f : Fault) × IfSome left (λ bytes. rounds_of bytes ≡ Err f) × Appends old new (bad_line f)
+FindsFault (Session c) left old new =
+    (f : Fault) × IfSome left (λ bytes. texts_stated bytes ≡ Err f) × Appends old new (bad_line f)
 
 -- a prefix was written of what the words ask for
 abbrev pub Begins : Meaning → Option (List ℕ) → Option (List ℕ) → Option (List ℕ) → Type 0
@@ -325,3 +387,4 @@ Begins (Trim name) left old new = IfSome left (λ bytes. TrimsPrefix name.now by
 Begins (AskTrace steps) left old new = IfSome left (λ bytes. TracesPrefix steps bytes old new)
 Begins Replay left old new = IfSome left (λ bytes. ReplaysPrefix bytes old new)
 Begins (Recheck steps) left old new = IfSome left (λ bytes. RechecksPrefix steps bytes old new)
+Begins (Session c) left old new = IfSome left (λ bytes. SessionPrefix c bytes old new)

@@ -24,7 +24,6 @@ ghost use Rattle.leancheck.specs.Held.{result_verdict, scan_verdict, IsPlain};
 use crate::blocks::check_block;
 use crate::quotients::check_quotient;
 use lk_ask::stop::Stop;
-use lk_verdict::Verdict;
 use lk_declaration::{check_axiom, check_opaque, check_theorem};
 use lk_engine::{Engine, Knows};
 use lk_env::entry::Partial;
@@ -36,6 +35,7 @@ use lk_scan::names::are_new;
 use lk_scan::scan::{ScanError, scan};
 use lk_store::base_store::BaseStore;
 use lk_tree::rule::Rule;
+use lk_verdict::Verdict;
 use std::alloc::Global;
 
 /// The verdict of a unit, whose questions may take so many steps. Where memory is wanting, what

@@ -8,10 +8,10 @@ ghost use Rattle.lk_text.specs.Policy.{policy_of, all_under};
 ghost use Rattle.leancheck.specs.Extents.{text_of};
 
 use lk_axioms::{AxiomSets, uses};
-use lk_verdict::Verdict;
 use lk_env::library::Library;
 use lk_store::memory::NoMemory;
 use lk_text::{Policy, apply, report, summary};
+use lk_verdict::Verdict;
 use std::alloc::Global;
 
 /// How much is told of a library.

@@ -4,8 +4,8 @@ ghost use Rattle.std.specs.Prelude.{◌≡◌, ◌<◌, ℕ, IfOk, All, vec_len,
 ghost use Rattle.lk_verdict.specs.declared.verdict.Verdict.{Verdict as Held};
 ghost use Rattle.leancheck.specs.Drawn.{given};
 
-use lk_verdict::Verdict;
 use lk_store::memory::NoMemory;
+use lk_verdict::Verdict;
 use std::alloc::Global;
 
 /// The verdict of the unit of a number.

@@ -5,7 +5,7 @@ use crate::tests::is_row;
 use std::test::Fail;
 
 // Words, input, output, status.
-const ROWS: [(&str, &[u8], &[u8], Status); 41] = [
+const ROWS: [(&str, &[u8], &[u8], Status); 43] = [
     (
         "leancheck check",
         b"2.0.0\n1 #NS 0 p\n2 #NS 0 id\n0 #ES 0\n1 #EV 0\n2 #EV 1\n3 #EP #BD 0 1 2\n4 #EP #BD 1 0 3\n5 #EL #BD 0 1 1\n6 #EL #BD 1 0 5\n#THM 2 4 6\n",
@@ -14,8 +14,8 @@ const ROWS: [(&str, &[u8], &[u8], Status); 41] = [
     ),
     (
         "leancheck check",
-        b"2.0.0\n1 #NS 0 not_a_proposition\n2 #NS 0 wrong_proof\n3 #NS 0 right_proof\n4 #NS 0 open_term\n5 #NS 0 p\n6 #NS 0 h\n0 #ES 0\n1 #EV 0\n2 #EV 1\n3 #EP #BD 6 1 2\n4 #EP #BD 5 0 3\n5 #EL #BD 6 1 1\n6 #EL #BD 5 0 5\n7 #EL #BD 5 0 1\n#THM 1 0 0\n#THM 2 4 7\n#THM 3 4 6\n#THM 3 4 6\n#THM 4 1 6\n",
-        b"no thm 0 not_a_proposition\n  why TheoremNotProp\nno thm 1 wrong_proof\n  why ValueType\nyes thm 2 right_proof\nno thm 3 right_proof\n  why DuplicateName\nno thm 4 open_term\n  why LooseVariable\nunits 5 yes 1 no 4 memory 0\n",
+        b"1 #NS 0 q\n2 #NS 0 c\n0 #ES 0\n1 #EC 1\n#AX 1 0\n#AX 1 0\n#DEF 2 0 1 O\n",
+        b"yes axiom 0 q\n  axiom q\nno axiom 1 q\n  why DuplicateName\n  axiom q\nyes def 2 c\n  axiom q\nunits 3 yes 2 no 1 memory 0\n",
         Status::SomeNo,
     ),
     (
@@ -34,6 +34,18 @@ const ROWS: [(&str, &[u8], &[u8], Status); 41] = [
         "leancheck recheck",
         b"1 #NS 0 P\n2 #NS 0 p\n3 #NS 0 T\n4 #NS 0 t\n0 #ES 0\n1 #EC 1\n2 #EC 2\n3 #EP #BD 0 1 1\n4 #EV 0\n5 #EL #BD 0 1 4\n#AX 1 0\n#AX 2 1\n#THM 3 1 2\n#THM 4 3 5\n#GO\n6 #EL #BD 0 1 2\n#THM 4 3 6\n#GO\n1 #US 0\n7 #ES 1\n#AX 1 7\n#GO\n",
         b"yes axiom 0 P\n  axiom P\nyes axiom 1 p\n  axiom P\n  axiom p\nyes thm 2 T\n  axiom P\n  axiom p\nyes thm 3 t\n  axiom P\nunits 4 yes 4 no 0 memory 0\nchecked 4\nyes axiom 0 P\n  axiom P\nyes axiom 1 p\n  axiom P\n  axiom p\nyes thm 2 T\n  axiom P\n  axiom p\nyes thm 3 t\n  axiom P\n  axiom p\nunits 4 yes 4 no 0 memory 0\nchecked 1\nyes axiom 0 P\n  axiom P\nyes axiom 1 p\n  axiom P\n  axiom p\nno thm 2 T\n  why TheoremNotProp\n  axiom P\n  axiom p\nno thm 3 t\n  why TheoremNotProp\n  axiom P\n  axiom p\nunits 4 yes 2 no 2 memory 0\nchecked 4\nyes axiom 0 P\n  axiom P\nyes axiom 1 p\n  axiom P\n  axiom p\nno thm 2 T\n  why TheoremNotProp\n  axiom P\n  axiom p\nno thm 3 t\n  why TheoremNotProp\n  axiom P\n  axiom p\nunits 4 yes 2 no 2 memory 0\nchecked 0\n",
+        Status::SomeNo,
+    ),
+    (
+        "leancheck session",
+        b"2.0.0\n1 #NS 0 P\n0 #ES 0\n#AX 1 0\n#GO\n2.0.0\n1 #NS 0 t\n2 #NS 0 P\n0 #EC 2\n1 #EP #BD 0 0 0\n2 #EV 0\n3 #EL #BD 0 0 2\n#THM 1 1 3\n#GO\n1 #NS 0 P\n2 #NS 0 t\n3 #NS 0 u\n0 #EC 1\n1 #EP #BD 0 0 0\n2 #EV 0\n3 #EL #BD 0 0 2\n4 #EC 2\n#THM 2 1 3\n#THM 3 1 4\n",
+        b"submission 0\nyes axiom 0 P\n  axiom P\nsubmission 1\nyes thm 1 t\n  axiom P\nsubmission 2\nno thm 2 t\n  why DuplicateName\n  axiom P\nyes thm 3 u\n  axiom P\nunits 4 yes 3 no 1 memory 0\n",
+        Status::SomeNo,
+    ),
+    (
+        "leancheck check",
+        b"2.0.0\n1 #NS 0 not_a_proposition\n2 #NS 0 wrong_proof\n3 #NS 0 right_proof\n4 #NS 0 open_term\n5 #NS 0 p\n6 #NS 0 h\n0 #ES 0\n1 #EV 0\n2 #EV 1\n3 #EP #BD 6 1 2\n4 #EP #BD 5 0 3\n5 #EL #BD 6 1 1\n6 #EL #BD 5 0 5\n7 #EL #BD 5 0 1\n#THM 1 0 0\n#THM 2 4 7\n#THM 3 4 6\n#THM 3 4 6\n#THM 4 1 6\n",
+        b"no thm 0 not_a_proposition\n  why TheoremNotProp\nno thm 1 wrong_proof\n  why ValueType\nyes thm 2 right_proof\nno thm 3 right_proof\n  why DuplicateName\nno thm 4 open_term\n  why LooseVariable\nunits 5 yes 1 no 4 memory 0\n",
         Status::SomeNo,
     ),
     (

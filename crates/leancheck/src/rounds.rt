@@ -15,12 +15,12 @@ ghost use Rattle.leancheck.specs.Telling.{IsTelling, TellsMore};
 use crate::status::{Status, status_of};
 use lk_axioms::{AxiomSets, uses_again};
 use lk_book::Rounds;
-use lk_verdict::Checks;
 use lk_env::unit::Unit;
 use lk_port::Gate;
 use lk_recheck::Recheck;
 use lk_store::memory::NoMemory;
 use lk_text::{add_checked, report};
+use lk_verdict::Checks;
 use std::alloc::Global;
 use std::mem::replace;
 

@@ -14,6 +14,7 @@ ghost use Rattle.lk_command.specs.declared.words.Options.{Options as CheckOption
 ghost use Rattle.leancheck.specs.Ends.{Begins, Does, FindsFault, Gives, IsAllGood, IsChecked, IsDone};
 ghost use Rattle.leancheck.specs.Ends.{ReadsSource, Reports, WritesPrefix};
 
+use crate::callers::session;
 use crate::extent::{Extent, judged_text};
 use crate::fault::tell_fault;
 use crate::rechecking::recheck;
@@ -66,7 +67,7 @@ fn tell_usage<K: Sink>(sink: &mut K) -> Status
 {
     match write_all(
         sink,
-        b"usage: leancheck check|make|trial|trim|trace|replay|recheck [--workers W] [--steps N] [--memo M] [--allow LIST] [--units N] [--seed S] [--name NAME]\n",
+        b"usage: leancheck check|make|trial|trim|trace|replay|recheck|session [--workers W] [--steps N] [--memo M] [--allow LIST] [--units N] [--seed S] [--name NAME]\n",
     ) {
         Ok(()) => Status::Usage,
         Err(_) => Status::WriteFault,
@@ -114,7 +115,7 @@ fn check<R: Threads + Sync, S: Source, K: Sink, G: Gate>(
     gate: &G,
 ) -> Status
     ensures no_usage { result ≢ Status.Usage }
-    ensures no_name { result ≢ Status.NoSuchName }
+    ensures ends { IsDone result → IsChecked result }
     ensures read { result ≡ Status.ReadFault → Rose (S.faults source.old) (S.faults source.new)
         × (K.written sink.new ≡ K.written sink.old) }
     ensures no_read { result ≢ Status.ReadFault → S.faults source.new ≡ S.faults source.old }
@@ -168,7 +169,7 @@ fn trial<R: Threads + Sync, K: Sink, G: Gate>(
     gate: &G,
 ) -> Status
     ensures no_usage { result ≢ Status.Usage }
-    ensures no_name { result ≢ Status.NoSuchName }
+    ensures ends { IsDone result → IsChecked result }
     ensures no_read { result ≢ Status.ReadFault }
     ensures bad { result ≡ Status.BadFile
         → ((f : LineFault) × (export_of (file_of sample.units sample.seed) ≡ Err f)
@@ -190,10 +191,12 @@ fn trial<R: Threads + Sync, K: Sink, G: Gate>(
 
 /// Does what the words say. A check reads an export from the source and writes a verdict for each of its units to the sink; `make`
 /// writes an export, and a trial checks one that it makes, and writes the last line alone; `trim` reads an export, and writes the
-/// first unit with a member of a printed name and all that this unit needs, as an export; `trace` reads an export, and writes it
-/// with a section for each declaration that says yes, which is a derivation of it; `replay` reads a library and what is
-/// written of its units, and writes for each unit whether its section holds; `recheck` reads a library and changes of it, and
-/// writes of each list of units that they lead to what a check writes, and how many units were checked for it.
+/// first unit with a member of a printed name and all that this unit needs, as an export; `trace` reads an export, and writes its
+/// units as canonical text, with a section for each declaration that says yes, which is a derivation of it; `replay` reads a
+/// library and what is written of its units, and writes for each unit whether its section holds; `recheck` reads a library and
+/// changes of it, and writes of each list of units that they lead to what a check writes, and how many units were checked for it;
+/// `session` reads texts, has them added to one list by callers at one time, and writes what a check of this list writes, text by
+/// text.
 ///
 /// The words begin with the program's name. The gate is told of each unit before its first question, or before its
 /// section is tested.
@@ -210,7 +213,7 @@ pub fn run<R: Threads + Wait + Sync, S: Source, K: Sink, G: Gate>(
     ensures usage_only { IsMeaningless (texts_of words.now) → (result ≡ Status.Usage)
         ⊎ (result ≡ Status.WriteFault) ⊎ (result ≡ Status.NoMemory) }
 
-    // Nothing but a check, `trim`, `trace`, `replay` and `recheck` read the source.
+    // Nothing but a check, `trim`, `trace`, `replay`, `recheck` and `session` read the source.
     ensures unread { ((m : WordsMeaning) → Means (texts_of words.now) m → ReadsSource m → ⊥)
         → source.new ≡ source.old }
     ensures read { result ≡ Status.ReadFault
@@ -255,6 +258,7 @@ pub fn run<R: Threads + Wait + Sync, S: Source, K: Sink, G: Gate>(
         Ok(Meaning::Trace(steps)) => trace(alloc, steps, source, sink, gate),
         Ok(Meaning::Replay) => replay(alloc, source, sink, gate),
         Ok(Meaning::Recheck(steps)) => recheck(alloc, steps, source, sink, gate),
+        Ok(Meaning::Session(callers)) => session(rt, alloc, callers, source, sink, gate),
         Err(LineError::Usage) => tell_usage(sink),
         Err(LineError::NoMemory) => Status::NoMemory,
     }

@@ -2,7 +2,7 @@
 
 use crate::status::Status;
 use lk_messages::{
-    Reading, Showing, tell_checked, tell_fault, tell_no_memory, tell_no_name, tell_read,
+    Reading, Showing, tell_checked, tell_fault, tell_full, tell_no_memory, tell_no_name, tell_read,
     tell_usage, tell_write,
 };
 use std::alloc::Global;
@@ -29,5 +29,6 @@ pub fn tell<R: Eprint + Clock, I: Read + Drop, O: Write + Drop>(
         Status::WriteFault => tell_write(rt, showing.code),
         Status::NoMemory => tell_no_memory(rt),
         Status::NoSuchName => tell_no_name(rt, &reading.passed, units),
+        Status::SessionFull => tell_full(rt),
     }
 }

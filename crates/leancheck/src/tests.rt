@@ -31,7 +31,7 @@ const NOT_POSITIVE: &[u8] =
     b"1 #NS 0 N\n2 #NS 0 T\n3 #NS 2 mk\n1 #US 0\n0 #ES 1\n1 #EC 1\n2 #EC 2\n3 #EP #BD 0 2 1\n4 #EP #BD 0 3 2\n5 #EP #BD 0 4 2\n#AX 1 0\n#IND 2 0 1 0 0 0 1 2 1 3\n#CTOR 3 5 2 0 0 1\n";
 
 pub(crate) const USAGE: &[u8] =
-    b"usage: leancheck check|make|trial|trim|trace|replay|recheck [--workers W] [--steps N] [--memo M] [--allow LIST] [--units N] [--seed S] [--name NAME]\n";
+    b"usage: leancheck check|make|trial|trim|trace|replay|recheck|session [--workers W] [--steps N] [--memo M] [--allow LIST] [--units N] [--seed S] [--name NAME]\n";
 
 pub(crate) fn words_of(alloc: Global, line: &str) -> Result<Vec<String>, AllocError> {
     let mut words = Vec::new(alloc);

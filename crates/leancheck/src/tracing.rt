@@ -21,16 +21,15 @@ ghost use Rattle.leancheck.specs.Traces.{all_kept, is_yes, is_accepted, status_b
 ghost use Rattle.leancheck.specs.Derived.{AreTraced, IsAllTraced};
 ghost use Rattle.leancheck.specs.Ends.{GivesTraced, IsChecked, IsDone, Traces, TracesPrefix};
 
+use crate::checker::MEMO;
 use crate::checking::check_unit;
 use crate::derived::{Checked, trace_unit};
 use crate::deriver::Deriver;
 use crate::fault::tell_fault;
-use crate::rechecking::MEMO;
 use crate::status::Status;
 use crate::tracer::Tracer;
 use crate::worker::budget_of;
 use lk_book::{ReadError, read_library};
-use lk_verdict::Verdict;
 use lk_engine::{Alone, Engine, Knowledge, Knows};
 use lk_env::library::Library;
 use lk_handle::EngineHandle;
@@ -39,6 +38,7 @@ use lk_port::{Gate, Sink, Source, write_all};
 use lk_sections::{TraceWriter, begin_trace, text_of_trace};
 use lk_step::EngineCalls;
 use lk_store::memory::NoMemory;
+use lk_verdict::Verdict;
 use std::alloc::Global;
 use std::mem::drop;
 

@@ -8,12 +8,12 @@ ghost use Rattle.leancheck.specs.Workers.{IsPassed, GoesOnDrawing, Draws, IsDone
 
 use crate::checking::check_unit;
 use crate::order::UnitVerdict;
-use lk_verdict::Verdict;
 use lk_desk::{Desk, Seat};
 use lk_engine::{Alone, Engine, Knowledge, Knows, Share, Sharing};
 use lk_env::library::Library;
 use lk_memo::PrivateMemo;
 use lk_port::Gate;
+use lk_verdict::Verdict;
 use std::alloc::Global;
 use std::mem::drop;
 

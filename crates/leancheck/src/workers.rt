@@ -13,13 +13,13 @@ ghost use Rattle.leancheck.specs.Workers.{IsDone, IsIdle, IsWorkerSeat, IsWhole}
 
 use crate::order::{UnitVerdict, blank, fill};
 use crate::worker::{Done, Settings, WorkerSeat, work};
-use lk_verdict::Verdict;
 use lk_command::Options;
 use lk_desk::{Desk, Seat};
 use lk_engine::{AnswerDesk, Share};
 use lk_env::library::Library;
 use lk_port::Gate;
 use lk_store::memory::NoMemory;
+use lk_verdict::Verdict;
 use std::alloc::Global;
 use std::thread;
 use std::thread::Threads;

@@ -5,7 +5,7 @@ use Rattle.std.proofs.lemmas.Option.{slice_get-get_or}
 use Rattle.lk_env.specs.Units.{library_of}
 use Rattle.leancheck.proofs.Changes.{AreChecks, checked_more, checked_all}
 use Rattle.leancheck.proofs.InOrder.{plain_held}
-use Rattle.leancheck.proofs.rechecking.check_each.Goals as goal
+use Rattle.leancheck.proofs.checker.check_each.Goals as goal
 
 pub loop-i-preserved : goal.loop-i-preserved
 loop-i-preserved g c =

@@ -1,7 +1,7 @@
 use Rattle.std.proofs.Common.{◌≡◌, length}
 use Rattle.lk_env.specs.Units.{library_of}
 use Rattle.leancheck.proofs.Changes.{AreChecks}
-use Rattle.leancheck.proofs.rechecking.check_each.Given as goal
+use Rattle.leancheck.proofs.checker.check_each.Given as goal
 
 abbrev pub invariant-loop-i : goal.invariant-loop-i
 invariant-loop-i g l = record {
