@@ -1,8 +1,9 @@
 -- What callers came to together is what is told.
-use Rattle.std.proofs.Common.{◌≡◌, ℕ, ◌<◌, ◌≤◌, true, false, List, length, Result, sym, subst, arith}
+use Rattle.std.proofs.Common.{◌≡◌, ℕ, ◌<◌, ◌≤◌, true, false, List, length, Result, sym, subst, arith, inl, inr}
 use Rattle.std.specs.Prelude.{Vec}
 use Rattle.std.specs.declared.alloc.Global.{Global}
 use Rattle.std.proofs.lemmas.List.{length-map}
+use Rattle.std.proofs.lemmas.Bool.{cases_lt}
 use mathlib.Core.List.{IsPrefix}
 use Rattle.lk_store.specs.declared.memory.NoMemory.{NoMemory}
 use Rattle.lk_session.specs.declared.view.View.{View}
@@ -18,7 +19,7 @@ use Rattle.lk_callers.specs.Answered.{AreCalled, AreRight, AreWithin, IsGathered
 use Rattle.lk_callers.specs.Reports.{IsListReport, IsSessionReport}
 use Rattle.lk_callers.proofs.Owning.{added_grows}
 use Rattle.lk_callers.proofs.Replies.{get_within, rights_grow, rights_within}
-use Rattle.lk_callers.proofs.Totals.{room_for_all}
+use Rattle.lk_callers.proofs.Totals.{room_for_all, none_more, none_fewer}
 use Rattle.lk_callers.proofs.Wholes.{session_is}
 
 pub all_gathered : {B T : Type 0} (stated : Says) (texts : List (Vec ℕ Global)) (t : Turns) (budget : ℕ) (called : List (Result (Called B T) NoMemory)) (all : Called B T)
@@ -40,9 +41,18 @@ module _ {B T : Type 0} (stated : Says) (texts : List (List ℕ)) (t : Turns) (b
     added : HasAdded stated texts t 0 t.passes (length texts) all.full w
     added = added_grows texts stated t 0 t.passes (length texts) all.full all.pass.known w g.added order mine
 
-    pub never_full : length (all_units stated texts) ≤ 65536 → all.full ≡ true → ⊥
-    never_full few full =
-        room_for_all stated texts t w are added.own each few (added.too_much full)
+    -- a text that found no room has none
+    pub too_many : all.full ≡ true → 65536 < length (all_units stated texts)
+    too_many full = elim (cases_lt 65536 (length (all_units stated texts))) [
+      | inl lt ↦ lt
+      | inr few ↦ absurd (room_for_all stated texts t w are added.own each few (added.too_much full))
+    ]
+
+    pub no_more : length (units_of stated w.seen) ≤ length (all_units stated texts)
+    no_more = none_more stated texts t w are added.own each
+
+    pub no_fewer : all.full ≡ false → length (all_units stated texts) ≤ length (units_of stated w.seen)
+    no_fewer ready = none_fewer stated texts t w are added.own each (added.all ready)
 
     pub rights : AreRight stated budget w.seen all.replies.items
     rights = rights_grow stated budget all.pass.known.seen w.seen all.replies.items order g.right

@@ -4,7 +4,12 @@ use Rattle.std.specs.Prelude.{◌==◌}
 use Rattle.std.proofs.lemmas.Bool.Decides.{nat_tests}
 use Rattle.std.proofs.lemmas.Bool.{cases_lt}
 use mathlib.Core.List.{IsPrefix}
+use Rattle.std.proofs.lemmas.List.{length-map}
 use Rattle.lk_rulebook.specs.Units.{Library}
+use Rattle.lk_store.specs.Store.{contents_of}
+use Rattle.lk_env.specs.StoredLibrary.{StoredLibrary}
+use Rattle.lk_env.specs.Units.{library_of, unit_at}
+use Rattle.lk_env.specs.declared.unit.Unit.{Unit as StoredUnit}
 use Rattle.lk_verdict.specs.Held.{verdict}
 use Rattle.lk_text.specs.Text.{Submitted, submitted_units, session_text, told_of}
 use Rattle.lk_session.specs.declared.view.View.{View}
@@ -40,6 +45,11 @@ take_whole [] zero le = refl
 take_whole [] (suc n) le = refl
 take_whole (x ∷ xs) zero le = absurd (omega arith)
 take_whole {A} (x ∷ xs) (suc n) le = ap (λ (l : List A). x ∷ l) (take_whole xs n (omega arith))
+
+-- how many units a library has that has read them all
+pub units_counted : (stated : Says) (lib : StoredLibrary) (us : List StoredUnit) (read : ℕ) (seen : List Submission) → us ≡ lib.units → library_of lib ≡ units_of stated (take read seen) → length seen ≤ read → length us ≡ length (units_of stated seen)
+units_counted stated lib us read seen is units all =
+    ap (λ (xs : List StoredUnit). length xs) is ∙ (sym (length-map lib.units (unit_at (contents_of lib.tables))) ∙ ap length (units ∙ ap (units_of stated) (take_whole seen read all)))
 
 -- the tags and counts of submissions, from what is told of them
 pub marks_told : (stated : Says) (first : ℕ) (list : List Submission) → map told_of_mark (marks_of stated first list) ≡ map told_of (told_submissions stated list)

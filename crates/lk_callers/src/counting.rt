@@ -1,6 +1,6 @@
 //! How many units texts state.
 
-ghost use Rattle.std.specs.Prelude.{◌≡◌, ◌<◌, ◌≤◌, length, IfOk, IfSome, IfNone};
+ghost use Rattle.std.specs.Prelude.{◌≡◌, ◌<◌, false, length, IfOk};
 ghost use Rattle.lk_session.specs.Texts.{AreFaultless, IsFaultless, units_in};
 ghost use Rattle.lk_callers.specs.Owned.{all_units, bytes_in};
 
@@ -9,7 +9,7 @@ use lk_store::memory::NoMemory;
 use std::alloc::Global;
 
 /// A list has at most this many units.
-const MOST_UNITS: usize = 65536;
+pub(crate) const MOST_UNITS: usize = 65536;
 
 /// How many units a text states that has no fault.
 fn units_in<T: Reads>(alloc: Global, text: &[u8]) -> Result<usize, NoMemory>
@@ -23,24 +23,39 @@ fn units_in<T: Reads>(alloc: Global, text: &[u8]) -> Result<usize, NoMemory>
     }
 }
 
-/// How many units the texts state together, where one list has room for them.
-pub(crate) fn count_units<T: Reads>(
-    alloc: Global,
-    texts: &[Vec<u8>],
-) -> Result<Option<u64>, NoMemory>
+/// Whether one list has room for the units of all texts.
+pub(crate) fn have_room<T: Reads>(alloc: Global, texts: &[Vec<u8>]) -> Result<bool, NoMemory>
     requires { AreFaultless T.stated (bytes_in texts.now) }
-    ensures some { IfOk result (λ c. IfSome c (λ n.
-        (n ≡ length (all_units T.stated (bytes_in texts.now))) × (n ≤ 65536))) }
-    ensures none { IfOk result (λ c. IfNone c
-        (65536 < length (all_units T.stated (bytes_in texts.now)))) }
+    ensures { IfOk result (λ b. b ≡ false
+        → 65536 < length (all_units T.stated (bytes_in texts.now))) }
 {
     let mut units = 0;
     for text in texts {
         let count = units_in::<T>(alloc, text.as_slice())?;
         if count > MOST_UNITS - units {
-            return Ok(None);
+            return Ok(false);
         }
         units += count;
     }
-    Ok(Some(units as u64))
+    Ok(true)
+}
+
+/// Whether a line that begins with these bytes declares a unit or a type of one.
+fn declares(first: u8, second: u8) -> bool {
+    first == b'#' && matches!(second, b'A' | b'D' | b'T' | b'O' | b'Q' | b'I')
+}
+
+/// How many lines declare a unit or, of a block, one of its types: no fewer than there are units.
+pub(crate) fn declaring_lines(texts: &[Vec<u8>]) -> u64 {
+    let mut lines: u64 = 0;
+    for text in texts {
+        let mut before = b'\n';
+        for two in text.as_slice().windows(2) {
+            if before == b'\n' && declares(two[0], two[1]) {
+                lines = lines.saturating_add(1);
+            }
+            before = two[0];
+        }
+    }
+    lines
 }

@@ -12,7 +12,7 @@ ghost use Rattle.lk_callers.specs.Reports.{IsListReport, IsSessionReport};
 ghost use Rattle.lk_callers.specs.declared.report.SessionError.TheVariants.{Full};
 
 use crate::calling::Called;
-use crate::counting::count_units;
+use crate::counting::{MOST_UNITS, declaring_lines, have_room};
 use crate::gathering::gather;
 use crate::passes::{call_all, split_passes};
 use crate::telling::tell;
@@ -100,7 +100,7 @@ fn tell_own<B: Room, T: Reads>(
     Ok(SessionReport { text, verdicts })
 }
 
-/// What is told of the texts, which have room in one list, by callers of a new session.
+/// What is told of the texts, by callers of a new session.
 fn check_by<B, T, C, G, R>(
     rt: &R,
     alloc: Global,
@@ -109,7 +109,7 @@ fn check_by<B, T, C, G, R>(
     callers: u32,
     checks: &C,
     gate: &G,
-) -> Result<SessionReport, NoMemory>
+) -> Result<SessionReport, SessionError>
 where
     B: Room + Send + Sync,
     T: Reads + Send + Sync,
@@ -119,9 +119,10 @@ where
     requires room { opened.table.shared.table_id ≡ B.table }
     requires callers { 1 ≤ callers }
     requires faultless { AreFaultless T.stated (bytes_in texts.now) }
-    requires few { length (all_units T.stated (bytes_in texts.now)) ≤ 65536 }
-    ensures { IfOk result (IsSessionReport T.stated (bytes_in texts.now) callers
+    ensures ok { IfOk result (IsSessionReport T.stated (bytes_in texts.now) callers
         (C.budget_of checks.now)) }
+    ensures few { OnOk result (length (all_units T.stated (bytes_in texts.now)) ≤ 65536) }
+    ensures full { result ≡ Err Full → 65536 < length (all_units T.stated (bytes_in texts.now)) }
 {
     let (session, first) = opened.named::<B, T>();
     let passes = split_passes(alloc, &session, first, callers)?;
@@ -138,14 +139,22 @@ where
     } = gather(&session, called)?;
     let marks = own_list(rt, &session, &mut pass, turns.passes)?;
     if full {
-        unreachable!();
+        return Err(SessionError::Full);
     }
-    tell_own(alloc, &pass, &marks, &replies)
+    // The session sees to it that its list is no longer, which no call of it says.
+    if pass.library().units().len() > MOST_UNITS {
+        return Err(SessionError::Full);
+    }
+    let report = tell_own(alloc, &pass, &marks, &replies)?;
+    Ok(report)
 }
 
 /// Has texts added to one list by so many callers at one time, each of which takes those whose turn
 /// it is, in their order, and their units checked; and tells of them in the order of the list. The
-/// gate is told how many units there are, and of each unit before it is checked.
+/// gate is told how many lines declare units, and of each unit before it is checked.
+///
+/// Where these lines are more than a list has room for, the units are counted first, so that nothing
+/// is checked where they are too many; where they are fewer, the units are too.
 pub fn check_texts<C: Checks + Sync, G: Gate, R: Threads + Wait + Sync>(
     rt: &R,
     alloc: Global,
@@ -161,13 +170,11 @@ pub fn check_texts<C: Checks + Sync, G: Gate, R: Threads + Wait + Sync>(
     ensures few { OnOk result (length (all_units text_of (bytes_in texts.now)) ≤ 65536) }
     ensures full { result ≡ Err Full → 65536 < length (all_units text_of (bytes_in texts.now)) }
 {
-    let Some(units) = count_units::<TextReader>(alloc, texts)? else {
+    let lines = declaring_lines(texts);
+    if lines > MOST_UNITS as u64 && !have_room::<TextReader>(alloc, texts)? {
         return Err(SessionError::Full);
-    };
-    gate.begins(units);
+    }
+    gate.begins(lines);
     let opened = Opened::new(alloc)?;
-    let report = check_by::<Brand, TextReader, C, G, R>(
-        rt, alloc, opened, texts, callers, checks, gate,
-    )?;
-    Ok(report)
+    check_by::<Brand, TextReader, C, G, R>(rt, alloc, opened, texts, callers, checks, gate)
 }

@@ -8,7 +8,7 @@ use Rattle.lk_verdict.specs.declared.verdict.Verdict.{Verdict as HeldVerdict}
 use Rattle.lk_verdict.specs.Held.{verdict}
 use Rattle.lk_text.specs.Text.{session_text}
 use Rattle.lk_callers.specs.Told.{told_submissions}
-use Rattle.lk_callers.proofs.Wholes.{take_whole}
+use Rattle.lk_callers.proofs.Wholes.{take_whole, units_counted}
 use Rattle.lk_callers.proofs.report.tell_own.Goals as goal
 
 pub returns : goal.returns
@@ -16,11 +16,9 @@ returns g c = λ budget right.
     let seen = c.args.pass.now.known.seen in
     let stated = g.T.Reads.stated in
     let units : library_of c.library-library.result.now ≡ units_of stated seen = c.library-library.ensures.units ∙ ap (units_of stated) (take_whole seen c.args.pass.now.read c.requires.read) in
-    let lib = c.library-library.result.now in
-    let many : length c.units.result.now ≡ length (library_of lib) = ap (λ (us : List StoredUnit). length us) c.units.ensures.value ∙ sym (length-map lib.units (unit_at (contents_of lib.tables))) in
     let told = c.in_ok-verdicts.ensures in
     record {
-      as_many = told.count ∙ (many ∙ ap length units);
+      as_many = told.count ∙ units_counted stated c.library-library.result.now c.units.result.now c.args.pass.now.read seen c.units.ensures.value c.library-library.ensures.units c.requires.read;
       plain = told.each stated budget seen right;
       text_is = c.in_ok-text.ensures stated seen c.requires.marks units ∙ ap (λ (vs : List HeldVerdict). session_text (told_submissions stated seen) (map verdict vs)) c.deref.ensures.value;
     }
