@@ -1,6 +1,8 @@
 -- Verdicts put one after another.
-use Rattle.std.proofs.Common.{◌≡◌, ℕ, zero, suc, ◌+◌, List, [], ◌∷◌, map, replicate, slice_get, slice_set, Some, refl, ap, subst, inr, length, ◌∙◌}
+use Rattle.std.proofs.Common.{◌≡◌, ℕ, zero, suc, ◌+◌, ◌<◌, ◌≤◌, All, List, [], ◌∷◌, ◌++◌, get_or, map, replicate, slice_get, slice_set, Some, refl, ap, subst, inr, length, ◌∙◌, arith, add-one}
+use Rattle.std.specs.List.{range_with_len}
 use Rattle.std.proofs.lemmas.List.{length-map, length-replicate}
+use Rattle.std.proofs.lemmas.List.FromFn.{length-range_with_len, get_or-range_with_len}
 use Rattle.lk_rulebook.specs.Units.{Library}
 use Rattle.lk_verdict.specs.Told.{Verdict, IsPlainVerdict, out_of_memory}
 use Rattle.lk_verdict.specs.declared.verdict.Verdict.{Verdict as HeldVerdict}
@@ -41,3 +43,38 @@ unanswered_checked us budget ns vs e = record {
   as_many = length-map vs verdict ∙ (ap (λ (l : List HeldVerdict). length l) e ∙ length-replicate (length ns) Memory);
   each = λ i n v a b. inr (all_memory (length ns) i v (subst (λ (l : List HeldVerdict). slice_get (map verdict l) i ≡ Some v) e b));
 }
+
+-- one number more behind numbers that go on from one
+pub range_more : (a n : ℕ) → range_with_len a (n + 1) ≡ range_with_len a n ++ (a + n) ∷ []
+range_more a n = rw add-one (go a n)
+  where
+    go : (b k : ℕ) → range_with_len b (suc k) ≡ range_with_len b k ++ (b + k) ∷ []
+    go b zero = let e : b ≡ b + 0 = omega arith in ap (λ (m : ℕ). m ∷ []) e
+    go b (suc k) =
+        let e : b + 1 + k ≡ b + suc k = omega arith in
+        ap (λ (l : List ℕ). b ∷ l) (go (b + 1) k ∙ ap (λ (m : ℕ). range_with_len (b + 1) k ++ m ∷ []) e)
+
+get_some : {A : Type 0} (xs : List A) (k : ℕ) (d : A) → k < length xs → slice_get xs k ≡ Some (get_or xs k d)
+get_some [] k d lt = absurd (omega arith)
+get_some (x ∷ xs) zero d lt = refl
+get_some (x ∷ xs) (suc k) d lt = get_some xs k d (omega arith)
+
+get_within : {A : Type 0} (xs : List A) (k : ℕ) (x : A) → slice_get xs k ≡ Some x → k < length xs
+get_within [] k x e = absurd cc
+get_within (y ∷ xs) zero x e = omega arith
+get_within (y ∷ xs) (suc k) x e = let l = get_within xs k x e in omega arith
+
+-- verdicts of numbers that go on from one
+pub checked_from : (us : Library) (budget first n : ℕ) (vs : List Verdict) → AreChecked us budget (range_with_len first n) vs → AreFrom us budget first vs
+checked_from us budget first n vs c k v at =
+    let size = length-range_with_len first n in
+    let lt : k < n = omega (arith, get_within vs k v at, c.as_many, size) in
+    let there : slice_get (range_with_len first n) k ≡ Some (first + k) = get_some (range_with_len first n) k 0 (omega (arith, lt, size)) ∙ ap (λ (m : ℕ). Some m) (get_or-range_with_len first n k 0 lt) in
+    c.each k (first + k) v there at
+
+-- and such numbers are below a count
+pub range_below : (first n count : ℕ) → first + n ≤ count → All (λ m. m < count) (range_with_len first n)
+range_below first n count le k d lt =
+    let size = length-range_with_len first n in
+    let at = get_or-range_with_len first n k d (omega (arith, lt, size)) in
+    omega (arith, le, lt, size, at)

@@ -2,7 +2,7 @@ use Rattle.std.proofs.Common.{◌≡◌, length, map}
 use Rattle.lk_env.specs.Units.{library_of}
 use Rattle.lk_verdict.specs.Held.{verdict}
 use Rattle.lk_session.specs.Answers.{AreFrom}
-use Rattle.lk_session.proofs.checking.check_each.Given as goal
+use Rattle.lk_session.proofs.checking.check_one_by_one.Given as goal
 
 abbrev pub invariant-loop-k : goal.invariant-loop-k
 invariant-loop-k g l =

@@ -1,7 +1,7 @@
 use Rattle.std.proofs.Common.{◌∙◌, length-set}
 use Rattle.lk_env.specs.Units.{library_of}
 use Rattle.lk_session.proofs.Verdicts.{put_from}
-use Rattle.lk_session.proofs.checking.check_each.Goals as goal
+use Rattle.lk_session.proofs.checking.check_one_by_one.Goals as goal
 
 pub loop-k-preserved : goal.loop-k-preserved
 loop-k-preserved g c = (
